@@ -1,0 +1,242 @@
+-- No record has two texts, and no text has two records.
+use Rattle.std.proofs.Common.{◌≡◌, ℕ, zero, suc, ◌+◌, ◌*◌, ◌%◌, ◌^◌, ◌<◌, ◌≤◌, Bool, true, false, cond, eqb, List, [], ◌∷◌, ◌++◌, length, take, get_or, replicate, Option, Some, None, refl, sym, ap, subst, ◌∙◌, inl, inr, arith, lit<}
+use Rattle.std.specs.Prelude.{IfSome}
+use Rattle.std.specs.List.{join_with_byte}
+use Rattle.std.specs.Fmt.{decimal}
+use Rattle.std.proofs.Math.Seq.{take-add}
+use Rattle.std.proofs.lemmas.List.{take_all}
+use Rattle.std.proofs.lemmas.Fmt.{decimal_injective}
+use Rattle.pb_board.specs.declared.piece.Colour.{Colour}
+use Rattle.pb_board.specs.declared.piece.Colour.TheVariants.{White, Black}
+use Rattle.pb_board.specs.declared.piece.Piece.{Piece}
+use Rattle.pb_board.specs.declared.setup.Rights.{Rights}
+use Rattle.pb_board.specs.Board.{Place}
+use Rattle.pb_board.specs.Position.{Position, Record, IsSetup, OnPassedRank, EnPassantHolds, position_of}
+use Rattle.pb_board.specs.Text.{letter, BeginsOccupied, RankText, RankTexts, PlacementText, rank_of, ranks_down, turn_text, castling_text, flag_letters, letter_if, or_dash, passed_text, number_text}
+use Rattle.pb_board.specs.Fen.{FenText, SetupTexts}
+use Rattle.pb_board.specs.Position.{IsRecord, record_of}
+use Rattle.pb_board.specs.Refusal.{fields}
+use Rattle.pb_board.proofs.Numbers.{clock_numeral}
+use Rattle.pb_board.proofs.Letters.{letter_injective, letter_above}
+use Rattle.pb_board.proofs.Joins.{Above, split_join, above-join, above-append, all_above-less}
+use Rattle.pb_board.proofs.Ranks.{nothing_left}
+use Rattle.pb_board.proofs.Boards.{placement_rows, rows, ranks_above}
+
+-- ---- one rank for a text
+
+pub rank_one_board : (t : List ℕ) (r s : List Place) → RankText r t → RankText s t → r ≡ s
+rank_one_board [] r s h k = h ∙ sym k
+rank_one_board (c ∷ t) r s h k =
+    let tails = rank_one_board t h.0 k.0 h.2 k.2 in
+    elim h.1 [
+      | inl p ↦ elim k.1 [
+        | inl q ↦
+            let same : p.0 ≡ q.0 = letter_injective p.0 q.0 (sym p.1 ∙ q.1) in
+            p.2 ∙ ap (λ (x : Piece). Some x ∷ h.0) same ∙ ap (λ (w : List Place). Some q.0 ∷ w) tails ∙ sym q.2
+        | inr q ↦ absurd (omega (arith, letter_above p.0, p.1, q.3, q.2))
+      ]
+      | inr p ↦ elim k.1 [
+        | inl q ↦ absurd (omega (arith, letter_above q.0, q.1, p.3, p.2))
+        | inr q ↦
+            let same : p.0 ≡ q.0 = omega (arith, p.3, q.3) in
+            p.4 ∙ ap (λ n. replicate n None ++ h.0) same ∙ ap (λ (w : List Place). replicate q.0 None ++ w) tails ∙ sym q.4
+      ]
+    ]
+
+-- ---- one text for a rank
+
+run_is : (m n : ℕ) (r s : List Place) → BeginsOccupied r → BeginsOccupied s → replicate m None ++ r ≡ replicate n None ++ s → (m ≡ n) × (r ≡ s)
+run_is zero zero r s h k e = (refl, e)
+run_is zero (suc n) r s h k e = absurd (subst BeginsOccupied e h)
+run_is (suc m) zero r s h k e = absurd (subst BeginsOccupied (sym e) k)
+run_is (suc m) (suc n) r s h k e =
+    let tails : replicate m None ++ r ≡ replicate n None ++ s = cc in
+    let more = run_is m n r s h k tails in
+    (ap suc more.0, more.1)
+
+piece_or_run : (n : ℕ) (p : Piece) (r s : List Place) → 1 ≤ n → Some p ∷ r ≡ replicate n None ++ s → ⊥
+piece_or_run zero p r s low e = omega (arith, low)
+piece_or_run (suc n) p r s low e = subst BeginsOccupied e tt
+
+pub rank_one_text : (t u : List ℕ) (s : List Place) → RankText s t → RankText s u → t ≡ u
+rank_one_text [] [] s h k = refl
+rank_one_text [] (c ∷ u) s h k = absurd (nothing_left c u (subst (λ w. RankText w (c ∷ u)) h k))
+rank_one_text (c ∷ t) [] s h k = absurd (nothing_left c t (subst (λ w. RankText w (c ∷ t)) k h))
+rank_one_text (c ∷ t) (d ∷ u) s h k =
+    elim h.1 [
+      | inl p ↦ elim k.1 [
+        | inl q ↦
+            let both : Some p.0 ∷ h.0 ≡ Some q.0 ∷ k.0 = sym p.2 ∙ q.2 in
+            let head : p.0 ≡ q.0 = cc (both) in
+            let tail : h.0 ≡ k.0 = cc (both) in
+            let more = rank_one_text t u k.0 (subst (λ w. RankText w t) tail h.2) k.2 in
+            ap (λ x. x ∷ t) (p.1 ∙ ap letter head ∙ sym q.1) ∙ ap (λ w. d ∷ w) more
+        | inr q ↦ absurd (piece_or_run q.0 p.0 h.0 k.0 q.1 (sym p.2 ∙ q.4))
+      ]
+      | inr p ↦ elim k.1 [
+        | inl q ↦ absurd (piece_or_run p.0 q.0 k.0 h.0 p.1 (sym q.2 ∙ p.4))
+        | inr q ↦
+            let same = run_is p.0 q.0 h.0 k.0 p.5 q.5 (sym p.4 ∙ q.4) in
+            let more = rank_one_text t u k.0 (subst (λ w. RankText w t) same.1 h.2) k.2 in
+            ap (λ x. x ∷ t) (p.3 ∙ ap (λ n. 48 + n) same.0 ∙ sym q.3) ∙ ap (λ w. d ∷ w) more
+      ]
+    ]
+
+-- ---- placements
+
+ranks_one_text : (rs : List (List Place)) (ts us : List (List ℕ)) → RankTexts rs ts → RankTexts rs us → ts ≡ us
+ranks_one_text [] [] [] h k = refl
+ranks_one_text [] [] (u ∷ us) h k = absurd k
+ranks_one_text [] (t ∷ ts) us h k = absurd h
+ranks_one_text (r ∷ rs) [] us h k = absurd h
+ranks_one_text (r ∷ rs) (t ∷ ts) [] h k = absurd k
+ranks_one_text (r ∷ rs) (t ∷ ts) (u ∷ us) h k =
+    ap (λ x. x ∷ ts) (rank_one_text t u r h.0 k.0) ∙ ap (λ w. u ∷ w) (ranks_one_text rs ts us h.1 k.1)
+
+pub placement_one_text : (b : List Place) (x y : List ℕ) → PlacementText b x → PlacementText b y → x ≡ y
+placement_one_text b x y h k = h.2 ∙ ap (join_with_byte 47) (ranks_one_text (ranks_down b 8) h.0 k.0 h.1 k.1) ∙ sym k.2
+
+ranks_one_board : (n : ℕ) (a b : List Place) (ts : List (List ℕ)) → RankTexts (ranks_down a n) ts → RankTexts (ranks_down b n) ts → take (8 * n) a ≡ take (8 * n) b
+ranks_one_board zero a b ts h k = refl
+ranks_one_board (suc n) a b [] h k = absurd h
+ranks_one_board (suc n) a b (t ∷ ts) h k =
+    let step : 8 * suc n ≡ 8 * n + 8 = omega arith in
+    rw step (take-add (8 * n) 8 a ∙ ap (λ w. w ++ rank_of a n) (ranks_one_board n a b ts h.1 k.1) ∙ ap (λ w. take (8 * n) b ++ w) (rank_one_board t (rank_of a n) (rank_of b n) h.0 k.0) ∙ sym (take-add (8 * n) 8 b))
+
+pub placement_one_board : (a b : List Place) (x : List ℕ) → length a ≡ 64 → length b ≡ 64 → PlacementText a x → PlacementText b x → a ≡ b
+placement_one_board a b x la lb h k =
+    let same : take 64 a ≡ take 64 b = ranks_one_board 8 a b (rows x) (placement_rows a x h) (placement_rows b x k) in
+    sym (take_all 64 a (omega arith)) ∙ same ∙ take_all 64 b (omega arith)
+
+-- ---- the pieces of a record's text
+
+above_digits : (ds : List ℕ) → ((i : ℕ) → i < length ds → (48 ≤ get_or ds i 0) × (get_or ds i 0 ≤ 57)) → Above 32 ds
+above_digits [] h = tt
+above_digits (d ∷ ds) h = (omega (arith, h 0 (omega arith)), above_digits ds (λ i lt. h (suc i) (omega (arith, lt))))
+
+above_letter : (b : Bool) (c : ℕ) → 32 < c → Above 32 (letter_if b c)
+above_letter true c lt = (lt, tt)
+above_letter false c lt = tt
+
+above_dash : (t : List ℕ) → Above 32 t → Above 32 (or_dash t)
+above_dash [] h = (lit< tt, tt)
+above_dash (c ∷ t) h = h
+
+above_castling : (r : Rights) → Above 32 (castling_text r)
+above_castling r =
+    above_dash (flag_letters r) (above-append 32 (letter_if r.white_short 75) _ (above_letter r.white_short 75 (lit< tt))
+    (above-append 32 (letter_if r.white_long 81) _ (above_letter r.white_long 81 (lit< tt))
+    (above-append 32 (letter_if r.black_short 107) _ (above_letter r.black_short 107 (lit< tt)) (above_letter r.black_long 113 (lit< tt)))))
+
+above_turn : (c : Colour) → Above 32 (turn_text c)
+above_turn White = (lit< tt, tt)
+above_turn Black = (lit< tt, tt)
+
+above_passed : (ep : Option ℕ) → Above 32 (passed_text ep)
+above_passed None = (lit< tt, tt)
+above_passed (Some q) = (omega arith, (omega arith, tt))
+
+above_placement : (b : List Place) (x : List ℕ) → PlacementText b x → Above 32 x
+above_placement b x h =
+    subst (Above 32) (sym h.2) (above-join 32 47 h.0 (lit< tt) (all_above-less 32 47 h.0 (omega arith) (ranks_above (ranks_down b 8) h.0 h.1)))
+
+above_number : (n : ℕ) → n < 2 ^ 16 → Above 32 (number_text n)
+above_number n lt = above_digits (decimal n) (clock_numeral n lt).digits
+
+pub fields_of_text : (f : Record) (t : List ℕ) → IsRecord f → (h : FenText f t) → fields t ≡ h.placement ∷ h.turn ∷ h.castling ∷ h.passed ∷ number_text f.half ∷ number_text f.full ∷ []
+fields_of_text f t lawful h =
+    let s = h.setup_is in
+    ap fields h.joined ∙ split_join 32 (h.placement ∷ h.turn ∷ h.castling ∷ h.passed ∷ number_text f.half ∷ number_text f.full ∷ [])
+    (above_placement f.setup.board h.placement s.placement_is, (subst (Above 32) (sym s.turn_is) (above_turn f.setup.turn), (subst (Above 32) (sym s.castling_is) (above_castling f.setup.rights), (subst (Above 32) (sym s.passed_is) (above_passed f.setup.ep), (above_number f.half lawful.half, (above_number f.full lawful.full, tt)))))) (lit< tt)
+
+-- ---- one record for a text
+
+has : ℕ → List ℕ → Bool
+has c [] = false
+has c (x ∷ xs) = cond (eqb x c) true (has c xs)
+
+rights_from : List ℕ → Rights
+rights_from t = record { white_short = has 75 t; white_long = has 81 t; black_short = has 107 t; black_long = has 113 t }
+
+rights_back : (a b c d : Bool) → rights_from (castling_text (record { white_short = a; white_long = b; black_short = c; black_long = d })) ≡ record { white_short = a; white_long = b; black_short = c; black_long = d }
+unfolding rights_from has
+rights_back true true true true = refl
+rights_back true true true false = refl
+rights_back true true false true = refl
+rights_back true true false false = refl
+rights_back true false true true = refl
+rights_back true false true false = refl
+rights_back true false false true = refl
+rights_back true false false false = refl
+rights_back false true true true = refl
+rights_back false true true false = refl
+rights_back false true false true = refl
+rights_back false true false false = refl
+rights_back false false true true = refl
+rights_back false false true false = refl
+rights_back false false false true = refl
+rights_back false false false false = refl
+
+castling_injective : (r s : Rights) → castling_text r ≡ castling_text s → r ≡ s
+castling_injective r s e = sym (rights_back r.white_short r.white_long r.black_short r.black_long) ∙ ap rights_from e ∙ rights_back s.white_short s.white_long s.black_short s.black_long
+
+pub turn_injective : (s t : Colour) → turn_text s ≡ turn_text t → s ≡ t
+turn_injective White White e = refl
+turn_injective White Black e = let h : ◌≡◌ {A = ℕ} 119 98 = ap (λ (t : List ℕ). get_or t 0 0) e in absurd (omega (arith, h))
+turn_injective Black White e = let h : ◌≡◌ {A = ℕ} 98 119 = ap (λ (t : List ℕ). get_or t 0 0) e in absurd (omega (arith, h))
+turn_injective Black Black e = refl
+
+pub passed_injective : (turn : Colour) (p q : Option ℕ) → IfSome p (λ x. OnPassedRank turn x) → IfSome q (λ x. OnPassedRank turn x) → passed_text p ≡ passed_text q → p ≡ q
+passed_injective turn None None h k e = refl
+passed_injective turn None (Some y) h k e = absurd (omega (arith, ap length e))
+passed_injective turn (Some x) None h k e = absurd (omega (arith, ap length e))
+passed_injective turn (Some x) (Some y) h k e =
+    let file : 97 + x % 8 ≡ 97 + y % 8 = ap (λ (t : List ℕ). get_or t 0 0) e in
+    let same : x ≡ y = omega (arith, file, h, k) in
+    ap (λ n. Some n) same
+
+pub on_rank : (board : List Place) (turn : Colour) (ep : Option ℕ) → EnPassantHolds board turn ep → IfSome ep (λ q. OnPassedRank turn q)
+on_rank board turn None h = h
+on_rank board turn (Some q) h = h.0
+
+pub one_text : (f : Record) (t u : List ℕ) → FenText f t → FenText f u → t ≡ u
+one_text f t u h k =
+    let a = h.setup_is in
+    let b = k.setup_is in
+    let rest = number_text f.half ∷ number_text f.full ∷ [] in
+    h.joined ∙ ap (λ x. join_with_byte 32 (x ∷ h.turn ∷ h.castling ∷ h.passed ∷ rest)) (placement_one_text f.setup.board h.placement k.placement a.placement_is b.placement_is)
+    ∙ ap (λ x. join_with_byte 32 (k.placement ∷ x ∷ h.castling ∷ h.passed ∷ rest)) (a.turn_is ∙ sym b.turn_is)
+    ∙ ap (λ x. join_with_byte 32 (k.placement ∷ k.turn ∷ x ∷ h.passed ∷ rest)) (a.castling_is ∙ sym b.castling_is)
+    ∙ ap (λ x. join_with_byte 32 (k.placement ∷ k.turn ∷ k.castling ∷ x ∷ rest)) (a.passed_is ∙ sym b.passed_is)
+    ∙ sym k.joined
+
+pub one_record : (f g : Record) (t : List ℕ) → IsRecord f → IsRecord g → FenText f t → FenText g t → f ≡ g
+one_record f g t lf lg h k =
+    let a = h.setup_is in
+    let b = k.setup_is in
+    let cells : h.placement ∷ h.turn ∷ h.castling ∷ h.passed ∷ number_text f.half ∷ number_text f.full ∷ [] ≡ k.placement ∷ k.turn ∷ k.castling ∷ k.passed ∷ number_text g.half ∷ number_text g.full ∷ [] = sym (fields_of_text f t lf h) ∙ fields_of_text g t lg k in
+    let cell = λ (i : ℕ). ap (λ (w : List (List ℕ)). get_or w i []) cells in
+    let boards : f.setup.board ≡ g.setup.board = placement_one_board f.setup.board g.setup.board h.placement lf.setup.places lg.setup.places a.placement_is (subst (PlacementText g.setup.board) (sym (cell 0)) b.placement_is) in
+    let turns : f.setup.turn ≡ g.setup.turn = turn_injective f.setup.turn g.setup.turn (sym a.turn_is ∙ cell 1 ∙ b.turn_is) in
+    let rights : f.setup.rights ≡ g.setup.rights = castling_injective f.setup.rights g.setup.rights (sym a.castling_is ∙ cell 2 ∙ b.castling_is) in
+    let eps : f.setup.ep ≡ g.setup.ep = passed_injective f.setup.turn f.setup.ep g.setup.ep (on_rank f.setup.board f.setup.turn f.setup.ep lf.setup.en_passant) (subst (λ x. IfSome g.setup.ep (λ q. OnPassedRank x q)) (sym turns) (on_rank g.setup.board g.setup.turn g.setup.ep lg.setup.en_passant)) (sym a.passed_is ∙ cell 3 ∙ b.passed_is) in
+    let halves : f.half ≡ g.half = decimal_injective f.half g.half (omega (arith, lf.half)) (omega (arith, lg.half)) (cell 4) in
+    let fulls : f.full ≡ g.full = decimal_injective f.full g.full (omega (arith, lf.full)) (omega (arith, lg.full)) (cell 5) in
+    ap (λ x. record_of (position_of x f.setup.turn f.setup.rights f.setup.ep) f.half f.full) boards
+    ∙ ap (λ x. record_of (position_of g.setup.board x f.setup.rights f.setup.ep) f.half f.full) turns
+    ∙ ap (λ x. record_of (position_of g.setup.board g.setup.turn x f.setup.ep) f.half f.full) rights
+    ∙ ap (λ x. record_of (position_of g.setup.board g.setup.turn g.setup.rights x) f.half f.full) eps
+    ∙ ap (λ x. record_of g.setup x f.full) halves
+    ∙ ap (λ x. record_of g.setup g.half x) fulls
+
+pub one_setup : (p q : Position) (four : List (List ℕ)) → IsSetup p → IsSetup q → SetupTexts p four → SetupTexts q four → p ≡ q
+one_setup p q four lp lq h k =
+    let a = h.spells in
+    let b = k.spells in
+    let cells = sym h.are ∙ k.are in
+    let cell = λ (i : ℕ). ap (λ (w : List (List ℕ)). get_or w i []) cells in
+    let boards : p.board ≡ q.board = placement_one_board p.board q.board h.placement lp.places lq.places a.placement_is (subst (PlacementText q.board) (sym (cell 0)) b.placement_is) in
+    let turns : p.turn ≡ q.turn = turn_injective p.turn q.turn (sym a.turn_is ∙ cell 1 ∙ b.turn_is) in
+    let rights : p.rights ≡ q.rights = castling_injective p.rights q.rights (sym a.castling_is ∙ cell 2 ∙ b.castling_is) in
+    let eps : p.ep ≡ q.ep = passed_injective p.turn p.ep q.ep (on_rank p.board p.turn p.ep lp.en_passant) (subst (λ x. IfSome q.ep (λ y. OnPassedRank x y)) (sym turns) (on_rank q.board q.turn q.ep lq.en_passant)) (sym a.passed_is ∙ cell 3 ∙ b.passed_is) in
+    ap (λ x. position_of x p.turn p.rights p.ep) boards ∙ ap (λ x. position_of q.board x p.rights p.ep) turns ∙ ap (λ x. position_of q.board q.turn x p.ep) rights ∙ ap (λ x. position_of q.board q.turn q.rights x) eps

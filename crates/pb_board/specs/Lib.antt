@@ -1,0 +1,13 @@
+pub mod Piece
+pub mod Board
+pub mod Position
+pub mod King
+pub mod Padded
+pub mod Text
+pub mod First
+pub mod Fen
+pub mod Numeral
+pub mod Written
+pub mod Initial
+pub mod Refusal
+pub mod Words

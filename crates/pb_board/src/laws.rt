@@ -1,0 +1,23 @@
+//! Laws of FEN records and their texts.
+
+ghost use Rattle.std.specs.Prelude.{◌≡◌, ℕ, List};
+ghost use Rattle.pb_board.specs.Position.{Record};
+ghost use Rattle.pb_board.specs.Fen.{FenText};
+ghost use Rattle.pb_board.specs.Position.{IsRecord};
+ghost use Rattle.pb_board.specs.Refusal.{IsFirstDue, OfRecord, fields};
+ghost use Rattle.pb_board.specs.declared.refusal.FenError.{FenError};
+
+/// No record has two texts.
+pub fn one_text()
+    ensures { (f : Record) (t u : List ℕ) → FenText f t → FenText f u → t ≡ u }
+{}
+
+/// No text has two records.
+pub fn one_record()
+    ensures { (f g : Record) (t : List ℕ) → IsRecord f → IsRecord g → FenText f t → FenText g t → f ≡ g }
+{}
+
+/// No refusal is due for a text of a record.
+pub fn none_due()
+    ensures { (f : Record) (t : List ℕ) (e : FenError) → IsRecord f → FenText f t → IsFirstDue OfRecord e (fields t) → ⊥ }
+{}

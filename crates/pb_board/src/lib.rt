@@ -1,0 +1,27 @@
+//! Chess positions: squares, pieces, setups, and the FEN records that spell them (PGN Standard 16.1).
+#![tactic(auto)]
+
+mod cut;
+mod fen;
+mod fields;
+mod initial;
+pub mod laws;
+mod number;
+mod piece;
+mod placement;
+mod rank;
+mod read;
+mod refusal;
+mod rules;
+mod setup;
+mod small_fields;
+mod square;
+mod write;
+
+pub use fen::{Fen, FenBytes};
+pub use piece::{Colour, Kind, Piece};
+pub use read::{read_fen, read_setup};
+pub use refusal::{FenError, SetupError};
+pub use setup::{Rights, Setup};
+pub use square::Square;
+pub use write::{write_fen, write_setup};

@@ -1,0 +1,68 @@
+//! The text of one rank.
+
+ghost use Rattle.std.specs.Prelude.{◌≡◌, ◌↔◌, ◌≤◌, ◌+◌, ◌-◌, ◌<◌, List, length, MatchOption, SomeIff};
+ghost use Rattle.pb_board.specs.Board.{Place};
+ghost use Rattle.pb_board.specs.Text.{RankText, letter as piece_letter};
+ghost use Rattle.pb_board.specs.declared.piece.Piece.{Piece};
+
+use crate::piece::{Colour, Kind, Piece};
+
+/// The piece of this letter.
+fn piece_of(letter: u8) -> Option<Piece>
+    ensures { MatchOption result ((p : Piece) → piece_letter p ≡ letter → ⊥) (λ p. letter ≡ piece_letter p) }
+{
+    let colour = if letter.is_ascii_uppercase() {
+        Colour::White
+    } else {
+        Colour::Black
+    };
+    let kind = match letter.to_ascii_lowercase() {
+        b'p' => Kind::Pawn,
+        b'n' => Kind::Knight,
+        b'b' => Kind::Bishop,
+        b'r' => Kind::Rook,
+        b'q' => Kind::Queen,
+        b'k' => Kind::King,
+        _ => return None,
+    };
+    Some(Piece { colour, kind })
+}
+
+/// The eight squares, from file a on, that the text spells.
+pub fn read_rank(text: &[u8]) -> Option<[Option<Piece>; 8]>
+    ensures { MatchOption result ((s : List Place) → length s ≡ 8 → RankText s text.now → ⊥)
+        (λ squares. (s : List Place) → length s ≡ 8 → (RankText s text.now ↔ s ≡ squares)) }
+{
+    let mut squares = [None; 8];
+    let mut file = 0;
+    let mut after_digit = false;
+    for byte in text {
+        if let Some(piece) = piece_of(*byte) {
+            if file == 8 {
+                return None;
+            }
+            squares[file] = Some(piece);
+            file += 1;
+            after_digit = false;
+        } else {
+            let run = digit(*byte)?;
+            if after_digit || file + run > 8 {
+                return None;
+            }
+            file += run;
+            after_digit = true;
+        }
+    }
+    if file == 8 { Some(squares) } else { None }
+}
+
+/// How many empty squares the digit stands for.
+fn digit(byte: u8) -> Option<usize>
+    ensures { SomeIff result ((49 ≤ byte) × (byte ≤ 56)) (byte - 48) }
+{
+    if (b'1'..=b'8').contains(&byte) {
+        Some((byte - b'0') as usize)
+    } else {
+        None
+    }
+}

@@ -1,0 +1,140 @@
+//! Reading a FEN record.
+
+ghost use Rattle.std.specs.Prelude.{◌≡◌, ◌<◌, ◌∷◌, [], map, Ok, IfOk, IfErr, MatchResult};
+ghost use Rattle.pb_board.specs.Position.{Position, Record, IsSetup, position_of};
+ghost use Rattle.pb_board.specs.Fen.{FenText, SetupTexts};
+ghost use Rattle.pb_board.specs.Position.{IsRecord};
+ghost use Rattle.pb_board.specs.Refusal.{order, IsFirstDue, OfRecord, OfSetup, AreParts, IsRefusedAs, fields, refusal_of};
+
+use crate::fen::Fen;
+use crate::fields::cut_fields;
+use crate::number::{read_number, read_positive};
+use crate::piece::{Colour, Piece};
+use crate::placement::read_placement;
+use crate::refusal::{FenError, SetupError};
+use crate::setup::{Rights, Setup};
+use crate::small_fields::{read_passed, read_rights, read_turn};
+use crate::square::Square;
+
+/// What the first four fields spell.
+#[derive(Clone, Copy)]
+struct Parts {
+    board: [Option<Piece>; 64],
+    turn: Colour,
+    rights: Rights,
+    ep: Option<Square>,
+}
+
+/// What the first four fields spell, or the first refusal that is due among theirs.
+fn read_parts(
+    placement: &[u8],
+    turn: &[u8],
+    castling: &[u8],
+    passed: &[u8],
+) -> Result<Parts, FenError>
+    ensures { MatchResult result (λ p. AreParts (position_of p.board p.turn p.rights p.ep) placement.now turn.now castling.now passed.now)
+        (λ e. (order e < 6) × IsFirstDue OfSetup e (placement.now ∷ turn.now ∷ castling.now ∷ passed.now ∷ [])) }
+{
+    let Some(board) = read_placement(placement) else {
+        return Err(FenError::Placement);
+    };
+    let Some(turn) = read_turn(turn) else {
+        return Err(FenError::Turn);
+    };
+    let Some(rights) = read_rights(castling) else {
+        return Err(FenError::Castling);
+    };
+    let Some(ep) = read_passed(passed, turn) else {
+        return Err(FenError::EnPassantText);
+    };
+    Ok(Parts {
+        board,
+        turn,
+        rights,
+        ep,
+    })
+}
+
+/// The setup of parts whose en passant square is on the right rank.
+fn build(
+    board: [Option<Piece>; 64],
+    turn: Colour,
+    rights: Rights,
+    ep: Option<Square>,
+) -> Result<Setup, FenError>
+    ensures { let p = position_of board turn rights ep in
+        MatchResult result (λ s. (s ≡ p) × IsSetup p) (λ e. IsRefusedAs e p) }
+{
+    match Setup::build(board, turn, rights, ep) {
+        Ok(setup) => Ok(setup),
+        Err(error) => Err(refusal_of(error)),
+    }
+}
+
+/// The refusal of a text whose parts are no setup, where the rank of the en passant square was judged before.
+fn refusal_of(error: SetupError) -> FenError
+    ensures { result ≡ refusal_of error }
+{
+    match error {
+        SetupError::Kings => FenError::Kings,
+        SetupError::Pawns => FenError::Pawns,
+        SetupError::EnPassant => FenError::EnPassantPawn,
+    }
+}
+
+/// The setup that the first four fields of a record spell.
+pub fn read_setup(four: [&[u8]; 4]) -> Result<Setup, FenError>
+    // What is read is a setup, and the texts spell it.
+    ensures found { IfOk result (λ s. IsSetup s × SetupTexts s (map (λ t. t.now) four.entry)) }
+    // The texts of a setup are read.
+    ensures only { (p : Position) → IsSetup p → SetupTexts p (map (λ t. t.now) four.entry) → result ≡ Ok p }
+    // A refusal is the first whose condition holds.
+    ensures refused { IfErr result (λ e. IsFirstDue OfSetup e (map (λ t. t.now) four.entry)) }
+{
+    judge_setup(&four)
+}
+
+/// The setup that the four texts spell, or the first refusal that is due.
+fn judge_setup(four: &[&[u8]; 4]) -> Result<Setup, FenError>
+    ensures found { IfOk result (λ s. IsSetup s × SetupTexts s (map (λ t. t.now) four.now)) }
+    ensures refused { IfErr result (λ e. IsFirstDue OfSetup e (map (λ t. t.now) four.now)) }
+{
+    let parts = read_parts(four[0], four[1], four[2], four[3])?;
+    build(parts.board, parts.turn, parts.rights, parts.ep)
+}
+
+/// The record that the text spells.
+pub fn read_fen(text: &[u8]) -> Result<Fen, FenError>
+    // What is read is a record, and the text spells it.
+    ensures found { IfOk result (λ f. IsRecord f × FenText f text.now) }
+    // The text of a record is read.
+    ensures only { (f : Record) → IsRecord f → FenText f text.now → result ≡ Ok f }
+    // A refusal is the first whose condition holds.
+    ensures refused { IfErr result (λ e. IsFirstDue OfRecord e (fields text.now)) }
+{
+    judge(text)
+}
+
+/// The record that the text spells, or the first refusal that is due.
+fn judge(text: &[u8]) -> Result<Fen, FenError>
+    ensures found { IfOk result (λ f. IsRecord f × FenText f text.now) }
+    ensures refused { IfErr result (λ e. IsFirstDue OfRecord e (fields text.now)) }
+{
+    let Some(fields) = cut_fields(text) else {
+        return Err(FenError::Fields);
+    };
+    let parts = read_parts(
+        fields.placement,
+        fields.turn,
+        fields.castling,
+        fields.passed,
+    )?;
+    let Some(half) = read_number(fields.half) else {
+        return Err(FenError::Half);
+    };
+    let Some(full) = read_positive(fields.full) else {
+        return Err(FenError::Full);
+    };
+    let setup = build(parts.board, parts.turn, parts.rights, parts.ep)?;
+    Ok(Fen::with_clocks(setup, half, full))
+}

@@ -1,0 +1,77 @@
+//! Why a position or its text is refused.
+
+ghost use Rattle.std.specs.Prelude.{◌≡◌};
+
+use thiserror::Error;
+
+/// Why there is no setup of these parts, in the order in which the causes are looked for.
+#[derive(Clone, Copy, Debug, PartialEq, Eq, Hash, Error)]
+pub enum SetupError {
+    /// There isn't exactly one king of each colour.
+    #[error("not exactly one king of each colour")]
+    Kings,
+    /// A pawn stands on rank 1 or 8.
+    #[error("a pawn stands on rank 1 or 8")]
+    Pawns,
+    /// The en passant square isn't on rank 6 with White to move or on rank 3 with Black to move, or isn't empty, or no
+    /// enemy pawn stands directly beyond it.
+    #[error("no pawn has just passed the en passant square")]
+    EnPassant,
+}
+
+/// Why bytes are no FEN record, in the order in which the causes are looked for.
+#[derive(Clone, Copy, Debug, PartialEq, Eq, Hash, Error)]
+pub enum FenError {
+    /// Cutting at every space doesn't give six fields.
+    #[error("not six fields with single spaces between them")]
+    Fields,
+    /// The first field isn't eight ranks.
+    #[error("the piece placement isn't eight ranks")]
+    Placement,
+    /// The second field isn't `w` or `b`.
+    #[error("the side to move isn't w or b")]
+    Turn,
+    /// The third field isn't `-` and not a selection of `KQkq` in this order.
+    #[error("the castling rights aren't - or letters of KQkq in order")]
+    Castling,
+    /// The fourth field isn't `-` and not a square of the rank that fits the side to move.
+    #[error("the en passant square isn't - or a square of the fitting rank")]
+    EnPassantText,
+    /// The fifth field isn't a decimal number from 0 to 65,535 without leading zeros.
+    #[error("the half-move clock isn't a number from 0 to 65535")]
+    Half,
+    /// The sixth field isn't a decimal number from 1 to 65,535 without leading zeros.
+    #[error("the full move number isn't a number from 1 to 65535")]
+    Full,
+    /// There isn't exactly one king of each colour.
+    #[error("not exactly one king of each colour")]
+    Kings,
+    /// A pawn stands on rank 1 or 8.
+    #[error("a pawn stands on rank 1 or 8")]
+    Pawns,
+    /// The en passant square isn't empty, or no enemy pawn stands directly beyond it.
+    #[error("no pawn has just passed the en passant square")]
+    EnPassantPawn,
+}
+
+impl FenError {
+    ghost use Rattle.pb_board.specs.Words.{word_of};
+
+    /// The word that stands for the refusal in the program's lines.
+    pub fn word(self) -> &'static str
+        ensures { result.now ≡ word_of self }
+    {
+        match self {
+            FenError::Fields => "fields",
+            FenError::Placement => "placement",
+            FenError::Turn => "turn",
+            FenError::Castling => "castling",
+            FenError::EnPassantText => "ep-text",
+            FenError::Half => "half",
+            FenError::Full => "full",
+            FenError::Kings => "kings",
+            FenError::Pawns => "pawns",
+            FenError::EnPassantPawn => "ep-pawn",
+        }
+    }
+}

@@ -1,0 +1,79 @@
+//! The rules that every setup meets.
+
+ghost use Rattle.std.specs.Prelude.{◌≡◌, ◌↔◌, IsTrue, MatchOption, Some};
+ghost use Rattle.pb_board.specs.declared.piece.Colour.{Colour};
+ghost use Rattle.pb_board.specs.Piece.{king_of, pawn_of};
+ghost use Rattle.pb_board.specs.Position.{HasOneKing, HasNoEdgePawn, IsOnlyKing, IsPassed, OnPassedRank};
+
+use crate::piece::{Colour, Kind, Piece};
+use crate::square::Square;
+
+/// The square of this colour's king, if exactly one stands on the board.
+pub fn one_king(board: &[Option<Piece>; 64], colour: Colour) -> Option<Square>
+    ensures { MatchOption result (¬ HasOneKing board.now colour) (IsOnlyKing board.now colour) }
+{
+    let mut found = None;
+    for index in 0..64 {
+        if is_king(board[index as usize], colour) {
+            if found.is_some() {
+                return None;
+            }
+            found = Square::from_index(index);
+        }
+    }
+    found
+}
+
+/// Tells whether no pawn stands on rank 1 or 8.
+pub fn has_no_edge_pawn(board: &[Option<Piece>; 64]) -> bool
+    ensures { IsTrue result ↔ HasNoEdgePawn board.now }
+{
+    for file in 0..8 {
+        if is_any_pawn(board[file]) || is_any_pawn(board[56 + file]) {
+            return false;
+        }
+    }
+    true
+}
+
+/// Tells whether the square is empty, with an enemy pawn directly beyond it.
+pub fn is_passed(board: &[Option<Piece>; 64], turn: Colour, square: Square) -> bool
+    requires { OnPassedRank turn square }
+    ensures { IsTrue result ↔ IsPassed board.now turn square }
+{
+    let square = square.index() as usize;
+    let (beyond, enemy) = match turn {
+        Colour::White => (square - 8, Colour::Black),
+        Colour::Black => (square + 8, Colour::White),
+    };
+    board[square].is_none() && is_pawn(board[beyond], enemy)
+}
+
+/// Tells whether this colour's king stands there.
+fn is_king(place: Option<Piece>, colour: Colour) -> bool
+    ensures { IsTrue result ↔ (place ≡ Some (king_of colour)) }
+{
+    let kind = Kind::King;
+    place == Some(Piece { colour, kind })
+}
+
+/// Tells whether a pawn of this colour stands there.
+fn is_pawn(place: Option<Piece>, colour: Colour) -> bool
+    ensures { IsTrue result ↔ (place ≡ Some (pawn_of colour)) }
+{
+    let kind = Kind::Pawn;
+    place == Some(Piece { colour, kind })
+}
+
+/// Tells whether a pawn stands there.
+fn is_any_pawn(place: Option<Piece>) -> bool
+    ensures { IsTrue result ↔ ((c : Colour) × (place ≡ Some (pawn_of c))) }
+{
+    matches!(
+        place,
+        Some(Piece {
+            kind: Kind::Pawn,
+            ..
+        })
+    )
+}

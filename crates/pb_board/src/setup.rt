@@ -1,0 +1,212 @@
+//! Setups: what the first four fields of a FEN record say.
+
+ghost use Rattle.std.specs.Prelude.{◌≡◌, MatchResult, length};
+
+use crate::initial::initial_board;
+use crate::piece::{Colour, Piece};
+use crate::refusal::SetupError;
+use crate::rules::{has_no_edge_pawn, is_passed, one_king};
+use crate::small_fields::passed_rank;
+use crate::square::Square;
+use std::marker::Model;
+
+/// The castling rights: one flag for each side of the board and each colour (PGN Standard 16.1.3.3).
+///
+/// A flag is kept as it was given, even where the king or the rook isn't at home.
+#[derive(Clone, Copy, Debug, PartialEq, Eq, Hash)]
+pub struct Rights {
+    /// White may castle on the king's side, the letter `K`.
+    pub white_short: bool,
+    /// White may castle on the queen's side, the letter `Q`.
+    pub white_long: bool,
+    /// Black may castle on the king's side, the letter `k`.
+    pub black_short: bool,
+    /// Black may castle on the queen's side, the letter `q`.
+    pub black_long: bool,
+}
+
+/// A setup: the board, the side to move, the castling rights and the en passant square.
+///
+/// Each setup has one king of each colour and no pawn on rank 1 or 8. A given en passant square is empty, on rank 6
+/// with White to move and on rank 3 with Black to move, and an enemy pawn stands directly beyond it.
+#[derive(Clone, Copy)]
+#[derive_where(Debug, PartialEq, Eq, Hash)]
+pub struct Setup {
+    board: [Option<Piece>; 64],
+    turn: Colour,
+    rights: Rights,
+    ep: Option<Square>,
+    // The kings' squares follow from the board. They are kept so that no test of check has to look for a king.
+    #[derive_where(skip)]
+    white_king: Square,
+    #[derive_where(skip)]
+    black_king: Square,
+}
+
+impl Model for Setup {
+    ghost use Rattle.pb_board.specs.declared.piece.Colour.TheVariants.{White, Black};
+    ghost use Rattle.pb_board.specs.King.{KeepsKings, king_square, kings-back};
+    ghost use Rattle.pb_board.specs.Position.{Position, position_of};
+
+    ghost Value = { Position };
+
+    ghost view = { λ s. position_of s.board s.turn s.rights s.ep };
+
+    ghost invariant = { λ s. KeepsKings (position_of s.board s.turn s.rights s.ep) s.white_king s.black_king };
+
+    ghost inverse = { λ p. record {
+      board = p.board;
+      turn = p.turn;
+      rights = p.rights;
+      ep = p.ep;
+      white_king = king_square p.board White;
+      black_king = king_square p.board Black;
+    } };
+
+    ghost inverse_ok = { λ s h. kings-back
+        (λ white black. record {
+          board = s.board;
+          turn = s.turn;
+          rights = s.rights;
+          ep = s.ep;
+          white_king = white;
+          black_king = black;
+        })
+        (position_of s.board s.turn s.rights s.ep) s.white_king s.black_king h };
+}
+
+impl Setup {
+    ghost use Rattle.pb_board.specs.declared.piece.Colour.TheVariants.{White, Black};
+    ghost use Rattle.pb_board.specs.Board.{at};
+    ghost use Rattle.pb_board.specs.Initial.{initial};
+    ghost use Rattle.pb_board.specs.Position.{IsSetup, IsOnlyKing, position_of};
+    ghost use Rattle.pb_board.specs.Refusal.{IsFirstFault};
+
+    /// The setup of these parts, with the board by square index.
+    ///
+    /// # Errors
+    ///
+    /// The first of `Kings`, `Pawns` and `EnPassant` whose rule the parts break.
+    pub fn build(
+        board: [Option<Piece>; 64],
+        turn: Colour,
+        rights: Rights,
+        ep: Option<Square>,
+    ) -> Result<Setup, SetupError>
+        ensures { let p = position_of board turn rights ep in
+            MatchResult result (λ s. (s ≡ p) × IsSetup p) (λ e. IsFirstFault e p) }
+    {
+        let Some(white_king) = one_king(&board, Colour::White) else {
+            return Err(SetupError::Kings);
+        };
+        let Some(black_king) = one_king(&board, Colour::Black) else {
+            return Err(SetupError::Kings);
+        };
+        if !has_no_edge_pawn(&board) {
+            return Err(SetupError::Pawns);
+        }
+        if let Some(square) = ep
+            && !(square.rank() == passed_rank(turn) && is_passed(&board, turn, square))
+        {
+            return Err(SetupError::EnPassant);
+        }
+        Ok(Setup {
+            board,
+            turn,
+            rights,
+            ep,
+            white_king,
+            black_king,
+        })
+    }
+
+    /// The setup of parts that are known to meet the rules, with the squares of the two kings. Nothing is tested.
+    pub fn of_parts(
+        board: [Option<Piece>; 64],
+        turn: Colour,
+        rights: Rights,
+        ep: Option<Square>,
+        white_king: Square,
+        black_king: Square,
+    ) -> Setup
+        requires rules { IsSetup (position_of board turn rights ep) }
+        requires white { IsOnlyKing board White white_king }
+        requires black { IsOnlyKing board Black black_king }
+        ensures { result ≡ position_of board turn rights ep }
+    {
+        Setup {
+            board,
+            turn,
+            rights,
+            ep,
+            white_king,
+            black_king,
+        }
+    }
+
+    /// The initial array, with White to move and every castling open.
+    pub fn start() -> Setup
+        ensures { result ≡ initial }
+    {
+        Setup {
+            board: initial_board(),
+            turn: Colour::White,
+            rights: Rights {
+                white_short: true,
+                white_long: true,
+                black_short: true,
+                black_long: true,
+            },
+            ep: None,
+            white_king: Square::E1,
+            black_king: Square::E8,
+        }
+    }
+
+    /// The places of the board by square index, from a1 to h8.
+    pub fn board(&self) -> &[Option<Piece>; 64]
+        ensures value { result.now ≡ self.now.board }
+        ensures places { length self.now.board ≡ 64 }
+    {
+        &self.board
+    }
+
+    /// What stands on the square.
+    pub fn at(&self, square: Square) -> Option<Piece>
+        ensures { result ≡ at self.now.board square }
+    {
+        self.board[square.index() as usize]
+    }
+
+    /// The side to move.
+    pub fn turn(&self) -> Colour
+        ensures value { result ≡ self.now.turn }
+        ensures rules { IsSetup self.now }
+    {
+        self.turn
+    }
+
+    /// The castling rights.
+    pub fn rights(&self) -> Rights
+        ensures { result ≡ self.now.rights }
+    {
+        self.rights
+    }
+
+    /// The en passant square, where there is one.
+    pub fn ep(&self) -> Option<Square>
+        ensures { result ≡ self.now.ep }
+    {
+        self.ep
+    }
+
+    /// The square of this colour's king.
+    pub fn king(&self, colour: Colour) -> Square
+        ensures { IsOnlyKing self.now.board colour result }
+    {
+        match colour {
+            Colour::White => self.white_king,
+            Colour::Black => self.black_king,
+        }
+    }
+}

@@ -1,0 +1,79 @@
+//! Squares of the board.
+
+ghost use Rattle.std.specs.Prelude.{◌≡◌, ◌<◌, ◌+◌, ◌*◌, ◌/◌, ◌%◌, ℕ, MatchOption, SomeIff, IfSome};
+
+use std::marker::Model;
+
+/// A square, seen as its number `8 * rank + file`: a1 is 0, and h8 is 63.
+#[derive(Clone, Copy, Debug, PartialEq, Eq, PartialOrd, Ord, Hash)]
+pub struct Square {
+    index: u8,
+}
+
+impl Model for Square {
+    ghost use Rattle.std.specs.Prelude.{ℕ, ◌<◌};
+
+    ghost Value = { ℕ };
+
+    ghost view = { λ s. s.index };
+
+    ghost invariant = { λ s. s.index < 64 };
+
+    ghost inverse = { λ n. record { index = n } };
+}
+
+impl Square {
+    /// The square of the white king in the initial array.
+    pub(crate) const E1: Square = Square { index: 4 };
+
+    /// The square of the black king in the initial array.
+    pub(crate) const E8: Square = Square { index: 60 };
+
+    /// The square on a file and a rank, both counted from 0.
+    pub fn new(file: u8, rank: u8) -> Option<Square>
+        ensures { SomeIff result ((file < 8) × (rank < 8)) (8 * rank + file) }
+    {
+        if file < 8 && rank < 8 {
+            Some(Square {
+                index: 8 * rank + file,
+            })
+        } else {
+            None
+        }
+    }
+
+    /// The square of this number.
+    pub fn from_index(index: u8) -> Option<Square>
+        ensures { SomeIff result (index < 64) index }
+    {
+        if index < 64 {
+            Some(Square { index })
+        } else {
+            None
+        }
+    }
+
+    /// The file, from 0 for the a-file.
+    pub fn file(self) -> u8
+        ensures below { result < 8 }
+        ensures value { result ≡ self % 8 }
+    {
+        self.index % 8
+    }
+
+    /// The rank, from 0 for rank 1.
+    pub fn rank(self) -> u8
+        ensures below { result < 8 }
+        ensures value { result ≡ self / 8 }
+    {
+        self.index / 8
+    }
+
+    /// The number of the square.
+    pub fn index(self) -> u8
+        ensures below { result < 64 }
+        ensures value { result ≡ self }
+    {
+        self.index
+    }
+}

@@ -1,0 +1,187 @@
+//! Writing a FEN record.
+
+ghost use Rattle.std.specs.Prelude.{◌≡◌, ◌≤◌, ◌<◌, ◌+◌, ◌++◌, ◌∷◌, [], ◌==◌, if◌then◌else◌, IfOk, length};
+ghost use Rattle.pb_board.specs.Fen.{FenText, FourFields};
+ghost use Rattle.pb_board.specs.Text.{letter as piece_letter, number_text, turn_text, castling_text, passed_text};
+ghost use Rattle.pb_board.specs.Written.{AppendsRank, AppendsPlacement, AppendsSetup};
+
+use crate::fen::{Fen, FenBytes};
+use crate::piece::{Colour, Kind, Piece};
+use crate::setup::{Rights, Setup};
+use crate::square::Square;
+use std::alloc::{AllocError, Global};
+
+/// The letter of a piece.
+fn letter_of(piece: Piece) -> u8
+    ensures { result ≡ piece_letter piece }
+{
+    let small = match piece.kind {
+        Kind::Pawn => b'p',
+        Kind::Knight => b'n',
+        Kind::Bishop => b'b',
+        Kind::Rook => b'r',
+        Kind::Queen => b'q',
+        Kind::King => b'k',
+    };
+    match piece.colour {
+        Colour::White => small - 32,
+        Colour::Black => small,
+    }
+}
+
+/// Writes the text of a rank.
+fn put_rank(out: &mut FenBytes, squares: &[Option<Piece>])
+    requires room { length out.old + length squares.now ≤ 93 }
+    requires eight { length squares.now ≤ 8 }
+    ensures { AppendsRank out.old out.new squares.now }
+{
+    let mut run = 0;
+    for place in squares {
+        match *place {
+            Some(piece) => {
+                put_run(out, run);
+                run = 0;
+                out.push(letter_of(piece));
+            }
+            None => run += 1,
+        }
+    }
+    put_run(out, run);
+}
+
+/// Writes the digit of a run of empty squares, if there is one.
+fn put_run(out: &mut FenBytes, run: u8)
+    requires room { length out.old + run ≤ 93 }
+    requires small { run ≤ 8 }
+    ensures { out.new ≡ out.old ++ (if run == 0 then [] else (48 + run) ∷ []) }
+{
+    if run > 0 {
+        out.push(b'0' + run);
+    }
+}
+
+/// Writes a number.
+fn put_number(out: &mut FenBytes, number: u16)
+    requires { length out.old + length (number_text number) ≤ 93 }
+    ensures { out.new ≡ out.old ++ number_text number }
+{
+    if number >= 10 {
+        put_number(out, number / 10);
+    }
+    out.push(b'0' + (number % 10) as u8);
+}
+
+/// Writes a clock, of at most five digits.
+fn put_clock(out: &mut FenBytes, number: u16)
+    requires { length out.old + 5 ≤ 93 }
+    ensures short { length (number_text number) ≤ 5 }
+    ensures text { out.new ≡ out.old ++ number_text number }
+{
+    put_number(out, number);
+}
+
+/// Writes the text of a board.
+fn put_placement(out: &mut FenBytes, board: &[Option<Piece>; 64])
+    requires { length out.old ≡ 0 }
+    ensures { AppendsPlacement out.old out.new board.now }
+{
+    put_rank(out, &board[56..]);
+    for row in 1..8 {
+        out.push(b'/');
+        let start = 56 - 8 * row;
+        put_rank(out, &board[start..start + 8]);
+    }
+}
+
+/// Writes the letters of the castling flags.
+fn put_rights(out: &mut FenBytes, rights: Rights)
+    requires { length out.old + 4 ≤ 93 }
+    ensures short { length (castling_text rights) ≤ 4 }
+    ensures text { out.new ≡ out.old ++ castling_text rights }
+{
+    if !(rights.white_short || rights.white_long || rights.black_short || rights.black_long) {
+        out.push(b'-');
+        return;
+    }
+    if rights.white_short {
+        out.push(b'K');
+    }
+    if rights.white_long {
+        out.push(b'Q');
+    }
+    if rights.black_short {
+        out.push(b'k');
+    }
+    if rights.black_long {
+        out.push(b'q');
+    }
+}
+
+/// Writes the en passant square.
+fn put_passed(out: &mut FenBytes, ep: Option<Square>)
+    requires { length out.old + 2 ≤ 93 }
+    ensures short { length (passed_text ep) ≤ 2 }
+    ensures text { out.new ≡ out.old ++ passed_text ep }
+{
+    match ep {
+        Some(square) => {
+            out.push(b'a' + square.file());
+            out.push(b'1' + square.rank());
+        }
+        None => out.push(b'-'),
+    }
+}
+
+/// Writes the side to move.
+fn put_turn(out: &mut FenBytes, turn: Colour)
+    requires { length out.old < 93 }
+    ensures { out.new ≡ out.old ++ turn_text turn }
+{
+    out.push(match turn {
+        Colour::White => b'w',
+        Colour::Black => b'b',
+    });
+}
+
+/// Writes the first four fields.
+pub fn put_setup(out: &mut FenBytes, setup: &Setup)
+    requires { length out.old ≡ 0 }
+    ensures { AppendsSetup out.old out.new setup.now }
+{
+    put_placement(out, setup.board());
+    out.push(b' ');
+    put_turn(out, setup.turn());
+    out.push(b' ');
+    put_rights(out, setup.rights());
+    out.push(b' ');
+    put_passed(out, setup.ep());
+}
+
+/// The text of a record, in memory of its own.
+pub fn write_fen(alloc: Global, fen: &Fen) -> Result<Vec<u8>, AllocError>
+    ensures { IfOk result (λ v. FenText fen.now v.items) }
+{
+    fen.text().as_bytes().to_vec(alloc)
+}
+
+/// The first four fields of a record's text.
+pub fn write_setup(alloc: Global, setup: &Setup) -> Result<Vec<u8>, AllocError>
+    ensures { IfOk result (λ v. FourFields setup.now v.items) }
+{
+    let mut out = FenBytes::new();
+    put_setup(&mut out, setup);
+    out.as_bytes().to_vec(alloc)
+}
+
+/// The text of a record.
+pub fn fen_text(fen: &Fen) -> FenBytes
+    ensures { FenText fen.now result }
+{
+    let mut out = FenBytes::new();
+    put_setup(&mut out, &fen.setup());
+    out.push(b' ');
+    put_clock(&mut out, fen.half());
+    out.push(b' ');
+    put_clock(&mut out, fen.full());
+    out
+}
