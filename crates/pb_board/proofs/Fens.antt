@@ -244,9 +244,12 @@ setup_not_due p four lawful h =
     let n10 = none_more refusal.Pawns 9 OfSetup pieces refl n9 (λ _ due. due p.board board lawful.pawns) in
     subst (NoneBefore OfSetup 11) (sym h.are) (none_more refusal.EnPassantPawn 10 OfSetup pieces refl n10 (λ _ due. due p.board p.turn p.ep board passed (passed_holds p.board p.turn p.ep lawful.en_passant)))
 
+pub setup_never_due : (p : Position) (four : List (List ℕ)) (e : FenError) → IsSetup p → SetupTexts p four → IsFirstDue OfSetup e four → ⊥
+setup_never_due p four e lawful h refused = (setup_not_due p four lawful h).none e refused.member (last_order e) refused.due
+
 pub only_setup : (r : Result Position FenError) (p : Position) (four : List (List ℕ)) → IfOk r (λ s. IsSetup s × SetupTexts s four) → IfErr r (λ e. IsFirstDue OfSetup e four) → IsSetup p → SetupTexts p four → r ≡ Ok p
 only_setup (Ok s) p four found refused lawful h = ap (λ x. Ok x) (one_setup s p four found.0 lawful found.1 h)
-only_setup (Err e) p four found refused lawful h = absurd ((setup_not_due p four lawful h).none e refused.member (last_order e) refused.due)
+only_setup (Err e) p four found refused lawful h = absurd (setup_never_due p four e lawful h refused)
 
 pub four_texts : (four : List (Bor (List ℕ))) (d : Bor (List ℕ)) → length four ≡ 4 → map (λ t. t.now) four ≡ (get_or four 0 d).now ∷ (get_or four 1 d).now ∷ (get_or four 2 d).now ∷ (get_or four 3 d).now ∷ []
 four_texts four d e = ap (λ (w : List (Bor (List ℕ))). map (λ t. t.now) w) (four_cells four d e)

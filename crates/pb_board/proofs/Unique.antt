@@ -1,8 +1,7 @@
 -- No record has two texts, and no text has two records.
-use Rattle.std.proofs.Common.{◌≡◌, ℕ, zero, suc, ◌+◌, ◌*◌, ◌%◌, ◌^◌, ◌<◌, ◌≤◌, Bool, true, false, cond, eqb, List, [], ◌∷◌, ◌++◌, length, take, get_or, replicate, Option, Some, None, refl, sym, ap, subst, ◌∙◌, inl, inr, arith, lit<}
+use Rattle.std.proofs.Common.{◌≡◌, ℕ, zero, suc, ◌+◌, ◌*◌, ◌%◌, ◌≤◌, Bool, true, false, cond, eqb, List, [], ◌∷◌, ◌++◌, length, take, get_or, replicate, Option, Some, None, refl, sym, ap, subst, ◌∙◌, inl, inr, arith, lit<}
 use Rattle.std.specs.Prelude.{IfSome}
 use Rattle.std.specs.List.{join_with_byte}
-use Rattle.std.specs.Fmt.{decimal}
 use Rattle.std.proofs.Math.Seq.{take-add}
 use Rattle.std.proofs.lemmas.List.{take_all}
 use Rattle.std.proofs.lemmas.Fmt.{decimal_injective}
@@ -12,15 +11,15 @@ use Rattle.pb_board.specs.declared.piece.Piece.{Piece}
 use Rattle.pb_board.specs.declared.setup.Rights.{Rights}
 use Rattle.pb_board.specs.Board.{Place}
 use Rattle.pb_board.specs.Position.{Position, Record, IsSetup, OnPassedRank, EnPassantHolds, position_of}
-use Rattle.pb_board.specs.Text.{letter, BeginsOccupied, RankText, RankTexts, PlacementText, rank_of, ranks_down, turn_text, castling_text, flag_letters, letter_if, or_dash, passed_text, number_text}
-use Rattle.pb_board.specs.Fen.{FenText, SetupTexts}
+use Rattle.pb_board.specs.Text.{letter, BeginsOccupied, RankText, RankTexts, PlacementText, rank_of, ranks_down, turn_text, castling_text, passed_text, number_text}
+use Rattle.pb_board.specs.Fen.{FenText, FourFields, SetupTexts}
 use Rattle.pb_board.specs.Position.{IsRecord, record_of}
 use Rattle.pb_board.specs.Refusal.{fields}
-use Rattle.pb_board.proofs.Numbers.{clock_numeral}
 use Rattle.pb_board.proofs.Letters.{letter_injective, letter_above}
-use Rattle.pb_board.proofs.Joins.{Above, split_join, above-join, above-append, all_above-less}
+use Rattle.pb_board.proofs.Joins.{Above, split_join}
+use Rattle.pb_board.proofs.FieldBytes.{above_space, placement_bytes, turn_bytes, castling_bytes, passed_bytes, number_bytes}
 use Rattle.pb_board.proofs.Ranks.{nothing_left}
-use Rattle.pb_board.proofs.Boards.{placement_rows, rows, ranks_above}
+use Rattle.pb_board.proofs.Boards.{placement_rows, rows}
 
 -- ---- one rank for a text
 
@@ -110,44 +109,32 @@ placement_one_board a b x la lb h k =
 
 -- ---- the pieces of a record's text
 
-above_digits : (ds : List ℕ) → ((i : ℕ) → i < length ds → (48 ≤ get_or ds i 0) × (get_or ds i 0 ≤ 57)) → Above 32 ds
-above_digits [] h = tt
-above_digits (d ∷ ds) h = (omega (arith, h 0 (omega arith)), above_digits ds (λ i lt. h (suc i) (omega (arith, lt))))
+pub on_rank : (board : List Place) (turn : Colour) (ep : Option ℕ) → EnPassantHolds board turn ep → IfSome ep (λ q. OnPassedRank turn q)
+on_rank board turn None h = h
+on_rank board turn (Some q) h = h.0
 
-above_letter : (b : Bool) (c : ℕ) → 32 < c → Above 32 (letter_if b c)
-above_letter true c lt = (lt, tt)
-above_letter false c lt = tt
-
-above_dash : (t : List ℕ) → Above 32 t → Above 32 (or_dash t)
-above_dash [] h = (lit< tt, tt)
-above_dash (c ∷ t) h = h
-
-above_castling : (r : Rights) → Above 32 (castling_text r)
-above_castling r =
-    above_dash (flag_letters r) (above-append 32 (letter_if r.white_short 75) _ (above_letter r.white_short 75 (lit< tt))
-    (above-append 32 (letter_if r.white_long 81) _ (above_letter r.white_long 81 (lit< tt))
-    (above-append 32 (letter_if r.black_short 107) _ (above_letter r.black_short 107 (lit< tt)) (above_letter r.black_long 113 (lit< tt)))))
-
-above_turn : (c : Colour) → Above 32 (turn_text c)
-above_turn White = (lit< tt, tt)
-above_turn Black = (lit< tt, tt)
-
-above_passed : (ep : Option ℕ) → Above 32 (passed_text ep)
-above_passed None = (lit< tt, tt)
-above_passed (Some q) = (omega arith, (omega arith, tt))
-
-above_placement : (b : List Place) (x : List ℕ) → PlacementText b x → Above 32 x
-above_placement b x h =
-    subst (Above 32) (sym h.2) (above-join 32 47 h.0 (lit< tt) (all_above-less 32 47 h.0 (omega arith) (ranks_above (ranks_down b 8) h.0 h.1)))
-
-above_number : (n : ℕ) → n < 2 ^ 16 → Above 32 (number_text n)
-above_number n lt = above_digits (decimal n) (clock_numeral n lt).digits
+above_passed : (p : Position) → IsSetup p → Above 32 (passed_text p.ep)
+above_passed p lawful = above_space (passed_text p.ep) (passed_bytes p.turn p.ep (on_rank p.board p.turn p.ep lawful.en_passant))
 
 pub fields_of_text : (f : Record) (t : List ℕ) → IsRecord f → (h : FenText f t) → fields t ≡ h.placement ∷ h.turn ∷ h.castling ∷ h.passed ∷ number_text f.half ∷ number_text f.full ∷ []
 fields_of_text f t lawful h =
     let s = h.setup_is in
-    ap fields h.joined ∙ split_join 32 (h.placement ∷ h.turn ∷ h.castling ∷ h.passed ∷ number_text f.half ∷ number_text f.full ∷ [])
-    (above_placement f.setup.board h.placement s.placement_is, (subst (Above 32) (sym s.turn_is) (above_turn f.setup.turn), (subst (Above 32) (sym s.castling_is) (above_castling f.setup.rights), (subst (Above 32) (sym s.passed_is) (above_passed f.setup.ep), (above_number f.half lawful.half, (above_number f.full lawful.full, tt)))))) (lit< tt)
+    ap fields h.joined ∙ split_join 32 (h.placement ∷ h.turn ∷ h.castling ∷ h.passed ∷ number_text f.half ∷ number_text f.full ∷ []) (
+      above_space h.placement (placement_bytes f.setup.board h.placement s.placement_is),
+      (
+        subst (Above 32) (sym s.turn_is) (above_space _ (turn_bytes f.setup.turn)),
+        (
+          subst (Above 32) (sym s.castling_is) (above_space _ (castling_bytes f.setup.rights)),
+          (
+            subst (Above 32) (sym s.passed_is) (above_passed f.setup lawful.setup),
+            (
+              above_space _ (number_bytes f.half lawful.half),
+              (above_space _ (number_bytes f.full lawful.full), tt),
+            ),
+          ),
+        ),
+      ),
+    ) (lit< tt)
 
 -- ---- one record for a text
 
@@ -195,10 +182,6 @@ passed_injective turn (Some x) (Some y) h k e =
     let same : x ≡ y = omega (arith, file, h, k) in
     ap (λ n. Some n) same
 
-pub on_rank : (board : List Place) (turn : Colour) (ep : Option ℕ) → EnPassantHolds board turn ep → IfSome ep (λ q. OnPassedRank turn q)
-on_rank board turn None h = h
-on_rank board turn (Some q) h = h.0
-
 pub one_text : (f : Record) (t u : List ℕ) → FenText f t → FenText f u → t ≡ u
 one_text f t u h k =
     let a = h.setup_is in
@@ -208,6 +191,16 @@ one_text f t u h k =
     ∙ ap (λ x. join_with_byte 32 (k.placement ∷ x ∷ h.castling ∷ h.passed ∷ rest)) (a.turn_is ∙ sym b.turn_is)
     ∙ ap (λ x. join_with_byte 32 (k.placement ∷ k.turn ∷ x ∷ h.passed ∷ rest)) (a.castling_is ∙ sym b.castling_is)
     ∙ ap (λ x. join_with_byte 32 (k.placement ∷ k.turn ∷ k.castling ∷ x ∷ rest)) (a.passed_is ∙ sym b.passed_is)
+    ∙ sym k.joined
+
+pub one_setup_text : (p : Position) (t u : List ℕ) → FourFields p t → FourFields p u → t ≡ u
+one_setup_text p t u h k =
+    let a = h.spells in
+    let b = k.spells in
+    h.joined ∙ ap (λ x. join_with_byte 32 (x ∷ h.turn ∷ h.castling ∷ h.passed ∷ [])) (placement_one_text p.board h.placement k.placement a.placement_is b.placement_is)
+    ∙ ap (λ x. join_with_byte 32 (k.placement ∷ x ∷ h.castling ∷ h.passed ∷ [])) (a.turn_is ∙ sym b.turn_is)
+    ∙ ap (λ x. join_with_byte 32 (k.placement ∷ k.turn ∷ x ∷ h.passed ∷ [])) (a.castling_is ∙ sym b.castling_is)
+    ∙ ap (λ x. join_with_byte 32 (k.placement ∷ k.turn ∷ k.castling ∷ x ∷ [])) (a.passed_is ∙ sym b.passed_is)
     ∙ sym k.joined
 
 pub one_record : (f g : Record) (t : List ℕ) → IsRecord f → IsRecord g → FenText f t → FenText g t → f ≡ g

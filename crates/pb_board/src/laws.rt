@@ -1,9 +1,8 @@
 //! Laws of FEN records and their texts.
 
 ghost use Rattle.std.specs.Prelude.{◌≡◌, ℕ, List};
-ghost use Rattle.pb_board.specs.Position.{Record};
-ghost use Rattle.pb_board.specs.Fen.{FenText};
-ghost use Rattle.pb_board.specs.Position.{IsRecord};
+ghost use Rattle.pb_board.specs.Position.{Position, Record, IsSetup, IsRecord};
+ghost use Rattle.pb_board.specs.Fen.{FenText, FourFields, SetupTexts};
 ghost use Rattle.pb_board.specs.Refusal.{IsFirstDue, OfRecord, fields};
 ghost use Rattle.pb_board.specs.declared.refusal.FenError.{FenError};
 
@@ -12,9 +11,19 @@ pub fn one_text()
     ensures { (f : Record) (t u : List ℕ) → FenText f t → FenText f u → t ≡ u }
 {}
 
+/// No setup has two texts.
+pub fn one_setup_text()
+    ensures { (p : Position) (t u : List ℕ) → FourFields p t → FourFields p u → t ≡ u }
+{}
+
 /// No text has two records.
 pub fn one_record()
     ensures { (f g : Record) (t : List ℕ) → IsRecord f → IsRecord g → FenText f t → FenText g t → f ≡ g }
+{}
+
+/// No four texts have two setups.
+pub fn one_setup()
+    ensures { (p q : Position) (four : List (List ℕ)) → IsSetup p → IsSetup q → SetupTexts p four → SetupTexts q four → p ≡ q }
 {}
 
 /// No refusal is due for a text of a record.

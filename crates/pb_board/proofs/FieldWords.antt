@@ -1,0 +1,80 @@
+-- Each of the first four fields of a record is a word: 1 to 255 bytes that are no space, no quotation mark and no semicolon.
+use Rattle.std.proofs.Common.{◌≢◌, ℕ, ◌≤◌, Bool, true, false, List, [], ◌∷◌, ◌++◌, length, Option, Some, None, sym, ap, subst, arith}
+use Rattle.std.specs.List.{All}
+use Rattle.std.proofs.lemmas.List.{length-append}
+use Rattle.std.proofs.lemmas.List.Elements.{All-nil, All-cons, All-weaker, All-same}
+use Rattle.pb_board.specs.declared.piece.Colour.{Colour}
+use Rattle.pb_board.specs.declared.piece.Colour.TheVariants.{White, Black}
+use Rattle.pb_board.specs.declared.setup.Rights.{Rights}
+use Rattle.pb_board.specs.Board.{Board}
+use Rattle.pb_board.specs.Position.{Position, IsSetup}
+use Rattle.pb_board.specs.Text.{PlacementText, turn_text, castling_text, flag_letters, letter_if, or_dash, passed_text}
+use Rattle.pb_board.specs.Fen.{SetupTexts}
+use Rattle.pb_board.proofs.FieldBytes.{IsFieldByte, AreFieldBytes, ranks_length, placement_bytes, turn_bytes, castling_bytes, passed_bytes}
+use Rattle.pb_board.proofs.Unique.{on_rank}
+
+abbrev pub IsPlainByte : ℕ → Type 0
+IsPlainByte b = (33 ≤ b) × (b ≤ 126) × (b ≢ 59) × (b ≢ 34)
+
+abbrev pub IsWord : List ℕ → Type 0
+IsWord text = (1 ≤ length text) × (length text ≤ 255) × All IsPlainByte text
+
+plain : (b : ℕ) → IsFieldByte b → IsPlainByte b
+plain b h = (omega (arith, h.low), omega (arith, h.high), h.no_end, λ e. omega (arith, h.low, e))
+
+word : (text : List ℕ) → 1 ≤ length text → length text ≤ 255 → AreFieldBytes text → IsWord text
+word text some short bytes = (some, short, All-weaker IsFieldByte IsPlainByte plain text bytes)
+
+turn_word : (turn : Colour) → IsWord (turn_text turn)
+turn_word White = word (turn_text White) (omega arith) (omega arith) (turn_bytes White)
+turn_word Black = word (turn_text Black) (omega arith) (omega arith) (turn_bytes Black)
+
+letter_short : (flag : Bool) (c : ℕ) → length (letter_if flag c) ≤ 1
+letter_short true c = omega arith
+letter_short false c = omega arith
+
+flags_short : (r : Rights) → length (flag_letters r) ≤ 4
+flags_short r =
+    let short = letter_short r.black_long 113 in
+    let two = letter_if r.black_short 107 ++ letter_if r.black_long 113 in
+    let three = letter_if r.white_long 81 ++ two in
+    omega (
+      arith,
+      length-append (letter_if r.white_short 75) three,
+      length-append (letter_if r.white_long 81) two,
+      length-append (letter_if r.black_short 107) (letter_if r.black_long 113),
+      short,
+      letter_short r.white_short 75,
+      letter_short r.white_long 81,
+      letter_short r.black_short 107,
+    )
+
+dash_length : (text : List ℕ) → length text ≤ 4 → (1 ≤ length (or_dash text)) × (length (or_dash text) ≤ 255)
+dash_length [] short = (omega arith, omega arith)
+dash_length (c ∷ text) short = (omega arith, omega (arith, short))
+
+castling_word : (r : Rights) → IsWord (castling_text r)
+castling_word r =
+    let lengths = dash_length (flag_letters r) (flags_short r) in
+    word (castling_text r) lengths.0 lengths.1 (castling_bytes r)
+
+passed_length : (ep : Option ℕ) → (1 ≤ length (passed_text ep)) × (length (passed_text ep) ≤ 255)
+passed_length None = (omega arith, omega arith)
+passed_length (Some q) = (omega arith, omega arith)
+
+placement_word : (board : Board) (text : List ℕ) → PlacementText board text → IsWord text
+placement_word board text h =
+    let lengths = ranks_length 8 board h.0 h.1 in
+    word text (omega (arith, lengths.0, ap length h.2)) (omega (arith, lengths.1, ap length h.2)) (placement_bytes board text h)
+
+pub setup_words : (p : Position) (four : List (List ℕ)) → IsSetup p → SetupTexts p four → All IsWord four
+setup_words p four lawful h =
+    let s = h.spells in
+    let passed = passed_length p.ep in
+    All-same IsWord four (h.placement ∷ h.turn ∷ h.castling ∷ h.passed ∷ []) h.are
+    (All-cons IsWord h.placement (h.turn ∷ h.castling ∷ h.passed ∷ []) (placement_word p.board h.placement s.placement_is)
+    (All-cons IsWord h.turn (h.castling ∷ h.passed ∷ []) (subst IsWord (sym s.turn_is) (turn_word p.turn))
+    (All-cons IsWord h.castling (h.passed ∷ []) (subst IsWord (sym s.castling_is) (castling_word p.rights))
+    (All-cons IsWord h.passed []
+    (subst IsWord (sym s.passed_is) (word (passed_text p.ep) passed.0 passed.1 (passed_bytes p.turn p.ep (on_rank p.board p.turn p.ep lawful.en_passant))))
+    (All-nil IsWord)))))
