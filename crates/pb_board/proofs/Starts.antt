@@ -6,12 +6,13 @@ use Rattle.std.proofs.lemmas.Bool.Decides.{nat_tests}
 use Rattle.pb_board.specs.declared.piece.Colour.{Colour}
 use Rattle.pb_board.specs.declared.piece.Colour.TheVariants.{White, Black}
 use Rattle.pb_board.specs.declared.piece.Piece.{Piece}
+use Rattle.pb_board.specs.declared.setup.Rights.{Rights}
 use Rattle.pb_board.specs.Piece.{king_of, pawn_of}
 use Rattle.pb_board.specs.Board.{Place, Board, at, Holds}
 use Rattle.pb_board.specs.King.{KeepsKings}
-use Rattle.pb_board.specs.Position.{HasNoEdgePawn, IsOnlyKing}
+use Rattle.pb_board.specs.Position.{HasNoEdgePawn, IsOnlyKing, position_of}
 use Rattle.pb_board.specs.Text.{letter}
-use Rattle.pb_board.specs.Initial.{initial, initial_board}
+use Rattle.pb_board.specs.Initial.{initial_board}
 
 -- each place passes the test at its index
 abbrev pub all_from : (ℕ → Place → Bool) → ℕ → List Place → Bool
@@ -85,9 +86,9 @@ black_king : IsOnlyKing initial_board Black 60
 unfolding initial_board king_test is_it
 black_king = only_king initial_board Black 60 refl refl
 
-pub initial_keeps_kings : KeepsKings initial 4 60
+pub initial_keeps_kings : (rights : Rights) → KeepsKings (position_of initial_board White rights None) 4 60
 unfolding initial_board
-initial_keeps_kings = record {
+initial_keeps_kings rights = record {
   rules = record {
     places = refl;
     white_king = (4, white_king);

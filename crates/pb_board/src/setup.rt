@@ -110,14 +110,7 @@ impl Setup {
         {
             return Err(SetupError::EnPassant);
         }
-        Ok(Setup {
-            board,
-            turn,
-            rights,
-            ep,
-            white_king,
-            black_king,
-        })
+        Ok(Setup::of_parts(board, turn, rights, ep, white_king, black_king))
     }
 
     /// The setup of parts that are known to meet the rules, with the squares of the two kings. Nothing is tested.
