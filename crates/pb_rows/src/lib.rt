@@ -1,0 +1,7 @@
+//! Worked examples over all crates, as tests: the values come from the standards and from worked tables, never from a run.
+#![tactic(auto)]
+
+#[cfg(test)]
+mod fen;
+#[cfg(test)]
+mod setup;
