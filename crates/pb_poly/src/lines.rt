@@ -1,12 +1,12 @@
 //! The lines of a stream, in whatever pieces it comes.
 
-ghost use Rattle.std.specs.Prelude.{◌≡◌, ℕ, ◌+◌, ◌^◌, ◌<◌, ◌≤◌, List, Result, IfErr, OnOk, length};
+ghost use Rattle.std.specs.Prelude.{◌≡◌, ℕ, ◌+◌, ◌^◌, ◌<◌, ◌≤◌, List, Result, IfErr, IfOk, OnOk, length};
 ghost use Rattle.pb_poly.specs.Lines.{line_limit};
-ghost use Rattle.pb_poly.specs.LineTask.{TakesStream, TakesUntil};
+ghost use Rattle.pb_poly.specs.LineTask.{TakesStream, TakesUntil, chunk_len};
 
 use crate::line_buffer::LineBuffer;
 use crate::source::Source;
-use std::alloc::Global;
+use std::alloc::{AllocError, Global};
 
 /// The longest line that is kept, in bytes. A final CR counts, the LF doesn't.
 pub const LINE_LIMIT: usize = 8192;
@@ -59,8 +59,16 @@ pub fn take_lines<S: Source, T: LineTask>(
     let Ok(mut buffer) = LineBuffer::new(alloc) else {
         return Err(LinesFault::Memory);
     };
-    let Ok(mut chunk) = vec![in alloc; 0; CHUNK_LEN] else {
+    let Ok(mut chunk) = chunk(alloc) else {
         return Err(LinesFault::Memory);
     };
     buffer.drain(chunk.as_mut_slice(), source, task, fills)
+}
+
+/// The room that a source is given at a time.
+fn chunk(alloc: Global) -> Result<Vec<u8>, AllocError>
+    ensures room { IfOk result (λ chunk. 0 < length chunk.items) }
+    ensures fits { IfOk result (λ chunk. length chunk.items ≤ chunk_len) }
+{
+    vec![in alloc; 0; CHUNK_LEN]
 }
