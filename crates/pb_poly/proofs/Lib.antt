@@ -1,0 +1,5 @@
+pub mod LineBufferLemmas
+pub mod LineLemmas
+pub mod ReadsLemmas
+pub mod SinkLemmas
+pub mod TaskLemmas

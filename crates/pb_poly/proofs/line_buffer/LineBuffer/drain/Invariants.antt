@@ -1,0 +1,12 @@
+use Rattle.std.proofs.Common.{ℕ, List, length, ◌<◌, ◌≤◌}
+use Rattle.pb_poly.specs.Reads.{ReadsOn}
+use Rattle.pb_poly.specs.LineBuffer.{Reached}
+use Rattle.pb_poly.specs.LineTask.{chunk_len}
+use Rattle.pb_poly.proofs.line_buffer.LineBuffer.drain.Given as goal
+
+-- the source reads on, and the lines that an LF ended have been taken
+abbrev pub invariant-loop-made : goal.invariant-loop-made
+invariant-loop-made g l =
+    let state = g.S.Source.state in
+    (came : List ℕ) × ReadsOn chunk_len l._made (state l.initial.source) (state l.source) came × Reached g.T.LineTask.takes l.initial.task came l.task l.self
+    × (0 < length l.chunk) × (length l.chunk ≤ chunk_len)

@@ -1,0 +1,6 @@
+pub mod LineBuffer
+pub mod LineTask
+pub mod Lines
+pub mod Reads
+pub mod Sink
+pub mod Source
