@@ -3,8 +3,11 @@
 #![tactic(auto)]
 
 mod fault;
+mod fen;
 mod grammar;
 mod order;
+mod output;
 
 pub use fault::{Fault, status};
+pub use fen::run_fen;
 pub use order::{Order, ParseFault, parse};
