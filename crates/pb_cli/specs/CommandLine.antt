@@ -1,0 +1,24 @@
+-- The command line of `pbook`: one level of commands, each with its words.
+use Rattle.std.specs.Prelude.{Some, codes, true}
+use Rattle.clap.specs.Words.{App, Rule, Text, new_app, new_rule, with_rule, with_subcommand}
+use Rattle.clap.specs.Simple.{on_top}
+use Rattle.clap.specs.declared.builder.action.ArgAction.TheVariants.{Set}
+
+-- a word that has to be given
+abbrev pub required_word : Text → Rule
+required_word id = record (new_rule id) { required = true; action = Some Set }
+
+abbrev pub fen_command : App
+fen_command = with_rule (new_app (codes "fen")) (required_word (codes "FEN"))
+
+-- the program, before its commands
+abbrev pub program_alone : App
+program_alone = on_top (λ s. record s {
+  has_version = true;
+  subcommand_required = true;
+  arg_required_else_help = true;
+}) (new_app (codes "pbook"))
+
+-- the whole command line
+abbrev pub pbook : App
+pbook = with_subcommand program_alone fen_command.top

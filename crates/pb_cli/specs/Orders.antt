@@ -1,0 +1,27 @@
+-- What an order has of the words of the command line.
+use Rattle.std.specs.Prelude.{◌≡◌, List, Option, Some, codes}
+use Rattle.clap.specs.Words.{Row, Text, first_of}
+use Rattle.pb_cli.specs.declared.order.Order.{Order}
+use Rattle.pb_cli.specs.declared.order.ParseFault.{ParseFault}
+use Rattle.pb_cli.specs.declared.order.ParseFault.TheVariants.{Memory}
+use Rattle.pb_cli.specs.declared.order.Order.TheVariants as order
+
+-- the command's name
+abbrev pub name_of : Order → Text
+name_of (order.Fen _) = codes "fen"
+
+-- the order has the words of these matches
+abbrev pub HasWords : Order → List Row → Type 0
+HasWords (order.Fen fen) rows = first_of (codes "FEN") rows ≡ Some fen.now
+
+-- the order is that of the command that was found, with its words as the matches give them
+abbrev pub IsOrderOf : Order → Option (Text × List Row) → Type 0
+IsOrderOf o found = (rows : List Row) × (found ≡ Some (name_of o, rows)) × HasWords o rows
+
+-- the fault is want of memory where these matches of the command have the words of an order
+abbrev pub RefusesFor : Text → List Row → ParseFault → Type 0
+RefusesFor name rows fault = (o : Order) → name_of o ≡ name → HasWords o rows → fault ≡ Memory
+
+-- the fault is want of memory where the command that was found gives an order
+abbrev pub RefusesRightly : Option (Text × List Row) → ParseFault → Type 0
+RefusesRightly found fault = (o : Order) → IsOrderOf o found → fault ≡ Memory

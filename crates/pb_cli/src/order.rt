@@ -1,0 +1,98 @@
+//! The words of the command line as an order to one command.
+ghost use Rattle.std.specs.Prelude.{◌≡◌, Ok, Some, IfErr, IfOk, OnErr, OnOk, None, [], codes};
+ghost use Rattle.clap.specs.Walk.{texts};
+ghost use Rattle.clap.specs.Words.{fault_of, first_of, found_of, kind_of, rows_of, subcommand_of, subcommand_rows_of};
+ghost use Rattle.clap.specs.declared.error.ErrorKind.TheVariants.{OutOfMemory};
+ghost use Rattle.pb_cli.specs.CommandLine.{pbook};
+ghost use Rattle.pb_cli.specs.Orders.{HasWords, IsOrderOf, RefusesFor, RefusesRightly, name_of};
+ghost use Rattle.pb_cli.specs.declared.order.ParseFault.TheVariants.{Memory};
+
+use crate::grammar::command_line;
+use clap::ArgMatches;
+use clap::error::ErrorKind;
+use std::alloc::{AllocError, Global};
+
+/// What the command line asks for, with its words as they were given.
+#[derive(Debug, Drop)]
+pub enum Order<'a> {
+    /// Judges a FEN record.
+    Fen {
+        /// The record, its six fields as one word.
+        record: &'a str,
+    },
+}
+
+/// Why the command line gives no order.
+#[derive(Debug, Drop)]
+pub enum ParseFault {
+    /// The text to show: a usage error, the help or the version.
+    Usage(String),
+    /// There was no memory to read the words.
+    Memory,
+}
+
+impl From<AllocError> for ParseFault {
+    ghost from_gives = { λ _ fault. fault ≡ Memory };
+
+    fn from(_error: AllocError) -> ParseFault {
+        ParseFault::Memory
+    }
+}
+
+/// Reads the command line, of which the first word is the program's name.
+///
+/// `Usage` comes for words that give no order, and for those that ask for the help or the
+/// version. `Memory` comes only where a growth found no memory.
+pub fn parse<'a>(alloc: Global, words: &'a [&'a str]) -> Result<Order<'a>, ParseFault>
+    ensures accepted { OnOk result (fault_of pbook (texts words.now) ≡ []) }
+    ensures words { IfOk result (λ order. IsOrderOf order (subcommand_of pbook (texts words.now))) }
+    ensures refused { fault_of pbook (texts words.now) ≡ []
+        → IfErr result (RefusesRightly (subcommand_of pbook (texts words.now))) }
+{
+    let matches = match command_line(alloc)?.try_get_matches_from(words) {
+        Ok(matches) => matches,
+        Err(error) => return Err(refusal_of(alloc, &error)?),
+    };
+    order_of(alloc, &matches)
+}
+
+/// What to answer for an error of clap: its text, or want of memory.
+fn refusal_of(alloc: Global, error: &clap::Error) -> Result<ParseFault, AllocError>
+    ensures { kind_of error.now ≡ OutOfMemory → result ≡ Ok Memory }
+{
+    if error.kind() == ErrorKind::OutOfMemory {
+        return Ok(ParseFault::Memory);
+    }
+    Ok(ParseFault::Usage(error.to_string(alloc)?))
+}
+
+/// The order of the command that was found. Clap gives no matches without a command.
+fn order_of<'a>(alloc: Global, matches: &ArgMatches<'a>) -> Result<Order<'a>, ParseFault>
+    ensures words { IfOk result (λ order. IsOrderOf order (subcommand_rows_of matches.now)) }
+    ensures refused { IfErr result (RefusesRightly (subcommand_rows_of matches.now)) }
+{
+    if let Some(given) = matches.subcommand_matches("fen") {
+        return fen(alloc, given);
+    }
+    Err(ParseFault::Usage(String::new(alloc)))
+}
+
+fn fen<'a>(alloc: Global, given: &ArgMatches<'a>) -> Result<Order<'a>, ParseFault>
+    ensures words { IfOk result (λ order. (name_of order ≡ codes "fen")
+        × HasWords order (rows_of (found_of given.now))) }
+    ensures refused { IfErr result (RefusesFor (codes "fen") (rows_of (found_of given.now))) }
+{
+    let record = word(alloc, given, "FEN")?;
+    Ok(Order::Fen { record })
+}
+
+/// A required word, which clap has where it gives matches.
+fn word<'a>(alloc: Global, given: &ArgMatches<'a>, id: &str) -> Result<&'a str, ParseFault>
+    ensures found { IfOk result (λ w. first_of id.now (rows_of (found_of given.now)) ≡ Some w.now) }
+    ensures absent { OnErr result (first_of id.now (rows_of (found_of given.now)) ≡ None) }
+{
+    match given.get_str(id) {
+        Some(text) => Ok(text),
+        None => Err(ParseFault::Usage(String::new(alloc))),
+    }
+}

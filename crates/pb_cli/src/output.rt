@@ -1,0 +1,31 @@
+//! Lines on a sink.
+ghost use Rattle.std.specs.Prelude.{◌≡◌};
+ghost use Rattle.pb_cli.specs.Line.{joined, with_end};
+ghost use Rattle.pb_cli.specs.Shows.{Shows};
+ghost use Rattle.pb_poly.specs.Sink.{Put};
+
+use crate::fault::Fault;
+use pb_poly::{Failed, Sink};
+
+/// Puts the parts of a line in turn, and its end.
+fn put_line<K: Sink>(sink: &mut K, parts: &[&[u8]]) -> Result<(), Failed>
+    ensures { Put (K.state sink.old) (K.state sink.new) result (with_end (joined parts.now)) }
+{
+    for part in parts {
+        sink.put(part)?;
+    }
+    sink.put(b"\n")
+}
+
+/// Puts the parts of a line in turn and its end, and hands on what was put.
+pub fn show_line<K: Sink>(sink: &mut K, parts: &[&[u8]]) -> Result<(), Fault>
+    ensures { Shows (K.state sink.old) (K.state sink.new) result (with_end (joined parts.now)) }
+{
+    let Ok(()) = put_line(sink, parts) else {
+        return Err(Fault::Write);
+    };
+    let Ok(()) = sink.flush() else {
+        return Err(Fault::Write);
+    };
+    Ok(())
+}

@@ -1,0 +1,83 @@
+//! The program `pbook`: opens what the command line names and hands it to the commands.
+#![tactic(auto)]
+
+use pb_cli::{Fault, Order, ParseFault, parse, run_fen, status};
+use pb_poly::{Sink, ToWrite};
+use std::alloc::AllocError;
+use std::io::{BufWriter, Write};
+use std::process::ExitCode;
+use std::{env, io};
+
+/// The status for words that give no order.
+const USAGE: u8 = 2;
+
+/// How many bytes go to standard output at once.
+const PIECE: usize = 65_536;
+
+fn main(rt: HostRuntime) -> ExitCode {
+    ExitCode::from(run(&rt))
+}
+
+/// Reads the command line, runs its command and answers the exit status.
+fn run(rt: &HostRuntime) -> u8 {
+    let Ok(given) = arguments(rt) else {
+        return USAGE;
+    };
+    let alloc = rt.alloc();
+    let words: Result<Vec<&str>, AllocError> = given
+        .iter()
+        .map(|word| word.as_str())
+        .collect(alloc);
+    let Ok(words) = words else {
+        return want_of_memory(rt);
+    };
+    match parse(alloc, words.as_slice()) {
+        Ok(order) => perform(rt, &order),
+        Err(ParseFault::Memory) => want_of_memory(rt),
+        Err(ParseFault::Usage(text)) => {
+            let _ = print!(rt; "{text}");
+            USAGE
+        }
+    }
+}
+
+/// The words of the command line. It fails where one of them isn't UTF-8.
+fn arguments(rt: &HostRuntime) -> io::Result<Vec<String>> {
+    let given = env::args(rt)?;
+    Ok(given.collect(rt.alloc())?)
+}
+
+/// Tells that there was no memory to begin with, and answers the status of a fault.
+fn want_of_memory(rt: &HostRuntime) -> u8 {
+    let _ = println!(rt; "fault memory");
+    status(Err(Fault::Memory))
+}
+
+/// Runs the command over standard output and answers the exit status.
+fn perform(rt: &HostRuntime, order: &Order<'_>) -> u8 {
+    let alloc = rt.alloc();
+    let Ok(writer) = BufWriter::with_capacity(alloc, PIECE, io::writer(rt)) else {
+        return want_of_memory(rt);
+    };
+    let mut output = ToWrite::new(writer);
+    let answer = match order {
+        Order::Fen { record } => run_fen(alloc, record.as_bytes(), &[], &mut output),
+    };
+    if let Err(fault) = answer {
+        tell_fault(&mut output, fault);
+    }
+    status(answer)
+}
+
+/// Tells of a fault in a line after what the command wrote. A sink that failed is left alone.
+fn tell_fault<W: Write>(output: &mut ToWrite<W>, fault: Fault) {
+    let line = match fault {
+        Fault::Write => return,
+        Fault::Read => "fault read\n",
+        Fault::Endless => "fault endless\n",
+        Fault::Memory => "fault memory\n",
+    };
+    if output.put(line.as_bytes()).is_ok() {
+        let _ = output.flush();
+    }
+}
