@@ -1,0 +1,91 @@
+-- From the cases of a move to whether it is legal.
+use Rattle.std.proofs.Common.{◌≡◌, ◌≢◌, ◌↔◌, refl, subst, Option, Some, None, IsTrue, Bool, true, false, not}
+use Rattle.pb_board.specs.declared.piece.Kind.TheVariants.{Pawn, King}
+use Rattle.pb_board.specs.declared.piece.Piece.{Piece}
+use Rattle.pb_board.specs.Board.{Board, Holds}
+use Rattle.pb_board.specs.Position.{Position, IsSetup}
+use Rattle.pb_moves.specs.Attack.{InCheck}
+use Rattle.pb_moves.specs.declared.castling.Castling.{Castling}
+use Rattle.pb_moves.specs.declared.change.Change.{Change}
+use Rattle.pb_moves.specs.Moved.{Moved}
+use Rattle.pb_moves.specs.Candidate.{HoldsOwn}
+use Rattle.pb_moves.specs.Castling.{castling_row}
+use Rattle.pb_moves.specs.Cases.{PieceMove, PawnStep, PawnDouble, PawnCapture, EnPassant, Castles, CaseOf, piece_move, pawn_step, pawn_double, pawn_capture, en_passant, castles, Case, Legal}
+use Rattle.pb_moves.specs.Change.{Finds}
+use Rattle.pb_moves.proofs.Unique.{case_one}
+
+-- a pawn's last case
+pub pawn_cases : (s : Position) (m : Moved) (piece : Piece) → piece.kind ≡ Pawn
+    → ((b : Board) → ¬ PawnStep s m piece b) → ((b : Board) → ¬ PawnDouble s m piece b) → ((b : Board) → ¬ PawnCapture s m piece b)
+    → (o : Option Change) → Finds (EnPassant s m piece) s.board m o → Finds (CaseOf s m piece) s.board m o
+pawn_cases s m piece pawn step double capture (Some x) h = (h.0, λ b c. en_passant (h.1 b c))
+pawn_cases s m piece pawn step double capture None h = λ b x.
+    elim x [
+      | piece_move y ↦ y.no_pawn pawn
+      | pawn_step y ↦ step b y
+      | pawn_double y ↦ double b y
+      | pawn_capture y ↦ capture b y
+      | en_passant y ↦ h b y
+      | castles c y ↦ (let king = y.king in cc)
+    ]
+
+-- a king that neither moves as a piece nor castles has no case
+pub king_no_case : (s : Position) (m : Moved) (piece : Piece) → piece.kind ≡ King → ((b : Board) → ¬ PieceMove s m piece b)
+    → ((c : Castling) (b : Board) → ¬ Castles (castling_row c) s m piece b) → (b : Board) → ¬ CaseOf s m piece b
+king_no_case s m piece king move none b x =
+    elim x [
+      | piece_move y ↦ move b y
+      | pawn_step y ↦ (let pawn = y.pawn in cc)
+      | pawn_double y ↦ (let pawn = y.pawn in cc)
+      | pawn_capture y ↦ (let pawn = y.pawn in cc)
+      | en_passant y ↦ (let pawn = y.pawn in cc)
+      | castles c y ↦ none c b y
+    ]
+
+-- a piece that is neither a pawn nor a king moves only as a piece
+pub piece_cases : (s : Position) (m : Moved) (piece : Piece) → piece.kind ≢ Pawn → piece.kind ≢ King
+    → (o : Option Change) → Finds (PieceMove s m piece) s.board m o → Finds (CaseOf s m piece) s.board m o
+piece_cases s m piece no_pawn no_king (Some x) h = (h.0, λ b c. piece_move (h.1 b c))
+piece_cases s m piece no_pawn no_king None h = λ b x.
+    elim x [
+      | piece_move y ↦ h b y
+      | pawn_step y ↦ no_pawn y.pawn
+      | pawn_double y ↦ no_pawn y.pawn
+      | pawn_capture y ↦ no_pawn y.pawn
+      | en_passant y ↦ no_pawn y.pawn
+      | castles c y ↦ no_king y.king
+    ]
+
+-- the case of the piece that stands on `from`
+pub case_at : (s : Position) (m : Moved) (b : Board) (piece : Piece) → Holds s.board m.from piece → Case s m b → CaseOf s m piece b
+case_at s m b piece stands case =
+    let same : case.piece ≡ piece = cc (case.stands, stands) in
+    let P : Piece → Type 0 = λ p. CaseOf s m p b in
+    subst P same case.by_case
+
+pub case_by : (s : Position) (m : Moved) (b : Board) (piece : Piece) → HoldsOwn s m.from piece → CaseOf s m piece b → Case s m b
+case_by s m b piece own x = record { piece = piece; stands = own.stands; own = own.own; by_case = x }
+
+-- a move from a square without a piece of the side to move isn't legal
+pub not_legal_without_piece : (s : Position) (m : Moved) → ((p : Piece) → ¬ HoldsOwn s m.from p) → ¬ Legal s m
+not_legal_without_piece s m none legal = none legal.moves.piece (record { stands = legal.moves.stands; own = legal.moves.own })
+
+-- a move without a case isn't legal
+pub not_legal_without_case : (s : Position) (m : Moved) (piece : Piece) → HoldsOwn s m.from piece → ((b : Board) → ¬ CaseOf s m piece b) → ¬ Legal s m
+not_legal_without_case s m piece own none legal = none legal.new (case_at s m legal.new piece own.stands legal.moves)
+
+-- a move whose board leaves the mover in check isn't legal
+pub not_legal_in_check : (s : Position) (m : Moved) (b : Board) (piece : Piece) → IsSetup s → HoldsOwn s m.from piece → CaseOf s m piece b → InCheck b s.turn → ¬ Legal s m
+not_legal_in_check s m b piece ok own x check legal =
+    let P : Board → Type 0 = λ y. InCheck y s.turn in
+    legal.safe (subst P (case_one s m b legal.new ok (case_by s m b piece own x) legal.moves) check)
+
+-- a move whose board doesn't is
+pub legal_out_of_check : (s : Position) (m : Moved) (b : Board) (piece : Piece) → HoldsOwn s m.from piece → CaseOf s m piece b → ¬ InCheck b s.turn → Legal s m
+legal_out_of_check s m b piece own x safe = record { new = b; moves = case_by s m b piece own x; safe = safe }
+
+-- so a test of check tells whether the move is legal
+pub legal_by_check : (s : Position) (m : Moved) (b : Board) (piece : Piece) (check : Bool) → IsSetup s → HoldsOwn s m.from piece → CaseOf s m piece b
+    → (IsTrue check ↔ InCheck b s.turn) → (IsTrue (not check) ↔ Legal s m)
+legal_by_check s m b piece true ok own x check = (λ h. absurd (cc), λ legal. absurd (not_legal_in_check s m b piece ok own x (check.0 refl) legal))
+legal_by_check s m b piece false ok own x check = (λ h. legal_out_of_check s m b piece own x (λ c. let r = check.1 c in cc), λ legal. refl)

@@ -1,0 +1,13 @@
+pub mod Rays
+pub mod Striking
+pub mod Compass
+pub mod Knights
+pub mod Unique
+pub mod Kings
+pub mod Kept
+pub mod Legality
+pub mod LegalMoves
+pub mod Successors
+pub mod Plies
+pub mod Pins
+pub mod Listed

@@ -1,0 +1,199 @@
+-- A list of legal moves in order, one place at a time.
+use Rattle.std.proofs.Common.{◌≡◌, ℕ, ◌+◌, ◌*◌, ◌<◌, ◌≤◌, ◌⊎◌, refl, arith, inl, inr, sym, ap, subst, ◌∙◌, Option, Some, None, List, [], ◌∷◌, ◌++◌, Contains}
+use Rattle.std.proofs.lemmas.Bool.{cases_lt}
+use Rattle.std.proofs.lemmas.List.Elements.{All-push, All-weaker, All-get_or, Contains-push, Contains-append_left}
+use Rattle.std.proofs.lemmas.List.Quantifiers.{all_pairs_push}
+use Rattle.pb_board.specs.declared.piece.Kind.{Kind}
+use Rattle.pb_board.specs.declared.piece.Kind.TheVariants.{Pawn, Knight, Bishop, Rook, Queen, King}
+use Rattle.pb_board.specs.declared.piece.Colour.{Colour}
+use Rattle.pb_board.specs.declared.piece.Colour.TheVariants.{White, Black}
+use Rattle.pb_board.specs.declared.piece.Piece.{Piece}
+use Rattle.pb_board.specs.Board.{Board, Holds, IsForward, file, rank}
+use Rattle.pb_board.specs.Position.{Position}
+use Rattle.pb_moves.specs.declared.castling.Castling.{Castling}
+use Rattle.pb_moves.specs.declared.castling.Castling.TheVariants.{WhiteShort}
+use Rattle.pb_moves.specs.Attack.{ReachesBy}
+use Rattle.pb_moves.proofs.Unique.{step_ranks}
+use Rattle.pb_moves.proofs.Legality.{case_at}
+use Rattle.pb_moves.specs.Moved.{Moved, IsMove, IsPromotion}
+use Rattle.pb_moves.specs.Castling.{castling_row}
+use Rattle.pb_moves.specs.Cases.{Legal, CaseOf, piece_move, pawn_step, pawn_double, pawn_capture, en_passant, castles, Becomes}
+use Rattle.pb_moves.specs.Listing.{promotion_place, place, ListsLegal}
+use Rattle.pb_moves.specs.Candidate.{HoldsOwn, MayGo, MayPromote, ListsBelow}
+
+pub lists_none : (s : Position) → ListsBelow s [] 0
+lists_none s = record {
+  legal = λ k d lt. absurd (omega arith);
+  every = λ m ok legal below. absurd (omega arith);
+  ordered = λ i j d lt below. absurd (omega arith);
+}
+
+-- a stretch of places with no legal move
+pub lists_skip : (s : Position) (ms : List Moved) (n k : ℕ) → n ≤ k → ListsBelow s ms n
+    → ((m : Moved) → IsMove m → Legal s m → n ≤ place m → place m < k → ⊥) → ListsBelow s ms k
+lists_skip s ms n k le lists none = record {
+  legal = All-weaker (λ m. IsMove m × Legal s m × (place m < n)) (λ m. IsMove m × Legal s m × (place m < k)) (λ m h. (h.0, h.1, omega (arith, h.2))) ms lists.legal;
+  every = λ m ok legal below. elim (cases_lt (place m) n) [ inl l ↦ lists.every m ok legal l | inr g ↦ absurd (none m ok legal g below) ];
+  ordered = lists.ordered;
+}
+
+-- the next place has this legal move, and no other
+pub lists_push : (s : Position) (ms : List Moved) (n : ℕ) (m : Moved) → ListsBelow s ms n → IsMove m → Legal s m → place m ≡ n
+    → ((q : Moved) → IsMove q → place q ≡ n → q ≡ m) → ListsBelow s (ms ++ m ∷ []) (n + 1)
+lists_push s ms n m lists ok legal here only = record {
+  legal = All-push (λ q. IsMove q × Legal s q × (place q < n + 1)) ms m (All-weaker (λ q. IsMove q × Legal s q × (place q < n)) (λ q. IsMove q × Legal s q × (place q < n + 1)) (λ q h. (h.0, h.1, omega (arith, h.2))) ms lists.legal) (ok, legal, omega arith);
+  every = λ q okq legalq below. elim (cases_lt (place q) n) [
+    | inl l ↦ Contains-append_left ms (m ∷ []) q (lists.every q okq legalq l)
+    | inr g ↦
+        (let P : Moved → Type 0 = λ x. Contains (ms ++ m ∷ []) x in
+        let at_n : place q ≡ n = omega arith in
+        subst P (sym (only q okq at_n)) (Contains-push ms m))
+  ];
+  ordered = all_pairs_push (λ a b. place a < place b) ms m lists.ordered
+      (λ k d lt. let h = All-get_or (λ q. IsMove q × Legal s q × (place q < n)) ms k d lt lists.legal in omega (arith, h.2));
+}
+
+pub promotion_small : (o : Option Kind) → promotion_place o < 5
+promotion_small None = omega arith
+promotion_small (Some Pawn) = omega arith
+promotion_small (Some k) = omega arith
+
+pub place_below : (m : Moved) → IsMove m → place m < 20480
+place_below m ok = let a = ok.from_on_board in let b = ok.to_on_board in let c = promotion_small m.promo in omega arith
+
+pub lists_all : (s : Position) (ms : List Moved) → ListsBelow s ms 20480 → ListsLegal s ms
+lists_all s ms lists = record {
+  legal = All-weaker (λ m. IsMove m × Legal s m × (place m < 20480)) (λ m. IsMove m × Legal s m) (λ m h. (h.0, h.1)) ms lists.legal;
+  every = λ m ok legal. lists.every m ok legal (place_below m ok);
+  ordered = lists.ordered;
+}
+
+-- lawful promotions are told by their places
+pub promotion_one : (o p : Option Kind) → ((k : Kind) → o ≡ Some k → IsPromotion k) → ((k : Kind) → p ≡ Some k → IsPromotion k)
+    → promotion_place o ≡ promotion_place p → o ≡ p
+promotion_one None None h g e = refl
+promotion_one (Some Knight) (Some Knight) h g e = refl
+promotion_one (Some Bishop) (Some Bishop) h g e = refl
+promotion_one (Some Rook) (Some Rook) h g e = refl
+promotion_one (Some Queen) (Some Queen) h g e = refl
+promotion_one (Some Pawn) p h g e = absurd ((h Pawn refl).0 refl)
+promotion_one (Some King) p h g e = absurd ((h King refl).1 refl)
+promotion_one o (Some Pawn) h g e = absurd ((g Pawn refl).0 refl)
+promotion_one o (Some King) h g e = absurd ((g King refl).1 refl)
+promotion_one o p h g e = absurd (omega arith)
+
+-- a move is told by its place
+pub move_at : (from to : ℕ) (promo : Option Kind) (q : Moved) → from < 64 → to < 64 → ((k : Kind) → promo ≡ Some k → IsPromotion k) → IsMove q
+    → place q ≡ 320 * from + 5 * to + promotion_place promo → q ≡ record { from = from; to = to; promo = promo }
+move_at from to promo q on_from on_to lawful ok here =
+    let a = ok.from_on_board in
+    let b = ok.to_on_board in
+    let c = promotion_small q.promo in
+    let e = promotion_small promo in
+    let same_from : q.from ≡ from = omega arith in
+    let same_to : q.to ≡ to = omega arith in
+    let same_place : promotion_place q.promo ≡ promotion_place promo = omega arith in
+    let F : ℕ → Moved = λ x. record { from = x; to = q.to; promo = q.promo } in
+    let G : ℕ → Moved = λ x. record { from = from; to = x; promo = q.promo } in
+    let H : Option Kind → Moved = λ x. record { from = from; to = to; promo = x } in
+    ap F same_from ∙ ap G same_to ∙ ap H (promotion_one q.promo promo ok.promotes lawful same_place)
+
+-- one place where no legal move is
+pub lists_pass : (s : Position) (ms : List Moved) (from to : ℕ) (promo : Option Kind) → from < 64 → to < 64 → ((k : Kind) → promo ≡ Some k → IsPromotion k)
+    → (let m : Moved = record { from = from; to = to; promo = promo } in IsMove m → Legal s m → ⊥)
+    → ListsBelow s ms (320 * from + 5 * to + promotion_place promo) → ListsBelow s ms (320 * from + 5 * to + promotion_place promo + 1)
+lists_pass s ms from to promo on_from on_to lawful none lists =
+    let n = 320 * from + 5 * to + promotion_place promo in
+    lists_skip s ms n (n + 1) (omega arith) lists (λ q ok legal lo hi.
+    let here : place q ≡ 320 * from + 5 * to + promotion_place promo = omega arith in
+    let same = move_at from to promo q on_from on_to lawful ok here in
+    let P : Moved → Type 0 = λ x. IsMove x × Legal s x in
+    let both = subst P same (ok, legal) in
+    none both.0 both.1)
+
+-- no legal move leaves a square without a piece of the side to move
+pub lists_pass_from : (s : Position) (ms : List Moved) (from : ℕ) → ((p : Piece) → ¬ HoldsOwn s from p) → ListsBelow s ms (320 * from) → ListsBelow s ms (320 * from + 320)
+lists_pass_from s ms from none lists =
+    lists_skip s ms (320 * from) (320 * from + 320) (omega arith) lists (λ q ok legal lo hi.
+    let a = ok.to_on_board in
+    let b = promotion_small q.promo in
+    let same : q.from ≡ from = omega arith in
+    let P : ℕ → Type 0 = λ x. HoldsOwn s x legal.moves.piece in
+    none legal.moves.piece (subst P same (record { stands = legal.moves.stands; own = legal.moves.own })))
+
+pub reach_goes : (colour : Colour) (kind : Kind) (board : Board) (a b : ℕ) → ReachesBy colour kind board a b → MayGo kind a b
+reach_goes White Pawn board a b r = (omega arith, omega arith)
+reach_goes Black Pawn board a b r = (omega arith, omega arith)
+reach_goes colour Knight board a b r = r
+reach_goes colour Bishop board a b r = r.0.0
+reach_goes colour Rook board a b r = elim r.0 [ inl k ↦ inl k.0 | inr k ↦ inr k.1 ]
+reach_goes colour Queen board a b r = elim r.0 [ inl k ↦ inl k.0 | inr k ↦ elim k [ inl l ↦ inr (inl l.0) | inr l ↦ inr (inr l.1) ] ]
+reach_goes colour King board a b r = (omega arith, omega arith)
+
+pub pawn_goes : (side : Colour) (n a b : ℕ) (kind : Kind) → kind ≡ Pawn → n ≤ 2 → file b ≡ file a → IsForward side n a b → MayGo kind a b
+pawn_goes side n a b k pawn le same forward =
+    let P : Kind → Type 0 = λ k. MayGo k a b in
+    let ranks = step_ranks side n a b forward in
+    subst P (sym pawn) (omega arith, omega arith)
+
+pub castling_goes : (c : Castling) (a b : ℕ) (kind : Kind) → kind ≡ King → a ≡ (castling_row c).king_from → b ≡ (castling_row c).king_to → MayGo kind a b
+castling_goes WhiteShort a b King e f g = (omega arith, omega arith)
+castling_goes c a b King e f g = (omega arith, omega arith)
+castling_goes c a b k e f g = absurd (cc)
+
+-- a piece goes only where its kind may
+pub case_goes : (s : Position) (m : Moved) (p : Piece) (b : Board) → CaseOf s m p b → MayGo p.kind m.from m.to
+case_goes s m p b (piece_move x) = reach_goes p.colour p.kind s.board m.from m.to x.reaches
+case_goes s m p b (pawn_step x) = pawn_goes s.turn 1 m.from m.to p.kind x.pawn (omega arith) x.same_file x.forward
+case_goes s m p b (pawn_double x) = pawn_goes s.turn 2 m.from m.to p.kind x.pawn (omega arith) x.same_file x.forward
+case_goes s m p b (pawn_capture x) = reach_goes p.colour p.kind s.board m.from m.to x.reaches
+case_goes s m p b (en_passant x) = reach_goes p.colour p.kind s.board m.from m.to x.reaches
+case_goes s m p b (castles c x) = castling_goes c m.from m.to p.kind x.king x.from_home x.to_table
+
+pub becomes_promotes : (side : Colour) (m : Moved) (k l : Kind) → Becomes side m k → m.promo ≡ Some l → (rank m.to ≡ 0) ⊎ (rank m.to ≡ 7)
+becomes_promotes White m k l (inl x) e = inr x.0
+becomes_promotes Black m k l (inl x) e = inl x.0
+becomes_promotes side m k l (inr x) e = absurd (let n = x.1 in cc)
+
+-- only a pawn on the first or last rank is promoted
+pub case_promotes : (s : Position) (m : Moved) (p : Piece) (b : Board) (k : Kind) → CaseOf s m p b → m.promo ≡ Some k → MayPromote p.kind m.to
+case_promotes s m p b k (pawn_step x) e = (x.pawn, becomes_promotes s.turn m x.kind k x.becomes e)
+case_promotes s m p b k (pawn_capture x) e = (x.pawn, becomes_promotes s.turn m x.kind k x.becomes e)
+case_promotes s m p b k (piece_move x) e = absurd (let n = x.no_promotion in cc)
+case_promotes s m p b k (pawn_double x) e = absurd (let n = x.no_promotion in cc)
+case_promotes s m p b k (en_passant x) e = absurd (let n = x.no_promotion in cc)
+case_promotes s m p b k (castles c x) e = absurd (let n = x.no_promotion in cc)
+
+pub promotion_some : (o : Option Kind) → 0 < promotion_place o → (k : Kind) × (o ≡ Some k)
+promotion_some None h = absurd (omega arith)
+promotion_some (Some k) h = (k, refl)
+
+-- no legal move goes where the piece's kind may not
+pub lists_pass_to : (s : Position) (ms : List Moved) (p : Piece) (from to : ℕ) → to < 64 → HoldsOwn s from p → ¬ MayGo p.kind from to
+    → ListsBelow s ms (320 * from + 5 * to) → ListsBelow s ms (320 * from + 5 * to + 5)
+lists_pass_to s ms p from to on_to own none lists =
+    lists_skip s ms (320 * from + 5 * to) (320 * from + 5 * to + 5) (omega arith) lists (λ q ok legal lo hi.
+    let a = ok.to_on_board in
+    let b = promotion_small q.promo in
+    let same_from : q.from ≡ from = omega arith in
+    let same_to : q.to ≡ to = omega arith in
+    let P : ℕ → Type 0 = λ x. Holds s.board x p in
+    let at_piece = case_at s q legal.new p (subst P (sym same_from) own.stands) legal.moves in
+    let G : ℕ → Type 0 = λ x. MayGo p.kind x q.to in
+    let H : ℕ → Type 0 = λ x. MayGo p.kind from x in
+    none (subst H same_to (subst G same_from (case_goes s q p legal.new at_piece))))
+
+-- no promotion is legal where none may be
+pub lists_pass_promotions : (s : Position) (ms : List Moved) (p : Piece) (from to : ℕ) → to < 64 → HoldsOwn s from p → ¬ MayPromote p.kind to
+    → ListsBelow s ms (320 * from + 5 * to + 1) → ListsBelow s ms (320 * from + 5 * to + 5)
+lists_pass_promotions s ms p from to on_to own none lists =
+    lists_skip s ms (320 * from + 5 * to + 1) (320 * from + 5 * to + 5) (omega arith) lists (λ q ok legal lo hi.
+    let a = ok.to_on_board in
+    let b = promotion_small q.promo in
+    let same_from : q.from ≡ from = omega arith in
+    let same_to : q.to ≡ to = omega arith in
+    let P : ℕ → Type 0 = λ x. Holds s.board x p in
+    let at_piece = case_at s q legal.new p (subst P (sym same_from) own.stands) legal.moves in
+    let some = promotion_some q.promo (omega arith) in
+    let H : ℕ → Type 0 = λ x. MayPromote p.kind x in
+    none (subst H same_to (case_promotes s q p legal.new some.0 at_piece some.1)))

@@ -1,0 +1,319 @@
+-- The total function `after` is the setup of `After`, and its only one.
+use Rattle.std.proofs.Common.{◌≡◌, ◌≢◌, ℕ, ◌+◌, ◌*◌, ◌/◌, ◌<◌, ◌≤◌, ◌↔◌, refl, arith, inl, inr, sym, ap, subst, ◌∙◌, Option, Some, None, length, Bool, true, false, not, ◌&&◌, ◌||◌, eqb, IsTrue, length-set, get_or-set_other, get_or-set_same}
+use Rattle.std.proofs.lemmas.Bool.{eq-eqb}
+use Rattle.std.proofs.lemmas.Bool.Decides.{eqb_tells}
+use Rattle.pb_board.specs.declared.piece.Colour.{Colour}
+use Rattle.pb_board.specs.declared.piece.Colour.TheVariants.{White, Black}
+use Rattle.pb_board.specs.declared.piece.Kind.{Kind}
+use Rattle.pb_board.specs.declared.piece.Kind.TheVariants.{Pawn, Knight, Bishop, Rook, Queen, King}
+use Rattle.pb_board.specs.declared.piece.Piece.{Piece}
+use Rattle.pb_board.specs.declared.setup.Rights.{Rights}
+use Rattle.pb_board.specs.Piece.{king_of, rook_of}
+use Rattle.pb_board.specs.Board.{Board, file, rank, at, Holds, IsForward}
+use Rattle.pb_board.specs.Position.{Position, position_of, IsSetup}
+use Rattle.pb_moves.specs.declared.castling.Castling.{Castling}
+use Rattle.pb_moves.specs.declared.castling.Castling.TheVariants.{WhiteShort, WhiteLong, BlackShort, BlackLong}
+use Rattle.pb_moves.specs.Attack.{files_apart, ranks_apart}
+use Rattle.pb_moves.specs.Moved.{Moved, moved_of, IsMove}
+use Rattle.pb_moves.specs.Castling.{CastlingRow, castling_row, Castled}
+use Rattle.pb_moves.specs.Cases.{Carried, CarriedPast, Becomes, CaseOf, piece_move, pawn_step, pawn_double, pawn_capture, en_passant, castles, Case, Legal}
+use Rattle.pb_moves.specs.After.{passed_over, Touches, KeepsFlag, After}
+use Rattle.pb_moves.specs.Successor.{put, arriving, beside, board_of, carried, keeps, ep_of_kind, ep_of, after}
+use Rattle.pb_moves.specs.MoveLaws.{AfterIs, OneAfter, AfterIsSetup}
+use Rattle.pb_moves.proofs.Unique.{carried_one, carried_past_one, castled_one, case_one, king_near, pawn_files, step_ranks, passed_at}
+use Rattle.pb_moves.proofs.Striking.{piece_is}
+use Rattle.pb_moves.proofs.Kings.{pawn_reach, castling_king}
+use Rattle.pb_moves.proofs.Kept.{setup_by_parts}
+use Rattle.pb_moves.proofs.LegalMoves.{legal_is_move}
+
+-- what stands on the squares of a board after one is filled
+pub at_put_other : (b : Board) (q r : ℕ) (x : Option Piece) → r ≢ q → at (put b q x) r ≡ at b r
+at_put_other b q r x ne = get_or-set_other b q r x None ne
+
+pub at_put_same : (b : Board) (q : ℕ) (x : Option Piece) → length b ≡ 64 → q < 64 → at (put b q x) q ≡ x
+at_put_same b q x full lt = get_or-set_same b q x None (omega arith)
+
+pub length_put : (b : Board) (q : ℕ) (x : Option Piece) → length b ≡ 64 → length (put b q x) ≡ 64
+length_put b q x full = length-set b q x ∙ full
+
+-- the board on which a piece was carried
+abbrev pub moved_board : Board → ℕ → ℕ → Piece → Board
+moved_board old from to p = put (put old from None) to (Some p)
+
+pub carried_put : (old : Board) (from to : ℕ) (p : Piece) → length old ≡ 64 → from < 64 → to < 64 → from ≢ to → Carried old (moved_board old from to p) from to p
+carried_put old from to p full on_from on_to ne =
+    let without = put old from None in
+    let full_without = length_put old from None full in
+    record {
+      squares = length_put without to (Some p) full_without;
+      left = at_put_other without to from (Some p) ne ∙ at_put_same old from None full on_from;
+      arrived = at_put_same without to (Some p) full_without on_to;
+      others = λ q f t. at_put_other without to q (Some p) t ∙ at_put_other old from q None f;
+    }
+
+pub carried_past_put : (old : Board) (from to gone : ℕ) (p : Piece) → length old ≡ 64 → from < 64 → to < 64 → gone < 64 → from ≢ to → from ≢ gone → to ≢ gone
+    → CarriedPast old (put (moved_board old from to p) gone None) from to gone p
+carried_past_put old from to gone p full on_from on_to on_gone ne apart_from apart_to =
+    let new = moved_board old from to p in
+    let x = carried_put old from to p full on_from on_to ne in
+    record {
+      squares = length_put new gone None x.squares;
+      left = at_put_other new gone from None apart_from ∙ x.left;
+      taken = at_put_same new gone None x.squares on_gone;
+      arrived = at_put_other new gone to None apart_to ∙ x.arrived;
+      others = λ q f t g. at_put_other new gone q None g ∙ x.others q f t;
+    }
+
+-- the board on which a king was carried, and then a rook
+abbrev pub castled_board : CastlingRow → Board → Board
+castled_board row old = put (put (moved_board old row.king_from row.king_to (king_of row.colour)) row.rook_from None) row.rook_to (at old row.rook_from)
+
+-- the four squares of a row lie on the board and differ
+pub record IsRow (row : CastlingRow) : Type 0 where
+  pub king_from : row.king_from < 64
+  pub king_to : row.king_to < 64
+  pub rook_from : row.rook_from < 64
+  pub rook_to : row.rook_to < 64
+  pub king_moves : row.king_from ≢ row.king_to
+  pub from_rook : row.king_from ≢ row.rook_from
+  pub from_rook_to : row.king_from ≢ row.rook_to
+  pub to_rook : row.king_to ≢ row.rook_from
+  pub to_rook_to : row.king_to ≢ row.rook_to
+  pub rook_moves : row.rook_from ≢ row.rook_to
+
+pub castled_put : (row : CastlingRow) (old : Board) → IsRow row → length old ≡ 64 → Holds old row.rook_from (rook_of row.colour) → Castled row old (castled_board row old)
+castled_put row old is full rook =
+    let king = moved_board old row.king_from row.king_to (king_of row.colour) in
+    let x = carried_put old row.king_from row.king_to (king_of row.colour) full is.king_from is.king_to is.king_moves in
+    let without = put king row.rook_from None in
+    let place = at old row.rook_from in
+    let full_without = length_put king row.rook_from None x.squares in
+    record {
+      squares = length_put without row.rook_to place full_without;
+      king_left = at_put_other without row.rook_to row.king_from place is.from_rook_to ∙ (at_put_other king row.rook_from row.king_from None is.from_rook ∙ x.left);
+      rook_left = at_put_other without row.rook_to row.rook_from place is.rook_moves ∙ at_put_same king row.rook_from None x.squares is.rook_from;
+      king = at_put_other without row.rook_to row.king_to place is.to_rook_to ∙ (at_put_other king row.rook_from row.king_to None is.to_rook ∙ x.arrived);
+      rook = at_put_same without row.rook_to place full_without is.rook_to ∙ rook;
+      others = λ q f g t u. at_put_other without row.rook_to q place u ∙ (at_put_other king row.rook_from q None g ∙ x.others q f t);
+    }
+
+pub rows : (c : Castling) → IsRow (castling_row c)
+rows WhiteShort = record { king_from = omega arith; king_to = omega arith; rook_from = omega arith; rook_to = omega arith; king_moves = λ e. omega arith; from_rook = λ e. omega arith; from_rook_to = λ e. omega arith; to_rook = λ e. omega arith; to_rook_to = λ e. omega arith; rook_moves = λ e. omega arith }
+rows c = record { king_from = omega arith; king_to = omega arith; rook_from = omega arith; rook_to = omega arith; king_moves = λ e. omega arith; from_rook = λ e. omega arith; from_rook_to = λ e. omega arith; to_rook = λ e. omega arith; to_rook_to = λ e. omega arith; rook_moves = λ e. omega arith }
+
+-- besides the piece's own two squares nothing changes
+pub beside_piece : (k : Kind) (old new : Board) (m : Moved) → k ≢ Pawn → (k ≡ King → files_apart m.from m.to ≤ 1) → beside k old new m ≡ new
+beside_piece Pawn old new m no_pawn near = absurd (no_pawn refl)
+beside_piece Knight old new m no_pawn near = refl
+beside_piece Bishop old new m no_pawn near = refl
+beside_piece Rook old new m no_pawn near = refl
+beside_piece Queen old new m no_pawn near = refl
+beside_piece King old new m no_pawn near =
+    elim (eqb_tells (files_apart m.from m.to) 2) [
+      | inl two ↦ absurd (let n = near refl in let e = two.1 in omega arith)
+      | inr other ↦ rw other.0 refl
+    ]
+
+pub beside_straight : (k : Kind) (old new : Board) (m : Moved) → k ≡ Pawn → file m.to ≡ file m.from → beside k old new m ≡ new
+beside_straight Pawn old new m pawn same = let e = eq-eqb (file m.to) (file m.from) same in rw e refl
+beside_straight k old new m pawn same = absurd (cc)
+
+pub beside_taking : (k : Kind) (old new : Board) (m : Moved) (p : Piece) → k ≡ Pawn → Holds old m.to p → beside k old new m ≡ new
+beside_taking Pawn old new m p pawn taken =
+    elim (eqb_tells (file m.to) (file m.from)) [
+      | inl same ↦ rw same.0 refl
+      | inr other ↦ rw (other.0, taken) refl
+    ]
+beside_taking k old new m p pawn taken = absurd (cc)
+
+pub beside_passing : (k : Kind) (old new : Board) (m : Moved) → k ≡ Pawn → file m.to ≢ file m.from → at old m.to ≡ None
+    → beside k old new m ≡ put new (8 * rank m.from + file m.to) None
+beside_passing Pawn old new m pawn other free =
+    elim (eqb_tells (file m.to) (file m.from)) [
+      | inl same ↦ absurd (other same.1)
+      | inr e ↦ rw (e.0, free) refl
+    ]
+beside_passing k old new m pawn other free = absurd (cc)
+
+-- what arrives is what the pawn becomes
+pub arriving_becomes : (side : Colour) (m : Moved) (k : Kind) (p : Piece) → p.colour ≡ side → p.kind ≡ Pawn → Becomes side m k
+    → arriving p m.promo ≡ record { colour = side; kind = k }
+arriving_becomes side m k p own pawn (inl x) =
+    ap (arriving p) x.1 ∙ ap (λ (c : Colour). let q : Piece = record { colour = c; kind = k } in q) own
+arriving_becomes side m k p own pawn (inr x) = ap (arriving p) x.1 ∙ piece_is p side k own (pawn ∙ sym x.2)
+
+pub castle_at : (c : Castling) (old : Board) → carried old (moved_of (castling_row c).king_from (castling_row c).king_to None) (king_of (castling_row c).colour) ≡ castled_board (castling_row c) old
+castle_at WhiteShort old = refl
+castle_at WhiteLong old = refl
+castle_at BlackShort old = refl
+castle_at BlackLong old = refl
+
+-- the function castles as the table says
+pub castle_is : (c : Castling) (old : Board) (m : Moved) (p : Piece) → m.from ≡ (castling_row c).king_from → m.to ≡ (castling_row c).king_to → m.promo ≡ None
+    → p ≡ king_of (castling_row c).colour → carried old m p ≡ castled_board (castling_row c) old
+castle_is c old m p from to promo king =
+    let row = castling_row c in
+    let F : ℕ → Board = λ a. carried old (moved_of a m.to m.promo) p in
+    let G : ℕ → Board = λ b. carried old (moved_of row.king_from b m.promo) p in
+    let H : Option Kind → Board = λ o. carried old (moved_of row.king_from row.king_to o) p in
+    let I : Piece → Board = λ q. carried old (moved_of row.king_from row.king_to None) q in
+    ap F from ∙ (ap G to ∙ (ap H promo ∙ (ap I king ∙ castle_at c old)))
+
+-- the board after a case is the one that the function gives
+pub board_is : (s : Position) (m : Moved) (p : Piece) (new : Board) → IsSetup s → IsMove m → Holds s.board m.from p → p.colour ≡ s.turn
+    → CaseOf s m p new → carried s.board m p ≡ new
+board_is s m p new ok is stands own (piece_move x) =
+    let first : arriving p m.promo ≡ p = ap (arriving p) x.no_promotion in
+    let after_carrying = carried_put s.board m.from m.to (arriving p m.promo) ok.places is.from_on_board is.to_on_board is.moves in
+    beside_piece p.kind s.board (moved_board s.board m.from m.to (arriving p m.promo)) m x.no_pawn (king_near p.colour p.kind s.board m.from m.to x.reaches)
+    ∙ carried_one s.board _ new m.from m.to _ p first after_carrying x.after
+board_is s m p new ok is stands own (pawn_step x) =
+    let after_carrying = carried_put s.board m.from m.to (arriving p m.promo) ok.places is.from_on_board is.to_on_board is.moves in
+    beside_straight p.kind s.board (moved_board s.board m.from m.to (arriving p m.promo)) m x.pawn x.same_file
+    ∙ carried_one s.board _ new m.from m.to _ _ (arriving_becomes s.turn m x.kind p own x.pawn x.becomes) after_carrying x.after
+board_is s m p new ok is stands own (pawn_double x) =
+    let first : arriving p m.promo ≡ p = ap (arriving p) x.no_promotion in
+    let after_carrying = carried_put s.board m.from m.to (arriving p m.promo) ok.places is.from_on_board is.to_on_board is.moves in
+    beside_straight p.kind s.board (moved_board s.board m.from m.to (arriving p m.promo)) m x.pawn x.same_file
+    ∙ carried_one s.board _ new m.from m.to _ p first after_carrying x.after
+board_is s m p new ok is stands own (pawn_capture x) =
+    let after_carrying = carried_put s.board m.from m.to (arriving p m.promo) ok.places is.from_on_board is.to_on_board is.moves in
+    beside_taking p.kind s.board (moved_board s.board m.from m.to (arriving p m.promo)) m _ x.pawn x.target.stands
+    ∙ carried_one s.board _ new m.from m.to _ _ (arriving_becomes s.turn m x.kind p own x.pawn x.becomes) after_carrying x.after
+board_is s m p new ok is stands own (en_passant x) =
+    let first : arriving p m.promo ≡ p = ap (arriving p) x.no_promotion in
+    let gone = 8 * rank m.from + file m.to in
+    let same : x.gone ≡ 8 * rank m.from + file m.to = let f = x.gone_file in let r = x.gone_rank in omega arith in
+    let files : files_apart m.from m.to ≡ 1 = pawn_files p.colour p.kind s.board m.from m.to x.reaches x.pawn in
+    let P : Colour → Type 0 = λ z. IsForward z 1 m.from m.to in
+    let ranks : ranks_apart m.from m.to ≡ 1 = step_ranks p.colour 1 m.from m.to (pawn_reach p.colour p.kind s.board m.from m.to x.reaches x.pawn) in
+    let on_from = is.from_on_board in
+    let after_carrying =
+    carried_past_put s.board m.from m.to gone p ok.places on_from is.to_on_board (omega arith) is.moves (λ e. omega arith) (λ e. omega arith) in
+    let Q : ℕ → Type 0 = λ g. CarriedPast s.board new m.from m.to g p in
+    beside_passing p.kind s.board (moved_board s.board m.from m.to (arriving p m.promo)) m x.pawn (λ e. omega arith) (passed_at s m.to ok x.passed).1.empty
+    ∙ ap (λ (q : Piece). put (moved_board s.board m.from m.to q) gone None) first
+    ∙ carried_past_one s.board _ new m.from m.to gone p after_carrying (subst Q same x.after)
+board_is s m p new ok is stands own (castles c x) =
+    let row = castling_row c in
+    let king = castling_king s m p row stands own x.king x.from_home x.allowed in
+    castle_is c s.board m p x.from_home x.to_table x.no_promotion king.0
+    ∙ castled_one row s.board _ new (castled_put row s.board (rows c) ok.places x.allowed.rook) x.after
+
+-- the square passed over is the one that the function gives
+pub ep_other : (k : Kind) (m : Moved) → k ≢ Pawn → ep_of_kind k m ≡ None
+ep_other Pawn m other = absurd (other refl)
+ep_other Knight m other = refl
+ep_other Bishop m other = refl
+ep_other Rook m other = refl
+ep_other Queen m other = refl
+ep_other King m other = refl
+
+pub ep_single : (k : Kind) (m : Moved) → k ≡ Pawn → ranks_apart m.from m.to ≡ 1 → ep_of_kind k m ≡ None
+ep_single Pawn m pawn one =
+    elim (eqb_tells (ranks_apart m.from m.to) 2) [
+      | inl two ↦ absurd (let e = two.1 in omega arith)
+      | inr other ↦ rw other.0 refl
+    ]
+ep_single k m pawn one = absurd (cc)
+
+pub ep_double : (k : Kind) (m : Moved) → k ≡ Pawn → ranks_apart m.from m.to ≡ 2 → ep_of_kind k m ≡ Some ((m.from + m.to) / 2)
+ep_double Pawn m pawn two = let e = eq-eqb (ranks_apart m.from m.to) 2 two in rw e refl
+ep_double k m pawn two = absurd (cc)
+
+pub halfway : (side : Colour) (from to passed : ℕ) → file to ≡ file from → file passed ≡ file from → IsForward side 2 from to → IsForward side 1 from passed
+    → (from + to) / 2 ≡ passed
+halfway White from to passed same_file passed_file two one = omega arith
+halfway Black from to passed same_file passed_file two one = omega arith
+
+pub king_no_pawn : (k : Kind) → k ≡ King → k ≢ Pawn
+king_no_pawn k king pawn = cc
+
+pub ep_is : (s : Position) (m : Moved) (p : Piece) (new : Board) (x : CaseOf s m p new) → ep_of_kind p.kind m ≡ passed_over s m p new x
+ep_is s m p new (piece_move x) = ep_other p.kind m x.no_pawn
+ep_is s m p new (pawn_step x) = ep_single p.kind m x.pawn (step_ranks s.turn 1 m.from m.to x.forward)
+ep_is s m p new (pawn_double x) =
+    ep_double p.kind m x.pawn (step_ranks s.turn 2 m.from m.to x.forward)
+    ∙ ap (λ (q : ℕ). Some q) (halfway s.turn m.from m.to x.passed x.same_file x.passed_file x.forward x.passed_forward)
+ep_is s m p new (pawn_capture x) = ep_single p.kind m x.pawn (step_ranks p.colour 1 m.from m.to (pawn_reach p.colour p.kind s.board m.from m.to x.reaches x.pawn))
+ep_is s m p new (en_passant x) = ep_single p.kind m x.pawn (step_ranks p.colour 1 m.from m.to (pawn_reach p.colour p.kind s.board m.from m.to x.reaches x.pawn))
+ep_is s m p new (castles c x) = ep_other p.kind m (king_no_pawn p.kind x.king)
+
+pub ep_of_case : (s : Position) (m : Moved) (new : Board) (x : Case s m new) → ep_of m (at s.board m.from) ≡ passed_over s m x.piece new x.by_case
+ep_of_case s m new x = ap (ep_of m) x.stands ∙ ep_is s m x.piece new x.by_case
+
+pub all_parts : (flag a b c d : Bool) → IsTrue (flag && not (a || b || (c || d))) → IsTrue flag × (a ≡ false) × (b ≡ false) × (c ≡ false) × (d ≡ false)
+all_parts true false false false false h = (refl, refl, refl, refl, refl)
+all_parts flag a b c d h = absurd (cc)
+
+pub from_parts : (flag a b c d : Bool) → IsTrue flag → a ≡ false → b ≡ false → c ≡ false → d ≡ false → IsTrue (flag && not (a || b || (c || d)))
+from_parts true false false false false f k l m n = refl
+from_parts flag a b c d f k l m n = absurd (cc)
+
+pub untouched : (m : Moved) (q : ℕ) → eqb m.from q ≡ false → eqb m.to q ≡ false → ¬ Touches m q
+untouched m q from to (inl e) = let t = eq-eqb m.from q e in cc
+untouched m q from to (inr e) = let t = eq-eqb m.to q e in cc
+
+pub test_fails : (a b : ℕ) → a ≢ b → eqb a b ≡ false
+test_fails a b ne = elim (eqb_tells a b) [ inl e ↦ absurd (ne e.1) | inr e ↦ e.0 ]
+
+-- a flag is kept as the function says
+pub keeps_is : (flag : Bool) (m : Moved) (king rook : ℕ) → KeepsFlag flag (keeps flag m king rook) m king rook
+keeps_is flag m king rook = (
+  λ h. let x = all_parts flag (eqb m.from king) (eqb m.to king) (eqb m.from rook) (eqb m.to rook) h in
+      (x.0, untouched m king x.1 x.2, untouched m rook x.3 x.4),
+  λ h. from_parts flag (eqb m.from king) (eqb m.to king) (eqb m.from rook) (eqb m.to rook) h.0 (test_fails m.from king (λ e. h.1 (inl e)))
+      (test_fails m.to king (λ e. h.1 (inr e))) (test_fails m.from rook (λ e. h.2 (inl e))) (test_fails m.to rook (λ e. h.2 (inr e))),
+)
+
+-- two flags that are set in the same case are equal
+pub same_flag : (a b : Bool) (P : Type 0) → (IsTrue a ↔ P) → (IsTrue b ↔ P) → a ≡ b
+same_flag true true P x y = refl
+same_flag false false P x y = refl
+same_flag true false P x y = absurd (let e = y.1 (x.0 refl) in cc)
+same_flag false true P x y = absurd (let e = x.1 (y.0 refl) in cc)
+
+pub after_is : AfterIs
+unfolding after
+after_is s m ok legal =
+    let case = legal.moves in
+    let same : board_of s.board m (at s.board m.from) ≡ legal.new =
+    ap (board_of s.board m) case.stands ∙ board_is s m case.piece legal.new ok (legal_is_move s m ok legal) case.stands case.own case.by_case in
+    let P : Board → Type 0 = λ b. Case s m b in
+    let moves = subst P (sym same) case in
+    record {
+      moves = moves;
+      turn = refl;
+      white_short = keeps_is s.rights.white_short m 4 7;
+      white_long = keeps_is s.rights.white_long m 4 0;
+      black_short = keeps_is s.rights.black_short m 60 63;
+      black_long = keeps_is s.rights.black_long m 60 56;
+      ep = ep_of_case s m (board_of s.board m (at s.board m.from)) moves;
+    }
+
+pub one_after : OneAfter
+one_after s m t u ok x y =
+    let B : Board → Position = λ b. position_of b t.turn t.rights t.ep in
+    let T : Colour → Position = λ c. position_of u.board c t.rights t.ep in
+    let R : Rights → Position = λ r. position_of u.board u.turn r t.ep in
+    let E : Option ℕ → Position = λ e. position_of u.board u.turn u.rights e in
+    let A : Bool → Rights = λ f. record { white_short = f; white_long = t.rights.white_long; black_short = t.rights.black_short; black_long = t.rights.black_long } in
+    let C : Bool → Rights = λ f. record { white_short = u.rights.white_short; white_long = f; black_short = t.rights.black_short; black_long = t.rights.black_long } in
+    let D : Bool → Rights = λ f. record { white_short = u.rights.white_short; white_long = u.rights.white_long; black_short = f; black_long = t.rights.black_long } in
+    let F : Bool → Rights = λ f. record { white_short = u.rights.white_short; white_long = u.rights.white_long; black_short = u.rights.black_short; black_long = f } in
+    let rights : t.rights ≡ u.rights =
+    ap A (same_flag _ _ _ x.white_short y.white_short)
+    ∙ (ap C (same_flag _ _ _ x.white_long y.white_long)
+    ∙ (ap D (same_flag _ _ _ x.black_short y.black_short) ∙ ap F (same_flag _ _ _ x.black_long y.black_long))) in
+    let ep : t.ep ≡ u.ep = x.ep ∙ (sym (ep_of_case s m t.board x.moves) ∙ (ep_of_case s m u.board y.moves ∙ sym y.ep)) in
+    ap B (case_one s m t.board u.board ok x.moves y.moves) ∙ (ap T (x.turn ∙ sym y.turn) ∙ (ap R rights ∙ ap E ep))
+
+pub after_is_setup : AfterIsSetup
+unfolding after
+after_is_setup s m ok legal =
+    let x = after_is s m ok legal in
+    setup_by_parts s m x.moves.piece (after s m).board (after s m).rights (after s m).ep ok x.moves.stands x.moves.own x.moves.by_case x.ep
+
+-- the setup after a legal move is the one that the function gives
+pub after_one : (s : Position) (m : Moved) (t : Position) → IsSetup s → Legal s m → After s m t → t ≡ after s m
+after_one s m t ok legal x = one_after s m t (after s m) ok x (after_is s m ok legal)

@@ -1,0 +1,196 @@
+-- A move leads to one board at most: the cases exclude one another, and each names all that changes.
+use Rattle.std.proofs.Common.{◌≡◌, ◌≢◌, ℕ, ◌≤◌, ◌⊎◌, refl, arith, inl, inr, sym, ap, subst, ◌∙◌, Option, Some, None, List, [], ◌∷◌, length, get_or, zero, suc, Bool, true, false, is_some}
+use Rattle.std.proofs.lemmas.Bool.{cases_order}
+use Rattle.pb_board.specs.declared.piece.Colour.{Colour}
+use Rattle.pb_board.specs.declared.piece.Colour.TheVariants.{White, Black}
+use Rattle.pb_board.specs.declared.piece.Kind.{Kind}
+use Rattle.pb_board.specs.declared.piece.Kind.TheVariants.{Pawn, Knight, Bishop, Rook, Queen, King}
+use Rattle.pb_board.specs.declared.piece.Piece.{Piece}
+use Rattle.pb_board.specs.Piece.{opponent, king_of, rook_of}
+use Rattle.pb_board.specs.Board.{Board, at, IsForward}
+use Rattle.pb_board.specs.Position.{Position, IsSetup, EnPassantHolds, OnPassedRank, IsPassed}
+use Rattle.pb_moves.specs.Attack.{files_apart, ranks_apart, ReachesBy}
+use Rattle.pb_moves.specs.declared.castling.Castling.{Castling}
+use Rattle.pb_moves.specs.declared.castling.Castling.TheVariants.{WhiteShort, WhiteLong, BlackShort, BlackLong}
+use Rattle.pb_moves.specs.Moved.{Moved}
+use Rattle.pb_moves.specs.Castling.{Castled, CastlingRow, castling_row}
+use Rattle.pb_moves.specs.Cases.{Carried, CarriedPast, Becomes, CaseOf, piece_move, pawn_step, pawn_double, pawn_capture, en_passant, castles, Case}
+
+-- lists of one length with the same element at each index are equal
+pub same_lists : {X : Type 0} (xs ys : List X) (d : X) → length xs ≡ length ys → ((q : ℕ) → get_or xs q d ≡ get_or ys q d) → xs ≡ ys
+same_lists [] [] d n e = refl
+same_lists [] (y ∷ ys) d n e = absurd (omega arith)
+same_lists (x ∷ xs) [] d n e = absurd (omega arith)
+same_lists (x ∷ xs) (y ∷ ys) d n e =
+    let head : x ≡ y = e 0 in
+    let tail = same_lists xs ys d (omega arith) (λ q. e (suc q)) in
+    cc
+
+pub same_boards : (b c : Board) → length b ≡ 64 → length c ≡ 64 → ((q : ℕ) → at b q ≡ at c q) → b ≡ c
+same_boards b c m n e = same_lists b c None (m ∙ sym n) e
+
+pub same_or_not : (a b : ℕ) → (a ≡ b) ⊎ (a ≢ b)
+same_or_not a b = elim (cases_order a b) [ inl e ↦ inl e | inr o ↦ inr (λ same. elim o [ inl l ↦ omega arith | inr g ↦ omega arith ]) ]
+
+-- what two boards hold at a square that is known on both
+pub both_at : (b c : Board) (q r : ℕ) (x : Option Piece) → q ≡ r → at b r ≡ x → at c r ≡ x → at b q ≡ at c q
+both_at b c q r x same left right = let P : ℕ → Type 0 = λ k. at b k ≡ at c k in subst P (sym same) (left ∙ sym right)
+
+pub carried_one : (old b c : Board) (from to : ℕ) (p q : Piece) → p ≡ q → Carried old b from to p → Carried old c from to q → b ≡ c
+carried_one old b c from to p q same x y =
+    same_boards b c x.squares y.squares (λ k.
+    elim (same_or_not k from) [
+      | inl e ↦ both_at b c k from None e x.left y.left
+      | inr f ↦ elim (same_or_not k to) [
+        | inl e ↦ both_at b c k to (Some p) e x.arrived (y.arrived ∙ ap (λ (z : Piece). Some z) (sym same))
+        | inr t ↦ x.others k f t ∙ sym (y.others k f t)
+      ]
+    ])
+
+pub carried_past_one : (old b c : Board) (from to gone : ℕ) (p : Piece) → CarriedPast old b from to gone p → CarriedPast old c from to gone p → b ≡ c
+carried_past_one old b c from to gone p x y =
+    same_boards b c x.squares y.squares (λ k.
+    elim (same_or_not k from) [
+      | inl e ↦ both_at b c k from None e x.left y.left
+      | inr f ↦ elim (same_or_not k to) [
+        | inl e ↦ both_at b c k to (Some p) e x.arrived y.arrived
+        | inr t ↦ elim (same_or_not k gone) [
+          | inl e ↦ both_at b c k gone None e x.taken y.taken
+          | inr g ↦ x.others k f t g ∙ sym (y.others k f t g)
+        ]
+      ]
+    ])
+
+pub castled_one : (row : CastlingRow) (old b c : Board) → Castled row old b → Castled row old c → b ≡ c
+castled_one row old b c x y =
+    same_boards b c x.squares y.squares (λ k.
+    elim (same_or_not k row.king_from) [
+      | inl e ↦ both_at b c k row.king_from None e x.king_left y.king_left
+      | inr f ↦ elim (same_or_not k row.rook_from) [
+        | inl e ↦ both_at b c k row.rook_from None e x.rook_left y.rook_left
+        | inr g ↦ elim (same_or_not k row.king_to) [
+          | inl e ↦ both_at b c k row.king_to (Some (king_of row.colour)) e x.king y.king
+          | inr t ↦ elim (same_or_not k row.rook_to) [
+            | inl e ↦ both_at b c k row.rook_to (Some (rook_of row.colour)) e x.rook y.rook
+            | inr u ↦ x.others k f g t u ∙ sym (y.others k f g t u)
+          ]
+        ]
+      ]
+    ])
+
+-- what a pawn becomes is settled by the move
+pub becomes_one : (side : Colour) (m : Moved) (k l : Kind) → Becomes side m k → Becomes side m l → k ≡ l
+becomes_one side m k l (inl x) (inl y) = cc
+becomes_one side m k l (inr x) (inr y) = cc
+becomes_one side m k l (inl x) (inr y) = absurd (y.0 x.0)
+becomes_one side m k l (inr x) (inl y) = absurd (x.0 y.0)
+
+-- the en passant square of a setup is empty, and the pawn that passed it stands beyond
+pub passed_at : (s : Position) (q : ℕ) → IsSetup s → s.ep ≡ Some q → OnPassedRank s.turn q × IsPassed s.board s.turn q
+passed_at s q ok here =
+    let P : Option ℕ → Type 0 = λ ep. EnPassantHolds s.board s.turn ep in
+    subst P here ok.en_passant
+
+-- which case a move can be, told from the piece, the distance and the target
+abbrev pub pick : Kind → ℕ → ℕ → Bool → ℕ
+pick Pawn zero (suc zero) taken = 1
+pick Pawn zero r taken = 2
+pick Pawn (suc f) r true = 3
+pick Pawn (suc f) r false = 4
+pick King (suc (suc zero)) r taken = 5
+pick k f r taken = 0
+
+abbrev pub class : Position → Moved → Piece → ℕ
+class s m piece = pick piece.kind (files_apart m.from m.to) (ranks_apart m.from m.to) (is_some (at s.board m.to))
+
+pub pick_piece : (k : Kind) (f r : ℕ) (taken : Bool) → k ≢ Pawn → (k ≡ King → f ≤ 1) → pick k f r taken ≡ 0
+pick_piece Pawn f r taken other_kind near = absurd (other_kind refl)
+pick_piece King zero r taken other_kind near = refl
+pick_piece King (suc zero) r taken other_kind near = refl
+pick_piece King (suc (suc f)) r taken other_kind near = absurd (let n = near refl in omega arith)
+pick_piece Knight f r taken other_kind near = refl
+pick_piece Bishop f r taken other_kind near = refl
+pick_piece Rook f r taken other_kind near = refl
+pick_piece Queen f r taken other_kind near = refl
+
+pub king_near : (colour : Colour) (kind : Kind) (board : Board) (a b : ℕ) → ReachesBy colour kind board a b → kind ≡ King → files_apart a b ≤ 1
+king_near colour King board a b r e = omega arith
+king_near colour k board a b r e = absurd (cc)
+
+pub pawn_files : (colour : Colour) (kind : Kind) (board : Board) (a b : ℕ) → ReachesBy colour kind board a b → kind ≡ Pawn → files_apart a b ≡ 1
+pawn_files colour Pawn board a b r e = r.0
+pawn_files colour k board a b r e = absurd (cc)
+
+abbrev pub tag : (s : Position) (m : Moved) (piece : Piece) (new : Board) → CaseOf s m piece new → ℕ
+tag s m piece new (piece_move x) = 0
+tag s m piece new (pawn_step x) = 1
+tag s m piece new (pawn_double x) = 2
+tag s m piece new (pawn_capture x) = 3
+tag s m piece new (en_passant x) = 4
+tag s m piece new (castles c x) = 5
+
+pub class_of_castling : (c : Castling) (f t : ℕ) → f ≡ (castling_row c).king_from → t ≡ (castling_row c).king_to → files_apart f t ≡ 2
+class_of_castling WhiteShort f t a b = omega arith
+class_of_castling c f t a b = omega arith
+
+pub step_ranks : (colour : Colour) (n a b : ℕ) → IsForward colour n a b → ranks_apart a b ≡ n
+step_ranks White n a b h = omega arith
+step_ranks Black n a b h = omega arith
+
+pub classes : (s : Position) (m : Moved) (piece : Piece) (new : Board) → IsSetup s → (x : CaseOf s m piece new) → class s m piece ≡ tag s m piece new x
+classes s m piece new ok (piece_move x) = pick_piece piece.kind _ _ _ x.no_pawn (king_near piece.colour piece.kind s.board m.from m.to x.reaches)
+classes s m piece new ok (pawn_step x) =
+    let kind = x.pawn in
+    let files : files_apart m.from m.to ≡ 0 = omega arith in
+    let ranks : ranks_apart m.from m.to ≡ 1 = step_ranks s.turn 1 m.from m.to x.forward in
+    cc
+classes s m piece new ok (pawn_double x) =
+    let kind = x.pawn in
+    let files : files_apart m.from m.to ≡ 0 = omega arith in
+    let ranks : ranks_apart m.from m.to ≡ 2 = step_ranks s.turn 2 m.from m.to x.forward in
+    cc
+classes s m piece new ok (pawn_capture x) =
+    let kind = x.pawn in
+    let files : files_apart m.from m.to ≡ 1 = pawn_files piece.colour piece.kind s.board m.from m.to x.reaches x.pawn in
+    let taken : at s.board m.to ≡ Some (record { colour = opponent s.turn; kind = x.target.kind }) = x.target.stands in
+    cc
+classes s m piece new ok (en_passant x) =
+    let kind = x.pawn in
+    let files : files_apart m.from m.to ≡ 1 = pawn_files piece.colour piece.kind s.board m.from m.to x.reaches x.pawn in
+    let free : at s.board m.to ≡ None = (passed_at s m.to ok x.passed).1.empty in
+    cc
+classes s m piece new ok (castles c x) =
+    let kind = x.king in
+    let files : files_apart m.from m.to ≡ 2 = class_of_castling c m.from m.to x.from_home x.to_table in
+    cc
+
+pub castling_one : (c d : Castling) → (castling_row c).king_to ≡ (castling_row d).king_to → c ≡ d
+castling_one WhiteShort WhiteShort e = refl
+castling_one WhiteLong WhiteLong e = refl
+castling_one BlackShort BlackShort e = refl
+castling_one BlackLong BlackLong e = refl
+castling_one c d e = absurd (omega arith)
+
+pub case_of_one : (s : Position) (m : Moved) (piece : Piece) (b c : Board) → IsSetup s → CaseOf s m piece b → CaseOf s m piece c → b ≡ c
+case_of_one s m piece b c ok (piece_move x) (piece_move y) = carried_one s.board b c m.from m.to piece piece refl x.after y.after
+case_of_one s m piece b c ok (pawn_step x) (pawn_step y) =
+    carried_one s.board b c m.from m.to _ _ (ap (λ (k : Kind). let p : Piece = record { colour = s.turn; kind = k } in p) (becomes_one s.turn m x.kind y.kind x.becomes y.becomes)) x.after y.after
+case_of_one s m piece b c ok (pawn_double x) (pawn_double y) = carried_one s.board b c m.from m.to piece piece refl x.after y.after
+case_of_one s m piece b c ok (pawn_capture x) (pawn_capture y) =
+    carried_one s.board b c m.from m.to _ _ (ap (λ (k : Kind). let p : Piece = record { colour = s.turn; kind = k } in p) (becomes_one s.turn m x.kind y.kind x.becomes y.becomes)) x.after y.after
+case_of_one s m piece b c ok (en_passant x) (en_passant y) =
+    let same : y.gone ≡ x.gone = omega arith in
+    let P : ℕ → Type 0 = λ g. CarriedPast s.board c m.from m.to g piece in
+    carried_past_one s.board b c m.from m.to x.gone piece x.after (subst P same y.after)
+case_of_one s m piece b c ok (castles k x) (castles l y) =
+    let same : l ≡ k = castling_one l k (sym y.to_table ∙ x.to_table) in
+    let P : Castling → Type 0 = λ z. Castled (castling_row z) s.board c in
+    castled_one (castling_row k) s.board b c x.after (subst P same y.after)
+case_of_one s m piece b c ok x y = absurd (omega (arith, classes s m piece b ok x, classes s m piece c ok y))
+
+-- a move leads to one board at most
+pub case_one : (s : Position) (m : Moved) (b c : Board) → IsSetup s → Case s m b → Case s m c → b ≡ c
+case_one s m b c ok x y =
+    let same : y.piece ≡ x.piece = cc (x.stands, y.stands) in
+    let P : Piece → Type 0 = λ p. CaseOf s m p c in
+    case_of_one s m x.piece b c ok x.by_case (subst P same y.by_case)

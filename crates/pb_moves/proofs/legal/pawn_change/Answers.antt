@@ -1,0 +1,7 @@
+use Rattle.pb_moves.proofs.Legality.{pawn_cases}
+use Rattle.pb_moves.proofs.legal.pawn_change.Goals as goal
+
+pub returns : goal.returns
+returns c =
+    pawn_cases c.args.setup.now c.args.m c.args.pawn c.requires.pawn c.in_default.ensures c.in_default-pawn_double.ensures c.in_default-pawn_capture.ensures
+    c.en_passant.result c.en_passant.ensures

@@ -1,0 +1,95 @@
+-- Which squares a piece attacks, and when a side is in check.
+use Rattle.std.specs.Prelude.{◌≡◌, ℕ, ◌+◌, ◌-◌, ◌<◌, ◌⊎◌, max}
+use Rattle.pb_board.specs.declared.piece.Colour.{Colour}
+use Rattle.pb_board.specs.declared.piece.Kind.{Kind}
+use Rattle.pb_board.specs.declared.piece.Kind.TheVariants.{Pawn, Knight, Bishop, Rook, Queen, King}
+use Rattle.pb_board.specs.declared.piece.Piece.{Piece}
+use Rattle.pb_board.specs.Position.{Position}
+use Rattle.pb_board.specs.Piece.{opponent, king_of}
+use Rattle.pb_board.specs.Board.{Board, file, rank, Holds, IsEmpty, IsForward}
+use Rattle.pb_moves.specs.declared.direction.Direction.{Direction}
+use Rattle.pb_moves.specs.declared.direction.Direction.TheVariants.{North, NorthEast, East, SouthEast, South, SouthWest, West, NorthWest}
+
+-- b is n of a king's moves in this one direction from a
+abbrev pub StepsFrom : Direction → ℕ → ℕ → ℕ → Type 0
+StepsFrom North n a b = (file b ≡ file a) × (rank b ≡ rank a + n)
+StepsFrom NorthEast n a b = (file b ≡ file a + n) × (rank b ≡ rank a + n)
+StepsFrom East n a b = (file b ≡ file a + n) × (rank b ≡ rank a)
+StepsFrom SouthEast n a b = (file b ≡ file a + n) × (rank b + n ≡ rank a)
+StepsFrom South n a b = (file b ≡ file a) × (rank b + n ≡ rank a)
+StepsFrom SouthWest n a b = (file b + n ≡ file a) × (rank b + n ≡ rank a)
+StepsFrom West n a b = (file b + n ≡ file a) × (rank b ≡ rank a)
+StepsFrom NorthWest n a b = (file b + n ≡ file a) × (rank b ≡ rank a + n)
+
+-- each square k steps from a, with 0 < k < n, is empty
+abbrev pub EmptyBelow : Board → Direction → ℕ → ℕ → Type 0
+EmptyBelow board direction n a =
+    (k c : ℕ) → 0 < k → k < n → c < 64 → StepsFrom direction k a c → IsEmpty board c
+
+-- the way from a to b is clear: b is n equal steps of one king's move from a, and each square between is empty
+pub record Clear (board : Board) (a b : ℕ) : Type 0 where
+  pub direction : Direction
+  pub steps : ℕ
+  pub reaches : StepsFrom direction steps a b
+  pub empty : EmptyBelow board direction steps a
+
+-- how far apart two numbers are
+abbrev pub apart : ℕ → ℕ → ℕ
+apart x y = (x - y) + (y - x)
+
+abbrev pub files_apart : ℕ → ℕ → ℕ
+files_apart a b = apart (file a) (file b)
+
+abbrev pub ranks_apart : ℕ → ℕ → ℕ
+ranks_apart a b = apart (rank a) (rank b)
+
+-- the absolute differences are equal and not 0
+abbrev pub IsDiagonal : ℕ → ℕ → Type 0
+IsDiagonal a b = (files_apart a b ≡ ranks_apart a b) × (0 < files_apart a b)
+
+-- exactly one difference is 0
+abbrev pub IsStraight : ℕ → ℕ → Type 0
+IsStraight a b =
+    ((files_apart a b ≡ 0) × (0 < ranks_apart a b)) ⊎ ((0 < files_apart a b) × (ranks_apart a b ≡ 0))
+
+-- the absolute differences are 1 and 2
+abbrev pub IsKnightsMove : ℕ → ℕ → Type 0
+IsKnightsMove a b =
+    ((files_apart a b ≡ 1) × (ranks_apart a b ≡ 2)) ⊎ ((files_apart a b ≡ 2) × (ranks_apart a b ≡ 1))
+
+-- a piece of this colour and kind on a attacks b
+abbrev pub ReachesBy : Colour → Kind → Board → ℕ → ℕ → Type 0
+ReachesBy colour Pawn board a b = (files_apart a b ≡ 1) × IsForward colour 1 a b
+ReachesBy colour Knight board a b = IsKnightsMove a b
+ReachesBy colour Bishop board a b = IsDiagonal a b × Clear board a b
+ReachesBy colour Rook board a b = IsStraight a b × Clear board a b
+ReachesBy colour Queen board a b = (IsDiagonal a b ⊎ IsStraight a b) × Clear board a b
+ReachesBy colour King board a b = max (files_apart a b) (ranks_apart a b) ≡ 1
+
+-- this piece on a attacks b
+abbrev pub Reaches : Piece → Board → ℕ → ℕ → Type 0
+Reaches piece board a b = ReachesBy piece.colour piece.kind board a b
+
+-- a piece of this side stands on a and attacks b
+pub record Attacks (board : Board) (side : Colour) (a b : ℕ) : Type 0 where
+  pub piece : Piece
+  pub stands : Holds board a piece
+  pub of_side : piece.colour ≡ side
+  pub reaches : Reaches piece board a b
+
+-- some piece of this side attacks the square
+abbrev pub IsAttacked : Board → Colour → ℕ → Type 0
+IsAttacked board side square = (a : ℕ) × Attacks board side a square
+
+-- the king of this side stands on the square, and some enemy piece attacks it
+pub record KingAttacked (board : Board) (side : Colour) (king : ℕ) : Type 0 where
+  pub stands : Holds board king (king_of side)
+  pub attacked : IsAttacked board (opponent side) king
+
+-- some enemy piece attacks the king's square
+abbrev pub InCheck : Board → Colour → Type 0
+InCheck board side = (king : ℕ) × KingAttacked board side king
+
+-- the side that isn't to move isn't in check
+abbrev pub Playable : Position → Type 0
+Playable s = ¬ InCheck s.board (opponent s.turn)

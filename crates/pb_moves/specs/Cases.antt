@@ -1,0 +1,143 @@
+-- The moves of chess: which board a move of a piece of the side to move leads to, case by case.
+--
+--   case          who              from, to                              besides
+--   piece_move    not a pawn       it attacks `to`                       `to` is empty or holds an enemy, not the king
+--   pawn_step     a pawn           one rank forward on its file          `to` is empty
+--   pawn_double   a pawn           two ranks forward from its first rank both squares are empty
+--   pawn_capture  a pawn           it attacks `to`                       `to` holds an enemy, not the king
+--   en_passant    a pawn           it attacks the en passant square      the pawn beside `from` is taken
+--   castles       the king         a row of the castling table           see Castling
+--
+-- A pawn that reaches the last rank becomes a knight, bishop, rook or queen, and no other move names a promotion.
+use Rattle.std.specs.Prelude.{◌≡◌, ◌≢◌, ℕ, ◌⊎◌, length, Some, None}
+use Rattle.pb_board.specs.declared.piece.Colour.{Colour}
+use Rattle.pb_board.specs.declared.piece.Colour.TheVariants.{White, Black}
+use Rattle.pb_board.specs.declared.piece.Kind.{Kind}
+use Rattle.pb_board.specs.declared.piece.Kind.TheVariants.{Pawn, King}
+use Rattle.pb_board.specs.declared.piece.Piece.{Piece}
+use Rattle.pb_board.specs.Position.{Position}
+use Rattle.pb_board.specs.Piece.{opponent}
+use Rattle.pb_board.specs.Board.{Board, file, rank, at, Holds, IsEmpty, IsForward}
+use Rattle.pb_moves.specs.declared.castling.Castling.{Castling}
+use Rattle.pb_moves.specs.Attack.{Reaches, InCheck}
+use Rattle.pb_moves.specs.Castling.{CastlingRow, castling_row, Castled, MayCastle}
+use Rattle.pb_moves.specs.Moved.{Moved, IsPromotion}
+
+-- on the new board `from` is empty and this piece stands on `to`; the other squares are as they were
+pub record Carried (old new : Board) (from to : ℕ) (piece : Piece) : Type 0 where
+  pub squares : length new ≡ 64
+  pub left : IsEmpty new from
+  pub arrived : Holds new to piece
+  pub others : (q : ℕ) → q ≢ from → q ≢ to → at new q ≡ at old q
+
+-- the same, and a third square is emptied
+pub record CarriedPast (old new : Board) (from to gone : ℕ) (piece : Piece) : Type 0 where
+  pub squares : length new ≡ 64
+  pub left : IsEmpty new from
+  pub taken : IsEmpty new gone
+  pub arrived : Holds new to piece
+  pub others : (q : ℕ) → q ≢ from → q ≢ to → q ≢ gone → at new q ≡ at old q
+
+-- an enemy piece other than the king stands there
+pub record IsPrey (board : Board) (side : Colour) (square : ℕ) : Type 0 where
+  pub kind : Kind
+  pub no_king : kind ≢ King
+  pub stands : Holds board square (record { colour = opponent side; kind = kind })
+
+abbrev pub last_rank : Colour → ℕ
+last_rank White = 7
+last_rank Black = 0
+
+-- the rank on which the pawns of a side begin
+abbrev pub pawn_rank : Colour → ℕ
+pawn_rank White = 1
+pawn_rank Black = 6
+
+-- what the pawn is after the move: a promotion exactly if `to` is on the last rank
+abbrev pub Becomes : Colour → Moved → Kind → Type 0
+Becomes side m kind =
+    ((rank m.to ≡ last_rank side) × (m.promo ≡ Some kind) × IsPromotion kind)
+    ⊎ ((rank m.to ≢ last_rank side) × (m.promo ≡ None) × (kind ≡ Pawn))
+
+-- a knight, bishop, rook, queen or king goes where it attacks
+pub record PieceMove (s : Position) (m : Moved) (piece : Piece) (new : Board) : Type 0 where
+  pub no_pawn : piece.kind ≢ Pawn
+  pub reaches : Reaches piece s.board m.from m.to
+  pub target : IsEmpty s.board m.to ⊎ IsPrey s.board s.turn m.to
+  pub no_promotion : m.promo ≡ None
+  pub after : Carried s.board new m.from m.to piece
+
+-- a pawn goes one step forward
+pub record PawnStep (s : Position) (m : Moved) (piece : Piece) (new : Board) : Type 0 where
+  pub pawn : piece.kind ≡ Pawn
+  pub same_file : file m.to ≡ file m.from
+  pub forward : IsForward s.turn 1 m.from m.to
+  pub empty : IsEmpty s.board m.to
+  pub kind : Kind
+  pub becomes : Becomes s.turn m kind
+  pub after : Carried s.board new m.from m.to (record { colour = s.turn; kind = kind })
+
+-- a pawn goes two steps forward from where it began, over this square
+pub record PawnDouble (s : Position) (m : Moved) (piece : Piece) (new : Board) : Type 0 where
+  pub pawn : piece.kind ≡ Pawn
+  pub begins : rank m.from ≡ pawn_rank s.turn
+  pub same_file : file m.to ≡ file m.from
+  pub forward : IsForward s.turn 2 m.from m.to
+  pub passed : ℕ
+  pub passed_file : file passed ≡ file m.from
+  pub passed_forward : IsForward s.turn 1 m.from passed
+  pub passed_empty : IsEmpty s.board passed
+  pub empty : IsEmpty s.board m.to
+  pub no_promotion : m.promo ≡ None
+  pub after : Carried s.board new m.from m.to piece
+
+-- a pawn takes what it attacks
+pub record PawnCapture (s : Position) (m : Moved) (piece : Piece) (new : Board) : Type 0 where
+  pub pawn : piece.kind ≡ Pawn
+  pub reaches : Reaches piece s.board m.from m.to
+  pub target : IsPrey s.board s.turn m.to
+  pub kind : Kind
+  pub becomes : Becomes s.turn m kind
+  pub after : Carried s.board new m.from m.to (record { colour = s.turn; kind = kind })
+
+-- a pawn goes to the en passant square that it attacks, and takes the pawn beyond it
+pub record EnPassant (s : Position) (m : Moved) (piece : Piece) (new : Board) : Type 0 where
+  pub pawn : piece.kind ≡ Pawn
+  pub reaches : Reaches piece s.board m.from m.to
+  pub passed : s.ep ≡ Some m.to
+  pub no_promotion : m.promo ≡ None
+  pub gone : ℕ
+  pub gone_file : file gone ≡ file m.to
+  pub gone_rank : rank gone ≡ rank m.from
+  pub after : CarriedPast s.board new m.from m.to gone piece
+
+-- castling by a row of the table
+pub record Castles (row : CastlingRow) (s : Position) (m : Moved) (piece : Piece) (new : Board) : Type 0 where
+  pub king : piece.kind ≡ King
+  pub from_home : m.from ≡ row.king_from
+  pub to_table : m.to ≡ row.king_to
+  pub no_promotion : m.promo ≡ None
+  pub allowed : MayCastle row s
+  pub after : Castled row s.board new
+
+-- one of the cases relates the two boards
+pub data CaseOf (s : Position) (m : Moved) (piece : Piece) (new : Board) : Type 0 where
+  piece_move : PieceMove s m piece new → CaseOf s m piece new
+  pawn_step : PawnStep s m piece new → CaseOf s m piece new
+  pawn_double : PawnDouble s m piece new → CaseOf s m piece new
+  pawn_capture : PawnCapture s m piece new → CaseOf s m piece new
+  en_passant : EnPassant s m piece new → CaseOf s m piece new
+  castles : (castling : Castling) → Castles (castling_row castling) s m piece new → CaseOf s m piece new
+
+-- a piece of the side to move stands on `from`, and one of its cases leads to the new board
+pub record Case (s : Position) (m : Moved) (new : Board) : Type 0 where
+  pub piece : Piece
+  pub stands : Holds s.board m.from piece
+  pub own : piece.colour ≡ s.turn
+  pub by_case : CaseOf s m piece new
+
+-- one of the cases holds, and afterwards the mover isn't in check
+pub record Legal (s : Position) (m : Moved) : Type 0 where
+  pub new : Board
+  pub moves : Case s m new
+  pub safe : ¬ InCheck new s.turn

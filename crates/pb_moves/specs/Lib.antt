@@ -1,0 +1,16 @@
+pub mod Attack
+pub mod Moved
+pub mod Castling
+pub mod Cases
+pub mod After
+pub mod AfterRecord
+pub mod Successor
+pub mod Spelling
+pub mod Listing
+pub mod MoveLaws
+pub mod Played
+pub mod Walk
+pub mod Change
+pub mod Outcome
+pub mod Candidate
+pub mod TextBuffer

@@ -1,0 +1,23 @@
+-- A move: the square it leaves, the square it reaches, and the piece that a pawn becomes.
+use Rattle.std.specs.Prelude.{◌≡◌, ◌≢◌, ℕ, ◌<◌, Option, Some}
+use Rattle.pb_board.specs.declared.piece.Kind.{Kind}
+use Rattle.pb_board.specs.declared.piece.Kind.TheVariants.{Pawn, King}
+
+pub record Moved : Type 0 where
+  pub from : ℕ
+  pub to : ℕ
+  pub promo : Option Kind
+
+abbrev pub moved_of : ℕ → ℕ → Option Kind → Moved
+moved_of from to promo = record { from = from; to = to; promo = promo }
+
+-- what a pawn may become
+abbrev pub IsPromotion : Kind → Type 0
+IsPromotion kind = (kind ≢ Pawn) × (kind ≢ King)
+
+-- two squares of the board that differ, and no promotion to a pawn or a king
+pub record IsMove (m : Moved) : Type 0 where
+  pub from_on_board : m.from < 64
+  pub to_on_board : m.to < 64
+  pub moves : m.from ≢ m.to
+  pub promotes : (kind : Kind) → m.promo ≡ Some kind → IsPromotion kind

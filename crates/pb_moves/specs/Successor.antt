@@ -1,0 +1,79 @@
+-- The setup after a move as a function of the two. It is the setup of `After` wherever the move is legal, and
+-- means nothing elsewhere.
+use Rattle.std.specs.Prelude.{ℕ, ◌+◌, ◌-◌, ◌*◌, ◌/◌, Bool, not, ◌&&◌, ◌||◌, ◌==◌, Option, Some, None, is_none, if◌then◌else◌, slice_set}
+use Rattle.pb_board.specs.declared.piece.Kind.{Kind}
+use Rattle.pb_board.specs.declared.piece.Kind.TheVariants.{Pawn, Knight, Bishop, Rook, Queen, King}
+use Rattle.pb_board.specs.declared.piece.Piece.{Piece}
+use Rattle.pb_board.specs.declared.setup.Rights.{Rights}
+use Rattle.pb_board.specs.Position.{Position}
+use Rattle.pb_board.specs.Piece.{opponent}
+use Rattle.pb_board.specs.Board.{Board, file, rank, at}
+use Rattle.pb_moves.specs.Attack.{files_apart, ranks_apart}
+use Rattle.pb_moves.specs.Moved.{Moved}
+
+abbrev pub put : Board → ℕ → Option Piece → Board
+put board square place = slice_set board square place
+
+-- the piece, or what it becomes
+abbrev pub arriving : Piece → Option Kind → Piece
+arriving piece None = piece
+arriving piece (Some kind) = record { colour = piece.colour; kind = kind }
+
+-- en passant: a pawn goes to an empty square of another file, and the pawn beside it is gone
+abbrev pub without_passed : Board → Board → Moved → Board
+without_passed old new m =
+    if not (file m.to == file m.from) && is_none (at old m.to) then put new (8 * rank m.from + file m.to) None else new
+
+-- castling: a king goes two files, and the rook from beyond its square comes to its other side
+abbrev pub with_rook : Board → Board → Moved → Board
+with_rook old new m =
+    if files_apart m.from m.to == 2
+    then (if m.to == m.from + 2 then put (put new (m.to + 1) None) (m.to - 1) (at old (m.to + 1))
+    else put (put new (m.to - 2) None) (m.to + 1) (at old (m.to - 2)))
+    else new
+
+abbrev pub beside : Kind → Board → Board → Moved → Board
+beside Pawn old new m = without_passed old new m
+beside Knight old new m = new
+beside Bishop old new m = new
+beside Rook old new m = new
+beside Queen old new m = new
+beside King old new m = with_rook old new m
+
+abbrev pub carried : Board → Moved → Piece → Board
+carried board m piece = beside piece.kind board (put (put board m.from None) m.to (Some (arriving piece m.promo))) m
+
+abbrev pub board_of : Board → Moved → Option Piece → Board
+board_of board m None = board
+board_of board m (Some piece) = carried board m piece
+
+abbrev pub keeps : Bool → Moved → ℕ → ℕ → Bool
+keeps flag m king rook = flag && not (m.from == king || m.to == king || (m.from == rook || m.to == rook))
+
+abbrev pub rights_of : Rights → Moved → Rights
+rights_of r m = record {
+  white_short = keeps r.white_short m 4 7;
+  white_long = keeps r.white_long m 4 0;
+  black_short = keeps r.black_short m 60 63;
+  black_long = keeps r.black_long m 60 56;
+}
+
+abbrev pub ep_of_kind : Kind → Moved → Option ℕ
+ep_of_kind Pawn m = if ranks_apart m.from m.to == 2 then Some ((m.from + m.to) / 2) else None
+ep_of_kind Knight m = None
+ep_of_kind Bishop m = None
+ep_of_kind Rook m = None
+ep_of_kind Queen m = None
+ep_of_kind King m = None
+
+abbrev pub ep_of : Moved → Option Piece → Option ℕ
+ep_of m None = None
+ep_of m (Some piece) = ep_of_kind piece.kind m
+
+unfoldable pub after : Position → Moved → Position
+after s m = record {
+  board = board_of s.board m (at s.board m.from);
+  turn = opponent s.turn;
+  rights = rights_of s.rights m;
+  ep = ep_of m (at s.board m.from);
+}

@@ -1,0 +1,117 @@
+//! Which squares a piece attacks, and whether a square is attacked.
+
+ghost use Rattle.std.specs.Prelude.{◌≡◌, ◌<◌, ◌↔◌, IsTrue};
+ghost use Rattle.pb_board.specs.Board.{IsForward};
+ghost use Rattle.pb_moves.specs.Attack.{Clear, Reaches, IsAttacked};
+ghost use Rattle.pb_moves.specs.Walk.{PawnStrikes, Strikes, AttackedAlong};
+ghost use Rattle.pb_moves.specs.declared.direction.Direction.{Direction};
+
+use crate::board::Board;
+use crate::direction::{DIRECTIONS, Direction};
+use crate::knight::attacked_by_knight;
+use crate::line::{first_along, line_between};
+use pb_board::{Colour, Kind, Piece, Square};
+
+// Whether `to` lies on a line from `from`, with only empty squares between.
+fn clear_way(board: &Board, from: Square, to: Square) -> bool
+    requires { ¬ (from ≡ to) }
+    ensures { IsTrue result ↔ Clear board.now from to }
+{
+    match line_between(from, to) {
+        Some(line) => match first_along(board, from, line.direction) {
+            Some(hit) => line.steps <= hit.steps,
+            None => true,
+        },
+        None => false,
+    }
+}
+
+/// Whether `to` is this many ranks forward of `from`.
+#[inline(always)]
+pub(crate) fn is_forward(colour: Colour, ranks: u8, from: Square, to: Square) -> bool
+    requires { ranks < 8 }
+    ensures { IsTrue result ↔ IsForward colour ranks from to }
+{
+    match colour {
+        Colour::White => to.rank() == from.rank() + ranks,
+        Colour::Black => from.rank() == to.rank() + ranks,
+    }
+}
+
+/// Whether this piece on `from` attacks `to`.
+pub(crate) fn reaches(piece: Piece, board: &Board, from: Square, to: Square) -> bool
+    ensures { IsTrue result ↔ Reaches piece board.now from to }
+{
+    let across = from.file().abs_diff(to.file());
+    let along = from.rank().abs_diff(to.rank());
+    match piece.kind {
+        Kind::Pawn => across == 1 && is_forward(piece.colour, 1, from, to),
+        Kind::Knight => across == 1 && along == 2 || across == 2 && along == 1,
+        Kind::Bishop => across == along && across != 0 && clear_way(board, from, to),
+        Kind::Rook => (across == 0) != (along == 0) && clear_way(board, from, to),
+        Kind::Queen => {
+            (across != 0 || along != 0)
+                && (across == along || across == 0 || along == 0)
+                && clear_way(board, from, to)
+        }
+        Kind::King => across.max(along) == 1,
+    }
+}
+
+// Whether a piece attacks a square from so far in this direction of it, where nothing stands between.
+#[inline(always)]
+fn strikes(piece: Piece, direction: Direction, steps: u8) -> bool
+    ensures { IsTrue result ↔ Strikes piece.colour piece.kind direction steps }
+{
+    match piece.kind {
+        Kind::Pawn => steps == 1 && pawn_strikes(piece.colour, direction),
+        Kind::Knight => false,
+        Kind::Bishop => direction.is_diagonal(),
+        Kind::Rook => !direction.is_diagonal(),
+        Kind::Queen => true,
+        Kind::King => steps == 1,
+    }
+}
+
+// Whether a pawn of this colour attacks a square from a step in this direction of it.
+#[inline(always)]
+fn pawn_strikes(colour: Colour, direction: Direction) -> bool
+    ensures { IsTrue result ↔ PawnStrikes colour direction }
+{
+    match colour {
+        Colour::White => matches!(direction, Direction::SouthEast | Direction::SouthWest),
+        Colour::Black => matches!(direction, Direction::NorthEast | Direction::NorthWest),
+    }
+}
+
+// Whether the first piece in this direction is of this side and attacks the square.
+#[inline(always)]
+fn attacked_along(board: &Board, by: Colour, direction: Direction, square: Square) -> bool
+    ensures { IsTrue result ↔ AttackedAlong board.now by direction square }
+{
+    match first_along(board, square, direction) {
+        Some(hit) => hit.piece.colour == by && strikes(hit.piece, direction, hit.steps),
+        None => false,
+    }
+}
+
+// Whether a piece of this side attacks the square from somewhere on its lines.
+fn attacked_on_lines(board: &Board, square: Square, by: Colour) -> bool
+    ensures { IsTrue result ↔ ((d : Direction) × AttackedAlong board.now by d square) }
+{
+    for direction in DIRECTIONS {
+        if attacked_along(board, by, direction, square) {
+            return true;
+        }
+    }
+    false
+}
+
+/// Whether some piece of this side attacks the square.
+pub(crate) fn attacked_on(board: &Board, square: Square, by: Colour) -> bool
+    ensures { IsTrue result ↔ IsAttacked board.now by square }
+{
+    // The reader tells that the square is on the board.
+    let _index = square.index();
+    attacked_on_lines(board, square, by) || attacked_by_knight(board, square, by)
+}

@@ -1,0 +1,149 @@
+//! The cases of a move: what each does to the board, where it applies.
+
+ghost use Rattle.std.specs.Prelude.{◌≡◌, ◌≢◌, ◌+◌, ◌/◌, ◌<◌, MatchOption};
+ghost use Rattle.pb_board.specs.declared.piece.Kind.{Kind};
+ghost use Rattle.pb_board.specs.declared.piece.Kind.TheVariants.{Pawn};
+ghost use Rattle.pb_board.specs.Board.{file, rank};
+ghost use Rattle.pb_moves.specs.Cases.{Becomes, PieceMove, PawnStep, PawnDouble, PawnCapture, EnPassant, pawn_rank};
+ghost use Rattle.pb_moves.specs.Change.{Finds};
+
+use crate::attack::{is_forward, reaches};
+use crate::board::{is_empty, is_prey, square_at};
+use crate::change::Change;
+use crate::moves::Move;
+use pb_board::{Colour, Kind, Piece, Setup, Square};
+
+/// A move of a knight, bishop, rook, queen or king to where it attacks.
+#[inline]
+pub(crate) fn piece_move(setup: &Setup, m: Move, piece: Piece) -> Option<Change>
+    requires own { piece.colour ≡ setup.now.turn }
+    requires no_pawn { piece.kind ≢ Pawn }
+    ensures { Finds (PieceMove setup.now m piece) setup.now.board m result }
+{
+    let board = setup.board();
+    let (from, to) = (m.from(), m.to());
+    if m.promo().is_none()
+        && (is_empty(board, to) || is_prey(board, piece.colour, to))
+        && reaches(piece, board, from, to)
+    {
+        Some(Change::Carry(piece))
+    } else {
+        None
+    }
+}
+
+// What the pawn of this move is afterwards, if the move promotes just where it has to.
+#[inline]
+fn becomes(side: Colour, m: Move) -> Option<Kind>
+    ensures { MatchOption result ((k : Kind) → ¬ Becomes side m k) (Becomes side m) }
+{
+    let last_rank = match side {
+        Colour::White => 7,
+        Colour::Black => 0,
+    };
+    match m.promo() {
+        Some(kind) => (m.to().rank() == last_rank).then_some(kind),
+        None => (m.to().rank() != last_rank).then_some(Kind::Pawn),
+    }
+}
+
+/// A pawn's step forward.
+#[inline]
+pub(crate) fn pawn_step(setup: &Setup, m: Move, pawn: Piece) -> Option<Change>
+    requires own { pawn.colour ≡ setup.now.turn }
+    requires pawn { pawn.kind ≡ Pawn }
+    ensures { Finds (PawnStep setup.now m pawn) setup.now.board m result }
+{
+    let colour = pawn.colour;
+    let (from, to) = (m.from(), m.to());
+    let Some(kind) = becomes(colour, m) else {
+        return None;
+    };
+    if to.file() == from.file() && is_forward(colour, 1, from, to) && is_empty(setup.board(), to) {
+        Some(Change::Carry(Piece { colour, kind }))
+    } else {
+        None
+    }
+}
+
+/// A pawn's capture of what it attacks.
+#[inline]
+pub(crate) fn pawn_capture(setup: &Setup, m: Move, pawn: Piece) -> Option<Change>
+    requires own { pawn.colour ≡ setup.now.turn }
+    requires pawn { pawn.kind ≡ Pawn }
+    ensures { Finds (PawnCapture setup.now m pawn) setup.now.board m result }
+{
+    let colour = pawn.colour;
+    let board = setup.board();
+    let (from, to) = (m.from(), m.to());
+    let Some(kind) = becomes(colour, m) else {
+        return None;
+    };
+    if is_prey(board, colour, to) && reaches(pawn, board, from, to) {
+        Some(Change::Carry(Piece { colour, kind }))
+    } else {
+        None
+    }
+}
+
+/// A pawn's double step.
+#[inline]
+pub(crate) fn pawn_double(setup: &Setup, m: Move, pawn: Piece) -> Option<Change>
+    requires own { pawn.colour ≡ setup.now.turn }
+    requires pawn { pawn.kind ≡ Pawn }
+    ensures { Finds (PawnDouble setup.now m pawn) setup.now.board m result }
+{
+    let board = setup.board();
+    let (from, to) = (m.from(), m.to());
+    if m.promo().is_none()
+        && to.file() == from.file()
+        && from.rank() == pawn_rank(pawn.colour)
+        && is_forward(pawn.colour, 2, from, to)
+        && is_empty(board, to)
+        && is_empty(board, passed(from, to))
+    {
+        Some(Change::Carry(pawn))
+    } else {
+        None
+    }
+}
+
+// The rank on which the pawns of a side begin.
+#[inline(always)]
+fn pawn_rank(side: Colour) -> u8
+    ensures { result ≡ pawn_rank side }
+{
+    match side {
+        Colour::White => 1,
+        Colour::Black => 6,
+    }
+}
+
+/// The square between two squares of one file.
+#[inline(always)]
+pub(crate) fn passed(from: Square, to: Square) -> Square
+    requires { file to ≡ file from }
+    ensures { (file result ≡ file from) × (rank result ≡ (rank from + rank to) / 2) × (result < 64) }
+{
+    square_at(8 * ((from.rank() + to.rank()) / 2) + from.file())
+}
+
+/// A pawn's capture of the pawn that has just passed it.
+#[inline]
+pub(crate) fn en_passant(setup: &Setup, m: Move, pawn: Piece) -> Option<Change>
+    requires own { pawn.colour ≡ setup.now.turn }
+    requires pawn { pawn.kind ≡ Pawn }
+    ensures { Finds (EnPassant setup.now m pawn) setup.now.board m result }
+{
+    let (from, to) = (m.from(), m.to());
+    match setup.ep() {
+        Some(ep)
+            if ep.index() == to.index()
+                && m.promo().is_none()
+                && reaches(pawn, setup.board(), from, to) => {
+            let gone = square_at(8 * from.rank() + to.file());
+            Some(Change::CarryPast(pawn, gone))
+        }
+        _ => None,
+    }
+}

@@ -1,0 +1,46 @@
+//! What a move does to the board.
+
+ghost use Rattle.std.specs.Prelude.{◌≡◌};
+
+use crate::board::Board;
+use crate::castling::Castling;
+use crate::moves::Move;
+use pb_board::{Kind, Piece, Square};
+
+/// What a move does to the board. A few bytes, so that a move can be judged before a board is copied.
+#[derive(Clone, Copy)]
+pub(crate) enum Change {
+    /// This piece arrives, in the place of what stood there.
+    Carry(Piece),
+    /// This pawn arrives, and the pawn on the square is taken.
+    CarryPast(Piece, Square),
+    /// King and rook castle.
+    Castle(Castling),
+}
+
+impl Change {
+    ghost use Rattle.pb_moves.specs.Change.{Changes, FitsMove};
+    ghost use Rattle.pb_moves.specs.Moved.{IsMove};
+
+    /// The board after the change.
+    #[inline(always)]
+    pub(crate) fn apply(self, board: &Board, m: Move) -> Board
+        requires { FitsMove self m }
+        ensures { Changes self m board.now result }
+    {
+        let mut after = *board;
+        match self {
+            Change::Carry(piece) => {
+                after[m.from().index() as usize] = None;
+                after[m.to().index() as usize] = Some(piece);
+            }
+            Change::CarryPast(pawn, gone) => {
+                after[m.from().index() as usize] = None;
+                after[gone.index() as usize] = None;
+                after[m.to().index() as usize] = Some(pawn);
+            }
+            Change::Castle(castling) => castling.apply(&mut after),
+        }
+        after
+    }
+}

@@ -1,0 +1,39 @@
+//! Attacked squares and check.
+
+ghost use Rattle.std.specs.Prelude.{◌≡◌, ◌<◌, ◌↔◌, IsTrue};
+ghost use Rattle.pb_board.specs.Piece.{opponent};
+ghost use Rattle.pb_board.specs.Position.{IsOnlyKing};
+ghost use Rattle.pb_moves.specs.Attack.{IsAttacked, InCheck, Playable};
+
+use crate::attack::attacked_on;
+use crate::board::{Board, opponent_of};
+use pb_board::{Colour, Setup, Square};
+
+/// Whether some piece of this side attacks the square, whoever is to move.
+pub fn attacked(setup: &Setup, square: Square, by: Colour) -> bool
+    ensures { IsTrue result ↔ IsAttacked setup.now.board by square }
+{
+    attacked_on(setup.board(), square, by)
+}
+
+/// Whether some enemy piece attacks this side's king.
+pub fn in_check(setup: &Setup, side: Colour) -> bool
+    ensures { IsTrue result ↔ InCheck setup.now.board side }
+{
+    king_attacked(setup.board(), side, setup.king(side))
+}
+
+/// Whether the side that isn't to move isn't in check: then the setup can have come about by a legal move.
+pub fn playable(setup: &Setup) -> bool
+    ensures { IsTrue result ↔ Playable setup.now }
+{
+    !in_check(setup, opponent_of(setup.turn()))
+}
+
+/// Whether some enemy piece attacks this side's only king, which stands there.
+pub(crate) fn king_attacked(board: &Board, side: Colour, king: Square) -> bool
+    requires { IsOnlyKing board.now side king }
+    ensures { IsTrue result ↔ InCheck board.now side }
+{
+    attacked_on(board, king, opponent_of(side))
+}

@@ -1,0 +1,164 @@
+//! Legal moves.
+
+ghost use Rattle.std.specs.Prelude.{◌≡◌, ◌≢◌, ◌↔◌, IsTrue, MatchOption};
+ghost use Rattle.pb_board.specs.declared.piece.Kind.TheVariants.{Pawn, King};
+ghost use Rattle.pb_board.specs.declared.piece.Piece.{Piece};
+ghost use Rattle.pb_board.specs.Board.{Board};
+ghost use Rattle.pb_board.specs.Position.{IsOnlyKing, IsSetup};
+ghost use Rattle.pb_moves.specs.Attack.{InCheck};
+ghost use Rattle.pb_moves.specs.Candidate.{HoldsOwn};
+ghost use Rattle.pb_moves.specs.Cases.{CaseOf, Legal};
+ghost use Rattle.pb_moves.specs.Change.{Finds, LeadsTo};
+ghost use Rattle.pb_moves.specs.Outcome.{IsOutcome, IsUnpinned};
+
+use crate::board::Board;
+use crate::cases::{en_passant, pawn_capture, pawn_double, pawn_step, piece_move};
+use crate::castling::castles;
+use crate::change::Change;
+use crate::check::king_attacked;
+use crate::line::line_between;
+use crate::moves::Move;
+use pb_board::{Kind, Piece, Setup, Square};
+
+/// The piece of the side to move that stands there.
+#[inline(always)]
+pub(crate) fn own_piece(setup: &Setup, square: Square) -> Option<Piece>
+    ensures { MatchOption result ((p : Piece) → ¬ HoldsOwn setup.now square p) (HoldsOwn setup.now square) }
+{
+    match setup.at(square) {
+        Some(piece) if piece.colour == setup.turn() => Some(piece),
+        _ => None,
+    }
+}
+
+// What the move of this pawn does.
+fn pawn_change(setup: &Setup, m: Move, pawn: Piece) -> Option<Change>
+    requires own { pawn.colour ≡ setup.now.turn }
+    requires pawn { pawn.kind ≡ Pawn }
+    ensures { Finds (CaseOf setup.now m pawn) setup.now.board m result }
+{
+    if let Some(change) = pawn_step(setup, m, pawn) {
+        return Some(change);
+    }
+    if let Some(change) = pawn_double(setup, m, pawn) {
+        return Some(change);
+    }
+    if let Some(change) = pawn_capture(setup, m, pawn) {
+        return Some(change);
+    }
+    en_passant(setup, m, pawn)
+}
+
+// What the move of this king does.
+fn king_change(setup: &Setup, m: Move, king: Piece) -> Option<Change>
+    requires own { king.colour ≡ setup.now.turn }
+    requires king { king.kind ≡ King }
+    ensures { Finds (CaseOf setup.now m king) setup.now.board m result }
+{
+    if let Some(change) = piece_move(setup, m, king) {
+        return Some(change);
+    }
+    match castles(setup, m, king) {
+        Some(castling) => Some(Change::Castle(castling)),
+        None => None,
+    }
+}
+
+/// What the move of this piece does by one of the cases, if one applies.
+pub(crate) fn change_of(setup: &Setup, m: Move, piece: Piece) -> Option<Change>
+    requires { piece.colour ≡ setup.now.turn }
+    ensures { Finds (CaseOf setup.now m piece) setup.now.board m result }
+{
+    match piece.kind {
+        Kind::Pawn => pawn_change(setup, m, piece),
+        Kind::King => king_change(setup, m, piece),
+        _ => piece_move(setup, m, piece),
+    }
+}
+
+/// Where the king of the side to move stands after the move of this piece.
+#[inline(always)]
+pub(crate) fn king_after(setup: &Setup, m: Move, piece: Piece) -> Square
+    requires { HoldsOwn setup.now m.from piece }
+    ensures { (b : Board) → CaseOf setup.now m piece b → IsOnlyKing b setup.now.turn result }
+{
+    let king = setup.king(setup.turn());
+    if piece.kind == Kind::King {
+        m.to()
+    } else {
+        king
+    }
+}
+
+/// What a legal move of this piece leads to.
+#[derive(Clone, Copy)]
+pub(crate) struct Outcome {
+    /// The board after the move.
+    pub(crate) board: Board,
+    /// The mover's king on it.
+    pub(crate) king: Square,
+}
+
+// What the change leads to, if the mover isn't in check afterwards.
+#[inline(always)]
+fn outcome_of(setup: &Setup, m: Move, piece: Piece, change: Change) -> Option<Outcome>
+    requires own { HoldsOwn setup.now m.from piece }
+    requires leads { LeadsTo (CaseOf setup.now m piece) setup.now.board m change }
+    ensures { MatchOption result (¬ Legal setup.now m) (IsOutcome setup.now m piece) }
+{
+    let side = setup.turn();
+    let board = change.apply(setup.board(), m);
+    let king = king_after(setup, m, piece);
+    if king_attacked(&board, side, king) {
+        None
+    } else {
+        Some(Outcome { board, king })
+    }
+}
+
+/// What the move of this piece leads to, if it is legal: one of the cases applies, and afterwards the mover isn't in
+/// check.
+#[inline(always)]
+pub(crate) fn judge(setup: &Setup, m: Move, piece: Piece) -> Option<Outcome>
+    requires { HoldsOwn setup.now m.from piece }
+    ensures { MatchOption result (¬ Legal setup.now m) (IsOutcome setup.now m piece) }
+{
+    let Some(change) = change_of(setup, m, piece) else {
+        return None;
+    };
+    outcome_of(setup, m, piece, change)
+}
+
+// Whether this piece can't uncover its king: it isn't the king, and stands on no line with it.
+#[inline(always)]
+fn is_unpinned(setup: &Setup, from: Square, piece: Piece) -> bool
+    ensures unpinned { IsTrue result → IsUnpinned setup.now from piece }
+    ensures rules { IsSetup setup.now }
+{
+    let king = setup.king(setup.turn());
+    piece.kind != Kind::King && line_between(from, king).is_none()
+}
+
+/// Whether the move of this piece is legal. Where the mover isn't in check, most moves need no test of check.
+pub(crate) fn is_legal_for(setup: &Setup, m: Move, piece: Piece, checked: bool) -> bool
+    requires own { HoldsOwn setup.now m.from piece }
+    requires checked { ¬ IsTrue checked → ¬ InCheck setup.now.board setup.now.turn }
+    ensures { IsTrue result ↔ Legal setup.now m }
+{
+    match change_of(setup, m, piece) {
+        Some(Change::Carry(_)) if !checked && is_unpinned(setup, m.from(), piece) => true,
+        Some(change) => outcome_of(setup, m, piece, change).is_some(),
+        None => false,
+    }
+}
+
+/// Whether the move is legal: a piece of the side to move makes it by the rules for its kind, and that side isn't in
+/// check afterwards.
+pub fn is_legal(setup: &Setup, m: Move) -> bool
+    ensures { IsTrue result ↔ Legal setup.now m }
+{
+    match own_piece(setup, m.from()) {
+        Some(piece) => judge(setup, m, piece).is_some(),
+        None => false,
+    }
+}

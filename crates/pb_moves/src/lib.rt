@@ -1,0 +1,29 @@
+//! The moves of chess: attacks and check, which moves are legal, and the setup and the record after them.
+#![tactic(auto)]
+
+mod attack;
+mod board;
+mod cases;
+mod castling;
+mod change;
+mod check;
+mod clocks;
+mod direction;
+mod knight;
+pub mod laws;
+mod legal;
+mod line;
+mod listing;
+mod moves;
+mod playing;
+mod spelling;
+mod text;
+
+pub use check::{attacked, in_check, playable};
+pub use clocks::advance;
+pub use legal::is_legal;
+pub use listing::legal_moves;
+pub use moves::Move;
+pub use playing::play;
+pub use spelling::read_move;
+pub use text::MoveText;

@@ -1,0 +1,127 @@
+//! The list of legal moves.
+
+ghost use Rattle.std.specs.Prelude.{◌≡◌, ◌+◌, ◌*◌, ◌<◌, ◌↔◌, IsTrue, IfOk, OnOk};
+ghost use Rattle.std.specs.Option.{ForSome};
+ghost use Rattle.pb_moves.specs.Attack.{InCheck};
+ghost use Rattle.pb_moves.specs.Moved.{IsPromotion};
+ghost use Rattle.pb_moves.specs.Listing.{promotion_place, ListsLegal};
+ghost use Rattle.pb_moves.specs.Candidate.{HoldsOwn, MayGo, MayPromote, ListsBelow};
+
+use crate::board::square_at;
+use crate::check::in_check;
+use crate::legal::{is_legal_for, own_piece};
+use crate::moves::Move;
+use pb_board::{Kind, Piece, Setup, Square};
+use std::alloc::{AllocError, Global};
+
+/// All legal moves of the setup, each once, by the square that they leave, then the square that they reach, both
+/// from a1 to h8 by index, then the promotion: knight, bishop, rook, queen.
+pub fn legal_moves(alloc: Global, setup: &Setup) -> Result<Vec<Move>, AllocError>
+    ensures { IfOk result (λ v. ListsLegal setup.now v.items) }
+{
+    let checked = in_check(setup, setup.turn());
+    let mut moves = Vec::new(alloc);
+    for index in 0..64u8 {
+        push_from(setup, checked, square_at(index), &mut moves)?;
+    }
+    Ok(moves)
+}
+
+// Adds the legal moves from one square.
+fn push_from(
+    setup: &Setup,
+    checked: bool,
+    from: Square,
+    moves: &mut Vec<Move>,
+) -> Result<(), AllocError>
+    requires checked { ¬ IsTrue checked → ¬ InCheck setup.now.board setup.now.turn }
+    requires before { ListsBelow setup.now moves.old.items (320 * from) }
+    ensures { OnOk result (ListsBelow setup.now moves.new.items (320 * from + 320)) }
+{
+    let Some(piece) = own_piece(setup, from) else {
+        return Ok(());
+    };
+    for index in 0..64u8 {
+        push_to(setup, checked, piece, from, square_at(index), moves)?;
+    }
+    Ok(())
+}
+
+// Whether a piece of this kind can go so on some board.
+fn may_go(kind: Kind, from: Square, to: Square) -> bool
+    ensures on_board { to < 64 }
+    ensures goes { IsTrue result ↔ MayGo kind from to }
+{
+    let _index = to.index();
+    let across = from.file().abs_diff(to.file());
+    let along = from.rank().abs_diff(to.rank());
+    match kind {
+        Kind::Pawn => across <= 1 && along <= 2,
+        Kind::Knight => across == 1 && along == 2 || across == 2 && along == 1,
+        Kind::Bishop => across == along,
+        Kind::Rook => across == 0 || along == 0,
+        Kind::Queen => across == along || across == 0 || along == 0,
+        Kind::King => across <= 2 && along <= 1,
+    }
+}
+
+// Whether a pawn goes to the first or last rank.
+fn may_promote(kind: Kind, to: Square) -> bool
+    ensures { IsTrue result ↔ MayPromote kind to }
+{
+    kind == Kind::Pawn && (to.rank() == 0 || to.rank() == 7)
+}
+
+// Adds the legal moves of this piece from one square to another.
+fn push_to(
+    setup: &Setup,
+    checked: bool,
+    piece: Piece,
+    from: Square,
+    to: Square,
+    moves: &mut Vec<Move>,
+) -> Result<(), AllocError>
+    requires checked { ¬ IsTrue checked → ¬ InCheck setup.now.board setup.now.turn }
+    requires own { HoldsOwn setup.now from piece }
+    requires before { ListsBelow setup.now moves.old.items (320 * from + 5 * to) }
+    ensures { OnOk result (ListsBelow setup.now moves.new.items (320 * from + 5 * to + 5)) }
+{
+    if !may_go(piece.kind, from, to) {
+        return Ok(());
+    }
+    push_legal(setup, checked, piece, from, to, None, moves)?;
+    if !may_promote(piece.kind, to) {
+        return Ok(());
+    }
+    push_legal(setup, checked, piece, from, to, Some(Kind::Knight), moves)?;
+    push_legal(setup, checked, piece, from, to, Some(Kind::Bishop), moves)?;
+    push_legal(setup, checked, piece, from, to, Some(Kind::Rook), moves)?;
+    push_legal(setup, checked, piece, from, to, Some(Kind::Queen), moves)?;
+    Ok(())
+}
+
+// Adds the move between these squares with this promotion, if it is legal.
+fn push_legal(
+    setup: &Setup,
+    checked: bool,
+    piece: Piece,
+    from: Square,
+    to: Square,
+    promotion: Option<Kind>,
+    moves: &mut Vec<Move>,
+) -> Result<(), AllocError>
+    requires checked { ¬ IsTrue checked → ¬ InCheck setup.now.board setup.now.turn }
+    requires own { HoldsOwn setup.now from piece }
+    requires promotion { ForSome promotion IsPromotion }
+    requires before { ListsBelow setup.now moves.old.items (320 * from + 5 * to + promotion_place promotion) }
+    ensures { OnOk result (ListsBelow setup.now moves.new.items (320 * from + 5 * to + promotion_place promotion + 1)) }
+{
+    let Some(m) = Move::new(from, to, promotion) else {
+        return Ok(());
+    };
+    if !is_legal_for(setup, m, piece, checked) {
+        return Ok(());
+    }
+    moves.push(m)?;
+    Ok(())
+}

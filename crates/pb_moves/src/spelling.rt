@@ -1,0 +1,75 @@
+//! Reading the spelling of a move.
+
+ghost use Rattle.std.specs.Prelude.{◌≡◌, ◌≢◌, ℕ, ◌<◌, [], ◌∷◌, ◌++◌, MatchOption};
+ghost use Rattle.std.specs.Option.{ForSome};
+ghost use Rattle.pb_board.specs.declared.piece.Kind.{Kind};
+ghost use Rattle.pb_board.specs.Text.{kind_letter, square_text};
+ghost use Rattle.pb_moves.specs.Moved.{Moved, IsMove, IsPromotion};
+ghost use Rattle.pb_moves.specs.Spelling.{spelling};
+
+use crate::moves::Move;
+use pb_board::{Kind, Square};
+
+// The square of a file letter and a rank digit.
+fn read_square(letter: u8, digit: u8) -> Option<Square>
+    ensures { MatchOption result
+        ((q : ℕ) → q < 64 → letter ∷ digit ∷ [] ≢ square_text q)
+        (λ q. (q < 64) × (letter ∷ digit ∷ [] ≡ square_text q)) }
+{
+    if matches!(letter, b'a'..=b'h') && matches!(digit, b'1'..=b'8') {
+        Square::new(letter - b'a', digit - b'1')
+    } else {
+        None
+    }
+}
+
+// The kind that a promotion's letter names.
+fn read_promotion(byte: u8) -> Option<Kind>
+    ensures { MatchOption result
+        ((kind : Kind) → IsPromotion kind → kind_letter kind ≢ byte)
+        (λ kind. IsPromotion kind × (kind_letter kind ≡ byte)) }
+{
+    match byte {
+        b'n' => Some(Kind::Knight),
+        b'b' => Some(Kind::Bishop),
+        b'r' => Some(Kind::Rook),
+        b'q' => Some(Kind::Queen),
+        _ => None,
+    }
+}
+
+// The move of two squares and a promotion, from the squares' bytes.
+fn read_parts(bytes: [u8; 4], promotion: Option<Kind>) -> Option<Move>
+    requires { ForSome promotion IsPromotion }
+    ensures { MatchOption result
+        ((m : Moved) → IsMove m → m.promo ≡ promotion → bytes ≢ square_text m.from ++ square_text m.to)
+        (λ m. IsMove m × (m.promo ≡ promotion) × (bytes ≡ square_text m.from ++ square_text m.to)) }
+{
+    let [from_file, from_rank, to_file, to_rank] = bytes;
+    let Some(from) = read_square(from_file, from_rank) else {
+        return None;
+    };
+    let Some(to) = read_square(to_file, to_rank) else {
+        return None;
+    };
+    Move::new(from, to, promotion)
+}
+
+/// The move that the bytes spell: two squares and, for a promotion, one of the small letters n, b, r and q, with
+/// nothing before, between or after. None exactly where they spell no move.
+pub fn read_move(text: &[u8]) -> Option<Move>
+    ensures { MatchOption result
+        ((m : Moved) → IsMove m → text.now ≢ spelling m)
+        (λ m. IsMove m × (text.now ≡ spelling m)) }
+{
+    match text {
+        [a, b, c, d] => read_parts([*a, *b, *c, *d], None),
+        [a, b, c, d, e] => {
+            let Some(promotion) = read_promotion(*e) else {
+                return None;
+            };
+            read_parts([*a, *b, *c, *d], Some(promotion))
+        }
+        _ => None,
+    }
+}
