@@ -1,0 +1,4 @@
+pub mod Runs
+pub mod Lexing
+pub mod TokenLists
+pub mod Bad

@@ -1,0 +1,7 @@
+pub mod Run
+pub mod Token
+pub mod Lexeme
+pub mod Operation
+pub mod Epd
+pub mod Refused
+pub mod Laws
