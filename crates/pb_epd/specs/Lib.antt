@@ -3,5 +3,5 @@ pub mod Token
 pub mod Lexeme
 pub mod Operation
 pub mod Epd
-pub mod Refused
+pub mod Refusal
 pub mod Laws

@@ -1,10 +1,13 @@
-//! EPD records: the tokens of a line, operations, records, and the reader and the writer of their texts.
+//! EPD records: a setup and operations, and the reader and the writer of their texts (PGN Standard 16.2).
 #![tactic(auto)]
 
-mod error;
+mod epd;
 mod operand;
+mod operation;
+mod refusal;
 mod run;
 mod token;
 
-pub use error::{EpdError, PutError};
+pub use epd::Epd;
 pub use operand::{Operand, OperandBytes};
+pub use refusal::{EpdError, PutError};

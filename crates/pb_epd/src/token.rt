@@ -7,7 +7,7 @@ ghost use Rattle.pb_epd.specs.Lexeme.{token_of, Begins, IsStep};
 use crate::run::{space_run, text_run, word_run};
 
 /// The most bytes of a word or a text.
-const LONGEST: usize = 255;
+pub const LONGEST: usize = 255;
 
 /// A token as it stands in a line.
 #[derive(Clone, Copy)]
