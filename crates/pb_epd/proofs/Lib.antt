@@ -5,3 +5,4 @@ pub mod Bad
 pub mod Lists
 pub mod Maps
 pub mod Puts
+pub mod Writing

@@ -1,7 +1,7 @@
 //! EPD records.
 
 ghost use Rattle.std.specs.Prelude.{◌≡◌, ◌↔◌, ◌⊎◌, [], List, length, Contains, IfErr, OnOk, OnErr, MatchOption};
-ghost use Rattle.pb_epd.specs.Epd.{EpdRecord, IsEpd};
+ghost use Rattle.pb_epd.specs.Epd.{EpdRecord, IsEpd, operations_of};
 ghost use Rattle.pb_epd.specs.Operation.{Operation, IsOperation};
 ghost use Rattle.pb_epd.specs.Refusal.{IsFirstDuePut};
 ghost use Rattle.pb_epd.specs.declared.operand.Operand.{Operand};
@@ -51,6 +51,13 @@ impl Epd {
         ensures rules { IsEpd self.now }
     {
         self.setup
+    }
+
+    /// The operations, by their opcodes.
+    pub(crate) fn operations(&self) -> &BTreeMap<Vec<u8>, Vec<Operand>>
+        ensures { operations_of result.now.entries ≡ self.now.operations }
+    {
+        &self.operations
     }
 
     /// How many operations there are.

@@ -7,7 +7,9 @@ mod operation;
 mod refusal;
 mod run;
 mod token;
+mod write;
 
 pub use epd::Epd;
 pub use operand::{Operand, OperandBytes};
 pub use refusal::{EpdError, PutError};
+pub use write::write_epd;
