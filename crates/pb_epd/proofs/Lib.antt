@@ -6,3 +6,4 @@ pub mod Lists
 pub mod Maps
 pub mod Puts
 pub mod Writing
+pub mod Reader

@@ -3,6 +3,7 @@ use Rattle.std.proofs.Common.{◌≡◌, ◌≢◌, ℕ, zero, suc, ◌+◌, ◌
 use Rattle.std.proofs.lemmas.List.{append_assoc, append-nil, length-append, length-replicate, replicate-append-replicate, replicate_more}
 use Rattle.pb_epd.specs.Token.{Token, word, text, end_mark, IsToken, IsWordByte, IsWholeBefore, BeginsWithWordByte, BeginsUnspaced, IsOperandToken, MayFollow, TokensAfter, Tokens, last_token, token_text}
 use Rattle.pb_epd.specs.Lexeme.{Begins, Steps, IsStuck}
+use Rattle.pb_epd.specs.Reading.{Follow}
 use Rattle.pb_epd.proofs.Lexing.{spaces_alone, steps_one, stuck_steps, begins_unspaced, no_word_end}
 
 no_word_space : ¬ IsWordByte 32
@@ -53,12 +54,7 @@ pub steps_tokens : (before t : Token) (ts : List Token) (bytes rest : List ℕ) 
 steps_tokens before t ts bytes rest h k = (h.spaces, rest, h.begins.is_token, h.follows, h.cut ∙ ap (λ w. replicate h.spaces 32 ++ w) h.begins.stands, k)
 
 -- where a token comes first, it is the first of the list
-pub record First (t : Token) (ts : List Token) (rest : List ℕ) : Type 0 where
-  pub others : List Token
-  pub is : ts ≡ t ∷ others
-  pub after : TokensAfter t others rest
-
-pub found_first : (before t : Token) (ts : List Token) (bytes rest : List ℕ) → TokensAfter before ts bytes → Steps before bytes t rest → First t ts rest
+pub found_first : (before t : Token) (ts : List Token) (bytes rest : List ℕ) → TokensAfter before ts bytes → Steps before bytes t rest → Follow t ts rest
 found_first before t [] bytes rest h k = absurd (spaces_alone h.0 k.spaces k.back (begins_unspaced k.back t rest k.begins) (sym h.1 ∙ k.cut))
 found_first before t (u ∷ ts) bytes rest h k =
     let o = steps_one before bytes u t h.1 rest (tokens_steps before u ts bytes h) k in

@@ -4,4 +4,5 @@ pub mod Lexeme
 pub mod Operation
 pub mod Epd
 pub mod Refusal
+pub mod Reading
 pub mod Laws

@@ -1,9 +1,9 @@
 //! EPD records.
 
-ghost use Rattle.std.specs.Prelude.{◌≡◌, ◌↔◌, ◌⊎◌, [], List, length, Contains, IfErr, OnOk, OnErr, MatchOption};
+ghost use Rattle.std.specs.Prelude.{◌≡◌, ◌≤◌, ◌↔◌, ◌⊎◌, [], List, length, Contains, IfErr, OnOk, OnErr, MatchOption};
 ghost use Rattle.pb_epd.specs.Epd.{EpdRecord, IsEpd, operations_of};
 ghost use Rattle.pb_epd.specs.Operation.{Operation, IsOperation};
-ghost use Rattle.pb_epd.specs.Refusal.{IsFirstDuePut};
+ghost use Rattle.pb_epd.specs.Refusal.{IsFirstDuePut, put_order};
 ghost use Rattle.pb_epd.specs.declared.operand.Operand.{Operand};
 
 use crate::operand::Operand;
@@ -35,7 +35,8 @@ impl Model for Epd {
 impl Epd {
     /// A record without operations.
     pub fn new(alloc: Global, setup: Setup) -> Epd
-        ensures { result ≡ record { setup = setup; operations = [] } }
+        ensures value { result ≡ record { setup = setup; operations = [] } }
+        ensures rules { IsEpd result }
     {
         let _turn = setup.turn();
         Epd {
@@ -82,6 +83,7 @@ impl Epd {
     /// Adds an operation. The first refusal that is due is answered, of the opcode, of an operand, of an opcode that the
     /// record has, and at last of memory. The record then stays as it was, and the operands are dropped.
     pub fn put(&mut self, opcode: &[u8], operands: Vec<Operand>) -> Result<(), PutError>
+        ensures rules { IsEpd self.new }
         ensures setup { self.new.setup ≡ self.old.setup }
         ensures added { OnOk result ((o : Operation) → Contains self.new.operations o ↔ (Contains self.old.operations o ⊎ (o ≡ (opcode.now, operands.items)))) }
         ensures fresh { OnOk result (IsOperation (opcode.now, operands.items) × ((old : List Operand) → ¬ Contains self.old.operations (opcode.now, old))) }
@@ -94,6 +96,20 @@ impl Epd {
         if let Some(n) = first_unlawful(operands.as_slice()) {
             return Err(PutError::Operand(n));
         }
+        self.add(opcode, operands)
+    }
+
+    /// Adds a lawful operation, if the record does not have its opcode and memory suffices.
+    pub(crate) fn add(&mut self, opcode: &[u8], operands: Vec<Operand>) -> Result<(), PutError>
+        requires { IsOperation (opcode.now, operands.items) }
+        ensures rules { IsEpd self.new }
+        ensures setup { self.new.setup ≡ self.old.setup }
+        ensures added { OnOk result ((o : Operation) → Contains self.new.operations o ↔ (Contains self.old.operations o ⊎ (o ≡ (opcode.now, operands.items)))) }
+        ensures fresh { OnOk result ((old : List Operand) → ¬ Contains self.old.operations (opcode.now, old)) }
+        ensures same { OnErr result (self.new ≡ self.old) }
+        ensures refused { IfErr result (λ x. IsFirstDuePut x self.old opcode.now operands.items) }
+        ensures kind { IfErr result (λ x. 3 ≤ put_order x) }
+    {
         if self.operations.contains_key(opcode) {
             return Err(PutError::Repeated);
         }

@@ -4,6 +4,7 @@
 mod epd;
 mod operand;
 mod operation;
+mod read;
 mod refusal;
 mod run;
 mod token;
@@ -11,5 +12,6 @@ mod write;
 
 pub use epd::Epd;
 pub use operand::{Operand, OperandBytes};
+pub use read::read_epd;
 pub use refusal::{EpdError, PutError};
 pub use write::write_epd;

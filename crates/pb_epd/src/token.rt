@@ -30,7 +30,7 @@ pub enum Step<'a> {
 
 impl Lexeme<'_> {
     /// Whether the token is a word or a text.
-    fn is_operand(&self) -> bool
+    pub fn is_operand(&self) -> bool
         ensures { IsTrue result ↔ IsOperandToken (token_of self.now) }
     {
         !matches!(self, Lexeme::End)
