@@ -7,3 +7,4 @@ pub mod Maps
 pub mod Puts
 pub mod Writing
 pub mod Reader
+pub mod Groups

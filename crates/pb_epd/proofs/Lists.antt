@@ -1,6 +1,7 @@
 -- What a list contains, and what holds of its pairs.
-use Rattle.std.proofs.Common.{◌≡◌, ℕ, zero, suc, ◌<◌, ◌⊎◌, List, [], ◌∷◌, ◌++◌, length, get_or, refl, subst, inl, inr, arith}
-use Rattle.std.specs.Prelude.{All, AllPairs, Contains}
+use Rattle.std.proofs.Common.{◌≡◌, ℕ, zero, suc, ◌<◌, ◌⊎◌, List, [], ◌∷◌, ◌++◌, length, get_or, refl, ap, ◌∙◌, subst, inl, inr, arith}
+use Rattle.std.specs.Prelude.{All, AllPairs, Contains, map}
+use Rattle.std.proofs.lemmas.List.{length-append}
 use Rattle.std.proofs.lemmas.List.Elements.{Contains-get_or, Contains-append_right, All-contains}
 
 module _ {A : Type 0} where
@@ -41,3 +42,49 @@ module _ {A : Type 0} where
 
   pub pairs_head : (R : A → A → Type 0) (x : A) (xs : List A) → AllPairs R (x ∷ xs) → All (R x) xs
   pairs_head R x xs h k d lt = h 0 (suc k) d (omega arith) (omega (arith, lt))
+
+-- what a mapped list contains, and where it is cut
+module _ {A B : Type 0} (g : A → B) where
+  pub contains_map : (xs : List A) (y : A) → Contains xs y → Contains (map g xs) (g y)
+  contains_map [] y h = absurd (contains_none y h)
+  contains_map (x ∷ xs) y h =
+      elim (contains_cases x xs y h) [
+        | inl same ↦ subst (λ z. Contains (map g (x ∷ xs)) (g z)) same (contains_head (g x) (map g xs))
+        | inr there ↦ contains_there (g x) (map g xs) (g y) (contains_map xs y there)
+      ]
+
+  pub contains_unmap : (xs : List A) (z : B) → Contains (map g xs) z → (y : A) × Contains xs y × (g y ≡ z)
+  contains_unmap [] z h = absurd (contains_none z h)
+  contains_unmap (x ∷ xs) z h =
+      elim (contains_cases (g x) (map g xs) z h) [
+        | inl same ↦ (x, contains_head x xs, same)
+        | inr there ↦ let m = contains_unmap xs z there in (m.0, contains_there x xs m.0 m.1, m.2)
+      ]
+
+  pub record SplitMap (xs : List A) (front : List B) (z : B) : Type 0 where
+    pub before : List A
+    pub at : A
+    pub after : List A
+    pub are : xs ≡ before ++ at ∷ after
+    pub front_is : map g before ≡ front
+    pub at_is : g at ≡ z
+
+  pub split_map : (xs : List A) (front : List B) (z : B) (back : List B) → map g xs ≡ front ++ z ∷ back → SplitMap xs front z
+  split_map [] front z back e = absurd (omega (arith, ap length e, length-append front (z ∷ back)))
+  split_map (x ∷ xs) [] z back e =
+      let head_is : g x ≡ z = cc in
+      record { before = []; at = x; after = xs; are = refl; front_is = refl; at_is = head_is }
+  split_map (x ∷ xs) (y ∷ front) z back e =
+      let head : g x ≡ y = cc in
+      let tails : map g xs ≡ front ++ z ∷ back = cc in
+      let s = split_map xs front z back tails in
+      record { before = x ∷ s.before; at = s.at; after = s.after; are = ap (λ w. x ∷ w) s.are; front_is = ap (λ w. g x ∷ w) s.front_is ∙ ap (λ w. w ∷ front) head; at_is = s.at_is }
+
+module _ {A : Type 0} (R : A → A → Type 0) where
+  pub pairs_split : (front : List A) (x : A) (back : List A) (y : A) → AllPairs R (front ++ x ∷ back) → Contains front y → R y x
+  pairs_split [] x back y h k = absurd (contains_none y k)
+  pairs_split (w ∷ front) x back y h k =
+      elim (contains_cases w front y k) [
+        | inl same ↦ subst (λ z. R z x) same (all_middle (R w) front x back (pairs_head R w (front ++ x ∷ back) h))
+        | inr there ↦ pairs_split front x back y (pairs_tail R w (front ++ x ∷ back) h) there
+      ]

@@ -12,7 +12,7 @@ use Rattle.pb_epd.specs.declared.token.Step.TheVariants as step
 use Rattle.pb_epd.specs.declared.read.Fields.{Fields}
 use Rattle.pb_epd.specs.Token.{Token, word, text, end_mark, IsToken, IsOperandToken, Tokens, TokensAfter}
 use Rattle.pb_epd.specs.Lexeme.{Steps, IsStep}
-use Rattle.pb_epd.specs.Operation.{Operation, IsOpcode, IsOperand, IsOperation, operand_token, operation_tokens}
+use Rattle.pb_epd.specs.Operation.{Operation, IsOperand, operand_token, operation_tokens}
 use Rattle.pb_epd.specs.Refusal.{IsNamed}
 use Rattle.pb_epd.specs.Reading.{Follow, FourFollow, AreOperands, EndsWithOperands, BeginsUnnamed, BeginsWithOperation}
 use Rattle.pb_epd.proofs.TokenLists.{found_first, stuck_none, done_only}
@@ -92,22 +92,24 @@ operands_are (o ∷ operands) = All-cons IsOperandToken (operand_token o) (map o
 pub record OperandsSoFar (ts : List Token) (operands : List Operand) (before : Token) (rest : List ℕ) : Type 0 where
   pub others : List Token
   pub is : ts ≡ map operand_token operands ++ others
-  pub lawful : All IsOperand operands
   pub after : TokensAfter before others rest
 
 pub record InOperands (start : Token) (bytes : List ℕ) (operands : List Operand) (before : Token) (rest : List ℕ) : Type 0 where
   pub room : length rest ≤ length bytes
+  pub lawful : All IsOperand operands
   pub tokens : (ts : List Token) → TokensAfter start ts bytes → OperandsSoFar ts operands before rest
 
 pub operands_start : (start : Token) (bytes : List ℕ) → InOperands start bytes [] start bytes
 operands_start start bytes = record {
   room = omega arith;
-  tokens = λ ts h. record { others = ts; is = refl; lawful = All-nil IsOperand; after = h };
+  lawful = All-nil IsOperand;
+  tokens = λ ts h. record { others = ts; is = refl; after = h };
 }
 
 pub operands_more : (start : Token) (bytes : List ℕ) (operands : List Operand) (before : Token) (rest : List ℕ) (t : Token) (o : Operand) (after : List ℕ) (new : List Operand) → InOperands start bytes operands before rest → Steps before rest t after → t ≡ operand_token o → new ≡ operands ++ o ∷ [] → InOperands start bytes new t after
 operands_more start bytes operands before rest t o after new h k is made = record {
   room = omega (arith, h.room, steps_shorter before rest t after k);
+  lawful = subst (All IsOperand) (sym made) (All-push IsOperand operands o h.lawful (subst IsToken is k.begins.is_token));
   tokens = λ ts tokens.
       let p = h.tokens ts tokens in
       let f = found_first before t p.others rest after p.after k in
@@ -116,18 +118,18 @@ operands_more start bytes operands before rest t o after new h k is made = recor
         is =
             p.is ∙ ap (λ w. map operand_token operands ++ w) (f.is ∙ ap (λ x. x ∷ f.others) is) ∙ sym (append_assoc (map operand_token operands) (operand_token o ∷ []) f.others)
             ∙ ap (λ w. w ++ f.others) (sym (map_push operand_token operands o)) ∙ ap (λ (w : List Operand). map operand_token w ++ f.others) (sym made);
-        lawful = subst (All IsOperand) (sym made) (All-push IsOperand operands o p.lawful (subst IsToken is k.begins.is_token));
         after = f.after;
       };
 }
 
-pub operands_end : (start : Token) (bytes : List ℕ) (operands : List Operand) (before : Token) (rest after : List ℕ) → InOperands start bytes operands before rest → Steps before rest end_mark after → (length after < length bytes) × ((ts : List Token) → TokensAfter start ts bytes → EndsWithOperands ts operands after)
+pub operands_end : (start : Token) (bytes : List ℕ) (operands : List Operand) (before : Token) (rest after : List ℕ) → InOperands start bytes operands before rest → Steps before rest end_mark after → (length after < length bytes) × All IsOperand operands × ((ts : List Token) → TokensAfter start ts bytes → EndsWithOperands ts operands after)
 operands_end start bytes operands before rest after h k = (
   omega (arith, h.room, steps_shorter before rest end_mark after k),
+  h.lawful,
   λ ts tokens.
       let p = h.tokens ts tokens in
       let f = found_first before end_mark p.others rest after p.after k in
-      record { others = f.others; is = p.is ∙ ap (λ w. map operand_token operands ++ w) f.is; lawful = p.lawful; after = f.after },
+      record { others = f.others; is = p.is ∙ ap (λ w. map operand_token operands ++ w) f.is; after = f.after },
 )
 
 pub operands_alone : (start : Token) (bytes : List ℕ) (operands : List Operand) (before : Token) (rest : List ℕ) → InOperands start bytes operands before rest → ((us : List Token) → TokensAfter before us rest → us ≡ []) → (ts : List Token) → TokensAfter start ts bytes → AreOperands ts
@@ -167,14 +169,13 @@ module _ (before : Token) (bytes : List ℕ) (t : Token) (rest : List ℕ) (firs
           unnamed = unnamed (map operand_token operands);
         }
 
-    pub taken_operation : (opcode : List ℕ) → t ≡ word opcode → IsOpcode opcode → (ts : List Token) → TokensAfter before ts bytes → BeginsWithOperation ts (opcode, operands) after
-    taken_operation opcode is named ts h =
+    pub taken_operation : (opcode : List ℕ) → t ≡ word opcode → (ts : List Token) → TokensAfter before ts bytes → BeginsWithOperation ts (opcode, operands) after
+    taken_operation opcode is ts h =
         let f = found_first before t ts bytes rest h first in
         let e = more f.others f.after in
         record {
           others = e.others;
           is = f.is ∙ ap (λ w. t ∷ w) e.is ∙ ap (λ x. x ∷ (map operand_token operands ++ end_mark ∷ e.others)) is
           ∙ ap (λ w. word opcode ∷ w) (sym (append_assoc (map operand_token operands) (end_mark ∷ []) e.others));
-          lawful = record { opcode = named; operands = e.lawful };
           after = e.after;
         }

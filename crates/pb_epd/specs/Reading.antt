@@ -27,11 +27,10 @@ pub record FourFollow (f : Fields) (ts : List Token) : Type 0 where
 abbrev pub AreOperands : List Token → Type 0
 AreOperands ts = All IsOperandToken ts
 
--- lawful operands, an end, and others that follow it
+-- these operands, an end, and others that follow it
 pub record EndsWithOperands (ts : List Token) (operands : List Operand) (rest : List ℕ) : Type 0 where
   pub others : List Token
   pub is : ts ≡ map operand_token operands ++ end_mark ∷ others
-  pub lawful : All IsOperand operands
   pub after : TokensAfter end_mark others rest
 
 -- an ended operation that does not begin with an opcode
@@ -42,11 +41,10 @@ pub record BeginsUnnamed (ts : List Token) : Type 0 where
   pub operands : AreOperands group
   pub unnamed : ¬ IsNamed group
 
--- a lawful operation, and others that follow its end
+-- this operation, and others that follow its end
 pub record BeginsWithOperation (ts : List Token) (o : Operation) (rest : List ℕ) : Type 0 where
   pub others : List Token
   pub is : ts ≡ operation_tokens o ++ others
-  pub lawful : IsOperation o
   pub after : TokensAfter end_mark others rest
 
 abbrev pub IsTaken : Taken → List Token → Type 0
@@ -55,12 +53,12 @@ IsTaken taken.Unended ts = (ts ≢ []) × AreOperands ts
 IsTaken taken.Unnamed ts = BeginsUnnamed ts
 IsTaken (taken.Operation opcode operands rest) ts = BeginsWithOperation ts (opcode.now, operands.items) rest.now
 
--- an operation takes some bytes
-abbrev pub IsShorter : Taken → List ℕ → Type 0
-IsShorter taken.Done bytes = Unit {0}
-IsShorter taken.Unended bytes = Unit {0}
-IsShorter taken.Unnamed bytes = Unit {0}
-IsShorter (taken.Operation opcode operands rest) bytes = length rest.now < length bytes
+-- an operation is lawful and takes some bytes
+abbrev pub IsSound : Taken → List ℕ → Type 0
+IsSound taken.Done bytes = Unit {0}
+IsSound taken.Unended bytes = Unit {0}
+IsSound taken.Unnamed bytes = Unit {0}
+IsSound (taken.Operation opcode operands rest) bytes = (length rest.now < length bytes) × IsOperation (opcode.now, operands.items)
 
 -- the tokens are lawful operations with distinct opcodes that are, as a map, these
 pub record AreOperations (ts : List Token) (map : List Operation) : Type 0 where

@@ -1,12 +1,12 @@
 //! Reading an EPD record.
 
-ghost use Rattle.std.specs.Prelude.{◌≡◌, ◌∷◌, ◌++◌, ◌<◌, ◌≤◌, [], ℕ, List, length, map, IfOk, IfErr, MatchOption, MatchResult};
+ghost use Rattle.std.specs.Prelude.{◌≡◌, ◌∷◌, ◌++◌, ◌<◌, ◌≤◌, [], ℕ, List, All, length, map, IfOk, IfErr, MatchOption, MatchResult};
 ghost use Rattle.pb_epd.specs.Token.{Token, word, end_mark, Tokens, TokensAfter, IsOperandToken};
 ghost use Rattle.pb_epd.specs.Lexeme.{token_of};
 ghost use Rattle.pb_epd.specs.Epd.{EpdRecord, IsEpd, EpdText};
-ghost use Rattle.pb_epd.specs.Operation.{IsOpcode, operand_token};
+ghost use Rattle.pb_epd.specs.Operation.{IsOpcode, IsOperand, operand_token};
 ghost use Rattle.pb_epd.specs.Refusal.{IsNamed, IsFirstDueEpd};
-ghost use Rattle.pb_epd.specs.Reading.{Follow, FourFollow, EndsWithOperands, AreOperands, IsTaken, IsShorter, AreOperations, IsRefused};
+ghost use Rattle.pb_epd.specs.Reading.{Follow, FourFollow, EndsWithOperands, AreOperands, IsTaken, IsSound, AreOperations, IsRefused};
 ghost use Rattle.pb_epd.specs.declared.refusal.EpdError.TheVariants as epd;
 
 use crate::epd::Epd;
@@ -95,7 +95,7 @@ fn read_operands<'a>(
 ) -> Result<Option<(Vec<Operand>, &'a [u8])>, AllocError>
     ensures { IfOk result (λ r. MatchOption r
         ((ts : List Token) → TokensAfter (token_of before.entry) ts text.now → AreOperands ts)
-        (λ cut. (length cut.1.now < length text.now) × ((ts : List Token) → TokensAfter (token_of before.entry) ts text.now → EndsWithOperands ts cut.0.items cut.1.now))) }
+        (λ cut. (length cut.1.now < length text.now) × All IsOperand cut.0.items × ((ts : List Token) → TokensAfter (token_of before.entry) ts text.now → EndsWithOperands ts cut.0.items cut.1.now))) }
 {
     let mut operands = Vec::new(alloc);
     let mut before = before;
@@ -131,7 +131,7 @@ fn next_operation<'a>(
     text: &'a [u8],
 ) -> Result<Taken<'a>, AllocError>
     ensures taken { IfOk result (λ r. (ts : List Token) → TokensAfter (token_of before.entry) ts text.now → IsTaken r ts) }
-    ensures shorter { IfOk result (λ r. IsShorter r text.now) }
+    ensures sound { IfOk result (λ r. IsSound r text.now) }
 {
     let Step::Found(first, rest) = next_token(before, text) else {
         return Ok(Taken::Done);

@@ -38,3 +38,6 @@ pub returns-clause-refused : goal.returns-clause-refused
 returns-clause-refused c =
     let none = no_key c.args.opcode.now c.self.inside.operations.entries (sym c.if-contains_key.ensures) in
     rw (← c.self.view_is) (memory_first _ _ _ c.requires.opcode c.requires.operands (find_none _ _ none))
+
+pub returns-in-Ok-insert-clause-rules : goal.returns-in-Ok-insert-clause-rules
+returns-in-Ok-insert-clause-rules c = invariant_of-self c
