@@ -8,3 +8,4 @@ pub mod Puts
 pub mod Writing
 pub mod Reader
 pub mod Groups
+pub mod Texts
