@@ -9,3 +9,5 @@ pub mod Writing
 pub mod Reader
 pub mod Groups
 pub mod Texts
+pub mod Order
+pub mod Forms

@@ -61,6 +61,21 @@ module _ {A B : Type 0} (g : A → B) where
         | inr there ↦ let m = contains_unmap xs z there in (m.0, contains_there x xs m.0 m.1, m.2)
       ]
 
+  pub map_injective : ((x y : A) → g x ≡ g y → x ≡ y) → (xs ys : List A) → map g xs ≡ map g ys → xs ≡ ys
+  map_injective one [] [] e = refl
+  map_injective one [] (y ∷ ys) e = absurd cc
+  map_injective one (x ∷ xs) [] e = absurd cc
+  map_injective one (x ∷ xs) (y ∷ ys) e =
+      let head : g x ≡ g y = cc in
+      let tails : map g xs ≡ map g ys = cc in
+      ap (λ w. w ∷ xs) (one x y head) ∙ ap (λ w. y ∷ w) (map_injective one xs ys tails)
+
+  cons_same : (x : A) (xs ys : List A) → xs ≡ ys → x ∷ xs ≡ x ∷ ys
+  cons_same x xs ys tails = ap (λ w. x ∷ w) tails
+
+  same_cons : (x y : B) (xs ys : List B) → x ≡ y → xs ≡ ys → x ∷ xs ≡ y ∷ ys
+  same_cons x y xs ys head tails = ap (λ w. w ∷ xs) head ∙ ap (λ w. y ∷ w) tails
+
   pub record SplitMap (xs : List A) (front : List B) (z : B) : Type 0 where
     pub before : List A
     pub at : A
@@ -78,7 +93,8 @@ module _ {A B : Type 0} (g : A → B) where
       let head : g x ≡ y = cc in
       let tails : map g xs ≡ front ++ z ∷ back = cc in
       let s = split_map xs front z back tails in
-      record { before = x ∷ s.before; at = s.at; after = s.after; are = ap (λ w. x ∷ w) s.are; front_is = ap (λ w. g x ∷ w) s.front_is ∙ ap (λ w. w ∷ front) head; at_is = s.at_is }
+      let front_is = same_cons (g x) y (map g s.before) front head s.front_is in
+      record { before = x ∷ s.before; at = s.at; after = s.after; are = cons_same x xs (s.before ++ s.at ∷ s.after) s.are; front_is = front_is; at_is = s.at_is }
 
 module _ {A : Type 0} (R : A → A → Type 0) where
   pub pairs_split : (front : List A) (x : A) (back : List A) (y : A) → AllPairs R (front ++ x ∷ back) → Contains front y → R y x

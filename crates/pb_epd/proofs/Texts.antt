@@ -37,7 +37,7 @@ word_is a b ts us e = cc
 tail_is : (a b : Token) (ts us : List Token) → a ∷ ts ≡ b ∷ us → ts ≡ us
 tail_is a b ts us e = cc
 
-four_are : (a b c d : List ℕ) (others : List Token) (four : List (List ℕ)) (rest : List Token) → length four ≡ 4 → map word four ++ rest ≡ word a ∷ word b ∷ word c ∷ word d ∷ others → (four ≡ a ∷ b ∷ c ∷ d ∷ []) × (rest ≡ others)
+pub four_are : (a b c d : List ℕ) (others : List Token) (four : List (List ℕ)) (rest : List Token) → length four ≡ 4 → map word four ++ rest ≡ word a ∷ word b ∷ word c ∷ word d ∷ others → (four ≡ a ∷ b ∷ c ∷ d ∷ []) × (rest ≡ others)
 four_are a b c d others [] rest len e = absurd (omega (arith, len))
 four_are a b c d others (w ∷ []) rest len e = absurd (omega (arith, len))
 four_are a b c d others (w ∷ x ∷ []) rest len e = absurd (omega (arith, len))

@@ -83,7 +83,7 @@ impl Epd {
     /// Adds an operation. The first refusal that is due is answered, of the opcode, of an operand, of an opcode that the
     /// record has, and at last of memory. The record then stays as it was, and the operands are dropped.
     pub fn put(&mut self, opcode: &[u8], operands: Vec<Operand>) -> Result<(), PutError>
-        ensures rules { IsEpd self.new }
+        ensures rules { OnOk result (IsEpd self.new) }
         ensures setup { self.new.setup ≡ self.old.setup }
         ensures added { OnOk result ((o : Operation) → Contains self.new.operations o ↔ (Contains self.old.operations o ⊎ (o ≡ (opcode.now, operands.items)))) }
         ensures fresh { OnOk result (IsOperation (opcode.now, operands.items) × ((old : List Operand) → ¬ Contains self.old.operations (opcode.now, old))) }

@@ -2,6 +2,7 @@
 #![tactic(auto)]
 
 mod epd;
+pub mod laws;
 mod operand;
 mod operation;
 mod read;
