@@ -1,0 +1,165 @@
+-- Forms of a record: each is a text of it, and no text has two records.
+use Rattle.std.proofs.Common.{◌≡◌, ◌≢◌, ℕ, ◌≤◌, ◌↔◌, ◌⊎◌, List, [], ◌∷◌, ◌++◌, length, get_or, Result, Ok, Err, refl, sym, ap, subst, ◌∙◌, inl, inr, arith}
+use Rattle.std.specs.Prelude.{All, AllPairs, Contains, IfOk, IfErr, MatchResult, map, flat_map}
+use Rattle.std.specs.List.{slice_split}
+use Rattle.std.proofs.lemmas.List.{append_assoc, append-nil, same_from_push}
+use Rattle.std.proofs.lemmas.List.Elements.{All-head, All-tail, All-cons, All-weaker}
+use Rattle.pb_board.specs.Position.{Position, IsSetup}
+use Rattle.pb_board.specs.Fen.{SetupTexts, FourFields}
+use Rattle.pb_board.proofs.Unique.{one_setup, one_setup_text}
+use Rattle.pb_board.proofs.FieldWords.{IsPlainByte, IsWord, setup_words}
+use Rattle.pb_epd.specs.declared.operand.Operand.{Operand}
+use Rattle.pb_epd.specs.declared.operand.Operand.TheVariants as operand
+use Rattle.pb_epd.specs.declared.refusal.EpdError.{EpdError}
+use Rattle.pb_epd.specs.declared.refusal.EpdError.TheVariants as epd
+use Rattle.pb_epd.specs.Token.{Token, word, text, end_mark, IsToken, IsWordByte, IsOperandToken, TokensAfter, Tokens, token_text}
+use Rattle.pb_epd.specs.Operation.{Operation, IsLetter, IsNameByte, IsOpcode, IsOperand, IsOperation, operand_token, operation_tokens, operation_text}
+use Rattle.pb_epd.specs.Epd.{EpdRecord, IsEpd, EpdText, EpdForm}
+use Rattle.pb_epd.specs.Refusal.{is_end, IsFirstDueEpd}
+use Rattle.pb_epd.proofs.Lists.{map_injective}
+use Rattle.pb_epd.proofs.TokenLists.{tokens_one}
+use Rattle.pb_epd.proofs.Groups.{group_of, operations_cut}
+use Rattle.pb_epd.proofs.Order.{InOrder, distinct_in_order, same_in_order}
+use Rattle.pb_epd.proofs.Texts.{four_are, setup_texts, text_not_due}
+use Rattle.pb_epd.proofs.Writing.{spaced, operation_put}
+
+-- ---- no text has two records
+
+operand_one : (x y : Operand) → operand_token x ≡ operand_token y → x ≡ y
+operand_one (operand.Word a) (operand.Word b) e = let same : a ≡ b = cc (e) in ap operand.Word same
+operand_one (operand.Word a) (operand.Text b) e = absurd (cc (e))
+operand_one (operand.Text a) (operand.Word b) e = absurd (cc (e))
+operand_one (operand.Text a) (operand.Text b) e = let same : a ≡ b = cc (e) in ap operand.Text same
+
+group_one : (o p : Operation) → group_of o ≡ group_of p → o ≡ p
+group_one o p e =
+    let opcode : o.0 ≡ p.0 = cc (e) in
+    let tails : map operand_token o.1 ≡ map operand_token p.1 = cc (e) in
+    let operands = map_injective operand_token operand_one o.1 p.1 tails in
+    ap (λ (w : List ℕ). (w, o.1)) opcode ∙ ap (λ (w : List Operand). (p.0, w)) operands
+
+operations_one : (os ps : List Operation) → flat_map operation_tokens os ≡ flat_map operation_tokens ps → os ≡ ps
+operations_one os ps e =
+    let cut = λ (ops : List Operation). ap (slice_split is_end) (sym (append-nil (flat_map operation_tokens ops))) ∙ operations_cut ops [] in
+    let both : map group_of os ++ [] ∷ [] ≡ map group_of ps ++ [] ∷ [] = sym (cut os) ∙ ap (slice_split is_end) e ∙ cut ps in
+    map_injective group_of group_one os ps (same_from_push (map group_of os) (map group_of ps) [] [] both).0
+
+pub record_is_one : (e f : EpdRecord) (bytes : List ℕ) → IsEpd e → IsEpd f → EpdText e bytes → EpdText f bytes → e ≡ f
+record_is_one e f bytes he hf h k =
+    let tokens = tokens_one end_mark
+        (word k.placement ∷ word k.turn ∷ word k.castling ∷ word k.passed ∷ flat_map operation_tokens k.operations)
+        (word h.placement ∷ word h.turn ∷ word h.castling ∷ word h.passed ∷ flat_map operation_tokens h.operations) bytes k.tokens h.tokens in
+    let four = four_are h.placement h.turn h.castling h.passed (flat_map operation_tokens h.operations) (k.placement ∷ k.turn ∷ k.castling ∷ k.passed ∷ []) (flat_map operation_tokens k.operations) refl tokens in
+    let spells = subst (λ w. SetupTexts f.setup w) four.0 (setup_texts f.setup k.placement k.turn k.castling k.passed k.spells) in
+    let setups = one_setup e.setup f.setup (h.placement ∷ h.turn ∷ h.castling ∷ h.passed ∷ []) he.setup hf.setup (setup_texts e.setup h.placement h.turn h.castling h.passed h.spells) spells in
+    let same = operations_one k.operations h.operations four.1 in
+    let operations = same_in_order e.operations f.operations he.ordered hf.ordered (λ o. (
+      λ m. (k.same o).0 (subst (λ w. Contains w o) (sym same) ((h.same o).1 m)),
+      λ m. (h.same o).0 (subst (λ w. Contains w o) same ((k.same o).1 m)),
+    )) in
+    let make = λ (p : Position) (ops : List Operation). let r : EpdRecord = record { setup = p; operations = ops } in r in
+    ap (λ p. make p e.operations) setups ∙ ap (λ ops. make f.setup ops) operations
+
+memory_alone : (x : EpdError) → (x ≢ epd.Memory → ⊥) → x ≡ epd.Memory
+memory_alone (epd.Token at) h = absurd (h (λ e. cc (e)))
+memory_alone epd.Fields h = absurd (h (λ e. cc (e)))
+memory_alone (epd.Setup e) h = absurd (h (λ e. cc (e)))
+memory_alone (epd.Opcode n) h = absurd (h (λ e. cc (e)))
+memory_alone epd.Unended h = absurd (h (λ e. cc (e)))
+memory_alone (epd.Repeated n) h = absurd (h (λ e. cc (e)))
+memory_alone epd.Memory h = refl
+
+pub only_record : (bytes : List ℕ) (r : Result EpdRecord EpdError) → IfOk r (λ e. IsEpd e × EpdText e bytes) → IfErr r (λ x. IsFirstDueEpd x bytes) → (e : EpdRecord) → IsEpd e → EpdText e bytes → MatchResult r (λ g. g ≡ e) (λ x. x ≡ epd.Memory)
+only_record bytes (Ok g) found refused e lawful h = record_is_one g e bytes found.0 lawful found.1 h
+only_record bytes (Err x) found refused e lawful h = memory_alone x (λ other. text_not_due e bytes lawful h x other refused.due)
+
+-- ---- every form is a text
+
+letter_word : (b : ℕ) → IsLetter b → IsWordByte b
+letter_word b h =
+    elim h [
+      | inl k ↦ record { low = omega (arith, k.0); high = omega (arith, k.1); no_end = λ e. omega (arith, k.0, e); no_quote = λ e. omega (arith, k.0, e) }
+      | inr k ↦ record { low = omega (arith, k.0); high = omega (arith, k.1); no_end = λ e. omega (arith, k.0, e); no_quote = λ e. omega (arith, k.0, e) }
+    ]
+
+name_word : (b : ℕ) → IsNameByte b → IsWordByte b
+name_word b h =
+    elim h [
+      | inl k ↦ letter_word b k
+      | inr k ↦ elim k [
+        | inl d ↦ record { low = omega (arith, d.0); high = omega (arith, d.1); no_end = λ e. omega (arith, d.1, e); no_quote = λ e. omega (arith, d.0, e) }
+        | inr is ↦ record { low = omega (arith, is); high = omega (arith, is); no_end = λ e. omega (arith, is, e); no_quote = λ e. omega (arith, is, e) }
+      ]
+    ]
+
+opcode_word : (opcode : List ℕ) → IsOpcode opcode → IsToken (word opcode)
+opcode_word [] h = absurd h
+opcode_word (b ∷ bytes) h = (
+  omega arith,
+  omega (arith, h.2),
+  All-cons IsWordByte b bytes (letter_word b h.0) (All-weaker IsNameByte IsWordByte name_word bytes h.1),
+)
+
+spaced_token : (before t : Token) (ts : List Token) (rest : List ℕ) → IsToken t → TokensAfter t ts rest → TokensAfter before (t ∷ ts) (32 ∷ (token_text t ++ rest))
+spaced_token before t ts rest is h = (1, rest, is, λ _ _. omega arith, refl, h)
+
+operands_stand : (before : Token) (operands : List Operand) (ts : List Token) (rest : List ℕ) → All IsOperand operands → TokensAfter end_mark ts rest → TokensAfter before (map operand_token operands ++ end_mark ∷ ts) (flat_map spaced operands ++ 59 ∷ rest)
+operands_stand before [] ts rest lawful h = (0, rest, tt, λ _ no. absurd no, refl, h)
+operands_stand before (o ∷ operands) ts rest lawful h =
+    let more = map operand_token operands ++ end_mark ∷ ts in
+    let left = flat_map spaced operands ++ 59 ∷ rest in
+    let inner = operands_stand (operand_token o) operands ts rest (All-tail IsOperand o operands lawful) h in
+    subst (λ w. TokensAfter before (operand_token o ∷ more) w) (sym (append_assoc (spaced o) (flat_map spaced operands) (59 ∷ rest)))
+    (spaced_token before (operand_token o) more left (All-head IsOperand o operands lawful) inner)
+
+operation_stands : (before : Token) (o : Operation) (ts : List Token) (rest : List ℕ) → IsOperation o → TokensAfter end_mark ts rest → TokensAfter before (operation_tokens o ++ ts) ((32 ∷ operation_text o) ++ rest)
+operation_stands before o ts rest lawful h =
+    let inner = operands_stand (word o.0) o.1 ts rest lawful.operands h in
+    let tokens : operation_tokens o ++ ts ≡ word o.0 ∷ (map operand_token o.1 ++ end_mark ∷ ts) = ap (λ w. word o.0 ∷ w) (append_assoc (map operand_token o.1) (end_mark ∷ []) ts) in
+    let bytes : (32 ∷ operation_text o) ++ rest ≡ 32 ∷ (o.0 ++ (flat_map spaced o.1 ++ 59 ∷ rest)) =
+    ap (λ w. w ++ rest) (sym (operation_put [] o.0 o.1)) ∙ simp append_assoc in
+    subst (λ w. TokensAfter before w ((32 ∷ operation_text o) ++ rest)) (sym tokens)
+    (subst (λ w. TokensAfter before (word o.0 ∷ (map operand_token o.1 ++ end_mark ∷ ts)) w) (sym bytes)
+    (spaced_token before (word o.0) (map operand_token o.1 ++ end_mark ∷ ts) (flat_map spaced o.1 ++ 59 ∷ rest) (opcode_word o.0 lawful.opcode) inner))
+
+operations_stand : (before : Token) (operations : List Operation) → All IsOperation operations → TokensAfter before (flat_map operation_tokens operations) (flat_map (λ o. 32 ∷ operation_text o) operations)
+operations_stand before [] h = (0, refl)
+operations_stand before (o ∷ operations) h =
+    operation_stands before o (flat_map operation_tokens operations) (flat_map (λ p. 32 ∷ operation_text p) operations) (All-head IsOperation o operations h)
+    (operations_stand end_mark operations (All-tail IsOperation o operations h))
+
+plain_word : (b : ℕ) → IsPlainByte b → IsWordByte b
+plain_word b h = record { low = h.0; high = h.1; no_end = h.2; no_quote = h.3 }
+
+word_token : (bytes : List ℕ) → IsWord bytes → IsToken (word bytes)
+word_token bytes h = (h.0, h.1, All-weaker IsPlainByte IsWordByte plain_word bytes h.2)
+
+pub form_is_text : (e : EpdRecord) (bytes : List ℕ) → IsEpd e → EpdForm e bytes → EpdText e bytes
+form_is_text e bytes lawful form =
+    let s = form.spells in
+    let words = setup_words e.setup (s.placement ∷ s.turn ∷ s.castling ∷ s.passed ∷ []) lawful.setup (setup_texts e.setup s.placement s.turn s.castling s.passed s.spells) in
+    let after1 = All-tail IsWord s.placement (s.turn ∷ s.castling ∷ s.passed ∷ []) words in
+    let after2 = All-tail IsWord s.turn (s.castling ∷ s.passed ∷ []) after1 in
+    let after3 = All-tail IsWord s.castling (s.passed ∷ []) after2 in
+    let ops = flat_map operation_tokens e.operations in
+    let rest = flat_map (λ o. 32 ∷ operation_text o) e.operations in
+    let four = spaced_token (word s.castling) (word s.passed) ops rest (word_token s.passed (All-head IsWord s.passed [] after3)) (operations_stand (word s.passed) e.operations lawful.lawful) in
+    let three = spaced_token (word s.turn) (word s.castling) (word s.passed ∷ ops) (32 ∷ (s.passed ++ rest)) (word_token s.castling (All-head IsWord s.castling (s.passed ∷ []) after2)) four in
+    let two = spaced_token (word s.placement) (word s.turn) (word s.castling ∷ word s.passed ∷ ops) (32 ∷ (s.castling ++ 32 ∷ (s.passed ++ rest))) (word_token s.turn (All-head IsWord s.turn (s.castling ∷ s.passed ∷ []) after1)) three in
+    let whole : bytes ≡ s.placement ++ 32 ∷ (s.turn ++ 32 ∷ (s.castling ++ 32 ∷ (s.passed ++ rest))) = form.is ∙ ap (λ w. w ++ rest) s.joined ∙ simp append_assoc in
+    record {
+      placement = s.placement;
+      turn = s.turn;
+      castling = s.castling;
+      passed = s.passed;
+      spells = s.spells;
+      operations = e.operations;
+      lawful = lawful.lawful;
+      distinct = distinct_in_order e.operations lawful.ordered;
+      same = λ o. (λ k. k, λ k. k);
+      tokens = (0, 32 ∷ (s.turn ++ 32 ∷ (s.castling ++ 32 ∷ (s.passed ++ rest))), word_token s.placement (All-head IsWord s.placement (s.turn ∷ s.castling ∷ s.passed ∷ []) words), λ no. absurd no, whole, two);
+    }
+
+pub form_is_one : (e : EpdRecord) (b c : List ℕ) → EpdForm e b → EpdForm e c → b ≡ c
+form_is_one e b c h k =
+    h.is ∙ ap (λ w. w ++ flat_map (λ o. 32 ∷ operation_text o) e.operations) (one_setup_text e.setup h.fields k.fields h.spells k.spells) ∙ sym k.is

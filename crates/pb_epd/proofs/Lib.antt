@@ -1,0 +1,13 @@
+pub mod Runs
+pub mod Lexing
+pub mod TokenLists
+pub mod Bad
+pub mod Lists
+pub mod Maps
+pub mod Puts
+pub mod Writing
+pub mod Reader
+pub mod Groups
+pub mod Texts
+pub mod Order
+pub mod Forms

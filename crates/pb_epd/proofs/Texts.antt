@@ -1,0 +1,245 @@
+-- The texts of a record, and the one refusal that is due first.
+use Rattle.std.proofs.Common.{◌≡◌, ◌≢◌, ℕ, ◌+◌, ◌<◌, ◌≤◌, ◌↔◌, List, [], ◌∷◌, ◌++◌, length, get_or, Result, Ok, Err, refl, sym, ap, subst, ◌∙◌, arith}
+use Rattle.std.specs.Prelude.{All, AllPairs, Contains, IfOk, IfErr, MatchResult, map, flat_map}
+use Rattle.std.specs.List.{slice_split}
+use Rattle.std.proofs.lemmas.List.{append_assoc, append-nil, same_from_push}
+use Rattle.pb_board.specs.Position.{Position, IsSetup}
+use Rattle.pb_board.specs.Fen.{SetupText, SetupTexts}
+use Rattle.pb_board.specs.Refusal.{IsFirstDue, OfSetup}
+use Rattle.pb_board.specs.declared.refusal.FenError.{FenError}
+use Rattle.pb_board.proofs.Fens.{setup_never_due}
+use Rattle.pb_epd.specs.declared.refusal.EpdError.{EpdError}
+use Rattle.pb_epd.specs.declared.refusal.EpdError.TheVariants as epd
+use Rattle.pb_epd.specs.Token.{Token, word, end_mark, Tokens, TokensAfter, IsBadAt}
+use Rattle.pb_epd.specs.Operation.{Operation, IsOperation, operation_tokens}
+use Rattle.pb_epd.specs.Epd.{EpdRecord, IsEpd, EpdText}
+use Rattle.pb_epd.specs.Refusal.{is_end, IsNamed, IsCut, IsRepeat, IsDueEpd, IsFirstDueEpd, epd_order}
+use Rattle.pb_epd.specs.Reading.{AreOperations, AreNamed, IsUnnamedAt, IsRepeatedAt, IsRefused}
+use Rattle.pb_epd.proofs.Lists.{all_middle}
+use Rattle.pb_epd.proofs.TokenLists.{tokens_one}
+use Rattle.pb_epd.proofs.Bad.{bad_none}
+use Rattle.pb_epd.proofs.Groups.{group_of, operations_cut, all_named, AreDistinct, none_repeats, last_group}
+
+pub setup_text : (p : Position) (a b c d : List ℕ) → SetupTexts p (a ∷ b ∷ c ∷ d ∷ []) → SetupText p a b c d
+setup_text p a b c d h =
+    let cell = λ (i : ℕ). ap (λ (w : List (List ℕ)). get_or w i []) (sym h.are) in
+    let one = subst (λ w. SetupText p w h.turn h.castling h.passed) (cell 0) h.spells in
+    let two = subst (λ w. SetupText p a w h.castling h.passed) (cell 1) one in
+    let three = subst (λ w. SetupText p a b w h.passed) (cell 2) two in
+    subst (λ w. SetupText p a b c w) (cell 3) three
+
+pub setup_texts : (p : Position) (a b c d : List ℕ) → SetupText p a b c d → SetupTexts p (a ∷ b ∷ c ∷ d ∷ [])
+setup_texts p a b c d h = record { placement = a; turn = b; castling = c; passed = d; spells = h; are = refl }
+
+word_is : (a b : List ℕ) (ts us : List Token) → word a ∷ ts ≡ word b ∷ us → a ≡ b
+word_is a b ts us e = cc
+
+tail_is : (a b : Token) (ts us : List Token) → a ∷ ts ≡ b ∷ us → ts ≡ us
+tail_is a b ts us e = cc
+
+pub four_are : (a b c d : List ℕ) (others : List Token) (four : List (List ℕ)) (rest : List Token) → length four ≡ 4 → map word four ++ rest ≡ word a ∷ word b ∷ word c ∷ word d ∷ others → (four ≡ a ∷ b ∷ c ∷ d ∷ []) × (rest ≡ others)
+four_are a b c d others [] rest len e = absurd (omega (arith, len))
+four_are a b c d others (w ∷ []) rest len e = absurd (omega (arith, len))
+four_are a b c d others (w ∷ x ∷ []) rest len e = absurd (omega (arith, len))
+four_are a b c d others (w ∷ x ∷ y ∷ []) rest len e = absurd (omega (arith, len))
+four_are a b c d others (w ∷ x ∷ y ∷ z ∷ []) rest len e =
+    let e1 = tail_is (word w) (word a) (word x ∷ word y ∷ word z ∷ rest) (word b ∷ word c ∷ word d ∷ others) e in
+    let e2 = tail_is (word x) (word b) (word y ∷ word z ∷ rest) (word c ∷ word d ∷ others) e1 in
+    let e3 = tail_is (word y) (word c) (word z ∷ rest) (word d ∷ others) e2 in
+    let s0 = word_is w a (word x ∷ word y ∷ word z ∷ rest) (word b ∷ word c ∷ word d ∷ others) e in
+    let s1 = word_is x b (word y ∷ word z ∷ rest) (word c ∷ word d ∷ others) e1 in
+    let s2 = word_is y c (word z ∷ rest) (word d ∷ others) e2 in
+    let s3 = word_is z d rest others e3 in (
+      ap (λ (v : List ℕ). v ∷ x ∷ y ∷ z ∷ []) s0 ∙ ap (λ (v : List ℕ). a ∷ v ∷ y ∷ z ∷ []) s1 ∙ ap (λ (v : List ℕ). a ∷ b ∷ v ∷ z ∷ []) s2 ∙ ap (λ (v : List ℕ). a ∷ b ∷ c ∷ v ∷ []) s3,
+      tail_is (word z) (word d) rest others e3,
+    )
+four_are a b c d others (w ∷ x ∷ y ∷ z ∷ v ∷ more) rest len e = absurd (omega (arith, len))
+
+-- ---- a line of whole tokens
+
+abbrev pub NotDue : EpdError → List ℕ → Type 0
+NotDue x bytes = IsDueEpd x bytes → ⊥
+
+pub token_not_due : (bytes : List ℕ) (ts : List Token) (at : ℕ) → Tokens ts bytes → NotDue (epd.Token at) bytes
+token_not_due bytes ts at tokens due = bad_none bytes at due ts tokens
+
+module _ (bytes a b c d : List ℕ) (others : List Token) (tokens : Tokens (word a ∷ word b ∷ word c ∷ word d ∷ others) bytes) where
+  pub fields_not_due : NotDue epd.Fields bytes
+  fields_not_due due = due (a ∷ b ∷ c ∷ d ∷ []) others refl tokens
+
+  pub is_cut : (ended : List (List Token)) (unended : List Token) → slice_split is_end others ≡ ended ++ unended ∷ [] → IsCut bytes (a ∷ b ∷ c ∷ d ∷ []) ended unended
+  is_cut ended unended cut = record { rest = others; tokens = tokens; four_words = refl; cut = cut }
+
+  cut_is : (four : List (List ℕ)) (ended : List (List Token)) (unended : List Token) → IsCut bytes four ended unended → (four ≡ a ∷ b ∷ c ∷ d ∷ []) × (slice_split is_end others ≡ ended ++ unended ∷ [])
+  cut_is four ended unended h =
+      let same = tokens_one end_mark (map word four ++ h.rest) (word a ∷ word b ∷ word c ∷ word d ∷ others) bytes h.tokens tokens in
+      let f = four_are a b c d others four h.rest h.four_words same in
+      (f.0, ap (slice_split is_end) (sym f.1) ∙ h.cut)
+
+  pub setup_due : (e : FenError) → IsFirstDue OfSetup e (a ∷ b ∷ c ∷ d ∷ []) → IsDueEpd (epd.Setup e) bytes
+  setup_due e h =
+      let last = last_group others in
+      (a ∷ b ∷ c ∷ d ∷ [], last.0, last.1, is_cut last.0 last.1 last.2, h)
+
+  pub setup_not_due : (p : Position) (e : FenError) → IsSetup p → SetupTexts p (a ∷ b ∷ c ∷ d ∷ []) → NotDue (epd.Setup e) bytes
+  setup_not_due p e lawful spells due =
+      let f = cut_is due.0 due.1 due.2 due.3 in
+      setup_never_due p (a ∷ b ∷ c ∷ d ∷ []) e lawful spells (subst (IsFirstDue OfSetup e) f.0 due.4)
+
+  pub opcode_due : (n : ℕ) → IsUnnamedAt n others → IsDueEpd (epd.Opcode n) bytes
+  opcode_due n h = (a ∷ b ∷ c ∷ d ∷ [], h.before, h.group, h.after, h.unended, is_cut (h.before ++ h.group ∷ h.after) h.unended h.cut, h.count, h.named, h.unnamed)
+
+  pub opcode_not_due : (n : ℕ) (ended : List (List Token)) (unended : List Token) → AreNamed others ended unended → NotDue (epd.Opcode n) bytes
+  opcode_not_due n ended unended h due =
+      let f = cut_is due.0 (due.1 ++ due.2 ∷ due.3) due.4 due.5 in
+      let same = same_from_push ended (due.1 ++ due.2 ∷ due.3) unended due.4 (sym h.cut ∙ f.1) in
+      due.8 (all_middle IsNamed due.1 due.2 due.3 (subst (All IsNamed) same.0 h.named))
+
+  pub unended_due : (ended : List (List Token)) (unended : List Token) → AreNamed others ended unended → unended ≢ [] → IsDueEpd epd.Unended bytes
+  unended_due ended unended h some = (a ∷ b ∷ c ∷ d ∷ [], ended, unended, is_cut ended unended h.cut, some)
+
+  pub unended_not_due : (ended : List (List Token)) → AreNamed others ended [] → NotDue epd.Unended bytes
+  unended_not_due ended h due =
+      let f = cut_is due.0 due.1 due.2 due.3 in
+      due.4 (sym (same_from_push ended due.1 [] due.2 (sym h.cut ∙ f.1)).1)
+
+  pub repeated_due : (n : ℕ) (ended : List (List Token)) → AreNamed others ended [] → IsRepeatedAt n ended → IsDueEpd (epd.Repeated n) bytes
+  repeated_due n ended h r =
+      let cut : slice_split is_end others ≡ (r.before ++ r.group ∷ r.after) ++ [] ∷ [] = h.cut ∙ ap (λ (w : List (List Token)). w ++ [] ∷ []) r.are in
+      (a ∷ b ∷ c ∷ d ∷ [], r.before, r.group, r.after, [], is_cut (r.before ++ r.group ∷ r.after) [] cut, r.count, r.first, r.repeat)
+
+  -- ---- the first that is due
+
+  none_before_setup : (y : EpdError) → y ≢ epd.Memory → epd_order y < 4 → NotDue y bytes
+  none_before_setup (epd.Token at) other lt = token_not_due bytes (word a ∷ word b ∷ word c ∷ word d ∷ others) at tokens
+  none_before_setup epd.Fields other lt = fields_not_due
+  none_before_setup (epd.Setup e) other lt = absurd (omega (arith, lt))
+  none_before_setup (epd.Opcode n) other lt = absurd (omega (arith, lt))
+  none_before_setup epd.Unended other lt = absurd (omega (arith, lt))
+  none_before_setup (epd.Repeated n) other lt = absurd (omega (arith, lt))
+  none_before_setup epd.Memory other lt = absurd (other refl)
+
+  pub setup_first : (e : FenError) → IsFirstDue OfSetup e (a ∷ b ∷ c ∷ d ∷ []) → IsFirstDueEpd (epd.Setup e) bytes
+  setup_first e h = record { due = setup_due e h; first = none_before_setup }
+
+  module _ (p : Position) (lawful : IsSetup p) (spells : SetupTexts p (a ∷ b ∷ c ∷ d ∷ [])) where
+    none_before_opcode : (y : EpdError) → y ≢ epd.Memory → epd_order y < 5 → NotDue y bytes
+    none_before_opcode (epd.Token at) other lt = token_not_due bytes (word a ∷ word b ∷ word c ∷ word d ∷ others) at tokens
+    none_before_opcode epd.Fields other lt = fields_not_due
+    none_before_opcode (epd.Setup e) other lt = setup_not_due p e lawful spells
+    none_before_opcode (epd.Opcode n) other lt = absurd (omega (arith, lt))
+    none_before_opcode epd.Unended other lt = absurd (omega (arith, lt))
+    none_before_opcode (epd.Repeated n) other lt = absurd (omega (arith, lt))
+    none_before_opcode epd.Memory other lt = absurd (other refl)
+
+    none_before_unended : (ended : List (List Token)) (unended : List Token) → AreNamed others ended unended → (y : EpdError) → y ≢ epd.Memory → epd_order y < 6 → NotDue y bytes
+    none_before_unended ended unended h (epd.Token at) other lt = none_before_opcode (epd.Token at) other (omega arith)
+    none_before_unended ended unended h epd.Fields other lt = fields_not_due
+    none_before_unended ended unended h (epd.Setup e) other lt = setup_not_due p e lawful spells
+    none_before_unended ended unended h (epd.Opcode n) other lt = opcode_not_due n ended unended h
+    none_before_unended ended unended h epd.Unended other lt = absurd (omega (arith, lt))
+    none_before_unended ended unended h (epd.Repeated n) other lt = absurd (omega (arith, lt))
+    none_before_unended ended unended h epd.Memory other lt = absurd (other refl)
+
+    none_before_repeated : (ended : List (List Token)) → AreNamed others ended [] → (y : EpdError) → y ≢ epd.Memory → epd_order y < 7 → NotDue y bytes
+    none_before_repeated ended h (epd.Token at) other lt = none_before_opcode (epd.Token at) other (omega arith)
+    none_before_repeated ended h epd.Fields other lt = fields_not_due
+    none_before_repeated ended h (epd.Setup e) other lt = setup_not_due p e lawful spells
+    none_before_repeated ended h (epd.Opcode n) other lt = opcode_not_due n ended [] h
+    none_before_repeated ended h epd.Unended other lt = unended_not_due ended h
+    none_before_repeated ended h (epd.Repeated n) other lt = absurd (omega (arith, lt))
+    none_before_repeated ended h epd.Memory other lt = absurd (other refl)
+
+    pub refused_first : (x : EpdError) → IsRefused x others → IsFirstDueEpd x bytes
+    refused_first (epd.Token at) h = absurd h
+    refused_first epd.Fields h = absurd h
+    refused_first (epd.Setup e) h = absurd h
+    refused_first (epd.Opcode n) h = record { due = opcode_due n h; first = none_before_opcode }
+    refused_first epd.Unended h = record { due = unended_due h.0 h.1 h.2 h.3; first = none_before_unended h.0 h.1 h.2 }
+    refused_first (epd.Repeated n) h = record { due = repeated_due n h.0 h.1 h.2; first = none_before_repeated h.0 h.1 }
+    refused_first epd.Memory h = record { due = tt; first = λ y other lt. none_before_setup y other (omega (arith, lt)) }
+
+pub fields_first : (bytes : List ℕ) (ts : List Token) → Tokens ts bytes → IsDueEpd epd.Fields bytes → IsFirstDueEpd epd.Fields bytes
+fields_first bytes ts tokens due = record { due = due; first = first }
+  where
+    first : (y : EpdError) → y ≢ epd.Memory → epd_order y < 2 → NotDue y bytes
+    first (epd.Token at) other lt = token_not_due bytes ts at tokens
+    first epd.Fields other lt = absurd (omega (arith, lt))
+    first (epd.Setup e) other lt = absurd (omega (arith, lt))
+    first (epd.Opcode n) other lt = absurd (omega (arith, lt))
+    first epd.Unended other lt = absurd (omega (arith, lt))
+    first (epd.Repeated n) other lt = absurd (omega (arith, lt))
+    first epd.Memory other lt = absurd (other refl)
+
+some_order : (y : EpdError) → 0 < epd_order y
+some_order (epd.Token at) = omega arith
+some_order epd.Fields = omega arith
+some_order (epd.Setup e) = omega arith
+some_order (epd.Opcode n) = omega arith
+some_order epd.Unended = omega arith
+some_order (epd.Repeated n) = omega arith
+some_order epd.Memory = omega arith
+
+pub token_first : (bytes : List ℕ) (at : ℕ) → IsBadAt bytes at → IsFirstDueEpd (epd.Token at) bytes
+token_first bytes at due = record { due = due; first = λ y other lt due. omega (arith, some_order y, lt) }
+
+-- ---- a record that was read
+
+pub text_found : (e : EpdRecord) (bytes a b c d : List ℕ) (ts us : List Token) (p : Position) → Tokens ts bytes → ts ≡ word a ∷ word b ∷ word c ∷ word d ∷ us → SetupTexts p (a ∷ b ∷ c ∷ d ∷ []) → e.setup ≡ p → AreOperations us e.operations → EpdText e bytes
+text_found e bytes a b c d ts us p tokens is spells same h = record {
+  placement = a;
+  turn = b;
+  castling = c;
+  passed = d;
+  spells = setup_text e.setup a b c d (subst (λ q. SetupTexts q (a ∷ b ∷ c ∷ d ∷ [])) (sym same) spells);
+  operations = h.operations;
+  lawful = h.lawful;
+  distinct = h.distinct;
+  same = h.same;
+  tokens = subst (λ w. Tokens w bytes) (is ∙ ap (λ w. word a ∷ word b ∷ word c ∷ word d ∷ w) h.is) tokens;
+}
+
+-- ---- the text of a record
+
+module _ (e : EpdRecord) (bytes : List ℕ) (lawful : IsEpd e) (h : EpdText e bytes) where
+  text_named : AreNamed (flat_map operation_tokens h.operations) (map group_of h.operations) []
+  text_named = record {
+    cut = ap (slice_split is_end) (sym (append-nil (flat_map operation_tokens h.operations))) ∙ operations_cut h.operations [];
+    named = all_named h.operations h.lawful;
+  }
+
+  no_repeat : (n : ℕ) → NotDue (epd.Repeated n) bytes
+  no_repeat n due =
+      let f = cut_is bytes h.placement h.turn h.castling h.passed (flat_map operation_tokens h.operations) h.tokens due.0 (due.1 ++ due.2 ∷ due.3) due.4 due.5 in
+      let same = same_from_push (map group_of h.operations) (due.1 ++ due.2 ∷ due.3) [] due.4 (sym text_named.cut ∙ f.1) in
+      none_repeats h.operations h.distinct due.1 due.3 due.2 same.0 due.8
+
+  text_spells : SetupTexts e.setup (h.placement ∷ h.turn ∷ h.castling ∷ h.passed ∷ [])
+  text_spells = setup_texts e.setup h.placement h.turn h.castling h.passed h.spells
+
+  -- no refusal but want of memory is due
+  pub text_not_due : (x : EpdError) → x ≢ epd.Memory → NotDue x bytes
+  text_not_due (epd.Token at) other = token_not_due bytes (word h.placement ∷ word h.turn ∷ word h.castling ∷ word h.passed ∷ flat_map operation_tokens h.operations) at h.tokens
+  text_not_due epd.Fields other = fields_not_due bytes h.placement h.turn h.castling h.passed (flat_map operation_tokens h.operations) h.tokens
+  text_not_due (epd.Setup f) other =
+      setup_not_due bytes h.placement h.turn h.castling h.passed (flat_map operation_tokens h.operations) h.tokens e.setup f lawful.setup text_spells
+  text_not_due (epd.Opcode n) other =
+      opcode_not_due bytes h.placement h.turn h.castling h.passed (flat_map operation_tokens h.operations) h.tokens n (map group_of h.operations) [] text_named
+  text_not_due epd.Unended other = unended_not_due bytes h.placement h.turn h.castling h.passed (flat_map operation_tokens h.operations) h.tokens (map group_of h.operations) text_named
+  text_not_due (epd.Repeated n) other = no_repeat n
+  text_not_due epd.Memory other = absurd (other refl)
+
+-- ---- what the reader answers
+
+module _ (bytes a b c d : List ℕ) (ts us : List Token) (tokens : Tokens ts bytes) (is : ts ≡ word a ∷ word b ∷ word c ∷ word d ∷ us) where
+  pub setup_refused : (e : FenError) → IsFirstDue OfSetup e (a ∷ b ∷ c ∷ d ∷ []) → IsFirstDueEpd (epd.Setup e) bytes
+  setup_refused e h = setup_first bytes a b c d us (subst (λ w. Tokens w bytes) is tokens) e h
+
+  module _ (p : Position) (lawful : IsSetup p) (spells : SetupTexts p (a ∷ b ∷ c ∷ d ∷ [])) (rest : List ℕ) (after : TokensAfter (word d) us rest) where
+    pub found_all : (r : Result EpdRecord EpdError) → IfOk r (λ e. (e.setup ≡ p) × IsEpd e × ((vs : List Token) → TokensAfter (word d) vs rest → AreOperations vs e.operations)) → IfOk r (λ e. IsEpd e × EpdText e bytes)
+    found_all (Ok e) h = (h.1, text_found e bytes a b c d ts us p tokens is spells h.0 (h.2 us after))
+    found_all (Err x) h = tt
+
+    pub refused_all : (r : Result EpdRecord EpdError) → IfErr r (λ x. (vs : List Token) → TokensAfter (word d) vs rest → IsRefused x vs) → IfErr r (λ x. IsFirstDueEpd x bytes)
+    refused_all (Ok e) h = tt
+    refused_all (Err x) h = refused_first bytes a b c d us (subst (λ w. Tokens w bytes) is tokens) p lawful spells x (h us after)

@@ -1,0 +1,103 @@
+-- What the parts of the reader tell of the tokens of a line.
+use Rattle.std.specs.Prelude.{◌≡◌, ◌≢◌, ◌<◌, ◌↔◌, ℕ, ◌+◌, List, [], ◌∷◌, ◌++◌, length, map, flat_map, All, AllPairs, Contains}
+use Rattle.std.specs.List.{slice_split}
+use Rattle.pb_epd.specs.declared.operand.Operand.{Operand}
+use Rattle.pb_epd.specs.declared.read.Fields.{Fields}
+use Rattle.pb_epd.specs.declared.read.Taken.{Taken}
+use Rattle.pb_epd.specs.declared.read.Taken.TheVariants as taken
+use Rattle.pb_epd.specs.declared.refusal.EpdError.{EpdError}
+use Rattle.pb_epd.specs.declared.refusal.EpdError.TheVariants as epd
+use Rattle.pb_epd.specs.Token.{Token, word, end_mark, TokensAfter, IsOperandToken}
+use Rattle.pb_epd.specs.Operation.{Operation, IsOperand, IsOperation, operand_token, operation_tokens}
+use Rattle.pb_epd.specs.Refusal.{is_end, IsNamed, IsRepeat}
+
+-- this token is the first of the list, and the others follow it
+pub record Follow (t : Token) (ts : List Token) (rest : List ℕ) : Type 0 where
+  pub others : List Token
+  pub is : ts ≡ t ∷ others
+  pub after : TokensAfter t others rest
+
+-- these words are the first four of the list, and the others follow them
+pub record FourFollow (f : Fields) (ts : List Token) : Type 0 where
+  pub others : List Token
+  pub is : ts ≡ word f.placement.now ∷ word f.turn.now ∷ word f.castling.now ∷ word f.passed.now ∷ others
+  pub after : TokensAfter (word f.passed.now) others f.rest.now
+
+-- words and texts alone
+abbrev pub AreOperands : List Token → Type 0
+AreOperands ts = All IsOperandToken ts
+
+-- these operands, an end, and others that follow it
+pub record EndsWithOperands (ts : List Token) (operands : List Operand) (rest : List ℕ) : Type 0 where
+  pub others : List Token
+  pub is : ts ≡ map operand_token operands ++ end_mark ∷ others
+  pub after : TokensAfter end_mark others rest
+
+-- an ended operation that does not begin with an opcode
+pub record BeginsUnnamed (ts : List Token) : Type 0 where
+  pub group : List Token
+  pub others : List Token
+  pub is : ts ≡ group ++ end_mark ∷ others
+  pub operands : AreOperands group
+  pub unnamed : ¬ IsNamed group
+
+-- this operation, and others that follow its end
+pub record BeginsWithOperation (ts : List Token) (o : Operation) (rest : List ℕ) : Type 0 where
+  pub others : List Token
+  pub is : ts ≡ operation_tokens o ++ others
+  pub after : TokensAfter end_mark others rest
+
+abbrev pub IsTaken : Taken → List Token → Type 0
+IsTaken taken.Done ts = ts ≡ []
+IsTaken taken.Unended ts = (ts ≢ []) × AreOperands ts
+IsTaken taken.Unnamed ts = BeginsUnnamed ts
+IsTaken (taken.Operation opcode operands rest) ts = BeginsWithOperation ts (opcode.now, operands.items) rest.now
+
+-- an operation is lawful and takes some bytes
+abbrev pub IsSound : Taken → List ℕ → Type 0
+IsSound taken.Done bytes = Unit {0}
+IsSound taken.Unended bytes = Unit {0}
+IsSound taken.Unnamed bytes = Unit {0}
+IsSound (taken.Operation opcode operands rest) bytes = (length rest.now < length bytes) × IsOperation (opcode.now, operands.items)
+
+-- the tokens are lawful operations with distinct opcodes that are, as a map, these
+pub record AreOperations (ts : List Token) (map : List Operation) : Type 0 where
+  pub operations : List Operation
+  pub is : ts ≡ flat_map operation_tokens operations
+  pub lawful : All IsOperation operations
+  pub distinct : AllPairs (λ o p. o.0 ≢ p.0) operations
+  pub same : (o : Operation) → Contains operations o ↔ Contains map o
+
+-- each ended operation begins with an opcode
+pub record AreNamed (ts : List Token) (ended : List (List Token)) (unended : List Token) : Type 0 where
+  pub cut : slice_split is_end ts ≡ ended ++ unended ∷ []
+  pub named : All IsNamed ended
+
+-- the first ended operation that does not begin with an opcode
+pub record IsUnnamedAt (n : ℕ) (ts : List Token) : Type 0 where
+  pub before : List (List Token)
+  pub group : List Token
+  pub after : List (List Token)
+  pub unended : List Token
+  pub cut : slice_split is_end ts ≡ (before ++ group ∷ after) ++ unended ∷ []
+  pub count : n ≡ length before + 1
+  pub named : All IsNamed before
+  pub unnamed : ¬ IsNamed group
+
+-- the first operation whose opcode stood before
+pub record IsRepeatedAt (n : ℕ) (ended : List (List Token)) : Type 0 where
+  pub before : List (List Token)
+  pub group : List Token
+  pub after : List (List Token)
+  pub are : ended ≡ before ++ group ∷ after
+  pub count : n ≡ length before + 1
+  pub first : (front back : List (List Token)) (us : List Token) → before ≡ front ++ us ∷ back → ¬ IsRepeat front us
+  pub repeat : IsRepeat before group
+
+-- why operations are refused
+abbrev pub IsRefused : EpdError → List Token → Type 0
+IsRefused (epd.Opcode n) ts = IsUnnamedAt n ts
+IsRefused epd.Unended ts = (ended : List (List Token)) × (unended : List Token) × AreNamed ts ended unended × (unended ≢ [])
+IsRefused (epd.Repeated n) ts = (ended : List (List Token)) × AreNamed ts ended [] × IsRepeatedAt n ended
+IsRefused epd.Memory ts = Unit {0}
+IsRefused _ ts = ⊥

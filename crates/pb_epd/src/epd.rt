@@ -1,0 +1,124 @@
+//! EPD records.
+
+ghost use Rattle.std.specs.Prelude.{◌≡◌, ◌≤◌, ◌↔◌, ◌⊎◌, [], List, length, Contains, IfErr, OnOk, OnErr, MatchOption};
+ghost use Rattle.pb_epd.specs.Epd.{EpdRecord, IsEpd, operations_of};
+ghost use Rattle.pb_epd.specs.Operation.{Operation, IsOperation};
+ghost use Rattle.pb_epd.specs.Refusal.{IsFirstDuePut, put_order};
+ghost use Rattle.pb_epd.specs.declared.operand.Operand.{Operand};
+
+use crate::operand::Operand;
+use crate::operation::{first_unlawful, is_opcode};
+use crate::refusal::PutError;
+use pb_board::Setup;
+use std::alloc::Global;
+use std::collections::BTreeMap;
+use std::marker::Model;
+
+/// A setup, and operations in byte order of their opcodes. Each operation is an opcode with its operands, and no opcode stands twice.
+#[derive(Drop)]
+pub struct Epd {
+    alloc: Global,
+    setup: Setup,
+    operations: BTreeMap<Vec<u8>, Vec<Operand>>,
+}
+
+impl Model for Epd {
+    ghost use Rattle.pb_epd.specs.Epd.{EpdRecord, IsEpd, operations_of};
+
+    ghost Value = { EpdRecord };
+
+    ghost view = { λ e. record { setup = e.setup; operations = operations_of e.operations.entries } };
+
+    ghost invariant = { λ e. IsEpd (record { setup = e.setup; operations = operations_of e.operations.entries }) };
+}
+
+impl Epd {
+    /// A record without operations.
+    pub fn new(alloc: Global, setup: Setup) -> Epd
+        ensures value { result ≡ record { setup = setup; operations = [] } }
+        ensures rules { IsEpd result }
+    {
+        let _turn = setup.turn();
+        Epd {
+            alloc,
+            setup,
+            operations: BTreeMap::new(alloc),
+        }
+    }
+
+    /// The setup.
+    pub fn setup(&self) -> Setup
+        ensures value { result ≡ self.now.setup }
+        ensures rules { IsEpd self.now }
+    {
+        self.setup
+    }
+
+    /// The operations, by their opcodes.
+    pub(crate) fn operations(&self) -> &BTreeMap<Vec<u8>, Vec<Operand>>
+        ensures { operations_of result.now.entries ≡ self.now.operations }
+    {
+        &self.operations
+    }
+
+    /// How many operations there are.
+    pub fn len(&self) -> usize
+        ensures { result ≡ length self.now.operations }
+    {
+        self.operations.len()
+    }
+
+    /// The operands of an opcode.
+    pub fn get(&self, opcode: &[u8]) -> Option<&[Operand]>
+        ensures { MatchOption result
+            ((operands : List Operand) → ¬ Contains self.now.operations (opcode.now, operands))
+            (λ operands. Contains self.now.operations (opcode.now, operands.now)) }
+    {
+        match self.operations.get(opcode) {
+            Some(operands) => Some(operands.as_slice()),
+            None => None,
+        }
+    }
+
+    /// Adds an operation. The first refusal that is due is answered, of the opcode, of an operand, of an opcode that the
+    /// record has, and at last of memory. The record then stays as it was, and the operands are dropped.
+    pub fn put(&mut self, opcode: &[u8], operands: Vec<Operand>) -> Result<(), PutError>
+        ensures rules { OnOk result (IsEpd self.new) }
+        ensures setup { self.new.setup ≡ self.old.setup }
+        ensures added { OnOk result ((o : Operation) → Contains self.new.operations o ↔ (Contains self.old.operations o ⊎ (o ≡ (opcode.now, operands.items)))) }
+        ensures fresh { OnOk result (IsOperation (opcode.now, operands.items) × ((old : List Operand) → ¬ Contains self.old.operations (opcode.now, old))) }
+        ensures same { OnErr result (self.new ≡ self.old) }
+        ensures refused { IfErr result (λ x. IsFirstDuePut x self.old opcode.now operands.items) }
+    {
+        if !is_opcode(opcode) {
+            return Err(PutError::Opcode);
+        }
+        if let Some(n) = first_unlawful(operands.as_slice()) {
+            return Err(PutError::Operand(n));
+        }
+        self.add(opcode, operands)
+    }
+
+    /// Adds a lawful operation, if the record does not have its opcode and memory suffices.
+    pub(crate) fn add(&mut self, opcode: &[u8], operands: Vec<Operand>) -> Result<(), PutError>
+        requires { IsOperation (opcode.now, operands.items) }
+        ensures rules { IsEpd self.new }
+        ensures setup { self.new.setup ≡ self.old.setup }
+        ensures added { OnOk result ((o : Operation) → Contains self.new.operations o ↔ (Contains self.old.operations o ⊎ (o ≡ (opcode.now, operands.items)))) }
+        ensures fresh { OnOk result ((old : List Operand) → ¬ Contains self.old.operations (opcode.now, old)) }
+        ensures same { OnErr result (self.new ≡ self.old) }
+        ensures refused { IfErr result (λ x. IsFirstDuePut x self.old opcode.now operands.items) }
+        ensures kind { IfErr result (λ x. 3 ≤ put_order x) }
+    {
+        if self.operations.contains_key(opcode) {
+            return Err(PutError::Repeated);
+        }
+        let Ok(key) = opcode.to_vec(self.alloc) else {
+            return Err(PutError::Memory);
+        };
+        match self.operations.insert(key, operands) {
+            Ok(_) => Ok(()),
+            Err(_) => Err(PutError::Memory),
+        }
+    }
+}

@@ -1,0 +1,28 @@
+//! Laws of EPD records and their texts.
+
+ghost use Rattle.pb_epd.specs.Laws.{FormIsText, FormIsOne, RecordIsOne, BadIsOne, NoneDue};
+
+/// Each form is a text of its record.
+pub fn form_is_text()
+    ensures { FormIsText }
+{}
+
+/// No record has two forms.
+pub fn one_form()
+    ensures { FormIsOne }
+{}
+
+/// No text has two records.
+pub fn one_record()
+    ensures { RecordIsOne }
+{}
+
+/// No line has two first bad tokens.
+pub fn one_bad_token()
+    ensures { BadIsOne }
+{}
+
+/// No refusal but want of memory is due for a text of a record.
+pub fn none_due()
+    ensures { NoneDue }
+{}

@@ -1,0 +1,18 @@
+//! EPD records: a setup and operations, and the reader and the writer of their texts (PGN Standard 16.2).
+#![tactic(auto)]
+
+mod epd;
+pub mod laws;
+mod operand;
+mod operation;
+mod read;
+mod refusal;
+mod run;
+mod token;
+mod write;
+
+pub use epd::Epd;
+pub use operand::{Operand, OperandBytes};
+pub use read::read_epd;
+pub use refusal::{EpdError, PutError};
+pub use write::write_epd;

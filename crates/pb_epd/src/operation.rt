@@ -1,0 +1,81 @@
+//! Which opcodes and operands are lawful.
+
+ghost use Rattle.std.specs.Prelude.{◌≡◌, ◌↔◌, ◌+◌, List, All, IsTrue, MatchOption};
+ghost use Rattle.pb_epd.specs.Token.{IsToken, text as text_token, word};
+ghost use Rattle.pb_epd.specs.Operation.{IsLetter, IsNameByte, IsOpcode, IsOperand, IsFirstUnlawful};
+
+use crate::operand::Operand;
+use crate::run::{text_run, word_run};
+use crate::token::LONGEST;
+
+/// The most bytes of an opcode after its first.
+const OPCODE_REST: usize = 14;
+
+/// Whether the byte is a letter of ASCII.
+fn is_letter(byte: u8) -> bool
+    ensures { IsTrue result ↔ IsLetter byte }
+{
+    byte.is_ascii_alphabetic()
+}
+
+/// Whether the byte may stand in an opcode after its first byte.
+fn is_name_byte(byte: u8) -> bool
+    ensures { IsTrue result ↔ IsNameByte byte }
+{
+    is_letter(byte) || byte.is_ascii_digit() || byte == b'_'
+}
+
+/// Whether each byte may stand in an opcode after its first byte.
+fn are_name_bytes(bytes: &[u8]) -> bool
+    ensures { IsTrue result ↔ All IsNameByte bytes.now }
+{
+    bytes.iter().all(|byte| is_name_byte(*byte))
+}
+
+/// Whether the bytes are an opcode.
+pub fn is_opcode(bytes: &[u8]) -> bool
+    ensures { IsTrue result ↔ IsOpcode bytes.now }
+{
+    match bytes.split_first() {
+        Some((first, rest)) => is_letter(*first)
+            && are_name_bytes(rest)
+            && rest.len() <= OPCODE_REST,
+        None => false,
+    }
+}
+
+/// Whether the bytes are a word.
+fn is_word(bytes: &[u8]) -> bool
+    ensures { IsTrue result ↔ IsToken (word bytes.now) }
+{
+    !bytes.is_empty() && bytes.len() <= LONGEST && word_run(bytes) == bytes.len()
+}
+
+/// Whether the bytes are those of a text.
+fn is_text(bytes: &[u8]) -> bool
+    ensures { IsTrue result ↔ IsToken (text_token bytes.now) }
+{
+    bytes.len() <= LONGEST && text_run(bytes) == bytes.len()
+}
+
+/// Whether the operand is a lawful word or text.
+fn is_lawful(operand: &Operand) -> bool
+    ensures { IsTrue result ↔ IsOperand operand.now }
+{
+    match operand {
+        Operand::Word(bytes) => is_word(bytes.as_bytes()),
+        Operand::Text(bytes) => is_text(bytes.as_bytes()),
+    }
+}
+
+/// The first unlawful operand, counted from 1.
+pub fn first_unlawful(operands: &[Operand]) -> Option<usize>
+    ensures { MatchOption result (All IsOperand operands.now) (λ n. IsFirstUnlawful n operands.now) }
+{
+    for (i, operand) in operands.iter().enumerate() {
+        if !is_lawful(operand) {
+            return Some(i + 1);
+        }
+    }
+    None
+}

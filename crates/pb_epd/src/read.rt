@@ -1,0 +1,220 @@
+//! Reading an EPD record.
+
+ghost use Rattle.std.specs.Prelude.{◌≡◌, ◌∷◌, ◌++◌, ◌<◌, ◌≤◌, [], ℕ, List, All, length, map, IfOk, IfErr, MatchOption, MatchResult};
+ghost use Rattle.pb_epd.specs.Token.{Token, word, end_mark, Tokens, TokensAfter, IsOperandToken};
+ghost use Rattle.pb_epd.specs.Lexeme.{token_of};
+ghost use Rattle.pb_epd.specs.Epd.{EpdRecord, IsEpd, EpdText};
+ghost use Rattle.pb_epd.specs.Operation.{IsOpcode, IsOperand, operand_token};
+ghost use Rattle.pb_epd.specs.Refusal.{IsNamed, IsFirstDueEpd};
+ghost use Rattle.pb_epd.specs.Reading.{Follow, FourFollow, EndsWithOperands, AreOperands, IsTaken, IsSound, AreOperations, IsRefused};
+ghost use Rattle.pb_epd.specs.declared.refusal.EpdError.TheVariants as epd;
+
+use crate::epd::Epd;
+use crate::operand::{Operand, OperandBytes};
+use crate::operation::is_opcode;
+use crate::refusal::{EpdError, PutError};
+use crate::token::{Lexeme, Step, first_bad, next_token};
+use pb_board::{Setup, read_setup};
+use std::alloc::{AllocError, Global};
+
+/// The words that a line begins with, and what follows them.
+#[derive(Clone, Copy)]
+pub struct Fields<'a> {
+    pub placement: &'a [u8],
+    pub turn: &'a [u8],
+    pub castling: &'a [u8],
+    pub passed: &'a [u8],
+    pub rest: &'a [u8],
+}
+
+/// What stands first among the operations.
+#[derive(Drop)]
+pub enum Taken<'a> {
+    /// No token.
+    Done,
+    /// Tokens without an end.
+    Unended,
+    /// An ended operation that does not begin with an opcode.
+    Unnamed,
+    /// An opcode with its operands, and what follows their end.
+    Operation(&'a [u8], Vec<Operand>, &'a [u8]),
+}
+
+/// The word that comes next, and what follows it.
+fn next_word<'a>(before: Lexeme<'_>, text: &'a [u8]) -> Option<(&'a [u8], &'a [u8])>
+    ensures { MatchOption result
+        ((bytes : List ℕ) (ts : List Token) → ¬ TokensAfter (token_of before.entry) (word bytes ∷ ts) text.now)
+        (λ cut. (ts : List Token) → TokensAfter (token_of before.entry) ts text.now → Follow (word cut.0.now) ts cut.1.now) }
+{
+    let Step::Found(token, rest) = next_token(before, text) else {
+        return None;
+    };
+    match token {
+        Lexeme::Word(bytes) => Some((bytes, rest)),
+        Lexeme::Text(_) => None,
+        Lexeme::End => None,
+    }
+}
+
+/// The four words that a line begins with.
+fn four_words(text: &[u8]) -> Option<Fields<'_>>
+    ensures { MatchOption result
+        ((four : List (List ℕ)) (ts : List Token) → length four ≡ 4 → ¬ Tokens (map word four ++ ts) text.now)
+        (λ f. (ts : List Token) → Tokens ts text.now → FourFollow f ts) }
+{
+    let (placement, rest) = next_word(Lexeme::End, text)?;
+    let (turn, rest) = next_word(Lexeme::Word(placement), rest)?;
+    let (castling, rest) = next_word(Lexeme::Word(turn), rest)?;
+    let (passed, rest) = next_word(Lexeme::Word(castling), rest)?;
+    Some(Fields {
+        placement,
+        turn,
+        castling,
+        passed,
+        rest,
+    })
+}
+
+/// The operand that a word or a text is.
+fn operand_of(alloc: Global, token: Lexeme<'_>) -> Result<Option<Operand>, AllocError>
+    ensures { IfOk result (λ r. MatchOption r (token_of token.entry ≡ end_mark) (λ o. token_of token.entry ≡ operand_token o)) }
+{
+    let operand = match token {
+        Lexeme::Word(bytes) => Operand::Word(OperandBytes::of(bytes.to_vec(alloc)?)),
+        Lexeme::Text(bytes) => Operand::Text(OperandBytes::of(bytes.to_vec(alloc)?)),
+        Lexeme::End => return Ok(None),
+    };
+    Ok(Some(operand))
+}
+
+/// The operands up to the next end, and what follows it; nothing where no end follows.
+fn read_operands<'a>(
+    alloc: Global,
+    before: Lexeme<'_>,
+    text: &'a [u8],
+) -> Result<Option<(Vec<Operand>, &'a [u8])>, AllocError>
+    ensures { IfOk result (λ r. MatchOption r
+        ((ts : List Token) → TokensAfter (token_of before.entry) ts text.now → AreOperands ts)
+        (λ cut. (length cut.1.now < length text.now) × All IsOperand cut.0.items × ((ts : List Token) → TokensAfter (token_of before.entry) ts text.now → EndsWithOperands ts cut.0.items cut.1.now))) }
+{
+    let mut operands = Vec::new(alloc);
+    let mut before = before;
+    let mut rest = text;
+    loop {
+        let Step::Found(token, after) = next_token(before, rest) else {
+            return Ok(None);
+        };
+        let Some(operand) = operand_of(alloc, token)? else {
+            return Ok(Some((operands, after)));
+        };
+        operands.push(operand)?;
+        before = token;
+        rest = after;
+    }
+}
+
+/// The opcode that the token is.
+fn opcode_of<'a>(token: Lexeme<'a>) -> Option<&'a [u8]>
+    ensures { MatchOption result ((ts : List Token) → ¬ IsNamed (token_of token.entry ∷ ts))
+        (λ opcode. (token_of token.entry ≡ word opcode.now) × IsOpcode opcode.now) }
+{
+    match token {
+        Lexeme::Word(bytes) if is_opcode(bytes) => Some(bytes),
+        _ => None,
+    }
+}
+
+/// What stands first among operations.
+fn next_operation<'a>(
+    alloc: Global,
+    before: Lexeme<'_>,
+    text: &'a [u8],
+) -> Result<Taken<'a>, AllocError>
+    ensures taken { IfOk result (λ r. (ts : List Token) → TokensAfter (token_of before.entry) ts text.now → IsTaken r ts) }
+    ensures sound { IfOk result (λ r. IsSound r text.now) }
+{
+    let Step::Found(first, rest) = next_token(before, text) else {
+        return Ok(Taken::Done);
+    };
+    if !first.is_operand() {
+        return Ok(Taken::Unnamed);
+    }
+    let Some((operands, rest)) = read_operands(alloc, first, rest)? else {
+        return Ok(Taken::Unended);
+    };
+    match opcode_of(first) {
+        Some(opcode) => Ok(Taken::Operation(opcode, operands, rest)),
+        None => Ok(Taken::Unnamed),
+    }
+}
+
+/// The record of the setup and of the operations that the text spells.
+fn read_operations(
+    alloc: Global,
+    setup: Setup,
+    before: Lexeme<'_>,
+    text: &[u8],
+) -> Result<Epd, EpdError>
+    ensures found { IfOk result (λ e. (e.setup ≡ setup) × IsEpd e × ((ts : List Token) → TokensAfter (token_of before.entry) ts text.now → AreOperations ts e.operations)) }
+    ensures refused { IfErr result (λ x. (ts : List Token) → TokensAfter (token_of before.entry) ts text.now → IsRefused x ts) }
+{
+    let mut epd = Epd::new(alloc, setup);
+    let mut before = before;
+    let mut rest = text;
+    let mut count = 0;
+    let mut repeated = None;
+    loop {
+        match next_operation(alloc, before, rest) {
+            Ok(Taken::Done) => break,
+            Ok(Taken::Unended) => return Err(EpdError::Unended),
+            Ok(Taken::Unnamed) => return Err(EpdError::Opcode(count + 1)),
+            Ok(Taken::Operation(opcode, operands, after)) => {
+                count += 1;
+                before = Lexeme::End;
+                rest = after;
+                match epd.add(opcode, operands) {
+                    Ok(()) => {}
+                    Err(PutError::Repeated) => repeated = repeated.or(Some(count)),
+                    Err(_) => return Err(EpdError::Memory),
+                }
+            }
+            Err(_) => return Err(EpdError::Memory),
+        }
+    }
+    match repeated {
+        Some(number) => Err(EpdError::Repeated(number)),
+        None => Ok(epd),
+    }
+}
+
+/// The record that the text spells, or the first refusal that is due.
+fn judge(alloc: Global, text: &[u8]) -> Result<Epd, EpdError>
+    ensures found { IfOk result (λ e. IsEpd e × EpdText e text.now) }
+    ensures refused { IfErr result (λ x. IsFirstDueEpd x text.now) }
+{
+    if let Some(at) = first_bad(text) {
+        return Err(EpdError::Token(at));
+    }
+    let Some(fields) = four_words(text) else {
+        return Err(EpdError::Fields);
+    };
+    match read_setup([fields.placement, fields.turn, fields.castling, fields.passed]) {
+        Ok(setup) => read_operations(alloc, setup, Lexeme::Word(fields.passed), fields.rest),
+        Err(error) => Err(EpdError::Setup(error)),
+    }
+}
+
+/// The record that the text spells (PGN Standard 16.2): four words that spell a setup, and operations in any order.
+///
+/// The first refusal that is due is answered, in the order of `EpdError`'s variants; only want of memory may come before the
+/// refusals of the setup and of the operations.
+pub fn read_epd(alloc: Global, text: &[u8]) -> Result<Epd, EpdError>
+    // What is read is a record, and the text spells it.
+    ensures found { IfOk result (λ e. IsEpd e × EpdText e text.now) }
+    // The text of a record is read, where memory suffices.
+    ensures only { (e : EpdRecord) → IsEpd e → EpdText e text.now → MatchResult result (λ r. r ≡ e) (λ x. x ≡ epd.Memory) }
+    // A refusal is the first whose condition holds.
+    ensures refused { IfErr result (λ x. IsFirstDueEpd x text.now) }
+{
+    judge(alloc, text)
+}

@@ -1,0 +1,55 @@
+//! Runs of bytes of one kind at the front of a text.
+
+ghost use Rattle.std.specs.Prelude.{◌≡◌, ◌↔◌, ◌<◌, IsTrue};
+ghost use Rattle.pb_epd.specs.Token.{IsWordByte, IsTextByte};
+ghost use Rattle.pb_epd.specs.Run.{IsRun};
+
+/// Whether the byte may stand in a word.
+fn is_word_byte(byte: u8) -> bool
+    ensures { IsTrue result ↔ IsWordByte byte }
+{
+    (33..=126).contains(&byte) && byte != b';' && byte != b'"'
+}
+
+/// Whether the byte may stand in a text.
+fn is_text_byte(byte: u8) -> bool
+    ensures { IsTrue result ↔ IsTextByte byte }
+{
+    (32..=126).contains(&byte) && byte != b'"'
+}
+
+/// How many spaces begin the text.
+pub fn space_run(text: &[u8]) -> usize
+    ensures { IsRun (λ b. b ≡ 32) text.now result }
+{
+    for (i, byte) in text.iter().enumerate() {
+        if *byte != b' ' {
+            return i;
+        }
+    }
+    text.len()
+}
+
+/// How many bytes of a word begin the text.
+pub fn word_run(text: &[u8]) -> usize
+    ensures { IsRun IsWordByte text.now result }
+{
+    for (i, byte) in text.iter().enumerate() {
+        if !is_word_byte(*byte) {
+            return i;
+        }
+    }
+    text.len()
+}
+
+/// How many bytes of a quoted text begin the text.
+pub fn text_run(text: &[u8]) -> usize
+    ensures { IsRun IsTextByte text.now result }
+{
+    for (i, byte) in text.iter().enumerate() {
+        if !is_text_byte(*byte) {
+            return i;
+        }
+    }
+    text.len()
+}

@@ -1,0 +1,116 @@
+//! The tokens of an EPD line: words, quoted texts and ends, with spaces around them.
+
+ghost use Rattle.std.specs.Prelude.{◌≡◌, ◌≢◌, ◌↔◌, ◌++◌, ◌∷◌, List, ℕ, IsTrue, MatchOption};
+ghost use Rattle.pb_epd.specs.Token.{Token, text as text_token, word, Tokens, IsToken, BeginsWith, IsOperandToken, IsBadAt};
+ghost use Rattle.pb_epd.specs.Lexeme.{token_of, Begins, IsStep};
+
+use crate::run::{space_run, text_run, word_run};
+
+/// The most bytes of a word or a text.
+pub const LONGEST: usize = 255;
+
+/// A token as it stands in a line.
+#[derive(Clone, Copy)]
+pub enum Lexeme<'a> {
+    Word(&'a [u8]),
+    Text(&'a [u8]),
+    End,
+}
+
+/// What comes next in a line.
+#[derive(Clone, Copy)]
+pub enum Step<'a> {
+    /// Spaces alone are left.
+    Done,
+    /// A token, and what follows it.
+    Found(Lexeme<'a>, &'a [u8]),
+    /// A bad token, after so many spaces.
+    Bad(usize),
+}
+
+impl Lexeme<'_> {
+    /// Whether the token is a word or a text.
+    pub fn is_operand(&self) -> bool
+        ensures { IsTrue result ↔ IsOperandToken (token_of self.now) }
+    {
+        !matches!(self, Lexeme::End)
+    }
+}
+
+/// The word that begins the text, and what follows it.
+fn word_at(text: &[u8]) -> Option<(&[u8], &[u8])>
+    ensures { MatchOption result ((bytes : List ℕ) → ¬ BeginsWith text.now (word bytes))
+        (λ cut. Begins text.now (word cut.0.now) cut.1.now) }
+{
+    let length = word_run(text);
+    if length == 0 || length > LONGEST {
+        return None;
+    }
+    Some((&text[..length], &text[length..]))
+}
+
+/// What stands before the closing quote, and what follows that.
+fn quoted_at(text: &[u8]) -> Option<(&[u8], &[u8])>
+    ensures { MatchOption result ((bytes rest : List ℕ) → IsToken (text_token bytes) → text.now ≢ bytes ++ 34 ∷ rest)
+        (λ cut. IsToken (text_token cut.0.now) × (text.now ≡ cut.0.now ++ 34 ∷ cut.1.now)) }
+{
+    let length = text_run(text);
+    if length > LONGEST || length == text.len() || text[length] != b'"' {
+        return None;
+    }
+    Some((&text[..length], &text[length + 1..]))
+}
+
+/// The whole token that begins the text, and what follows it.
+fn token_at(text: &[u8]) -> Option<(Lexeme<'_>, &[u8])>
+    ensures { MatchOption result ((t : Token) → ¬ BeginsWith text.now t)
+        (λ cut. Begins text.now (token_of cut.0) cut.1.now) }
+{
+    let (first, rest) = text.split_first()?;
+    match *first {
+        b';' => Some((Lexeme::End, rest)),
+        b'"' => {
+            let (quoted, rest) = quoted_at(rest)?;
+            Some((Lexeme::Text(quoted), rest))
+        }
+        _ => {
+            let (word, rest) = word_at(text)?;
+            Some((Lexeme::Word(word), rest))
+        }
+    }
+}
+
+/// What comes first in a text that follows a token.
+pub fn next_token<'a>(before: Lexeme<'_>, text: &'a [u8]) -> Step<'a>
+    ensures { IsStep (token_of before.entry) text.now result }
+{
+    let spaces = space_run(text);
+    if spaces == text.len() {
+        return Step::Done;
+    }
+    let Some((token, rest)) = token_at(&text[spaces..]) else {
+        return Step::Bad(spaces);
+    };
+    if spaces == 0 && before.is_operand() && token.is_operand() {
+        return Step::Bad(spaces);
+    }
+    Step::Found(token, rest)
+}
+
+/// The offset of the first bad token.
+pub fn first_bad(text: &[u8]) -> Option<usize>
+    ensures { MatchOption result ((ts : List Token) × Tokens ts text.now) (λ at. IsBadAt text.now at) }
+{
+    let mut before = Lexeme::End;
+    let mut rest = text;
+    loop {
+        match next_token(before, rest) {
+            Step::Done => return None,
+            Step::Bad(spaces) => return Some(text.len() - rest.len() + spaces),
+            Step::Found(token, after) => {
+                before = token;
+                rest = after;
+            }
+        }
+    }
+}

@@ -1,0 +1,56 @@
+//! Writing an EPD record.
+
+ghost use Rattle.std.specs.Prelude.{◌≡◌, ◌∷◌, ◌++◌, IfOk, OnOk};
+ghost use Rattle.pb_epd.specs.Epd.{EpdForm};
+ghost use Rattle.pb_epd.specs.Token.{token_text};
+ghost use Rattle.pb_epd.specs.Operation.{operand_token, operation_text};
+
+use crate::epd::Epd;
+use crate::operand::Operand;
+use pb_board::write_setup;
+use std::alloc::{AllocError, Global};
+
+/// Writes an operand, a text in quotes.
+fn put_operand(out: &mut Vec<u8>, operand: &Operand) -> Result<(), AllocError>
+    ensures { OnOk result (out.new.items ≡ out.old.items ++ token_text (operand_token operand.now)) }
+{
+    match operand {
+        Operand::Word(bytes) => out.extend_from_slice(bytes.as_bytes())?,
+        Operand::Text(bytes) => {
+            out.push(b'"')?;
+            out.extend_from_slice(bytes.as_bytes())?;
+            out.push(b'"')?;
+        }
+    }
+    Ok(())
+}
+
+/// Writes a space and an operation, its operands after single spaces and its end after none.
+fn put_operation(
+    out: &mut Vec<u8>,
+    opcode: &[u8],
+    operands: &[Operand],
+) -> Result<(), AllocError>
+    ensures { OnOk result (out.new.items ≡ out.old.items ++ 32 ∷ operation_text (opcode.now, operands.now)) }
+{
+    out.push(b' ')?;
+    out.extend_from_slice(opcode)?;
+    for operand in operands {
+        out.push(b' ')?;
+        put_operand(out, operand)?;
+    }
+    out.push(b';')?;
+    Ok(())
+}
+
+/// The one ordered text of the record (PGN Standard 16.2.1 and 16.2.2): the four fields, and then the operations in byte
+/// order of their opcodes, with single spaces, no space before an end and none after the last.
+pub fn write_epd(alloc: Global, epd: &Epd) -> Result<Vec<u8>, AllocError>
+    ensures { IfOk result (λ v. EpdForm epd.now v.items) }
+{
+    let mut out = write_setup(alloc, &epd.setup())?;
+    for (opcode, operands) in epd.operations() {
+        put_operation(&mut out, opcode.as_slice(), operands.as_slice())?;
+    }
+    Ok(out)
+}
