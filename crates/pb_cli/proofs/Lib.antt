@@ -1,2 +1,4 @@
+mod Digits
+mod Moves
 mod Puts
 mod Shown

@@ -1,25 +1,22 @@
--- What the lines of the command `fen` say.
-use Rattle.std.proofs.Common.{◌≡◌, ℕ, List, [], ◌++◌, ap, append-nil, ◌∙◌, codes, false, refl, subst, sym, true}
+-- What the command `fen` shows.
+use Rattle.std.proofs.Common.{◌≡◌, ◌∙◌, ℕ, List, [], ◌++◌, ap, append-nil, subst, sym}
 use Rattle.std.specs.Prelude.{Err, Ok, OnErr, Result}
-use Rattle.pb_board.specs.declared.refusal.FenError.{FenError}
-use Rattle.pb_board.specs.Position.{Record, IsRecord}
 use Rattle.pb_board.specs.Fen.{FenText}
-use Rattle.pb_board.specs.Refusal.{IsFirstDue, OfRecord, fields}
-use Rattle.pb_board.specs.Words.{word_of}
-use Rattle.pb_cli.specs.FenShown.{FenShown, no_record, taken}
+use Rattle.pb_board.specs.Position.{Record}
+use Rattle.pb_poly.specs.Sink.{SinkState}
 use Rattle.pb_cli.specs.Line.{with_end}
+use Rattle.pb_cli.specs.Shows.{Shows}
+use Rattle.pb_cli.specs.declared.fault.Fault.{Fault}
 
--- a record that is taken
-pub taken_shown : (fen text shown : List ℕ) (f : Record) → IsRecord f → FenText f fen → FenText f text → shown ≡ text
-    → FenShown fen true (with_end (shown ++ []))
-taken_shown fen text shown f is_record read written same =
-    taken f (shown ++ []) is_record read (subst (FenText f) (sym (append-nil shown ∙ same)) written) refl refl
+-- a line of two parts, of which the second is this text
+pub shown_as : {A : Type 0} (old new : SinkState) (answer : Result A Fault) (head part text line : List ℕ) → part ≡ text
+    → with_end (head ++ text) ≡ line → Shows old new answer (with_end (head ++ (part ++ []))) → Shows old new answer line
+shown_as old new answer head part text line same is shows =
+    subst (λ bytes. Shows old new answer bytes) (ap (λ bytes. with_end (head ++ bytes)) (append-nil part ∙ same) ∙ is) shows
 
--- a refusal of the record
-pub refusal_shown : (fen word : List ℕ) (e : FenError) → IsFirstDue OfRecord e (fields fen) → word ≡ word_of e
-    → FenShown fen false (with_end (codes "refused fen " ++ (word ++ [])))
-refusal_shown fen word e due same =
-    no_record e due refl (ap (λ w. with_end (codes "refused fen " ++ w)) (append-nil word ∙ same))
+-- the bytes of a record's text spell it
+pub spelt_by : (f : Record) (text bytes : List ℕ) → FenText f text → bytes ≡ text → FenText f (bytes ++ [])
+spelt_by f text bytes written same = subst (FenText f) (sym (append-nil bytes ∙ same)) written
 
 -- what holds at a fault
 pub at_fault : {A E X : Type 0} (answer : Result A E) → X → OnErr answer X

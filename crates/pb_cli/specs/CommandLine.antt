@@ -2,14 +2,23 @@
 use Rattle.std.specs.Prelude.{Some, codes, true}
 use Rattle.clap.specs.Words.{App, Rule, Text, new_app, new_rule, with_rule, with_subcommand}
 use Rattle.clap.specs.Simple.{on_top}
-use Rattle.clap.specs.declared.builder.action.ArgAction.TheVariants.{Set}
+use Rattle.clap.specs.Lexer.{usize_max}
+use Rattle.clap.specs.declared.builder.action.ArgAction.TheVariants.{Set, Append}
 
 -- a word that has to be given
 abbrev pub required_word : Text → Rule
 required_word id = record (new_rule id) { required = true; action = Some Set }
 
+-- any number of words
+abbrev pub further_words : Text → Rule
+further_words id = record (new_rule id) {
+  action = Some Append;
+  range = Some (record { start_inclusive = 0; end_inclusive = usize_max });
+}
+
 abbrev pub fen_command : App
-fen_command = with_rule (new_app (codes "fen")) (required_word (codes "FEN"))
+fen_command = with_rule (with_rule (new_app (codes "fen")) (required_word (codes "FEN")))
+    (further_words (codes "MOVES"))
 
 -- the program, before its commands
 abbrev pub program_alone : App

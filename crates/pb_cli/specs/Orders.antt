@@ -1,6 +1,7 @@
 -- What an order has of the words of the command line.
-use Rattle.std.specs.Prelude.{◌≡◌, List, Option, Some, codes}
-use Rattle.clap.specs.Words.{Row, Text, first_of}
+use Rattle.std.specs.Prelude.{◌≡◌, List, [], Option, Some, codes, unwrap_or}
+use Rattle.clap.specs.Words.{Row, Text, all_of, first_of}
+use Rattle.clap.specs.Walk.{texts}
 use Rattle.pb_cli.specs.declared.order.Order.{Order}
 use Rattle.pb_cli.specs.declared.order.ParseFault.{ParseFault}
 use Rattle.pb_cli.specs.declared.order.ParseFault.TheVariants.{Memory}
@@ -8,11 +9,12 @@ use Rattle.pb_cli.specs.declared.order.Order.TheVariants as order
 
 -- the command's name
 abbrev pub name_of : Order → Text
-name_of (order.Fen _) = codes "fen"
+name_of (order.Fen _ _) = codes "fen"
 
 -- the order has the words of these matches
 abbrev pub HasWords : Order → List Row → Type 0
-HasWords (order.Fen fen) rows = first_of (codes "FEN") rows ≡ Some fen.now
+HasWords (order.Fen fen moves) rows = (first_of (codes "FEN") rows ≡ Some fen.now)
+    × (texts moves.items ≡ unwrap_or (all_of (codes "MOVES") rows) [])
 
 -- the order is that of the command that was found, with its words as the matches give them
 abbrev pub IsOrderOf : Order → Option (Text × List Row) → Type 0

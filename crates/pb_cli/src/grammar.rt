@@ -1,8 +1,8 @@
 //! The command line of `pbook`, by clap's builder: one function for each command.
-ghost use Rattle.std.specs.Prelude.{◌≡◌, IfOk, false};
+ghost use Rattle.std.specs.Prelude.{◌≡◌, IfOk, codes, false};
 ghost use Rattle.clap.specs.Words.{rule_of};
 ghost use Rattle.pb_cli.specs.Built.{IsCommand};
-ghost use Rattle.pb_cli.specs.CommandLine.{fen_command, pbook, program_alone, required_word};
+ghost use Rattle.pb_cli.specs.CommandLine.{fen_command, further_words, pbook, program_alone, required_word};
 
 use clap::{Arg, ArgAction, Command};
 use std::alloc::{AllocError, Global};
@@ -10,6 +10,10 @@ use std::alloc::{AllocError, Global};
 /// What a FEN record is, for the help of each command that takes one.
 const RECORD_HELP: &str =
     "A FEN record, its six fields as one quoted word, like 'rnbqkbnr/pppppppp/8/8/8/8/PPPPPPPP/RNBQKBNR w KQkq - 0 1'";
+
+/// How moves are spelt, for the help of the command that plays them.
+const MOVES_HELP: &str =
+    "Moves in turn, each as the square it leaves, the square it reaches and the letter of a promotion, like e2e4, e1g1 or e7e8q";
 
 /// The whole command line.
 pub fn command_line<'a>(alloc: Global) -> Result<Command<'a>, AllocError>
@@ -36,8 +40,11 @@ fn program<'a>(alloc: Global) -> Result<Command<'a>, AllocError>
 fn fen<'a>(alloc: Global) -> Result<Command<'a>, AllocError>
     ensures { IfOk result (IsCommand fen_command) }
 {
-    let bare = Command::new(alloc, "fen").about("Judges a FEN record and prints it");
-    let whole = bare.arg(required(alloc, "FEN", RECORD_HELP))?;
+    let bare = Command::new(alloc, "fen").about(
+        "Plays moves from a FEN record and prints the record after them",
+    );
+    let with_record = bare.arg(required(alloc, "FEN", RECORD_HELP))?;
+    let whole = with_record.arg(moves(alloc))?;
     Ok(whole)
 }
 
@@ -50,4 +57,15 @@ fn required<'a>(alloc: Global, id: &'a str, help: &'a str) -> Arg<'a>
         .required(true)
         .action(ArgAction::Set)
         .help(help)
+}
+
+/// Any number of moves.
+fn moves<'a>(alloc: Global) -> Arg<'a>
+    ensures rule { rule_of result ≡ further_words (codes "MOVES") }
+    ensures local { result.global ≡ false }
+{
+    Arg::new(alloc, "MOVES")
+        .num_args(0..)
+        .action(ArgAction::Append)
+        .help(MOVES_HELP)
 }

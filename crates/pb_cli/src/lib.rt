@@ -2,6 +2,7 @@
 //! ends that it is handed.
 #![tactic(auto)]
 
+mod decimal;
 mod fault;
 mod fen;
 mod grammar;

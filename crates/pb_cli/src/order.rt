@@ -1,7 +1,7 @@
 //! The words of the command line as an order to one command.
-ghost use Rattle.std.specs.Prelude.{◌≡◌, Ok, Some, IfErr, IfOk, OnErr, OnOk, None, [], codes};
+ghost use Rattle.std.specs.Prelude.{◌≡◌, Ok, Some, IfErr, IfOk, OnErr, OnOk, None, [], codes, unwrap_or};
 ghost use Rattle.clap.specs.Walk.{texts};
-ghost use Rattle.clap.specs.Words.{fault_of, first_of, found_of, kind_of, rows_of, subcommand_of, subcommand_rows_of};
+ghost use Rattle.clap.specs.Words.{all_of, fault_of, first_of, found_of, kind_of, rows_of, subcommand_of, subcommand_rows_of};
 ghost use Rattle.clap.specs.declared.error.ErrorKind.TheVariants.{OutOfMemory};
 ghost use Rattle.pb_cli.specs.CommandLine.{pbook};
 ghost use Rattle.pb_cli.specs.Orders.{HasWords, IsOrderOf, RefusesFor, RefusesRightly, name_of};
@@ -15,10 +15,12 @@ use std::alloc::{AllocError, Global};
 /// What the command line asks for, with its words as they were given.
 #[derive(Debug, Drop)]
 pub enum Order<'a> {
-    /// Judges a FEN record.
+    /// Plays moves from a FEN record.
     Fen {
         /// The record, its six fields as one word.
         record: &'a str,
+        /// The words that spell the moves.
+        moves: Vec<&'a str>,
     },
 }
 
@@ -83,7 +85,8 @@ fn fen<'a>(alloc: Global, given: &ArgMatches<'a>) -> Result<Order<'a>, ParseFaul
     ensures refused { IfErr result (RefusesFor (codes "fen") (rows_of (found_of given.now))) }
 {
     let record = word(alloc, given, "FEN")?;
-    Ok(Order::Fen { record })
+    let moves = words(alloc, given, "MOVES")?;
+    Ok(Order::Fen { record, moves })
 }
 
 /// A required word, which clap has where it gives matches.
@@ -95,4 +98,21 @@ fn word<'a>(alloc: Global, given: &ArgMatches<'a>, id: &str) -> Result<&'a str, 
         Some(text) => Ok(text),
         None => Err(ParseFault::Usage(String::new(alloc))),
     }
+}
+
+/// The words of an argument that takes any number.
+fn words<'a>(alloc: Global, given: &ArgMatches<'a>, id: &str) -> Result<Vec<&'a str>, AllocError>
+    ensures { IfOk result (λ all. texts all.items
+        ≡ unwrap_or (all_of id.now (rows_of (found_of given.now))) []) }
+{
+    match given.get_strs(id) {
+        Some(found) => copy_of(alloc, found),
+        None => Ok(Vec::new(alloc)),
+    }
+}
+
+fn copy_of<'a>(alloc: Global, found: &[&'a str]) -> Result<Vec<&'a str>, AllocError>
+    ensures { IfOk result (λ copy. copy.items ≡ found.now) }
+{
+    found.iter().copied().collect(alloc)
 }

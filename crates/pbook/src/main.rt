@@ -61,7 +61,9 @@ fn perform(rt: &HostRuntime, order: &Order<'_>) -> u8 {
     };
     let mut output = ToWrite::new(writer);
     let answer = match order {
-        Order::Fen { record } => run_fen(alloc, record.as_bytes(), &[], &mut output),
+        Order::Fen { record, moves } => {
+            run_fen(alloc, record.as_bytes(), moves.as_slice(), &mut output)
+        }
     };
     if let Err(fault) = answer {
         tell_fault(&mut output, fault);
