@@ -1,4 +1,5 @@
 mod Digits
 mod Moves
 mod Puts
+mod Rewriting
 mod Shown

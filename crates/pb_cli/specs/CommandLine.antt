@@ -20,6 +20,9 @@ abbrev pub fen_command : App
 fen_command = with_rule (with_rule (new_app (codes "fen")) (required_word (codes "FEN")))
     (further_words (codes "MOVES"))
 
+abbrev pub epd_command : App
+epd_command = new_app (codes "epd")
+
 -- the program, before its commands
 abbrev pub program_alone : App
 program_alone = on_top (λ s. record s {
@@ -30,4 +33,4 @@ program_alone = on_top (λ s. record s {
 
 -- the whole command line
 abbrev pub pbook : App
-pbook = with_subcommand program_alone fen_command.top
+pbook = with_subcommand (with_subcommand program_alone fen_command.top) epd_command.top

@@ -10,11 +10,13 @@ use Rattle.pb_cli.specs.declared.order.Order.TheVariants as order
 -- the command's name
 abbrev pub name_of : Order → Text
 name_of (order.Fen _ _) = codes "fen"
+name_of order.Epd = codes "epd"
 
 -- the order has the words of these matches
 abbrev pub HasWords : Order → List Row → Type 0
 HasWords (order.Fen fen moves) rows = (first_of (codes "FEN") rows ≡ Some fen.now)
     × (texts moves.items ≡ unwrap_or (all_of (codes "MOVES") rows) [])
+HasWords order.Epd rows = Unit {0}
 
 -- the order is that of the command that was found, with its words as the matches give them
 abbrev pub IsOrderOf : Order → Option (Text × List Row) → Type 0

@@ -2,7 +2,7 @@
 ghost use Rattle.std.specs.Prelude.{◌≡◌, IfOk, codes, false};
 ghost use Rattle.clap.specs.Words.{rule_of};
 ghost use Rattle.pb_cli.specs.Built.{IsCommand};
-ghost use Rattle.pb_cli.specs.CommandLine.{fen_command, further_words, pbook, program_alone, required_word};
+ghost use Rattle.pb_cli.specs.CommandLine.{epd_command, fen_command, further_words, pbook, program_alone, required_word};
 
 use clap::{Arg, ArgAction, Command};
 use std::alloc::{AllocError, Global};
@@ -21,7 +21,8 @@ pub fn command_line<'a>(alloc: Global) -> Result<Command<'a>, AllocError>
 {
     let alone = program(alloc)?;
     let with_fen = alone.subcommand(fen(alloc)?)?;
-    Ok(with_fen)
+    let with_epd = with_fen.subcommand(epd(alloc))?;
+    Ok(with_epd)
 }
 
 /// The program without its commands. Its name in usage lines is `pbook`, however it was called.
@@ -46,6 +47,14 @@ fn fen<'a>(alloc: Global) -> Result<Command<'a>, AllocError>
     let with_record = bare.arg(required(alloc, "FEN", RECORD_HELP))?;
     let whole = with_record.arg(moves(alloc))?;
     Ok(whole)
+}
+
+fn epd<'a>(alloc: Global) -> Command<'a>
+    ensures { IsCommand epd_command result }
+{
+    Command::new(alloc, "epd").about(
+        "Rewrites EPD lines from standard input, each in its one ordered form",
+    )
 }
 
 /// A word that has to be given.

@@ -22,6 +22,8 @@ pub enum Order<'a> {
         /// The words that spell the moves.
         moves: Vec<&'a str>,
     },
+    /// Rewrites EPD lines from standard input.
+    Epd,
 }
 
 /// Why the command line gives no order.
@@ -75,6 +77,9 @@ fn order_of<'a>(alloc: Global, matches: &ArgMatches<'a>) -> Result<Order<'a>, Pa
 {
     if let Some(given) = matches.subcommand_matches("fen") {
         return fen(alloc, given);
+    }
+    if matches.subcommand_matches("epd").is_some() {
+        return Ok(Order::Epd);
     }
     Err(ParseFault::Usage(String::new(alloc)))
 }

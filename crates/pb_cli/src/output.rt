@@ -8,7 +8,7 @@ use crate::fault::Fault;
 use pb_poly::{Failed, Sink};
 
 /// Puts the parts of a line in turn, and its end.
-fn put_line<K: Sink>(sink: &mut K, parts: &[&[u8]]) -> Result<(), Failed>
+pub fn put_line<K: Sink>(sink: &mut K, parts: &[&[u8]]) -> Result<(), Failed>
     ensures { Put (K.state sink.old) (K.state sink.new) result (with_end (joined parts.now)) }
 {
     for part in parts {

@@ -1,8 +1,8 @@
 //! The program `pbook`: opens what the command line names and hands it to the commands.
 #![tactic(auto)]
 
-use pb_cli::{Fault, Order, ParseFault, parse, run_fen, status};
-use pb_poly::{Sink, ToWrite};
+use pb_cli::{Fault, Order, ParseFault, parse, run_epd, run_fen, status};
+use pb_poly::{FromRead, Sink, ToWrite};
 use std::alloc::AllocError;
 use std::io::{BufWriter, Write};
 use std::process::ExitCode;
@@ -63,6 +63,10 @@ fn perform(rt: &HostRuntime, order: &Order<'_>) -> u8 {
     let answer = match order {
         Order::Fen { record, moves } => {
             run_fen(alloc, record.as_bytes(), moves.as_slice(), &mut output)
+        }
+        Order::Epd => {
+            let mut input = FromRead::new(rt.reader());
+            run_epd(alloc, &mut input, &mut output, u32::MAX)
         }
     };
     if let Err(fault) = answer {
