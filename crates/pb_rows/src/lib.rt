@@ -2,6 +2,8 @@
 #![tactic(auto)]
 
 #[cfg(test)]
+mod cli;
+#[cfg(test)]
 mod ends;
 #[cfg(test)]
 mod fen;
