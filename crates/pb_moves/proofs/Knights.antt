@@ -3,6 +3,7 @@ use Rattle.std.proofs.Common.{◌≡◌, ℕ, ◌<◌, ◌&&◌, ◌||◌, refl,
 use Rattle.std.proofs.lemmas.Bool.{and_parts, eqb-true, cases_Bool, cases_lt, false≢true}
 use Rattle.std.proofs.lemmas.Bool.Decides.{nat_tests}
 use Rattle.pb_moves.specs.declared.knight.TheConstants.{KNIGHT_SQUARES}
+use Rattle.pb_moves.proofs.Below.{all_below, any_below, all_below_at, any_below_at}
 use Rattle.pb_moves.specs.Attack.{IsKnightsMove, files_apart, ranks_apart}
 
 abbrev pub is_apart : ℕ → ℕ → Bool
@@ -10,34 +11,6 @@ is_apart f r = (eqb f 1 && eqb r 2) || (eqb f 2 && eqb r 1)
 
 abbrev pub is_knights_move : ℕ → ℕ → Bool
 is_knights_move a b = is_apart (files_apart a b) (ranks_apart a b)
-
--- a test of each number below n
-abbrev pub all_below : (ℕ → Bool) → ℕ → Bool
-all_below p zero = true
-all_below p (suc n) = p n && all_below p n
-
--- a test that some number below n passes
-abbrev pub any_below : (ℕ → Bool) → ℕ → Bool
-any_below p zero = false
-any_below p (suc n) = p n || any_below p n
-
-pub all_below_at : (p : ℕ → Bool) (n k : ℕ) → all_below p n ≡ true → k < n → p k ≡ true
-all_below_at p zero k h lt = absurd (omega arith)
-all_below_at p (suc n) k h lt =
-    let parts = and_parts (p n) (all_below p n) h in
-    elim (cases_lt k n) [
-      | inl l ↦ all_below_at p n k parts.1 l
-      | inr g ↦ (let same : n ≡ k = omega arith in let P : ℕ → Type 0 = λ x. p x ≡ true in subst P same parts.0)
-    ]
-
-pub any_below_at : (p : ℕ → Bool) (n : ℕ) → any_below p n ≡ true → (k : ℕ) × (k < n) × (p k ≡ true)
-any_below_at p zero h = absurd (false≢true h)
-any_below_at p (suc n) h =
-    elim (cases_Bool (p n)) [
-      | inl passes ↦ (n, omega arith, passes)
-      | inr fails ↦ (let below : any_below p n ≡ true = sym (ap (λ (b : Bool). b || any_below p n) fails) ∙ h in
-          let w = any_below_at p n below in (w.0, omega (arith, w.1), w.2))
-    ]
 
 pub apart_is : (a b : ℕ) → is_knights_move a b ≡ true → IsKnightsMove a b
 apart_is a b h =

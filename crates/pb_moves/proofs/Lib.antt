@@ -1,7 +1,9 @@
 pub mod Rays
 pub mod Striking
-pub mod Compass
+pub mod Below
 pub mod Knights
+pub mod Targets
+pub mod Rising
 pub mod Unique
 pub mod Kings
 pub mod Kept

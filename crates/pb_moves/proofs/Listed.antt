@@ -1,5 +1,5 @@
 -- A list of legal moves in order, one place at a time.
-use Rattle.std.proofs.Common.{◌≡◌, ℕ, ◌+◌, ◌*◌, ◌<◌, ◌≤◌, ◌⊎◌, refl, arith, inl, inr, sym, ap, subst, ◌∙◌, Option, Some, None, List, [], ◌∷◌, ◌++◌, Contains}
+use Rattle.std.proofs.Common.{◌≡◌, ℕ, ◌+◌, ◌*◌, ◌<◌, ◌≤◌, ◌⊎◌, refl, arith, inl, inr, sym, ap, subst, ◌∙◌, Option, Some, None, List, [], ◌∷◌, ◌++◌, Contains, w64, ◌^◌, ◌≢◌}
 use Rattle.std.proofs.lemmas.Bool.{cases_lt}
 use Rattle.std.proofs.lemmas.List.Elements.{All-push, All-weaker, All-get_or, Contains-push, Contains-append_left}
 use Rattle.std.proofs.lemmas.List.Quantifiers.{all_pairs_push}
@@ -12,9 +12,10 @@ use Rattle.pb_board.specs.Board.{Board, Holds, IsForward, file, rank}
 use Rattle.pb_board.specs.Position.{Position}
 use Rattle.pb_moves.specs.declared.castling.Castling.{Castling}
 use Rattle.pb_moves.specs.declared.castling.Castling.TheVariants.{WhiteShort}
-use Rattle.pb_moves.specs.Attack.{ReachesBy}
-use Rattle.pb_moves.proofs.Unique.{step_ranks}
+use Rattle.pb_moves.specs.Attack.{files_apart, ReachesBy}
+use Rattle.std.specs.Int.{bit_at, trailing_zeros}
 use Rattle.pb_moves.proofs.Legality.{case_at}
+use Rattle.pb_moves.proofs.Rising.{low_bits, zeros_bound, zeros_rise, without, without_other, without_small}
 use Rattle.pb_moves.specs.Moved.{Moved, IsMove, IsPromotion}
 use Rattle.pb_moves.specs.Castling.{castling_row}
 use Rattle.pb_moves.specs.Cases.{Legal, CaseOf, piece_move, pawn_step, pawn_double, pawn_capture, en_passant, castles, Becomes}
@@ -121,34 +122,34 @@ lists_pass_from s ms from none lists =
     let P : ℕ → Type 0 = λ x. HoldsOwn s x legal.moves.piece in
     none legal.moves.piece (subst P same (record { stands = legal.moves.stands; own = legal.moves.own })))
 
-pub reach_goes : (colour : Colour) (kind : Kind) (board : Board) (a b : ℕ) → ReachesBy colour kind board a b → MayGo kind a b
-reach_goes White Pawn board a b r = (omega arith, omega arith)
-reach_goes Black Pawn board a b r = (omega arith, omega arith)
+pub reach_goes : (colour : Colour) (kind : Kind) (board : Board) (a b : ℕ) → ReachesBy colour kind board a b → MayGo colour kind a b
+reach_goes colour Pawn board a b r = inl (r.1, omega arith)
 reach_goes colour Knight board a b r = r
-reach_goes colour Bishop board a b r = r.0.0
-reach_goes colour Rook board a b r = elim r.0 [ inl k ↦ inl k.0 | inr k ↦ inr k.1 ]
-reach_goes colour Queen board a b r = elim r.0 [ inl k ↦ inl k.0 | inr k ↦ elim k [ inl l ↦ inr (inl l.0) | inr l ↦ inr (inr l.1) ] ]
-reach_goes colour King board a b r = (omega arith, omega arith)
+reach_goes colour Bishop board a b r = r.0
+reach_goes colour Rook board a b r = r.0
+reach_goes colour Queen board a b r = r.0
+reach_goes colour King board a b r = inl r
 
-pub pawn_goes : (side : Colour) (n a b : ℕ) (kind : Kind) → kind ≡ Pawn → n ≤ 2 → file b ≡ file a → IsForward side n a b → MayGo kind a b
-pawn_goes side n a b k pawn le same forward =
-    let P : Kind → Type 0 = λ k. MayGo k a b in
-    let ranks = step_ranks side n a b forward in
-    subst P (sym pawn) (omega arith, omega arith)
+-- a pawn's step, by the side that moves
+pub step_goes : (p : Piece) (side : Colour) (a b : ℕ) → p.colour ≡ side → p.kind ≡ Pawn → (IsForward side 1 a b × (files_apart a b ≤ 1)) ⊎ (IsForward side 2 a b × (files_apart a b ≡ 0)) → MayGo p.colour p.kind a b
+step_goes p side a b own pawn goes =
+    let K : Kind → Type 0 = λ k. MayGo p.colour k a b in
+    let C : Colour → Type 0 = λ c. MayGo c Pawn a b in
+    subst K (sym pawn) (subst C (sym own) goes)
 
-pub castling_goes : (c : Castling) (a b : ℕ) (kind : Kind) → kind ≡ King → a ≡ (castling_row c).king_from → b ≡ (castling_row c).king_to → MayGo kind a b
-castling_goes WhiteShort a b King e f g = (omega arith, omega arith)
-castling_goes c a b King e f g = (omega arith, omega arith)
-castling_goes c a b k e f g = absurd (cc)
+pub castling_goes : (c : Castling) (colour : Colour) (a b : ℕ) (kind : Kind) → kind ≡ King → a ≡ (castling_row c).king_from → b ≡ (castling_row c).king_to → MayGo colour kind a b
+castling_goes WhiteShort colour a b King e f g = inr (omega arith, omega arith)
+castling_goes c colour a b King e f g = inr (omega arith, omega arith)
+castling_goes c colour a b k e f g = absurd (cc)
 
 -- a piece goes only where its kind may
-pub case_goes : (s : Position) (m : Moved) (p : Piece) (b : Board) → CaseOf s m p b → MayGo p.kind m.from m.to
-case_goes s m p b (piece_move x) = reach_goes p.colour p.kind s.board m.from m.to x.reaches
-case_goes s m p b (pawn_step x) = pawn_goes s.turn 1 m.from m.to p.kind x.pawn (omega arith) x.same_file x.forward
-case_goes s m p b (pawn_double x) = pawn_goes s.turn 2 m.from m.to p.kind x.pawn (omega arith) x.same_file x.forward
-case_goes s m p b (pawn_capture x) = reach_goes p.colour p.kind s.board m.from m.to x.reaches
-case_goes s m p b (en_passant x) = reach_goes p.colour p.kind s.board m.from m.to x.reaches
-case_goes s m p b (castles c x) = castling_goes c m.from m.to p.kind x.king x.from_home x.to_table
+pub case_goes : (s : Position) (m : Moved) (p : Piece) (b : Board) → p.colour ≡ s.turn → CaseOf s m p b → MayGo p.colour p.kind m.from m.to
+case_goes s m p b own (piece_move x) = reach_goes p.colour p.kind s.board m.from m.to x.reaches
+case_goes s m p b own (pawn_step x) = step_goes p s.turn m.from m.to own x.pawn (inl (x.forward, let f = x.same_file in omega arith))
+case_goes s m p b own (pawn_double x) = step_goes p s.turn m.from m.to own x.pawn (inr (x.forward, let f = x.same_file in omega arith))
+case_goes s m p b own (pawn_capture x) = reach_goes p.colour p.kind s.board m.from m.to x.reaches
+case_goes s m p b own (en_passant x) = reach_goes p.colour p.kind s.board m.from m.to x.reaches
+case_goes s m p b own (castles c x) = castling_goes c p.colour m.from m.to p.kind x.king x.from_home x.to_table
 
 pub becomes_promotes : (side : Colour) (m : Moved) (k l : Kind) → Becomes side m k → m.promo ≡ Some l → (rank m.to ≡ 0) ⊎ (rank m.to ≡ 7)
 becomes_promotes White m k l (inl x) e = inr x.0
@@ -168,20 +169,35 @@ pub promotion_some : (o : Option Kind) → 0 < promotion_place o → (k : Kind) 
 promotion_some None h = absurd (omega arith)
 promotion_some (Some k) h = (k, refl)
 
--- no legal move goes where the piece's kind may not
-pub lists_pass_to : (s : Position) (ms : List Moved) (p : Piece) (from to : ℕ) → to < 64 → HoldsOwn s from p → ¬ MayGo p.kind from to
-    → ListsBelow s ms (320 * from + 5 * to) → ListsBelow s ms (320 * from + 5 * to + 5)
-lists_pass_to s ms p from to on_to own none lists =
-    lists_skip s ms (320 * from + 5 * to) (320 * from + 5 * to + 5) (omega arith) lists (λ q ok legal lo hi.
+-- the bits of the squares from one on, to which a piece may go
+pub record HasTargets (p : Piece) (from k bits : ℕ) : Type 0 where
+  pub every : (q : ℕ) → q < 64 → k ≤ q → MayGo p.colour p.kind from q → bit_at bits q ≡ 1
+
+-- no legal move goes to a square before the lowest of the bits
+pub lists_to_lowest : (s : Position) (ms : List Moved) (p : Piece) (from k bits : ℕ) → HoldsOwn s from p → bits < 2 ^ 64 → k ≤ trailing_zeros w64 bits
+    → HasTargets p from k bits → ListsBelow s ms (320 * from + 5 * k) → ListsBelow s ms (320 * from + 5 * trailing_zeros w64 bits)
+lists_to_lowest s ms p from k bits own small le targets lists =
+    lists_skip s ms (320 * from + 5 * k) (320 * from + 5 * trailing_zeros w64 bits) (omega arith) lists (λ q ok legal lo hi.
     let a = ok.to_on_board in
     let b = promotion_small q.promo in
+    let bound = zeros_bound bits small in
     let same_from : q.from ≡ from = omega arith in
-    let same_to : q.to ≡ to = omega arith in
+    let from_on : k ≤ q.to = omega arith in
+    let before : q.to < trailing_zeros w64 bits = omega arith in
     let P : ℕ → Type 0 = λ x. Holds s.board x p in
     let at_piece = case_at s q legal.new p (subst P (sym same_from) own.stands) legal.moves in
-    let G : ℕ → Type 0 = λ x. MayGo p.kind x q.to in
-    let H : ℕ → Type 0 = λ x. MayGo p.kind from x in
-    none (subst H same_to (subst G same_from (case_goes s q p legal.new at_piece))))
+    let G : ℕ → Type 0 = λ x. MayGo p.colour p.kind x q.to in
+    let one = targets.every q.to a from_on (subst G same_from (case_goes s q p legal.new own.own at_piece)) in
+    let none = low_bits bits q.to small before in
+    omega arith)
+
+-- the bits left after the lowest are those of the squares after it
+pub targets_left : (p : Piece) (from k bits : ℕ) → k ≤ trailing_zeros w64 bits → trailing_zeros w64 bits < 64 → HasTargets p from k bits
+    → HasTargets p from (trailing_zeros w64 bits + 1) (without bits (trailing_zeros w64 bits))
+targets_left p from k bits le some targets = record {
+  every = λ q on after may. (let ne : q ≢ trailing_zeros w64 bits = λ e. omega arith in
+      without_other bits (trailing_zeros w64 bits) q some on ne ∙ targets.every q on (omega arith) may);
+}
 
 -- no promotion is legal where none may be
 pub lists_pass_promotions : (s : Position) (ms : List Moved) (p : Piece) (from to : ℕ) → to < 64 → HoldsOwn s from p → ¬ MayPromote p.kind to
@@ -197,3 +213,21 @@ lists_pass_promotions s ms p from to on_to own none lists =
     let some = promotion_some q.promo (omega arith) in
     let H : ℕ → Type 0 = λ x. MayPromote p.kind x in
     none (subst H same_to (case_promotes s q p legal.new some.0 at_piece some.1)))
+
+-- after the moves to the square of the lowest bit, go on with the next
+pub lists_next : (s : Position) (ms : List Moved) (p : Piece) (from bits to : ℕ) → HoldsOwn s from p → bits < 2 ^ 64 → trailing_zeros w64 bits < 64
+    → to ≡ trailing_zeros w64 bits → HasTargets p from (trailing_zeros w64 bits) bits → ListsBelow s ms (320 * from + 5 * to + 5)
+    → (let rest = without bits (trailing_zeros w64 bits) in
+    ListsBelow s ms (320 * from + 5 * trailing_zeros w64 rest) × HasTargets p from (trailing_zeros w64 rest) rest)
+lists_next s ms p from bits to own small some here targets lists =
+    let k = trailing_zeros w64 bits in
+    let rest = without bits (trailing_zeros w64 bits) in
+    let smaller = without_small bits (trailing_zeros w64 bits) small in
+    let rises = zeros_rise bits small smaller some in
+    let le : trailing_zeros w64 bits + 1 ≤ trailing_zeros w64 (without bits (trailing_zeros w64 bits)) = omega arith in
+    let left = targets_left p from k bits (omega arith) some targets in
+    let L : ℕ → Type 0 = λ n. ListsBelow s ms n in
+    let next : 320 * from + 5 * to + 5 ≡ 320 * from + 5 * (trailing_zeros w64 bits + 1) = omega arith in (
+      lists_to_lowest s ms p from (k + 1) rest own smaller le left (subst L next lists),
+      record { every = λ q on after may. left.every q on (omega arith) may },
+    )

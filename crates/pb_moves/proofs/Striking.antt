@@ -11,7 +11,7 @@ use Rattle.pb_moves.specs.declared.direction.Direction.{Direction}
 use Rattle.pb_moves.specs.declared.direction.Direction.TheVariants.{North, NorthEast, East, SouthEast, South, SouthWest, West, NorthWest}
 use Rattle.pb_moves.specs.declared.line.Hit.{Hit}
 use Rattle.pb_moves.specs.Attack.{StepsFrom, EmptyBelow, Clear, ReachesBy, IsAttacked, IsKnightsMove, apart}
-use Rattle.pb_moves.specs.Walk.{IsFirst, Strikes, AttackedAlong, AttackedByKnight}
+use Rattle.pb_moves.specs.Walk.{IsFirst, Strikes, AttackedAlong, AttackedByKnight, AttackedStraight, north, east, south, west, AttackedDiagonally, north_east, south_east, south_west, north_west}
 use Rattle.pb_moves.proofs.Rays.{back, back_from, clear_back, clear_only, empty_back, lined, steps_one, steps_none, first_within, empty_or_taken, holds_on_board}
 
 -- the two ends of some steps differ
@@ -214,3 +214,26 @@ attacked_parts board side b full on_b attack =
 
 pub attacked_by_knights : (board : Board) (side : Colour) (b : ℕ) → AttackedByKnight board side b → IsAttacked board side b
 attacked_by_knights board side b k = (k.from, record { piece = record { colour = side; kind = Knight }; stands = k.stands; of_side = refl; reaches = k.reaches })
+
+-- an attack along a line is straight or diagonal
+pub straight_along : (board : Board) (side : Colour) (b : ℕ) → AttackedStraight board side b → (d : Direction) × AttackedAlong board side d b
+straight_along board side b (north x) = (North, x)
+straight_along board side b (east x) = (East, x)
+straight_along board side b (south x) = (South, x)
+straight_along board side b (west x) = (West, x)
+
+pub diagonal_along : (board : Board) (side : Colour) (b : ℕ) → AttackedDiagonally board side b → (d : Direction) × AttackedAlong board side d b
+diagonal_along board side b (north_east x) = (NorthEast, x)
+diagonal_along board side b (south_east x) = (SouthEast, x)
+diagonal_along board side b (south_west x) = (SouthWest, x)
+diagonal_along board side b (north_west x) = (NorthWest, x)
+
+pub along_either : (board : Board) (side : Colour) (d : Direction) (b : ℕ) → AttackedAlong board side d b → AttackedStraight board side b ⊎ AttackedDiagonally board side b
+along_either board side North b x = inl (north x)
+along_either board side East b x = inl (east x)
+along_either board side South b x = inl (south x)
+along_either board side West b x = inl (west x)
+along_either board side NorthEast b x = inr (north_east x)
+along_either board side SouthEast b x = inr (south_east x)
+along_either board side SouthWest b x = inr (south_west x)
+along_either board side NorthWest b x = inr (north_west x)

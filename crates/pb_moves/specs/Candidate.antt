@@ -1,11 +1,12 @@
 -- Squares to which a piece may go, and the legal moves found so far.
-use Rattle.std.specs.Prelude.{◌≡◌, ℕ, ◌<◌, ◌≤◌, ◌⊎◌, List, All, AllPairs, Contains}
+use Rattle.std.specs.Prelude.{◌≡◌, ℕ, ◌<◌, ◌≤◌, ◌⊎◌, max, List, All, AllPairs, Contains}
+use Rattle.pb_board.specs.declared.piece.Colour.{Colour}
 use Rattle.pb_board.specs.declared.piece.Kind.{Kind}
 use Rattle.pb_board.specs.declared.piece.Kind.TheVariants.{Pawn, Knight, Bishop, Rook, Queen, King}
 use Rattle.pb_board.specs.declared.piece.Piece.{Piece}
-use Rattle.pb_board.specs.Board.{Holds, rank}
+use Rattle.pb_board.specs.Board.{Holds, rank, IsForward}
 use Rattle.pb_board.specs.Position.{Position}
-use Rattle.pb_moves.specs.Attack.{files_apart, ranks_apart, IsKnightsMove}
+use Rattle.pb_moves.specs.Attack.{files_apart, ranks_apart, IsKnightsMove, IsDiagonal, IsStraight}
 use Rattle.pb_moves.specs.Moved.{Moved, IsMove}
 use Rattle.pb_moves.specs.Cases.{Legal}
 use Rattle.pb_moves.specs.Listing.{place}
@@ -15,14 +16,16 @@ pub record HoldsOwn (s : Position) (square : ℕ) (piece : Piece) : Type 0 where
   pub stands : Holds s.board square piece
   pub own : piece.colour ≡ s.turn
 
--- a square to which a piece of this kind can go from another on some board
-abbrev pub MayGo : Kind → ℕ → ℕ → Type 0
-MayGo Pawn a b = (files_apart a b ≤ 1) × (ranks_apart a b ≤ 2)
-MayGo Knight a b = IsKnightsMove a b
-MayGo Bishop a b = files_apart a b ≡ ranks_apart a b
-MayGo Rook a b = (files_apart a b ≡ 0) ⊎ (ranks_apart a b ≡ 0)
-MayGo Queen a b = (files_apart a b ≡ ranks_apart a b) ⊎ ((files_apart a b ≡ 0) ⊎ (ranks_apart a b ≡ 0))
-MayGo King a b = (files_apart a b ≤ 2) × (ranks_apart a b ≤ 1)
+-- a piece of this colour and kind can go from one square to the other on some board
+abbrev pub MayGo : Colour → Kind → ℕ → ℕ → Type 0
+MayGo colour Pawn a b =
+    (IsForward colour 1 a b × (files_apart a b ≤ 1)) ⊎ (IsForward colour 2 a b × (files_apart a b ≡ 0))
+MayGo colour Knight a b = IsKnightsMove a b
+MayGo colour Bishop a b = IsDiagonal a b
+MayGo colour Rook a b = IsStraight a b
+MayGo colour Queen a b = IsDiagonal a b ⊎ IsStraight a b
+MayGo colour King a b =
+    (max (files_apart a b) (ranks_apart a b) ≡ 1) ⊎ ((files_apart a b ≡ 2) × (ranks_apart a b ≡ 0))
 
 -- a pawn that goes to the first or last rank
 abbrev pub MayPromote : Kind → ℕ → Type 0

@@ -2,16 +2,16 @@
 use Rattle.std.specs.Prelude.{◌≢◌, ℕ, ◌⊎◌}
 use Rattle.pb_board.specs.declared.piece.Kind.TheVariants.{King}
 use Rattle.pb_board.specs.declared.piece.Piece.{Piece}
+use Rattle.pb_board.specs.Board.{Board}
 use Rattle.pb_board.specs.Position.{Position, IsOnlyKing}
-use Rattle.pb_moves.specs.declared.legal.Outcome.{Outcome}
 use Rattle.pb_moves.specs.Attack.{InCheck, IsDiagonal, IsStraight}
 use Rattle.pb_moves.specs.Cases.{CaseOf}
 use Rattle.pb_moves.specs.Moved.{Moved}
 
-pub record IsOutcome (s : Position) (m : Moved) (piece : Piece) (outcome : Outcome) : Type 0 where
-  pub by_case : CaseOf s m piece outcome.board
-  pub king : IsOnlyKing outcome.board s.turn outcome.king
-  pub safe : ¬ InCheck outcome.board s.turn
+pub record IsOutcome (s : Position) (m : Moved) (piece : Piece) (board : Board) (king : ℕ) : Type 0 where
+  pub by_case : CaseOf s m piece board
+  pub only_king : IsOnlyKing board s.turn king
+  pub safe : ¬ InCheck board s.turn
 
 -- the piece isn't the king, and stands on no line with its side's king
 pub record IsUnpinned (s : Position) (from : ℕ) (piece : Piece) : Type 0 where

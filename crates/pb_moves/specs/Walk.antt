@@ -38,6 +38,20 @@ pub record AttackedAlong (board : Board) (side : Colour) (direction : Direction)
   pub lies : StepsFrom direction steps square from
   pub attacks : Attacks board side from square
 
+-- a piece of this side attacks the square along its file or its rank
+pub data AttackedStraight (board : Board) (side : Colour) (square : ℕ) : Type 0 where
+  north : AttackedAlong board side North square → AttackedStraight board side square
+  east : AttackedAlong board side East square → AttackedStraight board side square
+  south : AttackedAlong board side South square → AttackedStraight board side square
+  west : AttackedAlong board side West square → AttackedStraight board side square
+
+-- a piece of this side attacks the square along a diagonal
+pub data AttackedDiagonally (board : Board) (side : Colour) (square : ℕ) : Type 0 where
+  north_east : AttackedAlong board side NorthEast square → AttackedDiagonally board side square
+  south_east : AttackedAlong board side SouthEast square → AttackedDiagonally board side square
+  south_west : AttackedAlong board side SouthWest square → AttackedDiagonally board side square
+  north_west : AttackedAlong board side NorthWest square → AttackedDiagonally board side square
+
 -- a knight of this side attacks the square
 pub record AttackedByKnight (board : Board) (side : Colour) (square : ℕ) : Type 0 where
   pub from : ℕ

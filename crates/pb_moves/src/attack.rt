@@ -3,11 +3,11 @@
 ghost use Rattle.std.specs.Prelude.{◌≡◌, ◌<◌, ◌↔◌, IsTrue};
 ghost use Rattle.pb_board.specs.Board.{IsForward};
 ghost use Rattle.pb_moves.specs.Attack.{Clear, Reaches, IsAttacked};
-ghost use Rattle.pb_moves.specs.Walk.{PawnStrikes, Strikes, AttackedAlong};
 ghost use Rattle.pb_moves.specs.declared.direction.Direction.{Direction};
+ghost use Rattle.pb_moves.specs.Walk.{PawnStrikes, Strikes, AttackedAlong, AttackedStraight, AttackedDiagonally};
 
 use crate::board::Board;
-use crate::direction::{DIRECTIONS, Direction};
+use crate::direction::Direction;
 use crate::knight::attacked_by_knight;
 use crate::line::{first_along, line_between};
 use pb_board::{Colour, Kind, Piece, Square};
@@ -95,16 +95,33 @@ fn attacked_along(board: &Board, by: Colour, direction: Direction, square: Squar
     }
 }
 
-// Whether a piece of this side attacks the square from somewhere on its lines.
+// Whether a piece of this side attacks the square along its rank or its file. Each direction is written out, so that
+// it is known where the walk is compiled.
+fn attacked_straight(board: &Board, square: Square, by: Colour) -> bool
+    ensures { IsTrue result ↔ AttackedStraight board.now by square }
+{
+    attacked_along(board, by, Direction::North, square)
+        || attacked_along(board, by, Direction::East, square)
+        || attacked_along(board, by, Direction::South, square)
+        || attacked_along(board, by, Direction::West, square)
+}
+
+// Whether a piece of this side attacks the square along a diagonal.
+fn attacked_diagonally(board: &Board, square: Square, by: Colour) -> bool
+    ensures { IsTrue result ↔ AttackedDiagonally board.now by square }
+{
+    attacked_along(board, by, Direction::NorthEast, square)
+        || attacked_along(board, by, Direction::SouthEast, square)
+        || attacked_along(board, by, Direction::SouthWest, square)
+        || attacked_along(board, by, Direction::NorthWest, square)
+}
+
+// Whether a piece of this side attacks the square along one of its lines.
+#[inline(always)]
 fn attacked_on_lines(board: &Board, square: Square, by: Colour) -> bool
     ensures { IsTrue result ↔ ((d : Direction) × AttackedAlong board.now by d square) }
 {
-    for direction in DIRECTIONS {
-        if attacked_along(board, by, direction, square) {
-            return true;
-        }
-    }
-    false
+    attacked_straight(board, square, by) || attacked_diagonally(board, square, by)
 }
 
 /// Whether some piece of this side attacks the square.

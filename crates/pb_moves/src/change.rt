@@ -22,25 +22,23 @@ impl Change {
     ghost use Rattle.pb_moves.specs.Change.{Changes, FitsMove};
     ghost use Rattle.pb_moves.specs.Moved.{IsMove};
 
-    /// The board after the change.
+    /// Makes the change on the board.
     #[inline(always)]
-    pub(crate) fn apply(self, board: &Board, m: Move) -> Board
+    pub(crate) fn apply(self, board: &mut Board, m: Move)
         requires { FitsMove self m }
-        ensures { Changes self m board.now result }
+        ensures { Changes self m board.old board.new }
     {
-        let mut after = *board;
         match self {
             Change::Carry(piece) => {
-                after[m.from().index() as usize] = None;
-                after[m.to().index() as usize] = Some(piece);
+                board[m.from().index() as usize] = None;
+                board[m.to().index() as usize] = Some(piece);
             }
             Change::CarryPast(pawn, gone) => {
-                after[m.from().index() as usize] = None;
-                after[gone.index() as usize] = None;
-                after[m.to().index() as usize] = Some(pawn);
+                board[m.from().index() as usize] = None;
+                board[gone.index() as usize] = None;
+                board[m.to().index() as usize] = Some(pawn);
             }
-            Change::Castle(castling) => castling.apply(&mut after),
+            Change::Castle(castling) => castling.apply(board),
         }
-        after
     }
 }

@@ -17,17 +17,6 @@ pub(crate) enum Direction {
     NorthWest,
 }
 
-pub(crate) const DIRECTIONS: [Direction; 8] = [
-    Direction::North,
-    Direction::NorthEast,
-    Direction::East,
-    Direction::SouthEast,
-    Direction::South,
-    Direction::SouthWest,
-    Direction::West,
-    Direction::NorthWest,
-];
-
 impl Direction {
     ghost use Rattle.pb_moves.specs.Attack.{StepsFrom};
     ghost use Rattle.pb_moves.specs.Walk.{IsDiagonalDirection, room};

@@ -90,43 +90,29 @@ pub(crate) fn king_after(setup: &Setup, m: Move, piece: Piece) -> Square
     }
 }
 
-/// What a legal move of this piece leads to.
-#[derive(Clone, Copy)]
-pub(crate) struct Outcome {
-    /// The board after the move.
-    pub(crate) board: Board,
-    /// The mover's king on it.
-    pub(crate) king: Square,
-}
-
-// What the change leads to, if the mover isn't in check afterwards.
+/// Makes the change on the setup's board, and tells where the mover's king then stands. None where it is attacked
+/// there.
 #[inline(always)]
-fn outcome_of(setup: &Setup, m: Move, piece: Piece, change: Change) -> Option<Outcome>
+pub(crate) fn make(
+    setup: &Setup,
+    m: Move,
+    piece: Piece,
+    change: Change,
+    board: &mut Board,
+) -> Option<Square>
     requires own { HoldsOwn setup.now m.from piece }
     requires leads { LeadsTo (CaseOf setup.now m piece) setup.now.board m change }
-    ensures { MatchOption result (¬ Legal setup.now m) (IsOutcome setup.now m piece) }
+    requires same { board.old ≡ setup.now.board }
+    ensures { MatchOption result (¬ Legal setup.now m) (IsOutcome setup.now m piece board.new) }
 {
     let side = setup.turn();
-    let board = change.apply(setup.board(), m);
+    change.apply(board, m);
     let king = king_after(setup, m, piece);
-    if king_attacked(&board, side, king) {
+    if king_attacked(board, side, king) {
         None
     } else {
-        Some(Outcome { board, king })
+        Some(king)
     }
-}
-
-/// What the move of this piece leads to, if it is legal: one of the cases applies, and afterwards the mover isn't in
-/// check.
-#[inline(always)]
-pub(crate) fn judge(setup: &Setup, m: Move, piece: Piece) -> Option<Outcome>
-    requires { HoldsOwn setup.now m.from piece }
-    ensures { MatchOption result (¬ Legal setup.now m) (IsOutcome setup.now m piece) }
-{
-    let Some(change) = change_of(setup, m, piece) else {
-        return None;
-    };
-    outcome_of(setup, m, piece, change)
 }
 
 // Whether this piece can't uncover its king: it isn't the king, and stands on no line with it.
@@ -139,7 +125,8 @@ fn is_unpinned(setup: &Setup, from: Square, piece: Piece) -> bool
     piece.kind != Kind::King && line_between(from, king).is_none()
 }
 
-/// Whether the move of this piece is legal. Where the mover isn't in check, most moves need no test of check.
+/// Whether the move of this piece is legal. Where it is known that the mover isn't in check, most moves need no test of
+/// check.
 pub(crate) fn is_legal_for(setup: &Setup, m: Move, piece: Piece, checked: bool) -> bool
     requires own { HoldsOwn setup.now m.from piece }
     requires checked { ¬ IsTrue checked → ¬ InCheck setup.now.board setup.now.turn }
@@ -147,7 +134,10 @@ pub(crate) fn is_legal_for(setup: &Setup, m: Move, piece: Piece, checked: bool) 
 {
     match change_of(setup, m, piece) {
         Some(Change::Carry(_)) if !checked && is_unpinned(setup, m.from(), piece) => true,
-        Some(change) => outcome_of(setup, m, piece, change).is_some(),
+        Some(change) => {
+            let mut board = *setup.board();
+            make(setup, m, piece, change, &mut board).is_some()
+        }
         None => false,
     }
 }
@@ -158,7 +148,7 @@ pub fn is_legal(setup: &Setup, m: Move) -> bool
     ensures { IsTrue result ↔ Legal setup.now m }
 {
     match own_piece(setup, m.from()) {
-        Some(piece) => judge(setup, m, piece).is_some(),
+        Some(piece) => is_legal_for(setup, m, piece, true),
         None => false,
     }
 }

@@ -3,6 +3,7 @@
 
 mod attack;
 mod board;
+mod candidates;
 mod cases;
 mod castling;
 mod change;

@@ -5,9 +5,10 @@ ghost use Rattle.std.specs.Option.{ForSome};
 ghost use Rattle.pb_moves.specs.Attack.{InCheck};
 ghost use Rattle.pb_moves.specs.Moved.{IsPromotion};
 ghost use Rattle.pb_moves.specs.Listing.{promotion_place, ListsLegal};
-ghost use Rattle.pb_moves.specs.Candidate.{HoldsOwn, MayGo, MayPromote, ListsBelow};
+ghost use Rattle.pb_moves.specs.Candidate.{HoldsOwn, MayPromote, ListsBelow};
 
 use crate::board::square_at;
+use crate::candidates::candidates;
 use crate::check::in_check;
 use crate::legal::{is_legal_for, own_piece};
 use crate::moves::Move;
@@ -41,33 +42,20 @@ fn push_from(
     let Some(piece) = own_piece(setup, from) else {
         return Ok(());
     };
-    for index in 0..64u8 {
-        push_to(setup, checked, piece, from, square_at(index), moves)?;
+    let mut rest = candidates(piece, from);
+    while rest != 0 {
+        let index = rest.trailing_zeros();
+        let to = square_at(index as u8);
+        push_to(setup, checked, piece, from, to, moves)?;
+        rest &= !(1 << index);
     }
     Ok(())
 }
 
-// Whether a piece of this kind can go so on some board.
-fn may_go(kind: Kind, from: Square, to: Square) -> bool
-    ensures on_board { to < 64 }
-    ensures goes { IsTrue result ↔ MayGo kind from to }
-{
-    let _index = to.index();
-    let across = from.file().abs_diff(to.file());
-    let along = from.rank().abs_diff(to.rank());
-    match kind {
-        Kind::Pawn => across <= 1 && along <= 2,
-        Kind::Knight => across == 1 && along == 2 || across == 2 && along == 1,
-        Kind::Bishop => across == along,
-        Kind::Rook => across == 0 || along == 0,
-        Kind::Queen => across == along || across == 0 || along == 0,
-        Kind::King => across <= 2 && along <= 1,
-    }
-}
-
 // Whether a pawn goes to the first or last rank.
 fn may_promote(kind: Kind, to: Square) -> bool
-    ensures { IsTrue result ↔ MayPromote kind to }
+    ensures on_board { to < 64 }
+    ensures promotes { IsTrue result ↔ MayPromote kind to }
 {
     kind == Kind::Pawn && (to.rank() == 0 || to.rank() == 7)
 }
@@ -86,9 +74,6 @@ fn push_to(
     requires before { ListsBelow setup.now moves.old.items (320 * from + 5 * to) }
     ensures { OnOk result (ListsBelow setup.now moves.new.items (320 * from + 5 * to + 5)) }
 {
-    if !may_go(piece.kind, from, to) {
-        return Ok(());
-    }
     push_legal(setup, checked, piece, from, to, None, moves)?;
     if !may_promote(piece.kind, to) {
         return Ok(());

@@ -11,7 +11,7 @@ ghost use Rattle.pb_moves.specs.Successor.{after};
 
 use crate::board::opponent_of;
 use crate::cases::passed;
-use crate::legal::{judge, own_piece};
+use crate::legal::{change_of, make, own_piece};
 use crate::moves::Move;
 use pb_board::{Colour, Kind, Piece, Rights, Setup, Square};
 
@@ -89,14 +89,18 @@ pub fn play(setup: &Setup, m: Move) -> Option<Setup>
     let Some(piece) = own_piece(setup, m.from()) else {
         return None;
     };
-    let Some(outcome) = judge(setup, m, piece) else {
+    let Some(change) = change_of(setup, m, piece) else {
+        return None;
+    };
+    let mut board = *setup.board();
+    let Some(king) = make(setup, m, piece, change, &mut board) else {
         return None;
     };
     let side = setup.turn();
     let enemy = opponent_of(side);
     let enemy_king = setup.king(enemy);
-    let (white_king, black_king) = by_colour(side, outcome.king, enemy_king);
+    let (white_king, black_king) = by_colour(side, king, enemy_king);
     let rights = rights_after(setup, m);
     let ep = passed_by(setup, m, piece);
-    Some(Setup::of_parts(outcome.board, enemy, rights, ep, white_king, black_king))
+    Some(Setup::of_parts(board, enemy, rights, ep, white_king, black_king))
 }

@@ -7,7 +7,7 @@ use Rattle.pb_moves.specs.After.{After}
 use Rattle.pb_moves.specs.Candidate.{HoldsOwn}
 use Rattle.pb_moves.proofs.Kept.{setup_by_parts}
 use Rattle.pb_moves.proofs.Kings.{enemy_king_stays}
-use Rattle.pb_moves.proofs.Legality.{not_legal_without_piece, legal_out_of_check}
+use Rattle.pb_moves.proofs.Legality.{not_legal_without_piece, not_legal_without_case, legal_out_of_check}
 use Rattle.pb_moves.proofs.Successors.{after_one, after_is_setup}
 use Rattle.pb_moves.proofs.playing.play.Goals as goal
 
@@ -16,40 +16,45 @@ returns-in_default-clause-played c =
     let P : ℕ → Type 0 = λ q. (p : Piece) → ¬ HoldsOwn c.args.setup.now q p in
     not_legal_without_piece c.args.setup.now c.args.m (subst P c.from.ensures.value c.in_default.ensures)
 
+pub returns-in_default-change_of-clause-played : goal.returns-in_default-change_of-clause-played
+returns-in_default-change_of-clause-played c =
+    let P : ℕ → Type 0 = λ q. HoldsOwn c.args.setup.now q c.in-Some.piece in
+    not_legal_without_case c.args.setup.now c.args.m c.in-Some.piece (subst P c.from.ensures.value c.in-Some.ensures) c.in_default-change_of.ensures
+
 pub of_parts-requires-clause-rules : goal.of_parts-requires-clause-rules
 of_parts-requires-clause-rules c =
     let s = c.args.setup.now in
     let P : ℕ → Type 0 = λ q. HoldsOwn s q c.in-Some.piece in
     let own = subst P c.from.ensures.value c.in-Some.ensures in
-    let outcome = c.in-Some-judge.outcome in
-    let case = c.in-Some-judge.ensures.by_case in
+    let board = c.make.new.board in
+    let case = c.in-Some-make.ensures.by_case in
     let enemy : c.opponent_of-enemy.result ≡ opponent s.turn = c.opponent_of-enemy.ensures ∙ ap opponent c.turn-side.ensures.value in
-    let Q : Colour → Type 0 = λ side. IsSetup (position_of outcome.board side c.rights_after-rights.result c.passed_by-ep.result) in
+    let Q : Colour → Type 0 = λ side. IsSetup (position_of board side c.rights_after-rights.result c.passed_by-ep.result) in
     subst Q (sym enemy)
-    (setup_by_parts s c.args.m c.in-Some.piece outcome.board c.rights_after-rights.result c.passed_by-ep.result
-    c.turn-side.ensures.rules own.stands own.own case (c.passed_by-ep.ensures outcome.board case))
+    (setup_by_parts s c.args.m c.in-Some.piece board c.rights_after-rights.result c.passed_by-ep.result
+    c.turn-side.ensures.rules own.stands own.own case (c.passed_by-ep.ensures board case))
 
 pub of_parts-requires-clause-white : goal.of_parts-requires-clause-white
 of_parts-requires-clause-white c =
     let s = c.args.setup.now in
     let P : ℕ → Type 0 = λ q. HoldsOwn s q c.in-Some.piece in
     let own = subst P c.from.ensures.value c.in-Some.ensures in
-    let outcome = c.in-Some-judge.outcome in
-    let Q : Colour → Type 0 = λ side. IsOnlyKing outcome.board side outcome.king in
-    (c.by_colour-white_king.ensures outcome.board (subst Q (sym c.turn-side.ensures.value) c.in-Some-judge.ensures.king)
-    (enemy_king_stays s c.args.m c.in-Some.piece outcome.board c.turn-side.result c.opponent_of-enemy.result c.king-enemy_king.result
-    c.turn-side.ensures.rules own.stands own.own c.turn-side.ensures.value c.opponent_of-enemy.ensures c.king-enemy_king.ensures c.in-Some-judge.ensures.by_case)).0
+    let board = c.make.new.board in
+    let Q : Colour → Type 0 = λ side. IsOnlyKing board side c.in-Some-make.king in
+    (c.by_colour-white_king.ensures board (subst Q (sym c.turn-side.ensures.value) c.in-Some-make.ensures.only_king)
+    (enemy_king_stays s c.args.m c.in-Some.piece board c.turn-side.result c.opponent_of-enemy.result c.king-enemy_king.result
+    c.turn-side.ensures.rules own.stands own.own c.turn-side.ensures.value c.opponent_of-enemy.ensures c.king-enemy_king.ensures c.in-Some-make.ensures.by_case)).0
 
 pub of_parts-requires-clause-black : goal.of_parts-requires-clause-black
 of_parts-requires-clause-black c =
     let s = c.args.setup.now in
     let P : ℕ → Type 0 = λ q. HoldsOwn s q c.in-Some.piece in
     let own = subst P c.from.ensures.value c.in-Some.ensures in
-    let outcome = c.in-Some-judge.outcome in
-    let Q : Colour → Type 0 = λ side. IsOnlyKing outcome.board side outcome.king in
-    (c.by_colour-white_king.ensures outcome.board (subst Q (sym c.turn-side.ensures.value) c.in-Some-judge.ensures.king)
-    (enemy_king_stays s c.args.m c.in-Some.piece outcome.board c.turn-side.result c.opponent_of-enemy.result c.king-enemy_king.result
-    c.turn-side.ensures.rules own.stands own.own c.turn-side.ensures.value c.opponent_of-enemy.ensures c.king-enemy_king.ensures c.in-Some-judge.ensures.by_case)).1
+    let board = c.make.new.board in
+    let Q : Colour → Type 0 = λ side. IsOnlyKing board side c.in-Some-make.king in
+    (c.by_colour-white_king.ensures board (subst Q (sym c.turn-side.ensures.value) c.in-Some-make.ensures.only_king)
+    (enemy_king_stays s c.args.m c.in-Some.piece board c.turn-side.result c.opponent_of-enemy.result c.king-enemy_king.result
+    c.turn-side.ensures.rules own.stands own.own c.turn-side.ensures.value c.opponent_of-enemy.ensures c.king-enemy_king.ensures c.in-Some-make.ensures.by_case)).1
 
 pub returns : goal.returns
 returns c =
@@ -57,10 +62,10 @@ returns c =
     let m = c.args.m in
     let P : ℕ → Type 0 = λ q. HoldsOwn s q c.in-Some.piece in
     let own = subst P c.from.ensures.value c.in-Some.ensures in
-    let outcome = c.in-Some-judge.outcome in
-    let case = c.in-Some-judge.ensures.by_case in
+    let board = c.make.new.board in
+    let case = c.in-Some-make.ensures.by_case in
     let rights = c.rights_after-rights.ensures in
-    let legal = legal_out_of_check s m outcome.board c.in-Some.piece own case c.in-Some-judge.ensures.safe in
+    let legal = legal_out_of_check s m board c.in-Some.piece own case c.in-Some-make.ensures.safe in
     let A : Position → Type 0 = λ t. After s m t in
     let S : Position → Type 0 = λ t. IsSetup t in
     let parts = subst A (sym c.of_parts.ensures) (record {
@@ -70,7 +75,7 @@ returns c =
       white_long = rights.white_long;
       black_short = rights.black_short;
       black_long = rights.black_long;
-      ep = c.passed_by-ep.ensures outcome.board case;
+      ep = c.passed_by-ep.ensures board case;
     }) in
     let is = after_one s m c.of_parts.result c.turn-side.ensures.rules legal parts in
     record { played = (legal, parts, subst S (sym is) (after_is_setup s m c.turn-side.ensures.rules legal)); is = is }
