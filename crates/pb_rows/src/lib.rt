@@ -6,6 +6,12 @@ mod cli;
 #[cfg(test)]
 mod ends;
 #[cfg(test)]
+mod epd;
+#[cfg(test)]
 mod fen;
+#[cfg(test)]
+mod moves;
+#[cfg(test)]
+mod rewriting;
 #[cfg(test)]
 mod setup;
