@@ -1,5 +1,5 @@
 -- From the lines that the rewriter of EPD lines took to what was shown.
-use Rattle.std.proofs.Common.{◌≡◌, ℕ, ◌+◌, ◌*◌, ◌^◌, ◌<◌, ◌≤◌, Bool, true, false, ◌&&◌, List, [], ◌∷◌, ◌++◌, length, take, Result, Ok, Err, OnOk, IfErr, refl, sym, ap, ◌∙◌, subst, arith, inl, inr}
+use Rattle.std.proofs.Common.{◌≡◌, ℕ, ◌+◌, ◌^◌, ◌<◌, ◌≤◌, Bool, true, false, ◌&&◌, List, [], ◌∷◌, ◌++◌, length, take, Result, Ok, Err, OnOk, IfErr, refl, sym, ap, ◌∙◌, subst, arith, inl, inr}
 use Rattle.std.specs.Io.KnownBytes.{Appends}
 use Rattle.std.proofs.Math.Seq.{take-append-add, take-length}
 use Rattle.std.proofs.lemmas.List.{append-nil, append_assoc, length-append}
@@ -18,7 +18,7 @@ use Rattle.pb_cli.specs.declared.epd.Stop.{Stop}
 use Rattle.pb_cli.specs.declared.epd.Stop.TheVariants.{Write, Memory}
 use Rattle.pb_cli.specs.EpdShown.{EpdShown, LineShown}
 use Rattle.pb_cli.specs.EpdRun.{RewritesToWriteFault, StillWorks}
-use Rattle.pb_cli.specs.Rewriter.{FailsAtLine, Puts, RewritesAll, RewritesUntilStop, StopsAt, TakesLine, next_number}
+use Rattle.pb_cli.specs.Rewriter.{Puts, RewritesAll, RewritesUntilStop, StopsAt, TakesLine, next_number}
 
 -- where what a line gives couldn't be put, the run stops at it
 pub stops_at : (sink sink' : SinkState) (number : ℕ) (line : List ℕ) (taken : Bool) (out : List ℕ) (stop : Stop)
@@ -202,13 +202,31 @@ module _ {K : Type 0} (state : K → SinkState) where
         elim h.stops [
           | inl now ↦
               let cut = cut_of s t (ended_lines h.came) (few_ended h.came h.rest h.reads.reads) now in record {
-                came = h.came; rest = h.rest; reads = h.reads; so_far = ended_lines h.came; are = inl refl; answer = cut.answer; out = cut.out;
-                shown = from_one (ended_lines h.came) cut.answer cut.out cut.shown; count = cut.count; put = cut.put; fails = cut.fails;
+                came = h.came;
+                rest = h.rest;
+                reads = h.reads;
+                so_far = ended_lines h.came;
+                are = inl refl;
+                answer = cut.answer;
+                out = cut.out;
+                shown = from_one (ended_lines h.came) cut.answer cut.out cut.shown;
+                count = cut.count;
+                put = cut.put;
+                fails = cut.fails;
               }
           | inr end ↦
               let cut = cut_of s t (lines h.came) (few h.came end.0.some.reads) end.1 in record {
-                came = h.came; rest = h.rest; reads = h.reads; so_far = lines h.came; are = inr (end.0, refl); answer = cut.answer; out = cut.out;
-                shown = from_one (lines h.came) cut.answer cut.out cut.shown; count = cut.count; put = cut.put; fails = cut.fails;
+                came = h.came;
+                rest = h.rest;
+                reads = h.reads;
+                so_far = lines h.came;
+                are = inr (end.0, refl);
+                answer = cut.answer;
+                out = cut.out;
+                shown = from_one (lines h.came) cut.answer cut.out cut.shown;
+                count = cut.count;
+                put = cut.put;
+                fails = cut.fails;
               }
         ]
     until_of (lines.Stop Memory) h = (

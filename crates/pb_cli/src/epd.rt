@@ -1,21 +1,18 @@
 //! The command `epd`: each EPD line is written in its one ordered form, or named as refused.
-ghost use Rattle.std.specs.Prelude.{◌≡◌, ◌≢◌, ℕ, ◌+◌, ◌^◌, ◌<◌, ◌≤◌, ◌↔◌, List, [], ◌++◌, IfErr, IfOk, IsTrue, OnOk, OnErr, length, take, true, false};
-ghost use Rattle.std.specs.Io.KnownBytes.{Appends};
+ghost use Rattle.std.specs.Prelude.{◌≡◌, ◌≢◌, ◌≤◌, ◌↔◌, ◌++◌, IfErr, IfOk, IsTrue, OnOk, length, true};
 ghost use Rattle.pb_epd.specs.declared.refusal.EpdError.TheVariants as epd;
-ghost use Rattle.pb_epd.specs.Epd.{EpdForm};
 ghost use Rattle.pb_poly.specs.Lines.{line_limit};
-ghost use Rattle.pb_poly.specs.Sink.{Put};
 ghost use Rattle.pb_cli.specs.EpdRun.{RewritesStream, RewritesTold, RewritesUntil};
-ghost use Rattle.pb_cli.specs.EpdShown.{IsBlank, IsWithoutReturn, LineShown, reason, refused_line};
+ghost use Rattle.pb_cli.specs.EpdShown.{IsBlank, IsWithoutReturn, reason, refused_line};
 ghost use Rattle.pb_cli.specs.Line.{joined, with_end};
 ghost use Rattle.pb_cli.specs.Rewriter.{LineTaken, Puts, RewritesAll, RewritesUntilStop};
 
 use crate::decimal::Decimal;
 use crate::fault::Fault;
 use crate::output::put_line;
-use pb_epd::{Epd, EpdError, read_epd, write_epd};
-use pb_poly::{Failed, LineTask, LinesFault, Sink, Source, take_lines};
-use std::alloc::{AllocError, Global};
+use pb_epd::{EpdError, read_epd, write_epd};
+use pb_poly::{LineTask, LinesFault, Sink, Source, take_lines};
+use std::alloc::Global;
 
 /// Why no further line is taken.
 #[derive(Clone, Copy)]
@@ -97,7 +94,9 @@ pub fn run_epd<S: Source, K: Sink>(
     };
     let ended = rewriter.take_all(source, fills);
     let Rewriter {
-        sink, all_taken, ..
+        sink,
+        all_taken,
+        ..
     } = rewriter;
     match ended {
         Ok(()) => match sink.flush() {

@@ -73,7 +73,7 @@ fn lines_over_a_reader_and_a_writer(rt: HostRuntime) {
             Ok(false)
         );
     }
-    assert_eq!(rt; &room[..SHOWN.len()], SHOWN);
+    assert!(rt; room.as_slice().starts_with(SHOWN));
 }
 
 #[test]
@@ -114,7 +114,8 @@ fn a_piece_that_no_line_feed_ended_is_not_taken_at_a_fault(rt: HostRuntime) {
         run_epd(rt.alloc(), &mut source, &mut sink, u32::MAX),
         Err(Fault::Read)
     );
-    assert_eq!(rt; sink.as_bytes(), &SHOWN[..51]);
+    let first = b"4k3/8/8/8/8/8/8/4K3 w - - bm e1d1; id \"two kings\";\n";
+    assert_eq!(rt; sink.as_bytes(), first.as_slice());
 }
 
 #[test]

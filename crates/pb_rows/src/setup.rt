@@ -36,33 +36,34 @@ fn squares_have_their_numbers(rt: HostRuntime) {
     assert_eq!(rt; Square::from_index(64), None);
 }
 
+/// Why there is no setup of these pieces, with e6 as the en passant square.
+fn refusal(pieces: &[(u8, Colour, Kind)], turn: Colour) -> Option<SetupError> {
+    let board = board_of(pieces);
+    Setup::build(board, turn, NO_RIGHTS, Square::new(4, 5)).err()
+}
+
 #[test]
 fn parts_are_judged_in_order(rt: HostRuntime) {
     let white_king = (4, Colour::White, Kind::King);
     let black_king = (60, Colour::Black, Kind::King);
     let edge_pawn = (0, Colour::White, Kind::Pawn);
-    let e6 = Square::new(4, 5);
-    let lonely = board_of(&[white_king, edge_pawn]);
-    assert_eq!(rt;
-        Setup::build(lonely, Colour::White, NO_RIGHTS, e6),
-        Err(SetupError::Kings)
-    );
-    let pawned = board_of(&[white_king, black_king, edge_pawn]);
-    assert_eq!(rt;
-        Setup::build(pawned, Colour::White, NO_RIGHTS, e6),
-        Err(SetupError::Pawns)
-    );
-    let bare = board_of(&[white_king, black_king]);
-    assert_eq!(rt;
-        Setup::build(bare, Colour::White, NO_RIGHTS, e6),
-        Err(SetupError::EnPassant)
-    );
-    let passed = board_of(&[white_king, black_king, (36, Colour::Black, Kind::Pawn)]);
-    assert_eq!(rt;
-        Setup::build(passed, Colour::Black, NO_RIGHTS, e6),
-        Err(SetupError::EnPassant)
-    );
-    assert!(rt; Setup::build(passed, Colour::White, NO_RIGHTS, e6).is_ok());
+    let passed_pawn = (36, Colour::Black, Kind::Pawn);
+    let rows = [
+        (white_king, edge_pawn, edge_pawn, Some(SetupError::Kings)),
+        (white_king, black_king, edge_pawn, Some(SetupError::Pawns)),
+        (
+            white_king,
+            black_king,
+            black_king,
+            Some(SetupError::EnPassant),
+        ),
+        (white_king, black_king, passed_pawn, None),
+    ];
+    for (first, second, third, wanted) in rows {
+        assert_eq!(rt; refusal(&[first, second, third], Colour::White), wanted);
+    }
+    let answer = refusal(&[white_king, black_king, passed_pawn], Colour::Black);
+    assert_eq!(rt; answer, Some(SetupError::EnPassant));
 }
 
 #[test]

@@ -1,10 +1,10 @@
-use Rattle.std.proofs.Common.{rules, ◌≡◌, ◌≢◌, List, [], ◌++◌, refl, sym, ◌∙◌, subst, append-nil, true, false}
+use Rattle.std.proofs.Common.{rules, ◌≢◌, [], ◌++◌, refl, sym, ◌∙◌, subst, append-nil, true, false}
 use Rattle.std.proofs.KnownBytes.{Appends-nil}
 use Rattle.std.proofs.lemmas.Bool.{false≢true}
 use Rattle.std.proofs.lemmas.Result.{err_from_is_err_and}
 use Rattle.pb_epd.specs.declared.refusal.EpdError.TheVariants as epd
 use Rattle.pb_epd.specs.Epd.{EpdForm}
-use Rattle.pb_cli.specs.EpdShown.{LineShown, blank, written, refused}
+use Rattle.pb_cli.specs.EpdShown.{blank, written, refused}
 use Rattle.pb_cli.proofs.Rewriting.{stops_at}
 use Rattle.pb_cli.proofs.epd.rewrite_line.Goals as goal
 
