@@ -125,8 +125,8 @@ fn is_unpinned(setup: &Setup, from: Square, piece: Piece) -> bool
     piece.kind != Kind::King && line_between(from, king).is_none()
 }
 
-/// Whether the move of this piece is legal. Where it is known that the mover isn't in check, most moves need no test of
-/// check.
+/// Whether the move of this piece is legal. `checked` is false only where the mover isn't in check: then most moves need
+/// no test of check.
 pub(crate) fn is_legal_for(setup: &Setup, m: Move, piece: Piece, checked: bool) -> bool
     requires own { HoldsOwn setup.now m.from piece }
     requires checked { ¬ IsTrue checked → ¬ InCheck setup.now.board setup.now.turn }

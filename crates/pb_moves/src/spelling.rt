@@ -16,11 +16,8 @@ fn read_square(letter: u8, digit: u8) -> Option<Square>
         ((q : ℕ) → q < 64 → letter ∷ digit ∷ [] ≢ square_text q)
         (λ q. (q < 64) × (letter ∷ digit ∷ [] ≡ square_text q)) }
 {
-    if matches!(letter, b'a'..=b'h') && matches!(digit, b'1'..=b'8') {
-        Square::new(letter - b'a', digit - b'1')
-    } else {
-        None
-    }
+    // A byte below the first letter or digit wraps to a number that no file or rank has.
+    Square::new(letter.wrapping_sub(b'a'), digit.wrapping_sub(b'1'))
 }
 
 // The kind that a promotion's letter names.

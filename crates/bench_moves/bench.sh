@@ -1,0 +1,37 @@
+#!/bin/sh
+# Times the compiled program (`rt run` builds it as out/bench_moves): sequences of legal moves a second, and
+# nanoseconds to judge and play a ply. Each figure is the best of five runs, so that other work on the machine
+# disturbs it least.
+set -eu
+program=$(dirname "$0")/out/bench_moves
+
+# best COMMAND..: the least number of seconds that the command takes
+best() {
+    for _ in 1 2 3 4 5; do
+        begin=$(date +%s%N)
+        "$@" > /dev/null
+        end=$(date +%s%N)
+        echo $((end - begin))
+    done | sort -n | head -1
+}
+
+# sequences NAME FEN DEPTH
+sequences() {
+    count=$("$program" perft "$2" "$3")
+    time=$(best "$program" perft "$2" "$3")
+    awk -v name="$1" -v count="$count" -v time="$time" \
+        'BEGIN { printf "%s: %d sequences, %.1f million a second\n", name, count, count * 1000 / time }'
+}
+
+sequences "initial array, length 4" "rnbqkbnr/pppppppp/8/8/8/8/PPPPPPPP/RNBQKBNR w KQkq - 0 1" 4
+sequences "initial array, length 5" "rnbqkbnr/pppppppp/8/8/8/8/PPPPPPPP/RNBQKBNR w KQkq - 0 1" 5
+sequences "middle game, length 3" "r3k2r/p1ppqpb1/bn2pnp1/3PN3/1p2P3/2N2Q1p/PPPBBPPP/R3K2R w KQkq - 0 1" 3
+sequences "middle game, length 4" "r3k2r/p1ppqpb1/bn2pnp1/3PN3/1p2P3/2N2Q1p/PPPBBPPP/R3K2R w KQkq - 0 1" 4
+
+# The games are chosen by listing moves, which takes longer than playing them: the difference of two runs is the
+# playing alone.
+one=$(best "$program" games 1)
+many=$(best "$program" games 41)
+plies=$("$program" games 40)
+awk -v plies="$plies" -v time="$((many - one))" \
+    'BEGIN { printf "games: %.0f ns to judge and play a ply, %.1f million plies a second\n", time / plies, plies * 1000 / time }'

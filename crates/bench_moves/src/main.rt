@@ -1,0 +1,105 @@
+//! Counts sequences of legal moves and plays games, so that a clock around the program tells how fast that is.
+//!
+//! `bench_moves perft FEN DEPTH` prints the number of sequences of that many legal moves from a record.
+//! `bench_moves games ROUNDS` plays a thousand games of up to 200 plies, chosen once by a fixed rule, so many times,
+//! and prints the number of plies that were judged and played.
+#![tactic(auto)]
+
+use pb_board::{Setup, read_fen};
+use pb_moves::{Move, legal_moves, play};
+use std::alloc::{AllocError, Global};
+use std::{env, io};
+
+/// How many games are played.
+const GAMES: u32 = 1000;
+
+/// How many plies a game has at most.
+const PLIES: u32 = 200;
+
+/// The number of sequences of `depth` legal moves, at least one move long.
+fn perft(alloc: Global, setup: &Setup, depth: u32) -> Result<u64, AllocError> {
+    let moves = legal_moves(alloc, setup)?;
+    if depth <= 1 {
+        return Ok(moves.len() as u64);
+    }
+    let mut count: u64 = 0;
+    for m in &moves {
+        if let Some(next) = play(setup, *m) {
+            count = count.wrapping_add(perft(alloc, &next, depth - 1)?);
+        }
+    }
+    Ok(count)
+}
+
+/// The next number of a fixed sequence (a linear congruential generator of Knuth's).
+fn next_number(seed: u64) -> u64 {
+    seed.wrapping_mul(6_364_136_223_846_793_005)
+        .wrapping_add(1_442_695_040_888_963_407)
+}
+
+/// A game from the initial array, each move chosen among the legal ones by the next number.
+fn choose_game(alloc: Global, seed: u64) -> Result<Vec<Move>, AllocError> {
+    let mut game = Vec::new(alloc);
+    let mut setup = Setup::start();
+    let mut number = seed;
+    for _ in 0..PLIES {
+        let moves = legal_moves(alloc, &setup)?;
+        number = next_number(number);
+        if moves.is_empty() {
+            return Ok(game);
+        }
+        let m = moves[(number >> 33) as usize % moves.len()];
+        let Some(next) = play(&setup, m) else {
+            return Ok(game);
+        };
+        game.push(m)?;
+        setup = next;
+    }
+    Ok(game)
+}
+
+/// Plays the moves one after the other, and tells how many were legal.
+fn play_game(game: &[Move]) -> u64 {
+    let mut setup = Setup::start();
+    let mut count: u64 = 0;
+    for m in game {
+        let Some(next) = play(&setup, *m) else {
+            return count;
+        };
+        setup = next;
+        count = count.wrapping_add(1);
+    }
+    count
+}
+
+/// Plays a thousand games so many times, and tells how many plies were legal.
+fn play_games(alloc: Global, rounds: u32) -> Result<u64, AllocError> {
+    let mut games = Vec::new(alloc);
+    for seed in 0..GAMES {
+        games.push(choose_game(alloc, u64::from(seed))?)?;
+    }
+    let mut count: u64 = 0;
+    for _ in 0..rounds {
+        for game in &games {
+            count = count.wrapping_add(play_game(game));
+        }
+    }
+    Ok(count)
+}
+
+fn main(rt: HostRuntime) -> Result<(), io::Error> {
+    let words: Vec<String> = env::args(&rt)?.collect(rt.alloc())?;
+    let words: Vec<&str> = words.iter().map(|word| word.as_str()).collect(rt.alloc())?;
+    let count = match words.as_slice() {
+        [_, "perft", record, depth] => match (read_fen(record.as_bytes()), depth.parse::<u32>()) {
+            (Ok(fen), Ok(depth)) => perft(rt.alloc(), &fen.setup(), depth)?,
+            _ => 0,
+        },
+        [_, "games", rounds] => match rounds.parse::<u32>() {
+            Ok(rounds) => play_games(rt.alloc(), rounds)?,
+            Err(_) => 0,
+        },
+        _ => 0,
+    };
+    println!(rt; "{count}")
+}
