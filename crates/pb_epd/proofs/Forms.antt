@@ -1,25 +1,25 @@
 -- Forms of a record: each is a text of it, and no text has two records.
-use Rattle.std.proofs.Common.{◌≡◌, ◌≢◌, ℕ, ◌≤◌, ◌↔◌, ◌⊎◌, List, [], ◌∷◌, ◌++◌, length, get_or, Result, Ok, Err, refl, sym, ap, subst, ◌∙◌, inl, inr, arith}
-use Rattle.std.specs.Prelude.{All, AllPairs, Contains, IfOk, IfErr, MatchResult, map, flat_map}
+use Rattle.std.proofs.Common.{◌≡◌, ◌≢◌, ℕ, List, [], ◌∷◌, ◌++◌, Result, Ok, Err, refl, sym, ap, subst, ◌∙◌, inl, inr, arith}
+use Rattle.std.specs.Prelude.{All, Contains, IfOk, IfErr, MatchResult, map, flat_map}
 use Rattle.std.specs.List.{slice_split}
 use Rattle.std.proofs.lemmas.List.{append_assoc, append-nil, same_from_push}
 use Rattle.std.proofs.lemmas.List.Elements.{All-head, All-tail, All-cons, All-weaker}
-use Rattle.pb_board.specs.Position.{Position, IsSetup}
-use Rattle.pb_board.specs.Fen.{SetupTexts, FourFields}
+use Rattle.pb_board.specs.Position.{Position}
+use Rattle.pb_board.specs.Fen.{SetupTexts}
 use Rattle.pb_board.proofs.Unique.{one_setup, one_setup_text}
 use Rattle.pb_board.proofs.FieldWords.{IsPlainByte, IsWord, setup_words}
 use Rattle.pb_epd.specs.declared.operand.Operand.{Operand}
 use Rattle.pb_epd.specs.declared.operand.Operand.TheVariants as operand
 use Rattle.pb_epd.specs.declared.refusal.EpdError.{EpdError}
 use Rattle.pb_epd.specs.declared.refusal.EpdError.TheVariants as epd
-use Rattle.pb_epd.specs.Token.{Token, word, text, end_mark, IsToken, IsWordByte, IsOperandToken, TokensAfter, Tokens, token_text}
+use Rattle.pb_epd.specs.Token.{Token, word, end_mark, IsToken, IsWordByte, TokensAfter, token_text}
 use Rattle.pb_epd.specs.Operation.{Operation, IsLetter, IsNameByte, IsOpcode, IsOperand, IsOperation, operand_token, operation_tokens, operation_text}
 use Rattle.pb_epd.specs.Epd.{EpdRecord, IsEpd, EpdText, EpdForm}
 use Rattle.pb_epd.specs.Refusal.{is_end, IsFirstDueEpd}
 use Rattle.pb_epd.proofs.Lists.{map_injective}
 use Rattle.pb_epd.proofs.TokenLists.{tokens_one}
 use Rattle.pb_epd.proofs.Groups.{group_of, operations_cut}
-use Rattle.pb_epd.proofs.Order.{InOrder, distinct_in_order, same_in_order}
+use Rattle.pb_epd.proofs.Order.{distinct_in_order, same_in_order}
 use Rattle.pb_epd.proofs.Texts.{four_are, setup_texts, text_not_due}
 use Rattle.pb_epd.proofs.Writing.{spaced, operation_put}
 
@@ -47,8 +47,8 @@ operations_one os ps e =
 pub record_is_one : (e f : EpdRecord) (bytes : List ℕ) → IsEpd e → IsEpd f → EpdText e bytes → EpdText f bytes → e ≡ f
 record_is_one e f bytes he hf h k =
     let tokens = tokens_one end_mark
-        (word k.placement ∷ word k.turn ∷ word k.castling ∷ word k.passed ∷ flat_map operation_tokens k.operations)
-        (word h.placement ∷ word h.turn ∷ word h.castling ∷ word h.passed ∷ flat_map operation_tokens h.operations) bytes k.tokens h.tokens in
+    (word k.placement ∷ word k.turn ∷ word k.castling ∷ word k.passed ∷ flat_map operation_tokens k.operations)
+    (word h.placement ∷ word h.turn ∷ word h.castling ∷ word h.passed ∷ flat_map operation_tokens h.operations) bytes k.tokens h.tokens in
     let four = four_are h.placement h.turn h.castling h.passed (flat_map operation_tokens h.operations) (k.placement ∷ k.turn ∷ k.castling ∷ k.passed ∷ []) (flat_map operation_tokens k.operations) refl tokens in
     let spells = subst (λ w. SetupTexts f.setup w) four.0 (setup_texts f.setup k.placement k.turn k.castling k.passed k.spells) in
     let setups = one_setup e.setup f.setup (h.placement ∷ h.turn ∷ h.castling ∷ h.passed ∷ []) he.setup hf.setup (setup_texts e.setup h.placement h.turn h.castling h.passed h.spells) spells in

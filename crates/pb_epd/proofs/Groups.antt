@@ -1,9 +1,9 @@
 -- The tokens of operations, cut at their ends.
-use Rattle.std.proofs.Common.{◌≡◌, ◌≢◌, ℕ, ◌+◌, ◌<◌, ◌≤◌, ◌↔◌, ◌⊎◌, Bool, true, false, List, [], ◌∷◌, ◌++◌, length, get_or, Option, Some, None, refl, sym, ap, subst, ◌∙◌, inl, inr, arith}
+use Rattle.std.proofs.Common.{◌≡◌, ◌≢◌, ℕ, ◌+◌, ◌<◌, ◌≤◌, ◌↔◌, ◌⊎◌, false, List, [], ◌∷◌, ◌++◌, length, get_or, Option, Some, None, refl, sym, ap, subst, ◌∙◌, inl, inr, arith}
 use Rattle.std.specs.Prelude.{All, AllPairs, Contains, MatchOption, map, flat_map}
 use Rattle.std.specs.List.{slice_split}
 use Rattle.std.specs.Option.{option_or}
-use Rattle.std.proofs.lemmas.List.{append_assoc, append-nil, map-append, length-map, length-append, length_push}
+use Rattle.std.proofs.lemmas.List.{append_assoc, append-nil, map-append, length-map, length_push}
 use Rattle.std.proofs.lemmas.List.Splits.{slice_split_at, slice_split_none, length-slice_split}
 use Rattle.std.proofs.lemmas.List.Concat.{flat_map-append}
 use Rattle.std.proofs.lemmas.List.Elements.{All-nil, All-push, All-map, All-weaker, All-cons, Contains-push, Contains-push_cases, Contains-append_left, Contains-get_or}
@@ -13,7 +13,7 @@ use Rattle.pb_epd.specs.Token.{Token, word, text, end_mark, IsOperandToken, Toke
 use Rattle.pb_epd.specs.Operation.{Operation, IsOperation, operand_token, operation_tokens}
 use Rattle.pb_epd.specs.Refusal.{is_end, IsNamed, BeginsWithOpcode, IsRepeat}
 use Rattle.pb_epd.specs.Reading.{AreOperands, BeginsUnnamed, BeginsWithOperation, AreOperations, AreNamed, IsUnnamedAt, IsRepeatedAt}
-use Rattle.pb_epd.proofs.Lists.{contains_head, all_middle, pairs_none, contains_map, contains_unmap, split_map, pairs_split}
+use Rattle.pb_epd.proofs.Lists.{all_middle, pairs_none, contains_map, contains_unmap, split_map, pairs_split}
 use Rattle.pb_epd.proofs.Reader.{operands_are}
 
 -- ---- groups

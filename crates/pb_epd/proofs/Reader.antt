@@ -9,12 +9,11 @@ use Rattle.pb_epd.specs.declared.operand.Operand.TheVariants as operand
 use Rattle.pb_epd.specs.declared.token.Lexeme.{Lexeme}
 use Rattle.pb_epd.specs.declared.token.Step.{Step}
 use Rattle.pb_epd.specs.declared.token.Step.TheVariants as step
-use Rattle.pb_epd.specs.declared.read.Fields.{Fields}
 use Rattle.pb_epd.specs.Token.{Token, word, text, end_mark, IsToken, IsOperandToken, Tokens, TokensAfter}
 use Rattle.pb_epd.specs.Lexeme.{Steps, IsStep}
-use Rattle.pb_epd.specs.Operation.{Operation, IsOperand, operand_token, operation_tokens}
+use Rattle.pb_epd.specs.Operation.{IsOperand, operand_token}
 use Rattle.pb_epd.specs.Refusal.{IsNamed}
-use Rattle.pb_epd.specs.Reading.{Follow, FourFollow, AreOperands, EndsWithOperands, BeginsUnnamed, BeginsWithOperation}
+use Rattle.pb_epd.specs.Reading.{Follow, AreOperands, EndsWithOperands, BeginsUnnamed, BeginsWithOperation}
 use Rattle.pb_epd.proofs.TokenLists.{found_first, stuck_none, done_only}
 use Rattle.pb_epd.proofs.Bad.{steps_shorter}
 
@@ -176,6 +175,6 @@ module _ (before : Token) (bytes : List ℕ) (t : Token) (rest : List ℕ) (firs
         record {
           others = e.others;
           is = f.is ∙ ap (λ w. t ∷ w) e.is ∙ ap (λ x. x ∷ (map operand_token operands ++ end_mark ∷ e.others)) is
-          ∙ ap (λ w. word opcode ∷ w) (sym (append_assoc (map operand_token operands) (end_mark ∷ []) e.others));
+              ∙ ap (λ w. word opcode ∷ w) (sym (append_assoc (map operand_token operands) (end_mark ∷ []) e.others));
           after = e.after;
         }

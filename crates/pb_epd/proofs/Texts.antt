@@ -1,8 +1,8 @@
 -- The texts of a record, and the one refusal that is due first.
-use Rattle.std.proofs.Common.{◌≡◌, ◌≢◌, ℕ, ◌+◌, ◌<◌, ◌≤◌, ◌↔◌, List, [], ◌∷◌, ◌++◌, length, get_or, Result, Ok, Err, refl, sym, ap, subst, ◌∙◌, arith}
-use Rattle.std.specs.Prelude.{All, AllPairs, Contains, IfOk, IfErr, MatchResult, map, flat_map}
+use Rattle.std.proofs.Common.{◌≡◌, ◌≢◌, ℕ, ◌<◌, List, [], ◌∷◌, ◌++◌, length, get_or, Result, Ok, Err, refl, sym, ap, subst, ◌∙◌, arith}
+use Rattle.std.specs.Prelude.{All, IfOk, IfErr, map, flat_map}
 use Rattle.std.specs.List.{slice_split}
-use Rattle.std.proofs.lemmas.List.{append_assoc, append-nil, same_from_push}
+use Rattle.std.proofs.lemmas.List.{append-nil, same_from_push}
 use Rattle.pb_board.specs.Position.{Position, IsSetup}
 use Rattle.pb_board.specs.Fen.{SetupText, SetupTexts}
 use Rattle.pb_board.specs.Refusal.{IsFirstDue, OfSetup}
@@ -11,14 +11,14 @@ use Rattle.pb_board.proofs.Fens.{setup_never_due}
 use Rattle.pb_epd.specs.declared.refusal.EpdError.{EpdError}
 use Rattle.pb_epd.specs.declared.refusal.EpdError.TheVariants as epd
 use Rattle.pb_epd.specs.Token.{Token, word, end_mark, Tokens, TokensAfter, IsBadAt}
-use Rattle.pb_epd.specs.Operation.{Operation, IsOperation, operation_tokens}
+use Rattle.pb_epd.specs.Operation.{operation_tokens}
 use Rattle.pb_epd.specs.Epd.{EpdRecord, IsEpd, EpdText}
-use Rattle.pb_epd.specs.Refusal.{is_end, IsNamed, IsCut, IsRepeat, IsDueEpd, IsFirstDueEpd, epd_order}
+use Rattle.pb_epd.specs.Refusal.{is_end, IsNamed, IsCut, IsDueEpd, IsFirstDueEpd, epd_order}
 use Rattle.pb_epd.specs.Reading.{AreOperations, AreNamed, IsUnnamedAt, IsRepeatedAt, IsRefused}
 use Rattle.pb_epd.proofs.Lists.{all_middle}
 use Rattle.pb_epd.proofs.TokenLists.{tokens_one}
 use Rattle.pb_epd.proofs.Bad.{bad_none}
-use Rattle.pb_epd.proofs.Groups.{group_of, operations_cut, all_named, AreDistinct, none_repeats, last_group}
+use Rattle.pb_epd.proofs.Groups.{group_of, operations_cut, all_named, none_repeats, last_group}
 
 pub setup_text : (p : Position) (a b c d : List ℕ) → SetupTexts p (a ∷ b ∷ c ∷ d ∷ []) → SetupText p a b c d
 setup_text p a b c d h =

@@ -1,8 +1,8 @@
 -- Lists of tokens that stand in bytes: no bytes have two.
-use Rattle.std.proofs.Common.{◌≡◌, ◌≢◌, ℕ, zero, suc, ◌+◌, ◌<◌, ◌≤◌, ◌⊎◌, List, [], ◌∷◌, ◌++◌, length, take, drop, get_or, replicate, refl, sym, ap, subst, ◌∙◌, inl, inr, arith, add-one}
-use Rattle.std.proofs.lemmas.List.{append_assoc, append-nil, length-append, length-replicate, replicate-append-replicate, replicate_more}
-use Rattle.pb_epd.specs.Token.{Token, word, text, end_mark, IsToken, IsWordByte, IsWholeBefore, BeginsWithWordByte, BeginsUnspaced, IsOperandToken, MayFollow, TokensAfter, Tokens, last_token, token_text}
-use Rattle.pb_epd.specs.Lexeme.{Begins, Steps, IsStuck}
+use Rattle.std.proofs.Common.{◌≡◌, ◌≢◌, ℕ, zero, suc, ◌+◌, ◌≤◌, List, [], ◌∷◌, ◌++◌, replicate, refl, sym, ap, subst, ◌∙◌, arith, add-one}
+use Rattle.std.proofs.lemmas.List.{append_assoc, append-nil, replicate-append-replicate, replicate_more}
+use Rattle.pb_epd.specs.Token.{Token, word, text, end_mark, IsToken, IsWordByte, IsWholeBefore, BeginsWithWordByte, MayFollow, TokensAfter, last_token, token_text}
+use Rattle.pb_epd.specs.Lexeme.{Steps, IsStuck}
 use Rattle.pb_epd.specs.Reading.{Follow}
 use Rattle.pb_epd.proofs.Lexing.{spaces_alone, steps_one, stuck_steps, begins_unspaced, no_word_end}
 

@@ -8,7 +8,7 @@ use Rattle.pb_epd.specs.declared.read.Taken.TheVariants as taken
 use Rattle.pb_epd.specs.declared.refusal.EpdError.{EpdError}
 use Rattle.pb_epd.specs.declared.refusal.EpdError.TheVariants as epd
 use Rattle.pb_epd.specs.Token.{Token, word, end_mark, TokensAfter, IsOperandToken}
-use Rattle.pb_epd.specs.Operation.{Operation, IsOperand, IsOperation, operand_token, operation_tokens}
+use Rattle.pb_epd.specs.Operation.{Operation, IsOperation, operand_token, operation_tokens}
 use Rattle.pb_epd.specs.Refusal.{is_end, IsNamed, IsRepeat}
 
 -- this token is the first of the list, and the others follow it

@@ -198,7 +198,12 @@ fn judge(alloc: Global, text: &[u8]) -> Result<Epd, EpdError>
     let Some(fields) = four_words(text) else {
         return Err(EpdError::Fields);
     };
-    match read_setup([fields.placement, fields.turn, fields.castling, fields.passed]) {
+    match read_setup([
+        fields.placement,
+        fields.turn,
+        fields.castling,
+        fields.passed,
+    ]) {
         Ok(setup) => read_operations(alloc, setup, Lexeme::Word(fields.passed), fields.rest),
         Err(error) => Err(EpdError::Setup(error)),
     }

@@ -26,11 +26,7 @@ fn put_operand(out: &mut Vec<u8>, operand: &Operand) -> Result<(), AllocError>
 }
 
 /// Writes a space and an operation, its operands after single spaces and its end after none.
-fn put_operation(
-    out: &mut Vec<u8>,
-    opcode: &[u8],
-    operands: &[Operand],
-) -> Result<(), AllocError>
+fn put_operation(out: &mut Vec<u8>, opcode: &[u8], operands: &[Operand]) -> Result<(), AllocError>
     ensures { OnOk result (out.new.items ≡ out.old.items ++ 32 ∷ operation_text (opcode.now, operands.now)) }
 {
     out.push(b' ')?;

@@ -1,5 +1,5 @@
 use Rattle.std.proofs.Common.{◌≡◌, ◌∷◌, ◌∙◌, ap, subst}
-use Rattle.pb_epd.specs.Token.{Token, word, text, end_mark}
+use Rattle.pb_epd.specs.Token.{word, text, end_mark}
 use Rattle.pb_epd.specs.Lexeme.{token_of}
 use Rattle.pb_epd.specs.Reading.{Follow}
 use Rattle.pb_epd.proofs.TokenLists.{found_first}

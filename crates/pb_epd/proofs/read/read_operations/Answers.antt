@@ -1,9 +1,6 @@
-use Rattle.std.proofs.Common.{◌≡◌, ◌∙◌, ◌+◌, ◌++◌, ◌∷◌, [], List, ℕ, Some, None, subst, sym, arith}
-use Rattle.std.specs.Option.{option_or}
-use Rattle.pb_epd.specs.Token.{Token, TokensAfter}
-use Rattle.pb_epd.specs.Lexeme.{token_of}
+use Rattle.std.proofs.Common.{◌∙◌, ◌+◌, arith}
 use Rattle.pb_epd.specs.Operation.{Operation}
-use Rattle.pb_epd.proofs.Groups.{Standing, operations_more, standing_added, standing_repeated, read_all, read_repeated, read_unended, read_unnamed}
+use Rattle.pb_epd.proofs.Groups.{operations_more, standing_added, standing_repeated, read_repeated, read_unended, read_unnamed}
 use Rattle.pb_epd.proofs.read.read_operations.Goals as goal
 
 pub returns-in-Ok-Unended-clause-refused : goal.returns-in-Ok-Unended-clause-refused
@@ -37,8 +34,8 @@ loop-epd-preserved c =
       rules = c.in-Err-Repeated.ensures.rules;
       setup = c.in-Err-Repeated.ensures.setup ∙ c.loop-epd.invariant.setup;
       read = rw (held, c.or-repeated.ensures)
-      (operations_more _ _ _ _ _ _ _ _ _ x _ c.loop-epd.invariant.read (rw c.in-Ok-Operation.field-0-is at c.in-Ok-Operation.ensures.taken) (rw c.in-Ok-Operation.field-0-is at c.in-Ok-Operation.ensures.sound) (λ operations counted standing.
-      standing_repeated c.loop-epd.repeated operations c.loop-epd.epd.operations x (c.loop-epd.count + 1) standing (omega (arith, counted)) due.due.0 due.due.1));
+          (operations_more _ _ _ _ _ _ _ _ _ x _ c.loop-epd.invariant.read (rw c.in-Ok-Operation.field-0-is at c.in-Ok-Operation.ensures.taken) (rw c.in-Ok-Operation.field-0-is at c.in-Ok-Operation.ensures.sound) (λ operations counted standing.
+          standing_repeated c.loop-epd.repeated operations c.loop-epd.epd.operations x (c.loop-epd.count + 1) standing (omega (arith, counted)) due.due.0 due.due.1));
     }
 
 pub returns-in-Some-clause-refused : goal.returns-in-Some-clause-refused

@@ -1,5 +1,4 @@
 use Rattle.std.proofs.Common.{◌≡◌, ℕ, ◌<◌, get_or}
-use Rattle.pb_epd.specs.Token.{IsWordByte, IsTextByte}
 use Rattle.pb_epd.proofs.run.space_run.Given as goal
 
 abbrev pub invariant-loop-i : goal.invariant-loop-i

@@ -1,5 +1,5 @@
 use Rattle.std.proofs.Common.{refl}
-use Rattle.pb_epd.proofs.Bad.{lexed_start, lexed_more, lexed_done, lexed_bad, steps_shorter}
+use Rattle.pb_epd.proofs.Bad.{lexed_start, lexed_more, lexed_done, lexed_bad}
 use Rattle.pb_epd.proofs.token.first_bad.Goals as goal
 
 pub loop-spaces-init : goal.loop-spaces-init

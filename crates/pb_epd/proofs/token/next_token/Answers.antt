@@ -1,4 +1,4 @@
-use Rattle.std.proofs.Common.{◌≡◌, ◌<◌, ℕ, List, [], drop, length, sym, subst, refl, arith}
+use Rattle.std.proofs.Common.{◌<◌, drop, length, sym, subst, refl, arith}
 use Rattle.std.proofs.lemmas.Bool.{false≢true}
 use Rattle.std.proofs.lemmas.List.{take_rest}
 use Rattle.pb_epd.specs.Token.{Token, BeginsWith, MayFollow}

@@ -1,5 +1,4 @@
-use Rattle.std.proofs.Common.{◌≡◌, ◌∷◌, ◌∙◌, ap, subst, sym, arith, ℕ, List}
-use Rattle.pb_epd.specs.Token.{Token, BeginsWith}
+use Rattle.std.proofs.Common.{◌≡◌, ◌∷◌, ◌∙◌, ap, arith}
 use Rattle.pb_epd.proofs.Lexing.{no_quoted, no_token}
 use Rattle.pb_epd.proofs.token.token_at.Goals as goal
 

@@ -1,4 +1,4 @@
-use Rattle.std.proofs.Common.{◌≡◌, ◌∙◌, ◌++◌, ◌∷◌, [], ap}
+use Rattle.std.proofs.Common.{◌∙◌, ◌++◌, ◌∷◌, [], ap}
 use Rattle.std.proofs.lemmas.List.{take_all}
 use Rattle.pb_epd.proofs.Writing.{operation_put}
 use Rattle.pb_epd.proofs.write.put_operation.Goals as goal

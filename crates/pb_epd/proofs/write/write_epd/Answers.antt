@@ -1,7 +1,7 @@
-use Rattle.std.proofs.Common.{◌≡◌, ◌∙◌, ◌++◌, [], ◌∷◌, List, ℕ, sym, ap, subst, rules}
+use Rattle.std.proofs.Common.{◌≡◌, ◌∙◌, ◌++◌, [], ◌∷◌, List, sym, ap, subst}
 use Rattle.std.proofs.lemmas.List.{append-nil}
 use Rattle.pb_board.specs.Fen.{FourFields}
-use Rattle.pb_epd.specs.Operation.{Operation, operation_text}
+use Rattle.pb_epd.specs.Operation.{Operation}
 use Rattle.pb_epd.specs.Epd.{operations_of}
 use Rattle.pb_epd.proofs.Maps.{Entry}
 use Rattle.pb_epd.proofs.Writing.{operations_text, text_next}

@@ -1,4 +1,4 @@
-use Rattle.std.proofs.Common.{◌≡◌, None, sym, ap, refl, subst, ◌∙◌, List, ℕ}
+use Rattle.std.proofs.Common.{◌≡◌, None, sym, subst}
 use Rattle.pb_epd.specs.Operation.{IsOperation}
 use Rattle.pb_epd.proofs.Maps.{find, has_key, no_key, find_none, insert_gains}
 use Rattle.pb_epd.proofs.Puts.{repeated_first, memory_first, put_lawful}

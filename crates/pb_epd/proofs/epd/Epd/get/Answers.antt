@@ -1,5 +1,4 @@
-use Rattle.std.proofs.Common.{sym, subst}
-use Rattle.std.specs.Prelude.{Contains}
+use Rattle.std.proofs.Common.{sym}
 use Rattle.pb_epd.proofs.Maps.{find_none, find_some}
 use Rattle.pb_epd.proofs.epd.Epd.get.Goals as goal
 
