@@ -144,7 +144,9 @@ fn en_passant_may_not_bare_the_king(rt: HostRuntime) -> Result<(), Fail> {
 
 #[test]
 fn other_texts_spell_no_move(rt: HostRuntime) {
-    for text in ["E2E4", "e2e2", "e7e8k", "e2e4 ", "", "e2e9", "i2e4", "e7e8Q", "e2-e4", "0000"] {
+    for text in [
+        "E2E4", "e2e2", "e7e8k", "e2e4 ", "", "e2e9", "i2e4", "e7e8Q", "e2-e4", "0000",
+    ] {
         assert_eq!(rt; read_move(text.as_bytes()), None);
     }
 }

@@ -32,7 +32,7 @@ loop-rest-preserved c =
     let bits = c.loop-rest.rest in
     let some = zeros_some bits (omega arith) (omega arith) in
     let next = lists_next c.args.setup.now c.push_to.new.moves.items c.in-Some.piece c.args.from bits c.square_at-to.result c.in-Some.ensures (omega arith) some
-        c.square_at-to.ensures c.loop-rest.invariant.targets c.in_ok-push_to.ensures in
+    c.square_at-to.ensures c.loop-rest.invariant.targets c.in_ok-push_to.ensures in
     record { before = next.0; targets = next.1 }
 
 pub returns : goal.returns
