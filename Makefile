@@ -10,20 +10,29 @@ build: build/pbook
 # Proving and building end in one run of the program, which has to print the start record.
 build/pbook: $(SOURCES)
 	@mkdir -p build
-	cd crates/pbook && rt run -- fen '$(START)' > ../../build/run 2> ../../build/log \
+	@echo 'Proving and building pbook: some minutes the first time.'
+	@cd crates/pbook && rt run -- fen '$(START)' > ../../build/run 2> ../../build/log \
 	    || { cat ../../build/run ../../build/log; exit 1; }
 	@echo '$(START)' | cmp - build/run
 	@install -m 755 crates/pbook/out/pbook $@
 
-# The main job on the bundled example: each record of the file is judged and written again.
+# The main job on the bundled examples: games are played from their records, and EPD lines are rewritten.
 demo: build
-	@while IFS= read -r record; do \
-	    echo "pbook fen '$$record'"; \
-	    build/pbook fen "$$record" || test $$? -eq 1; \
-	done < examples/records.txt
+	@while IFS='|' read -r record moves; do \
+	    echo "$$ pbook fen '$$record' $$moves"; \
+	    build/pbook fen "$$record" $$moves || test $$? -eq 1; \
+	done < examples/moves.txt
+	@echo '$$ pbook epd < examples/lines.epd'
+	@build/pbook epd < examples/lines.epd || test $$? -eq 1
 
 test:
 	rt ci
+
+# Times the program that plays moves, and the command epd over a million lines.
+bench: build
+	@cd crates/bench_moves && rt run -- perft '$(START)' 1 > /dev/null
+	@sh bench/moves.sh
+	@sh bench/epd.sh
 
 clean:
 	rm -rf build crates/*/out

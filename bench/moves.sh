@@ -1,9 +1,9 @@
 #!/bin/sh
-# Times the compiled program (`rt run` builds it as out/bench_moves): sequences of legal moves a second, and
+# Times the program bench_moves (`make bench` builds it): sequences of legal moves a second, and
 # nanoseconds to judge and play a ply. Each figure is the best of five runs, so that other work on the machine
 # disturbs it least.
 set -eu
-program=$(dirname "$0")/out/bench_moves
+program=crates/bench_moves/out/bench_moves
 
 # best COMMAND..: the least number of seconds that the command takes
 best() {
