@@ -8,7 +8,7 @@ use Rattle.pb_board.specs.declared.piece.Kind.TheVariants.{Pawn, Knight, Bishop,
 use Rattle.pb_board.specs.declared.piece.Colour.{Colour}
 use Rattle.pb_board.specs.declared.piece.Colour.TheVariants.{White, Black}
 use Rattle.pb_board.specs.declared.piece.Piece.{Piece}
-use Rattle.pb_board.specs.Board.{Board, Holds, IsForward, file, rank}
+use Rattle.pb_board.specs.Board.{Board, Holds, IsForward, rank}
 use Rattle.pb_board.specs.Position.{Position}
 use Rattle.pb_moves.specs.declared.castling.Castling.{Castling}
 use Rattle.pb_moves.specs.declared.castling.Castling.TheVariants.{WhiteShort}
