@@ -22,13 +22,6 @@ use Rattle.pb_moves.specs.Cases.{Legal, CaseOf, piece_move, pawn_step, pawn_doub
 use Rattle.pb_moves.specs.Listing.{promotion_place, place, ListsLegal}
 use Rattle.pb_moves.specs.Candidate.{HoldsOwn, MayGo, MayPromote, ListsBelow}
 
-pub lists_none : (s : Position) → ListsBelow s [] 0
-lists_none s = record {
-  legal = λ k d lt. absurd (omega arith);
-  every = λ m ok legal below. absurd (omega arith);
-  ordered = λ i j d lt below. absurd (omega arith);
-}
-
 -- a stretch of places with no legal move
 pub lists_skip : (s : Position) (ms : List Moved) (n k : ℕ) → n ≤ k → ListsBelow s ms n
     → ((m : Moved) → IsMove m → Legal s m → n ≤ place m → place m < k → ⊥) → ListsBelow s ms k
