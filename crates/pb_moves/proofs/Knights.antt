@@ -1,6 +1,6 @@
 -- The table of knights' moves holds each knight's move and nothing else: a test over its squares, computed once.
-use Rattle.std.proofs.Common.{◌≡◌, ℕ, ◌<◌, ◌&&◌, ◌||◌, refl, arith, ap, subst, sym, ◌∙◌, Bool, true, false, not, eqb, ltb, [], get_or, zero, suc, inl, inr}
-use Rattle.std.proofs.lemmas.Bool.{and_parts, eqb-true, cases_Bool, cases_lt, false≢true}
+use Rattle.std.proofs.Common.{◌≡◌, ℕ, ◌<◌, ◌&&◌, ◌||◌, refl, arith, ap, sym, ◌∙◌, Bool, true, not, eqb, ltb, [], get_or, inl, inr}
+use Rattle.std.proofs.lemmas.Bool.{and_parts, eqb-true, cases_Bool}
 use Rattle.std.proofs.lemmas.Bool.Decides.{nat_tests}
 use Rattle.pb_moves.specs.declared.knight.TheConstants.{KNIGHT_SQUARES}
 use Rattle.pb_moves.proofs.Below.{all_below, any_below, all_below_at, any_below_at}

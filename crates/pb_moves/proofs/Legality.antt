@@ -1,5 +1,5 @@
 -- From the cases of a move to whether it is legal.
-use Rattle.std.proofs.Common.{◌≡◌, ◌≢◌, ◌↔◌, refl, subst, Option, Some, None, IsTrue, Bool, true, false, not}
+use Rattle.std.proofs.Common.{◌≡◌, subst, Option, Some, None}
 use Rattle.pb_board.specs.declared.piece.Kind.TheVariants.{Pawn, King}
 use Rattle.pb_board.specs.declared.piece.Piece.{Piece}
 use Rattle.pb_board.specs.Board.{Board, Holds}
@@ -42,20 +42,6 @@ king_no_case s m piece king move none b x =
       | castles c y ↦ none c b y
     ]
 
--- a piece that is neither a pawn nor a king moves only as a piece
-pub piece_cases : (s : Position) (m : Moved) (piece : Piece) → piece.kind ≢ Pawn → piece.kind ≢ King
-    → (o : Option Change) → Finds (PieceMove s m piece) s.board m o → Finds (CaseOf s m piece) s.board m o
-piece_cases s m piece no_pawn no_king (Some x) h = (h.0, λ b c. piece_move (h.1 b c))
-piece_cases s m piece no_pawn no_king None h = λ b x.
-    elim x [
-      | piece_move y ↦ h b y
-      | pawn_step y ↦ no_pawn y.pawn
-      | pawn_double y ↦ no_pawn y.pawn
-      | pawn_capture y ↦ no_pawn y.pawn
-      | en_passant y ↦ no_pawn y.pawn
-      | castles c y ↦ no_king y.king
-    ]
-
 -- the case of the piece that stands on `from`
 pub case_at : (s : Position) (m : Moved) (b : Board) (piece : Piece) → Holds s.board m.from piece → Case s m b → CaseOf s m piece b
 case_at s m b piece stands case =
@@ -83,9 +69,3 @@ not_legal_in_check s m b piece ok own x check legal =
 -- a move whose board doesn't is
 pub legal_out_of_check : (s : Position) (m : Moved) (b : Board) (piece : Piece) → HoldsOwn s m.from piece → CaseOf s m piece b → ¬ InCheck b s.turn → Legal s m
 legal_out_of_check s m b piece own x safe = record { new = b; moves = case_by s m b piece own x; safe = safe }
-
--- so a test of check tells whether the move is legal
-pub legal_by_check : (s : Position) (m : Moved) (b : Board) (piece : Piece) (check : Bool) → IsSetup s → HoldsOwn s m.from piece → CaseOf s m piece b
-    → (IsTrue check ↔ InCheck b s.turn) → (IsTrue (not check) ↔ Legal s m)
-legal_by_check s m b piece true ok own x check = (λ h. absurd (cc), λ legal. absurd (not_legal_in_check s m b piece ok own x (check.0 refl) legal))
-legal_by_check s m b piece false ok own x check = (λ h. legal_out_of_check s m b piece own x (λ c. let r = check.1 c in cc), λ legal. refl)

@@ -8,7 +8,7 @@ use Rattle.pb_board.specs.declared.piece.Kind.TheVariants.{Pawn, Knight, Bishop,
 use Rattle.pb_board.specs.declared.piece.Colour.{Colour}
 use Rattle.pb_board.specs.declared.piece.Colour.TheVariants.{White, Black}
 use Rattle.pb_board.specs.declared.piece.Piece.{Piece}
-use Rattle.pb_board.specs.Board.{Board, Holds, IsForward, file, rank}
+use Rattle.pb_board.specs.Board.{Board, Holds, IsForward, rank}
 use Rattle.pb_board.specs.Position.{Position}
 use Rattle.pb_moves.specs.declared.castling.Castling.{Castling}
 use Rattle.pb_moves.specs.declared.castling.Castling.TheVariants.{WhiteShort}
@@ -21,13 +21,6 @@ use Rattle.pb_moves.specs.Castling.{castling_row}
 use Rattle.pb_moves.specs.Cases.{Legal, CaseOf, piece_move, pawn_step, pawn_double, pawn_capture, en_passant, castles, Becomes}
 use Rattle.pb_moves.specs.Listing.{promotion_place, place, ListsLegal}
 use Rattle.pb_moves.specs.Candidate.{HoldsOwn, MayGo, MayPromote, ListsBelow}
-
-pub lists_none : (s : Position) → ListsBelow s [] 0
-lists_none s = record {
-  legal = λ k d lt. absurd (omega arith);
-  every = λ m ok legal below. absurd (omega arith);
-  ordered = λ i j d lt below. absurd (omega arith);
-}
 
 -- a stretch of places with no legal move
 pub lists_skip : (s : Position) (ms : List Moved) (n k : ℕ) → n ≤ k → ListsBelow s ms n

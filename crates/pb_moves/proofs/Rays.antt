@@ -74,9 +74,6 @@ clear_only board d n a b lo to clear =
     let Q : ℕ → Type 0 = λ x. EmptyBelow board d x a in
     subst Q (sym same.1) (subst P (sym same.0) clear.empty)
 
-pub empty_fewer : (board : Board) (d : Direction) (n m a : ℕ) → n ≤ m → EmptyBelow board d m a → EmptyBelow board d n a
-empty_fewer board d n m a le e k c lo hi on to = e k c lo (omega arith) on to
-
 -- a square cannot be both empty and taken
 pub empty_or_taken : (board : Board) (q : ℕ) (p : Piece) → Holds board q p → IsEmpty board q → ⊥
 empty_or_taken board q p here empty = cc

@@ -1,17 +1,19 @@
--- The tables of squares to which a piece may go hold each such square: tests over all pairs, computed once.
-use Rattle.std.proofs.Common.{◌≡◌, ℕ, ◌+◌, ◌<◌, ◌≤◌, ◌⊎◌, ◌&&◌, ◌||◌, refl, arith, ap, sym, subst, ◌∙◌, inl, inr, Bool, true, false, not, eqb, ltb, leb, max, min, List, get_or, bit_or}
+-- The tables of squares to which a piece may go hold each such square and no other: tests over all pairs, computed once.
+use Rattle.std.proofs.Common.{◌≡◌, ℕ, ◌+◌, ◌<◌, ◌⊎◌, ◌↔◌, ◌&&◌, ◌||◌, refl, arith, ap, sym, subst, ◌∙◌, inl, inr, Bool, true, false, eqb, ltb, leb, max, List, get_or, bit_or}
 use Rattle.std.specs.Int.{bit_at}
-use Rattle.std.proofs.lemmas.Bool.{eq-eqb, eqb-true, lt-ltb, le-leb, cases_Bool, false≢true}
+use Rattle.std.proofs.lemmas.Bool.{and_parts, eq-eqb, eqb-true, lt-ltb, ltb-true, le-leb, leb-true}
 use Rattle.std.proofs.lemmas.Nat.Bits.{bit_at_or, bit_at-lt}
 use Rattle.pb_board.specs.declared.piece.Colour.{Colour}
 use Rattle.pb_board.specs.declared.piece.Colour.TheVariants.{White, Black}
-use Rattle.pb_board.specs.Board.{file, rank, IsForward}
+use Rattle.pb_board.specs.Board.{rank}
 use Rattle.pb_moves.specs.declared.candidates.TheConstants.{WHITE_PAWN, BLACK_PAWN, KNIGHT, BISHOP, ROOK, KING}
 use Rattle.pb_board.specs.declared.piece.Kind.{Kind}
+use Rattle.pb_board.specs.declared.piece.Kind.TheVariants.{Pawn, Knight, Bishop, Rook, Queen, King}
 use Rattle.pb_moves.specs.Candidate.{MayGo}
 use Rattle.pb_moves.specs.Attack.{files_apart, ranks_apart, IsKnightsMove, IsDiagonal, IsStraight}
 use Rattle.pb_moves.proofs.Below.{all_below, all_below_at}
-use Rattle.pb_moves.proofs.Knights.{is_knights_move, apart_passes}
+use Rattle.pb_moves.proofs.Knights.{is_knights_move, apart_passes, apart_is}
+use Rattle.pb_moves.proofs.Unique.{same_or_not}
 
 pub both : (x y : Bool) → x ≡ true → y ≡ true → (x && y) ≡ true
 both x y p q = cc
@@ -37,77 +39,129 @@ tests_white_pawn a b = (eqb (rank b) (rank a + 1) && leb (files_apart a b) 1) ||
 abbrev pub tests_black_pawn : ℕ → ℕ → Bool
 tests_black_pawn a b = (eqb (rank a) (rank b + 1) && leb (files_apart a b) 1) || (eqb (rank a) (rank b + 2) && eqb (files_apart a b) 0)
 
--- a table has the bit of each square that passes
-abbrev pub has_passing : List ℕ → (ℕ → ℕ → Bool) → ℕ → ℕ → Bool
-has_passing table passes a b = not (passes a b) || eqb (bit_at (get_or table a 0) b) 1
+-- the bit of a square that passes, or of one that does not
+abbrev pub bit_for : Bool → ℕ
+bit_for true = 1
+bit_for false = 0
 
-abbrev pub is_whole : List ℕ → (ℕ → ℕ → Bool) → Bool
-is_whole table passes = all_below (λ a. all_below (has_passing table passes a) 64) 64
+-- a table has the bit of each square that passes, and no other
+abbrev pub tells : List ℕ → (ℕ → ℕ → Bool) → ℕ → ℕ → Bool
+tells table passes a b = eqb (bit_at (get_or table a 0) b) (bit_for (passes a b))
 
-pub bit_of : (table : List ℕ) (passes : ℕ → ℕ → Bool) (a b : ℕ) → is_whole table passes ≡ true → a < 64 → b < 64 → passes a b ≡ true → bit_at (get_or table a 0) b ≡ 1
-bit_of table passes a b whole on_a on_b pass =
-    let row = all_below_at (λ k. all_below (has_passing table passes k) 64) 64 a whole on_a in
-    let entry : has_passing table passes a b ≡ true = all_below_at (has_passing table passes a) 64 b row on_b in
-    let found : eqb (bit_at (get_or table a 0) b) 1 ≡ true = sym (ap (λ (x : Bool). not x || eqb (bit_at (get_or table a 0) b) 1) pass) ∙ entry in
-    eqb-true (bit_at (get_or table a 0) b) 1 found
+abbrev pub is_right : List ℕ → (ℕ → ℕ → Bool) → Bool
+is_right table passes = all_below (λ a. all_below (tells table passes a) 64) 64
 
-white_pawn_is_whole : is_whole WHITE_PAWN tests_white_pawn ≡ true
-white_pawn_is_whole = refl
+pub bit_is : (table : List ℕ) (passes : ℕ → ℕ → Bool) (a b : ℕ) → is_right table passes ≡ true → a < 64 → b < 64 → bit_at (get_or table a 0) b ≡ bit_for (passes a b)
+bit_is table passes a b right on_a on_b =
+    let row = all_below_at (λ k. all_below (tells table passes k) 64) 64 a right on_a in
+    eqb-true (bit_at (get_or table a 0) b) (bit_for (passes a b)) (all_below_at (tells table passes a) 64 b row on_b)
 
-black_pawn_is_whole : is_whole BLACK_PAWN tests_black_pawn ≡ true
-black_pawn_is_whole = refl
+pub one_passes : (pass : Bool) → bit_for pass ≡ 1 → pass ≡ true
+one_passes true e = refl
+one_passes false e = absurd (omega arith)
 
-knight_is_whole : is_whole KNIGHT is_knights_move ≡ true
-knight_is_whole = refl
+-- the bit of a square is 1 just where the fact holds that the test decides
+pub bit_tells : (table : List ℕ) (passes : ℕ → ℕ → Bool) (a b : ℕ) (P : Type 0) → is_right table passes ≡ true → a < 64 → b < 64
+    → (P → passes a b ≡ true) → (passes a b ≡ true → P) → (bit_at (get_or table a 0) b ≡ 1) ↔ P
+bit_tells table passes a b P right on_a on_b pass back = (
+  λ one. back (one_passes (passes a b) (sym (bit_is table passes a b right on_a on_b) ∙ one)),
+  λ p. bit_is table passes a b right on_a on_b ∙ ap (λ (x : Bool). bit_for x) (pass p),
+)
 
-bishop_is_whole : is_whole BISHOP tests_diagonal ≡ true
-bishop_is_whole = refl
+white_pawn_is_right : is_right WHITE_PAWN tests_white_pawn ≡ true
+white_pawn_is_right = refl
 
-rook_is_whole : is_whole ROOK tests_straight ≡ true
-rook_is_whole = refl
+black_pawn_is_right : is_right BLACK_PAWN tests_black_pawn ≡ true
+black_pawn_is_right = refl
 
-king_is_whole : is_whole KING tests_king ≡ true
-king_is_whole = refl
+knight_is_right : is_right KNIGHT is_knights_move ≡ true
+knight_is_right = refl
 
-pub white_pawn_bit : (a b : ℕ) → a < 64 → b < 64 → (IsForward White 1 a b × (files_apart a b ≤ 1)) ⊎ (IsForward White 2 a b × (files_apart a b ≡ 0)) → bit_at (get_or WHITE_PAWN a 0) b ≡ 1
-white_pawn_bit a b x y (inl h) = bit_of WHITE_PAWN tests_white_pawn a b white_pawn_is_whole x y (either _ _ (inl (both _ _ (eq-eqb (rank b) (rank a + 1) h.0) (le-leb (files_apart a b) 1 h.1))))
-white_pawn_bit a b x y (inr h) = bit_of WHITE_PAWN tests_white_pawn a b white_pawn_is_whole x y (either _ _ (inr (both _ _ (eq-eqb (rank b) (rank a + 2) h.0) (eq-eqb (files_apart a b) 0 h.1))))
+bishop_is_right : is_right BISHOP tests_diagonal ≡ true
+bishop_is_right = refl
 
-pub black_pawn_bit : (a b : ℕ) → a < 64 → b < 64 → (IsForward Black 1 a b × (files_apart a b ≤ 1)) ⊎ (IsForward Black 2 a b × (files_apart a b ≡ 0)) → bit_at (get_or BLACK_PAWN a 0) b ≡ 1
-black_pawn_bit a b x y (inl h) = bit_of BLACK_PAWN tests_black_pawn a b black_pawn_is_whole x y (either _ _ (inl (both _ _ (eq-eqb (rank a) (rank b + 1) h.0) (le-leb (files_apart a b) 1 h.1))))
-black_pawn_bit a b x y (inr h) = bit_of BLACK_PAWN tests_black_pawn a b black_pawn_is_whole x y (either _ _ (inr (both _ _ (eq-eqb (rank a) (rank b + 2) h.0) (eq-eqb (files_apart a b) 0 h.1))))
+rook_is_right : is_right ROOK tests_straight ≡ true
+rook_is_right = refl
 
-pub knight_bit : (a b : ℕ) → a < 64 → b < 64 → IsKnightsMove a b → bit_at (get_or KNIGHT a 0) b ≡ 1
-knight_bit a b x y h = bit_of KNIGHT is_knights_move a b knight_is_whole x y (apart_passes a b h)
+king_is_right : is_right KING tests_king ≡ true
+king_is_right = refl
 
-pub bishop_bit : (a b : ℕ) → a < 64 → b < 64 → IsDiagonal a b → bit_at (get_or BISHOP a 0) b ≡ 1
-bishop_bit a b x y h = bit_of BISHOP tests_diagonal a b bishop_is_whole x y (both _ _ (eq-eqb (files_apart a b) (ranks_apart a b) h.0) (lt-ltb 0 (files_apart a b) h.1))
+-- what two tests joined by && or || decide
+pub both_parts : (x y : Bool) (P Q : Type 0) → (x ≡ true → P) → (y ≡ true → Q) → (x && y) ≡ true → P × Q
+both_parts x y P Q f g h = let parts = and_parts x y h in (f parts.0, g parts.1)
 
-pub rook_bit : (a b : ℕ) → a < 64 → b < 64 → IsStraight a b → bit_at (get_or ROOK a 0) b ≡ 1
-rook_bit a b x y (inl h) = bit_of ROOK tests_straight a b rook_is_whole x y (either _ _ (inl (both _ _ (eq-eqb (files_apart a b) 0 h.0) (lt-ltb 0 (ranks_apart a b) h.1))))
-rook_bit a b x y (inr h) = bit_of ROOK tests_straight a b rook_is_whole x y (either _ _ (inr (both _ _ (lt-ltb 0 (files_apart a b) h.0) (eq-eqb (ranks_apart a b) 0 h.1))))
+pub either_part : (x y : Bool) (P Q : Type 0) → (x ≡ true → P) → (y ≡ true → Q) → (x || y) ≡ true → P ⊎ Q
+either_part true y P Q f g h = inl (f refl)
+either_part false y P Q f g h = inr (g h)
 
-pub king_bit : (a b : ℕ) → a < 64 → b < 64 → (max (files_apart a b) (ranks_apart a b) ≡ 1) ⊎ ((files_apart a b ≡ 2) × (ranks_apart a b ≡ 0)) → bit_at (get_or KING a 0) b ≡ 1
-king_bit a b x y (inl h) = bit_of KING tests_king a b king_is_whole x y (either _ _ (inl (eq-eqb (max (files_apart a b) (ranks_apart a b)) 1 h)))
-king_bit a b x y (inr h) = bit_of KING tests_king a b king_is_whole x y (either _ _ (inr (both _ _ (eq-eqb (files_apart a b) 2 h.0) (eq-eqb (ranks_apart a b) 0 h.1))))
+pub white_pawn_bit : (a b : ℕ) → a < 64 → b < 64 → (bit_at (get_or WHITE_PAWN a 0) b ≡ 1) ↔ MayGo White Pawn a b
+white_pawn_bit a b x y =
+    bit_tells WHITE_PAWN tests_white_pawn a b (MayGo White Pawn a b) white_pawn_is_right x y
+    (λ h. elim h [
+      | inl one ↦ either _ _ (inl (both _ _ (eq-eqb (rank b) (rank a + 1) one.0) (le-leb (files_apart a b) 1 one.1)))
+      | inr two ↦ either _ _ (inr (both _ _ (eq-eqb (rank b) (rank a + 2) two.0) (eq-eqb (files_apart a b) 0 two.1)))
+    ])
+    (either_part _ _ _ _ (both_parts _ _ _ _ (eqb-true (rank b) (rank a + 1)) (leb-true (files_apart a b) 1)) (both_parts _ _ _ _ (eqb-true (rank b) (rank a + 2)) (eqb-true (files_apart a b) 0)))
 
--- the same move, with the colour, the kind and the square as the code names them
-pub may_go_at : (colour side : Colour) (kind same : Kind) (from index to : ℕ) → colour ≡ side → kind ≡ same → index ≡ from → MayGo colour kind from to → MayGo side same index to
-may_go_at colour side kind same from index to same_colour same_kind same_square may =
-    let C : Colour → Type 0 = λ x. MayGo x kind from to in
-    let K : Kind → Type 0 = λ x. MayGo side x from to in
-    let S : ℕ → Type 0 = λ x. MayGo side same x to in
-    subst S (sym same_square) (subst K same_kind (subst C same_colour may))
+pub black_pawn_bit : (a b : ℕ) → a < 64 → b < 64 → (bit_at (get_or BLACK_PAWN a 0) b ≡ 1) ↔ MayGo Black Pawn a b
+black_pawn_bit a b x y =
+    bit_tells BLACK_PAWN tests_black_pawn a b (MayGo Black Pawn a b) black_pawn_is_right x y
+    (λ h. elim h [
+      | inl one ↦ either _ _ (inl (both _ _ (eq-eqb (rank a) (rank b + 1) one.0) (le-leb (files_apart a b) 1 one.1)))
+      | inr two ↦ either _ _ (inr (both _ _ (eq-eqb (rank a) (rank b + 2) two.0) (eq-eqb (files_apart a b) 0 two.1)))
+    ])
+    (either_part _ _ _ _ (both_parts _ _ _ _ (eqb-true (rank a) (rank b + 1)) (leb-true (files_apart a b) 1)) (both_parts _ _ _ _ (eqb-true (rank a) (rank b + 2)) (eqb-true (files_apart a b) 0)))
+
+pub knight_bit : (colour : Colour) (a b : ℕ) → a < 64 → b < 64 → (bit_at (get_or KNIGHT a 0) b ≡ 1) ↔ MayGo colour Knight a b
+knight_bit colour a b x y = bit_tells KNIGHT is_knights_move a b (IsKnightsMove a b) knight_is_right x y (apart_passes a b) (apart_is a b)
+
+pub bishop_bit : (colour : Colour) (a b : ℕ) → a < 64 → b < 64 → (bit_at (get_or BISHOP a 0) b ≡ 1) ↔ MayGo colour Bishop a b
+bishop_bit colour a b x y =
+    bit_tells BISHOP tests_diagonal a b (IsDiagonal a b) bishop_is_right x y
+    (λ h. both _ _ (eq-eqb (files_apart a b) (ranks_apart a b) h.0) (lt-ltb 0 (files_apart a b) h.1))
+    (both_parts _ _ _ _ (eqb-true (files_apart a b) (ranks_apart a b)) (ltb-true 0 (files_apart a b)))
+
+pub rook_bit : (colour : Colour) (a b : ℕ) → a < 64 → b < 64 → (bit_at (get_or ROOK a 0) b ≡ 1) ↔ MayGo colour Rook a b
+rook_bit colour a b x y =
+    bit_tells ROOK tests_straight a b (IsStraight a b) rook_is_right x y
+    (λ h. elim h [
+      | inl up ↦ either _ _ (inl (both _ _ (eq-eqb (files_apart a b) 0 up.0) (lt-ltb 0 (ranks_apart a b) up.1)))
+      | inr across ↦ either _ _ (inr (both _ _ (lt-ltb 0 (files_apart a b) across.0) (eq-eqb (ranks_apart a b) 0 across.1)))
+    ])
+    (either_part _ _ _ _ (both_parts _ _ _ _ (eqb-true (files_apart a b) 0) (ltb-true 0 (ranks_apart a b))) (both_parts _ _ _ _ (ltb-true 0 (files_apart a b)) (eqb-true (ranks_apart a b) 0)))
+
+pub king_bit : (colour : Colour) (a b : ℕ) → a < 64 → b < 64 → (bit_at (get_or KING a 0) b ≡ 1) ↔ MayGo colour King a b
+king_bit colour a b x y =
+    bit_tells KING tests_king a b (MayGo colour King a b) king_is_right x y
+    (λ h. elim h [
+      | inl near ↦ either _ _ (inl (eq-eqb (max (files_apart a b) (ranks_apart a b)) 1 near))
+      | inr castles ↦ either _ _ (inr (both _ _ (eq-eqb (files_apart a b) 2 castles.0) (eq-eqb (ranks_apart a b) 0 castles.1)))
+    ])
+    (either_part _ _ _ _ (eqb-true (max (files_apart a b) (ranks_apart a b)) 1) (both_parts _ _ _ _ (eqb-true (files_apart a b) 2) (eqb-true (ranks_apart a b) 0)))
 
 -- a queen's squares are a bishop's and a rook's
-pub queen_bit : (a b : ℕ) → a < 64 → b < 64 → IsDiagonal a b ⊎ IsStraight a b → bit_at (bit_or (get_or BISHOP a 0) (get_or ROOK a 0)) b ≡ 1
-queen_bit a b x y (inl h) =
+pub queen_bit : (colour : Colour) (a b : ℕ) → a < 64 → b < 64 → (bit_at (bit_or (get_or BISHOP a 0) (get_or ROOK a 0)) b ≡ 1) ↔ MayGo colour Queen a b
+queen_bit colour a b x y =
     let is = bit_at_or (get_or BISHOP a 0) (get_or ROOK a 0) b in
-    let one = bishop_bit a b x y h in
-    let small = bit_at-lt (get_or ROOK a 0) b in
-    is ∙ omega arith
-queen_bit a b x y (inr h) =
-    let is = bit_at_or (get_or BISHOP a 0) (get_or ROOK a 0) b in
-    let one = rook_bit a b x y h in
-    let small = bit_at-lt (get_or BISHOP a 0) b in
-    is ∙ omega arith
+    let bishop = bishop_bit colour a b x y in
+    let rook = rook_bit colour a b x y in
+    let bishop_small = bit_at-lt (get_or BISHOP a 0) b in
+    let rook_small = bit_at-lt (get_or ROOK a 0) b in (
+      λ one. elim (same_or_not (bit_at (get_or BISHOP a 0) b) 1) [
+        | inl e ↦ inl (bishop.0 e)
+        | inr ne ↦ inr (rook.0 (omega arith))
+      ],
+      λ h. elim h [
+        | inl diagonal ↦ (let one = bishop.1 diagonal in is ∙ omega arith)
+        | inr straight ↦ (let one = rook.1 straight in is ∙ omega arith)
+      ],
+    )
+
+-- the same, with the colour, the kind and the square as the code names them
+pub bit_named : (colour side : Colour) (kind same : Kind) (from index to bit : ℕ) → colour ≡ side → kind ≡ same → index ≡ from
+    → ((bit ≡ 1) ↔ MayGo side same index to) → ((bit ≡ 1) ↔ MayGo colour kind from to)
+bit_named colour side kind same from index to bit same_colour same_kind same_square tells =
+    let C : Colour → Type 0 = λ x. (bit ≡ 1) ↔ MayGo x kind from to in
+    let K : Kind → Type 0 = λ x. (bit ≡ 1) ↔ MayGo side x from to in
+    let S : ℕ → Type 0 = λ x. (bit ≡ 1) ↔ MayGo side same x to in
+    subst C (sym same_colour) (subst K (sym same_kind) (subst S same_square tells))

@@ -1,7 +1,7 @@
 //! Where a piece may go on an empty board or by a capture: for each square a number, whose bit `i` stands for the square
 //! of index `i`.
 
-ghost use Rattle.std.specs.Prelude.{◌≡◌, ℕ, ◌<◌};
+ghost use Rattle.std.specs.Prelude.{◌≡◌, ℕ, ◌<◌, ◌↔◌};
 ghost use Rattle.std.specs.Int.{bit_at};
 ghost use Rattle.pb_moves.specs.Candidate.{MayGo};
 
@@ -418,7 +418,7 @@ static KING: [u64; 64] = [
 /// The squares to which this piece may go from there. A legal move goes to one of them.
 #[inline(always)]
 pub(crate) fn candidates(piece: Piece, from: Square) -> u64
-    ensures { (to : ℕ) → to < 64 → MayGo piece.colour piece.kind from to → bit_at result to ≡ 1 }
+    ensures { (to : ℕ) → to < 64 → (bit_at result to ≡ 1) ↔ MayGo piece.colour piece.kind from to }
 {
     let index = from.index() as usize;
     match piece.kind {

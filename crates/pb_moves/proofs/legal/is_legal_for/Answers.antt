@@ -9,7 +9,7 @@ returns-in-Some-Carry c =
     let s = c.args.setup.now in
     let move = c.from.ensures.rules in
     let P : ℕ → Type 0 = λ q. IsUnpinned s q c.args.piece in
-    let free = subst P c.from.ensures.value (c.is_unpinned.ensures.unpinned c.if-is_unpinned.true) in
+    let free = subst P c.from.ensures.value (c.is_unpinned.ensures.unpinned.0 c.if-is_unpinned.true) in
     let leads = rw c.in-Some-Carry.field-0-is at c.in-Some-Carry.ensures in
     let safe = c.requires.checked (λ h. let f = c.if-not-checked.true in cc) in
     (λ _. legal_unpinned s c.args.m c.args.piece c.in-Some-Carry.field-0-0 c.is_unpinned.ensures.rules move.from_on_board move.to_on_board move.moves c.requires.own leads free safe, λ _. refl)

@@ -1,4 +1,4 @@
-use Rattle.std.proofs.Common.{◌≡◌, ℕ, ◌+◌, ◌*◌, ◌<◌, subst, sym, arith, w64}
+use Rattle.std.proofs.Common.{◌≡◌, ℕ, ◌+◌, ◌*◌, subst, arith, w64}
 use Rattle.std.specs.Int.{trailing_zeros}
 use Rattle.std.specs.Int.Count.{trailing_of_zero}
 use Rattle.pb_moves.specs.Candidate.{ListsBelow}
@@ -16,8 +16,8 @@ loop-rest-init c =
     let first : 320 * c.args.from ≡ 320 * c.args.from + 5 * 0 = omega arith in
     record {
       before = lists_to_lowest c.args.setup.now c.args.moves.now.items c.in-Some.piece c.args.from 0 bits c.in-Some.ensures c.candidates-rest.type_inv (omega arith)
-          (record { every = λ q on after may. c.candidates-rest.ensures q on may }) (subst L first c.requires.before);
-      targets = record { every = λ q on after may. c.candidates-rest.ensures q on may };
+          (record { every = λ q on after may. (c.candidates-rest.ensures q on).1 may }) (subst L first c.requires.before);
+      targets = record { every = λ q on after may. (c.candidates-rest.ensures q on).1 may };
     }
 
 pub loop-rest-smaller : goal.loop-rest-smaller

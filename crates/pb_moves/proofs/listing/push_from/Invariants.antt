@@ -1,4 +1,4 @@
-use Rattle.std.proofs.Common.{◌≡◌, ◌+◌, ◌*◌, ◌-◌, w64}
+use Rattle.std.proofs.Common.{◌+◌, ◌*◌, ◌-◌, w64}
 use Rattle.std.specs.Int.{trailing_zeros}
 use Rattle.pb_moves.specs.Candidate.{ListsBelow}
 use Rattle.pb_moves.proofs.Listed.{HasTargets}
