@@ -1,3 +1,4 @@
+pub mod Codes
 pub mod LineBufferLemmas
 pub mod LineLemmas
 pub mod ReadsLemmas

@@ -1,3 +1,5 @@
+pub mod Code
+pub mod Decoding
 pub mod LineBuffer
 pub mod LineTask
 pub mod Lines

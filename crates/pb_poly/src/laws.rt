@@ -1,7 +1,8 @@
-//! Laws of lines. Each is the contract of a function that does nothing.
+//! Laws of lines and of move codes. Each is the contract of a function that does nothing.
 
 ghost use Rattle.std.specs.Prelude.{◌≡◌, ◌≤◌, ℕ, List, ◌++◌, length};
 ghost use Rattle.std.specs.List.{join_with_byte};
+ghost use Rattle.pb_poly.specs.Code.{CodeIsOne};
 ghost use Rattle.pb_poly.specs.Lines.{ended_lines, lines, pieces};
 
 /// The pieces of a text, joined by LFs, are the text.
@@ -17,4 +18,9 @@ pub fn lines_begin()
 /// A text has no more lines than bytes.
 pub fn lines_few()
     ensures { (bytes : List ℕ) → length (lines bytes) ≤ length bytes }
+{}
+
+/// No two legal moves share a code.
+pub fn code_is_one()
+    ensures { CodeIsOne }
 {}

@@ -1,12 +1,14 @@
 //! Where bytes come from and where they go, and the lines of a stream.
 #![tactic(auto)]
 
+mod code;
 pub mod laws;
 mod line_buffer;
 mod lines;
 mod sink;
 mod source;
 
+pub use code::{code_of, move_of};
 pub use lines::{LINE_LIMIT, LineTask, LinesFault, take_lines};
 pub use sink::{MemSink, Sink, ToWrite};
 pub use source::{Failed, FromRead, MemSource, Source};
