@@ -6,3 +6,4 @@ pub mod Lines
 pub mod Reads
 pub mod Sink
 pub mod Source
+pub mod Table

@@ -7,8 +7,10 @@ mod line_buffer;
 mod lines;
 mod sink;
 mod source;
+mod table;
 
 pub use code::{code_of, move_of};
 pub use lines::{LINE_LIMIT, LineTask, LinesFault, take_lines};
 pub use sink::{MemSink, Sink, ToWrite};
 pub use source::{Failed, FromRead, MemSource, Source};
+pub use table::{Table, TableError, read_table};
