@@ -1,14 +1,14 @@
 -- Hexadecimal digits, and the words that they write.
-use Rattle.std.proofs.Common.{◌≡◌, ℕ, ◌+◌, ◌*◌, ◌<◌, ◌≤◌, ◌%◌, ◌⊎◌, inl, inr, List, [], ◌∷◌, ◌++◌, length, fold, get_or, Option, Some, None, is_some, Bool, true, false, Result, Ok, Err, refl, sym, ap, ◌∙◌, subst, arith}
+use Rattle.std.proofs.Common.{◌≡◌, ℕ, ◌+◌, ◌*◌, ◌^◌, ◌<◌, ◌≤◌, ◌%◌, ◌⊎◌, inl, inr, List, [], ◌∷◌, ◌++◌, length, fold, get_or, Option, Some, None, is_some, Bool, true, false, Result, Ok, Err, refl, sym, ap, ◌∙◌, subst, arith}
 use Rattle.std.specs.Prelude.{MatchResult, is_ok}
 use Rattle.std.specs.List.{AllPass, AllZip}
 use Rattle.std.specs.Int.{w64, from_be_bytes}
 use Rattle.std.specs.Result.{result_unwrap_or}
 use Rattle.std.proofs.lemmas.Bool.Decides.{nat_tests}
 use Rattle.std.proofs.lemmas.List.Elements.{All-cons, All-head, All-nil, All-tail, length_all_zip}
-use Rattle.hex.specs.Hex.{decode_pairs, decode_sized, digit_or_error, hex_digit_value, is_hex_digit, pair_value, value_at}
+use Rattle.hex.specs.Hex.{IsBytes, decode_pairs, decode_sized, digit_or_error, hex_digit_value, is_hex_digit, pair_value, value_at}
 use Rattle.hex.specs.declared.error.FromHexError.{FromHexError}
-use Rattle.hex.proofs.HexLemmas.{IsOk-decode_sized}
+use Rattle.hex.proofs.HexLemmas.{IsOk-decode_sized, decode_pairs-ok}
 use Rattle.hex.proofs.Pairs.{cons_byte, decode_pairs-ok_pair, decode_sized-pairs}
 use Rattle.pb_poly.specs.Table.{IsDigit, WritesWord, number_of_digits}
 
@@ -107,6 +107,21 @@ unwritten digits e out h word writes =
     let is = decoded_err (decode_sized digits 8) e out h in
     let p = decoded_digits digits word writes in
     absurd (cc (sym is ∙ p.1))
+
+eight_small : (bytes : List ℕ) → length bytes ≡ 8 → IsBytes bytes → from_be_bytes w64 bytes < 2 ^ 64
+eight_small (a ∷ b ∷ c ∷ d ∷ e ∷ f ∷ g ∷ h ∷ []) long small = omega (arith, small 0, small 1, small 2, small 3, small 4, small 5, small 6, small 7)
+eight_small bytes long small = absurd (omega arith)
+
+-- Sixteen digits write a word of 64 bits.
+pub word_small : (digits : List ℕ) (word : ℕ) → WritesWord digits word → word < 2 ^ 64
+word_small digits word h =
+    let long : length digits ≡ 16 = length_all_zip IsDigit digits h.values h.are ∙ h.sixteen in
+    let p = decoded_digits digits word h in
+    let pairs = decode_pairs-ok 0 digits p.0 (sym (decode_sized-pairs digits 8 (omega arith) (omega arith)) ∙ p.1) in
+    let half = pairs.1 in
+    let below = eight_small p.0 (omega (arith, half)) pairs.2 in
+    let is = p.2 in
+    subst (λ (n : ℕ). n < 2 ^ 64) (sym is) below
 
 -- Digits write one word.
 pub word_is_one : (digits : List ℕ) (v w : ℕ) → WritesWord digits v → WritesWord digits w → v ≡ w

@@ -1,5 +1,6 @@
 pub mod Codes
 pub mod Digits
+pub mod Keys
 pub mod LineBufferLemmas
 pub mod LineLemmas
 pub mod ReadsLemmas

@@ -1,5 +1,5 @@
 -- The lines of a table file, and the words that they spell.
-use Rattle.std.proofs.Common.{◌≡◌, ◌≢◌, ℕ, ◌+◌, ◌-◌, ◌<◌, ◌≤◌, ◌⊎◌, inl, inr, List, [], ◌∷◌, ◌++◌, length, take, drop, All, refl, sym, ap, ◌∙◌, subst, arith, append_assoc, length-append}
+use Rattle.std.proofs.Common.{◌≡◌, ◌≢◌, ℕ, ◌+◌, ◌-◌, ◌^◌, ◌<◌, ◌≤◌, ◌⊎◌, inl, inr, List, [], ◌∷◌, ◌++◌, length, take, drop, All, refl, sym, ap, ◌∙◌, subst, arith, append_assoc, length-append}
 use Rattle.std.specs.List.{AllZip}
 use Rattle.std.proofs.lemmas.List.Splits.{slice_split_none, slice_split_at}
 use Rattle.std.proofs.lemmas.List.{append-nil, same_from_push}
@@ -8,9 +8,9 @@ use Rattle.std.specs.Prelude.{IsSome, MatchOption, Option, Some, None, is_none, 
 use Rattle.pb_poly.specs.Lines.{is_line_feed, pieces, all_but_last, last_of, line_at_end, lines}
 use Rattle.pb_poly.specs.declared.table.TableError.{TableError}
 use Rattle.pb_poly.specs.declared.table.TableError.TheVariants.{Line, Count, Memory}
-use Rattle.pb_poly.specs.Table.{IsDigit, IsDueTable, IsFirstUnspelled, IsSpelled, SpellsWord, TableText, WritesWord}
+use Rattle.pb_poly.specs.Table.{IsDigit, IsDueTable, IsFirstUnspelled, IsSpelled, IsTable, SpellsWord, TableText, WritesWord}
 use Rattle.pb_poly.proofs.LineLemmas.{IsLineFeedAt, IsQuiet, length-lines, pieces-nonempty}
-use Rattle.pb_poly.proofs.Digits.{word_is_one}
+use Rattle.pb_poly.proofs.Digits.{word_is_one, word_small}
 
 lines_of : List (List ℕ) → List (List ℕ)
 lines_of ps = all_but_last ps ++ line_at_end (last_of ps)
@@ -168,3 +168,13 @@ pub only_memory : (words : List ℕ) (bytes : List ℕ) (e : TableError) → Tab
 only_memory words bytes (Line number) text due = absurd (no_first_unspelled words bytes number text due)
 only_memory words bytes (Count number) text due = absurd (due.1 (due.0 ∙ length_zip (lines bytes) words text.each ∙ text.all))
 only_memory words bytes Memory text due = refl
+
+words_small : (ls : List (List ℕ)) (words : List ℕ) → AllZip SpellsWord ls words → All (λ word. word < 2 ^ 64) words
+words_small [] [] zip = All-nil (λ word. word < 2 ^ 64)
+words_small [] (w ∷ words) zip = absurd zip
+words_small (l ∷ ls) [] zip = absurd zip
+words_small (l ∷ ls) (w ∷ words) zip = All-cons (λ word. word < 2 ^ 64) w words (word_small zip.0.digits w zip.0.writes) (words_small ls words zip.1)
+
+-- what a table's text spells is a table
+pub is_table : (words : List ℕ) (bytes : List ℕ) → TableText words bytes → IsTable words
+is_table words bytes text = record { all = text.all; fit = words_small (lines bytes) words text.each }

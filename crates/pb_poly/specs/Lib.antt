@@ -1,5 +1,6 @@
 pub mod Code
 pub mod Decoding
+pub mod Key
 pub mod LineBuffer
 pub mod LineTask
 pub mod Lines

@@ -1,9 +1,14 @@
 -- Table files: 781 lines of 16 hexadecimal digits, one for each word of the table.
-use Rattle.std.specs.Prelude.{◌≡◌, ◌≢◌, ℕ, ◌+◌, ◌*◌, ◌<◌, ◌≤◌, ◌⊎◌, List, [], ◌∷◌, ◌++◌, length, fold, All}
+use Rattle.std.specs.Prelude.{◌≡◌, ◌≢◌, ℕ, ◌+◌, ◌*◌, ◌^◌, ◌<◌, ◌≤◌, ◌⊎◌, List, [], ◌∷◌, ◌++◌, length, fold, All}
 use Rattle.std.specs.List.{AllZip}
 use Rattle.pb_poly.specs.Lines.{lines}
 use Rattle.pb_poly.specs.declared.table.TableError.{TableError}
 use Rattle.pb_poly.specs.declared.table.TableError.TheVariants.{Line, Count, Memory}
+
+-- 781 words of 64 bits
+pub record IsTable (words : List ℕ) : Type 0 where
+  pub all : length words ≡ 781
+  pub fit : All (λ word. word < 2 ^ 64) words
 
 -- a byte is a hexadecimal digit of this value, of either case
 abbrev pub IsDigit : ℕ → ℕ → Type 0

@@ -2,6 +2,7 @@
 #![tactic(auto)]
 
 mod code;
+mod key;
 pub mod laws;
 mod line_buffer;
 mod lines;
@@ -10,6 +11,7 @@ mod source;
 mod table;
 
 pub use code::{code_of, move_of};
+pub use key::key_of;
 pub use lines::{LINE_LIMIT, LineTask, LinesFault, take_lines};
 pub use sink::{MemSink, Sink, ToWrite};
 pub use source::{Failed, FromRead, MemSource, Source};

@@ -3,7 +3,7 @@
 ghost use Rattle.std.specs.Prelude.{◌≡◌, ◌+◌, ◌<◌, ◌⊎◌, ℕ, List, [], ◌∷◌, ◌++◌, All, IfOk, IfErr, MatchOption, MatchResult, length, slice_index};
 ghost use Rattle.std.specs.List.{AllZip};
 ghost use Rattle.pb_poly.specs.Lines.{lines};
-ghost use Rattle.pb_poly.specs.Table.{IsDueTable, IsSpelled, SpellsWord, TableText, WritesWord};
+ghost use Rattle.pb_poly.specs.Table.{IsDueTable, IsSpelled, IsTable, SpellsWord, TableText, WritesWord};
 ghost use Rattle.pb_poly.specs.declared.table.TableError.TheVariants.{Memory};
 
 use memchr::memchr;
@@ -35,13 +35,14 @@ pub struct Table {
 }
 
 impl Model for Table {
-    ghost use Rattle.std.specs.Prelude.{List, ℕ, ◌≡◌, length};
+    ghost use Rattle.std.specs.Prelude.{List, ℕ};
+    ghost use Rattle.pb_poly.specs.Table.{IsTable};
 
     ghost Value = { List ℕ };
 
     ghost view = { λ t. t.words.items };
 
-    ghost invariant = { λ t. length t.words.items ≡ 781 };
+    ghost invariant = { λ t. IsTable t.words.items };
 }
 
 impl Table {
@@ -49,7 +50,7 @@ impl Table {
     pub fn word(&self, place: usize) -> u64
         requires { place < 781 }
         ensures value { result ≡ slice_index self.now place }
-        ensures rules { length self.now ≡ 781 }
+        ensures rules { IsTable self.now }
     {
         self.words[place]
     }

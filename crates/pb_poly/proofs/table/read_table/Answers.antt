@@ -3,7 +3,7 @@ use Rattle.std.specs.List.{AllZip}
 use Rattle.pb_poly.specs.Lines.{lines}
 use Rattle.pb_poly.specs.Table.{SpellsWord, TableText}
 use Rattle.std.proofs.lemmas.Result.{err_from_is_err_and}
-use Rattle.pb_poly.proofs.Tables.{length_zip, only_memory, table_of_spelled, words_are_one}
+use Rattle.pb_poly.proofs.Tables.{is_table, length_zip, only_memory, table_of_spelled, words_are_one}
 use Rattle.pb_poly.proofs.table.read_table.Goals as goal
 
 pub returns-in_err-count-clause-only : goal.returns-in_err-count-clause-only
@@ -19,7 +19,8 @@ returns-then-count-ne-TABLE_LEN-clause-only c words text =
     absurd (c.if-count-ne-TABLE_LEN.true (count ∙ long ∙ all))
 
 pub invariant_of-result : goal.invariant_of-result
-invariant_of-result c = sym (length_zip (lines c.args.bytes.now) c.in-Ok.words.items c.in-Ok.ensures) ∙ sym c.in_ok-count.ensures.ok.0 ∙ c.if-count-ne-TABLE_LEN.false
+invariant_of-result c =
+    is_table c.in-Ok.words.items c.args.bytes.now (record { all = sym (length_zip (lines c.args.bytes.now) c.in-Ok.words.items c.in-Ok.ensures) ∙ sym c.in_ok-count.ensures.ok.0 ∙ c.if-count-ne-TABLE_LEN.false; each = c.in-Ok.ensures })
 
 pub returns-in-Ok-clause-found : goal.returns-in-Ok-clause-found
 returns-in-Ok-clause-found c = record { all = sym (length_zip (lines c.args.bytes.now) c.in-Ok.words.items c.in-Ok.ensures) ∙ sym c.in_ok-count.ensures.ok.0 ∙ c.if-count-ne-TABLE_LEN.false; each = c.in-Ok.ensures }
