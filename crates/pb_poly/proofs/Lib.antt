@@ -1,8 +1,11 @@
+pub mod Among
 pub mod Codes
 pub mod Digits
 pub mod Keys
 pub mod LineBufferLemmas
 pub mod LineLemmas
+pub mod Parity
+pub mod Places
 pub mod ReadsLemmas
 pub mod SinkLemmas
 pub mod Tables

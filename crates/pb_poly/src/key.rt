@@ -3,7 +3,7 @@
 ghost use Rattle.std.specs.Prelude.{◌≡◌, ◌<◌, ◌+◌};
 ghost use Rattle.pb_board.specs.Board.{at, file};
 ghost use Rattle.pb_board.specs.Position.{OnPassedRank, beyond as beyond_by};
-ghost use Rattle.pb_poly.specs.Key.{has_taker as has_taker_by, is_pawn_of, joined, key as key_by, kind_number as kind_number_by, passed_places, piece_place as piece_place_by, piece_places, place_if, rights_places, turn_places};
+ghost use Rattle.pb_poly.specs.Key.{IsKey, has_taker as has_taker_by, is_pawn_of, joined, key as key_by, kind_number as kind_number_by, passed_places, piece_place as piece_place_by, piece_places, place_if, rights_places, turn_places};
 
 use crate::table::Table;
 use pb_board::{Colour, Kind, Piece, Rights, Setup, Square};
@@ -128,8 +128,11 @@ fn with_turn(table: &Table, key: u64, turn: Colour) -> u64
 /// The word of the en passant square counts exactly where a pawn of the side to move stands beside the pawn that has
 /// passed it, whether or not that pawn may take it.
 pub fn key_of(table: &Table, setup: &Setup) -> u64
+    ensures parity { IsKey table.now setup.now result }
     ensures value { result ≡ key_by table.now setup.now }
 {
+    // The reader tells that the table meets its rules.
+    let _words = table.words();
     let pieces = pieces_key(table, setup.board());
     let rights = with_rights(table, pieces, setup.rights());
     let passed = with_passed(table, rights, setup);

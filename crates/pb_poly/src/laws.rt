@@ -1,8 +1,9 @@
-//! Laws of lines and of move codes. Each is the contract of a function that does nothing.
+//! Laws of lines, of move codes and of keys. Each is the contract of a function that does nothing.
 
 ghost use Rattle.std.specs.Prelude.{◌≡◌, ◌≤◌, ℕ, List, ◌++◌, length};
 ghost use Rattle.std.specs.List.{join_with_byte};
 ghost use Rattle.pb_poly.specs.Code.{CodeIsOne};
+ghost use Rattle.pb_poly.specs.Key.{KeyIsOne, KeyIsParity};
 ghost use Rattle.pb_poly.specs.Lines.{ended_lines, lines, pieces};
 
 /// The pieces of a text, joined by LFs, are the text.
@@ -23,4 +24,10 @@ pub fn lines_few()
 /// No two legal moves share a code.
 pub fn code_is_one()
     ensures { CodeIsOne }
+{}
+
+/// The key that the function gives is the one number that is, bit by bit, the parity of the words at a setup's places.
+pub fn key_is_one()
+    ensures is { KeyIsParity }
+    ensures only { KeyIsOne }
 {}

@@ -46,11 +46,18 @@ impl Model for Table {
 }
 
 impl Table {
+    /// The words in order.
+    pub fn words(&self) -> &[u64]
+        ensures value { result.now ≡ self.now }
+        ensures rules { IsTable self.now }
+    {
+        self.words.as_slice()
+    }
+
     /// The word at a place.
     pub fn word(&self, place: usize) -> u64
         requires { place < 781 }
-        ensures value { result ≡ slice_index self.now place }
-        ensures rules { IsTable self.now }
+        ensures { result ≡ slice_index self.now place }
     {
         self.words[place]
     }
