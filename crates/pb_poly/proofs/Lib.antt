@@ -1,6 +1,7 @@
 pub mod Among
 pub mod Codes
 pub mod Digits
+pub mod Entries
 pub mod Keys
 pub mod LineBufferLemmas
 pub mod LineLemmas
@@ -10,3 +11,4 @@ pub mod ReadsLemmas
 pub mod SinkLemmas
 pub mod Tables
 pub mod TaskLemmas
+pub mod WritesLemmas

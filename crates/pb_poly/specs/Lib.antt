@@ -1,5 +1,7 @@
+pub mod Book
 pub mod Code
 pub mod Decoding
+pub mod Entry
 pub mod Key
 pub mod LineBuffer
 pub mod LineTask
@@ -8,3 +10,4 @@ pub mod Reads
 pub mod Sink
 pub mod Source
 pub mod Table
+pub mod Writes
