@@ -4,16 +4,8 @@ use Rattle.std.proofs.lemmas.List.{append-nil, drop_more, map-append}
 use Rattle.std.proofs.lemmas.List.Elements.{All-append, All-cons, All-nil}
 use Rattle.pb_poly.specs.declared.entry.Entry.{Entry}
 use Rattle.pb_poly.specs.Entry.{IsEntry, entry_bytes}
+use Rattle.pb_poly.specs.Ordered.{IsOrdered, last_from, last_key}
 use Rattle.pb_poly.specs.Book.{IsFirstFall, NeverFall, NeverFallsFrom, book_bytes, keys_of}
-
--- the last number, or the floor
-abbrev pub last_from : ℕ → List ℕ → ℕ
-last_from floor [] = floor
-last_from floor (n ∷ ns) = last_from n ns
-
--- the last entry's key, or 0
-abbrev pub last_key : List Entry → ℕ
-last_key entries = last_from 0 (keys_of entries)
 
 never_falls-push : (floor : ℕ) (ns : List ℕ) (n : ℕ) → NeverFallsFrom floor ns → last_from floor ns ≤ n → NeverFallsFrom floor (ns ++ n ∷ [])
 never_falls-push floor [] n h l = (l, tt)
@@ -58,12 +50,6 @@ front_within (b ∷ part) rest (suc count) = let more = front_within part rest c
 front_of_whole : (before part rest : List ℕ) (count : ℕ) → (n : ℕ) × (take n (before ++ (part ++ rest)) ≡ before ++ take count part)
 front_of_whole [] part rest count = front_within part rest count
 front_of_whole (b ∷ before) part rest count = let more = front_of_whole before part rest count in (suc more.0, ap (λ xs. b ∷ xs) more.1)
-
--- the keys never fall, each part is in its range, and this is the last key
-pub record IsOrdered (entries : List Entry) (last : ℕ) : Type 0 where
-  pub ordered : NeverFall entries
-  pub bounds : All IsEntry entries
-  pub last_is : last ≡ last_key entries
 
 pub IsOrdered-push : (entries more : List Entry) (entry : Entry) (last key : ℕ) → IsOrdered entries last → more ≡ entries ++ entry ∷ [] → IsEntry entry → key ≡ entry.key → last ≤ key → IsOrdered more key
 IsOrdered-push entries more entry last key h is one key_is l =

@@ -2,6 +2,7 @@ pub mod Among
 pub mod Codes
 pub mod Digits
 pub mod Entries
+pub mod Feeds
 pub mod Keys
 pub mod LineBufferLemmas
 pub mod LineLemmas
