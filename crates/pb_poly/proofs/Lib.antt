@@ -2,6 +2,7 @@ pub mod Among
 pub mod Codes
 pub mod Digits
 pub mod Entries
+pub mod EntryBytes
 pub mod Feeds
 pub mod Keys
 pub mod LineBufferLemmas
@@ -12,4 +13,5 @@ pub mod ReadsLemmas
 pub mod SinkLemmas
 pub mod Tables
 pub mod TaskLemmas
+pub mod Told
 pub mod WritesLemmas

@@ -34,3 +34,13 @@ pub record IsFirstFall (entries : List Entry) (number : ℕ) : Type 0 where
   pub ordered : NeverFall before
   pub falls : ¬ NeverFall (before ++ entry ∷ [])
   pub number_is : number ≡ length before + 1
+
+-- ---- laws
+
+-- no two books have the same bytes
+abbrev pub BookIsOne : Type 0
+BookIsOne = (entries others : List Entry) (bytes : List ℕ) → BookBytes entries bytes → BookBytes others bytes → entries ≡ others
+
+-- no book has two texts
+abbrev pub BytesAreOne : Type 0
+BytesAreOne = (entries : List Entry) (bytes others : List ℕ) → BookBytes entries bytes → BookBytes entries others → bytes ≡ others

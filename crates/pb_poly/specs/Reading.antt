@@ -1,5 +1,5 @@
 -- What reading a book gives.
-use Rattle.std.specs.Prelude.{◌≡◌, ℕ, ◌+◌, ◌<◌, ◌⊎◌, List, [], ◌∷◌, ◌++◌, All, length}
+use Rattle.std.specs.Prelude.{◌≡◌, ℕ, ◌+◌, ◌<◌, ◌⊎◌, List, [], ◌∷◌, ◌++◌, All, length, Some, false}
 use Rattle.pb_poly.specs.Source.{SourceState}
 use Rattle.pb_poly.specs.Reads.{ReadsAll, ReadsOn, ReadsSome, ReadsToFault}
 use Rattle.pb_poly.specs.declared.entry.Entry.{Entry}
@@ -75,3 +75,9 @@ FindsNoBook fills old new (Cut extra) = FindsCut fills old new extra
 FindsNoBook fills old new Read = FindsFault fills old new
 FindsNoBook fills old new Endless = FindsNoEnd fills old new
 FindsNoBook fills old new Memory = (new ≡ old) ⊎ ((before : List Entry) × (entry : Entry) × MeetsEntry fills old new before entry)
+
+-- the source tells that just these bytes come, it doesn't fail, and the fills are more than the bytes
+pub record Tells (fills : ℕ) (old new : SourceState) (bytes : List ℕ) : Type 0 where
+  pub told : old.to_come ≡ Some bytes
+  pub works : new.failed ≡ false
+  pub ends : length bytes < fills

@@ -1,7 +1,8 @@
-//! Laws of lines, of move codes and of keys. Each is the contract of a function that does nothing.
+//! Laws of lines, of move codes, of keys and of books. Each is the contract of a function that does nothing.
 
 ghost use Rattle.std.specs.Prelude.{◌≡◌, ◌≤◌, ℕ, List, ◌++◌, length};
 ghost use Rattle.std.specs.List.{join_with_byte};
+ghost use Rattle.pb_poly.specs.Book.{BookIsOne, BytesAreOne};
 ghost use Rattle.pb_poly.specs.Code.{CodeIsOne};
 ghost use Rattle.pb_poly.specs.Key.{KeyIsOne, KeyIsParity};
 ghost use Rattle.pb_poly.specs.Lines.{ended_lines, lines, pieces};
@@ -30,4 +31,11 @@ pub fn code_is_one()
 pub fn key_is_one()
     ensures is { KeyIsParity }
     ensures only { KeyIsOne }
+{}
+
+/// No two books have the same bytes, and no book has two texts: what `write_book` puts is read as the same entries, and
+/// the entries that were read are put as the same bytes.
+pub fn book_is_one()
+    ensures entries { BookIsOne }
+    ensures bytes { BytesAreOne }
 {}

@@ -1,11 +1,12 @@
 //! Books from sources.
 
-ghost use Rattle.std.specs.Prelude.{◌-◌, min, ◌≡◌, ◌<◌, ◌≤◌, ℕ, List, [], ◌∷◌, ◌++◌, IfOk, IfErr, OnOk, length, take};
-ghost use Rattle.pb_poly.specs.Book.{NeverFall};
+ghost use Rattle.std.specs.Prelude.{◌-◌, min, ◌≡◌, ◌<◌, ◌≤◌, ℕ, List, [], ◌∷◌, ◌++◌, IfOk, IfErr, MatchResult, OnOk, length, take};
+ghost use Rattle.pb_poly.specs.Book.{BookBytes, NeverFall};
 ghost use Rattle.pb_poly.specs.Entry.{IsEntry, entry_bytes};
 ghost use Rattle.pb_poly.specs.Feeding.{FailsWithin, Refuses};
-ghost use Rattle.pb_poly.specs.Reading.{FindsNoBook, ReadsBook, Splits, book_chunk_len};
-ghost use Rattle.pb_poly.specs.declared.reading.BookError.TheVariants.{Cut};
+ghost use Rattle.pb_poly.specs.Reading.{FindsNoBook, ReadsBook, Splits, Tells, book_chunk_len};
+ghost use Rattle.pb_poly.specs.declared.reading.BookError.TheVariants.{Cut, Memory};
+ghost use Rattle.pb_poly.specs.declared.entry.Entry.{Entry};
 
 use crate::book::Book;
 use crate::entry::{ENTRY_LEN, Entry};
@@ -204,12 +205,17 @@ impl Reading {
 
 /// Reads a book to the end of input, in at most so many fills, in whatever pieces it comes.
 ///
+/// Where the source tells bytes, doesn't fail and ends within the fills, the book is that of those bytes, want of memory
+/// aside.
+///
 /// # Errors
 ///
 /// What the stream meets first: an entry is judged once its 16 bytes are there, and `Cut` at the end of input. `Memory` may
 /// come at any whole entry, and before the first fill.
 pub fn read_book<S: Source>(alloc: Global, source: &mut S, fills: u32) -> Result<Book, BookError>
     ensures found { IfOk result (ReadsBook fills (S.state source.old) (S.state source.new)) }
+    ensures only { (entries : List Entry) (bytes : List ℕ) → Tells fills (S.state source.old) (S.state source.new) bytes → BookBytes entries bytes → NeverFall entries
+        → MatchResult result (λ book. book ≡ entries) (λ e. e ≡ Memory) }
     ensures err { IfErr result (FindsNoBook fills (S.state source.old) (S.state source.new)) }
 {
     let Ok(mut chunk) = vec![in alloc; 0; CHUNK_LEN] else {
