@@ -1,5 +1,5 @@
 -- Move codes can be taken apart again.
-use Rattle.std.proofs.Common.{◌≡◌, ◌≢◌, ◌≤◌, ◌<◌, ◌+◌, ◌*◌, ◌/◌, ◌%◌, ◌==◌, ℕ, ◌⊎◌, Bool, true, false, Option, Some, None, refl, sym, ◌∙◌, ap, subst, arith, cond}
+use Rattle.std.proofs.Common.{◌≡◌, ◌≢◌, ◌≤◌, ◌<◌, ◌+◌, ◌*◌, ◌/◌, ◌%◌, ℕ, Bool, true, false, Option, Some, None, refl, sym, ◌∙◌, ap, arith, cond}
 use Rattle.std.proofs.lemmas.Bool.Decides.{nat_tests}
 use Rattle.std.specs.Option.{SomeIff, ForSome}
 use Rattle.pb_board.specs.declared.piece.Colour.{Colour}
@@ -7,13 +7,13 @@ use Rattle.pb_board.specs.declared.piece.Colour.TheVariants.{White, Black}
 use Rattle.pb_board.specs.declared.piece.Kind.{Kind}
 use Rattle.pb_board.specs.declared.piece.Kind.TheVariants.{Pawn, Knight, Bishop, Rook, Queen, King}
 use Rattle.pb_board.specs.declared.piece.Piece.{Piece}
-use Rattle.pb_board.specs.Position.{Position, IsSetup}
-use Rattle.pb_board.specs.Board.{Board, Place, file, rank, at}
+use Rattle.pb_board.specs.Position.{Position}
+use Rattle.pb_board.specs.Board.{Board, Place, at}
 use Rattle.pb_moves.specs.Attack.{files_apart}
-use Rattle.pb_moves.specs.Moved.{Moved, IsMove, IsPromotion, moved_of}
+use Rattle.pb_moves.specs.Moved.{Moved, IsPromotion, moved_of}
 use Rattle.pb_moves.specs.Cases.{CaseOf, piece_move, pawn_step, pawn_double, pawn_capture, en_passant, castles, Legal}
 use Rattle.pb_moves.proofs.Unique.{class_of_castling, king_near}
-use Rattle.pb_poly.specs.Code.{HasCode, castling_to, code, coded_to, is_king, is_king_of, promotion_number, CodeIsOne}
+use Rattle.pb_poly.specs.Code.{HasCode, castling_to, coded_to, is_king, is_king_of, promotion_number, CodeIsOne}
 use Rattle.pb_poly.specs.Decoding.{castling_from, promotion_of, reached}
 
 few_promotions : (promo : Option Kind) → promotion_number promo ≤ 4

@@ -5,7 +5,7 @@ use Rattle.pb_poly.specs.declared.entry.Entry.{Entry}
 use Rattle.pb_poly.specs.declared.reading.BookError.{BookError}
 use Rattle.pb_poly.specs.declared.reading.BookError.TheVariants.{Unsorted, Cut, Read, Endless, Memory}
 use Rattle.pb_poly.specs.Entry.{IsEntry, entry_bytes}
-use Rattle.pb_poly.specs.Book.{BookBytes, NeverFall, book_bytes}
+use Rattle.pb_poly.specs.Book.{NeverFall, book_bytes}
 use Rattle.pb_poly.specs.Feeding.{FailsWithin, MeetsWithin, Refuses}
 use Rattle.pb_poly.specs.Reading.{FindsNoBook, MeetsEntry, Splits, book_chunk_len}
 use Rattle.pb_poly.specs.Source.{Fill, SourceState}

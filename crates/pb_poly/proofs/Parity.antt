@@ -1,13 +1,13 @@
 -- A key, bit by bit, is the parity of the words at the setup's places, and no other number is.
-use Rattle.std.proofs.Common.{◌≡◌, ◌≢◌, ℕ, ◌+◌, ◌%◌, ◌^◌, ◌<◌, ◌≤◌, ◌⊎◌, inl, inr, List, [], ◌∷◌, length, get_or, refl, sym, ap, ◌∙◌, arith}
-use Rattle.std.specs.Prelude.{bit_xor, slice_index, sum_by}
+use Rattle.std.proofs.Common.{◌≡◌, ℕ, ◌+◌, ◌%◌, ◌^◌, ◌<◌, inl, inr, List, [], ◌∷◌, length, sym, ap, ◌∙◌, arith}
+use Rattle.std.specs.Prelude.{bit_xor, slice_index}
 use Rattle.std.specs.Int.{bit_at}
 use Rattle.std.proofs.lemmas.Bool.{cases_lt}
 use Rattle.std.proofs.lemmas.List.{get_or_past}
 use Rattle.std.proofs.lemmas.Nat.{xor_lt}
 use Rattle.std.proofs.lemmas.Nat.Bits.{bit_at-lt, bit_at-zero, bit_at_xor, same_from_bits_below}
-use Rattle.pb_board.specs.Position.{Position, IsSetup}
-use Rattle.pb_poly.specs.Key.{ArePlaces, IsKey, KeyIsOne, KeyIsParity, joined, key, places, words_with}
+use Rattle.pb_board.specs.Position.{Position}
+use Rattle.pb_poly.specs.Key.{ArePlaces, KeyIsOne, KeyIsParity, joined, key, places, words_with}
 use Rattle.pb_poly.specs.Table.{IsTable}
 use Rattle.pb_poly.proofs.Among.{among_contained, contains_among, pairs_distinct, sum_is_total, total, total_same}
 use Rattle.pb_poly.proofs.Places.{are_places}
@@ -36,10 +36,10 @@ key_is_parity words s table setup = record {
   places = places s;
   are = are_places s setup;
   bits = λ bit low.
-    let is = joined_bit words bit 0 (places s) in
-    let none = bit_at-zero bit in
-    let sum = sum_is_total (λ place. bit_at (slice_index words place) bit) (places s) in
-    omega (arith, is, none, sum);
+      let is = joined_bit words bit 0 (places s) in
+      let none = bit_at-zero bit in
+      let sum = sum_is_total (λ place. bit_at (slice_index words place) bit) (places s) in
+      omega (arith, is, none, sum);
 }
 
 same_sums : (words : List ℕ) (s : Position) (ps qs : List ℕ) (bit : ℕ) → ArePlaces s ps → ArePlaces s qs → words_with words bit ps ≡ words_with words bit qs

@@ -1,6 +1,6 @@
 -- The places that the key's function goes over are those of the setup, each once.
-use Rattle.std.proofs.Common.{◌≡◌, ◌≢◌, ℕ, zero, suc, ◌+◌, ◌-◌, ◌*◌, ◌/◌, ◌%◌, ◌<◌, ◌≤◌, ◌⊎◌, inl, inr, Bool, true, false, not, ◌&&◌, ◌||◌, ◌==◌, Option, Some, None, List, [], ◌∷◌, ◌++◌, length, get_or, refl, sym, ap, ◌∙◌, subst, arith}
-use Rattle.std.specs.Prelude.{IsTrue, Contains}
+use Rattle.std.proofs.Common.{◌≡◌, ◌≢◌, ℕ, zero, suc, ◌+◌, ◌-◌, ◌%◌, ◌<◌, ◌≤◌, ◌⊎◌, inl, inr, Bool, true, false, not, ◌&&◌, ◌||◌, ◌==◌, Option, Some, None, List, [], ◌∷◌, ◌++◌, length, refl, sym, ap, ◌∙◌, subst, arith}
+use Rattle.std.specs.Prelude.{IsTrue}
 use Rattle.std.proofs.lemmas.Bool.{and_parts, cases_lt}
 use Rattle.std.proofs.lemmas.Bool.Decides.{nat_tests}
 use Rattle.pb_board.specs.declared.piece.Colour.{Colour}
@@ -10,11 +10,11 @@ use Rattle.pb_board.specs.declared.piece.Kind.TheVariants.{Pawn, Knight, Bishop,
 use Rattle.pb_board.specs.declared.piece.Piece.{Piece}
 use Rattle.pb_board.specs.declared.setup.Rights.{Rights}
 use Rattle.pb_board.specs.Piece.{pawn_of}
-use Rattle.pb_board.specs.Board.{Board, Place, at, file, rank, Holds}
+use Rattle.pb_board.specs.Board.{Board, Place, at, file, rank}
 use Rattle.pb_board.specs.Position.{Position, IsSetup, beyond}
 use Rattle.pb_moves.specs.Attack.{files_apart}
 use Rattle.pb_poly.specs.Code.{is_same}
-use Rattle.pb_poly.specs.Key.{ArePlaces, HasPlace, of_piece, white_short, white_long, black_short, black_long, en_passant, white_to_move, HasTaker, has_taker, is_pawn, is_pawn_of, kind_number, number_of, passed_places, piece_place, piece_places, place_if, places, rights_places, turn_places}
+use Rattle.pb_poly.specs.Key.{ArePlaces, HasPlace, of_piece, white_short, white_long, black_short, black_long, en_passant, white_to_move, HasTaker, has_taker, is_pawn, is_pawn_of, number_of, passed_places, piece_place, piece_places, place_if, places, rights_places, turn_places}
 use Rattle.pb_poly.proofs.Among.{Among, Distinct, among_contained, among_either, among_left, among_right, contains_among, distinct_append, distinct_pairs}
 
 -- ---- the pieces
@@ -77,8 +77,8 @@ distinct_pieces [] square fits = tt
 distinct_pieces (None ∷ board) square fits = distinct_pieces board (square + 1) (omega arith)
 distinct_pieces (Some p ∷ board) square fits = (
   λ again.
-    let low = (low_square board (square + 1) (piece_place p square) (omega arith) (place_on board (square + 1) (piece_place p square) again)).0 in
-    omega (arith, low),
+      let low = (low_square board (square + 1) (piece_place p square) (omega arith) (place_on board (square + 1) (piece_place p square) again)).0 in
+      omega (arith, low),
   distinct_pieces board (square + 1) (omega arith),
 )
 

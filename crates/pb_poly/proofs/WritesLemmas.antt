@@ -1,5 +1,5 @@
 -- A flush after all bytes were put.
-use Rattle.std.proofs.Common.{◌≡◌, ◌≤◌, ℕ, true, List, take, length, Result, Ok, Err, sym, subst, arith}
+use Rattle.std.proofs.Common.{◌≡◌, ℕ, true, List, take, length, Result, Ok, Err, sym, subst, arith}
 use Rattle.std.specs.Prelude.{OnErr, OnOk}
 use Rattle.std.specs.Io.KnownBytes.{Appends}
 use Rattle.std.proofs.KnownBytes.{Appends-kept}

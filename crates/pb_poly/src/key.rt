@@ -95,7 +95,8 @@ fn has_taker(setup: &Setup, pawn: u8) -> bool
     requires { pawn < 64 }
     ensures { result ≡ has_taker_by setup.now.board setup.now.turn pawn }
 {
-    (pawn % 8 != 0 && has_own_pawn(setup, pawn - 1)) || (pawn % 8 != 7 && has_own_pawn(setup, pawn + 1))
+    (pawn % 8 != 0 && has_own_pawn(setup, pawn - 1))
+        || (pawn % 8 != 7 && has_own_pawn(setup, pawn + 1))
 }
 
 // The key, joined by the word of the en passant square where a pawn stands beside the pawn that has passed it.

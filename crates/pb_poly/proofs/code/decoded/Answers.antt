@@ -1,4 +1,4 @@
-use Rattle.std.proofs.Common.{arith, ◌≡◌, ◌%◌, ◌/◌, sym, ap, ◌∙◌}
+use Rattle.std.proofs.Common.{◌≡◌, ◌%◌, ◌/◌, ◌∙◌}
 use Rattle.pb_poly.specs.Decoding.{reached}
 use Rattle.pb_poly.proofs.Codes.{made_of_parts}
 use Rattle.pb_poly.proofs.code.decoded.Goals as goal

@@ -1,6 +1,5 @@
-use Rattle.std.proofs.Common.{rules, arith, length, ◌≡◌, ◌+◌, ◌++◌, ◌∷◌, [], ◌≤◌, sym, ap, ◌∙◌, refl, length-append}
+use Rattle.std.proofs.Common.{rules, arith, length, ◌++◌, ◌∷◌, [], sym, ap, ◌∙◌, length-append}
 use Rattle.std.proofs.lemmas.Bool.{eqb-true}
-use Rattle.pb_poly.specs.Lines.{lines}
 use Rattle.pb_poly.proofs.Tables.{all_before, before_more, length_before, spelled_found, spelled_more}
 use Rattle.pb_poly.proofs.table.count_lines.Goals as goal
 

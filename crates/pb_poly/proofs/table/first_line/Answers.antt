@@ -1,4 +1,4 @@
-use Rattle.std.proofs.Common.{arith, length, ◌+◌, ◌∷◌, take, sym, ap, ◌∙◌, refl}
+use Rattle.std.proofs.Common.{arith, length, ◌+◌, ◌∷◌, take, sym, ap, ◌∙◌}
 use Rattle.std.proofs.lemmas.List.{drop_all, take_rest}
 use Rattle.pb_poly.specs.Lines.{lines}
 use Rattle.pb_poly.proofs.LineLemmas.{line_feed_absent, line_feed_found}

@@ -1,4 +1,4 @@
-use Rattle.std.proofs.Common.{arith, length, ◌≡◌, ◌+◌, ◌++◌, ◌∷◌, [], ◌≤◌, sym, ap, ◌∙◌, refl, All}
+use Rattle.std.proofs.Common.{◌++◌, ◌∷◌, [], All}
 use Rattle.std.proofs.lemmas.List.Elements.{All-head, All-tail}
 use Rattle.pb_poly.specs.Lines.{lines}
 use Rattle.pb_poly.specs.Table.{IsSpelled}
