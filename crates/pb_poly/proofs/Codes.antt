@@ -16,15 +16,6 @@ use Rattle.pb_moves.proofs.Unique.{class_of_castling, king_near}
 use Rattle.pb_poly.specs.Code.{HasCode, castling_to, coded_to, is_king, is_king_of, promotion_number, CodeIsOne}
 use Rattle.pb_poly.specs.Decoding.{castling_from, promotion_of, reached}
 
-few_promotions : (promo : Option Kind) → promotion_number promo ≤ 4
-few_promotions None = omega arith
-few_promotions (Some Pawn) = omega arith
-few_promotions (Some Knight) = omega arith
-few_promotions (Some Bishop) = omega arith
-few_promotions (Some Rook) = omega arith
-few_promotions (Some Queen) = omega arith
-few_promotions (Some King) = omega arith
-
 promotion_back : (promo : Option Kind) → ((kind : Kind) → promo ≡ Some kind → IsPromotion kind) → promotion_of (promotion_number promo) ≡ promo
 promotion_back None lawful = refl
 promotion_back (Some Pawn) lawful = absurd ((lawful Pawn refl).0 refl)

@@ -5,7 +5,7 @@ use Rattle.std.specs.List.{AllPass, AllZip}
 use Rattle.std.specs.Int.{w64, from_be_bytes}
 use Rattle.std.specs.Result.{result_unwrap_or}
 use Rattle.std.proofs.lemmas.Bool.Decides.{nat_tests}
-use Rattle.std.proofs.lemmas.List.Elements.{All-cons, All-head, All-nil, All-tail, length_all_zip}
+use Rattle.std.proofs.lemmas.List.Elements.{All-head, All-tail, length_all_zip}
 use Rattle.hex.specs.Hex.{IsBytes, decode_pairs, decode_sized, digit_or_error, hex_digit_value, is_hex_digit, pair_value, value_at}
 use Rattle.hex.specs.declared.error.FromHexError.{FromHexError}
 use Rattle.hex.proofs.HexLemmas.{IsOk-decode_sized, decode_pairs-ok}
@@ -29,12 +29,6 @@ digits_of (b ∷ rest) all =
     let first = digits_of_some b (hex_digit_value b) refl (All-head (λ c. is_hex_digit c ≡ true) b rest all) in
     let more = digits_of rest (All-tail (λ c. is_hex_digit c ≡ true) b rest all) in
     (first.0 ∷ more.0, (first.1, more.1))
-
-passing : (text values : List ℕ) → AllZip IsDigit text values → AllPass is_hex_digit text
-passing [] [] zip = All-nil (λ c. is_hex_digit c ≡ true)
-passing [] (v ∷ values) zip = absurd zip
-passing (b ∷ rest) [] zip = absurd zip
-passing (b ∷ rest) (v ∷ values) zip = All-cons (λ c. is_hex_digit c ≡ true) b rest (ap is_some (digit_is b v zip.0)) (passing rest values zip.1)
 
 -- the number of these bytes, the first one counting most, after n
 abbrev number_after : ℕ → List ℕ → ℕ

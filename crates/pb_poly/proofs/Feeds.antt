@@ -1,5 +1,5 @@
 -- Entries out of bytes that come in pieces.
-use Rattle.std.proofs.Common.{Ok, take-append-drop, ◌≡◌, ℕ, ◌-◌, ◌<◌, ◌≤◌, List, [], ◌∷◌, ◌++◌, length, take, drop, refl, sym, ap, inr, ◌∙◌, subst, append_assoc, arith}
+use Rattle.std.proofs.Common.{Ok, take-append-drop, ◌≡◌, ℕ, ◌-◌, ◌<◌, ◌≤◌, List, [], ◌∷◌, ◌++◌, length, take, drop, sym, ap, inr, ◌∙◌, subst, append_assoc, arith}
 use Rattle.std.proofs.lemmas.List.{append-nil, nil_from_length, take_rest}
 use Rattle.pb_poly.specs.declared.entry.Entry.{Entry}
 use Rattle.pb_poly.specs.declared.reading.BookError.{BookError}
@@ -26,14 +26,6 @@ Splits-whole came entries part bytes entry h whole one ordered = record {
   bytes = whole_bytes came entries part bytes entry h.bytes whole ∙ sym (append-nil (book_bytes (entries ++ entry ∷ [])));
   partial = omega arith;
   ordered = ordered;
-}
-
-pub Splits-part : (came : List ℕ) (entries : List Entry) (part bytes : List ℕ) → Splits came entries part → length (part ++ bytes) < 16 → Splits (came ++ bytes) entries (part ++ bytes)
-Splits-part came entries part bytes h small = record {
-  bounds = h.bounds;
-  bytes = ap (λ xs. xs ++ bytes) h.bytes ∙ append_assoc (book_bytes entries) part bytes;
-  partial = small;
-  ordered = h.ordered;
 }
 
 pub Fails-whole : (came : List ℕ) (entries : List Entry) (part bytes : List ℕ) (n : ℕ) (entry : Entry) (e : BookError) → Splits came entries part → part ++ take n bytes ≡ entry_bytes entry
@@ -78,9 +70,6 @@ pub record IsTaken (old : Front) (chunk rest : List ℕ) (now : Front) : Type 0 
   pub front : List ℕ
   pub cut : front ++ rest ≡ chunk
   pub splits : (came : List ℕ) → Splits came old.0 old.1 → Splits (came ++ front) now.0 now.1
-
-pub IsTaken-none : (old : Front) (chunk : List ℕ) → IsTaken old chunk chunk old
-IsTaken-none old chunk = record { front = []; cut = refl; splits = λ came h. subst (λ (bytes : List ℕ). Splits bytes old.0 old.1) (sym (append-nil came)) h }
 
 pub IsTaken-more : (old now new : Front) (chunk rest : List ℕ) (n : ℕ) → IsTaken old chunk rest now
     → ((came : List ℕ) → Splits came now.0 now.1 → Splits (came ++ take n rest) new.0 new.1) → IsTaken old chunk (take (length rest - n) (drop n rest)) new

@@ -5,15 +5,12 @@ use Rattle.std.proofs.lemmas.List.Splits.{slice_split_none, slice_split_at}
 use Rattle.std.proofs.lemmas.List.{append-nil, same_from_push}
 use Rattle.std.proofs.lemmas.List.Elements.{All-append, All-cons, All-head, All-nil, All-tail}
 use Rattle.std.specs.Prelude.{IsSome, MatchOption, Option, Some, None, is_none, false}
-use Rattle.pb_poly.specs.Lines.{is_line_feed, pieces, all_but_last, last_of, line_at_end, lines}
+use Rattle.pb_poly.specs.Lines.{is_line_feed, pieces, lines}
 use Rattle.pb_poly.specs.declared.table.TableError.{TableError}
 use Rattle.pb_poly.specs.declared.table.TableError.TheVariants.{Line, Count, Memory}
 use Rattle.pb_poly.specs.Table.{IsDigit, IsDueTable, IsFirstUnspelled, IsSpelled, IsTable, SpellsWord, TableText, WritesWord}
 use Rattle.pb_poly.proofs.LineLemmas.{IsLineFeedAt, IsQuiet, length-lines, pieces-nonempty}
 use Rattle.pb_poly.proofs.Digits.{word_is_one, word_small}
-
-lines_of : List (List ℕ) → List (List ℕ)
-lines_of ps = all_but_last ps ++ line_at_end (last_of ps)
 
 -- an LF ends the first line
 pub lines-cut : (bytes : List ℕ) (i : ℕ) → IsLineFeedAt bytes i → lines bytes ≡ take i bytes ∷ lines (drop (i + 1) bytes)
