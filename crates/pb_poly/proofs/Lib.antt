@@ -1,5 +1,17 @@
+pub mod Among
+pub mod Codes
+pub mod Digits
+pub mod Entries
+pub mod EntryBytes
+pub mod Feeds
+pub mod Keys
 pub mod LineBufferLemmas
 pub mod LineLemmas
+pub mod Parity
+pub mod Places
 pub mod ReadsLemmas
 pub mod SinkLemmas
+pub mod Tables
 pub mod TaskLemmas
+pub mod Told
+pub mod WritesLemmas

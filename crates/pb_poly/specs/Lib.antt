@@ -1,6 +1,16 @@
+pub mod Book
+pub mod Code
+pub mod Decoding
+pub mod Entry
+pub mod Feeding
+pub mod Key
 pub mod LineBuffer
 pub mod LineTask
 pub mod Lines
+pub mod Ordered
+pub mod Reading
 pub mod Reads
 pub mod Sink
 pub mod Source
+pub mod Table
+pub mod Writes

@@ -1,7 +1,10 @@
-//! Laws of lines. Each is the contract of a function that does nothing.
+//! Laws of lines, of move codes, of keys and of books. Each is the contract of a function that does nothing.
 
 ghost use Rattle.std.specs.Prelude.{◌≡◌, ◌≤◌, ℕ, List, ◌++◌, length};
 ghost use Rattle.std.specs.List.{join_with_byte};
+ghost use Rattle.pb_poly.specs.Book.{BookIsOne, BytesAreOne};
+ghost use Rattle.pb_poly.specs.Code.{CodeIsOne};
+ghost use Rattle.pb_poly.specs.Key.{KeyIsOne, KeyIsParity};
 ghost use Rattle.pb_poly.specs.Lines.{ended_lines, lines, pieces};
 
 /// The pieces of a text, joined by LFs, are the text.
@@ -17,4 +20,22 @@ pub fn lines_begin()
 /// A text has no more lines than bytes.
 pub fn lines_few()
     ensures { (bytes : List ℕ) → length (lines bytes) ≤ length bytes }
+{}
+
+/// No two legal moves share a code.
+pub fn code_is_one()
+    ensures { CodeIsOne }
+{}
+
+/// The key that the function gives is the one number that is, bit by bit, the parity of the words at a setup's places.
+pub fn key_is_one()
+    ensures is { KeyIsParity }
+    ensures only { KeyIsOne }
+{}
+
+/// No two books have the same bytes, and no book has two texts: what `write_book` puts is read as the same entries, and
+/// the entries that were read are put as the same bytes.
+pub fn book_is_one()
+    ensures entries { BookIsOne }
+    ensures bytes { BytesAreOne }
 {}

@@ -1,12 +1,24 @@
 //! Where bytes come from and where they go, and the lines of a stream.
 #![tactic(auto)]
 
+mod book;
+mod code;
+mod entry;
+mod key;
 pub mod laws;
 mod line_buffer;
 mod lines;
+mod reading;
 mod sink;
 mod source;
+mod table;
 
+pub use book::{Book, write_book};
+pub use code::{code_of, move_of};
+pub use entry::{Entry, write_entry};
+pub use key::key_of;
 pub use lines::{LINE_LIMIT, LineTask, LinesFault, take_lines};
+pub use reading::{BookError, read_book};
 pub use sink::{MemSink, Sink, ToWrite};
 pub use source::{Failed, FromRead, MemSource, Source};
+pub use table::{Table, TableError, read_table};

@@ -1,0 +1,120 @@
+-- Move codes can be taken apart again.
+use Rattle.std.proofs.Common.{◌≡◌, ◌≢◌, ◌≤◌, ◌<◌, ◌+◌, ◌*◌, ◌/◌, ◌%◌, ℕ, Bool, true, false, Option, Some, None, refl, sym, ◌∙◌, ap, arith, cond}
+use Rattle.std.proofs.lemmas.Bool.Decides.{nat_tests}
+use Rattle.std.specs.Option.{SomeIff, ForSome}
+use Rattle.pb_board.specs.declared.piece.Colour.{Colour}
+use Rattle.pb_board.specs.declared.piece.Colour.TheVariants.{White, Black}
+use Rattle.pb_board.specs.declared.piece.Kind.{Kind}
+use Rattle.pb_board.specs.declared.piece.Kind.TheVariants.{Pawn, Knight, Bishop, Rook, Queen, King}
+use Rattle.pb_board.specs.declared.piece.Piece.{Piece}
+use Rattle.pb_board.specs.Position.{Position}
+use Rattle.pb_board.specs.Board.{Board, Place, at}
+use Rattle.pb_moves.specs.Attack.{files_apart}
+use Rattle.pb_moves.specs.Moved.{Moved, IsPromotion, moved_of}
+use Rattle.pb_moves.specs.Cases.{CaseOf, piece_move, pawn_step, pawn_double, pawn_capture, en_passant, castles, Legal}
+use Rattle.pb_moves.proofs.Unique.{class_of_castling, king_near}
+use Rattle.pb_poly.specs.Code.{HasCode, castling_to, coded_to, is_king, is_king_of, promotion_number, CodeIsOne}
+use Rattle.pb_poly.specs.Decoding.{castling_from, promotion_of, reached}
+
+promotion_back : (promo : Option Kind) → ((kind : Kind) → promo ≡ Some kind → IsPromotion kind) → promotion_of (promotion_number promo) ≡ promo
+promotion_back None lawful = refl
+promotion_back (Some Pawn) lawful = absurd ((lawful Pawn refl).0 refl)
+promotion_back (Some Knight) lawful = refl
+promotion_back (Some Bishop) lawful = refl
+promotion_back (Some Rook) lawful = refl
+promotion_back (Some Queen) lawful = refl
+promotion_back (Some King) lawful = absurd ((lawful King refl).1 refl)
+
+-- a king goes two files at most
+king_files : (s : Position) (m : Moved) (piece : Piece) (new : Board) → CaseOf s m piece new → piece.kind ≡ King → files_apart m.from m.to ≤ 2
+king_files s m piece new (piece_move x) king = omega (arith, king_near piece.colour piece.kind s.board m.from m.to x.reaches king)
+king_files s m piece new (castles castling x) king = omega (arith, class_of_castling castling m.from m.to x.from_home x.to_table)
+king_files s m piece new (pawn_step x) king = let pawn = x.pawn in absurd (cc)
+king_files s m piece new (pawn_double x) king = let pawn = x.pawn in absurd (cc)
+king_files s m piece new (pawn_capture x) king = let pawn = x.pawn in absurd (cc)
+king_files s m piece new (en_passant x) king = let pawn = x.pawn in absurd (cc)
+
+castling_back : (side : Colour) (from to : ℕ) → files_apart from to ≤ 2 → castling_from side from (castling_to side from to) ≡ to
+castling_back White from to near = grind (arith, nat_tests)
+castling_back Black from to near = grind (arith, nat_tests)
+
+is_king-is : (kind : Kind) → is_king kind ≡ true → kind ≡ King
+is_king-is King e = refl
+is_king-is k e = absurd (cc)
+
+kind_of_king : (side : Colour) (piece : Piece) → is_king_of side (Some piece) ≡ true → piece.kind ≡ King
+kind_of_king side piece e = grind (arith, nat_tests, is_king-is)
+
+-- the king castles by its own move alone, so the code's square gives back the one that the move reaches
+back_if : (s : Position) (m : Moved) (king : Bool) → (king ≡ true → files_apart m.from m.to ≤ 2)
+    → cond king (castling_from s.turn m.from (cond king (castling_to s.turn m.from m.to) m.to)) (cond king (castling_to s.turn m.from m.to) m.to) ≡ m.to
+back_if s m true near = castling_back s.turn m.from m.to (near refl)
+back_if s m false near = refl
+
+king_goes_near : (s : Position) (m : Moved) (piece : Piece) (new : Board) (place : Place) → place ≡ Some piece → CaseOf s m piece new → is_king_of s.turn place ≡ true → files_apart m.from m.to ≤ 2
+king_goes_near s m piece new None stands x king = absurd (cc)
+king_goes_near s m piece new (Some other) stands x king =
+    let same : other ≡ piece = cc in
+    let is : other.kind ≡ King = kind_of_king s.turn other king in
+    king_files s m piece new x (ap (λ (p : Piece). p.kind) (sym same) ∙ is)
+
+reached_back : (s : Position) (m : Moved) → Legal s m → reached s m.from (coded_to s m) ≡ m.to
+reached_back s m legal =
+    let case = legal.moves in
+    back_if s m (is_king_of s.turn (at s.board m.from)) (king_goes_near s m case.piece legal.new (at s.board m.from) case.stands case.by_case)
+
+castling_on_board : (side : Colour) (from to : ℕ) → to < 64 → castling_to side from to < 64
+castling_on_board White from to near = grind (arith, nat_tests)
+castling_on_board Black from to near = grind (arith, nat_tests)
+
+on_board_if : (king : Bool) (side : Colour) (from to : ℕ) → to < 64 → cond king (castling_to side from to) to < 64
+on_board_if true side from to near = castling_on_board side from to near
+on_board_if false side from to near = near
+
+coded_on_board : (s : Position) (m : Moved) → m.to < 64 → coded_to s m < 64
+coded_on_board s m near = on_board_if (is_king_of s.turn (at s.board m.from)) s.turn m.from m.to near
+
+-- the three parts of a code
+apart_again : (to from promo number : ℕ) → to < 64 → from < 64 → to % 8 + 8 * (to / 8) + 64 * (from % 8) + 512 * (from / 8) + 4096 * promo ≡ number
+    → (number % 64 ≡ to) × ((number / 64) % 64 ≡ from) × (number / 4096 ≡ promo)
+apart_again to from promo number low high is =
+    let to_is : to % 8 + 8 * (to / 8) ≡ to = omega arith in
+    let from_is : 64 * (from % 8) + 512 * (from / 8) ≡ 64 * from = omega arith in
+    let is : number ≡ to + 64 * from + 4096 * promo = omega arith in
+    let rest : number / 64 ≡ from + 64 * promo = omega arith in
+    (omega arith, omega arith, omega arith)
+
+pub parts : (s : Position) (m : Moved) (number : ℕ) → HasCode s m number
+    → (m.from ≡ (number / 64) % 64) × (m.to ≡ reached s ((number / 64) % 64) (number % 64)) × (m.promo ≡ promotion_of (number / 4096))
+parts s m number has =
+    let p = apart_again (coded_to s m) m.from (promotion_number m.promo) number (coded_on_board s m has.is_move.to_on_board) has.is_move.from_on_board has.code_is in (
+      sym p.1,
+      sym (reached_back s m has.legal) ∙ ap (λ to. reached s m.from to) (sym p.0) ∙ ap (λ from. reached s from (number % 64)) (sym p.1),
+      sym (promotion_back m.promo has.is_move.promotes) ∙ ap promotion_of (sym p.2),
+    )
+
+same_moves : (m n : Moved) → m.from ≡ n.from → m.to ≡ n.to → m.promo ≡ n.promo → m ≡ n
+same_moves m n from to promo =
+    ap (λ a. moved_of a m.to m.promo) from ∙ ap (λ b. moved_of n.from b m.promo) to ∙ ap (λ (p : Option Kind). moved_of n.from n.to p) promo
+
+pub code_is_one : CodeIsOne
+code_is_one s m n number setup x y =
+    let p = parts s m number x in
+    let q = parts s n number y in
+    same_moves m n (p.0 ∙ sym q.0) (p.1 ∙ sym q.1) (p.2 ∙ sym q.2)
+
+-- a move that is made of the parts of a code is the one that has it
+pub made_of_parts : (s : Position) (number from to : ℕ) (promo : Option Kind) (made : Option Moved) → from ≡ (number / 64) % 64 → to ≡ reached s from (number % 64) → promo ≡ promotion_of (number / 4096)
+    → SomeIff made ((from ≢ to) × ForSome promo IsPromotion) (moved_of from to promo) → (m : Moved) → HasCode s m number → made ≡ Some m
+made_of_parts s number from to promo None from_is to_is promo_is made m has =
+    let p = parts s m number has in
+    let same_from : m.from ≡ from = p.0 ∙ sym from_is in
+    let same_to : m.to ≡ to = p.1 ∙ ap (λ q. reached s q (number % 64)) (sym from_is) ∙ sym to_is in
+    let same_promo : promo ≡ m.promo = promo_is ∙ sym p.2 in
+    absurd (made (λ same. has.is_move.moves (same_from ∙ same ∙ sym same_to), λ kind is. has.is_move.promotes kind (sym same_promo ∙ is)))
+made_of_parts s number from to promo (Some n) from_is to_is promo_is made m has =
+    let p = parts s m number has in
+    let same_from : m.from ≡ from = p.0 ∙ sym from_is in
+    let same_to : m.to ≡ to = p.1 ∙ ap (λ q. reached s q (number % 64)) (sym from_is) ∙ sym to_is in
+    let same_promo : m.promo ≡ promo = p.2 ∙ sym promo_is in
+    ap (λ (k : Moved). Some k) (made.1 ∙ sym (same_moves m (moved_of from to promo) same_from same_to same_promo))

@@ -1,0 +1,122 @@
+-- Entries out of bytes that come in pieces.
+use Rattle.std.proofs.Common.{Ok, take-append-drop, ◌≡◌, ℕ, ◌-◌, ◌<◌, ◌≤◌, List, [], ◌∷◌, ◌++◌, length, take, drop, sym, ap, inr, ◌∙◌, subst, append_assoc, arith}
+use Rattle.std.proofs.lemmas.List.{append-nil, nil_from_length, take_rest}
+use Rattle.pb_poly.specs.declared.entry.Entry.{Entry}
+use Rattle.pb_poly.specs.declared.reading.BookError.{BookError}
+use Rattle.pb_poly.specs.declared.reading.BookError.TheVariants.{Unsorted, Cut, Read, Endless, Memory}
+use Rattle.pb_poly.specs.Entry.{IsEntry, entry_bytes}
+use Rattle.pb_poly.specs.Book.{NeverFall, book_bytes}
+use Rattle.pb_poly.specs.Feeding.{FailsWithin, MeetsWithin, Refuses}
+use Rattle.pb_poly.specs.Reading.{FindsNoBook, MeetsEntry, Splits, book_chunk_len}
+use Rattle.pb_poly.specs.Source.{Fill, SourceState}
+use Rattle.pb_poly.specs.Reads.{ReadsOn, ReadsSome}
+use Rattle.pb_poly.proofs.Entries.{book_bytes-push, bounds-push}
+use Rattle.pb_poly.proofs.ReadsLemmas.{ReadsSome-more}
+
+-- the part is whole with these bytes
+whole_bytes : (came : List ℕ) (entries : List Entry) (part bytes : List ℕ) (entry : Entry) → came ≡ book_bytes entries ++ part → part ++ bytes ≡ entry_bytes entry
+    → came ++ bytes ≡ book_bytes (entries ++ entry ∷ [])
+whole_bytes came entries part bytes entry is whole =
+    ap (λ xs. xs ++ bytes) is ∙ append_assoc (book_bytes entries) part bytes ∙ ap (λ xs. book_bytes entries ++ xs) whole ∙ sym (book_bytes-push entries entry)
+
+pub Splits-whole : (came : List ℕ) (entries : List Entry) (part bytes : List ℕ) (entry : Entry) → Splits came entries part → part ++ bytes ≡ entry_bytes entry → IsEntry entry
+    → NeverFall (entries ++ entry ∷ []) → Splits (came ++ bytes) (entries ++ entry ∷ []) []
+Splits-whole came entries part bytes entry h whole one ordered = record {
+  bounds = bounds-push entries entry h.bounds one;
+  bytes = whole_bytes came entries part bytes entry h.bytes whole ∙ sym (append-nil (book_bytes (entries ++ entry ∷ [])));
+  partial = omega arith;
+  ordered = ordered;
+}
+
+pub Fails-whole : (came : List ℕ) (entries : List Entry) (part bytes : List ℕ) (n : ℕ) (entry : Entry) (e : BookError) → Splits came entries part → part ++ take n bytes ≡ entry_bytes entry
+    → IsEntry entry → Refuses entries entry e → FailsWithin came bytes e
+Fails-whole came entries part bytes n entry e h whole one refuses = (
+  entries,
+  entry,
+  record {
+    front = take n bytes;
+    rest = drop n bytes;
+    cut = sym (take-append-drop n bytes);
+    bytes = record { bounds = bounds-push entries entry h.bounds one; are = whole_bytes came entries part (take n bytes) entry h.bytes whole };
+    ordered = h.ordered;
+  },
+  refuses,
+)
+
+abbrev Front : Type 0
+Front = List Entry × List ℕ
+
+pub Fails-held : (came bytes : List ℕ) (old held cleared : Front) (n : ℕ) (entry : Entry) (e : BookError) → Splits came old.0 old.1 → held ≡ (old.0, old.1 ++ take n bytes)
+    → entry_bytes entry ≡ held.1 → IsEntry entry → cleared ≡ (held.0, []) → Refuses cleared.0 entry e → FailsWithin came bytes e
+Fails-held came bytes old held cleared n entry e h is whole one none refuses =
+    Fails-whole came old.0 old.1 bytes n entry e h (sym (whole ∙ ap (λ (x : Front). x.1) is)) one
+    (subst (λ (es : List Entry). Refuses es entry e) (ap (λ (x : Front). x.0) none ∙ ap (λ (x : Front). x.0) is) refuses)
+
+pub Splits-held : (came bytes : List ℕ) (old held cleared new : Front) (n : ℕ) (entry : Entry) → Splits came old.0 old.1 → held ≡ (old.0, old.1 ++ take n bytes)
+    → entry_bytes entry ≡ held.1 → IsEntry entry → cleared ≡ (held.0, []) → new.0 ≡ cleared.0 ++ entry ∷ [] → new.1 ≡ cleared.1 → NeverFall new.0 → Splits (came ++ take n bytes) new.0 new.1
+Splits-held came bytes old held cleared new n entry h is whole one none added same ordered =
+    let entries : new.0 ≡ old.0 ++ entry ∷ [] = added ∙ ap (λ es. es ++ entry ∷ []) (ap (λ (x : Front). x.0) none ∙ ap (λ (x : Front). x.0) is) in
+    let part : new.1 ≡ [] = same ∙ ap (λ (x : Front). x.1) none in
+    let ordered' : NeverFall (old.0 ++ entry ∷ []) = subst (λ (es : List Entry). NeverFall es) entries ordered in
+    let at_old : Splits (came ++ take n bytes) (old.0 ++ entry ∷ []) [] = Splits-whole came old.0 old.1 (take n bytes) entry h (sym (whole ∙ ap (λ (x : Front). x.1) is)) one ordered' in
+    subst (λ (p : List ℕ). Splits (came ++ take n bytes) new.0 p) (sym part) (subst (λ (es : List Entry). Splits (came ++ take n bytes) es []) (sym entries) at_old)
+
+-- where no part is held, the first sixteen bytes are an entry
+pub whole_alone : (part bytes : List ℕ) (entry : Entry) → length part ≡ 0 → entry_bytes entry ≡ bytes → part ++ bytes ≡ entry_bytes entry
+whole_alone part bytes entry none is = ap (λ xs. xs ++ bytes) (nil_from_length part none) ∙ sym is
+
+-- of a chunk all but the rest has been taken
+pub record IsTaken (old : Front) (chunk rest : List ℕ) (now : Front) : Type 0 where
+  pub front : List ℕ
+  pub cut : front ++ rest ≡ chunk
+  pub splits : (came : List ℕ) → Splits came old.0 old.1 → Splits (came ++ front) now.0 now.1
+
+pub IsTaken-more : (old now new : Front) (chunk rest : List ℕ) (n : ℕ) → IsTaken old chunk rest now
+    → ((came : List ℕ) → Splits came now.0 now.1 → Splits (came ++ take n rest) new.0 new.1) → IsTaken old chunk (take (length rest - n) (drop n rest)) new
+IsTaken-more old now new chunk rest n h step = record {
+  front = h.front ++ take n rest;
+  cut = append_assoc h.front (take n rest) _ ∙ ap (λ xs. h.front ++ (take n rest ++ xs)) (take_rest rest n) ∙ ap (λ xs. h.front ++ xs) (take-append-drop n rest) ∙ h.cut;
+  splits = λ came k. subst (λ (bytes : List ℕ). Splits bytes new.0 new.1) (append_assoc came h.front (take n rest)) (step (came ++ h.front) (h.splits came k));
+}
+
+pub IsTaken-all : (old now : Front) (chunk rest : List ℕ) → IsTaken old chunk rest now → length rest ≡ 0 → (came : List ℕ) → Splits came old.0 old.1 → Splits (came ++ chunk) now.0 now.1
+IsTaken-all old now chunk rest h none came k =
+    subst (λ (bytes : List ℕ). Splits (came ++ bytes) now.0 now.1) (sym (append-nil h.front) ∙ ap (λ xs. h.front ++ xs) (sym (nil_from_length rest none)) ∙ h.cut) (h.splits came k)
+
+-- an entry that isn't added within the rest isn't added within the chunk
+pub IsTaken-fails : (old now : Front) (chunk rest : List ℕ) (e : BookError) → IsTaken old chunk rest now → ((came : List ℕ) → Splits came now.0 now.1 → FailsWithin came rest e)
+    → (came : List ℕ) → Splits came old.0 old.1 → FailsWithin came chunk e
+IsTaken-fails old now chunk rest e h fails came k =
+    let f = fails (came ++ h.front) (h.splits came k) in
+    let m = f.2 in (
+      f.0,
+      f.1,
+      record {
+        front = h.front ++ m.front;
+        rest = m.rest;
+        cut = sym h.cut ∙ ap (λ xs. h.front ++ xs) m.cut ∙ sym (append_assoc h.front m.front m.rest);
+        bytes = record { bounds = m.bytes.bounds; are = sym (append_assoc came h.front m.front) ∙ m.bytes.are };
+        ordered = m.ordered;
+      },
+      f.3,
+    )
+
+-- an entry that isn't added, in what a fill gave
+meets : {F : Type 0} (n fills : ℕ) (old mid new : SourceState) (came slice : List ℕ) (count : ℕ) (before : List Entry) (entry : Entry) → 0 < length slice → length slice ≤ book_chunk_len → n < fills
+    → ReadsOn book_chunk_len n old mid came → Fill {E = F} mid new (Ok count) slice → MeetsWithin came (take count slice) before entry → MeetsEntry fills old new before entry
+meets n fills old mid new came slice count before entry room fits l on fill m = record {
+  came = came ++ m.front;
+  rest = m.rest;
+  reads = subst (λ (bytes : List ℕ). ReadsSome book_chunk_len fills old new bytes) (ap (λ xs. came ++ xs) m.cut ∙ sym (append_assoc came m.front m.rest)) (ReadsSome-more book_chunk_len n old mid new came slice room fits on fills count l fill);
+  bytes = m.bytes;
+  ordered = m.ordered;
+}
+
+pub finds_no_book : {F : Type 0} (n fills : ℕ) (old mid new : SourceState) (came slice : List ℕ) (count : ℕ) (e : BookError) → 0 < length slice → length slice ≤ book_chunk_len → n < fills
+    → ReadsOn book_chunk_len n old mid came → Fill {E = F} mid new (Ok count) slice → FailsWithin came (take count slice) e → FindsNoBook fills old new e
+finds_no_book n fills old mid new came slice count (Unsorted k) room fits l on fill f =
+    record { before = f.0; entry = f.1; meets = meets n fills old mid new came slice count f.0 f.1 room fits l on fill f.2; falls = f.3.0; number_is = f.3.1 }
+finds_no_book n fills old mid new came slice count Memory room fits l on fill f = inr (f.0, f.1, meets n fills old mid new came slice count f.0 f.1 room fits l on fill f.2)
+finds_no_book n fills old mid new came slice count (Cut k) room fits l on fill f = absurd f.3
+finds_no_book n fills old mid new came slice count Read room fits l on fill f = absurd f.3
+finds_no_book n fills old mid new came slice count Endless room fits l on fill f = absurd f.3

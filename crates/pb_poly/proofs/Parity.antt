@@ -1,0 +1,57 @@
+-- A key, bit by bit, is the parity of the words at the setup's places, and no other number is.
+use Rattle.std.proofs.Common.{◌≡◌, ℕ, ◌+◌, ◌%◌, ◌^◌, ◌<◌, inl, inr, List, [], ◌∷◌, length, sym, ap, ◌∙◌, arith}
+use Rattle.std.specs.Prelude.{bit_xor, slice_index}
+use Rattle.std.specs.Int.{bit_at}
+use Rattle.std.proofs.lemmas.Bool.{cases_lt}
+use Rattle.std.proofs.lemmas.List.{get_or_past}
+use Rattle.std.proofs.lemmas.Nat.{xor_lt}
+use Rattle.std.proofs.lemmas.Nat.Bits.{bit_at-lt, bit_at-zero, bit_at_xor, same_from_bits_below}
+use Rattle.pb_board.specs.Position.{Position}
+use Rattle.pb_poly.specs.Key.{ArePlaces, KeyIsOne, KeyIsParity, joined, key, places, words_with}
+use Rattle.pb_poly.specs.Table.{IsTable}
+use Rattle.pb_poly.proofs.Among.{among_contained, contains_among, pairs_distinct, sum_is_total, total, total_same}
+use Rattle.pb_poly.proofs.Places.{are_places}
+
+word_below : (words : List ℕ) (place : ℕ) → IsTable words → slice_index words place < 2 ^ 64
+word_below words place table = elim (cases_lt place (length words)) [
+  | inl within ↦ table.fit place 0 within
+  | inr past ↦ let none = get_or_past words place 0 past in omega (arith, none)
+]
+
+joined_below : (words : List ℕ) (k : ℕ) (ps : List ℕ) → IsTable words → k < 2 ^ 64 → joined words k ps < 2 ^ 64
+joined_below words k [] table below = below
+joined_below words k (p ∷ ps) table below = joined_below words (bit_xor k (slice_index words p)) ps table (xor_lt 64 k (slice_index words p) below (word_below words p table))
+
+joined_bit : (words : List ℕ) (bit k : ℕ) (ps : List ℕ) → bit_at (joined words k ps) bit ≡ (bit_at k bit + total (λ place. bit_at (slice_index words place) bit) ps) % 2
+joined_bit words bit k [] = let low = bit_at-lt k bit in omega (arith, low)
+joined_bit words bit k (p ∷ ps) =
+    let more = joined_bit words bit (bit_xor k (slice_index words p)) ps in
+    let first = bit_at_xor k (slice_index words p) bit in
+    omega (arith, more, first)
+
+pub key_is_parity : KeyIsParity
+unfolding key
+key_is_parity words s table setup = record {
+  below = joined_below words 0 (places s) table (omega arith);
+  places = places s;
+  are = are_places s setup;
+  bits = λ bit low.
+      let is = joined_bit words bit 0 (places s) in
+      let none = bit_at-zero bit in
+      let sum = sum_is_total (λ place. bit_at (slice_index words place) bit) (places s) in
+      omega (arith, is, none, sum);
+}
+
+same_sums : (words : List ℕ) (s : Position) (ps qs : List ℕ) (bit : ℕ) → ArePlaces s ps → ArePlaces s qs → words_with words bit ps ≡ words_with words bit qs
+same_sums words s ps qs bit x y =
+    let f : ℕ → ℕ = λ place. bit_at (slice_index words place) bit in
+    sum_is_total f ps
+    ∙ total_same f ps qs (pairs_distinct ps x.once) (pairs_distinct qs y.once)
+    (λ n among. among_contained qs n ((y.each n).1 ((x.each n).0 (contains_among ps n among))))
+    (λ n among. among_contained ps n ((x.each n).1 ((y.each n).0 (contains_among qs n among))))
+    ∙ sym (sum_is_total f qs)
+
+pub key_is_one : KeyIsOne
+key_is_one words s k l x y =
+    same_from_bits_below 64 k l x.below y.below (λ bit low.
+    x.bits bit low ∙ ap (λ n. n % 2) (same_sums words s x.places y.places bit x.are y.are) ∙ sym (y.bits bit low))

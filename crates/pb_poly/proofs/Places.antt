@@ -1,0 +1,351 @@
+-- The places that the key's function goes over are those of the setup, each once.
+use Rattle.std.proofs.Common.{◌≡◌, ◌≢◌, ℕ, zero, suc, ◌+◌, ◌-◌, ◌%◌, ◌<◌, ◌≤◌, ◌⊎◌, inl, inr, Bool, true, false, not, ◌&&◌, ◌||◌, ◌==◌, Option, Some, None, List, [], ◌∷◌, ◌++◌, length, refl, sym, ap, ◌∙◌, subst, arith}
+use Rattle.std.specs.Prelude.{IsTrue}
+use Rattle.std.proofs.lemmas.Bool.{and_parts, cases_lt}
+use Rattle.std.proofs.lemmas.Bool.Decides.{nat_tests}
+use Rattle.pb_board.specs.declared.piece.Colour.{Colour}
+use Rattle.pb_board.specs.declared.piece.Colour.TheVariants.{White, Black}
+use Rattle.pb_board.specs.declared.piece.Kind.{Kind}
+use Rattle.pb_board.specs.declared.piece.Kind.TheVariants.{Pawn, Knight, Bishop, Rook, Queen, King}
+use Rattle.pb_board.specs.declared.piece.Piece.{Piece}
+use Rattle.pb_board.specs.declared.setup.Rights.{Rights}
+use Rattle.pb_board.specs.Piece.{pawn_of}
+use Rattle.pb_board.specs.Board.{Board, Place, at, file, rank}
+use Rattle.pb_board.specs.Position.{Position, IsSetup, beyond}
+use Rattle.pb_moves.specs.Attack.{files_apart}
+use Rattle.pb_poly.specs.Code.{is_same}
+use Rattle.pb_poly.specs.Key.{ArePlaces, HasPlace, of_piece, white_short, white_long, black_short, black_long, en_passant, white_to_move, HasTaker, has_taker, is_pawn, is_pawn_of, number_of, passed_places, piece_place, piece_places, place_if, places, rights_places, turn_places}
+use Rattle.pb_poly.proofs.Among.{Among, Distinct, among_contained, among_either, among_left, among_right, contains_among, distinct_append, distinct_pairs}
+
+-- ---- the pieces
+
+-- the place of a piece that stands on the board from this square on
+pub record IsPlaceOn (board : Board) (square place : ℕ) : Type 0 where
+  pub offset : ℕ
+  pub piece : Piece
+  pub stands : at board offset ≡ Some piece
+  pub on_board : offset < length board
+  pub is : place ≡ piece_place piece (square + offset)
+
+on_later : (first : Place) (board : Board) (square place : ℕ) → IsPlaceOn board (square + 1) place → IsPlaceOn (first ∷ board) square place
+on_later first board square place h = record { offset = suc h.offset; piece = h.piece; stands = h.stands; on_board = (let below = h.on_board in omega arith); is = h.is ∙ ap (λ q. piece_place h.piece q) (omega arith) }
+
+place_on : (board : Board) (square place : ℕ) → Among (piece_places board square) place → IsPlaceOn board square place
+place_on [] square place h = absurd h
+place_on (None ∷ board) square place h = on_later None board square place (place_on board (square + 1) place h)
+place_on (Some p ∷ board) square place (inl e) = record { offset = 0; piece = p; stands = refl; on_board = omega arith; is = e ∙ ap (λ q. piece_place p q) (omega arith) }
+place_on (Some p ∷ board) square place (inr h) = on_later (Some p) board square place (place_on board (square + 1) place h)
+
+among_pieces : (board : Board) (square offset : ℕ) (p : Piece) → at board offset ≡ Some p → Among (piece_places board square) (piece_place p (square + offset))
+among_pieces [] square offset p h = absurd (cc)
+among_pieces (None ∷ board) square zero p h = absurd (cc)
+among_pieces (None ∷ board) square (suc offset) p h =
+    let P : ℕ → Type 0 = λ q. Among (piece_places board (square + 1)) (piece_place p q) in
+    let e : square + 1 + offset ≡ square + suc offset = omega arith in
+    subst P e (among_pieces board (square + 1) offset p h)
+among_pieces (Some x ∷ board) square zero p h =
+    let same : p ≡ x = cc in
+    inl (ap (λ (y : Piece). piece_place y (square + 0)) same ∙ ap (λ q. piece_place x q) (omega arith))
+among_pieces (Some x ∷ board) square (suc offset) p h =
+    let P : ℕ → Type 0 = λ q. Among (piece_places board (square + 1)) (piece_place p q) in
+    let e : square + 1 + offset ≡ square + suc offset = omega arith in
+    inr (subst P e (among_pieces board (square + 1) offset p h))
+
+number_below : (colour : Colour) (kind : Kind) → number_of colour kind < 12
+number_below White Pawn = omega arith
+number_below White Knight = omega arith
+number_below White Bishop = omega arith
+number_below White Rook = omega arith
+number_below White Queen = omega arith
+number_below White King = omega arith
+number_below Black Pawn = omega arith
+number_below Black Knight = omega arith
+number_below Black Bishop = omega arith
+number_below Black Rook = omega arith
+number_below Black Queen = omega arith
+number_below Black King = omega arith
+
+low_square : (board : Board) (square place : ℕ) → square + length board ≤ 64 → IsPlaceOn board square place → (square ≤ place % 64) × (place < 768)
+low_square board square place fits h =
+    let few = number_below h.piece.colour h.piece.kind in
+    let within = h.on_board in
+    let is = h.is in
+    (omega (arith, few, within, is), omega (arith, few, within, is))
+
+distinct_pieces : (board : Board) (square : ℕ) → square + length board ≤ 64 → Distinct (piece_places board square)
+distinct_pieces [] square fits = tt
+distinct_pieces (None ∷ board) square fits = distinct_pieces board (square + 1) (omega arith)
+distinct_pieces (Some p ∷ board) square fits = (
+  λ again.
+      let low = (low_square board (square + 1) (piece_place p square) (omega arith) (place_on board (square + 1) (piece_place p square) again)).0 in
+      omega (arith, low),
+  distinct_pieces board (square + 1) (omega arith),
+)
+
+-- ---- flags
+
+among_flag : (flag : Bool) (place n : ℕ) → Among (place_if flag place) n → IsTrue flag × (n ≡ place)
+among_flag true place n (inl e) = (refl, e)
+among_flag true place n (inr h) = absurd h
+among_flag false place n h = absurd h
+
+flag_among : (flag : Bool) (place n : ℕ) → IsTrue flag → n ≡ place → Among (place_if flag place) n
+flag_among true place n set is = inl is
+flag_among false place n set is = absurd (cc)
+
+distinct_flag : (flag : Bool) (place : ℕ) → Distinct (place_if flag place)
+distinct_flag true place = (λ h. h, tt)
+distinct_flag false place = tt
+
+among_turn : (turn : Colour) (n : ℕ) → Among (turn_places turn) n → (turn ≡ White) × (n ≡ 780)
+among_turn White n (inl e) = (refl, e)
+among_turn White n (inr h) = absurd h
+among_turn Black n h = absurd h
+
+turn_among : (turn : Colour) (n : ℕ) → turn ≡ White → n ≡ 780 → Among (turn_places turn) n
+turn_among White n white is = inl is
+turn_among Black n white is = absurd (cc)
+
+distinct_turn : (turn : Colour) → Distinct (turn_places turn)
+distinct_turn White = (λ h. h, tt)
+distinct_turn Black = tt
+
+-- ---- the en passant square
+
+is_same-is : (a b : Colour) → is_same a b ≡ true → a ≡ b
+is_same-is White White h = refl
+is_same-is White Black h = absurd (cc)
+is_same-is Black White h = absurd (cc)
+is_same-is Black Black h = refl
+
+same-is_same : (a : Colour) → is_same a a ≡ true
+same-is_same White = refl
+same-is_same Black = refl
+
+pawn_stands : (kind : Kind) (colour side : Colour) → (is_pawn kind && is_same colour side) ≡ true → (kind ≡ Pawn) × (colour ≡ side)
+pawn_stands Pawn colour side h = (refl, is_same-is colour side h)
+pawn_stands k colour side h = absurd (cc)
+
+abbrev some_piece : Colour → Kind → Place
+some_piece colour kind = Some (record { colour = colour; kind = kind })
+
+pawn_there : (side : Colour) (place : Place) → is_pawn_of side place ≡ true → place ≡ Some (pawn_of side)
+pawn_there side None h = absurd (cc)
+pawn_there side (Some p) h =
+    let is = pawn_stands p.kind p.colour side h in
+    ap (λ (k : Kind). some_piece p.colour k) is.0 ∙ ap (λ (c : Colour). some_piece c Pawn) is.1
+
+there_pawn : (side : Colour) (place : Place) → place ≡ Some (pawn_of side) → is_pawn_of side place ≡ true
+there_pawn side place h = let P : Place → Type 0 = λ x. is_pawn_of side x ≡ true in subst P (sym h) (same-is_same side)
+
+either_true : (a b : Bool) → (a || b) ≡ true → (a ≡ true) ⊎ (b ≡ true)
+either_true true b h = inl refl
+either_true false b h = inr h
+
+true_left : (a b : Bool) → a ≡ true → (a || b) ≡ true
+true_left true b h = refl
+true_left false b h = absurd (cc)
+
+true_right : (a b : Bool) → b ≡ true → (a || b) ≡ true
+true_right true b h = refl
+true_right false b h = h
+
+both_true : (a b : Bool) → a ≡ true → b ≡ true → (a && b) ≡ true
+both_true true b h k = k
+both_true false b h k = absurd (cc)
+
+other_than : (n m : ℕ) → not (n == m) ≡ true → n ≢ m
+other_than n m h = grind (arith, nat_tests)
+
+tells_other : (n m : ℕ) → n ≢ m → not (n == m) ≡ true
+tells_other n m h = grind (arith, nat_tests)
+
+rank_before : (pawn : ℕ) → pawn % 8 ≢ 0 → rank (pawn - 1) ≡ rank pawn
+rank_before pawn inside = omega arith
+
+file_before : (pawn : ℕ) → pawn % 8 ≢ 0 → files_apart (pawn - 1) pawn ≡ 1
+file_before pawn inside = omega arith
+
+rank_next : (pawn : ℕ) → pawn % 8 ≢ 7 → rank (pawn + 1) ≡ rank pawn
+rank_next pawn inside = omega arith
+
+file_next : (pawn : ℕ) → pawn % 8 ≢ 7 → files_apart (pawn + 1) pawn ≡ 1
+file_next pawn inside = omega arith
+
+beside_either : (taker pawn : ℕ) → rank taker ≡ rank pawn → files_apart taker pawn ≡ 1 → ((taker ≡ pawn - 1) × (file pawn ≢ 0)) ⊎ ((taker ≡ pawn + 1) × (file pawn ≢ 7))
+beside_either taker pawn same next = elim (cases_lt taker pawn) [
+  | inl low ↦ inl (omega arith, λ e. omega (arith, e))
+  | inr high ↦ inr (omega arith, λ e. omega (arith, e))
+]
+
+taker_of : (s : Position) (passed : ℕ) → has_taker s.board s.turn (beyond s.turn passed) ≡ true → HasTaker s passed
+taker_of s passed h =
+    let pawn : ℕ = beyond s.turn passed in
+    elim (either_true (not (file pawn == 0) && is_pawn_of s.turn (at s.board (pawn - 1))) (not (file pawn == 7) && is_pawn_of s.turn (at s.board (pawn + 1))) h) [
+      | inl left ↦
+          let parts = and_parts (not (file pawn == 0)) (is_pawn_of s.turn (at s.board (pawn - 1))) left in
+          let inside : pawn % 8 ≢ 0 = other_than (file pawn) 0 parts.0 in
+          record { taker = pawn - 1; stands = pawn_there s.turn (at s.board (pawn - 1)) parts.1; same_rank = rank_before pawn inside; next_file = file_before pawn inside }
+      | inr right ↦
+          let parts = and_parts (not (file pawn == 7)) (is_pawn_of s.turn (at s.board (pawn + 1))) right in
+          let inside : pawn % 8 ≢ 7 = other_than (file pawn) 7 parts.0 in
+          record { taker = pawn + 1; stands = pawn_there s.turn (at s.board (pawn + 1)) parts.1; same_rank = rank_next pawn inside; next_file = file_next pawn inside }
+    ]
+
+of_taker : (s : Position) (passed : ℕ) → HasTaker s passed → has_taker s.board s.turn (beyond s.turn passed) ≡ true
+of_taker s passed h =
+    let pawn : ℕ = beyond s.turn passed in
+    let left : Bool = not (file pawn == 0) && is_pawn_of s.turn (at s.board (pawn - 1)) in
+    let right : Bool = not (file pawn == 7) && is_pawn_of s.turn (at s.board (pawn + 1)) in
+    let stands = there_pawn s.turn (at s.board h.taker) h.stands in
+    let P : ℕ → Type 0 = λ q. is_pawn_of s.turn (at s.board q) ≡ true in
+    elim (beside_either h.taker pawn h.same_rank h.next_file) [
+      | inl l ↦ true_left left right (both_true (not (file pawn == 0)) (is_pawn_of s.turn (at s.board (pawn - 1))) (tells_other (file pawn) 0 l.1) (subst P l.0 stands))
+      | inr r ↦ true_right left right (both_true (not (file pawn == 7)) (is_pawn_of s.turn (at s.board (pawn + 1))) (tells_other (file pawn) 7 r.1) (subst P r.0 stands))
+    ]
+
+among_passed : (s : Position) (ep : Option ℕ) (n : ℕ) → Among (passed_places s ep) n → (passed : ℕ) × (ep ≡ Some passed) × HasTaker s passed × (n ≡ 772 + file passed)
+among_passed s None n h = absurd h
+among_passed s (Some passed) n h =
+    let flag = among_flag (has_taker s.board s.turn (beyond s.turn passed)) (772 + file passed) n h in
+    (passed, refl, taker_of s passed flag.0, flag.1)
+
+passed_among : (s : Position) (ep : Option ℕ) (passed n : ℕ) → ep ≡ Some passed → HasTaker s passed → n ≡ 772 + file passed → Among (passed_places s ep) n
+passed_among s ep passed n is taker place =
+    let P : Option ℕ → Type 0 = λ o. Among (passed_places s o) n in
+    subst P (sym is) (flag_among (has_taker s.board s.turn (beyond s.turn passed)) (772 + file passed) n (of_taker s passed taker) place)
+
+distinct_passed : (s : Position) (ep : Option ℕ) → Distinct (passed_places s ep)
+distinct_passed s None = tt
+distinct_passed s (Some passed) = distinct_flag (has_taker s.board s.turn (beyond s.turn passed)) (772 + file passed)
+
+-- ---- all places
+
+flag_or_later : (flag : Bool) (place : ℕ) (xs : List ℕ) (n : ℕ) → Among (place_if flag place ++ xs) n → (IsTrue flag × (n ≡ place)) ⊎ Among xs n
+flag_or_later flag place xs n h = elim (among_either (place_if flag place) xs n h) [ inl l ↦ inl (among_flag flag place n l) | inr r ↦ inr r ]
+
+distinct_after_flag : (flag : Bool) (place : ℕ) (xs : List ℕ) → Distinct xs → ((n : ℕ) → Among xs n → place < n) → Distinct (place_if flag place ++ xs)
+distinct_after_flag true place xs once above = (λ again. let higher = above place again in omega (arith, higher), once)
+distinct_after_flag false place xs once above = once
+
+-- the castling right of a place
+abbrev IsRight : Rights → ℕ → Type 0
+IsRight r n =
+    (IsTrue r.white_short × (n ≡ 768)) ⊎ ((IsTrue r.white_long × (n ≡ 769)) ⊎ ((IsTrue r.black_short × (n ≡ 770)) ⊎ (IsTrue r.black_long × (n ≡ 771))))
+
+among_rights : (r : Rights) (n : ℕ) → Among (rights_places r) n → IsRight r n
+among_rights r n h =
+    let third = place_if r.black_short 770 ++ place_if r.black_long 771 in
+    elim (flag_or_later r.white_short 768 (place_if r.white_long 769 ++ third) n h) [
+      | inl a ↦ inl a
+      | inr h2 ↦ elim (flag_or_later r.white_long 769 third n h2) [
+        | inl b ↦ inr (inl b)
+        | inr h3 ↦ elim (flag_or_later r.black_short 770 (place_if r.black_long 771) n h3) [
+          | inl d ↦ inr (inr (inl d))
+          | inr h4 ↦ inr (inr (inr (among_flag r.black_long 771 n h4)))
+        ]
+      ]
+    ]
+
+right_place : (r : Rights) (n : ℕ) → IsRight r n → (768 ≤ n) × (n < 772)
+right_place r n (inl a) = let is = a.1 in (omega arith, omega arith)
+right_place r n (inr (inl b)) = let is = b.1 in (omega arith, omega arith)
+right_place r n (inr (inr (inl d))) = let is = d.1 in (omega arith, omega arith)
+right_place r n (inr (inr (inr e))) = let is = e.1 in (omega arith, omega arith)
+
+distinct_rights : (r : Rights) → Distinct (rights_places r)
+distinct_rights r =
+    let third = place_if r.black_short 770 ++ place_if r.black_long 771 in
+    let last : (n : ℕ) → Among (place_if r.black_long 771) n → n ≡ 771 = λ n h. (among_flag r.black_long 771 n h).1 in
+    let above3 : (n : ℕ) → Among third n → 769 < n = λ n h. elim (flag_or_later r.black_short 770 (place_if r.black_long 771) n h) [
+      | inl a ↦ let is = a.1 in omega arith
+      | inr b ↦ let is = last n b in omega arith
+    ] in
+    let above2 : (n : ℕ) → Among (place_if r.white_long 769 ++ third) n → 768 < n = λ n h. elim (flag_or_later r.white_long 769 third n h) [
+      | inl a ↦ let is = a.1 in omega arith
+      | inr b ↦ let is = above3 n b in omega arith
+    ] in
+    distinct_after_flag r.white_short 768 (place_if r.white_long 769 ++ third)
+    (distinct_after_flag r.white_long 769 third
+    (distinct_after_flag r.black_short 770 (place_if r.black_long 771) (distinct_flag r.black_long 771) (λ n h. let is = last n h in omega arith)) above3) above2
+
+passed_place : (s : Position) (ep : Option ℕ) (n : ℕ) → Among (passed_places s ep) n → (772 ≤ n) × (n < 780)
+passed_place s ep n h = let p = among_passed s ep n h in let is = p.3 in (omega (arith, is), omega (arith, is))
+
+distinct_rest : (s : Position) → Distinct (rights_places s.rights ++ (passed_places s s.ep ++ turn_places s.turn))
+distinct_rest s =
+    let es = passed_places s s.ep in
+    let ts = turn_places s.turn in
+    let tail = distinct_append es ts (distinct_passed s s.ep) (distinct_turn s.turn) (λ n x y. let a = passed_place s s.ep n x in let b = (among_turn s.turn n y).1 in omega (arith, a.1)) in
+    distinct_append (rights_places s.rights) (es ++ ts) (distinct_rights s.rights) tail (λ n x y.
+    let a = right_place s.rights n (among_rights s.rights n x) in
+    elim (among_either es ts n y) [
+      | inl e ↦ let b = passed_place s s.ep n e in omega (arith, a.1, b.0)
+      | inr t ↦ let b = (among_turn s.turn n t).1 in omega (arith, a.1)
+    ])
+
+rest_high : (s : Position) (n : ℕ) → Among (rights_places s.rights ++ (passed_places s s.ep ++ turn_places s.turn)) n → 768 ≤ n
+rest_high s n h = elim (among_either (rights_places s.rights) (passed_places s s.ep ++ turn_places s.turn) n h) [
+  | inl a ↦ (right_place s.rights n (among_rights s.rights n a)).0
+  | inr b ↦ elim (among_either (passed_places s s.ep) (turn_places s.turn) n b) [
+    | inl e ↦ let p = passed_place s s.ep n e in omega (arith, p.0)
+    | inr t ↦ let is = (among_turn s.turn n t).1 in omega arith
+  ]
+]
+
+distinct_places : (s : Position) → length s.board ≡ 64 → Distinct (places s)
+distinct_places s full =
+    distinct_append (piece_places s.board 0) (rights_places s.rights ++ (passed_places s s.ep ++ turn_places s.turn)) (distinct_pieces s.board 0 (omega arith)) (distinct_rest s) (λ n x y.
+    let low = low_square s.board 0 n (omega arith) (place_on s.board 0 n x) in
+    let high = rest_high s n y in
+    omega (arith, low.1))
+
+right_of : (s : Position) (n : ℕ) → IsRight s.rights n → HasPlace s n
+right_of s n (inl a) = white_short a.0 a.1
+right_of s n (inr (inl b)) = white_long b.0 b.1
+right_of s n (inr (inr (inl d))) = black_short d.0 d.1
+right_of s n (inr (inr (inr e))) = black_long e.0 e.1
+
+has_place : (s : Position) (n : ℕ) → Among (places s) n → HasPlace s n
+has_place s n h =
+    let rest = rights_places s.rights ++ (passed_places s s.ep ++ turn_places s.turn) in
+    elim (among_either (piece_places s.board 0) rest n h) [
+      | inl p ↦ let at_board = place_on s.board 0 n p in of_piece at_board.offset at_board.piece at_board.stands (at_board.is ∙ ap (λ q. piece_place at_board.piece q) (omega arith))
+      | inr r ↦ elim (among_either (rights_places s.rights) (passed_places s s.ep ++ turn_places s.turn) n r) [
+        | inl a ↦ right_of s n (among_rights s.rights n a)
+        | inr b ↦ elim (among_either (passed_places s s.ep) (turn_places s.turn) n b) [
+          | inl e ↦ let p = among_passed s s.ep n e in en_passant p.0 p.1 p.2 p.3
+          | inr t ↦ let p = among_turn s.turn n t in white_to_move p.0 p.1
+        ]
+      ]
+    ]
+
+among_from_right : (s : Position) (n : ℕ) → Among (rights_places s.rights) n → Among (places s) n
+among_from_right s n h =
+    let rest = rights_places s.rights ++ (passed_places s s.ep ++ turn_places s.turn) in
+    among_right (piece_places s.board 0) rest n (among_left (rights_places s.rights) (passed_places s s.ep ++ turn_places s.turn) n h)
+
+among_places : (s : Position) (n : ℕ) → HasPlace s n → Among (places s) n
+among_places s n (of_piece square p stands is) =
+    let rest = rights_places s.rights ++ (passed_places s s.ep ++ turn_places s.turn) in
+    let P : ℕ → Type 0 = λ m. Among (piece_places s.board 0) m in
+    let e : piece_place p (0 + square) ≡ n = ap (λ q. piece_place p q) (omega arith) ∙ sym is in
+    among_left (piece_places s.board 0) rest n (subst P e (among_pieces s.board 0 square p stands))
+among_places s n (white_short set is) =
+    among_from_right s n (among_left (place_if s.rights.white_short 768) _ n (flag_among s.rights.white_short 768 n set is))
+among_places s n (white_long set is) =
+    among_from_right s n (among_right (place_if s.rights.white_short 768) _ n (among_left (place_if s.rights.white_long 769) _ n (flag_among s.rights.white_long 769 n set is)))
+among_places s n (black_short set is) =
+    among_from_right s n (among_right (place_if s.rights.white_short 768) _ n (among_right (place_if s.rights.white_long 769) _ n (among_left (place_if s.rights.black_short 770) _ n (flag_among s.rights.black_short 770 n set is))))
+among_places s n (black_long set is) =
+    among_from_right s n (among_right (place_if s.rights.white_short 768) _ n (among_right (place_if s.rights.white_long 769) _ n (among_right (place_if s.rights.black_short 770) _ n (flag_among s.rights.black_long 771 n set is))))
+among_places s n (en_passant passed here taker is) =
+    among_right (piece_places s.board 0) _ n (among_right (rights_places s.rights) _ n (among_left (passed_places s s.ep) _ n (passed_among s s.ep passed n here taker is)))
+among_places s n (white_to_move white is) =
+    among_right (piece_places s.board 0) _ n (among_right (rights_places s.rights) _ n (among_right (passed_places s s.ep) _ n (turn_among s.turn n white is)))
+
+pub are_places : (s : Position) → IsSetup s → ArePlaces s (places s)
+are_places s setup = record {
+  once = distinct_pairs (places s) (distinct_places s setup.places);
+  each = λ n. (λ h. has_place s n (among_contained (places s) n h), λ h. contains_among (places s) n (among_places s n h));
+}

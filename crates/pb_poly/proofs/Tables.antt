@@ -1,0 +1,177 @@
+-- The lines of a table file, and the words that they spell.
+use Rattle.std.proofs.Common.{◌≡◌, ℕ, ◌+◌, ◌^◌, ◌<◌, ◌≤◌, ◌⊎◌, inl, inr, List, [], ◌∷◌, ◌++◌, length, take, drop, All, refl, sym, ap, ◌∙◌, subst, arith, append_assoc, length-append}
+use Rattle.std.specs.List.{AllZip}
+use Rattle.std.proofs.lemmas.List.Splits.{slice_split_none, slice_split_at}
+use Rattle.std.proofs.lemmas.List.{append-nil, same_from_push}
+use Rattle.std.proofs.lemmas.List.Elements.{All-append, All-cons, All-head, All-nil, All-tail}
+use Rattle.std.specs.Prelude.{IsSome, MatchOption, Option, Some, None, is_none, false}
+use Rattle.pb_poly.specs.Lines.{is_line_feed, pieces, lines}
+use Rattle.pb_poly.specs.declared.table.TableError.{TableError}
+use Rattle.pb_poly.specs.declared.table.TableError.TheVariants.{Line, Count, Memory}
+use Rattle.pb_poly.specs.Table.{IsDigit, IsDueTable, IsFirstUnspelled, IsSpelled, IsTable, SpellsWord, TableText, WritesWord}
+use Rattle.pb_poly.proofs.LineLemmas.{IsLineFeedAt, IsQuiet, length-lines, pieces-nonempty}
+use Rattle.pb_poly.proofs.Digits.{word_is_one, word_small}
+
+-- an LF ends the first line
+pub lines-cut : (bytes : List ℕ) (i : ℕ) → IsLineFeedAt bytes i → lines bytes ≡ take i bytes ∷ lines (drop (i + 1) bytes)
+lines-cut bytes i h =
+    let rest : List ℕ = drop (i + 1) bytes in
+    let some = pieces-nonempty rest in
+    let ps : pieces bytes ≡ take i bytes ∷ pieces rest = ap pieces (sym h.cut) ∙ slice_split_at is_line_feed (take i bytes) 10 rest h.quiet refl in
+    rw (ps, some.2) refl
+
+-- bytes with no LF are one line
+pub lines-quiet : (bytes : List ℕ) → IsQuiet bytes → 0 < length bytes → lines bytes ≡ bytes ∷ []
+lines-quiet [] quiet some = absurd (omega arith)
+lines-quiet (b ∷ bs) quiet some = rw (slice_split_none is_line_feed (b ∷ bs) quiet) refl
+
+-- no digits end in CR
+no_cr : (front values : List ℕ) → ¬ AllZip IsDigit (front ++ 13 ∷ []) values
+no_cr [] [] zip = absurd zip
+no_cr [] (v ∷ values) zip = absurd (elim zip.0 [ inl low ↦ omega arith | inr high ↦ elim high.2 [ inl small ↦ omega arith | inr big ↦ omega arith ] ])
+no_cr (b ∷ front) [] zip = absurd zip
+no_cr (b ∷ front) (v ∷ values) zip = no_cr front values zip.1
+
+pub no_cr_written : (line front : List ℕ) (word : ℕ) → line ≡ front ++ 13 ∷ [] → ¬ WritesWord line word
+no_cr_written line front word is h = no_cr front h.values (subst (λ (bytes : List ℕ). AllZip IsDigit bytes h.values) is h.are)
+
+same_front : (x y : List ℕ) → x ++ 13 ∷ [] ≡ y ++ 13 ∷ [] → x ≡ y
+same_front x y e = (same_from_push x y 13 13 e).0
+
+-- what stands before a CR at the end, or all of a line that has none
+abbrev pub WithoutCr : List ℕ → List ℕ → Type 0
+WithoutCr line digits = (line ≡ digits ++ 13 ∷ []) ⊎ ((line ≡ digits) × ((front : List ℕ) → ¬ (line ≡ front ++ 13 ∷ [])))
+
+spells_without_cr : (line digits : List ℕ) (word : ℕ) → WithoutCr line digits → SpellsWord line word → WritesWord digits word
+spells_without_cr line digits word (inl cut) s = elim s.line_is [
+  | inl a ↦ absurd (no_cr_written line digits word cut (subst (λ (d : List ℕ). WritesWord d word) (sym a) s.writes))
+  | inr b ↦ subst (λ (d : List ℕ). WritesWord d word) (same_front s.digits digits (sym b ∙ cut)) s.writes
+]
+spells_without_cr line digits word (inr whole) s = elim s.line_is [
+  | inl a ↦ subst (λ (d : List ℕ). WritesWord d word) (sym a ∙ whole.0) s.writes
+  | inr b ↦ absurd (whole.1 s.digits b)
+]
+
+without_cr_spells : (line digits : List ℕ) (word : ℕ) → WithoutCr line digits → WritesWord digits word → SpellsWord line word
+without_cr_spells line digits word (inl cut) writes = record { digits = digits; line_is = inr cut; writes = writes }
+without_cr_spells line digits word (inr whole) writes = record { digits = digits; line_is = inl whole.0; writes = writes }
+
+pub word_of_line : (line digits : List ℕ) (o : Option ℕ) → WithoutCr line digits → MatchOption o ((word : ℕ) → ¬ WritesWord digits word) (WritesWord digits) → MatchOption o (¬ IsSpelled line) (SpellsWord line)
+word_of_line line digits (Some word) cut h = without_cr_spells line digits word cut h
+word_of_line line digits None cut h = λ s. h s.0 (spells_without_cr line digits s.0 cut s.1)
+
+-- a line spells one word
+pub spelled_is_one : (line : List ℕ) (v w : ℕ) → SpellsWord line v → SpellsWord line w → v ≡ w
+spelled_is_one line v w x y = elim x.line_is [
+  | inl a ↦ elim y.line_is [
+    | inl b ↦ word_is_one line v w (subst (λ (d : List ℕ). WritesWord d v) (sym a) x.writes) (subst (λ (d : List ℕ). WritesWord d w) (sym b) y.writes)
+    | inr b ↦ absurd (no_cr_written line y.digits v b (subst (λ (d : List ℕ). WritesWord d v) (sym a) x.writes))
+  ]
+  | inr a ↦ elim y.line_is [
+    | inl b ↦ absurd (no_cr_written line x.digits w a (subst (λ (d : List ℕ). WritesWord d w) (sym b) y.writes))
+    | inr b ↦ word_is_one x.digits v w x.writes (subst (λ (d : List ℕ). WritesWord d w) (sym (same_front x.digits y.digits (sym a ∙ b))) y.writes)
+  ]
+]
+
+-- lines spell one list of words
+pub words_are_one : (ls : List (List ℕ)) (v w : List ℕ) → AllZip SpellsWord ls v → AllZip SpellsWord ls w → v ≡ w
+words_are_one [] [] [] x y = refl
+words_are_one [] (a ∷ v) w x y = absurd x
+words_are_one [] [] (b ∷ w) x y = absurd y
+words_are_one (l ∷ ls) [] w x y = absurd x
+words_are_one (l ∷ ls) (a ∷ v) [] x y = absurd y
+words_are_one (l ∷ ls) (a ∷ v) (b ∷ w) x y =
+    let first : a ≡ b = spelled_is_one l a b x.0 y.0 in
+    let more = words_are_one ls v w x.1 y.1 in
+    cc
+
+-- lines that each spell a word spell words
+pub words_of_spelled : (ls : List (List ℕ)) → All IsSpelled ls → (words : List ℕ) × AllZip SpellsWord ls words
+words_of_spelled [] all = ([], tt)
+words_of_spelled (l ∷ ls) all =
+    let first = All-head IsSpelled l ls all in
+    let more = words_of_spelled ls (All-tail IsSpelled l ls all) in
+    (first.0 ∷ more.0, (first.1, more.1))
+
+pub all_spelled : (ls : List (List ℕ)) (words : List ℕ) → AllZip SpellsWord ls words → All IsSpelled ls
+all_spelled [] [] zip = All-nil IsSpelled
+all_spelled [] (w ∷ words) zip = absurd zip
+all_spelled (l ∷ ls) [] zip = absurd zip
+all_spelled (l ∷ ls) (w ∷ words) zip = All-cons IsSpelled l ls (w, zip.0) (all_spelled ls words zip.1)
+
+-- one line more comes before the rest
+pub before_more : (bytes rest after line : List ℕ) (before : List (List ℕ)) → lines bytes ≡ before ++ lines rest → lines rest ≡ line ∷ lines after → lines bytes ≡ (before ++ line ∷ []) ++ lines after
+before_more bytes rest after line before cut next = cut ∙ ap (λ ls. before ++ ls) next ∙ sym (append_assoc before (line ∷ []) (lines after))
+
+pub length_before : (bytes rest : List ℕ) (before : List (List ℕ)) → lines bytes ≡ before ++ lines rest → length before + length (lines rest) ≤ length bytes
+length_before bytes rest before cut =
+    let all = length-lines bytes in
+    let both : length (lines bytes) ≡ length before + length (lines rest) = ap length cut ∙ length-append before (lines rest) in
+    subst (λ (n : ℕ). n ≤ length bytes) both all
+
+pub spelled_more : (before : List (List ℕ)) (line : List ℕ) → All IsSpelled before → IsSpelled line → All IsSpelled (before ++ line ∷ [])
+spelled_more before line all one = All-append IsSpelled before (line ∷ []) all (All-cons IsSpelled line [] one (All-nil IsSpelled))
+
+-- at the end of the text all its lines have come
+pub all_before : (bytes rest : List ℕ) (before : List (List ℕ)) → lines bytes ≡ before ++ lines rest → length rest ≡ 0 → before ≡ lines bytes
+all_before bytes [] before cut none = sym (append-nil before) ∙ sym cut
+all_before bytes (b ∷ rest) before cut none = absurd (omega arith)
+
+pub zip_more : (before : List (List ℕ)) (words : List ℕ) (line : List ℕ) (word : ℕ) → AllZip SpellsWord before words → SpellsWord line word → AllZip SpellsWord (before ++ line ∷ []) (words ++ word ∷ [])
+zip_more [] [] line word zip one = (one, tt)
+zip_more [] (w ∷ words) line word zip one = absurd zip
+zip_more (l ∷ before) [] line word zip one = absurd zip
+zip_more (l ∷ before) (w ∷ words) line word zip one = (zip.0, zip_more before words line word zip.1 one)
+
+pub length_zip : (ls : List (List ℕ)) (words : List ℕ) → AllZip SpellsWord ls words → length ls ≡ length words
+length_zip [] [] zip = refl
+length_zip [] (w ∷ words) zip = absurd zip
+length_zip (l ∷ ls) [] zip = absurd zip
+length_zip (l ∷ ls) (w ∷ words) zip = let more = length_zip ls words zip.1 in omega (arith, more)
+
+pub table_of_spelled : (bytes : List ℕ) → length (lines bytes) ≡ 781 → All IsSpelled (lines bytes) → (words : List ℕ) × TableText words bytes
+table_of_spelled bytes count all =
+    let found = words_of_spelled (lines bytes) all in
+    (found.0, record { all = sym (length_zip (lines bytes) found.0 found.1) ∙ count; each = found.1 })
+
+all_at : (before : List (List ℕ)) (line : List ℕ) (after : List (List ℕ)) → All IsSpelled (before ++ line ∷ after) → IsSpelled line
+all_at [] line after all = All-head IsSpelled line after all
+all_at (b ∷ before) line after all = all_at before line after (All-tail IsSpelled b (before ++ line ∷ after) all)
+
+-- no line of a table spells no word
+pub no_first_unspelled : (words : List ℕ) (bytes : List ℕ) (number : ℕ) → TableText words bytes → ¬ IsFirstUnspelled number bytes
+no_first_unspelled words bytes number text h =
+    let all = all_spelled (lines bytes) words text.each in
+    let here : All IsSpelled (h.before ++ h.line ∷ h.after) = rw h.cut at all in
+    h.unspelled (all_at h.before h.line h.after here)
+
+-- what judging a line found
+abbrev pub Judged : Option ℕ → List ℕ → Type 0
+Judged o line = MatchOption o (¬ IsSpelled line) (SpellsWord line)
+
+pub spelled_found : (o : Option ℕ) (line : List ℕ) → Judged o line → is_none o ≡ false → IsSpelled line
+spelled_found None line h some = absurd (cc)
+spelled_found (Some w) line h some = (w, h)
+
+pub word_found : (o : Option ℕ) (line : List ℕ) → Judged o line → IsSpelled line → IsSome o
+word_found None line h spelled = absurd (h spelled)
+word_found (Some w) line h spelled = refl
+
+pub word_judged : (o : Option ℕ) (line : List ℕ) (word : ℕ) → Judged o line → o ≡ Some word → SpellsWord line word
+word_judged o line word h is = let P : Option ℕ → Type 0 = λ x. Judged x line in subst P is h
+
+-- for the bytes of a table nothing but Memory is due
+pub only_memory : (words : List ℕ) (bytes : List ℕ) (e : TableError) → TableText words bytes → IsDueTable e bytes → e ≡ Memory
+only_memory words bytes (Line number) text due = absurd (no_first_unspelled words bytes number text due)
+only_memory words bytes (Count number) text due = absurd (due.1 (due.0 ∙ length_zip (lines bytes) words text.each ∙ text.all))
+only_memory words bytes Memory text due = refl
+
+words_small : (ls : List (List ℕ)) (words : List ℕ) → AllZip SpellsWord ls words → All (λ word. word < 2 ^ 64) words
+words_small [] [] zip = All-nil (λ word. word < 2 ^ 64)
+words_small [] (w ∷ words) zip = absurd zip
+words_small (l ∷ ls) [] zip = absurd zip
+words_small (l ∷ ls) (w ∷ words) zip = All-cons (λ word. word < 2 ^ 64) w words (word_small zip.0.digits w zip.0.writes) (words_small ls words zip.1)
+
+-- what a table's text spells is a table
+pub is_table : (words : List ℕ) (bytes : List ℕ) → TableText words bytes → IsTable words
+is_table words bytes text = record { all = text.all; fit = words_small (lines bytes) words text.each }

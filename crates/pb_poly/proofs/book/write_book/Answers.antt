@@ -1,0 +1,35 @@
+use Rattle.std.proofs.Common.{arith, refl, take, ◌≡◌, ℕ, List, sym, ap, subst, ◌∙◌}
+use Rattle.std.specs.Io.KnownBytes.{Appends}
+use Rattle.std.proofs.KnownBytes.{Appends-trans}
+use Rattle.std.proofs.lemmas.List.{take_all}
+use Rattle.std.proofs.lemmas.Result.{err_from_is_err_and}
+use Rattle.pb_poly.specs.declared.entry.Entry.{Entry}
+use Rattle.pb_poly.specs.Book.{book_bytes}
+use Rattle.pb_poly.proofs.Entries.{front_of_book}
+use Rattle.pb_poly.proofs.WritesLemmas.{Writes-flushed}
+use Rattle.pb_poly.proofs.book.write_book.Goals as goal
+
+pub returns-in_err-write_entry : goal.returns-in_err-write_entry
+returns-in_err-write_entry g c =
+    let state = g.K.Sink.state in
+    let p = err_from_is_err_and c.from_residual.result c.from_residual.ensures.1 in
+    let put = c.in_err-write_entry.ensures in
+    let entries : List Entry = c.entries-entry-items.result.now in
+    let none : Entry = record { key = 0; code = 0; weight = 0; learn = 0 } in
+    let f = front_of_book entries c.loop-entry.entry-index none put.front.0 c.loop-entry-test.true in
+    let is : take f.0 (book_bytes c.args.book.now) ≡ _ = ap (λ (es : List Entry). take f.0 (book_bytes es)) (sym c.entries-entry-items.ensures.value) ∙ f.1 in
+    rw p.1 (record {
+      all = tt;
+      front = (f.0, subst (λ (bytes : List ℕ). Appends (state c.args.sink.now).bytes (state c.write_entry.new.sink).bytes bytes) (sym is) (Appends-trans _ _ _ _ _ c.loop-entry.invariant.put put.front.1));
+      failed = put.failed;
+      stays_failed = λ _. refl;
+      flushed = put.flushed;
+    })
+
+pub returns : goal.returns
+returns g c =
+    let state = g.K.Sink.state in
+    let entries : List Entry = c.entries-entry-items.result.now in
+    let all : take c.loop-entry.entry-index entries ≡ c.args.book.now = take_all c.loop-entry.entry-index entries (omega arith) ∙ c.entries-entry-items.ensures.value in
+    let put = subst (λ (es : List Entry). Appends (state c.args.sink.now).bytes (state c.loop-entry.sink).bytes (book_bytes es)) all c.loop-entry.invariant.put in
+    Writes-flushed (state c.args.sink.now) (state c.loop-entry.sink) (state c.flush.new.self) c.flush.result (book_bytes c.args.book.now) put c.loop-entry.invariant.works c.flush.ensures

@@ -1,0 +1,7 @@
+use Rattle.std.proofs.Common.{◌≡◌, drop}
+use Rattle.pb_poly.specs.Key.{joined, piece_places}
+use Rattle.pb_poly.proofs.key.pieces_key.Given as goal
+
+-- the pieces from this square on make the key whole
+abbrev pub invariant-loop-square : goal.invariant-loop-square
+invariant-loop-square l = joined l.table l.key (piece_places (drop l.square l.board) l.square) ≡ joined l.table 0 (piece_places l.board 0)

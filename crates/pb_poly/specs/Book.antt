@@ -1,0 +1,46 @@
+-- Books: entries whose keys never fall, and their bytes.
+use Rattle.std.specs.Prelude.{◌≡◌, ℕ, ◌+◌, ◌≤◌, List, [], ◌∷◌, ◌++◌, All, length, map}
+use Rattle.std.specs.List.{flat_map}
+use Rattle.pb_poly.specs.declared.entry.Entry.{Entry}
+use Rattle.pb_poly.specs.Entry.{IsEntry, entry_bytes}
+
+abbrev pub keys_of : List Entry → List ℕ
+keys_of entries = map (λ e. e.key) entries
+
+-- each number is at least the one before it, and the first at least the floor
+abbrev pub NeverFallsFrom : ℕ → List ℕ → Type 0
+NeverFallsFrom floor [] = Unit {0}
+NeverFallsFrom floor (n ∷ ns) = (floor ≤ n) × NeverFallsFrom n ns
+
+-- the keys never fall
+abbrev pub NeverFall : List Entry → Type 0
+NeverFall entries = NeverFallsFrom 0 (keys_of entries)
+
+-- the bytes of entries, in order
+abbrev pub book_bytes : List Entry → List ℕ
+book_bytes entries = flat_map entry_bytes entries
+
+-- these are the bytes of the entries, each part of which is in its range
+pub record BookBytes (entries : List Entry) (bytes : List ℕ) : Type 0 where
+  pub bounds : All IsEntry entries
+  pub are : bytes ≡ book_bytes entries
+
+-- the entry of this number, from 1, is the first whose key is below the key before it
+pub record IsFirstFall (entries : List Entry) (number : ℕ) : Type 0 where
+  pub before : List Entry
+  pub entry : Entry
+  pub after : List Entry
+  pub cut : entries ≡ before ++ entry ∷ after
+  pub ordered : NeverFall before
+  pub falls : ¬ NeverFall (before ++ entry ∷ [])
+  pub number_is : number ≡ length before + 1
+
+-- ---- laws
+
+-- no two books have the same bytes
+abbrev pub BookIsOne : Type 0
+BookIsOne = (entries others : List Entry) (bytes : List ℕ) → BookBytes entries bytes → BookBytes others bytes → entries ≡ others
+
+-- no book has two texts
+abbrev pub BytesAreOne : Type 0
+BytesAreOne = (entries : List Entry) (bytes others : List ℕ) → BookBytes entries bytes → BookBytes entries others → bytes ≡ others

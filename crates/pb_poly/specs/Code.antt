@@ -1,0 +1,62 @@
+-- Move codes of PolyGlot books: 15 bits, by three from the lowest: the file and the rank of the square that the move reaches,
+-- the file and the rank of the square that it leaves, and the promotion. Castling is coded as the king's move to its rook.
+use Rattle.std.specs.Prelude.{◌≡◌, ℕ, ◌+◌, ◌*◌, ◌&&◌, ◌==◌, Bool, true, false, Option, Some, None, if◌then◌else◌}
+use Rattle.pb_board.specs.declared.piece.Colour.{Colour}
+use Rattle.pb_board.specs.declared.piece.Colour.TheVariants.{White, Black}
+use Rattle.pb_board.specs.declared.piece.Kind.{Kind}
+use Rattle.pb_board.specs.declared.piece.Kind.TheVariants.{Pawn, Knight, Bishop, Rook, Queen, King}
+use Rattle.pb_board.specs.Position.{Position, IsSetup}
+use Rattle.pb_board.specs.Board.{Place, file, rank, at}
+use Rattle.pb_moves.specs.Moved.{Moved, IsMove}
+use Rattle.pb_moves.specs.Cases.{Legal}
+
+-- no promotion is 0, and a pawn becomes nothing else than these four
+abbrev pub promotion_number : Option Kind → ℕ
+promotion_number None = 0
+promotion_number (Some Knight) = 1
+promotion_number (Some Bishop) = 2
+promotion_number (Some Rook) = 3
+promotion_number (Some Queen) = 4
+promotion_number (Some Pawn) = 0
+promotion_number (Some King) = 0
+
+abbrev pub is_king : Kind → Bool
+is_king Pawn = false
+is_king Knight = false
+is_king Bishop = false
+is_king Rook = false
+is_king Queen = false
+is_king King = true
+
+abbrev pub is_same : Colour → Colour → Bool
+is_same White White = true
+is_same White Black = false
+is_same Black White = false
+is_same Black Black = true
+
+-- the king of this side stands there
+abbrev pub is_king_of : Colour → Place → Bool
+is_king_of side None = false
+is_king_of side (Some piece) = is_king piece.kind && is_same piece.colour side
+
+-- where a king castles from e1 or e8, its rook's square, and else the square that it reaches
+abbrev pub castling_to : Colour → ℕ → ℕ → ℕ
+castling_to White from to = if from == 4 && to == 6 then 7 else (if from == 4 && to == 2 then 0 else to)
+castling_to Black from to = if from == 60 && to == 62 then 63 else (if from == 60 && to == 58 then 56 else to)
+
+-- the square that the code names as the one that the move reaches
+abbrev pub coded_to : Position → Moved → ℕ
+coded_to s m = if is_king_of s.turn (at s.board m.from) then castling_to s.turn m.from m.to else m.to
+
+abbrev pub code : Position → Moved → ℕ
+code s m = file (coded_to s m) + 8 * rank (coded_to s m) + 64 * file m.from + 512 * rank m.from + 4096 * promotion_number m.promo
+
+-- a legal move with this code
+pub record HasCode (s : Position) (m : Moved) (number : ℕ) : Type 0 where
+  pub is_move : IsMove m
+  pub legal : Legal s m
+  pub code_is : code s m ≡ number
+
+-- a code is that of one legal move at most
+abbrev pub CodeIsOne : Type 0
+CodeIsOne = (s : Position) (m n : Moved) (number : ℕ) → IsSetup s → HasCode s m number → HasCode s n number → m ≡ n

@@ -1,0 +1,125 @@
+-- Keys of setups: the places of the table that a setup has, and the parity of the words there.
+use Rattle.std.specs.Prelude.{◌≡◌, ◌≢◌, ◌↔◌, ℕ, ◌+◌, ◌-◌, ◌*◌, ◌%◌, ◌^◌, ◌<◌, Bool, not, ◌&&◌, ◌||◌, ◌==◌, true, false, Option, Some, None, List, [], ◌∷◌, ◌++◌, if◌then◌else◌, IsTrue, AllPairs, Contains, fold, sum_by, slice_index, bit_xor}
+use Rattle.std.specs.Int.{bit_at}
+use Rattle.pb_board.specs.declared.piece.Colour.{Colour}
+use Rattle.pb_board.specs.declared.piece.Colour.TheVariants.{White, Black}
+use Rattle.pb_board.specs.declared.piece.Kind.{Kind}
+use Rattle.pb_board.specs.declared.piece.Kind.TheVariants.{Pawn, Knight, Bishop, Rook, Queen, King}
+use Rattle.pb_board.specs.declared.piece.Piece.{Piece}
+use Rattle.pb_board.specs.declared.setup.Rights.{Rights}
+use Rattle.pb_board.specs.Piece.{pawn_of}
+use Rattle.pb_board.specs.Position.{Position, IsSetup, beyond}
+use Rattle.pb_board.specs.Board.{Board, Place, file, rank, at, Holds}
+use Rattle.pb_moves.specs.Attack.{files_apart}
+use Rattle.pb_poly.specs.Code.{is_same}
+use Rattle.pb_poly.specs.Table.{IsTable}
+
+-- the kinds of pieces in the table's order: black pawn, white pawn, black knight, ..
+abbrev pub kind_number : Kind → ℕ
+kind_number Pawn = 0
+kind_number Knight = 2
+kind_number Bishop = 4
+kind_number Rook = 6
+kind_number Queen = 8
+kind_number King = 10
+
+abbrev pub number_of : Colour → Kind → ℕ
+number_of White kind = kind_number kind + 1
+number_of Black kind = kind_number kind
+
+abbrev pub piece_place : Piece → ℕ → ℕ
+piece_place piece square = 64 * number_of piece.colour piece.kind + square
+
+-- a pawn of the side to move stands directly beside the pawn that passed the square
+pub record HasTaker (s : Position) (passed : ℕ) : Type 0 where
+  pub taker : ℕ
+  pub stands : Holds s.board taker (pawn_of s.turn)
+  pub same_rank : rank taker ≡ rank (beyond s.turn passed)
+  pub next_file : files_apart taker (beyond s.turn passed) ≡ 1
+
+-- the setup has this place of the table
+pub data HasPlace (s : Position) (place : ℕ) : Type 0 where
+  of_piece : (square : ℕ) (p : Piece) → Holds s.board square p → place ≡ piece_place p square → HasPlace s place
+  white_short : IsTrue s.rights.white_short → place ≡ 768 → HasPlace s place
+  white_long : IsTrue s.rights.white_long → place ≡ 769 → HasPlace s place
+  black_short : IsTrue s.rights.black_short → place ≡ 770 → HasPlace s place
+  black_long : IsTrue s.rights.black_long → place ≡ 771 → HasPlace s place
+  en_passant : (passed : ℕ) → s.ep ≡ Some passed → HasTaker s passed → place ≡ 772 + file passed → HasPlace s place
+  white_to_move : s.turn ≡ White → place ≡ 780 → HasPlace s place
+
+-- the places that the setup has, each once, in any order
+pub record ArePlaces (s : Position) (places : List ℕ) : Type 0 where
+  pub once : AllPairs (λ a b. a ≢ b) places
+  pub each : (place : ℕ) → Contains places place ↔ HasPlace s place
+
+-- how many of the words at these places have this bit
+abbrev pub words_with : List ℕ → ℕ → List ℕ → ℕ
+words_with words bit places = sum_by (λ place. bit_at (slice_index words place) bit) places
+
+-- bit by bit: 1 exactly if an odd number of the words at the setup's places have it
+pub record IsKey (words : List ℕ) (s : Position) (key : ℕ) : Type 0 where
+  pub below : key < 2 ^ 64
+  pub places : List ℕ
+  pub are : ArePlaces s places
+  pub bits : (bit : ℕ) → bit < 64 → bit_at key bit ≡ words_with words bit places % 2
+
+-- ---- the key as a function of the table and the setup
+
+-- the places of what stands on the squares from this one on
+abbrev pub piece_places : Board → ℕ → List ℕ
+piece_places [] square = []
+piece_places (None ∷ board) square = piece_places board (square + 1)
+piece_places (Some p ∷ board) square = piece_place p square ∷ piece_places board (square + 1)
+
+abbrev pub place_if : Bool → ℕ → List ℕ
+place_if flag place = if flag then place ∷ [] else []
+
+abbrev pub rights_places : Rights → List ℕ
+rights_places r = place_if r.white_short 768 ++ (place_if r.white_long 769 ++ (place_if r.black_short 770 ++ place_if r.black_long 771))
+
+abbrev pub is_pawn : Kind → Bool
+is_pawn Pawn = true
+is_pawn Knight = false
+is_pawn Bishop = false
+is_pawn Rook = false
+is_pawn Queen = false
+is_pawn King = false
+
+-- a pawn of this side stands there
+abbrev pub is_pawn_of : Colour → Place → Bool
+is_pawn_of side None = false
+is_pawn_of side (Some piece) = is_pawn piece.kind && is_same piece.colour side
+
+-- a pawn of the side to move stands on the square one file lower or higher
+abbrev pub has_taker : Board → Colour → ℕ → Bool
+has_taker board turn pawn =
+    (not (file pawn == 0) && is_pawn_of turn (at board (pawn - 1))) || (not (file pawn == 7) && is_pawn_of turn (at board (pawn + 1)))
+
+abbrev pub passed_places : Position → Option ℕ → List ℕ
+passed_places s None = []
+passed_places s (Some passed) = place_if (has_taker s.board s.turn (beyond s.turn passed)) (772 + file passed)
+
+abbrev pub turn_places : Colour → List ℕ
+turn_places White = 780 ∷ []
+turn_places Black = []
+
+-- all places of a setup, each once
+abbrev pub places : Position → List ℕ
+places s = piece_places s.board 0 ++ (rights_places s.rights ++ (passed_places s s.ep ++ turn_places s.turn))
+
+-- a key and the words at these places, joined by exclusive or
+abbrev pub joined : List ℕ → ℕ → List ℕ → ℕ
+joined words key places = fold (λ k place. bit_xor k (slice_index words place)) key places
+
+unfoldable pub key : List ℕ → Position → ℕ
+key words s = joined words 0 (places s)
+
+-- ---- laws
+
+-- the function gives the key of a setup
+abbrev pub KeyIsParity : Type 0
+KeyIsParity = (words : List ℕ) (s : Position) → IsTable words → IsSetup s → IsKey words s (key words s)
+
+-- a setup has one key
+abbrev pub KeyIsOne : Type 0
+KeyIsOne = (words : List ℕ) (s : Position) (k l : ℕ) → IsKey words s k → IsKey words s l → k ≡ l

@@ -1,0 +1,57 @@
+-- Table files: 781 lines of 16 hexadecimal digits, one for each word of the table.
+use Rattle.std.specs.Prelude.{◌≡◌, ◌≢◌, ℕ, ◌+◌, ◌*◌, ◌^◌, ◌<◌, ◌≤◌, ◌⊎◌, List, [], ◌∷◌, ◌++◌, length, fold, All}
+use Rattle.std.specs.List.{AllZip}
+use Rattle.pb_poly.specs.Lines.{lines}
+use Rattle.pb_poly.specs.declared.table.TableError.{TableError}
+use Rattle.pb_poly.specs.declared.table.TableError.TheVariants.{Line, Count, Memory}
+
+-- 781 words of 64 bits
+pub record IsTable (words : List ℕ) : Type 0 where
+  pub all : length words ≡ 781
+  pub fit : All (λ word. word < 2 ^ 64) words
+
+-- a byte is a hexadecimal digit of this value, of either case
+abbrev pub IsDigit : ℕ → ℕ → Type 0
+IsDigit byte value =
+    ((value < 10) × (byte ≡ 48 + value)) ⊎ ((10 ≤ value) × (value < 16) × ((byte ≡ 87 + value) ⊎ (byte ≡ 55 + value)))
+
+-- the number of these digits' values, the first one counting most
+abbrev pub number_of_digits : List ℕ → ℕ
+number_of_digits values = fold (λ n v. 16 * n + v) 0 values
+
+-- these are 16 digits that write the word
+pub record WritesWord (digits : List ℕ) (word : ℕ) : Type 0 where
+  pub values : List ℕ
+  pub sixteen : length values ≡ 16
+  pub are : AllZip IsDigit digits values
+  pub word_is : word ≡ number_of_digits values
+
+-- the line, or the line without one final CR, writes the word
+pub record SpellsWord (line : List ℕ) (word : ℕ) : Type 0 where
+  pub digits : List ℕ
+  pub line_is : (line ≡ digits) ⊎ (line ≡ digits ++ 13 ∷ [])
+  pub writes : WritesWord digits word
+
+abbrev pub IsSpelled : List ℕ → Type 0
+IsSpelled line = (word : ℕ) × SpellsWord line word
+
+-- the bytes are the table file of these words
+pub record TableText (words : List ℕ) (bytes : List ℕ) : Type 0 where
+  pub all : length words ≡ 781
+  pub each : AllZip SpellsWord (lines bytes) words
+
+-- the line of this number, from 1, spells no word, and each line before it does
+pub record IsFirstUnspelled (number : ℕ) (bytes : List ℕ) : Type 0 where
+  pub before : List (List ℕ)
+  pub line : List ℕ
+  pub after : List (List ℕ)
+  pub cut : lines bytes ≡ before ++ line ∷ after
+  pub number_is : number ≡ length before + 1
+  pub spelled : All IsSpelled before
+  pub unspelled : ¬ IsSpelled line
+
+-- when each refusal is due
+abbrev pub IsDueTable : TableError → List ℕ → Type 0
+IsDueTable (Line number) bytes = IsFirstUnspelled number bytes
+IsDueTable (Count number) bytes = (number ≡ length (lines bytes)) × (number ≢ 781) × All IsSpelled (lines bytes)
+IsDueTable Memory bytes = (words : List ℕ) × TableText words bytes

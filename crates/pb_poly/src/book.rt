@@ -1,0 +1,97 @@
+//! Books: entries in the order of their keys.
+
+ghost use Rattle.std.specs.Prelude.{◌≡◌, All, MatchOption};
+ghost use Rattle.pb_poly.specs.Book.{IsFirstFall, NeverFall, book_bytes};
+ghost use Rattle.pb_poly.specs.Entry.{IsEntry};
+ghost use Rattle.pb_poly.specs.Writes.{Writes};
+
+use crate::entry::{Entry, write_entry};
+use crate::sink::Sink;
+use crate::source::Failed;
+use std::marker::Model;
+
+/// A PolyGlot book: entries whose keys never fall. Entries of one setup stand together, the best move first.
+#[derive(Drop)]
+pub struct Book {
+    entries: Vec<Entry>,
+}
+
+impl Model for Book {
+    ghost use Rattle.std.specs.Prelude.{List, All};
+    ghost use Rattle.pb_poly.specs.declared.entry.Entry.{Entry};
+    ghost use Rattle.pb_poly.specs.Book.{NeverFall};
+    ghost use Rattle.pb_poly.specs.Entry.{IsEntry};
+
+    ghost Value = { List Entry };
+
+    ghost view = { λ b. b.entries.items };
+
+    ghost invariant = { λ b. NeverFall b.entries.items × All IsEntry b.entries.items };
+}
+
+impl Book {
+    ghost use Rattle.std.specs.Prelude.{MatchResult};
+
+    /// The book of these entries.
+    ///
+    /// # Errors
+    ///
+    /// The number, from 1, of the first entry whose key is below the key before it, with the entries.
+    pub fn of(entries: Vec<Entry>) -> Result<Book, (usize, Vec<Entry>)>
+        ensures { MatchResult result
+            (λ b. (b ≡ entries.items) × NeverFall b × All IsEntry b)
+            (λ p. (p.1.items ≡ entries.items) × IsFirstFall entries.items p.0) }
+    {
+        match first_fall(entries.as_slice()) {
+            Some(number) => Err((number, entries)),
+            None => Ok(Book { entries }),
+        }
+    }
+
+    /// The book of entries that are known to meet the rules. Nothing is tested.
+    pub(crate) fn of_ordered(entries: Vec<Entry>) -> Book
+        requires ordered { NeverFall entries.items }
+        requires bounds { All IsEntry entries.items }
+        ensures { result ≡ entries.items }
+    {
+        Book { entries }
+    }
+
+    /// The entries in order.
+    pub fn entries(&self) -> &[Entry]
+        ensures value { result.now ≡ self.now }
+        ensures ordered { NeverFall self.now }
+        ensures bounds { All IsEntry self.now }
+    {
+        self.entries.as_slice()
+    }
+}
+
+// The number, from 1, of the first entry whose key is below the key before it.
+fn first_fall(entries: &[Entry]) -> Option<usize>
+    ensures { MatchOption result (NeverFall entries.now × All IsEntry entries.now) (IsFirstFall entries.now) }
+{
+    let mut last = 0;
+    for (before, entry) in entries.iter().enumerate() {
+        let key = entry.key();
+        if key < last {
+            return Some(before + 1);
+        }
+        last = key;
+    }
+    None
+}
+
+/// Puts the bytes of the entries in order, and flushes.
+///
+/// # Errors
+///
+/// The sink has failed.
+pub fn write_book<K: Sink>(sink: &mut K, book: &Book) -> Result<(), Failed>
+    ensures { Writes (K.state sink.old) (K.state sink.new) result (book_bytes book.now) }
+{
+    for entry in book.entries() {
+        write_entry(sink, entry)?;
+    }
+    sink.flush()
+}

@@ -1,0 +1,135 @@
+//! Move codes of PolyGlot books.
+
+ghost use Rattle.std.specs.Prelude.{◌≡◌, ◌<◌, ◌≤◌, MatchOption, Some};
+ghost use Rattle.pb_board.specs.Board.{at};
+ghost use Rattle.pb_moves.specs.Moved.{Moved};
+ghost use Rattle.pb_poly.specs.Decoding.{castling_from as castling_from_by, promotion_of as promotion_by, reached as reached_by};
+ghost use Rattle.pb_poly.specs.Code.{HasCode, castling_to as castling_to_by, code as code_by, coded_to as coded_to_by, is_king_of, promotion_number as promotion_number_by};
+
+use pb_board::{Colour, Kind, Setup, Square};
+use pb_moves::{Move, is_legal};
+
+// The number of a promotion.
+fn promotion_number(promo: Option<Kind>) -> u16
+    ensures value { result ≡ promotion_number_by promo }
+    ensures few { result ≤ 4 }
+{
+    match promo {
+        Some(Kind::Knight) => 1,
+        Some(Kind::Bishop) => 2,
+        Some(Kind::Rook) => 3,
+        Some(Kind::Queen) => 4,
+        _ => 0,
+    }
+}
+
+// Whether the king of the side to move stands there.
+fn has_own_king(setup: &Setup, square: Square) -> bool
+    ensures { result ≡ is_king_of setup.now.turn (at setup.now.board square) }
+{
+    match setup.at(square) {
+        Some(piece) => piece.kind == Kind::King && piece.colour == setup.turn(),
+        None => false,
+    }
+}
+
+// The square of the rook with which the king castles from e1 or e8, and else the square that it reaches, by index.
+fn castling_to(side: Colour, from: u8, to: u8) -> u8
+    requires { to < 64 }
+    ensures value { result ≡ castling_to_by side from to }
+    ensures on_board { result < 64 }
+{
+    match (side, from, to) {
+        (Colour::White, 4, 6) => 7,
+        (Colour::White, 4, 2) => 0,
+        (Colour::Black, 60, 62) => 63,
+        (Colour::Black, 60, 58) => 56,
+        _ => to,
+    }
+}
+
+// The square that the code names as the one that the move reaches, by index.
+fn coded_to(setup: &Setup, m: Move) -> u8
+    ensures value { result ≡ coded_to_by setup.now m }
+    ensures on_board { result < 64 }
+{
+    let to = m.to().index();
+    if has_own_king(setup, m.from()) {
+        castling_to(setup.turn(), m.from().index(), to)
+    } else {
+        to
+    }
+}
+
+/// The code of a move in a PolyGlot book, below 2^15: the square that it reaches, 64 times the square that it leaves, and
+/// 4,096 times the promotion (none, knight, bishop, rook, queen from 0). Castling counts as the king's move to its
+/// rook, as e1h1.
+pub fn code_of(setup: &Setup, m: Move) -> u16
+    ensures { result ≡ code_by setup.now m }
+{
+    let to = u16::from(coded_to(setup, m));
+    let from = u16::from(m.from().index());
+    to + 64 * from + 4096 * promotion_number(m.promo())
+}
+
+// The promotion of this number.
+fn promotion_of(number: u16) -> Option<Kind>
+    ensures { result ≡ promotion_by number }
+{
+    match number {
+        1 => Some(Kind::Knight),
+        2 => Some(Kind::Bishop),
+        3 => Some(Kind::Rook),
+        4 => Some(Kind::Queen),
+        _ => None,
+    }
+}
+
+// The square that a king reaches from e1 or e8 where the code names its rook's, and else the one that it names, by index.
+fn castling_from(side: Colour, from: u8, named: u8) -> u8
+    ensures { result ≡ castling_from_by side from named }
+{
+    match (side, from, named) {
+        (Colour::White, 4, 7) => 6,
+        (Colour::White, 4, 0) => 2,
+        (Colour::Black, 60, 63) => 62,
+        (Colour::Black, 60, 56) => 58,
+        _ => named,
+    }
+}
+
+// The square that a move from this square reaches where its code names that one, by index.
+fn reached(setup: &Setup, from: Square, named: u8) -> u8
+    ensures { result ≡ reached_by setup.now from named }
+{
+    if has_own_king(setup, from) {
+        castling_from(setup.turn(), from.index(), named)
+    } else {
+        named
+    }
+}
+
+// The move that a code may mean: no other legal move has it.
+fn decoded(setup: &Setup, code: u16) -> Option<Move>
+    ensures { (m : Moved) → HasCode setup.now m code → result ≡ Some m }
+{
+    let from = Square::from_index((code / 64 % 64) as u8)?;
+    let to = Square::from_index(reached(setup, from, (code % 64) as u8))?;
+    Move::new(from, to, promotion_of(code / 4096))
+}
+
+/// The one legal move with this code. None exactly where no legal move has it, and so where bit 15 isn't 0.
+///
+/// The code is taken apart into the only move that it may mean, and that one is tested.
+pub fn move_of(setup: &Setup, code: u16) -> Option<Move>
+    ensures { MatchOption result
+        ((m : Moved) → ¬ HasCode setup.now m code)
+        (λ m. HasCode setup.now m code × ((n : Moved) → HasCode setup.now n code → n ≡ m)) }
+{
+    let m = decoded(setup, code)?;
+    if code_of(setup, m) == code && is_legal(setup, m) {
+        Some(m)
+    } else {
+        None
+    }
+}

@@ -1,0 +1,80 @@
+//! Entries of books, and their bytes.
+
+ghost use Rattle.std.specs.Prelude.{◌≡◌, length};
+ghost use Rattle.pb_poly.specs.Entry.{IsEntry, entry_bytes};
+ghost use Rattle.pb_poly.specs.Sink.{Put};
+
+use crate::sink::Sink;
+use crate::source::Failed;
+
+/// How many bytes an entry has.
+pub(crate) const ENTRY_LEN: usize = 16;
+
+/// An entry of a PolyGlot book: a move in a setup, with its weight.
+#[derive(Clone, Copy, Debug, PartialEq, Eq)]
+pub struct Entry {
+    /// The key of the setup before the move.
+    pub key: u64,
+    /// The code of the move.
+    pub code: u16,
+    /// How much the move is worth beside the others of its setup.
+    pub weight: u16,
+    /// What a program has learnt of the move. Books that are made have 0 here.
+    pub learn: u32,
+}
+
+impl Entry {
+    /// The key, with the ranges of all parts.
+    pub(crate) fn key(&self) -> u64
+        ensures value { result ≡ self.now.key }
+        ensures rules { IsEntry self.now }
+    {
+        let Entry {
+            key,
+            code: _code,
+            weight: _weight,
+            learn: _learn,
+        } = *self;
+        key
+    }
+
+    /// The sixteen bytes of the entry.
+    pub(crate) fn to_bytes(self) -> [u8; 16]
+        ensures { result ≡ entry_bytes self }
+    {
+        let [k0, k1, k2, k3, k4, k5, k6, k7] = self.key.to_be_bytes();
+        let [c0, c1] = self.code.to_be_bytes();
+        let [w0, w1] = self.weight.to_be_bytes();
+        let [l0, l1, l2, l3] = self.learn.to_be_bytes();
+        [
+            k0, k1, k2, k3, k4, k5, k6, k7, c0, c1, w0, w1, l0, l1, l2, l3,
+        ]
+    }
+
+    /// The entry with these sixteen bytes.
+    pub(crate) fn from_bytes(bytes: &[u8]) -> Entry
+        requires { length bytes.now ≡ 16 }
+        ensures bytes { entry_bytes result ≡ bytes.now }
+        ensures rules { IsEntry result }
+    {
+        Entry {
+            key: u64::from_be_bytes([
+                bytes[0], bytes[1], bytes[2], bytes[3], bytes[4], bytes[5], bytes[6], bytes[7],
+            ]),
+            code: u16::from_be_bytes([bytes[8], bytes[9]]),
+            weight: u16::from_be_bytes([bytes[10], bytes[11]]),
+            learn: u32::from_be_bytes([bytes[12], bytes[13], bytes[14], bytes[15]]),
+        }
+    }
+}
+
+/// Puts the entry's 16 bytes: 8 of the key, 2 of the code, 2 of the weight and 4 of the learn value, each big-endian.
+///
+/// # Errors
+///
+/// The sink has failed.
+pub fn write_entry<K: Sink>(sink: &mut K, entry: &Entry) -> Result<(), Failed>
+    ensures { Put (K.state sink.old) (K.state sink.new) result (entry_bytes entry.now) }
+{
+    sink.put(&entry.to_bytes())
+}

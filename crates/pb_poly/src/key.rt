@@ -1,0 +1,141 @@
+//! Keys of setups.
+
+ghost use Rattle.std.specs.Prelude.{◌≡◌, ◌<◌, ◌+◌};
+ghost use Rattle.pb_board.specs.Board.{at, file};
+ghost use Rattle.pb_board.specs.Position.{OnPassedRank, beyond as beyond_by};
+ghost use Rattle.pb_poly.specs.Key.{IsKey, has_taker as has_taker_by, is_pawn_of, joined, key as key_by, kind_number as kind_number_by, passed_places, piece_place as piece_place_by, piece_places, place_if, rights_places, turn_places};
+
+use crate::table::Table;
+use pb_board::{Colour, Kind, Piece, Rights, Setup, Square};
+
+// The number of a kind of pieces in the table's order.
+fn kind_number(kind: Kind) -> usize
+    ensures value { result ≡ kind_number_by kind }
+    ensures few { result < 11 }
+{
+    match kind {
+        Kind::Pawn => 0,
+        Kind::Knight => 2,
+        Kind::Bishop => 4,
+        Kind::Rook => 6,
+        Kind::Queen => 8,
+        Kind::King => 10,
+    }
+}
+
+// The place of a piece on the square of this index.
+fn piece_place(piece: Piece, square: usize) -> usize
+    requires { square < 64 }
+    ensures value { result ≡ piece_place_by piece square }
+    ensures few { result < 768 }
+{
+    let number = match piece.colour {
+        Colour::White => kind_number(piece.kind) + 1,
+        Colour::Black => kind_number(piece.kind),
+    };
+    64 * number + square
+}
+
+// The words of the pieces, joined.
+fn pieces_key(table: &Table, board: &[Option<Piece>; 64]) -> u64
+    ensures { result ≡ joined table.now 0 (piece_places board.now 0) }
+{
+    let mut key = 0;
+    for (square, place) in board.iter().enumerate() {
+        if let Some(piece) = place {
+            key ^= table.word(piece_place(*piece, square));
+        }
+    }
+    key
+}
+
+// The key, joined by the word at the place where the flag is set.
+fn with_flag(table: &Table, key: u64, flag: bool, place: usize) -> u64
+    requires { place < 781 }
+    ensures { result ≡ joined table.now key (place_if flag place) }
+{
+    if flag { key ^ table.word(place) } else { key }
+}
+
+// The key, joined by the words of the castling rights.
+fn with_rights(table: &Table, key: u64, rights: Rights) -> u64
+    ensures { result ≡ joined table.now key (rights_places rights) }
+{
+    let short = with_flag(table, key, rights.white_short, 768);
+    let white = with_flag(table, short, rights.white_long, 769);
+    let long = with_flag(table, white, rights.black_short, 770);
+    with_flag(table, long, rights.black_long, 771)
+}
+
+// Whether a pawn of the side to move stands on the square of this index.
+fn has_own_pawn(setup: &Setup, square: u8) -> bool
+    requires { square < 64 }
+    ensures { result ≡ is_pawn_of setup.now.turn (at setup.now.board square) }
+{
+    match setup.board()[square as usize] {
+        Some(piece) => piece.kind == Kind::Pawn && piece.colour == setup.turn(),
+        None => false,
+    }
+}
+
+// The square directly beyond an en passant square, by index.
+fn beyond(turn: Colour, passed: Square) -> u8
+    requires { OnPassedRank turn passed }
+    ensures value { result ≡ beyond_by turn passed }
+    ensures on_board { result < 64 }
+{
+    match turn {
+        Colour::White => passed.index() - 8,
+        Colour::Black => passed.index() + 8,
+    }
+}
+
+// Whether a pawn of the side to move stands directly beside the square of this index.
+fn has_taker(setup: &Setup, pawn: u8) -> bool
+    requires { pawn < 64 }
+    ensures { result ≡ has_taker_by setup.now.board setup.now.turn pawn }
+{
+    (pawn % 8 != 0 && has_own_pawn(setup, pawn - 1))
+        || (pawn % 8 != 7 && has_own_pawn(setup, pawn + 1))
+}
+
+// The key, joined by the word of the en passant square where a pawn stands beside the pawn that has passed it.
+fn with_passed(table: &Table, key: u64, setup: &Setup) -> u64
+    ensures { result ≡ joined table.now key (passed_places setup.now setup.now.ep) }
+{
+    let turn = setup.turn();
+    match setup.ep() {
+        Some(passed) => {
+            let flag = has_taker(setup, beyond(turn, passed));
+            with_flag(table, key, flag, 772 + passed.file() as usize)
+        }
+        None => key,
+    }
+}
+
+// The key, joined by the word for White to move.
+fn with_turn(table: &Table, key: u64, turn: Colour) -> u64
+    ensures { result ≡ joined table.now key (turn_places turn) }
+{
+    match turn {
+        Colour::White => key ^ table.word(780),
+        Colour::Black => key,
+    }
+}
+
+/// The key of a setup in PolyGlot books: the exclusive or of the table's words for each piece on its square, for each
+/// castling right, for the file of the en passant square, and for White to move.
+///
+/// The word of the en passant square counts exactly where a pawn of the side to move stands beside the pawn that has
+/// passed it, whether or not that pawn may take it.
+pub fn key_of(table: &Table, setup: &Setup) -> u64
+    ensures parity { IsKey table.now setup.now result }
+    ensures value { result ≡ key_by table.now setup.now }
+{
+    // The reader tells that the table meets its rules.
+    let _words = table.words();
+    let pieces = pieces_key(table, setup.board());
+    let rights = with_rights(table, pieces, setup.rights());
+    let passed = with_passed(table, rights, setup);
+    with_turn(table, passed, setup.turn())
+}

@@ -1,0 +1,225 @@
+//! Books from sources.
+
+ghost use Rattle.std.specs.Prelude.{◌-◌, min, ◌≡◌, ◌<◌, ◌≤◌, ℕ, List, [], ◌∷◌, ◌++◌, IfOk, IfErr, MatchResult, OnOk, length, take};
+ghost use Rattle.pb_poly.specs.Book.{BookBytes, NeverFall};
+ghost use Rattle.pb_poly.specs.Entry.{IsEntry, entry_bytes};
+ghost use Rattle.pb_poly.specs.Feeding.{FailsWithin, Refuses};
+ghost use Rattle.pb_poly.specs.Reading.{FindsNoBook, ReadsBook, Splits, Tells, book_chunk_len};
+ghost use Rattle.pb_poly.specs.declared.reading.BookError.TheVariants.{Cut, Memory};
+ghost use Rattle.pb_poly.specs.declared.entry.Entry.{Entry};
+
+use crate::book::Book;
+use crate::entry::{ENTRY_LEN, Entry};
+use crate::source::Source;
+use std::alloc::Global;
+use std::marker::Model;
+use thiserror::Error;
+
+/// Why a stream gave no book.
+#[derive(Clone, Copy, Debug, PartialEq, Eq, Error)]
+pub enum BookError {
+    /// The entry of this number, from 1, has a key below the key before it.
+    #[error("the key of entry {0} is below the key before it")]
+    Unsorted(usize),
+    /// The stream ends with so many bytes, from 1 to 15, after the last whole entry.
+    #[error("{0} bytes after the last whole entry")]
+    Cut(usize),
+    /// The source has failed.
+    #[error("the input has failed")]
+    Read,
+    /// The fills were used up, and none was the end or a fault.
+    #[error("the input has no end")]
+    Endless,
+    /// No memory.
+    #[error("no memory")]
+    Memory,
+}
+
+/// How much room a source is given at a time, in bytes.
+const CHUNK_LEN: usize = 65536;
+
+/// What has come of a book: its entries, and the front of the next.
+#[derive(Drop)]
+struct Reading {
+    entries: Vec<Entry>,
+    last_key: u64,
+    part: [u8; ENTRY_LEN],
+    len: usize,
+}
+
+impl Model for Reading {
+    ghost use Rattle.std.specs.Prelude.{◌≤◌, ℕ, List, take};
+    ghost use Rattle.pb_poly.specs.declared.entry.Entry.{Entry};
+    ghost use Rattle.pb_poly.specs.Ordered.{IsOrdered};
+
+    ghost Value = { List Entry × List ℕ };
+
+    ghost view = { λ r. (r.entries.items, take r.len r.part) };
+
+    ghost invariant = { λ r. (r.len ≤ 16) × IsOrdered r.entries.items r.last_key };
+}
+
+impl Reading {
+    /// Nothing has come yet.
+    fn new(alloc: Global) -> Reading
+        ensures { result ≡ ([], []) }
+    {
+        Reading {
+            entries: Vec::new(alloc),
+            last_key: 0,
+            part: [0; ENTRY_LEN],
+            len: 0,
+        }
+    }
+
+    /// Adds an entry.
+    fn add(&mut self, entry: Entry) -> Result<(), BookError>
+        requires { IsEntry entry }
+        ensures ok { OnOk result ((self.new.0 ≡ self.old.0 ++ entry ∷ []) × (self.new.1 ≡ self.old.1) × NeverFall self.new.0) }
+        ensures err { IfErr result (Refuses self.old.0 entry) }
+    {
+        if entry.key < self.last_key {
+            return Err(BookError::Unsorted(self.entries.len() + 1));
+        }
+        match self.entries.push(entry) {
+            Ok(()) => {
+                self.last_key = entry.key;
+                Ok(())
+            }
+            Err(_) => Err(BookError::Memory),
+        }
+    }
+
+    /// How many bytes of the next entry are there.
+    fn part_len(&self) -> usize
+        ensures { result ≡ length self.now.1 }
+    {
+        self.part[..self.len].len()
+    }
+
+    /// The entry that the whole part spells.
+    fn part_entry(&self) -> Entry
+        requires { length self.now.1 ≡ 16 }
+        ensures bytes { entry_bytes result ≡ self.now.1 }
+        ensures rules { IsEntry result }
+    {
+        Entry::from_bytes(&self.part[..self.len])
+    }
+
+    /// Forgets the part.
+    fn clear_part(&mut self)
+        ensures { self.new ≡ (self.old.0, []) }
+    {
+        self.len = 0;
+    }
+
+    /// Takes as many bytes as the part has room for, and answers how many.
+    fn hold(&mut self, bytes: &[u8]) -> usize
+        ensures count { result ≡ min (16 - length self.old.1) (length bytes.now) }
+        ensures held { self.new ≡ (self.old.0, self.old.1 ++ take result bytes.now) }
+        ensures room { length self.new.1 ≤ 16 }
+    {
+        let count = (ENTRY_LEN - self.len).min(bytes.len());
+        let end = self.len + count;
+        self.part[self.len..end].copy_from_slice(&bytes[..count]);
+        self.len = end;
+        count
+    }
+
+    /// Takes some of the bytes, at most those of one entry, and answers how many.
+    fn take_part(&mut self, bytes: &[u8]) -> Result<usize, BookError>
+        requires some { 0 < length bytes.now }
+        requires partial { length self.old.1 < 16 }
+        ensures count { IfOk result (λ count. (0 < count) × (count ≤ length bytes.now)) }
+        ensures partial { OnOk result (length self.new.1 < 16) }
+        ensures ok { (came : List ℕ) → Splits came self.old.0 self.old.1 → IfOk result (λ count. Splits (came ++ take count bytes.now) self.new.0 self.new.1) }
+        ensures err { (came : List ℕ) → Splits came self.old.0 self.old.1 → IfErr result (FailsWithin came bytes.now) }
+    {
+        // An entry that stands whole in the bytes isn't copied.
+        if self.part_len() == 0 && bytes.len() >= ENTRY_LEN {
+            self.add(Entry::from_bytes(&bytes[..ENTRY_LEN]))?;
+            return Ok(ENTRY_LEN);
+        }
+        let count = self.hold(bytes);
+        if self.part_len() == ENTRY_LEN {
+            let entry = self.part_entry();
+            self.clear_part();
+            self.add(entry)?;
+        }
+        Ok(count)
+    }
+
+    /// Takes the bytes.
+    fn feed(&mut self, chunk: &[u8]) -> Result<(), BookError>
+        requires { length self.old.1 < 16 }
+        ensures partial { OnOk result (length self.new.1 < 16) }
+        ensures ok { (came : List ℕ) → Splits came self.old.0 self.old.1 → OnOk result (Splits (came ++ chunk.now) self.new.0 self.new.1) }
+        ensures err { (came : List ℕ) → Splits came self.old.0 self.old.1 → IfErr result (FailsWithin came chunk.now) }
+    {
+        let mut rest = chunk;
+        while !rest.is_empty() {
+            let count = self.take_part(rest)?;
+            rest = &rest[count..];
+        }
+        Ok(())
+    }
+
+    /// The book of the entries, at the end of input.
+    fn finish(self) -> Result<Book, BookError>
+        ensures ok { IfOk result (λ book. (book ≡ self.0) × (self.1 ≡ [])) }
+        ensures err { IfErr result (λ e. (e ≡ Cut (length self.1)) × (0 < length self.1)) }
+    {
+        let extra = self.part_len();
+        if extra > 0 {
+            return Err(BookError::Cut(extra));
+        }
+        let Reading { entries, .. } = self;
+        Ok(Book::of_ordered(entries))
+    }
+
+    /// Reads the source to its end, into the chunk.
+    fn drain<S: Source>(
+        mut self,
+        chunk: &mut [u8],
+        source: &mut S,
+        fills: u32,
+    ) -> Result<Book, BookError>
+        requires empty { self ≡ ([], []) }
+        requires room { 0 < length chunk.old }
+        requires fits { length chunk.old ≤ book_chunk_len }
+        ensures found { IfOk result (ReadsBook fills (S.state source.old) (S.state source.new)) }
+        ensures err { IfErr result (FindsNoBook fills (S.state source.old) (S.state source.new)) }
+    {
+        for _made in 0..fills {
+            let Ok(count) = source.fill(chunk) else {
+                return Err(BookError::Read);
+            };
+            if count == 0 {
+                return self.finish();
+            }
+            self.feed(&chunk[..count])?;
+        }
+        Err(BookError::Endless)
+    }
+}
+
+/// Reads a book to the end of input, in at most so many fills, in whatever pieces it comes.
+///
+/// Where the source tells bytes, doesn't fail and ends within the fills, the book is that of those bytes, want of memory
+/// aside.
+///
+/// # Errors
+///
+/// What the stream meets first: an entry is judged once its 16 bytes are there, and `Cut` at the end of input. `Memory` may
+/// come at any whole entry, and before the first fill.
+pub fn read_book<S: Source>(alloc: Global, source: &mut S, fills: u32) -> Result<Book, BookError>
+    ensures found { IfOk result (ReadsBook fills (S.state source.old) (S.state source.new)) }
+    ensures only { (entries : List Entry) (bytes : List ℕ) → Tells fills (S.state source.old) (S.state source.new) bytes → BookBytes entries bytes → NeverFall entries
+        → MatchResult result (λ book. book ≡ entries) (λ e. e ≡ Memory) }
+    ensures err { IfErr result (FindsNoBook fills (S.state source.old) (S.state source.new)) }
+{
+    let Ok(mut chunk) = vec![in alloc; 0; CHUNK_LEN] else {
+        return Err(BookError::Memory);
+    };
+    Reading::new(alloc).drain(chunk.as_mut_slice(), source, fills)
+}
