@@ -1,4 +1,5 @@
-//! Where bytes come from and where they go, and the lines of a stream.
+//! The PolyGlot book format, as the keys of positions, the codes of moves and the entries of books, and below it the ends
+//! of streams: where bytes come from and where they go, and the lines of a stream.
 #![tactic(auto)]
 
 mod book;

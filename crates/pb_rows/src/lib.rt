@@ -10,6 +10,8 @@ mod epd;
 #[cfg(test)]
 mod fen;
 #[cfg(test)]
+mod keys;
+#[cfg(test)]
 mod moves;
 #[cfg(test)]
 mod rewriting;
