@@ -12,7 +12,7 @@ use Rattle.pb_epd.specs.declared.operand.Operand.{Operand}
 use Rattle.pb_epd.specs.Token.{Token, word, text, end_mark, IsOperandToken, TokensAfter}
 use Rattle.pb_epd.specs.Operation.{Operation, IsOperation, operand_token, operation_tokens}
 use Rattle.pb_epd.specs.Refusal.{is_end, IsNamed, BeginsWithOpcode, IsRepeat}
-use Rattle.pb_epd.specs.Reading.{AreOperands, BeginsUnnamed, BeginsWithOperation, AreOperations, AreNamed, IsUnnamedAt, IsRepeatedAt}
+use Rattle.pb_epd.specs.Reading.{HasTokens, AreOperands, BeginsUnnamed, BeginsWithOperation, AreOperations, AreNamed, IsUnnamedAt, IsRepeatedAt}
 use Rattle.pb_epd.proofs.Lists.{all_middle, pairs_none, contains_map, contains_unmap, split_map, pairs_split}
 use Rattle.pb_epd.proofs.Reader.{operands_are}
 
@@ -170,11 +170,13 @@ pub record OperationsSoFar (ts : List Token) (held : List Operation) (before : T
 
 pub record InOperations (start : Token) (bytes : List ℕ) (held : List Operation) (before : Token) (rest : List ℕ) (count : ℕ) (repeated : Option ℕ) : Type 0 where
   pub room : count + length rest ≤ length bytes
+  pub back : HasTokens before rest → HasTokens start bytes
   pub tokens : (ts : List Token) → TokensAfter start ts bytes → OperationsSoFar ts held before rest count repeated
 
 pub operations_start : (start : Token) (bytes : List ℕ) → InOperations start bytes [] start bytes 0 None
 operations_start start bytes = record {
   room = omega arith;
+  back = λ h. h;
   tokens = λ ts h. record {
     operations = [];
     others = ts;
@@ -187,9 +189,10 @@ operations_start start bytes = record {
 }
 
 -- one more operation was read
-pub operations_more : (start : Token) (bytes : List ℕ) (held new : List Operation) (before : Token) (rest : List ℕ) (count : ℕ) (repeated again : Option ℕ) (x : Operation) (after : List ℕ) → InOperations start bytes held before rest count repeated → ((us : List Token) → TokensAfter before us rest → BeginsWithOperation us x after) → (length after < length rest) × IsOperation x → ((operations : List Operation) → count ≡ length operations → Standing repeated operations held → Standing again (operations ++ x ∷ []) new) → InOperations start bytes new end_mark after (count + 1) again
+pub operations_more : (start : Token) (bytes : List ℕ) (held new : List Operation) (before : Token) (rest : List ℕ) (count : ℕ) (repeated again : Option ℕ) (x : Operation) (after : List ℕ) → InOperations start bytes held before rest count repeated → ((us : List Token) → TokensAfter before us rest → BeginsWithOperation us x after) → (length after < length rest) × IsOperation x × (HasTokens end_mark after → HasTokens before rest) → ((operations : List Operation) → count ≡ length operations → Standing repeated operations held → Standing again (operations ++ x ∷ []) new) → InOperations start bytes new end_mark after (count + 1) again
 operations_more start bytes held new before rest count repeated again x after h taken sound stands = record {
   room = omega (arith, h.room, sound.0);
+  back = λ left. h.back (sound.2 left);
   tokens = λ ts tokens.
       let p = h.tokens ts tokens in
       let t = taken p.others p.after in

@@ -1,5 +1,5 @@
 -- What was read of the tokens of a line: words, operands and operations.
-use Rattle.std.proofs.Common.{◌≡◌, ◌≢◌, ℕ, ◌<◌, ◌≤◌, List, [], ◌∷◌, ◌++◌, length, refl, sym, ap, subst, ◌∙◌, arith}
+use Rattle.std.proofs.Common.{◌≡◌, ◌≢◌, ℕ, ◌≤◌, List, [], ◌∷◌, ◌++◌, length, refl, sym, ap, subst, ◌∙◌, arith}
 use Rattle.std.specs.Prelude.{All, map}
 use Rattle.std.specs.Borrow.{Bor}
 use Rattle.std.proofs.lemmas.List.{append_assoc, append-nil, map_push}
@@ -13,8 +13,8 @@ use Rattle.pb_epd.specs.Token.{Token, word, text, end_mark, IsToken, IsOperandTo
 use Rattle.pb_epd.specs.Lexeme.{Steps, IsStep}
 use Rattle.pb_epd.specs.Operation.{IsOperand, operand_token}
 use Rattle.pb_epd.specs.Refusal.{IsNamed}
-use Rattle.pb_epd.specs.Reading.{Follow, AreOperands, EndsWithOperands, BeginsUnnamed, BeginsWithOperation}
-use Rattle.pb_epd.proofs.TokenLists.{found_first, stuck_none, done_only}
+use Rattle.pb_epd.specs.Reading.{HasTokens, EndsSoundly, Follow, AreOperands, EndsWithOperands, BeginsUnnamed, BeginsWithOperation}
+use Rattle.pb_epd.proofs.TokenLists.{found_first, steps_tokens, stuck_none, done_only}
 use Rattle.pb_epd.proofs.Bad.{steps_shorter}
 
 -- where the tokenizer finds no token, there is none
@@ -22,6 +22,9 @@ pub no_step : (s : Step) (before : Token) (bytes : List ℕ) (ts : List Token) �
 no_step step.Done before bytes ts h none k = done_only before ts bytes h.0 h.1 k
 no_step (step.Found t r) before bytes ts h none k = absurd (none t r refl)
 no_step (step.Bad n) before bytes ts h none k = absurd (stuck_none before ts bytes n h k)
+
+pub steps_back : (before : Token) (bytes : List ℕ) (t : Token) (rest : List ℕ) → Steps before bytes t rest → HasTokens t rest → HasTokens before bytes
+steps_back before bytes t rest h k = (t ∷ k.0, steps_tokens before t k.0 bytes rest h k.1)
 
 -- ---- four words
 
@@ -96,12 +99,14 @@ pub record OperandsSoFar (ts : List Token) (operands : List Operand) (before : T
 pub record InOperands (start : Token) (bytes : List ℕ) (operands : List Operand) (before : Token) (rest : List ℕ) : Type 0 where
   pub room : length rest ≤ length bytes
   pub lawful : All IsOperand operands
+  pub back : HasTokens before rest → HasTokens start bytes
   pub tokens : (ts : List Token) → TokensAfter start ts bytes → OperandsSoFar ts operands before rest
 
 pub operands_start : (start : Token) (bytes : List ℕ) → InOperands start bytes [] start bytes
 operands_start start bytes = record {
   room = omega arith;
   lawful = All-nil IsOperand;
+  back = λ h. h;
   tokens = λ ts h. record { others = ts; is = refl; after = h };
 }
 
@@ -109,6 +114,7 @@ pub operands_more : (start : Token) (bytes : List ℕ) (operands : List Operand)
 operands_more start bytes operands before rest t o after new h k is made = record {
   room = omega (arith, h.room, steps_shorter before rest t after k);
   lawful = subst (All IsOperand) (sym made) (All-push IsOperand operands o h.lawful (subst IsToken is k.begins.is_token));
+  back = λ left. h.back (steps_back before rest t after k left);
   tokens = λ ts tokens.
       let p = h.tokens ts tokens in
       let f = found_first before t p.others rest after p.after k in
@@ -121,15 +127,16 @@ operands_more start bytes operands before rest t o after new h k is made = recor
       };
 }
 
-pub operands_end : (start : Token) (bytes : List ℕ) (operands : List Operand) (before : Token) (rest after : List ℕ) → InOperands start bytes operands before rest → Steps before rest end_mark after → (length after < length bytes) × All IsOperand operands × ((ts : List Token) → TokensAfter start ts bytes → EndsWithOperands ts operands after)
-operands_end start bytes operands before rest after h k = (
-  omega (arith, h.room, steps_shorter before rest end_mark after k),
-  h.lawful,
-  λ ts tokens.
+pub operands_end : (start : Token) (bytes : List ℕ) (operands : List Operand) (before : Token) (rest after : List ℕ) → InOperands start bytes operands before rest → Steps before rest end_mark after → EndsSoundly start bytes operands after
+operands_end start bytes operands before rest after h k = record {
+  shorter = omega (arith, h.room, steps_shorter before rest end_mark after k);
+  lawful = h.lawful;
+  back = λ left. h.back (steps_back before rest end_mark after k left);
+  tokens = λ ts tokens.
       let p = h.tokens ts tokens in
       let f = found_first before end_mark p.others rest after p.after k in
-      record { others = f.others; is = p.is ∙ ap (λ w. map operand_token operands ++ w) f.is; after = f.after },
-)
+      record { others = f.others; is = p.is ∙ ap (λ w. map operand_token operands ++ w) f.is; after = f.after };
+}
 
 pub operands_alone : (start : Token) (bytes : List ℕ) (operands : List Operand) (before : Token) (rest : List ℕ) → InOperands start bytes operands before rest → ((us : List Token) → TokensAfter before us rest → us ≡ []) → (ts : List Token) → TokensAfter start ts bytes → AreOperands ts
 operands_alone start bytes operands before rest h none ts tokens =

@@ -14,7 +14,7 @@ use Rattle.pb_epd.specs.Token.{Token, word, end_mark, Tokens, TokensAfter, IsBad
 use Rattle.pb_epd.specs.Operation.{operation_tokens}
 use Rattle.pb_epd.specs.Epd.{EpdRecord, IsEpd, EpdText}
 use Rattle.pb_epd.specs.Refusal.{is_end, IsNamed, IsCut, IsDueEpd, IsFirstDueEpd, epd_order}
-use Rattle.pb_epd.specs.Reading.{AreOperations, AreNamed, IsUnnamedAt, IsRepeatedAt, IsRefused}
+use Rattle.pb_epd.specs.Reading.{HasTokens, FourFollow, AreOperations, AreNamed, IsUnnamedAt, IsRepeatedAt, IsRefused}
 use Rattle.pb_epd.proofs.Lists.{all_middle}
 use Rattle.pb_epd.proofs.TokenLists.{tokens_one}
 use Rattle.pb_epd.proofs.Bad.{bad_none}
@@ -231,15 +231,22 @@ module _ (e : EpdRecord) (bytes : List ℕ) (lawful : IsEpd e) (h : EpdText e by
 
 -- ---- what the reader answers
 
-module _ (bytes a b c d : List ℕ) (ts us : List Token) (tokens : Tokens ts bytes) (is : ts ≡ word a ∷ word b ∷ word c ∷ word d ∷ us) where
-  pub setup_refused : (e : FenError) → IsFirstDue OfSetup e (a ∷ b ∷ c ∷ d ∷ []) → IsFirstDueEpd (epd.Setup e) bytes
-  setup_refused e h = setup_first bytes a b c d us (subst (λ w. Tokens w bytes) is tokens) e h
+module _ (bytes a b c d rest : List ℕ) (next : (ts : List Token) → Tokens ts bytes → FourFollow a b c d rest ts) where
+  pub setup_refused : (e : FenError) → IsFirstDue OfSetup e (a ∷ b ∷ c ∷ d ∷ []) → (ts : List Token) → Tokens ts bytes → IsFirstDueEpd (epd.Setup e) bytes
+  setup_refused e h ts tokens =
+      let f = next ts tokens in
+      setup_first bytes a b c d f.others (subst (λ w. Tokens w bytes) f.is tokens) e h
 
-  module _ (p : Position) (lawful : IsSetup p) (spells : SetupTexts p (a ∷ b ∷ c ∷ d ∷ [])) (rest : List ℕ) (after : TokensAfter (word d) us rest) where
-    pub found_all : (r : Result EpdRecord EpdError) → IfOk r (λ e. (e.setup ≡ p) × IsEpd e × ((vs : List Token) → TokensAfter (word d) vs rest → AreOperations vs e.operations)) → IfOk r (λ e. IsEpd e × EpdText e bytes)
-    found_all (Ok e) h = (h.1, text_found e bytes a b c d ts us p tokens is spells h.0 (h.2 us after))
-    found_all (Err x) h = tt
+  module _ (p : Position) (lawful : IsSetup p) (spells : SetupTexts p (a ∷ b ∷ c ∷ d ∷ [])) where
+    pub found_all : (HasTokens (word d) rest → HasTokens end_mark bytes) → (r : Result EpdRecord EpdError) → IfOk r (λ e. (e.setup ≡ p) × IsEpd e × HasTokens (word d) rest × ((vs : List Token) → TokensAfter (word d) vs rest → AreOperations vs e.operations)) → IfOk r (λ e. IsEpd e × EpdText e bytes)
+    found_all back (Ok e) h =
+        let whole = back h.2 in
+        let f = next whole.0 whole.1 in
+        (h.1, text_found e bytes a b c d whole.0 f.others p whole.1 f.is spells h.0 (h.3 f.others f.after))
+    found_all back (Err x) h = tt
 
-    pub refused_all : (r : Result EpdRecord EpdError) → IfErr r (λ x. (vs : List Token) → TokensAfter (word d) vs rest → IsRefused x vs) → IfErr r (λ x. IsFirstDueEpd x bytes)
+    pub refused_all : (r : Result EpdRecord EpdError) → IfErr r (λ x. (vs : List Token) → TokensAfter (word d) vs rest → IsRefused x vs) → IfErr r (λ x. (ts : List Token) → Tokens ts bytes → IsFirstDueEpd x bytes)
     refused_all (Ok e) h = tt
-    refused_all (Err x) h = refused_first bytes a b c d us (subst (λ w. Tokens w bytes) is tokens) p lawful spells x (h us after)
+    refused_all (Err x) h = λ ts tokens.
+        let f = next ts tokens in
+        refused_first bytes a b c d f.others (subst (λ w. Tokens w bytes) f.is tokens) p lawful spells x (h f.others f.after)

@@ -2,14 +2,17 @@
 use Rattle.std.specs.Prelude.{◌≡◌, ◌≢◌, ◌<◌, ◌↔◌, ℕ, ◌+◌, List, [], ◌∷◌, ◌++◌, length, map, flat_map, All, AllPairs, Contains}
 use Rattle.std.specs.List.{slice_split}
 use Rattle.pb_epd.specs.declared.operand.Operand.{Operand}
-use Rattle.pb_epd.specs.declared.read.Fields.{Fields}
 use Rattle.pb_epd.specs.declared.read.Taken.{Taken}
 use Rattle.pb_epd.specs.declared.read.Taken.TheVariants as taken
 use Rattle.pb_epd.specs.declared.refusal.EpdError.{EpdError}
 use Rattle.pb_epd.specs.declared.refusal.EpdError.TheVariants as epd
 use Rattle.pb_epd.specs.Token.{Token, word, end_mark, TokensAfter, IsOperandToken}
-use Rattle.pb_epd.specs.Operation.{Operation, IsOperation, operand_token, operation_tokens}
+use Rattle.pb_epd.specs.Operation.{Operation, IsOperand, IsOperation, operand_token, operation_tokens}
 use Rattle.pb_epd.specs.Refusal.{is_end, IsNamed, IsRepeat}
+
+-- the bytes are tokens that follow this one
+abbrev pub HasTokens : Token → List ℕ → Type 0
+HasTokens before bytes = (ts : List Token) × TokensAfter before ts bytes
 
 -- this token is the first of the list, and the others follow it
 pub record Follow (t : Token) (ts : List Token) (rest : List ℕ) : Type 0 where
@@ -18,10 +21,10 @@ pub record Follow (t : Token) (ts : List Token) (rest : List ℕ) : Type 0 where
   pub after : TokensAfter t others rest
 
 -- these words are the first four of the list, and the others follow them
-pub record FourFollow (f : Fields) (ts : List Token) : Type 0 where
+pub record FourFollow (placement turn castling passed rest : List ℕ) (ts : List Token) : Type 0 where
   pub others : List Token
-  pub is : ts ≡ word f.placement.now ∷ word f.turn.now ∷ word f.castling.now ∷ word f.passed.now ∷ others
-  pub after : TokensAfter (word f.passed.now) others f.rest.now
+  pub is : ts ≡ word placement ∷ word turn ∷ word castling ∷ word passed ∷ others
+  pub after : TokensAfter (word passed) others rest
 
 -- words and texts alone
 abbrev pub AreOperands : List Token → Type 0
@@ -32,6 +35,13 @@ pub record EndsWithOperands (ts : List Token) (operands : List Operand) (rest : 
   pub others : List Token
   pub is : ts ≡ map operand_token operands ++ end_mark ∷ others
   pub after : TokensAfter end_mark others rest
+
+-- the bytes begin with lawful operands and an end, and they are tokens if what follows is
+pub record EndsSoundly (before : Token) (bytes : List ℕ) (operands : List Operand) (rest : List ℕ) : Type 0 where
+  pub shorter : length rest < length bytes
+  pub lawful : All IsOperand operands
+  pub back : HasTokens end_mark rest → HasTokens before bytes
+  pub tokens : (ts : List Token) → TokensAfter before ts bytes → EndsWithOperands ts operands rest
 
 -- an ended operation that does not begin with an opcode
 pub record BeginsUnnamed (ts : List Token) : Type 0 where
@@ -53,12 +63,13 @@ IsTaken taken.Unended ts = (ts ≢ []) × AreOperands ts
 IsTaken taken.Unnamed ts = BeginsUnnamed ts
 IsTaken (taken.Operation opcode operands rest) ts = BeginsWithOperation ts (opcode.now, operands.items) rest.now
 
--- an operation is lawful and takes some bytes
-abbrev pub IsSound : Taken → List ℕ → Type 0
-IsSound taken.Done bytes = Unit {0}
-IsSound taken.Unended bytes = Unit {0}
-IsSound taken.Unnamed bytes = Unit {0}
-IsSound (taken.Operation opcode operands rest) bytes = (length rest.now < length bytes) × IsOperation (opcode.now, operands.items)
+-- an operation is lawful and takes some bytes, and the bytes are tokens if what follows it is
+abbrev pub IsSound : Taken → Token → List ℕ → Type 0
+IsSound taken.Done before bytes = HasTokens before bytes
+IsSound taken.Unended before bytes = Unit {0}
+IsSound taken.Unnamed before bytes = Unit {0}
+IsSound (taken.Operation opcode operands rest) before bytes =
+    (length rest.now < length bytes) × IsOperation (opcode.now, operands.items) × (HasTokens end_mark rest.now → HasTokens before bytes)
 
 -- the tokens are lawful operations with distinct opcodes that are, as a map, these
 pub record AreOperations (ts : List Token) (map : List Operation) : Type 0 where

@@ -1,12 +1,12 @@
 //! Reading an EPD record.
 
-ghost use Rattle.std.specs.Prelude.{◌≡◌, ◌∷◌, ◌++◌, ◌<◌, ◌≤◌, [], ℕ, List, All, length, map, IfOk, IfErr, MatchOption, MatchResult};
+ghost use Rattle.std.specs.Prelude.{◌≡◌, ◌∷◌, ◌++◌, ◌<◌, ◌≤◌, [], ℕ, List, All, length, map, IfOk, IfErr, IfSome, MatchOption, MatchResult};
 ghost use Rattle.pb_epd.specs.Token.{Token, word, end_mark, Tokens, TokensAfter, IsOperandToken};
 ghost use Rattle.pb_epd.specs.Lexeme.{token_of};
 ghost use Rattle.pb_epd.specs.Epd.{EpdRecord, IsEpd, EpdText};
 ghost use Rattle.pb_epd.specs.Operation.{IsOpcode, IsOperand, operand_token};
 ghost use Rattle.pb_epd.specs.Refusal.{IsNamed, IsFirstDueEpd};
-ghost use Rattle.pb_epd.specs.Reading.{Follow, FourFollow, EndsWithOperands, AreOperands, IsTaken, IsSound, AreOperations, IsRefused};
+ghost use Rattle.pb_epd.specs.Reading.{HasTokens, EndsSoundly, Follow, FourFollow, EndsWithOperands, AreOperands, IsTaken, IsSound, AreOperations, IsRefused};
 ghost use Rattle.pb_epd.specs.declared.refusal.EpdError.TheVariants as epd;
 
 use crate::epd::Epd;
@@ -42,9 +42,10 @@ pub enum Taken<'a> {
 
 /// The word that comes next, and what follows it.
 fn next_word<'a>(before: Lexeme<'_>, text: &'a [u8]) -> Option<(&'a [u8], &'a [u8])>
-    ensures { MatchOption result
+    ensures next { MatchOption result
         ((bytes : List ℕ) (ts : List Token) → ¬ TokensAfter (token_of before.entry) (word bytes ∷ ts) text.now)
         (λ cut. (ts : List Token) → TokensAfter (token_of before.entry) ts text.now → Follow (word cut.0.now) ts cut.1.now) }
+    ensures back { IfSome result (λ cut. HasTokens (word cut.0.now) cut.1.now → HasTokens (token_of before.entry) text.now) }
 {
     let Step::Found(token, rest) = next_token(before, text) else {
         return None;
@@ -58,9 +59,10 @@ fn next_word<'a>(before: Lexeme<'_>, text: &'a [u8]) -> Option<(&'a [u8], &'a [u
 
 /// The four words that a line begins with.
 fn four_words(text: &[u8]) -> Option<Fields<'_>>
-    ensures { MatchOption result
+    ensures next { MatchOption result
         ((four : List (List ℕ)) (ts : List Token) → length four ≡ 4 → ¬ Tokens (map word four ++ ts) text.now)
-        (λ f. (ts : List Token) → Tokens ts text.now → FourFollow f ts) }
+        (λ f. (ts : List Token) → Tokens ts text.now → FourFollow f.placement.now f.turn.now f.castling.now f.passed.now f.rest.now ts) }
+    ensures back { IfSome result (λ f. HasTokens (word f.passed.now) f.rest.now → HasTokens end_mark text.now) }
 {
     let (placement, rest) = next_word(Lexeme::End, text)?;
     let (turn, rest) = next_word(Lexeme::Word(placement), rest)?;
@@ -87,7 +89,7 @@ fn operand_of(alloc: Global, token: Lexeme<'_>) -> Result<Option<Operand>, Alloc
     Ok(Some(operand))
 }
 
-/// The operands up to the next end, and what follows it; nothing where no end follows.
+/// The operands up to the next end, and what follows it; nothing where no end follows, or a bad token comes first.
 fn read_operands<'a>(
     alloc: Global,
     before: Lexeme<'_>,
@@ -95,7 +97,7 @@ fn read_operands<'a>(
 ) -> Result<Option<(Vec<Operand>, &'a [u8])>, AllocError>
     ensures { IfOk result (λ r. MatchOption r
         ((ts : List Token) → TokensAfter (token_of before.entry) ts text.now → AreOperands ts)
-        (λ cut. (length cut.1.now < length text.now) × All IsOperand cut.0.items × ((ts : List Token) → TokensAfter (token_of before.entry) ts text.now → EndsWithOperands ts cut.0.items cut.1.now))) }
+        (λ cut. EndsSoundly (token_of before.entry) text.now cut.0.items cut.1.now)) }
 {
     let mut operands = Vec::new(alloc);
     let mut before = before;
@@ -124,17 +126,19 @@ fn opcode_of<'a>(token: Lexeme<'a>) -> Option<&'a [u8]>
     }
 }
 
-/// What stands first among operations.
+/// What stands first among operations. Where a bad token comes first, the answer says nothing of the text.
 fn next_operation<'a>(
     alloc: Global,
     before: Lexeme<'_>,
     text: &'a [u8],
 ) -> Result<Taken<'a>, AllocError>
     ensures taken { IfOk result (λ r. (ts : List Token) → TokensAfter (token_of before.entry) ts text.now → IsTaken r ts) }
-    ensures sound { IfOk result (λ r. IsSound r text.now) }
+    ensures sound { IfOk result (λ r. IsSound r (token_of before.entry) text.now) }
 {
-    let Step::Found(first, rest) = next_token(before, text) else {
-        return Ok(Taken::Done);
+    let (first, rest) = match next_token(before, text) {
+        Step::Done => return Ok(Taken::Done),
+        Step::Found(first, rest) => (first, rest),
+        Step::Bad(_) => return Ok(Taken::Unended),
     };
     if !first.is_operand() {
         return Ok(Taken::Unnamed);
@@ -155,7 +159,7 @@ fn read_operations(
     before: Lexeme<'_>,
     text: &[u8],
 ) -> Result<Epd, EpdError>
-    ensures found { IfOk result (λ e. (e.setup ≡ setup) × IsEpd e × ((ts : List Token) → TokensAfter (token_of before.entry) ts text.now → AreOperations ts e.operations)) }
+    ensures found { IfOk result (λ e. (e.setup ≡ setup) × IsEpd e × HasTokens (token_of before.entry) text.now × ((ts : List Token) → TokensAfter (token_of before.entry) ts text.now → AreOperations ts e.operations)) }
     ensures refused { IfErr result (λ x. (ts : List Token) → TokensAfter (token_of before.entry) ts text.now → IsRefused x ts) }
 {
     let mut epd = Epd::new(alloc, setup);
@@ -187,14 +191,11 @@ fn read_operations(
     }
 }
 
-/// The record that the text spells, or the first refusal that is due.
-fn judge(alloc: Global, text: &[u8]) -> Result<Epd, EpdError>
+/// The record that the text spells, or a refusal, which is the first that is due unless a token is bad.
+fn read_tokens(alloc: Global, text: &[u8]) -> Result<Epd, EpdError>
     ensures found { IfOk result (λ e. IsEpd e × EpdText e text.now) }
-    ensures refused { IfErr result (λ x. IsFirstDueEpd x text.now) }
+    ensures refused { IfErr result (λ x. (ts : List Token) → Tokens ts text.now → IsFirstDueEpd x text.now) }
 {
-    if let Some(at) = first_bad(text) {
-        return Err(EpdError::Token(at));
-    }
     let Some(fields) = four_words(text) else {
         return Err(EpdError::Fields);
     };
@@ -206,6 +207,20 @@ fn judge(alloc: Global, text: &[u8]) -> Result<Epd, EpdError>
     ]) {
         Ok(setup) => read_operations(alloc, setup, Lexeme::Word(fields.passed), fields.rest),
         Err(error) => Err(EpdError::Setup(error)),
+    }
+}
+
+/// The record that the text spells, or the first refusal that is due. Bad tokens are looked for only in a text that is refused.
+fn judge(alloc: Global, text: &[u8]) -> Result<Epd, EpdError>
+    ensures found { IfOk result (λ e. IsEpd e × EpdText e text.now) }
+    ensures refused { IfErr result (λ x. IsFirstDueEpd x text.now) }
+{
+    match read_tokens(alloc, text) {
+        Ok(epd) => Ok(epd),
+        Err(error) => match first_bad(text) {
+            Some(at) => Err(EpdError::Token(at)),
+            None => Err(error),
+        },
     }
 }
 

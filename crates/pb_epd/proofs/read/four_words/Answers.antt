@@ -2,13 +2,13 @@ use Rattle.pb_epd.proofs.Reader.{none_first, none_second, none_third, none_fourt
 use Rattle.pb_epd.proofs.read.four_words.Goals as goal
 
 pub returns-in_err-placement : goal.returns-in_err-placement
-returns-in_err-placement c = rw c.from_residual.ensures (none_first _ c.in_err-placement.ensures)
+returns-in_err-placement c = rw c.from_residual.ensures (record { next = (none_first _ c.in_err-placement.ensures.next); back = tt })
 
 pub returns-in_err-turn : goal.returns-in_err-turn
-returns-in_err-turn c = rw c.from_residual-in_err-turn.ensures (none_second _ _ _ c.in_ok-placement.ensures c.in_err-turn.ensures)
+returns-in_err-turn c = rw c.from_residual-in_err-turn.ensures (record { next = (none_second _ _ _ c.in_ok-placement.ensures.next c.in_err-turn.ensures.next); back = tt })
 
 pub returns-in_err-castling : goal.returns-in_err-castling
-returns-in_err-castling c = rw c.from_residual-in_err-castling.ensures (none_third _ _ _ c.in_ok-placement.ensures _ _ c.in_ok-turn.ensures c.in_err-castling.ensures)
+returns-in_err-castling c = rw c.from_residual-in_err-castling.ensures (record { next = (none_third _ _ _ c.in_ok-placement.ensures.next _ _ c.in_ok-turn.ensures.next c.in_err-castling.ensures.next); back = tt })
 
 pub returns-in_err-passed : goal.returns-in_err-passed
-returns-in_err-passed c = rw c.from_residual-in_err-passed.ensures (none_fourth _ _ _ c.in_ok-placement.ensures _ _ c.in_ok-turn.ensures _ _ c.in_ok-castling.ensures c.in_err-passed.ensures)
+returns-in_err-passed c = rw c.from_residual-in_err-passed.ensures (record { next = (none_fourth _ _ _ c.in_ok-placement.ensures.next _ _ c.in_ok-turn.ensures.next _ _ c.in_ok-castling.ensures.next c.in_err-passed.ensures.next); back = tt })

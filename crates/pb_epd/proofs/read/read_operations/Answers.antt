@@ -1,6 +1,6 @@
 use Rattle.std.proofs.Common.{◌∙◌, ◌+◌, arith}
 use Rattle.pb_epd.specs.Operation.{Operation}
-use Rattle.pb_epd.proofs.Groups.{operations_more, standing_added, standing_repeated, read_repeated, read_unended, read_unnamed}
+use Rattle.pb_epd.proofs.Groups.{operations_more, standing_added, standing_repeated, read_all, read_repeated, read_unended, read_unnamed}
 use Rattle.pb_epd.proofs.read.read_operations.Goals as goal
 
 pub returns-in-Ok-Unended-clause-refused : goal.returns-in-Ok-Unended-clause-refused
@@ -41,3 +41,11 @@ loop-epd-preserved c =
 pub returns-in-Some-clause-refused : goal.returns-in-Some-clause-refused
 returns-in-Some-clause-refused c = λ ts h.
     read_repeated _ _ _ _ _ _ _ c.loop-epd.invariant.read ts h _ c.in-Some.is (rw c.in-Ok-Done.field-0-is at c.in-Ok-Done.ensures.taken)
+
+pub returns-in-None-clause-found : goal.returns-in-None-clause-found
+returns-in-None-clause-found c = (
+  c.loop-epd.invariant.setup,
+  c.loop-epd.invariant.rules,
+  c.loop-epd.invariant.read.back (rw c.in-Ok-Done.field-0-is at c.in-Ok-Done.ensures.sound),
+  λ ts h. read_all _ _ _ _ _ _ _ c.loop-epd.invariant.read ts h c.in-None.is (rw c.in-Ok-Done.field-0-is at c.in-Ok-Done.ensures.taken),
+)
