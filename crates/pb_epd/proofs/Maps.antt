@@ -14,7 +14,8 @@ use Rattle.std.proofs.lemmas.Map.Lookups.{exact_bytes}
 use Rattle.std.proofs.lemmas.Bool.{false≢true}
 use Rattle.std.proofs.lemmas.List.Elements.{All-nil, All-cons}
 use Rattle.pb_epd.specs.declared.operand.Operand.{Operand}
-use Rattle.pb_epd.specs.Operation.{Operation, IsBelow}
+use Rattle.pb_epd.specs.Operation.{Operation}
+use Rattle.pb_epd.specs.ByteOrder.{IsBelow}
 use Rattle.pb_epd.specs.Epd.{operations_of}
 use Rattle.pb_epd.proofs.Lists.{contains_head, contains_there, contains_none, contains_cases, pairs_none, pairs_cons}
 

@@ -7,10 +7,11 @@ use Rattle.std.proofs.lemmas.List.Elements.{All-nil, All-cons, All-push, All-sam
 use Rattle.pb_epd.specs.declared.operand.Operand.{Operand}
 use Rattle.pb_epd.specs.declared.operand.Operand.TheVariants as operand
 use Rattle.pb_epd.specs.declared.token.Lexeme.{Lexeme}
+use Rattle.pb_epd.specs.declared.token.Lexeme.TheVariants as lexeme
 use Rattle.pb_epd.specs.declared.token.Step.{Step}
 use Rattle.pb_epd.specs.declared.token.Step.TheVariants as step
 use Rattle.pb_epd.specs.Token.{Token, word, text, end_mark, IsToken, IsOperandToken, Tokens, TokensAfter}
-use Rattle.pb_epd.specs.Lexeme.{Steps, IsStep}
+use Rattle.pb_epd.specs.Lexeme.{token_of, Steps, IsStep}
 use Rattle.pb_epd.specs.Operation.{IsOperand, operand_token}
 use Rattle.pb_epd.specs.Refusal.{IsNamed}
 use Rattle.pb_epd.specs.Reading.{HasTokens, EndsSoundly, Follow, AreOperands, EndsWithOperands, BeginsUnnamed, BeginsWithOperation}
@@ -22,6 +23,12 @@ pub no_step : (s : Step) (before : Token) (bytes : List ℕ) (ts : List Token) �
 no_step step.Done before bytes ts h none k = done_only before ts bytes h.0 h.1 k
 no_step (step.Found t r) before bytes ts h none k = absurd (none t r refl)
 no_step (step.Bad n) before bytes ts h none k = absurd (stuck_none before ts bytes n h k)
+
+-- a token that is no word
+pub no_word : (t : Lexeme) (bytes : List ℕ) → word bytes ≡ token_of t → ((b : Bor (List ℕ)) → t ≡ lexeme.Word b → ⊥) → ⊥
+no_word (lexeme.Word b) bytes is other = other b refl
+no_word (lexeme.Text b) bytes is other = cc (is)
+no_word lexeme.End bytes is other = cc (is)
 
 pub steps_back : (before : Token) (bytes : List ℕ) (t : Token) (rest : List ℕ) → Steps before bytes t rest → HasTokens t rest → HasTokens before bytes
 steps_back before bytes t rest h k = (t ∷ k.0, steps_tokens before t k.0 bytes rest h k.1)

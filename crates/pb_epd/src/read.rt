@@ -50,11 +50,10 @@ fn next_word<'a>(before: Lexeme<'_>, text: &'a [u8]) -> Option<(&'a [u8], &'a [u
     let Step::Found(token, rest) = next_token(before, text) else {
         return None;
     };
-    match token {
-        Lexeme::Word(bytes) => Some((bytes, rest)),
-        Lexeme::Text(_) => None,
-        Lexeme::End => None,
-    }
+    let Lexeme::Word(bytes) = token else {
+        return None;
+    };
+    Some((bytes, rest))
 }
 
 /// The four words that a line begins with.
@@ -116,7 +115,7 @@ fn read_operands<'a>(
 }
 
 /// The opcode that the token is.
-fn opcode_of<'a>(token: Lexeme<'a>) -> Option<&'a [u8]>
+fn opcode_of(token: Lexeme<'_>) -> Option<&[u8]>
     ensures { MatchOption result ((ts : List Token) → ¬ IsNamed (token_of token.entry ∷ ts))
         (λ opcode. (token_of token.entry ≡ word opcode.now) × IsOpcode opcode.now) }
 {
