@@ -14,7 +14,7 @@ promotion_place (Some Bishop) = 2
 promotion_place (Some Rook) = 3
 promotion_place (Some _) = 4
 
--- moves are in order by `from`, then `to`, then promotion
+-- a move's place in the order: by `from`, then by `to`, 64 squares each, then by promotion, five kinds
 abbrev pub place : Moved → ℕ
 place m = 320 * m.from + 5 * m.to + promotion_place m.promo
 
