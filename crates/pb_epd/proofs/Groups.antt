@@ -6,14 +6,14 @@ use Rattle.std.specs.Option.{option_or}
 use Rattle.std.proofs.lemmas.List.{append_assoc, append-nil, map-append, length-map, length_push}
 use Rattle.std.proofs.lemmas.List.Splits.{slice_split_at, slice_split_none, length-slice_split}
 use Rattle.std.proofs.lemmas.List.Concat.{flat_map-append}
-use Rattle.std.proofs.lemmas.List.Elements.{All-nil, All-push, All-map, All-weaker, All-cons, Contains-push, Contains-push_cases, Contains-append_left, Contains-get_or}
+use Rattle.std.proofs.lemmas.List.Elements.{All-push, All-map, All-weaker, All-cons, Contains-push, Contains-push_cases, Contains-append_left, Contains-get_or}
 use Rattle.std.proofs.lemmas.List.Quantifiers.{all_pairs_push}
 use Rattle.pb_epd.specs.declared.operand.Operand.{Operand}
 use Rattle.pb_epd.specs.Token.{Token, word, text, end_mark, IsOperandToken, TokensAfter}
 use Rattle.pb_epd.specs.Operation.{Operation, IsOperation, operand_token, operation_tokens}
 use Rattle.pb_epd.specs.Refusal.{is_end, IsNamed, BeginsWithOpcode, IsRepeat}
 use Rattle.pb_epd.specs.Reading.{HasTokens, AreOperands, BeginsUnnamed, BeginsWithOperation, AreOperations, AreNamed, IsUnnamedAt, IsRepeatedAt}
-use Rattle.pb_epd.proofs.Lists.{all_middle, pairs_none, contains_map, contains_unmap, split_map, pairs_split}
+use Rattle.pb_epd.proofs.Lists.{all_middle, contains_map, contains_unmap, split_map, pairs_split}
 use Rattle.pb_epd.proofs.Reader.{operands_are}
 
 -- ---- groups
@@ -172,21 +172,6 @@ pub record InOperations (start : Token) (bytes : List ℕ) (held : List Operatio
   pub room : count + length rest ≤ length bytes
   pub back : HasTokens before rest → HasTokens start bytes
   pub tokens : (ts : List Token) → TokensAfter start ts bytes → OperationsSoFar ts held before rest count repeated
-
-pub operations_start : (start : Token) (bytes : List ℕ) → InOperations start bytes [] start bytes 0 None
-operations_start start bytes = record {
-  room = omega arith;
-  back = λ h. h;
-  tokens = λ ts h. record {
-    operations = [];
-    others = ts;
-    is = refl;
-    lawful = All-nil IsOperation;
-    counted = refl;
-    after = h;
-    standing = record { distinct = pairs_none (λ (o p : Operation). o.0 ≢ p.0); same = λ o. (λ k. k, λ k. k) };
-  };
-}
 
 -- one more operation was read
 pub operations_more : (start : Token) (bytes : List ℕ) (held new : List Operation) (before : Token) (rest : List ℕ) (count : ℕ) (repeated again : Option ℕ) (x : Operation) (after : List ℕ) → InOperations start bytes held before rest count repeated → ((us : List Token) → TokensAfter before us rest → BeginsWithOperation us x after) → (length after < length rest) × IsOperation x × (HasTokens end_mark after → HasTokens before rest) → ((operations : List Operation) → count ≡ length operations → Standing repeated operations held → Standing again (operations ++ x ∷ []) new) → InOperations start bytes new end_mark after (count + 1) again

@@ -61,12 +61,6 @@ no_quoted_run bytes n h bad w r is e =
 append_one : (w r : List ℕ) → (w ++ 34 ∷ []) ++ r ≡ w ++ 34 ∷ r
 append_one w r = append_assoc w (34 ∷ []) r
 
-pub text_begins : (w r rest : List ℕ) → IsToken (text w) → rest ≡ w ++ 34 ∷ r → Begins (34 ∷ rest) (text w) r
-text_begins w r rest is e = record { is_token = is; stands = ap (λ x. 34 ∷ x) (e ∙ sym (append_one w r)); whole = tt }
-
-pub end_begins : (rest : List ℕ) → Begins (59 ∷ rest) end_mark rest
-end_begins rest = record { is_token = tt; stands = refl; whole = tt }
-
 no_word_first : (b : ℕ) (rest w : List ℕ) → ¬ IsWordByte b → BeginsWith (b ∷ rest) (word w) → ⊥
 no_word_first b rest [] bad h = omega (arith, h.is_token.0)
 no_word_first b rest (x ∷ w) bad h = bad (subst IsWordByte (sym (first_same b x rest (w ++ h.rest) h.stands)) (All-head IsWordByte x w h.is_token.2))

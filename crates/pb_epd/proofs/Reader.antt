@@ -109,14 +109,6 @@ pub record InOperands (start : Token) (bytes : List ℕ) (operands : List Operan
   pub back : HasTokens before rest → HasTokens start bytes
   pub tokens : (ts : List Token) → TokensAfter start ts bytes → OperandsSoFar ts operands before rest
 
-pub operands_start : (start : Token) (bytes : List ℕ) → InOperands start bytes [] start bytes
-operands_start start bytes = record {
-  room = omega arith;
-  lawful = All-nil IsOperand;
-  back = λ h. h;
-  tokens = λ ts h. record { others = ts; is = refl; after = h };
-}
-
 pub operands_more : (start : Token) (bytes : List ℕ) (operands : List Operand) (before : Token) (rest : List ℕ) (t : Token) (o : Operand) (after : List ℕ) (new : List Operand) → InOperands start bytes operands before rest → Steps before rest t after → t ≡ operand_token o → new ≡ operands ++ o ∷ [] → InOperands start bytes new t after
 operands_more start bytes operands before rest t o after new h k is made = record {
   room = omega (arith, h.room, steps_shorter before rest t after k);

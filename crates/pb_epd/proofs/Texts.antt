@@ -10,7 +10,7 @@ use Rattle.pb_board.specs.declared.refusal.FenError.{FenError}
 use Rattle.pb_board.proofs.Fens.{setup_never_due}
 use Rattle.pb_epd.specs.declared.refusal.EpdError.{EpdError}
 use Rattle.pb_epd.specs.declared.refusal.EpdError.TheVariants as epd
-use Rattle.pb_epd.specs.Token.{Token, word, end_mark, Tokens, TokensAfter, IsBadAt}
+use Rattle.pb_epd.specs.Token.{Token, word, end_mark, Tokens, TokensAfter}
 use Rattle.pb_epd.specs.Operation.{operation_tokens}
 use Rattle.pb_epd.specs.Epd.{EpdRecord, IsEpd, EpdText}
 use Rattle.pb_epd.specs.Refusal.{is_end, IsNamed, IsCut, IsDueEpd, IsFirstDueEpd, epd_order}
@@ -170,18 +170,6 @@ fields_first bytes ts tokens due = record { due = due; first = first }
     first epd.Unended other lt = absurd (omega (arith, lt))
     first (epd.Repeated n) other lt = absurd (omega (arith, lt))
     first epd.Memory other lt = absurd (other refl)
-
-some_order : (y : EpdError) → 0 < epd_order y
-some_order (epd.Token at) = omega arith
-some_order epd.Fields = omega arith
-some_order (epd.Setup e) = omega arith
-some_order (epd.Opcode n) = omega arith
-some_order epd.Unended = omega arith
-some_order (epd.Repeated n) = omega arith
-some_order epd.Memory = omega arith
-
-pub token_first : (bytes : List ℕ) (at : ℕ) → IsBadAt bytes at → IsFirstDueEpd (epd.Token at) bytes
-token_first bytes at due = record { due = due; first = λ y other lt due. omega (arith, some_order y, lt) }
 
 -- ---- a record that was read
 
