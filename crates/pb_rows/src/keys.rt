@@ -263,7 +263,7 @@ fn entries_of_a_book_never_fall(rt: HostRuntime) -> Result<(), Fail> {
     entries.push(entry(2))?;
     entries.push(entry(1))?;
     match Book::of(entries) {
-        Ok(_) => assert!(rt; false, "a falling key was taken"),
+        Ok(_book) => assert!(rt; false, "a falling key was taken"),
         Err((number, back)) => {
             assert_eq!(rt; number, 3);
             assert_eq!(rt; back.len(), 3);
