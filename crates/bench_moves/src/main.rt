@@ -3,11 +3,13 @@
 //! `bench_moves perft FEN DEPTH` prints the number of sequences of that many legal moves from a record.
 //! `bench_moves games ROUNDS` plays a thousand games of up to 200 plies, chosen once by a fixed rule, so many times,
 //! and prints the number of plies that were judged and played.
+//! `bench_moves lines COUNT` prints so many games of 80 plies as submissions, a line each, with results in turn.
 #![tactic(auto)]
 
-use pb_board::{Setup, read_fen};
+use pb_board::{Fen, Setup, read_fen};
 use pb_moves::{Move, legal_moves, play};
 use std::alloc::{AllocError, Global};
+use std::io::{BufWriter, Write};
 use std::{env, io};
 
 /// How many games are played.
@@ -15,6 +17,12 @@ const GAMES: u32 = 1000;
 
 /// How many plies a game has at most.
 const PLIES: u32 = 200;
+
+/// How many plies a submitted game has at most.
+const SUBMITTED_PLIES: u32 = 80;
+
+/// The results of submitted games, in turn.
+const RESULTS: [&str; 3] = ["1-0", "1/2-1/2", "0-1"];
 
 /// The number of sequences of `depth` legal moves, at least one move long.
 fn perft(alloc: Global, setup: &Setup, depth: u32) -> Result<u64, AllocError> {
@@ -37,12 +45,12 @@ fn next_number(seed: u64) -> u64 {
         .wrapping_add(1_442_695_040_888_963_407)
 }
 
-/// A game from the initial array, each move chosen among the legal ones by the next number.
-fn choose_game(alloc: Global, seed: u64) -> Result<Vec<Move>, AllocError> {
+/// A game of at most so many plies from the initial array, each move chosen among the legal ones by the next number.
+fn choose_game(alloc: Global, seed: u64, plies: u32) -> Result<Vec<Move>, AllocError> {
     let mut game = Vec::new(alloc);
     let mut setup = Setup::start();
     let mut number = seed;
-    for _ in 0..PLIES {
+    for _ in 0..plies {
         let moves = legal_moves(alloc, &setup)?;
         number = next_number(number);
         if moves.is_empty() {
@@ -76,7 +84,7 @@ fn play_game(game: &[Move]) -> u64 {
 fn play_games(alloc: Global, rounds: u32) -> Result<u64, AllocError> {
     let mut games = Vec::new(alloc);
     for seed in 0..GAMES {
-        games.push(choose_game(alloc, u64::from(seed))?)?;
+        games.push(choose_game(alloc, u64::from(seed), PLIES)?)?;
     }
     let mut count: u64 = 0;
     for _ in 0..rounds {
@@ -87,18 +95,53 @@ fn play_games(alloc: Global, rounds: u32) -> Result<u64, AllocError> {
     Ok(count)
 }
 
+/// Writes the moves of a game, with single spaces between them.
+fn write_moves<W: Write>(out: &mut W, game: &[Move]) -> io::Result<()> {
+    for (ply, m) in game.iter().enumerate() {
+        if ply > 0 {
+            out.write_all(b" ")?;
+        }
+        out.write_all(m.text().as_bytes())?;
+    }
+    Ok(())
+}
+
+/// Writes so many games as submissions.
+fn write_lines<W: Write>(alloc: Global, out: &mut W, count: u64) -> io::Result<()> {
+    let Some(start) = Fen::new(Setup::start(), 0, 1) else {
+        return Ok(());
+    };
+    for seed in 0..count {
+        let game = choose_game(alloc, seed, SUBMITTED_PLIES)?;
+        let result = RESULTS[(seed % 3) as usize];
+        write!(out, "g{seed}\t{result}\t")?;
+        out.write_all(start.text().as_bytes())?;
+        out.write_all(b"\t")?;
+        write_moves(out, game.as_slice())?;
+        out.write_all(b"\n")?;
+    }
+    out.flush()
+}
+
+/// The number that a word writes, or 0.
+fn number_in(word: &str) -> u32 {
+    word.parse::<u32>().unwrap_or(0)
+}
+
 fn main(rt: HostRuntime) -> Result<(), io::Error> {
-    let words: Vec<String> = env::args(&rt)?.collect(rt.alloc())?;
-    let words: Vec<&str> = words.iter().map(|word| word.as_str()).collect(rt.alloc())?;
+    let alloc = rt.alloc();
+    let words: Vec<String> = env::args(&rt)?.collect(alloc)?;
+    let words: Vec<&str> = words.iter().map(|word| word.as_str()).collect(alloc)?;
     let count = match words.as_slice() {
-        [_, "perft", record, depth] => match (read_fen(record.as_bytes()), depth.parse::<u32>()) {
-            (Ok(fen), Ok(depth)) => perft(rt.alloc(), &fen.setup(), depth)?,
-            _ => 0,
-        },
-        [_, "games", rounds] => match rounds.parse::<u32>() {
-            Ok(rounds) => play_games(rt.alloc(), rounds)?,
+        [_, "perft", record, depth] => match read_fen(record.as_bytes()) {
+            Ok(fen) => perft(alloc, &fen.setup(), number_in(depth))?,
             Err(_) => 0,
         },
+        [_, "games", rounds] => play_games(alloc, number_in(rounds))?,
+        [_, "lines", count] => {
+            let mut out = BufWriter::new(alloc, io::writer(&rt))?;
+            return write_lines(alloc, &mut out, u64::from(number_in(count)));
+        }
         _ => 0,
     };
     println!(rt; "{count}")
