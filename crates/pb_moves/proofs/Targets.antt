@@ -6,7 +6,8 @@ use Rattle.std.proofs.lemmas.Nat.Bits.{bit_at_or, bit_at-lt}
 use Rattle.pb_board.specs.declared.piece.Colour.{Colour}
 use Rattle.pb_board.specs.declared.piece.Colour.TheVariants.{White, Black}
 use Rattle.pb_board.specs.Board.{rank}
-use Rattle.pb_moves.specs.declared.candidates.TheConstants.{WHITE_PAWN, BLACK_PAWN, KNIGHT, BISHOP, ROOK, KING}
+use Rattle.pb_moves.specs.declared.pawn_targets.TheConstants.{WHITE_PAWN, BLACK_PAWN}
+use Rattle.pb_moves.specs.declared.piece_targets.TheConstants.{KNIGHT, BISHOP, ROOK, KING}
 use Rattle.pb_board.specs.declared.piece.Kind.{Kind}
 use Rattle.pb_board.specs.declared.piece.Kind.TheVariants.{Pawn, Knight, Bishop, Rook, Queen, King}
 use Rattle.pb_moves.specs.Candidate.{MayGo}

@@ -16,6 +16,8 @@ mod legal;
 mod line;
 mod listing;
 mod moves;
+mod pawn_targets;
+mod piece_targets;
 mod playing;
 mod spelling;
 mod text;
