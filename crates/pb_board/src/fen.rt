@@ -41,11 +41,11 @@ impl Model for FenBytes {
 
     ghost view = { λ b. take b.len b.bytes };
 
-    ghost invariant = { λ b. IsPadded b.bytes b.len };
+    ghost invariant = { λ b. IsPadded 93 b.bytes b.len };
 
-    ghost inverse = { λ text. record { bytes = padded text; len = length text } };
+    ghost inverse = { λ text. record { bytes = padded 93 text; len = length text } };
 
-    ghost inverse_ok = { λ b h. padded-back (λ bytes len. record { bytes = bytes; len = len }) b.bytes b.len h };
+    ghost inverse_ok = { λ b h. padded-back 93 (λ bytes len. record { bytes = bytes; len = len }) b.bytes b.len h };
 }
 
 impl FenBytes {

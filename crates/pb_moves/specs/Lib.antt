@@ -13,4 +13,3 @@ pub mod Walk
 pub mod Change
 pub mod Outcome
 pub mod Candidate
-pub mod TextBuffer

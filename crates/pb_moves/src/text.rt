@@ -17,17 +17,17 @@ pub struct MoveText {
 
 impl Model for MoveText {
     ghost use Rattle.std.specs.Prelude.{ℕ, List, length, take};
-    ghost use Rattle.pb_moves.specs.TextBuffer.{buffer_of, IsBuffer, buffer-back};
+    ghost use Rattle.pb_board.specs.Padded.{padded, IsPadded, padded-back};
 
     ghost Value = { List ℕ };
 
     ghost view = { λ t. take t.len t.bytes };
 
-    ghost inverse = { λ text. record { bytes = buffer_of text; len = length text } };
+    ghost inverse = { λ text. record { bytes = padded 5 text; len = length text } };
 
-    ghost invariant = { λ t. IsBuffer t.bytes t.len };
+    ghost invariant = { λ t. IsPadded 5 t.bytes t.len };
 
-    ghost inverse_ok = { λ t h. buffer-back (λ bytes len. record { bytes = bytes; len = len }) t.bytes t.len h };
+    ghost inverse_ok = { λ t h. padded-back 5 (λ bytes len. record { bytes = bytes; len = len }) t.bytes t.len h };
 }
 
 impl MoveText {
