@@ -4,6 +4,7 @@ pub mod Digits
 pub mod Entries
 pub mod EntryBytes
 pub mod Feeds
+pub mod Finding
 pub mod Keys
 pub mod LineBufferLemmas
 pub mod LineLemmas

@@ -3,6 +3,7 @@ pub mod Code
 pub mod Decoding
 pub mod Entry
 pub mod Feeding
+pub mod Found
 pub mod Key
 pub mod LineBuffer
 pub mod LineTask

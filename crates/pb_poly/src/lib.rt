@@ -5,6 +5,7 @@
 mod book;
 mod code;
 mod entry;
+mod found;
 mod key;
 pub mod laws;
 mod line_buffer;
@@ -17,6 +18,7 @@ mod table;
 pub use book::{Book, write_book};
 pub use code::{code_of, move_of};
 pub use entry::{Entry, write_entry};
+pub use found::probe;
 pub use key::key_of;
 pub use lines::{LINE_LIMIT, LineTask, LinesFault, take_lines};
 pub use reading::{BookError, read_book};
