@@ -81,10 +81,7 @@ impl Book {
 fn count_under(entries: &[Entry], key: u64) -> usize
     ensures { result ≡ length (take_while (λ e. e.key == key) entries.now) }
 {
-    entries
-        .iter()
-        .take_while(|entry| entry.key == key)
-        .count()
+    entries.iter().take_while(|entry| entry.key == key).count()
 }
 
 // The number, from 1, of the first entry whose key is below the key before it.
