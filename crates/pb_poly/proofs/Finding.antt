@@ -1,9 +1,14 @@
 -- Moves and weights that are found, entry after entry.
-use Rattle.std.proofs.Common.{◌≡◌, ℕ, ◌+◌, ◌<◌, inl, inr, List, [], ◌∷◌, ◌++◌, length, take, get_or, refl, sym, ap, subst, ◌∙◌}
+use Rattle.std.proofs.Common.{◌≡◌, ℕ, ◌+◌, ◌<◌, inl, inr, All, Bool, true, ◌==◌, cond, List, [], ◌∷◌, ◌++◌, length, take, get_or, refl, sym, ap, subst, ◌∙◌}
+use Rattle.std.specs.Prelude.{filter}
+use Rattle.std.proofs.lemmas.Bool.{eqb-true}
+use Rattle.std.proofs.lemmas.Bool.Decides.{eqb_tells}
 use Rattle.std.proofs.lemmas.List.{take_more}
+use Rattle.std.proofs.lemmas.List.Elements.{filter_passes}
 use Rattle.pb_board.specs.Position.{Position}
 use Rattle.pb_moves.specs.Moved.{Moved}
 use Rattle.pb_poly.specs.declared.entry.Entry.{Entry}
+use Rattle.pb_poly.specs.Key.{key}
 use Rattle.pb_poly.specs.Found.{Found, FoundIsOne, IsFor}
 use Rattle.pb_poly.proofs.Codes.{code_is_one}
 
@@ -32,6 +37,28 @@ Found-more words s entries i d found later all within before here is =
     let P : List Entry → Type 0 = λ front. Found front words s all in
     let Q : List (Moved × ℕ) → Type 0 = λ pairs. Found (take i entries ++ get_or entries i d ∷ []) words s pairs in
     subst P (sym (take_more entries i d within)) (subst Q (sym is) (Found-append words s (take i entries) (get_or entries i d ∷ []) found later before here))
+
+-- each entry under a key has it
+pub is_under : (key_of : ℕ) (entries under : List Entry) (i : ℕ) (d : Entry) → under ≡ filter (λ (e : Entry). e.key == key_of) entries → i < length under → (get_or under i d).key ≡ key_of
+is_under key_of entries under i d is within =
+    let all = filter_passes (λ (e : Entry). e.key == key_of) entries in
+    let P : List Entry → Type 0 = λ es. All (λ (e : Entry). (e.key == key_of) ≡ true) es in
+    eqb-true (get_or under i d).key key_of (subst P (sym is) all i d within)
+
+-- what is found under the setup's key is found in the whole book
+pub Found-under : (words : List ℕ) (s : Position) (key_of : ℕ) (entries : List Entry) (found : List (Moved × ℕ)) → key_of ≡ key words s
+    → Found (filter (λ (e : Entry). e.key == key_of) entries) words s found → Found entries words s found
+Found-under words s key_of [] found is h = h
+Found-under words s key_of (e ∷ entries) found is h =
+    let under : List Entry = filter (λ (x : Entry). x.key == key_of) entries in
+    let P : Bool → Type 0 = λ here. Found (cond here (e ∷ under) under) words s found in
+    elim (eqb_tells e.key key_of) [
+      | inl same ↦ elim (subst P same.0 h) as (λ x. Found (e ∷ entries) words s found) [
+        | inl x ↦ inl (x.0, x.1, x.2, x.3, Found-under words s key_of entries x.1 is x.4)
+        | inr x ↦ inr (x.0, Found-under words s key_of entries found is x.1)
+      ]
+      | inr other ↦ inr ((λ m for. other.1 (for.key_is ∙ sym is)), Found-under words s key_of entries found is (subst P other.0 h))
+    ]
 
 pub found_is_one : FoundIsOne
 found_is_one [] words s pairs others setup x y = x ∙ sym y

@@ -11,6 +11,7 @@ pub mod LineLemmas
 pub mod Parity
 pub mod Places
 pub mod ReadsLemmas
+pub mod Runs
 pub mod SinkLemmas
 pub mod Tables
 pub mod TaskLemmas

@@ -24,10 +24,8 @@ pub fn probe(
 {
     let key = key_of(table, setup);
     let mut found = Vec::new(alloc);
-    for entry in book.entries() {
-        if entry.key == key
-            && let Some(m) = move_of(setup, entry.code)
-        {
+    for entry in book.under(key) {
+        if let Some(m) = move_of(setup, entry.code) {
             found.push((m, entry.weight))?;
         }
     }
