@@ -1,72 +1,10 @@
-//! Tables, keys, move codes and books, over tables that anyone can make: word i is 2^(i mod 64), or i, or 1.
+//! Tables, keys and move codes.
 
-use pb_board::{Setup, read_fen};
-use pb_moves::{Move, play, read_move};
-use pb_poly::{
-    Book, BookError, Entry, MemSink, MemSource, Sink, Table, TableError, code_of, key_of, move_of,
-    read_book, read_table, write_book, write_entry,
-};
-use std::alloc::{AllocError, Global};
+use pb_moves::play;
+use pb_poly::{TableError, code_of, key_of, move_of, read_table};
+use pb_samples::{START, Words, file_of, setup_of, small_file, spelled, table_of};
+use std::alloc::Global;
 use std::test::Fail;
-
-const START: &str = "rnbqkbnr/pppppppp/8/8/8/8/PPPPPPPP/RNBQKBNR w KQkq - 0 1";
-
-/// The words of a table.
-#[derive(Clone, Copy)]
-enum Words {
-    Powers,
-    Places,
-    Ones,
-}
-
-impl Words {
-    fn at(self, place: u64) -> u64 {
-        match self {
-            Words::Powers => 1 << (place % 64),
-            Words::Places => place,
-            Words::Ones => 1,
-        }
-    }
-}
-
-fn push_word(text: &mut Vec<u8>, word: u64, digits: &[u8; 16]) -> Result<(), AllocError> {
-    for byte in word.to_be_bytes() {
-        text.push(digits[(byte / 16) as usize])?;
-        text.push(digits[(byte % 16) as usize])?;
-    }
-    Ok(())
-}
-
-/// The file of a table with these digits and line ends.
-fn file_of(
-    alloc: Global,
-    words: Words,
-    digits: &[u8; 16],
-    ending: &[u8],
-) -> Result<Vec<u8>, AllocError> {
-    let mut text = Vec::new(alloc);
-    for place in 0..781_u64 {
-        push_word(&mut text, words.at(place), digits)?;
-        text.extend_from_slice(ending)?;
-    }
-    Ok(text)
-}
-
-fn small_file(alloc: Global, words: Words) -> Result<Vec<u8>, AllocError> {
-    file_of(alloc, words, b"0123456789abcdef", b"\n")
-}
-
-fn table_of(alloc: Global, words: Words) -> Result<Table, Fail> {
-    Ok(read_table(alloc, small_file(alloc, words)?.as_slice())?)
-}
-
-fn setup_of(record: &str) -> Result<Setup, Fail> {
-    Ok(read_fen(record.as_bytes())?.setup())
-}
-
-fn spelled(text: &str) -> Result<Move, Fail> {
-    Ok(read_move(text.as_bytes()).ok_or("no move")?)
-}
 
 /// Whether the file is that of these words.
 fn has_words(alloc: Global, words: Words, text: &[u8]) -> Result<bool, Fail> {
@@ -193,83 +131,5 @@ fn codes_of_no_move(rt: HostRuntime) -> Result<(), Fail> {
     assert_eq!(rt; move_of(&castling, 0x106), None);
     let start = setup_of(START)?;
     assert_eq!(rt; move_of(&start, 0x831c), None);
-    Ok(())
-}
-
-/// An entry with this key, and 7 as what was learnt.
-fn entry(key: u64) -> Entry {
-    Entry {
-        key,
-        code: 0,
-        weight: 0,
-        learn: 7,
-    }
-}
-
-#[test]
-fn books_come_back_in_any_pieces(rt: HostRuntime) -> Result<(), Fail> {
-    let mut sink = MemSink::new(rt.alloc());
-    write_entry(&mut sink, &entry(5))?;
-    write_entry(&mut sink, &entry(5))?;
-    for piece in 1..40_usize {
-        let mut source = MemSource::new(sink.as_bytes(), piece);
-        let book = read_book(rt.alloc(), &mut source, u32::MAX)?;
-        assert_eq!(rt;
-            book.entries(),
-            [entry(5), entry(5)].as_slice(),
-            "in pieces of {piece}"
-        );
-        let mut again = MemSink::new(rt.alloc());
-        write_book(&mut again, &book)?;
-        assert_eq!(rt; again.as_bytes(), sink.as_bytes(), "in pieces of {piece}");
-    }
-    Ok(())
-}
-
-#[test]
-fn other_bytes_are_no_books(rt: HostRuntime) -> Result<(), Fail> {
-    let zeros = [0; 17];
-    let cut = read_book(
-        rt.alloc(),
-        &mut MemSource::new(zeros.as_slice(), 17),
-        u32::MAX,
-    );
-    assert_eq!(rt; cut.err(), Some(BookError::Cut(1)));
-    let endless = read_book(rt.alloc(), &mut MemSource::new(zeros.as_slice(), 1), 2);
-    assert_eq!(rt; endless.err(), Some(BookError::Endless));
-    let mut sink = MemSink::new(rt.alloc());
-    write_entry(&mut sink, &entry(2))?;
-    write_entry(&mut sink, &entry(1))?;
-    let falling = read_book(
-        rt.alloc(),
-        &mut MemSource::new(sink.as_bytes(), 3),
-        u32::MAX,
-    );
-    assert_eq!(rt; falling.err(), Some(BookError::Unsorted(2)));
-    sink.put(b"x")?;
-    let before_cut = read_book(
-        rt.alloc(),
-        &mut MemSource::new(sink.as_bytes(), 64),
-        u32::MAX,
-    );
-    assert_eq!(rt; before_cut.err(), Some(BookError::Unsorted(2)));
-    Ok(())
-}
-
-#[test]
-fn entries_of_a_book_never_fall(rt: HostRuntime) -> Result<(), Fail> {
-    let mut entries = Vec::new(rt.alloc());
-    entries.push(entry(2))?;
-    entries.push(entry(2))?;
-    entries.push(entry(1))?;
-    match Book::of(entries) {
-        Ok(_book) => assert!(rt; false, "a falling key was taken"),
-        Err((number, back)) => {
-            assert_eq!(rt; number, 3);
-            assert_eq!(rt; back.len(), 3);
-        }
-    }
-    let book = Book::of(Vec::new(rt.alloc()));
-    assert!(rt; book.is_ok(), "a book may have no entries");
     Ok(())
 }
