@@ -5,6 +5,8 @@ pub mod Entries
 pub mod EntryBytes
 pub mod Feeds
 pub mod Finding
+pub mod KeyChanges
+pub mod KeyPlies
 pub mod Keys
 pub mod LineBufferLemmas
 pub mod LineLemmas

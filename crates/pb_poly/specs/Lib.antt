@@ -5,6 +5,7 @@ pub mod Entry
 pub mod Feeding
 pub mod Found
 pub mod Key
+pub mod KeyChange
 pub mod LineBuffer
 pub mod LineTask
 pub mod Lines
