@@ -1,5 +1,13 @@
+mod Commands
 mod Digits
+mod Hexadecimals
+mod Judging
+mod Lines
 mod Moves
+mod OnlyTables
+mod Probing
 mod Puts
 mod Rewriting
 mod Shown
+mod TableFills
+mod Told

@@ -23,6 +23,13 @@ fen_command = with_rule (with_rule (new_app (codes "fen")) (required_word (codes
 abbrev pub epd_command : App
 epd_command = new_app (codes "epd")
 
+abbrev pub show_command : App
+show_command = with_rule (new_app (codes "show")) (required_word (codes "BOOK"))
+
+abbrev pub probe_command : App
+probe_command = with_rule (with_rule (with_rule (new_app (codes "probe")) (required_word (codes "TABLE"))) (required_word (codes "BOOK")))
+    (required_word (codes "FEN"))
+
 -- the program, before its commands
 abbrev pub program_alone : App
 program_alone = on_top (λ s. record s {
@@ -33,4 +40,5 @@ program_alone = on_top (λ s. record s {
 
 -- the whole command line
 abbrev pub pbook : App
-pbook = with_subcommand (with_subcommand program_alone fen_command.top) epd_command.top
+pbook = with_subcommand (with_subcommand (with_subcommand (with_subcommand program_alone fen_command.top) epd_command.top) show_command.top)
+    probe_command.top

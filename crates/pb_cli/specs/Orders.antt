@@ -1,5 +1,6 @@
 -- What an order has of the words of the command line.
 use Rattle.std.specs.Prelude.{◌≡◌, List, [], Option, Some, codes, unwrap_or}
+use Rattle.std.specs.Borrow.{Bor}
 use Rattle.clap.specs.Words.{Row, Text, all_of, first_of}
 use Rattle.clap.specs.Walk.{texts}
 use Rattle.pb_cli.specs.declared.order.Order.{Order}
@@ -11,12 +12,19 @@ use Rattle.pb_cli.specs.declared.order.Order.TheVariants as order
 abbrev pub name_of : Order → Text
 name_of (order.Fen _ _) = codes "fen"
 name_of order.Epd = codes "epd"
+name_of (order.Show _) = codes "show"
+name_of (order.Probe _ _ _) = codes "probe"
+
+-- the argument of this name was given this word
+abbrev pub HasWord : Text → Bor Text → List Row → Type 0
+HasWord id word rows = first_of id rows ≡ Some word.now
 
 -- the order has the words of these matches
 abbrev pub HasWords : Order → List Row → Type 0
-HasWords (order.Fen fen moves) rows = (first_of (codes "FEN") rows ≡ Some fen.now)
-    × (texts moves.items ≡ unwrap_or (all_of (codes "MOVES") rows) [])
+HasWords (order.Fen fen moves) rows = HasWord (codes "FEN") fen rows × (texts moves.items ≡ unwrap_or (all_of (codes "MOVES") rows) [])
 HasWords order.Epd rows = Unit {0}
+HasWords (order.Show book) rows = HasWord (codes "BOOK") book rows
+HasWords (order.Probe table book fen) rows = HasWord (codes "TABLE") table rows × HasWord (codes "BOOK") book rows × HasWord (codes "FEN") fen rows
 
 -- the order is that of the command that was found, with its words as the matches give them
 abbrev pub IsOrderOf : Order → Option (Text × List Row) → Type 0

@@ -2,7 +2,7 @@
 ghost use Rattle.std.specs.Prelude.{◌≡◌, IfOk, codes, false};
 ghost use Rattle.clap.specs.Words.{rule_of};
 ghost use Rattle.pb_cli.specs.Built.{IsCommand};
-ghost use Rattle.pb_cli.specs.CommandLine.{epd_command, fen_command, further_words, pbook, program_alone, required_word};
+ghost use Rattle.pb_cli.specs.CommandLine.{epd_command, fen_command, further_words, pbook, probe_command, program_alone, required_word, show_command};
 
 use clap::{Arg, ArgAction, Command};
 use std::alloc::{AllocError, Global};
@@ -15,6 +15,13 @@ const RECORD_HELP: &str =
 const MOVES_HELP: &str =
     "Moves in turn, each as the square it leaves, the square it reaches and the letter of a promotion, like e2e4, e1g1 or e7e8q";
 
+/// What a book file is, for the help of each command that reads one.
+const BOOK_HELP: &str = "A PolyGlot book file";
+
+/// What a table file is, for the help of each command that reads one.
+const TABLE_HELP: &str =
+    "A file of the 781 words that keys are made of, each a line of 16 hexadecimal digits";
+
 /// The whole command line.
 pub fn command_line<'a>(alloc: Global) -> Result<Command<'a>, AllocError>
     ensures { IfOk result (IsCommand pbook) }
@@ -22,7 +29,9 @@ pub fn command_line<'a>(alloc: Global) -> Result<Command<'a>, AllocError>
     let alone = program(alloc)?;
     let with_fen = alone.subcommand(fen(alloc)?)?;
     let with_epd = with_fen.subcommand(epd(alloc))?;
-    Ok(with_epd)
+    let with_show = with_epd.subcommand(show(alloc)?)?;
+    let with_probe = with_show.subcommand(probe(alloc)?)?;
+    Ok(with_probe)
 }
 
 /// The program without its commands. Its name in usage lines is `pbook`, however it was called.
@@ -55,6 +64,28 @@ fn epd<'a>(alloc: Global) -> Command<'a>
     Command::new(alloc, "epd").about(
         "Rewrites EPD lines from standard input, each in its one ordered form",
     )
+}
+
+fn show<'a>(alloc: Global) -> Result<Command<'a>, AllocError>
+    ensures { IfOk result (IsCommand show_command) }
+{
+    let bare = Command::new(alloc, "show").about(
+        "Prints the entries of a book, each as key, code, weight and learn value in hexadecimal digits",
+    );
+    let whole = bare.arg(required(alloc, "BOOK", BOOK_HELP))?;
+    Ok(whole)
+}
+
+fn probe<'a>(alloc: Global) -> Result<Command<'a>, AllocError>
+    ensures { IfOk result (IsCommand probe_command) }
+{
+    let bare = Command::new(alloc, "probe").about(
+        "Prints the moves that a book has for a FEN record, each with its weight",
+    );
+    let with_table = bare.arg(required(alloc, "TABLE", TABLE_HELP))?;
+    let with_book = with_table.arg(required(alloc, "BOOK", BOOK_HELP))?;
+    let whole = with_book.arg(required(alloc, "FEN", RECORD_HELP))?;
+    Ok(whole)
 }
 
 /// A word that has to be given.

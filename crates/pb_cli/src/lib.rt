@@ -7,10 +7,17 @@ mod epd;
 mod fault;
 mod fen;
 mod grammar;
+mod hexadecimal;
 mod order;
 mod output;
+mod probe;
+mod refusal;
+mod show;
+mod table;
 
 pub use epd::run_epd;
 pub use fault::{Fault, status};
 pub use fen::run_fen;
 pub use order::{Order, ParseFault, parse};
+pub use probe::run_probe;
+pub use show::run_show;

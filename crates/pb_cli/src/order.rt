@@ -24,6 +24,20 @@ pub enum Order<'a> {
     },
     /// Rewrites EPD lines from standard input.
     Epd,
+    /// Shows the entries of a book.
+    Show {
+        /// The path of the book.
+        book: &'a str,
+    },
+    /// Shows the moves that a book has for a FEN record.
+    Probe {
+        /// The path of the table.
+        table: &'a str,
+        /// The path of the book.
+        book: &'a str,
+        /// The record, its six fields as one word.
+        record: &'a str,
+    },
 }
 
 /// Why the command line gives no order.
@@ -81,6 +95,12 @@ fn order_of<'a>(alloc: Global, matches: &ArgMatches<'a>) -> Result<Order<'a>, Pa
     if matches.subcommand_matches("epd").is_some() {
         return Ok(Order::Epd);
     }
+    if let Some(given) = matches.subcommand_matches("show") {
+        return show(alloc, given);
+    }
+    if let Some(given) = matches.subcommand_matches("probe") {
+        return probe(alloc, given);
+    }
     Err(ParseFault::Usage(String::new(alloc)))
 }
 
@@ -92,6 +112,28 @@ fn fen<'a>(alloc: Global, given: &ArgMatches<'a>) -> Result<Order<'a>, ParseFaul
     let record = word(alloc, given, "FEN")?;
     let moves = words(alloc, given, "MOVES")?;
     Ok(Order::Fen { record, moves })
+}
+
+fn show<'a>(alloc: Global, given: &ArgMatches<'a>) -> Result<Order<'a>, ParseFault>
+    ensures words { IfOk result (λ order. (name_of order ≡ codes "show")
+        × HasWords order (rows_of (found_of given.now))) }
+    ensures refused { IfErr result (RefusesFor (codes "show") (rows_of (found_of given.now))) }
+{
+    Ok(Order::Show {
+        book: word(alloc, given, "BOOK")?,
+    })
+}
+
+fn probe<'a>(alloc: Global, given: &ArgMatches<'a>) -> Result<Order<'a>, ParseFault>
+    ensures words { IfOk result (λ order. (name_of order ≡ codes "probe")
+        × HasWords order (rows_of (found_of given.now))) }
+    ensures refused { IfErr result (RefusesFor (codes "probe") (rows_of (found_of given.now))) }
+{
+    Ok(Order::Probe {
+        table: word(alloc, given, "TABLE")?,
+        book: word(alloc, given, "BOOK")?,
+        record: word(alloc, given, "FEN")?,
+    })
 }
 
 /// A required word, which clap has where it gives matches.

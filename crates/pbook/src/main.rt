@@ -1,9 +1,10 @@
 //! The program `pbook`: opens what the command line names and hands it to the commands.
 #![tactic(auto)]
 
-use pb_cli::{Fault, Order, ParseFault, parse, run_epd, run_fen, status};
+use pb_cli::{Fault, Order, ParseFault, parse, run_epd, run_fen, run_probe, run_show, status};
 use pb_poly::{FromRead, Sink, ToWrite};
 use std::alloc::AllocError;
+use std::fs::File;
 use std::io::{BufWriter, Write};
 use std::process::ExitCode;
 use std::{env, io};
@@ -53,7 +54,14 @@ fn want_of_memory(rt: &HostRuntime) -> u8 {
     status(Err(Fault::Memory))
 }
 
-/// Runs the command over standard output and answers the exit status.
+/// Tells that a file could not be opened, and answers the status of a fault.
+fn no_file(rt: &HostRuntime) -> u8 {
+    let _ = println!(rt; "fault open");
+    status(Err(Fault::Read))
+}
+
+/// Runs the command over standard output and answers the exit status. The files that it reads are opened before anything is
+/// read.
 fn perform(rt: &HostRuntime, order: &Order<'_>) -> u8 {
     let alloc = rt.alloc();
     let Ok(writer) = BufWriter::with_capacity(alloc, PIECE, io::writer(rt)) else {
@@ -67,6 +75,32 @@ fn perform(rt: &HostRuntime, order: &Order<'_>) -> u8 {
         Order::Epd => {
             let mut input = FromRead::new(rt.reader());
             run_epd(alloc, &mut input, &mut output, u32::MAX)
+        }
+        Order::Show { book } => {
+            let Ok(book) = File::open(rt, *book) else {
+                return no_file(rt);
+            };
+            run_show(alloc, &mut FromRead::new(book), &mut output, u32::MAX)
+        }
+        Order::Probe {
+            table,
+            book,
+            record,
+        } => {
+            let Ok(table) = File::open(rt, *table) else {
+                return no_file(rt);
+            };
+            let Ok(book) = File::open(rt, *book) else {
+                return no_file(rt);
+            };
+            run_probe(
+                alloc,
+                &mut FromRead::new(table),
+                &mut FromRead::new(book),
+                record.as_bytes(),
+                &mut output,
+                u32::MAX,
+            )
         }
     };
     if let Err(fault) = answer {

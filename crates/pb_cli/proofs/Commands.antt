@@ -1,0 +1,18 @@
+-- Commands of clap that are built up.
+use Rattle.std.proofs.Common.{◌≡◌, ◌∙◌, ◌||◌, Bool, ap, false}
+use Rattle.clap.specs.Built.{AddsSubcommand}
+use Rattle.clap.specs.Words.{App, with_subcommand}
+use Rattle.clap.specs.Simple.{app_of}
+use Rattle.clap.specs.declared.builder.command.Command.{Command}
+use Rattle.pb_cli.specs.Built.{IsCommand}
+
+neither : (a b c : Bool) → a ≡ (b || c) → b ≡ false → c ≡ false → a ≡ false
+neither a b c is left right = is ∙ ap (λ x. x || c) left ∙ right
+
+-- a command with one subcommand more
+pub IsCommand-adds : (old sub new : Command) (a b : App) → IsCommand a old → IsCommand b sub → AddsSubcommand old sub new → IsCommand (with_subcommand a b.top) new
+IsCommand-adds old sub new a b h k adds = (
+  adds.shape k.1 ∙ ap (λ (x : App). with_subcommand x (app_of sub).top) h.0 ∙ ap (λ (x : App). with_subcommand a x.top) k.0,
+  neither _ _ _ adds.globals h.1 k.1,
+  neither _ _ _ adds.broken h.2 k.2,
+)

@@ -1,0 +1,38 @@
+//! Lines that say why an input is refused.
+ghost use Rattle.std.specs.Prelude.{◌++◌, decimal};
+ghost use Rattle.pb_cli.specs.Line.{joined, with_end};
+ghost use Rattle.pb_cli.specs.Refuses.{Refuses, RefusesForBook};
+
+use crate::decimal::Decimal;
+use crate::fault::Fault;
+use crate::output::show_line;
+use pb_poly::{BookError, Sink};
+
+/// Shows the line of these parts and answers that the input was refused.
+pub fn refuse<K: Sink>(sink: &mut K, parts: &[&[u8]]) -> Result<bool, Fault>
+    ensures { Refuses (K.state sink.old) (K.state sink.new) result (with_end (joined parts.now)) }
+{
+    show_line(sink, parts)?;
+    Ok(false)
+}
+
+/// The same of a line that ends with a number.
+pub fn refuse_with<K: Sink>(sink: &mut K, words: &[u8], number: usize) -> Result<bool, Fault>
+    ensures { Refuses (K.state sink.old) (K.state sink.new) result (with_end (words.now ++ decimal number)) }
+{
+    let digits = Decimal::new(number as u64);
+    refuse(sink, &[words, digits.as_bytes()])
+}
+
+/// Shows why a book is refused, or answers the fault that ended its reading.
+pub fn refuse_book<K: Sink>(sink: &mut K, error: BookError) -> Result<bool, Fault>
+    ensures { RefusesForBook (K.state sink.old) (K.state sink.new) result error }
+{
+    match error {
+        BookError::Unsorted(number) => refuse_with(sink, b"refused book unsorted ", number),
+        BookError::Cut(extra) => refuse_with(sink, b"refused book cut ", extra),
+        BookError::Read => Err(Fault::Read),
+        BookError::Endless => Err(Fault::Endless),
+        BookError::Memory => Err(Fault::Memory),
+    }
+}
