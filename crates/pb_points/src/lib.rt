@@ -1,0 +1,10 @@
+//! Points of moves under keys, kept as games arrive, and the weights and entries that are made of them.
+#![tactic(auto)]
+
+mod row;
+mod tally;
+mod weight;
+
+pub use row::Row;
+pub use tally::Tally;
+pub use weight::scale;
