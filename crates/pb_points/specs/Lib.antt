@@ -1,3 +1,4 @@
+pub mod MapTally
 pub mod Rows
 pub mod Tally
 pub mod Weight

@@ -1,0 +1,2 @@
+pub mod MapRows
+pub mod Pairs
