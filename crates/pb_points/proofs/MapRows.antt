@@ -1,15 +1,12 @@
 -- An ordered map as a tally.
-use Rattle.std.proofs.Common.{◌≡◌, ℕ, ◌+◌, ◌<◌, ◌↔◌, Bool, true, false, cond, if◌then◌else◌, Option, Some, None, IsSome, is_some, unwrap_or, List, [], ◌∷◌, map, length, Contains, AllPairs, refl, sym, ap, ◌∙◌, inl, inr, arith, option_map}
-use Rattle.std.specs.declared.cmp.Ordering.TheVariants.{Less, Equal, Greater}
+use Rattle.std.proofs.Common.{◌≡◌, ℕ, ◌+◌, ◌<◌, ◌↔◌, Bool, true, false, cond, if◌then◌else◌, Option, Some, None, IsSome, is_some, unwrap_or, List, [], ◌∷◌, map, length, Contains, AllPairs, refl, sym, ap, ◌∙◌, arith, option_map}
+use Rattle.std.specs.declared.cmp.Ordering.TheVariants.{Less}
 use Rattle.std.specs.BTreeMap.{BTreeMap, get, is_at, IsOrdered}
-use Rattle.std.specs.Ordering.{nat_cmp}
-use Rattle.std.specs.Cmp.{IsTotalOrder}
+use Rattle.std.specs.Ordering.{nat_cmp, is_lt}
 use Rattle.std.specs.List.{AllByRecursion}
 use Rattle.std.specs.List.Sorted.{IsStrictlySortedBy}
 use Rattle.std.specs.Map.{keys_of}
-use Rattle.std.proofs.lemmas.Bool.{cases_lt}
 use Rattle.std.proofs.lemmas.Bool.Decides.{nat_tests}
-use Rattle.std.proofs.lemmas.Cmp.{nat_cmp_total, then_total, on_total}
 use Rattle.std.proofs.lemmas.List.{get_or-map, length-map}
 use Rattle.std.proofs.lemmas.List.Elements.{All-from_recursion}
 use Rattle.std.proofs.lemmas.List.Kept.{AllPairs-cons}
@@ -19,11 +16,9 @@ use Rattle.std.proofs.lemmas.Map.Views.{btree_map_get_iff}
 use Rattle.pb_points.specs.declared.row.Row.{Row}
 use Rattle.pb_points.specs.Rows.{IsBelow}
 use Rattle.pb_points.specs.Tally.{Held, MakesRow, AddsPoints, held, held_of, is_pair}
+use Rattle.pb_points.specs.ListTally.{same_pair}
 use Rattle.pb_points.specs.MapTally.{pair_cmp, map_content}
-use Rattle.pb_points.proofs.Pairs.{is_pair_same}
-
-pair_total : IsTotalOrder pair_cmp
-pair_total = then_total (on_total (λ (x : ℕ × ℕ). x.0) nat_cmp_total) (on_total (λ (x : ℕ × ℕ). x.1) nat_cmp_total)
+use Rattle.pb_points.proofs.Pairs.{below, is_pair_same, pair_total}
 
 pair_exact : CmpEqualImpliesEq pair_cmp
 pair_exact = exact_pairs nat_cmp nat_cmp exact_unsigned exact_unsigned
@@ -79,31 +74,14 @@ adds_there f h key code p n had sets k c =
 abbrev pub entry_row : (ℕ × ℕ) × ℕ → Row
 entry_row e = record { key = e.0.0; code = e.0.1; points = e.1 }
 
-key_down : (x y : ℕ × ℕ) → y.0 < x.0 → pair_cmp x y ≡ Greater
-key_down x y h = grind (arith, nat_tests)
-
-code_down : (x y : ℕ × ℕ) → x.0 ≡ y.0 → y.1 < x.1 → pair_cmp x y ≡ Greater
-code_down x y e h = grind (arith, nat_tests)
-
-code_same : (x y : ℕ × ℕ) → x.0 ≡ y.0 → x.1 ≡ y.1 → pair_cmp x y ≡ Equal
-code_same x y e h = grind (arith, nat_tests)
-
 below_less : (x y : (ℕ × ℕ) × ℕ) → pair_cmp x.0 y.0 ≡ Less → IsBelow (entry_row x) (entry_row y)
-below_less x y h = elim (cases_lt x.0.0 y.0.0) [
-  | inl up ↦ inl up
-  | inr k ↦ elim (cases_lt y.0.0 x.0.0) [
-    | inl down ↦ let e : Less ≡ Greater = sym h ∙ key_down x.0 y.0 down in cc
-    | inr l ↦
-        let key : x.0.0 ≡ y.0.0 = omega arith in
-        elim (cases_lt x.0.1 y.0.1) [
-          | inl low ↦ inr (key, low)
-          | inr m ↦ elim (cases_lt y.0.1 x.0.1) [
-            | inl high ↦ let e : Less ≡ Greater = sym h ∙ code_down x.0 y.0 key high in cc
-            | inr n ↦ let code : x.0.1 ≡ y.0.1 = omega arith in let e : Less ≡ Equal = sym h ∙ code_same x.0 y.0 key code in cc
-          ]
-        ]
-  ]
-]
+below_less x y h = below (entry_row x) (entry_row y) (not_late x.0 y.0 h) (not_same (entry_row x) (entry_row y) h)
+  where
+    not_late : (x y : ℕ × ℕ) → pair_cmp x y ≡ Less → is_lt (pair_cmp y x) ≡ false
+    not_late x y h = grind (arith, nat_tests)
+
+    not_same : (r s : Row) → pair_cmp (r.key, r.code) (s.key, s.code) ≡ Less → same_pair r s ≡ false
+    not_same r s h = grind (arith, nat_tests)
 
 all_below : (e : (ℕ × ℕ) × ℕ) (es : List ((ℕ × ℕ) × ℕ)) → AllByRecursion (λ y. pair_cmp e.0 y ≡ Less) (keys_of es) → AllByRecursion (λ r. IsBelow (entry_row e) r) (map entry_row es)
 all_below e [] h = tt
