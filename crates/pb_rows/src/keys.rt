@@ -1,9 +1,10 @@
 //! Tables, keys and move codes.
 
 use pb_moves::play;
-use pb_poly::{TableError, code_of, key_of, move_of, read_table};
+use pb_poly::{TableError, code_of, key_after, key_of, move_of, read_table};
 use pb_samples::{START, Words, file_of, setup_of, small_file, spelled, table_of};
 use std::alloc::Global;
+use std::process::Abort;
 use std::test::Fail;
 
 /// Whether the file is that of these words.
@@ -132,4 +133,53 @@ fn codes_of_no_move(rt: HostRuntime) -> Result<(), Fail> {
     let start = setup_of(START)?;
     assert_eq!(rt; move_of(&start, 0x831c), None);
     Ok(())
+}
+
+/// The keys after these moves from a record, each made from the key before.
+fn expect_keys_after(
+    rt: &impl Abort,
+    alloc: Global,
+    words: Words,
+    record: &str,
+    moves: &[(&str, u64)],
+) -> Result<(), Fail> {
+    let table = table_of(alloc, words)?;
+    let mut setup = setup_of(record)?;
+    let mut key = key_of(&table, &setup);
+    for (text, want) in moves {
+        let m = spelled(text)?;
+        let after = play(&setup, m).ok_or("not legal")?;
+        key = key_after(&table, key, &setup, m, &after);
+        assert_eq!(rt; key, *want, "{record} {text}");
+        setup = after;
+    }
+    Ok(())
+}
+
+#[test]
+fn keys_change_with_moves(rt: HostRuntime) -> Result<(), Fail> {
+    expect_keys_after(
+        &rt,
+        rt.alloc(),
+        Words::Powers,
+        START,
+        &[
+            ("e2e4", 0xffff_0000_1000_eff0),
+            ("e7e5", 0xffef_0010_1000_fff0),
+        ],
+    )?;
+    expect_keys_after(
+        &rt,
+        rt.alloc(),
+        Words::Places,
+        "4k3/8/8/8/8/8/8/R3K2R w KQ - 0 1",
+        &[("e1g1", 0x7f)],
+    )?;
+    expect_keys_after(
+        &rt,
+        rt.alloc(),
+        Words::Places,
+        "4k3/8/8/8/3pP3/8/8/4K3 b - e3 0 1",
+        &[("d4e3", 0x360)],
+    )
 }

@@ -19,3 +19,5 @@ mod moves;
 mod rewriting;
 #[cfg(test)]
 mod setup;
+#[cfg(test)]
+mod showing;
