@@ -4,8 +4,11 @@ use Rattle.std.specs.Prelude.{slice_index}
 use Rattle.std.specs.Bool.{beq}
 use Rattle.std.specs.Int.{bit_at}
 use Rattle.std.proofs.lemmas.Nat.Bits.{bit_at-zero, same_from_bits_below}
+use Rattle.pb_board.specs.declared.piece.Colour.{Colour}
+use Rattle.pb_board.specs.declared.piece.Colour.TheVariants.{White, Black}
 use Rattle.pb_board.specs.declared.piece.Piece.{Piece}
 use Rattle.pb_board.specs.declared.setup.Rights.{Rights}
+use Rattle.pb_board.specs.Piece.{opponent}
 use Rattle.pb_board.specs.Board.{Board, Place, at}
 use Rattle.pb_board.specs.Position.{Position}
 use Rattle.pb_moves.specs.Moved.{Moved}
@@ -51,6 +54,10 @@ board_change f old new squares full full_new covers =
     let changed = changed_are f old new squares in
     omega (arith, moved, changed)
 
+turn_changes : (f : ℕ → ℕ) (side : Colour) → (total f (turn_places side) + total f (780 ∷ [])) % 2 ≡ total f (turn_places (opponent side)) % 2
+turn_changes f White = omega arith
+turn_changes f Black = omega arith
+
 places_total : (f : ℕ → ℕ) (s : Position) → total f (places s) ≡ total f (piece_places s.board 0) + total f (rights_places s.rights) + total f (passed_places s s.ep) + total f (turn_places s.turn)
 places_total f s = four_lists f (piece_places s.board 0) (rights_places s.rights) (passed_places s s.ep) (turn_places s.turn)
 
@@ -62,13 +69,12 @@ pub record IsJoined (words : List ℕ) (s t : Position) (squares : List ℕ) (k 
   pub rights : ℕ
   pub unpassed : ℕ
   pub passed : ℕ
-  pub unturned : ℕ
   pub pieces_is : pieces ≡ joined words k (changed_places s.board t.board squares)
   pub rights_is : rights ≡ joined words pieces (lost_places s.rights t.rights)
   pub unpassed_is : unpassed ≡ joined words rights (passed_places s s.ep)
   pub passed_is : passed ≡ joined words unpassed (passed_places t t.ep)
-  pub unturned_is : unturned ≡ joined words passed (turn_places s.turn)
-  pub is : l ≡ joined words unturned (turn_places t.turn)
+  pub turn : t.turn ≡ opponent s.turn
+  pub is : l ≡ joined words passed (780 ∷ [])
 
 changed_first : (old new : Board) (q : ℕ) (squares : List ℕ) → changed_places old new (q ∷ []) ++ changed_places old new squares ≡ changed_places old new (q ∷ squares)
 changed_first old new q squares = simp append_assoc
@@ -114,10 +120,11 @@ key_follows words s t squares k l table full full_new covers before below joins 
     let b = next_bit words bit joins.pieces joins.rights (lost_places s.rights t.rights) joins.rights_is in
     let c = next_bit words bit joins.rights joins.unpassed (passed_places s s.ep) joins.unpassed_is in
     let d = next_bit words bit joins.unpassed joins.passed (passed_places t t.ep) joins.passed_is in
-    let e = next_bit words bit joins.passed joins.unturned (turn_places s.turn) joins.unturned_is in
-    let g = next_bit words bit joins.unturned l (turn_places t.turn) joins.is in
+    let e = next_bit words bit joins.passed l (780 ∷ []) joins.is in
+    let turn = turn_changes f s.turn in
+    let turned = ap (λ (c : Colour). total f (turn_places c)) joins.turn in
     let board = board_change f s.board t.board squares full full_new covers in
     let rights = rights_change f s.rights t.rights in
     let had = places_total f s in
     let has = places_total f t in
-    omega (arith, start, end, a, b, c, d, e, g, board, rights, had, has))
+    omega (arith, start, end, a, b, c, d, e, turn, turned, board, rights, had, has))

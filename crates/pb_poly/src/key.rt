@@ -8,6 +8,9 @@ ghost use Rattle.pb_poly.specs.Key.{IsKey, has_taker as has_taker_by, is_pawn_of
 use crate::table::Table;
 use pb_board::{Colour, Kind, Piece, Rights, Setup, Square};
 
+/// The place of the word for White to move.
+pub(crate) const WHITE_TO_MOVE: usize = 780;
+
 // The number of a kind of pieces in the table's order.
 fn kind_number(kind: Kind) -> usize
     ensures value { result ≡ kind_number_by kind }
@@ -114,11 +117,11 @@ pub(crate) fn with_passed(table: &Table, key: u64, setup: &Setup) -> u64
 }
 
 // The key, joined by the word for White to move.
-pub(crate) fn with_turn(table: &Table, key: u64, turn: Colour) -> u64
+fn with_turn(table: &Table, key: u64, turn: Colour) -> u64
     ensures { result ≡ joined table.now key (turn_places turn) }
 {
     match turn {
-        Colour::White => key ^ table.word(780),
+        Colour::White => key ^ table.word(WHITE_TO_MOVE),
         Colour::Black => key,
     }
 }

@@ -6,7 +6,7 @@ ghost use Rattle.pb_moves.specs.After.{After};
 ghost use Rattle.pb_poly.specs.Key.{IsKey, joined, key as key_by};
 ghost use Rattle.pb_poly.specs.KeyChange.{changed_places, lost_places, rook_squares as rook_squares_by, square_places, squares_beside};
 
-use crate::key::{piece_place, with_flag, with_passed, with_turn};
+use crate::key::{WHITE_TO_MOVE, piece_place, with_flag, with_passed};
 use crate::table::Table;
 use pb_board::{Kind, Piece, Rights, Setup, Square};
 use pb_moves::Move;
@@ -50,26 +50,35 @@ fn rook_squares(from: Square, to: Square) -> Option<(u8, u8)>
     }
 }
 
+// The key, joined by the words of the rook's squares, where a king castles between these squares.
+fn with_rook(table: &Table, key: u64, before: &Setup, m: Move, after: &Setup) -> u64
+    ensures { result ≡ joined table.now key (changed_places before.now.board after.now.board (rook_squares_by m.from m.to)) }
+{
+    match rook_squares(m.from(), m.to()) {
+        Some((left, reached)) => {
+            let without = with_square(table, key, before, after, left);
+            with_square(table, without, before, after, reached)
+        }
+        None => key,
+    }
+}
+
 // The key, joined by the words of the squares besides the move's own two: that of a pawn taken in passing, and those of a
 // rook that castles.
 fn with_beside(table: &Table, key: u64, before: &Setup, m: Move, after: &Setup) -> u64
     ensures { result ≡ joined table.now key (changed_places before.now.board after.now.board (squares_beside (at before.now.board m.from) m)) }
 {
     let (from, to) = (m.from(), m.to());
-    let kind = match before.at(from) {
-        Some(piece) => piece.kind,
-        None => return key,
+    let Some(piece) = before.at(from) else {
+        return key;
     };
-    if kind == Kind::Pawn && to.file() != from.file() {
+    if piece.kind == Kind::Pawn && to.file() != from.file() {
         return with_square(table, key, before, after, 8 * from.rank() + to.file());
     }
-    match rook_squares(from, to) {
-        Some((left, reached)) if kind == Kind::King => {
-            let without = with_square(table, key, before, after, left);
-            with_square(table, without, before, after, reached)
-        }
-        _ => key,
+    if piece.kind == Kind::King {
+        return with_rook(table, key, before, m, after);
     }
+    key
 }
 
 // The key, joined by the words of the castling rights that one of the two has.
@@ -90,14 +99,13 @@ pub fn key_after(table: &Table, key: u64, before: &Setup, m: Move, after: &Setup
     ensures parity { IsKey table.now after.now result }
     ensures value { result ≡ key_by table.now after.now }
 {
-    // The reader tells that the table meets its rules.
-    let _words = table.words();
+    // The readers tell that the table and the setups meet their rules.
+    let (_words, _turn, _turned) = (table.words(), before.turn(), after.turn());
     let left = with_square(table, key, before, after, m.from().index());
     let reached = with_square(table, left, before, after, m.to().index());
     let pieces = with_beside(table, reached, before, m, after);
     let rights = with_lost(table, pieces, before.rights(), after.rights());
     let unpassed = with_passed(table, rights, before);
     let passed = with_passed(table, unpassed, after);
-    let unturned = with_turn(table, passed, before.turn());
-    with_turn(table, unturned, after.turn())
+    passed ^ table.word(WHITE_TO_MOVE)
 }
