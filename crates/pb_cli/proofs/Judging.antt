@@ -1,6 +1,6 @@
 -- What a command puts that judges its input, from what its parts do.
 use Rattle.std.proofs.Common.{◌≡◌, ◌∙◌, ℕ, Bool, List, Option, Some, None, Result, Ok, Err, false, refl, subst, sym, take, true}
-use Rattle.std.specs.Prelude.{IfErr, IfOk, IfSome}
+use Rattle.std.specs.Prelude.{IfErr, IfOk, IfSome, MatchResult}
 use Rattle.std.specs.Io.KnownBytes.{Appends}
 use Rattle.pb_poly.specs.Sink.{SinkState}
 use Rattle.pb_poly.specs.Source.{SourceState}
@@ -91,3 +91,18 @@ pub told_as : (judges : Bool → List ℕ → Type 0) (others : List ℕ → Boo
 told_as judges others sink sink' None (Ok answer) as_other h = tt
 told_as judges others sink sink' (Some bytes) (Ok answer) as_other h = text_as judges (others bytes) sink sink' answer (as_other bytes refl answer) h
 told_as judges others sink sink' told (Err e) as_other h = tt
+
+-- where the input shows one text and no fault of reading comes, that text is put, or memory was wanting
+module _ (judges others : Bool → List ℕ → Type 0) (stops : Fault → Type 0) (sink sink' : SinkState) (works : sink'.failed ≡ false)
+    (as_other : (answer : Bool) (out : List ℕ) → judges answer out → others answer out)
+    (one : (a b : Bool) (x y : List ℕ) → others a x → others b y → (a ≡ b) × (x ≡ y))
+    (no_read : stops Read → ⊥) (no_endless : stops Endless → ⊥) (answer : Bool) (out : List ℕ) (is : others answer out) where
+  pub only_text : (result : Result Bool Fault) → IfOk result (PutsText judges sink sink') → IfErr result (PutsUntil judges stops sink sink')
+      → MatchResult result (λ taken. (taken ≡ answer) × Appends sink.bytes sink'.bytes out) (λ e. e ≡ Memory)
+  only_text (Ok taken) h until =
+      let same = one taken answer h.out out (as_other taken h.out h.judged) is in
+      (same.0, subst (λ (bytes : List ℕ). Appends sink.bytes sink'.bytes bytes) same.1 h.put)
+  only_text (Err Write) h until = absurd (cc (sym until.fails ∙ works))
+  only_text (Err Read) h until = absurd (no_read until.0)
+  only_text (Err Endless) h until = absurd (no_endless until.0)
+  only_text (Err Memory) h until = refl

@@ -4,6 +4,8 @@ mod Hexadecimals
 mod Judging
 mod Lines
 mod Moves
+mod OneBook
+mod OneProbe
 mod OnlyTables
 mod Probing
 mod Puts

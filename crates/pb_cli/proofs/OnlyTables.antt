@@ -1,19 +1,18 @@
 -- What is read from a source that tells the bytes of a table file.
-use Rattle.std.proofs.Common.{◌≡◌, ◌∙◌, ℕ, ◌+◌, ◌<◌, ◌≤◌, List, ◌++◌, Result, Ok, Err, ap, arith, length, length-append, refl, subst, sym}
+use Rattle.std.proofs.Common.{◌≡◌, ℕ, List, Result, Ok, Err, ap, arith, length, length-append, refl, subst, sym}
 use Rattle.std.specs.Prelude.{IfErr, IfOk, MatchResult}
 use Rattle.pb_poly.specs.Source.{SourceState}
 use Rattle.pb_poly.specs.Lines.{lines}
 use Rattle.pb_poly.specs.Reading.{Tells}
-use Rattle.pb_poly.specs.Table.{IsDueTable, SpellsWord}
+use Rattle.pb_poly.specs.Table.{IsDueTable}
 use Rattle.pb_poly.specs.declared.table.TableError.{TableError}
 use Rattle.pb_poly.specs.declared.table.TableError.TheVariants as poly
 use Rattle.pb_poly.proofs.Tables.{only_memory, words_are_one}
-use Rattle.std.specs.List.{AllZip}
 use Rattle.pb_cli.specs.declared.table.TableFault.{TableFault}
 use Rattle.pb_cli.specs.declared.table.TableFault.TheVariants.{Long, Line, Count, Read, Endless, Memory}
 use Rattle.pb_cli.specs.TableReading.{FindsNoTable, ReadsTable}
 use Rattle.pb_cli.specs.TableShown.{IsTableFile, table_limit}
-use Rattle.pb_cli.proofs.Told.{all_came, came_first}
+use Rattle.pb_cli.proofs.Told.{all_came, came_first, no_endless, no_fault}
 
 pub tables_are_one : (words others bytes : List ℕ) → IsTableFile words bytes → IsTableFile others bytes → words ≡ others
 tables_are_one words others bytes h k = words_are_one (lines bytes) words others h.text.each k.text.each
@@ -35,10 +34,8 @@ module _ (fills : ℕ) (old new : SourceState) (words bytes : List ℕ) (tells :
       absurd (cc (due (poly.Line number) h.came (all_came table_limit fills old new bytes tells.told h.came h.reads) h.due))
   refused (Count count) h =
       absurd (cc (due (poly.Count count) h.came (all_came table_limit fills old new bytes tells.told h.came h.reads) h.due))
-  refused Read h = absurd (cc (sym h.reads.fails ∙ tells.works))
-  refused Endless h =
-      let c = came_first table_limit fills old new bytes tells.told h.came h.reads.reads in
-      absurd (omega (arith, h.reads.many, tells.ends, ap length c.1, length-append h.came c.0))
+  refused Read h = absurd (no_fault table_limit fills old new bytes tells h.came h.reads)
+  refused Endless h = absurd (no_endless table_limit fills old new bytes tells h.came h.reads)
   refused Memory h = refl
 
   pub only_table : (result : Result (List ℕ) TableFault) → IfOk result (ReadsTable fills old new) → IfErr result (FindsNoTable fills old new) → MatchResult result (λ table. table ≡ words) (λ e. e ≡ Memory)

@@ -1,22 +1,28 @@
 -- What the command `probe` puts, from what its parts do.
-use Rattle.std.proofs.Common.{◌≡◌, ◌∙◌, ◌⊎◌, ℕ, ◌++◌, Bool, List, Option, Some, None, Result, Ok, Err, false, inl, inr, refl, subst}
-use Rattle.std.specs.Prelude.{IfErr, IfOk, IfSome}
+use Rattle.std.proofs.Common.{◌≡◌, ℕ, Bool, List, Option, Some, None, Result, Ok, Err, false, inl, inr, refl}
+use Rattle.std.specs.Prelude.{IfErr, IfOk, IfSome, MatchResult}
+use Rattle.std.specs.Io.KnownBytes.{Appends}
 use Rattle.pb_board.specs.declared.refusal.FenError.{FenError}
 use Rattle.pb_board.specs.Refusal.{IsFirstDue, OfRecord, fields}
 use Rattle.pb_poly.specs.Sink.{SinkState}
 use Rattle.pb_poly.specs.Source.{SourceState}
-use Rattle.pb_poly.specs.Reading.{FindsNoBook, ReadsBook}
+use Rattle.pb_poly.specs.Reading.{FindsNoBook, ReadsBook, Tells, book_chunk_len}
 use Rattle.pb_poly.specs.declared.entry.Entry.{Entry}
 use Rattle.pb_poly.specs.declared.reading.BookError.{BookError}
+use Rattle.pb_poly.specs.declared.reading.BookError.TheVariants as book_error
 use Rattle.pb_cli.specs.Judged.{PutsText, PutsUntil}
-use Rattle.pb_cli.specs.ProbeRun.{JudgesProbe, StopsProbe}
+use Rattle.pb_cli.specs.ProbeRun.{JudgesProbe, StopsProbe, StopsReading}
 use Rattle.pb_cli.specs.ProbeShown.{FenProbed, ProbeShown, fen_line}
 use Rattle.pb_cli.specs.Refuses.{Refuses, RefusesForBook, RefusesForTable}
 use Rattle.pb_cli.specs.TableReading.{FindsNoTable, ReadsTable}
+use Rattle.pb_cli.specs.TableShown.{table_limit}
 use Rattle.pb_cli.specs.declared.fault.Fault.{Fault}
+use Rattle.pb_cli.specs.declared.fault.Fault.TheVariants.{Memory}
 use Rattle.pb_cli.specs.declared.table.TableFault.{TableFault}
-use Rattle.pb_cli.proofs.Judging.{no_book_fails, no_book_put, no_table_fails, no_table_put, refusal_fails, refusal_put, text_as}
-use Rattle.pb_cli.proofs.Told.{told_book, told_no_book, told_no_table, told_table}
+use Rattle.pb_cli.specs.declared.table.TableFault.TheVariants as table_fault
+use Rattle.pb_cli.proofs.Judging.{no_book_fails, no_book_put, no_table_fails, no_table_put, only_text, refusal_fails, refusal_put, text_as}
+use Rattle.pb_cli.proofs.OneProbe.{probe_is_one}
+use Rattle.pb_cli.proofs.Told.{no_endless, no_fault, told_book, told_no_book, told_no_table, told_table}
 
 module _ (fills : ℕ) (t t' b b' : SourceState) (fen : List ℕ) (sink sink' : SinkState) where
   abbrev judges : Bool → List ℕ → Type 0
@@ -68,3 +74,16 @@ module _ (fills : ℕ) (t t' b b' : SourceState) (fen : List ℕ) (sink sink' : 
   pub told_text : (result : Result Bool Fault) → IfOk result (PutsText judges sink sink') → IfOk result (Told t.to_come b.to_come)
   told_text (Ok answer) h = told_both t.to_come b.to_come refl refl answer h
   told_text (Err e) h = tt
+
+  -- where both sources tell their bytes, don't fail and end within the fills
+  module _ (table book : List ℕ) (tells_t : Tells fills t t' table) (tells_b : Tells fills b b' book) where
+    reads_on : (x : TableFault) (e : BookError) → (FindsNoTable fills t t' x → ⊥) → (FindsNoBook fills b b' e → ⊥) → StopsReading fills t t' b b' x e → ⊥
+    reads_on x e no_table no_book h = elim h [ inl first ↦ no_table first.0 | inr then ↦ no_book then.2 ]
+
+    pub only_probed : sink'.failed ≡ false → (answer : Bool) (out : List ℕ) → ProbeShown table book fen answer out → (result : Result Bool Fault) → Ends result
+        → MatchResult result (λ taken. (taken ≡ answer) × Appends sink.bytes sink'.bytes out) (λ e. e ≡ Memory)
+    only_probed works answer out is result ends =
+        only_text judges (ProbeShown table book fen) stops sink sink' works (told_probed table book tells_t.told tells_b.told) (probe_is_one table book fen)
+        (reads_on table_fault.Read book_error.Read (λ h. no_fault table_limit fills t t' table tells_t h.came h.reads) (λ h. no_fault book_chunk_len fills b b' book tells_b h.came h.reads))
+        (reads_on table_fault.Endless book_error.Endless (λ h. no_endless table_limit fills t t' table tells_t h.came h.reads) (λ h. no_endless book_chunk_len fills b b' book tells_b h.came h.reads))
+        answer out is result ends.0 ends.1

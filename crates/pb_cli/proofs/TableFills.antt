@@ -1,5 +1,5 @@
 -- The bytes of a table file, fill after fill.
-use Rattle.std.proofs.Common.{◌≡◌, ◌∙◌, ℕ, ◌+◌, ◌<◌, ◌≤◌, List, [], ◌++◌, Ok, Err, append-nil, arith, length, length-append, length-take, min, subst, sym, take}
+use Rattle.std.proofs.Common.{◌≡◌, ◌∙◌, ℕ, ◌+◌, ◌<◌, ◌≤◌, List, ◌++◌, Ok, Err, append-nil, arith, length, length-append, length-take, subst, sym, take}
 use Rattle.pb_poly.specs.Source.{Fill, SourceState}
 use Rattle.pb_poly.specs.Reads.{ReadsAll, ReadsOn}
 use Rattle.pb_poly.specs.declared.source.Failed.{Failed}

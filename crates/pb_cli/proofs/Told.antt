@@ -1,11 +1,11 @@
 -- What is read from a source that tells its bytes.
-use Rattle.std.proofs.Common.{◌≡◌, ◌∙◌, ℕ, ◌+◌, ◌<◌, ◌≤◌, Bool, List, [], ◌++◌, Option, Some, None, ap, append_assoc, append-nil, arith, length, length-append, refl, subst, sym}
+use Rattle.std.proofs.Common.{◌≡◌, ◌∙◌, ℕ, ◌≤◌, Bool, List, [], ◌++◌, Option, Some, None, ap, append_assoc, append-nil, arith, length, length-append, refl, subst, sym}
 use Rattle.std.specs.Io.KnownBytes.{Consumes, IsAtEnd}
 use Rattle.pb_poly.specs.Source.{SourceState}
 use Rattle.pb_poly.specs.Book.{BookBytes}
 use Rattle.pb_poly.specs.Reading.{ReadsBook, Splits, Tells}
-use Rattle.pb_poly.specs.Reads.{Reads, ReadsAll}
-use Rattle.pb_poly.specs.Table.{IsDueTable, TableText}
+use Rattle.pb_poly.specs.Reads.{Reads, ReadsAll, ReadsOn, ReadsToFault}
+use Rattle.pb_poly.specs.Table.{IsDueTable}
 use Rattle.pb_poly.specs.declared.entry.Entry.{Entry}
 use Rattle.pb_poly.specs.declared.table.TableError.TheVariants as poly
 use Rattle.pb_cli.specs.BookShown.{BookRefused, BookShown, IsBookFile}
@@ -92,3 +92,14 @@ module _ (fills : ℕ) (old new : SourceState) (bytes : List ℕ) (told : old.to
   pub told_shown : (answer : Bool) (out : List ℕ) → JudgesBook fills old new answer out → BookShown bytes answer out
   told_shown answer out (JudgesBook.shown entries h answered is) = BookShown.shown entries (told_book entries h) answered is
   told_shown answer out (JudgesBook.refused h answered) = BookShown.refused (told_no_book out h) answered
+
+-- ---- a source that tells its bytes, doesn't fail and ends within the fills
+
+module _ (room fills : ℕ) (old new : SourceState) (bytes : List ℕ) (tells : Tells fills old new bytes) where
+  pub no_fault : (came : List ℕ) → ReadsToFault room fills old new came → ⊥
+  no_fault came h = cc (sym h.fails ∙ tells.works)
+
+  pub no_endless : (came : List ℕ) → ReadsOn room fills old new came → ⊥
+  no_endless came h =
+      let c = came_first room fills old new bytes tells.told came h.reads in
+      omega (arith, h.many, tells.ends, ap length c.1, length-append came c.0)

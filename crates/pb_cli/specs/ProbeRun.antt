@@ -1,5 +1,5 @@
 -- What the command `probe` makes of its sources and its record, over the states of the sources before and after.
-use Rattle.std.specs.Prelude.{◌≡◌, ◌⊎◌, ℕ, Bool, true, false, List}
+use Rattle.std.specs.Prelude.{◌≡◌, ◌⊎◌, ℕ, Bool, false, List}
 use Rattle.pb_board.specs.Position.{Record, IsRecord}
 use Rattle.pb_board.specs.Fen.{FenText}
 use Rattle.pb_poly.specs.declared.entry.Entry.{Entry}

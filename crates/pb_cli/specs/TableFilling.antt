@@ -1,5 +1,5 @@
 -- What one fill does on the way to a table file's bytes.
-use Rattle.std.specs.Prelude.{◌≡◌, ℕ, ◌+◌, ◌<◌, ◌≤◌, List, ◌++◌, Result, Ok, Err, length, take}
+use Rattle.std.specs.Prelude.{◌≡◌, ℕ, ◌<◌, ◌≤◌, List, ◌++◌, Result, Ok, Err, length, take}
 use Rattle.pb_poly.specs.Source.{Fill, SourceState}
 use Rattle.pb_poly.specs.declared.source.Failed.{Failed}
 use Rattle.pb_cli.specs.declared.table.TableFault.{TableFault}

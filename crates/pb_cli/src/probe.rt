@@ -44,6 +44,10 @@ pub fn run_probe<T: Source, B: Source, K: Sink>(
         (JudgesProbe fills (T.state table_source.old) (T.state table_source.new) (B.state book_source.old) (B.state book_source.new) fen.now)
         (StopsProbe fills (T.state table_source.old) (T.state table_source.new) (B.state book_source.old) (B.state book_source.new) fen.now)
         (K.state sink.old) (K.state sink.new)) }
+    ensures only { (table book : List ℕ) (answer : Bool) (out : List ℕ) → Tells fills (T.state table_source.old) (T.state table_source.new) table
+        → Tells fills (B.state book_source.old) (B.state book_source.new) book
+        → (K.state sink.new).failed ≡ false → ProbeShown table book fen.now answer out
+        → MatchResult result (λ taken. (taken ≡ answer) × Appends (K.state sink.old).bytes (K.state sink.new).bytes out) (λ e. e ≡ Memory) }
 {
     let table = match take_table(alloc, table_source, fills) {
         Ok(table) => table,

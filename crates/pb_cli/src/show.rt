@@ -36,6 +36,9 @@ pub fn run_show<S: Source, K: Sink>(
         × ((K.state sink.new).flushed ≡ true)) }
     ensures fault { IfErr result (PutsUntil (JudgesBook fills (S.state source.old) (S.state source.new))
         (StopsBook fills (S.state source.old) (S.state source.new)) (K.state sink.old) (K.state sink.new)) }
+    ensures only { (bytes : List ℕ) (answer : Bool) (out : List ℕ) → Tells fills (S.state source.old) (S.state source.new) bytes
+        → (K.state sink.new).failed ≡ false → BookShown bytes answer out
+        → MatchResult result (λ taken. (taken ≡ answer) × Appends (K.state sink.old).bytes (K.state sink.new).bytes out) (λ e. e ≡ Memory) }
 {
     match read_book(alloc, source, fills) {
         Ok(book) => {

@@ -8,7 +8,7 @@ use Rattle.pb_cli.specs.ProbeRun.{JudgesProbe, StopsProbe, judged}
 use Rattle.pb_cli.specs.ProbeShown.{found}
 use Rattle.pb_cli.specs.Refuses.{Refuses}
 use Rattle.pb_cli.proofs.Judging.{text_fails}
-use Rattle.pb_cli.proofs.Probing.{at_book, at_record, at_table, told_text}
+use Rattle.pb_cli.proofs.Probing.{at_book, at_record, at_table, only_probed, told_text}
 use Rattle.pb_cli.proofs.probe.run_probe.Goals as goal
 
 pub returns-in-Err-clause-shown : goal.returns-in-Err-clause-shown
@@ -86,3 +86,23 @@ pub returns-clause-told : goal.returns-clause-told
 returns-clause-told g c =
     let t = g.T.Source.state in let b = g.B.Source.state in let k = g.K.Sink.state in
     told_text c.args.fills (t c.args.table_source.now) (t c.take_table.new.source) (b c.args.book_source.now) (b c.read_book.new.source) c.args.fen.now (k c.args.sink.now) (k c.show_found.new.sink) (Ok true) (returns-clause-shown g c)
+
+pub returns-in-Err-clause-only : goal.returns-in-Err-clause-only
+returns-in-Err-clause-only g c table book answer out tells_t tells_b works is =
+    let t = g.T.Source.state in let b = g.B.Source.state in let k = g.K.Sink.state in
+    only_probed c.args.fills (t c.args.table_source.now) (t c.take_table.new.source) (b c.args.book_source.now) (b c.args.book_source.now) c.args.fen.now (k c.args.sink.now) (k c.refuse_table.new.sink) table book tells_t tells_b works answer out is c.refuse_table.result (returns-in-Err-clause-shown g c, returns-in-Err-clause-fault g c)
+
+pub returns-in-Err-read_book-clause-only : goal.returns-in-Err-read_book-clause-only
+returns-in-Err-read_book-clause-only g c table book answer out tells_t tells_b works is =
+    let t = g.T.Source.state in let b = g.B.Source.state in let k = g.K.Sink.state in
+    only_probed c.args.fills (t c.args.table_source.now) (t c.take_table.new.source) (b c.args.book_source.now) (b c.read_book.new.source) c.args.fen.now (k c.args.sink.now) (k c.refuse_book.new.sink) table book tells_t tells_b works answer out is c.refuse_book.result (returns-in-Err-read_book-clause-shown g c, returns-in-Err-read_book-clause-fault g c)
+
+pub returns-in-Err-read_fen-clause-only : goal.returns-in-Err-read_fen-clause-only
+returns-in-Err-read_fen-clause-only g c table book answer out tells_t tells_b works is =
+    let t = g.T.Source.state in let b = g.B.Source.state in let k = g.K.Sink.state in
+    only_probed c.args.fills (t c.args.table_source.now) (t c.take_table.new.source) (b c.args.book_source.now) (b c.read_book.new.source) c.args.fen.now (k c.args.sink.now) (k c.refuse.new.sink) table book tells_t tells_b works answer out is c.refuse.result (returns-in-Err-read_fen-clause-shown g c, returns-in-Err-read_fen-clause-fault g c)
+
+pub returns-clause-only : goal.returns-clause-only
+returns-clause-only g c table book answer out tells_t tells_b works is =
+    let t = g.T.Source.state in let b = g.B.Source.state in let k = g.K.Sink.state in
+    only_probed c.args.fills (t c.args.table_source.now) (t c.take_table.new.source) (b c.args.book_source.now) (b c.read_book.new.source) c.args.fen.now (k c.args.sink.now) (k c.show_found.new.sink) table book tells_t tells_b works answer out is (Ok true) (returns-clause-shown g c, tt)

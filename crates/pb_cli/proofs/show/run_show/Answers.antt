@@ -1,12 +1,12 @@
 use Rattle.std.proofs.Common.{List, Ok, refl, subst, sym, true}
 use Rattle.std.proofs.lemmas.Result.{err_from_is_err_and}
 use Rattle.pb_poly.specs.declared.entry.Entry.{Entry}
-use Rattle.pb_poly.specs.Reading.{ReadsBook}
+use Rattle.pb_poly.specs.Reading.{ReadsBook, book_chunk_len}
 use Rattle.pb_cli.specs.BookRun.{JudgesBook, StopsBook, refused, shown}
 use Rattle.pb_cli.specs.BookShown.{BookShown}
-use Rattle.pb_cli.specs.declared.fault.Fault.{Fault}
-use Rattle.pb_cli.proofs.Judging.{no_book_fails, no_book_put, text_fails, told_as}
-use Rattle.pb_cli.proofs.Told.{told_shown}
+use Rattle.pb_cli.proofs.Judging.{no_book_fails, no_book_put, only_text, text_fails, told_as}
+use Rattle.pb_cli.proofs.OneBook.{shown_is_one}
+use Rattle.pb_cli.proofs.Told.{no_endless, no_fault, told_shown}
 use Rattle.pb_cli.proofs.show.run_show.Goals as goal
 
 pub returns-in_err-show_entries-in-Ok-clause-fault : goal.returns-in_err-show_entries-in-Ok-clause-fault
@@ -49,3 +49,19 @@ returns-in-Err-clause-fault g c =
     let s = g.S.Source.state in let k = g.K.Sink.state in
     no_book_fails (JudgesBook c.args.fills (s c.args.source.now) (s c.read_book.new.source)) (StopsBook c.args.fills (s c.args.source.now) (s c.read_book.new.source)) (k c.args.sink.now) (k c.refuse_book.new.sink)
     c.args.fills (s c.args.source.now) (s c.read_book.new.source) (λ out r. refused r refl) (λ h. h) (λ h. h) (λ h. h) c.refuse_book.result c.in-Err.error c.in-Err.ensures.err c.refuse_book.ensures
+
+pub returns-in_ok-show_entries-in-Ok-clause-only : goal.returns-in_ok-show_entries-in-Ok-clause-only
+returns-in_ok-show_entries-in-Ok-clause-only g c bytes answer out tells works is =
+    let s = g.S.Source.state in let k = g.K.Sink.state in
+    only_text (JudgesBook c.args.fills (s c.args.source.now) (s c.read_book.new.source)) (BookShown bytes) (StopsBook c.args.fills (s c.args.source.now) (s c.read_book.new.source)) (k c.args.sink.now) (k c.show_entries.new.sink) works
+    (told_shown c.args.fills (s c.args.source.now) (s c.read_book.new.source) bytes tells.told) (shown_is_one bytes)
+    (λ h. no_fault book_chunk_len c.args.fills (s c.args.source.now) (s c.read_book.new.source) bytes tells h.came h.reads)
+    (λ h. no_endless book_chunk_len c.args.fills (s c.args.source.now) (s c.read_book.new.source) bytes tells h.came h.reads) answer out is (Ok true) (returns-in_ok-show_entries-in-Ok-clause-shown g c) tt
+
+pub returns-in-Err-clause-only : goal.returns-in-Err-clause-only
+returns-in-Err-clause-only g c bytes answer out tells works is =
+    let s = g.S.Source.state in let k = g.K.Sink.state in
+    only_text (JudgesBook c.args.fills (s c.args.source.now) (s c.read_book.new.source)) (BookShown bytes) (StopsBook c.args.fills (s c.args.source.now) (s c.read_book.new.source)) (k c.args.sink.now) (k c.refuse_book.new.sink) works
+    (told_shown c.args.fills (s c.args.source.now) (s c.read_book.new.source) bytes tells.told) (shown_is_one bytes)
+    (λ h. no_fault book_chunk_len c.args.fills (s c.args.source.now) (s c.read_book.new.source) bytes tells h.came h.reads)
+    (λ h. no_endless book_chunk_len c.args.fills (s c.args.source.now) (s c.read_book.new.source) bytes tells h.came h.reads) answer out is c.refuse_book.result (returns-in-Err-clause-shown g c) (returns-in-Err-clause-fault g c)

@@ -1,4 +1,4 @@
-use Rattle.std.proofs.Common.{List, ℕ, ◌≡◌, sym, subst, length, ◌≤◌, arith}
+use Rattle.std.proofs.Common.{List, ℕ, subst}
 use Rattle.pb_poly.specs.Table.{IsDueTable}
 use Rattle.pb_poly.specs.declared.table.TableError.TheVariants as poly
 use Rattle.pb_cli.proofs.table.TableBytes.read.Goals as goal
