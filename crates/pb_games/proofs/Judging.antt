@@ -14,9 +14,10 @@ use Rattle.pb_moves.specs.Attack.{Playable}
 use Rattle.pb_moves.specs.Played.{AreLegal, IsSpelled}
 use Rattle.pb_games.specs.declared.outcome.Outcome.{Outcome}
 use Rattle.pb_games.specs.declared.refusal.Refusal.TheVariants as refusal
+use Rattle.pb_games.specs.Header.{IsHeader}
 use Rattle.pb_games.specs.Ids.{IsId}
 use Rattle.pb_games.specs.LineFields.{submission_of}
-use Rattle.pb_games.specs.Refusing.{IsFirstMisspelt, IsFirstIllegal, Refuses, SpellsStart, fields_of, field_of, without_cr}
+use Rattle.pb_games.specs.Refusing.{IsFirstMisspelt, IsFirstIllegal, Refuses, SpellsStart, field_of, without_cr}
 use Rattle.pb_games.specs.Results.{outcome_text}
 use Rattle.pb_games.specs.Submissions.{IsLawful, IsGame, moves_text}
 use Rattle.pb_games.specs.Words.{words_of, move_named, moves_named}
@@ -28,23 +29,14 @@ use Rattle.pb_games.proofs.WordLemmas.{spellings_back, named_are_moves, words-ba
 pub not_refused : (f : Record) (text : List ℕ) (e : FenError) → IsRecord f → FenText f text → ¬ IsFirstDue OfRecord e (fields text)
 not_refused f text e lawful h due = (spelt_not_due f text lawful h).none e due.member (last_order e) due.due
 
--- a line of four fields, of which the first three were read
-pub record IsRead (line id result fen moves : List ℕ) (outcome : Outcome) (start : Record) : Type 0 where
-  pub short : length line ≤ 8192
-  pub cut : fields_of line ≡ id ∷ result ∷ fen ∷ moves ∷ []
-  pub id_is : IsId id
-  pub result_is : result ≡ outcome_text outcome
-  pub bounds : IsRecord start
-  pub text : FenText start fen
-
-module _ (line a b c d : List ℕ) (o : Outcome) (f : Record) (h : IsRead line a b c d o f) where
+module _ (line a d : List ℕ) (o : Outcome) (f : Record) (h : IsHeader line a o f d) where
   id_at : field_of line 0 ≡ a
   id_at = ap (λ (w : List (List ℕ)). slice_index_or w 0 []) h.cut
 
-  result_at : field_of line 1 ≡ b
+  result_at : field_of line 1 ≡ outcome_text o
   result_at = ap (λ (w : List (List ℕ)). slice_index_or w 1 []) h.cut
 
-  fen_at : field_of line 2 ≡ c
+  fen_at : field_of line 2 ≡ h.fen
   fen_at = ap (λ (w : List (List ℕ)). slice_index_or w 2 []) h.cut
 
   moves_at : field_of line 3 ≡ d
@@ -55,8 +47,8 @@ module _ (line a b c d : List ℕ) (o : Outcome) (f : Record) (h : IsRead line a
       let n2 = none_more 1 line (none_at_first line) (λ due. omega (arith, h.short, due)) in
       let n3 = none_more 2 line n2 (λ due. due (ap length h.cut)) in
       let n4 = none_more 3 line n3 (λ due. due (subst IsId (sym id_at) h.id_is)) in
-      let n5 = none_more 4 line n4 (λ due. due o (result_at ∙ h.result_is)) in
-      none_more 5 line n5 (λ due. not_refused f c due.0 h.bounds h.text (subst (λ t. IsFirstDue OfRecord due.0 (fields t)) fen_at due.1))
+      let n5 = none_more 4 line n4 (λ due. due o result_at) in
+      none_more 5 line n5 (λ due. not_refused f h.fen due.0 h.bounds h.text (subst (λ t. IsFirstDue OfRecord due.0 (fields t)) fen_at due.1))
 
   spells_start : SpellsStart line f
   spells_start = record { bounds = h.bounds; text = subst (FenText f) (sym fen_at) h.text }
@@ -107,14 +99,13 @@ module _ (line a b c d : List ℕ) (o : Outcome) (f : Record) (h : IsRead line a
         moves_back : d ≡ moves_text (moves_named d)
         moves_back = sym (ap (join_with_byte 32) (spellings_back (words_of d) spelt) ∙ words-back d)
 
-        text_is : without_cr line ≡ join_with_byte 9 (a ∷ outcome_text o ∷ c ∷ moves_text (moves_named d) ∷ [])
+        text_is : without_cr line ≡ join_with_byte 9 (a ∷ outcome_text o ∷ h.fen ∷ moves_text (moves_named d) ∷ [])
         text_is =
             sym (join_with_byte-slice_split 9 (without_cr line)) ∙ ap (join_with_byte 9) h.cut
-            ∙ ap (λ t. join_with_byte 9 (a ∷ t ∷ c ∷ d ∷ [])) h.result_is
-            ∙ ap (λ t. join_with_byte 9 (a ∷ outcome_text o ∷ c ∷ t ∷ [])) moves_back
+            ∙ ap (λ t. join_with_byte 9 (a ∷ outcome_text o ∷ h.fen ∷ t ∷ [])) moves_back
 
         pub lawful : AreLegal f.setup (moves_named d) → IsLawful line (submission_of a f o d)
         lawful legal = record {
-          submits = record { id = h.id_is; game = is_game; text = without_cr line; spells = (c, h.text, text_is); is = cases_cr line };
+          submits = record { id = h.id_is; game = is_game; text = without_cr line; spells = (h.fen, h.text, text_is); is = cases_cr line };
           legal = record { playable = playable; legal = legal };
         }

@@ -1,30 +1,26 @@
 //! Judging a line.
 
-ghost use Rattle.std.specs.Prelude.{◌≡◌, ◌≤◌, ◌<◌, All, IfErr, IfOk, MatchOption, MatchResult, Ok, length};
+ghost use Rattle.std.specs.Prelude.{◌≡◌, ◌≤◌, ◌↔◌, All, IfErr, IfOk, IsTrue, MatchOption, MatchResult, Ok, length};
+ghost use Rattle.pb_moves.specs.Attack.{Playable};
 ghost use Rattle.pb_moves.specs.Played.{AreLegal, IsSpelled};
 ghost use Rattle.pb_games.specs.Refusing.{IsFirstIllegal, IsFirstMisspelt, Refuses};
 ghost use Rattle.pb_games.specs.Submissions.{IsLawful, Submission};
 ghost use Rattle.pb_games.specs.Words.{words_of};
 
-use crate::fields::cut_fields;
-use crate::id::is_id;
+use crate::header::read_header;
 use crate::line::Line;
-use crate::outcome::read_outcome;
 use crate::plies::Plies;
 use crate::refusal::Refusal;
 use crate::words::Words;
-use pb_board::{Setup, read_fen};
+use pb_board::{Fen, Setup};
 use pb_moves::{play, playable, read_move};
-
-/// The most bytes that a line may have, a final CR counted.
-const MAX_BYTES: usize = 8192;
 
 /// The most moves that a game may have.
 const MAX_PLIES: u32 = 1024;
 
 /// Reads a line, without its LF, as a submission of a legal game: an id, the result, the FEN record that the game
 /// starts from and the moves, with a TAB between each two. The moves are words as e2e4 and e7e8q with single spaces
-/// between them, and one final CR is dropped.
+/// between them, an empty field has none, and one final CR is dropped.
 ///
 /// It looks at the line alone, borrows from it what it answers, and takes no memory.
 ///
@@ -48,37 +44,32 @@ fn judge(line: &[u8]) -> Result<Line<'_>, Refusal>
     ensures found { IfOk result (λ s. IsLawful line.now s) }
     ensures refused { IfErr result (λ e. Refuses line.now e) }
 {
-    if line.len() > MAX_BYTES {
-        return Err(Refusal::Long);
-    }
-    let Some(fields) = cut_fields(line) else {
-        return Err(Refusal::Shape);
+    // No `?`, since no proof is made of one at a struct that holds a reference beside a record.
+    let header = match read_header(line) {
+        Ok(header) => header,
+        Err(refusal) => return Err(refusal),
     };
-    if !is_id(fields.id) {
-        return Err(Refusal::Id);
-    }
-    let Some(outcome) = read_outcome(fields.outcome) else {
-        return Err(Refusal::Result);
-    };
-    let start = match read_fen(fields.start) {
-        Ok(start) => start,
-        Err(error) => return Err(Refusal::Fen(error)),
-    };
-    let setup = start.setup();
-    if !playable(&setup) {
+    if !may_start(&header.start) {
         return Err(Refusal::Start);
     }
-    let plies = match count_moves(fields.moves) {
+    let plies = match count_moves(header.moves) {
         Ok(plies) => plies,
         Err(number) => return Err(Refusal::Spelling(number)),
     };
     if plies > MAX_PLIES {
         return Err(Refusal::Plies);
     }
-    match first_illegal(setup, Plies::of(fields.moves)) {
+    match first_illegal(header.start.setup(), Plies::of(header.moves)) {
         Some(number) => Err(Refusal::Illegal(number)),
-        None => Ok(Line::of(fields, start, outcome, plies)),
+        None => Ok(Line::of(header, plies)),
     }
+}
+
+/// Whether a game may start from the record: the side that isn't to move isn't in check.
+fn may_start(start: &Fen) -> bool
+    ensures { IsTrue result ↔ Playable start.now.setup }
+{
+    playable(&start.setup())
 }
 
 /// How many words the field has, where each spells a move. The error is the number of the first that spells none,

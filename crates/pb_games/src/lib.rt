@@ -5,6 +5,7 @@ mod check;
 mod cut;
 mod fields;
 mod game;
+mod header;
 mod id;
 pub mod laws;
 mod line;

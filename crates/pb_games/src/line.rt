@@ -4,7 +4,7 @@ ghost use Rattle.std.specs.Prelude.{◌≡◌, length};
 ghost use Rattle.pb_games.specs.LineFields.{submission_of, IsChecked};
 ghost use Rattle.pb_games.specs.Submissions.{IsSubmission};
 
-use crate::fields::Fields;
+use crate::header::Header;
 use crate::id::Id;
 use crate::outcome::Outcome;
 use crate::plies::Plies;
@@ -33,16 +33,16 @@ impl<'a> Model for Line<'a> {
 }
 
 impl<'a> Line<'a> {
-    /// The line of these fields, which were judged.
-    pub(crate) fn of(fields: Fields<'a>, start: Fen, outcome: Outcome, plies: u32) -> Line<'a>
-        requires { IsChecked (submission_of fields.id.now start outcome fields.moves.now) fields.moves.now plies }
-        ensures { result ≡ submission_of fields.entry.id.now start outcome fields.entry.moves.now }
+    /// The line of a header and moves that were judged.
+    pub(crate) fn of(header: Header<'a>, plies: u32) -> Line<'a>
+        requires { IsChecked (submission_of header.id.now header.start header.outcome header.moves.now) header.moves.now plies }
+        ensures { let h = header.entry in result ≡ submission_of h.id.now h.start h.outcome h.moves.now }
     {
         Line {
-            id: fields.id,
-            start,
-            outcome,
-            moves: fields.moves,
+            id: header.id,
+            start: header.start,
+            outcome: header.outcome,
+            moves: header.moves,
             plies,
         }
     }
