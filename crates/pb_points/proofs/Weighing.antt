@@ -1,5 +1,5 @@
 -- The entries that rows give, one row after another.
-use Rattle.std.proofs.Common.{◌≡◌, ℕ, ◌+◌, ◌<◌, ◌≤◌, ◌↔◌, List, [], ◌∷◌, ◌++◌, take, drop, length, get_or, All, AllPairs, Any, Contains, sym, ap, subst, ◌∙◌, inl, inr, arith}
+use Rattle.std.proofs.Common.{◌≡◌, ℕ, ◌+◌, ◌<◌, ◌≤◌, ◌↔◌, List, [], ◌∷◌, ◌++◌, take, drop, length, get_or, All, AllPairs, Any, Contains, sym, ap, subst, ◌∙◌, inl, inr, arith, append_assoc}
 use Rattle.std.proofs.Math.Seq.{drop-append_seam, take-append_seam, take-length}
 use Rattle.std.proofs.lemmas.Bool.{cases_lt}
 use Rattle.std.proofs.lemmas.List.{get_or-take, length-take-le, take-append-drop, take_more}
@@ -8,7 +8,7 @@ use Rattle.std.proofs.lemmas.List.Quantifiers.{all_pairs_push}
 use Rattle.std.proofs.lemmas.List.Sorted.{IsPermutation-sym, Contains-permutation}
 use Rattle.pb_poly.specs.declared.entry.Entry.{Entry}
 use Rattle.pb_points.specs.declared.row.Row.{Row}
-use Rattle.pb_points.specs.Group.{AddsBook, AreApart, AreOfOneKey, Orders}
+use Rattle.pb_points.specs.Group.{AddsBook, AreApart, AreOfOneKey, Orders, weighed}
 use Rattle.pb_points.specs.Rows.{Gives, IsBelow, IsBookOfRows, IsTop, row_at}
 use Rattle.pb_points.specs.Weight.{scaled}
 use Rattle.pb_points.proofs.Tops.{All-Contains, IsTop-unique, place_of_row}
@@ -107,6 +107,18 @@ module _ (rows : List Row) (group : IsGroup rows) where
       );
     }
 
+-- the entry of a row is what it gives
+pub gives_weighed : (rows : List Row) (r : Row) (M : ℕ) (e : Entry) → IsTop rows r.key M → (1 ≤ e.weight) × (e ≡ weighed r (scaled r.points M)) → Gives rows r e
+gives_weighed rows r M e top h = record {
+  greatest = M;
+  top = top;
+  key = ap (λ (f : Entry). f.key) h.1;
+  code = ap (λ (f : Entry). f.code) h.1;
+  weight = ap (λ (f : Entry). f.weight) h.1;
+  some = h.0;
+  learn = ap (λ (f : Entry). f.learn) h.1;
+}
+
 -- a row of weight 0 gives nothing
 pub gives_none : (rows : List Row) (r : Row) (M : ℕ) → IsTop rows r.key M → scaled r.points M ≡ 0 → (e : Entry) → Gives rows r e → ⊥
 gives_none rows r M top zero e g =
@@ -132,6 +144,20 @@ pub record AddsWeighed (rows : List Row) (n : ℕ) (old new : List Entry) : Type
   pub split : new ≡ old ++ added
   pub weighed : AreWeighed rows n added
 
+module _ (rows : List Row) (group : IsGroup rows) (i : ℕ) (lt : i < length rows) (M : ℕ) (top : IsTop rows (row_at rows i).key M) (old new : List Entry) (h : AddsWeighed rows i old new) where
+  -- the next row's entry was added
+  pub adds_push : (e : Entry) → (1 ≤ e.weight) × (e ≡ weighed (row_at rows i) (scaled (row_at rows i).points M)) → AddsWeighed rows (i + 1) old (new ++ e ∷ [])
+  adds_push e is = record {
+    added = h.added ++ e ∷ [];
+    split = ap (λ l. l ++ e ∷ []) h.split ∙ append_assoc old h.added (e ∷ []);
+    weighed = weighed_push rows group i lt h.added h.weighed e (gives_weighed rows (row_at rows i) M e top is);
+  }
+
+  -- the next row has no entry
+  pub adds_keep : scaled (row_at rows i).points M ≡ 0 → AddsWeighed rows (i + 1) old new
+  adds_keep zero = record { added = h.added; split = h.split; weighed = weighed_keep rows group i lt h.added h.weighed (gives_none rows (row_at rows i) M top zero) }
+
+-- the entries behind the old ones, in a book's order, are the book
 pub adds_book : (rows : List Row) (old new ordered : List Entry) (start : ℕ) → start ≡ length old → AddsWeighed rows (length rows) old new
     → take start ordered ≡ take start new → Orders (drop start new) (drop start ordered) → AddsBook rows old ordered
 adds_book rows old new ordered start at h kept o = (

@@ -1,5 +1,5 @@
 -- Rows and entries of one key.
-use Rattle.std.specs.Prelude.{◌≡◌, ◌<◌, List, ◌++◌, AllPairs, IsPermutation}
+use Rattle.std.specs.Prelude.{ℕ, ◌≡◌, ◌<◌, List, ◌++◌, AllPairs, IsPermutation}
 use Rattle.pb_poly.specs.declared.entry.Entry.{Entry}
 use Rattle.pb_points.specs.declared.row.Row.{Row}
 use Rattle.pb_points.specs.Rows.{IsBookOfRows}
@@ -8,6 +8,10 @@ use Rattle.pb_points.specs.Weight.{Before}
 -- the rows have one key
 abbrev pub AreOfOneKey : List Row → Type 0
 AreOfOneKey rows = AllPairs (λ r s. r.key ≡ s.key) rows
+
+-- the entry of a row with this weight
+abbrev pub weighed : Row → ℕ → Entry
+weighed r w = record { key = r.key; code = r.code; weight = w; learn = 0 }
 
 -- the entries have one key, and their codes rise
 abbrev pub AreApart : List Entry → Type 0

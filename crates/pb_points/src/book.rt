@@ -1,9 +1,9 @@
 //! The book of rows of points.
 
-ghost use Rattle.std.specs.Prelude.{◌≡◌, ◌<◌, ◌≤◌, All, AllPairs, Any, IfOk, IsPermutation, OnOk, drop, length, take};
-ghost use Rattle.pb_points.specs.Group.{AddsBook, AreOfOneKey, AreApart, Orders};
+ghost use Rattle.std.specs.Prelude.{◌≡◌, ◌<◌, ◌≤◌, All, AllPairs, Any, IfOk, MatchOption, OnOk, drop, length, take};
+ghost use Rattle.pb_points.specs.Group.{AddsBook, AreOfOneKey, AreApart, Orders, weighed};
 ghost use Rattle.pb_points.specs.Rows.{IsBelow, IsBookOfRows};
-ghost use Rattle.pb_points.specs.Weight.{Before};
+ghost use Rattle.pb_points.specs.Weight.{Before, scaled};
 
 use crate::row::Row;
 use crate::weight::scale;
@@ -38,14 +38,8 @@ fn push_group(entries: &mut Vec<Entry>, group: &[Row]) -> Result<(), AllocError>
     let start = entries.len();
     let greatest = greatest_of(group);
     for row in group {
-        let weight = scale(row.points, greatest);
-        if weight > 0 {
-            entries.push(Entry {
-                key: row.key,
-                code: row.code,
-                weight,
-                learn: 0,
-            })?;
+        if let Some(entry) = entry_of(row, greatest) {
+            entries.push(entry)?;
         }
     }
     sort_from(entries, start);
@@ -59,6 +53,22 @@ fn greatest_of(rows: &[Row]) -> u64
     ensures met { Any (λ r. r.points ≡ result) rows.now }
 {
     rows.iter().map(|row| row.points).max().unwrap_or(0)
+}
+
+// The entry of a row, where `greatest` is the greatest points of its key, or none where its weight is 0.
+fn entry_of(row: &Row, greatest: u64) -> Option<Entry>
+    requires { row.now.points ≤ greatest }
+    ensures { MatchOption result
+        (scaled row.now.points greatest ≡ 0)
+        (λ e. (1 ≤ e.weight) × (e ≡ weighed row.now (scaled row.now.points greatest))) }
+{
+    let weight = scale(row.points, greatest);
+    (weight > 0).then_some(Entry {
+        key: row.key,
+        code: row.code,
+        weight,
+        learn: 0,
+    })
 }
 
 // Puts the entries from a place on, all of one key, in a book's order.
