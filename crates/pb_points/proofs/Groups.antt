@@ -10,11 +10,11 @@ use Rattle.std.proofs.lemmas.List.Kept.{AllPairs-cons}
 use Rattle.pb_poly.specs.declared.entry.Entry.{Entry}
 use Rattle.pb_poly.specs.Book.{IsFirstFall, NeverFall, NeverFallsFrom, keys_of}
 use Rattle.pb_points.specs.declared.row.Row.{Row}
-use Rattle.pb_points.specs.Group.{AddsBook, AreOfOneKey}
+use Rattle.pb_points.specs.Group.{AddsBook, IsGroup}
 use Rattle.pb_points.specs.Rows.{Gives, IsBelow, IsBookOfRows}
 use Rattle.pb_points.specs.Weight.{Before}
 use Rattle.pb_points.proofs.Tops.{IsTop-agree}
-use Rattle.pb_points.proofs.Weighing.{IsGroup, one_key}
+use Rattle.pb_points.proofs.Weighing.{one_key}
 
 -- ---- pairs of a joined list
 
@@ -135,10 +135,10 @@ module _ (rest group later : List Row) (cut : IsCut rest group later) (rise : Al
   rise_split : AllPairs IsBelow (group ++ later)
   rise_split = subst (AllPairs IsBelow) cut.split rise
 
-  pub cut_rise : AllPairs IsBelow group
+  cut_rise : AllPairs IsBelow group
   cut_rise = AllPairs-left IsBelow group later rise_split
 
-  pub cut_rise_later : AllPairs IsBelow later
+  cut_rise_later : AllPairs IsBelow later
   cut_rise_later = AllPairs-right IsBelow group later rise_split
 
   -- each key is the next
@@ -153,7 +153,7 @@ module _ (rest group later : List Row) (cut : IsCut rest group later) (rise : Al
   keys_from i (suc n) d lt =
       keys_from i n d (omega arith) ∙ next_key (i + n) d (omega arith) ∙ ap (λ m. (get_or group m d).key) (omega arith)
 
-  pub cut_one : AreOfOneKey group
+  cut_one : AllPairs (λ r s. r.key ≡ s.key) group
   cut_one i j d lt within = keys_from i (j - i) d (omega arith) ∙ ap (λ m. (get_or group m d).key) (omega arith)
 
   pub cut_group : IsGroup group

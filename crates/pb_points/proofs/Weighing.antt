@@ -1,5 +1,5 @@
 -- The entries that rows give, one row after another.
-use Rattle.std.proofs.Common.{◌≡◌, ℕ, ◌+◌, ◌<◌, ◌≤◌, ◌↔◌, List, [], ◌∷◌, ◌++◌, take, drop, length, get_or, All, AllPairs, Any, Contains, sym, ap, subst, ◌∙◌, inl, inr, arith, append_assoc}
+use Rattle.std.proofs.Common.{◌≡◌, ℕ, ◌+◌, ◌<◌, ◌≤◌, ◌↔◌, List, [], ◌∷◌, ◌++◌, take, drop, length, get_or, All, Any, Contains, sym, ap, subst, ◌∙◌, inl, inr, arith, append_assoc}
 use Rattle.std.proofs.Math.Seq.{drop-append_seam, take-append_seam, take-length}
 use Rattle.std.proofs.lemmas.Bool.{cases_lt}
 use Rattle.std.proofs.lemmas.List.{get_or-take, length-take-le, take-append-drop, take_more}
@@ -8,20 +8,14 @@ use Rattle.std.proofs.lemmas.List.Quantifiers.{all_pairs_push}
 use Rattle.std.proofs.lemmas.List.Sorted.{IsPermutation-sym, Contains-permutation}
 use Rattle.pb_poly.specs.declared.entry.Entry.{Entry}
 use Rattle.pb_points.specs.declared.row.Row.{Row}
-use Rattle.pb_points.specs.Group.{AddsBook, AreApart, AreOfOneKey, Orders, weighed}
-use Rattle.pb_points.specs.Rows.{Gives, IsBelow, IsBookOfRows, IsTop, row_at}
+use Rattle.pb_points.specs.Group.{AddsBook, IsEntryGroup, IsGroup, Orders, entry_with}
+use Rattle.pb_points.specs.Rows.{Gives, IsBookOfRows, IsTop, row_at}
 use Rattle.pb_points.specs.Weight.{scaled}
 use Rattle.pb_points.proofs.Tops.{All-Contains, IsTop-unique, place_of_row}
 
--- rows of one key that rise
-pub record IsGroup (rows : List Row) : Type 0 where
-  pub some : 0 < length rows
-  pub rise : AllPairs IsBelow rows
-  pub one : AreOfOneKey rows
-
 -- the entries are those that the first n rows give
 pub record AreWeighed (rows : List Row) (n : ℕ) (entries : List Entry) : Type 0 where
-  pub apart : AreApart entries
+  pub group : IsEntryGroup entries
   pub members : (e : Entry) → Contains entries e ↔ ((r : Row) × Contains (take n rows) r × Gives rows r e)
 
 -- a row gives one entry
@@ -60,7 +54,7 @@ module _ (rows : List Row) (group : IsGroup rows) where
 
   pub none_weighed : AreWeighed rows 0 []
   none_weighed = record {
-    apart = λ i j d lt within. absurd (omega arith);
+    group = λ i j d lt within. absurd (omega arith);
     members = λ e. ((λ h. absurd (omega (arith, h.1))), (λ w. absurd (omega (arith, w.1.1))));
   }
 
@@ -82,7 +76,7 @@ module _ (rows : List Row) (group : IsGroup rows) where
 
     pub weighed_push : (e : Entry) → Gives rows (row_at rows i) e → AreWeighed rows (i + 1) (entries ++ e ∷ [])
     weighed_push e g = record {
-      apart = all_pairs_push (λ e f. (e.key ≡ f.key) × (e.code < f.code)) entries e h.apart (λ k d within. earlier e (get_or entries k d) (Contains-get_or entries k d within) g);
+      group = all_pairs_push (λ e f. (e.key ≡ f.key) × (e.code < f.code)) entries e h.group (λ k d within. earlier e (get_or entries k d) (Contains-get_or entries k d within) g);
       members = λ x. (
         (λ here. elim (Contains-push_cases entries e x here) [
           | inl old ↦ let w = (h.members x).0 old in (w.0, subst (λ l. Contains l w.0) (sym more) (Contains-append_left (take i rows) (row_at rows i ∷ []) w.0 w.1), w.2)
@@ -97,7 +91,7 @@ module _ (rows : List Row) (group : IsGroup rows) where
 
     pub weighed_keep : ((e : Entry) → Gives rows (row_at rows i) e → ⊥) → AreWeighed rows (i + 1) entries
     weighed_keep none = record {
-      apart = h.apart;
+      group = h.group;
       members = λ x. (
         (λ here. let w = (h.members x).0 here in (w.0, subst (λ l. Contains l w.0) (sym more) (Contains-append_left (take i rows) (row_at rows i ∷ []) w.0 w.1), w.2)),
         (λ w. elim (Contains-push_cases (take i rows) (row_at rows i) w.0 (subst (λ l. Contains l w.0) more w.1)) [
@@ -108,7 +102,7 @@ module _ (rows : List Row) (group : IsGroup rows) where
     }
 
 -- the entry of a row is what it gives
-pub gives_weighed : (rows : List Row) (r : Row) (M : ℕ) (e : Entry) → IsTop rows r.key M → (1 ≤ e.weight) × (e ≡ weighed r (scaled r.points M)) → Gives rows r e
+pub gives_weighed : (rows : List Row) (r : Row) (M : ℕ) (e : Entry) → IsTop rows r.key M → (1 ≤ e.weight) × (e ≡ entry_with r (scaled r.points M)) → Gives rows r e
 gives_weighed rows r M e top h = record {
   greatest = M;
   top = top;
@@ -146,7 +140,7 @@ pub record AddsWeighed (rows : List Row) (n : ℕ) (old new : List Entry) : Type
 
 module _ (rows : List Row) (group : IsGroup rows) (i : ℕ) (lt : i < length rows) (M : ℕ) (top : IsTop rows (row_at rows i).key M) (old new : List Entry) (h : AddsWeighed rows i old new) where
   -- the next row's entry was added
-  pub adds_push : (e : Entry) → (1 ≤ e.weight) × (e ≡ weighed (row_at rows i) (scaled (row_at rows i).points M)) → AddsWeighed rows (i + 1) old (new ++ e ∷ [])
+  pub adds_push : (e : Entry) → (1 ≤ e.weight) × (e ≡ entry_with (row_at rows i) (scaled (row_at rows i).points M)) → AddsWeighed rows (i + 1) old (new ++ e ∷ [])
   adds_push e is = record {
     added = h.added ++ e ∷ [];
     split = ap (λ l. l ++ e ∷ []) h.split ∙ append_assoc old h.added (e ∷ []);

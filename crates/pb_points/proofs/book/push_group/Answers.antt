@@ -1,7 +1,7 @@
 use Rattle.std.proofs.Common.{◌+◌, arith, rules, sym, ap, subst, ◌∙◌}
 use Rattle.pb_points.specs.Rows.{IsTop, row_at}
 use Rattle.pb_points.proofs.Tops.{Contains-row_at}
-use Rattle.pb_points.proofs.Weighing.{AddsWeighed, IsGroup, adds_book, adds_keep, adds_push, group_top}
+use Rattle.pb_points.proofs.Weighing.{AddsWeighed, adds_book, adds_keep, adds_push, group_top}
 use Rattle.pb_points.proofs.book.push_group.Goals as goal
 use Rattle.pb_points.proofs.book.push_group.Goals.{in-Some+in_ok-push, in_default}
 
@@ -12,15 +12,14 @@ loop-row-preserved c =
     let old = c.args.entries.now.items in
     let new = c.loop-row.entries.items in
     let M = c.greatest_of-greatest.result in
-    let group : IsGroup rows = record { some = c.requires.some; rise = c.requires.rise; one = c.requires.one } in
-    let top : IsTop rows (row_at rows i).key M = group_top rows group M c.greatest_of-greatest.ensures.above c.greatest_of-greatest.ensures.met (row_at rows i) (Contains-row_at rows i c.loop-row-test.true) in
+    let top : IsTop rows (row_at rows i).key M = group_top rows c.requires M c.greatest_of-greatest.ensures.above c.greatest_of-greatest.ensures.met (row_at rows i) (Contains-row_at rows i c.loop-row-test.true) in
     elim c.match-entry_of.branch [
       | in-Some+in_ok-push w ↦
           subst (AddsWeighed rows (i + 1) old) (sym (ap (λ v. v.items) w.entries-is ∙ w.in_ok-push.ensures.items))
-          (adds_push rows group i c.loop-row-test.true M top old new c.loop-row.invariant w.in-Some.entry w.in-Some.ensures)
+          (adds_push rows c.requires i c.loop-row-test.true M top old new c.loop-row.invariant w.in-Some.entry w.in-Some.ensures)
       | in_default w ↦
           subst (AddsWeighed rows (i + 1) old) (sym (ap (λ v. v.items) w.entries-is))
-          (adds_keep rows group i c.loop-row-test.true M top old new c.loop-row.invariant w.in_default.ensures)
+          (adds_keep rows c.requires i c.loop-row-test.true M top old new c.loop-row.invariant w.in_default.ensures)
     ]
 
 pub returns : goal.returns
