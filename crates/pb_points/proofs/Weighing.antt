@@ -19,7 +19,7 @@ pub record AreWeighed (rows : List Row) (n : ℕ) (entries : List Entry) : Type 
   pub members : (e : Entry) → Contains entries e ↔ ((r : Row) × Contains (take n rows) r × Gives rows r e)
 
 -- a row gives one entry
-pub Gives-unique : (rows : List Row) (r : Row) (e f : Entry) → Gives rows r e → Gives rows r f → e ≡ f
+Gives-unique : (rows : List Row) (r : Row) (e f : Entry) → Gives rows r e → Gives rows r f → e ≡ f
 Gives-unique rows r e f g h =
     let same = IsTop-unique rows r.key g.greatest h.greatest g.top h.top in
     let key = g.key ∙ sym h.key in
@@ -52,12 +52,6 @@ module _ (rows : List Row) (group : IsGroup rows) where
     met = let there : Contains rows met.1 = (met.0, met.2, met.3) in (met.1, there, one_key met.1 r there h, met.4);
   }
 
-  pub none_weighed : AreWeighed rows 0 []
-  none_weighed = record {
-    group = λ i j d lt within. absurd (omega arith);
-    members = λ e. ((λ h. absurd (omega (arith, h.1))), (λ w. absurd (omega (arith, w.1.1))));
-  }
-
   module _ (i : ℕ) (lt : i < length rows) (entries : List Entry) (h : AreWeighed rows i entries) where
     more : take (i + 1) rows ≡ take i rows ++ row_at rows i ∷ []
     more = take_more rows i (record { key = 0; code = 0; points = 0 }) lt
@@ -74,7 +68,7 @@ module _ (rows : List Row) (group : IsGroup rows) where
         (elim (group.rise p.0 i (record { key = 0; code = 0; points = 0 }) within lt) [ inl up ↦ absurd (omega (arith, group.one p.0 i (record { key = 0; code = 0; points = 0 }) within lt)) | inr low ↦ low.1 ]) in
         (w.2.key ∙ key ∙ sym g.key, omega (arith, code, w.2.code, g.code))
 
-    pub weighed_push : (e : Entry) → Gives rows (row_at rows i) e → AreWeighed rows (i + 1) (entries ++ e ∷ [])
+    weighed_push : (e : Entry) → Gives rows (row_at rows i) e → AreWeighed rows (i + 1) (entries ++ e ∷ [])
     weighed_push e g = record {
       group = all_pairs_push (λ e f. (e.key ≡ f.key) × (e.code < f.code)) entries e h.group (λ k d within. earlier e (get_or entries k d) (Contains-get_or entries k d within) g);
       members = λ x. (
@@ -89,7 +83,7 @@ module _ (rows : List Row) (group : IsGroup rows) where
       );
     }
 
-    pub weighed_keep : ((e : Entry) → Gives rows (row_at rows i) e → ⊥) → AreWeighed rows (i + 1) entries
+    weighed_keep : ((e : Entry) → Gives rows (row_at rows i) e → ⊥) → AreWeighed rows (i + 1) entries
     weighed_keep none = record {
       group = h.group;
       members = λ x. (
@@ -102,7 +96,7 @@ module _ (rows : List Row) (group : IsGroup rows) where
     }
 
 -- the entry of a row is what it gives
-pub gives_weighed : (rows : List Row) (r : Row) (M : ℕ) (e : Entry) → IsTop rows r.key M → (1 ≤ e.weight) × (e ≡ entry_with r (scaled r.points M)) → Gives rows r e
+gives_weighed : (rows : List Row) (r : Row) (M : ℕ) (e : Entry) → IsTop rows r.key M → (1 ≤ e.weight) × (e ≡ entry_with r (scaled r.points M)) → Gives rows r e
 gives_weighed rows r M e top h = record {
   greatest = M;
   top = top;
@@ -114,14 +108,14 @@ gives_weighed rows r M e top h = record {
 }
 
 -- a row of weight 0 gives nothing
-pub gives_none : (rows : List Row) (r : Row) (M : ℕ) → IsTop rows r.key M → scaled r.points M ≡ 0 → (e : Entry) → Gives rows r e → ⊥
+gives_none : (rows : List Row) (r : Row) (M : ℕ) → IsTop rows r.key M → scaled r.points M ≡ 0 → (e : Entry) → Gives rows r e → ⊥
 gives_none rows r M top zero e g =
     let same = IsTop-unique rows r.key g.greatest M g.top top in
     let weight : e.weight ≡ 0 = g.weight ∙ ap (scaled r.points) same ∙ zero in
     omega (arith, g.some, weight)
 
 -- the weighed entries in a book's order are the book
-pub IsBookOfRows-ordered : (rows : List Row) (entries ordered : List Entry) → AreWeighed rows (length rows) entries → Orders entries ordered → IsBookOfRows rows ordered
+IsBookOfRows-ordered : (rows : List Row) (entries ordered : List Entry) → AreWeighed rows (length rows) entries → Orders entries ordered → IsBookOfRows rows ordered
 IsBookOfRows-ordered rows entries ordered h o = record {
   ordered = o.ordered;
   members = λ x. (

@@ -50,7 +50,7 @@ fn greatest_of(rows: &[Row]) -> u64
     ensures above { All (λ r. r.points ≤ result) rows.now }
     ensures met { Any (λ r. r.points ≡ result) rows.now }
 {
-    rows.iter().map(|row| row.points).max().unwrap_or(0)
+    rows.iter().map(|row| row.points).max().unwrap()
 }
 
 // The entry of a row, where `greatest` is the greatest points of its key, or none where its weight is 0.
