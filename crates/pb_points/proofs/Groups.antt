@@ -10,34 +10,34 @@ use Rattle.std.proofs.lemmas.List.Kept.{AllPairs-cons}
 use Rattle.pb_poly.specs.declared.entry.Entry.{Entry}
 use Rattle.pb_poly.specs.Book.{IsFirstFall, NeverFall, NeverFallsFrom, keys_of}
 use Rattle.pb_points.specs.declared.row.Row.{Row}
-use Rattle.pb_points.specs.Group.{AddsBook, AreOfOneKey}
+use Rattle.pb_points.specs.Group.{AddsBook, IsGroup}
 use Rattle.pb_points.specs.Rows.{Gives, IsBelow, IsBookOfRows}
 use Rattle.pb_points.specs.Weight.{Before}
 use Rattle.pb_points.proofs.Tops.{IsTop-agree}
-use Rattle.pb_points.proofs.Weighing.{IsGroup, one_key}
+use Rattle.pb_points.proofs.Weighing.{one_key}
 
 -- ---- pairs of a joined list
 
 module _ {X : Type 0} (R : X → X → Type 0) where
-  pub AllPairs-left : (xs ys : List X) → AllPairs R (xs ++ ys) → AllPairs R xs
+  AllPairs-left : (xs ys : List X) → AllPairs R (xs ++ ys) → AllPairs R xs
   AllPairs-left xs ys h i j d lt within =
       subst (λ x. R x (get_or xs j d)) (get_or_append_left xs ys d i (omega arith))
       (subst (R (get_or (xs ++ ys) i d)) (get_or_append_left xs ys d j within) (h i j d lt (omega (arith, length-append xs ys))))
 
-  pub AllPairs-right : (xs ys : List X) → AllPairs R (xs ++ ys) → AllPairs R ys
+  AllPairs-right : (xs ys : List X) → AllPairs R (xs ++ ys) → AllPairs R ys
   AllPairs-right xs ys h i j d lt within =
       subst (λ x. R x (get_or ys j d)) (get_or-append-add xs ys i d)
       (subst (R (get_or (xs ++ ys) (length xs + i) d)) (get_or-append-add xs ys j d) (h (length xs + i) (length xs + j) d (omega arith) (omega (arith, length-append xs ys))))
 
   -- an element of the first list, and one of the second
-  pub AllPairs-across : (xs ys : List X) → AllPairs R (xs ++ ys) → (x y : X) → Contains xs x → Contains ys y → R x y
+  AllPairs-across : (xs ys : List X) → AllPairs R (xs ++ ys) → (x y : X) → Contains xs x → Contains ys y → R x y
   AllPairs-across xs ys h x y a b =
       let left = get_or_append_left xs ys y a.0 a.1 in
       let right = get_or-append-add xs ys b.0 y in
       let pair = h a.0 (length xs + b.0) y (omega (arith, a.1)) (omega (arith, b.1, length-append xs ys)) in
       subst (λ z. R z y) (left ∙ get_or_default xs a.0 y x a.1 ∙ a.2) (subst (R (get_or (xs ++ ys) a.0 y)) (right ∙ b.2) pair)
 
-  pub AllPairs-append : (xs ys : List X) → AllPairs R xs → AllPairs R ys → ((x y : X) → Contains xs x → Contains ys y → R x y) → AllPairs R (xs ++ ys)
+  AllPairs-append : (xs ys : List X) → AllPairs R xs → AllPairs R ys → ((x y : X) → Contains xs x → Contains ys y → R x y) → AllPairs R (xs ++ ys)
   AllPairs-append [] ys h k across = k
   AllPairs-append (x ∷ xs) ys h k across =
       AllPairs-cons R x (xs ++ ys)
@@ -70,7 +70,7 @@ module _ (rows others : List Row) (below : KeysBelow rows others) where
     (λ k. elim (Contains-append_cases rows others x k) [ inl left ↦ absurd (omega (arith, below x r left h, e)) | inr right ↦ right ]),
   )
 
-  pub IsBookOfRows-append : (E F : List Entry) → IsBookOfRows rows E → IsBookOfRows others F → IsBookOfRows (rows ++ others) (E ++ F)
+  IsBookOfRows-append : (E F : List Entry) → IsBookOfRows rows E → IsBookOfRows others F → IsBookOfRows (rows ++ others) (E ++ F)
   IsBookOfRows-append E F g h = record { ordered = AllPairs-append Before E F g.ordered h.ordered across; members = λ e. (to e, from e) }
     where
       across : (e f : Entry) → Contains E e → Contains F f → Before e f
@@ -100,14 +100,6 @@ pub record IsBookSoFar (rows : List Row) (entries : List Entry) (rest : List Row
   pub below : KeysBelow done rest
   pub book : IsBookOfRows done entries
 
-pub so_far_none : (rows : List Row) → IsBookSoFar rows [] rows
-so_far_none rows = record {
-  done = [];
-  split = refl;
-  below = λ r s h k. absurd (omega (arith, h.1));
-  book = record { ordered = λ i j d lt within. absurd (omega arith); members = λ e. ((λ h. absurd (omega (arith, h.1))), (λ r. absurd (omega (arith, r.1.1)))) };
-}
-
 pub so_far_all : (rows rest : List Row) (entries : List Entry) → length rest ≡ 0 → IsBookSoFar rows entries rest → IsBookOfRows rows entries
 so_far_all rows [] entries none h = subst (λ D. IsBookOfRows D entries) (sym (h.split ∙ append-nil h.done)) h.book
 so_far_all rows (r ∷ rest) entries none h = absurd (omega arith)
@@ -135,10 +127,10 @@ module _ (rest group later : List Row) (cut : IsCut rest group later) (rise : Al
   rise_split : AllPairs IsBelow (group ++ later)
   rise_split = subst (AllPairs IsBelow) cut.split rise
 
-  pub cut_rise : AllPairs IsBelow group
+  cut_rise : AllPairs IsBelow group
   cut_rise = AllPairs-left IsBelow group later rise_split
 
-  pub cut_rise_later : AllPairs IsBelow later
+  cut_rise_later : AllPairs IsBelow later
   cut_rise_later = AllPairs-right IsBelow group later rise_split
 
   -- each key is the next
@@ -153,14 +145,14 @@ module _ (rest group later : List Row) (cut : IsCut rest group later) (rise : Al
   keys_from i (suc n) d lt =
       keys_from i n d (omega arith) ∙ next_key (i + n) d (omega arith) ∙ ap (λ m. (get_or group m d).key) (omega arith)
 
-  pub cut_one : AreOfOneKey group
+  cut_one : AllPairs (λ r s. r.key ≡ s.key) group
   cut_one i j d lt within = keys_from i (j - i) d (omega arith) ∙ ap (λ m. (get_or group m d).key) (omega arith)
 
   pub cut_group : IsGroup group
   cut_group = record { some = cut.some; rise = cut_rise; one = cut_one }
 
   -- the keys of the group are below those that follow
-  pub cut_below : KeysBelow group later
+  cut_below : KeysBelow group later
   cut_below r s h k =
       let here = one_key group cut_group r last h (Contains-get_or group (length group - 1) s (omega (arith, cut.some))) in
       let up = keys_rise last first (AllPairs-across IsBelow group later rise_split last first (Contains-get_or group (length group - 1) s (omega (arith, cut.some))) (Contains-get_or later 0 s some)) in
@@ -222,7 +214,7 @@ fronts_fall e (f ∷ entries) h = (rises e f (h 0 1 e (omega arith) (omega arith
     rises e f (inl up) = omega arith
     rises e f (inr same) = omega (arith, same.0)
 
-pub NeverFall-ordered : (entries : List Entry) → AllPairs Before entries → NeverFall entries
+NeverFall-ordered : (entries : List Entry) → AllPairs Before entries → NeverFall entries
 NeverFall-ordered [] h = tt
 NeverFall-ordered (e ∷ entries) h = (omega arith, fronts_fall e entries h)
 

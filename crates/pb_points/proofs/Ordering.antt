@@ -11,7 +11,7 @@ use Rattle.std.proofs.lemmas.List.{get_or_default}
 use Rattle.std.proofs.lemmas.List.Elements.{Contains-get_or}
 use Rattle.std.proofs.lemmas.Map.Keys.{apart_from_distinct, IsDistinct-from_apart, IsDistinct-IsPermutation}
 use Rattle.pb_poly.specs.declared.entry.Entry.{Entry}
-use Rattle.pb_points.specs.Group.{AreApart}
+use Rattle.pb_points.specs.Group.{IsEntryGroup}
 use Rattle.pb_points.specs.Weight.{Before}
 
 -- weight falling, then code rising
@@ -60,7 +60,7 @@ before e f key late apart = elim (cases_lt f.weight e.weight) [
   ]
 ]
 
-one_key : (entries : List Entry) → AreApart entries → (e f : Entry) → Contains entries e → Contains entries f → e.key ≡ f.key
+one_key : (entries : List Entry) → IsEntryGroup entries → (e f : Entry) → Contains entries e → Contains entries f → e.key ≡ f.key
 one_key entries apart e f h k = elim (cases_lt h.0 k.0) [
   | inl up ↦ ap (λ (x : Entry). x.key) (sym h.2) ∙ (keys h.0 k.0 e up k.1) ∙ ap (λ (x : Entry). x.key) (get_or_default entries k.0 e f k.1 ∙ k.2)
   | inr le ↦ elim (cases_lt k.0 h.0) [
@@ -72,7 +72,7 @@ one_key entries apart e f h k = elim (cases_lt h.0 k.0) [
     keys : (i j : ℕ) (d : Entry) → i < j → j < length entries → (get_or entries i d).key ≡ (get_or entries j d).key
     keys i j d lt within = (apart i j d lt within).0
 
-pub sorted_before : (old new : List Entry) → AreApart old → IsPermutation old new → IsSortedBy weight_lt new → AllPairs Before new
+pub sorted_before : (old new : List Entry) → IsEntryGroup old → IsPermutation old new → IsSortedBy weight_lt new → AllPairs Before new
 sorted_before old new apart perm sorted i j d lt within =
     let from : (e : Entry) → Contains new e → Contains old e = λ e h. Contains-permutation new old e (IsPermutation-sym old new perm) h in
     let key = one_key old apart (get_or new i d) (get_or new j d) (from (get_or new i d) (Contains-get_or new i d (omega arith))) (from (get_or new j d) (Contains-get_or new j d within)) in

@@ -1,5 +1,5 @@
 -- The entries that rows give, one row after another.
-use Rattle.std.proofs.Common.{◌≡◌, ℕ, ◌+◌, ◌<◌, ◌≤◌, ◌↔◌, List, [], ◌∷◌, ◌++◌, take, drop, length, get_or, All, AllPairs, Any, Contains, sym, ap, subst, ◌∙◌, inl, inr, arith}
+use Rattle.std.proofs.Common.{◌≡◌, ℕ, ◌+◌, ◌<◌, ◌≤◌, ◌↔◌, List, [], ◌∷◌, ◌++◌, take, drop, length, get_or, All, Any, Contains, sym, ap, subst, ◌∙◌, inl, inr, arith, append_assoc}
 use Rattle.std.proofs.Math.Seq.{drop-append_seam, take-append_seam, take-length}
 use Rattle.std.proofs.lemmas.Bool.{cases_lt}
 use Rattle.std.proofs.lemmas.List.{get_or-take, length-take-le, take-append-drop, take_more}
@@ -8,24 +8,18 @@ use Rattle.std.proofs.lemmas.List.Quantifiers.{all_pairs_push}
 use Rattle.std.proofs.lemmas.List.Sorted.{IsPermutation-sym, Contains-permutation}
 use Rattle.pb_poly.specs.declared.entry.Entry.{Entry}
 use Rattle.pb_points.specs.declared.row.Row.{Row}
-use Rattle.pb_points.specs.Group.{AddsBook, AreApart, AreOfOneKey, Orders}
-use Rattle.pb_points.specs.Rows.{Gives, IsBelow, IsBookOfRows, IsTop, row_at}
+use Rattle.pb_points.specs.Group.{AddsBook, IsEntryGroup, IsGroup, Orders, entry_with}
+use Rattle.pb_points.specs.Rows.{Gives, IsBookOfRows, IsTop, row_at}
 use Rattle.pb_points.specs.Weight.{scaled}
 use Rattle.pb_points.proofs.Tops.{All-Contains, IsTop-unique, place_of_row}
 
--- rows of one key that rise
-pub record IsGroup (rows : List Row) : Type 0 where
-  pub some : 0 < length rows
-  pub rise : AllPairs IsBelow rows
-  pub one : AreOfOneKey rows
-
 -- the entries are those that the first n rows give
 pub record AreWeighed (rows : List Row) (n : ℕ) (entries : List Entry) : Type 0 where
-  pub apart : AreApart entries
+  pub group : IsEntryGroup entries
   pub members : (e : Entry) → Contains entries e ↔ ((r : Row) × Contains (take n rows) r × Gives rows r e)
 
 -- a row gives one entry
-pub Gives-unique : (rows : List Row) (r : Row) (e f : Entry) → Gives rows r e → Gives rows r f → e ≡ f
+Gives-unique : (rows : List Row) (r : Row) (e f : Entry) → Gives rows r e → Gives rows r f → e ≡ f
 Gives-unique rows r e f g h =
     let same = IsTop-unique rows r.key g.greatest h.greatest g.top h.top in
     let key = g.key ∙ sym h.key in
@@ -58,12 +52,6 @@ module _ (rows : List Row) (group : IsGroup rows) where
     met = let there : Contains rows met.1 = (met.0, met.2, met.3) in (met.1, there, one_key met.1 r there h, met.4);
   }
 
-  pub none_weighed : AreWeighed rows 0 []
-  none_weighed = record {
-    apart = λ i j d lt within. absurd (omega arith);
-    members = λ e. ((λ h. absurd (omega (arith, h.1))), (λ w. absurd (omega (arith, w.1.1))));
-  }
-
   module _ (i : ℕ) (lt : i < length rows) (entries : List Entry) (h : AreWeighed rows i entries) where
     more : take (i + 1) rows ≡ take i rows ++ row_at rows i ∷ []
     more = take_more rows i (record { key = 0; code = 0; points = 0 }) lt
@@ -80,9 +68,9 @@ module _ (rows : List Row) (group : IsGroup rows) where
         (elim (group.rise p.0 i (record { key = 0; code = 0; points = 0 }) within lt) [ inl up ↦ absurd (omega (arith, group.one p.0 i (record { key = 0; code = 0; points = 0 }) within lt)) | inr low ↦ low.1 ]) in
         (w.2.key ∙ key ∙ sym g.key, omega (arith, code, w.2.code, g.code))
 
-    pub weighed_push : (e : Entry) → Gives rows (row_at rows i) e → AreWeighed rows (i + 1) (entries ++ e ∷ [])
+    weighed_push : (e : Entry) → Gives rows (row_at rows i) e → AreWeighed rows (i + 1) (entries ++ e ∷ [])
     weighed_push e g = record {
-      apart = all_pairs_push (λ e f. (e.key ≡ f.key) × (e.code < f.code)) entries e h.apart (λ k d within. earlier e (get_or entries k d) (Contains-get_or entries k d within) g);
+      group = all_pairs_push (λ e f. (e.key ≡ f.key) × (e.code < f.code)) entries e h.group (λ k d within. earlier e (get_or entries k d) (Contains-get_or entries k d within) g);
       members = λ x. (
         (λ here. elim (Contains-push_cases entries e x here) [
           | inl old ↦ let w = (h.members x).0 old in (w.0, subst (λ l. Contains l w.0) (sym more) (Contains-append_left (take i rows) (row_at rows i ∷ []) w.0 w.1), w.2)
@@ -95,9 +83,9 @@ module _ (rows : List Row) (group : IsGroup rows) where
       );
     }
 
-    pub weighed_keep : ((e : Entry) → Gives rows (row_at rows i) e → ⊥) → AreWeighed rows (i + 1) entries
+    weighed_keep : ((e : Entry) → Gives rows (row_at rows i) e → ⊥) → AreWeighed rows (i + 1) entries
     weighed_keep none = record {
-      apart = h.apart;
+      group = h.group;
       members = λ x. (
         (λ here. let w = (h.members x).0 here in (w.0, subst (λ l. Contains l w.0) (sym more) (Contains-append_left (take i rows) (row_at rows i ∷ []) w.0 w.1), w.2)),
         (λ w. elim (Contains-push_cases (take i rows) (row_at rows i) w.0 (subst (λ l. Contains l w.0) more w.1)) [
@@ -107,15 +95,27 @@ module _ (rows : List Row) (group : IsGroup rows) where
       );
     }
 
+-- the entry of a row is what it gives
+gives_weighed : (rows : List Row) (r : Row) (M : ℕ) (e : Entry) → IsTop rows r.key M → (1 ≤ e.weight) × (e ≡ entry_with r (scaled r.points M)) → Gives rows r e
+gives_weighed rows r M e top h = record {
+  greatest = M;
+  top = top;
+  key = ap (λ (f : Entry). f.key) h.1;
+  code = ap (λ (f : Entry). f.code) h.1;
+  weight = ap (λ (f : Entry). f.weight) h.1;
+  some = h.0;
+  learn = ap (λ (f : Entry). f.learn) h.1;
+}
+
 -- a row of weight 0 gives nothing
-pub gives_none : (rows : List Row) (r : Row) (M : ℕ) → IsTop rows r.key M → scaled r.points M ≡ 0 → (e : Entry) → Gives rows r e → ⊥
+gives_none : (rows : List Row) (r : Row) (M : ℕ) → IsTop rows r.key M → scaled r.points M ≡ 0 → (e : Entry) → Gives rows r e → ⊥
 gives_none rows r M top zero e g =
     let same = IsTop-unique rows r.key g.greatest M g.top top in
     let weight : e.weight ≡ 0 = g.weight ∙ ap (scaled r.points) same ∙ zero in
     omega (arith, g.some, weight)
 
 -- the weighed entries in a book's order are the book
-pub IsBookOfRows-ordered : (rows : List Row) (entries ordered : List Entry) → AreWeighed rows (length rows) entries → Orders entries ordered → IsBookOfRows rows ordered
+IsBookOfRows-ordered : (rows : List Row) (entries ordered : List Entry) → AreWeighed rows (length rows) entries → Orders entries ordered → IsBookOfRows rows ordered
 IsBookOfRows-ordered rows entries ordered h o = record {
   ordered = o.ordered;
   members = λ x. (
@@ -132,6 +132,20 @@ pub record AddsWeighed (rows : List Row) (n : ℕ) (old new : List Entry) : Type
   pub split : new ≡ old ++ added
   pub weighed : AreWeighed rows n added
 
+module _ (rows : List Row) (group : IsGroup rows) (i : ℕ) (lt : i < length rows) (M : ℕ) (top : IsTop rows (row_at rows i).key M) (old new : List Entry) (h : AddsWeighed rows i old new) where
+  -- the next row's entry was added
+  pub adds_push : (e : Entry) → (1 ≤ e.weight) × (e ≡ entry_with (row_at rows i) (scaled (row_at rows i).points M)) → AddsWeighed rows (i + 1) old (new ++ e ∷ [])
+  adds_push e is = record {
+    added = h.added ++ e ∷ [];
+    split = ap (λ l. l ++ e ∷ []) h.split ∙ append_assoc old h.added (e ∷ []);
+    weighed = weighed_push rows group i lt h.added h.weighed e (gives_weighed rows (row_at rows i) M e top is);
+  }
+
+  -- the next row has no entry
+  pub adds_keep : scaled (row_at rows i).points M ≡ 0 → AddsWeighed rows (i + 1) old new
+  adds_keep zero = record { added = h.added; split = h.split; weighed = weighed_keep rows group i lt h.added h.weighed (gives_none rows (row_at rows i) M top zero) }
+
+-- the entries behind the old ones, in a book's order, are the book
 pub adds_book : (rows : List Row) (old new ordered : List Entry) (start : ℕ) → start ≡ length old → AddsWeighed rows (length rows) old new
     → take start ordered ≡ take start new → Orders (drop start new) (drop start ordered) → AddsBook rows old ordered
 adds_book rows old new ordered start at h kept o = (

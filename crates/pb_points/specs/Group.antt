@@ -1,17 +1,23 @@
 -- Rows and entries of one key.
-use Rattle.std.specs.Prelude.{◌≡◌, ◌<◌, List, ◌++◌, AllPairs, IsPermutation}
+use Rattle.std.specs.Prelude.{◌≡◌, ℕ, ◌<◌, List, ◌++◌, length, AllPairs, IsPermutation}
 use Rattle.pb_poly.specs.declared.entry.Entry.{Entry}
 use Rattle.pb_points.specs.declared.row.Row.{Row}
-use Rattle.pb_points.specs.Rows.{IsBookOfRows}
+use Rattle.pb_points.specs.Rows.{IsBelow, IsBookOfRows}
 use Rattle.pb_points.specs.Weight.{Before}
 
--- the rows have one key
-abbrev pub AreOfOneKey : List Row → Type 0
-AreOfOneKey rows = AllPairs (λ r s. r.key ≡ s.key) rows
+-- rows of one key in order
+pub record IsGroup (rows : List Row) : Type 0 where
+  pub some : 0 < length rows
+  pub rise : AllPairs IsBelow rows
+  pub one : AllPairs (λ r s. r.key ≡ s.key) rows
 
--- the entries have one key, and their codes rise
-abbrev pub AreApart : List Entry → Type 0
-AreApart entries = AllPairs (λ e f. (e.key ≡ f.key) × (e.code < f.code)) entries
+-- entries of one key, their codes rising
+abbrev pub IsEntryGroup : List Entry → Type 0
+IsEntryGroup entries = AllPairs (λ e f. (e.key ≡ f.key) × (e.code < f.code)) entries
+
+-- the entry of a row, with this weight
+abbrev pub entry_with : Row → ℕ → Entry
+entry_with r w = record { key = r.key; code = r.code; weight = w; learn = 0 }
 
 -- the new entries are the old ones in a book's order
 pub record Orders (old new : List Entry) : Type 0 where

@@ -1,9 +1,9 @@
 //! The book of rows of points.
 
-ghost use Rattle.std.specs.Prelude.{◌≡◌, ◌<◌, ◌≤◌, All, AllPairs, Any, IfOk, IsPermutation, OnOk, drop, length, take};
-ghost use Rattle.pb_points.specs.Group.{AddsBook, AreOfOneKey, AreApart, Orders};
+ghost use Rattle.std.specs.Prelude.{◌≡◌, ◌<◌, ◌≤◌, All, AllPairs, Any, IfOk, MatchOption, OnOk, drop, length, take};
+ghost use Rattle.pb_points.specs.Group.{AddsBook, IsEntryGroup, IsGroup, Orders, entry_with};
 ghost use Rattle.pb_points.specs.Rows.{IsBelow, IsBookOfRows};
-ghost use Rattle.pb_points.specs.Weight.{Before};
+ghost use Rattle.pb_points.specs.Weight.{Before, scaled};
 
 use crate::row::Row;
 use crate::weight::scale;
@@ -30,22 +30,14 @@ pub fn book_of(alloc: Global, rows: &[Row]) -> Result<Book, AllocError>
 
 // Adds the book of the rows of one key.
 fn push_group(entries: &mut Vec<Entry>, group: &[Row]) -> Result<(), AllocError>
-    requires some { 0 < length group.now }
-    requires rise { AllPairs IsBelow group.now }
-    requires one { AreOfOneKey group.now }
+    requires { IsGroup group.now }
     ensures { OnOk result (AddsBook group.now entries.old.items entries.new.items) }
 {
     let start = entries.len();
     let greatest = greatest_of(group);
     for row in group {
-        let weight = scale(row.points, greatest);
-        if weight > 0 {
-            entries.push(Entry {
-                key: row.key,
-                code: row.code,
-                weight,
-                learn: 0,
-            })?;
+        if let Some(entry) = entry_of(row, greatest) {
+            entries.push(entry)?;
         }
     }
     sort_from(entries, start);
@@ -58,13 +50,29 @@ fn greatest_of(rows: &[Row]) -> u64
     ensures above { All (λ r. r.points ≤ result) rows.now }
     ensures met { Any (λ r. r.points ≡ result) rows.now }
 {
-    rows.iter().map(|row| row.points).max().unwrap_or(0)
+    rows.iter().map(|row| row.points).max().unwrap()
+}
+
+// The entry of a row, where `greatest` is the greatest points of its key, or none where its weight is 0.
+fn entry_of(row: &Row, greatest: u64) -> Option<Entry>
+    requires { row.now.points ≤ greatest }
+    ensures { MatchOption result
+        (scaled row.now.points greatest ≡ 0)
+        (λ e. (1 ≤ e.weight) × (e ≡ entry_with row.now (scaled row.now.points greatest))) }
+{
+    let weight = scale(row.points, greatest);
+    (weight > 0).then_some(Entry {
+        key: row.key,
+        code: row.code,
+        weight,
+        learn: 0,
+    })
 }
 
 // Puts the entries from a place on, all of one key, in a book's order.
 fn sort_from(entries: &mut Vec<Entry>, start: usize)
     requires within { start ≤ length entries.old.items }
-    requires apart { AreApart (drop start entries.old.items) }
+    requires group { IsEntryGroup (drop start entries.old.items) }
     ensures kept { take start entries.new.items ≡ take start entries.old.items }
     ensures sorted { Orders (drop start entries.old.items) (drop start entries.new.items) }
 {
@@ -73,7 +81,7 @@ fn sort_from(entries: &mut Vec<Entry>, start: usize)
 
 // Puts entries of one key in a book's order.
 fn sort_group(entries: &mut [Entry])
-    requires { AreApart entries.old }
+    requires { IsEntryGroup entries.old }
     ensures { Orders entries.old entries.new }
 {
     entries.sort_unstable_by_key(|entry| (Reverse(entry.weight), entry.code));

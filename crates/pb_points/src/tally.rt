@@ -27,7 +27,7 @@ pub trait Tally: Drop {
         ensures ok { OnOk result (MakesRow (content self.old) (content self.new) key code) }
         ensures err { OnErr result ((k c : ℕ) → content self.new k c ≡ content self.old k c) };
 
-    /// Adds points to a row. It takes no memory.
+    /// Adds points to a row that is there, up to 2^63 in all. It takes no memory.
     fn add(&mut self, key: u64, code: u16, points: u64)
         requires row { IsSome (content self.old key code) }
         requires fits { (held (content self.old) key code).points + points ≤ 2 ^ 63 }

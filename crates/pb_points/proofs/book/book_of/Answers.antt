@@ -2,24 +2,16 @@ use Rattle.std.proofs.Common.{rules, ◌≡◌, sym, subst}
 use Rattle.std.specs.Slice.Iter.{chunk_by_rest}
 use Rattle.std.proofs.lemmas.List.Sorted.{answers_always}
 use Rattle.pb_points.specs.Rows.{IsBookOfRows}
-use Rattle.pb_points.proofs.Groups.{IsCut, ok_unless, cut_one, cut_rise, keys_equal, none_falls, so_far_all, so_far_more, so_far_rise}
+use Rattle.pb_points.proofs.Groups.{IsCut, ok_unless, cut_group, keys_equal, none_falls, so_far_all, so_far_more, so_far_rise}
 use Rattle.pb_points.proofs.book.book_of.Goals as goal
 
-pub push_group-requires-clause-rise : goal.push_group-requires-clause-rise
-push_group-requires-clause-rise c =
+pub push_group-requires : goal.push_group-requires
+push_group-requires c =
     let rest = chunk_by_rest c.loop-group.group-iterator in
     let steps = c.in-Some.ensures.steps in
     let cut : IsCut rest c.in-Some.group.now (chunk_by_rest c.next.new.self) =
     record { split = steps.0; some = steps.1; prefix = (steps.2 keys_equal (answers_always _ (λ a r. r ≡ keys_equal a.0.now a.1.0.now) _ (λ f a r g q. search rules))).1 } in
-    cut_rise rest c.in-Some.group.now (chunk_by_rest c.next.new.self) cut (so_far_rise c.args.rows.now rest c.loop-group.entries.items c.loop-group.invariant c.requires)
-
-pub push_group-requires-clause-one : goal.push_group-requires-clause-one
-push_group-requires-clause-one c =
-    let rest = chunk_by_rest c.loop-group.group-iterator in
-    let steps = c.in-Some.ensures.steps in
-    let cut : IsCut rest c.in-Some.group.now (chunk_by_rest c.next.new.self) =
-    record { split = steps.0; some = steps.1; prefix = (steps.2 keys_equal (answers_always _ (λ a r. r ≡ keys_equal a.0.now a.1.0.now) _ (λ f a r g q. search rules))).1 } in
-    cut_one rest c.in-Some.group.now (chunk_by_rest c.next.new.self) cut (so_far_rise c.args.rows.now rest c.loop-group.entries.items c.loop-group.invariant c.requires)
+    cut_group rest c.in-Some.group.now (chunk_by_rest c.next.new.self) cut (so_far_rise c.args.rows.now rest c.loop-group.entries.items c.loop-group.invariant c.requires)
 
 pub loop-group-preserved : goal.loop-group-preserved
 loop-group-preserved c =

@@ -1,36 +1,25 @@
-use Rattle.std.proofs.Common.{◌≡◌, ◌++◌, ◌∷◌, [], arith, rules, refl, sym, ap, subst, ◌∙◌, append_assoc}
-use Rattle.pb_poly.specs.declared.entry.Entry.{Entry}
-use Rattle.pb_points.specs.Rows.{Gives, IsTop, row_at}
+use Rattle.std.proofs.Common.{◌+◌, arith, rules, sym, ap, subst, ◌∙◌}
+use Rattle.pb_points.specs.Rows.{IsTop, row_at}
 use Rattle.pb_points.proofs.Tops.{Contains-row_at}
-use Rattle.pb_points.proofs.Weighing.{AddsWeighed, IsGroup, adds_book, gives_none, group_top, weighed_keep, weighed_push}
+use Rattle.pb_points.proofs.Weighing.{AddsWeighed, adds_book, adds_keep, adds_push, group_top}
 use Rattle.pb_points.proofs.book.push_group.Goals as goal
-use Rattle.pb_points.proofs.book.push_group.Goals.{then-weight-gt0+in_ok-push, else-weight-gt0}
+use Rattle.pb_points.proofs.book.push_group.Goals.{in-Some+in_ok-push, in_default}
 
 pub loop-row-preserved : goal.loop-row-preserved
 loop-row-preserved c =
     let rows = c.args.group.now in
     let i = c.loop-row.row-index in
     let old = c.args.entries.now.items in
+    let new = c.loop-row.entries.items in
     let M = c.greatest_of-greatest.result in
-    let group : IsGroup rows = record { some = c.requires.some; rise = c.requires.rise; one = c.requires.one } in
-    let top : IsTop rows (row_at rows i).key M = group_top rows group M c.greatest_of-greatest.ensures.above c.greatest_of-greatest.ensures.met (row_at rows i) (Contains-row_at rows i c.loop-row-test.true) in
-    let sofar = c.loop-row.invariant in
-    let e : Entry = record { key = (row_at rows i).key; code = (row_at rows i).code; weight = c.scale-weight.result; learn = 0 } in
-    elim c.if-weight-gt0.branch [
-      | then-weight-gt0+in_ok-push w ↦
-          let g : Gives rows (row_at rows i) e = record { greatest = M; top = top; key = refl; code = refl; weight = c.scale-weight.ensures; some = omega (arith, w.if-weight-gt0.true); learn = refl } in
-          record {
-            added = sofar.added ++ e ∷ [];
-            split = ap (λ v. v.items) w.entries-is ∙ w.in_ok-push.ensures.items ∙ ap (λ l. l ++ e ∷ []) sofar.split ∙ append_assoc old sofar.added (e ∷ []);
-            weighed = weighed_push rows group i c.loop-row-test.true sofar.added sofar.weighed e g;
-          }
-      | else-weight-gt0 w ↦
-          let zero : c.scale-weight.result ≡ 0 = omega (arith, w.if-weight-gt0.false) in
-          record {
-            added = sofar.added;
-            split = ap (λ v. v.items) w.entries-is ∙ sofar.split;
-            weighed = weighed_keep rows group i c.loop-row-test.true sofar.added sofar.weighed (gives_none rows (row_at rows i) M top (sym c.scale-weight.ensures ∙ zero));
-          }
+    let top : IsTop rows (row_at rows i).key M = group_top rows c.requires M c.greatest_of-greatest.ensures.above c.greatest_of-greatest.ensures.met (row_at rows i) (Contains-row_at rows i c.loop-row-test.true) in
+    elim c.match-entry_of.branch [
+      | in-Some+in_ok-push w ↦
+          subst (AddsWeighed rows (i + 1) old) (sym (ap (λ v. v.items) w.entries-is ∙ w.in_ok-push.ensures.items))
+          (adds_push rows c.requires i c.loop-row-test.true M top old new c.loop-row.invariant w.in-Some.entry w.in-Some.ensures)
+      | in_default w ↦
+          subst (AddsWeighed rows (i + 1) old) (sym (ap (λ v. v.items) w.entries-is))
+          (adds_keep rows c.requires i c.loop-row-test.true M top old new c.loop-row.invariant w.in_default.ensures)
     ]
 
 pub returns : goal.returns
