@@ -1,0 +1,112 @@
+-- Which refusal a line gets by itself: the first in the order below whose condition holds.
+use Rattle.std.specs.Prelude.{◌≡◌, ◌≢◌, ℕ, ◌+◌, ◌<◌, ◌⊎◌, List, [], ◌∷◌, ◌++◌, length, map, All, slice_index_or, ◌==◌, if◌then◌else◌}
+use Rattle.std.specs.List.{slice_split}
+use Rattle.pb_board.specs.Fen.{FenText}
+use Rattle.pb_board.specs.Position.{Position, Record, IsRecord}
+use Rattle.pb_board.specs.Refusal.{IsFirstDue, OfRecord, fields}
+use Rattle.pb_moves.specs.Attack.{Playable}
+use Rattle.pb_moves.specs.Cases.{Legal}
+use Rattle.pb_moves.specs.Moved.{Moved, IsMove}
+use Rattle.pb_moves.specs.Played.{IsSpelled}
+use Rattle.pb_moves.specs.Spelling.{spelling}
+use Rattle.pb_moves.specs.Successor.{after}
+use Rattle.pb_games.specs.declared.outcome.Outcome.{Outcome}
+use Rattle.pb_games.specs.declared.refusal.Refusal.{Refusal}
+use Rattle.pb_games.specs.declared.refusal.Refusal.TheVariants as refusal
+use Rattle.pb_games.specs.Ids.{IsId}
+use Rattle.pb_games.specs.Submissions.{outcome_text}
+use Rattle.pb_games.specs.Words.{words_of}
+
+-- the line without one final CR
+abbrev pub without_cr : List ℕ → List ℕ
+without_cr [] = []
+without_cr (c ∷ []) = if c == 13 then [] else c ∷ []
+without_cr (c ∷ d ∷ cs) = c ∷ without_cr (d ∷ cs)
+
+-- the fields of a line, which is cut at every TAB
+abbrev pub fields_of : List ℕ → List (List ℕ)
+fields_of line = slice_split (λ b. b == 9) (without_cr line)
+
+-- the field with this number, from 0
+abbrev pub field_of : List ℕ → ℕ → List ℕ
+field_of line i = slice_index_or (fields_of line) i []
+
+-- the words of the fourth field
+abbrev pub move_words : List ℕ → List (List ℕ)
+move_words line = words_of (field_of line 3)
+
+-- the n-th word, from 1, spells no move, and each word before it spells one
+pub record IsFirstMisspelt (words : List (List ℕ)) (n : ℕ) : Type 0 where
+  pub before : List (List ℕ)
+  pub word : List ℕ
+  pub after : List (List ℕ)
+  pub cut : words ≡ before ++ word ∷ after
+  pub number : n ≡ length before + 1
+  pub spelt : All IsSpelled before
+  pub misspelt : ¬ IsSpelled word
+
+-- the n-th move, from 1, isn't legal where it is played, and each move before it is
+abbrev pub IsFirstIllegal : Position → List Moved → ℕ → Type 0
+IsFirstIllegal s [] n = ⊥
+IsFirstIllegal s (m ∷ ms) n =
+    ((n ≡ 1) × ¬ Legal s m) ⊎ ((k : ℕ) × (n ≡ k + 1) × Legal s m × IsFirstIllegal (after s m) ms k)
+
+-- the third field spells this record
+pub record SpellsStart (line : List ℕ) (f : Record) : Type 0 where
+  pub bounds : IsRecord f
+  pub text : FenText f (field_of line 2)
+
+-- the words of the fourth field spell these moves
+pub record SpellsMoves (line : List ℕ) (moves : List Moved) : Type 0 where
+  pub bounds : All IsMove moves
+  pub words : map spelling moves ≡ move_words line
+
+-- when each refusal is due; the last three look at more than the line
+abbrev pub IsDue : Refusal → List ℕ → Type 0
+IsDue refusal.Long line = 8192 < length line
+IsDue refusal.Shape line = length (fields_of line) ≢ 4
+IsDue refusal.Id line = ¬ IsId (field_of line 0)
+IsDue refusal.Result line = (outcome : Outcome) → field_of line 1 ≢ outcome_text outcome
+IsDue (refusal.Fen e) line = IsFirstDue OfRecord e (fields (field_of line 2))
+IsDue refusal.Start line = (f : Record) × SpellsStart line f × ¬ Playable f.setup
+IsDue (refusal.Spelling n) line = IsFirstMisspelt (move_words line) n
+IsDue refusal.Plies line = 1024 < length (move_words line)
+IsDue (refusal.Illegal n) line =
+    (f : Record) × (moves : List Moved) × SpellsStart line f × SpellsMoves line moves × IsFirstIllegal f.setup moves n
+IsDue (refusal.Conflict n) line = ⊥
+IsDue refusal.Full line = ⊥
+IsDue refusal.Memory line = ⊥
+
+abbrev pub order : Refusal → ℕ
+order refusal.Long = 1
+order refusal.Shape = 2
+order refusal.Id = 3
+order refusal.Result = 4
+order (refusal.Fen e) = 5
+order refusal.Start = 6
+order (refusal.Spelling n) = 7
+order refusal.Plies = 8
+order (refusal.Illegal n) = 9
+order (refusal.Conflict n) = 10
+order refusal.Full = 11
+order refusal.Memory = 12
+
+-- the refusals that look at the line alone
+abbrev pub IsOfLine : Refusal → Type 0
+IsOfLine refusal.Long = Unit {0}
+IsOfLine refusal.Shape = Unit {0}
+IsOfLine refusal.Id = Unit {0}
+IsOfLine refusal.Result = Unit {0}
+IsOfLine (refusal.Fen e) = Unit {0}
+IsOfLine refusal.Start = Unit {0}
+IsOfLine (refusal.Spelling n) = Unit {0}
+IsOfLine refusal.Plies = Unit {0}
+IsOfLine (refusal.Illegal n) = Unit {0}
+IsOfLine (refusal.Conflict n) = ⊥
+IsOfLine refusal.Full = ⊥
+IsOfLine refusal.Memory = ⊥
+
+-- the line by itself is refused so: this refusal is due, and none before it
+pub record Refuses (line : List ℕ) (e : Refusal) : Type 0 where
+  pub due : IsDue e line
+  pub first : (d : Refusal) → order d < order e → ¬ IsDue d line

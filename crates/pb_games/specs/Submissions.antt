@@ -1,0 +1,68 @@
+-- Submissions and the lines that spell them.
+use Rattle.std.specs.Prelude.{◌≡◌, ℕ, ◌≤◌, ◌⊎◌, List, [], ◌∷◌, ◌++◌, length, map, All, codes}
+use Rattle.std.specs.List.{join_with_byte}
+use Rattle.pb_board.specs.Fen.{FenText}
+use Rattle.pb_board.specs.Position.{IsRecord}
+use Rattle.pb_moves.specs.Attack.{Playable}
+use Rattle.pb_moves.specs.Moved.{Moved, IsMove}
+use Rattle.pb_moves.specs.Played.{Ply, plies_from, AreLegal}
+use Rattle.pb_moves.specs.Spelling.{spelling}
+use Rattle.pb_games.specs.declared.outcome.Outcome.{Outcome}
+use Rattle.pb_games.specs.declared.outcome.Outcome.TheVariants.{White, Black, Draw}
+use Rattle.pb_games.specs.declared.game.Game.{Game}
+use Rattle.pb_games.specs.Ids.{IsId}
+
+-- an id and a game
+abbrev pub Submission : Type 0
+Submission = List ℕ × Game
+
+-- the text of a result
+abbrev pub outcome_text : Outcome → List ℕ
+outcome_text White = codes "1-0"
+outcome_text Black = codes "0-1"
+outcome_text Draw = codes "1/2-1/2"
+
+-- the spellings of the moves, joined by single spaces
+abbrev pub moves_text : List Moved → List ℕ
+moves_text moves = join_with_byte 32 (map spelling moves)
+
+-- the bounds of a game's parts
+pub record IsGame (g : Game) : Type 0 where
+  pub start : IsRecord g.start
+  pub moves : All IsMove g.moves
+  pub few : length g.moves ≤ 1024
+
+-- the text of a submission: the id, the result, the record that the game starts from and the moves, with a TAB
+-- between each two
+abbrev pub SubmissionText : Submission → List ℕ → Type 0
+SubmissionText s text =
+    (fen : List ℕ) × FenText s.1.start fen
+    × (text ≡ join_with_byte 9 (s.0 ∷ outcome_text s.1.outcome ∷ fen ∷ moves_text s.1.moves ∷ []))
+
+-- the line is the text of the submission, or that text and a CR
+pub record Submits (line : List ℕ) (s : Submission) : Type 0 where
+  pub id : IsId s.0
+  pub game : IsGame s.1
+  pub text : List ℕ
+  pub spells : SubmissionText s text
+  pub is : (line ≡ text) ⊎ (line ≡ text ++ 13 ∷ [])
+
+-- the moves of the game, each with the setup before it
+abbrev pub plies : Game → List Ply
+plies g = plies_from g.start.setup g.moves
+
+-- the side that isn't to move at the start isn't in check, and each move is legal where it is played
+pub record IsLegalGame (g : Game) : Type 0 where
+  pub playable : Playable g.start.setup
+  pub legal : AreLegal g.start.setup g.moves
+
+-- the line submits this legal game under this id
+pub record IsLawful (line : List ℕ) (s : Submission) : Type 0 where
+  pub submits : Submits line s
+  pub legal : IsLegalGame s.1
+
+-- an id and a legal game within the bounds
+pub record IsSubmission (s : Submission) : Type 0 where
+  pub id : IsId s.0
+  pub game : IsGame s.1
+  pub legal : IsLegalGame s.1

@@ -1,0 +1,30 @@
+-- The words of a field, and the moves that they spell.
+use Rattle.std.specs.Prelude.{ℕ, ◌+◌, ◌-◌, ◌*◌, List, [], ◌∷◌, map, slice_index, Option, Some, None, ◌==◌, if◌then◌else◌}
+use Rattle.std.specs.List.{slice_split}
+use Rattle.pb_board.specs.declared.piece.Kind.{Kind}
+use Rattle.pb_board.specs.declared.piece.Kind.TheVariants.{Knight, Bishop, Rook, Queen}
+use Rattle.pb_moves.specs.Moved.{Moved, moved_of}
+
+-- the words of a field: what stands between its spaces; an empty field has none
+abbrev pub words_of : List ℕ → List (List ℕ)
+words_of [] = []
+words_of (c ∷ cs) = slice_split (λ b. b == 32) (c ∷ cs)
+
+-- ---- the move of a word, which means nothing where the word spells no move
+
+abbrev pub square_named : ℕ → ℕ → ℕ
+square_named letter digit = 8 * (digit - 49) + (letter - 97)
+
+abbrev pub promotion_named : ℕ → Option Kind
+promotion_named c =
+    if c == 110 then Some Knight
+    else (if c == 98 then Some Bishop
+    else (if c == 114 then Some Rook
+    else (if c == 113 then Some Queen else None)))
+
+abbrev pub move_named : List ℕ → Moved
+move_named word =
+    moved_of (square_named (slice_index word 0) (slice_index word 1)) (square_named (slice_index word 2) (slice_index word 3)) (promotion_named (slice_index word 4))
+
+abbrev pub moves_named : List ℕ → List Moved
+moves_named field = map move_named (words_of field)

@@ -1,0 +1,17 @@
+//! Games as they are submitted, one line each: an id, a result, the record that the game starts from, and its moves.
+#![tactic(auto)]
+
+mod game;
+mod id;
+pub mod laws;
+mod line;
+mod move_list;
+mod outcome;
+mod refusal;
+
+pub use game::Game;
+pub use id::Id;
+pub use line::Line;
+pub use move_list::MoveList;
+pub use outcome::Outcome;
+pub use refusal::Refusal;
