@@ -1,0 +1,3 @@
+pub mod ListRows
+pub mod MapRows
+pub mod Pairs

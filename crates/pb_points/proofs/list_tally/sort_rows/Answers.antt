@@ -1,0 +1,14 @@
+use Rattle.std.proofs.Common.{rules, ℕ, ◌≡◌}
+use Rattle.std.proofs.lemmas.List.Sorted.{answers_always}
+use Rattle.pb_points.specs.declared.row.Row.{Row}
+use Rattle.pb_points.proofs.ListRows.{sorted_below}
+use Rattle.pb_points.proofs.list_tally.sort_rows.Goals as goal
+
+abbrev sort_key : Row → ℕ × ℕ
+sort_key r = (r.key, r.code)
+
+pub returns-clause-sorted : goal.returns-clause-sorted
+returns-clause-sorted c =
+    let sort = c.sort_unstable_by_key in
+    sorted_below c.args.rows.now.items sort.new.self.items c.requires sort.ensures.permutation
+    (sort.ensures.sorted sort_key (answers_always _ (λ a r. r ≡ sort_key a.0.now) _ (λ f a r g q. search rules)))

@@ -1,0 +1,5 @@
+pub mod ListTally
+pub mod MapTally
+pub mod Rows
+pub mod Tally
+pub mod Weight

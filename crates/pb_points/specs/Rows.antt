@@ -1,0 +1,29 @@
+-- Rows of points, at most one for each key and code, and the book that is made of them.
+use Rattle.std.specs.Prelude.{◌≡◌, ℕ, ◌<◌, ◌≤◌, ◌⊎◌, ◌↔◌, List, AllPairs, Contains}
+use Rattle.pb_poly.specs.declared.entry.Entry.{Entry}
+use Rattle.pb_points.specs.declared.row.Row.{Row}
+use Rattle.pb_points.specs.Weight.{Before, scaled}
+
+-- key rising, then code rising
+abbrev pub IsBelow : Row → Row → Type 0
+IsBelow r s = (r.key < s.key) ⊎ ((r.key ≡ s.key) × (r.code < s.code))
+
+-- M is the greatest number of points of the rows with this key
+pub record IsTop (rows : List Row) (k M : ℕ) : Type 0 where
+  pub above : (r : Row) → Contains rows r → r.key ≡ k → r.points ≤ M
+  pub met : (r : Row) × Contains rows r × (r.key ≡ k) × (r.points ≡ M)
+
+-- the row gives this entry to the book: its move, with its points scaled by the greatest of its key, where that isn't 0
+pub record Gives (rows : List Row) (r : Row) (e : Entry) : Type 0 where
+  pub greatest : ℕ
+  pub top : IsTop rows r.key greatest
+  pub key : e.key ≡ r.key
+  pub code : e.code ≡ r.code
+  pub weight : e.weight ≡ scaled r.points greatest
+  pub some : 1 ≤ e.weight
+  pub learn : e.learn ≡ 0
+
+-- the entries are the book of the rows
+pub record IsBookOfRows (rows : List Row) (entries : List Entry) : Type 0 where
+  pub ordered : AllPairs Before entries
+  pub members : (e : Entry) → Contains entries e ↔ ((r : Row) × Contains rows r × Gives rows r e)

@@ -1,0 +1,14 @@
+//! Points of moves under keys, kept as games arrive, and the weights and entries that are made of them.
+#![tactic(auto)]
+
+mod list_tally;
+mod map_tally;
+mod row;
+mod tally;
+mod weight;
+
+pub use list_tally::ListTally;
+pub use map_tally::MapTally;
+pub use row::Row;
+pub use tally::Tally;
+pub use weight::scale;

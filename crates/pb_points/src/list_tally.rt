@@ -1,0 +1,97 @@
+//! A tally over a plain list of rows.
+
+ghost use Rattle.std.specs.Prelude.{◌≡◌, ◌+◌, ◌<◌, ◌≤◌, ◌^◌, AllPairs, IsPermutation, length, position, slice_set};
+ghost use Rattle.std.specs.List.{IsDistinct};
+ghost use Rattle.pb_points.specs.ListTally.{is_row, list_content, row_at, same_pair, with_more};
+ghost use Rattle.pb_points.specs.Rows.{IsBelow};
+
+use crate::row::Row;
+use crate::tally::Tally;
+use std::alloc::{AllocError, Global};
+use std::marker::Model;
+
+/// Points in a plain list of rows, in the order in which they were first made: each call goes along the list.
+#[derive(Drop)]
+pub struct ListTally {
+    rows: Vec<Row>,
+}
+
+impl Model for ListTally {
+    ghost use Rattle.std.specs.Prelude.{List};
+    ghost use Rattle.std.specs.List.{IsDistinct};
+    ghost use Rattle.pb_points.specs.declared.row.Row.{Row};
+    ghost use Rattle.pb_points.specs.ListTally.{same_pair};
+
+    ghost Value = { List Row };
+
+    ghost view = { λ t. t.rows.items };
+
+    ghost invariant = { λ t. IsDistinct same_pair t.rows.items };
+}
+
+// The place of the row of a key and a code.
+fn place_of(rows: &[Row], key: u64, code: u16) -> Option<usize>
+    ensures { result ≡ position (is_row key code) rows.now }
+{
+    rows.iter()
+        .position(|row| row.key == key && row.code == code)
+}
+
+// Adds points to the row at a place.
+fn add_at(rows: &mut Vec<Row>, place: usize, points: u64)
+    requires within { place < length rows.old.items }
+    requires fits { (row_at rows.old.items place).points + points ≤ 2 ^ 63 }
+    ensures { rows.new.items ≡ slice_set rows.old.items place (with_more points (row_at rows.old.items place)) }
+{
+    rows[place].points += points;
+}
+
+// Puts the rows in order of key and then code.
+fn sort_rows(rows: &mut Vec<Row>)
+    requires { IsDistinct same_pair rows.old.items }
+    ensures sorted { AllPairs IsBelow rows.new.items }
+    ensures permutation { IsPermutation rows.old.items rows.new.items }
+{
+    rows.sort_unstable_by_key(|row| (row.key, row.code));
+}
+
+impl Tally for ListTally {
+    ghost content = { list_content };
+
+    fn new(alloc: Global) -> ListTally {
+        ListTally {
+            rows: Vec::new(alloc),
+        }
+    }
+
+    fn ensure(&mut self, key: u64, code: u16) -> Result<(), AllocError> {
+        if place_of(&self.rows, key, code).is_some() {
+            return Ok(());
+        }
+        self.rows.push(Row {
+            key,
+            code,
+            points: 0,
+        })?;
+        Ok(())
+    }
+
+    fn add(&mut self, key: u64, code: u16, points: u64) {
+        if let Some(place) = place_of(&self.rows, key, code) {
+            add_at(&mut self.rows, place, points);
+        }
+    }
+
+    fn points(&self, key: u64, code: u16) -> u64 {
+        match place_of(&self.rows, key, code) {
+            Some(place) => self.rows[place].points,
+            None => 0,
+        }
+    }
+
+    fn rows(&self, alloc: Global) -> Result<Vec<Row>, AllocError> {
+        let mut rows = Vec::from_slice(alloc, &self.rows)?;
+        sort_rows(&mut rows);
+        Ok(rows)
+    }
+}

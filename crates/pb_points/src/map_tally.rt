@@ -1,0 +1,49 @@
+//! A tally over an ordered map.
+
+ghost use Rattle.pb_points.specs.MapTally.{map_content};
+
+use crate::row::Row;
+use crate::tally::Tally;
+use std::alloc::{AllocError, Global};
+use std::collections::BTreeMap;
+
+/// Points in an ordered map by key and code: each call takes the time of a look-up, and `rows` needs no sorting.
+#[derive(Drop)]
+pub struct MapTally {
+    points: BTreeMap<(u64, u16), u64>,
+}
+
+impl Tally for MapTally {
+    ghost content = { λ t. map_content t.points };
+
+    fn new(alloc: Global) -> MapTally {
+        MapTally {
+            points: BTreeMap::new(alloc),
+        }
+    }
+
+    fn ensure(&mut self, key: u64, code: u16) -> Result<(), AllocError> {
+        if !self.points.contains_key(&(key, code)) {
+            self.points.insert((key, code), 0)?;
+        }
+        Ok(())
+    }
+
+    fn add(&mut self, key: u64, code: u16, points: u64) {
+        if let Some(held) = self.points.get_mut(&(key, code)) {
+            *held += points;
+        }
+    }
+
+    fn points(&self, key: u64, code: u16) -> u64 {
+        self.points.get(&(key, code)).copied().unwrap_or(0)
+    }
+
+    fn rows(&self, alloc: Global) -> Result<Vec<Row>, AllocError> {
+        let mut rows = Vec::with_capacity(alloc, self.points.len())?;
+        for (&(key, code), &points) in &self.points {
+            rows.push(Row { key, code, points })?;
+        }
+        Ok(rows)
+    }
+}

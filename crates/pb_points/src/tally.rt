@@ -1,0 +1,48 @@
+//! Points by key and code, kept one way or another.
+
+ghost use Rattle.std.specs.Prelude.{◌≡◌, ℕ, ◌+◌, ◌≤◌, ◌^◌, ◌↔◌, Option, None, Some, IsSome, IfOk, OnOk, OnErr, AllPairs, Contains};
+
+use crate::row::Row;
+use std::alloc::{AllocError, Global};
+
+/// The points of moves under keys: a finite map from key and code to points, in which an absent row means no points.
+pub trait Tally: Drop {
+    ghost use Rattle.pb_points.specs.declared.row.Row.{Row};
+    ghost use Rattle.pb_points.specs.Rows.{IsBelow};
+    ghost use Rattle.pb_points.specs.Tally.{Held, MakesRow, AddsPoints, held, held_of};
+
+    /// What is held of each key and code, where there is a row.
+    ghost content: { Self → ℕ → ℕ → Option Held };
+
+    /// A tally without rows. It takes no memory.
+    fn new(alloc: Global) -> Self
+        ensures { (k c : ℕ) → content result k c ≡ None };
+
+    /// Makes a row without points where there is none, so that points can be added to it.
+    ///
+    /// # Errors
+    ///
+    /// A new row needed memory that wasn't there. Nothing has changed then.
+    fn ensure(&mut self, key: u64, code: u16) -> Result<(), AllocError>
+        ensures ok { OnOk result (MakesRow (content self.old) (content self.new) key code) }
+        ensures err { OnErr result ((k c : ℕ) → content self.new k c ≡ content self.old k c) };
+
+    /// Adds points to a row. It takes no memory.
+    fn add(&mut self, key: u64, code: u16, points: u64)
+        requires row { IsSome (content self.old key code) }
+        requires fits { (held (content self.old) key code).points + points ≤ 2 ^ 63 }
+        ensures { AddsPoints (content self.old) (content self.new) key code points };
+
+    /// The points of a key and a code, 0 where there is no row. It takes no memory.
+    fn points(&self, key: u64, code: u16) -> u64
+        ensures { result ≡ (held (content self.now) key code).points };
+
+    /// Each row once, by key and then code rising.
+    ///
+    /// # Errors
+    ///
+    /// The list needed memory that wasn't there.
+    fn rows(&self, alloc: Global) -> Result<Vec<Row>, AllocError>
+        ensures order { IfOk result (λ v. AllPairs IsBelow v.items) }
+        ensures each { IfOk result (λ v. (r : Row) → Contains v.items r ↔ (content self.now r.key r.code ≡ Some (held_of r))) };
+}
