@@ -1,1 +1,10 @@
+pub mod LineEnds
+pub mod Pieces
+pub mod WordLemmas
+pub mod Bytes
+pub mod Texts
+pub mod OneLine
+pub mod Dues
+pub mod Judging
 pub mod Refused
+pub mod OneRefused

@@ -1,9 +1,31 @@
 -- What follows where a line is refused.
-use Rattle.std.proofs.Common.{List, ℕ}
+use Rattle.std.proofs.Common.{◌≡◌, ℕ, List, [], ◌∷◌, length, map, slice_index_or, inl, inr, refl, sym, ap, subst, ◌∙◌, arith}
+use Rattle.std.specs.List.{All}
+use Rattle.std.proofs.lemmas.List.{length-map}
+use Rattle.std.proofs.lemmas.List.Elements.{All-map, All-weaker}
+use Rattle.pb_board.specs.Fen.{FenText}
+use Rattle.pb_board.specs.Position.{Position, Record}
+use Rattle.pb_board.specs.Refusal.{IsFirstDue, OfRecord, fields}
+use Rattle.pb_board.proofs.Unique.{one_record}
+use Rattle.pb_moves.specs.Attack.{Playable}
+use Rattle.pb_moves.specs.Moved.{Moved, IsMove}
+use Rattle.pb_moves.specs.Played.{AreLegal, IsSpelled}
+use Rattle.pb_moves.specs.Spelling.{spelling}
+use Rattle.pb_moves.specs.Successor.{after}
 use Rattle.pb_games.specs.declared.refusal.Refusal.{Refusal}
 use Rattle.pb_games.specs.declared.refusal.Refusal.TheVariants as refusal
-use Rattle.pb_games.specs.Refusing.{IsDue, IsOfLine}
-use Rattle.pb_games.specs.Laws.{RefusedByItself}
+use Rattle.pb_games.specs.Ids.{IsId}
+use Rattle.pb_games.specs.Refusing.{IsDue, IsOfLine, IsFirstMisspelt, IsFirstIllegal, SpellsStart, field_of}
+use Rattle.pb_games.specs.Results.{outcome_text}
+use Rattle.pb_games.specs.Submissions.{Submission, IsLawful, moves_text}
+use Rattle.pb_games.specs.Words.{words_of}
+use Rattle.pb_games.specs.Laws.{RefusedByItself, RefusedIsUnlawful}
+use Rattle.pb_games.proofs.Judging.{not_refused}
+use Rattle.pb_games.proofs.OneLine.{words_of_text, spellings_injective}
+use Rattle.pb_games.proofs.Texts.{fields_back, short_line}
+use Rattle.pb_games.proofs.WordLemmas.{none_misspelt}
+
+-- ---- for a cause of its own
 
 due_of_line : (line : List ℕ) (e : Refusal) → IsDue e line → IsOfLine e
 due_of_line line refusal.Long due = tt
@@ -21,3 +43,45 @@ due_of_line line refusal.Memory due = due
 
 pub of_line : RefusedByItself
 of_line line e h = due_of_line line e h.due
+
+-- ---- no legal game
+
+none_illegal : (s : Position) (ms : List Moved) (n : ℕ) → AreLegal s ms → ¬ IsFirstIllegal s ms n
+none_illegal s [] n legal bad = bad
+none_illegal s (m ∷ ms) n legal bad =
+    elim bad [ inl here ↦ here.1 legal.0 | inr later ↦ none_illegal (after s m) ms later.0 legal.1 later.3 ]
+
+spelt_from_moves : (ms : List Moved) → All IsMove ms → All IsSpelled (map spelling ms)
+spelt_from_moves ms h = All-map IsSpelled spelling ms (All-weaker IsMove (λ m. IsSpelled (spelling m)) (λ m is. (m, record { is_move = is; is = refl })) ms h)
+
+module _ (line : List ℕ) (s : Submission) (h : IsLawful line s) where
+  field_is : (i : ℕ) → field_of line i ≡ slice_index_or (s.0 ∷ outcome_text s.1.outcome ∷ h.submits.spells.0 ∷ moves_text s.1.moves ∷ []) i []
+  field_is i = ap (λ (w : List (List ℕ)). slice_index_or w i []) (fields_back line s h.submits)
+
+  words_are : words_of (field_of line 3) ≡ map spelling s.1.moves
+  words_are = ap words_of (field_is 3) ∙ words_of_text s.1.moves
+
+  start_is : (f : Record) → SpellsStart line f → f ≡ s.1.start
+  start_is f k = one_record f s.1.start h.submits.spells.0 k.bounds h.submits.game.start (subst (FenText f) (field_is 2) k.text) h.submits.spells.1
+
+  none_due : (e : Refusal) → ¬ IsDue e line
+  none_due refusal.Long due = omega (arith, due, short_line line s h.submits)
+  none_due refusal.Shape due = due (ap length (fields_back line s h.submits))
+  none_due refusal.Id due = due (subst IsId (sym (field_is 0)) h.submits.id)
+  none_due refusal.Result due = due s.1.outcome (field_is 1)
+  none_due (refusal.Fen e) due =
+      not_refused s.1.start h.submits.spells.0 e h.submits.game.start h.submits.spells.1 (subst (λ t. IsFirstDue OfRecord e (fields t)) (field_is 2) due)
+  none_due refusal.Start due = due.2 (subst (λ (f : Record). Playable f.setup) (sym (start_is due.0 due.1)) h.legal.playable)
+  none_due (refusal.Spelling n) due =
+      none_misspelt (map spelling s.1.moves) n (spelt_from_moves s.1.moves h.submits.game.moves) (subst (λ ws. IsFirstMisspelt ws n) words_are due)
+  none_due refusal.Plies due = omega (arith, due, ap length words_are, length-map s.1.moves spelling, h.submits.game.few)
+  none_due (refusal.Illegal n) due =
+      let moves = spellings_injective due.1 s.1.moves due.3.bounds h.submits.game.moves (due.3.words ∙ words_are) in
+      let start : due.0.setup ≡ s.1.start.setup = ap (λ (f : Record). f.setup) (start_is due.0 due.2) in
+      none_illegal s.1.start.setup s.1.moves n h.legal.legal (subst (λ ms. IsFirstIllegal s.1.start.setup ms n) moves (subst (λ t. IsFirstIllegal t due.1 n) start due.4))
+  none_due (refusal.Conflict n) due = due
+  none_due refusal.Full due = due
+  none_due refusal.Memory due = due
+
+pub unlawful : RefusedIsUnlawful
+unlawful line e s h lawful = none_due line s lawful e h.due

@@ -4,7 +4,8 @@ use Rattle.std.specs.Prelude.{◌≡◌, ◌≢◌, ℕ, ◌≤◌, List, [], �
 use Rattle.std.specs.List.{slice_split}
 use Rattle.pb_games.specs.declared.refusal.Refusal.{Refusal}
 use Rattle.pb_games.specs.Ids.{IsId}
-use Rattle.pb_games.specs.Submissions.{Submission, IsGame, SubmissionText, Submits, IsLawful, outcome_text, moves_text}
+use Rattle.pb_games.specs.Submissions.{Submission, IsGame, SubmissionText, Submits, IsLawful, moves_text}
+use Rattle.pb_games.specs.Results.{outcome_text}
 use Rattle.pb_games.specs.Refusing.{IsOfLine, Refuses}
 
 -- no line has two submissions (OneLine.one_submission)
@@ -38,6 +39,6 @@ RefusedByItself = (line : List ℕ) (e : Refusal) → Refuses line e → IsOfLin
 abbrev pub RefusedIsUnlawful : Type 0
 RefusedIsUnlawful = (line : List ℕ) (e : Refusal) (s : Submission) → Refuses line e → ¬ IsLawful line s
 
--- no line is refused by itself in two ways (Refused.one_refusal)
+-- no line is refused by itself in two ways (OneRefused.one_refusal)
 abbrev pub OneRefusal : Type 0
 OneRefusal = (line : List ℕ) (d e : Refusal) → Refuses line d → Refuses line e → d ≡ e

@@ -1,6 +1,7 @@
 pub mod Ids
 pub mod IdBuffer
 pub mod Words
+pub mod Results
 pub mod Submissions
 pub mod Refusing
 pub mod LineFields

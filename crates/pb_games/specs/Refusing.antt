@@ -14,7 +14,7 @@ use Rattle.pb_games.specs.declared.outcome.Outcome.{Outcome}
 use Rattle.pb_games.specs.declared.refusal.Refusal.{Refusal}
 use Rattle.pb_games.specs.declared.refusal.Refusal.TheVariants as refusal
 use Rattle.pb_games.specs.Ids.{IsId}
-use Rattle.pb_games.specs.Submissions.{outcome_text}
+use Rattle.pb_games.specs.Results.{outcome_text}
 use Rattle.pb_games.specs.Words.{words_of}
 
 -- the line without one final CR

@@ -1,5 +1,5 @@
 -- Submissions and the lines that spell them.
-use Rattle.std.specs.Prelude.{◌≡◌, ℕ, ◌≤◌, ◌⊎◌, List, [], ◌∷◌, ◌++◌, length, map, All, codes}
+use Rattle.std.specs.Prelude.{◌≡◌, ℕ, ◌≤◌, ◌⊎◌, List, [], ◌∷◌, ◌++◌, length, map, All}
 use Rattle.std.specs.List.{join_with_byte}
 use Rattle.pb_board.specs.Fen.{FenText}
 use Rattle.pb_board.specs.Position.{IsRecord}
@@ -7,20 +7,13 @@ use Rattle.pb_moves.specs.Attack.{Playable}
 use Rattle.pb_moves.specs.Moved.{Moved, IsMove}
 use Rattle.pb_moves.specs.Played.{Ply, plies_from, AreLegal}
 use Rattle.pb_moves.specs.Spelling.{spelling}
-use Rattle.pb_games.specs.declared.outcome.Outcome.{Outcome}
-use Rattle.pb_games.specs.declared.outcome.Outcome.TheVariants.{White, Black, Draw}
 use Rattle.pb_games.specs.declared.game.Game.{Game}
 use Rattle.pb_games.specs.Ids.{IsId}
+use Rattle.pb_games.specs.Results.{outcome_text}
 
 -- an id and a game
 abbrev pub Submission : Type 0
 Submission = List ℕ × Game
-
--- the text of a result
-abbrev pub outcome_text : Outcome → List ℕ
-outcome_text White = codes "1-0"
-outcome_text Black = codes "0-1"
-outcome_text Draw = codes "1/2-1/2"
 
 -- the spellings of the moves, joined by single spaces
 abbrev pub moves_text : List Moved → List ℕ

@@ -1,5 +1,6 @@
 -- The words of a field, and the moves that they spell.
 use Rattle.std.specs.Prelude.{ℕ, ◌+◌, ◌-◌, ◌*◌, List, [], ◌∷◌, map, slice_index, Option, Some, None, ◌==◌, if◌then◌else◌}
+use Rattle.std.specs.Borrow.{Bor}
 use Rattle.std.specs.List.{slice_split}
 use Rattle.pb_board.specs.declared.piece.Kind.{Kind}
 use Rattle.pb_board.specs.declared.piece.Kind.TheVariants.{Knight, Bishop, Rook, Queen}
@@ -9,6 +10,11 @@ use Rattle.pb_moves.specs.Moved.{Moved, moved_of}
 abbrev pub words_of : List ℕ → List (List ℕ)
 words_of [] = []
 words_of (c ∷ cs) = slice_split (λ b. b == 32) (c ∷ cs)
+
+-- the words of a text that is still to be cut, if there is one
+abbrev pub words_left : Option (Bor (List ℕ)) → List (List ℕ)
+words_left None = []
+words_left (Some text) = slice_split (λ b. b == 32) text.now
 
 -- ---- the move of a word, which means nothing where the word spells no move
 

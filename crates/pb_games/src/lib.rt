@@ -1,17 +1,24 @@
 //! Games as they are submitted, one line each: an id, a result, the record that the game starts from, and its moves.
 #![tactic(auto)]
 
+mod check;
+mod cut;
+mod fields;
 mod game;
 mod id;
 pub mod laws;
 mod line;
 mod move_list;
 mod outcome;
+mod plies;
 mod refusal;
+mod words;
 
+pub use check::check_line;
 pub use game::Game;
 pub use id::Id;
 pub use line::Line;
 pub use move_list::MoveList;
 pub use outcome::Outcome;
+pub use plies::Plies;
 pub use refusal::Refusal;

@@ -1,6 +1,13 @@
 //! A line that submits a legal game.
 
+ghost use Rattle.std.specs.Prelude.{◌≡◌, length};
+ghost use Rattle.pb_games.specs.LineFields.{submission_of, IsChecked};
+ghost use Rattle.pb_games.specs.Submissions.{IsSubmission};
+
+use crate::fields::Fields;
+use crate::id::Id;
 use crate::outcome::Outcome;
+use crate::plies::Plies;
 use pb_board::Fen;
 use std::marker::Model;
 
@@ -23,4 +30,63 @@ impl<'a> Model for Line<'a> {
     ghost view = { λ a. submission_of a.id.now a.start a.outcome a.moves.now };
 
     ghost invariant = { λ a. IsChecked (submission_of a.id.now a.start a.outcome a.moves.now) a.moves.now a.plies };
+}
+
+impl<'a> Line<'a> {
+    /// The line of these fields, which were judged.
+    pub(crate) fn of(fields: Fields<'a>, start: Fen, outcome: Outcome, plies: u32) -> Line<'a>
+        requires { IsChecked (submission_of fields.id.now start outcome fields.moves.now) fields.moves.now plies }
+        ensures { result ≡ submission_of fields.entry.id.now start outcome fields.entry.moves.now }
+    {
+        Line {
+            id: fields.id,
+            start,
+            outcome,
+            moves: fields.moves,
+            plies,
+        }
+    }
+
+    /// The id.
+    pub fn id(&self) -> Id
+        ensures { result ≡ self.now.0 }
+    {
+        Id::of(self.id)
+    }
+
+    /// The bytes of the id, in the line.
+    pub fn id_bytes(&self) -> &'a [u8]
+        ensures { result.now ≡ self.now.0 }
+    {
+        self.id
+    }
+
+    /// The record that the game starts from.
+    pub fn start(&self) -> Fen
+        ensures value { result ≡ self.now.1.start }
+        ensures rules { IsSubmission self.now }
+    {
+        self.start
+    }
+
+    /// How the game ended.
+    pub fn outcome(&self) -> Outcome
+        ensures { result ≡ self.now.1.outcome }
+    {
+        self.outcome
+    }
+
+    /// How many moves the game has, 0 to 1,024.
+    pub fn plies(&self) -> u32
+        ensures { result ≡ length self.now.1.moves }
+    {
+        self.plies
+    }
+
+    /// The moves, which are read from the line again.
+    pub fn moves(&self) -> Plies<'a>
+        ensures { result ≡ self.now.1.moves }
+    {
+        Plies::of(self.moves)
+    }
 }

@@ -1,5 +1,8 @@
 //! How a game ended.
 
+ghost use Rattle.std.specs.Prelude.{◌≡◌, ◌≢◌, MatchOption};
+ghost use Rattle.pb_games.specs.Results.{outcome_text};
+
 /// How a game ended.
 #[derive(Clone, Copy, Debug, PartialEq, Eq, Hash)]
 pub enum Outcome {
@@ -9,4 +12,18 @@ pub enum Outcome {
     Black,
     /// Nobody won, `1/2-1/2`.
     Draw,
+}
+
+/// The outcome that a result's text names (PGN Standard 1994, section 8.1.1.7), if it names one.
+pub(crate) fn read_outcome(text: &[u8]) -> Option<Outcome>
+    ensures { MatchOption result
+        ((outcome : Outcome) → text.now ≢ outcome_text outcome)
+        (λ outcome. text.now ≡ outcome_text outcome) }
+{
+    match text {
+        b"1-0" => Some(Outcome::White),
+        b"0-1" => Some(Outcome::Black),
+        b"1/2-1/2" => Some(Outcome::Draw),
+        _ => None,
+    }
 }

@@ -1,5 +1,5 @@
-use Rattle.pb_games.proofs.Refused.{of_line}
+use Rattle.pb_games.proofs.Refused as lemmas
 use Rattle.pb_games.proofs.laws.refused_by_itself.Goals as goal
 
 pub returns : goal.returns
-returns c = of_line
+returns c = lemmas.of_line

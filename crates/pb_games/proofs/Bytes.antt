@@ -1,0 +1,170 @@
+-- The bytes of the parts of a text, and how many they are.
+use Rattle.std.proofs.Common.{ℕ, ◌-◌, ◌*◌, ◌<◌, ◌≤◌, Bool, true, false, List, [], ◌∷◌, ◌++◌, length, length-append, map, Option, Some, None, sym, ap, subst, arith, lit<}
+use Rattle.std.specs.List.{All, join_with_byte}
+use Rattle.std.proofs.lemmas.List.Elements.{All-head, All-tail}
+use Rattle.pb_board.specs.declared.piece.Colour.{Colour}
+use Rattle.pb_board.specs.declared.piece.Colour.TheVariants.{White, Black}
+use Rattle.pb_board.specs.declared.piece.Kind.{Kind}
+use Rattle.pb_board.specs.declared.piece.Kind.TheVariants.{Pawn, Knight, Bishop, Rook, Queen, King}
+use Rattle.pb_board.specs.declared.setup.Rights.{Rights}
+use Rattle.pb_board.specs.Fen.{FenText}
+use Rattle.pb_board.specs.Position.{Record, IsRecord}
+use Rattle.pb_board.specs.Text.{turn_text, castling_text, flag_letters, letter_if, or_dash, passed_text, number_text}
+use Rattle.pb_board.proofs.FieldBytes.{AreFieldBytes, above_space, ranks_length, placement_bytes, turn_bytes, castling_bytes, passed_bytes, number_bytes}
+use Rattle.pb_board.proofs.Joins.{Above, AllAbove}
+use Rattle.pb_board.proofs.Numbers.{clock_numeral}
+use Rattle.pb_board.proofs.Unique.{on_rank}
+use Rattle.pb_moves.specs.Moved.{Moved}
+use Rattle.pb_moves.specs.Spelling.{spelling, promotion_text}
+use Rattle.pb_games.specs.declared.outcome.Outcome.{Outcome}
+use Rattle.pb_games.specs.declared.outcome.Outcome.TheVariants as outcome
+use Rattle.pb_games.specs.Ids.{IsId, IsPrintable}
+use Rattle.pb_games.specs.Results.{outcome_text}
+use Rattle.pb_games.specs.Submissions.{moves_text}
+
+pub Above-weaker : (m n : ℕ) (xs : List ℕ) → m ≤ n → Above n xs → Above m xs
+Above-weaker m n [] le h = tt
+Above-weaker m n (x ∷ xs) le h = (omega (arith, h.0), Above-weaker m n xs le h.1)
+
+Above-append : (n : ℕ) (xs ys : List ℕ) → Above n xs → Above n ys → Above n (xs ++ ys)
+Above-append n [] ys h k = k
+Above-append n (x ∷ xs) ys h k = (h.0, Above-append n xs ys h.1 k)
+
+-- where the separator is above n too, so is each byte of the whole
+join_above : (n c : ℕ) (parts : List (List ℕ)) → n < c → AllAbove n parts → Above n (join_with_byte c parts)
+join_above n c [] lt h = tt
+join_above n c (t ∷ []) lt h = h.0
+join_above n c (t ∷ u ∷ ts) lt h = Above-append n t (c ∷ join_with_byte c (u ∷ ts)) h.0 (lt, join_above n c (u ∷ ts) lt h.1)
+
+-- ---- the id and the result
+
+printable_above : (bytes : List ℕ) → All IsPrintable bytes → Above 31 bytes
+printable_above [] k = tt
+printable_above (x ∷ xs) k = (omega (arith, (All-head IsPrintable x xs k).0), printable_above xs (All-tail IsPrintable x xs k))
+
+pub id_above : (id : List ℕ) → IsId id → Above 31 id
+id_above id h = printable_above id h.printable
+
+pub result_above : (o : Outcome) → Above 31 (outcome_text o)
+result_above outcome.White = (lit< tt, (lit< tt, (lit< tt, tt)))
+result_above outcome.Black = (lit< tt, (lit< tt, (lit< tt, tt)))
+result_above outcome.Draw = (lit< tt, (lit< tt, (lit< tt, (lit< tt, (lit< tt, (lit< tt, (lit< tt, tt)))))))
+
+pub result_short : (o : Outcome) → length (outcome_text o) ≤ 7
+result_short outcome.White = omega arith
+result_short outcome.Black = omega arith
+result_short outcome.Draw = omega arith
+
+-- ---- the record
+
+field_above : (text : List ℕ) → AreFieldBytes text → Above 31 text
+field_above text h = Above-weaker 31 32 text (omega arith) (above_space text h)
+
+pub fen_above : (f : Record) (text : List ℕ) → IsRecord f → FenText f text → Above 31 text
+fen_above f text lawful h =
+    let s = h.setup_is in
+    let passed = passed_bytes f.setup.turn f.setup.ep (on_rank f.setup.board f.setup.turn f.setup.ep lawful.setup.en_passant) in
+    subst (Above 31) (sym h.joined) (join_above 31 32 (h.placement ∷ h.turn ∷ h.castling ∷ h.passed ∷ number_text f.half ∷ number_text f.full ∷ []) (lit< tt) (
+      field_above h.placement (placement_bytes f.setup.board h.placement s.placement_is),
+      (
+        subst (Above 31) (sym s.turn_is) (field_above _ (turn_bytes f.setup.turn)),
+        (
+          subst (Above 31) (sym s.castling_is) (field_above _ (castling_bytes f.setup.rights)),
+          (
+            subst (Above 31) (sym s.passed_is) (field_above _ passed),
+            (field_above _ (number_bytes f.half lawful.half), (field_above _ (number_bytes f.full lawful.full), tt)),
+          ),
+        ),
+      ),
+    ))
+
+letter_short : (flag : Bool) (c : ℕ) → length (letter_if flag c) ≤ 1
+letter_short true c = omega arith
+letter_short false c = omega arith
+
+dash_short : (text : List ℕ) → length text ≤ 4 → length (or_dash text) ≤ 4
+dash_short [] h = omega arith
+dash_short (c ∷ text) h = h
+
+castling_short : (r : Rights) → length (castling_text r) ≤ 4
+castling_short r =
+    let last = letter_if r.black_long 113 in
+    let two = letter_if r.black_short 107 ++ last in
+    let three = letter_if r.white_long 81 ++ two in
+    dash_short (flag_letters r) (omega (
+      arith,
+      length-append (letter_if r.white_short 75) three,
+      length-append (letter_if r.white_long 81) two,
+      length-append (letter_if r.black_short 107) last,
+      letter_short r.white_short 75,
+      letter_short r.white_long 81,
+      letter_short r.black_short 107,
+      letter_short r.black_long 113,
+    ))
+
+turn_short : (turn : Colour) → length (turn_text turn) ≤ 1
+turn_short White = omega arith
+turn_short Black = omega arith
+
+passed_short : (ep : Option ℕ) → length (passed_text ep) ≤ 2
+passed_short None = omega arith
+passed_short (Some q) = omega arith
+
+six_short : (p t c e a b : List ℕ) → length p ≤ 72 → length t ≤ 1 → length c ≤ 4 → length e ≤ 2 → length a ≤ 5 → length b ≤ 5 → length (join_with_byte 32 (p ∷ t ∷ c ∷ e ∷ a ∷ b ∷ [])) ≤ 94
+six_short p t c e a b hp ht hc he ha hb =
+    omega (
+      arith,
+      length-append p (32 ∷ (t ++ 32 ∷ (c ++ 32 ∷ (e ++ 32 ∷ (a ++ 32 ∷ b))))),
+      length-append t (32 ∷ (c ++ 32 ∷ (e ++ 32 ∷ (a ++ 32 ∷ b)))),
+      length-append c (32 ∷ (e ++ 32 ∷ (a ++ 32 ∷ b))),
+      length-append e (32 ∷ (a ++ 32 ∷ b)),
+      length-append a (32 ∷ b),
+    )
+
+-- a rough bound: none has more than 93
+pub fen_short : (f : Record) (text : List ℕ) → IsRecord f → FenText f text → length text ≤ 94
+fen_short f text lawful h =
+    let s = h.setup_is in
+    let board = (ranks_length 8 f.setup.board s.placement_is.0 s.placement_is.1).1 in
+    let whole = six_short h.placement h.turn h.castling h.passed (number_text f.half) (number_text f.full) (omega (arith, board, ap length s.placement_is.2))
+    (omega (arith, turn_short f.setup.turn, ap length s.turn_is)) (omega (arith, castling_short f.setup.rights, ap length s.castling_is)) (omega (arith, passed_short f.setup.ep, ap length s.passed_is))
+    (clock_numeral f.half lawful.half).short (clock_numeral f.full lawful.full).short in
+    omega (arith, whole, ap length h.joined)
+
+-- ---- the moves
+
+promotion_above : (promo : Option Kind) → Above 32 (promotion_text promo)
+promotion_above None = tt
+promotion_above (Some Pawn) = (lit< tt, tt)
+promotion_above (Some Knight) = (lit< tt, tt)
+promotion_above (Some Bishop) = (lit< tt, tt)
+promotion_above (Some Rook) = (lit< tt, tt)
+promotion_above (Some Queen) = (lit< tt, tt)
+promotion_above (Some King) = (lit< tt, tt)
+
+spelling_above : (m : Moved) → Above 32 (spelling m)
+spelling_above m = (omega arith, (omega arith, (omega arith, (omega arith, promotion_above m.promo))))
+
+pub spellings_above : (ms : List Moved) → AllAbove 32 (map spelling ms)
+spellings_above [] = tt
+spellings_above (m ∷ ms) = (spelling_above m, spellings_above ms)
+
+AllAbove-weaker : (m n : ℕ) (ts : List (List ℕ)) → m ≤ n → AllAbove n ts → AllAbove m ts
+AllAbove-weaker m n [] le h = tt
+AllAbove-weaker m n (t ∷ ts) le h = (Above-weaker m n t le h.0, AllAbove-weaker m n ts le h.1)
+
+pub moves_above : (ms : List Moved) → Above 31 (moves_text ms)
+moves_above ms = join_above 31 32 (map spelling ms) (lit< tt) (AllAbove-weaker 31 32 (map spelling ms) (omega arith) (spellings_above ms))
+
+promotion_short : (promo : Option Kind) → length (promotion_text promo) ≤ 1
+promotion_short None = omega arith
+promotion_short (Some k) = omega arith
+
+spelling_short : (m : Moved) → length (spelling m) ≤ 5
+spelling_short m = omega (arith, promotion_short m.promo)
+
+pub moves_short : (ms : List Moved) → length (moves_text ms) ≤ 6 * length ms - 1
+moves_short [] = omega arith
+moves_short (m ∷ []) = omega (arith, spelling_short m)
+moves_short (m ∷ n ∷ ms) =
+    omega (arith, spelling_short m, moves_short (n ∷ ms), length-append (spelling m) (32 ∷ moves_text (n ∷ ms)))

@@ -1,0 +1,120 @@
+-- What was read of the fields of a line, and what follows for the whole.
+use Rattle.std.proofs.Common.{◌≡◌, ℕ, ◌<◌, ◌≤◌, List, [], ◌∷◌, length, slice_index_or, sym, ap, subst, ◌∙◌, arith}
+use Rattle.std.specs.List.{All, join_with_byte}
+use Rattle.std.proofs.lemmas.List.{length-map}
+use Rattle.std.proofs.lemmas.List.Splits.{join_with_byte-slice_split}
+use Rattle.pb_board.specs.declared.refusal.FenError.{FenError}
+use Rattle.pb_board.specs.Fen.{FenText}
+use Rattle.pb_board.specs.Position.{Record, IsRecord}
+use Rattle.pb_board.specs.Refusal.{IsFirstDue, OfRecord, fields}
+use Rattle.pb_board.proofs.Dues.{last_order}
+use Rattle.pb_board.proofs.Fens.{spelt_not_due}
+use Rattle.pb_board.proofs.Unique.{one_record}
+use Rattle.pb_moves.specs.Attack.{Playable}
+use Rattle.pb_moves.specs.Played.{AreLegal, IsSpelled}
+use Rattle.pb_games.specs.declared.outcome.Outcome.{Outcome}
+use Rattle.pb_games.specs.declared.refusal.Refusal.TheVariants as refusal
+use Rattle.pb_games.specs.Ids.{IsId}
+use Rattle.pb_games.specs.LineFields.{submission_of}
+use Rattle.pb_games.specs.Refusing.{IsFirstMisspelt, IsFirstIllegal, Refuses, SpellsStart, fields_of, field_of, without_cr}
+use Rattle.pb_games.specs.Results.{outcome_text}
+use Rattle.pb_games.specs.Submissions.{IsLawful, IsGame, moves_text}
+use Rattle.pb_games.specs.Words.{words_of, move_named, moves_named}
+use Rattle.pb_games.proofs.Dues.{NoneBefore, none_at_first, none_more, first_due}
+use Rattle.pb_games.proofs.LineEnds.{cases_cr}
+use Rattle.pb_games.proofs.WordLemmas.{spellings_back, named_are_moves, words-back, none_misspelt}
+
+-- where a text spells a record, no refusal is its first
+pub not_refused : (f : Record) (text : List ℕ) (e : FenError) → IsRecord f → FenText f text → ¬ IsFirstDue OfRecord e (fields text)
+not_refused f text e lawful h due = (spelt_not_due f text lawful h).none e due.member (last_order e) due.due
+
+-- a line of four fields, of which the first three were read
+pub record IsRead (line id result fen moves : List ℕ) (outcome : Outcome) (start : Record) : Type 0 where
+  pub short : length line ≤ 8192
+  pub cut : fields_of line ≡ id ∷ result ∷ fen ∷ moves ∷ []
+  pub id_is : IsId id
+  pub result_is : result ≡ outcome_text outcome
+  pub bounds : IsRecord start
+  pub text : FenText start fen
+
+module _ (line a b c d : List ℕ) (o : Outcome) (f : Record) (h : IsRead line a b c d o f) where
+  id_at : field_of line 0 ≡ a
+  id_at = ap (λ (w : List (List ℕ)). slice_index_or w 0 []) h.cut
+
+  result_at : field_of line 1 ≡ b
+  result_at = ap (λ (w : List (List ℕ)). slice_index_or w 1 []) h.cut
+
+  fen_at : field_of line 2 ≡ c
+  fen_at = ap (λ (w : List (List ℕ)). slice_index_or w 2 []) h.cut
+
+  moves_at : field_of line 3 ≡ d
+  moves_at = ap (λ (w : List (List ℕ)). slice_index_or w 3 []) h.cut
+
+  none_before_start : NoneBefore 6 line
+  none_before_start =
+      let n2 = none_more 1 line (none_at_first line) (λ due. omega (arith, h.short, due)) in
+      let n3 = none_more 2 line n2 (λ due. due (ap length h.cut)) in
+      let n4 = none_more 3 line n3 (λ due. due (subst IsId (sym id_at) h.id_is)) in
+      let n5 = none_more 4 line n4 (λ due. due o (result_at ∙ h.result_is)) in
+      none_more 5 line n5 (λ due. not_refused f c due.0 h.bounds h.text (subst (λ t. IsFirstDue OfRecord due.0 (fields t)) fen_at due.1))
+
+  spells_start : SpellsStart line f
+  spells_start = record { bounds = h.bounds; text = subst (FenText f) (sym fen_at) h.text }
+
+  pub start_refused : ¬ Playable f.setup → Refuses line refusal.Start
+  start_refused bad = first_due refusal.Start line none_before_start (f, spells_start, bad)
+
+  module _ (playable : Playable f.setup) where
+    none_before_words : NoneBefore 7 line
+    none_before_words =
+        none_more 6 line none_before_start (λ due.
+        let same : due.0 ≡ f = one_record due.0 f (field_of line 2) due.1.bounds h.bounds due.1.text spells_start.text in
+        due.2 (subst (λ g. Playable g.setup) (sym same) playable))
+
+    pub misspelt_refused : (n : ℕ) → IsFirstMisspelt (words_of d) n → Refuses line (refusal.Spelling n)
+    misspelt_refused n bad = first_due (refusal.Spelling n) line none_before_words (subst (λ w. IsFirstMisspelt (words_of w) n) (sym moves_at) bad)
+
+    module _ (spelt : All IsSpelled (words_of d)) where
+      none_before_plies : NoneBefore 8 line
+      none_before_plies = none_more 7 line none_before_words (λ due. none_misspelt (words_of d) due.0 spelt (subst (λ w. IsFirstMisspelt (words_of w) due.0) moves_at due.1))
+
+      pub many_refused : 1024 < length (words_of d) → Refuses line refusal.Plies
+      many_refused many = first_due refusal.Plies line none_before_plies (subst (λ w. 1024 < length (words_of w)) (sym moves_at) many)
+
+      module _ (few : length (words_of d) ≤ 1024) where
+        none_before_illegal : NoneBefore 9 line
+        none_before_illegal =
+            none_more 8 line none_before_plies (λ due.
+            let many : 1024 < length (words_of d) = subst (λ w. 1024 < length (words_of w)) moves_at due in
+            omega (arith, few, many))
+
+        pub illegal_refused : (n : ℕ) → IsFirstIllegal f.setup (moves_named d) n → Refuses line (refusal.Illegal n)
+        illegal_refused n bad =
+            first_due (refusal.Illegal n) line none_before_illegal (
+              f,
+              moves_named d,
+              spells_start,
+              record {
+                bounds = named_are_moves (words_of d) spelt;
+                words = spellings_back (words_of d) spelt ∙ ap words_of (sym moves_at);
+              },
+              bad,
+            )
+
+        is_game : IsGame (submission_of a f o d).1
+        is_game = record { start = h.bounds; moves = named_are_moves (words_of d) spelt; few = omega (arith, few, length-map (words_of d) move_named) }
+
+        moves_back : d ≡ moves_text (moves_named d)
+        moves_back = sym (ap (join_with_byte 32) (spellings_back (words_of d) spelt) ∙ words-back d)
+
+        text_is : without_cr line ≡ join_with_byte 9 (a ∷ outcome_text o ∷ c ∷ moves_text (moves_named d) ∷ [])
+        text_is =
+            sym (join_with_byte-slice_split 9 (without_cr line)) ∙ ap (join_with_byte 9) h.cut
+            ∙ ap (λ t. join_with_byte 9 (a ∷ t ∷ c ∷ d ∷ [])) h.result_is
+            ∙ ap (λ t. join_with_byte 9 (a ∷ outcome_text o ∷ c ∷ t ∷ [])) moves_back
+
+        pub lawful : AreLegal f.setup (moves_named d) → IsLawful line (submission_of a f o d)
+        lawful legal = record {
+          submits = record { id = h.id_is; game = is_game; text = without_cr line; spells = (c, h.text, text_is); is = cases_cr line };
+          legal = record { playable = playable; legal = legal };
+        }

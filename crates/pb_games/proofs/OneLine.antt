@@ -1,0 +1,71 @@
+-- No line has two submissions, and no submission two texts.
+use Rattle.std.proofs.Common.{◌≡◌, ℕ, List, [], ◌∷◌, length, map, get_or, ◌==◌, if◌then◌else◌, refl, sym, ap, subst, ◌∙◌, arith, lit<}
+use Rattle.std.specs.List.{All, join_with_byte}
+use Rattle.std.proofs.lemmas.List.Elements.{All-head, All-tail}
+use Rattle.pb_board.specs.Fen.{FenText}
+use Rattle.pb_board.specs.Position.{Record}
+use Rattle.pb_board.proofs.Joins.{split_join}
+use Rattle.pb_board.proofs.Unique as unique
+use Rattle.pb_moves.specs.Moved.{Moved, IsMove}
+use Rattle.pb_moves.specs.Spelling.{spelling}
+use Rattle.pb_games.specs.declared.game.Game.{Game}
+use Rattle.pb_games.specs.declared.outcome.Outcome.{Outcome}
+use Rattle.pb_games.specs.declared.outcome.Outcome.TheVariants as outcome
+use Rattle.pb_games.specs.Results.{outcome_text}
+use Rattle.pb_games.specs.Submissions.{Submission, moves_text}
+use Rattle.pb_games.specs.Words.{words_of}
+use Rattle.pb_games.specs.Laws.{OneSubmission, OneText}
+use Rattle.pb_games.proofs.Bytes.{spellings_above}
+use Rattle.pb_games.proofs.Texts.{fields_back}
+use Rattle.pb_games.proofs.WordLemmas.{spelling_injective}
+
+pub one_text : OneText
+one_text s a b h k =
+    h.2 ∙ ap (λ fen. join_with_byte 9 (s.0 ∷ outcome_text s.1.outcome ∷ fen ∷ moves_text s.1.moves ∷ [])) (unique.one_text s.1.start h.0 k.0 h.1 k.1) ∙ sym k.2
+
+outcome_from : List ℕ → Outcome
+outcome_from text = if length text == 7 then outcome.Draw else (if get_or text 0 0 == 49 then outcome.White else outcome.Black)
+
+outcome_back : (o : Outcome) → outcome_from (outcome_text o) ≡ o
+unfolding outcome_from
+outcome_back outcome.White = refl
+outcome_back outcome.Black = refl
+outcome_back outcome.Draw = refl
+
+pub outcome_injective : (o p : Outcome) → outcome_text o ≡ outcome_text p → o ≡ p
+outcome_injective o p e = sym (outcome_back o) ∙ ap outcome_from e ∙ outcome_back p
+
+-- the words of moves are their spellings
+pub words_of_text : (ms : List Moved) → words_of (moves_text ms) ≡ map spelling ms
+words_of_text [] = refl
+words_of_text (m ∷ []) = split_join 32 (spelling m ∷ []) (spellings_above (m ∷ [])) (lit< tt)
+words_of_text (m ∷ n ∷ ms) = split_join 32 (map spelling (m ∷ n ∷ ms)) (spellings_above (m ∷ n ∷ ms)) (omega arith)
+
+pub spellings_injective : (ls ms : List Moved) → All IsMove ls → All IsMove ms → map spelling ls ≡ map spelling ms → ls ≡ ms
+spellings_injective [] [] h k e = refl
+spellings_injective [] (m ∷ ms) h k e = absurd (cc)
+spellings_injective (l ∷ ls) [] h k e = absurd (cc)
+spellings_injective (l ∷ ls) (m ∷ ms) h k e =
+    let heads : spelling l ≡ spelling m = cc in
+    let tails : map spelling ls ≡ map spelling ms = cc in
+    ap (λ x. x ∷ ls) (spelling_injective l m (All-head IsMove l ls h) (All-head IsMove m ms k) heads)
+    ∙ ap (λ (xs : List Moved). m ∷ xs) (spellings_injective ls ms (All-tail IsMove l ls h) (All-tail IsMove m ms k) tails)
+
+game_of : Record → Outcome → List Moved → Game
+game_of start o moves = record { start = start; outcome = o; moves = moves }
+
+pub one_submission : OneSubmission
+unfolding game_of
+one_submission line s t h k =
+    let cells = sym (fields_back line s h) ∙ fields_back line t k in
+    let cell = λ (i : ℕ). ap (λ (w : List (List ℕ)). get_or w i []) cells in
+    let ids : s.0 ≡ t.0 = cell 0 in
+    let outcomes : s.1.outcome ≡ t.1.outcome = outcome_injective s.1.outcome t.1.outcome (cell 1) in
+    let starts : s.1.start ≡ t.1.start = unique.one_record s.1.start t.1.start h.spells.0 h.game.start k.game.start h.spells.1 (subst (FenText t.1.start) (sym (cell 2)) k.spells.1) in
+    let words : map spelling s.1.moves ≡ map spelling t.1.moves = sym (words_of_text s.1.moves) ∙ ap words_of (cell 3) ∙ words_of_text t.1.moves in
+    let moves : s.1.moves ≡ t.1.moves = spellings_injective s.1.moves t.1.moves h.game.moves k.game.moves words in
+    let P : List ℕ → Game → Submission = λ id g. (id, g) in
+    ap (λ id. P id s.1) ids
+    ∙ ap (λ f. P t.0 (game_of f s.1.outcome s.1.moves)) starts
+    ∙ ap (λ o. P t.0 (game_of t.1.start o s.1.moves)) outcomes
+    ∙ ap (λ ms. P t.0 (game_of t.1.start t.1.outcome ms)) moves

@@ -1,0 +1,84 @@
+-- Words, and the moves that they spell.
+use Rattle.std.proofs.Common.{◌≡◌, ℕ, ◌+◌, ◌<◌, ◌≤◌, eqb, List, [], ◌∷◌, length, length-append, map, get_or, Option, Some, None, refl, sym, ap, subst, ◌∙◌, arith}
+use Rattle.std.specs.List.{All, join_with_byte}
+use Rattle.std.proofs.Math.Seq.{get_or-append_seam}
+use Rattle.std.proofs.lemmas.List.Elements.{All-head, All-tail, All-map, All-weaker}
+use Rattle.std.proofs.lemmas.List.Splits.{length-slice_split, join_with_byte-slice_split}
+use Rattle.std.proofs.lemmas.List.Sums.{count_by-le-length}
+use Rattle.pb_board.specs.declared.piece.Kind.{Kind}
+use Rattle.pb_board.specs.declared.piece.Kind.TheVariants.{Pawn, Knight, Bishop, Rook, Queen, King}
+use Rattle.pb_board.specs.Board.{file, rank}
+use Rattle.pb_moves.specs.Moved.{Moved, IsMove, IsPromotion, moved_of}
+use Rattle.pb_moves.specs.Played.{Spells, IsSpelled}
+use Rattle.pb_moves.specs.Spelling.{promotion_text, spelling}
+use Rattle.pb_games.specs.Refusing.{IsFirstMisspelt}
+use Rattle.pb_games.specs.Words.{words_of, square_named, promotion_named, move_named}
+
+-- a field has no more words than bytes, and one
+pub few_words : (field : List ℕ) → length (words_of field) ≤ length field + 1
+few_words [] = omega arith
+few_words (c ∷ cs) = omega (arith, length-slice_split (λ b. eqb b 32) (c ∷ cs), count_by-le-length (λ b. eqb b 32) (c ∷ cs))
+
+-- ---- the move that a word names
+
+square_back : (q : ℕ) → square_named (97 + file q) (49 + rank q) ≡ q
+square_back q = omega arith
+
+kind_back : (kind : Kind) (a b c d : ℕ) → IsPromotion kind → promotion_named (get_or (a ∷ b ∷ c ∷ d ∷ promotion_text (Some kind)) 4 0) ≡ Some kind
+kind_back Pawn a b c d h = absurd (h.0 refl)
+kind_back Knight a b c d h = refl
+kind_back Bishop a b c d h = refl
+kind_back Rook a b c d h = refl
+kind_back Queen a b c d h = refl
+kind_back King a b c d h = absurd (h.1 refl)
+
+promotion_back : (promo : Option Kind) (a b c d : ℕ) → ((kind : Kind) → promo ≡ Some kind → IsPromotion kind) → promotion_named (get_or (a ∷ b ∷ c ∷ d ∷ promotion_text promo) 4 0) ≡ promo
+promotion_back None a b c d h = refl
+promotion_back (Some kind) a b c d h = kind_back kind a b c d (h kind refl)
+
+-- the spelling of a move names the move
+pub named_back : (m : Moved) → IsMove m → move_named (spelling m) ≡ m
+named_back m h =
+    let promo = promotion_back m.promo (97 + file m.from) (49 + rank m.from) (97 + file m.to) (49 + rank m.to) h.promotes in
+    ap (λ q. moved_of q (square_named (97 + file m.to) (49 + rank m.to)) (promotion_named (get_or (spelling m) 4 0))) (square_back m.from)
+    ∙ ap (λ q. moved_of m.from q (promotion_named (get_or (spelling m) 4 0))) (square_back m.to)
+    ∙ ap (λ p. moved_of m.from m.to p) promo
+
+pub named_spelt : (word : List ℕ) (m : Moved) → Spells word m → move_named word ≡ m
+named_spelt word m h = ap move_named h.is ∙ named_back m h.is_move
+
+pub spells_named : (word : List ℕ) → IsSpelled word → Spells word (move_named word)
+spells_named word h =
+    let same = sym (named_spelt word h.0 h.1) in
+    record {
+      is_move = subst IsMove same h.1.is_move;
+      is = h.1.is ∙ ap spelling same;
+    }
+
+-- a move has one spelling, and a spelling one move
+pub spelling_injective : (l m : Moved) → IsMove l → IsMove m → spelling l ≡ spelling m → l ≡ m
+spelling_injective l m hl hm e = sym (named_back l hl) ∙ ap move_named e ∙ named_back m hm
+
+-- ---- the words of a field
+
+-- words of which each spells a move are the spellings of the moves that they name
+pub spellings_back : (words : List (List ℕ)) → All IsSpelled words → map spelling (map move_named words) ≡ words
+spellings_back [] h = refl
+spellings_back (w ∷ ws) h =
+    ap (λ x. x ∷ map spelling (map move_named ws)) (sym (spells_named w (All-head IsSpelled w ws h)).is)
+    ∙ ap (λ (xs : List (List ℕ)). w ∷ xs) (spellings_back ws (All-tail IsSpelled w ws h))
+
+pub named_are_moves : (words : List (List ℕ)) → All IsSpelled words → All IsMove (map move_named words)
+named_are_moves words h = All-map IsMove move_named words (All-weaker IsSpelled (λ w. IsMove (move_named w)) (λ w s. (spells_named w s).is_move) words h)
+
+-- a field is its words, with a space between each two
+pub words-back : (field : List ℕ) → join_with_byte 32 (words_of field) ≡ field
+words-back [] = refl
+words-back (c ∷ cs) = join_with_byte-slice_split 32 (c ∷ cs)
+
+-- where each word spells a move, none is the first that spells none
+pub none_misspelt : (words : List (List ℕ)) (n : ℕ) → All IsSpelled words → ¬ IsFirstMisspelt words n
+none_misspelt words n h m =
+    let within : length m.before < length words = omega (arith, ap length m.cut, length-append m.before (m.word ∷ m.after)) in
+    let here : get_or words (length m.before) [] ≡ m.word = ap (λ ws. get_or ws (length m.before) []) m.cut ∙ get_or-append_seam m.before m.word m.after [] in
+    m.misspelt (subst IsSpelled here (h (length m.before) [] within))

@@ -1,0 +1,45 @@
+//! The four fields of a line.
+
+ghost use Rattle.std.specs.Prelude.{◌≡◌, ◌≢◌, ◌≤◌, ◌∷◌, [], length, MatchOption, IfSome};
+ghost use Rattle.pb_games.specs.Refusing.{fields_of, without_cr};
+
+use crate::cut::cut_once;
+
+/// The fields of a line that is cut at every TAB.
+#[derive(Clone, Copy)]
+pub(crate) struct Fields<'a> {
+    pub(crate) id: &'a [u8],
+    pub(crate) outcome: &'a [u8],
+    pub(crate) start: &'a [u8],
+    pub(crate) moves: &'a [u8],
+}
+
+/// The four fields of a line without one final CR, if they are four.
+pub(crate) fn cut_fields(line: &[u8]) -> Option<Fields<'_>>
+    ensures cut { MatchOption result (length (fields_of line.now) ≢ 4)
+        (λ f. fields_of line.now ≡ f.id.now ∷ f.outcome.now ∷ f.start.now ∷ f.moves.now ∷ []) }
+    ensures short { IfSome result (λ f. length f.moves.now ≤ length line.now) }
+{
+    let (id, rest) = cut_once(without_end(line), b'\t')?;
+    let (outcome, rest) = cut_once(rest, b'\t')?;
+    let (start, moves) = cut_once(rest, b'\t')?;
+    let None = cut_once(moves, b'\t') else {
+        return None;
+    };
+    Some(Fields {
+        id,
+        outcome,
+        start,
+        moves,
+    })
+}
+
+/// The line without one final CR.
+fn without_end(line: &[u8]) -> &[u8]
+    ensures { result.now ≡ without_cr line.now }
+{
+    match line.strip_suffix(b"\r") {
+        Some(front) => front,
+        None => line,
+    }
+}
