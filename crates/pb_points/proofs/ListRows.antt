@@ -15,9 +15,9 @@ use Rattle.std.proofs.lemmas.List.Sorted.{ranks_by, sorted_far, IsPermutation-sy
 use Rattle.std.proofs.lemmas.List.Sums.{fails_before_first, position_or_len_is}
 use Rattle.std.proofs.lemmas.Map.Keys.{apart_from_distinct, IsDistinct-from_apart, IsDistinct-IsPermutation, IsDistinct-push}
 use Rattle.pb_points.specs.declared.row.Row.{Row}
-use Rattle.pb_points.specs.ListTally.{is_row, list_content, row_at, same_pair, with_more}
+use Rattle.pb_points.specs.ListTally.{is_row, list_content, same_pair, with_more}
 use Rattle.pb_points.specs.MapTally.{pair_cmp}
-use Rattle.pb_points.specs.Rows.{IsBelow}
+use Rattle.pb_points.specs.Rows.{IsBelow, row_at}
 use Rattle.pb_points.specs.Tally.{MakesRow, AddsPoints, held, held_of, is_pair}
 use Rattle.pb_points.proofs.Pairs.{below, is_pair_same, is_pair_itself, pair_total}
 

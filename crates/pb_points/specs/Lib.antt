@@ -1,3 +1,4 @@
+pub mod Group
 pub mod ListTally
 pub mod MapTally
 pub mod Rows

@@ -1,5 +1,5 @@
 -- A tally that is a plain list of rows.
-use Rattle.std.specs.Prelude.{ℕ, ◌+◌, Bool, Option, List, slice_index_or}
+use Rattle.std.specs.Prelude.{ℕ, ◌+◌, Bool, Option, List}
 use Rattle.std.specs.List.{find}
 use Rattle.std.specs.Option.{option_map}
 use Rattle.pb_points.specs.declared.row.Row.{Row}
@@ -16,10 +16,6 @@ same_pair r s = is_row r.key r.code s
 -- what the first row of a key and a code holds
 abbrev pub list_content : List Row → ℕ → ℕ → Option Held
 list_content rows k c = option_map held_of (find (is_row k c) rows)
-
--- the row at a place
-abbrev pub row_at : List Row → ℕ → Row
-row_at rows i = slice_index_or rows i (record { key = 0; code = 0; points = 0 })
 
 -- the row with n points more
 abbrev pub with_more : ℕ → Row → Row

@@ -1,5 +1,5 @@
 -- Rows of points, at most one for each key and code, and the book that is made of them.
-use Rattle.std.specs.Prelude.{◌≡◌, ℕ, ◌<◌, ◌≤◌, ◌⊎◌, ◌↔◌, List, AllPairs, Contains}
+use Rattle.std.specs.Prelude.{◌≡◌, ℕ, ◌<◌, ◌≤◌, ◌⊎◌, ◌↔◌, List, AllPairs, Contains, slice_index_or}
 use Rattle.pb_poly.specs.declared.entry.Entry.{Entry}
 use Rattle.pb_points.specs.declared.row.Row.{Row}
 use Rattle.pb_points.specs.Weight.{Before, scaled}
@@ -7,6 +7,10 @@ use Rattle.pb_points.specs.Weight.{Before, scaled}
 -- key rising, then code rising
 abbrev pub IsBelow : Row → Row → Type 0
 IsBelow r s = (r.key < s.key) ⊎ ((r.key ≡ s.key) × (r.code < s.code))
+
+-- the row at a place
+abbrev pub row_at : List Row → ℕ → Row
+row_at rows i = slice_index_or rows i (record { key = 0; code = 0; points = 0 })
 
 -- M is the greatest number of points of the rows with this key
 pub record IsTop (rows : List Row) (k M : ℕ) : Type 0 where

@@ -1,12 +1,14 @@
 //! Points of moves under keys, kept as games arrive, and the weights and entries that are made of them.
 #![tactic(auto)]
 
+mod book;
 mod list_tally;
 mod map_tally;
 mod row;
 mod tally;
 mod weight;
 
+pub use book::book_of;
 pub use list_tally::ListTally;
 pub use map_tally::MapTally;
 pub use row::Row;

@@ -2,8 +2,8 @@
 
 ghost use Rattle.std.specs.Prelude.{◌≡◌, ◌+◌, ◌<◌, ◌≤◌, ◌^◌, AllPairs, IsPermutation, length, position, slice_set};
 ghost use Rattle.std.specs.List.{IsDistinct};
-ghost use Rattle.pb_points.specs.ListTally.{is_row, list_content, row_at, same_pair, with_more};
-ghost use Rattle.pb_points.specs.Rows.{IsBelow};
+ghost use Rattle.pb_points.specs.ListTally.{is_row, list_content, same_pair, with_more};
+ghost use Rattle.pb_points.specs.Rows.{IsBelow, row_at};
 
 use crate::row::Row;
 use crate::tally::Tally;

@@ -7,9 +7,9 @@ use Rattle.pb_poly.specs.declared.reading.BookError.TheVariants.{Unsorted, Cut, 
 use Rattle.pb_poly.specs.Entry.{IsEntry, entry_bytes}
 use Rattle.pb_poly.specs.Book.{NeverFall, book_bytes}
 use Rattle.pb_poly.specs.Feeding.{FailsWithin, MeetsWithin, Refuses}
-use Rattle.pb_poly.specs.Reading.{FindsNoBook, MeetsEntry, Splits, book_chunk_len}
+use Rattle.pb_poly.specs.Reading.{FindsNoBook, MeetsEntry, Splits}
 use Rattle.pb_poly.specs.Source.{Fill, SourceState}
-use Rattle.pb_poly.specs.Reads.{ReadsOn, ReadsSome}
+use Rattle.pb_poly.specs.Reads.{ReadsOn, ReadsSome, chunk_len}
 use Rattle.pb_poly.proofs.Entries.{book_bytes-push, bounds-push}
 use Rattle.pb_poly.proofs.ReadsLemmas.{ReadsSome-more}
 
@@ -102,18 +102,18 @@ IsTaken-fails old now chunk rest e h fails came k =
     )
 
 -- an entry that isn't added, in what a fill gave
-meets : {F : Type 0} (n fills : ℕ) (old mid new : SourceState) (came slice : List ℕ) (count : ℕ) (before : List Entry) (entry : Entry) → 0 < length slice → length slice ≤ book_chunk_len → n < fills
-    → ReadsOn book_chunk_len n old mid came → Fill {E = F} mid new (Ok count) slice → MeetsWithin came (take count slice) before entry → MeetsEntry fills old new before entry
+meets : {F : Type 0} (n fills : ℕ) (old mid new : SourceState) (came slice : List ℕ) (count : ℕ) (before : List Entry) (entry : Entry) → 0 < length slice → length slice ≤ chunk_len → n < fills
+    → ReadsOn chunk_len n old mid came → Fill {E = F} mid new (Ok count) slice → MeetsWithin came (take count slice) before entry → MeetsEntry fills old new before entry
 meets n fills old mid new came slice count before entry room fits l on fill m = record {
   came = came ++ m.front;
   rest = m.rest;
-  reads = subst (λ (bytes : List ℕ). ReadsSome book_chunk_len fills old new bytes) (ap (λ xs. came ++ xs) m.cut ∙ sym (append_assoc came m.front m.rest)) (ReadsSome-more book_chunk_len n old mid new came slice room fits on fills count l fill);
+  reads = subst (λ (bytes : List ℕ). ReadsSome chunk_len fills old new bytes) (ap (λ xs. came ++ xs) m.cut ∙ sym (append_assoc came m.front m.rest)) (ReadsSome-more chunk_len n old mid new came slice room fits on fills count l fill);
   bytes = m.bytes;
   ordered = m.ordered;
 }
 
-pub finds_no_book : {F : Type 0} (n fills : ℕ) (old mid new : SourceState) (came slice : List ℕ) (count : ℕ) (e : BookError) → 0 < length slice → length slice ≤ book_chunk_len → n < fills
-    → ReadsOn book_chunk_len n old mid came → Fill {E = F} mid new (Ok count) slice → FailsWithin came (take count slice) e → FindsNoBook fills old new e
+pub finds_no_book : {F : Type 0} (n fills : ℕ) (old mid new : SourceState) (came slice : List ℕ) (count : ℕ) (e : BookError) → 0 < length slice → length slice ≤ chunk_len → n < fills
+    → ReadsOn chunk_len n old mid came → Fill {E = F} mid new (Ok count) slice → FailsWithin came (take count slice) e → FindsNoBook fills old new e
 finds_no_book n fills old mid new came slice count (Unsorted k) room fits l on fill f =
     record { before = f.0; entry = f.1; meets = meets n fills old mid new came slice count f.0 f.1 room fits l on fill f.2; falls = f.3.0; number_is = f.3.1 }
 finds_no_book n fills old mid new came slice count Memory room fits l on fill f = inr (f.0, f.1, meets n fills old mid new came slice count f.0 f.1 room fits l on fill f.2)

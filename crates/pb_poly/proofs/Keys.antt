@@ -8,7 +8,7 @@ use Rattle.pb_board.specs.Board.{Board}
 use Rattle.pb_board.specs.Position.{Position}
 use Rattle.pb_poly.specs.Key.{joined, key, passed_places, piece_places, rights_places, turn_places}
 
-joined-append : (words : List ℕ) (k : ℕ) (xs ys : List ℕ) → joined words k (xs ++ ys) ≡ joined words (joined words k xs) ys
+pub joined-append : (words : List ℕ) (k : ℕ) (xs ys : List ℕ) → joined words k (xs ++ ys) ≡ joined words (joined words k xs) ys
 joined-append words k xs ys = fold-append (λ n place. bit_xor n (slice_index words place)) k xs ys
 
 -- the parts of the code, one after the other

@@ -4,12 +4,16 @@ pub mod Digits
 pub mod Entries
 pub mod EntryBytes
 pub mod Feeds
+pub mod Finding
+pub mod KeyChanges
+pub mod KeyPlies
 pub mod Keys
 pub mod LineBufferLemmas
 pub mod LineLemmas
 pub mod Parity
 pub mod Places
 pub mod ReadsLemmas
+pub mod Runs
 pub mod SinkLemmas
 pub mod Tables
 pub mod TaskLemmas

@@ -18,11 +18,11 @@ word_below words place table = elim (cases_lt place (length words)) [
   | inr past ↦ let none = get_or_past words place 0 past in omega (arith, none)
 ]
 
-joined_below : (words : List ℕ) (k : ℕ) (ps : List ℕ) → IsTable words → k < 2 ^ 64 → joined words k ps < 2 ^ 64
+pub joined_below : (words : List ℕ) (k : ℕ) (ps : List ℕ) → IsTable words → k < 2 ^ 64 → joined words k ps < 2 ^ 64
 joined_below words k [] table below = below
 joined_below words k (p ∷ ps) table below = joined_below words (bit_xor k (slice_index words p)) ps table (xor_lt 64 k (slice_index words p) below (word_below words p table))
 
-joined_bit : (words : List ℕ) (bit k : ℕ) (ps : List ℕ) → bit_at (joined words k ps) bit ≡ (bit_at k bit + total (λ place. bit_at (slice_index words place) bit) ps) % 2
+pub joined_bit : (words : List ℕ) (bit k : ℕ) (ps : List ℕ) → bit_at (joined words k ps) bit ≡ (bit_at k bit + total (λ place. bit_at (slice_index words place) bit) ps) % 2
 joined_bit words bit k [] = let low = bit_at-lt k bit in omega (arith, low)
 joined_bit words bit k (p ∷ ps) =
     let more = joined_bit words bit (bit_xor k (slice_index words p)) ps in

@@ -5,9 +5,9 @@ use Rattle.std.specs.Prelude.{IsErrAnd, MatchResult}
 use Rattle.pb_poly.specs.declared.lines.LinesFault.{LinesFault}
 use Rattle.pb_poly.specs.declared.lines.LinesFault.TheVariants.{Stop}
 use Rattle.pb_poly.specs.Source.{Fill, SourceState}
-use Rattle.pb_poly.specs.Reads.{ReadsOn, ReadsSome}
+use Rattle.pb_poly.specs.Reads.{ReadsOn, ReadsSome, chunk_len}
 use Rattle.pb_poly.specs.Lines.{lines}
-use Rattle.pb_poly.specs.LineTask.{TakesAll, TakesToStop, StopsAtLast, chunk_len}
+use Rattle.pb_poly.specs.LineTask.{TakesAll, TakesToStop, StopsAtLast}
 use Rattle.pb_poly.specs.LineBuffer.{StopsWithin}
 use Rattle.pb_poly.proofs.ReadsLemmas.{ReadsAll-more, ReadsSome-more}
 

@@ -3,7 +3,9 @@ pub mod Code
 pub mod Decoding
 pub mod Entry
 pub mod Feeding
+pub mod Found
 pub mod Key
+pub mod KeyChange
 pub mod LineBuffer
 pub mod LineTask
 pub mod Lines

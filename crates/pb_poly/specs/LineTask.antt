@@ -2,13 +2,10 @@
 use Rattle.std.specs.Prelude.{◌≡◌, ℕ, List, [], ◌∷◌, ◌++◌, ◌⊎◌, Result, Ok, Err}
 use Rattle.pb_poly.specs.Source.{SourceState}
 use Rattle.pb_poly.specs.Reads.{ReadsAll, ReadsOn, ReadsSome, ReadsToFault}
+pub use Rattle.pb_poly.specs.Reads.{chunk_len}
 use Rattle.pb_poly.specs.declared.lines.LinesFault.{LinesFault}
 use Rattle.pb_poly.specs.declared.lines.LinesFault.TheVariants.{Memory, Read, Endless, Stop}
 use Rattle.pb_poly.specs.Lines.{ended_lines, lines}
-
--- how many bytes a source is given room for at a time
-abbrev pub chunk_len : ℕ
-chunk_len = 65536
 
 -- Below, `takes` is what taking one line may do: from a state, the answer, and the state that it leaves.
 

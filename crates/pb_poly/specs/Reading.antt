@@ -1,16 +1,12 @@
 -- What reading a book gives.
 use Rattle.std.specs.Prelude.{◌≡◌, ℕ, ◌+◌, ◌<◌, ◌⊎◌, List, [], ◌∷◌, ◌++◌, All, length, Some, false}
 use Rattle.pb_poly.specs.Source.{SourceState}
-use Rattle.pb_poly.specs.Reads.{ReadsAll, ReadsOn, ReadsSome, ReadsToFault}
+use Rattle.pb_poly.specs.Reads.{ReadsAll, ReadsOn, ReadsSome, ReadsToFault, chunk_len}
 use Rattle.pb_poly.specs.declared.entry.Entry.{Entry}
 use Rattle.pb_poly.specs.declared.reading.BookError.{BookError}
 use Rattle.pb_poly.specs.declared.reading.BookError.TheVariants.{Unsorted, Cut, Read, Endless, Memory}
 use Rattle.pb_poly.specs.Entry.{IsEntry}
 use Rattle.pb_poly.specs.Book.{BookBytes, NeverFall, book_bytes}
-
--- how many bytes a source is given room for at a time
-abbrev pub book_chunk_len : ℕ
-book_chunk_len = 65536
 
 -- the bytes are those of these entries, whose keys never fall, and less than a whole entry
 pub record Splits (came : List ℕ) (entries : List Entry) (part : List ℕ) : Type 0 where
@@ -22,7 +18,7 @@ pub record Splits (came : List ℕ) (entries : List Entry) (part : List ℕ) : T
 -- the stream is these entries and no more
 pub record ReadsBook (fills : ℕ) (old new : SourceState) (entries : List Entry) : Type 0 where
   pub came : List ℕ
-  pub reads : ReadsAll book_chunk_len fills old new came
+  pub reads : ReadsAll chunk_len fills old new came
   pub bytes : BookBytes entries came
   pub ordered : NeverFall entries
 
@@ -30,7 +26,7 @@ pub record ReadsBook (fills : ℕ) (old new : SourceState) (entries : List Entry
 pub record MeetsEntry (fills : ℕ) (old new : SourceState) (before : List Entry) (entry : Entry) : Type 0 where
   pub came : List ℕ
   pub rest : List ℕ
-  pub reads : ReadsSome book_chunk_len fills old new (came ++ rest)
+  pub reads : ReadsSome chunk_len fills old new (came ++ rest)
   pub bytes : BookBytes (before ++ entry ∷ []) came
   pub ordered : NeverFall before
 
@@ -45,7 +41,7 @@ pub record FindsUnsorted (fills : ℕ) (old new : SourceState) (number : ℕ) : 
 -- the stream ends with this many bytes after the last whole entry
 pub record FindsCut (fills : ℕ) (old new : SourceState) (extra : ℕ) : Type 0 where
   pub came : List ℕ
-  pub reads : ReadsAll book_chunk_len fills old new came
+  pub reads : ReadsAll chunk_len fills old new came
   pub entries : List Entry
   pub part : List ℕ
   pub splits : Splits came entries part
@@ -55,7 +51,7 @@ pub record FindsCut (fills : ℕ) (old new : SourceState) (extra : ℕ) : Type 0
 -- the source failed after entries whose keys never fall
 pub record FindsFault (fills : ℕ) (old new : SourceState) : Type 0 where
   pub came : List ℕ
-  pub reads : ReadsToFault book_chunk_len fills old new came
+  pub reads : ReadsToFault chunk_len fills old new came
   pub entries : List Entry
   pub part : List ℕ
   pub splits : Splits came entries part
@@ -63,7 +59,7 @@ pub record FindsFault (fills : ℕ) (old new : SourceState) : Type 0 where
 -- the fills were used up after entries whose keys never fall
 pub record FindsNoEnd (fills : ℕ) (old new : SourceState) : Type 0 where
   pub came : List ℕ
-  pub reads : ReadsOn book_chunk_len fills old new came
+  pub reads : ReadsOn chunk_len fills old new came
   pub entries : List Entry
   pub part : List ℕ
   pub splits : Splits came entries part

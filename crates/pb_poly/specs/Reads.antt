@@ -3,6 +3,10 @@ use Rattle.std.specs.Prelude.{◌≡◌, ℕ, ◌+◌, ◌-◌, ◌*◌, ◌^◌
 use Rattle.std.specs.Io.KnownBytes.{Consumes, IsAtEnd}
 use Rattle.pb_poly.specs.Source.{SourceState}
 
+-- how many bytes a source is given room for at a time
+abbrev pub chunk_len : ℕ
+chunk_len = 65536
+
 -- These bytes came.
 pub record Reads (room fills : ℕ) (old new : SourceState) (came : List ℕ) : Type 0 where
   pub bytes : Consumes old.to_come new.to_come came

@@ -1,6 +1,6 @@
 //! Books: entries in the order of their keys.
 
-ghost use Rattle.std.specs.Prelude.{◌≡◌, All, MatchOption};
+ghost use Rattle.std.specs.Prelude.{◌≡◌, ◌==◌, All, MatchOption, length, take_while};
 ghost use Rattle.pb_poly.specs.Book.{IsFirstFall, NeverFall, book_bytes};
 ghost use Rattle.pb_poly.specs.Entry.{IsEntry};
 ghost use Rattle.pb_poly.specs.Writes.{Writes};
@@ -30,7 +30,7 @@ impl Model for Book {
 }
 
 impl Book {
-    ghost use Rattle.std.specs.Prelude.{MatchResult};
+    ghost use Rattle.std.specs.Prelude.{MatchResult, filter};
 
     /// The book of these entries.
     ///
@@ -57,6 +57,16 @@ impl Book {
         Book { entries }
     }
 
+    /// The entries of this key, which stand together.
+    pub(crate) fn under(&self, key: u64) -> &[Entry]
+        ensures { result.now ≡ filter (λ e. e.key == key) self.now }
+    {
+        let entries = self.entries();
+        let first = entries.partition_point(|entry| entry.key < key);
+        let rest = &entries[first..];
+        &rest[..count_under(rest, key)]
+    }
+
     /// The entries in order.
     pub fn entries(&self) -> &[Entry]
         ensures value { result.now ≡ self.now }
@@ -65,6 +75,13 @@ impl Book {
     {
         self.entries.as_slice()
     }
+}
+
+// How many entries of this key these begin with.
+fn count_under(entries: &[Entry], key: u64) -> usize
+    ensures { result ≡ length (take_while (λ e. e.key == key) entries.now) }
+{
+    entries.iter().take_while(|entry| entry.key == key).count()
 }
 
 // The number, from 1, of the first entry whose key is below the key before it.

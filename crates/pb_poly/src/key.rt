@@ -24,7 +24,7 @@ fn kind_number(kind: Kind) -> usize
 }
 
 // The place of a piece on the square of this index.
-fn piece_place(piece: Piece, square: usize) -> usize
+pub(crate) fn piece_place(piece: Piece, square: usize) -> usize
     requires { square < 64 }
     ensures value { result ≡ piece_place_by piece square }
     ensures few { result < 768 }
@@ -50,7 +50,7 @@ fn pieces_key(table: &Table, board: &[Option<Piece>; 64]) -> u64
 }
 
 // The key, joined by the word at the place where the flag is set.
-fn with_flag(table: &Table, key: u64, flag: bool, place: usize) -> u64
+pub(crate) fn with_flag(table: &Table, key: u64, flag: bool, place: usize) -> u64
     requires { place < 781 }
     ensures { result ≡ joined table.now key (place_if flag place) }
 {
@@ -100,7 +100,7 @@ fn has_taker(setup: &Setup, pawn: u8) -> bool
 }
 
 // The key, joined by the word of the en passant square where a pawn stands beside the pawn that has passed it.
-fn with_passed(table: &Table, key: u64, setup: &Setup) -> u64
+pub(crate) fn with_passed(table: &Table, key: u64, setup: &Setup) -> u64
     ensures { result ≡ joined table.now key (passed_places setup.now setup.now.ep) }
 {
     let turn = setup.turn();
@@ -114,7 +114,7 @@ fn with_passed(table: &Table, key: u64, setup: &Setup) -> u64
 }
 
 // The key, joined by the word for White to move.
-fn with_turn(table: &Table, key: u64, turn: Colour) -> u64
+pub(crate) fn with_turn(table: &Table, key: u64, turn: Colour) -> u64
     ensures { result ≡ joined table.now key (turn_places turn) }
 {
     match turn {

@@ -1,9 +1,10 @@
-//! Laws of lines, of move codes, of keys and of books. Each is the contract of a function that does nothing.
+//! Laws of lines, of move codes, of keys, of books and of what they hold. Each is the contract of a function that does nothing.
 
 ghost use Rattle.std.specs.Prelude.{◌≡◌, ◌≤◌, ℕ, List, ◌++◌, length};
 ghost use Rattle.std.specs.List.{join_with_byte};
 ghost use Rattle.pb_poly.specs.Book.{BookIsOne, BytesAreOne};
 ghost use Rattle.pb_poly.specs.Code.{CodeIsOne};
+ghost use Rattle.pb_poly.specs.Found.{FoundIsOne};
 ghost use Rattle.pb_poly.specs.Key.{KeyIsOne, KeyIsParity};
 ghost use Rattle.pb_poly.specs.Lines.{ended_lines, lines, pieces};
 
@@ -38,4 +39,9 @@ pub fn key_is_one()
 pub fn book_is_one()
     ensures entries { BookIsOne }
     ensures bytes { BytesAreOne }
+{}
+
+/// A book holds one list of moves and weights for a setup.
+pub fn found_is_one()
+    ensures { FoundIsOne }
 {}

@@ -3,7 +3,8 @@
 ghost use Rattle.std.specs.Prelude.{◌≡◌, ℕ, ◌+◌, ◌^◌, ◌<◌, ◌≤◌, [], ◌++◌, ◌↔◌, IsTrue, List, Option, IfOk, OnOk, IfErr, Some, None, cond, length, vec_capacity};
 ghost use Rattle.pb_poly.specs.LineBuffer.{KeepsPiece, Reached, StopsWithin};
 ghost use Rattle.pb_poly.specs.Lines.{line_limit, lines};
-ghost use Rattle.pb_poly.specs.LineTask.{StopsAtLast, TakesAll, TakesStream, TakesUntil, chunk_len};
+ghost use Rattle.pb_poly.specs.LineTask.{StopsAtLast, TakesAll, TakesStream, TakesUntil};
+ghost use Rattle.pb_poly.specs.Reads.{chunk_len};
 
 use crate::lines::{LINE_LIMIT, LineTask, LinesFault};
 use crate::source::Source;

@@ -2,10 +2,11 @@
 
 ghost use Rattle.std.specs.Prelude.{◌≡◌, ℕ, ◌+◌, ◌^◌, ◌<◌, ◌≤◌, List, Result, IfErr, IfOk, OnOk, length};
 ghost use Rattle.pb_poly.specs.Lines.{line_limit};
-ghost use Rattle.pb_poly.specs.LineTask.{TakesStream, TakesUntil, chunk_len};
+ghost use Rattle.pb_poly.specs.LineTask.{TakesStream, TakesUntil};
+ghost use Rattle.pb_poly.specs.Reads.{chunk_len};
 
 use crate::line_buffer::LineBuffer;
-use crate::source::Source;
+use crate::source::{CHUNK_LEN, Source};
 use std::alloc::{AllocError, Global};
 
 /// The longest line that is kept, in bytes. A final CR counts, the LF doesn't.
@@ -41,9 +42,6 @@ pub enum LinesFault<E> {
     /// A line stopped the task. The lines before it were taken.
     Stop(E),
 }
-
-/// How much room a source is given at a time, in bytes.
-const CHUNK_LEN: usize = 65536;
 
 /// Takes the lines of the source in order, in at most so many fills: the pieces between LFs, the last one where it isn't
 /// empty. A piece that no LF ended is taken at the end of input, and not at a fault.

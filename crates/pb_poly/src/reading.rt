@@ -4,13 +4,14 @@ ghost use Rattle.std.specs.Prelude.{◌-◌, min, ◌≡◌, ◌<◌, ◌≤◌,
 ghost use Rattle.pb_poly.specs.Book.{BookBytes, NeverFall};
 ghost use Rattle.pb_poly.specs.Entry.{IsEntry, entry_bytes};
 ghost use Rattle.pb_poly.specs.Feeding.{FailsWithin, Refuses};
-ghost use Rattle.pb_poly.specs.Reading.{FindsNoBook, ReadsBook, Splits, Tells, book_chunk_len};
+ghost use Rattle.pb_poly.specs.Reading.{FindsNoBook, ReadsBook, Splits, Tells};
+ghost use Rattle.pb_poly.specs.Reads.{chunk_len};
 ghost use Rattle.pb_poly.specs.declared.reading.BookError.TheVariants.{Cut, Memory};
 ghost use Rattle.pb_poly.specs.declared.entry.Entry.{Entry};
 
 use crate::book::Book;
 use crate::entry::{ENTRY_LEN, Entry};
-use crate::source::Source;
+use crate::source::{CHUNK_LEN, Source};
 use std::alloc::Global;
 use std::marker::Model;
 use thiserror::Error;
@@ -34,9 +35,6 @@ pub enum BookError {
     #[error("no memory")]
     Memory,
 }
-
-/// How much room a source is given at a time, in bytes.
-const CHUNK_LEN: usize = 65536;
 
 /// What has come of a book: its entries, and the front of the next.
 #[derive(Drop)]
@@ -186,7 +184,7 @@ impl Reading {
     ) -> Result<Book, BookError>
         requires empty { self ≡ ([], []) }
         requires room { 0 < length chunk.old }
-        requires fits { length chunk.old ≤ book_chunk_len }
+        requires fits { length chunk.old ≤ chunk_len }
         ensures found { IfOk result (ReadsBook fills (S.state source.old) (S.state source.new)) }
         ensures err { IfErr result (FindsNoBook fills (S.state source.old) (S.state source.new)) }
     {

@@ -6,6 +6,9 @@ ghost use Rattle.pb_poly.specs.Source.{Fill, SourceState};
 use std::io::Read;
 use thiserror::Error;
 
+/// How much room a source is given at a time, in bytes.
+pub(crate) const CHUNK_LEN: usize = 65536;
+
 /// A source or a sink has failed, and every later fill, put or flush of it fails.
 #[derive(Clone, Copy, Debug, PartialEq, Eq, Error)]
 #[error("the input or output has failed")]

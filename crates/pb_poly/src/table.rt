@@ -29,7 +29,7 @@ pub enum TableError {
 }
 
 /// A table of 781 words of 64 bits, of which the keys of setups are made.
-#[derive(Drop)]
+#[derive(Clone, Drop)]
 pub struct Table {
     words: Vec<u64>,
 }

@@ -2,7 +2,8 @@ use Rattle.std.proofs.Common.{◌<◌, ◌≤◌, ℕ, length, Ok, IfErr, subst,
 use Rattle.std.proofs.lemmas.Result.{err_from_is_err_and}
 use Rattle.pb_poly.specs.declared.source.Failed.{Failed}
 use Rattle.pb_poly.specs.Source.{Fill}
-use Rattle.pb_poly.specs.LineTask.{TakesUntil, chunk_len}
+use Rattle.pb_poly.specs.LineTask.{TakesUntil}
+use Rattle.pb_poly.specs.Reads.{chunk_len}
 use Rattle.pb_poly.proofs.TaskLemmas.{IfErr-stop, stops_at_end, stops_within}
 use Rattle.pb_poly.proofs.line_buffer.LineBuffer.drain.Goals as goal
 

@@ -1,7 +1,6 @@
 use Rattle.std.proofs.Common.{ℕ, List, length, ◌<◌, ◌≤◌}
-use Rattle.pb_poly.specs.Reads.{ReadsOn}
+use Rattle.pb_poly.specs.Reads.{ReadsOn, chunk_len}
 use Rattle.pb_poly.specs.LineBuffer.{Reached}
-use Rattle.pb_poly.specs.LineTask.{chunk_len}
 use Rattle.pb_poly.proofs.line_buffer.LineBuffer.drain.Given as goal
 
 -- the source reads on, and the lines that an LF ended have been taken

@@ -2,21 +2,21 @@ use Rattle.std.proofs.Common.{arith, length, ◌<◌, ◌≤◌, ◌++◌, take}
 use Rattle.std.proofs.lemmas.Result.{err_from_is_err_and}
 use Rattle.pb_poly.proofs.ReadsLemmas.{ReadsOn-more}
 use Rattle.pb_poly.proofs.Feeds.{finds_no_book}
-use Rattle.pb_poly.specs.Reading.{book_chunk_len}
+use Rattle.pb_poly.specs.Reads.{chunk_len}
 use Rattle.pb_poly.proofs.reading.Reading.drain.Goals as goal
 
 pub returns-in_err-feed-clause-err : goal.returns-in_err-feed-clause-err
 returns-in_err-feed-clause-err g c =
-    let now = c.loop-made.invariant in let state = g.S.Source.state in let room : 0 < length c.fill.new.into = omega arith in let fits : length c.fill.new.into ≤ book_chunk_len = omega arith in
+    let now = c.loop-made.invariant in let state = g.S.Source.state in let room : 0 < length c.fill.new.into = omega arith in let fits : length c.fill.new.into ≤ chunk_len = omega arith in
     let p = err_from_is_err_and c.from_residual.result c.from_residual.ensures.1 in rw (p.1, p.2) (
     finds_no_book c.loop-made._made c.args.fills (state c.args.source.now) (state c.loop-made.source) (state c.fill.new.self) now.0 c.fill.new.into c.in-Ok.count c.in_err-feed.field-0.0
     room fits c.loop-made-test.true now.1 c.in-Ok.ensures (c.in_err-feed.ensures.err now.0 now.2))
 
 pub loop-made-preserved : goal.loop-made-preserved
 loop-made-preserved g c =
-    let now = c.loop-made.invariant in let state = g.S.Source.state in let room : 0 < length c.fill.new.into = omega arith in let fits : length c.fill.new.into ≤ book_chunk_len = omega arith in let some : 0 < c.in-Ok.count = omega arith in (
+    let now = c.loop-made.invariant in let state = g.S.Source.state in let room : 0 < length c.fill.new.into = omega arith in let fits : length c.fill.new.into ≤ chunk_len = omega arith in let some : 0 < c.in-Ok.count = omega arith in (
       now.0 ++ take c.in-Ok.count c.fill.new.into,
-      ReadsOn-more book_chunk_len c.loop-made._made (state c.args.source.now) (state c.loop-made.source) (state c.fill.new.self) now.0 c.fill.new.into room fits now.1 c.in-Ok.count some c.in-Ok.ensures,
+      ReadsOn-more chunk_len c.loop-made._made (state c.args.source.now) (state c.loop-made.source) (state c.fill.new.self) now.0 c.fill.new.into room fits now.1 c.in-Ok.count some c.in-Ok.ensures,
       c.in_ok-feed.ensures.ok now.0 now.2,
       room,
       fits,

@@ -1,0 +1,166 @@
+//! The ledger.
+
+ghost use Rattle.std.specs.Prelude.{◌≡◌, ◌≤◌, ◌<◌, ◌++◌, ◌∷◌, [], ℕ, IfOk, MatchOption, OnErr, OnOk, Ok, length};
+ghost use Rattle.pb_games.specs.Submissions.{IsLawful, IsSubmission, Submission};
+ghost use Rattle.pb_ledger.specs.Accepting.{Allowed, IsNewId, IsNumber, Takes};
+ghost use Rattle.pb_ledger.specs.Counting.{IsBook};
+ghost use Rattle.pb_ledger.specs.Holding.{IsLedger, Tallies};
+
+use crate::arrival::{submits_game, to_game};
+use crate::gift::{Gift, add_points, ensure_rows, write_gifts};
+use indexmap::IndexMap;
+use pb_games::{Game, Id, Line, Refusal, check_line};
+use pb_points::{Tally, book_of};
+use pb_poly::{Book, Table};
+use std::alloc::{AllocError, Global};
+use std::marker::Model;
+
+/// The most games that a ledger may be made for.
+pub const MAX_CAP: u32 = 1_000_000;
+
+// The most moves of a game.
+const MAX_PLIES: usize = 1_024;
+
+/// The accepted games by id, in order of acceptance, with the points of their moves.
+#[derive(Drop)]
+pub struct Ledger<T: Tally> {
+    alloc: Global,
+    table: Table,
+    cap: u32,
+    games: IndexMap<Id, Game>,
+    tally: T,
+    // What the plies of the game that is being added give. It is made with the ledger, so that a ply takes no memory.
+    gifts: Vec<Gift>,
+}
+
+impl<T: Tally> Model for Ledger<T> {
+    ghost use Rattle.pb_ledger.specs.Ledger.{LedgerState};
+    ghost use Rattle.pb_ledger.specs.Holding.{Holds};
+
+    ghost Value = { LedgerState };
+
+    ghost view = { λ a. record { basis = record { words = a.table }; cap = a.cap; accepted = a.games.entries } };
+
+    ghost invariant = { λ a. Holds (T.content a.tally) (record { basis = record { words = a.table }; cap = a.cap; accepted = a.games.entries }) };
+}
+
+impl<T: Tally> Ledger<T> {
+    /// A ledger without games, for at most `cap` of them, 1 to 1,000,000. It keeps a copy of the table.
+    ///
+    /// # Errors
+    ///
+    /// There was no memory for the copy, or for what one game needs while it is added.
+    pub fn new(alloc: Global, table: &Table, cap: u32) -> Result<Ledger<T>, AllocError>
+        requires some { 1 ≤ cap }
+        requires few { cap ≤ 1000000 }
+        ensures { IfOk result (λ l. l ≡ record { basis = record { words = table.now }; cap = cap; accepted = [] }) }
+    {
+        Ok(Ledger {
+            alloc,
+            table: table.clone()?,
+            cap,
+            games: IndexMap::new(alloc),
+            tally: T::new(alloc),
+            gifts: Vec::with_capacity(alloc, MAX_PLIES)?,
+        })
+    }
+
+    /// Takes a line without its LF: a legal game under a new id is held from now on. The answer is the game's number, from 1
+    /// in order of acceptance; a line that submits a game that is held, under its id, gets the number that the game has.
+    ///
+    /// A line that isn't a new legal game takes no memory.
+    ///
+    /// # Errors
+    ///
+    /// What `check_line` refuses; `Conflict` with the number of the other game that is held under this id; `Full` where the id is
+    /// new and no more games may be held; `Memory` where the game is new and there was no memory for it. Nothing has changed
+    /// then.
+    pub fn submit(&mut self, line: &[u8]) -> Result<u32, Refusal>
+        // The answer is the reply to the line, or want of memory where that is a new number.
+        ensures reply { Allowed self.old.cap self.old.accepted line.now result }
+        // A lawful submission under a new id is added where there is room and memory, and nothing else is.
+        ensures takes { Takes self.old.accepted line.now result self.new.accepted }
+        // One that is held gets its number.
+        ensures held { (s : Submission) (n : ℕ) → IsLawful line.now s → IsNumber self.old.accepted n s → result ≡ Ok n }
+        ensures basis { self.new.basis ≡ self.old.basis }
+        ensures cap { self.new.cap ≡ self.old.cap }
+    {
+        let read = check_line(line)?;
+        if let Some((index, _, game)) = self.games.get_full(&read.id()) {
+            let number = index as u32 + 1;
+            return if submits_game(&read, game) {
+                Ok(number)
+            } else {
+                Err(Refusal::Conflict(number))
+            };
+        }
+        if self.games.len() == self.cap as usize {
+            return Err(Refusal::Full);
+        }
+        match self.accept(&read) {
+            Ok(()) => Ok(self.len()),
+            Err(_) => Err(Refusal::Memory),
+        }
+    }
+
+    // Adds a game under a new id. The insert is the last step that may fail, and only then points are added.
+    fn accept(&mut self, read: &Line<'_>) -> Result<(), AllocError>
+        requires legal { IsSubmission read.now }
+        requires new { IsNewId read.now.0 self.old.accepted }
+        requires room { length self.old.accepted < self.old.cap }
+        ensures ok { OnOk result (self.new.accepted ≡ self.old.accepted ++ read.now ∷ []) }
+        ensures err { OnErr result (self.new.accepted ≡ self.old.accepted) }
+        ensures basis { self.new.basis ≡ self.old.basis }
+        ensures cap { self.new.cap ≡ self.old.cap }
+    {
+        let game = to_game(self.alloc, read)?;
+        write_gifts(&mut self.gifts, &self.table, read)?;
+        ensure_rows(&mut self.tally, &self.gifts)?;
+        self.games.insert(read.id(), game)?;
+        add_points(&mut self.tally, &self.gifts);
+        Ok(())
+    }
+
+    /// How many games are held.
+    pub fn len(&self) -> u32
+        ensures value { result ≡ length self.now.accepted }
+        ensures rules { IsLedger self.now }
+    {
+        self.games.len() as u32
+    }
+
+    /// The game with this number, from 1, and its id.
+    pub fn get(&self, number: u32) -> Option<(&Id, &Game)>
+        ensures { MatchOption result
+            ((s : Submission) → ¬ IsNumber self.now.accepted number s)
+            (λ p. IsNumber self.now.accepted number (p.0.now, p.1.now)) }
+    {
+        self.games.get_index((number as usize).checked_sub(1)?)
+    }
+
+    /// The table.
+    pub fn table(&self) -> &Table
+        ensures { result.now ≡ self.now.basis.words }
+    {
+        &self.table
+    }
+
+    /// The points of the moves: those of the games that are held.
+    pub fn tally(&self) -> &T
+        ensures { Tallies (T.content result.now) self.now.basis self.now.accepted }
+    {
+        &self.tally
+    }
+
+    /// The opening book of the games that are held.
+    ///
+    /// # Errors
+    ///
+    /// There was no memory for the rows of the tally, or for the entries.
+    pub fn make_book(&self, alloc: Global) -> Result<Book, AllocError>
+        ensures { IfOk result (λ book. IsBook self.now.basis self.now.accepted book) }
+    {
+        let rows = self.tally.rows(alloc)?;
+        book_of(alloc, &rows)
+    }
+}

@@ -1,0 +1,272 @@
+-- The words that a move joins to a key make it the key of the setup after the move.
+use Rattle.std.proofs.Common.{◌≡◌, ◌≢◌, ℕ, zero, suc, ◌+◌, ◌-◌, ◌*◌, ◌<◌, ◌≤◌, inl, inr, Bool, true, false, ◌==◌, cond, Some, None, List, [], ◌∷◌, ◌++◌, length, refl, sym, ap, ◌∙◌, subst, arith}
+use Rattle.std.proofs.lemmas.Bool.{cases_lt, eq-eqb, eqb-false, eqb-true}
+use Rattle.std.proofs.lemmas.Bool.Decides.{eqb_tells}
+use Rattle.std.proofs.lemmas.List.{get_or_past}
+use Rattle.pb_board.specs.declared.piece.Colour.{Colour}
+use Rattle.pb_board.specs.declared.piece.Colour.TheVariants.{White, Black}
+use Rattle.pb_board.specs.declared.piece.Kind.{Kind}
+use Rattle.pb_board.specs.declared.piece.Kind.TheVariants.{Pawn, Knight, Bishop, Rook, Queen, King}
+use Rattle.pb_board.specs.declared.piece.Piece.{Piece}
+use Rattle.pb_board.specs.Piece.{king_of}
+use Rattle.pb_board.specs.Board.{Board, Place, at, file, rank, Holds, IsForward}
+use Rattle.pb_board.specs.Position.{Position, IsSetup}
+use Rattle.pb_moves.specs.Attack.{files_apart, ranks_apart}
+use Rattle.pb_moves.specs.Moved.{Moved, IsMove}
+use Rattle.pb_moves.specs.Castling.{castling_row}
+use Rattle.pb_moves.specs.Cases.{CaseOf, piece_move, pawn_step, pawn_double, pawn_capture, en_passant, castles}
+use Rattle.pb_moves.specs.Successor.{arriving, beside, put, with_rook}
+use Rattle.pb_moves.proofs.Kings.{pawn_reach}
+use Rattle.pb_moves.proofs.Listed.{castling_goes}
+use Rattle.pb_moves.proofs.Successors.{at_put_other, at_put_same, board_is, length_put}
+use Rattle.pb_moves.proofs.Unique.{class_of_castling, king_near, pawn_files, same_boards, same_lists, same_or_not}
+use Rattle.pb_poly.specs.Key.{piece_places}
+use Rattle.pb_poly.specs.KeyChange.{beside_kind, changed_places, rook_squares, square_places}
+use Rattle.pb_poly.proofs.Among.{Among, Distinct, total}
+
+pub total-append : (f : ℕ → ℕ) (xs ys : List ℕ) → total f (xs ++ ys) ≡ total f xs + total f ys
+total-append f [] ys = omega arith
+total-append f (x ∷ xs) ys = let more = total-append f xs ys in omega (arith, more)
+
+-- ---- the board
+
+first_square : (f : ℕ → ℕ) (place : Place) (board : Board) (n : ℕ) → total f (piece_places (place ∷ board) n) ≡ total f (square_places place n) + total f (piece_places board (n + 1))
+first_square f None board n = omega arith
+first_square f (Some p) board n = omega arith
+
+-- where two boards differ on one square at most, their sums differ by what stands there
+one_square : (f : ℕ → ℕ) (old new : Board) (n q : ℕ) → length old ≡ length new → ((r : ℕ) → r ≢ q → at old r ≡ at new r)
+    → total f (piece_places old n) + total f (square_places (at new q) (n + q)) ≡ total f (piece_places new n) + total f (square_places (at old q) (n + q))
+one_square f [] [] n q same others = refl
+one_square f [] (y ∷ new) n q same others = absurd (omega arith)
+one_square f (x ∷ old) [] n q same others = absurd (omega arith)
+one_square f (x ∷ old) (y ∷ new) n zero same others =
+    let rest : old ≡ new = same_lists old new None (omega arith) (λ r. others (suc r) (omega arith)) in
+    let tail = ap (λ (b : Board). total f (piece_places b (n + 1))) rest in
+    let here : (p : Place) → total f (square_places p (n + 0)) ≡ total f (square_places p n) = λ p. ap (λ m. total f (square_places p m)) (omega arith) in
+    let left = first_square f x old n in
+    let right = first_square f y new n in
+    let a = here x in
+    let b = here y in
+    omega (arith, tail, left, right, a, b)
+one_square f (x ∷ old) (y ∷ new) n (suc q) same others =
+    let head : x ≡ y = others 0 (omega arith) in
+    let first = ap (λ (p : Place). total f (square_places p n)) head in
+    let more = one_square f old new (n + 1) q (omega arith) (λ r other. others (suc r) (omega arith)) in
+    let there : (p : Place) → total f (square_places p (n + suc q)) ≡ total f (square_places p (n + 1 + q)) = λ p. ap (λ m. total f (square_places p m)) (omega arith) in
+    let left = first_square f x old n in
+    let right = first_square f y new n in
+    let a = there (at old q) in
+    let b = there (at new q) in
+    omega (arith, first, more, left, right, a, b)
+
+-- the sum over what stands on these squares
+abbrev pub standing : (ℕ → ℕ) → Board → List ℕ → ℕ
+standing f board [] = 0
+standing f board (q ∷ squares) = total f (square_places (at board q) q) + standing f board squares
+
+standing_same : (f : ℕ → ℕ) (old new : Board) (squares : List ℕ) → ((q : ℕ) → Among squares q → at old q ≡ at new q) → standing f old squares ≡ standing f new squares
+standing_same f old new [] same = refl
+standing_same f old new (q ∷ squares) same =
+    let here = ap (λ (p : Place). total f (square_places p q)) (same q (inl refl)) in
+    let more = standing_same f old new squares (λ r among. same r (inr among)) in
+    omega (arith, here, more)
+
+-- off the board nothing stands, before and after
+put_here : (old new : Board) (q : ℕ) → length old ≡ 64 → length new ≡ 64 → at (put old q (at new q)) q ≡ at new q
+put_here old new q full full_new = elim (cases_lt q 64) [
+  | inl within ↦ at_put_same old q (at new q) full within
+  | inr past ↦
+      let full_mid = length_put old q (at new q) full in
+      get_or_past (put old q (at new q)) q None (omega arith) ∙ sym (get_or_past new q None (omega arith))
+]
+
+-- where two boards differ on these squares at most, their sums differ by what stands there
+pub some_squares : (f : ℕ → ℕ) (old new : Board) (squares : List ℕ) → length old ≡ 64 → length new ≡ 64 → Distinct squares
+    → ((q : ℕ) → ¬ Among squares q → at old q ≡ at new q)
+    → total f (piece_places old 0) + standing f new squares ≡ total f (piece_places new 0) + standing f old squares
+some_squares f old new [] full full_new once others =
+    let same = ap (λ (b : Board). total f (piece_places b 0)) (same_boards old new full full_new (λ q. others q (λ none. none))) in
+    omega (arith, same)
+some_squares f old new (q ∷ squares) full full_new once others =
+    let mid = put old q (at new q) in
+    let here : at mid q ≡ at new q = put_here old new q full full_new in
+    let elsewhere : (r : ℕ) → r ≢ q → at mid r ≡ at old r = λ r other. at_put_other old q r (at new q) other in
+    let full_mid = length_put old q (at new q) full in
+    let first = one_square f old mid 0 q (full ∙ sym full_mid) (λ r other. sym (elsewhere r other)) in
+    let rest = some_squares f mid new squares full_mid full_new once.1 (λ r none.
+    elim (same_or_not r q) [
+      | inl is ↦ let P : ℕ → Type 0 = λ k. at mid k ≡ at new k in subst P (sym is) here
+      | inr other ↦ elsewhere r other ∙ others r (λ among. elim among [ inl is ↦ other is | inr later ↦ none later ])
+    ]) in
+    let kept = standing_same f mid old squares (λ r among. elsewhere r (λ is. let P : ℕ → Type 0 = λ k. Among squares k in once.0 (subst P is among))) in
+    let at_here = ap (λ (p : Place). total f (square_places p q)) here in
+    let from_zero : (p : Place) → total f (square_places p (0 + q)) ≡ total f (square_places p q) = λ p. ap (λ n. total f (square_places p n)) (omega arith) in
+    let a = from_zero (at mid q) in
+    let b = from_zero (at old q) in
+    omega (arith, first, rest, kept, at_here, a, b)
+
+pub changed_are : (f : ℕ → ℕ) (old new : Board) (squares : List ℕ) → total f (changed_places old new squares) ≡ standing f old squares + standing f new squares
+changed_are f old new [] = refl
+changed_are f old new (q ∷ squares) =
+    let left = square_places (at old q) q in
+    let reached = square_places (at new q) q in
+    let first = total-append f left (reached ++ changed_places old new squares) in
+    let second = total-append f reached (changed_places old new squares) in
+    let more = changed_are f old new squares in
+    omega (arith, first, second, more)
+
+-- ---- the squares of a move
+
+-- nothing changes but on these squares, each of which stands once
+pub record Covers (old new : Board) (squares : List ℕ) : Type 0 where
+  pub once : Distinct squares
+  pub others : (q : ℕ) → ¬ Among squares q → at old q ≡ at new q
+
+-- beyond the board nothing stands
+pub off_board : (old new : Board) (q : ℕ) → length old ≡ 64 → length new ≡ 64 → 64 ≤ q → changed_places old new (q ∷ []) ≡ []
+off_board old new q full full_new past =
+    rw (get_or_past old q None (omega arith), get_or_past new q None (omega arith)) refl
+
+-- a number that differs from the first and stands not among the others
+new_to : (a x : ℕ) (xs : List ℕ) → a ≢ x → ¬ Among xs a → ¬ Among (x ∷ xs) a
+new_to a x xs other none among = elim among [ inl e ↦ other e | inr later ↦ none later ]
+
+nothing : (q : ℕ) → ¬ Among [] q
+nothing q among = among
+
+covers_two : (old new : Board) (a b : ℕ) → a ≢ b → ((q : ℕ) → q ≢ a → q ≢ b → at new q ≡ at old q) → Covers old new (a ∷ b ∷ [])
+covers_two old new a b ab others = record {
+  once = (new_to a b [] ab (nothing a), (nothing b, tt));
+  others = λ q none. sym (others q (λ e. none (inl e)) (λ e. none (inr (inl e))));
+}
+
+covers_three : (old new : Board) (a b c : ℕ) → a ≢ b → a ≢ c → b ≢ c → ((q : ℕ) → q ≢ a → q ≢ b → q ≢ c → at new q ≡ at old q) → Covers old new (a ∷ b ∷ c ∷ [])
+covers_three old new a b c ab ac bc others = record {
+  once = (new_to a b (c ∷ []) ab (new_to a c [] ac (nothing a)), (new_to b c [] bc (nothing b), (nothing c, tt)));
+  others = λ q none. sym (others q (λ e. none (inl e)) (λ e. none (inr (inl e))) (λ e. none (inr (inr (inl e)))));
+}
+
+-- two squares are filled after the first two have changed
+covers_four : (old moved : Board) (a b c d : ℕ) (x y : Place) → a ≢ b → a ≢ c → a ≢ d → b ≢ c → b ≢ d → c ≢ d → ((q : ℕ) → q ≢ a → q ≢ b → at moved q ≡ at old q)
+    → Covers old (put (put moved c x) d y) (a ∷ b ∷ c ∷ d ∷ [])
+covers_four old moved a b c d x y ab ac ad bc bd cd others = record {
+  once = (
+    new_to a b (c ∷ d ∷ []) ab (new_to a c (d ∷ []) ac (new_to a d [] ad (nothing a))),
+    (new_to b c (d ∷ []) bc (new_to b d [] bd (nothing b)), (new_to c d [] cd (nothing c), (nothing d, tt))),
+  );
+  others = λ q none.
+      let last = at_put_other (put moved c x) d q y (λ e. none (inr (inr (inr (inl e))))) in
+      let third = at_put_other moved c q x (λ e. none (inr (inr (inl e)))) in
+      let first = others q (λ e. none (inl e)) (λ e. none (inr (inl e))) in
+      sym (last ∙ third ∙ first);
+}
+
+beside_straight : (k : Kind) (m : Moved) → k ≡ Pawn → file m.to ≡ file m.from → beside_kind k m ≡ []
+beside_straight Pawn m pawn same = let e = eq-eqb (file m.to) (file m.from) same in rw e refl
+beside_straight k m pawn same = absurd (cc)
+
+beside_slant : (k : Kind) (m : Moved) → k ≡ Pawn → file m.to ≢ file m.from → beside_kind k m ≡ (8 * rank m.from + file m.to) ∷ []
+beside_slant Pawn m pawn other =
+    elim (eqb_tells (file m.to) (file m.from)) [
+      | inl same ↦ absurd (other same.1)
+      | inr e ↦ rw e.0 refl
+    ]
+beside_slant k m pawn other = absurd (cc)
+
+near_rook : (from to : ℕ) → files_apart from to ≤ 1 → rook_squares from to ≡ []
+near_rook from to near = elim (eqb_tells (files_apart from to) 2) [
+  | inl two ↦ absurd (let is = two.1 in omega arith)
+  | inr other ↦ rw other.0 refl
+]
+
+beside_piece : (k : Kind) (m : Moved) → k ≢ Pawn → (k ≡ King → files_apart m.from m.to ≤ 1) → beside_kind k m ≡ []
+beside_piece Pawn m no_pawn near = absurd (no_pawn refl)
+beside_piece Knight m no_pawn near = refl
+beside_piece Bishop m no_pawn near = refl
+beside_piece Rook m no_pawn near = refl
+beside_piece Queen m no_pawn near = refl
+beside_piece King m no_pawn near = near_rook m.from m.to (near refl)
+
+beside_castling : (k : Kind) (m : Moved) → k ≡ King → beside_kind k m ≡ rook_squares m.from m.to
+beside_castling King m king = refl
+beside_castling k m king = absurd (cc)
+
+beside_king : (k : Kind) (old moved : Board) (m : Moved) → k ≡ King → beside k old moved m ≡ with_rook old moved m
+beside_king King old moved m king = refl
+beside_king k old moved m king = absurd (cc)
+
+-- the board after a king and its rook have castled
+abbrev castled_by : Bool → Board → Board → ℕ → Board
+castled_by short old moved to = cond short (put (put moved (to + 1) None) (to - 1) (at old (to + 1))) (put (put moved (to - 2) None) (to + 1) (at old (to - 2)))
+
+abbrev rook_by : Bool → ℕ → List ℕ
+rook_by short to = cond short ((to + 1) ∷ (to - 1) ∷ []) ((to - 2) ∷ (to + 1) ∷ [])
+
+covers_either : (old moved : Board) (from to : ℕ) (short : Bool) → (short ≡ true → to ≡ from + 2) → (short ≡ false → to + 2 ≡ from) → length moved ≡ 64 → to < 64
+    → ((q : ℕ) → q ≢ from → q ≢ to → at moved q ≡ at old q) → at (castled_by short old moved to) to ≢ None → Covers old (castled_by short old moved to) (from ∷ to ∷ rook_by short to)
+covers_either old moved from to true right left full on_to others stands =
+    let is = right refl in
+    covers_four old moved from to (to + 1) (to - 1) None (at old (to + 1)) (λ e. omega arith) (λ e. omega arith) (λ e. omega arith) (λ e. omega arith) (λ e. omega arith) (λ e. omega arith) others
+covers_either old moved from to false right left full on_to others stands =
+    let is = left refl in
+    -- the king stands where it has gone, so its rook doesn't leave that square
+    let apart : to ≢ to - 2 = λ e. stands (
+    at_put_other (put moved (to - 2) None) (to + 1) to (at old (to - 2)) (λ same. omega arith)
+    ∙ ap (λ q. at (put moved q None) to) (sym e) ∙ at_put_same moved to None full on_to) in
+    covers_four old moved from to (to - 2) (to + 1) None (at old (to - 2)) (λ e. omega arith) (λ e. omega arith) (λ e. omega arith) apart (λ e. omega arith) (λ e. omega arith) others
+
+covers_rook : (old moved : Board) (m : Moved) → length moved ≡ 64 → m.to < 64 → files_apart m.from m.to ≡ 2 → ranks_apart m.from m.to ≡ 0
+    → ((q : ℕ) → q ≢ m.from → q ≢ m.to → at moved q ≡ at old q) → at (with_rook old moved m) m.to ≢ None → Covers old (with_rook old moved m) (m.from ∷ m.to ∷ rook_squares m.from m.to)
+covers_rook old moved m full on_to files ranks others =
+    let short : Bool = m.to == m.from + 2 in
+    let P : Bool → Type 0 = λ two. at (cond two (castled_by short old moved m.to) moved) m.to ≢ None → Covers old (cond two (castled_by short old moved m.to) moved) (m.from ∷ m.to ∷ cond two (rook_by short m.to) []) in
+    subst P (sym (eq-eqb (files_apart m.from m.to) 2 files)) (covers_either old moved m.from m.to short (eqb-true m.to (m.from + 2))
+    (λ no. let other = eqb-false m.to (m.from + 2) no in omega arith) full on_to others)
+
+-- a pawn that attacks a square goes one file aside and one rank on
+slant : (side : Colour) (from to : ℕ) → files_apart from to ≡ 1 → IsForward side 1 from to → (file to ≢ file from) × (from ≢ 8 * rank from + file to) × (to ≢ 8 * rank from + file to)
+slant White from to files forward = ((λ e. omega arith), (λ e. omega arith), λ e. omega arith)
+slant Black from to files forward = ((λ e. omega arith), (λ e. omega arith), λ e. omega arith)
+
+-- a move changes nothing but on its own two squares and those beside
+pub covers : (s : Position) (m : Moved) (p : Piece) (new : Board) → IsSetup s → IsMove m → Holds s.board m.from p → p.colour ≡ s.turn → CaseOf s m p new
+    → Covers s.board new (m.from ∷ m.to ∷ beside_kind p.kind m)
+covers s m p new ok is stands own (piece_move x) =
+    let P : List ℕ → Type 0 = λ beside. Covers s.board new (m.from ∷ m.to ∷ beside) in
+    subst P (sym (beside_piece p.kind m x.no_pawn (king_near p.colour p.kind s.board m.from m.to x.reaches)))
+    (covers_two s.board new m.from m.to is.moves x.after.others)
+covers s m p new ok is stands own (pawn_step x) =
+    let P : List ℕ → Type 0 = λ beside. Covers s.board new (m.from ∷ m.to ∷ beside) in
+    subst P (sym (beside_straight p.kind m x.pawn x.same_file))
+    (covers_two s.board new m.from m.to is.moves x.after.others)
+covers s m p new ok is stands own (pawn_double x) =
+    let P : List ℕ → Type 0 = λ beside. Covers s.board new (m.from ∷ m.to ∷ beside) in
+    subst P (sym (beside_straight p.kind m x.pawn x.same_file))
+    (covers_two s.board new m.from m.to is.moves x.after.others)
+covers s m p new ok is stands own (pawn_capture x) =
+    let P : List ℕ → Type 0 = λ beside. Covers s.board new (m.from ∷ m.to ∷ beside) in
+    let apart = slant p.colour m.from m.to (pawn_files p.colour p.kind s.board m.from m.to x.reaches x.pawn) (pawn_reach p.colour p.kind s.board m.from m.to x.reaches x.pawn) in
+    subst P (sym (beside_slant p.kind m x.pawn apart.0))
+    (covers_three s.board new m.from m.to (8 * rank m.from + file m.to) is.moves apart.1 apart.2 (λ q f t g. x.after.others q f t))
+covers s m p new ok is stands own (en_passant x) =
+    let P : List ℕ → Type 0 = λ beside. Covers s.board new (m.from ∷ m.to ∷ beside) in
+    let apart = slant p.colour m.from m.to (pawn_files p.colour p.kind s.board m.from m.to x.reaches x.pawn) (pawn_reach p.colour p.kind s.board m.from m.to x.reaches x.pawn) in
+    let gone : x.gone ≡ 8 * rank m.from + file m.to = let f = x.gone_file in let r = x.gone_rank in omega arith in
+    subst P (sym (beside_slant p.kind m x.pawn apart.0))
+    (covers_three s.board new m.from m.to (8 * rank m.from + file m.to) is.moves apart.1 apart.2
+    (λ q f t g. x.after.others q f t (λ e. g (e ∙ gone))))
+covers s m p new ok is stands own (castles c x) =
+    let moved = put (put s.board m.from None) m.to (Some (arriving p m.promo)) in
+    let row = castling_row c in
+    let board : with_rook s.board moved m ≡ new = sym (beside_king p.kind s.board moved m x.king) ∙ board_is s m p new ok is stands own (castles c x) in
+    let goes = castling_goes c p.colour m.from m.to King refl x.from_home x.to_table in
+    let ranks : ranks_apart m.from m.to ≡ 0 = elim goes [ inl near ↦ absurd (let two = class_of_castling c m.from m.to x.from_home x.to_table in omega arith) | inr far ↦ far.1 ] in
+    let P : ℕ → Type 0 = λ q. at new q ≡ Some (king_of row.colour) in
+    let arrives : at new m.to ≡ Some (king_of row.colour) = subst P (sym x.to_table) x.after.king in
+    let Q : Board → Type 0 = λ b. Covers s.board b (m.from ∷ m.to ∷ rook_squares m.from m.to) in
+    let R : List ℕ → Type 0 = λ beside. Covers s.board new (m.from ∷ m.to ∷ beside) in
+    subst R (sym (beside_castling p.kind m x.king))
+    (subst Q board (covers_rook s.board moved m (length_put _ m.to _ (length_put s.board m.from None ok.places)) is.to_on_board (class_of_castling c m.from m.to x.from_home x.to_table) ranks
+    (λ q f t. at_put_other (put s.board m.from None) m.to q (Some (arriving p m.promo)) t ∙ at_put_other s.board m.from q None f)
+    (λ none. let e = sym arrives ∙ ap (λ (b : Board). at b m.to) (sym board) ∙ none in cc)))

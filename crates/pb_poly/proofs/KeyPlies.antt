@@ -1,0 +1,123 @@
+-- The key before a move, joined by what the move changes, is the key after it.
+use Rattle.std.proofs.Common.{◌≡◌, ℕ, ◌+◌, ◌%◌, ◌^◌, ◌<◌, Bool, true, false, not, List, [], ◌∷◌, ◌++◌, length, refl, sym, ap, ◌∙◌, append_assoc, Some, arith}
+use Rattle.std.specs.Prelude.{slice_index}
+use Rattle.std.specs.Bool.{beq}
+use Rattle.std.specs.Int.{bit_at}
+use Rattle.std.proofs.lemmas.Nat.Bits.{bit_at-zero, same_from_bits_below}
+use Rattle.pb_board.specs.declared.piece.Piece.{Piece}
+use Rattle.pb_board.specs.declared.setup.Rights.{Rights}
+use Rattle.pb_board.specs.Board.{Board, Place, at}
+use Rattle.pb_board.specs.Position.{Position}
+use Rattle.pb_moves.specs.Moved.{Moved}
+use Rattle.pb_poly.specs.Key.{joined, key, passed_places, piece_places, place_if, places, rights_places, turn_places}
+use Rattle.pb_poly.specs.KeyChange.{beside_kind, changed_places, lost_places, squares_beside}
+use Rattle.pb_poly.specs.Table.{IsTable}
+use Rattle.pb_poly.proofs.Among.{total}
+use Rattle.pb_poly.proofs.KeyChanges.{Covers, changed_are, some_squares, total-append}
+use Rattle.pb_poly.proofs.Keys.{joined-append}
+use Rattle.pb_poly.proofs.Parity.{joined_below, joined_bit}
+
+-- ---- the parts of a key
+
+flag_changes : (f : ℕ → ℕ) (old new : Bool) (place : ℕ) → (total f (place_if old place) + total f (place_if (not (beq old new)) place)) % 2 ≡ total f (place_if new place) % 2
+flag_changes f true true place = omega arith
+flag_changes f true false place = omega arith
+flag_changes f false true place = omega arith
+flag_changes f false false place = omega arith
+
+four_lists : (f : ℕ → ℕ) (a b c d : List ℕ) → total f (a ++ (b ++ (c ++ d))) ≡ total f a + total f b + total f c + total f d
+four_lists f a b c d =
+    let first = total-append f a (b ++ (c ++ d)) in
+    let second = total-append f b (c ++ d) in
+    let third = total-append f c d in
+    omega (arith, first, second, third)
+
+rights_change : (f : ℕ → ℕ) (old new : Rights) → (total f (rights_places old) + total f (lost_places old new)) % 2 ≡ total f (rights_places new) % 2
+rights_change f old new =
+    let had = four_lists f (place_if old.white_short 768) (place_if old.white_long 769) (place_if old.black_short 770) (place_if old.black_long 771) in
+    let has = four_lists f (place_if new.white_short 768) (place_if new.white_long 769) (place_if new.black_short 770) (place_if new.black_long 771) in
+    let lost = four_lists f (place_if (not (beq old.white_short new.white_short)) 768) (place_if (not (beq old.white_long new.white_long)) 769)
+    (place_if (not (beq old.black_short new.black_short)) 770) (place_if (not (beq old.black_long new.black_long)) 771) in
+    let a = flag_changes f old.white_short new.white_short 768 in
+    let b = flag_changes f old.white_long new.white_long 769 in
+    let c = flag_changes f old.black_short new.black_short 770 in
+    let d = flag_changes f old.black_long new.black_long 771 in
+    omega (arith, had, has, lost, a, b, c, d)
+
+board_change : (f : ℕ → ℕ) (old new : Board) (squares : List ℕ) → length old ≡ 64 → length new ≡ 64 → Covers old new squares
+    → (total f (piece_places old 0) + total f (changed_places old new squares)) % 2 ≡ total f (piece_places new 0) % 2
+board_change f old new squares full full_new covers =
+    let moved = some_squares f old new squares full full_new covers.once covers.others in
+    let changed = changed_are f old new squares in
+    omega (arith, moved, changed)
+
+places_total : (f : ℕ → ℕ) (s : Position) → total f (places s) ≡ total f (piece_places s.board 0) + total f (rights_places s.rights) + total f (passed_places s s.ep) + total f (turn_places s.turn)
+places_total f s = four_lists f (piece_places s.board 0) (rights_places s.rights) (passed_places s s.ep) (turn_places s.turn)
+
+-- ---- the key
+
+-- a key that is joined by the changes, part by part
+pub record IsJoined (words : List ℕ) (s t : Position) (squares : List ℕ) (k l : ℕ) : Type 0 where
+  pub pieces : ℕ
+  pub rights : ℕ
+  pub unpassed : ℕ
+  pub passed : ℕ
+  pub unturned : ℕ
+  pub pieces_is : pieces ≡ joined words k (changed_places s.board t.board squares)
+  pub rights_is : rights ≡ joined words pieces (lost_places s.rights t.rights)
+  pub unpassed_is : unpassed ≡ joined words rights (passed_places s s.ep)
+  pub passed_is : passed ≡ joined words unpassed (passed_places t t.ep)
+  pub unturned_is : unturned ≡ joined words passed (turn_places s.turn)
+  pub is : l ≡ joined words unturned (turn_places t.turn)
+
+changed_first : (old new : Board) (q : ℕ) (squares : List ℕ) → changed_places old new (q ∷ []) ++ changed_places old new squares ≡ changed_places old new (q ∷ squares)
+changed_first old new q squares = simp append_assoc
+
+-- one square, and then the others
+square_and_more : (words : List ℕ) (old new : Board) (k l r q index : ℕ) (squares : List ℕ) → index ≡ q → l ≡ joined words k (changed_places old new (index ∷ []))
+    → r ≡ joined words l (changed_places old new squares) → r ≡ joined words k (changed_places old new (q ∷ squares))
+square_and_more words old new k l r q index squares same first more =
+    more ∙ ap (λ n. joined words n (changed_places old new squares)) (first ∙ ap (λ i. joined words k (changed_places old new (i ∷ []))) same)
+    ∙ sym (joined-append words k (changed_places old new (q ∷ [])) (changed_places old new squares))
+    ∙ ap (λ ps. joined words k ps) (changed_first old new q squares)
+
+-- the squares of a move, one after the other
+pub all_squares : (words : List ℕ) (old new : Board) (m : Moved) (p : Piece) (k left reached pieces from to : ℕ) → at old m.from ≡ Some p → from ≡ m.from → to ≡ m.to
+    → left ≡ joined words k (changed_places old new (from ∷ [])) → reached ≡ joined words left (changed_places old new (to ∷ []))
+    → pieces ≡ joined words reached (changed_places old new (squares_beside (at old m.from) m))
+    → pieces ≡ joined words k (changed_places old new (m.from ∷ m.to ∷ beside_kind p.kind m))
+all_squares words old new m p k left reached pieces from to stands same_from same_to left_is reached_is pieces_is =
+    let beside : pieces ≡ joined words reached (changed_places old new (beside_kind p.kind m)) =
+    pieces_is ∙ ap (λ (place : Place). joined words reached (changed_places old new (squares_beside place m))) stands in
+    square_and_more words old new k left pieces m.from from (m.to ∷ beside_kind p.kind m) same_from left_is
+    (square_and_more words old new left reached pieces m.to to (beside_kind p.kind m) same_to reached_is beside)
+
+next_bit : (words : List ℕ) (bit k l : ℕ) (ps : List ℕ) → l ≡ joined words k ps → bit_at l bit ≡ (bit_at k bit + total (λ place. bit_at (slice_index words place) bit) ps) % 2
+next_bit words bit k l ps is = ap (λ n. bit_at n bit) is ∙ joined_bit words bit k ps
+
+key_bit : (words : List ℕ) (s : Position) (bit k : ℕ) → k ≡ key words s → bit_at k bit ≡ total (λ place. bit_at (slice_index words place) bit) (places s) % 2
+unfolding key
+key_bit words s bit k is =
+    let joins = next_bit words bit 0 k (places s) is in
+    let none = bit_at-zero bit in
+    omega (arith, joins, none)
+
+pub key_follows : (words : List ℕ) (s t : Position) (squares : List ℕ) (k l : ℕ) → IsTable words → length s.board ≡ 64 → length t.board ≡ 64 → Covers s.board t.board squares
+    → k ≡ key words s → l < 2 ^ 64 → IsJoined words s t squares k l → l ≡ key words t
+unfolding key
+key_follows words s t squares k l table full full_new covers before below joins =
+    same_from_bits_below 64 l (key words t) below (joined_below words 0 (places t) table (omega arith)) (λ bit low.
+    let f : ℕ → ℕ = λ place. bit_at (slice_index words place) bit in
+    let start = key_bit words s bit k before in
+    let end = key_bit words t bit (key words t) refl in
+    let a = next_bit words bit k joins.pieces (changed_places s.board t.board squares) joins.pieces_is in
+    let b = next_bit words bit joins.pieces joins.rights (lost_places s.rights t.rights) joins.rights_is in
+    let c = next_bit words bit joins.rights joins.unpassed (passed_places s s.ep) joins.unpassed_is in
+    let d = next_bit words bit joins.unpassed joins.passed (passed_places t t.ep) joins.passed_is in
+    let e = next_bit words bit joins.passed joins.unturned (turn_places s.turn) joins.unturned_is in
+    let g = next_bit words bit joins.unturned l (turn_places t.turn) joins.is in
+    let board = board_change f s.board t.board squares full full_new covers in
+    let rights = rights_change f s.rights t.rights in
+    let had = places_total f s in
+    let has = places_total f t in
+    omega (arith, start, end, a, b, c, d, e, g, board, rights, had, has))

@@ -1,0 +1,44 @@
+-- The places of the table whose words a move joins to a key.
+use Rattle.std.specs.Prelude.{ℕ, ◌+◌, ◌-◌, ◌*◌, ◌==◌, not, Some, None, List, [], ◌∷◌, ◌++◌, if◌then◌else◌}
+use Rattle.std.specs.Bool.{beq}
+use Rattle.pb_board.specs.declared.piece.Kind.{Kind}
+use Rattle.pb_board.specs.declared.piece.Kind.TheVariants.{Pawn, Knight, Bishop, Rook, Queen, King}
+use Rattle.pb_board.specs.declared.setup.Rights.{Rights}
+use Rattle.pb_board.specs.Board.{Board, Place, file, rank, at}
+use Rattle.pb_moves.specs.Attack.{files_apart}
+use Rattle.pb_moves.specs.Moved.{Moved}
+use Rattle.pb_poly.specs.Key.{piece_place, place_if}
+
+-- the place of what stands on the square
+abbrev pub square_places : Place → ℕ → List ℕ
+square_places None square = []
+square_places (Some p) square = piece_place p square ∷ []
+
+-- the places of what stood and of what stands on these squares
+abbrev pub changed_places : Board → Board → List ℕ → List ℕ
+changed_places old new [] = []
+changed_places old new (q ∷ squares) = square_places (at old q) q ++ (square_places (at new q) q ++ changed_places old new squares)
+
+-- the rook's squares, where a king castles between these: it goes two files, and the rook from beyond it comes to its other side
+abbrev pub rook_squares : ℕ → ℕ → List ℕ
+rook_squares from to =
+    if files_apart from to == 2 then (if to == from + 2 then (to + 1) ∷ (to - 1) ∷ [] else (to - 2) ∷ (to + 1) ∷ []) else []
+
+-- the squares besides its own two that the move of such a piece may change: that of a pawn taken in passing, and the rook's
+abbrev pub beside_kind : Kind → Moved → List ℕ
+beside_kind Pawn m = if file m.to == file m.from then [] else (8 * rank m.from + file m.to) ∷ []
+beside_kind Knight m = []
+beside_kind Bishop m = []
+beside_kind Rook m = []
+beside_kind Queen m = []
+beside_kind King m = rook_squares m.from m.to
+
+abbrev pub squares_beside : Place → Moved → List ℕ
+squares_beside None m = []
+squares_beside (Some piece) m = beside_kind piece.kind m
+
+-- the places of the rights that one of the two has
+abbrev pub lost_places : Rights → Rights → List ℕ
+lost_places old new =
+    place_if (not (beq old.white_short new.white_short)) 768 ++ (place_if (not (beq old.white_long new.white_long)) 769
+    ++ (place_if (not (beq old.black_short new.black_short)) 770 ++ place_if (not (beq old.black_long new.black_long)) 771))
