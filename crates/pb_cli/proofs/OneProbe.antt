@@ -18,7 +18,7 @@ use Rattle.pb_poly.specs.declared.table.TableError.TheVariants as poly
 use Rattle.pb_poly.proofs.Finding.{found_is_one}
 use Rattle.pb_poly.proofs.Tables.{only_memory}
 use Rattle.pb_cli.specs.ProbeShown.{FenProbed, ProbeShown, fen_line, probe_text}
-use Rattle.pb_cli.specs.TableShown.{IsTableFile, TableRefused, count_line, line_line}
+use Rattle.pb_cli.specs.TableShown.{IsTableFile, TableRefused, count_line, unspelled_line}
 use Rattle.pb_cli.proofs.OneBook.{book_not_refused, books_are_one, refusal_is_one}
 use Rattle.pb_cli.proofs.OnlyTables.{tables_are_one}
 
@@ -60,7 +60,7 @@ table_refusal_is_one bytes x y (TableRefused.long h is) (TableRefused.long k is'
 table_refusal_is_one bytes x y (TableRefused.long h is) (TableRefused.line m few due is') = absurd (omega (arith, h, few))
 table_refusal_is_one bytes x y (TableRefused.long h is) (TableRefused.count m few due is') = absurd (omega (arith, h, few))
 table_refusal_is_one bytes x y (TableRefused.line n few due is) (TableRefused.long k is') = absurd (omega (arith, k, few))
-table_refusal_is_one bytes x y (TableRefused.line n few due is) (TableRefused.line m few' due' is') = is ∙ ap line_line (one_line bytes n m due due') ∙ sym is'
+table_refusal_is_one bytes x y (TableRefused.line n few due is) (TableRefused.line m few' due' is') = is ∙ ap unspelled_line (one_line bytes n m due due') ∙ sym is'
 table_refusal_is_one bytes x y (TableRefused.line n few due is) (TableRefused.count m few' due' is') = absurd (no_line bytes n due'.2 due)
 table_refusal_is_one bytes x y (TableRefused.count n few due is) (TableRefused.long k is') = absurd (omega (arith, k, few))
 table_refusal_is_one bytes x y (TableRefused.count n few due is) (TableRefused.line m few' due' is') = absurd (no_line bytes m due.2 due')

@@ -141,12 +141,30 @@ module _ {K : Type 0} (state : K → SinkState) where
         fails = last.fails;
       }
 
-  -- want of memory at the last line leaves a sound sink sound
-  sound_of : (s t : Rewriter K) (ls : List (List ℕ)) → s.lines + length ls < 2 ^ 64 → StopsAtLast (TakesLine state) s ls Memory t → StillWorks (state s.sink.now).failed (state t.sink.now).failed
-  sound_of s t ls few h =
-      let m : Rewriter K = h.2 in
-      let run = run_of s m h.0 (omega (arith, fewer s ls h.0 h.1 few h.3)) h.4 in
-      λ w. ap (λ (x : SinkState). x.failed) h.5.shows ∙ run.works w
+  -- the lines before the last gave this, and it was put
+  record Stopped (s t : Rewriter K) (ls : List (List ℕ)) : Type 0 where
+    before : List (List ℕ)
+    last : List ℕ
+    cut : before ++ last ∷ [] ≡ ls
+    answer : Bool
+    out : List ℕ
+    shown : EpdShown (s.lines + 1) before answer out
+    put : Appends (state s.sink.now).bytes (state t.sink.now).bytes out
+    works : StillWorks (state s.sink.now).failed (state t.sink.now).failed
+
+  stopped_of : (s t : Rewriter K) (ls : List (List ℕ)) → s.lines + length ls < 2 ^ 64 → StopsAtLast (TakesLine state) s ls Memory t → Stopped s t ls
+  stopped_of s t ls few h =
+      let run = run_of s h.2 h.0 (omega (arith, fewer s ls h.0 h.1 few h.3)) h.4 in
+      let same : state h.2.sink.now ≡ state t.sink.now = sym h.5.shows in record {
+        before = h.0;
+        last = h.1;
+        cut = sym h.3;
+        answer = run.answer;
+        out = run.out;
+        shown = run.shown;
+        put = subst (λ (x : SinkState). Appends (state s.sink.now).bytes x.bytes run.out) same run.put;
+        works = subst (λ (x : SinkState). StillWorks (state s.sink.now).failed x.failed) same run.works;
+      }
 
   same_at_stop : (s t : Rewriter K) (ls : List (List ℕ)) (e : Stop) → s.lines + length ls < 2 ^ 64 → StopsAtLast (TakesLine state) s ls e t → t.sink.ghost_name ≡ s.sink.ghost_name
   same_at_stop s t ls e few h = h.5.same_sink ∙ (run_of s h.2 h.0 (omega (arith, fewer s ls h.0 h.1 few h.3)) h.4).same
@@ -181,7 +199,19 @@ module _ {K : Type 0} (state : K → SinkState) where
         }
 
     pub until_of : (e : LinesFault Stop) → TakesUntil (TakesLine state) fills old new s t e → RewritesUntilStop fills old new (state s.sink.now) (state t.sink.now) e
-    until_of lines.Memory h = (h.0, ap (λ (x : Rewriter K). state x.sink.now) h.1)
+    until_of lines.Memory h =
+        let same : state s.sink.now ≡ state t.sink.now = ap (λ (x : Rewriter K). state x.sink.now) (sym h.1) in record {
+          before = [];
+          are = inl (h.0, refl);
+          answer = true;
+          rewrites = record {
+            out = [];
+            shown = (refl, refl);
+            put = subst (λ (x : SinkState). Appends (state s.sink.now).bytes x.bytes []) same (Appends-nil (state s.sink.now).bytes);
+          };
+          source_works = subst (λ (x : SourceState). StillWorks old.failed x.failed) (sym h.0) (λ w. w);
+          sink_works = subst (λ (x : SinkState). StillWorks (state s.sink.now).failed x.failed) same (λ w. w);
+        }
     until_of lines.Read h =
         let run = run_of s t (ended_lines h.came) (few_came h.came h.reads.reads) h.taken in record {
           came = h.came;
@@ -229,13 +259,27 @@ module _ {K : Type 0} (state : K → SinkState) where
                 fails = cut.fails;
               }
         ]
-    until_of (lines.Stop Memory) h = (
-      λ _. h.reads.works,
-      elim h.stops [
-        | inl now ↦ sound_of s t (ended_lines h.came) (few_ended h.came h.rest h.reads.reads) now
-        | inr end ↦ sound_of s t (lines h.came) (few h.came end.0.some.reads) end.1
-      ],
-    )
+    until_of (lines.Stop Memory) h =
+        elim h.stops [
+          | inl now ↦
+              let stopped = stopped_of s t (ended_lines h.came) (few_ended h.came h.rest h.reads.reads) now in record {
+                before = stopped.before;
+                are = inr (record { came = h.came; rest = h.rest; reads = h.reads; last = stopped.last; are = inl stopped.cut });
+                answer = stopped.answer;
+                rewrites = record { out = stopped.out; shown = from_one stopped.before stopped.answer stopped.out stopped.shown; put = stopped.put };
+                source_works = λ _. h.reads.works;
+                sink_works = stopped.works;
+              }
+          | inr end ↦
+              let stopped = stopped_of s t (lines h.came) (few h.came end.0.some.reads) end.1 in record {
+                before = stopped.before;
+                are = inr (record { came = h.came; rest = h.rest; reads = h.reads; last = stopped.last; are = inr (end.0, stopped.cut) });
+                answer = stopped.answer;
+                rewrites = record { out = stopped.out; shown = from_one stopped.before stopped.answer stopped.out stopped.shown; put = stopped.put };
+                source_works = λ _. h.reads.works;
+                sink_works = stopped.works;
+              }
+        ]
 
     pub same_of : (r : Result (Unit {0}) (LinesFault Stop)) → OnOk r (TakesStream (TakesLine state) fills old new s t) → IfErr r (TakesUntil (TakesLine state) fills old new s t)
         → t.sink.ghost_name ≡ s.sink.ghost_name

@@ -1,5 +1,5 @@
 -- How a run of the command `epd` ends, over the states of its source and its sink before and after.
-use Rattle.std.specs.Prelude.{◌≡◌, ℕ, ◌⊎◌, Bool, true, false, List, ◌++◌, take, Some, IfSome, []}
+use Rattle.std.specs.Prelude.{◌≡◌, ℕ, ◌⊎◌, Bool, true, false, List, ◌∷◌, ◌++◌, take, Some, IfSome, []}
 use Rattle.std.specs.Io.KnownBytes.{Appends}
 use Rattle.pb_poly.specs.Source.{SourceState}
 use Rattle.pb_poly.specs.Sink.{SinkState}
@@ -63,8 +63,25 @@ pub record RewritesToWriteFault (fills : ℕ) (source source' : SourceState) (si
   pub put : Appends sink.bytes sink'.bytes (take count out)
   pub fails : sink'.failed ≡ true
 
+-- lines that came, but for the last of them
+pub record AllButLast (fills : ℕ) (source source' : SourceState) (before : List (List ℕ)) : Type 0 where
+  pub came : List ℕ
+  pub rest : List ℕ
+  pub reads : ReadsSome chunk_len fills source source' (came ++ rest)
+  pub last : List ℕ
+  pub are : (before ++ last ∷ [] ≡ ended_lines came) ⊎ (ReadsAll chunk_len fills source source' came × (before ++ last ∷ [] ≡ lines came))
+
+-- memory was wanting, before the first fill or at a line: the lines before it were rewritten
+pub record RewritesToMemory (fills : ℕ) (source source' : SourceState) (sink sink' : SinkState) : Type 0 where
+  pub before : List (List ℕ)
+  pub are : ((source' ≡ source) × (before ≡ [])) ⊎ AllButLast fills source source' before
+  pub answer : Bool
+  pub rewrites : Rewrites sink sink' before answer
+  pub source_works : StillWorks source.failed source'.failed
+  pub sink_works : StillWorks sink.failed sink'.failed
+
 abbrev pub RewritesUntil : ℕ → SourceState → SourceState → SinkState → SinkState → Fault → Type 0
 RewritesUntil fills source source' sink sink' Read = RewritesToReadFault fills source source' sink sink'
 RewritesUntil fills source source' sink sink' Endless = RewritesEndless fills source source' sink sink'
 RewritesUntil fills source source' sink sink' Write = RewritesToWriteFault fills source source' sink sink'
-RewritesUntil fills source source' sink sink' Memory = StillWorks source.failed source'.failed × StillWorks sink.failed sink'.failed
+RewritesUntil fills source source' sink sink' Memory = RewritesToMemory fills source source' sink sink'

@@ -9,7 +9,7 @@ use Rattle.pb_cli.specs.declared.table.TableFault.{TableFault}
 use Rattle.pb_cli.specs.declared.table.TableFault.TheVariants as table
 use Rattle.pb_cli.specs.BookShown.{cut_line, unsorted_line}
 use Rattle.pb_cli.specs.Shows.{Shows}
-use Rattle.pb_cli.specs.TableShown.{count_line, line_line, long_line}
+use Rattle.pb_cli.specs.TableShown.{count_line, unspelled_line, long_line}
 
 -- the line is shown, and the answer is that the input was refused
 pub record Refuses (old new : SinkState) (answer : Result Bool Fault) (line : List ℕ) : Type 0 where
@@ -32,7 +32,7 @@ RefusesForBook old new answer book.Memory = FaultsAlone old new answer Memory
 -- what is done where a stream gave no table
 abbrev pub RefusesForTable : SinkState → SinkState → Result Bool Fault → TableFault → Type 0
 RefusesForTable old new answer table.Long = Refuses old new answer long_line
-RefusesForTable old new answer (table.Line number) = Refuses old new answer (line_line number)
+RefusesForTable old new answer (table.Line number) = Refuses old new answer (unspelled_line number)
 RefusesForTable old new answer (table.Count count) = Refuses old new answer (count_line count)
 RefusesForTable old new answer table.Read = FaultsAlone old new answer Read
 RefusesForTable old new answer table.Endless = FaultsAlone old new answer Endless

@@ -12,7 +12,7 @@ use Rattle.pb_cli.specs.declared.epd.Rewriter.{Rewriter}
 use Rattle.pb_cli.specs.declared.epd.Stop.{Stop}
 use Rattle.pb_cli.specs.declared.epd.Stop.TheVariants.{Write, Memory}
 use Rattle.pb_cli.specs.EpdShown.{LineShown}
-use Rattle.pb_cli.specs.EpdRun.{Rewrites, RewritesEndless, RewritesToReadFault, RewritesToWriteFault, StillWorks}
+use Rattle.pb_cli.specs.EpdRun.{Rewrites, RewritesEndless, RewritesToMemory, RewritesToReadFault, RewritesToWriteFault, StillWorks}
 
 -- one more, in a count of 64 bits that stays at its greatest value
 abbrev pub next_number : ℕ → ℕ
@@ -70,8 +70,8 @@ pub record RewritesAll (fills : ℕ) (source source' : SourceState) (sink sink' 
 
 -- why not all lines were taken
 abbrev pub RewritesUntilStop : ℕ → SourceState → SourceState → SinkState → SinkState → LinesFault Stop → Type 0
-RewritesUntilStop fills source source' sink sink' lines.Memory = (source' ≡ source) × (sink' ≡ sink)
+RewritesUntilStop fills source source' sink sink' lines.Memory = RewritesToMemory fills source source' sink sink'
 RewritesUntilStop fills source source' sink sink' lines.Read = RewritesToReadFault fills source source' sink sink'
 RewritesUntilStop fills source source' sink sink' lines.Endless = RewritesEndless fills source source' sink sink'
 RewritesUntilStop fills source source' sink sink' (lines.Stop Write) = RewritesToWriteFault fills source source' sink sink'
-RewritesUntilStop fills source source' sink sink' (lines.Stop Memory) = StillWorks source.failed source'.failed × StillWorks sink.failed sink'.failed
+RewritesUntilStop fills source source' sink sink' (lines.Stop Memory) = RewritesToMemory fills source source' sink sink'

@@ -7,7 +7,7 @@ use Rattle.pb_poly.specs.declared.table.TableError.{TableError}
 use Rattle.pb_poly.specs.declared.table.TableError.TheVariants as poly
 use Rattle.pb_cli.specs.declared.table.TableFault.{TableFault}
 use Rattle.pb_cli.specs.declared.table.TableFault.TheVariants.{Long, Line, Count, Read, Endless, Memory}
-use Rattle.pb_cli.specs.TableShown.{IsTableFile, long_line, count_line, line_line, table_limit}
+use Rattle.pb_cli.specs.TableShown.{IsTableFile, long_line, count_line, unspelled_line, table_limit}
 
 -- the stream is the table file of these words and no more
 pub record ReadsTable (fills : ℕ) (old new : SourceState) (words : List ℕ) : Type 0 where
@@ -52,5 +52,5 @@ FindsNoTable fills old new Memory = (new ≡ old) ⊎ FindsDue fills old new pol
 -- the stream is refused as a table file, and this line says why
 pub data RefusesTable (fills : ℕ) (old new : SourceState) (out : List ℕ) : Type 0 where
   long : FindsNoTable fills old new Long → out ≡ long_line → RefusesTable fills old new out
-  line : (number : ℕ) → FindsNoTable fills old new (Line number) → out ≡ line_line number → RefusesTable fills old new out
+  line : (number : ℕ) → FindsNoTable fills old new (Line number) → out ≡ unspelled_line number → RefusesTable fills old new out
   count : (count : ℕ) → FindsNoTable fills old new (Count count) → out ≡ count_line count → RefusesTable fills old new out

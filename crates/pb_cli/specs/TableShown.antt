@@ -11,8 +11,8 @@ table_limit = 16384
 abbrev pub long_line : List ℕ
 long_line = with_end (codes "refused table long")
 
-abbrev pub line_line : ℕ → List ℕ
-line_line number = with_end (codes "refused table line " ++ decimal number)
+abbrev pub unspelled_line : ℕ → List ℕ
+unspelled_line number = with_end (codes "refused table line " ++ decimal number)
 
 abbrev pub count_line : ℕ → List ℕ
 count_line count = with_end (codes "refused table count " ++ decimal count)
@@ -25,5 +25,5 @@ pub record IsTableFile (words bytes : List ℕ) : Type 0 where
 -- why bytes are no table file, as the line that says so; their length is judged first
 pub data TableRefused (bytes out : List ℕ) : Type 0 where
   long : table_limit < length bytes → out ≡ long_line → TableRefused bytes out
-  line : (number : ℕ) → length bytes ≤ table_limit → IsDueTable (Line number) bytes → out ≡ line_line number → TableRefused bytes out
+  line : (number : ℕ) → length bytes ≤ table_limit → IsDueTable (Line number) bytes → out ≡ unspelled_line number → TableRefused bytes out
   count : (count : ℕ) → length bytes ≤ table_limit → IsDueTable (Count count) bytes → out ≡ count_line count → TableRefused bytes out

@@ -75,7 +75,7 @@ impl<K: Sink> Rewriter<'_, K> {
 /// why it is no EPD record. A line of spaces alone is counted and passed over. Answers whether no line was refused.
 ///
 /// A line is refused as `long` past 8,192 bytes; a final CR counts, and is dropped. A piece that no LF ended is taken at the
-/// end of input, and not at a fault. `Memory` comes where a growth found no memory, and ends the run.
+/// end of input, and not at a fault. `Memory` comes where a growth found no memory, and ends the run after the lines before.
 pub fn run_epd<S: Source, K: Sink>(
     alloc: Global,
     source: &mut S,
