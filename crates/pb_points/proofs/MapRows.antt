@@ -1,11 +1,11 @@
 -- An ordered map as a tally.
-use Rattle.std.proofs.Common.{◌≡◌, ℕ, ◌+◌, ◌<◌, ◌↔◌, Bool, true, false, cond, if◌then◌else◌, Option, Some, None, IsSome, is_some, unwrap_or, List, [], ◌∷◌, map, length, Contains, AllPairs, refl, sym, ap, ◌∙◌, arith, option_map}
+use Rattle.std.proofs.Common.{◌≡◌, ℕ, ◌+◌, ◌<◌, ◌↔◌, Bool, true, false, cond, if◌then◌else◌, Option, Some, None, IsSome, unwrap_or, List, [], ◌∷◌, map, length, Contains, AllPairs, refl, sym, ap, ◌∙◌, arith, option_map}
 use Rattle.std.specs.declared.cmp.Ordering.TheVariants.{Less}
 use Rattle.std.specs.BTreeMap.{BTreeMap, get, is_at, IsOrdered}
 use Rattle.std.specs.Ordering.{nat_cmp, is_lt}
 use Rattle.std.specs.List.{AllByRecursion}
 use Rattle.std.specs.List.Sorted.{IsStrictlySortedBy}
-use Rattle.std.specs.Map.{keys_of}
+use Rattle.std.specs.Map.{keys_of, lookup}
 use Rattle.std.proofs.lemmas.Bool.Decides.{nat_tests}
 use Rattle.std.proofs.lemmas.List.{get_or-map, length-map}
 use Rattle.std.proofs.lemmas.List.Elements.{All-from_recursion}
@@ -40,18 +40,27 @@ seen f k c = option_map points_held (f k c)
 abbrev Sets : Numbers → Numbers → ℕ → ℕ → ℕ → Type 0
 Sets f h key code n = (k c : ℕ) → h k c ≡ cond (is_at (pair_cmp (key, code)) (k, c)) (Some n) (f k c)
 
--- a row without points, where there was none
-pub makes_new : (f h : Numbers) (key code : ℕ) → is_some (f key code) ≡ false → Sets f h key code 0 → MakesRow (seen f) (seen h) key code
-makes_new f h key code none sets k c =
-    ap (option_map points_held) (sets k c ∙ ap (λ b. cond b (Some 0) (f k c)) (same_pairs key code k c)) ∙ by (is_pair key code k c) refl
+-- a row is made where there was none, and stays as it is where there was one
+makes : (f h : Numbers) (key code : ℕ) → Sets f h key code (unwrap_or (f key code) 0) → MakesRow (seen f) (seen h) key code
+makes f h key code sets k c =
+    ap (option_map points_held) (sets k c ∙ ap (λ b. cond b (Some (unwrap_or (f key code) 0)) (f k c)) (same_pairs key code k c)) ∙ by (is_pair key code k c) refl
   where
-    none_held : (o : Option ℕ) → is_some o ≡ false → points_held 0 ≡ unwrap_or (option_map points_held o) (points_held 0)
-    none_held None e = refl
-    none_held (Some n) e = cc
+    kept : (o : Option ℕ) → points_held (unwrap_or o 0) ≡ unwrap_or (option_map points_held o) (points_held 0)
+    kept None = refl
+    kept (Some n) = refl
 
-    by : (b : Bool) → is_pair key code k c ≡ b → option_map points_held (cond b (Some 0) (f k c)) ≡ (if b then Some (held (seen f) k c) else seen f k c)
-    by true e = let p = is_pair_same key code k c e in ap (λ h. Some h) (none_held (f key code) none ∙ (λ i. held (seen f) (p.0 i) (p.1 i)))
+    by : (b : Bool) → is_pair key code k c ≡ b → option_map points_held (cond b (Some (unwrap_or (f key code) 0)) (f k c)) ≡ (if b then Some (held (seen f) k c) else seen f k c)
+    by true e = let p = is_pair_same key code k c e in ap (λ h. Some h) (kept (f key code) ∙ (λ i. held (seen f) (p.0 i) (p.1 i)))
     by false e = refl
+
+-- the same of a map's entries, where the new ones are what was written
+abbrev looked : List ((ℕ × ℕ) × ℕ) → Numbers
+looked es k c = lookup (is_at (pair_cmp (k, c))) es
+
+pub map_makes : (es written new : List ((ℕ × ℕ) × ℕ)) (key code w : ℕ) → new ≡ written → w ≡ unwrap_or (looked es key code) 0 → Sets (looked es) (looked written) key code w → MakesRow (seen (looked es)) (seen (looked new)) key code
+map_makes es written new key code w is value sets =
+    makes (looked es) (looked new) key code
+    (λ k c. ap (λ l. looked l k c) is ∙ sets k c ∙ ap (λ w. cond (is_at (pair_cmp (key, code)) (k, c)) (Some w) (looked es k c)) value)
 
 pub is_there : (o : Option ℕ) → IsSome (option_map points_held o) → IsSome o
 is_there None h = h

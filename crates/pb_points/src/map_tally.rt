@@ -23,9 +23,7 @@ impl Tally for MapTally {
     }
 
     fn ensure(&mut self, key: u64, code: u16) -> Result<(), AllocError> {
-        if !self.points.contains_key(&(key, code)) {
-            self.points.insert((key, code), 0)?;
-        }
+        self.points.entry((key, code))?.or_insert(0);
         Ok(())
     }
 
