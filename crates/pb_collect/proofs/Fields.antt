@@ -1,11 +1,12 @@
 -- The first field of a line.
 use Rattle.std.proofs.Common.{◌≡◌, ◌≢◌, ℕ, ◌+◌, Bool, true, false, not, cond, nat_lt, List, [], ◌∷◌, ◌++◌, length, take, refl, suc, sym, ap, ◌∙◌, ◌⊎◌, inl, inr, arith, Some, None}
-use Rattle.std.specs.Prelude.{slice_index_or, position, unwrap_or, ◌==◌}
+use Rattle.std.specs.Prelude.{slice_index_or, position, unwrap_or}
 use Rattle.std.specs.List.{slice_split, onto_first, position_or_len}
-use Rattle.std.proofs.lemmas.Bool.{ltb-false, ne_eqb}
+use Rattle.std.proofs.lemmas.Bool.{ltb-false}
 use Rattle.std.proofs.lemmas.List.{take_all}
 use Rattle.std.proofs.Math.Seq.{take-length}
 use Rattle.pb_games.specs.Refusing.{without_cr}
+use Rattle.pb_games.proofs.LineEnds.{without_cr-push, without_cr-same}
 
 head-onto_first : (x : ℕ) (parts : List (List ℕ)) → slice_index_or (onto_first x parts) 0 [] ≡ x ∷ slice_index_or parts 0 []
 head-onto_first x [] = refl
@@ -32,18 +33,7 @@ first_part_at p xs =
     ] refl
     ∙ sym (first_part p xs)
 
-without_cr-ended : (front : List ℕ) → without_cr (front ++ 13 ∷ []) ≡ front
-without_cr-ended [] = refl
-without_cr-ended (c ∷ []) = refl
-without_cr-ended (c ∷ d ∷ cs) = ap (λ bs. c ∷ bs) (without_cr-ended (d ∷ cs))
-
-without_cr-other : (line : List ℕ) → ((front : List ℕ) → line ≢ front ++ 13 ∷ []) → without_cr line ≡ line
-without_cr-other [] h = refl
-without_cr-other (c ∷ []) h =
-    let other : (c == 13) ≡ false = ne_eqb c 13 (λ is. h [] (ap (λ b. b ∷ []) is)) in rw other refl
-without_cr-other (c ∷ d ∷ cs) h = ap (λ bs. c ∷ bs) (without_cr-other (d ∷ cs) (λ front is. h (c ∷ front) (ap (λ bs. c ∷ bs) is)))
-
 -- the line that lost its CR, or had none
 pub without_cr-is : (line text : List ℕ) → (line ≡ text ++ 13 ∷ []) ⊎ ((line ≡ text) × ((front : List ℕ) → line ≢ front ++ 13 ∷ [])) → text ≡ without_cr line
-without_cr-is line text (inl ended) = sym (ap without_cr ended ∙ without_cr-ended text)
-without_cr-is line text (inr other) = sym (without_cr-other line other.1 ∙ other.0)
+without_cr-is line text (inl ended) = sym (ap without_cr ended ∙ without_cr-push text)
+without_cr-is line text (inr other) = sym (without_cr-same line other.1 ∙ other.0)

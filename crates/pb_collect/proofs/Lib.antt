@@ -1,1 +1,3 @@
+mod Collected
 mod Fields
+mod Submitting

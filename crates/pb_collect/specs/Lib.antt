@@ -1,1 +1,3 @@
+pub mod Collecting
+pub mod Collector
 pub mod Replies

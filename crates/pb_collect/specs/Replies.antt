@@ -1,12 +1,9 @@
 -- The reply lines: a line for each submission, with its LF.
-use Rattle.std.specs.Prelude.{ℕ, List, [], ◌∷◌, ◌++◌, Result, Ok, Err, codes, decimal}
+use Rattle.std.specs.Prelude.{ℕ, List, [], ◌∷◌, ◌++◌, Ok, Err, codes, decimal}
 use Rattle.pb_games.specs.declared.refusal.Refusal.{Refusal}
 use Rattle.pb_games.specs.declared.refusal.Refusal.TheVariants as refusal
 use Rattle.pb_games.specs.Refusing.{field_of}
-
--- what a line is answered: a game's number, or why it is refused
-abbrev pub Answer : Type 0
-Answer = Result ℕ Refusal
+use Rattle.pb_ledger.specs.Accepting.{Answer}
 
 -- why a line is refused
 abbrev pub reason : Refusal → List ℕ

@@ -1,0 +1,247 @@
+-- From the lines that the collector took to what was collected.
+use Rattle.std.proofs.Common.{◌≡◌, ℕ, ◌+◌, ◌^◌, ◌<◌, Bool, true, false, cond, List, [], ◌∷◌, ◌++◌, length, take, Result, Ok, Err, OnOk, IfErr, refl, sym, ap, ◌∙◌, subst, arith, inl, inr}
+use Rattle.std.specs.Prelude.{count_by, is_err}
+use Rattle.std.specs.Io.KnownBytes.{Appends}
+use Rattle.std.proofs.lemmas.List.{append-nil, append_assoc}
+use Rattle.std.proofs.lemmas.List.Sums.{sum_by-cons}
+use Rattle.std.proofs.KnownBytes.{Appends-nil, Appends-trans, Appends-kept}
+use Rattle.pb_poly.specs.Source.{SourceState}
+use Rattle.pb_poly.specs.Sink.{SinkState, Flush}
+use Rattle.pb_poly.specs.Lines.{lines, ended_lines}
+use Rattle.pb_poly.specs.Reads.{ReadsSome}
+use Rattle.pb_poly.specs.LineTask.{StopsAtLast, TakesAll, TakesStream, TakesUntil, chunk_len}
+use Rattle.pb_poly.specs.declared.lines.LinesFault.{LinesFault}
+use Rattle.pb_poly.specs.declared.lines.LinesFault.TheVariants.{Memory, Read, Endless, Stop}
+use Rattle.pb_poly.specs.declared.source.Failed.{Failed}
+use Rattle.pb_poly.proofs.LineLemmas.{length-lines}
+use Rattle.pb_ledger.specs.Accepting.{Answer, Run}
+use Rattle.pb_ledger.specs.Ledger.{LedgerState}
+use Rattle.pb_collect.specs.declared.totals.Totals.{Totals}
+use Rattle.pb_collect.specs.declared.collecting.Collector.{Collector}
+use Rattle.pb_collect.specs.Collecting.{Collects, CollectsButOne, CollectsToWriteFault, Leads, StillWorks}
+use Rattle.pb_collect.specs.Collector.{CollectsAll, CollectsUntilStop, Submitted, TakesLine, added, with_answer}
+use Rattle.pb_collect.specs.Replies.{replies, reply_line}
+
+-- ---- counts
+
+abbrev AddsUp : Totals → Type 0
+AddsUp t = t.lines ≡ t.new + t.repeats + t.refused
+
+-- totals that grew by so many lines and so many refusals, and a list that grew by the new games
+record Grows (games games' : ℕ) (s t : Totals) (more refusals : ℕ) : Type 0 where
+  all : t.lines ≡ s.lines + more
+  refused : t.refused ≡ s.refused + refusals
+  new_games : games' + s.new ≡ games + t.new
+  adds_up : AddsUp t
+
+one_more : (games games' : ℕ) (s t : Totals) (answer : Answer) (is_new : Bool) → t ≡ with_answer s answer is_new → games' ≡ games + added answer is_new
+    → AddsUp s → s.lines + 1 < 2 ^ 64 → Grows games games' s t 1 (cond (is_err answer) 1 0)
+one_more games games' s t (Ok n) true is grown sum few =
+    let all = ap (λ (x : Totals). x.lines) is in let new_games = ap (λ (x : Totals). x.new) is in
+    let repeats = ap (λ (x : Totals). x.repeats) is in let refused = ap (λ (x : Totals). x.refused) is in
+    record { all = omega arith; refused = omega arith; new_games = omega arith; adds_up = omega arith }
+one_more games games' s t (Ok n) false is grown sum few =
+    let all = ap (λ (x : Totals). x.lines) is in let new_games = ap (λ (x : Totals). x.new) is in
+    let repeats = ap (λ (x : Totals). x.repeats) is in let refused = ap (λ (x : Totals). x.refused) is in
+    record { all = omega arith; refused = omega arith; new_games = omega arith; adds_up = omega arith }
+one_more games games' s t (Err e) is_new is grown sum few =
+    let all = ap (λ (x : Totals). x.lines) is in let new_games = ap (λ (x : Totals). x.new) is in
+    let repeats = ap (λ (x : Totals). x.repeats) is in let refused = ap (λ (x : Totals). x.refused) is in
+    record { all = omega arith; refused = omega arith; new_games = omega arith; adds_up = omega arith }
+
+more_refused : (answer : Answer) (R : List Answer) → count_by is_err (answer ∷ R) ≡ cond (is_err answer) 1 0 + count_by is_err R
+more_refused answer R = sum_by-cons (λ r. cond (is_err r) 1 0) answer R
+
+-- ---- lines that lead from one ledger to another
+
+Leads-none : (ledger : LedgerState) → Leads ledger ledger [] []
+Leads-none ledger = record { run = tt; accepted = refl; basis = refl; cap = refl }
+
+Leads-more : (a b c : LedgerState) (line : List ℕ) (answer : Answer) (L : List (List ℕ)) (R : List Answer)
+    → Submitted a b line answer → Leads b c L R → Leads a c (line ∷ L) (answer ∷ R)
+Leads-more a b c line answer L R one rest = record {
+  run = (b.accepted, one.allowed, one.takes, subst (λ cap. Run cap b.accepted L R) one.cap rest.run);
+  accepted = (b.accepted, one.takes, rest.accepted);
+  basis = rest.basis ∙ one.basis;
+  cap = rest.cap ∙ one.cap;
+}
+
+module _ {T K : Type 0} (state : K → SinkState) where
+  abbrev Sink : Collector T K → SinkState
+  Sink s = state s.sink.now
+
+  -- the references are the same
+  record Same (s t : Collector T K) : Type 0 where
+    ledger : t.ledger.ghost_name ≡ s.ledger.ghost_name
+    sink : t.sink.ghost_name ≡ s.sink.ghost_name
+
+  -- lines that were taken gave these answers
+  record Taken (s t : Collector T K) (ls : List (List ℕ)) : Type 0 where
+    answers : List Answer
+    collects : Collects (Sink s) (Sink t) s.ledger.now t.ledger.now ls answers
+    number : length answers ≡ length ls
+    counts : AddsUp s.totals → s.totals.lines + length ls < 2 ^ 64
+        → Grows (length s.ledger.now.accepted) (length t.ledger.now.accepted) s.totals t.totals (length ls) (count_by is_err answers)
+    works : StillWorks (Sink s).failed (Sink t).failed
+    same : Same s t
+
+  taken_of : (s t : Collector T K) (ls : List (List ℕ)) → TakesAll (TakesLine state) s ls t → Taken s t ls
+  taken_of s t [] h = let P : Collector T K → Type 0 = λ x. Taken s x [] in subst P (sym h) (record {
+    answers = [];
+    collects = record { leads = Leads-none s.ledger.now; put = Appends-nil (Sink s).bytes };
+    number = refl;
+    counts = λ sum few. record { all = omega arith; refused = omega arith; new_games = omega arith; adds_up = sum };
+    works = λ w. w;
+    same = record { ledger = refl; sink = refl };
+  })
+  taken_of s t (line ∷ ls) h =
+      let m : Collector T K = h.0 in let one = h.1 in let rest = taken_of m t ls h.2 in record {
+        answers = one.answer ∷ rest.answers;
+        collects = record {
+          leads = Leads-more s.ledger.now m.ledger.now t.ledger.now line one.answer ls rest.answers one.submitted rest.collects.leads;
+          put = Appends-trans _ _ _ _ _ one.put.all rest.collects.put;
+        };
+        number = omega (arith, rest.number);
+        counts = λ sum few.
+            let first = one_more _ _ s.totals m.totals one.answer one.is_new one.counted one.grown sum (omega (arith, few)) in
+            let others = rest.counts first.adds_up (omega (arith, few, first.all)) in
+            let refusals = more_refused one.answer rest.answers in record {
+              all = omega (arith, first.all, others.all);
+              refused = omega (arith, first.refused, others.refused, refusals);
+              new_games = omega (arith, first.new_games, others.new_games);
+              adds_up = others.adds_up;
+            };
+        works = λ w. rest.works one.put.failed;
+        same = record { ledger = rest.same.ledger ∙ one.same_ledger; sink = rest.same.sink ∙ one.same_sink };
+      }
+
+  -- lines that were taken, and one more whose reply couldn't be put
+  record Stopped (s t : Collector T K) (before : List (List ℕ)) (line : List ℕ) : Type 0 where
+    answers : List Answer
+    answer : Answer
+    leads : Leads s.ledger.now t.ledger.now (before ++ line ∷ []) (answers ++ answer ∷ [])
+    count : ℕ
+    put : Appends (Sink s).bytes (Sink t).bytes (replies before answers ++ take count (reply_line line answer))
+    fails : (Sink t).failed ≡ true
+    same : Same s t
+
+  stopped_of : (s m t : Collector T K) (before : List (List ℕ)) (line : List ℕ) (e : Failed)
+      → TakesAll (TakesLine state) s before m → TakesLine state m line (Err e) t → Stopped s t before line
+  stopped_of s m t [] line e taken last = let P : Collector T K → Type 0 = λ x. Stopped x t [] line in subst P taken (record {
+    answers = [];
+    answer = last.answer;
+    leads = Leads-more m.ledger.now t.ledger.now t.ledger.now line last.answer [] [] last.submitted (Leads-none t.ledger.now);
+    count = last.put.front.0;
+    put = last.put.front.1;
+    fails = last.put.failed;
+    same = record { ledger = last.same_ledger; sink = last.same_sink };
+  })
+  stopped_of s m t (first ∷ before) line e taken last =
+      let next : Collector T K = taken.0 in let one = taken.1 in let rest = stopped_of next m t before line e taken.2 last in record {
+        answers = one.answer ∷ rest.answers;
+        answer = rest.answer;
+        leads = Leads-more s.ledger.now next.ledger.now t.ledger.now first one.answer (before ++ line ∷ []) (rest.answers ++ rest.answer ∷ []) one.submitted rest.leads;
+        count = rest.count;
+        put = let P : List ℕ → Type 0 = λ bytes. Appends (Sink s).bytes (Sink t).bytes bytes in
+            subst P (sym (append_assoc (reply_line first one.answer) (replies before rest.answers) (take rest.count (reply_line line rest.answer))))
+            (Appends-trans _ _ _ _ _ one.put.all rest.put);
+        fails = rest.fails;
+        same = record { ledger = rest.same.ledger ∙ one.same_ledger; sink = rest.same.sink ∙ one.same_sink };
+      }
+
+  record StoppedAt (s t : Collector T K) (ls : List (List ℕ)) : Type 0 where
+    collects : CollectsButOne (Sink s) (Sink t) s.ledger.now t.ledger.now ls
+    fails : (Sink t).failed ≡ true
+    same : Same s t
+
+  stopped_at : (s t : Collector T K) (ls : List (List ℕ)) (e : Failed) → StopsAtLast (TakesLine state) s ls e t → StoppedAt s t ls
+  stopped_at s t ls e h =
+      let stopped = stopped_of s h.2 t h.0 h.1 e h.4 h.5 in record {
+        collects = record {
+          before = h.0;
+          line = h.1;
+          are = h.3;
+          answers = stopped.answers;
+          answer = stopped.answer;
+          leads = subst (λ (L : List (List ℕ)). Leads s.ledger.now t.ledger.now L (stopped.answers ++ stopped.answer ∷ [])) (sym h.3) stopped.leads;
+          count = stopped.count;
+          put = stopped.put;
+        };
+        fails = stopped.fails;
+        same = stopped.same;
+      }
+
+  -- ---- the whole of a stream
+
+  pub all_of : (fills : ℕ) (old new : SourceState) (s t : Collector T K) → fills < 2 ^ 32 → s.totals ≡ record { lines = 0; new = 0; repeats = 0; refused = 0 }
+      → TakesStream (TakesLine state) fills old new s t → CollectsAll fills old new (Sink s) (Sink t) s.ledger.now t.ledger.now t.totals
+  all_of fills old new s t small fresh h =
+      let taken = taken_of s t (lines h.came) h.taken in
+      let all = ap (λ (x : Totals). x.lines) fresh in let new_games = ap (λ (x : Totals). x.new) fresh in
+      let repeats = ap (λ (x : Totals). x.repeats) fresh in let refused = ap (λ (x : Totals). x.refused) fresh in
+      let grows = taken.counts (omega arith) (omega (arith, small, h.reads.some.reads.few, length-lines h.came)) in record {
+        came = h.came;
+        answers = taken.answers;
+        reads = h.reads;
+        collects = taken.collects;
+        counts = record {
+          all = omega (arith, grows.all, taken.number);
+          refusals = omega (arith, grows.refused);
+          new_games = omega (arith, grows.new_games);
+          others = grows.adds_up;
+        };
+        works = taken.works;
+      }
+
+  pub until_of : (fills : ℕ) (old new : SourceState) (s t : Collector T K) (e : LinesFault Failed) → TakesUntil (TakesLine state) fills old new s t e
+      → CollectsUntilStop fills old new (Sink s) (Sink t) s.ledger.now t.ledger.now e
+  until_of fills old new s t Memory h = (h.0, ap (λ (x : Collector T K). Sink x) h.1, ap (λ (x : Collector T K). x.ledger.now) h.1)
+  until_of fills old new s t Read h =
+      let taken = taken_of s t (ended_lines h.came) h.taken in
+      record { came = h.came; answers = taken.answers; reads = h.reads; collects = taken.collects; works = taken.works }
+  until_of fills old new s t Endless h =
+      let taken = taken_of s t (ended_lines h.came) h.taken in
+      record { came = h.came; answers = taken.answers; reads = h.reads; collects = taken.collects; works = taken.works }
+  until_of fills old new s t (Stop e) h =
+      elim h.stops [
+        | inl now ↦
+            let stopped = stopped_at s t (ended_lines h.came) e now in
+            record { came = h.came; rest = h.rest; reads = h.reads; collects = inl stopped.collects; fails = stopped.fails }
+        | inr end ↦
+            let stopped = stopped_at s t (lines h.came) e end.1 in
+            record { came = h.came; rest = h.rest; reads = h.reads; collects = inr (end.0, inl stopped.collects); fails = stopped.fails }
+      ]
+
+  same_of : (fills : ℕ) (old new : SourceState) (s t : Collector T K) (r : Result (Unit {0}) (LinesFault Failed))
+      → OnOk r (TakesStream (TakesLine state) fills old new s t) → IfErr r (TakesUntil (TakesLine state) fills old new s t) → Same s t
+  same_of fills old new s t (Ok tt) h k = (taken_of s t (lines h.came) h.taken).same
+  same_of fills old new s t (Err Memory) h k =
+      record { ledger = ap (λ (x : Collector T K). x.ledger.ghost_name) k.1; sink = ap (λ (x : Collector T K). x.sink.ghost_name) k.1 }
+  same_of fills old new s t (Err Read) h k = (taken_of s t (ended_lines k.came) k.taken).same
+  same_of fills old new s t (Err Endless) h k = (taken_of s t (ended_lines k.came) k.taken).same
+  same_of fills old new s t (Err (Stop e)) h k =
+      elim k.stops [
+        | inl now ↦ (stopped_at s t (ended_lines k.came) e now).same
+        | inr end ↦ (stopped_at s t (lines k.came) e end.1).same
+      ]
+
+  pub same_ledger_of : (fills : ℕ) (old new : SourceState) (s t : Collector T K) (r : Result (Unit {0}) (LinesFault Failed))
+      → OnOk r (TakesStream (TakesLine state) fills old new s t) → IfErr r (TakesUntil (TakesLine state) fills old new s t)
+      → t.ledger.ghost_name ≡ s.ledger.ghost_name
+  same_ledger_of fills old new s t r h k = (same_of fills old new s t r h k).ledger
+
+  pub same_sink_of : (fills : ℕ) (old new : SourceState) (s t : Collector T K) (r : Result (Unit {0}) (LinesFault Failed))
+      → OnOk r (TakesStream (TakesLine state) fills old new s t) → IfErr r (TakesUntil (TakesLine state) fills old new s t)
+      → t.sink.ghost_name ≡ s.sink.ghost_name
+  same_sink_of fills old new s t r h k = (same_of fills old new s t r h k).sink
+
+-- all lines were taken, and the replies couldn't be handed on
+pub unflushed : (fills : ℕ) (old new : SourceState) (sink sink' sink'' : SinkState) (ledger ledger' : LedgerState) (totals : Totals) (e : Failed)
+    → CollectsAll fills old new sink sink' ledger ledger' totals → Flush {E = Failed} sink' sink'' (Err e) → CollectsToWriteFault fills old new sink sink'' ledger ledger'
+unflushed fills old new sink sink' sink'' ledger ledger' totals e h flush = record {
+  came = h.came;
+  rest = [];
+  reads = subst (λ (bytes : List ℕ). ReadsSome chunk_len fills old new bytes) (sym (append-nil h.came)) h.reads.some;
+  collects = inr (h.reads, inr (h.answers, record { leads = h.collects.leads; put = Appends-kept _ _ _ _ h.collects.put flush.bytes }));
+  fails = flush.failed;
+}

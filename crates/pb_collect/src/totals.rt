@@ -1,0 +1,35 @@
+//! What became of lines.
+
+ghost use Rattle.std.specs.Prelude.{◌≡◌};
+ghost use Rattle.pb_collect.specs.Collector.{with_answer};
+
+use pb_games::Refusal;
+
+/// How many lines were taken, and what became of them: each brought a new game, repeated one, or was refused.
+#[derive(Clone, Copy, Debug, Default, PartialEq, Eq)]
+pub struct Totals {
+    /// All lines.
+    pub lines: u64,
+    /// Lines that brought a new game.
+    pub new: u64,
+    /// Lines that repeated a game that is held, under its id.
+    pub repeats: u64,
+    /// Lines that were refused.
+    pub refused: u64,
+}
+
+impl Totals {
+    /// These totals with one more line, which was answered so.
+    pub(crate) fn with(self, answer: Result<u32, Refusal>, is_new: bool) -> Totals
+        ensures { result ≡ with_answer self answer is_new }
+    {
+        let mut totals = self;
+        totals.lines = totals.lines.saturating_add(1);
+        match answer {
+            Ok(_) if is_new => totals.new = totals.new.saturating_add(1),
+            Ok(_) => totals.repeats = totals.repeats.saturating_add(1),
+            Err(_) => totals.refused = totals.refused.saturating_add(1),
+        }
+        totals
+    }
+}
