@@ -59,7 +59,9 @@ fn wins_give_two_points_and_draws_one(rt: HostRuntime) -> Result<(), Fail> {
 
 fn expect_both_orders<T: Tally>(rt: &impl Abort, alloc: Global) -> Result<(), Fail> {
     expect_book_of::<T>(rt, alloc, Words::Powers, &FIVE, &BOOK_OF_FIVE)?;
-    let other = [FIVE[4], FIVE[3], FIVE[3], FIVE[0], FIVE[2], FIVE[1], FIVE[0]];
+    let other = [
+        FIVE[4], FIVE[3], FIVE[3], FIVE[0], FIVE[2], FIVE[1], FIVE[0],
+    ];
     expect_book_of::<T>(rt, alloc, Words::Powers, &other, &BOOK_OF_FIVE)
 }
 
@@ -70,7 +72,11 @@ fn the_order_of_arrival_leaves_the_book(rt: HostRuntime) -> Result<(), Fail> {
 }
 
 /// Submits 128 won games of 1,024 moves in which the knights go to and fro.
-fn submit_knights<T: Tally>(rt: &impl Abort, alloc: Global, ledger: &mut Ledger<T>) -> Result<(), Fail> {
+fn submit_knights<T: Tally>(
+    rt: &impl Abort,
+    alloc: Global,
+    ledger: &mut Ledger<T>,
+) -> Result<(), Fail> {
     for number in 1..129_u32 {
         let mut line = Vec::new(alloc);
         line.push(b'n')?;
@@ -104,7 +110,12 @@ fn expect_scaled<T: Tally>(rt: &impl Abort, alloc: Global) -> Result<(), Fail> {
     )?;
     let mut ledger: Ledger<T> = ledger_over(alloc, Words::Powers)?;
     submit_knights(rt, alloc, &mut ledger)?;
-    expect_answers(rt, alloc, &mut ledger, &[("d|1-0|S|d2d4 d7d5 c2c4", Ok(129))])?;
+    expect_answers(
+        rt,
+        alloc,
+        &mut ledger,
+        &[("d|1-0|S|d2d4 d7d5 c2c4", Ok(129))],
+    )?;
     expect_book(
         rt,
         alloc,

@@ -1,5 +1,7 @@
 //! Streams of submissions, and the replies to them.
 
+ghost use Rattle.std.specs.Prelude.{◌≤◌};
+
 use crate::games::{BOOK_OF_FIVE, FIRST, FIVE, expect_book, ledger_over, line_of};
 use pb_collect::{CollectFault, Totals, collect};
 use pb_ledger::{Ledger, ListTally, MapTally, Tally};
@@ -48,10 +50,15 @@ fn expect_five<T: Tally>(rt: &impl Abort, alloc: Global) -> Result<(), Fail> {
             (stream.as_slice(), piece),
             "ok g1 1\nok g2 2\nok g3 3\nok g4 4\nok g5 5\n",
         )?;
-        assert_eq!(rt; (totals.lines, totals.new, totals.repeats, totals.refused), (5, 5, 0, 0));
+        assert_eq!(rt;
+            (totals.lines, totals.new, totals.repeats, totals.refused),
+            (5, 5, 0, 0)
+        );
         expect_book(rt, alloc, &ledger, &BOOK_OF_FIVE)?;
     }
-    let other = [FIVE[4], FIVE[3], FIVE[3], FIVE[0], FIVE[2], FIVE[1], FIVE[0]];
+    let other = [
+        FIVE[4], FIVE[3], FIVE[3], FIVE[0], FIVE[2], FIVE[1], FIVE[0],
+    ];
     let stream = stream_of(alloc, &other)?;
     let mut ledger: Ledger<T> = ledger_over(alloc, Words::Powers)?;
     let totals = expect_replies(
@@ -61,7 +68,10 @@ fn expect_five<T: Tally>(rt: &impl Abort, alloc: Global) -> Result<(), Fail> {
         (stream.as_slice(), 3),
         "ok g5 1\nok g4 2\nok g4 2\nok g1 3\nok g3 4\nok g2 5\nok g1 3\n",
     )?;
-    assert_eq!(rt; (totals.lines, totals.new, totals.repeats, totals.refused), (7, 5, 2, 0));
+    assert_eq!(rt;
+        (totals.lines, totals.new, totals.repeats, totals.refused),
+        (7, 5, 2, 0)
+    );
     expect_book(rt, alloc, &ledger, &BOOK_OF_FIVE)
 }
 
@@ -100,7 +110,10 @@ fn refusals_are_told(rt: HostRuntime) -> Result<(), Fail> {
          refused g4 result\nrefused g4 fen\nrefused g4 start\nrefused g4 spelling 2\nrefused - id\n\
          ok g4 3\nok g1 1\n",
     )?;
-    assert_eq!(rt; (totals.lines, totals.new, totals.repeats, totals.refused), (12, 3, 1, 8));
+    assert_eq!(rt;
+        (totals.lines, totals.new, totals.repeats, totals.refused),
+        (12, 3, 1, 8)
+    );
     Ok(())
 }
 
@@ -110,8 +123,11 @@ fn a_full_ledger_still_answers_repeats(rt: HostRuntime) -> Result<(), Fail> {
         rt.alloc(),
         &[FIRST, "g2|1-0|S|e2e4 e7e5", FIRST, "g1|0-1|S|e2e4 e7e5"],
     )?;
-    let mut ledger: Ledger<MapTally> =
-        Ledger::new(rt.alloc(), &table_of(rt.alloc(), Words::Powers)?, 1)?;
+    let mut ledger: Ledger<MapTally> = Ledger::new(
+        rt.alloc(),
+        &table_of(rt.alloc(), Words::Powers)?,
+        1,
+    )?;
     let totals = expect_replies(
         &rt,
         rt.alloc(),
@@ -119,7 +135,10 @@ fn a_full_ledger_still_answers_repeats(rt: HostRuntime) -> Result<(), Fail> {
         (stream.as_slice(), 5),
         "ok g1 1\nrefused g2 full\nok g1 1\nrefused g1 conflict 1\n",
     )?;
-    assert_eq!(rt; (totals.lines, totals.new, totals.repeats, totals.refused), (4, 1, 1, 2));
+    assert_eq!(rt;
+        (totals.lines, totals.new, totals.repeats, totals.refused),
+        (4, 1, 1, 2)
+    );
     Ok(())
 }
 
@@ -127,7 +146,10 @@ fn a_full_ledger_still_answers_repeats(rt: HostRuntime) -> Result<(), Fail> {
 fn a_stream_may_have_no_lines(rt: HostRuntime) -> Result<(), Fail> {
     let mut ledger: Ledger<MapTally> = ledger_over(rt.alloc(), Words::Powers)?;
     let totals = expect_replies(&rt, rt.alloc(), &mut ledger, (b"", 1), "")?;
-    assert_eq!(rt; (totals.lines, totals.new, totals.repeats, totals.refused), (0, 0, 0, 0));
+    assert_eq!(rt;
+        (totals.lines, totals.new, totals.repeats, totals.refused),
+        (0, 0, 0, 0)
+    );
     expect_book(&rt, rt.alloc(), &ledger, &[])
 }
 
@@ -148,7 +170,10 @@ fn a_long_line_is_passed_over(rt: HostRuntime) -> Result<(), Fail> {
         (stream.as_slice(), 1000),
         "refused - long\nok g1 1\n",
     )?;
-    assert_eq!(rt; (totals.lines, totals.new, totals.repeats, totals.refused), (2, 1, 0, 1));
+    assert_eq!(rt;
+        (totals.lines, totals.new, totals.repeats, totals.refused),
+        (2, 1, 0, 1)
+    );
     Ok(())
 }
 

@@ -86,7 +86,10 @@ fn expect_orders<T: Tally>(rt: &impl Abort, alloc: Global) -> Result<(), Fail> {
     let mut ledger: Ledger<T> = ledger_over(alloc, Words::Powers)?;
     for (index, text) in FIVE.iter().enumerate() {
         let line = line_of(alloc, text)?;
-        assert_eq!(rt; ledger.submit(line.as_slice()).ok(), Some(index as u32).map(|n| n.wrapping_add(1)));
+        assert_eq!(rt;
+            ledger.submit(line.as_slice()).ok(),
+            Some(index as u32).map(|n| n.wrapping_add(1))
+        );
     }
     let mut other: Ledger<T> = ledger_over(alloc, Words::Powers)?;
     expect_answers(
@@ -152,12 +155,7 @@ fn ids_have_at_most_64_bytes(rt: HostRuntime) -> Result<(), Fail> {
 }
 
 /// A game from the start position that plays these words so many times over, and then this word.
-fn game_of(
-    alloc: Global,
-    words: &str,
-    times: usize,
-    last: &str,
-) -> Result<Vec<u8>, Fail> {
+fn game_of(alloc: Global, words: &str, times: usize, last: &str) -> Result<Vec<u8>, Fail> {
     let mut line = line_of(alloc, "g1|1-0|S|")?;
     line.extend_from_slice(words.as_bytes())?;
     for _ in 1..times {
@@ -172,11 +170,17 @@ fn game_of(
 fn games_have_at_most_1024_moves(rt: HostRuntime) -> Result<(), Fail> {
     let alloc = rt.alloc();
     let illegal = game_of(alloc, "e2e4", 1024, "")?;
-    assert_eq!(rt; check_line(illegal.as_slice()).err(), Some(Refusal::Illegal(2)));
+    assert_eq!(rt;
+        check_line(illegal.as_slice()).err(),
+        Some(Refusal::Illegal(2))
+    );
     let long = game_of(alloc, "e2e4", 1025, "")?;
     assert_eq!(rt; check_line(long.as_slice()).err(), Some(Refusal::Plies));
     let misspelt = game_of(alloc, "e2e4", 1024, " e9")?;
-    assert_eq!(rt; check_line(misspelt.as_slice()).err(), Some(Refusal::Spelling(1025)));
+    assert_eq!(rt;
+        check_line(misspelt.as_slice()).err(),
+        Some(Refusal::Spelling(1025))
+    );
     let longest = game_of(alloc, "g1f3 g8f6 f3g1 f6g8", 256, "")?;
     let plies = check_line(longest.as_slice()).ok().map(|line| line.plies());
     assert_eq!(rt; plies, Some(1024));
@@ -206,6 +210,9 @@ fn the_parts_of_a_line_are_read(rt: HostRuntime) -> Result<(), Fail> {
     assert_eq!(rt; line.plies(), 2);
     let moves: Vec<Move> = line.moves().collect(rt.alloc())?;
     let list = MoveList::of(moves);
-    assert_eq!(rt; list.as_slice(), [spelled("e2e4")?, spelled("e7e5")?].as_slice());
+    assert_eq!(rt;
+        list.as_slice(),
+        [spelled("e2e4")?, spelled("e7e5")?].as_slice()
+    );
     Ok(())
 }
