@@ -91,8 +91,9 @@ fn with_lost(table: &Table, key: u64, old: Rights, new: Rights) -> u64
     with_flag(table, long, old.black_long != new.black_long, 771)
 }
 
-/// The key of the setup after a move, made of the key of the setup before it: it is joined by the words of what the move
-/// changes, without going over the board.
+/// The key of the setup after a move, made of the key of the setup before it, as `play` gives the one after the other.
+///
+/// The key is joined by the words of what the move changes, on four squares at most, without going over the board.
 pub fn key_after(table: &Table, key: u64, before: &Setup, m: Move, after: &Setup) -> u64
     requires key { key ≡ key_by table.now before.now }
     requires after { After before.now m after.now }

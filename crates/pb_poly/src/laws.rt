@@ -1,4 +1,5 @@
-//! Laws of lines, of move codes, of keys, of books and of what they hold. Each is the contract of a function that does nothing.
+//! Laws of lines, of move codes, of keys, of books and of what they hold. Each is the contract of a function that does
+//! nothing.
 
 ghost use Rattle.std.specs.Prelude.{◌≡◌, ◌≤◌, ℕ, List, ◌++◌, length};
 ghost use Rattle.std.specs.List.{join_with_byte};
