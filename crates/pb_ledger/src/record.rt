@@ -1,5 +1,5 @@
-//! Whether two records are one. Their parts are compared, since a contract that speaks of records as they are can't be
-//! proved of the derived comparison, which compares what is kept beside them.
+//! Whether two records are one, part by part. The derived comparison answers the same; of it as a whole no proof was found
+//! that says so of records as contracts see them.
 
 ghost use Rattle.std.specs.Prelude.{◌≡◌, ◌↔◌, IsTrue};
 
