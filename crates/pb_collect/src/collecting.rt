@@ -134,9 +134,8 @@ pub fn collect<T: Tally, S: Source, K: Sink>(
         sink,
         totals,
     } = collector;
-    // The proof reads what the two references hold from these uses.
+    // The proof reads what the reference holds from this use.
     let _ = &*ledger;
-    let _ = &*sink;
     match ended {
         Ok(()) => match sink.flush() {
             Ok(()) => Ok(totals),
