@@ -18,6 +18,8 @@ mod moves;
 #[cfg(test)]
 mod rewriting;
 #[cfg(test)]
+mod running;
+#[cfg(test)]
 mod setup;
 #[cfg(test)]
 mod showing;
