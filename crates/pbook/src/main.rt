@@ -60,53 +60,50 @@ fn no_file(rt: &HostRuntime) -> u8 {
     status(Err(Fault::Read))
 }
 
-/// Runs the command over standard output and answers the exit status. The files that it reads are opened before anything is
-/// read.
+/// Runs the command over standard output and answers the exit status.
 fn perform(rt: &HostRuntime, order: &Order<'_>) -> u8 {
-    let alloc = rt.alloc();
-    let Ok(writer) = BufWriter::with_capacity(alloc, PIECE, io::writer(rt)) else {
+    let Ok(writer) = BufWriter::with_capacity(rt.alloc(), PIECE, io::writer(rt)) else {
         return want_of_memory(rt);
     };
     let mut output = ToWrite::new(writer);
-    let answer = match order {
-        Order::Fen { record, moves } => {
-            run_fen(alloc, record.as_bytes(), moves.as_slice(), &mut output)
-        }
+    let Ok(answer) = answer(rt, order, &mut output) else {
+        return no_file(rt);
+    };
+    if let Err(fault) = answer {
+        tell_fault(&mut output, fault);
+    }
+    status(answer)
+}
+
+/// What the command answers. The files that it reads are opened before anything is read; the error is that of the first that
+/// can't be opened.
+fn answer<K: Sink>(
+    rt: &HostRuntime,
+    order: &Order<'_>,
+    output: &mut K,
+) -> io::Result<Result<bool, Fault>> {
+    let alloc = rt.alloc();
+    Ok(match order {
+        Order::Fen { record, moves } => run_fen(alloc, record.as_bytes(), moves.as_slice(), output),
         Order::Epd => {
             let mut input = FromRead::new(rt.reader());
-            run_epd(alloc, &mut input, &mut output, u32::MAX)
+            run_epd(alloc, &mut input, output, u32::MAX)
         }
         Order::Show { book } => {
-            let Ok(book) = File::open(rt, *book) else {
-                return no_file(rt);
-            };
-            run_show(alloc, &mut FromRead::new(book), &mut output, u32::MAX)
+            let mut book = FromRead::new(File::open(rt, *book)?);
+            run_show(alloc, &mut book, output, u32::MAX)
         }
         Order::Probe {
             table,
             book,
             record,
         } => {
-            let Ok(table) = File::open(rt, *table) else {
-                return no_file(rt);
-            };
-            let Ok(book) = File::open(rt, *book) else {
-                return no_file(rt);
-            };
-            run_probe(
-                alloc,
-                &mut FromRead::new(table),
-                &mut FromRead::new(book),
-                record.as_bytes(),
-                &mut output,
-                u32::MAX,
-            )
+            let mut table = FromRead::new(File::open(rt, *table)?);
+            let mut book = FromRead::new(File::open(rt, *book)?);
+            let record = record.as_bytes();
+            run_probe(alloc, &mut table, &mut book, record, output, u32::MAX)
         }
-    };
-    if let Err(fault) = answer {
-        tell_fault(&mut output, fault);
-    }
-    status(answer)
+    })
 }
 
 /// Tells of a fault in a line after what the command wrote. A sink that failed is left alone.
