@@ -1,5 +1,7 @@
+mod CollectRuns
 mod Commands
 mod Digits
+mod Effects
 mod Hexadecimals
 mod Judging
 mod Lines

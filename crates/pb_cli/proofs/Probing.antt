@@ -6,7 +6,8 @@ use Rattle.pb_board.specs.declared.refusal.FenError.{FenError}
 use Rattle.pb_board.specs.Refusal.{IsFirstDue, OfRecord, fields}
 use Rattle.pb_poly.specs.Sink.{SinkState}
 use Rattle.pb_poly.specs.Source.{SourceState}
-use Rattle.pb_poly.specs.Reading.{FindsNoBook, ReadsBook, Tells, book_chunk_len}
+use Rattle.pb_poly.specs.Reading.{FindsNoBook, ReadsBook, Tells}
+use Rattle.pb_poly.specs.Reads.{chunk_len}
 use Rattle.pb_poly.specs.declared.entry.Entry.{Entry}
 use Rattle.pb_poly.specs.declared.reading.BookError.{BookError}
 use Rattle.pb_poly.specs.declared.reading.BookError.TheVariants as book_error
@@ -84,6 +85,6 @@ module _ (fills : ℕ) (t t' b b' : SourceState) (fen : List ℕ) (sink sink' : 
         → MatchResult result (λ taken. (taken ≡ answer) × Appends sink.bytes sink'.bytes out) (λ e. e ≡ Memory)
     only_probed works answer out is result ends =
         only_text judges (ProbeShown table book fen) stops sink sink' works (told_probed table book tells_t.told tells_b.told) (probe_is_one table book fen)
-        (reads_on table_fault.Read book_error.Read (λ h. no_fault table_limit fills t t' table tells_t h.came h.reads) (λ h. no_fault book_chunk_len fills b b' book tells_b h.came h.reads))
-        (reads_on table_fault.Endless book_error.Endless (λ h. no_endless table_limit fills t t' table tells_t h.came h.reads) (λ h. no_endless book_chunk_len fills b b' book tells_b h.came h.reads))
+        (reads_on table_fault.Read book_error.Read (λ h. no_fault table_limit fills t t' table tells_t h.came h.reads) (λ h. no_fault chunk_len fills b b' book tells_b h.came h.reads))
+        (reads_on table_fault.Endless book_error.Endless (λ h. no_endless table_limit fills t t' table tells_t h.came h.reads) (λ h. no_endless chunk_len fills b b' book tells_b h.came h.reads))
         answer out is result ends.0 ends.1

@@ -2,6 +2,7 @@
 //! ends that it is handed.
 #![tactic(auto)]
 
+mod collect;
 mod decimal;
 mod epd;
 mod fault;
@@ -15,6 +16,7 @@ mod refusal;
 mod show;
 mod table;
 
+pub use collect::run_collect;
 pub use epd::run_epd;
 pub use fault::{Fault, status};
 pub use fen::run_fen;

@@ -74,12 +74,15 @@ abbrev pub NumbersAreGiven : Type 0
 NumbersAreGiven = (cap : ℕ) (L : List (List ℕ)) (R : List Answer) (A : List Submission) → Run cap [] L R → Accepted [] L R A → (n : ℕ) (s : Submission)
     → IsNumber A n s ↔ ((j : ℕ) × (line : List ℕ) × (slice_get L j ≡ Some line) × IsLawful line s × (slice_get R j ≡ Some (Ok n)))
 
--- once a submission was answered with a number, each later arrival of it is answered with that number
-abbrev pub RepeatsKeepTheirNumber : Type 0
-RepeatsKeepTheirNumber = (cap : ℕ) (L : List (List ℕ)) (R : List Answer) → Run cap [] L R
-    → (i j n : ℕ) (b c : List ℕ) (s : Submission) → i < j
+-- once one of these lines was answered with a number, each later arrival of its submission is answered with that number
+abbrev pub RepeatsAreAnsweredAlike : List (List ℕ) → List Answer → Type 0
+RepeatsAreAnsweredAlike L R = (i j n : ℕ) (b c : List ℕ) (s : Submission) → i < j
     → slice_get L i ≡ Some b → IsLawful b s → slice_get R i ≡ Some (Ok n)
     → slice_get L j ≡ Some c → IsLawful c s → slice_get R j ≡ Some (Ok n)
+
+-- so it is in each run
+abbrev pub RepeatsKeepTheirNumber : Type 0
+RepeatsKeepTheirNumber = (cap : ℕ) (L : List (List ℕ)) (R : List Answer) → Run cap [] L R → RepeatsAreAnsweredAlike L R
 
 -- ---- where no id names two games
 
@@ -91,12 +94,16 @@ AcceptsTheTaken = (L : List (List ℕ)) (R : List Answer) (A : List Submission) 
 abbrev pub NoConflict : Type 0
 NoConflict = (cap : ℕ) (L : List (List ℕ)) (R : List Answer) → OneGame L → Run cap [] L R → All (λ r. (n : ℕ) → r ≢ Err (Conflict n)) R
 
--- each lawful arrival gets a number, unless its id is new and there is no room, or room and no memory
-abbrev pub LawfulArrives : Type 0
-LawfulArrives = (cap : ℕ) (L : List (List ℕ)) (R : List Answer) → OneGame L → Run cap [] L R
-    → (i : ℕ) (line : List ℕ) (s : Submission) (r : Answer) → slice_get L i ≡ Some line → IsLawful line s → slice_get R i ≡ Some r
+-- each lawful one of these lines gets a number, unless its id is new and there is no room, or room and no memory
+abbrev pub ArrivalsAreNumbered : ℕ → List (List ℕ) → List Answer → Type 0
+ArrivalsAreNumbered cap L R =
+    (i : ℕ) (line : List ℕ) (s : Submission) (r : Answer) → slice_get L i ≡ Some line → IsLawful line s → slice_get R i ≡ Some r
     → (A : List Submission) → Accepted [] (take i L) (take i R) A
     → ((n : ℕ) × (r ≡ Ok n)) ⊎ (((r ≡ Err Full) × IsNewId s.0 A × (length A ≡ cap)) ⊎ ((r ≡ Err Memory) × IsNewId s.0 A × (length A < cap)))
+
+-- so it is in each run
+abbrev pub LawfulArrives : Type 0
+LawfulArrives = (cap : ℕ) (L : List (List ℕ)) (R : List Answer) → OneGame L → Run cap [] L R → ArrivalsAreNumbered cap L R
 
 -- ---- lists without repeats
 

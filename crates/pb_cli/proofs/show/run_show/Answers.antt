@@ -1,7 +1,8 @@
 use Rattle.std.proofs.Common.{List, Ok, refl, subst, sym, true}
 use Rattle.std.proofs.lemmas.Result.{err_from_is_err_and}
 use Rattle.pb_poly.specs.declared.entry.Entry.{Entry}
-use Rattle.pb_poly.specs.Reading.{ReadsBook, book_chunk_len}
+use Rattle.pb_poly.specs.Reading.{ReadsBook}
+use Rattle.pb_poly.specs.Reads.{chunk_len}
 use Rattle.pb_cli.specs.BookRun.{JudgesBook, StopsBook, refused, shown}
 use Rattle.pb_cli.specs.BookShown.{BookShown}
 use Rattle.pb_cli.proofs.Judging.{no_book_fails, no_book_put, only_text, text_fails, told_as}
@@ -55,13 +56,13 @@ returns-in_ok-show_entries-in-Ok-clause-only g c bytes answer out tells works is
     let s = g.S.Source.state in let k = g.K.Sink.state in
     only_text (JudgesBook c.args.fills (s c.args.source.now) (s c.read_book.new.source)) (BookShown bytes) (StopsBook c.args.fills (s c.args.source.now) (s c.read_book.new.source)) (k c.args.sink.now) (k c.show_entries.new.sink) works
     (told_shown c.args.fills (s c.args.source.now) (s c.read_book.new.source) bytes tells.told) (shown_is_one bytes)
-    (λ h. no_fault book_chunk_len c.args.fills (s c.args.source.now) (s c.read_book.new.source) bytes tells h.came h.reads)
-    (λ h. no_endless book_chunk_len c.args.fills (s c.args.source.now) (s c.read_book.new.source) bytes tells h.came h.reads) answer out is (Ok true) (returns-in_ok-show_entries-in-Ok-clause-shown g c) tt
+    (λ h. no_fault chunk_len c.args.fills (s c.args.source.now) (s c.read_book.new.source) bytes tells h.came h.reads)
+    (λ h. no_endless chunk_len c.args.fills (s c.args.source.now) (s c.read_book.new.source) bytes tells h.came h.reads) answer out is (Ok true) (returns-in_ok-show_entries-in-Ok-clause-shown g c) tt
 
 pub returns-in-Err-clause-only : goal.returns-in-Err-clause-only
 returns-in-Err-clause-only g c bytes answer out tells works is =
     let s = g.S.Source.state in let k = g.K.Sink.state in
     only_text (JudgesBook c.args.fills (s c.args.source.now) (s c.read_book.new.source)) (BookShown bytes) (StopsBook c.args.fills (s c.args.source.now) (s c.read_book.new.source)) (k c.args.sink.now) (k c.refuse_book.new.sink) works
     (told_shown c.args.fills (s c.args.source.now) (s c.read_book.new.source) bytes tells.told) (shown_is_one bytes)
-    (λ h. no_fault book_chunk_len c.args.fills (s c.args.source.now) (s c.read_book.new.source) bytes tells h.came h.reads)
-    (λ h. no_endless book_chunk_len c.args.fills (s c.args.source.now) (s c.read_book.new.source) bytes tells h.came h.reads) answer out is c.refuse_book.result (returns-in-Err-clause-shown g c) (returns-in-Err-clause-fault g c)
+    (λ h. no_fault chunk_len c.args.fills (s c.args.source.now) (s c.read_book.new.source) bytes tells h.came h.reads)
+    (λ h. no_endless chunk_len c.args.fills (s c.args.source.now) (s c.read_book.new.source) bytes tells h.came h.reads) answer out is c.refuse_book.result (returns-in-Err-clause-shown g c) (returns-in-Err-clause-fault g c)
