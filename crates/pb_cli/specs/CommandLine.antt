@@ -30,6 +30,9 @@ abbrev pub probe_command : App
 probe_command = with_rule (with_rule (with_rule (new_app (codes "probe")) (required_word (codes "TABLE"))) (required_word (codes "BOOK")))
     (required_word (codes "FEN"))
 
+abbrev pub collect_command : App
+collect_command = with_rule (with_rule (new_app (codes "collect")) (required_word (codes "TABLE"))) (required_word (codes "BOOK"))
+
 -- the program, before its commands
 abbrev pub program_alone : App
 program_alone = on_top (λ s. record s {
@@ -40,5 +43,5 @@ program_alone = on_top (λ s. record s {
 
 -- the whole command line
 abbrev pub pbook : App
-pbook = with_subcommand (with_subcommand (with_subcommand (with_subcommand program_alone fen_command.top) epd_command.top) show_command.top)
-    probe_command.top
+pbook = with_subcommand (with_subcommand (with_subcommand (with_subcommand (with_subcommand program_alone fen_command.top) epd_command.top) show_command.top)
+    probe_command.top) collect_command.top

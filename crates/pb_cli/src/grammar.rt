@@ -2,7 +2,7 @@
 ghost use Rattle.std.specs.Prelude.{◌≡◌, IfOk, codes, false};
 ghost use Rattle.clap.specs.Words.{rule_of};
 ghost use Rattle.pb_cli.specs.Built.{IsCommand};
-ghost use Rattle.pb_cli.specs.CommandLine.{epd_command, fen_command, further_words, pbook, probe_command, program_alone, required_word, show_command};
+ghost use Rattle.pb_cli.specs.CommandLine.{collect_command, epd_command, fen_command, further_words, pbook, probe_command, program_alone, required_word, show_command};
 
 use clap::{Arg, ArgAction, Command};
 use std::alloc::{AllocError, Global};
@@ -22,6 +22,9 @@ const BOOK_HELP: &str = "A PolyGlot book file";
 const TABLE_HELP: &str =
     "A file of the 781 words that keys are made of, each a line of 16 hexadecimal digits";
 
+/// What a file of a book that is made is.
+const MADE_HELP: &str = "The file that the book is written to, in place of what it held";
+
 /// The whole command line.
 pub fn command_line<'a>(alloc: Global) -> Result<Command<'a>, AllocError>
     ensures { IfOk result (IsCommand pbook) }
@@ -31,7 +34,8 @@ pub fn command_line<'a>(alloc: Global) -> Result<Command<'a>, AllocError>
     let with_epd = with_fen.subcommand(epd(alloc))?;
     let with_show = with_epd.subcommand(show(alloc)?)?;
     let with_probe = with_show.subcommand(probe(alloc)?)?;
-    Ok(with_probe)
+    let with_collect = with_probe.subcommand(collect(alloc)?)?;
+    Ok(with_collect)
 }
 
 /// The program without its commands. Its name in usage lines is `pbook`, however it was called.
@@ -85,6 +89,17 @@ fn probe<'a>(alloc: Global) -> Result<Command<'a>, AllocError>
     let with_table = bare.arg(required(alloc, "TABLE", TABLE_HELP))?;
     let with_book = with_table.arg(required(alloc, "BOOK", BOOK_HELP))?;
     let whole = with_book.arg(required(alloc, "FEN", RECORD_HELP))?;
+    Ok(whole)
+}
+
+fn collect<'a>(alloc: Global) -> Result<Command<'a>, AllocError>
+    ensures { IfOk result (IsCommand collect_command) }
+{
+    let unfinished = Command::new(alloc, "collect").about(
+        "Takes games from standard input, prints the reply to each, and makes the book of those that are held",
+    );
+    let tabled = unfinished.arg(required(alloc, "TABLE", TABLE_HELP))?;
+    let whole = tabled.arg(required(alloc, "BOOK", MADE_HELP))?;
     Ok(whole)
 }
 

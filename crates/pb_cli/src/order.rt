@@ -38,6 +38,13 @@ pub enum Order<'a> {
         /// The record, its six fields as one word.
         record: &'a str,
     },
+    /// Makes a book of the submissions on standard input.
+    Collect {
+        /// The path of the table.
+        table: &'a str,
+        /// The path of the book that is made.
+        book: &'a str,
+    },
 }
 
 /// Why the command line gives no order.
@@ -101,6 +108,9 @@ fn order_of<'a>(alloc: Global, matches: &ArgMatches<'a>) -> Result<Order<'a>, Pa
     if let Some(given) = matches.subcommand_matches("probe") {
         return probe(alloc, given);
     }
+    if let Some(given) = matches.subcommand_matches("collect") {
+        return collect(alloc, given);
+    }
     Err(ParseFault::Usage(String::new(alloc)))
 }
 
@@ -134,6 +144,16 @@ fn probe<'a>(alloc: Global, given: &ArgMatches<'a>) -> Result<Order<'a>, ParseFa
         book: word(alloc, given, "BOOK")?,
         record: word(alloc, given, "FEN")?,
     })
+}
+
+fn collect<'a>(alloc: Global, given: &ArgMatches<'a>) -> Result<Order<'a>, ParseFault>
+    ensures words { IfOk result (λ order. (name_of order ≡ codes "collect")
+        × HasWords order (rows_of (found_of given.now))) }
+    ensures refused { IfErr result (RefusesFor (codes "collect") (rows_of (found_of given.now))) }
+{
+    let table = word(alloc, given, "TABLE")?;
+    let book = word(alloc, given, "BOOK")?;
+    Ok(Order::Collect { table, book })
 }
 
 /// A required word, which clap has where it gives matches.

@@ -1,8 +1,10 @@
 //! The program `pbook`: opens what the command line names and hands it to the commands.
 #![tactic(auto)]
 
-use pb_cli::{Fault, Order, ParseFault, parse, run_epd, run_fen, run_probe, run_show, status};
-use pb_poly::{FromRead, Sink, ToWrite};
+use pb_cli::{
+    Fault, Order, ParseFault, parse, run_collect, run_epd, run_fen, run_probe, run_show, status,
+};
+use pb_poly::{Book, FromRead, Sink, ToWrite, write_book};
 use std::alloc::AllocError;
 use std::fs::File;
 use std::io::{BufWriter, Write};
@@ -12,7 +14,7 @@ use std::{env, io};
 /// The status for words that give no order.
 const USAGE: u8 = 2;
 
-/// How many bytes go to standard output at once.
+/// How many bytes go to standard output or into a book's file at once.
 const PIECE: usize = 65_536;
 
 fn main(rt: HostRuntime) -> ExitCode {
@@ -103,6 +105,29 @@ fn answer<K: Sink>(
             let record = record.as_bytes();
             run_probe(alloc, &mut table, &mut book, record, output, u32::MAX)
         }
+        Order::Collect { table, book } => {
+            let mut table = FromRead::new(File::open(rt, *table)?);
+            let mut input = FromRead::new(rt.reader());
+            // Each reply is written at once, so that it can be waited for before the next line is sent.
+            let mut replies = ToWrite::new(io::writer(rt));
+            match run_collect(alloc, &mut table, &mut input, &mut replies, u32::MAX) {
+                Ok(Some(made)) => save(rt, book, &made)?,
+                Ok(None) => Ok(false),
+                Err(fault) => Err(fault),
+            }
+        }
+    })
+}
+
+/// Makes the file of a book anew. The error is that the file can't be made.
+fn save(rt: &HostRuntime, path: &str, book: &Book) -> io::Result<Result<bool, Fault>> {
+    let file = File::create(rt, path)?;
+    let Ok(writer) = BufWriter::with_capacity(rt.alloc(), PIECE, file) else {
+        return Ok(Err(Fault::Memory));
+    };
+    Ok(match write_book(&mut ToWrite::new(writer), book) {
+        Ok(()) => Ok(true),
+        Err(_) => Err(Fault::Write),
     })
 }
 
