@@ -16,8 +16,17 @@ build/pbook: $(SOURCES)
 	@echo '$(START)' | cmp - build/run
 	@install -m 755 crates/pbook/out/pbook $@
 
-# The main job on the bundled examples: games are played from their records, and EPD lines are rewritten.
+# The main job on the bundled examples: a book is made of 300 games and looked into; then games are played from their records,
+# and EPD lines are rewritten. examples/book.bin was made of the same games by another program.
 demo: build
+	@echo '$$ pbook collect examples/table.txt build/demo.bin < examples/games.txt'
+	@build/pbook collect examples/table.txt build/demo.bin < examples/games.txt > build/replies
+	@head -3 build/replies; echo '..'; grep refused build/replies
+	@cmp build/demo.bin examples/book.bin
+	@echo '$$ pbook show build/demo.bin | head -3'
+	@build/pbook show build/demo.bin | head -3
+	@echo "$$ pbook probe examples/table.txt build/demo.bin '$(START)'"
+	@build/pbook probe examples/table.txt build/demo.bin '$(START)'
 	@while IFS='|' read -r record moves; do \
 	    echo "$$ pbook fen '$$record' $$moves"; \
 	    build/pbook fen "$$record" $$moves || test $$? -eq 1; \
@@ -28,11 +37,13 @@ demo: build
 test:
 	rt ci
 
-# Times the program that plays moves, and the command epd over a million lines.
+# Times the program that plays moves, and the commands.
 bench: build
 	@cd crates/bench_moves && rt run -- perft '$(START)' 1 > /dev/null
 	@sh bench/moves.sh
 	@sh bench/epd.sh
+	@sh bench/books.sh
+	@sh bench/collect.sh
 
 clean:
 	rm -rf build crates/*/out

@@ -1,0 +1,58 @@
+#!/bin/sh
+# Times `pbook collect` on games of 80 plies that bench_moves makes (`make bench` builds it): 20,000 games, the same games
+# sent twice, and 100,000 games; and beside it `polyglot make-book` on the first 20,000 as PGN, where it and pgn-extract are
+# installed. Each time is the best of three runs.
+set -eu
+PATH=$PATH:/usr/games
+games=crates/bench_moves/out/bench_moves
+work=$(mktemp -d)
+trap 'rm -rf "$work"' EXIT
+
+# best COMMAND..: the least number of seconds that the command takes
+best() {
+    for _ in 1 2 3; do
+        begin=$(date +%s%N)
+        "$@"
+        end=$(date +%s%N)
+        echo $((end - begin))
+    done | sort -n | head -1
+}
+
+# collect LINES: makes a book of the lines
+collect() {
+    build/pbook collect examples/table.txt "$work/book" < "$1" > "$work/replies"
+}
+
+# figures NAME LINES TIME: plies a second, and the most memory where /usr/bin/time is installed
+figures() {
+    plies=$(awk -F'\t' '{ plies += split($4, moves, " ") } END { print plies }' "$2")
+    awk -v name="$1" -v plies="$plies" -v time="$3" \
+        'BEGIN { printf "%s: %d plies in %.2f s, %.0f plies a second\n", name, plies, time / 1e9, plies * 1e9 / time }'
+    if [ -x /usr/bin/time ]; then
+        shift 3
+        /usr/bin/time -f "    %M KB of memory at most" "$@" > "$work/output"
+    fi
+}
+
+make_book() {
+    polyglot make-book -pgn "$work/games.pgn" -bin "$work/other" -max-ply 1024 -min-game 1 > "$work/output"
+}
+
+"$games" lines 20000 > "$work/lines"
+time=$(best collect "$work/lines")
+figures "collect, 20,000 games" "$work/lines" "$time" \
+    sh -c "build/pbook collect examples/table.txt $work/book < $work/lines"
+cat "$work/lines" "$work/lines" > "$work/twice"
+twice=$(best collect "$work/twice")
+figures "collect, the same games again" "$work/lines" $((twice - time)) \
+    sh -c "build/pbook collect examples/table.txt $work/book < $work/twice"
+"$games" lines 100000 > "$work/many"
+figures "collect, 100,000 games" "$work/many" "$(best collect "$work/many")" \
+    sh -c "build/pbook collect examples/table.txt $work/book < $work/many"
+
+if command -v polyglot > /dev/null && command -v pgn-extract > /dev/null; then
+    awk -F'\t' '{ printf "[Event \"?\"]\n[Result \"%s\"]\n\n%s %s\n\n", $2, $4, $2 }' "$work/lines" > "$work/moves.pgn"
+    pgn-extract -s -Wsan "$work/moves.pgn" > "$work/games.pgn"
+    figures "polyglot make-book, 20,000 games" "$work/lines" "$(best make_book)" \
+        polyglot make-book -pgn "$work/games.pgn" -bin "$work/other" -max-ply 1024 -min-game 1
+fi
