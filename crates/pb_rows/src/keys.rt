@@ -135,7 +135,7 @@ fn codes_of_no_move(rt: HostRuntime) -> Result<(), Fail> {
     Ok(())
 }
 
-/// The keys after these moves from a record, each made from the key before.
+/// The keys after these moves from a record, each made from the key before the move.
 fn expect_keys_after(
     rt: &impl Abort,
     alloc: Global,
@@ -145,11 +145,11 @@ fn expect_keys_after(
 ) -> Result<(), Fail> {
     let table = table_of(alloc, words)?;
     let mut setup = setup_of(record)?;
-    let mut key = key_of(&table, &setup);
     for (text, want) in moves {
         let m = spelled(text)?;
         let after = play(&setup, m).ok_or("not legal")?;
-        key = key_after(&table, key, &setup, m, &after);
+        let before = key_of(&table, &setup);
+        let key = key_after(&table, before, &setup, m, &after);
         assert_eq!(rt; key, *want, "{record} {text}");
         setup = after;
     }
