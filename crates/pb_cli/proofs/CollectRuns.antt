@@ -7,8 +7,8 @@ use Rattle.pb_poly.specs.declared.entry.Entry.{Entry}
 use Rattle.pb_ledger.specs.Basis.{Basis}
 use Rattle.pb_ledger.specs.Counting.{IsBook}
 use Rattle.pb_ledger.specs.Ledger.{LedgerState}
-use Rattle.pb_collect.specs.Collecting.{CollectsStream}
-use Rattle.pb_collect.specs.declared.totals.Totals.{Totals}
+use Rattle.pb_ledger.specs.Collecting.{CollectsStream}
+use Rattle.pb_ledger.specs.declared.totals.Totals.{Totals}
 use Rattle.pb_cli.specs.CollectRun.{CollectsBook, CollectsGames, JudgesTable, StopsTable, TellsCollect, new_ledger}
 use Rattle.pb_cli.specs.Judged.{PutsText, PutsUntil}
 use Rattle.pb_cli.specs.Refuses.{RefusesForTable}

@@ -16,7 +16,7 @@ use Rattle.pb_ledger.proofs.BookLaws.{one_book, one_text}
 use Rattle.pb_ledger.proofs.Distinct.{accepts_the_taken, lawful_arrives, no_repeats}
 use Rattle.pb_ledger.proofs.Numbers.{repeats_keep}
 use Rattle.pb_ledger.proofs.Replies.{Takes-refusal, Takes-unique}
-use Rattle.pb_collect.specs.Replies.{replies}
+use Rattle.pb_ledger.specs.Replies.{replies}
 use Rattle.pb_cli.specs.CollectRun.{CollectsBook, CollectsTold, most_games}
 use Rattle.pb_cli.specs.OneEffect.{HasOneEffect, OneEffect, RefusalsLeaveTheGames}
 use Rattle.pb_cli.proofs.Told.{all_came, told_table}

@@ -5,7 +5,7 @@ use Rattle.std.proofs.Math.Seq.{take-append-add, take-length}
 use Rattle.std.proofs.lemmas.List.{append-nil, append_assoc, length-append}
 use Rattle.std.proofs.KnownBytes.{Appends-nil, Appends-trans, Appends-kept}
 use Rattle.pb_poly.specs.Source.{SourceState}
-use Rattle.pb_poly.specs.Sink.{SinkState, Flush}
+use Rattle.pb_poly.specs.Sink.{SinkState, Flush, StillWorks}
 use Rattle.pb_poly.specs.Lines.{lines, ended_lines, last_piece, line_at_end}
 use Rattle.pb_poly.specs.Reads.{Reads, ReadsSome}
 use Rattle.pb_poly.specs.LineTask.{StopsAtLast, TakesAll, TakesStream, TakesUntil, chunk_len}
@@ -17,7 +17,7 @@ use Rattle.pb_cli.specs.declared.epd.Rewriter.{Rewriter}
 use Rattle.pb_cli.specs.declared.epd.Stop.{Stop}
 use Rattle.pb_cli.specs.declared.epd.Stop.TheVariants.{Write, Memory}
 use Rattle.pb_cli.specs.EpdShown.{EpdShown, LineShown}
-use Rattle.pb_cli.specs.EpdRun.{RewritesToWriteFault, StillWorks}
+use Rattle.pb_cli.specs.EpdRun.{RewritesToWriteFault}
 use Rattle.pb_cli.specs.Rewriter.{Puts, RewritesAll, RewritesUntilStop, StopsAt, TakesLine, next_number}
 
 -- where what a line gives couldn't be put, the run stops at it

@@ -2,7 +2,7 @@
 use Rattle.std.specs.Prelude.{◌≡◌, ℕ, ◌⊎◌, Bool, true, false, List, ◌∷◌, ◌++◌, take, Some, IfSome, []}
 use Rattle.std.specs.Io.KnownBytes.{Appends}
 use Rattle.pb_poly.specs.Source.{SourceState}
-use Rattle.pb_poly.specs.Sink.{SinkState}
+use Rattle.pb_poly.specs.Sink.{SinkState, StillWorks}
 use Rattle.pb_poly.specs.Reads.{ReadsAll, ReadsOn, ReadsSome, ReadsToFault}
 use Rattle.pb_poly.specs.LineTask.{chunk_len}
 use Rattle.pb_poly.specs.Lines.{lines, ended_lines}
@@ -28,10 +28,6 @@ pub record RewritesStream (fills : ℕ) (source source' : SourceState) (sink sin
 abbrev pub RewritesTold : SourceState → SourceState → SinkState → SinkState → Bool → Type 0
 RewritesTold source source' sink sink' answer =
     IfSome source.to_come (λ bytes. (source'.to_come ≡ Some []) × Rewrites sink sink' (lines bytes) answer)
-
--- an end that worked still works
-abbrev pub StillWorks : Bool → Bool → Type 0
-StillWorks failed failed' = failed ≡ false → failed' ≡ false
 
 -- the source failed: the lines that an LF ended were rewritten
 pub record RewritesToReadFault (fills : ℕ) (source source' : SourceState) (sink sink' : SinkState) : Type 0 where

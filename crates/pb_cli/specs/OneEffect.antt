@@ -11,7 +11,7 @@ use Rattle.pb_ledger.specs.Accepting.{Accepted, Answer, OneGame, Run, Taken}
 use Rattle.pb_ledger.specs.Basis.{Basis}
 use Rattle.pb_ledger.specs.Counting.{IsBook}
 use Rattle.pb_ledger.specs.Laws.{ArrivalsAreNumbered, NoRepeats, RepeatsAreAnsweredAlike}
-use Rattle.pb_collect.specs.Replies.{replies}
+use Rattle.pb_ledger.specs.Replies.{replies}
 use Rattle.pb_cli.specs.BookShown.{IsBookFile}
 use Rattle.pb_cli.specs.CollectRun.{most_games}
 use Rattle.pb_cli.specs.TableShown.{IsTableFile}

@@ -2,7 +2,7 @@
 use Rattle.std.specs.Prelude.{◌≡◌, ℕ, ◌+◌, ◌-◌, ◌^◌, ◌&&◌, Bool, true, false, List, min, take, Result, Ok, Err}
 use Rattle.std.specs.Io.KnownBytes.{Appends}
 use Rattle.pb_poly.specs.Source.{SourceState}
-use Rattle.pb_poly.specs.Sink.{SinkState}
+use Rattle.pb_poly.specs.Sink.{SinkState, StillWorks}
 use Rattle.pb_poly.specs.Reads.{ReadsAll}
 use Rattle.pb_poly.specs.LineTask.{chunk_len}
 use Rattle.pb_poly.specs.Lines.{lines}
@@ -12,7 +12,7 @@ use Rattle.pb_cli.specs.declared.epd.Rewriter.{Rewriter}
 use Rattle.pb_cli.specs.declared.epd.Stop.{Stop}
 use Rattle.pb_cli.specs.declared.epd.Stop.TheVariants.{Write, Memory}
 use Rattle.pb_cli.specs.EpdShown.{LineShown}
-use Rattle.pb_cli.specs.EpdRun.{Rewrites, RewritesEndless, RewritesToMemory, RewritesToReadFault, RewritesToWriteFault, StillWorks}
+use Rattle.pb_cli.specs.EpdRun.{Rewrites, RewritesEndless, RewritesToMemory, RewritesToReadFault, RewritesToWriteFault}
 
 -- one more, in a count of 64 bits that stays at its greatest value
 abbrev pub next_number : ℕ → ℕ

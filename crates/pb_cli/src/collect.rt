@@ -6,9 +6,7 @@ ghost use Rattle.pb_cli.specs.OneEffect.{HasOneEffect};
 
 use crate::fault::Fault;
 use crate::table::{refuse_table, take_table};
-use pb_collect::{CollectFault, collect};
-use pb_ledger::{Ledger, MAX_CAP};
-use pb_points::MapTally;
+use pb_ledger::{CollectFault, Ledger, MAX_CAP, MapTally, collect};
 use pb_poly::{Book, Sink, Source};
 use std::alloc::Global;
 

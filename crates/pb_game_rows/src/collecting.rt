@@ -3,8 +3,7 @@
 ghost use Rattle.std.specs.Prelude.{◌≤◌};
 
 use crate::games::{BOOK_OF_FIVE, FIRST, FIVE, expect_book, ledger_over, line_of};
-use pb_collect::{CollectFault, Totals, collect};
-use pb_ledger::{Ledger, ListTally, MapTally, Tally};
+use pb_ledger::{CollectFault, Ledger, ListTally, MapTally, Tally, Totals, collect};
 use pb_poly::{MemSink, MemSource};
 use pb_samples::{Words, table_of};
 use std::alloc::Global;

@@ -1,3 +1,6 @@
+mod Collected
+mod Fields
+mod Submitting
 pub mod BookLaws
 pub mod Books
 pub mod Counts

@@ -1,9 +1,13 @@
 pub mod Accepting
 pub mod Basis
+pub mod Collecting
+pub mod Collector
 pub mod Counting
+pub mod Exporting
 pub mod Holding
 pub mod Laws
 pub mod Ledger
+pub mod Replies
 pub use Rattle.pb_games.specs.Ids
 pub use Rattle.pb_games.specs.Laws as LineLaws
 pub use Rattle.pb_games.specs.Refusing

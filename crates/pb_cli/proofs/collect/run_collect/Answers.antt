@@ -1,6 +1,6 @@
 use Rattle.std.proofs.Common.{Err, Ok, refl, subst}
 use Rattle.std.proofs.lemmas.Result.{err_from_is_err_and}
-use Rattle.pb_collect.specs.Collecting.{CollectsUntil}
+use Rattle.pb_ledger.specs.Collecting.{CollectsUntil}
 use Rattle.pb_cli.specs.CollectRun.{at_book, at_submissions, at_table}
 use Rattle.pb_cli.proofs.CollectRuns.{collected, made_book, put_refused, refused_fails, refused_put, tells_book, tells_refused}
 use Rattle.pb_cli.proofs.Effects.{has_one_effect}

@@ -1,7 +1,7 @@
 //! What became of lines.
 
 ghost use Rattle.std.specs.Prelude.{◌≡◌};
-ghost use Rattle.pb_collect.specs.Collector.{with_answer};
+ghost use Rattle.pb_ledger.specs.Collector.{with_answer};
 
 use pb_games::Refusal;
 

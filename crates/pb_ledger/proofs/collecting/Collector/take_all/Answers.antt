@@ -1,6 +1,6 @@
 use Rattle.std.proofs.lemmas.Result.{on_ok_weaker, IfErr-weaker}
-use Rattle.pb_collect.proofs.Collected.{all_of, until_of, same_ledger_of, same_sink_of}
-use Rattle.pb_collect.proofs.collecting.Collector.take_all.Goals as goal
+use Rattle.pb_ledger.proofs.Collected.{all_of, until_of, same_ledger_of, same_sink_of}
+use Rattle.pb_ledger.proofs.collecting.Collector.take_all.Goals as goal
 
 pub returns-clause-ok : goal.returns-clause-ok
 returns-clause-ok g c =

@@ -4,9 +4,9 @@ use Rattle.pb_games.specs.Refusing.{Refuses}
 use Rattle.pb_games.proofs.Dues.{first_due, none_at_first}
 use Rattle.pb_ledger.specs.Accepting.{Answer}
 use Rattle.pb_ledger.specs.Ledger.{LedgerState}
-use Rattle.pb_collect.specs.Collector.{Submitted}
+use Rattle.pb_ledger.specs.Collector.{Submitted}
 use Rattle.pb_ledger.proofs.Replies.{Allowed-refused, Takes-refused}
-use Rattle.pb_collect.proofs.collecting.CollectorLineTask.take_long.Goals as goal
+use Rattle.pb_ledger.proofs.collecting.CollectorLineTask.take_long.Goals as goal
 
 pub returns : goal.returns
 returns g c line long =

@@ -2,14 +2,15 @@
 
 ghost use Rattle.std.specs.Prelude.{◌≡◌, ◌≤◌, IfErr, IfOk, OnOk, length};
 ghost use Rattle.pb_poly.specs.Sink.{Put};
-ghost use Rattle.pb_collect.specs.Collecting.{CollectsStream, CollectsTold, CollectsUntil};
-ghost use Rattle.pb_collect.specs.Collector.{CollectsAll, CollectsUntilStop, with_answer};
-ghost use Rattle.pb_collect.specs.Replies.{named, reply_line};
+ghost use Rattle.pb_ledger.specs.Collecting.{CollectsStream, CollectsTold, CollectsUntil};
+ghost use Rattle.pb_ledger.specs.Collector.{CollectsAll, CollectsUntilStop, with_answer};
+ghost use Rattle.pb_ledger.specs.Replies.{named, reply_line};
 
+use crate::ledger::Ledger;
 use crate::reply::Reply;
 use crate::totals::Totals;
 use pb_games::Refusal;
-use pb_ledger::{Ledger, Tally};
+use pb_points::Tally;
 use pb_poly::{Failed, LineTask, LinesFault, Sink, Source, take_lines};
 use std::alloc::Global;
 use thiserror::Error;
@@ -63,7 +64,7 @@ impl<T: Tally, K: Sink> Collector<'_, '_, T, K> {
 impl<T: Tally, K: Sink> LineTask for Collector<'_, '_, T, K> {
     type Stop = Failed;
 
-    ghost use Rattle.pb_collect.specs.Collector.{TakesLine};
+    ghost use Rattle.pb_ledger.specs.Collector.{TakesLine};
 
     ghost takes = { TakesLine K.state };
 

@@ -2,16 +2,16 @@
 use Rattle.std.specs.Prelude.{◌≡◌, ℕ, ◌+◌, ◌⊎◌, Bool, true, false, List, [], ◌∷◌, ◌++◌, length, take, count_by, is_err, Some, IfSome}
 use Rattle.std.specs.Io.KnownBytes.{Appends}
 use Rattle.pb_poly.specs.Source.{SourceState}
-use Rattle.pb_poly.specs.Sink.{SinkState}
+use Rattle.pb_poly.specs.Sink.{SinkState, StillWorks}
 use Rattle.pb_poly.specs.Reads.{ReadsAll, ReadsOn, ReadsSome, ReadsToFault}
 use Rattle.pb_poly.specs.LineTask.{chunk_len}
 use Rattle.pb_poly.specs.Lines.{lines, ended_lines}
 use Rattle.pb_ledger.specs.Accepting.{Accepted, Answer, Run}
 use Rattle.pb_ledger.specs.Ledger.{LedgerState}
-use Rattle.pb_collect.specs.declared.totals.Totals.{Totals}
-use Rattle.pb_collect.specs.declared.collecting.CollectFault.{CollectFault}
-use Rattle.pb_collect.specs.declared.collecting.CollectFault.TheVariants.{Read, Write, Endless, Memory}
-use Rattle.pb_collect.specs.Replies.{replies, reply_line}
+use Rattle.pb_ledger.specs.declared.totals.Totals.{Totals}
+use Rattle.pb_ledger.specs.declared.collecting.CollectFault.{CollectFault}
+use Rattle.pb_ledger.specs.declared.collecting.CollectFault.TheVariants.{Read, Write, Endless, Memory}
+use Rattle.pb_ledger.specs.Replies.{replies, reply_line}
 
 -- the answers to these lines lead from one ledger to the other, which has the same basis and cap
 pub record Leads (ledger ledger' : LedgerState) (L : List (List ℕ)) (R : List Answer) : Type 0 where
@@ -57,10 +57,6 @@ pub record CollectsStream (fills : ℕ) (source source' : SourceState) (sink sin
 abbrev pub CollectsTold : SourceState → SourceState → SinkState → SinkState → LedgerState → LedgerState → Totals → Type 0
 CollectsTold source source' sink sink' ledger ledger' totals = IfSome source.to_come (λ bytes.
     (source'.to_come ≡ Some []) × ((answers : List Answer) × Collects sink sink' ledger ledger' (lines bytes) answers × Counts ledger ledger' answers totals))
-
--- an end that worked still works
-abbrev pub StillWorks : Bool → Bool → Type 0
-StillWorks failed failed' = failed ≡ false → failed' ≡ false
 
 -- the source failed: the lines that an LF ended were taken
 pub record CollectsToReadFault (fills : ℕ) (source source' : SourceState) (sink sink' : SinkState) (ledger ledger' : LedgerState) : Type 0 where

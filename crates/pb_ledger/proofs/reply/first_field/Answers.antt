@@ -1,8 +1,8 @@
 use Rattle.std.proofs.Common.{◌∙◌, ◌==◌, [], ap, length, take}
 use Rattle.std.specs.Prelude.{unwrap_or, slice_index_or}
 use Rattle.std.specs.List.{slice_split}
-use Rattle.pb_collect.proofs.Fields.{first_part_at, without_cr-is}
-use Rattle.pb_collect.proofs.reply.first_field.Goals as goal
+use Rattle.pb_ledger.proofs.Fields.{first_part_at, without_cr-is}
+use Rattle.pb_ledger.proofs.reply.first_field.Goals as goal
 
 pub returns : goal.returns
 returns c =

@@ -2,7 +2,7 @@
 
 ghost use Rattle.std.specs.Prelude.{◌≡◌, ◌≢◌, ◌==◌, ◌⊎◌, ℕ, List, ◌+◌, ◌≤◌, ◌++◌, ◌∷◌, [], decimal, length, position};
 ghost use Rattle.pb_games.specs.Refusing.{field_of};
-ghost use Rattle.pb_collect.specs.Replies.{named, reason, reply_line};
+ghost use Rattle.pb_ledger.specs.Replies.{named, reason, reply_line};
 
 use arrayvec::ArrayVec;
 use itoa::Buffer;

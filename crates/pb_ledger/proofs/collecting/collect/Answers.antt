@@ -1,6 +1,6 @@
 use Rattle.std.proofs.Common.{rules}
-use Rattle.pb_collect.proofs.Collected.{unflushed}
-use Rattle.pb_collect.proofs.collecting.collect.Goals as goal
+use Rattle.pb_ledger.proofs.Collected.{unflushed}
+use Rattle.pb_ledger.proofs.collecting.collect.Goals as goal
 
 pub returns-in-Err-clause-fault : goal.returns-in-Err-clause-fault
 returns-in-Err-clause-fault g c =

@@ -1,7 +1,7 @@
 -- What the collector does with lines.
 use Rattle.std.specs.Prelude.{◌≡◌, ℕ, ◌+◌, ◌-◌, ◌^◌, Bool, true, false, min, List, length, Result, Ok, Err}
 use Rattle.pb_poly.specs.Source.{SourceState}
-use Rattle.pb_poly.specs.Sink.{Put, SinkState}
+use Rattle.pb_poly.specs.Sink.{Put, SinkState, StillWorks}
 use Rattle.pb_poly.specs.Reads.{ReadsAll}
 use Rattle.pb_poly.specs.LineTask.{chunk_len}
 use Rattle.pb_poly.specs.Lines.{lines}
@@ -10,10 +10,10 @@ use Rattle.pb_poly.specs.declared.lines.LinesFault.TheVariants.{Memory, Read, En
 use Rattle.pb_poly.specs.declared.source.Failed.{Failed}
 use Rattle.pb_ledger.specs.Accepting.{Allowed, Answer, Takes}
 use Rattle.pb_ledger.specs.Ledger.{LedgerState}
-use Rattle.pb_collect.specs.declared.totals.Totals.{Totals}
-use Rattle.pb_collect.specs.declared.collecting.Collector.{Collector}
-use Rattle.pb_collect.specs.Replies.{reply_line}
-use Rattle.pb_collect.specs.Collecting.{Collects, CollectsEndless, CollectsToReadFault, CollectsToWriteFault, Counts, StillWorks}
+use Rattle.pb_ledger.specs.declared.totals.Totals.{Totals}
+use Rattle.pb_ledger.specs.declared.collecting.Collector.{Collector}
+use Rattle.pb_ledger.specs.Replies.{reply_line}
+use Rattle.pb_ledger.specs.Collecting.{Collects, CollectsEndless, CollectsToReadFault, CollectsToWriteFault, Counts}
 
 -- one more, in a count of 64 bits that stays at its greatest value
 abbrev pub next_count : ℕ → ℕ

@@ -1,8 +1,8 @@
 use Rattle.std.proofs.Common.{◌≡◌, ◌+◌, sym, subst, length, nat_lt}
 use Rattle.pb_ledger.specs.Ledger.{LedgerState}
-use Rattle.pb_collect.specs.Collector.{Submitted, added}
-use Rattle.pb_collect.proofs.Submitting.{grows, named_short}
-use Rattle.pb_collect.proofs.collecting.CollectorLineTask.take.Goals as goal
+use Rattle.pb_ledger.specs.Collector.{Submitted, added}
+use Rattle.pb_ledger.proofs.Submitting.{grows, named_short}
+use Rattle.pb_ledger.proofs.collecting.CollectorLineTask.take.Goals as goal
 
 pub reply-requires : goal.reply-requires
 reply-requires g c = named_short _ _ _ _ c.submit-answer.ensures.reply

@@ -6,7 +6,7 @@ use Rattle.std.proofs.lemmas.List.{append-nil, append_assoc}
 use Rattle.std.proofs.lemmas.List.Sums.{sum_by-cons}
 use Rattle.std.proofs.KnownBytes.{Appends-nil, Appends-trans, Appends-kept}
 use Rattle.pb_poly.specs.Source.{SourceState}
-use Rattle.pb_poly.specs.Sink.{SinkState, Flush}
+use Rattle.pb_poly.specs.Sink.{SinkState, Flush, StillWorks}
 use Rattle.pb_poly.specs.Lines.{lines, ended_lines}
 use Rattle.pb_poly.specs.Reads.{ReadsSome}
 use Rattle.pb_poly.specs.LineTask.{StopsAtLast, TakesAll, TakesStream, TakesUntil, chunk_len}
@@ -16,11 +16,11 @@ use Rattle.pb_poly.specs.declared.source.Failed.{Failed}
 use Rattle.pb_poly.proofs.LineLemmas.{length-lines}
 use Rattle.pb_ledger.specs.Accepting.{Answer, Run}
 use Rattle.pb_ledger.specs.Ledger.{LedgerState}
-use Rattle.pb_collect.specs.declared.totals.Totals.{Totals}
-use Rattle.pb_collect.specs.declared.collecting.Collector.{Collector}
-use Rattle.pb_collect.specs.Collecting.{Collects, CollectsButOne, CollectsToWriteFault, Leads, StillWorks}
-use Rattle.pb_collect.specs.Collector.{CollectsAll, CollectsUntilStop, Submitted, TakesLine, added, with_answer}
-use Rattle.pb_collect.specs.Replies.{replies, reply_line}
+use Rattle.pb_ledger.specs.declared.totals.Totals.{Totals}
+use Rattle.pb_ledger.specs.declared.collecting.Collector.{Collector}
+use Rattle.pb_ledger.specs.Collecting.{Collects, CollectsButOne, CollectsToWriteFault, Leads}
+use Rattle.pb_ledger.specs.Collector.{CollectsAll, CollectsUntilStop, Submitted, TakesLine, added, with_answer}
+use Rattle.pb_ledger.specs.Replies.{replies, reply_line}
 
 -- ---- counts
 

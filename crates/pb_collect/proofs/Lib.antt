@@ -1,3 +1,0 @@
-mod Collected
-mod Fields
-mod Submitting

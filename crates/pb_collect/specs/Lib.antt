@@ -1,3 +1,0 @@
-pub mod Collecting
-pub mod Collector
-pub mod Replies
