@@ -1,0 +1,60 @@
+//! Each command over the files that it names and the standard streams.
+
+use crate::file::{open, save};
+use pb_cli::{Fault, Order, run_collect, run_epd, run_fen, run_probe, run_show};
+use pb_poly::{FromRead, Sink, ToWrite};
+use std::io;
+
+/// What a command answers; the error is that a file can't be opened or made.
+type Answer = io::Result<Result<bool, Fault>>;
+
+/// What the order's command answers. The files that it reads are opened before anything is read.
+pub(crate) fn answer<K: Sink>(rt: &HostRuntime, order: &Order<'_>, output: &mut K) -> Answer {
+    match order {
+        Order::Fen { record, moves } => {
+            let record = record.as_bytes();
+            Ok(run_fen(rt.alloc(), record, moves.as_slice(), output))
+        }
+        Order::Epd => {
+            let mut input = FromRead::new(rt.reader());
+            Ok(run_epd(rt.alloc(), &mut input, output, u32::MAX))
+        }
+        Order::Show { book } => {
+            let mut book = open(rt, book)?;
+            Ok(run_show(rt.alloc(), &mut book, output, u32::MAX))
+        }
+        Order::Probe {
+            table,
+            book,
+            record,
+        } => probe(rt, table, book, record, output),
+        Order::Collect { table, book } => collect(rt, table, book),
+    }
+}
+
+/// Opens the table, then the book.
+fn probe<K: Sink>(
+    rt: &HostRuntime,
+    table: &str,
+    book: &str,
+    record: &str,
+    output: &mut K,
+) -> Answer {
+    let mut table = open(rt, table)?;
+    let mut book = open(rt, book)?;
+    let record = record.as_bytes();
+    Ok(run_probe(rt.alloc(), &mut table, &mut book, record, output, u32::MAX))
+}
+
+/// Makes the file of the book once there is one, so that a fault or a refused table leaves the old file.
+fn collect(rt: &HostRuntime, table: &str, book: &str) -> Answer {
+    let mut table = open(rt, table)?;
+    let mut input = FromRead::new(rt.reader());
+    // Each reply is written at once, so that it can be waited for before the next line is sent.
+    let mut replies = ToWrite::new(io::writer(rt));
+    match run_collect(rt.alloc(), &mut table, &mut input, &mut replies, u32::MAX) {
+        Ok(Some(made)) => save(rt, book, &made),
+        Ok(None) => Ok(Ok(false)),
+        Err(fault) => Ok(Err(fault)),
+    }
+}

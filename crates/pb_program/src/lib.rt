@@ -1,0 +1,10 @@
+//! What the program `pbook` does with its words: it opens the files that they name, runs their command over them and over the
+//! standard streams, and answers the exit status.
+#![tactic(auto)]
+
+mod command;
+mod fault;
+mod file;
+mod program;
+
+pub use program::{USAGE, run, want_of_memory};

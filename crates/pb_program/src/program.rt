@@ -1,0 +1,55 @@
+//! One run of the program.
+
+ghost use Rattle.std.specs.Prelude.{◌≡◌, ◌≤◌};
+
+use crate::command::answer;
+use crate::fault::{no_file, tell_fault};
+use crate::file::PIECE;
+use pb_cli::{Fault, Order, ParseFault, parse, status};
+use pb_poly::ToWrite;
+use std::io;
+use std::io::BufWriter;
+
+/// The status for words that give no order.
+pub const USAGE: u8 = 2;
+
+/// Reads the words of the command line, of which the first is the program's name, runs their command and answers the exit
+/// status: 0 where all was taken, 1 where an input was refused, 2 where the words give no order, 3 where a device failed or
+/// memory was wanting.
+pub fn run(rt: &HostRuntime, words: &[&str]) -> u8
+    ensures { result ≤ 3 }
+{
+    match parse(rt.alloc(), words) {
+        Ok(order) => perform(rt, &order),
+        Err(ParseFault::Memory) => want_of_memory(rt),
+        Err(ParseFault::Usage(text)) => {
+            let _ = print!(rt; "{text}");
+            USAGE
+        }
+    }
+}
+
+/// Runs the command over standard output and answers the exit status.
+fn perform(rt: &HostRuntime, order: &Order<'_>) -> u8
+    ensures { result ≤ 3 }
+{
+    let Ok(writer) = BufWriter::with_capacity(rt.alloc(), PIECE, io::writer(rt)) else {
+        return want_of_memory(rt);
+    };
+    let mut output = ToWrite::new(writer);
+    let Ok(answer) = answer(rt, order, &mut output) else {
+        return no_file(rt);
+    };
+    if let Err(fault) = answer {
+        tell_fault(&mut output, fault);
+    }
+    status(answer)
+}
+
+/// Tells that there was no memory to begin with, and answers the status of a fault.
+pub fn want_of_memory(rt: &HostRuntime) -> u8
+    ensures { result ≡ 3 }
+{
+    let _ = println!(rt; "fault memory");
+    status(Err(Fault::Memory))
+}
