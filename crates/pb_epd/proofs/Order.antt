@@ -10,7 +10,7 @@ pub below_itself : (xs : List ℕ) → IsBelow xs xs → ⊥
 below_itself [] h = h
 below_itself (x ∷ xs) h = elim h [ inl lt ↦ omega (arith, lt) | inr k ↦ below_itself xs k.1 ]
 
-both_below : (xs ys : List ℕ) → IsBelow xs ys → IsBelow ys xs → ⊥
+pub both_below : (xs ys : List ℕ) → IsBelow xs ys → IsBelow ys xs → ⊥
 both_below [] [] h k = h
 both_below [] (y ∷ ys) h k = k
 both_below (x ∷ xs) [] h k = h

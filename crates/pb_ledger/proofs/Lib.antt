@@ -5,6 +5,7 @@ pub mod BookLaws
 pub mod Books
 pub mod Counts
 pub mod Distinct
+pub mod ExportLaws
 pub mod Gifts
 pub mod Members
 pub mod Numbers

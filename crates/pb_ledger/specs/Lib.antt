@@ -4,6 +4,7 @@ pub mod Collecting
 pub mod Collector
 pub mod Counting
 pub mod Exporting
+pub mod ExportLaws
 pub mod Holding
 pub mod Laws
 pub mod Ledger
