@@ -1,5 +1,8 @@
 -- Laws of the export of a list of games.
-use Rattle.std.proofs.Common.{◌≡◌, ℕ, List, [], map, sym, ap, subst, ◌∙◌}
+use Rattle.std.proofs.Common.{◌≡◌, ◌≢◌, ℕ, List, [], map, get_or, AllPairs, sym, ap, subst, ◌∙◌, arith}
+use Rattle.std.proofs.lemmas.List.Elements.{Contains-get_or}
+use Rattle.pb_board.proofs.Unique.{one_setup_text}
+use Rattle.pb_board.specs.Fen.{FourFields}
 use Rattle.pb_board.specs.Position.{Position}
 use Rattle.pb_epd.specs.ByteOrder.{IsBelow}
 use Rattle.pb_epd.proofs.Order.{below_itself, both_below}
@@ -29,6 +32,16 @@ one_list_of_lines T S a b h k =
 
 pub one_export : (T : Basis) (S : List Submission) (a b : List ℕ) → ExportText T S a → ExportText T S b → a ≡ b
 one_export T S a b h k = h.2 ∙ ap text_of_lines (one_list_of_lines T S h.0 k.0 h.1 k.1) ∙ sym k.2
+
+-- no setup is listed twice
+pub listed_once : (T : Basis) (S : List Submission) (book : List Entry) (xs : List Listed) → IsListing T S book xs → AllPairs (λ x y. x.setup ≢ y.setup) xs
+listed_once T S book xs h i j d lt within e =
+    let x = get_or xs i d in
+    let y = get_or xs j d in
+    let first = (h.members x).0 (Contains-get_or xs i d (omega arith)) in
+    let second = (h.members y).0 (Contains-get_or xs j d within) in
+    let same : x.fields ≡ y.fields = one_setup_text x.setup x.fields y.fields first.fields (subst (λ s. FourFields s y.fields) (sym e) second.fields) in
+    below_itself y.fields (subst (λ w. IsBelow w y.fields) same (h.ordered i j d lt within))
 
 -- ---- lists with the same members
 

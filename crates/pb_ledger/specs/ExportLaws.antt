@@ -1,14 +1,19 @@
 -- Laws of exports, over the definitions alone.
-use Rattle.std.specs.Prelude.{◌≡◌, ℕ, List, []}
+use Rattle.std.specs.Prelude.{◌≡◌, ◌≢◌, ℕ, List, [], AllPairs}
 use Rattle.pb_games.specs.Submissions.{Submission}
+use Rattle.pb_poly.specs.declared.entry.Entry.{Entry}
 use Rattle.pb_ledger.specs.Accepting.{Answer, Accepted, Taken, OneGame}
 use Rattle.pb_ledger.specs.Basis.{Basis}
-use Rattle.pb_ledger.specs.Exporting.{ExportText}
+use Rattle.pb_ledger.specs.Exporting.{Listed, IsListing, ExportText}
 use Rattle.pb_ledger.specs.Laws.{NoRepeats, SameMembers}
 
 -- at most one text is the export of a list of games
 abbrev pub OneExport : Type 0
 OneExport = (T : Basis) (S : List Submission) (a b : List ℕ) → ExportText T S a → ExportText T S b → a ≡ b
+
+-- no setup has two lines
+abbrev pub SetupsAreListedOnce : Type 0
+SetupsAreListedOnce = (T : Basis) (S : List Submission) (book : List Entry) (listed : List Listed) → IsListing T S book listed → AllPairs (λ x y. x.setup ≢ y.setup) listed
 
 -- lists without repeats that have the same members have the same export
 abbrev pub ExportByMembers : Type 0

@@ -1,6 +1,6 @@
 //! Laws of ledgers. Each is the contract of a function that does nothing, over the definitions alone.
 
-ghost use Rattle.pb_ledger.specs.ExportLaws.{ExportByMembers, OneExport, SameExports};
+ghost use Rattle.pb_ledger.specs.ExportLaws.{ExportByMembers, OneExport, SameExports, SetupsAreListedOnce};
 ghost use Rattle.pb_ledger.specs.Laws.{AcceptedIsOne, AcceptedJoin, AcceptingGoesOn, AcceptsTheTaken, BookByMembers, CountsByMembers, HeldIsAnswered, IdsAreDistinct, LawfulArrives, NoConflict, NumbersAreDistinct, NumbersAreGiven, OneBook, OneReply, OneText, RefusalsChangeNothing, RepeatsKeepTheirNumber, RunsAccept, RunsGoOn, RunsJoin, SameBytes, TakenHasNoRepeats, TakenIsOne};
 
 /// What one line is answered and does, where no id stands twice: one reply and no other, to a submission that is held its
@@ -57,9 +57,10 @@ pub fn books()
     ensures same_bytes { SameBytes }
 {}
 
-/// At most one text is the export of a list of games, and it depends on the members alone.
+/// At most one text is the export of a list of games, no setup has two lines in it, and it depends on the members alone.
 pub fn exports()
     ensures one { OneExport }
+    ensures once { SetupsAreListedOnce }
     ensures members { ExportByMembers }
     ensures same_exports { SameExports }
 {}
