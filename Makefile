@@ -3,7 +3,9 @@
 SOURCES := crates.txt $(shell find crates -path '*/out' -prune -o \( -name '*.rt' -o -name '*.antt' \) -print)
 START := rnbqkbnr/pppppppp/8/8/8/8/PPPPPPPP/RNBQKBNR w KQkq - 0 1
 
-.PHONY: build demo test bench clean
+PREFIX := /usr/local
+
+.PHONY: build install demo test bench clean
 
 build: build/pbook
 
@@ -15,6 +17,12 @@ build/pbook: $(SOURCES)
 	    || { cat ../../build/run ../../build/log; exit 1; }
 	@echo '$(START)' | cmp - build/run
 	@install -m 755 crates/pbook/out/pbook $@
+
+# Puts the program, its manual page and its completions for bash in place.
+install: build
+	install -D -m 755 build/pbook '$(DESTDIR)$(PREFIX)/bin/pbook'
+	install -D -m 644 man/pbook.1 '$(DESTDIR)$(PREFIX)/share/man/man1/pbook.1'
+	install -D -m 644 completions/pbook.bash '$(DESTDIR)$(PREFIX)/share/bash-completion/completions/pbook'
 
 # The main job on the bundled examples: a book is made of 300 games and looked into; then games are played from their records,
 # and EPD lines are rewritten. examples/book.bin was made of the same games by another program.
