@@ -18,6 +18,7 @@ mod small_fields;
 mod square;
 mod write;
 
+pub use cut::cut_once;
 pub use fen::{Fen, FenBytes};
 pub use piece::{Colour, Kind, Piece};
 pub use read::{read_fen, read_setup};

@@ -12,6 +12,7 @@ use Rattle.pb_board.proofs.Fens.{spelt_not_due}
 use Rattle.pb_board.proofs.Unique.{one_record}
 use Rattle.pb_poly.specs.Found.{Found}
 use Rattle.pb_poly.specs.Lines.{lines}
+use Rattle.pb_poly.proofs.Tables.{spelled_at}
 use Rattle.pb_poly.specs.Table.{IsFirstUnspelled, IsSpelled}
 use Rattle.pb_poly.specs.declared.entry.Entry.{Entry}
 use Rattle.pb_poly.specs.declared.table.TableError.TheVariants as poly
@@ -41,10 +42,6 @@ one_line : (bytes : List ℕ) (n m : ℕ) → IsFirstUnspelled n bytes → IsFir
 one_line bytes n m h k =
     let same = first_unspelled h.before k.before h.line k.line h.after k.after (sym h.cut ∙ k.cut) h.spelled h.unspelled k.spelled k.unspelled in
     omega (arith, same, h.number_is, k.number_is)
-
-spelled_at : (before : List (List ℕ)) (line : List ℕ) (after : List (List ℕ)) → All IsSpelled (before ++ line ∷ after) → IsSpelled line
-spelled_at [] line after all = All-head IsSpelled line after all
-spelled_at (b ∷ before) line after all = spelled_at before line after (All-tail IsSpelled b (before ++ line ∷ after) all)
 
 no_line : (bytes : List ℕ) (n : ℕ) → All IsSpelled (lines bytes) → IsFirstUnspelled n bytes → ⊥
 no_line bytes n all h =

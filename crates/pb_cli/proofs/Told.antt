@@ -1,6 +1,7 @@
 -- What is read from a source that tells its bytes.
 use Rattle.std.proofs.Common.{◌≡◌, ◌∙◌, ℕ, ◌≤◌, Bool, List, [], ◌++◌, Option, Some, None, ap, append_assoc, append-nil, arith, length, length-append, refl, subst, sym}
 use Rattle.std.specs.Io.KnownBytes.{Consumes, IsAtEnd}
+use Rattle.pb_poly.proofs.Told.{all_came as came_whole, consumed}
 use Rattle.pb_poly.specs.Source.{SourceState}
 use Rattle.pb_poly.specs.Book.{BookBytes}
 use Rattle.pb_poly.specs.Reading.{ReadsBook, Splits, Tells}
@@ -13,25 +14,12 @@ use Rattle.pb_cli.specs.BookRun.{JudgesBook, RefusesBook}
 use Rattle.pb_cli.specs.TableReading.{ReadsTable, RefusesTable}
 use Rattle.pb_cli.specs.TableShown.{IsTableFile, TableRefused, table_limit}
 
--- what came is a front of what was told
-consumed : (old new : Option (List ℕ)) (bytes came : List ℕ) → old ≡ Some bytes → Consumes old new came
-    → (rest : List ℕ) × (new ≡ Some rest) × (bytes ≡ came ++ rest)
-consumed None new bytes came told h = absurd (cc)
-consumed (Some xs) None bytes came told h = absurd h
-consumed (Some xs) (Some ys) bytes came told h = let same : bytes ≡ xs = cc in (ys, refl, same ∙ h)
-
-at_end : (new : Option (List ℕ)) (rest : List ℕ) → new ≡ Some rest → IsAtEnd new → rest ≡ []
-at_end None rest is h = absurd (cc)
-at_end (Some ys) rest is h = let same : rest ≡ ys = cc in same ∙ h
-
 module _ (room fills : ℕ) (old new : SourceState) (bytes : List ℕ) (told : old.to_come ≡ Some bytes) where
   pub came_first : (came : List ℕ) → Reads room fills old new came → (rest : List ℕ) × (bytes ≡ came ++ rest)
   came_first came h = let c = consumed old.to_come new.to_come bytes came told h.bytes in (c.0, c.2)
 
   pub all_came : (came : List ℕ) → ReadsAll room fills old new came → bytes ≡ came
-  all_came came h =
-      let c = consumed old.to_come new.to_come bytes came told h.some.reads.bytes in
-      c.2 ∙ ap (λ xs. came ++ xs) (at_end new.to_come c.0 c.1 h.ended) ∙ append-nil came
+  all_came came h = came_whole old.to_come new.to_come bytes came told h.some.reads.bytes h.ended
 
 module _ (fills : ℕ) (old new : SourceState) (bytes : List ℕ) (told : old.to_come ≡ Some bytes) where
   -- ---- books

@@ -1,5 +1,4 @@
 pub mod Ids
-pub mod IdBuffer
 pub mod Words
 pub mod Results
 pub mod Submissions

@@ -3,7 +3,7 @@
 ghost use Rattle.std.specs.Prelude.{◌≡◌, ◌≢◌, ◌≤◌, ◌∷◌, [], length, MatchOption, IfSome};
 ghost use Rattle.pb_games.specs.Refusing.{fields_of, without_cr};
 
-use crate::cut::cut_once;
+use pb_board::cut_once;
 
 /// The fields of a line that is cut at every TAB.
 #[derive(Clone, Copy)]

@@ -4,8 +4,8 @@ ghost use Rattle.std.specs.Prelude.{◌≡◌, ◌-◌, ◌≤◌, ◌↔◌, �
 ghost use Rattle.std.specs.Cmp.Rules.{comparing, hashing};
 ghost use Rattle.std.specs.Str.{bytes_eq};
 ghost use Rattle.std.proofs.Common.{rules};
+ghost use Rattle.pb_board.specs.Padded.{padded as padded_text};
 ghost use Rattle.pb_games.specs.Ids.{IsId, IsPrintable, hashed};
-ghost use Rattle.pb_games.specs.IdBuffer.{buffer_of};
 
 use std::alloc::AllocError;
 use std::hash::{Hash, Hasher};
@@ -19,17 +19,18 @@ pub struct Id {
 
 impl Model for Id {
     ghost use Rattle.std.specs.Prelude.{List, ℕ, take, length};
-    ghost use Rattle.pb_games.specs.IdBuffer.{buffer_of, IsBuffer, buffer-back};
+    ghost use Rattle.pb_board.specs.Padded.{padded, IsPadded, padded-back};
+    ghost use Rattle.pb_games.specs.Ids.{IsId};
 
     ghost Value = { List ℕ };
 
     ghost view = { λ a. take a.len a.bytes };
 
-    ghost invariant = { λ a. IsBuffer a.bytes a.len };
+    ghost invariant = { λ a. IsId (take a.len a.bytes) × IsPadded 64 a.bytes a.len };
 
-    ghost inverse = { λ id. record { bytes = buffer_of id; len = length id } };
+    ghost inverse = { λ id. record { bytes = padded 64 id; len = length id } };
 
-    ghost inverse_ok = { λ a h. buffer-back (λ bytes len. record { bytes = bytes; len = len }) a.bytes a.len h };
+    ghost inverse_ok = { λ a h. padded-back 64 (λ bytes len. record { bytes = bytes; len = len }) a.bytes a.len h.1 };
 }
 
 impl Clone for Id {
@@ -89,7 +90,7 @@ fn are_printable(bytes: &[u8]) -> bool
 /// The bytes, and zeros after them.
 fn padded(bytes: &[u8]) -> [u8; 64]
     requires { length bytes.now ≤ 64 }
-    ensures { result ≡ buffer_of bytes.now }
+    ensures { result ≡ padded_text 64 bytes.now }
 {
     let mut kept = [0; 64];
     for (i, byte) in bytes.iter().enumerate() {

@@ -2,7 +2,6 @@
 #![tactic(auto)]
 
 mod check;
-mod cut;
 mod fields;
 mod game;
 mod header;

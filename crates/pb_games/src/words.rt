@@ -4,7 +4,7 @@ ghost use Rattle.std.specs.Prelude.{◌≡◌};
 ghost use Rattle.std.specs.Iterator.{YieldsFirstRef, item_count};
 ghost use Rattle.pb_games.specs.Words.{words_of};
 
-use crate::cut::cut_once;
+use pb_board::cut_once;
 use std::marker::Model;
 
 /// The words of a field, one after another.

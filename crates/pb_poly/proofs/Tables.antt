@@ -134,16 +134,16 @@ table_of_spelled bytes count all =
     let found = words_of_spelled (lines bytes) all in
     (found.0, record { all = sym (length_zip (lines bytes) found.0 found.1) ∙ count; each = found.1 })
 
-all_at : (before : List (List ℕ)) (line : List ℕ) (after : List (List ℕ)) → All IsSpelled (before ++ line ∷ after) → IsSpelled line
-all_at [] line after all = All-head IsSpelled line after all
-all_at (b ∷ before) line after all = all_at before line after (All-tail IsSpelled b (before ++ line ∷ after) all)
+pub spelled_at : (before : List (List ℕ)) (line : List ℕ) (after : List (List ℕ)) → All IsSpelled (before ++ line ∷ after) → IsSpelled line
+spelled_at [] line after all = All-head IsSpelled line after all
+spelled_at (b ∷ before) line after all = spelled_at before line after (All-tail IsSpelled b (before ++ line ∷ after) all)
 
 -- no line of a table spells no word
 pub no_first_unspelled : (words : List ℕ) (bytes : List ℕ) (number : ℕ) → TableText words bytes → ¬ IsFirstUnspelled number bytes
 no_first_unspelled words bytes number text h =
     let all = all_spelled (lines bytes) words text.each in
     let here : All IsSpelled (h.before ++ h.line ∷ h.after) = rw h.cut at all in
-    h.unspelled (all_at h.before h.line h.after here)
+    h.unspelled (spelled_at h.before h.line h.after here)
 
 -- what judging a line found
 abbrev pub Judged : Option ℕ → List ℕ → Type 0

@@ -12,16 +12,16 @@ use Rattle.pb_poly.specs.Reading.{FindsNoBook, ReadsBook, Tells}
 use Rattle.pb_poly.proofs.EntryBytes.{NeverFall-front, begins, book_is_one, length-book_bytes}
 
 -- what came is a front of what was told
-consumed : (old new : Option (List ℕ)) (bytes came : List ℕ) → old ≡ Some bytes → Consumes old new came → (rest : List ℕ) × (new ≡ Some rest) × (bytes ≡ came ++ rest)
+pub consumed : (old new : Option (List ℕ)) (bytes came : List ℕ) → old ≡ Some bytes → Consumes old new came → (rest : List ℕ) × (new ≡ Some rest) × (bytes ≡ came ++ rest)
 consumed None new bytes came told h = absurd (cc)
 consumed (Some xs) None bytes came told h = absurd h
 consumed (Some xs) (Some ys) bytes came told h = let same : bytes ≡ xs = cc in (ys, refl, same ∙ h)
 
-at_end : (new : Option (List ℕ)) (rest : List ℕ) → new ≡ Some rest → IsAtEnd new → rest ≡ []
+pub at_end : (new : Option (List ℕ)) (rest : List ℕ) → new ≡ Some rest → IsAtEnd new → rest ≡ []
 at_end None rest is h = absurd (cc)
 at_end (Some ys) rest is h = let same : rest ≡ ys = cc in same ∙ h
 
-all_came : (old new : Option (List ℕ)) (bytes came : List ℕ) → old ≡ Some bytes → Consumes old new came → IsAtEnd new → bytes ≡ came
+pub all_came : (old new : Option (List ℕ)) (bytes came : List ℕ) → old ≡ Some bytes → Consumes old new came → IsAtEnd new → bytes ≡ came
 all_came old new bytes came told h ended =
     let c = consumed old new bytes came told h in
     c.2 ∙ ap (λ xs. came ++ xs) (at_end new c.0 c.1 ended) ∙ append-nil came
