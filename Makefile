@@ -35,6 +35,10 @@ demo: build
 	@build/pbook show build/demo.bin | head -3
 	@echo "$$ pbook probe examples/table.txt build/demo.bin '$(START)'"
 	@build/pbook probe examples/table.txt build/demo.bin '$(START)'
+	@echo '$$ pbook export examples/table.txt < examples/games.txt | tail -1'
+	@build/pbook export examples/table.txt < examples/games.txt > build/demo.epd
+	@tail -1 build/demo.epd
+	@build/pbook epd < build/demo.epd | cmp - build/demo.epd
 	@while IFS='|' read -r record moves; do \
 	    echo "$$ pbook fen '$$record' $$moves"; \
 	    build/pbook fen "$$record" $$moves || test $$? -eq 1; \
@@ -52,6 +56,7 @@ bench: build
 	@sh bench/epd.sh
 	@sh bench/books.sh
 	@sh bench/collect.sh
+	@sh bench/export.sh
 
 clean:
 	rm -rf build crates/*/out

@@ -1,7 +1,7 @@
 #!/bin/sh
 # Times `pbook collect` on games of 80 plies that bench_moves makes (`make bench` builds it): 20,000 games, the same games
-# sent twice, and 100,000 games; and beside it `polyglot make-book` on the first 20,000 as PGN, where it and pgn-extract are
-# installed. Each time is the best of three runs.
+# sent twice, 100,000 games, and 100,000 ids of one game; and beside it `polyglot make-book` on the first 20,000 as PGN, where it
+# and pgn-extract are installed. Each time is the best of three runs.
 set -eu
 PATH=$PATH:/usr/games
 games=crates/bench_moves/out/bench_moves
@@ -49,6 +49,9 @@ figures "collect, the same games again" "$work/lines" $((twice - time)) \
 "$games" lines 100000 > "$work/many"
 figures "collect, 100,000 games" "$work/many" "$(best collect "$work/many")" \
     sh -c "build/pbook collect examples/table.txt $work/book < $work/many"
+awk -F'\t' -v OFS='\t' 'NR == 1 { for (n = 1; n <= 100000; n++) { $1 = "id-" n; print } exit }' "$work/lines" > "$work/one"
+figures "collect, one game under 100,000 ids" "$work/one" "$(best collect "$work/one")" \
+    sh -c "build/pbook collect examples/table.txt $work/book < $work/one"
 
 if command -v polyglot > /dev/null && command -v pgn-extract > /dev/null; then
     awk -F'\t' '{ printf "[Event \"?\"]\n[Result \"%s\"]\n\n%s %s\n\n", $2, $4, $2 }' "$work/lines" > "$work/moves.pgn"
