@@ -1,6 +1,6 @@
 #!/bin/sh
 # Times the program bench_moves (`make bench` builds it): sequences of legal moves a second, and
-# nanoseconds to judge and play a ply. Each figure is the best of five runs, so that other work on the machine
+# nanoseconds to judge and play a ply and to make its key. Each figure is the best of five runs, so that other work on the machine
 # disturbs it least.
 set -eu
 program=crates/bench_moves/out/bench_moves
@@ -30,8 +30,14 @@ sequences "middle game, length 4" "r3k2r/p1ppqpb1/bn2pnp1/3PN3/1p2P3/2N2Q1p/PPPB
 
 # The games are chosen by listing moves, which takes longer than playing them: the difference of two runs is the
 # playing alone.
-one=$(best "$program" games 1)
+first=$(best "$program" games 1)
 many=$(best "$program" games 41)
 plies=$("$program" games 40)
-awk -v plies="$plies" -v time="$((many - one))" \
+awk -v plies="$plies" -v time="$((many - first))" \
     'BEGIN { printf "games: %.0f ns to judge and play a ply, %.1f million plies a second\n", time / plies, plies * 1000 / time }'
+
+# The keys alone: what the same games with their keys take beyond them.
+one=$(best "$program" keys 1)
+keys=$(best "$program" keys 41)
+awk -v plies="$plies" -v time="$((keys - one - many + first))" \
+    'BEGIN { printf "keys: %.0f ns to make the key of a ply from the one before\n", time / plies }'

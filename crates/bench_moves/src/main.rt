@@ -3,11 +3,15 @@
 //! `bench_moves perft FEN DEPTH` prints the number of sequences of that many legal moves from a record.
 //! `bench_moves games ROUNDS` plays a thousand games of up to 200 plies, chosen once by a fixed rule, so many times,
 //! and prints the number of plies that were judged and played.
+//! `bench_moves keys ROUNDS` does the same with the key of each setup made from the one before it, and prints the exclusive or of
+//! the last keys.
 //! `bench_moves lines COUNT` prints so many games of 80 plies as submissions, a line each, with results in turn.
 #![tactic(auto)]
 
 use pb_board::{Fen, Setup, read_fen};
 use pb_moves::{Move, legal_moves, play};
+use pb_poly::{Table, key_after, key_of, read_table};
+use pb_samples::{Words, small_file};
 use std::alloc::{AllocError, Global};
 use std::io::{BufWriter, Write};
 use std::{env, io};
@@ -80,12 +84,32 @@ fn play_game(game: &[Move]) -> u64 {
     count
 }
 
-/// Plays a thousand games so many times, and tells how many plies were legal.
-fn play_games(alloc: Global, rounds: u32) -> Result<u64, AllocError> {
+/// Plays the moves one after the other with their keys, and gives the key of the last setup.
+fn key_of_game(table: &Table, game: &[Move]) -> u64 {
+    let mut setup = Setup::start();
+    let mut key = key_of(table, &setup);
+    for m in game {
+        let Some(next) = play(&setup, *m) else {
+            return key;
+        };
+        key = key_after(table, key, &setup, *m, &next);
+        setup = next;
+    }
+    key
+}
+
+/// A thousand games.
+fn thousand_games(alloc: Global) -> Result<Vec<Vec<Move>>, AllocError> {
     let mut games = Vec::new(alloc);
     for seed in 0..GAMES {
         games.push(choose_game(alloc, u64::from(seed), PLIES)?)?;
     }
+    Ok(games)
+}
+
+/// Plays a thousand games so many times, and tells how many plies were legal.
+fn play_games(alloc: Global, rounds: u32) -> Result<u64, AllocError> {
+    let games = thousand_games(alloc)?;
     let mut count: u64 = 0;
     for _ in 0..rounds {
         for game in &games {
@@ -93,6 +117,18 @@ fn play_games(alloc: Global, rounds: u32) -> Result<u64, AllocError> {
         }
     }
     Ok(count)
+}
+
+/// Plays a thousand games so many times with their keys, and joins the last ones.
+fn key_games(alloc: Global, table: &Table, rounds: u32) -> Result<u64, AllocError> {
+    let games = thousand_games(alloc)?;
+    let mut keys = 0;
+    for _ in 0..rounds {
+        for game in &games {
+            keys ^= key_of_game(table, game);
+        }
+    }
+    Ok(keys)
 }
 
 /// Writes the moves of a game, with single spaces between them.
@@ -123,6 +159,12 @@ fn write_lines<W: Write>(alloc: Global, out: &mut W, count: u64) -> io::Result<(
     out.flush()
 }
 
+/// A table of which word i is 2^(i mod 64).
+fn table(alloc: Global) -> io::Result<Table> {
+    let file = small_file(alloc, Words::Powers)?;
+    read_table(alloc, file.as_slice()).map_err(|_| io::Error::from(io::ErrorKind::InvalidData))
+}
+
 /// The number that a word writes, or 0.
 fn number_in(word: &str) -> u32 {
     word.parse::<u32>().unwrap_or(0)
@@ -138,6 +180,10 @@ fn main(rt: HostRuntime) -> Result<(), io::Error> {
             Err(_) => 0,
         },
         [_, "games", rounds] => play_games(alloc, number_in(rounds))?,
+        [_, "keys", rounds] => {
+            let table = table(alloc)?;
+            key_games(alloc, &table, number_in(rounds))?
+        }
         [_, "lines", count] => {
             let mut out = BufWriter::new(alloc, io::writer(&rt))?;
             return write_lines(alloc, &mut out, u64::from(number_in(count)));
