@@ -2,7 +2,8 @@
 #![tactic(auto)]
 
 use pb_cli::{
-    Fault, Order, ParseFault, parse, run_collect, run_epd, run_fen, run_probe, run_show, status,
+    Fault, Order, ParseFault, parse, run_collect, run_epd, run_export, run_fen, run_probe, run_show,
+    status,
 };
 use pb_poly::{Book, FromRead, Sink, ToWrite, write_book};
 use std::alloc::AllocError;
@@ -115,6 +116,11 @@ fn answer<K: Sink>(
                 Ok(None) => Ok(false),
                 Err(fault) => Err(fault),
             }
+        }
+        Order::Export { table } => {
+            let mut table = FromRead::new(File::open(rt, *table)?);
+            let mut input = FromRead::new(rt.reader());
+            run_export(alloc, &mut table, &mut input, output, u32::MAX)
         }
     })
 }
