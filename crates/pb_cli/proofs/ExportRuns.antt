@@ -47,13 +47,6 @@ not_written fills s s' dropped dropped' l l' collect.Write works h = absurd (cc 
 not_written fills s s' dropped dropped' l l' collect.Endless works h = λ is. cc is
 not_written fills s s' dropped dropped' l l' collect.Memory works h = λ is. cc is
 
-pub blame_of_export : (ledger : LedgerState) (sink sink' : SinkState) (e : ExportFault) → ExportsUntil ledger sink sink' e → BlamesSink sink sink' (fault_of_export e)
-blame_of_export ledger sink sink' export.Write h = record { only = λ is. h.cause; always = λ works fails. refl }
-blame_of_export ledger sink sink' export.Memory h = record {
-  only = λ is. cc is;
-  always = λ works fails. absurd (cc (sym fails ∙ h.cause works));
-}
-
 module _ (fills : ℕ) (t t' s s' : SourceState) (sink sink' : SinkState) where
   -- ---- no table
 

@@ -1,6 +1,6 @@
 use Rattle.std.proofs.Common.{refl}
 use Rattle.std.proofs.lemmas.Result.{err_from_is_err_and}
-use Rattle.pb_cli.proofs.ExportRuns.{blame_of_export, export_ends, exported, no_lines, refused_text, refused_told, submissions_end, table_blame, table_ends, tells_games}
+use Rattle.pb_cli.proofs.ExportRuns.{export_ends, exported, no_lines, refused_text, refused_told, submissions_end, table_blame, table_ends, tells_games}
 use Rattle.pb_cli.proofs.export.run_export.Goals as goal
 
 -- ---- the table is refused
