@@ -12,7 +12,6 @@ use Rattle.pb_ledger.specs.declared.totals.Totals.{Totals}
 use Rattle.pb_ledger.specs.declared.collecting.CollectFault.{CollectFault}
 use Rattle.pb_ledger.specs.declared.collecting.CollectFault.TheVariants as collect
 use Rattle.pb_ledger.specs.declared.exporting.ExportFault.{ExportFault}
-use Rattle.pb_ledger.specs.declared.exporting.ExportFault.TheVariants as export
 use Rattle.pb_cli.specs.CollectRun.{JudgesTable, StopsTable, TakesGames, fault_of, new_ledger}
 use Rattle.pb_cli.specs.ExportRun.{BlamesSink, EndsExport, ExportsGames, PutsExport, TellsExport, at_export, at_submissions, at_table, fault_of_export, ledger_of}
 use Rattle.pb_cli.specs.Judged.{PutsText, PutsUntil}

@@ -1,6 +1,5 @@
 mod CollectRuns
 mod Commands
-mod Digits
 mod Effects
 mod ExportRuns
 mod Hexadecimals

@@ -3,7 +3,6 @@
 #![tactic(auto)]
 
 mod collect;
-mod decimal;
 mod epd;
 mod export;
 mod fault;
