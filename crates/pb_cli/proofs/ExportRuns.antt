@@ -3,7 +3,6 @@ use Rattle.std.proofs.Common.{◌≡◌, ◌∙◌, ◌≢◌, ℕ, Bool, List, 
 use Rattle.std.specs.Prelude.{IfErr, IfOk}
 use Rattle.pb_poly.specs.Source.{SourceState}
 use Rattle.pb_poly.specs.Sink.{SinkState}
-use Rattle.pb_games.specs.Submissions.{Submission}
 use Rattle.pb_ledger.specs.Basis.{Basis}
 use Rattle.pb_ledger.specs.Ledger.{LedgerState}
 use Rattle.pb_ledger.specs.Collecting.{CollectsStream, CollectsUntil}
@@ -13,7 +12,7 @@ use Rattle.pb_ledger.specs.declared.collecting.CollectFault.{CollectFault}
 use Rattle.pb_ledger.specs.declared.collecting.CollectFault.TheVariants as collect
 use Rattle.pb_ledger.specs.declared.exporting.ExportFault.{ExportFault}
 use Rattle.pb_cli.specs.CollectRun.{JudgesTable, StopsTable, TakesGames, fault_of, new_ledger}
-use Rattle.pb_cli.specs.ExportRun.{BlamesSink, EndsExport, ExportsGames, PutsExport, TellsExport, at_export, at_submissions, at_table, fault_of_export, ledger_of}
+use Rattle.pb_cli.specs.ExportRun.{BlamesSink, EndsExport, ExportsGames, TellsExport, at_export, at_submissions, at_table, fault_of_export, ledger_of}
 use Rattle.pb_cli.specs.Judged.{PutsText, PutsUntil}
 use Rattle.pb_cli.specs.Refuses.{RefusesForTable}
 use Rattle.pb_cli.specs.TableReading.{FindsNoTable, ReadsTable}

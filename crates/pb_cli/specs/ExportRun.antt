@@ -13,7 +13,7 @@ use Rattle.pb_ledger.specs.declared.exporting.ExportFault.{ExportFault}
 use Rattle.pb_ledger.specs.declared.exporting.ExportFault.TheVariants as export
 use Rattle.pb_cli.specs.declared.fault.Fault.{Fault}
 use Rattle.pb_cli.specs.declared.fault.Fault.TheVariants.{Write, Memory}
-use Rattle.pb_cli.specs.CollectRun.{JudgesTable, RefusesTold, StopsTable, TakesGames, TakesTold, fault_of, most_games, new_ledger}
+use Rattle.pb_cli.specs.CollectRun.{JudgesTable, RefusesTold, StopsTable, TakesGames, TakesTold, fault_of, new_ledger}
 use Rattle.pb_cli.specs.Judged.{PutsUntil}
 use Rattle.pb_cli.specs.TableReading.{ReadsTable}
 
