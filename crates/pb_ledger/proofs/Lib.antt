@@ -11,3 +11,5 @@ pub mod Numbers
 pub mod Places
 pub mod Replies
 pub mod Runs
+pub mod SetupTexts
+pub mod TextMaps

@@ -10,6 +10,7 @@ pub mod laws;
 mod ledger;
 mod record;
 mod reply;
+mod setups;
 mod totals;
 
 pub use collecting::{CollectFault, collect};
