@@ -1,13 +1,13 @@
 -- The setups of games, in a map by their texts.
-use Rattle.std.proofs.Common.{◌≡◌, ℕ, ◌+◌, ◌<◌, ◌≤◌, ◌↔◌, ◌⊎◌, true, false, List, [], ◌∷◌, ◌++◌, None, append-nil, append_assoc, length, take, drop, get_or, refl, sym, ap, subst, ◌∙◌, inl, inr, arith}
-use Rattle.std.specs.Prelude.{All, AllPairs, Contains, is_some, map}
+use Rattle.std.proofs.Common.{◌≡◌, ℕ, ◌+◌, ◌<◌, ◌≤◌, ◌↔◌, ◌⊎◌, true, false, List, [], ◌∷◌, ◌++◌, Option, Some, None, slice_get, append-nil, append_assoc, length, take, drop, get_or, refl, sym, ap, subst, ◌∙◌, inl, inr, arith}
+use Rattle.std.specs.Prelude.{All, Contains, IsSome, MatchOption, is_some, map}
 use Rattle.std.specs.Global.{Vec}
-use Rattle.std.specs.List.{flat_map}
 use Rattle.std.specs.List.Sorted.{IsStrictlySortedBy}
 use Rattle.std.specs.Map.{lookup, keys_of}
 use Rattle.std.specs.BTreeMap.{insert_entry}
 use Rattle.std.proofs.Math.ListN.{drop_of_length-le}
-use Rattle.std.proofs.lemmas.List.{length_push, drop_more}
+use Rattle.std.proofs.lemmas.List.{length_push, drop_more, flat_map_more, take_more}
+use Rattle.std.proofs.lemmas.Option.{get_or_from_slice_get, slice_get_cases, slice_get_within}
 use Rattle.std.proofs.lemmas.List.Elements.{All-contains, All-nil, All-push, Contains-append_left, Contains-push, Contains-push_cases}
 use Rattle.pb_board.specs.Fen.{FourFields}
 use Rattle.pb_board.specs.Position.{Position, IsSetup}
@@ -23,7 +23,9 @@ use Rattle.pb_epd.proofs.Forms.{form_is_text, record_is_one}
 use Rattle.pb_epd.proofs.Lists.{contains_none, pairs_none}
 use Rattle.pb_epd.proofs.Maps.{key_order, is_at}
 use Rattle.pb_games.specs.declared.game.Game.{Game}
-use Rattle.pb_ledger.specs.Setups.{HoldsSetups, InTextOrder, Named, named_of, setups_before}
+use Rattle.pb_games.specs.Submissions.{IsLegalGame, IsSubmission, Submission}
+use Rattle.pb_ledger.specs.Accepting.{IsNumber}
+use Rattle.pb_ledger.specs.Setups.{HoldsSetups, Named, all_setups, setups_before}
 use Rattle.pb_ledger.proofs.TextMaps.{Gains, in_text_order, insert_gains, named_there, none_there}
 
 -- ---- one text, one setup
@@ -134,3 +136,23 @@ module _ (g : Game) (old mid new : Entries) (s : Position) (ms : List Moved) (i 
       let none : setups_from s (drop i ms) ≡ [] = ap (setups_from s) (drop_of_length-le ms past) in
       let is : h.done ≡ setups_before g = sym (append-nil h.done) ∙ ap (λ xs. h.done ++ xs) (sym none) ∙ h.all in
       subst (λ xs. HoldsSetups (known ++ xs) mid) is (h.holds known k)
+
+-- ---- the setups of all games
+
+-- a game stands under each number up to how many there are
+pub game_there : {X : Type 0} (A : List Submission) (i : ℕ) (r : Option X) (P : X → Type 0) → i < length A → MatchOption r ((s : Submission) → ¬ IsNumber A (i + 1) s) P → IsSome r
+game_there A i None P lt none = elim (slice_get_cases A i).1 [
+  | inl at ↦ absurd (none at.0 (i, refl, at.2))
+  | inr past ↦ absurd (omega (arith, lt, past.0))
+]
+game_there A i (Some x) P lt h = refl
+
+pub numbered_game : (A : List Submission) (n : ℕ) (s : Submission) → All IsSubmission A → IsNumber A n s → IsLegalGame s.1
+numbered_game A n s games h = (All-contains IsSubmission A s games (h.0, slice_get_within A h.0 s h.2, get_or_from_slice_get A h.0 s s h.2)).legal
+
+pub all_setups-more : (A : List Submission) (i : ℕ) (s : Submission) → IsNumber A (i + 1) s → all_setups (take i A) ++ setups_before s.1 ≡ all_setups (take (i + 1) A)
+all_setups-more A i s h =
+    let same : h.0 ≡ i = omega (arith, h.1) in
+    let at = subst (λ k. slice_get A k ≡ Some s) same h.2 in
+    let lt = slice_get_within A i s at in
+    flat_map_more (λ (x : Submission). setups_before x.1) [] (take i A) s ∙ ap all_setups (sym (take_more A i s lt ∙ ap (λ x. take i A ++ x ∷ []) (get_or_from_slice_get A i s s at)))
