@@ -8,6 +8,7 @@ pub mod Distinct
 pub mod Gifts
 pub mod Members
 pub mod Numbers
+pub mod Operands
 pub mod Places
 pub mod Replies
 pub mod Runs

@@ -3,6 +3,7 @@
 #![tactic(auto)]
 
 mod arrival;
+mod book_moves;
 mod collecting;
 mod exporting;
 mod gift;
