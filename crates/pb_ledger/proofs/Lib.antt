@@ -5,7 +5,9 @@ pub mod BookLaws
 pub mod Books
 pub mod Counts
 pub mod Distinct
+pub mod ExportLines
 pub mod Gifts
+pub mod Listings
 pub mod Members
 pub mod Numbers
 pub mod Operands
