@@ -9,7 +9,7 @@ use Rattle.std.proofs.lemmas.List.Elements.{All-contains, Contains-append_cases,
 use Rattle.pb_board.specs.Position.{Position}
 use Rattle.pb_epd.specs.ByteOrder.{IsBelow}
 use Rattle.pb_epd.proofs.Lists.{contains_cases, contains_head, contains_map, contains_none, contains_there, contains_unmap, pairs_head, pairs_tail}
-use Rattle.pb_epd.proofs.Order.{below_itself, both_below}
+use Rattle.pb_epd.proofs.Order.{below_itself}
 use Rattle.pb_games.specs.declared.game.Game.{Game}
 use Rattle.pb_games.specs.Submissions.{IsSubmission, Submission, plies}
 use Rattle.pb_moves.specs.Moved.{Moved}
@@ -20,14 +20,12 @@ use Rattle.pb_poly.specs.declared.source.Failed.{Failed}
 use Rattle.pb_ledger.specs.Basis.{Basis}
 use Rattle.pb_ledger.specs.Counting.{IsBook}
 use Rattle.pb_ledger.specs.Exporting.{ExportLines, ExportText, Exports, ExportsUntil, FaultOf, IsListed, IsListing, Listed, StandsBefore, text_of_lines}
-use Rattle.pb_ledger.specs.Holding.{IsLedger}
 use Rattle.pb_ledger.specs.Ledger.{LedgerState}
 use Rattle.pb_ledger.specs.Listing.{IsListedOf, IsListingOf, PutsFront, PutsListing, text_of}
 use Rattle.pb_ledger.specs.Setups.{HoldsSetups, InTextOrder, Named, all_setups, named_of, setups_before}
 use Rattle.pb_ledger.specs.declared.exporting.ExportFault.{ExportFault}
 use Rattle.pb_ledger.specs.declared.exporting.ExportFault.TheVariants as fault
 use Rattle.pb_ledger.proofs.BookLaws.{one_book}
-use Rattle.pb_ledger.proofs.Gifts.{length-plies_from}
 use Rattle.pb_ledger.proofs.Listings.{text_of-append}
 use Rattle.pb_ledger.proofs.Members.{begins_in_order}
 
@@ -52,17 +50,15 @@ setup_is_there (x ∷ S) s h = elim (contains_cases x S h.0 h.2) [
   | inr later ↦ Contains-append_right (setups_before x.1) (all_setups S) s (setup_is_there S s (h.0, h.1, later, h.3))
 ]
 
--- at most 1,024 for each game
-setups_few : (S : List Submission) → All IsSubmission S → length (all_setups S) ≤ length S * 1024
-setups_few [] games = omega arith
-setups_few (x ∷ S) games =
-    let first : length (setups_before x.1) ≡ length x.1.moves = length-map (plies x.1) (λ (p : Ply). p.0) ∙ length-plies_from x.1.start.setup x.1.moves in
-    let own : length x.1.moves ≤ 1024 = (games 0 x (omega arith)).game.few in
-    omega (arith, length-append (setups_before x.1) (all_setups S), first, own, setups_few S (λ k d lt. games (suc k) d (omega (arith, lt))))
-
--- so a ledger's setups can be counted in 32 bits
-pub setups_fit : (l : LedgerState) (entries : List (Vec ℕ × Position)) → IsLedger l → HoldsSetups (all_setups l.accepted) entries → length entries < 2 ^ 32
-setups_fit l entries rules h = omega (arith, h.few, setups_few l.accepted rules.games, rules.room, rules.few)
+-- no two texts are each below the other
+not_both_below : (xs ys : List ℕ) → IsBelow xs ys → IsBelow ys xs → ⊥
+not_both_below [] [] h k = h
+not_both_below [] (y ∷ ys) h k = k
+not_both_below (x ∷ xs) [] h k = h
+not_both_below (x ∷ xs) (y ∷ ys) (inl lt) (inl gt) = omega arith
+not_both_below (x ∷ xs) (y ∷ ys) (inl lt) (inr q) = omega (arith, lt, q.0)
+not_both_below (x ∷ xs) (y ∷ ys) (inr p) (inl gt) = omega (arith, p.0, gt)
+not_both_below (x ∷ xs) (y ∷ ys) (inr p) (inr q) = not_both_below xs ys p.1 q.1
 
 -- ---- the listing of the games
 
@@ -89,7 +85,7 @@ module _ (T : Basis) (S : List Submission) (book : List Entry) (entries : List (
   -- the listing of the first setups is the beginning of that of all
   pub listing_begins : (front back : List Named) (listed all : List Listed) → named_of entries ≡ front ++ back → IsListingOf T.words book front listed → IsListing T S book all → (rest : List Listed) × (all ≡ listed ++ rest)
   listing_begins front back listed all are h k =
-      begins_in_order (λ (x y : Listed). IsBelow x.fields y.fields) (λ x. below_itself x.fields) (λ x y. both_below x.fields y.fields) listed all h.ordered k.ordered to from
+      begins_in_order (λ (x y : Listed). IsBelow x.fields y.fields) (λ x. below_itself x.fields) (λ x y. not_both_below x.fields y.fields) listed all h.ordered k.ordered to from
     where
       to : (x : Listed) → Contains listed x → Contains all x
       to x c =

@@ -1,12 +1,12 @@
 -- The setups of games, in a map by their texts.
-use Rattle.std.proofs.Common.{◌≡◌, ℕ, ◌+◌, ◌<◌, ◌≤◌, ◌↔◌, ◌⊎◌, true, false, List, [], ◌∷◌, ◌++◌, Option, Some, None, slice_get, append-nil, append_assoc, length, take, drop, get_or, refl, sym, ap, subst, ◌∙◌, inl, inr, arith}
+use Rattle.std.proofs.Common.{suc, ◌≡◌, ℕ, ◌+◌, ◌*◌, ◌^◌, ◌<◌, ◌≤◌, ◌↔◌, ◌⊎◌, true, false, List, [], ◌∷◌, ◌++◌, Option, Some, None, slice_get, append-nil, append_assoc, length, take, drop, get_or, refl, sym, ap, subst, ◌∙◌, inl, inr, arith}
 use Rattle.std.specs.Prelude.{All, Contains, IsSome, MatchOption, is_some, map}
 use Rattle.std.specs.Global.{Vec}
 use Rattle.std.specs.List.Sorted.{IsStrictlySortedBy}
 use Rattle.std.specs.Map.{lookup, keys_of}
 use Rattle.std.specs.BTreeMap.{insert_entry}
 use Rattle.std.proofs.Math.ListN.{drop_of_length-le}
-use Rattle.std.proofs.lemmas.List.{length_push, drop_more, flat_map_more, take_more}
+use Rattle.std.proofs.lemmas.List.{drop_more, flat_map_more, length-append, length-map, length_push, take_more}
 use Rattle.std.proofs.lemmas.Option.{get_or_from_slice_get, slice_get_cases, slice_get_within}
 use Rattle.std.proofs.lemmas.List.Elements.{All-contains, All-nil, All-push, Contains-append_left, Contains-push, Contains-push_cases}
 use Rattle.pb_board.specs.Fen.{FourFields}
@@ -15,7 +15,7 @@ use Rattle.pb_board.proofs.Unique.{one_setup_text}
 use Rattle.pb_moves.specs.Cases.{Legal}
 use Rattle.pb_moves.specs.Moved.{Moved}
 use Rattle.pb_moves.specs.Successor.{after}
-use Rattle.pb_moves.specs.Played.{AreLegal, plies_from}
+use Rattle.pb_moves.specs.Played.{AreLegal, Ply, plies_from}
 use Rattle.pb_epd.specs.Epd.{EpdForm, EpdRecord, EpdText, IsEpd}
 use Rattle.pb_epd.specs.Operation.{IsOperation, Operation}
 use Rattle.pb_epd.specs.ByteOrder.{IsBelow}
@@ -23,9 +23,12 @@ use Rattle.pb_epd.proofs.Forms.{form_is_text, record_is_one}
 use Rattle.pb_epd.proofs.Lists.{contains_none, pairs_none}
 use Rattle.pb_epd.proofs.Maps.{key_order, is_at}
 use Rattle.pb_games.specs.declared.game.Game.{Game}
-use Rattle.pb_games.specs.Submissions.{IsLegalGame, IsSubmission, Submission}
+use Rattle.pb_games.specs.Submissions.{IsLegalGame, IsSubmission, Submission, plies}
 use Rattle.pb_ledger.specs.Accepting.{IsNumber}
 use Rattle.pb_ledger.specs.Setups.{HoldsSetups, Named, all_setups, setups_before}
+use Rattle.pb_ledger.specs.Holding.{IsLedger}
+use Rattle.pb_ledger.specs.Ledger.{LedgerState}
+use Rattle.pb_ledger.proofs.Gifts.{length-plies_from}
 use Rattle.pb_ledger.proofs.TextMaps.{Gains, in_text_order, insert_gains, named_there, none_there}
 
 -- ---- one text, one setup
@@ -156,3 +159,15 @@ all_setups-more A i s h =
     let at = subst (λ k. slice_get A k ≡ Some s) same h.2 in
     let lt = slice_get_within A i s at in
     flat_map_more (λ (x : Submission). setups_before x.1) [] (take i A) s ∙ ap all_setups (sym (take_more A i s lt ∙ ap (λ x. take i A ++ x ∷ []) (get_or_from_slice_get A i s s at)))
+
+-- at most 1,024 for each game
+setups_few : (S : List Submission) → All IsSubmission S → length (all_setups S) ≤ length S * 1024
+setups_few [] games = omega arith
+setups_few (x ∷ S) games =
+    let first : length (setups_before x.1) ≡ length x.1.moves = length-map (plies x.1) (λ (p : Ply). p.0) ∙ length-plies_from x.1.start.setup x.1.moves in
+    let own : length x.1.moves ≤ 1024 = (games 0 x (omega arith)).game.few in
+    omega (arith, length-append (setups_before x.1) (all_setups S), first, own, setups_few S (λ k d lt. games (suc k) d (omega (arith, lt))))
+
+-- so a ledger's setups can be counted in 32 bits
+pub setups_fit : (l : LedgerState) (entries : Entries) → IsLedger l → HoldsSetups (all_setups l.accepted) entries → length entries < 2 ^ 32
+setups_fit l entries rules h = omega (arith, h.few, setups_few l.accepted rules.games, rules.room, rules.few)

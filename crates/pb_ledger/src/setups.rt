@@ -1,6 +1,6 @@
 //! The setups that stand before the moves of games, by their texts.
 
-ghost use Rattle.std.specs.Prelude.{◌≡◌, ◌∷◌, ◌++◌, [], List, IfOk, OnOk};
+ghost use Rattle.std.specs.Prelude.{◌≡◌, ◌<◌, ◌^◌, ◌∷◌, ◌++◌, [], List, IfOk, OnOk, length};
 ghost use Rattle.pb_board.specs.Position.{Position};
 ghost use Rattle.pb_games.specs.Submissions.{IsLegalGame};
 ghost use Rattle.pb_ledger.specs.Setups.{HoldsSetups, all_setups, setups_before};
@@ -18,7 +18,8 @@ pub(crate) fn setups_of<T: Tally>(
     alloc: Global,
     ledger: &Ledger<T>,
 ) -> Result<BTreeMap<Vec<u8>, Setup>, AllocError>
-    ensures { IfOk result (λ setups. HoldsSetups (all_setups ledger.now.accepted) setups.entries) }
+    ensures setups { IfOk result (λ setups. HoldsSetups (all_setups ledger.now.accepted) setups.entries) }
+    ensures few { IfOk result (λ setups. length setups.entries < 2 ^ 32) }
 {
     let mut setups = BTreeMap::new(alloc);
     for index in 0..ledger.len() {
