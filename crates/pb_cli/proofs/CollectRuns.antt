@@ -9,7 +9,7 @@ use Rattle.pb_ledger.specs.Counting.{IsBook}
 use Rattle.pb_ledger.specs.Ledger.{LedgerState}
 use Rattle.pb_ledger.specs.Collecting.{CollectsStream}
 use Rattle.pb_ledger.specs.declared.totals.Totals.{Totals}
-use Rattle.pb_cli.specs.CollectRun.{CollectsBook, CollectsGames, JudgesTable, StopsTable, TellsCollect, new_ledger}
+use Rattle.pb_cli.specs.CollectRun.{CollectsBook, CollectsGames, JudgesTable, StopsTable, TakesGames, TellsCollect, new_ledger}
 use Rattle.pb_cli.specs.Judged.{PutsText, PutsUntil}
 use Rattle.pb_cli.specs.Refuses.{RefusesForTable}
 use Rattle.pb_cli.specs.TableReading.{FindsNoTable, ReadsTable}
@@ -49,16 +49,26 @@ module _ (fills : ℕ) (t t' s s' : SourceState) (sink sink' : SinkState) where
 
   -- ---- submissions
 
+  abbrev taken : (words : List ℕ) (l' : LedgerState) (totals : Totals) → ReadsTable fills t t' words
+      → CollectsStream fills s s' sink sink' (new_ledger words) l' totals → TakesGames fills t t' s s' words l'.accepted
+  taken words l' totals read h = record {
+    table = read;
+    came = h.came;
+    reads = h.reads;
+    answers = h.answers;
+    run = h.collects.leads.run;
+    accepted = h.collects.leads.accepted;
+  }
+
+  pub took : (words : List ℕ) (l l' : LedgerState) (totals : Totals) → l ≡ new_ledger words → ReadsTable fills t t' words
+      → CollectsStream fills s s' sink sink' l l' totals → TakesGames fills t t' s s' words l'.accepted
+  took words l l' totals is read g = taken words l' totals read (subst (λ m. CollectsStream fills s s' sink sink' m l' totals) is g)
+
   pub collected : (words : List ℕ) (l l' : LedgerState) (totals : Totals) → l ≡ new_ledger words → ReadsTable fills t t' words
       → CollectsStream fills s s' sink sink' l l' totals → CollectsGames fills t t' s s' sink sink' words l'.accepted
   collected words l l' totals is read g =
       let h = subst (λ m. CollectsStream fills s s' sink sink' m l' totals) is g in record {
-        table = read;
-        came = h.came;
-        reads = h.reads;
-        answers = h.answers;
-        run = h.collects.leads.run;
-        accepted = h.collects.leads.accepted;
+        takes = taken words l' totals read h;
         put = h.collects.put;
         works = h.works;
         flushed = h.flushed;
@@ -78,7 +88,7 @@ module _ (fills : ℕ) (t t' s s' : SourceState) (sink sink' : SinkState) where
       → TellsCollect file bytes sink sink' (Some entries)
   book_told entries None bytes is_t is_s h = tt
   book_told entries (Some file) None is_t is_s h = tt
-  book_told entries (Some file) (Some bytes) is_t is_s h = told_book fills t t' s s' sink sink' entries file bytes is_t is_s h
+  book_told entries (Some file) (Some bytes) is_t is_s h = told_book fills t t' s s' file bytes is_t is_s sink sink' entries h
 
   pub tells_book : (entries : List Entry) → CollectsBook fills t t' s s' sink sink' entries → TellsCollect t.to_come s.to_come sink sink' (Some entries)
   tells_book entries h = book_told entries t.to_come s.to_come refl refl h

@@ -17,7 +17,7 @@ use Rattle.pb_ledger.proofs.Distinct.{accepts_the_taken, lawful_arrives, no_repe
 use Rattle.pb_ledger.proofs.Numbers.{repeats_keep}
 use Rattle.pb_ledger.proofs.Replies.{Takes-refusal, Takes-unique}
 use Rattle.pb_ledger.specs.Replies.{replies}
-use Rattle.pb_cli.specs.CollectRun.{CollectsBook, CollectsTold, most_games}
+use Rattle.pb_cli.specs.CollectRun.{CollectsBook, CollectsTold, TakesGames, TakesTold, most_games}
 use Rattle.pb_cli.specs.OneEffect.{HasOneEffect, OneEffect, RefusalsLeaveTheGames}
 use Rattle.pb_cli.proofs.Told.{all_came, told_table}
 
@@ -45,18 +45,24 @@ refusals_leave cap L R run i e A B told h k =
 
 -- ---- sources that tell their bytes
 
-module _ (fills : ℕ) (t t' s s' : SourceState) (sink sink' : SinkState) (entries : List Entry) where
-  pub told_book : (file bytes : List ℕ) → t.to_come ≡ Some file → s.to_come ≡ Some bytes → CollectsBook fills t t' s s' sink sink' entries → CollectsTold file bytes sink sink' entries
-  told_book file bytes told_t told_s h =
-      let g = h.games in
+module _ (fills : ℕ) (t t' s s' : SourceState) (file bytes : List ℕ) (told_t : t.to_come ≡ Some file) (told_s : s.to_come ≡ Some bytes) where
+  abbrev pub told_games : (words : List ℕ) (held : List Submission) → TakesGames fills t t' s s' words held → TakesTold file bytes words held
+  told_games words held g =
       let all = sym (all_came chunk_len fills s s' bytes told_s g.came g.reads) in record {
-        words = h.words;
-        table = told_table fills t t' file told_t h.words g.table;
+        table = told_table fills t t' file told_t words g.table;
         answers = g.answers;
         run = subst (λ (xs : List ℕ). Run most_games [] (lines xs) g.answers) all g.run;
-        put = subst (λ (xs : List ℕ). Appends sink.bytes sink'.bytes (replies (lines xs) g.answers)) all g.put;
+        accepted = subst (λ (xs : List ℕ). Accepted [] (lines xs) g.answers held) all g.accepted;
+      }
+
+  pub told_book : (sink sink' : SinkState) (entries : List Entry) → CollectsBook fills t t' s s' sink sink' entries → CollectsTold file bytes sink sink' entries
+  told_book sink sink' entries h =
+      let g = h.games.takes in
+      let all = sym (all_came chunk_len fills s s' bytes told_s g.came g.reads) in record {
+        words = h.words;
         held = h.held;
-        accepted = subst (λ (xs : List ℕ). Accepted [] (lines xs) g.answers h.held) all g.accepted;
+        takes = told_games h.words h.held g;
+        put = subst (λ (xs : List ℕ). Appends sink.bytes sink'.bytes (replies (lines xs) g.answers)) all h.games.put;
         book = h.book;
       }
 
@@ -65,16 +71,17 @@ module _ (fills : ℕ) (t t' s s' : SourceState) (sink sink' : SinkState) (entri
 one_effect : (file bytes : List ℕ) (sink sink' : SinkState) (entries : List Entry) → NeverFall entries → All IsEntry entries
     → CollectsTold file bytes sink sink' entries → OneGame (lines bytes) → OneEffect file bytes sink sink' entries
 one_effect file bytes sink sink' entries ordered bounds h one =
-    let taken = accepts_the_taken (lines bytes) h.answers h.held one h.accepted in
+    let g = h.takes in
+    let taken = accepts_the_taken (lines bytes) g.answers h.held one g.accepted in
     let T : Basis = record { words = h.words } in record {
       words = h.words;
-      table = h.table;
-      answers = h.answers;
-      run = h.run;
+      table = g.table;
+      answers = g.answers;
+      run = g.run;
       put = h.put;
       taken = h.held;
       are_taken = taken;
-      once = no_repeats (lines bytes) h.answers h.held taken;
+      once = no_repeats (lines bytes) g.answers h.held taken;
       book = h.book;
       text = record {
         text = book_bytes entries;
@@ -84,9 +91,9 @@ one_effect file bytes sink sink' entries ordered bounds h one =
           one_text T h.held others entries other (book_bytes entries) is spelled h.book (record { bounds = bounds; are = refl }),
         );
       };
-      arrivals = lawful_arrives most_games (lines bytes) h.answers one h.run;
-      repeats = repeats_keep most_games (lines bytes) h.answers h.run;
-      refusals = refusals_leave most_games (lines bytes) h.answers h.run;
+      arrivals = lawful_arrives most_games (lines bytes) g.answers one g.run;
+      repeats = repeats_keep most_games (lines bytes) g.answers g.run;
+      refusals = refusals_leave most_games (lines bytes) g.answers g.run;
     }
 
 module _ (fills : ℕ) (t t' s s' : SourceState) (sink sink' : SinkState) (entries : List Entry) where
@@ -95,7 +102,7 @@ module _ (fills : ℕ) (t t' s s' : SourceState) (sink sink' : SinkState) (entri
   effect_both None bytes is_t is_s ordered bounds h = tt
   effect_both (Some file) None is_t is_s ordered bounds h = tt
   effect_both (Some file) (Some bytes) is_t is_s ordered bounds h =
-      one_effect file bytes sink sink' entries ordered bounds (told_book fills t t' s s' sink sink' entries file bytes is_t is_s h)
+      one_effect file bytes sink sink' entries ordered bounds (told_book fills t t' s s' file bytes is_t is_s sink sink' entries h)
 
   pub has_one_effect : NeverFall entries → All IsEntry entries → CollectsBook fills t t' s s' sink sink' entries
       → HasOneEffect t.to_come s.to_come sink sink' entries

@@ -1,7 +1,7 @@
 mod CollectRuns
 mod Commands
-mod Digits
 mod Effects
+mod ExportRuns
 mod Hexadecimals
 mod Judging
 mod Lines

@@ -30,16 +30,20 @@ most_games = 1000000
 abbrev pub new_ledger : List ℕ → LedgerState
 new_ledger words = record { basis = record { words = words }; cap = most_games; accepted = [] }
 
--- the table of these words was read, and all lines of the stream were submitted, from no games on, and answered; their replies
--- were put and handed on, and these games are held
-pub record CollectsGames (fills : ℕ) (t t' s s' : SourceState) (sink sink' : SinkState) (words : List ℕ) (held : List Submission) : Type 0 where
+-- the table of these words was read, and all lines of the stream were submitted, from no games on, and answered; these games are
+-- held
+pub record TakesGames (fills : ℕ) (t t' s s' : SourceState) (words : List ℕ) (held : List Submission) : Type 0 where
   pub table : ReadsTable fills t t' words
   pub came : List ℕ
   pub reads : ReadsAll chunk_len fills s s' came
   pub answers : List Answer
   pub run : Run most_games [] (lines came) answers
   pub accepted : Accepted [] (lines came) answers held
-  pub put : Appends sink.bytes sink'.bytes (replies (lines came) answers)
+
+-- the same, and the replies were put and handed on
+pub record CollectsGames (fills : ℕ) (t t' s s' : SourceState) (sink sink' : SinkState) (words : List ℕ) (held : List Submission) : Type 0 where
+  pub takes : TakesGames fills t t' s s' words held
+  pub put : Appends sink.bytes sink'.bytes (replies (lines takes.came) takes.answers)
   pub works : sink'.failed ≡ false
   pub flushed : sink'.flushed ≡ true
 
@@ -50,15 +54,19 @@ pub record CollectsBook (fills : ℕ) (t t' s s' : SourceState) (sink sink' : Si
   pub games : CollectsGames fills t t' s s' sink sink' words held
   pub book : IsBook (record { words = words }) held entries
 
--- the same of a table file and of submissions that are told
-pub record CollectsTold (file bytes : List ℕ) (sink sink' : SinkState) (entries : List Entry) : Type 0 where
-  pub words : List ℕ
+-- the games that are held of a table file and of submissions that are told
+pub record TakesTold (file bytes words : List ℕ) (held : List Submission) : Type 0 where
   pub table : IsTableFile words file
   pub answers : List Answer
   pub run : Run most_games [] (lines bytes) answers
-  pub put : Appends sink.bytes sink'.bytes (replies (lines bytes) answers)
-  pub held : List Submission
   pub accepted : Accepted [] (lines bytes) answers held
+
+-- the replies to submissions that are told, and the book of the games that are held
+pub record CollectsTold (file bytes : List ℕ) (sink sink' : SinkState) (entries : List Entry) : Type 0 where
+  pub words : List ℕ
+  pub held : List Submission
+  pub takes : TakesTold file bytes words held
+  pub put : Appends sink.bytes sink'.bytes (replies (lines bytes) takes.answers)
   pub book : IsBook (record { words = words }) held entries
 
 -- the line was put that refuses a table file that is told

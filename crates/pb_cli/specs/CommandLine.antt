@@ -33,6 +33,9 @@ probe_command = with_rule (with_rule (with_rule (new_app (codes "probe")) (requi
 abbrev pub collect_command : App
 collect_command = with_rule (with_rule (new_app (codes "collect")) (required_word (codes "TABLE"))) (required_word (codes "BOOK"))
 
+abbrev pub export_command : App
+export_command = with_rule (new_app (codes "export")) (required_word (codes "TABLE"))
+
 -- the program, before its commands
 abbrev pub program_alone : App
 program_alone = on_top (λ s. record s {
@@ -43,5 +46,5 @@ program_alone = on_top (λ s. record s {
 
 -- the whole command line
 abbrev pub pbook : App
-pbook = with_subcommand (with_subcommand (with_subcommand (with_subcommand (with_subcommand program_alone fen_command.top) epd_command.top) show_command.top)
-    probe_command.top) collect_command.top
+pbook = with_subcommand (with_subcommand (with_subcommand (with_subcommand (with_subcommand (with_subcommand program_alone fen_command.top) epd_command.top)
+    show_command.top) probe_command.top) collect_command.top) export_command.top

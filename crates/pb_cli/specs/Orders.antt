@@ -15,6 +15,7 @@ name_of order.Epd = codes "epd"
 name_of (order.Show _) = codes "show"
 name_of (order.Probe _ _ _) = codes "probe"
 name_of (order.Collect _ _) = codes "collect"
+name_of (order.Export _) = codes "export"
 
 -- the argument of this name was given this word
 abbrev pub HasWord : Text → Bor Text → List Row → Type 0
@@ -27,6 +28,7 @@ HasWords order.Epd rows = Unit {0}
 HasWords (order.Show book) rows = HasWord (codes "BOOK") book rows
 HasWords (order.Probe table book fen) rows = HasWord (codes "TABLE") table rows × HasWord (codes "BOOK") book rows × HasWord (codes "FEN") fen rows
 HasWords (order.Collect table book) rows = HasWord (codes "TABLE") table rows × HasWord (codes "BOOK") book rows
+HasWords (order.Export table) rows = HasWord (codes "TABLE") table rows
 
 -- the order is that of the command that was found, with its words as the matches give them
 abbrev pub IsOrderOf : Order → Option (Text × List Row) → Type 0

@@ -7,9 +7,9 @@ ghost use Rattle.pb_cli.specs.EpdShown.{IsBlank, IsWithoutReturn, reason, refuse
 ghost use Rattle.pb_cli.specs.Line.{joined, with_end};
 ghost use Rattle.pb_cli.specs.Rewriter.{LineTaken, Puts, RewritesAll, RewritesUntilStop};
 
-use crate::decimal::Decimal;
 use crate::fault::Fault;
 use crate::output::put_line;
+use itoa::Buffer;
 use pb_epd::{EpdError, read_epd, write_epd};
 use pb_poly::{LineTask, LinesFault, Sink, Source, take_lines};
 use std::alloc::Global;
@@ -165,19 +165,19 @@ fn put_refusal<K: Sink>(sink: &mut K, number: u64, error: EpdError) -> Result<()
 {
     match error {
         EpdError::Token(at) => {
-            let at = Decimal::new(at as u64);
-            refuse(sink, number, b"token ", at.as_bytes())
+            let mut buffer = Buffer::new();
+            refuse(sink, number, b"token ", buffer.format(at).as_bytes())
         }
         EpdError::Fields => refuse(sink, number, b"fields", b""),
         EpdError::Setup(refusal) => refuse(sink, number, b"setup ", refusal.word().as_bytes()),
         EpdError::Opcode(place) => {
-            let place = Decimal::new(place as u64);
-            refuse(sink, number, b"opcode ", place.as_bytes())
+            let mut buffer = Buffer::new();
+            refuse(sink, number, b"opcode ", buffer.format(place).as_bytes())
         }
         EpdError::Unended => refuse(sink, number, b"unended", b""),
         EpdError::Repeated(place) => {
-            let place = Decimal::new(place as u64);
-            refuse(sink, number, b"repeated ", place.as_bytes())
+            let mut buffer = Buffer::new();
+            refuse(sink, number, b"repeated ", buffer.format(place).as_bytes())
         }
         EpdError::Memory => unreachable!(),
     }
@@ -187,7 +187,8 @@ fn put_refusal<K: Sink>(sink: &mut K, number: u64, error: EpdError) -> Result<()
 fn refuse<K: Sink>(sink: &mut K, number: u64, word: &[u8], detail: &[u8]) -> Result<(), Stop>
     ensures { Puts (K.state sink.old) (K.state sink.new) (refused_line number (word.now ++ detail.now)) result }
 {
-    let digits = Decimal::new(number);
+    let mut buffer = Buffer::new();
+    let digits = buffer.format(number);
     put(sink, &[b"refused ", digits.as_bytes(), b" ", word, detail])
 }
 

@@ -15,9 +15,9 @@ ghost use Rattle.pb_cli.specs.Refused.{refusal_line};
 ghost use Rattle.pb_cli.specs.Shows.{Shows};
 ghost use Rattle.pb_cli.specs.declared.fault.Fault.TheVariants.{Write};
 
-use crate::decimal::Decimal;
 use crate::fault::Fault;
 use crate::output::show_line;
+use itoa::Buffer;
 use pb_board::{Fen, FenError, read_fen};
 use pb_moves::{advance, read_move};
 use pb_poly::Sink;
@@ -143,11 +143,13 @@ fn show_refusal<K: Sink>(sink: &mut K, refusal: Refusal) -> Result<(), Fault>
     match refusal {
         Refusal::Record(error) => show_line(sink, &[b"refused fen ", error.word().as_bytes()]),
         Refusal::Spelling(number) => {
-            let digits = Decimal::new(number as u64);
+            let mut buffer = Buffer::new();
+            let digits = buffer.format(number);
             show_line(sink, &[b"refused spelling ", digits.as_bytes()])
         }
         Refusal::Illegal(number) => {
-            let digits = Decimal::new(number as u64);
+            let mut buffer = Buffer::new();
+            let digits = buffer.format(number);
             show_line(sink, &[b"refused illegal ", digits.as_bytes()])
         }
     }

@@ -2,7 +2,7 @@
 ghost use Rattle.std.specs.Prelude.{◌≡◌, IfOk, codes, false};
 ghost use Rattle.clap.specs.Words.{rule_of};
 ghost use Rattle.pb_cli.specs.Built.{IsCommand};
-ghost use Rattle.pb_cli.specs.CommandLine.{collect_command, epd_command, fen_command, further_words, pbook, probe_command, program_alone, required_word, show_command};
+ghost use Rattle.pb_cli.specs.CommandLine.{collect_command, epd_command, export_command, fen_command, further_words, pbook, probe_command, program_alone, required_word, show_command};
 
 use clap::{Arg, ArgAction, Command};
 use std::alloc::{AllocError, Global};
@@ -35,7 +35,8 @@ pub fn command_line<'a>(alloc: Global) -> Result<Command<'a>, AllocError>
     let with_show = with_epd.subcommand(show(alloc)?)?;
     let with_probe = with_show.subcommand(probe(alloc)?)?;
     let with_collect = with_probe.subcommand(collect(alloc)?)?;
-    Ok(with_collect)
+    let with_export = with_collect.subcommand(export(alloc)?)?;
+    Ok(with_export)
 }
 
 /// The program without its commands. Its name in usage lines is `pbook`, however it was called.
@@ -100,6 +101,16 @@ fn collect<'a>(alloc: Global) -> Result<Command<'a>, AllocError>
     );
     let tabled = unfinished.arg(required(alloc, "TABLE", TABLE_HELP))?;
     let whole = tabled.arg(required(alloc, "BOOK", MADE_HELP))?;
+    Ok(whole)
+}
+
+fn export<'a>(alloc: Global) -> Result<Command<'a>, AllocError>
+    ensures { IfOk result (IsCommand export_command) }
+{
+    let bare = Command::new(alloc, "export").about(
+        "Takes games from standard input and prints the book of those that are held as EPD lines",
+    );
+    let whole = bare.arg(required(alloc, "TABLE", TABLE_HELP))?;
     Ok(whole)
 }
 

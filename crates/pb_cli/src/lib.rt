@@ -3,8 +3,8 @@
 #![tactic(auto)]
 
 mod collect;
-mod decimal;
 mod epd;
+mod export;
 mod fault;
 mod fen;
 mod grammar;
@@ -18,6 +18,7 @@ mod table;
 
 pub use collect::run_collect;
 pub use epd::run_epd;
+pub use export::run_export;
 pub use fault::{Fault, status};
 pub use fen::run_fen;
 pub use order::{Order, ParseFault, parse};

@@ -45,6 +45,11 @@ pub enum Order<'a> {
         /// The path of the book that is made.
         book: &'a str,
     },
+    /// Writes the book of the submissions on standard input as EPD lines.
+    Export {
+        /// The path of the table.
+        table: &'a str,
+    },
 }
 
 /// Why the command line gives no order.
@@ -111,6 +116,9 @@ fn order_of<'a>(alloc: Global, matches: &ArgMatches<'a>) -> Result<Order<'a>, Pa
     if let Some(given) = matches.subcommand_matches("collect") {
         return collect(alloc, given);
     }
+    if let Some(given) = matches.subcommand_matches("export") {
+        return export(alloc, given);
+    }
     Err(ParseFault::Usage(String::new(alloc)))
 }
 
@@ -154,6 +162,16 @@ fn collect<'a>(alloc: Global, given: &ArgMatches<'a>) -> Result<Order<'a>, Parse
     let table = word(alloc, given, "TABLE")?;
     let book = word(alloc, given, "BOOK")?;
     Ok(Order::Collect { table, book })
+}
+
+fn export<'a>(alloc: Global, given: &ArgMatches<'a>) -> Result<Order<'a>, ParseFault>
+    ensures words { IfOk result (λ order. (name_of order ≡ codes "export")
+        × HasWords order (rows_of (found_of given.now))) }
+    ensures refused { IfErr result (RefusesFor (codes "export") (rows_of (found_of given.now))) }
+{
+    Ok(Order::Export {
+        table: word(alloc, given, "TABLE")?,
+    })
 }
 
 /// A required word, which clap has where it gives matches.

@@ -9,11 +9,11 @@ ghost use Rattle.pb_cli.specs.ProbeShown.{ProbeShown, found_line, probe_text};
 ghost use Rattle.pb_cli.specs.Shows.{Shows};
 ghost use Rattle.pb_cli.specs.declared.fault.Fault.TheVariants.{Memory};
 
-use crate::decimal::Decimal;
 use crate::fault::Fault;
 use crate::output::put_line;
 use crate::refusal::{refuse, refuse_book};
 use crate::table::{refuse_table, take_table};
+use itoa::Buffer;
 use pb_board::read_fen;
 use pb_moves::Move;
 use pb_poly::{Failed, Sink, Source, probe, read_book};
@@ -88,6 +88,7 @@ fn put_found<K: Sink>(sink: &mut K, m: &Move, weight: u16) -> Result<(), Failed>
     ensures { Put (K.state sink.old) (K.state sink.new) result (found_line (m.now, weight)) }
 {
     let text = m.text();
-    let digits = Decimal::new(u64::from(weight));
+    let mut buffer = Buffer::new();
+    let digits = buffer.format(weight);
     put_line(sink, &[text.as_bytes(), b" ", digits.as_bytes()])
 }

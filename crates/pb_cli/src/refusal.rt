@@ -3,9 +3,9 @@ ghost use Rattle.std.specs.Prelude.{◌++◌, decimal};
 ghost use Rattle.pb_cli.specs.Line.{joined, with_end};
 ghost use Rattle.pb_cli.specs.Refuses.{Refuses, RefusesForBook};
 
-use crate::decimal::Decimal;
 use crate::fault::Fault;
 use crate::output::show_line;
+use itoa::Buffer;
 use pb_poly::{BookError, Sink};
 
 /// Shows the line of these parts and answers that the input was refused.
@@ -20,7 +20,8 @@ pub fn refuse<K: Sink>(sink: &mut K, parts: &[&[u8]]) -> Result<bool, Fault>
 pub fn refuse_with<K: Sink>(sink: &mut K, words: &[u8], number: usize) -> Result<bool, Fault>
     ensures { Refuses (K.state sink.old) (K.state sink.new) result (with_end (words.now ++ decimal number)) }
 {
-    let digits = Decimal::new(number as u64);
+    let mut buffer = Buffer::new();
+    let digits = buffer.format(number);
     refuse(sink, &[words, digits.as_bytes()])
 }
 

@@ -2,24 +2,13 @@
 
 ghost use Rattle.std.specs.Prelude.{◌≤◌};
 
-use crate::games::{BOOK_OF_FIVE, FIRST, FIVE, expect_book, ledger_over, line_of};
+use crate::games::{BOOK_OF_FIVE, FIRST, FIVE, expect_book, ledger_over, line_of, stream_of};
 use pb_ledger::{CollectFault, Ledger, ListTally, MapTally, Tally, Totals, collect};
 use pb_poly::{MemSink, MemSource};
 use pb_samples::{Words, table_of};
 use std::alloc::Global;
 use std::process::Abort;
 use std::test::Fail;
-
-/// The lines of these short texts, each with an LF.
-fn stream_of(alloc: Global, texts: &[&str]) -> Result<Vec<u8>, Fail> {
-    let mut stream = Vec::new(alloc);
-    for text in texts {
-        let line = line_of(alloc, text)?;
-        stream.extend_from_slice(line.as_slice())?;
-        stream.push(b'\n')?;
-    }
-    Ok(stream)
-}
 
 /// The stream, in pieces of this size, is answered so.
 fn expect_replies<T: Tally>(

@@ -42,6 +42,17 @@ pub(crate) fn line_of(alloc: Global, text: &str) -> Result<Vec<u8>, Fail> {
     Ok(line)
 }
 
+/// The lines of these short texts, each with an LF.
+pub(crate) fn stream_of(alloc: Global, texts: &[&str]) -> Result<Vec<u8>, Fail> {
+    let mut stream = Vec::new(alloc);
+    for text in texts {
+        let line = line_of(alloc, text)?;
+        stream.extend_from_slice(line.as_slice())?;
+        stream.push(b'\n')?;
+    }
+    Ok(stream)
+}
+
 /// An empty ledger for at most 1,000 games.
 pub(crate) fn ledger_over<T: Tally>(alloc: Global, words: Words) -> Result<Ledger<T>, Fail> {
     Ok(Ledger::new(alloc, &table_of(alloc, words)?, 1000)?)

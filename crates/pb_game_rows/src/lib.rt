@@ -6,6 +6,8 @@ mod books;
 #[cfg(test)]
 mod collecting;
 #[cfg(test)]
+mod exporting;
+#[cfg(test)]
 mod games;
 #[cfg(test)]
 mod recount;

@@ -27,7 +27,7 @@ use Rattle.pb_ledger.specs.Counting.{credit, gained, gift_of, gifts_of, share}
 abbrev pub gifts_from : Basis → Outcome → Position → List Moved → List Gift
 gifts_from T o s ms = map (gift_of T o) (plies_from s ms)
 
-length-plies_from : (s : Position) (ms : List Moved) → length (plies_from s ms) ≡ length ms
+pub length-plies_from : (s : Position) (ms : List Moved) → length (plies_from s ms) ≡ length ms
 length-plies_from s [] = refl
 length-plies_from s (m ∷ ms) = ap suc (length-plies_from (after s m) ms)
 

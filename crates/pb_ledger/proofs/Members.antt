@@ -1,9 +1,11 @@
 -- Lists with the same members.
-use Rattle.std.proofs.Common.{zero, suc, ◌≡◌, ◌≢◌, ℕ, ◌+◌, ◌<◌, ◌⊎◌, List, [], ◌∷◌, length, get_or, Contains, AllPairs, IsPermutation, refl, sym, subst, ◌∙◌, inl, inr, arith}
+use Rattle.std.proofs.Common.{zero, suc, ◌≡◌, ◌≢◌, ℕ, ◌+◌, ◌<◌, ◌⊎◌, List, [], ◌∷◌, ◌++◌, append-nil, length, get_or, Contains, AllPairs, IsPermutation, refl, sym, subst, ◌∙◌, inl, inr, arith}
 use Rattle.std.specs.List.{remove}
 use Rattle.std.proofs.lemmas.Bool.{cases_lt}
 use Rattle.std.proofs.lemmas.List.Edits.{length-remove, get_or-remove_below, get_or-remove_above}
+use Rattle.std.proofs.lemmas.List.Elements.{Contains-append_right}
 use Rattle.std.proofs.lemmas.List.Quantifiers.{all_pairs_remove}
+use Rattle.pb_epd.proofs.Lists.{pairs_split}
 use Rattle.std.proofs.lemmas.List.Sorted.{IsPermutation-refl, IsPermutation-sym, IsPermutation-trans, IsPermutation-cons, IsPermutation-remove, Contains-permutation}
 
 module _ {X : Type 0} where
@@ -45,17 +47,40 @@ module _ {X : Type 0} where
       | inr later ↦ later
     ]
 
+    -- the heads are one where the second list goes on only with what is above the first
+    heads_one : ((x : X) → R x x → ⊥) → ((x y : X) → R x y → R y x → ⊥) → (x y : X) (xs ys : List X) → AllPairs R (x ∷ xs) → AllPairs R (y ∷ ys) → Contains (y ∷ ys) x → Contains (x ∷ xs) y ⊎ ((w : X) → Contains (x ∷ xs) w → R w y) → x ≡ y
+    heads_one irr asym x y xs ys h k to (inl from) = same_heads asym x y xs ys h k to from
+    heads_one irr asym x y xs ys h k to (inr above) = elim (contains_cases y ys x to) [
+      | inl e ↦ sym e
+      | inr below ↦ absurd (asym x y (above x (contains_head x xs)) (pairs_head y ys x k below))
+    ]
+
+    -- a list in a strict order begins with another, whose members it has, where its others are above them
+    pub begins_in_order : ((x : X) → R x x → ⊥) → ((x y : X) → R x y → R y x → ⊥) → (xs ys : List X) → AllPairs R xs → AllPairs R ys → ((z : X) → Contains xs z → Contains ys z)
+        → ((z : X) → Contains ys z → Contains xs z ⊎ ((w : X) → Contains xs w → R w z)) → (rest : List X) × (ys ≡ xs ++ rest)
+    begins_in_order irr asym [] ys h k to from = (ys, refl)
+    begins_in_order irr asym (x ∷ xs) [] h k to from = absurd (none_in_nil x (to x (contains_head x xs)))
+    begins_in_order irr asym (x ∷ xs) (y ∷ ys) h k to from =
+        let heads = heads_one irr asym x y xs ys h k (to x (contains_head x xs)) (from y (contains_head y ys)) in
+        let tails = begins_in_order irr asym xs ys (pairs_tail x xs h) (pairs_tail y ys k)
+        (λ z c. into_tail irr x y z xs ys h heads c (to z (contains_tail x xs z c)))
+        (λ z c. elim (from z (contains_tail y ys z c)) [
+          | inl here ↦ inl (into_tail irr y x z ys xs k (sym heads) c here)
+          | inr above ↦ inr (λ w d. above w (contains_tail x xs w d))
+        ]) in
+        (tails.0, (λ i. sym heads i ∷ tails.1 i))
+
     -- lists in a strict order with the same members are one
     pub same_in_order : ((x : X) → R x x → ⊥) → ((x y : X) → R x y → R y x → ⊥) → (xs ys : List X) → AllPairs R xs → AllPairs R ys → ((z : X) → Contains xs z → Contains ys z) → ((z : X) → Contains ys z → Contains xs z) → xs ≡ ys
-    same_in_order irr asym [] [] h k to from = refl
-    same_in_order irr asym [] (y ∷ ys) h k to from = absurd (none_in_nil y (from y (contains_head y ys)))
-    same_in_order irr asym (x ∷ xs) [] h k to from = absurd (none_in_nil x (to x (contains_head x xs)))
-    same_in_order irr asym (x ∷ xs) (y ∷ ys) h k to from =
-        let heads = same_heads asym x y xs ys h k (to x (contains_head x xs)) (from y (contains_head y ys)) in
-        let tails = same_in_order irr asym xs ys (pairs_tail x xs h) (pairs_tail y ys k)
-        (λ z c. into_tail irr x y z xs ys h heads c (to z (contains_tail x xs z c)))
-        (λ z c. into_tail irr y x z ys xs k (sym heads) c (from z (contains_tail y ys z c))) in
-        λ i. heads i ∷ tails i
+    same_in_order irr asym xs ys h k to from =
+        let longer = begins_in_order irr asym xs ys h k to (λ z c. inl (from z c)) in
+        by longer.0 longer.1
+      where
+        by : (rest : List X) → ys ≡ xs ++ rest → xs ≡ ys
+        by [] e = sym (append-nil xs) ∙ sym e
+        by (r ∷ rest) e =
+            let last : Contains ys r = subst (λ zs. Contains zs r) (sym e) (Contains-append_right xs (r ∷ rest) r (contains_head r rest)) in
+            absurd (irr r (pairs_split R xs r rest r (subst (AllPairs R) e k) (from r last)))
 
   -- no member stands twice
   abbrev pub NoRepeats : List X → Type 0

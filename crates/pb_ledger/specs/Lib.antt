@@ -8,7 +8,9 @@ pub mod ExportLaws
 pub mod Holding
 pub mod Laws
 pub mod Ledger
+pub mod Listing
 pub mod Replies
+pub mod Setups
 pub use Rattle.pb_games.specs.Ids
 pub use Rattle.pb_games.specs.Laws as LineLaws
 pub use Rattle.pb_games.specs.Refusing

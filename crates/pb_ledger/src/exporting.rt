@@ -1,12 +1,19 @@
 //! The book of a ledger as EPD lines.
 
-ghost use Rattle.std.specs.Prelude.{◌≡◌, IfErr, IfOk};
+ghost use Rattle.std.specs.Prelude.{◌≡◌, ◌<◌, ◌^◌, IfErr, IfOk, length};
 ghost use Rattle.pb_ledger.specs.Exporting.{Exports, ExportsUntil};
+ghost use Rattle.pb_ledger.specs.Listing.{PutsFront, PutsListing};
+ghost use Rattle.pb_ledger.specs.Setups.{named_of};
+ghost use Rattle.pb_ledger.specs.declared.exporting.ExportFault.TheVariants as fault;
 
+use crate::book_moves::line_of;
 use crate::ledger::Ledger;
+use crate::setups::setups_of;
+use pb_board::Setup;
 use pb_points::Tally;
-use pb_poly::{Failed, Sink};
+use pb_poly::{Book, Failed, Sink, Table};
 use std::alloc::{AllocError, Global};
+use std::collections::BTreeMap;
 use thiserror::Error;
 
 /// Why the export of a ledger wasn't written whole.
@@ -18,6 +25,22 @@ pub enum ExportFault {
     /// No memory for the book, for the setups of the games, or for a line.
     #[error("no memory is left")]
     Memory,
+}
+
+impl From<AllocError> for ExportFault {
+    ghost from_gives = { λ e x. x ≡ fault.Memory };
+
+    fn from(_: AllocError) -> ExportFault {
+        ExportFault::Memory
+    }
+}
+
+impl From<Failed> for ExportFault {
+    ghost from_gives = { λ e x. x ≡ fault.Write };
+
+    fn from(_: Failed) -> ExportFault {
+        ExportFault::Write
+    }
 }
 
 /// Writes the opening book of the games held as EPD (PGN Standard 16.2): one line for each setup that stands before a move of a
@@ -38,5 +61,33 @@ pub fn export<T: Tally, K: Sink>(
     // A front of it was put, and where the fault lies.
     ensures fault { IfErr result (ExportsUntil ledger.now (K.state sink.old) (K.state sink.new)) }
 {
-    Err(ExportFault::Memory)
+    let book = ledger.make_book(alloc)?;
+    let setups = setups_of(alloc, ledger)?;
+    let count = put_lines(alloc, &book, ledger.table(), &setups, sink)?;
+    sink.flush()?;
+    Ok(count)
+}
+
+// Puts the line of each setup for which the book has moves.
+fn put_lines<K: Sink>(
+    alloc: Global,
+    book: &Book,
+    table: &Table,
+    setups: &BTreeMap<Vec<u8>, Setup>,
+    sink: &mut K,
+) -> Result<u32, ExportFault>
+    requires { length setups.now.entries < 2 ^ 32 }
+    ensures ok { IfOk result (PutsListing table.now book.now (named_of setups.now.entries) (K.state sink.old) (K.state sink.new)) }
+    ensures fault { IfErr result (PutsFront table.now book.now (named_of setups.now.entries) (K.state sink.old) (K.state sink.new)) }
+{
+    let mut count = 0;
+    for (_text, setup) in setups {
+        // The reader tells that the setup meets its rules.
+        let _turn = setup.turn();
+        if let Some(line) = line_of(alloc, book, table, setup)? {
+            sink.put(line.as_slice())?;
+            count += 1;
+        }
+    }
+    Ok(count)
 }

@@ -3,6 +3,7 @@
 #![tactic(auto)]
 
 mod arrival;
+mod book_moves;
 mod collecting;
 mod exporting;
 mod gift;
@@ -10,6 +11,7 @@ pub mod laws;
 mod ledger;
 mod record;
 mod reply;
+mod setups;
 mod totals;
 
 pub use collecting::{CollectFault, collect};

@@ -1,7 +1,7 @@
 //! Each command over the files that it names and the standard streams.
 
 use crate::file::{open, save};
-use pb_cli::{Fault, Order, run_collect, run_epd, run_fen, run_probe, run_show};
+use pb_cli::{Fault, Order, run_collect, run_epd, run_export, run_fen, run_probe, run_show};
 use pb_poly::{FromRead, Sink, ToWrite};
 use std::io;
 
@@ -29,6 +29,11 @@ pub(crate) fn answer<K: Sink>(rt: &HostRuntime, order: &Order<'_>, output: &mut 
             record,
         } => probe(rt, table, book, record, output),
         Order::Collect { table, book } => collect(rt, table, book),
+        Order::Export { table } => {
+            let mut table = open(rt, table)?;
+            let mut input = FromRead::new(rt.reader());
+            Ok(run_export(rt.alloc(), &mut table, &mut input, output, u32::MAX))
+        }
     }
 }
 

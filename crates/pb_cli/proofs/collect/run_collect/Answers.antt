@@ -38,17 +38,20 @@ returns-in_default-make_book-clause-fault g c =
     at_book c.in-Ok.table c.collect.new.ledger.accepted (collected c.args.fills (t c.args.table_source.now) (t c.take_table.new.source) (s c.args.source.now) (s c.collect.new.source) (k c.args.sink.now) (k c.collect.new.sink)
     c.in-Ok.table c.in-Ok-new.ledger c.collect.new.ledger c.in_ok-collect.field-0 c.in-Ok-new.ensures c.in-Ok.ensures.found c.in_ok-collect.ensures.ok) refl
 
+pub returns-clause-book : goal.returns-clause-book
+returns-clause-book g c =
+    let t = g.T.Source.state in let s = g.S.Source.state in let k = g.K.Sink.state in
+    made_book c.args.fills (t c.args.table_source.now) (t c.take_table.new.source) (s c.args.source.now) (s c.collect.new.source) (k c.args.sink.now) (k c.collect.new.sink)
+    c.in-Ok.table c.in-Ok-new.ledger c.collect.new.ledger c.in_ok-collect.field-0 c.in-Ok-make_book.book c.in-Ok-new.ensures c.in-Ok.ensures.found c.in_ok-collect.ensures.ok c.in-Ok-make_book.ensures
+
 pub returns-clause-told : goal.returns-clause-told
 returns-clause-told g c =
     let t = g.T.Source.state in let s = g.S.Source.state in let k = g.K.Sink.state in
     tells_book c.args.fills (t c.args.table_source.now) (t c.take_table.new.source) (s c.args.source.now) (s c.collect.new.source) (k c.args.sink.now) (k c.collect.new.sink) c.in-Ok-make_book.book
-    (made_book c.args.fills (t c.args.table_source.now) (t c.take_table.new.source) (s c.args.source.now) (s c.collect.new.source) (k c.args.sink.now) (k c.collect.new.sink)
-    c.in-Ok.table c.in-Ok-new.ledger c.collect.new.ledger c.in_ok-collect.field-0 c.in-Ok-make_book.book c.in-Ok-new.ensures c.in-Ok.ensures.found c.in_ok-collect.ensures.ok c.in-Ok-make_book.ensures)
+    (returns-clause-book g c)
 
 pub returns-clause-one_effect : goal.returns-clause-one_effect
 returns-clause-one_effect g c =
     let t = g.T.Source.state in let s = g.S.Source.state in let k = g.K.Sink.state in
     has_one_effect c.args.fills (t c.args.table_source.now) (t c.take_table.new.source) (s c.args.source.now) (s c.collect.new.source) (k c.args.sink.now) (k c.collect.new.sink) c.in-Ok-make_book.book
-    c.entries.ensures.ordered c.entries.ensures.bounds
-    (made_book c.args.fills (t c.args.table_source.now) (t c.take_table.new.source) (s c.args.source.now) (s c.collect.new.source) (k c.args.sink.now) (k c.collect.new.sink)
-    c.in-Ok.table c.in-Ok-new.ledger c.collect.new.ledger c.in_ok-collect.field-0 c.in-Ok-make_book.book c.in-Ok-new.ensures c.in-Ok.ensures.found c.in_ok-collect.ensures.ok c.in-Ok-make_book.ensures)
+    c.entries.ensures.ordered c.entries.ensures.bounds (returns-clause-book g c)

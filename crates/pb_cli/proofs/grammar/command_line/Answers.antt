@@ -7,4 +7,5 @@ returns c =
     let with_epd = IsCommand-adds _ _ _ _ _ with_fen c.epd.ensures c.in_ok-with_epd.ensures in
     let with_show = IsCommand-adds _ _ _ _ _ with_epd c.in_ok-show.ensures c.in_ok-with_show.ensures in
     let with_probe = IsCommand-adds _ _ _ _ _ with_show c.in_ok-probe.ensures c.in_ok-with_probe.ensures in
-    IsCommand-adds _ _ _ _ _ with_probe c.in_ok-collect.ensures c.in_ok-with_collect.ensures
+    let with_collect = IsCommand-adds _ _ _ _ _ with_probe c.in_ok-collect.ensures c.in_ok-with_collect.ensures in
+    IsCommand-adds _ _ _ _ _ with_collect c.in_ok-export.ensures c.in_ok-with_export.ensures
