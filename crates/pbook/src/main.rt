@@ -2,8 +2,8 @@
 #![tactic(auto)]
 
 use pb_cli::{
-    Fault, Order, ParseFault, parse, run_collect, run_epd, run_export, run_fen, run_probe, run_show,
-    status,
+    Fault, Order, ParseFault, parse, run_collect, run_epd, run_export, run_fen, run_probe,
+    run_show, status,
 };
 use pb_poly::{Book, FromRead, Sink, ToWrite, write_book};
 use std::alloc::AllocError;
