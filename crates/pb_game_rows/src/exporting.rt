@@ -10,8 +10,7 @@ use std::process::Abort;
 use std::test::Fail;
 
 /// The export of the five games over powers of two.
-const EXPORT_OF_FIVE: &str =
-    "rnbqkbnr/pppppppp/8/8/4P3/8/PPPP1PPP/RNBQKBNR b KQkq e3 bkm e7e5 1;\n\
+const EXPORT_OF_FIVE: &str = "rnbqkbnr/pppppppp/8/8/4P3/8/PPPP1PPP/RNBQKBNR b KQkq e3 bkm e7e5 1;\n\
      rnbqkbnr/pppppppp/8/8/8/8/PPPPPPPP/RNBQKBNR w KQkq - bkm e2e4 4 d2d4 2;\n";
 
 /// A game whose three setups have two keys where each word is 1.
