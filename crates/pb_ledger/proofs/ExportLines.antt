@@ -1,25 +1,24 @@
 -- The export of games: what was put at its end, and what at a fault.
-use Rattle.std.proofs.Common.{suc, ◌≡◌, ◌≢◌, ℕ, ◌+◌, ◌*◌, ◌<◌, ◌≤◌, ◌^◌, ◌⊎◌, Err, Ok, false, true, List, [], ◌∷◌, ◌++◌, Option, length, map, append-nil, append_assoc, refl, sym, ap, subst, ◌∙◌, inl, inr, arith}
-use Rattle.std.specs.Prelude.{All, AllPairs, Contains, flat_map}
+use Rattle.std.proofs.Common.{◌≡◌, ℕ, ◌⊎◌, Err, Ok, List, [], ◌∷◌, ◌++◌, map, append-nil, append_assoc, refl, sym, ap, subst, ◌∙◌, inl, inr, arith}
+use Rattle.std.specs.Prelude.{Contains}
 use Rattle.std.specs.Global.{Vec}
-use Rattle.std.specs.Io.KnownBytes.{Appends}
-use Rattle.std.proofs.KnownBytes.{Appends-kept, Appends-nil}
-use Rattle.std.proofs.lemmas.List.{length-append, length-map}
+use Rattle.std.proofs.KnownBytes.{Appends-kept}
+use Rattle.std.proofs.lemmas.List.{length-map}
 use Rattle.std.proofs.lemmas.List.Elements.{All-contains, Contains-append_cases, Contains-append_left, Contains-append_right}
 use Rattle.pb_board.specs.Position.{Position}
 use Rattle.pb_epd.specs.ByteOrder.{IsBelow}
 use Rattle.pb_epd.proofs.Lists.{contains_cases, contains_head, contains_map, contains_none, contains_there, contains_unmap, pairs_head, pairs_tail}
 use Rattle.pb_epd.proofs.Order.{below_itself}
 use Rattle.pb_games.specs.declared.game.Game.{Game}
-use Rattle.pb_games.specs.Submissions.{IsSubmission, Submission, plies}
+use Rattle.pb_games.specs.Submissions.{Submission, plies}
 use Rattle.pb_moves.specs.Moved.{Moved}
 use Rattle.pb_moves.specs.Played.{Ply}
-use Rattle.pb_poly.specs.Sink.{Flush, SinkState, StillWorks}
+use Rattle.pb_poly.specs.Sink.{Flush, SinkState}
 use Rattle.pb_poly.specs.declared.entry.Entry.{Entry}
 use Rattle.pb_poly.specs.declared.source.Failed.{Failed}
 use Rattle.pb_ledger.specs.Basis.{Basis}
 use Rattle.pb_ledger.specs.Counting.{IsBook}
-use Rattle.pb_ledger.specs.Exporting.{ExportLines, ExportText, Exports, ExportsUntil, FaultOf, IsListed, IsListing, Listed, StandsBefore, text_of_lines}
+use Rattle.pb_ledger.specs.Exporting.{ExportText, Exports, ExportsUntil, IsListed, IsListing, Listed, StandsBefore, text_of_lines}
 use Rattle.pb_ledger.specs.Ledger.{LedgerState}
 use Rattle.pb_ledger.specs.Listing.{IsListedOf, IsListingOf, PutsFront, PutsListing, text_of}
 use Rattle.pb_ledger.specs.Setups.{HoldsSetups, InTextOrder, Named, all_setups, named_of, setups_before}
@@ -113,10 +112,6 @@ exported l book entries sink now new count is_book holds h flush = record {
   works = flush.failed;
   flushed = flush.flushed;
 }
-
--- a fault before the first line
-pub stopped_early : (l : LedgerState) (sink : SinkState) → ExportsUntil l sink sink fault.Memory
-stopped_early l sink = record { some = []; put = Appends-nil sink.bytes; front = λ text h. (text, refl); cause = λ works. works }
 
 -- what was put is a front of the text
 front_of_text : (T : Basis) (S : List Submission) (book : List Entry) (entries : List (Vec ℕ × Position)) (front back : List Named) (listed : List Listed) (some rest : List ℕ)

@@ -1,6 +1,6 @@
 -- The lines of an export, one setup after another.
-use Rattle.std.proofs.Common.{◌≡◌, ◌≢◌, ℕ, ◌+◌, ◌<◌, ◌≤◌, ◌^◌, ◌⊎◌, Err, List, [], ◌∷◌, ◌++◌, Option, length, take, drop, get_or, append-nil, append_assoc, refl, sym, ap, subst, ◌∙◌, inl, inr, arith}
-use Rattle.std.specs.Prelude.{AllPairs, Contains}
+use Rattle.std.proofs.Common.{◌≡◌, ℕ, ◌+◌, ◌<◌, ◌≤◌, ◌^◌, Err, List, [], ◌∷◌, ◌++◌, length, take, drop, get_or, append-nil, append_assoc, refl, sym, ap, subst, ◌∙◌, inl, inr, arith}
+use Rattle.std.specs.Prelude.{Contains}
 use Rattle.std.specs.Io.KnownBytes.{Appends}
 use Rattle.std.proofs.KnownBytes.{Appends-nil, Appends-trans}
 use Rattle.std.proofs.lemmas.List.{get_or_append_left, length-append, length_push, take-append-drop}
@@ -17,10 +17,9 @@ use Rattle.pb_poly.specs.Sink.{Put, SinkState, StillWorks}
 use Rattle.pb_poly.specs.declared.entry.Entry.{Entry}
 use Rattle.pb_poly.specs.declared.source.Failed.{Failed}
 use Rattle.pb_poly.proofs.Finding.{found_is_one}
-use Rattle.pb_ledger.specs.Exporting.{FaultOf, Listed, with_book_moves}
+use Rattle.pb_ledger.specs.Exporting.{Listed, with_book_moves}
 use Rattle.pb_ledger.specs.Listing.{IsListedOf, IsListingOf, PutsFront, PutsListing, SaysMoves, text_of}
 use Rattle.pb_ledger.specs.Setups.{InTextOrder, Named}
-use Rattle.pb_ledger.specs.declared.exporting.ExportFault.{ExportFault}
 use Rattle.pb_ledger.specs.declared.exporting.ExportFault.TheVariants as fault
 
 -- ---- texts

@@ -1,8 +1,8 @@
 -- Moves and weights as operands of an operation, and the record that has it alone.
-use Rattle.std.proofs.Common.{◌≡◌, ◌≢◌, ℕ, ◌+◌, ◌*◌, ◌/◌, ◌%◌, ◌<◌, ◌≤◌, ◌^◌, ◌↔◌, ◌⊎◌, Option, Some, None, List, [], ◌∷◌, ◌++◌, decimal, length, take, get_or, refl, sym, ap, append_assoc, subst, ◌∙◌, inl, inr, arith}
-use Rattle.std.specs.Prelude.{All, AllPairs, Contains, codes, flat_map, map}
+use Rattle.std.proofs.Common.{◌≡◌, ◌≢◌, ℕ, ◌+◌, ◌%◌, ◌<◌, ◌≤◌, ◌^◌, ◌↔◌, ◌⊎◌, Option, Some, None, List, [], ◌∷◌, ◌++◌, decimal, length, take, get_or, refl, sym, ap, append_assoc, subst, ◌∙◌, inl, inr, arith}
+use Rattle.std.specs.Prelude.{All, AllPairs, Contains, codes, flat_map}
 use Rattle.std.proofs.lemmas.Fmt.{decimal_by_steps, decimal_nonempty, length-decimal-le}
-use Rattle.std.proofs.lemmas.List.{flat_map_more, length-append, take_more}
+use Rattle.std.proofs.lemmas.List.{flat_map_more, take_more}
 use Rattle.std.proofs.lemmas.List.Elements.{All-append, All-cons, All-nil, All-push}
 use Rattle.pb_board.specs.declared.piece.Kind.{Kind}
 use Rattle.pb_board.specs.declared.piece.Kind.TheVariants.{Pawn, Knight, Bishop, Rook, Queen, King}
@@ -13,7 +13,7 @@ use Rattle.pb_moves.specs.Moved.{IsMove, Moved}
 use Rattle.pb_moves.specs.Spelling.{promotion_text, spelling}
 use Rattle.pb_epd.specs.ByteOrder.{IsBelow}
 use Rattle.pb_epd.specs.Epd.{EpdRecord, IsEpd}
-use Rattle.pb_epd.specs.Operation.{IsFirstUnlawful, IsOpcode, IsOperand, IsNameByte, Operation}
+use Rattle.pb_epd.specs.Operation.{IsOpcode, IsOperand, IsNameByte, Operation}
 use Rattle.pb_epd.specs.Refusal.{IsFirstDuePut}
 use Rattle.pb_epd.specs.Token.{IsWordByte}
 use Rattle.pb_epd.specs.declared.operand.Operand.{Operand}
@@ -22,7 +22,7 @@ use Rattle.pb_epd.specs.declared.refusal.PutError.{PutError}
 use Rattle.pb_epd.specs.declared.refusal.PutError.TheVariants as put
 use Rattle.pb_epd.proofs.Lists.{all_middle, contains_cases, contains_head, contains_none, pairs_cons, pairs_none}
 use Rattle.pb_epd.proofs.Order.{same_in_order}
-use Rattle.pb_ledger.specs.Exporting.{move_and_weight, with_book_moves}
+use Rattle.pb_ledger.specs.Exporting.{move_and_weight}
 
 -- ---- the words
 
@@ -56,10 +56,12 @@ promotion_short (Some letter) = omega arith
 -- the spelling of a move is a word
 pub IsOperand-move : (m : Moved) → IsMove m → IsOperand (Word (spelling m))
 IsOperand-move m h =
-    let short = promotion_short m.promo in
-    (omega arith, omega (arith, short),
-    All-append IsWordByte (square_text m.from) (square_text m.to ++ promotion_text m.promo) (square_bytes m.from h.from_on_board)
-    (All-append IsWordByte (square_text m.to) (promotion_text m.promo) (square_bytes m.to h.to_on_board) (promotion_bytes m.promo)))
+    let short = promotion_short m.promo in (
+      omega arith,
+      omega (arith, short),
+      All-append IsWordByte (square_text m.from) (square_text m.to ++ promotion_text m.promo) (square_bytes m.from h.from_on_board)
+          (All-append IsWordByte (square_text m.to) (promotion_text m.promo) (square_bytes m.to h.to_on_board) (promotion_bytes m.promo)),
+    )
 
 decimal_bytes : (n : ℕ) → n < 2 ^ 64 → AreWordBytes (decimal n)
 decimal_bytes = decimal_by_steps (λ n ds. AreWordBytes ds)
@@ -85,9 +87,9 @@ module _ (moves : List (Moved × ℕ)) (i : ℕ) (p : Moved × ℕ) (operands ha
       → IsMove p.0 → p.1 < 2 ^ 16 → Are moves (i + 1) new
   Are-more lt at h is_a is_b first second move weight = (
     second ∙ ap (λ xs. xs ++ b ∷ []) first ∙ append_assoc operands (a ∷ []) (b ∷ []) ∙ (λ j. h.0 j ++ is_a j ∷ is_b j ∷ [])
-    ∙ flat_map_more move_and_weight [] (take i moves) p ∙ ap (flat_map move_and_weight) (sym (take_more moves i p lt ∙ ap (λ x. take i moves ++ x ∷ []) (sym at))),
+        ∙ flat_map_more move_and_weight [] (take i moves) p ∙ ap (flat_map move_and_weight) (sym (take_more moves i p lt ∙ ap (λ x. take i moves ++ x ∷ []) (sym at))),
     subst (All IsOperand) (sym second)
-    (All-push IsOperand half b (subst (All IsOperand) (sym first) (All-push IsOperand operands a h.1 (subst IsOperand (sym is_a) (IsOperand-move p.0 move)))) (subst IsOperand (sym is_b) (IsOperand-weight p.1 weight))),
+        (All-push IsOperand half b (subst (All IsOperand) (sym first) (All-push IsOperand operands a h.1 (subst IsOperand (sym is_a) (IsOperand-move p.0 move)))) (subst IsOperand (sym is_b) (IsOperand-weight p.1 weight))),
   )
 
 -- ---- the record with the operation

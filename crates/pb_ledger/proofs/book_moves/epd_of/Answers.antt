@@ -1,7 +1,6 @@
-use Rattle.std.proofs.Common.{List, [], ◌∷◌, ◌∙◌, ap, sym, ◌≡◌, true, false}
+use Rattle.std.proofs.Common.{List, [], ◌∷◌, ◌∙◌, ap, sym, ◌≡◌}
 use Rattle.std.specs.Prelude.{codes}
 use Rattle.std.proofs.lemmas.Bool.{false≢true}
-use Rattle.pb_epd.specs.Epd.{EpdRecord}
 use Rattle.pb_epd.specs.declared.operand.Operand.{Operand}
 use Rattle.pb_epd.specs.declared.refusal.PutError.TheVariants as put
 use Rattle.pb_ledger.proofs.Operands.{one_operation, only_memory}
@@ -19,6 +18,6 @@ prove-unreachable-requires c =
     let memory : c.in-Err.error ≡ put.Memory =
     only_memory c.args.setup.now c.new-epd.result c.put.new.self c.in_ok-operands.operands.items c.new-epd.ensures.value c.in-Err.error c.in_ok-operands.ensures.lawful c.in-Err.ensures.refused in
     elim c.match-matches.branch [
-      in-Memory w ↦ false≢true (sym c.if-prove.true ∙ w.matches-is)
+      | in-Memory w ↦ false≢true (sym c.if-prove.true ∙ w.matches-is)
       | in_default w ↦ w.in_default.not-Memory memory
     ]

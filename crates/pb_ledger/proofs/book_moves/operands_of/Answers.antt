@@ -1,4 +1,4 @@
-use Rattle.std.proofs.Common.{arith, ◌∙◌, ap, subst}
+use Rattle.std.proofs.Common.{arith, ◌∙◌, ap}
 use Rattle.pb_epd.specs.declared.operand.Operand.TheVariants.{Word}
 use Rattle.pb_ledger.proofs.Operands.{Are-more}
 use Rattle.pb_ledger.proofs.book_moves.operands_of.Goals as goal
