@@ -21,20 +21,23 @@ fn book_is_made_anew(rt: &HostRuntime) -> io::Result<()> {
     tell(rt, &["pbook", "probe", "table.txt", "book.bin", START])
 }
 
-/// A table that is refused, isn't there or can't be read leaves the book, and so does a book that can't be made.
+/// A table that is refused, isn't there or can't be read leaves the book.
 fn faults_leave_the_book(rt: &HostRuntime) -> io::Result<()> {
     tell(rt, &["pbook", "collect", "short_table.txt", "book.bin"])?;
     tell(rt, &["pbook", "collect", "no_table.txt", "book.bin"])?;
     tell(rt, &["pbook", "collect", ".", "book.bin"])?;
+    tell(rt, &["pbook", "export", "short_table.txt"])?;
     tell(rt, &["pbook", "probe", "table.txt", "no_book.bin", START])?;
     tell(rt, &["pbook", "show", "book.bin"])
 }
 
-/// No submissions are left by now: the book is made anew, without entries. One in a folder that isn't there can't be made.
+/// No submissions are left by now: the book is made anew, without entries, and an export has no lines. A book in a folder that
+/// isn't there can't be made.
 fn book_of_no_games(rt: &HostRuntime) -> io::Result<()> {
     tell(rt, &["pbook", "collect", "table.txt", "no_folder/book.bin"])?;
     tell(rt, &["pbook", "collect", "table.txt", "book.bin"])?;
-    tell(rt, &["pbook", "show", "book.bin"])
+    tell(rt, &["pbook", "show", "book.bin"])?;
+    tell(rt, &["pbook", "export", "table.txt"])
 }
 
 /// Runs the program on these words, and prints its status after what it printed.
