@@ -56,20 +56,17 @@ abbrev twice : ℕ → ℕ
 twice zero = zero
 twice (suc k) = suc (suc (twice k))
 
-encoded_bytes : (k n : ℕ) → encode_lower (bytes_high_first k n) ≡ hexadecimal (twice k) n
+-- the bytes of a number of this many, in the order of their worth
+pub digits_of_bytes : (k n : ℕ) → encode_lower (bytes_high_first k n) ≡ hexadecimal (twice k) n
 unfolding encode_with hexadecimal
-encoded_bytes zero n = refl
-encoded_bytes (suc k) n =
+digits_of_bytes zero n = refl
+digits_of_bytes (suc k) n =
     let high : n % 256 / 16 ≡ n / 16 % 16 = omega arith in
     let low : n % 256 % 16 ≡ n % 16 = omega arith in
     let rest : n / 256 ≡ n / 16 / 16 = omega arith in
     ap encode_lower (bytes_by_last k n) ∙ encoded-push (bytes_high_first k (n / 256)) (n % 256) (omega arith)
-    ∙ ap (λ ds. ds ++ digit (n % 256 / 16) ∷ digit (n % 256 % 16) ∷ []) (encoded_bytes k (n / 256))
+    ∙ ap (λ ds. ds ++ digit (n % 256 / 16) ∷ digit (n % 256 % 16) ∷ []) (digits_of_bytes k (n / 256))
     ∙ ap (λ m. hexadecimal (twice k) m ++ digit (n % 256 / 16) ∷ digit (n % 256 % 16) ∷ []) rest
     ∙ ap (λ v. hexadecimal (twice k) (n / 16 / 16) ++ digit v ∷ digit (n % 256 % 16) ∷ []) high
     ∙ ap (λ v. hexadecimal (twice k) (n / 16 / 16) ++ digit (n / 16 % 16) ∷ digit v ∷ []) low
     ∙ sym (append_assoc (hexadecimal (twice k) (n / 16 / 16)) (digit (n / 16 % 16) ∷ []) (digit (n % 16) ∷ []))
-
--- the bytes of a number of this many, in the order of their worth
-pub digits_of_bytes : (k n : ℕ) → encode_lower (bytes_high_first k n) ≡ hexadecimal (twice k) n
-digits_of_bytes = encoded_bytes

@@ -36,7 +36,7 @@ order_same : (xs : List ℕ) → slice_cmp nat_cmp xs xs ≡ Equal
 order_same [] = refl
 order_same (x ∷ xs) = ap (λ r. ordering_then r (slice_cmp nat_cmp xs xs)) (sym (nat_cmp_is x x Equal refl)) ∙ order_same xs
 
-equal_is : (r : Ordering) → is_eq r ≡ true → r ≡ Equal
+pub equal_is : (r : Ordering) → is_eq r ≡ true → r ≡ Equal
 equal_is Less e = absurd (false≢true e)
 equal_is Equal e = refl
 equal_is Greater e = absurd (false≢true e)

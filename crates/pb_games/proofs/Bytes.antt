@@ -156,7 +156,7 @@ AllAbove-weaker m n (t ∷ ts) le h = (Above-weaker m n t le h.0, AllAbove-weake
 pub moves_above : (ms : List Moved) → Above 31 (moves_text ms)
 moves_above ms = join_above 31 32 (map spelling ms) (lit< tt) (AllAbove-weaker 31 32 (map spelling ms) (omega arith) (spellings_above ms))
 
-promotion_short : (promo : Option Kind) → length (promotion_text promo) ≤ 1
+pub promotion_short : (promo : Option Kind) → length (promotion_text promo) ≤ 1
 promotion_short None = omega arith
 promotion_short (Some k) = omega arith
 

@@ -8,7 +8,7 @@ use Rattle.std.proofs.lemmas.List.Elements.{All-contains, Contains-append_cases,
 use Rattle.pb_board.specs.Position.{Position}
 use Rattle.pb_epd.specs.ByteOrder.{IsBelow}
 use Rattle.pb_epd.proofs.Lists.{contains_cases, contains_head, contains_map, contains_none, contains_there, contains_unmap, pairs_head, pairs_tail}
-use Rattle.pb_epd.proofs.Order.{below_itself}
+use Rattle.pb_epd.proofs.Order.{below_itself, both_below}
 use Rattle.pb_games.specs.declared.game.Game.{Game}
 use Rattle.pb_games.specs.Submissions.{Submission, plies}
 use Rattle.pb_moves.specs.Moved.{Moved}
@@ -49,16 +49,6 @@ setup_is_there (x ∷ S) s h = elim (contains_cases x S h.0 h.2) [
   | inr later ↦ Contains-append_right (setups_before x.1) (all_setups S) s (setup_is_there S s (h.0, h.1, later, h.3))
 ]
 
--- no two texts are each below the other
-not_both_below : (xs ys : List ℕ) → IsBelow xs ys → IsBelow ys xs → ⊥
-not_both_below [] [] h k = h
-not_both_below [] (y ∷ ys) h k = k
-not_both_below (x ∷ xs) [] h k = h
-not_both_below (x ∷ xs) (y ∷ ys) (inl lt) (inl gt) = omega arith
-not_both_below (x ∷ xs) (y ∷ ys) (inl lt) (inr q) = omega (arith, lt, q.0)
-not_both_below (x ∷ xs) (y ∷ ys) (inr p) (inl gt) = omega (arith, p.0, gt)
-not_both_below (x ∷ xs) (y ∷ ys) (inr p) (inr q) = not_both_below xs ys p.1 q.1
-
 -- ---- the listing of the games
 
 -- what is in order is in order across a cut
@@ -84,7 +74,7 @@ module _ (T : Basis) (S : List Submission) (book : List Entry) (entries : List (
   -- the listing of the first setups is the beginning of that of all
   pub listing_begins : (front back : List Named) (listed all : List Listed) → named_of entries ≡ front ++ back → IsListingOf T.words book front listed → IsListing T S book all → (rest : List Listed) × (all ≡ listed ++ rest)
   listing_begins front back listed all are h k =
-      begins_in_order (λ (x y : Listed). IsBelow x.fields y.fields) (λ x. below_itself x.fields) (λ x y. not_both_below x.fields y.fields) listed all h.ordered k.ordered to from
+      begins_in_order (λ (x y : Listed). IsBelow x.fields y.fields) (λ x. below_itself x.fields) (λ x y. both_below x.fields y.fields) listed all h.ordered k.ordered to from
     where
       to : (x : Listed) → Contains listed x → Contains all x
       to x c =

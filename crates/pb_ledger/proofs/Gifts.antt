@@ -16,6 +16,7 @@ use Rattle.pb_games.specs.declared.game.Game.{Game}
 use Rattle.pb_games.specs.declared.outcome.Outcome.{Outcome}
 use Rattle.pb_games.specs.declared.outcome.Outcome.TheVariants.{White, Black, Draw}
 use Rattle.pb_games.specs.Submissions.{plies}
+use Rattle.pb_points.proofs.Pairs.{is_pair_itself}
 use Rattle.pb_points.specs.Tally.{Content, Held, MakesRow, AddsPoints, held, is_pair, more}
 use Rattle.pb_ledger.specs.declared.gift.Gift.{Gift}
 use Rattle.pb_ledger.specs.Basis.{Basis}
@@ -66,9 +67,6 @@ gained-le gifts k c small = sum_by-le (share k c) 2 gifts (λ j d lt. omega (ari
 
 -- ---- rows that are made
 
-own_pair : (k c : ℕ) → is_pair k c k c ≡ true
-own_pair k c = grind (arith, nat_tests)
-
 -- the row of the gift is there
 abbrev pub IsThere : Content → Gift → Type 0
 IsThere f r = IsSome (f r.key r.code)
@@ -106,7 +104,7 @@ Ensured-more f g h gifts i e made = record { same = λ k c. same_made g h r.key 
     kept q had = subst IsSome (sym (made q.key q.code)) (stays (g q.key q.code) (is_pair r.key r.code q.key q.code) (held g q.key q.code) had)
 
     now : IsThere h r
-    now = subst IsSome (sym (made r.key r.code ∙ ap (λ b. if b then Some (held g r.key r.code) else g r.key r.code) (own_pair r.key r.code))) refl
+    now = subst IsSome (sym (made r.key r.code ∙ ap (λ b. if b then Some (held g r.key r.code) else g r.key r.code) (is_pair_itself r.key r.code))) refl
 
     there : (j : ℕ) (d : Gift) → j < i + 1 → j < length gifts → IsThere h (get_or gifts j d)
     there j d lt within = elim (cases_lt j i) [
@@ -164,7 +162,7 @@ pub Added-there : (f g : Content) (gifts : List Gift) (i : ℕ) → i < length g
 Added-there f g gifts i lt e = e.there i (record { key = 0; code = 0; points = 0 }) lt
 
 own_share : (r : Gift) → share r.key r.code r ≡ r.points
-own_share r = ap (λ b. if b then r.points else 0) (own_pair r.key r.code)
+own_share r = ap (λ b. if b then r.points else 0) (is_pair_itself r.key r.code)
 
 pub Added-fits : (f g : Content) (gifts : List Gift) (i : ℕ) → i < length gifts → All (λ r. r.points ≤ 2) gifts → ((k c : ℕ) → (held f k c).points + 2 * length gifts ≤ 2 ^ 63) → Added f g gifts i
     → (held g (gift_at gifts i).key (gift_at gifts i).code).points + (gift_at gifts i).points ≤ 2 ^ 63

@@ -1,12 +1,11 @@
-mod Collected
-mod Fields
-mod Submitting
 pub mod BookLaws
 pub mod Books
+mod Collected
 pub mod Counts
 pub mod Distinct
 pub mod ExportLaws
 pub mod ExportLines
+mod Fields
 pub mod Gifts
 pub mod Listings
 pub mod Members
@@ -16,4 +15,5 @@ pub mod Places
 pub mod Replies
 pub mod Runs
 pub mod SetupTexts
+mod Submitting
 pub mod TextMaps

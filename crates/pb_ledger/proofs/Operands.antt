@@ -22,6 +22,7 @@ use Rattle.pb_epd.specs.declared.refusal.PutError.{PutError}
 use Rattle.pb_epd.specs.declared.refusal.PutError.TheVariants as put
 use Rattle.pb_epd.proofs.Lists.{all_middle, contains_cases, contains_head, contains_none, pairs_cons, pairs_none}
 use Rattle.pb_epd.proofs.Order.{same_in_order}
+use Rattle.pb_games.proofs.Bytes.{promotion_short}
 use Rattle.pb_ledger.specs.Exporting.{move_and_weight}
 
 -- ---- the words
@@ -48,10 +49,6 @@ kind_byte King = word_byte 107 (omega arith) (omega arith) (λ e. omega (arith, 
 promotion_bytes : (promo : Option Kind) → AreWordBytes (promotion_text promo)
 promotion_bytes None = All-nil IsWordByte
 promotion_bytes (Some kind) = All-cons IsWordByte (kind_letter kind) [] (kind_byte kind) (All-nil IsWordByte)
-
-promotion_short : (promo : Option Kind) → length (promotion_text promo) ≤ 1
-promotion_short None = omega arith
-promotion_short (Some letter) = omega arith
 
 -- the spelling of a move is a word
 pub IsOperand-move : (m : Moved) → IsMove m → IsOperand (Word (spelling m))

@@ -14,12 +14,7 @@ use Rattle.std.proofs.lemmas.Bool.{false≢true}
 use Rattle.std.proofs.lemmas.List.Elements.{All-nil, All-cons}
 use Rattle.pb_epd.specs.ByteOrder.{IsBelow}
 use Rattle.pb_epd.proofs.Lists.{contains_head, contains_there, contains_cases, pairs_none, pairs_cons}
-use Rattle.pb_epd.proofs.Maps.{below_from_order, key_order, is_at}
-
-equal_is : (r : Ordering) → is_eq r ≡ true → r ≡ Equal
-equal_is Less e = absurd (false≢true e)
-equal_is Equal e = refl
-equal_is Greater e = absurd (false≢true e)
+use Rattle.pb_epd.proofs.Maps.{below_from_order, equal_is, key_order, is_at}
 
 module _ {X : Type 0} where
   -- an entry as its text and its value

@@ -10,7 +10,7 @@ use crate::sink::Sink;
 use crate::source::Failed;
 use std::marker::Model;
 
-/// A PolyGlot book: entries whose keys never fall. Entries of one setup stand together, the best move first.
+/// A PolyGlot book: entries whose keys never fall. Entries of one key stand together, in any order.
 #[derive(Drop)]
 pub struct Book {
     entries: Vec<Entry>,

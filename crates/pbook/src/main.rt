@@ -12,8 +12,10 @@ fn main(rt: HostRuntime) -> ExitCode {
 
 /// Runs the command that the words name and answers the exit status.
 fn status(rt: &HostRuntime) -> u8 {
-    let Ok(given) = arguments(rt) else {
-        return USAGE;
+    let given = match arguments(rt) {
+        Ok(given) => given,
+        Err(error) if error.kind() == io::ErrorKind::OutOfMemory => return want_of_memory(rt),
+        Err(_) => return USAGE,
     };
     let words: Result<Vec<&str>, AllocError> = given
         .iter()
@@ -25,7 +27,7 @@ fn status(rt: &HostRuntime) -> u8 {
     }
 }
 
-/// The words of the command line. It fails where one of them isn't UTF-8.
+/// The words of the command line. It fails where one of them isn't UTF-8, and for want of memory.
 fn arguments(rt: &HostRuntime) -> io::Result<Vec<String>> {
     let given = env::args(rt)?;
     Ok(given.collect(rt.alloc())?)
