@@ -1,6 +1,5 @@
 -- What is read from a source that tells its bytes.
-use Rattle.std.proofs.Common.{◌≡◌, ◌∙◌, ℕ, ◌≤◌, Bool, List, [], ◌++◌, Option, Some, None, ap, append_assoc, append-nil, arith, length, length-append, refl, subst, sym}
-use Rattle.std.specs.Io.KnownBytes.{Consumes, IsAtEnd}
+use Rattle.std.proofs.Common.{◌≡◌, ◌∙◌, ℕ, ◌≤◌, Bool, List, ◌++◌, Some, ap, append_assoc, arith, length, length-append, subst, sym}
 use Rattle.pb_poly.proofs.Told.{all_came as came_whole, consumed}
 use Rattle.pb_poly.specs.Source.{SourceState}
 use Rattle.pb_poly.specs.Book.{BookBytes}
