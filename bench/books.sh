@@ -3,24 +3,20 @@
 set -eu
 work=$(mktemp -d)
 trap 'rm -rf "$work"' EXIT
-
-# best COMMAND..: the least number of seconds that the command takes
-best() {
-    for _ in 1 2 3 4 5; do
-        begin=$(date +%s%N)
-        "$@" > "$work/output"
-        end=$(date +%s%N)
-        echo $((end - begin))
-    done | sort -n | head -1
-}
+. bench/best.sh
 
 # A million entries of 16 bytes, with keys that rise.
 awk 'BEGIN { for (i = 0; i < 1000000; i++) printf "%016x031c00010000000000000000\n", i * 1000 }' \
     | cut -c1-32 | xxd -r -p > "$work/book"
-time=$(best build/pbook show "$work/book")
+# The lines go to a file, as they would be kept.
+show() {
+    build/pbook show "$work/book" > "$work/output"
+}
+
+time=$(best 5 show)
 awk -v time="$time" 'BEGIN { printf "show: a million entries in %.2f s\n", time / 1e9 }'
 START='rnbqkbnr/pppppppp/8/8/8/8/PPPPPPPP/RNBQKBNR w KQkq - 0 1'
-time=$(best build/pbook probe examples/table.txt "$work/book" "$START")
+time=$(best 5 build/pbook probe examples/table.txt "$work/book" "$START")
 awk -v time="$time" 'BEGIN { printf "probe: in a million entries in %.3f s\n", time / 1e9 }'
 if [ -x /usr/bin/time ]; then
     /usr/bin/time -f 'show: %M KB of memory at most' build/pbook show "$work/book" > "$work/output"

@@ -7,16 +7,7 @@ PATH=$PATH:/usr/games
 games=crates/bench_moves/out/bench_moves
 work=$(mktemp -d)
 trap 'rm -rf "$work"' EXIT
-
-# best COMMAND..: the least number of seconds that the command takes
-best() {
-    for _ in 1 2 3; do
-        begin=$(date +%s%N)
-        "$@"
-        end=$(date +%s%N)
-        echo $((end - begin))
-    done | sort -n | head -1
-}
+. bench/best.sh
 
 # collect LINES: makes a book of the lines
 collect() {
@@ -39,23 +30,23 @@ make_book() {
 }
 
 "$games" lines 20000 > "$work/lines"
-time=$(best collect "$work/lines")
+time=$(best 3 collect "$work/lines")
 figures "collect, 20,000 games" "$work/lines" "$time" \
     sh -c "build/pbook collect examples/table.txt $work/book < $work/lines"
 cat "$work/lines" "$work/lines" > "$work/twice"
-twice=$(best collect "$work/twice")
+twice=$(best 3 collect "$work/twice")
 figures "collect, the same games again" "$work/lines" $((twice - time)) \
     sh -c "build/pbook collect examples/table.txt $work/book < $work/twice"
 "$games" lines 100000 > "$work/many"
-figures "collect, 100,000 games" "$work/many" "$(best collect "$work/many")" \
+figures "collect, 100,000 games" "$work/many" "$(best 3 collect "$work/many")" \
     sh -c "build/pbook collect examples/table.txt $work/book < $work/many"
 awk -F'\t' -v OFS='\t' 'NR == 1 { for (n = 1; n <= 100000; n++) { $1 = "id-" n; print } exit }' "$work/lines" > "$work/one"
-figures "collect, one game under 100,000 ids" "$work/one" "$(best collect "$work/one")" \
+figures "collect, one game under 100,000 ids" "$work/one" "$(best 3 collect "$work/one")" \
     sh -c "build/pbook collect examples/table.txt $work/book < $work/one"
 
 if command -v polyglot > /dev/null && command -v pgn-extract > /dev/null; then
     awk -F'\t' '{ printf "[Event \"?\"]\n[Result \"%s\"]\n\n%s %s\n\n", $2, $4, $2 }' "$work/lines" > "$work/moves.pgn"
     pgn-extract -s -Wsan "$work/moves.pgn" > "$work/games.pgn"
-    figures "polyglot make-book, 20,000 games" "$work/lines" "$(best make_book)" \
+    figures "polyglot make-book, 20,000 games" "$work/lines" "$(best 3 make_book)" \
         polyglot make-book -pgn "$work/games.pgn" -bin "$work/other" -max-ply 1024 -min-game 1
 fi

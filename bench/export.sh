@@ -5,23 +5,14 @@ set -eu
 games=crates/bench_moves/out/bench_moves
 work=$(mktemp -d)
 trap 'rm -rf "$work"' EXIT
-
-# best COMMAND..: the least number of seconds that the command takes
-best() {
-    for _ in 1 2 3; do
-        begin=$(date +%s%N)
-        "$@"
-        end=$(date +%s%N)
-        echo $((end - begin))
-    done | sort -n | head -1
-}
+. bench/best.sh
 
 export_lines() {
     build/pbook export examples/table.txt < "$work/lines" > "$work/export"
 }
 
 "$games" lines 20000 > "$work/lines"
-time=$(best export_lines)
+time=$(best 3 export_lines)
 awk -v time="$time" 'END { printf "export, 20,000 games: %d lines in %.2f s\n", NR, time / 1e9 }' "$work/export"
 if [ -x /usr/bin/time ]; then
     /usr/bin/time -f "    %M KB of memory at most" \

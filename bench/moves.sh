@@ -4,21 +4,12 @@
 # disturbs it least.
 set -eu
 program=crates/bench_moves/out/bench_moves
-
-# best COMMAND..: the least number of seconds that the command takes
-best() {
-    for _ in 1 2 3 4 5; do
-        begin=$(date +%s%N)
-        "$@" > /dev/null
-        end=$(date +%s%N)
-        echo $((end - begin))
-    done | sort -n | head -1
-}
+. bench/best.sh
 
 # sequences NAME FEN DEPTH
 sequences() {
     count=$("$program" perft "$2" "$3")
-    time=$(best "$program" perft "$2" "$3")
+    time=$(best 5 "$program" perft "$2" "$3")
     awk -v name="$1" -v count="$count" -v time="$time" \
         'BEGIN { printf "%s: %d sequences, %.1f million a second\n", name, count, count * 1000 / time }'
 }
@@ -30,14 +21,14 @@ sequences "middle game, length 4" "r3k2r/p1ppqpb1/bn2pnp1/3PN3/1p2P3/2N2Q1p/PPPB
 
 # The games are chosen by listing moves, which takes longer than playing them: the difference of two runs is the
 # playing alone.
-first=$(best "$program" games 1)
-many=$(best "$program" games 41)
+first=$(best 5 "$program" games 1)
+many=$(best 5 "$program" games 41)
 plies=$("$program" games 40)
 awk -v plies="$plies" -v time="$((many - first))" \
     'BEGIN { printf "games: %.0f ns to judge and play a ply, %.1f million plies a second\n", time / plies, plies * 1000 / time }'
 
 # The keys alone: what the same games with their keys take beyond them.
-one=$(best "$program" keys 1)
-keys=$(best "$program" keys 41)
+one=$(best 5 "$program" keys 1)
+keys=$(best 5 "$program" keys 41)
 awk -v plies="$plies" -v time="$((keys - one - many + first))" \
     'BEGIN { printf "keys: %.0f ns to make the key of a ply from the one before\n", time / plies }'
