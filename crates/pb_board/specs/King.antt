@@ -9,8 +9,8 @@ use Rattle.pb_board.specs.declared.piece.Colour.{Colour}
 use Rattle.pb_board.specs.declared.piece.Colour.TheVariants.{White, Black}
 use Rattle.pb_board.specs.declared.piece.Kind.{Kind}
 use Rattle.pb_board.specs.declared.piece.Kind.TheVariants.{Pawn, Knight, Bishop, Rook, Queen, King}
-use Rattle.pb_board.specs.Piece.{king_of}
-use Rattle.pb_board.specs.Board.{Place, Board, at}
+use Rattle.pb_board.specs.Piece.{king_of, is_same, is_king}
+use Rattle.pb_board.specs.Board.{Place, Board, at, is_king_of}
 use Rattle.pb_board.specs.Position.{Position, IsSetup, IsOnlyKing}
 
 -- the fields of a setup: a position that meets the rules, and the squares of its kings
@@ -19,59 +19,36 @@ pub record KeepsKings (p : Position) (white_king black_king : ℕ) : Type 0 wher
   pub white : IsOnlyKing p.board White white_king
   pub black : IsOnlyKing p.board Black black_king
 
-same_side : Colour → Colour → Bool
-same_side White White = true
-same_side White Black = false
-same_side Black White = false
-same_side Black Black = true
-
-is_king_kind : Kind → Bool
-is_king_kind Pawn = false
-is_king_kind Knight = false
-is_king_kind Bishop = false
-is_king_kind Rook = false
-is_king_kind Queen = false
-is_king_kind King = true
-
--- whether a king of this side stands there
-is_king : Colour → Place → Bool
-is_king side None = false
-is_king side (Some piece) = same_side side piece.colour && is_king_kind piece.kind
-
 -- the first square that holds a king of this side
 pub king_square : Board → Colour → ℕ
-king_square board side = position_or_len (is_king side) board
+king_square board side = position_or_len (is_king_of side) board
 
-same_side_is : (a b : Colour) → same_side a b ≡ true → b ≡ a
-unfolding same_side
-same_side_is White White e = refl
-same_side_is White Black e = absurd (false≢true e)
-same_side_is Black White e = absurd (false≢true e)
-same_side_is Black Black e = refl
+pub is_same-is : (a b : Colour) → is_same a b ≡ true → a ≡ b
+is_same-is White White e = refl
+is_same-is White Black e = absurd (false≢true e)
+is_same-is Black White e = absurd (false≢true e)
+is_same-is Black Black e = refl
 
-king_kind_is : (k : Kind) → is_king_kind k ≡ true → k ≡ King
-unfolding is_king_kind
-king_kind_is Pawn e = absurd (false≢true e)
-king_kind_is Knight e = absurd (false≢true e)
-king_kind_is Bishop e = absurd (false≢true e)
-king_kind_is Rook e = absurd (false≢true e)
-king_kind_is Queen e = absurd (false≢true e)
-king_kind_is King e = refl
+pub is_king-is : (kind : Kind) → is_king kind ≡ true → kind ≡ King
+is_king-is Pawn e = absurd (false≢true e)
+is_king-is Knight e = absurd (false≢true e)
+is_king-is Bishop e = absurd (false≢true e)
+is_king-is Rook e = absurd (false≢true e)
+is_king-is Queen e = absurd (false≢true e)
+is_king-is King e = refl
 
 both : (a b : Bool) → (a && b) ≡ true → (a ≡ true) × (b ≡ true)
 both true b e = (refl, e)
 both false b e = absurd (false≢true e)
 
 -- where the test passes, this king stands
-king_there : (side : Colour) (place : Place) → is_king side place ≡ true → place ≡ Some (king_of side)
-unfolding is_king
+king_there : (side : Colour) (place : Place) → is_king_of side place ≡ true → place ≡ Some (king_of side)
 king_there side None e = absurd (false≢true e)
 king_there side (Some piece) e =
-    let parts = both (same_side side piece.colour) (is_king_kind piece.kind) e in
-    ap₂ (λ (c : Colour) (k : Kind). Some (record { colour = c; kind = k })) (same_side_is side piece.colour parts.0) (king_kind_is piece.kind parts.1)
+    let parts = both (is_king piece.kind) (is_same piece.colour side) e in
+    ap₂ (λ (c : Colour) (k : Kind). Some (record { colour = c; kind = k })) (is_same-is piece.colour side parts.1) (is_king-is piece.kind parts.0)
 
-king_passes : (side : Colour) → is_king side (Some (king_of side)) ≡ true
-unfolding is_king is_king_kind same_side
+king_passes : (side : Colour) → is_king_of side (Some (king_of side)) ≡ true
 king_passes White = refl
 king_passes Black = refl
 
@@ -79,16 +56,16 @@ king_passes Black = refl
 king_square_is : (board : Board) (side : Colour) (square : ℕ) → IsOnlyKing board side square → king_square board side ≡ square
 unfolding king_square
 king_square_is board side square only =
-    position_or_len_is (is_king side) board square None
+    position_or_len_is (is_king_of side) board square None
     (elim (cases_lt square (length board)) [
       | inl less ↦ omega arith
       | inr past ↦ absurd cc (get_or_past board square None past, only.here)
     ])
-    (λ k before. elim (cases_Bool (is_king side (at board k))) [
+    (λ k before. elim (cases_Bool (is_king_of side (at board k))) [
       | inl passes ↦ let same : k ≡ square = only.nowhere_else k (king_there side (at board k) passes) in absurd (omega arith)
       | inr fails ↦ fails
     ])
-    (λ _. subst (λ (p : Place). is_king side p ≡ true) (sym only.here) (king_passes side))
+    (λ _. subst (λ (p : Place). is_king_of side p ≡ true) (sym only.here) (king_passes side))
 
 -- the kings' squares come back from the board
 pub kings-back : {A : Type 0} (make : ℕ → ℕ → A) (p : Position) (white_king black_king : ℕ) → KeepsKings p white_king black_king

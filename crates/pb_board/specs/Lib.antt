@@ -11,3 +11,4 @@ pub mod Written
 pub mod Initial
 pub mod Refusal
 pub mod Words
+pub mod LineEnd

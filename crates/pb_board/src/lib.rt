@@ -6,6 +6,7 @@ mod fen;
 mod fields;
 mod initial;
 pub mod laws;
+mod line_end;
 mod number;
 mod piece;
 mod placement;
@@ -20,6 +21,7 @@ mod write;
 
 pub use cut::cut_once;
 pub use fen::{Fen, FenBytes};
+pub use line_end::without_return;
 pub use piece::{Colour, Kind, Piece};
 pub use read::{read_fen, read_setup};
 pub use refusal::{FenError, SetupError};

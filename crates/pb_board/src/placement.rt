@@ -9,7 +9,7 @@ use crate::piece::Piece;
 use crate::rank::read_rank;
 
 /// The board that the text spells.
-pub fn read_placement(text: &[u8]) -> Option<[Option<Piece>; 64]>
+pub(crate) fn read_placement(text: &[u8]) -> Option<[Option<Piece>; 64]>
     ensures { MatchOption result ((b : List Place) → length b ≡ 64 → PlacementText b text.now → ⊥)
         (λ board. (length board ≡ 64) × ((b : List Place) → length b ≡ 64 → (PlacementText b text.now ↔ b ≡ board))) }
 {

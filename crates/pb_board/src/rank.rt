@@ -29,7 +29,7 @@ fn piece_of(letter: u8) -> Option<Piece>
 }
 
 /// The eight squares, from file a on, that the text spells.
-pub fn read_rank(text: &[u8]) -> Option<[Option<Piece>; 8]>
+pub(crate) fn read_rank(text: &[u8]) -> Option<[Option<Piece>; 8]>
     ensures { MatchOption result ((s : List Place) → length s ≡ 8 → RankText s text.now → ⊥)
         (λ squares. (s : List Place) → length s ≡ 8 → (RankText s text.now ↔ s ≡ squares)) }
 {

@@ -9,7 +9,7 @@ use crate::piece::{Colour, Kind, Piece};
 use crate::square::Square;
 
 /// The square of this colour's king, if exactly one stands on the board.
-pub fn one_king(board: &[Option<Piece>; 64], colour: Colour) -> Option<Square>
+pub(crate) fn one_king(board: &[Option<Piece>; 64], colour: Colour) -> Option<Square>
     ensures { MatchOption result (¬ HasOneKing board.now colour) (IsOnlyKing board.now colour) }
 {
     let mut found = None;
@@ -25,7 +25,7 @@ pub fn one_king(board: &[Option<Piece>; 64], colour: Colour) -> Option<Square>
 }
 
 /// Tells whether no pawn stands on rank 1 or 8.
-pub fn has_no_edge_pawn(board: &[Option<Piece>; 64]) -> bool
+pub(crate) fn has_no_edge_pawn(board: &[Option<Piece>; 64]) -> bool
     ensures { IsTrue result ↔ HasNoEdgePawn board.now }
 {
     for file in 0..8 {
@@ -37,7 +37,7 @@ pub fn has_no_edge_pawn(board: &[Option<Piece>; 64]) -> bool
 }
 
 /// Tells whether the square is empty, with an enemy pawn directly beyond it.
-pub fn is_passed(board: &[Option<Piece>; 64], turn: Colour, square: Square) -> bool
+pub(crate) fn is_passed(board: &[Option<Piece>; 64], turn: Colour, square: Square) -> bool
     requires { OnPassedRank turn square }
     ensures { IsTrue result ↔ IsPassed board.now turn square }
 {

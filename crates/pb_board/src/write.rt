@@ -144,7 +144,7 @@ fn put_turn(out: &mut FenBytes, turn: Colour)
 }
 
 /// Writes the first four fields.
-pub fn put_setup(out: &mut FenBytes, setup: &Setup)
+pub(crate) fn put_setup(out: &mut FenBytes, setup: &Setup)
     requires { length out.old ≡ 0 }
     ensures { AppendsSetup out.old out.new setup.now }
 {
@@ -174,7 +174,7 @@ pub fn write_setup(alloc: Global, setup: &Setup) -> Result<Vec<u8>, AllocError>
 }
 
 /// The text of a record.
-pub fn fen_text(fen: &Fen) -> FenBytes
+pub(crate) fn fen_text(fen: &Fen) -> FenBytes
     ensures { FenText fen.now result }
 {
     let mut out = FenBytes::new();

@@ -18,7 +18,8 @@ use Rattle.pb_cli.specs.declared.epd.Stop.{Stop}
 use Rattle.pb_cli.specs.declared.epd.Stop.TheVariants.{Write, Memory}
 use Rattle.pb_cli.specs.EpdShown.{EpdShown, LineShown}
 use Rattle.pb_cli.specs.EpdRun.{RewritesToWriteFault}
-use Rattle.pb_cli.specs.Rewriter.{Puts, RewritesAll, RewritesUntilStop, StopsAt, TakesLine, next_number}
+use Rattle.pb_cli.specs.Rewriter.{Puts, RewritesAll, RewritesUntilStop, StopsAt, TakesLine}
+use Rattle.pb_poly.specs.Count.{next_count}
 
 -- where what a line gives couldn't be put, the run stops at it
 pub stops_at : (sink sink' : SinkState) (number : ℕ) (line : List ℕ) (taken : Bool) (out : List ℕ) (stop : Stop)
@@ -90,7 +91,7 @@ module _ {K : Type 0} (state : K → SinkState) where
       })
   run_of s t (line ∷ ls) few h =
       let m : Rewriter K = h.0 in let one = h.1 in let first = one.shows in
-      let number : next_number s.lines ≡ s.lines + 1 = omega (arith, few) in
+      let number : next_count s.lines ≡ s.lines + 1 = omega (arith, few) in
       let counted : m.lines ≡ s.lines + 1 = one.counted ∙ number in
       let rest = run_of m t ls (omega (arith, few, counted)) h.2 in record {
         answer = first.0 && rest.answer;
@@ -131,7 +132,7 @@ module _ {K : Type 0} (state : K → SinkState) where
       let less = fewer s ls before line few h.3 in
       let run = run_of s m before (omega (arith, less)) h.4 in
       let last = h.5.shows in
-      let number : next_number m.lines ≡ s.lines + 1 + length before = omega (arith, run.counted, less) in
+      let number : next_count m.lines ≡ s.lines + 1 + length before = omega (arith, run.counted, less) in
       let shown = shown-push (s.lines + 1) before line run.answer last.taken run.out last.out run.shown (subst (λ n. LineShown n line last.taken last.out) number last.shown) in record {
         answer = run.answer && last.taken;
         out = run.out ++ last.out;

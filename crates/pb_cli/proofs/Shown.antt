@@ -4,7 +4,7 @@ use Rattle.std.specs.Prelude.{Err, Ok, OnErr, Result}
 use Rattle.pb_board.specs.Fen.{FenText}
 use Rattle.pb_board.specs.Position.{Record}
 use Rattle.pb_poly.specs.Sink.{SinkState}
-use Rattle.pb_cli.specs.Line.{with_end}
+use Rattle.pb_board.specs.LineEnd.{with_end}
 use Rattle.pb_cli.specs.Shows.{Shows}
 use Rattle.pb_cli.specs.declared.fault.Fault.{Fault}
 

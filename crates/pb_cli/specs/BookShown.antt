@@ -4,7 +4,7 @@ use Rattle.pb_poly.specs.declared.entry.Entry.{Entry}
 use Rattle.pb_poly.specs.Book.{BookBytes, NeverFall}
 use Rattle.pb_poly.specs.Reading.{Splits}
 use Rattle.pb_cli.specs.Hexadecimal.{hexadecimal}
-use Rattle.pb_cli.specs.Line.{with_end}
+use Rattle.pb_board.specs.LineEnd.{with_end}
 
 -- key, code, weight and learn, one space between
 abbrev pub entry_line : Entry → List ℕ

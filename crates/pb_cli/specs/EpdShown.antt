@@ -6,12 +6,7 @@ use Rattle.pb_epd.specs.declared.refusal.EpdError.TheVariants as epd
 use Rattle.pb_epd.specs.Epd.{EpdRecord, IsEpd, EpdText, EpdForm}
 use Rattle.pb_epd.specs.Refusal.{IsFirstDueEpd}
 use Rattle.pb_poly.specs.Lines.{line_limit}
-use Rattle.pb_cli.specs.Line.{with_end}
-
--- the line without one final CR
-pub data IsWithoutReturn (line text : List ℕ) : Type 0 where
-  dropped : line ≡ text ++ 13 ∷ [] → IsWithoutReturn line text
-  none_there : line ≡ text → ((front : List ℕ) → line ≢ front ++ 13 ∷ []) → IsWithoutReturn line text
+use Rattle.pb_board.specs.LineEnd.{without_return, with_end}
 
 -- no byte but spaces
 abbrev pub IsBlank : List ℕ → Type 0
@@ -33,13 +28,13 @@ refused_line number why = with_end (codes "refused " ++ (decimal number ++ (32 �
 -- what the line of this number gives, and whether it was taken
 pub data LineShown (number : ℕ) (line : List ℕ) (taken : Bool) (out : List ℕ) : Type 0 where
   long : line_limit < length line → taken ≡ false → out ≡ refused_line number (codes "long") → LineShown number line taken out
-  blank : (text : List ℕ) → length line ≤ line_limit → IsWithoutReturn line text → IsBlank text
+  blank : length line ≤ line_limit → IsBlank (without_return line)
       → taken ≡ true → out ≡ [] → LineShown number line taken out
-  written : (text form : List ℕ) (e : EpdRecord) → length line ≤ line_limit → IsWithoutReturn line text
-      → IsEpd e → EpdText e text → EpdForm e form
+  written : (form : List ℕ) (e : EpdRecord) → length line ≤ line_limit
+      → IsEpd e → EpdText e (without_return line) → EpdForm e form
       → taken ≡ true → out ≡ with_end form → LineShown number line taken out
-  refused : (text : List ℕ) (x : EpdError) → length line ≤ line_limit → IsWithoutReturn line text → ¬ IsBlank text
-      → x ≢ epd.Memory → IsFirstDueEpd x text
+  refused : (x : EpdError) → length line ≤ line_limit → ¬ IsBlank (without_return line)
+      → x ≢ epd.Memory → IsFirstDueEpd x (without_return line)
       → taken ≡ false → out ≡ refused_line number (reason x) → LineShown number line taken out
 
 -- the lines in order, the first of this number

@@ -8,8 +8,8 @@ use Rattle.pb_board.specs.Refusal.{IsFirstDue, OfRecord, fields}
 use Rattle.pb_board.specs.Words.{word_of}
 use Rattle.pb_moves.specs.Moved.{Moved}
 use Rattle.pb_moves.specs.Cases.{Legal}
-use Rattle.pb_moves.specs.Played.{Spells, IsSpelled, Plays}
-use Rattle.pb_cli.specs.Line.{with_end}
+use Rattle.pb_moves.specs.Played.{Spells, IsFirstMisspelt, Plays}
+use Rattle.pb_board.specs.LineEnd.{with_end}
 
 -- the text of the record after the moves
 pub record Played (fen : List ℕ) (words : List (List ℕ)) (line : List ℕ) : Type 0 where
@@ -21,16 +21,6 @@ pub record Played (fen : List ℕ) (words : List (List ℕ)) (line : List ℕ) :
   pub last : Record
   pub plays : Plays start moves last
   pub written : FenText last line
-
--- all words before the n-th spell moves, and the n-th spells none
-pub record Misspelt (words : List (List ℕ)) (n : ℕ) : Type 0 where
-  pub before : List (List ℕ)
-  pub word : List ℕ
-  pub after : List (List ℕ)
-  pub cut : words ≡ before ++ word ∷ after
-  pub number : n ≡ length before + 1
-  pub spelt : All IsSpelled before
-  pub misspelt : ¬ IsSpelled word
 
 -- all words spell moves, those before the n-th may be played, and the n-th isn't legal then
 pub record Unplayable (start : Record) (words : List (List ℕ)) (n : ℕ) : Type 0 where
@@ -48,7 +38,7 @@ pub data FenShown (fen : List ℕ) (words : List (List ℕ)) (answer : Bool) (ou
   played : (line : List ℕ) → Played fen words line → answer ≡ true → out ≡ with_end line → FenShown fen words answer out
   no_record : (e : FenError) → IsFirstDue OfRecord e (fields fen) → answer ≡ false
       → out ≡ with_end (codes "refused fen " ++ word_of e) → FenShown fen words answer out
-  misspelt : (start : Record) (n : ℕ) → IsRecord start → FenText start fen → Misspelt words n → answer ≡ false
+  misspelt : (start : Record) (n : ℕ) → IsRecord start → FenText start fen → IsFirstMisspelt words n → answer ≡ false
       → out ≡ with_end (codes "refused spelling " ++ decimal n) → FenShown fen words answer out
   unplayable : (start : Record) (n : ℕ) → IsRecord start → FenText start fen → Unplayable start words n → answer ≡ false
       → out ≡ with_end (codes "refused illegal " ++ decimal n) → FenShown fen words answer out

@@ -10,7 +10,7 @@ use Rattle.pb_moves.specs.Spelling.{spelling}
 use Rattle.pb_poly.specs.declared.entry.Entry.{Entry}
 use Rattle.pb_poly.specs.Found.{Found}
 use Rattle.pb_cli.specs.BookShown.{BookRefused, IsBookFile}
-use Rattle.pb_cli.specs.Line.{with_end}
+use Rattle.pb_board.specs.LineEnd.{with_end}
 use Rattle.pb_cli.specs.TableShown.{IsTableFile, TableRefused}
 
 -- the move and its weight, a space between

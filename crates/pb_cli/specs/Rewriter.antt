@@ -1,6 +1,7 @@
 -- What the rewriter of EPD lines does with lines.
-use Rattle.std.specs.Prelude.{◌≡◌, ℕ, ◌+◌, ◌-◌, ◌^◌, ◌&&◌, Bool, true, false, List, min, take, Result, Ok, Err}
+use Rattle.std.specs.Prelude.{◌≡◌, ℕ, ◌+◌, ◌&&◌, Bool, true, false, List, take, Result, Ok, Err}
 use Rattle.std.specs.Io.KnownBytes.{Appends}
+use Rattle.pb_poly.specs.Count.{next_count}
 use Rattle.pb_poly.specs.Source.{SourceState}
 use Rattle.pb_poly.specs.Sink.{SinkState, StillWorks}
 use Rattle.pb_poly.specs.Reads.{ReadsAll}
@@ -13,10 +14,6 @@ use Rattle.pb_cli.specs.declared.epd.Stop.{Stop}
 use Rattle.pb_cli.specs.declared.epd.Stop.TheVariants.{Write, Memory}
 use Rattle.pb_cli.specs.EpdShown.{LineShown}
 use Rattle.pb_cli.specs.EpdRun.{Rewrites, RewritesEndless, RewritesToMemory, RewritesToReadFault, RewritesToWriteFault}
-
--- one more, in a count of 64 bits that stays at its greatest value
-abbrev pub next_number : ℕ → ℕ
-next_number taken = min (taken + 1) (2 ^ 64 - 1)
 
 -- these bytes were put, or the sink has failed and a front of them was
 abbrev pub Puts : SinkState → SinkState → List ℕ → Result (Unit {0}) Stop → Type 0
@@ -57,8 +54,8 @@ LineCounted sink sink' number line answer answer' (Err stop) = StopsAt sink sink
 
 -- one line is rewritten or refused, through the same reference
 pub record TakesLine {K : Type 0} (state : K → SinkState) (s : Rewriter K) (line : List ℕ) (result : Result (Unit {0}) Stop) (t : Rewriter K) : Type 0 where
-  pub shows : LineCounted (state s.sink.now) (state t.sink.now) (next_number s.lines) line s.all_taken t.all_taken result
-  pub counted : t.lines ≡ next_number s.lines
+  pub shows : LineCounted (state s.sink.now) (state t.sink.now) (next_count s.lines) line s.all_taken t.all_taken result
+  pub counted : t.lines ≡ next_count s.lines
   pub same_sink : t.sink.ghost_name ≡ s.sink.ghost_name
 
 -- all lines of the stream were taken

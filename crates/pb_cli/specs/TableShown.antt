@@ -2,7 +2,7 @@
 use Rattle.std.specs.Prelude.{◌≡◌, ℕ, ◌<◌, ◌≤◌, List, ◌++◌, codes, decimal, length}
 use Rattle.pb_poly.specs.Table.{IsDueTable, TableText}
 use Rattle.pb_poly.specs.declared.table.TableError.TheVariants.{Line, Count}
-use Rattle.pb_cli.specs.Line.{with_end}
+use Rattle.pb_board.specs.LineEnd.{with_end}
 
 -- the most bytes that a table file may have
 abbrev pub table_limit : ℕ

@@ -3,13 +3,15 @@ ghost use Rattle.std.specs.Prelude.{◌≡◌, ◌≢◌, ◌≤◌, ◌↔◌, 
 ghost use Rattle.pb_epd.specs.declared.refusal.EpdError.TheVariants as epd;
 ghost use Rattle.pb_poly.specs.Lines.{line_limit};
 ghost use Rattle.pb_cli.specs.EpdRun.{RewritesStream, RewritesTold, RewritesUntil};
-ghost use Rattle.pb_cli.specs.EpdShown.{IsBlank, IsWithoutReturn, reason, refused_line};
-ghost use Rattle.pb_cli.specs.Line.{joined, with_end};
+ghost use Rattle.pb_cli.specs.EpdShown.{IsBlank, reason, refused_line};
+ghost use Rattle.pb_board.specs.LineEnd.{with_end};
+ghost use Rattle.pb_cli.specs.Line.{joined};
 ghost use Rattle.pb_cli.specs.Rewriter.{LineTaken, Puts, RewritesAll, RewritesUntilStop};
 
 use crate::fault::Fault;
 use crate::output::put_line;
 use itoa::Buffer;
+use pb_board::without_return;
 use pb_epd::{EpdError, read_epd, write_epd};
 use pb_poly::{LineTask, LinesFault, Sink, Source, take_lines};
 use std::alloc::Global;
@@ -138,16 +140,6 @@ fn rewrite_line<K: Sink>(
             put_refusal(sink, number, error)?;
             Ok(false)
         }
-    }
-}
-
-/// The line without one final CR.
-fn without_return(line: &[u8]) -> &[u8]
-    ensures { IsWithoutReturn line.now result.now }
-{
-    match line {
-        [front @ .., b'\r'] => front,
-        _ => line,
     }
 }
 

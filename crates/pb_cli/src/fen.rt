@@ -7,9 +7,9 @@ ghost use Rattle.pb_board.specs.Position.{IsRecord};
 ghost use Rattle.pb_moves.specs.AfterRecord.{AfterRecord};
 ghost use Rattle.pb_moves.specs.Cases.{Legal};
 ghost use Rattle.pb_moves.specs.Moved.{Moved};
-ghost use Rattle.pb_moves.specs.Played.{IsSpelled, Spells};
-ghost use Rattle.pb_cli.specs.FenShown.{FenShown, Misspelt, Unplayable};
-ghost use Rattle.pb_cli.specs.Line.{with_end};
+ghost use Rattle.pb_moves.specs.Played.{IsFirstMisspelt, IsSpelled, Spells};
+ghost use Rattle.pb_cli.specs.FenShown.{FenShown, Unplayable};
+ghost use Rattle.pb_board.specs.LineEnd.{with_end};
 ghost use Rattle.pb_cli.specs.Plays.{PlaysWords};
 ghost use Rattle.pb_cli.specs.Refused.{refusal_line};
 ghost use Rattle.pb_cli.specs.Shows.{Shows};
@@ -90,7 +90,7 @@ fn record_after(fen: &[u8], moves: &[&str]) -> Result<Fen, Refusal>
 
 /// The number of the first word that spells no move, from 1.
 fn misspelt(words: &[&str]) -> Option<usize>
-    ensures { MatchOption result (All IsSpelled (texts words.now)) (λ number. Misspelt (texts words.now) number) }
+    ensures { MatchOption result (All IsSpelled (texts words.now)) (IsFirstMisspelt (texts words.now)) }
 {
     for (index, word) in words.iter().enumerate() {
         if !spells_move(word) {

@@ -1,6 +1,7 @@
 //! Lines on a sink.
 ghost use Rattle.std.specs.Prelude.{◌≡◌};
-ghost use Rattle.pb_cli.specs.Line.{joined, with_end};
+ghost use Rattle.pb_board.specs.LineEnd.{with_end};
+ghost use Rattle.pb_cli.specs.Line.{joined};
 ghost use Rattle.pb_cli.specs.Shows.{Shows};
 ghost use Rattle.pb_poly.specs.Sink.{Put};
 

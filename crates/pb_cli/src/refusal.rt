@@ -1,6 +1,7 @@
 //! Lines that say why an input is refused.
 ghost use Rattle.std.specs.Prelude.{◌++◌, decimal};
-ghost use Rattle.pb_cli.specs.Line.{joined, with_end};
+ghost use Rattle.pb_board.specs.LineEnd.{with_end};
+ghost use Rattle.pb_cli.specs.Line.{joined};
 ghost use Rattle.pb_cli.specs.Refuses.{Refuses, RefusesForBook};
 
 use crate::fault::Fault;

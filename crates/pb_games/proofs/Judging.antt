@@ -11,18 +11,19 @@ use Rattle.pb_board.proofs.Dues.{last_order}
 use Rattle.pb_board.proofs.Fens.{spelt_not_due}
 use Rattle.pb_board.proofs.Unique.{one_record}
 use Rattle.pb_moves.specs.Attack.{Playable}
-use Rattle.pb_moves.specs.Played.{AreLegal, IsSpelled}
+use Rattle.pb_moves.specs.Played.{AreLegal, IsSpelled, IsFirstMisspelt}
 use Rattle.pb_games.specs.declared.outcome.Outcome.{Outcome}
 use Rattle.pb_games.specs.declared.refusal.Refusal.TheVariants as refusal
 use Rattle.pb_games.specs.Header.{IsHeader}
 use Rattle.pb_games.specs.Ids.{IsId}
 use Rattle.pb_games.specs.LineFields.{submission_of}
-use Rattle.pb_games.specs.Refusing.{IsFirstMisspelt, IsFirstIllegal, Refuses, SpellsStart, field_of, without_cr}
+use Rattle.pb_board.specs.LineEnd.{without_return}
+use Rattle.pb_games.specs.Refusing.{IsFirstIllegal, Refuses, SpellsStart, field_of}
 use Rattle.pb_games.specs.Results.{outcome_text}
 use Rattle.pb_games.specs.Submissions.{IsLawful, IsGame, moves_text}
 use Rattle.pb_games.specs.Words.{words_of, move_named, moves_named}
 use Rattle.pb_games.proofs.Dues.{NoneBefore, none_at_first, none_more, first_due}
-use Rattle.pb_games.proofs.LineEnds.{cases_cr}
+use Rattle.pb_board.proofs.LineEnds.{cases_return}
 use Rattle.pb_games.proofs.WordLemmas.{spellings_back, named_are_moves, words-back, none_misspelt}
 
 -- where a text spells a record, no refusal is its first
@@ -99,13 +100,13 @@ module _ (line a d : List ℕ) (o : Outcome) (f : Record) (h : IsHeader line a o
         moves_back : d ≡ moves_text (moves_named d)
         moves_back = sym (ap (join_with_byte 32) (spellings_back (words_of d) spelt) ∙ words-back d)
 
-        text_is : without_cr line ≡ join_with_byte 9 (a ∷ outcome_text o ∷ h.fen ∷ moves_text (moves_named d) ∷ [])
+        text_is : without_return line ≡ join_with_byte 9 (a ∷ outcome_text o ∷ h.fen ∷ moves_text (moves_named d) ∷ [])
         text_is =
-            sym (join_with_byte-slice_split 9 (without_cr line)) ∙ ap (join_with_byte 9) h.cut
+            sym (join_with_byte-slice_split 9 (without_return line)) ∙ ap (join_with_byte 9) h.cut
             ∙ ap (λ t. join_with_byte 9 (a ∷ outcome_text o ∷ h.fen ∷ t ∷ [])) moves_back
 
         pub lawful : AreLegal f.setup (moves_named d) → IsLawful line (submission_of a f o d)
         lawful legal = record {
-          submits = record { id = h.id_is; game = is_game; text = without_cr line; spells = (h.fen, h.text, text_is); is = cases_cr line };
+          submits = record { id = h.id_is; game = is_game; text = without_return line; spells = (h.fen, h.text, text_is); is = cases_return line };
           legal = record { playable = playable; legal = legal };
         }

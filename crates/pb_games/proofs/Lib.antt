@@ -1,4 +1,3 @@
-pub mod LineEnds
 pub mod Pieces
 pub mod WordLemmas
 pub mod Bytes

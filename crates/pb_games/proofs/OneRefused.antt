@@ -9,11 +9,11 @@ use Rattle.pb_board.specs.Position.{Position, Record}
 use Rattle.pb_board.specs.Refusal as board
 use Rattle.pb_board.proofs.Unique.{one_record}
 use Rattle.pb_moves.specs.Moved.{Moved}
-use Rattle.pb_moves.specs.Played.{IsSpelled}
+use Rattle.pb_moves.specs.Played.{IsSpelled, IsFirstMisspelt}
 use Rattle.pb_moves.specs.Successor.{after}
 use Rattle.pb_games.specs.declared.refusal.Refusal.{Refusal}
 use Rattle.pb_games.specs.declared.refusal.Refusal.TheVariants as refusal
-use Rattle.pb_games.specs.Refusing.{IsDue, IsFirstMisspelt, IsFirstIllegal, Refuses, order, field_of}
+use Rattle.pb_games.specs.Refusing.{IsDue, IsFirstIllegal, Refuses, order, field_of}
 use Rattle.pb_games.specs.Laws.{OneRefusal}
 use Rattle.pb_games.proofs.OneLine.{spellings_injective}
 

@@ -9,13 +9,13 @@ use Rattle.pb_board.specs.Refusal.{IsFirstDue, OfRecord, fields}
 use Rattle.pb_board.proofs.Unique.{one_record}
 use Rattle.pb_moves.specs.Attack.{Playable}
 use Rattle.pb_moves.specs.Moved.{Moved, IsMove}
-use Rattle.pb_moves.specs.Played.{AreLegal, IsSpelled}
+use Rattle.pb_moves.specs.Played.{AreLegal, IsSpelled, IsFirstMisspelt}
 use Rattle.pb_moves.specs.Spelling.{spelling}
 use Rattle.pb_moves.specs.Successor.{after}
 use Rattle.pb_games.specs.declared.refusal.Refusal.{Refusal}
 use Rattle.pb_games.specs.declared.refusal.Refusal.TheVariants as refusal
 use Rattle.pb_games.specs.Ids.{IsId}
-use Rattle.pb_games.specs.Refusing.{IsDue, IsOfLine, IsFirstMisspelt, IsFirstIllegal, SpellsStart, field_of}
+use Rattle.pb_games.specs.Refusing.{IsDue, IsOfLine, IsFirstIllegal, SpellsStart, field_of}
 use Rattle.pb_games.specs.Results.{outcome_text}
 use Rattle.pb_games.specs.Submissions.{Submission, IsLawful, moves_text}
 use Rattle.pb_games.specs.Words.{words_of}

@@ -4,12 +4,13 @@ use Rattle.std.specs.List.{All, join_with_byte, slice_split}
 use Rattle.std.proofs.Math.Seq.{get_or-append_seam}
 use Rattle.std.proofs.lemmas.List.Elements.{All-nil, All-cons, All-append, All-same}
 use Rattle.pb_board.proofs.Joins.{Above, AllAbove, split_join}
-use Rattle.pb_games.specs.Refusing.{fields_of, without_cr}
+use Rattle.pb_board.specs.LineEnd.{without_return}
+use Rattle.pb_games.specs.Refusing.{fields_of}
 use Rattle.pb_games.specs.Results.{outcome_text}
 use Rattle.pb_games.specs.Submissions.{Submission, Submits, moves_text}
 use Rattle.pb_games.specs.Laws.{TextIsShort, TextIsOneLine, PartsHaveNoTab}
 use Rattle.pb_games.proofs.Bytes.{Above-weaker, id_above, result_above, result_short, fen_above, fen_short, moves_above, moves_short}
-use Rattle.pb_games.proofs.LineEnds.{without_cr-push, without_cr-same}
+use Rattle.pb_board.proofs.LineEnds.{without_return-push, without_return-same}
 
 no_tab : (xs : List ℕ) → Above 31 xs → Above 9 xs
 no_tab xs h = Above-weaker 9 31 xs (omega arith) h
@@ -62,11 +63,11 @@ no_final_cr text h front e =
     (h (length front) 0 within).1 (ap (λ (t : List ℕ). get_or t (length front) 0) e ∙ get_or-append_seam front 13 [] 0)
 
 -- the line without one final CR is the text
-pub text_back : (line : List ℕ) (s : Submission) (h : Submits line s) → without_cr line ≡ h.text
+pub text_back : (line : List ℕ) (s : Submission) (h : Submits line s) → without_return line ≡ h.text
 text_back line s h =
     elim h.is [
-      | inl same ↦ ap without_cr same ∙ without_cr-same h.text (no_final_cr h.text (one_line s h.text h.id h.game h.spells))
-      | inr more ↦ ap without_cr more ∙ without_cr-push h.text
+      | inl same ↦ ap without_return same ∙ without_return-same h.text (no_final_cr h.text (one_line s h.text h.id h.game h.spells))
+      | inr more ↦ ap without_return more ∙ without_return-push h.text
     ]
 
 -- the fields of a line are the parts of what it submits

@@ -9,9 +9,8 @@ use Rattle.pb_board.specs.declared.piece.Kind.{Kind}
 use Rattle.pb_board.specs.declared.piece.Kind.TheVariants.{Pawn, Knight, Bishop, Rook, Queen, King}
 use Rattle.pb_board.specs.Board.{file, rank}
 use Rattle.pb_moves.specs.Moved.{Moved, IsMove, IsPromotion, moved_of}
-use Rattle.pb_moves.specs.Played.{Spells, IsSpelled}
+use Rattle.pb_moves.specs.Played.{Spells, IsSpelled, IsFirstMisspelt}
 use Rattle.pb_moves.specs.Spelling.{promotion_text, spelling}
-use Rattle.pb_games.specs.Refusing.{IsFirstMisspelt}
 use Rattle.pb_games.specs.Words.{words_of, square_named, promotion_named, move_named}
 
 -- a field has no more words than bytes, and one

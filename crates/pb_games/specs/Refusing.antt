@@ -1,13 +1,14 @@
 -- Which refusal a line gets by itself: the first in the order below whose condition holds.
-use Rattle.std.specs.Prelude.{◌≡◌, ◌≢◌, ℕ, ◌+◌, ◌<◌, ◌⊎◌, List, [], ◌∷◌, ◌++◌, length, map, All, slice_index_or, ◌==◌, if◌then◌else◌}
+use Rattle.std.specs.Prelude.{◌≡◌, ◌≢◌, ℕ, ◌+◌, ◌<◌, ◌⊎◌, List, [], ◌∷◌, ◌++◌, length, map, All, slice_index_or, ◌==◌}
 use Rattle.std.specs.List.{slice_split}
 use Rattle.pb_board.specs.Fen.{FenText}
+use Rattle.pb_board.specs.LineEnd.{without_return}
 use Rattle.pb_board.specs.Position.{Position, Record, IsRecord}
 use Rattle.pb_board.specs.Refusal.{IsFirstDue, OfRecord, fields}
 use Rattle.pb_moves.specs.Attack.{Playable}
 use Rattle.pb_moves.specs.Cases.{Legal}
 use Rattle.pb_moves.specs.Moved.{Moved, IsMove}
-use Rattle.pb_moves.specs.Played.{IsSpelled}
+use Rattle.pb_moves.specs.Played.{IsFirstMisspelt}
 use Rattle.pb_moves.specs.Spelling.{spelling}
 use Rattle.pb_moves.specs.Successor.{after}
 use Rattle.pb_games.specs.declared.outcome.Outcome.{Outcome}
@@ -17,15 +18,9 @@ use Rattle.pb_games.specs.Ids.{IsId}
 use Rattle.pb_games.specs.Results.{outcome_text}
 use Rattle.pb_games.specs.Words.{words_of}
 
--- the line without one final CR
-abbrev pub without_cr : List ℕ → List ℕ
-without_cr [] = []
-without_cr (c ∷ []) = if c == 13 then [] else c ∷ []
-without_cr (c ∷ d ∷ cs) = c ∷ without_cr (d ∷ cs)
-
 -- the fields of a line, which is cut at every TAB
 abbrev pub fields_of : List ℕ → List (List ℕ)
-fields_of line = slice_split (λ b. b == 9) (without_cr line)
+fields_of line = slice_split (λ b. b == 9) (without_return line)
 
 -- the field with this number, from 0
 abbrev pub field_of : List ℕ → ℕ → List ℕ
@@ -34,16 +29,6 @@ field_of line i = slice_index_or (fields_of line) i []
 -- the words of the fourth field
 abbrev pub move_words : List ℕ → List (List ℕ)
 move_words line = words_of (field_of line 3)
-
--- the n-th word, from 1, spells no move, and each word before it spells one
-pub record IsFirstMisspelt (words : List (List ℕ)) (n : ℕ) : Type 0 where
-  pub before : List (List ℕ)
-  pub word : List ℕ
-  pub after : List (List ℕ)
-  pub cut : words ≡ before ++ word ∷ after
-  pub number : n ≡ length before + 1
-  pub spelt : All IsSpelled before
-  pub misspelt : ¬ IsSpelled word
 
 -- the n-th move, from 1, isn't legal where it is played, and each move before it is
 abbrev pub IsFirstIllegal : Position → List Moved → ℕ → Type 0

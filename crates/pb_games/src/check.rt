@@ -2,8 +2,8 @@
 
 ghost use Rattle.std.specs.Prelude.{◌≡◌, ◌≤◌, ◌↔◌, All, IfErr, IfOk, IsTrue, MatchOption, MatchResult, Ok, length};
 ghost use Rattle.pb_moves.specs.Attack.{Playable};
-ghost use Rattle.pb_moves.specs.Played.{AreLegal, IsSpelled};
-ghost use Rattle.pb_games.specs.Refusing.{IsFirstIllegal, IsFirstMisspelt, Refuses};
+ghost use Rattle.pb_moves.specs.Played.{AreLegal, IsFirstMisspelt, IsSpelled};
+ghost use Rattle.pb_games.specs.Refusing.{IsFirstIllegal, Refuses};
 ghost use Rattle.pb_games.specs.Submissions.{IsLawful, Submission};
 ghost use Rattle.pb_games.specs.Words.{words_of};
 

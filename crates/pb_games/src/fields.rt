@@ -1,9 +1,9 @@
 //! The four fields of a line.
 
 ghost use Rattle.std.specs.Prelude.{◌≡◌, ◌≢◌, ◌≤◌, ◌∷◌, [], length, MatchOption, IfSome};
-ghost use Rattle.pb_games.specs.Refusing.{fields_of, without_cr};
+ghost use Rattle.pb_games.specs.Refusing.{fields_of};
 
-use pb_board::cut_once;
+use pb_board::{cut_once, without_return};
 
 /// The fields of a line that is cut at every TAB.
 #[derive(Clone, Copy)]
@@ -20,7 +20,7 @@ pub(crate) fn cut_fields(line: &[u8]) -> Option<Fields<'_>>
         (λ f. fields_of line.now ≡ f.id.now ∷ f.outcome.now ∷ f.start.now ∷ f.moves.now ∷ []) }
     ensures short { IfSome result (λ f. length f.moves.now ≤ length line.now) }
 {
-    let (id, rest) = cut_once(without_end(line), b'\t')?;
+    let (id, rest) = cut_once(without_return(line), b'\t')?;
     let (outcome, rest) = cut_once(rest, b'\t')?;
     let (start, moves) = cut_once(rest, b'\t')?;
     let None = cut_once(moves, b'\t') else {
@@ -32,14 +32,4 @@ pub(crate) fn cut_fields(line: &[u8]) -> Option<Fields<'_>>
         start,
         moves,
     })
-}
-
-/// The line without one final CR.
-fn without_end(line: &[u8]) -> &[u8]
-    ensures { result.now ≡ without_cr line.now }
-{
-    match line.strip_suffix(b"\r") {
-        Some(front) => front,
-        None => line,
-    }
 }

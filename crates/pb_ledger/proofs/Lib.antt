@@ -5,7 +5,6 @@ pub mod Counts
 pub mod Distinct
 pub mod ExportLaws
 pub mod ExportLines
-mod Fields
 pub mod Gifts
 pub mod Listings
 pub mod Members

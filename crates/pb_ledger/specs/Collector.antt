@@ -1,5 +1,6 @@
 -- What the collector does with lines.
-use Rattle.std.specs.Prelude.{◌≡◌, ℕ, ◌+◌, ◌-◌, ◌^◌, Bool, true, false, min, List, length, Result, Ok, Err}
+use Rattle.std.specs.Prelude.{◌≡◌, ℕ, ◌+◌, Bool, true, false, List, length, Result, Ok, Err}
+use Rattle.pb_poly.specs.Count.{next_count}
 use Rattle.pb_poly.specs.Source.{SourceState}
 use Rattle.pb_poly.specs.Sink.{Put, SinkState, StillWorks}
 use Rattle.pb_poly.specs.Reads.{ReadsAll}
@@ -14,10 +15,6 @@ use Rattle.pb_ledger.specs.declared.totals.Totals.{Totals}
 use Rattle.pb_ledger.specs.declared.collecting.Collector.{Collector}
 use Rattle.pb_ledger.specs.Replies.{reply_line}
 use Rattle.pb_ledger.specs.Collecting.{Collects, CollectsEndless, CollectsToReadFault, CollectsToWriteFault, Counts}
-
--- one more, in a count of 64 bits that stays at its greatest value
-abbrev pub next_count : ℕ → ℕ
-next_count count = min (count + 1) (2 ^ 64 - 1)
 
 -- the totals with one more answer, to a line that brought a new game or didn't
 abbrev pub with_answer : Totals → Answer → Bool → Totals

@@ -1,6 +1,7 @@
 -- The book of games as EPD (PGN Standard 1994, section 16.2): a line for each setup of the games that the book has moves for.
 use Rattle.std.specs.Prelude.{◌≡◌, ◌≢◌, ◌↔◌, ℕ, true, false, List, [], ◌∷◌, ◌++◌, length, map, flat_map, AllPairs, Contains, codes, decimal}
 use Rattle.std.specs.Io.KnownBytes.{Appends}
+use Rattle.pb_board.specs.LineEnd.{with_end}
 use Rattle.pb_board.specs.Fen.{FourFields}
 use Rattle.pb_board.specs.Position.{Position}
 use Rattle.pb_epd.specs.ByteOrder.{IsBelow}
@@ -61,7 +62,7 @@ pub record ExportLines (T : Basis) (S : List Submission) (lines : List (List ℕ
 
 -- lines as a text, with an LF after each
 abbrev pub text_of_lines : List (List ℕ) → List ℕ
-text_of_lines lines = flat_map (λ line. line ++ 10 ∷ []) lines
+text_of_lines lines = flat_map with_end lines
 
 -- the text of the export of the games
 abbrev pub ExportText : Basis → List Submission → List ℕ → Type 0

@@ -1,5 +1,6 @@
 -- The reply lines: a line for each submission, with its LF.
 use Rattle.std.specs.Prelude.{ℕ, List, [], ◌∷◌, ◌++◌, Ok, Err, codes, decimal}
+use Rattle.pb_board.specs.LineEnd.{with_end}
 use Rattle.pb_games.specs.declared.refusal.Refusal.{Refusal}
 use Rattle.pb_games.specs.declared.refusal.Refusal.TheVariants as refusal
 use Rattle.pb_games.specs.Refusing.{field_of}
@@ -34,7 +35,7 @@ reply_text id (Err e) = codes "refused " ++ id ++ 32 ∷ reason e
 
 -- the reply line to a line with this answer
 abbrev pub reply_line : List ℕ → Answer → List ℕ
-reply_line line r = reply_text (named line r) r ++ 10 ∷ []
+reply_line line r = with_end (reply_text (named line r) r)
 
 -- the reply lines to these lines with these answers
 abbrev pub replies : List (List ℕ) → List Answer → List ℕ

@@ -15,7 +15,7 @@ pub(crate) fn submits_game(line: &Line<'_>, game: &Game) -> bool
         && submits_moves(line, &game.moves)
 }
 
-// Whether the line's moves are these.
+/// Whether the line's moves are these.
 fn submits_moves(line: &Line<'_>, moves: &MoveList) -> bool
     ensures { IsTrue result ↔ (moves.now ≡ line.now.1.moves) }
 {

@@ -1,6 +1,7 @@
 //! The line of an export that says which moves a book has for a setup.
 
 ghost use Rattle.std.specs.Prelude.{◌≡◌, ◌∷◌, ◌++◌, [], All, IfOk, List, MatchOption, flat_map, ℕ};
+ghost use Rattle.pb_board.specs.LineEnd.{with_end};
 ghost use Rattle.pb_epd.specs.Operation.{IsOperand};
 ghost use Rattle.pb_epd.specs.declared.operand.Operand.TheVariants.{Word};
 ghost use Rattle.pb_poly.specs.Found.{Found};
@@ -23,7 +24,7 @@ pub(crate) fn line_of(
 ) -> Result<Option<Vec<u8>>, AllocError>
     ensures { IfOk result (λ line. MatchOption line
         (Found book.now table.now setup.now [])
-        (λ v. (text : List ℕ) × SaysMoves table.now book.now setup.now text × (v.items ≡ text ++ 10 ∷ []))) }
+        (λ v. (text : List ℕ) × SaysMoves table.now book.now setup.now text × (v.items ≡ with_end text))) }
 {
     let found = probe(alloc, book, table, setup)?;
     if found.is_empty() {
@@ -35,7 +36,7 @@ pub(crate) fn line_of(
     Ok(Some(line))
 }
 
-// The setup with the one operation `bkm`.
+/// The setup with the one operation `bkm`.
 fn epd_of(alloc: Global, setup: &Setup, moves: &[(Move, u16)]) -> Result<Epd, AllocError>
     ensures { IfOk result (λ epd. epd ≡ with_book_moves setup.now moves.now) }
 {
@@ -51,7 +52,7 @@ fn epd_of(alloc: Global, setup: &Setup, moves: &[(Move, u16)]) -> Result<Epd, Al
     }
 }
 
-// Each move and its weight in decimal, as words.
+/// Each move and its weight in decimal, as words.
 fn operands_of(alloc: Global, moves: &[(Move, u16)]) -> Result<Vec<Operand>, AllocError>
     ensures are { IfOk result (λ operands. operands.items ≡ flat_map move_and_weight moves.now) }
     ensures lawful { IfOk result (λ operands. All IsOperand operands.items) }
@@ -67,7 +68,7 @@ fn operands_of(alloc: Global, moves: &[(Move, u16)]) -> Result<Vec<Operand>, All
     Ok(operands)
 }
 
-// The word of these bytes.
+/// The word of these bytes.
 fn word(alloc: Global, bytes: &[u8]) -> Result<Operand, AllocError>
     ensures { IfOk result (λ operand. operand ≡ Word bytes.now) }
 {

@@ -68,7 +68,7 @@ pub fn export<T: Tally, K: Sink>(
     Ok(count)
 }
 
-// Puts the line of each setup for which the book has moves.
+/// Puts the line of each setup for which the book has moves.
 fn put_lines<K: Sink>(
     alloc: Global,
     book: &Book,

@@ -23,7 +23,7 @@ pub(crate) struct Gift {
     pub(crate) points: u8,
 }
 
-// The points of a ply of this side.
+/// The points of a ply of this side.
 fn credit(outcome: Outcome, side: Colour) -> u8
     ensures { result ≡ credit_by outcome side }
 {

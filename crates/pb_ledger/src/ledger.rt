@@ -18,7 +18,7 @@ use std::marker::Model;
 /// The most games that a ledger may be made for.
 pub const MAX_CAP: u32 = 1_000_000;
 
-// The most moves of a game.
+/// The most moves of a game.
 const MAX_PLIES: usize = 1_024;
 
 /// The accepted games by id, in order of acceptance, with the points of their moves.
@@ -103,7 +103,7 @@ impl<T: Tally> Ledger<T> {
         }
     }
 
-    // Adds a game under a new id. The insert is the last step that may fail, and only then points are added.
+    /// Adds a game under a new id. The insert is the last step that may fail, and only then points are added.
     fn accept(&mut self, read: &Line<'_>) -> Result<(), AllocError>
         requires legal { IsSubmission read.now }
         requires new { IsNewId read.now.0 self.old.accepted }

@@ -12,7 +12,7 @@ pub(crate) fn same_record(a: &Fen, b: &Fen) -> bool
     a.half() == b.half() && a.full() == b.full() && same_setup(&a.setup(), &b.setup())
 }
 
-// Whether the two setups are one.
+/// Whether the two setups are one.
 fn same_setup(a: &Setup, b: &Setup) -> bool
     ensures { IsTrue result ↔ (a.now ≡ b.now) }
 {
@@ -22,7 +22,7 @@ fn same_setup(a: &Setup, b: &Setup) -> bool
         && a.ep() == b.ep()
 }
 
-// Whether the two boards are one.
+/// Whether the two boards are one.
 fn same_board(a: &[Option<Piece>; 64], b: &[Option<Piece>; 64]) -> bool
     ensures { IsTrue result ↔ (a.now ≡ b.now) }
 {

@@ -1,11 +1,12 @@
 //! Reply lines.
 
-ghost use Rattle.std.specs.Prelude.{◌≡◌, ◌≢◌, ◌==◌, ◌⊎◌, ℕ, List, ◌+◌, ◌≤◌, ◌++◌, ◌∷◌, [], decimal, length, position};
+ghost use Rattle.std.specs.Prelude.{◌≡◌, ◌≢◌, ◌+◌, ◌≤◌, ◌++◌, decimal, length};
 ghost use Rattle.pb_games.specs.Refusing.{field_of};
 ghost use Rattle.pb_ledger.specs.Replies.{named, reason, reply_line};
 
 use arrayvec::ArrayVec;
 use itoa::Buffer;
+use pb_board::{cut_once, without_return};
 use pb_games::Refusal;
 use std::marker::Model;
 
@@ -115,23 +116,8 @@ fn first_field(line: &[u8]) -> &[u8]
     ensures { result.now ≡ field_of line.now 0 }
 {
     let line = without_return(line);
-    let end = find_tab(line).unwrap_or(line.len());
-    &line[..end]
-}
-
-/// The place of the first TAB.
-fn find_tab(line: &[u8]) -> Option<usize>
-    ensures { result ≡ position (λ byte. byte == 9) line.now }
-{
-    line.iter().position(|byte| *byte == b'\t')
-}
-
-/// The line without one final CR.
-fn without_return(line: &[u8]) -> &[u8]
-    ensures { (line.now ≡ result.now ++ 13 ∷ []) ⊎ ((line.now ≡ result.now) × ((front : List ℕ) → line.now ≢ front ++ 13 ∷ [])) }
-{
-    match line.split_last() {
-        Some((&b'\r', front)) => front,
-        _ => line,
+    match cut_once(line, b'\t') {
+        Some((first, _)) => first,
+        None => line,
     }
 }

@@ -29,7 +29,7 @@ pub(crate) fn setups_of<T: Tally>(
     Ok(setups)
 }
 
-// Adds the setups that stand before the moves of a game.
+/// Adds the setups that stand before the moves of a game.
 fn add_game(
     alloc: Global,
     setups: &mut BTreeMap<Vec<u8>, Setup>,
@@ -46,7 +46,7 @@ fn add_game(
     Ok(())
 }
 
-// Adds a setup, unless its text is there.
+/// Adds a setup, unless its text is there.
 fn add_setup(
     alloc: Global,
     setups: &mut BTreeMap<Vec<u8>, Setup>,

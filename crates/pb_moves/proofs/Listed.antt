@@ -16,10 +16,10 @@ use Rattle.pb_moves.specs.Attack.{files_apart, ReachesBy}
 use Rattle.std.specs.Int.{bit_at, trailing_zeros}
 use Rattle.pb_moves.proofs.Legality.{case_at}
 use Rattle.pb_moves.proofs.Rising.{low_bits, zeros_bound, zeros_rise, without, without_other, without_small}
-use Rattle.pb_moves.specs.Moved.{Moved, IsMove, IsPromotion}
+use Rattle.pb_moves.specs.Moved.{Moved, IsMove, IsPromotion, promotion_number}
 use Rattle.pb_moves.specs.Castling.{castling_row}
 use Rattle.pb_moves.specs.Cases.{Legal, CaseOf, piece_move, pawn_step, pawn_double, pawn_capture, en_passant, castles, Becomes}
-use Rattle.pb_moves.specs.Listing.{promotion_place, place, ListsLegal}
+use Rattle.pb_moves.specs.Listing.{place, ListsLegal}
 use Rattle.pb_moves.specs.Candidate.{HoldsOwn, MayGo, MayPromote, ListsBelow}
 
 -- a stretch of places with no legal move
@@ -47,7 +47,7 @@ lists_push s ms n m lists ok legal here only = record {
       (λ k d lt. let h = All-get_or (λ q. IsMove q × Legal s q × (place q < n)) ms k d lt lists.legal in omega (arith, h.2));
 }
 
-pub promotion_small : (o : Option Kind) → promotion_place o < 5
+pub promotion_small : (o : Option Kind) → promotion_number o < 5
 promotion_small None = omega arith
 promotion_small (Some Pawn) = omega arith
 promotion_small (Some k) = omega arith
@@ -64,7 +64,7 @@ lists_all s ms lists = record {
 
 -- lawful promotions are told by their places
 pub promotion_one : (o p : Option Kind) → ((k : Kind) → o ≡ Some k → IsPromotion k) → ((k : Kind) → p ≡ Some k → IsPromotion k)
-    → promotion_place o ≡ promotion_place p → o ≡ p
+    → promotion_number o ≡ promotion_number p → o ≡ p
 promotion_one None None h g e = refl
 promotion_one (Some Knight) (Some Knight) h g e = refl
 promotion_one (Some Bishop) (Some Bishop) h g e = refl
@@ -78,7 +78,7 @@ promotion_one o p h g e = absurd (omega arith)
 
 -- a move is told by its place
 pub move_at : (from to : ℕ) (promo : Option Kind) (q : Moved) → from < 64 → to < 64 → ((k : Kind) → promo ≡ Some k → IsPromotion k) → IsMove q
-    → place q ≡ 320 * from + 5 * to + promotion_place promo → q ≡ record { from = from; to = to; promo = promo }
+    → place q ≡ 320 * from + 5 * to + promotion_number promo → q ≡ record { from = from; to = to; promo = promo }
 move_at from to promo q on_from on_to lawful ok here =
     let a = ok.from_on_board in
     let b = ok.to_on_board in
@@ -86,7 +86,7 @@ move_at from to promo q on_from on_to lawful ok here =
     let e = promotion_small promo in
     let same_from : q.from ≡ from = omega arith in
     let same_to : q.to ≡ to = omega arith in
-    let same_place : promotion_place q.promo ≡ promotion_place promo = omega arith in
+    let same_place : promotion_number q.promo ≡ promotion_number promo = omega arith in
     let F : ℕ → Moved = λ x. record { from = x; to = q.to; promo = q.promo } in
     let G : ℕ → Moved = λ x. record { from = from; to = x; promo = q.promo } in
     let H : Option Kind → Moved = λ x. record { from = from; to = to; promo = x } in
@@ -95,11 +95,11 @@ move_at from to promo q on_from on_to lawful ok here =
 -- one place where no legal move is
 pub lists_pass : (s : Position) (ms : List Moved) (from to : ℕ) (promo : Option Kind) → from < 64 → to < 64 → ((k : Kind) → promo ≡ Some k → IsPromotion k)
     → (let m : Moved = record { from = from; to = to; promo = promo } in IsMove m → Legal s m → ⊥)
-    → ListsBelow s ms (320 * from + 5 * to + promotion_place promo) → ListsBelow s ms (320 * from + 5 * to + promotion_place promo + 1)
+    → ListsBelow s ms (320 * from + 5 * to + promotion_number promo) → ListsBelow s ms (320 * from + 5 * to + promotion_number promo + 1)
 lists_pass s ms from to promo on_from on_to lawful none lists =
-    let n = 320 * from + 5 * to + promotion_place promo in
+    let n = 320 * from + 5 * to + promotion_number promo in
     lists_skip s ms n (n + 1) (omega arith) lists (λ q ok legal lo hi.
-    let here : place q ≡ 320 * from + 5 * to + promotion_place promo = omega arith in
+    let here : place q ≡ 320 * from + 5 * to + promotion_number promo = omega arith in
     let same = move_at from to promo q on_from on_to lawful ok here in
     let P : Moved → Type 0 = λ x. IsMove x × Legal s x in
     let both = subst P same (ok, legal) in
@@ -158,7 +158,7 @@ case_promotes s m p b k (pawn_double x) e = absurd (let n = x.no_promotion in cc
 case_promotes s m p b k (en_passant x) e = absurd (let n = x.no_promotion in cc)
 case_promotes s m p b k (castles c x) e = absurd (let n = x.no_promotion in cc)
 
-pub promotion_some : (o : Option Kind) → 0 < promotion_place o → (k : Kind) × (o ≡ Some k)
+pub promotion_some : (o : Option Kind) → 0 < promotion_number o → (k : Kind) × (o ≡ Some k)
 promotion_some None h = absurd (omega arith)
 promotion_some (Some k) h = (k, refl)
 

@@ -1,7 +1,7 @@
 -- A move: the square it leaves, the square it reaches, and the piece that a pawn becomes.
-use Rattle.std.specs.Prelude.{◌≡◌, ◌≢◌, ℕ, ◌<◌, Option, Some}
+use Rattle.std.specs.Prelude.{◌≡◌, ◌≢◌, ℕ, ◌<◌, Option, Some, None}
 use Rattle.pb_board.specs.declared.piece.Kind.{Kind}
-use Rattle.pb_board.specs.declared.piece.Kind.TheVariants.{Pawn, King}
+use Rattle.pb_board.specs.declared.piece.Kind.TheVariants.{Pawn, Knight, Bishop, Rook, Queen, King}
 
 pub record Moved : Type 0 where
   pub from : ℕ
@@ -21,3 +21,13 @@ pub record IsMove (m : Moved) : Type 0 where
   pub to_on_board : m.to < 64
   pub moves : m.from ≢ m.to
   pub promotes : (kind : Kind) → m.promo ≡ Some kind → IsPromotion kind
+
+-- promotions in their order: none is 0, and a pawn becomes nothing else than these four
+abbrev pub promotion_number : Option Kind → ℕ
+promotion_number None = 0
+promotion_number (Some Knight) = 1
+promotion_number (Some Bishop) = 2
+promotion_number (Some Rook) = 3
+promotion_number (Some Queen) = 4
+promotion_number (Some Pawn) = 0
+promotion_number (Some King) = 0

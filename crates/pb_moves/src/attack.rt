@@ -12,7 +12,7 @@ use crate::knight::attacked_by_knight;
 use crate::line::{first_along, line_between};
 use pb_board::{Colour, Kind, Piece, Square};
 
-// Whether `to` lies on a line from `from`, with only empty squares between.
+/// Whether `to` lies on a line from `from`, with only empty squares between.
 fn clear_way(board: &Board, from: Square, to: Square) -> bool
     requires { ¬ (from ≡ to) }
     ensures { IsTrue result ↔ Clear board.now from to }
@@ -95,8 +95,8 @@ fn attacked_along(board: &Board, by: Colour, direction: Direction, square: Squar
     }
 }
 
-// Whether a piece of this side attacks the square along its rank or its file. Each direction is written out, so that
-// it is known where the walk is compiled.
+/// Whether a piece of this side attacks the square along its rank or its file. Each direction is written out, so that
+/// it is known where the walk is compiled.
 fn attacked_straight(board: &Board, square: Square, by: Colour) -> bool
     ensures { IsTrue result ↔ AttackedStraight board.now by square }
 {
@@ -106,7 +106,7 @@ fn attacked_straight(board: &Board, square: Square, by: Colour) -> bool
         || attacked_along(board, by, Direction::West, square)
 }
 
-// Whether a piece of this side attacks the square along a diagonal.
+/// Whether a piece of this side attacks the square along a diagonal.
 fn attacked_diagonally(board: &Board, square: Square, by: Colour) -> bool
     ensures { IsTrue result ↔ AttackedDiagonally board.now by square }
 {

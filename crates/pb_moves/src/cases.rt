@@ -32,7 +32,7 @@ pub(crate) fn piece_move(setup: &Setup, m: Move, piece: Piece) -> Option<Change>
     }
 }
 
-// What the pawn of this move is afterwards, if the move promotes just where it has to.
+/// What the pawn of this move is afterwards, if the move promotes just where it has to.
 #[inline]
 fn becomes(side: Colour, m: Move) -> Option<Kind>
     ensures { MatchOption result ((k : Kind) → ¬ Becomes side m k) (Becomes side m) }
@@ -56,9 +56,7 @@ pub(crate) fn pawn_step(setup: &Setup, m: Move, pawn: Piece) -> Option<Change>
 {
     let colour = pawn.colour;
     let (from, to) = (m.from(), m.to());
-    let Some(kind) = becomes(colour, m) else {
-        return None;
-    };
+    let kind = becomes(colour, m)?;
     if to.file() == from.file() && is_forward(colour, 1, from, to) && is_empty(setup.board(), to) {
         Some(Change::Carry(Piece { colour, kind }))
     } else {
@@ -76,9 +74,7 @@ pub(crate) fn pawn_capture(setup: &Setup, m: Move, pawn: Piece) -> Option<Change
     let colour = pawn.colour;
     let board = setup.board();
     let (from, to) = (m.from(), m.to());
-    let Some(kind) = becomes(colour, m) else {
-        return None;
-    };
+    let kind = becomes(colour, m)?;
     if is_prey(board, colour, to) && reaches(pawn, board, from, to) {
         Some(Change::Carry(Piece { colour, kind }))
     } else {

@@ -33,7 +33,7 @@ struct Squares {
 }
 
 impl Castling {
-    // The row whose king goes between these squares.
+    /// The row whose king goes between these squares.
     fn of(from: Square, to: Square) -> Option<Castling>
         ensures { MatchOption result
             ((c : Castling) → from ≡ (castling_row c).king_from → to ≢ (castling_row c).king_to)
@@ -171,7 +171,7 @@ fn both_empty(board: &Board, first: u8, second: u8) -> bool
     is_empty(board, square_at(first)) && is_empty(board, square_at(second))
 }
 
-// Whether the enemy attacks neither of these squares.
+/// Whether the enemy attacks neither of these squares.
 fn both_safe(board: &Board, side: Colour, first: u8, second: u8) -> bool
     requires first { first < 64 }
     requires second { second < 64 }

@@ -11,7 +11,7 @@ use crate::moves::Move;
 use crate::playing::play;
 use pb_board::{Colour, Fen, Kind, Piece, Setup};
 
-// Whether the move sets the half-move clock to 0: a pawn moves, or something is taken.
+/// Whether the move sets the half-move clock to 0: a pawn moves, or something is taken.
 fn resets(setup: &Setup, m: Move) -> bool
     ensures { IsTrue result ↔ Resets setup.now m }
 {
@@ -33,9 +33,7 @@ pub fn advance(fen: &Fen, m: Move) -> Option<Fen>
     ensures is { IfSome result (λ g. g.setup ≡ after fen.now.setup m) }
 {
     let setup = fen.setup();
-    let Some(next) = play(&setup, m) else {
-        return None;
-    };
+    let next = play(&setup, m)?;
     let half = if resets(&setup, m) {
         0
     } else {

@@ -31,7 +31,7 @@ pub(crate) fn own_piece(setup: &Setup, square: Square) -> Option<Piece>
     }
 }
 
-// What the move of this pawn does.
+/// What the move of this pawn does.
 fn pawn_change(setup: &Setup, m: Move, pawn: Piece) -> Option<Change>
     requires own { pawn.colour ≡ setup.now.turn }
     requires pawn { pawn.kind ≡ Pawn }
@@ -49,7 +49,7 @@ fn pawn_change(setup: &Setup, m: Move, pawn: Piece) -> Option<Change>
     en_passant(setup, m, pawn)
 }
 
-// What the move of this king does.
+/// What the move of this king does.
 fn king_change(setup: &Setup, m: Move, king: Piece) -> Option<Change>
     requires own { king.colour ≡ setup.now.turn }
     requires king { king.kind ≡ King }

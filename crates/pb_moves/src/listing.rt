@@ -3,8 +3,8 @@
 ghost use Rattle.std.specs.Prelude.{◌≡◌, ◌+◌, ◌*◌, ◌<◌, ◌↔◌, IsTrue, IfOk, OnOk};
 ghost use Rattle.std.specs.Option.{ForSome};
 ghost use Rattle.pb_moves.specs.Attack.{InCheck};
-ghost use Rattle.pb_moves.specs.Moved.{IsPromotion};
-ghost use Rattle.pb_moves.specs.Listing.{promotion_place, ListsLegal};
+ghost use Rattle.pb_moves.specs.Moved.{IsPromotion, promotion_number};
+ghost use Rattle.pb_moves.specs.Listing.{ListsLegal};
 ghost use Rattle.pb_moves.specs.Candidate.{HoldsOwn, MayPromote, ListsBelow};
 
 use crate::board::square_at;
@@ -28,7 +28,7 @@ pub fn legal_moves(alloc: Global, setup: &Setup) -> Result<Vec<Move>, AllocError
     Ok(moves)
 }
 
-// Adds the legal moves from one square.
+/// Adds the legal moves from one square.
 fn push_from(
     setup: &Setup,
     checked: bool,
@@ -52,7 +52,7 @@ fn push_from(
     Ok(())
 }
 
-// Whether a pawn goes to the first or last rank.
+/// Whether a pawn goes to the first or last rank.
 fn may_promote(kind: Kind, to: Square) -> bool
     ensures on_board { to < 64 }
     ensures promotes { IsTrue result ↔ MayPromote kind to }
@@ -60,7 +60,7 @@ fn may_promote(kind: Kind, to: Square) -> bool
     kind == Kind::Pawn && (to.rank() == 0 || to.rank() == 7)
 }
 
-// Adds the legal moves of this piece from one square to another.
+/// Adds the legal moves of this piece from one square to another.
 fn push_to(
     setup: &Setup,
     checked: bool,
@@ -85,7 +85,7 @@ fn push_to(
     Ok(())
 }
 
-// Adds the move between these squares with this promotion, if it is legal.
+/// Adds the move between these squares with this promotion, if it is legal.
 fn push_legal(
     setup: &Setup,
     checked: bool,
@@ -98,8 +98,8 @@ fn push_legal(
     requires checked { ¬ IsTrue checked → ¬ InCheck setup.now.board setup.now.turn }
     requires own { HoldsOwn setup.now from piece }
     requires promotion { ForSome promotion IsPromotion }
-    requires before { ListsBelow setup.now moves.old.items (320 * from + 5 * to + promotion_place promotion) }
-    ensures { OnOk result (ListsBelow setup.now moves.new.items (320 * from + 5 * to + promotion_place promotion + 1)) }
+    requires before { ListsBelow setup.now moves.old.items (320 * from + 5 * to + promotion_number promotion) }
+    ensures { OnOk result (ListsBelow setup.now moves.new.items (320 * from + 5 * to + promotion_number promotion + 1)) }
 {
     let Some(m) = Move::new(from, to, promotion) else {
         return Ok(());

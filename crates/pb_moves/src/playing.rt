@@ -31,7 +31,7 @@ fn keeps(flag: bool, m: Move, king: u8, rook: u8) -> bool
     flag && !touches(m, king) && !touches(m, rook)
 }
 
-// The castling rights after the move.
+/// The castling rights after the move.
 fn rights_after(setup: &Setup, m: Move) -> Rights
     ensures white_short { KeepsFlag setup.now.rights.white_short result.white_short m 4 7 }
     ensures white_long { KeepsFlag setup.now.rights.white_long result.white_long m 4 0 }
@@ -47,7 +47,7 @@ fn rights_after(setup: &Setup, m: Move) -> Rights
     }
 }
 
-// The square that the move of this piece passes over, if it is a pawn's double step.
+/// The square that the move of this piece passes over, if it is a pawn's double step.
 fn passed_by(setup: &Setup, m: Move, piece: Piece) -> Option<Square>
     ensures { (b : Board) (x : CaseOf setup.now m piece b) → result ≡ passed_over setup.now m piece b x }
 {
@@ -86,16 +86,10 @@ pub fn play(setup: &Setup, m: Move) -> Option<Setup>
         (λ t. Legal setup.now m × After setup.now m t × IsSetup t) }
     ensures is { IfSome result (λ t. t ≡ after setup.now m) }
 {
-    let Some(piece) = own_piece(setup, m.from()) else {
-        return None;
-    };
-    let Some(change) = change_of(setup, m, piece) else {
-        return None;
-    };
+    let piece = own_piece(setup, m.from())?;
+    let change = change_of(setup, m, piece)?;
     let mut board = *setup.board();
-    let Some(king) = make(setup, m, piece, change, &mut board) else {
-        return None;
-    };
+    let king = make(setup, m, piece, change, &mut board)?;
     let side = setup.turn();
     let enemy = opponent_of(side);
     let enemy_king = setup.king(enemy);

@@ -10,7 +10,7 @@ ghost use Rattle.pb_moves.specs.Spelling.{spelling};
 use crate::moves::Move;
 use pb_board::{Kind, Square};
 
-// The square of a file letter and a rank digit.
+/// The square of a file letter and a rank digit.
 fn read_square(letter: u8, digit: u8) -> Option<Square>
     ensures { MatchOption result
         ((q : ℕ) → q < 64 → letter ∷ digit ∷ [] ≢ square_text q)
@@ -20,7 +20,7 @@ fn read_square(letter: u8, digit: u8) -> Option<Square>
     Square::new(letter.wrapping_sub(b'a'), digit.wrapping_sub(b'1'))
 }
 
-// The kind that a promotion's letter names.
+/// The kind that a promotion's letter names.
 fn read_promotion(byte: u8) -> Option<Kind>
     ensures { MatchOption result
         ((kind : Kind) → IsPromotion kind → kind_letter kind ≢ byte)
@@ -35,7 +35,7 @@ fn read_promotion(byte: u8) -> Option<Kind>
     }
 }
 
-// The move of two squares and a promotion, from the squares' bytes.
+/// The move of two squares and a promotion, from the squares' bytes.
 fn read_parts(bytes: [u8; 4], promotion: Option<Kind>) -> Option<Move>
     requires { ForSome promotion IsPromotion }
     ensures { MatchOption result
@@ -43,12 +43,8 @@ fn read_parts(bytes: [u8; 4], promotion: Option<Kind>) -> Option<Move>
         (λ m. IsMove m × (m.promo ≡ promotion) × (bytes ≡ square_text m.from ++ square_text m.to)) }
 {
     let [from_file, from_rank, to_file, to_rank] = bytes;
-    let Some(from) = read_square(from_file, from_rank) else {
-        return None;
-    };
-    let Some(to) = read_square(to_file, to_rank) else {
-        return None;
-    };
+    let from = read_square(from_file, from_rank)?;
+    let to = read_square(to_file, to_rank)?;
     Move::new(from, to, promotion)
 }
 
@@ -62,9 +58,7 @@ pub fn read_move(text: &[u8]) -> Option<Move>
     match text {
         [a, b, c, d] => read_parts([*a, *b, *c, *d], None),
         [a, b, c, d, e] => {
-            let Some(promotion) = read_promotion(*e) else {
-                return None;
-            };
+            let promotion = read_promotion(*e)?;
             read_parts([*a, *b, *c, *d], Some(promotion))
         }
         _ => None,

@@ -39,7 +39,7 @@ impl MoveText {
     }
 }
 
-// The small letter of a kind.
+/// The small letter of a kind.
 fn letter_of(kind: Kind) -> u8
     ensures { result ≡ kind_letter kind }
 {

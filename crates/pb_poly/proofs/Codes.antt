@@ -8,12 +8,13 @@ use Rattle.pb_board.specs.declared.piece.Kind.{Kind}
 use Rattle.pb_board.specs.declared.piece.Kind.TheVariants.{Pawn, Knight, Bishop, Rook, Queen, King}
 use Rattle.pb_board.specs.declared.piece.Piece.{Piece}
 use Rattle.pb_board.specs.Position.{Position}
-use Rattle.pb_board.specs.Board.{Board, Place, at}
+use Rattle.pb_board.specs.Board.{Board, Place, at, is_king_of}
+use Rattle.pb_board.specs.King.{is_king-is}
 use Rattle.pb_moves.specs.Attack.{files_apart}
-use Rattle.pb_moves.specs.Moved.{Moved, IsPromotion, moved_of}
+use Rattle.pb_moves.specs.Moved.{Moved, IsPromotion, moved_of, promotion_number}
 use Rattle.pb_moves.specs.Cases.{CaseOf, piece_move, pawn_step, pawn_double, pawn_capture, en_passant, castles, Legal}
 use Rattle.pb_moves.proofs.Unique.{class_of_castling, king_near}
-use Rattle.pb_poly.specs.Code.{HasCode, castling_to, coded_to, is_king, is_king_of, promotion_number, CodeIsOne}
+use Rattle.pb_poly.specs.Code.{HasCode, castling_to, coded_to, CodeIsOne}
 use Rattle.pb_poly.specs.Decoding.{castling_from, promotion_of, reached}
 
 promotion_back : (promo : Option Kind) → ((kind : Kind) → promo ≡ Some kind → IsPromotion kind) → promotion_of (promotion_number promo) ≡ promo
@@ -37,10 +38,6 @@ king_files s m piece new (en_passant x) king = let pawn = x.pawn in absurd (cc)
 castling_back : (side : Colour) (from to : ℕ) → files_apart from to ≤ 2 → castling_from side from (castling_to side from to) ≡ to
 castling_back White from to near = grind (arith, nat_tests)
 castling_back Black from to near = grind (arith, nat_tests)
-
-is_king-is : (kind : Kind) → is_king kind ≡ true → kind ≡ King
-is_king-is King e = refl
-is_king-is k e = absurd (cc)
 
 kind_of_king : (side : Colour) (piece : Piece) → is_king_of side (Some piece) ≡ true → piece.kind ≡ King
 kind_of_king side piece e = grind (arith, nat_tests, is_king-is)

@@ -13,7 +13,8 @@ use Rattle.pb_board.specs.Piece.{pawn_of}
 use Rattle.pb_board.specs.Board.{Board, Place, at, file, rank}
 use Rattle.pb_board.specs.Position.{Position, IsSetup, beyond}
 use Rattle.pb_moves.specs.Attack.{files_apart}
-use Rattle.pb_poly.specs.Code.{is_same}
+use Rattle.pb_board.specs.Piece.{is_same}
+use Rattle.pb_board.specs.King.{is_same-is}
 use Rattle.pb_poly.specs.Key.{ArePlaces, HasPlace, of_piece, white_short, white_long, black_short, black_long, en_passant, white_to_move, HasTaker, has_taker, is_pawn, is_pawn_of, number_of, passed_places, piece_place, piece_places, place_if, places, rights_places, turn_places}
 use Rattle.pb_poly.proofs.Among.{Among, Distinct, among_contained, among_either, among_left, among_right, contains_among, distinct_append, distinct_pairs}
 
@@ -111,12 +112,6 @@ distinct_turn White = (λ h. h, tt)
 distinct_turn Black = tt
 
 -- ---- the en passant square
-
-is_same-is : (a b : Colour) → is_same a b ≡ true → a ≡ b
-is_same-is White White h = refl
-is_same-is White Black h = absurd (cc)
-is_same-is Black White h = absurd (cc)
-is_same-is Black Black h = refl
 
 same-is_same : (a : Colour) → is_same a a ≡ true
 same-is_same White = refl

@@ -5,7 +5,8 @@ use Rattle.std.proofs.Math.Nat.{mul-le-mul_right}
 use Rattle.std.proofs.KnownBytes.{Consumes-nil, Consumes-trans, Consumes-kept}
 use Rattle.std.proofs.Math.Bool.{or-true}
 use Rattle.std.proofs.lemmas.Bool.{lt-ltb, ne_eqb}
-use Rattle.pb_poly.specs.Source.{Fill, SourceState, counted}
+use Rattle.pb_poly.specs.Source.{Fill, SourceState}
+use Rattle.pb_poly.specs.Count.{next_count}
 use Rattle.pb_poly.specs.Reads.{Reads, ReadsAll, ReadsOn, ReadsSome, ReadsToFault}
 
 -- Before the first fill no byte has come.
@@ -20,7 +21,7 @@ ReadsOn-none room state = record {
 }
 
 fill_counted : {E : Type 0} (mid new : SourceState) (answer : Result ℕ E) (slice : List ℕ) → 0 < length slice → Fill mid new answer slice → new.fills ≡ min (mid.fills + 1) (2 ^ 64 - 1)
-fill_counted mid new answer slice room fill = fill.fills ∙ ap (λ b. cond b (counted mid.fills) mid.fills) (lt-ltb 0 (length slice) room)
+fill_counted mid new answer slice room fill = fill.fills ∙ ap (λ b. cond b (next_count mid.fills) mid.fills) (lt-ltb 0 (length slice) room)
 
 -- A fill that answers the end is told as such.
 fill_ends : {E : Type 0} (mid new : SourceState) (slice : List ℕ) → 0 < length slice → Fill {E = E} mid new (Ok 0) slice → new.ended ≡ true

@@ -1,14 +1,15 @@
 -- The lines of a table file, and the words that they spell.
-use Rattle.std.proofs.Common.{◌≡◌, ℕ, ◌+◌, ◌^◌, ◌<◌, ◌≤◌, ◌⊎◌, inl, inr, List, [], ◌∷◌, ◌++◌, length, take, drop, All, refl, sym, ap, ◌∙◌, subst, arith, append_assoc, length-append}
+use Rattle.std.proofs.Common.{◌≡◌, ℕ, ◌+◌, ◌^◌, ◌<◌, ◌≤◌, List, [], ◌∷◌, ◌++◌, length, take, drop, All, refl, sym, ap, ◌∙◌, subst, arith, append_assoc, length-append}
 use Rattle.std.specs.List.{AllZip}
 use Rattle.std.proofs.lemmas.List.Splits.{slice_split_none, slice_split_at}
-use Rattle.std.proofs.lemmas.List.{append-nil, same_from_push}
+use Rattle.std.proofs.lemmas.List.{append-nil}
 use Rattle.std.proofs.lemmas.List.Elements.{All-append, All-cons, All-head, All-nil, All-tail}
 use Rattle.std.specs.Prelude.{IsSome, MatchOption, Option, Some, None, is_none, false}
+use Rattle.pb_board.specs.LineEnd.{without_return}
 use Rattle.pb_poly.specs.Lines.{is_line_feed, pieces, lines}
 use Rattle.pb_poly.specs.declared.table.TableError.{TableError}
 use Rattle.pb_poly.specs.declared.table.TableError.TheVariants.{Line, Count, Memory}
-use Rattle.pb_poly.specs.Table.{IsDigit, IsDueTable, IsFirstUnspelled, IsSpelled, IsTable, SpellsWord, TableText, WritesWord}
+use Rattle.pb_poly.specs.Table.{IsDueTable, IsFirstUnspelled, IsSpelled, IsTable, SpellsWord, TableText, WritesWord}
 use Rattle.pb_poly.proofs.LineLemmas.{IsLineFeedAt, IsQuiet, length-lines, pieces-nonempty}
 use Rattle.pb_poly.proofs.Digits.{word_is_one, word_small}
 
@@ -25,53 +26,11 @@ pub lines-quiet : (bytes : List ℕ) → IsQuiet bytes → 0 < length bytes → 
 lines-quiet [] quiet some = absurd (omega arith)
 lines-quiet (b ∷ bs) quiet some = rw (slice_split_none is_line_feed (b ∷ bs) quiet) refl
 
--- no digits end in CR
-no_cr : (front values : List ℕ) → ¬ AllZip IsDigit (front ++ 13 ∷ []) values
-no_cr [] [] zip = absurd zip
-no_cr [] (v ∷ values) zip = absurd (elim zip.0 [ inl low ↦ omega arith | inr high ↦ elim high.2 [ inl small ↦ omega arith | inr big ↦ omega arith ] ])
-no_cr (b ∷ front) [] zip = absurd zip
-no_cr (b ∷ front) (v ∷ values) zip = no_cr front values zip.1
-
-pub no_cr_written : (line front : List ℕ) (word : ℕ) → line ≡ front ++ 13 ∷ [] → ¬ WritesWord line word
-no_cr_written line front word is h = no_cr front h.values (subst (λ (bytes : List ℕ). AllZip IsDigit bytes h.values) is h.are)
-
-same_front : (x y : List ℕ) → x ++ 13 ∷ [] ≡ y ++ 13 ∷ [] → x ≡ y
-same_front x y e = (same_from_push x y 13 13 e).0
-
--- what stands before a CR at the end, or all of a line that has none
-abbrev pub WithoutCr : List ℕ → List ℕ → Type 0
-WithoutCr line digits = (line ≡ digits ++ 13 ∷ []) ⊎ ((line ≡ digits) × ((front : List ℕ) → ¬ (line ≡ front ++ 13 ∷ [])))
-
-spells_without_cr : (line digits : List ℕ) (word : ℕ) → WithoutCr line digits → SpellsWord line word → WritesWord digits word
-spells_without_cr line digits word (inl cut) s = elim s.line_is [
-  | inl a ↦ absurd (no_cr_written line digits word cut (subst (λ (d : List ℕ). WritesWord d word) (sym a) s.writes))
-  | inr b ↦ subst (λ (d : List ℕ). WritesWord d word) (same_front s.digits digits (sym b ∙ cut)) s.writes
-]
-spells_without_cr line digits word (inr whole) s = elim s.line_is [
-  | inl a ↦ subst (λ (d : List ℕ). WritesWord d word) (sym a ∙ whole.0) s.writes
-  | inr b ↦ absurd (whole.1 s.digits b)
-]
-
-without_cr_spells : (line digits : List ℕ) (word : ℕ) → WithoutCr line digits → WritesWord digits word → SpellsWord line word
-without_cr_spells line digits word (inl cut) writes = record { digits = digits; line_is = inr cut; writes = writes }
-without_cr_spells line digits word (inr whole) writes = record { digits = digits; line_is = inl whole.0; writes = writes }
-
-pub word_of_line : (line digits : List ℕ) (o : Option ℕ) → WithoutCr line digits → MatchOption o ((word : ℕ) → ¬ WritesWord digits word) (WritesWord digits) → MatchOption o (¬ IsSpelled line) (SpellsWord line)
-word_of_line line digits (Some word) cut h = without_cr_spells line digits word cut h
-word_of_line line digits None cut h = λ s. h s.0 (spells_without_cr line digits s.0 cut s.1)
-
--- a line spells one word
-pub spelled_is_one : (line : List ℕ) (v w : ℕ) → SpellsWord line v → SpellsWord line w → v ≡ w
-spelled_is_one line v w x y = elim x.line_is [
-  | inl a ↦ elim y.line_is [
-    | inl b ↦ word_is_one line v w (subst (λ (d : List ℕ). WritesWord d v) (sym a) x.writes) (subst (λ (d : List ℕ). WritesWord d w) (sym b) y.writes)
-    | inr b ↦ absurd (no_cr_written line y.digits v b (subst (λ (d : List ℕ). WritesWord d v) (sym a) x.writes))
-  ]
-  | inr a ↦ elim y.line_is [
-    | inl b ↦ absurd (no_cr_written line x.digits w a (subst (λ (d : List ℕ). WritesWord d w) (sym b) y.writes))
-    | inr b ↦ word_is_one x.digits v w x.writes (subst (λ (d : List ℕ). WritesWord d w) (sym (same_front x.digits y.digits (sym a ∙ b))) y.writes)
-  ]
-]
+-- what the digits of a line write is what the line spells
+pub word_of_line : (line digits : List ℕ) (o : Option ℕ) → digits ≡ without_return line
+    → MatchOption o ((word : ℕ) → ¬ WritesWord digits word) (WritesWord digits) → MatchOption o (¬ IsSpelled line) (SpellsWord line)
+word_of_line line digits (Some word) is h = subst (λ (d : List ℕ). WritesWord d word) is h
+word_of_line line digits None is h = λ s. h s.0 (subst (λ (d : List ℕ). WritesWord d s.0) (sym is) s.1)
 
 -- lines spell one list of words
 pub words_are_one : (ls : List (List ℕ)) (v w : List ℕ) → AllZip SpellsWord ls v → AllZip SpellsWord ls w → v ≡ w
@@ -81,7 +40,7 @@ words_are_one [] [] (b ∷ w) x y = absurd y
 words_are_one (l ∷ ls) [] w x y = absurd x
 words_are_one (l ∷ ls) (a ∷ v) [] x y = absurd y
 words_are_one (l ∷ ls) (a ∷ v) (b ∷ w) x y =
-    let first : a ≡ b = spelled_is_one l a b x.0 y.0 in
+    let first : a ≡ b = word_is_one (without_return l) a b x.0 y.0 in
     let more = words_are_one ls v w x.1 y.1 in
     cc
 
@@ -170,7 +129,7 @@ words_small : (ls : List (List ℕ)) (words : List ℕ) → AllZip SpellsWord ls
 words_small [] [] zip = All-nil (λ word. word < 2 ^ 64)
 words_small [] (w ∷ words) zip = absurd zip
 words_small (l ∷ ls) [] zip = absurd zip
-words_small (l ∷ ls) (w ∷ words) zip = All-cons (λ word. word < 2 ^ 64) w words (word_small zip.0.digits w zip.0.writes) (words_small ls words zip.1)
+words_small (l ∷ ls) (w ∷ words) zip = All-cons (λ word. word < 2 ^ 64) w words (word_small (without_return l) w zip.0) (words_small ls words zip.1)
 
 -- what a table's text spells is a table
 pub is_table : (words : List ℕ) (bytes : List ℕ) → TableText words bytes → IsTable words

@@ -1,43 +1,12 @@
 -- Move codes of PolyGlot books: 15 bits, by three from the lowest: the file and the rank of the square that the move reaches,
 -- the file and the rank of the square that it leaves, and the promotion. Castling is coded as the king's move to its rook.
-use Rattle.std.specs.Prelude.{◌≡◌, ℕ, ◌+◌, ◌*◌, ◌&&◌, ◌==◌, Bool, true, false, Option, Some, None, if◌then◌else◌}
+use Rattle.std.specs.Prelude.{◌≡◌, ℕ, ◌+◌, ◌*◌, ◌&&◌, ◌==◌, if◌then◌else◌}
 use Rattle.pb_board.specs.declared.piece.Colour.{Colour}
 use Rattle.pb_board.specs.declared.piece.Colour.TheVariants.{White, Black}
-use Rattle.pb_board.specs.declared.piece.Kind.{Kind}
-use Rattle.pb_board.specs.declared.piece.Kind.TheVariants.{Pawn, Knight, Bishop, Rook, Queen, King}
 use Rattle.pb_board.specs.Position.{Position, IsSetup}
-use Rattle.pb_board.specs.Board.{Place, file, rank, at}
-use Rattle.pb_moves.specs.Moved.{Moved, IsMove}
+use Rattle.pb_board.specs.Board.{file, rank, at, is_king_of}
+use Rattle.pb_moves.specs.Moved.{Moved, IsMove, promotion_number}
 use Rattle.pb_moves.specs.Cases.{Legal}
-
--- no promotion is 0, and a pawn becomes nothing else than these four
-abbrev pub promotion_number : Option Kind → ℕ
-promotion_number None = 0
-promotion_number (Some Knight) = 1
-promotion_number (Some Bishop) = 2
-promotion_number (Some Rook) = 3
-promotion_number (Some Queen) = 4
-promotion_number (Some Pawn) = 0
-promotion_number (Some King) = 0
-
-abbrev pub is_king : Kind → Bool
-is_king Pawn = false
-is_king Knight = false
-is_king Bishop = false
-is_king Rook = false
-is_king Queen = false
-is_king King = true
-
-abbrev pub is_same : Colour → Colour → Bool
-is_same White White = true
-is_same White Black = false
-is_same Black White = false
-is_same Black Black = true
-
--- the king of this side stands there
-abbrev pub is_king_of : Colour → Place → Bool
-is_king_of side None = false
-is_king_of side (Some piece) = is_king piece.kind && is_same piece.colour side
 
 -- where a king castles from e1 or e8, its rook's square, and else the square that it reaches
 abbrev pub castling_to : Colour → ℕ → ℕ → ℕ

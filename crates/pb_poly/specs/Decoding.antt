@@ -5,8 +5,7 @@ use Rattle.pb_board.specs.declared.piece.Colour.TheVariants.{White, Black}
 use Rattle.pb_board.specs.declared.piece.Kind.{Kind}
 use Rattle.pb_board.specs.declared.piece.Kind.TheVariants.{Knight, Bishop, Rook, Queen}
 use Rattle.pb_board.specs.Position.{Position}
-use Rattle.pb_board.specs.Board.{at}
-use Rattle.pb_poly.specs.Code.{is_king_of}
+use Rattle.pb_board.specs.Board.{at, is_king_of}
 
 -- the promotion of a number
 abbrev pub promotion_of : ℕ → Option Kind

@@ -7,11 +7,10 @@ use Rattle.pb_board.specs.declared.piece.Kind.{Kind}
 use Rattle.pb_board.specs.declared.piece.Kind.TheVariants.{Pawn, Knight, Bishop, Rook, Queen, King}
 use Rattle.pb_board.specs.declared.piece.Piece.{Piece}
 use Rattle.pb_board.specs.declared.setup.Rights.{Rights}
-use Rattle.pb_board.specs.Piece.{pawn_of}
+use Rattle.pb_board.specs.Piece.{pawn_of, is_same}
 use Rattle.pb_board.specs.Position.{Position, IsSetup, beyond}
 use Rattle.pb_board.specs.Board.{Board, Place, file, rank, at, Holds}
 use Rattle.pb_moves.specs.Attack.{files_apart}
-use Rattle.pb_poly.specs.Code.{is_same}
 use Rattle.pb_poly.specs.Table.{IsTable}
 
 -- the kinds of pieces in the table's order: black pawn, white pawn, black knight, ..

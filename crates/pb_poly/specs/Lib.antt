@@ -1,5 +1,6 @@
 pub mod Book
 pub mod Code
+pub mod Count
 pub mod Decoding
 pub mod Entry
 pub mod Feeding

@@ -1,6 +1,7 @@
 -- What a contract knows of a source of bytes, and what a fill does.
-use Rattle.std.specs.Prelude.{◌≡◌, ℕ, ◌+◌, ◌-◌, ◌^◌, ◌≤◌, min, Bool, true, false, ◌&&◌, ◌||◌, ◌==◌, nat_lt, if◌then◌else◌, List, length, Option, Result, Ok, Err, IfOk, IsErr, is_err}
+use Rattle.std.specs.Prelude.{◌≡◌, ℕ, ◌≤◌, Bool, true, false, ◌&&◌, ◌||◌, ◌==◌, nat_lt, if◌then◌else◌, List, length, Option, Result, Ok, Err, IfOk, IsErr, is_err}
 use Rattle.std.specs.Io.KnownBytes.{ReadConsumes}
+use Rattle.pb_poly.specs.Count.{next_count}
 
 -- What is known of a source: the bytes still to come, where it tells them, how often it was filled into a nonempty slice,
 -- whether such a fill has answered the end, and whether it has failed.
@@ -9,10 +10,6 @@ pub record SourceState : Type 0 where
   pub fills : ℕ
   pub ended : Bool
   pub failed : Bool
-
--- one fill more, in a count of 64 bits that stays at its greatest value
-abbrev pub counted : ℕ → ℕ
-counted fills = min (fills + 1) (2 ^ 64 - 1)
 
 -- whether a fill into that much room answered the end
 abbrev pub answers_end : {E : Type 0} → ℕ → Result ℕ E → Bool
@@ -26,7 +23,7 @@ pub record Fill {E : Type 0} (old new : SourceState) (answer : Result ℕ E) (sl
   -- what was handed out came first, and nothing only at the end; a fill that fails hands out nothing
   pub bytes : ReadConsumes old.to_come new.to_come answer slice
   -- only fills of a nonempty slice are counted
-  pub fills : new.fills ≡ (if nat_lt 0 (length slice) then counted old.fills else old.fills)
+  pub fills : new.fills ≡ (if nat_lt 0 (length slice) then next_count old.fills else old.fills)
   pub ended : new.ended ≡ (old.ended || answers_end (length slice) answer)
   -- a fill that fails makes the source failed, and a failed source fails each later fill
   pub failed : new.failed ≡ is_err answer

@@ -1,6 +1,7 @@
 -- Table files: 781 lines of 16 hexadecimal digits, one for each word of the table.
 use Rattle.std.specs.Prelude.{◌≡◌, ◌≢◌, ℕ, ◌+◌, ◌*◌, ◌^◌, ◌<◌, ◌≤◌, ◌⊎◌, List, [], ◌∷◌, ◌++◌, length, fold, All}
 use Rattle.std.specs.List.{AllZip}
+use Rattle.pb_board.specs.LineEnd.{without_return}
 use Rattle.pb_poly.specs.Lines.{lines}
 use Rattle.pb_poly.specs.declared.table.TableError.{TableError}
 use Rattle.pb_poly.specs.declared.table.TableError.TheVariants.{Line, Count, Memory}
@@ -26,11 +27,9 @@ pub record WritesWord (digits : List ℕ) (word : ℕ) : Type 0 where
   pub are : AllZip IsDigit digits values
   pub word_is : word ≡ number_of_digits values
 
--- the line, or the line without one final CR, writes the word
-pub record SpellsWord (line : List ℕ) (word : ℕ) : Type 0 where
-  pub digits : List ℕ
-  pub line_is : (line ≡ digits) ⊎ (line ≡ digits ++ 13 ∷ [])
-  pub writes : WritesWord digits word
+-- the line, without one final CR, writes the word
+abbrev pub SpellsWord : List ℕ → ℕ → Type 0
+SpellsWord line word = WritesWord (without_return line) word
 
 abbrev pub IsSpelled : List ℕ → Type 0
 IsSpelled line = (word : ℕ) × SpellsWord line word

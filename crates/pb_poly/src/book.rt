@@ -77,14 +77,14 @@ impl Book {
     }
 }
 
-// How many entries of this key these begin with.
+/// How many entries of this key these begin with.
 fn count_under(entries: &[Entry], key: u64) -> usize
     ensures { result ≡ length (take_while (λ e. e.key == key) entries.now) }
 {
     entries.iter().take_while(|entry| entry.key == key).count()
 }
 
-// The number, from 1, of the first entry whose key is below the key before it.
+/// The number, from 1, of the first entry whose key is below the key before it.
 fn first_fall(entries: &[Entry]) -> Option<usize>
     ensures { MatchOption result (NeverFall entries.now × All IsEntry entries.now) (IsFirstFall entries.now) }
 {

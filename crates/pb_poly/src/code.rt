@@ -1,15 +1,15 @@
 //! Move codes of PolyGlot books.
 
 ghost use Rattle.std.specs.Prelude.{◌≡◌, ◌<◌, ◌≤◌, MatchOption, Some};
-ghost use Rattle.pb_board.specs.Board.{at};
-ghost use Rattle.pb_moves.specs.Moved.{Moved};
+ghost use Rattle.pb_board.specs.Board.{at, is_king_of};
+ghost use Rattle.pb_moves.specs.Moved.{Moved, promotion_number as promotion_number_by};
 ghost use Rattle.pb_poly.specs.Decoding.{castling_from as castling_from_by, promotion_of as promotion_by, reached as reached_by};
-ghost use Rattle.pb_poly.specs.Code.{HasCode, castling_to as castling_to_by, code as code_by, coded_to as coded_to_by, is_king_of, promotion_number as promotion_number_by};
+ghost use Rattle.pb_poly.specs.Code.{HasCode, castling_to as castling_to_by, code as code_by, coded_to as coded_to_by};
 
 use pb_board::{Colour, Kind, Setup, Square};
 use pb_moves::{Move, is_legal};
 
-// The number of a promotion.
+/// The number of a promotion.
 fn promotion_number(promo: Option<Kind>) -> u16
     ensures value { result ≡ promotion_number_by promo }
     ensures few { result ≤ 4 }
@@ -23,7 +23,7 @@ fn promotion_number(promo: Option<Kind>) -> u16
     }
 }
 
-// Whether the king of the side to move stands there.
+/// Whether the king of the side to move stands there.
 fn has_own_king(setup: &Setup, square: Square) -> bool
     ensures { result ≡ is_king_of setup.now.turn (at setup.now.board square) }
 {
@@ -33,7 +33,7 @@ fn has_own_king(setup: &Setup, square: Square) -> bool
     }
 }
 
-// The square of the rook with which the king castles from e1 or e8, and else the square that it reaches, by index.
+/// The square of the rook with which the king castles from e1 or e8, and else the square that it reaches, by index.
 fn castling_to(side: Colour, from: u8, to: u8) -> u8
     requires { to < 64 }
     ensures value { result ≡ castling_to_by side from to }
@@ -48,7 +48,7 @@ fn castling_to(side: Colour, from: u8, to: u8) -> u8
     }
 }
 
-// The square that the code names as the one that the move reaches, by index.
+/// The square that the code names as the one that the move reaches, by index.
 fn coded_to(setup: &Setup, m: Move) -> u8
     ensures value { result ≡ coded_to_by setup.now m }
     ensures on_board { result < 64 }
@@ -72,7 +72,7 @@ pub fn code_of(setup: &Setup, m: Move) -> u16
     to + 64 * from + 4096 * promotion_number(m.promo())
 }
 
-// The promotion of this number.
+/// The promotion of this number.
 fn promotion_of(number: u16) -> Option<Kind>
     ensures { result ≡ promotion_by number }
 {
@@ -85,7 +85,7 @@ fn promotion_of(number: u16) -> Option<Kind>
     }
 }
 
-// The square that a king reaches from e1 or e8 where the code names its rook's, and else the one that it names, by index.
+/// The square that a king reaches from e1 or e8 where the code names its rook's, and else the one that it names, by index.
 fn castling_from(side: Colour, from: u8, named: u8) -> u8
     ensures { result ≡ castling_from_by side from named }
 {
@@ -98,7 +98,7 @@ fn castling_from(side: Colour, from: u8, named: u8) -> u8
     }
 }
 
-// The square that a move from this square reaches where its code names that one, by index.
+/// The square that a move from this square reaches where its code names that one, by index.
 fn reached(setup: &Setup, from: Square, named: u8) -> u8
     ensures { result ≡ reached_by setup.now from named }
 {
@@ -109,7 +109,7 @@ fn reached(setup: &Setup, from: Square, named: u8) -> u8
     }
 }
 
-// The move that a code may mean: no other legal move has it.
+/// The move that a code may mean: no other legal move has it.
 fn decoded(setup: &Setup, code: u16) -> Option<Move>
     ensures { (m : Moved) → HasCode setup.now m code → result ≡ Some m }
 {

@@ -11,7 +11,7 @@ use pb_board::{Colour, Kind, Piece, Rights, Setup, Square};
 /// The place of the word for White to move.
 pub(crate) const WHITE_TO_MOVE: usize = 780;
 
-// The number of a kind of pieces in the table's order.
+/// The number of a kind of pieces in the table's order.
 fn kind_number(kind: Kind) -> usize
     ensures value { result ≡ kind_number_by kind }
     ensures few { result < 11 }
@@ -26,7 +26,7 @@ fn kind_number(kind: Kind) -> usize
     }
 }
 
-// The place of a piece on the square of this index.
+/// The place of a piece on the square of this index.
 pub(crate) fn piece_place(piece: Piece, square: usize) -> usize
     requires { square < 64 }
     ensures value { result ≡ piece_place_by piece square }
@@ -39,7 +39,7 @@ pub(crate) fn piece_place(piece: Piece, square: usize) -> usize
     64 * number + square
 }
 
-// The words of the pieces, joined.
+/// The words of the pieces, joined.
 fn pieces_key(table: &Table, board: &[Option<Piece>; 64]) -> u64
     ensures { result ≡ joined table.now 0 (piece_places board.now 0) }
 {
@@ -52,7 +52,7 @@ fn pieces_key(table: &Table, board: &[Option<Piece>; 64]) -> u64
     key
 }
 
-// The key, joined by the word at the place where the flag is set.
+/// The key, joined by the word at the place where the flag is set.
 pub(crate) fn with_flag(table: &Table, key: u64, flag: bool, place: usize) -> u64
     requires { place < 781 }
     ensures { result ≡ joined table.now key (place_if flag place) }
@@ -60,7 +60,7 @@ pub(crate) fn with_flag(table: &Table, key: u64, flag: bool, place: usize) -> u6
     if flag { key ^ table.word(place) } else { key }
 }
 
-// The key, joined by the words of the castling rights.
+/// The key, joined by the words of the castling rights.
 fn with_rights(table: &Table, key: u64, rights: Rights) -> u64
     ensures { result ≡ joined table.now key (rights_places rights) }
 {
@@ -70,7 +70,7 @@ fn with_rights(table: &Table, key: u64, rights: Rights) -> u64
     with_flag(table, long, rights.black_long, 771)
 }
 
-// Whether a pawn of the side to move stands on the square of this index.
+/// Whether a pawn of the side to move stands on the square of this index.
 fn has_own_pawn(setup: &Setup, square: u8) -> bool
     requires { square < 64 }
     ensures { result ≡ is_pawn_of setup.now.turn (at setup.now.board square) }
@@ -81,7 +81,7 @@ fn has_own_pawn(setup: &Setup, square: u8) -> bool
     }
 }
 
-// The square directly beyond an en passant square, by index.
+/// The square directly beyond an en passant square, by index.
 fn beyond(turn: Colour, passed: Square) -> u8
     requires { OnPassedRank turn passed }
     ensures value { result ≡ beyond_by turn passed }
@@ -93,7 +93,7 @@ fn beyond(turn: Colour, passed: Square) -> u8
     }
 }
 
-// Whether a pawn of the side to move stands directly beside the square of this index.
+/// Whether a pawn of the side to move stands directly beside the square of this index.
 fn has_taker(setup: &Setup, pawn: u8) -> bool
     requires { pawn < 64 }
     ensures { result ≡ has_taker_by setup.now.board setup.now.turn pawn }
@@ -102,7 +102,7 @@ fn has_taker(setup: &Setup, pawn: u8) -> bool
         || (pawn % 8 != 7 && has_own_pawn(setup, pawn + 1))
 }
 
-// The key, joined by the word of the en passant square where a pawn stands beside the pawn that has passed it.
+/// The key, joined by the word of the en passant square where a pawn stands beside the pawn that has passed it.
 pub(crate) fn with_passed(table: &Table, key: u64, setup: &Setup) -> u64
     ensures { result ≡ joined table.now key (passed_places setup.now setup.now.ep) }
 {
@@ -116,7 +116,7 @@ pub(crate) fn with_passed(table: &Table, key: u64, setup: &Setup) -> u64
     }
 }
 
-// The key, joined by the word for White to move.
+/// The key, joined by the word for White to move.
 fn with_turn(table: &Table, key: u64, turn: Colour) -> u64
     ensures { result ≡ joined table.now key (turn_places turn) }
 {

@@ -11,7 +11,7 @@ use crate::table::Table;
 use pb_board::{Kind, Piece, Rights, Setup, Square};
 use pb_moves::Move;
 
-// The key, joined by the word of what stands on the square of this index.
+/// The key, joined by the word of what stands on the square of this index.
 fn with_place(table: &Table, key: u64, place: Option<Piece>, square: u8) -> u64
     requires { square < 64 }
     ensures { result ≡ joined table.now key (square_places place square) }
@@ -22,7 +22,7 @@ fn with_place(table: &Table, key: u64, place: Option<Piece>, square: u8) -> u64
     }
 }
 
-// The key, joined by the words of what stood and of what stands on the square of this index.
+/// The key, joined by the words of what stood and of what stands on the square of this index.
 fn with_square(table: &Table, key: u64, before: &Setup, after: &Setup, index: u8) -> u64
     ensures { result ≡ joined table.now key (changed_places before.now.board after.now.board (index ∷ [])) }
 {
@@ -35,7 +35,7 @@ fn with_square(table: &Table, key: u64, before: &Setup, after: &Setup, index: u8
     with_place(table, left, new[index as usize], index)
 }
 
-// The rook's squares, by index, where a king castles between these squares.
+/// The rook's squares, by index, where a king castles between these squares.
 fn rook_squares(from: Square, to: Square) -> Option<(u8, u8)>
     ensures { MatchOption result (rook_squares_by from to ≡ []) (λ rook. rook_squares_by from to ≡ rook.0 ∷ rook.1 ∷ []) }
 {
@@ -50,7 +50,7 @@ fn rook_squares(from: Square, to: Square) -> Option<(u8, u8)>
     }
 }
 
-// The key, joined by the words of the rook's squares, where a king castles between these squares.
+/// The key, joined by the words of the rook's squares, where a king castles between these squares.
 fn with_rook(table: &Table, key: u64, before: &Setup, m: Move, after: &Setup) -> u64
     ensures { result ≡ joined table.now key (changed_places before.now.board after.now.board (rook_squares_by m.from m.to)) }
 {
@@ -63,8 +63,8 @@ fn with_rook(table: &Table, key: u64, before: &Setup, m: Move, after: &Setup) ->
     }
 }
 
-// The key, joined by the words of the squares besides the move's own two: that of a pawn taken in passing, and those of a
-// rook that castles.
+/// The key, joined by the words of the squares besides the move's own two: that of a pawn taken in passing, and those of a
+/// rook that castles.
 fn with_beside(table: &Table, key: u64, before: &Setup, m: Move, after: &Setup) -> u64
     ensures { result ≡ joined table.now key (changed_places before.now.board after.now.board (squares_beside (at before.now.board m.from) m)) }
 {
@@ -81,10 +81,14 @@ fn with_beside(table: &Table, key: u64, before: &Setup, m: Move, after: &Setup) 
     key
 }
 
-// The key, joined by the words of the castling rights that one of the two has.
+/// The key, joined by the words of the castling rights that one of the two has.
 fn with_lost(table: &Table, key: u64, old: Rights, new: Rights) -> u64
     ensures { result ≡ joined table.now key (lost_places old new) }
 {
+    // Most moves lose no right.
+    if old == new {
+        return key;
+    }
     let short = with_flag(table, key, old.white_short != new.white_short, 768);
     let white = with_flag(table, short, old.white_long != new.white_long, 769);
     let long = with_flag(table, white, old.black_short != new.black_short, 770);

@@ -1,12 +1,13 @@
 //! Tables of the words that keys are made of.
 
-ghost use Rattle.std.specs.Prelude.{◌≡◌, ◌+◌, ◌<◌, ◌⊎◌, ℕ, List, [], ◌∷◌, ◌++◌, All, IfOk, IfErr, MatchOption, MatchResult, length, slice_index};
+ghost use Rattle.std.specs.Prelude.{◌≡◌, ◌+◌, ◌<◌, ℕ, List, ◌∷◌, All, IfOk, IfErr, MatchOption, MatchResult, length, slice_index};
 ghost use Rattle.std.specs.List.{AllZip};
 ghost use Rattle.pb_poly.specs.Lines.{lines};
 ghost use Rattle.pb_poly.specs.Table.{IsDueTable, IsSpelled, IsTable, SpellsWord, TableText, WritesWord};
 ghost use Rattle.pb_poly.specs.declared.table.TableError.TheVariants.{Memory};
 
 use memchr::memchr;
+use pb_board::without_return;
 use std::alloc::{AllocError, Global};
 use std::marker::Model;
 use thiserror::Error;
@@ -63,7 +64,7 @@ impl Table {
     }
 }
 
-// The first of the lines, and the bytes after it.
+/// The first of the lines, and the bytes after it.
 fn first_line(bytes: &[u8]) -> (&[u8], &[u8])
     requires { 0 < length bytes.now }
     ensures cut { lines bytes.now ≡ result.0.now ∷ lines result.1.now }
@@ -75,17 +76,7 @@ fn first_line(bytes: &[u8]) -> (&[u8], &[u8])
     }
 }
 
-// The line without one final CR.
-fn without_cr(line: &[u8]) -> &[u8]
-    ensures { (line.now ≡ result.now ++ 13 ∷ []) ⊎ ((line.now ≡ result.now) × ((front : List ℕ) → ¬ (line.now ≡ front ++ 13 ∷ []))) }
-{
-    match line.split_last() {
-        Some((&b'\r', front)) => front,
-        _ => line,
-    }
-}
-
-// The word that these digits write.
+/// The word that these digits write.
 fn word_of_digits(digits: &[u8]) -> Option<u64>
     ensures { MatchOption result ((word : ℕ) → ¬ WritesWord digits.now word) (WritesWord digits.now) }
 {
@@ -96,14 +87,14 @@ fn word_of_digits(digits: &[u8]) -> Option<u64>
     }
 }
 
-// The word that the line spells.
+/// The word that the line spells.
 fn word_of(line: &[u8]) -> Option<u64>
     ensures { MatchOption result (¬ IsSpelled line.now) (SpellsWord line.now) }
 {
-    word_of_digits(without_cr(line))
+    word_of_digits(without_return(line))
 }
 
-// How many lines there are, where each of them spells a word.
+/// How many lines there are, where each of them spells a word.
 fn count_lines(bytes: &[u8]) -> Result<usize, TableError>
     ensures ok { IfOk result (λ count. (count ≡ length (lines bytes.now)) × All IsSpelled (lines bytes.now)) }
     ensures err { IfErr result (λ e. IsDueTable e bytes.now) }
@@ -121,7 +112,7 @@ fn count_lines(bytes: &[u8]) -> Result<usize, TableError>
     Ok(count)
 }
 
-// The words that the lines spell.
+/// The words that the lines spell.
 fn words_of(alloc: Global, bytes: &[u8]) -> Result<Vec<u64>, AllocError>
     requires { All IsSpelled (lines bytes.now) }
     ensures { IfOk result (λ words. AllZip SpellsWord (lines bytes.now) words.items) }

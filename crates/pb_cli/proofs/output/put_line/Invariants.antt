@@ -1,6 +1,7 @@
 use Rattle.std.proofs.Common.{◌≡◌, ℕ, List, ◌++◌, true, drop}
 use Rattle.std.specs.Io.KnownBytes.{Appends}
-use Rattle.pb_cli.specs.Line.{joined, with_end}
+use Rattle.pb_board.specs.LineEnd.{with_end}
+use Rattle.pb_cli.specs.Line.{joined}
 use Rattle.pb_cli.proofs.output.put_line.Given as goal
 
 -- the parts before this one have been put, and a sink that had failed still has

@@ -1,7 +1,6 @@
 use Rattle.std.proofs.Common.{◌+◌, ◌*◌, List, [], ◌∷◌, ◌++◌, subst, sym, refl}
-use Rattle.pb_moves.specs.Moved.{Moved}
+use Rattle.pb_moves.specs.Moved.{Moved, promotion_number}
 use Rattle.pb_moves.specs.Cases.{Legal}
-use Rattle.pb_moves.specs.Listing.{promotion_place}
 use Rattle.pb_moves.specs.Candidate.{ListsBelow}
 use Rattle.pb_moves.proofs.Listed.{lists_pass, lists_push, move_at}
 use Rattle.pb_moves.proofs.listing.push_legal.Goals as goal
@@ -24,11 +23,11 @@ returns c =
     let s = c.args.setup.now in
     let ms = c.args.moves.now.items in
     let on = c.in-Some.ensures.on_board in
-    let n = 320 * c.args.from + 5 * c.args.to + promotion_place c.args.promotion in
+    let n = 320 * c.args.from + 5 * c.args.to + promotion_number c.args.promotion in
     let m : Moved = record { from = c.args.from; to = c.args.to; promo = c.args.promotion } in
     let made = c.in-Some.ensures.made in
     let L : Moved → Type 0 = λ x. Legal s x in
-    let B : List Moved → Type 0 = λ x. ListsBelow s x (320 * c.args.from + 5 * c.args.to + promotion_place c.args.promotion + 1) in
+    let B : List Moved → Type 0 = λ x. ListsBelow s x (320 * c.args.from + 5 * c.args.to + promotion_number c.args.promotion + 1) in
     let I : Moved → Type 0 = λ x. B (ms ++ x ∷ []) in
     subst B (sym c.in_ok-push.ensures.items)
     (subst I (sym made.1)
