@@ -1,25 +1,21 @@
 -- A list of rows as a tally.
-use Rattle.std.proofs.Common.{zero, suc, ◌≡◌, ℕ, ◌+◌, ◌<◌, ◌↔◌, Bool, true, false, cond, if◌then◌else◌, Option, Some, None, is_some, unwrap_or, option_map, List, [], ◌∷◌, ◌++◌, length, get_or, set, AllPairs, Contains, IsPermutation, position, refl, sym, ap, ◌∙◌, inl, inr, arith}
-use Rattle.std.specs.Cmp.{IsEquivalence}
+use Rattle.std.proofs.Common.{zero, suc, ◌≡◌, ℕ, ◌+◌, ◌<◌, ◌↔◌, Bool, true, false, cond, if◌then◌else◌, Option, Some, None, is_some, unwrap_or, option_map, List, [], ◌∷◌, ◌++◌, length, get_or, set, Contains, IsPermutation, position, refl, sym, ap, ◌∙◌, inl, inr, arith}
 use Rattle.std.specs.List.{IsDistinct, find, list_any, position_or_len}
-use Rattle.std.specs.List.Sorted.{IsSortedBy}
 use Rattle.std.specs.Option.{option_or}
-use Rattle.std.specs.Ordering.{is_lt}
 use Rattle.std.proofs.Math.ListN.{length-set}
 use Rattle.std.proofs.lemmas.Bool.{cases_lt, lt-ltb}
 use Rattle.std.proofs.lemmas.Bool.Decides.{nat_tests}
 use Rattle.std.proofs.lemmas.List.{get_or_default}
 use Rattle.std.proofs.lemmas.List.Folds.{find-append, find-set, find_past, list_any_none}
 use Rattle.std.proofs.lemmas.List.Quantifiers.{position-Some}
-use Rattle.std.proofs.lemmas.List.Sorted.{ranks_by, sorted_far, IsPermutation-sym, Contains-permutation}
+use Rattle.std.proofs.lemmas.List.Sorted.{IsPermutation-sym, Contains-permutation}
 use Rattle.std.proofs.lemmas.List.Sums.{fails_before_first, position_or_len_is}
-use Rattle.std.proofs.lemmas.Map.Keys.{apart_from_distinct, IsDistinct-from_apart, IsDistinct-IsPermutation, IsDistinct-push}
+use Rattle.std.proofs.lemmas.Map.Keys.{apart_from_distinct, IsDistinct-from_apart, IsDistinct-push}
 use Rattle.pb_points.specs.declared.row.Row.{Row}
-use Rattle.pb_points.specs.ListTally.{is_row, list_content, same_pair, with_more}
-use Rattle.pb_points.specs.MapTally.{pair_cmp}
-use Rattle.pb_points.specs.Rows.{IsBelow, row_at}
+use Rattle.pb_points.specs.ListTally.{list_content, with_more}
+use Rattle.pb_points.specs.Rows.{is_row, row_at, same_pair}
 use Rattle.pb_points.specs.Tally.{MakesRow, AddsPoints, held, held_of, is_pair}
-use Rattle.pb_points.proofs.Pairs.{below, is_pair_same, is_pair_itself, pair_total}
+use Rattle.pb_points.proofs.Pairs.{is_pair_same, is_pair_itself, same_equiv}
 
 abbrev pub new_row : ℕ → ℕ → Row
 new_row key code = record { key = key; code = code; points = 0 }
@@ -91,15 +87,6 @@ makes_none rows key code r found k c = by (is_pair key code k c) refl
         ap (option_map held_of) there ∙ ap (λ o. Some (unwrap_or (option_map held_of o) (held_of (new_row key code)))) (sym there)
     by false e = refl
 
-same_equiv : IsEquivalence same_pair
-same_equiv = record { refl = λ r. is_pair_itself r.key r.code; symm = flips; congr = joins }
-  where
-    flips : (r s : Row) → same_pair r s ≡ same_pair s r
-    flips r s = grind (arith, nat_tests)
-
-    joins : (r s t : Row) → same_pair r s ≡ true → same_pair r t ≡ same_pair s t
-    joins r s t h = grind (arith, nat_tests)
-
 pub IsDistinct-pushed : (rows : List Row) (key code : ℕ) → IsDistinct same_pair rows → position (is_row key code) rows ≡ None → IsDistinct same_pair (rows ++ new_row key code ∷ [])
 IsDistinct-pushed rows key code old none = IsDistinct-push same_equiv rows (new_row key code) old (absent rows key code none)
 
@@ -138,7 +125,7 @@ IsDistinct-more rows i n lt old = IsDistinct-from_apart same_pair (set rows i (w
     let y = same_keys rows i n b d lt in
     (λ t. is_pair (y.0 t) (y.1 t) (x.0 t) (x.1 t)) ∙ apart_from_distinct same_pair rows a b d old l (omega (arith, fits, length-set rows i (with_more n (row_at rows i)))))
 
--- ---- the rows in order
+-- ---- the rows listed
 
 row_there : (rows : List Row) → IsDistinct same_pair rows → (r : Row) → Contains rows r → list_content rows r.key r.code ≡ Some (held_of r)
 row_there rows distinct r h =
@@ -168,14 +155,6 @@ rows_each rows sorted distinct perm r = (
   (λ e. Contains-permutation rows sorted r perm (content_row rows r e)),
 )
 
-abbrev pub row_lt : Row → Row → Bool
-row_lt r s = is_lt (pair_cmp (r.key, r.code) (s.key, s.code))
-
-pub sorted_below : (xs ys : List Row) → IsDistinct same_pair xs → IsPermutation xs ys → IsSortedBy row_lt ys → AllPairs IsBelow ys
-sorted_below xs ys distinct perm sorted i j d lt fits =
-    let apart = apart_from_distinct same_pair ys i j d (IsDistinct-IsPermutation same_pair same_equiv.symm xs ys perm distinct) lt fits in
-    below (get_or ys i d) (get_or ys j d) (sorted_far row_lt (ranks_by pair_total (λ (r : Row). (r.key, r.code))) ys sorted i j d (omega arith) fits) apart
-
 -- ---- what an `Option` of a place says
 
 pub none_of : {X : Type 0} (o : Option X) → is_some o ≡ false → o ≡ None
@@ -185,6 +164,3 @@ none_of (Some x) e = cc
 pub place_there : (rows : List Row) (k c : ℕ) (o : Option ℕ) → o ≡ position (is_row k c) rows → is_some o ≡ true → (i : ℕ) × IsPlace rows k c i
 place_there rows k c None e some = cc
 place_there rows k c (Some i) e some = (i, is_place rows k c i (sym e))
-
-pub IsDistinct-nil : IsDistinct same_pair []
-IsDistinct-nil = IsDistinct-from_apart same_pair [] (λ i j d l fits. absurd (omega arith))

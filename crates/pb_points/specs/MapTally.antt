@@ -1,15 +1,13 @@
--- A tally that is an ordered map.
-use Rattle.std.specs.Prelude.{ℕ, Option}
+-- A tally that is a hash map.
+use Rattle.std.specs.Prelude.{ℕ, Bool, Option}
 use Rattle.std.specs.Option.{option_map}
-use Rattle.std.specs.declared.cmp.Ordering.{Ordering}
-use Rattle.std.specs.BTreeMap.{BTreeMap, get}
-use Rattle.std.specs.Ordering.{nat_cmp, ordering_then}
-use Rattle.pb_points.specs.Tally.{Held}
+use Rattle.std.specs.HashMap.{HashMap, get}
+use Rattle.pb_points.specs.Tally.{Held, is_pair}
 
--- by key and then code
-abbrev pub pair_cmp : ℕ × ℕ → ℕ × ℕ → Ordering
-pair_cmp x y = ordering_then (nat_cmp x.0 y.0) (nat_cmp x.1 y.1)
+-- both are one key and one code
+abbrev pub pair_eq : ℕ × ℕ → ℕ × ℕ → Bool
+pair_eq x y = is_pair x.0 x.1 y.0 y.1
 
 -- what the map holds of a key and a code
-abbrev pub map_content : BTreeMap (ℕ × ℕ) ℕ → ℕ → ℕ → Option Held
-map_content m k c = option_map (λ n. record { points = n }) (get pair_cmp m (k, c))
+abbrev pub map_content : {S : Type 0} → HashMap (ℕ × ℕ) ℕ S → ℕ → ℕ → Option Held
+map_content m k c = option_map (λ n. record { points = n }) (get pair_eq m (k, c))

@@ -1,8 +1,17 @@
 -- Rows of points, at most one for each key and code, and the book that is made of them.
-use Rattle.std.specs.Prelude.{◌≡◌, ℕ, ◌<◌, ◌≤◌, ◌⊎◌, ◌↔◌, List, AllPairs, Contains, slice_index_or}
+use Rattle.std.specs.Prelude.{◌≡◌, ℕ, ◌<◌, ◌≤◌, ◌⊎◌, ◌↔◌, Bool, List, AllPairs, Contains, slice_index_or}
 use Rattle.pb_poly.specs.declared.entry.Entry.{Entry}
 use Rattle.pb_points.specs.declared.row.Row.{Row}
+use Rattle.pb_points.specs.Tally.{is_pair}
 use Rattle.pb_points.specs.Weight.{Before, scaled}
+
+-- the row is of this key and this code
+abbrev pub is_row : ℕ → ℕ → Row → Bool
+is_row k c r = is_pair r.key r.code k c
+
+-- both rows are of one key and one code
+abbrev pub same_pair : Row → Row → Bool
+same_pair r s = is_row r.key r.code s
 
 -- key rising, then code rising
 abbrev pub IsBelow : Row → Row → Type 0

@@ -1,11 +1,10 @@
 //! A tally over a plain list of rows.
 
-ghost use Rattle.std.specs.Prelude.{◌≡◌, ◌+◌, ◌<◌, ◌≤◌, ◌^◌, AllPairs, IsPermutation, length, position, slice_set};
-ghost use Rattle.std.specs.List.{IsDistinct};
-ghost use Rattle.pb_points.specs.ListTally.{is_row, list_content, same_pair, with_more};
-ghost use Rattle.pb_points.specs.Rows.{IsBelow, row_at};
+ghost use Rattle.std.specs.Prelude.{◌≡◌, ◌+◌, ◌<◌, ◌≤◌, ◌^◌, length, position, slice_set};
+ghost use Rattle.pb_points.specs.ListTally.{list_content, with_more};
+ghost use Rattle.pb_points.specs.Rows.{is_row, row_at};
 
-use crate::row::Row;
+use crate::row::{Row, sort_rows};
 use crate::tally::Tally;
 use std::alloc::{AllocError, Global};
 use std::marker::Model;
@@ -20,7 +19,7 @@ impl Model for ListTally {
     ghost use Rattle.std.specs.Prelude.{List};
     ghost use Rattle.std.specs.List.{IsDistinct};
     ghost use Rattle.pb_points.specs.declared.row.Row.{Row};
-    ghost use Rattle.pb_points.specs.ListTally.{same_pair};
+    ghost use Rattle.pb_points.specs.Rows.{same_pair};
 
     ghost Value = { List Row };
 
@@ -44,15 +43,6 @@ fn add_at(rows: &mut Vec<Row>, place: usize, points: u64)
     ensures { rows.new.items ≡ slice_set rows.old.items place (with_more points (row_at rows.old.items place)) }
 {
     rows[place].points += points;
-}
-
-// Puts the rows in order of key and then code.
-fn sort_rows(rows: &mut Vec<Row>)
-    requires { IsDistinct same_pair rows.old.items }
-    ensures sorted { AllPairs IsBelow rows.new.items }
-    ensures permutation { IsPermutation rows.old.items rows.new.items }
-{
-    rows.sort_unstable_by_key(|row| (row.key, row.code));
 }
 
 impl Tally for ListTally {

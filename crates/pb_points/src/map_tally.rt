@@ -1,16 +1,17 @@
-//! A tally over an ordered map.
+//! A tally over a hash map.
 
 ghost use Rattle.pb_points.specs.MapTally.{map_content};
 
-use crate::row::Row;
+use crate::row::{Row, sort_rows};
 use crate::tally::Tally;
 use std::alloc::{AllocError, Global};
-use std::collections::BTreeMap;
+use std::collections::HashMap;
 
-/// Points in an ordered map by key and code: each call takes the time of a look-up, and `rows` needs no sorting.
+/// Points in a map by key and code: each call takes the time of one look-up, and `rows` sorts. It is a hash map, since
+/// the order is needed once only, when the rows are listed.
 #[derive(Drop)]
 pub struct MapTally {
-    points: BTreeMap<(u64, u16), u64>,
+    points: HashMap<(u64, u16), u64>,
 }
 
 impl Tally for MapTally {
@@ -18,7 +19,7 @@ impl Tally for MapTally {
 
     fn new(alloc: Global) -> MapTally {
         MapTally {
-            points: BTreeMap::new(alloc),
+            points: HashMap::new(alloc),
         }
     }
 
@@ -42,6 +43,7 @@ impl Tally for MapTally {
         for (&(key, code), &points) in &self.points {
             rows.push(Row { key, code, points })?;
         }
+        sort_rows(&mut rows);
         Ok(rows)
     }
 }

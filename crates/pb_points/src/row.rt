@@ -1,4 +1,8 @@
-//! Rows of points.
+//! Rows of points, and their order.
+
+ghost use Rattle.std.specs.Prelude.{AllPairs, IsPermutation};
+ghost use Rattle.std.specs.List.{IsDistinct};
+ghost use Rattle.pb_points.specs.Rows.{IsBelow, same_pair};
 
 /// The points of one move under one key.
 #[derive(Clone, Copy, Debug, PartialEq, Eq)]
@@ -9,4 +13,13 @@ pub struct Row {
     pub code: u16,
     /// Two points for each win of the side that made the move, one for each draw.
     pub points: u64,
+}
+
+// Puts the rows in order of key and then code.
+pub(crate) fn sort_rows(rows: &mut Vec<Row>)
+    requires { IsDistinct same_pair rows.old.items }
+    ensures sorted { AllPairs IsBelow rows.new.items }
+    ensures permutation { IsPermutation rows.old.items rows.new.items }
+{
+    rows.sort_unstable_by_key(|row| (row.key, row.code));
 }

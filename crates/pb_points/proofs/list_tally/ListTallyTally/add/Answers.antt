@@ -1,7 +1,8 @@
 use Rattle.std.proofs.Common.{◌≡◌, None, IsSome, position, unwrap_or, option_map, ap, sym, subst, ◌∙◌, arith}
 use Rattle.std.specs.List.{IsDistinct}
 use Rattle.std.proofs.lemmas.Bool.{false≢true}
-use Rattle.pb_points.specs.ListTally.{is_row, list_content, same_pair}
+use Rattle.pb_points.specs.ListTally.{list_content}
+use Rattle.pb_points.specs.Rows.{is_row, same_pair}
 use Rattle.pb_points.specs.Tally.{held, held_of, nothing}
 use Rattle.pb_points.proofs.ListRows.{IsDistinct-more, absent_found, adds_set, is_place}
 use Rattle.pb_points.proofs.list_tally.ListTallyTally.add.Goals as goal

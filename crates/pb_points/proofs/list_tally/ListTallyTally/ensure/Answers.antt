@@ -1,7 +1,7 @@
 use Rattle.std.proofs.Common.{position, ap, sym, subst, ◌∙◌}
 use Rattle.std.specs.List.{IsDistinct}
-use Rattle.pb_points.specs.ListTally.{is_row, list_content, same_pair}
-use Rattle.pb_points.specs.Rows.{row_at}
+use Rattle.pb_points.specs.ListTally.{list_content}
+use Rattle.pb_points.specs.Rows.{is_row, row_at, same_pair}
 use Rattle.pb_points.proofs.ListRows.{IsDistinct-pushed, absent_found, makes_none, makes_pushed, none_of, place_there}
 use Rattle.pb_points.proofs.list_tally.ListTallyTally.ensure.Goals as goal
 

@@ -1,7 +1,7 @@
 use Rattle.std.proofs.Common.{position, option_map, unwrap_or, ap, sym, ◌∙◌}
 use Rattle.std.proofs.lemmas.List.{get_or_default}
 use Rattle.pb_points.specs.declared.row.Row.{Row}
-use Rattle.pb_points.specs.ListTally.{is_row}
+use Rattle.pb_points.specs.Rows.{is_row}
 use Rattle.pb_points.specs.Tally.{held_of, nothing}
 use Rattle.pb_points.proofs.ListRows.{absent_found, is_place, new_row}
 use Rattle.pb_points.proofs.list_tally.ListTallyTally.points.Goals as goal

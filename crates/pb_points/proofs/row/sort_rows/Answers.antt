@@ -1,8 +1,8 @@
 use Rattle.std.proofs.Common.{rules, ℕ, ◌≡◌}
 use Rattle.std.proofs.lemmas.List.Sorted.{answers_always}
 use Rattle.pb_points.specs.declared.row.Row.{Row}
-use Rattle.pb_points.proofs.ListRows.{sorted_below}
-use Rattle.pb_points.proofs.list_tally.sort_rows.Goals as goal
+use Rattle.pb_points.proofs.Pairs.{sorted_below}
+use Rattle.pb_points.proofs.row.sort_rows.Goals as goal
 
 abbrev sort_key : Row → ℕ × ℕ
 sort_key r = (r.key, r.code)
