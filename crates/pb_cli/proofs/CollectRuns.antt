@@ -11,7 +11,7 @@ use Rattle.pb_ledger.specs.Collecting.{CollectsStream}
 use Rattle.pb_ledger.specs.declared.totals.Totals.{Totals}
 use Rattle.pb_cli.specs.CollectRun.{CollectsBook, CollectsGames, JudgesTable, StopsTable, TakesGames, TellsCollect, new_ledger}
 use Rattle.pb_cli.specs.Judged.{PutsText, PutsUntil}
-use Rattle.pb_cli.specs.Refuses.{RefusesForTable}
+use Rattle.pb_cli.specs.ShowsRefusal.{RefusesForTable}
 use Rattle.pb_cli.specs.TableReading.{FindsNoTable, ReadsTable}
 use Rattle.pb_cli.specs.declared.fault.Fault.{Fault}
 use Rattle.pb_cli.specs.declared.table.TableFault.{TableFault}

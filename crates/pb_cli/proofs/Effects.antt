@@ -17,7 +17,8 @@ use Rattle.pb_ledger.proofs.Distinct.{accepts_the_taken, lawful_arrives, no_repe
 use Rattle.pb_ledger.proofs.Numbers.{repeats_keep}
 use Rattle.pb_ledger.proofs.Replies.{Takes-refusal, Takes-unique}
 use Rattle.pb_ledger.specs.Replies.{replies}
-use Rattle.pb_cli.specs.CollectRun.{CollectsBook, CollectsTold, TakesGames, TakesTold, most_games}
+use Rattle.pb_ledger.specs.Holding.{most_games}
+use Rattle.pb_cli.specs.CollectRun.{CollectsBook, CollectsBytes, TakesGames, TakesTold}
 use Rattle.pb_cli.specs.OneEffect.{HasOneEffect, OneEffect, RefusalsLeaveTheGames}
 use Rattle.pb_cli.proofs.Told.{all_came, told_table}
 
@@ -55,7 +56,7 @@ module _ (fills : ℕ) (t t' s s' : SourceState) (file bytes : List ℕ) (told_t
         accepted = subst (λ (xs : List ℕ). Accepted [] (lines xs) g.answers held) all g.accepted;
       }
 
-  pub told_book : (sink sink' : SinkState) (entries : List Entry) → CollectsBook fills t t' s s' sink sink' entries → CollectsTold file bytes sink sink' entries
+  pub told_book : (sink sink' : SinkState) (entries : List Entry) → CollectsBook fills t t' s s' sink sink' entries → CollectsBytes file bytes sink sink' entries
   told_book sink sink' entries h =
       let g = h.games.takes in
       let all = sym (all_came chunk_len fills s s' bytes told_s g.came g.reads) in record {
@@ -69,7 +70,7 @@ module _ (fills : ℕ) (t t' s s' : SourceState) (file bytes : List ℕ) (told_t
 -- ---- the one effect
 
 one_effect : (file bytes : List ℕ) (sink sink' : SinkState) (entries : List Entry) → NeverFall entries → All IsEntry entries
-    → CollectsTold file bytes sink sink' entries → OneGame (lines bytes) → OneEffect file bytes sink sink' entries
+    → CollectsBytes file bytes sink sink' entries → OneGame (lines bytes) → OneEffect file bytes sink sink' entries
 one_effect file bytes sink sink' entries ordered bounds h one =
     let g = h.takes in
     let taken = accepts_the_taken (lines bytes) g.answers h.held one g.accepted in

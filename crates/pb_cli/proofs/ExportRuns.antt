@@ -14,7 +14,7 @@ use Rattle.pb_ledger.specs.declared.exporting.ExportFault.{ExportFault}
 use Rattle.pb_cli.specs.CollectRun.{JudgesTable, StopsTable, TakesGames, fault_of, new_ledger}
 use Rattle.pb_cli.specs.ExportRun.{BlamesSink, EndsExport, ExportsGames, TellsExport, at_export, at_submissions, at_table, fault_of_export, ledger_of}
 use Rattle.pb_cli.specs.Judged.{PutsText, PutsUntil}
-use Rattle.pb_cli.specs.Refuses.{RefusesForTable}
+use Rattle.pb_cli.specs.ShowsRefusal.{RefusesForTable}
 use Rattle.pb_cli.specs.TableReading.{FindsNoTable, ReadsTable}
 use Rattle.pb_cli.specs.declared.fault.Fault.{Fault}
 use Rattle.pb_cli.specs.declared.fault.Fault.TheVariants.{Read, Write, Endless, Memory}

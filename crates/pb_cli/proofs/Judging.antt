@@ -9,7 +9,7 @@ use Rattle.pb_poly.specs.declared.reading.BookError.{BookError}
 use Rattle.pb_poly.specs.declared.reading.BookError.TheVariants as book
 use Rattle.pb_cli.specs.BookRun.{RefusesBook, cut_short, unsorted}
 use Rattle.pb_cli.specs.Judged.{PutsText, PutsUntil}
-use Rattle.pb_cli.specs.Refuses.{FaultsAlone, Refuses, RefusesForBook, RefusesForTable}
+use Rattle.pb_cli.specs.ShowsRefusal.{FaultsAlone, ShowsRefusal, RefusesForBook, RefusesForTable}
 use Rattle.pb_cli.specs.TableReading.{FindsNoTable, RefusesTable, count, line, long}
 use Rattle.pb_cli.specs.declared.fault.Fault.{Fault}
 use Rattle.pb_cli.specs.declared.fault.Fault.TheVariants.{Read, Write, Endless, Memory}
@@ -29,11 +29,11 @@ module _ (judges : Bool → List ℕ → Type 0) (stops : Fault → Type 0) (sin
       subst (λ x. PutsUntil judges stops sink sink' x) (sym fault.0)
       (record { answer = answer; out = out; judged = judged; count = front.0; put = front.1; fails = fault.1 })
 
-  pub refusal_put : (result : Result Bool Fault) (text : List ℕ) → judges false text → Refuses sink sink' result text → IfOk result (PutsText judges sink sink')
+  pub refusal_put : (result : Result Bool Fault) (text : List ℕ) → judges false text → ShowsRefusal sink sink' result text → IfOk result (PutsText judges sink sink')
   refusal_put (Ok a) text judged h = record { out = text; judged = subst (λ b. judges b text) (sym h.refused) judged; put = h.shows.all }
   refusal_put (Err e) text judged h = tt
 
-  pub refusal_fails : (result : Result Bool Fault) (text : List ℕ) → judges false text → Refuses sink sink' result text → IfErr result (PutsUntil judges stops sink sink')
+  pub refusal_fails : (result : Result Bool Fault) (text : List ℕ) → judges false text → ShowsRefusal sink sink' result text → IfErr result (PutsUntil judges stops sink sink')
   refusal_fails (Ok a) text judged h = tt
   refusal_fails (Err e) text judged h = text_fails false text e judged h.shows.fault h.shows.front
 

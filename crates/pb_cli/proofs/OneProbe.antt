@@ -13,7 +13,7 @@ use Rattle.pb_board.proofs.Unique.{one_record}
 use Rattle.pb_poly.specs.Found.{Found}
 use Rattle.pb_poly.specs.Lines.{lines}
 use Rattle.pb_poly.proofs.Tables.{spelled_at}
-use Rattle.pb_poly.specs.Table.{IsFirstUnspelled, IsSpelled}
+use Rattle.pb_poly.specs.Table.{IsFirstUnspelled, IsWordLine}
 use Rattle.pb_poly.specs.declared.entry.Entry.{Entry}
 use Rattle.pb_poly.specs.declared.table.TableError.TheVariants as poly
 use Rattle.pb_poly.proofs.Finding.{found_is_one}
@@ -27,15 +27,15 @@ use Rattle.pb_cli.proofs.OnlyTables.{tables_are_one}
 
 -- the first line that spells no word is one
 first_unspelled : (before others : List (List ℕ)) (line other : List ℕ) (after rest : List (List ℕ)) → before ++ line ∷ after ≡ others ++ other ∷ rest
-    → All IsSpelled before → ¬ IsSpelled line → All IsSpelled others → ¬ IsSpelled other → length before ≡ length others
+    → All IsWordLine before → ¬ IsWordLine line → All IsWordLine others → ¬ IsWordLine other → length before ≡ length others
 first_unspelled [] [] line other after rest is h bad k bad' = refl
 first_unspelled [] (o ∷ others) line other after rest is h bad k bad' =
-    let same : o ≡ line = cc in absurd (bad (subst IsSpelled same (All-head IsSpelled o others k)))
+    let same : o ≡ line = cc in absurd (bad (subst IsWordLine same (All-head IsWordLine o others k)))
 first_unspelled (b ∷ before) [] line other after rest is h bad k bad' =
-    let same : b ≡ other = cc in absurd (bad' (subst IsSpelled same (All-head IsSpelled b before h)))
+    let same : b ≡ other = cc in absurd (bad' (subst IsWordLine same (All-head IsWordLine b before h)))
 first_unspelled (b ∷ before) (o ∷ others) line other after rest is h bad k bad' =
     let tails : before ++ line ∷ after ≡ others ++ other ∷ rest = cc in
-    let more = first_unspelled before others line other after rest tails (All-tail IsSpelled b before h) bad (All-tail IsSpelled o others k) bad' in
+    let more = first_unspelled before others line other after rest tails (All-tail IsWordLine b before h) bad (All-tail IsWordLine o others k) bad' in
     omega (arith, more)
 
 one_line : (bytes : List ℕ) (n m : ℕ) → IsFirstUnspelled n bytes → IsFirstUnspelled m bytes → n ≡ m
@@ -43,9 +43,9 @@ one_line bytes n m h k =
     let same = first_unspelled h.before k.before h.line k.line h.after k.after (sym h.cut ∙ k.cut) h.spelled h.unspelled k.spelled k.unspelled in
     omega (arith, same, h.number_is, k.number_is)
 
-no_line : (bytes : List ℕ) (n : ℕ) → All IsSpelled (lines bytes) → IsFirstUnspelled n bytes → ⊥
+no_line : (bytes : List ℕ) (n : ℕ) → All IsWordLine (lines bytes) → IsFirstUnspelled n bytes → ⊥
 no_line bytes n all h =
-    h.unspelled (spelled_at h.before h.line h.after (subst (λ (ls : List (List ℕ)). All IsSpelled ls) h.cut all))
+    h.unspelled (spelled_at h.before h.line h.after (subst (λ (ls : List (List ℕ)). All IsWordLine ls) h.cut all))
 
 table_not_refused : (bytes words out : List ℕ) → IsTableFile words bytes → TableRefused bytes out → ⊥
 table_not_refused bytes words out h (TableRefused.long long is) = omega (arith, long, h.few)

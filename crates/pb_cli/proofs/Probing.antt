@@ -14,7 +14,7 @@ use Rattle.pb_poly.specs.declared.reading.BookError.TheVariants as book_error
 use Rattle.pb_cli.specs.Judged.{PutsText, PutsUntil}
 use Rattle.pb_cli.specs.ProbeRun.{JudgesProbe, StopsProbe, StopsReading}
 use Rattle.pb_cli.specs.ProbeShown.{FenProbed, ProbeShown, fen_line}
-use Rattle.pb_cli.specs.Refuses.{Refuses, RefusesForBook, RefusesForTable}
+use Rattle.pb_cli.specs.ShowsRefusal.{ShowsRefusal, RefusesForBook, RefusesForTable}
 use Rattle.pb_cli.specs.TableReading.{FindsNoTable, ReadsTable}
 use Rattle.pb_cli.specs.TableShown.{table_limit}
 use Rattle.pb_cli.specs.declared.fault.Fault.{Fault}
@@ -49,7 +49,7 @@ module _ (fills : ℕ) (t t' b b' : SourceState) (fen : List ℕ) (sink sink' : 
   )
 
   pub at_record : (words : List ℕ) → ReadsTable fills t t' words → (entries : List Entry) → ReadsBook fills b b' entries → (result : Result Bool Fault) (e : FenError)
-      → IsFirstDue OfRecord e (fields fen) → Refuses sink sink' result (fen_line e) → Ends result
+      → IsFirstDue OfRecord e (fields fen) → ShowsRefusal sink sink' result (fen_line e) → Ends result
   at_record words read entries read_too result e due r =
       let judged : judges false (fen_line e) = JudgesProbe.judged words entries read read_too (FenProbed.no_record e due refl refl) in (
         refusal_put judges stops sink sink' result (fen_line e) judged r,

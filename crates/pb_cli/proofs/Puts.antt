@@ -8,7 +8,7 @@ use Rattle.std.specs.Io.KnownBytes.{Appends, Keeps}
 use Rattle.std.specs.Result.{IsErr}
 use Rattle.pb_poly.specs.Sink.{Put, SinkState}
 use Rattle.pb_board.specs.LineEnd.{with_end}
-use Rattle.pb_cli.specs.Line.{joined}
+use Rattle.pb_cli.specs.Line.{parts_joined}
 
 module _ (old mid new : Option (List ℕ)) (done part rest whole : List ℕ) (written : Appends old mid done) (is : done ++ (part ++ rest) ≡ whole) where
   -- what was put, and one part more
@@ -63,11 +63,11 @@ put_last old mid new (Err e) done part whole written is stays put =
 
 -- the line from a part on
 pub line_from : (parts : List (Bor (List ℕ))) (i : ℕ) (d : Bor (List ℕ)) → i < length parts
-    → with_end (joined (drop i parts)) ≡ (get_or parts i d).now ++ with_end (joined (drop (i + 1) parts))
+    → with_end (parts_joined (drop i parts)) ≡ (get_or parts i d).now ++ with_end (parts_joined (drop (i + 1) parts))
 line_from parts i d below =
-    ap (λ ps. with_end (joined ps)) (drop_more parts i d below)
-    ∙ append_assoc (get_or parts i d).now (joined (drop (i + 1) parts)) (10 ∷ [])
+    ap (λ ps. with_end (parts_joined ps)) (drop_more parts i d below)
+    ∙ append_assoc (get_or parts i d).now (parts_joined (drop (i + 1) parts)) (10 ∷ [])
 
 -- the line's end
-pub line_end : (parts : List (Bor (List ℕ))) (i : ℕ) → length parts ≤ i → with_end (joined (drop i parts)) ≡ 10 ∷ []
-line_end parts i past = ap (λ ps. with_end (joined ps)) (drop_of_length-le parts past)
+pub line_end : (parts : List (Bor (List ℕ))) (i : ℕ) → length parts ≤ i → with_end (parts_joined (drop i parts)) ≡ 10 ∷ []
+line_end parts i past = ap (λ ps. with_end (parts_joined ps)) (drop_of_length-le parts past)

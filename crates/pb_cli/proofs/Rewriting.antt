@@ -18,7 +18,7 @@ use Rattle.pb_cli.specs.declared.epd.Stop.{Stop}
 use Rattle.pb_cli.specs.declared.epd.Stop.TheVariants.{Write, Memory}
 use Rattle.pb_cli.specs.EpdShown.{EpdShown, LineShown}
 use Rattle.pb_cli.specs.EpdRun.{RewritesToWriteFault}
-use Rattle.pb_cli.specs.Rewriter.{Puts, RewritesAll, RewritesUntilStop, StopsAt, TakesLine}
+use Rattle.pb_cli.specs.Rewriter.{Puts, RewritesAll, RewritesUntilStop, StopsAt, RewritesLine}
 use Rattle.pb_poly.specs.Count.{next_count}
 
 -- where what a line gives couldn't be put, the run stops at it
@@ -77,7 +77,7 @@ module _ {K : Type 0} (state : K → SinkState) where
     works : StillWorks (state s.sink.now).failed (state t.sink.now).failed
     same : t.sink.ghost_name ≡ s.sink.ghost_name
 
-  run_of : (s t : Rewriter K) (ls : List (List ℕ)) → s.lines + length ls < 2 ^ 64 → TakesAll (TakesLine state) s ls t → Run s t ls
+  run_of : (s t : Rewriter K) (ls : List (List ℕ)) → s.lines + length ls < 2 ^ 64 → TakesAll (RewritesLine state) s ls t → Run s t ls
   run_of s t [] few h =
       let P : Rewriter K → Type 0 = λ x. Run s x [] in subst P (sym h) (record {
         answer = true;
@@ -126,7 +126,7 @@ module _ {K : Type 0} (state : K → SinkState) where
   fewer : (s : Rewriter K) (ls before : List (List ℕ)) (line : List ℕ) → s.lines + length ls < 2 ^ 64 → ls ≡ before ++ line ∷ [] → s.lines + length before + 1 < 2 ^ 64
   fewer s ls before line few cut = omega (arith, few, ap length cut, length-append before (line ∷ []))
 
-  cut_of : (s t : Rewriter K) (ls : List (List ℕ)) → s.lines + length ls < 2 ^ 64 → StopsAtLast (TakesLine state) s ls Write t → Cut s t ls
+  cut_of : (s t : Rewriter K) (ls : List (List ℕ)) → s.lines + length ls < 2 ^ 64 → StopsAtLast (RewritesLine state) s ls Write t → Cut s t ls
   cut_of s t ls few h =
       let before : List (List ℕ) = h.0 in let line : List ℕ = h.1 in let m : Rewriter K = h.2 in
       let less = fewer s ls before line few h.3 in
@@ -153,7 +153,7 @@ module _ {K : Type 0} (state : K → SinkState) where
     put : Appends (state s.sink.now).bytes (state t.sink.now).bytes out
     works : StillWorks (state s.sink.now).failed (state t.sink.now).failed
 
-  stopped_of : (s t : Rewriter K) (ls : List (List ℕ)) → s.lines + length ls < 2 ^ 64 → StopsAtLast (TakesLine state) s ls Memory t → Stopped s t ls
+  stopped_of : (s t : Rewriter K) (ls : List (List ℕ)) → s.lines + length ls < 2 ^ 64 → StopsAtLast (RewritesLine state) s ls Memory t → Stopped s t ls
   stopped_of s t ls few h =
       let run = run_of s h.2 h.0 (omega (arith, fewer s ls h.0 h.1 few h.3)) h.4 in
       let same : state h.2.sink.now ≡ state t.sink.now = sym h.5.shows in record {
@@ -167,7 +167,7 @@ module _ {K : Type 0} (state : K → SinkState) where
         works = subst (λ (x : SinkState). StillWorks (state s.sink.now).failed x.failed) same run.works;
       }
 
-  same_at_stop : (s t : Rewriter K) (ls : List (List ℕ)) (e : Stop) → s.lines + length ls < 2 ^ 64 → StopsAtLast (TakesLine state) s ls e t → t.sink.ghost_name ≡ s.sink.ghost_name
+  same_at_stop : (s t : Rewriter K) (ls : List (List ℕ)) (e : Stop) → s.lines + length ls < 2 ^ 64 → StopsAtLast (RewritesLine state) s ls e t → t.sink.ghost_name ≡ s.sink.ghost_name
   same_at_stop s t ls e few h = h.5.same_sink ∙ (run_of s h.2 h.0 (omega (arith, fewer s ls h.0 h.1 few h.3)) h.4).same
 
   -- ---- the whole of a stream, from the first line on
@@ -185,7 +185,7 @@ module _ {K : Type 0} (state : K → SinkState) where
     from_one : (ls : List (List ℕ)) (answer : Bool) (out : List ℕ) → EpdShown (s.lines + 1) ls answer out → EpdShown 1 ls answer out
     from_one ls answer out shown = subst (λ n. EpdShown (n + 1) ls answer out) first shown
 
-    pub all_of : s.all_taken ≡ true → TakesStream (TakesLine state) fills old new s t → RewritesAll fills old new (state s.sink.now) (state t.sink.now) t.all_taken
+    pub all_of : s.all_taken ≡ true → TakesStream (RewritesLine state) fills old new s t → RewritesAll fills old new (state s.sink.now) (state t.sink.now) t.all_taken
     all_of fresh h =
         let run = run_of s t (lines h.came) (few h.came h.reads.some.reads) h.taken in
         let answer : t.all_taken ≡ run.answer = run.answered ∙ ap (λ b. b && run.answer) fresh in record {
@@ -199,7 +199,7 @@ module _ {K : Type 0} (state : K → SinkState) where
           works = run.works;
         }
 
-    pub until_of : (e : LinesFault Stop) → TakesUntil (TakesLine state) fills old new s t e → RewritesUntilStop fills old new (state s.sink.now) (state t.sink.now) e
+    pub until_of : (e : LinesFault Stop) → TakesUntil (RewritesLine state) fills old new s t e → RewritesUntilStop fills old new (state s.sink.now) (state t.sink.now) e
     until_of lines.Memory h =
         let same : state s.sink.now ≡ state t.sink.now = ap (λ (x : Rewriter K). state x.sink.now) (sym h.1) in record {
           before = [];
@@ -282,7 +282,7 @@ module _ {K : Type 0} (state : K → SinkState) where
               }
         ]
 
-    pub same_of : (r : Result (Unit {0}) (LinesFault Stop)) → OnOk r (TakesStream (TakesLine state) fills old new s t) → IfErr r (TakesUntil (TakesLine state) fills old new s t)
+    pub same_of : (r : Result (Unit {0}) (LinesFault Stop)) → OnOk r (TakesStream (RewritesLine state) fills old new s t) → IfErr r (TakesUntil (RewritesLine state) fills old new s t)
         → t.sink.ghost_name ≡ s.sink.ghost_name
     same_of (Ok tt) h k = (run_of s t (lines h.came) (few h.came h.reads.some.reads) h.taken).same
     same_of (Err lines.Memory) h k = ap (λ (x : Rewriter K). x.sink.ghost_name) k.1

@@ -12,6 +12,7 @@ use Rattle.pb_ledger.specs.Accepting.{Accepted, Answer, Run}
 use Rattle.pb_ledger.specs.Counting.{IsBook}
 use Rattle.pb_ledger.specs.Ledger.{LedgerState}
 use Rattle.pb_ledger.specs.Collecting.{CollectsUntil}
+use Rattle.pb_ledger.specs.Holding.{most_games}
 use Rattle.pb_ledger.specs.Replies.{replies}
 use Rattle.pb_ledger.specs.declared.collecting.CollectFault.{CollectFault}
 use Rattle.pb_ledger.specs.declared.collecting.CollectFault.TheVariants as collect
@@ -21,10 +22,6 @@ use Rattle.pb_cli.specs.declared.table.TableFault.TheVariants as table
 use Rattle.pb_cli.specs.Judged.{PutsUntil}
 use Rattle.pb_cli.specs.TableReading.{FindsNoTable, ReadsTable, RefusesTable}
 use Rattle.pb_cli.specs.TableShown.{IsTableFile, TableRefused}
-
--- the most games that a run holds
-abbrev pub most_games : ℕ
-most_games = 1000000
 
 -- a ledger of a table with these words, and without games
 abbrev pub new_ledger : List ℕ → LedgerState
@@ -62,7 +59,7 @@ pub record TakesTold (file bytes words : List ℕ) (held : List Submission) : Ty
   pub accepted : Accepted [] (lines bytes) answers held
 
 -- the replies to submissions that are told, and the book of the games that are held
-pub record CollectsTold (file bytes : List ℕ) (sink sink' : SinkState) (entries : List Entry) : Type 0 where
+pub record CollectsBytes (file bytes : List ℕ) (sink sink' : SinkState) (entries : List Entry) : Type 0 where
   pub words : List ℕ
   pub held : List Submission
   pub takes : TakesTold file bytes words held
@@ -78,7 +75,7 @@ pub record RefusesTold (file : List ℕ) (sink sink' : SinkState) : Type 0 where
 -- what the answer says of sources that tell their bytes
 abbrev pub TellsCollect : Option (List ℕ) → Option (List ℕ) → SinkState → SinkState → Option (List Entry) → Type 0
 TellsCollect file bytes sink sink' None = IfSome file (λ f. RefusesTold f sink sink')
-TellsCollect file bytes sink sink' (Some entries) = IfSome file (λ f. IfSome bytes (λ b. CollectsTold f b sink sink' entries))
+TellsCollect file bytes sink sink' (Some entries) = IfSome file (λ f. IfSome bytes (λ b. CollectsBytes f b sink sink' entries))
 
 -- the table is refused by this line, and no submission was read
 pub record JudgesTable (fills : ℕ) (t t' s s' : SourceState) (answer : Bool) (out : List ℕ) : Type 0 where

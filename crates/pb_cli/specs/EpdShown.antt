@@ -13,14 +13,14 @@ abbrev pub IsBlank : List ℕ → Type 0
 IsBlank text = All (λ b. b ≡ 32) text
 
 -- want of memory is no line
-abbrev pub reason : EpdError → List ℕ
-reason (epd.Token at) = codes "token " ++ decimal at
-reason epd.Fields = codes "fields"
-reason (epd.Setup e) = codes "setup " ++ word_of e
-reason (epd.Opcode n) = codes "opcode " ++ decimal n
-reason epd.Unended = codes "unended"
-reason (epd.Repeated n) = codes "repeated " ++ decimal n
-reason epd.Memory = []
+abbrev pub epd_reason : EpdError → List ℕ
+epd_reason (epd.Token at) = codes "token " ++ decimal at
+epd_reason epd.Fields = codes "fields"
+epd_reason (epd.Setup e) = codes "setup " ++ word_of e
+epd_reason (epd.Opcode n) = codes "opcode " ++ decimal n
+epd_reason epd.Unended = codes "unended"
+epd_reason (epd.Repeated n) = codes "repeated " ++ decimal n
+epd_reason epd.Memory = []
 
 abbrev pub refused_line : ℕ → List ℕ → List ℕ
 refused_line number why = with_end (codes "refused " ++ (decimal number ++ (32 ∷ why)))
@@ -35,7 +35,7 @@ pub data LineShown (number : ℕ) (line : List ℕ) (taken : Bool) (out : List �
       → taken ≡ true → out ≡ with_end form → LineShown number line taken out
   refused : (x : EpdError) → length line ≤ line_limit → ¬ IsBlank (without_return line)
       → x ≢ epd.Memory → IsFirstDueEpd x (without_return line)
-      → taken ≡ false → out ≡ refused_line number (reason x) → LineShown number line taken out
+      → taken ≡ false → out ≡ refused_line number (epd_reason x) → LineShown number line taken out
 
 -- the lines in order, the first of this number
 abbrev pub EpdShown : ℕ → List (List ℕ) → Bool → List ℕ → Type 0

@@ -53,7 +53,7 @@ LineCounted sink sink' number line answer answer' (Ok _) =
 LineCounted sink sink' number line answer answer' (Err stop) = StopsAt sink sink' number line stop
 
 -- one line is rewritten or refused, through the same reference
-pub record TakesLine {K : Type 0} (state : K → SinkState) (s : Rewriter K) (line : List ℕ) (result : Result (Unit {0}) Stop) (t : Rewriter K) : Type 0 where
+pub record RewritesLine {K : Type 0} (state : K → SinkState) (s : Rewriter K) (line : List ℕ) (result : Result (Unit {0}) Stop) (t : Rewriter K) : Type 0 where
   pub shows : LineCounted (state s.sink.now) (state t.sink.now) (next_count s.lines) line s.all_taken t.all_taken result
   pub counted : t.lines ≡ next_count s.lines
   pub same_sink : t.sink.ghost_name ≡ s.sink.ghost_name

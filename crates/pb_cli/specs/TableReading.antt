@@ -29,7 +29,7 @@ pub record FindsDue (fills : ℕ) (old new : SourceState) (x : TableError) : Typ
   pub due : IsDueTable x came
 
 -- the source failed after not more bytes than a table file may have
-pub record FindsFault (fills : ℕ) (old new : SourceState) : Type 0 where
+pub record FindsTableFault (fills : ℕ) (old new : SourceState) : Type 0 where
   pub came : List ℕ
   pub reads : ReadsToFault table_limit fills old new came
   pub few : length came ≤ table_limit
@@ -45,7 +45,7 @@ abbrev pub FindsNoTable : ℕ → SourceState → SourceState → TableFault →
 FindsNoTable fills old new Long = FindsLong fills old new
 FindsNoTable fills old new (Line number) = FindsDue fills old new (poly.Line number)
 FindsNoTable fills old new (Count count) = FindsDue fills old new (poly.Count count)
-FindsNoTable fills old new Read = FindsFault fills old new
+FindsNoTable fills old new Read = FindsTableFault fills old new
 FindsNoTable fills old new Endless = FindsNoEnd fills old new
 FindsNoTable fills old new Memory = (new ≡ old) ⊎ FindsDue fills old new poly.Memory
 

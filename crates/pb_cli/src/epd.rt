@@ -3,9 +3,9 @@ ghost use Rattle.std.specs.Prelude.{◌≡◌, ◌≢◌, ◌≤◌, ◌↔◌, 
 ghost use Rattle.pb_epd.specs.declared.refusal.EpdError.TheVariants as epd;
 ghost use Rattle.pb_poly.specs.Lines.{line_limit};
 ghost use Rattle.pb_cli.specs.EpdRun.{RewritesStream, RewritesTold, RewritesUntil};
-ghost use Rattle.pb_cli.specs.EpdShown.{IsBlank, reason, refused_line};
+ghost use Rattle.pb_cli.specs.EpdShown.{IsBlank, epd_reason, refused_line};
 ghost use Rattle.pb_board.specs.LineEnd.{with_end};
-ghost use Rattle.pb_cli.specs.Line.{joined};
+ghost use Rattle.pb_cli.specs.Line.{parts_joined};
 ghost use Rattle.pb_cli.specs.Rewriter.{LineTaken, Puts, RewritesAll, RewritesUntilStop};
 
 use crate::fault::Fault;
@@ -39,9 +39,9 @@ struct Rewriter<'s, K> {
 impl<K: Sink> LineTask for Rewriter<'_, K> {
     type Stop = Stop;
 
-    ghost use Rattle.pb_cli.specs.Rewriter.{TakesLine};
+    ghost use Rattle.pb_cli.specs.Rewriter.{RewritesLine};
 
-    ghost takes = { TakesLine K.state };
+    ghost takes = { RewritesLine K.state };
 
     fn take(&mut self, line: &[u8]) -> Result<(), Stop> {
         self.lines = self.lines.saturating_add(1);
@@ -153,7 +153,7 @@ fn is_blank(text: &[u8]) -> bool
 /// Puts why the line of this number is refused.
 fn put_refusal<K: Sink>(sink: &mut K, number: u64, error: EpdError) -> Result<(), Stop>
     requires { error ≢ epd.Memory }
-    ensures { Puts (K.state sink.old) (K.state sink.new) (refused_line number (reason error)) result }
+    ensures { Puts (K.state sink.old) (K.state sink.new) (refused_line number (epd_reason error)) result }
 {
     match error {
         EpdError::Token(at) => {
@@ -186,7 +186,7 @@ fn refuse<K: Sink>(sink: &mut K, number: u64, word: &[u8], detail: &[u8]) -> Res
 
 /// Puts the parts of a line in turn, and its end.
 fn put<K: Sink>(sink: &mut K, parts: &[&[u8]]) -> Result<(), Stop>
-    ensures { Puts (K.state sink.old) (K.state sink.new) (with_end (joined parts.now)) result }
+    ensures { Puts (K.state sink.old) (K.state sink.new) (with_end (parts_joined parts.now)) result }
 {
     match put_line(sink, parts) {
         Ok(()) => Ok(()),

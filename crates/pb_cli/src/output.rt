@@ -1,7 +1,7 @@
 //! Lines on a sink.
 ghost use Rattle.std.specs.Prelude.{◌≡◌};
 ghost use Rattle.pb_board.specs.LineEnd.{with_end};
-ghost use Rattle.pb_cli.specs.Line.{joined};
+ghost use Rattle.pb_cli.specs.Line.{parts_joined};
 ghost use Rattle.pb_cli.specs.Shows.{Shows};
 ghost use Rattle.pb_poly.specs.Sink.{Put};
 
@@ -10,7 +10,7 @@ use pb_poly::{Failed, Sink};
 
 /// Puts the parts of a line in turn, and its end.
 pub fn put_line<K: Sink>(sink: &mut K, parts: &[&[u8]]) -> Result<(), Failed>
-    ensures { Put (K.state sink.old) (K.state sink.new) result (with_end (joined parts.now)) }
+    ensures { Put (K.state sink.old) (K.state sink.new) result (with_end (parts_joined parts.now)) }
 {
     for part in parts {
         sink.put(part)?;
@@ -20,7 +20,7 @@ pub fn put_line<K: Sink>(sink: &mut K, parts: &[&[u8]]) -> Result<(), Failed>
 
 /// Puts the parts of a line in turn and its end, and hands on what was put.
 pub fn show_line<K: Sink>(sink: &mut K, parts: &[&[u8]]) -> Result<(), Fault>
-    ensures { Shows (K.state sink.old) (K.state sink.new) result (with_end (joined parts.now)) }
+    ensures { Shows (K.state sink.old) (K.state sink.new) result (with_end (parts_joined parts.now)) }
 {
     let Ok(()) = put_line(sink, parts) else {
         return Err(Fault::Write);

@@ -1,8 +1,8 @@
 //! Lines that say why an input is refused.
 ghost use Rattle.std.specs.Prelude.{◌++◌, decimal};
 ghost use Rattle.pb_board.specs.LineEnd.{with_end};
-ghost use Rattle.pb_cli.specs.Line.{joined};
-ghost use Rattle.pb_cli.specs.Refuses.{Refuses, RefusesForBook};
+ghost use Rattle.pb_cli.specs.Line.{parts_joined};
+ghost use Rattle.pb_cli.specs.ShowsRefusal.{ShowsRefusal, RefusesForBook};
 
 use crate::fault::Fault;
 use crate::output::show_line;
@@ -11,7 +11,7 @@ use pb_poly::{BookError, Sink};
 
 /// Shows the line of these parts and answers that the input was refused.
 pub fn refuse<K: Sink>(sink: &mut K, parts: &[&[u8]]) -> Result<bool, Fault>
-    ensures { Refuses (K.state sink.old) (K.state sink.new) result (with_end (joined parts.now)) }
+    ensures { ShowsRefusal (K.state sink.old) (K.state sink.new) result (with_end (parts_joined parts.now)) }
 {
     show_line(sink, parts)?;
     Ok(false)
@@ -19,7 +19,7 @@ pub fn refuse<K: Sink>(sink: &mut K, parts: &[&[u8]]) -> Result<bool, Fault>
 
 /// The same of a line that ends with a number.
 pub fn refuse_with<K: Sink>(sink: &mut K, words: &[u8], number: usize) -> Result<bool, Fault>
-    ensures { Refuses (K.state sink.old) (K.state sink.new) result (with_end (words.now ++ decimal number)) }
+    ensures { ShowsRefusal (K.state sink.old) (K.state sink.new) result (with_end (words.now ++ decimal number)) }
 {
     let mut buffer = Buffer::new();
     let digits = buffer.format(number);

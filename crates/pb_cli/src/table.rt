@@ -2,7 +2,7 @@
 ghost use Rattle.std.specs.Prelude.{◌≡◌, ℕ, ◌<◌, ◌≤◌, List, [], IfErr, IfOk, MatchResult, OnOk, length};
 ghost use Rattle.pb_poly.specs.Reading.{Tells};
 ghost use Rattle.pb_poly.specs.Reads.{ReadsAll};
-ghost use Rattle.pb_cli.specs.Refuses.{RefusesForTable};
+ghost use Rattle.pb_cli.specs.ShowsRefusal.{RefusesForTable};
 ghost use Rattle.pb_cli.specs.TableFilling.{FillsTable};
 ghost use Rattle.pb_cli.specs.TableReading.{FindsNoTable, ReadsTable};
 ghost use Rattle.pb_cli.specs.TableShown.{IsTableFile, table_limit};

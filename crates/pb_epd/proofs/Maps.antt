@@ -15,18 +15,18 @@ use Rattle.std.proofs.lemmas.Bool.{false≢true}
 use Rattle.std.proofs.lemmas.List.Elements.{All-nil, All-cons}
 use Rattle.pb_epd.specs.declared.operand.Operand.{Operand}
 use Rattle.pb_epd.specs.Operation.{Operation}
-use Rattle.pb_epd.specs.ByteOrder.{IsBelow}
+use Rattle.pb_epd.specs.ByteOrder.{IsBytesBelow}
 use Rattle.pb_epd.specs.Epd.{operations_of}
 use Rattle.pb_epd.proofs.Lists.{contains_head, contains_there, contains_none, contains_cases, pairs_none, pairs_cons}
 
 -- ---- byte order
 
-first_below : (x y : ℕ) (xs ys : List ℕ) (r : Ordering) → MatchOrdering r (x < y) (x ≡ y) (y < x) → ordering_then r (slice_cmp nat_cmp xs ys) ≡ Less → (slice_cmp nat_cmp xs ys ≡ Less → IsBelow xs ys) → IsBelow (x ∷ xs) (y ∷ ys)
+first_below : (x y : ℕ) (xs ys : List ℕ) (r : Ordering) → MatchOrdering r (x < y) (x ≡ y) (y < x) → ordering_then r (slice_cmp nat_cmp xs ys) ≡ Less → (slice_cmp nat_cmp xs ys ≡ Less → IsBytesBelow xs ys) → IsBytesBelow (x ∷ xs) (y ∷ ys)
 first_below x y xs ys Less h e more = inl h
 first_below x y xs ys Equal h e more = inr (h, more e)
 first_below x y xs ys Greater h e more = absurd cc
 
-pub below_from_order : (xs ys : List ℕ) → slice_cmp nat_cmp xs ys ≡ Less → IsBelow xs ys
+pub below_from_order : (xs ys : List ℕ) → slice_cmp nat_cmp xs ys ≡ Less → IsBytesBelow xs ys
 below_from_order [] [] e = absurd cc
 below_from_order [] (y ∷ ys) e = tt
 below_from_order (x ∷ xs) [] e = absurd cc
@@ -145,11 +145,11 @@ module _ (k : Vec ℕ) (v : Vec Operand) where
 
 -- ---- order
 
-each_below : (x : Entry) (entries : List Entry) → AllByRecursion (λ y. key_order x.0 y ≡ Less) (keys_of entries) → All (λ o. IsBelow x.0.items o.0) (operations_of entries)
-each_below x [] h = All-nil (λ (o : Operation). IsBelow x.0.items o.0)
-each_below x (y ∷ entries) h = All-cons (λ (o : Operation). IsBelow x.0.items o.0) (operation_of y) (operations_of entries) (below_from_order x.0.items y.0.items h.0) (each_below x entries h.1)
+each_below : (x : Entry) (entries : List Entry) → AllByRecursion (λ y. key_order x.0 y ≡ Less) (keys_of entries) → All (λ o. IsBytesBelow x.0.items o.0) (operations_of entries)
+each_below x [] h = All-nil (λ (o : Operation). IsBytesBelow x.0.items o.0)
+each_below x (y ∷ entries) h = All-cons (λ (o : Operation). IsBytesBelow x.0.items o.0) (operation_of y) (operations_of entries) (below_from_order x.0.items y.0.items h.0) (each_below x entries h.1)
 
-pub ordered : (entries : List Entry) → IsStrictlySortedBy key_order (keys_of entries) → AllPairs (λ o p. IsBelow o.0 p.0) (operations_of entries)
+pub ordered : (entries : List Entry) → IsStrictlySortedBy key_order (keys_of entries) → AllPairs (λ o p. IsBytesBelow o.0 p.0) (operations_of entries)
 unfolding IsStrictlySortedBy
-ordered [] h = pairs_none (λ (o p : Operation). IsBelow o.0 p.0)
-ordered (x ∷ entries) h = pairs_cons (λ (o p : Operation). IsBelow o.0 p.0) (operation_of x) (operations_of entries) (each_below x entries h.0) (ordered entries h.1)
+ordered [] h = pairs_none (λ (o p : Operation). IsBytesBelow o.0 p.0)
+ordered (x ∷ entries) h = pairs_cons (λ (o p : Operation). IsBytesBelow o.0 p.0) (operation_of x) (operations_of entries) (each_below x entries h.0) (ordered entries h.1)

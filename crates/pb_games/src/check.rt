@@ -6,6 +6,7 @@ ghost use Rattle.pb_moves.specs.Played.{AreLegal, IsFirstMisspelt, IsSpelled};
 ghost use Rattle.pb_games.specs.Refusing.{IsFirstIllegal, Refuses};
 ghost use Rattle.pb_games.specs.Submissions.{IsLawful, Submission};
 ghost use Rattle.pb_games.specs.Words.{words_of};
+ghost use Rattle.pb_games.specs.Limits.{most_bytes, most_plies};
 
 use crate::header::read_header;
 use crate::line::Line;
@@ -75,7 +76,7 @@ fn may_start(start: &Fen) -> bool
 /// How many words the field has, where each spells a move. The error is the number of the first that spells none,
 /// from 1.
 fn count_moves(field: &[u8]) -> Result<u32, u32>
-    requires { length field.now ≤ 8192 }
+    requires { length field.now ≤ most_bytes }
     ensures { MatchResult result
         (λ n. (n ≡ length (words_of field.now)) × All IsSpelled (words_of field.now))
         (IsFirstMisspelt (words_of field.now)) }
@@ -92,7 +93,7 @@ fn count_moves(field: &[u8]) -> Result<u32, u32>
 
 /// The number of the first move that isn't legal where it is played, from 1.
 fn first_illegal(start: Setup, moves: Plies<'_>) -> Option<u32>
-    requires { length moves ≤ 1024 }
+    requires { length moves ≤ most_plies }
     ensures { MatchOption result (AreLegal start moves.entry) (IsFirstIllegal start moves.entry) }
 {
     let mut setup = start;

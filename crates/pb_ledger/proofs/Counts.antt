@@ -10,7 +10,7 @@ use Rattle.pb_points.specs.Tally.{Content, Held, held, more}
 use Rattle.pb_ledger.specs.Accepting.{IsNewId}
 use Rattle.pb_ledger.specs.Basis.{Basis}
 use Rattle.pb_ledger.specs.Counting.{gifts_of, points, count}
-use Rattle.pb_ledger.specs.Holding.{Holds}
+use Rattle.pb_ledger.specs.Holding.{HoldsCounts}
 use Rattle.pb_ledger.specs.Ledger.{LedgerState}
 use Rattle.pb_ledger.proofs.Gifts.{gained-le, length-gifts_of, small_gifts}
 
@@ -22,7 +22,7 @@ count-le : (T : Basis) (A : List Submission) (k c : ℕ) → All IsSubmission A 
 count-le T A k c games = sum_by-le (λ s. points T s.1 k c) 2048 A (λ j d lt. omega (arith, points-le T (get_or A j d).1 k c, (games j d lt).game.few))
 
 -- so there is room for those of one game more
-pub points_fit : (f g : Content) (l : LedgerState) (s : Submission) → Holds f l → IsSubmission s → ((k c : ℕ) → held g k c ≡ held f k c)
+pub points_fit : (f g : Content) (l : LedgerState) (s : Submission) → HoldsCounts f l → IsSubmission s → ((k c : ℕ) → held g k c ≡ held f k c)
     → (k c : ℕ) → (held g k c).points + 2 * length (gifts_of l.basis s.1) ≤ 2 ^ 63
 points_fit f g l s h legal same k c =
     let now : (held g k c).points ≡ count l.basis l.accepted k c = ap (λ (x : Held). x.points) (same k c ∙ h.counts k c) in
@@ -36,8 +36,8 @@ with_game l s = record { basis = l.basis; cap = l.cap; accepted = l.accepted ++ 
 more_counted : (T : Basis) (A : List Submission) (s : Submission) (k c : ℕ) (h : Held) → h ≡ record { points = count T A k c } → more (points T s.1 k c) h ≡ record { points = count T (A ++ s ∷ []) k c }
 more_counted T A s k c h e = ap (more (points T s.1 k c)) e ∙ ap (λ n. record { points = n }) (sym (sum_by_push (λ u. points T u.1 k c) A s))
 
-pub Holds-push : (f g h : Content) (l : LedgerState) (s : Submission) → Holds f l → IsSubmission s → IsNewId s.0 l.accepted → length l.accepted < l.cap
-    → ((k c : ℕ) → held g k c ≡ held f k c) → ((k c : ℕ) → held h k c ≡ more (points l.basis s.1 k c) (held g k c)) → Holds h (with_game l s)
+pub Holds-push : (f g h : Content) (l : LedgerState) (s : Submission) → HoldsCounts f l → IsSubmission s → IsNewId s.0 l.accepted → length l.accepted < l.cap
+    → ((k c : ℕ) → held g k c ≡ held f k c) → ((k c : ℕ) → held h k c ≡ more (points l.basis s.1 k c) (held g k c)) → HoldsCounts h (with_game l s)
 Holds-push f g h l s old legal fresh room same added = record {
   rules = record {
     table = old.rules.table;

@@ -4,7 +4,7 @@ use Rattle.std.proofs.lemmas.List.Elements.{Contains-get_or}
 use Rattle.pb_board.proofs.Unique.{one_setup_text}
 use Rattle.pb_board.specs.Fen.{FourFields}
 use Rattle.pb_board.specs.Position.{Position}
-use Rattle.pb_epd.specs.ByteOrder.{IsBelow}
+use Rattle.pb_epd.specs.ByteOrder.{IsBytesBelow}
 use Rattle.pb_epd.proofs.Order.{below_itself, both_below}
 use Rattle.pb_games.specs.Submissions.{Submission}
 use Rattle.pb_poly.specs.declared.entry.Entry.{Entry}
@@ -20,7 +20,7 @@ use Rattle.pb_ledger.proofs.Members.{same_in_order}
 
 one_listing : (T : Basis) (S : List Submission) (book : List Entry) (xs ys : List Listed) → IsListing T S book xs → IsListing T S book ys → xs ≡ ys
 one_listing T S book xs ys h k =
-    same_in_order (λ x y. IsBelow x.fields y.fields) (λ x. below_itself x.fields) (λ x y. both_below x.fields y.fields) xs ys h.ordered k.ordered
+    same_in_order (λ x y. IsBytesBelow x.fields y.fields) (λ x. below_itself x.fields) (λ x y. both_below x.fields y.fields) xs ys h.ordered k.ordered
     (λ x here. (k.members x).1 ((h.members x).0 here))
     (λ x here. (h.members x).1 ((k.members x).0 here))
 
@@ -41,7 +41,7 @@ listed_once T S book xs h i j d lt within e =
     let first = (h.members x).0 (Contains-get_or xs i d (omega arith)) in
     let second = (h.members y).0 (Contains-get_or xs j d within) in
     let same : x.fields ≡ y.fields = one_setup_text x.setup x.fields y.fields first.fields (subst (λ s. FourFields s y.fields) (sym e) second.fields) in
-    below_itself y.fields (subst (λ w. IsBelow w y.fields) same (h.ordered i j d lt within))
+    below_itself y.fields (subst (λ w. IsBytesBelow w y.fields) same (h.ordered i j d lt within))
 
 -- ---- lists with the same members
 

@@ -6,7 +6,7 @@ use Rattle.std.proofs.KnownBytes.{Appends-kept}
 use Rattle.std.proofs.lemmas.List.{length-map}
 use Rattle.std.proofs.lemmas.List.Elements.{All-contains, Contains-append_cases, Contains-append_left, Contains-append_right}
 use Rattle.pb_board.specs.Position.{Position}
-use Rattle.pb_epd.specs.ByteOrder.{IsBelow}
+use Rattle.pb_epd.specs.ByteOrder.{IsBytesBelow}
 use Rattle.pb_epd.proofs.Lists.{contains_cases, contains_head, contains_map, contains_none, contains_there, contains_unmap, pairs_head, pairs_tail}
 use Rattle.pb_epd.proofs.Order.{below_itself, both_below}
 use Rattle.pb_games.specs.declared.game.Game.{Game}
@@ -52,11 +52,11 @@ setup_is_there (x ∷ S) s h = elim (contains_cases x S h.0 h.2) [
 -- ---- the listing of the games
 
 -- what is in order is in order across a cut
-across : (front back : List Named) (x y : Named) → InTextOrder (front ++ back) → Contains front x → Contains back y → IsBelow x.0 y.0
+across : (front back : List Named) (x y : Named) → InTextOrder (front ++ back) → Contains front x → Contains back y → IsBytesBelow x.0 y.0
 across [] back x y h here there = absurd (contains_none x here)
 across (z ∷ front) back x y h here there = elim (contains_cases z front x here) [
-  | inl e ↦ subst (λ (w : Named). IsBelow w.0 y.0) e (All-contains (λ (w : Named). IsBelow z.0 w.0) (front ++ back) y (pairs_head (λ (v w : Named). IsBelow v.0 w.0) z (front ++ back) h) (Contains-append_right front back y there))
-  | inr later ↦ across front back x y (pairs_tail (λ (v w : Named). IsBelow v.0 w.0) z (front ++ back) h) later there
+  | inl e ↦ subst (λ (w : Named). IsBytesBelow w.0 y.0) e (All-contains (λ (w : Named). IsBytesBelow z.0 w.0) (front ++ back) y (pairs_head (λ (v w : Named). IsBytesBelow v.0 w.0) z (front ++ back) h) (Contains-append_right front back y there))
+  | inr later ↦ across front back x y (pairs_tail (λ (v w : Named). IsBytesBelow v.0 w.0) z (front ++ back) h) later there
 ]
 
 module _ (T : Basis) (S : List Submission) (book : List Entry) (entries : List (Vec ℕ × Position)) (holds : HoldsSetups (all_setups S) entries) where
@@ -74,7 +74,7 @@ module _ (T : Basis) (S : List Submission) (book : List Entry) (entries : List (
   -- the listing of the first setups is the beginning of that of all
   pub listing_begins : (front back : List Named) (listed all : List Listed) → named_of entries ≡ front ++ back → IsListingOf T.words book front listed → IsListing T S book all → (rest : List Listed) × (all ≡ listed ++ rest)
   listing_begins front back listed all are h k =
-      begins_in_order (λ (x y : Listed). IsBelow x.fields y.fields) (λ x. below_itself x.fields) (λ x y. both_below x.fields y.fields) listed all h.ordered k.ordered to from
+      begins_in_order (λ (x y : Listed). IsBytesBelow x.fields y.fields) (λ x. below_itself x.fields) (λ x y. both_below x.fields y.fields) listed all h.ordered k.ordered to from
     where
       to : (x : Listed) → Contains listed x → Contains all x
       to x c =
@@ -82,7 +82,7 @@ module _ (T : Basis) (S : List Submission) (book : List Entry) (entries : List (
           let there = subst (λ named. Contains named (x.fields, x.setup)) (sym are) (Contains-append_left front back (x.fields, x.setup) own.among) in
           (k.members x).1 (listed_of x (record { among = there; found = own.found; some = own.some; line = own.line }))
 
-      from : (x : Listed) → Contains all x → Contains listed x ⊎ ((w : Listed) → Contains listed w → IsBelow w.fields x.fields)
+      from : (x : Listed) → Contains all x → Contains listed x ⊎ ((w : Listed) → Contains listed w → IsBytesBelow w.fields x.fields)
       from x c =
           let own = of_listed x ((k.members x).0 c) in
           elim (Contains-append_cases front back (x.fields, x.setup) (subst (λ named. Contains named (x.fields, x.setup)) are own.among)) [

@@ -7,7 +7,7 @@ use Rattle.std.proofs.lemmas.List.{get_or_append_left, length-append, length_pus
 use Rattle.std.proofs.lemmas.List.Elements.{Contains-append_left, Contains-get_or, Contains-push, Contains-push_cases}
 use Rattle.std.proofs.lemmas.List.Quantifiers.{all_pairs_push}
 use Rattle.pb_board.specs.Position.{IsSetup, Position}
-use Rattle.pb_epd.specs.ByteOrder.{IsBelow}
+use Rattle.pb_epd.specs.ByteOrder.{IsBytesBelow}
 use Rattle.pb_epd.specs.Epd.{EpdForm}
 use Rattle.pb_epd.proofs.Forms.{form_is_one}
 use Rattle.pb_epd.proofs.Lists.{contains_none, pairs_none, pairs_split}
@@ -37,14 +37,14 @@ front_in_order front back h i j d lt within =
     let wide : j < length (front ++ back) = omega (arith, within, length-append front back) in
     let first = get_or_append_left front back d i (omega (arith, lt, within)) in
     let second = get_or_append_left front back d j within in
-    subst (λ (p : Named × Named). IsBelow p.0.0 p.1.0) (λ k. (first k, second k)) (h i j d lt wide)
+    subst (λ (p : Named × Named). IsBytesBelow p.0.0 p.1.0) (λ k. (first k, second k)) (h i j d lt wide)
 
 -- ---- listings
 
 module _ (words : List ℕ) (book : List Entry) where
   pub IsListingOf-none : IsListingOf words book [] []
   IsListingOf-none = record {
-    ordered = pairs_none (λ (x y : Listed). IsBelow x.fields y.fields);
+    ordered = pairs_none (λ (x y : Listed). IsBytesBelow x.fields y.fields);
     members = λ x. ((λ h. absurd (contains_none x h)), (λ h. absurd (contains_none (x.fields, x.setup) h.among)));
   }
 
@@ -87,10 +87,10 @@ module _ (words : List ℕ) (book : List Entry) where
       -- one for which it has moves
       pub IsListingOf-more : InTextOrder (front ++ (t, s) ∷ []) → IsListingOf words book (front ++ (t, s) ∷ []) (listed ++ listed_here ∷ [])
       IsListingOf-more order = record {
-        ordered = all_pairs_push (λ (x y : Listed). IsBelow x.fields y.fields) listed listed_here h.ordered (λ k d lt.
+        ordered = all_pairs_push (λ (x y : Listed). IsBytesBelow x.fields y.fields) listed listed_here h.ordered (λ k d lt.
             let x = get_or listed k d in
             let member = (h.members x).0 (Contains-get_or listed k d lt) in
-            pairs_split (λ (y z : Named). IsBelow y.0 z.0) front (t, s) [] (x.fields, x.setup) order member.among);
+            pairs_split (λ (y z : Named). IsBytesBelow y.0 z.0) front (t, s) [] (x.fields, x.setup) order member.among);
         members = λ x. (
           λ k. elim (Contains-push_cases listed listed_here x k) [
             | inl old ↦ earlier x ((h.members x).0 old)

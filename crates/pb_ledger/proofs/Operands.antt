@@ -11,7 +11,7 @@ use Rattle.pb_board.specs.Position.{Position}
 use Rattle.pb_board.specs.Text.{kind_letter, square_text}
 use Rattle.pb_moves.specs.Moved.{IsMove, Moved}
 use Rattle.pb_moves.specs.Spelling.{promotion_text, spelling}
-use Rattle.pb_epd.specs.ByteOrder.{IsBelow}
+use Rattle.pb_epd.specs.ByteOrder.{IsBytesBelow}
 use Rattle.pb_epd.specs.Epd.{EpdRecord, IsEpd}
 use Rattle.pb_epd.specs.Operation.{IsOpcode, IsOperand, IsNameByte, Operation}
 use Rattle.pb_epd.specs.Refusal.{IsFirstDuePut}
@@ -113,8 +113,8 @@ module _ (s : Position) (old new : EpdRecord) (operands : List Operand) (before 
       let setup_is : new.setup ≡ s = setup ∙ ap (λ (e : EpdRecord). e.setup) before in
       λ i. record { setup = setup_is i; operations = same i }
     where
-      alone : AllPairs (λ (o p : Operation). IsBelow o.0 p.0) (operation_of operands ∷ [])
-      alone = pairs_cons (λ (o p : Operation). IsBelow o.0 p.0) (operation_of operands) [] (All-nil (λ (p : Operation). IsBelow (codes "bkm") p.0)) (pairs_none (λ (o p : Operation). IsBelow o.0 p.0))
+      alone : AllPairs (λ (o p : Operation). IsBytesBelow o.0 p.0) (operation_of operands ∷ [])
+      alone = pairs_cons (λ (o p : Operation). IsBytesBelow o.0 p.0) (operation_of operands) [] (All-nil (λ (p : Operation). IsBytesBelow (codes "bkm") p.0)) (pairs_none (λ (o p : Operation). IsBytesBelow o.0 p.0))
 
       to : (o : Operation) → Contains new.operations o → Contains (operation_of operands ∷ []) o
       to o h = elim ((added o).0 h) [

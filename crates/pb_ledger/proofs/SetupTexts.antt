@@ -18,7 +18,7 @@ use Rattle.pb_moves.specs.Successor.{after}
 use Rattle.pb_moves.specs.Played.{AreLegal, Ply, plies_from}
 use Rattle.pb_epd.specs.Epd.{EpdRecord, EpdText, IsEpd}
 use Rattle.pb_epd.specs.Operation.{IsOperation, Operation}
-use Rattle.pb_epd.specs.ByteOrder.{IsBelow}
+use Rattle.pb_epd.specs.ByteOrder.{IsBytesBelow}
 use Rattle.pb_epd.proofs.Forms.{form_is_text, record_is_one}
 use Rattle.pb_epd.proofs.Lists.{contains_none, pairs_none}
 use Rattle.pb_epd.proofs.Maps.{key_order, is_at}
@@ -37,7 +37,7 @@ abbrev bare : Position → EpdRecord
 bare p = record { setup = p; operations = [] }
 
 is_epd : (p : Position) → IsSetup p → IsEpd (bare p)
-is_epd p rules = record { setup = rules; lawful = All-nil IsOperation; ordered = pairs_none (λ (o q : Operation). IsBelow o.0 q.0) }
+is_epd p rules = record { setup = rules; lawful = All-nil IsOperation; ordered = pairs_none (λ (o q : Operation). IsBytesBelow o.0 q.0) }
 
 bare_text : (p : Position) (t : List ℕ) → IsSetup p → FourFields p t → EpdText (bare p) t
 bare_text p t rules h = form_is_text (bare p) t (is_epd p rules) (record { fields = t; spells = h; is = sym (append-nil t) })
@@ -53,7 +53,7 @@ Entries = List (Vec ℕ × Position)
 pub HoldsSetups-none : HoldsSetups [] []
 HoldsSetups-none = record {
   setups = All-nil IsSetup;
-  ordered = pairs_none (λ (x y : Named). IsBelow x.0 y.0);
+  ordered = pairs_none (λ (x y : Named). IsBytesBelow x.0 y.0);
   members = λ x. ((λ h. absurd (contains_none x h)), (λ h. absurd (contains_none x.1 h.0)));
   few = omega arith;
 }

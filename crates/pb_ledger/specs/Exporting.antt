@@ -4,7 +4,7 @@ use Rattle.std.specs.Io.KnownBytes.{Appends}
 use Rattle.pb_board.specs.LineEnd.{with_end}
 use Rattle.pb_board.specs.Fen.{FourFields}
 use Rattle.pb_board.specs.Position.{Position}
-use Rattle.pb_epd.specs.ByteOrder.{IsBelow}
+use Rattle.pb_epd.specs.ByteOrder.{IsBytesBelow}
 use Rattle.pb_epd.specs.Epd.{EpdForm, EpdRecord}
 use Rattle.pb_epd.specs.declared.operand.Operand.{Operand}
 use Rattle.pb_epd.specs.declared.operand.Operand.TheVariants.{Word}
@@ -49,7 +49,7 @@ pub record IsListed (T : Basis) (S : List Submission) (book : List Entry) (x : L
 
 -- the setups for which this book has moves, each once, in byte order of their four fields
 pub record IsListing (T : Basis) (S : List Submission) (book : List Entry) (listed : List Listed) : Type 0 where
-  pub ordered : AllPairs (λ x y. IsBelow x.fields y.fields) listed
+  pub ordered : AllPairs (λ x y. IsBytesBelow x.fields y.fields) listed
   pub members : (x : Listed) → Contains listed x ↔ IsListed T S book x
 
 -- the lines of the export of the games

@@ -11,10 +11,14 @@ use Rattle.pb_ledger.specs.Ledger.{LedgerState}
 abbrev pub HaveOwnIds : List Submission → Type 0
 HaveOwnIds A = AllPairs (λ s t. s.0 ≢ t.0) A
 
+-- the most games that a ledger may hold
+abbrev pub most_games : ℕ
+most_games = 1000000
+
 -- the rules that every ledger meets
 pub record IsLedger (l : LedgerState) : Type 0 where
   pub table : IsTable l.basis.words
-  pub few : l.cap ≤ 1000000
+  pub few : l.cap ≤ most_games
   pub room : length l.accepted ≤ l.cap
   pub games : All IsSubmission l.accepted
   pub ids : HaveOwnIds l.accepted
@@ -24,6 +28,6 @@ abbrev pub Tallies : Content → Basis → List Submission → Type 0
 Tallies content T A = (k c : ℕ) → held content k c ≡ record { points = count T A k c }
 
 -- the ledger meets its rules, and its tally holds the counts of its games
-pub record Holds (content : Content) (l : LedgerState) : Type 0 where
+pub record HoldsCounts (content : Content) (l : LedgerState) : Type 0 where
   pub rules : IsLedger l
   pub counts : Tallies content l.basis l.accepted

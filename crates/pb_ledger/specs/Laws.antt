@@ -132,8 +132,8 @@ abbrev pub BookByMembers : Type 0
 BookByMembers = (T : Basis) (S U : List Submission) → NoRepeats S → NoRepeats U → SameMembers S U → (E : List Entry) → IsBook T S E → IsBook T U E
 
 -- the bytes of the book are one text
-abbrev pub OneText : Type 0
-OneText = (T : Basis) (S : List Submission) (E F : List Entry) (b c : List ℕ) → IsBook T S E → BookBytes E b → IsBook T S F → BookBytes F c → b ≡ c
+abbrev pub OneBookText : Type 0
+OneBookText = (T : Basis) (S : List Submission) (E F : List Entry) (b c : List ℕ) → IsBook T S E → BookBytes E b → IsBook T S F → BookBytes F c → b ≡ c
 
 -- whatever the order of arrival, the same distinct submissions give the same bytes
 abbrev pub SameBytes : Type 0

@@ -2,7 +2,7 @@
 use Rattle.std.specs.Prelude.{◌≡◌, ◌≢◌, ◌↔◌, ℕ, List, [], ◌++◌, length, map, AllPairs, Contains}
 use Rattle.std.specs.Io.KnownBytes.{Appends}
 use Rattle.pb_board.specs.Position.{Position}
-use Rattle.pb_epd.specs.ByteOrder.{IsBelow}
+use Rattle.pb_epd.specs.ByteOrder.{IsBytesBelow}
 use Rattle.pb_epd.specs.Epd.{EpdForm}
 use Rattle.pb_moves.specs.Moved.{Moved}
 use Rattle.pb_poly.specs.Found.{Found}
@@ -28,7 +28,7 @@ pub record IsListedOf (words : List ℕ) (book : List Entry) (named : List Named
 
 -- those of these setups for which the book has moves, each once, in byte order of their texts
 pub record IsListingOf (words : List ℕ) (book : List Entry) (named : List Named) (listed : List Listed) : Type 0 where
-  pub ordered : AllPairs (λ x y. IsBelow x.fields y.fields) listed
+  pub ordered : AllPairs (λ x y. IsBytesBelow x.fields y.fields) listed
   pub members : (x : Listed) → Contains listed x ↔ IsListedOf words book named x
 
 -- the text of their lines

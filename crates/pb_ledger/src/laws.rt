@@ -1,7 +1,7 @@
 //! Laws of ledgers. Each is the contract of a function that does nothing, over the definitions alone.
 
 ghost use Rattle.pb_ledger.specs.ExportLaws.{ExportByMembers, OneExport, SameExports, SetupsAreListedOnce};
-ghost use Rattle.pb_ledger.specs.Laws.{AcceptedIsOne, AcceptedJoin, AcceptingGoesOn, AcceptsTheTaken, BookByMembers, CountsByMembers, HeldIsAnswered, IdsAreDistinct, LawfulArrives, NoConflict, NumbersAreDistinct, NumbersAreGiven, OneBook, OneReply, OneText, RefusalsChangeNothing, RepeatsKeepTheirNumber, RunsAccept, RunsGoOn, RunsJoin, SameBytes, TakenHasNoRepeats, TakenIsOne};
+ghost use Rattle.pb_ledger.specs.Laws.{AcceptedIsOne, AcceptedJoin, AcceptingGoesOn, AcceptsTheTaken, BookByMembers, CountsByMembers, HeldIsAnswered, IdsAreDistinct, LawfulArrives, NoConflict, NumbersAreDistinct, NumbersAreGiven, OneBook, OneReply, OneBookText, RefusalsChangeNothing, RepeatsKeepTheirNumber, RunsAccept, RunsGoOn, RunsJoin, SameBytes, TakenHasNoRepeats, TakenIsOne};
 
 /// What one line is answered and does, where no id stands twice: one reply and no other, to a submission that is held its
 /// number, and a refused line changes nothing.
@@ -53,7 +53,7 @@ pub fn books()
     ensures one { OneBook }
     ensures counts { CountsByMembers }
     ensures members { BookByMembers }
-    ensures text { OneText }
+    ensures text { OneBookText }
     ensures same_bytes { SameBytes }
 {}
 

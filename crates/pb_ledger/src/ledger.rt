@@ -4,7 +4,7 @@ ghost use Rattle.std.specs.Prelude.{◌≡◌, ◌≤◌, ◌<◌, ◌++◌, ◌
 ghost use Rattle.pb_games.specs.Submissions.{IsLawful, IsSubmission, Submission};
 ghost use Rattle.pb_ledger.specs.Accepting.{Allowed, IsNewId, IsNumber, Takes};
 ghost use Rattle.pb_ledger.specs.Counting.{IsBook};
-ghost use Rattle.pb_ledger.specs.Holding.{IsLedger, Tallies};
+ghost use Rattle.pb_ledger.specs.Holding.{IsLedger, Tallies, most_games};
 
 use crate::arrival::{submits_game, to_game};
 use crate::gift::{Gift, add_points, ensure_rows, write_gifts};
@@ -35,13 +35,13 @@ pub struct Ledger<T: Tally> {
 
 impl<T: Tally> Model for Ledger<T> {
     ghost use Rattle.pb_ledger.specs.Ledger.{LedgerState};
-    ghost use Rattle.pb_ledger.specs.Holding.{Holds};
+    ghost use Rattle.pb_ledger.specs.Holding.{HoldsCounts};
 
     ghost Value = { LedgerState };
 
     ghost view = { λ a. record { basis = record { words = a.table }; cap = a.cap; accepted = a.games.entries } };
 
-    ghost invariant = { λ a. Holds (T.content a.tally) (record { basis = record { words = a.table }; cap = a.cap; accepted = a.games.entries }) };
+    ghost invariant = { λ a. HoldsCounts (T.content a.tally) (record { basis = record { words = a.table }; cap = a.cap; accepted = a.games.entries }) };
 }
 
 impl<T: Tally> Ledger<T> {
@@ -52,7 +52,7 @@ impl<T: Tally> Ledger<T> {
     /// There was no memory for the copy, or for what one game needs while it is added.
     pub fn new(alloc: Global, table: &Table, cap: u32) -> Result<Ledger<T>, AllocError>
         requires some { 1 ≤ cap }
-        requires few { cap ≤ 1000000 }
+        requires few { cap ≤ most_games }
         ensures { IfOk result (λ l. l ≡ record { basis = record { words = table.now }; cap = cap; accepted = [] }) }
     {
         Ok(Ledger {

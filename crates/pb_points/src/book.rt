@@ -28,7 +28,7 @@ pub fn book_of(alloc: Global, rows: &[Row]) -> Result<Book, AllocError>
     Ok(Book::of(entries).unwrap())
 }
 
-// Adds the book of the rows of one key.
+/// Adds the book of the rows of one key.
 fn push_group(entries: &mut Vec<Entry>, group: &[Row]) -> Result<(), AllocError>
     requires { IsGroup group.now }
     ensures { OnOk result (AddsBook group.now entries.old.items entries.new.items) }
@@ -44,7 +44,7 @@ fn push_group(entries: &mut Vec<Entry>, group: &[Row]) -> Result<(), AllocError>
     Ok(())
 }
 
-// The greatest points of some rows.
+/// The greatest points of some rows.
 fn greatest_of(rows: &[Row]) -> u64
     requires { 0 < length rows.now }
     ensures above { All (λ r. r.points ≤ result) rows.now }
@@ -53,7 +53,7 @@ fn greatest_of(rows: &[Row]) -> u64
     rows.iter().map(|row| row.points).max().unwrap()
 }
 
-// The entry of a row, where `greatest` is the greatest points of its key, or none where its weight is 0.
+/// The entry of a row, where `greatest` is the greatest points of its key, or none where its weight is 0.
 fn entry_of(row: &Row, greatest: u64) -> Option<Entry>
     requires { row.now.points ≤ greatest }
     ensures { MatchOption result
@@ -69,7 +69,7 @@ fn entry_of(row: &Row, greatest: u64) -> Option<Entry>
     })
 }
 
-// Puts the entries from a place on, all of one key, in a book's order.
+/// Puts the entries from a place on, all of one key, in a book's order.
 fn sort_from(entries: &mut Vec<Entry>, start: usize)
     requires within { start ≤ length entries.old.items }
     requires group { IsEntryGroup (drop start entries.old.items) }
@@ -79,7 +79,7 @@ fn sort_from(entries: &mut Vec<Entry>, start: usize)
     sort_group(&mut entries[start..]);
 }
 
-// Puts entries of one key in a book's order.
+/// Puts entries of one key in a book's order.
 fn sort_group(entries: &mut [Entry])
     requires { IsEntryGroup entries.old }
     ensures { Orders entries.old entries.new }

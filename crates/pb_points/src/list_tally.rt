@@ -28,7 +28,7 @@ impl Model for ListTally {
     ghost invariant = { λ t. IsDistinct same_pair t.rows.items };
 }
 
-// The place of the row of a key and a code.
+/// The place of the row of a key and a code.
 fn place_of(rows: &[Row], key: u64, code: u16) -> Option<usize>
     ensures { result ≡ position (is_row key code) rows.now }
 {
@@ -36,7 +36,7 @@ fn place_of(rows: &[Row], key: u64, code: u16) -> Option<usize>
         .position(|row| row.key == key && row.code == code)
 }
 
-// Adds points to the row at a place.
+/// Adds points to the row at a place.
 fn add_at(rows: &mut Vec<Row>, place: usize, points: u64)
     requires within { place < length rows.old.items }
     requires fits { (row_at rows.old.items place).points + points ≤ 2 ^ 63 }

@@ -15,7 +15,7 @@ pub struct Row {
     pub points: u64,
 }
 
-// Puts the rows in order of key and then code.
+/// Puts the rows in order of key and then code.
 pub(crate) fn sort_rows(rows: &mut Vec<Row>)
     requires { IsDistinct same_pair rows.old.items }
     ensures sorted { AllPairs IsBelow rows.new.items }

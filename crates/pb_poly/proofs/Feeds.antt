@@ -6,7 +6,7 @@ use Rattle.pb_poly.specs.declared.reading.BookError.{BookError}
 use Rattle.pb_poly.specs.declared.reading.BookError.TheVariants.{Unsorted, Cut, Read, Endless, Memory}
 use Rattle.pb_poly.specs.Entry.{IsEntry, entry_bytes}
 use Rattle.pb_poly.specs.Book.{NeverFall, book_bytes}
-use Rattle.pb_poly.specs.Feeding.{FailsWithin, MeetsWithin, Refuses}
+use Rattle.pb_poly.specs.Feeding.{FailsWithin, MeetsWithin, RefusesEntry}
 use Rattle.pb_poly.specs.Reading.{FindsNoBook, MeetsEntry, Splits}
 use Rattle.pb_poly.specs.Source.{Fill, SourceState}
 use Rattle.pb_poly.specs.Reads.{ReadsOn, ReadsSome, chunk_len}
@@ -29,7 +29,7 @@ Splits-whole came entries part bytes entry h whole one ordered = record {
 }
 
 pub Fails-whole : (came : List ℕ) (entries : List Entry) (part bytes : List ℕ) (n : ℕ) (entry : Entry) (e : BookError) → Splits came entries part → part ++ take n bytes ≡ entry_bytes entry
-    → IsEntry entry → Refuses entries entry e → FailsWithin came bytes e
+    → IsEntry entry → RefusesEntry entries entry e → FailsWithin came bytes e
 Fails-whole came entries part bytes n entry e h whole one refuses = (
   entries,
   entry,
@@ -47,10 +47,10 @@ abbrev Front : Type 0
 Front = List Entry × List ℕ
 
 pub Fails-held : (came bytes : List ℕ) (old held cleared : Front) (n : ℕ) (entry : Entry) (e : BookError) → Splits came old.0 old.1 → held ≡ (old.0, old.1 ++ take n bytes)
-    → entry_bytes entry ≡ held.1 → IsEntry entry → cleared ≡ (held.0, []) → Refuses cleared.0 entry e → FailsWithin came bytes e
+    → entry_bytes entry ≡ held.1 → IsEntry entry → cleared ≡ (held.0, []) → RefusesEntry cleared.0 entry e → FailsWithin came bytes e
 Fails-held came bytes old held cleared n entry e h is whole one none refuses =
     Fails-whole came old.0 old.1 bytes n entry e h (sym (whole ∙ ap (λ (x : Front). x.1) is)) one
-    (subst (λ (es : List Entry). Refuses es entry e) (ap (λ (x : Front). x.0) none ∙ ap (λ (x : Front). x.0) is) refuses)
+    (subst (λ (es : List Entry). RefusesEntry es entry e) (ap (λ (x : Front). x.0) none ∙ ap (λ (x : Front). x.0) is) refuses)
 
 pub Splits-held : (came bytes : List ℕ) (old held cleared new : Front) (n : ℕ) (entry : Entry) → Splits came old.0 old.1 → held ≡ (old.0, old.1 ++ take n bytes)
     → entry_bytes entry ≡ held.1 → IsEntry entry → cleared ≡ (held.0, []) → new.0 ≡ cleared.0 ++ entry ∷ [] → new.1 ≡ cleared.1 → NeverFall new.0 → Splits (came ++ take n bytes) new.0 new.1

@@ -9,7 +9,7 @@ use Rattle.pb_board.specs.LineEnd.{without_return}
 use Rattle.pb_poly.specs.Lines.{is_line_feed, pieces, lines}
 use Rattle.pb_poly.specs.declared.table.TableError.{TableError}
 use Rattle.pb_poly.specs.declared.table.TableError.TheVariants.{Line, Count, Memory}
-use Rattle.pb_poly.specs.Table.{IsDueTable, IsFirstUnspelled, IsSpelled, IsTable, SpellsWord, TableText, WritesWord}
+use Rattle.pb_poly.specs.Table.{IsDueTable, IsFirstUnspelled, IsWordLine, IsTable, SpellsWord, TableText, WritesWord}
 use Rattle.pb_poly.proofs.LineLemmas.{IsLineFeedAt, IsQuiet, length-lines, pieces-nonempty}
 use Rattle.pb_poly.proofs.Digits.{word_is_one, word_small}
 
@@ -28,7 +28,7 @@ lines-quiet (b ∷ bs) quiet some = rw (slice_split_none is_line_feed (b ∷ bs)
 
 -- what the digits of a line write is what the line spells
 pub word_of_line : (line digits : List ℕ) (o : Option ℕ) → digits ≡ without_return line
-    → MatchOption o ((word : ℕ) → ¬ WritesWord digits word) (WritesWord digits) → MatchOption o (¬ IsSpelled line) (SpellsWord line)
+    → MatchOption o ((word : ℕ) → ¬ WritesWord digits word) (WritesWord digits) → MatchOption o (¬ IsWordLine line) (SpellsWord line)
 word_of_line line digits (Some word) is h = subst (λ (d : List ℕ). WritesWord d word) is h
 word_of_line line digits None is h = λ s. h s.0 (subst (λ (d : List ℕ). WritesWord d s.0) (sym is) s.1)
 
@@ -45,18 +45,18 @@ words_are_one (l ∷ ls) (a ∷ v) (b ∷ w) x y =
     cc
 
 -- lines that each spell a word spell words
-pub words_of_spelled : (ls : List (List ℕ)) → All IsSpelled ls → (words : List ℕ) × AllZip SpellsWord ls words
+pub words_of_spelled : (ls : List (List ℕ)) → All IsWordLine ls → (words : List ℕ) × AllZip SpellsWord ls words
 words_of_spelled [] all = ([], tt)
 words_of_spelled (l ∷ ls) all =
-    let first = All-head IsSpelled l ls all in
-    let more = words_of_spelled ls (All-tail IsSpelled l ls all) in
+    let first = All-head IsWordLine l ls all in
+    let more = words_of_spelled ls (All-tail IsWordLine l ls all) in
     (first.0 ∷ more.0, (first.1, more.1))
 
-pub all_spelled : (ls : List (List ℕ)) (words : List ℕ) → AllZip SpellsWord ls words → All IsSpelled ls
-all_spelled [] [] zip = All-nil IsSpelled
+pub all_spelled : (ls : List (List ℕ)) (words : List ℕ) → AllZip SpellsWord ls words → All IsWordLine ls
+all_spelled [] [] zip = All-nil IsWordLine
 all_spelled [] (w ∷ words) zip = absurd zip
 all_spelled (l ∷ ls) [] zip = absurd zip
-all_spelled (l ∷ ls) (w ∷ words) zip = All-cons IsSpelled l ls (w, zip.0) (all_spelled ls words zip.1)
+all_spelled (l ∷ ls) (w ∷ words) zip = All-cons IsWordLine l ls (w, zip.0) (all_spelled ls words zip.1)
 
 -- one line more comes before the rest
 pub before_more : (bytes rest after line : List ℕ) (before : List (List ℕ)) → lines bytes ≡ before ++ lines rest → lines rest ≡ line ∷ lines after → lines bytes ≡ (before ++ line ∷ []) ++ lines after
@@ -68,8 +68,8 @@ length_before bytes rest before cut =
     let both : length (lines bytes) ≡ length before + length (lines rest) = ap length cut ∙ length-append before (lines rest) in
     subst (λ (n : ℕ). n ≤ length bytes) both all
 
-pub spelled_more : (before : List (List ℕ)) (line : List ℕ) → All IsSpelled before → IsSpelled line → All IsSpelled (before ++ line ∷ [])
-spelled_more before line all one = All-append IsSpelled before (line ∷ []) all (All-cons IsSpelled line [] one (All-nil IsSpelled))
+pub spelled_more : (before : List (List ℕ)) (line : List ℕ) → All IsWordLine before → IsWordLine line → All IsWordLine (before ++ line ∷ [])
+spelled_more before line all one = All-append IsWordLine before (line ∷ []) all (All-cons IsWordLine line [] one (All-nil IsWordLine))
 
 -- at the end of the text all its lines have come
 pub all_before : (bytes rest : List ℕ) (before : List (List ℕ)) → lines bytes ≡ before ++ lines rest → length rest ≡ 0 → before ≡ lines bytes
@@ -88,31 +88,31 @@ length_zip [] (w ∷ words) zip = absurd zip
 length_zip (l ∷ ls) [] zip = absurd zip
 length_zip (l ∷ ls) (w ∷ words) zip = let more = length_zip ls words zip.1 in omega (arith, more)
 
-pub table_of_spelled : (bytes : List ℕ) → length (lines bytes) ≡ 781 → All IsSpelled (lines bytes) → (words : List ℕ) × TableText words bytes
+pub table_of_spelled : (bytes : List ℕ) → length (lines bytes) ≡ 781 → All IsWordLine (lines bytes) → (words : List ℕ) × TableText words bytes
 table_of_spelled bytes count all =
     let found = words_of_spelled (lines bytes) all in
     (found.0, record { all = sym (length_zip (lines bytes) found.0 found.1) ∙ count; each = found.1 })
 
-pub spelled_at : (before : List (List ℕ)) (line : List ℕ) (after : List (List ℕ)) → All IsSpelled (before ++ line ∷ after) → IsSpelled line
-spelled_at [] line after all = All-head IsSpelled line after all
-spelled_at (b ∷ before) line after all = spelled_at before line after (All-tail IsSpelled b (before ++ line ∷ after) all)
+pub spelled_at : (before : List (List ℕ)) (line : List ℕ) (after : List (List ℕ)) → All IsWordLine (before ++ line ∷ after) → IsWordLine line
+spelled_at [] line after all = All-head IsWordLine line after all
+spelled_at (b ∷ before) line after all = spelled_at before line after (All-tail IsWordLine b (before ++ line ∷ after) all)
 
 -- no line of a table spells no word
 pub no_first_unspelled : (words : List ℕ) (bytes : List ℕ) (number : ℕ) → TableText words bytes → ¬ IsFirstUnspelled number bytes
 no_first_unspelled words bytes number text h =
     let all = all_spelled (lines bytes) words text.each in
-    let here : All IsSpelled (h.before ++ h.line ∷ h.after) = rw h.cut at all in
+    let here : All IsWordLine (h.before ++ h.line ∷ h.after) = rw h.cut at all in
     h.unspelled (spelled_at h.before h.line h.after here)
 
 -- what judging a line found
 abbrev pub Judged : Option ℕ → List ℕ → Type 0
-Judged o line = MatchOption o (¬ IsSpelled line) (SpellsWord line)
+Judged o line = MatchOption o (¬ IsWordLine line) (SpellsWord line)
 
-pub spelled_found : (o : Option ℕ) (line : List ℕ) → Judged o line → is_none o ≡ false → IsSpelled line
+pub spelled_found : (o : Option ℕ) (line : List ℕ) → Judged o line → is_none o ≡ false → IsWordLine line
 spelled_found None line h some = absurd (cc)
 spelled_found (Some w) line h some = (w, h)
 
-pub word_found : (o : Option ℕ) (line : List ℕ) → Judged o line → IsSpelled line → IsSome o
+pub word_found : (o : Option ℕ) (line : List ℕ) → Judged o line → IsWordLine line → IsSome o
 word_found None line h spelled = absurd (h spelled)
 word_found (Some w) line h spelled = refl
 

@@ -14,13 +14,13 @@ pub record MeetsWithin (came chunk : List ℕ) (before : List Entry) (entry : En
   pub ordered : NeverFall before
 
 -- why an entry isn't added
-abbrev pub Refuses : List Entry → Entry → BookError → Type 0
-Refuses before entry (Unsorted number) = (¬ NeverFall (before ++ entry ∷ [])) × (number ≡ length before + 1)
-Refuses before entry Memory = Unit {0}
-Refuses before entry (Cut _) = ⊥
-Refuses before entry Read = ⊥
-Refuses before entry Endless = ⊥
+abbrev pub RefusesEntry : List Entry → Entry → BookError → Type 0
+RefusesEntry before entry (Unsorted number) = (¬ NeverFall (before ++ entry ∷ [])) × (number ≡ length before + 1)
+RefusesEntry before entry Memory = Unit {0}
+RefusesEntry before entry (Cut _) = ⊥
+RefusesEntry before entry Read = ⊥
+RefusesEntry before entry Endless = ⊥
 
 -- after the bytes that came, an entry within the chunk isn't added
 abbrev pub FailsWithin : List ℕ → List ℕ → BookError → Type 0
-FailsWithin came chunk e = (before : List Entry) × (entry : Entry) × MeetsWithin came chunk before entry × Refuses before entry e
+FailsWithin came chunk e = (before : List Entry) × (entry : Entry) × MeetsWithin came chunk before entry × RefusesEntry before entry e

@@ -31,8 +31,8 @@ pub record WritesWord (digits : List ℕ) (word : ℕ) : Type 0 where
 abbrev pub SpellsWord : List ℕ → ℕ → Type 0
 SpellsWord line word = WritesWord (without_return line) word
 
-abbrev pub IsSpelled : List ℕ → Type 0
-IsSpelled line = (word : ℕ) × SpellsWord line word
+abbrev pub IsWordLine : List ℕ → Type 0
+IsWordLine line = (word : ℕ) × SpellsWord line word
 
 -- the bytes are the table file of these words
 pub record TableText (words : List ℕ) (bytes : List ℕ) : Type 0 where
@@ -46,11 +46,11 @@ pub record IsFirstUnspelled (number : ℕ) (bytes : List ℕ) : Type 0 where
   pub after : List (List ℕ)
   pub cut : lines bytes ≡ before ++ line ∷ after
   pub number_is : number ≡ length before + 1
-  pub spelled : All IsSpelled before
-  pub unspelled : ¬ IsSpelled line
+  pub spelled : All IsWordLine before
+  pub unspelled : ¬ IsWordLine line
 
 -- when each refusal is due
 abbrev pub IsDueTable : TableError → List ℕ → Type 0
 IsDueTable (Line number) bytes = IsFirstUnspelled number bytes
-IsDueTable (Count number) bytes = (number ≡ length (lines bytes)) × (number ≢ 781) × All IsSpelled (lines bytes)
+IsDueTable (Count number) bytes = (number ≡ length (lines bytes)) × (number ≢ 781) × All IsWordLine (lines bytes)
 IsDueTable Memory bytes = (words : List ℕ) × TableText words bytes

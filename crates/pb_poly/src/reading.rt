@@ -3,7 +3,7 @@
 ghost use Rattle.std.specs.Prelude.{◌-◌, min, ◌≡◌, ◌<◌, ◌≤◌, ℕ, List, [], ◌∷◌, ◌++◌, IfOk, IfErr, MatchResult, OnOk, length, take};
 ghost use Rattle.pb_poly.specs.Book.{BookBytes, NeverFall};
 ghost use Rattle.pb_poly.specs.Entry.{IsEntry, entry_bytes};
-ghost use Rattle.pb_poly.specs.Feeding.{FailsWithin, Refuses};
+ghost use Rattle.pb_poly.specs.Feeding.{FailsWithin, RefusesEntry};
 ghost use Rattle.pb_poly.specs.Reading.{FindsNoBook, ReadsBook, Splits, Tells};
 ghost use Rattle.pb_poly.specs.Reads.{chunk_len};
 ghost use Rattle.pb_poly.specs.declared.reading.BookError.TheVariants.{Cut, Memory};
@@ -74,7 +74,7 @@ impl Reading {
     fn add(&mut self, entry: Entry) -> Result<(), BookError>
         requires { IsEntry entry }
         ensures ok { OnOk result ((self.new.0 ≡ self.old.0 ++ entry ∷ []) × (self.new.1 ≡ self.old.1) × NeverFall self.new.0) }
-        ensures err { IfErr result (Refuses self.old.0 entry) }
+        ensures err { IfErr result (RefusesEntry self.old.0 entry) }
     {
         if entry.key < self.last_key {
             return Err(BookError::Unsorted(self.entries.len() + 1));

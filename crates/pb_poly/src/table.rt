@@ -3,7 +3,7 @@
 ghost use Rattle.std.specs.Prelude.{◌≡◌, ◌+◌, ◌<◌, ℕ, List, ◌∷◌, All, IfOk, IfErr, MatchOption, MatchResult, length, slice_index};
 ghost use Rattle.std.specs.List.{AllZip};
 ghost use Rattle.pb_poly.specs.Lines.{lines};
-ghost use Rattle.pb_poly.specs.Table.{IsDueTable, IsSpelled, IsTable, SpellsWord, TableText, WritesWord};
+ghost use Rattle.pb_poly.specs.Table.{IsDueTable, IsWordLine, IsTable, SpellsWord, TableText, WritesWord};
 ghost use Rattle.pb_poly.specs.declared.table.TableError.TheVariants.{Memory};
 
 use memchr::memchr;
@@ -89,14 +89,14 @@ fn word_of_digits(digits: &[u8]) -> Option<u64>
 
 /// The word that the line spells.
 fn word_of(line: &[u8]) -> Option<u64>
-    ensures { MatchOption result (¬ IsSpelled line.now) (SpellsWord line.now) }
+    ensures { MatchOption result (¬ IsWordLine line.now) (SpellsWord line.now) }
 {
     word_of_digits(without_return(line))
 }
 
 /// How many lines there are, where each of them spells a word.
 fn count_lines(bytes: &[u8]) -> Result<usize, TableError>
-    ensures ok { IfOk result (λ count. (count ≡ length (lines bytes.now)) × All IsSpelled (lines bytes.now)) }
+    ensures ok { IfOk result (λ count. (count ≡ length (lines bytes.now)) × All IsWordLine (lines bytes.now)) }
     ensures err { IfErr result (λ e. IsDueTable e bytes.now) }
 {
     let mut rest = bytes;
@@ -114,7 +114,7 @@ fn count_lines(bytes: &[u8]) -> Result<usize, TableError>
 
 /// The words that the lines spell.
 fn words_of(alloc: Global, bytes: &[u8]) -> Result<Vec<u64>, AllocError>
-    requires { All IsSpelled (lines bytes.now) }
+    requires { All IsWordLine (lines bytes.now) }
     ensures { IfOk result (λ words. AllZip SpellsWord (lines bytes.now) words.items) }
 {
     let mut words = Vec::with_capacity(alloc, TABLE_LEN)?;

@@ -1,7 +1,7 @@
 use Rattle.std.proofs.Common.{◌≡◌, ℕ, List, ◌++◌, true, drop}
 use Rattle.std.specs.Io.KnownBytes.{Appends}
 use Rattle.pb_board.specs.LineEnd.{with_end}
-use Rattle.pb_cli.specs.Line.{joined}
+use Rattle.pb_cli.specs.Line.{parts_joined}
 use Rattle.pb_cli.proofs.output.put_line.Given as goal
 
 -- the parts before this one have been put, and a sink that had failed still has
@@ -10,6 +10,6 @@ invariant-loop-part g l =
     let state = g.K.Sink.state in
     record {
       written : (done : List ℕ) × Appends (state l.initial.sink).bytes (state l.sink).bytes done
-          × (done ++ with_end (joined (drop l.part-index l.parts)) ≡ with_end (joined l.parts));
+          × (done ++ with_end (parts_joined (drop l.part-index l.parts)) ≡ with_end (parts_joined l.parts));
       failed : (state l.initial.sink).failed ≡ true → (state l.sink).failed ≡ true;
     }

@@ -6,7 +6,7 @@ use Rattle.pb_poly.specs.Found.{Found}
 use Rattle.pb_board.specs.LineEnd.{with_end}
 use Rattle.pb_cli.specs.ProbeRun.{JudgesProbe, StopsProbe, judged}
 use Rattle.pb_cli.specs.ProbeShown.{found}
-use Rattle.pb_cli.specs.Refuses.{Refuses}
+use Rattle.pb_cli.specs.ShowsRefusal.{ShowsRefusal}
 use Rattle.pb_cli.proofs.Judging.{text_fails}
 use Rattle.pb_cli.proofs.Probing.{at_book, at_record, at_table, only_probed, told_text}
 use Rattle.pb_cli.proofs.probe.run_probe.Goals as goal
@@ -45,7 +45,7 @@ pub returns-in-Err-read_fen-clause-shown : goal.returns-in-Err-read_fen-clause-s
 returns-in-Err-read_fen-clause-shown g c =
     let t = g.T.Source.state in let b = g.B.Source.state in let k = g.K.Sink.state in
     let line = ap (λ bytes. with_end (codes "refused fen " ++ bytes)) (append-nil c.as_bytes.result.now ∙ c.as_bytes.ensures.value ∙ c.word.ensures) in
-    let told = subst (λ bytes. Refuses (k c.args.sink.now) (k c.refuse.new.sink) c.refuse.result bytes) line c.refuse.ensures in
+    let told = subst (λ bytes. ShowsRefusal (k c.args.sink.now) (k c.refuse.new.sink) c.refuse.result bytes) line c.refuse.ensures in
     (at_record c.args.fills (t c.args.table_source.now) (t c.take_table.new.source) (b c.args.book_source.now) (b c.read_book.new.source) c.args.fen.now (k c.args.sink.now) (k c.refuse.new.sink) c.in-Ok.table c.in-Ok.ensures.found c.in-Ok-read_book.book c.in-Ok-read_book.ensures.found c.refuse.result c.in-Err-read_fen.error c.in-Err-read_fen.ensures.refused told).0
 
 pub returns-in-Err-read_fen-clause-told : goal.returns-in-Err-read_fen-clause-told
@@ -57,7 +57,7 @@ pub returns-in-Err-read_fen-clause-fault : goal.returns-in-Err-read_fen-clause-f
 returns-in-Err-read_fen-clause-fault g c =
     let t = g.T.Source.state in let b = g.B.Source.state in let k = g.K.Sink.state in
     let line = ap (λ bytes. with_end (codes "refused fen " ++ bytes)) (append-nil c.as_bytes.result.now ∙ c.as_bytes.ensures.value ∙ c.word.ensures) in
-    let told = subst (λ bytes. Refuses (k c.args.sink.now) (k c.refuse.new.sink) c.refuse.result bytes) line c.refuse.ensures in
+    let told = subst (λ bytes. ShowsRefusal (k c.args.sink.now) (k c.refuse.new.sink) c.refuse.result bytes) line c.refuse.ensures in
     (at_record c.args.fills (t c.args.table_source.now) (t c.take_table.new.source) (b c.args.book_source.now) (b c.read_book.new.source) c.args.fen.now (k c.args.sink.now) (k c.refuse.new.sink) c.in-Ok.table c.in-Ok.ensures.found c.in-Ok-read_book.book c.in-Ok-read_book.ensures.found c.refuse.result c.in-Err-read_fen.error c.in-Err-read_fen.ensures.refused told).1
 
 pub returns-in_err-show_found-clause-fault : goal.returns-in_err-show_found-clause-fault

@@ -5,7 +5,7 @@ use Rattle.pb_points.specs.Tally.{held, more}
 use Rattle.pb_ledger.specs.Accepting.{IsNewId}
 use Rattle.pb_ledger.specs.Basis.{Basis}
 use Rattle.pb_ledger.specs.Counting.{gained}
-use Rattle.pb_ledger.specs.Holding.{Holds}
+use Rattle.pb_ledger.specs.Holding.{HoldsCounts}
 use Rattle.pb_ledger.specs.Ledger.{LedgerState}
 use Rattle.pb_ledger.proofs.Counts.{Holds-push, points_fit}
 use Rattle.pb_ledger.proofs.Gifts.{small_gifts}
@@ -46,7 +46,7 @@ invariant_of-self-2 g c =
     let room : length A < c.self.inside.cap = omega (arith, ap length holds, cap, c.requires.room) in
     let gifts = c.deref-2.ensures.value ∙ c.in_ok-write_gifts.ensures in
     let mid = content c.ensure_rows.new.tally in
-    subst (λ X. Holds (content c.add_points.new.tally) (record { basis = T; cap = c.self.inside.cap; accepted = X })) (sym put)
+    subst (λ X. HoldsCounts (content c.add_points.new.tally) (record { basis = T; cap = c.self.inside.cap; accepted = X })) (sym put)
     (Holds-push (content c.self.inside.tally) mid (content c.add_points.new.tally) l read c.self.invariant c.requires.legal fresh room c.in_ok-ensure_rows.ensures.same
     (λ k d. c.add_points.ensures k d ∙ ap (λ gs. more (gained gs k d) (held mid k d)) gifts))
 
