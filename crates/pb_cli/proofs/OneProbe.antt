@@ -18,7 +18,8 @@ use Rattle.pb_poly.specs.declared.entry.Entry.{Entry}
 use Rattle.pb_poly.specs.declared.table.TableError.TheVariants as poly
 use Rattle.pb_poly.proofs.Finding.{found_is_one}
 use Rattle.pb_poly.proofs.Tables.{only_memory}
-use Rattle.pb_cli.specs.ProbeShown.{FenProbed, ProbeShown, fen_line, probe_text}
+use Rattle.pb_cli.specs.Refused.{fen_line}
+use Rattle.pb_cli.specs.ProbeShown.{FenProbed, ProbeShown, probe_text}
 use Rattle.pb_cli.specs.TableShown.{IsTableFile, TableRefused, count_line, unspelled_line}
 use Rattle.pb_cli.proofs.OneBook.{book_not_refused, books_are_one, refusal_is_one}
 use Rattle.pb_cli.proofs.OnlyTables.{tables_are_one}

@@ -13,7 +13,8 @@ use Rattle.pb_poly.specs.declared.reading.BookError.{BookError}
 use Rattle.pb_poly.specs.declared.reading.BookError.TheVariants as book_error
 use Rattle.pb_cli.specs.Judged.{PutsText, PutsUntil}
 use Rattle.pb_cli.specs.ProbeRun.{JudgesProbe, StopsProbe, StopsReading}
-use Rattle.pb_cli.specs.ProbeShown.{FenProbed, ProbeShown, fen_line}
+use Rattle.pb_cli.specs.Refused.{fen_line}
+use Rattle.pb_cli.specs.ProbeShown.{FenProbed, ProbeShown}
 use Rattle.pb_cli.specs.ShowsRefusal.{ShowsRefusal, RefusesForBook, RefusesForTable}
 use Rattle.pb_cli.specs.TableReading.{FindsNoTable, ReadsTable}
 use Rattle.pb_cli.specs.TableShown.{table_limit}

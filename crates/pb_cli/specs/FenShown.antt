@@ -1,15 +1,15 @@
 -- What the command `fen` writes.
-use Rattle.std.specs.Prelude.{◌≡◌, ℕ, ◌+◌, Bool, true, false, List, ◌∷◌, ◌++◌, length, All, codes, decimal}
+use Rattle.std.specs.Prelude.{◌≡◌, ℕ, ◌+◌, Bool, true, false, List, ◌∷◌, ◌++◌, length}
 use Rattle.std.specs.List.{AllZip}
 use Rattle.pb_board.specs.declared.refusal.FenError.{FenError}
 use Rattle.pb_board.specs.Position.{Record, IsRecord}
 use Rattle.pb_board.specs.Fen.{FenText}
 use Rattle.pb_board.specs.Refusal.{IsFirstDue, OfRecord, fields}
-use Rattle.pb_board.specs.Words.{word_of}
 use Rattle.pb_moves.specs.Moved.{Moved}
 use Rattle.pb_moves.specs.Cases.{Legal}
 use Rattle.pb_moves.specs.Played.{Spells, IsFirstMisspelt, Plays}
 use Rattle.pb_board.specs.LineEnd.{with_end}
+use Rattle.pb_cli.specs.Refused.{fen_line, spelling_line, illegal_line}
 
 -- the text of the record after the moves
 pub record Played (fen : List ℕ) (words : List (List ℕ)) (line : List ℕ) : Type 0 where
@@ -37,8 +37,8 @@ pub record Unplayable (start : Record) (words : List (List ℕ)) (n : ℕ) : Typ
 pub data FenShown (fen : List ℕ) (words : List (List ℕ)) (answer : Bool) (out : List ℕ) : Type 0 where
   played : (line : List ℕ) → Played fen words line → answer ≡ true → out ≡ with_end line → FenShown fen words answer out
   no_record : (e : FenError) → IsFirstDue OfRecord e (fields fen) → answer ≡ false
-      → out ≡ with_end (codes "refused fen " ++ word_of e) → FenShown fen words answer out
+      → out ≡ fen_line e → FenShown fen words answer out
   misspelt : (start : Record) (n : ℕ) → IsRecord start → FenText start fen → IsFirstMisspelt words n → answer ≡ false
-      → out ≡ with_end (codes "refused spelling " ++ decimal n) → FenShown fen words answer out
+      → out ≡ spelling_line n → FenShown fen words answer out
   unplayable : (start : Record) (n : ℕ) → IsRecord start → FenText start fen → Unplayable start words n → answer ≡ false
-      → out ≡ with_end (codes "refused illegal " ++ decimal n) → FenShown fen words answer out
+      → out ≡ illegal_line n → FenShown fen words answer out

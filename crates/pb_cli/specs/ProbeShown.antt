@@ -1,16 +1,16 @@
 -- What the command `probe` writes: a line for each move that a book has for a position, or why an input is refused.
-use Rattle.std.specs.Prelude.{◌≡◌, ℕ, Bool, true, false, List, ◌∷◌, ◌++◌, codes, decimal, flat_map}
+use Rattle.std.specs.Prelude.{◌≡◌, ℕ, Bool, true, false, List, ◌∷◌, ◌++◌, decimal, flat_map}
 use Rattle.pb_board.specs.declared.refusal.FenError.{FenError}
 use Rattle.pb_board.specs.Position.{Record, IsRecord}
 use Rattle.pb_board.specs.Fen.{FenText}
 use Rattle.pb_board.specs.Refusal.{IsFirstDue, OfRecord, fields}
-use Rattle.pb_board.specs.Words.{word_of}
 use Rattle.pb_moves.specs.Moved.{Moved}
 use Rattle.pb_moves.specs.Spelling.{spelling}
 use Rattle.pb_poly.specs.declared.entry.Entry.{Entry}
 use Rattle.pb_poly.specs.Found.{Found}
 use Rattle.pb_cli.specs.BookShown.{BookRefused, IsBookFile}
 use Rattle.pb_board.specs.LineEnd.{with_end}
+use Rattle.pb_cli.specs.Refused.{fen_line}
 use Rattle.pb_cli.specs.TableShown.{IsTableFile, TableRefused}
 
 -- the move and its weight, a space between
@@ -19,9 +19,6 @@ found_line found = with_end (spelling found.0 ++ (32 ∷ decimal found.1))
 
 abbrev pub probe_text : List (Moved × ℕ) → List ℕ
 probe_text found = flat_map found_line found
-
-abbrev pub fen_line : FenError → List ℕ
-fen_line e = with_end (codes "refused fen " ++ word_of e)
 
 -- what the text of a record shows under a table and a book, and whether it is one
 pub data FenProbed (words : List ℕ) (entries : List Entry) (fen : List ℕ) (answer : Bool) (out : List ℕ) : Type 0 where

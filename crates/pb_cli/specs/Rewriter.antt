@@ -1,5 +1,5 @@
 -- What the rewriter of EPD lines does with lines.
-use Rattle.std.specs.Prelude.{◌≡◌, ℕ, ◌+◌, ◌&&◌, Bool, true, false, List, take, Result, Ok, Err}
+use Rattle.std.specs.Prelude.{◌≡◌, ℕ, ◌&&◌, Bool, true, false, List, take, Result, Ok, Err}
 use Rattle.std.specs.Io.KnownBytes.{Appends}
 use Rattle.pb_poly.specs.Count.{next_count}
 use Rattle.pb_poly.specs.Source.{SourceState}

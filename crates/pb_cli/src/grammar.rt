@@ -26,7 +26,7 @@ const TABLE_HELP: &str =
 const MADE_HELP: &str = "The file that the book is written to, in place of what it held";
 
 /// The whole command line.
-pub fn command_line<'a>(alloc: Global) -> Result<Command<'a>, AllocError>
+pub(crate) fn command_line<'a>(alloc: Global) -> Result<Command<'a>, AllocError>
     ensures { IfOk result (IsCommand pbook) }
 {
     let alone = program(alloc)?;

@@ -5,7 +5,7 @@ ghost use Rattle.pb_cli.specs.Hexadecimal.{hexadecimal};
 use hex::encode_to_slice;
 
 /// The 16 digits of a number of 64 bits.
-pub fn digits_of_u64(number: u64) -> [u8; 16]
+pub(crate) fn digits_of_u64(number: u64) -> [u8; 16]
     ensures { result ≡ hexadecimal 16 number }
 {
     let mut digits = [0; 16];
@@ -14,7 +14,7 @@ pub fn digits_of_u64(number: u64) -> [u8; 16]
 }
 
 /// The 8 digits of a number of 32 bits.
-pub fn digits_of_u32(number: u32) -> [u8; 8]
+pub(crate) fn digits_of_u32(number: u32) -> [u8; 8]
     ensures { result ≡ hexadecimal 8 number }
 {
     let mut digits = [0; 8];
@@ -23,7 +23,7 @@ pub fn digits_of_u32(number: u32) -> [u8; 8]
 }
 
 /// The 4 digits of a number of 16 bits.
-pub fn digits_of_u16(number: u16) -> [u8; 4]
+pub(crate) fn digits_of_u16(number: u16) -> [u8; 4]
     ensures { result ≡ hexadecimal 4 number }
 {
     let mut digits = [0; 4];

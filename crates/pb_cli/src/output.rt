@@ -9,7 +9,7 @@ use crate::fault::Fault;
 use pb_poly::{Failed, Sink};
 
 /// Puts the parts of a line in turn, and its end.
-pub fn put_line<K: Sink>(sink: &mut K, parts: &[&[u8]]) -> Result<(), Failed>
+pub(crate) fn put_line<K: Sink>(sink: &mut K, parts: &[&[u8]]) -> Result<(), Failed>
     ensures { Put (K.state sink.old) (K.state sink.new) result (with_end (parts_joined parts.now)) }
 {
     for part in parts {
@@ -19,7 +19,7 @@ pub fn put_line<K: Sink>(sink: &mut K, parts: &[&[u8]]) -> Result<(), Failed>
 }
 
 /// Puts the parts of a line in turn and its end, and hands on what was put.
-pub fn show_line<K: Sink>(sink: &mut K, parts: &[&[u8]]) -> Result<(), Fault>
+pub(crate) fn show_line<K: Sink>(sink: &mut K, parts: &[&[u8]]) -> Result<(), Fault>
     ensures { Shows (K.state sink.old) (K.state sink.new) result (with_end (parts_joined parts.now)) }
 {
     let Ok(()) = put_line(sink, parts) else {

@@ -10,7 +10,7 @@ use itoa::Buffer;
 use pb_poly::{BookError, Sink};
 
 /// Shows the line of these parts and answers that the input was refused.
-pub fn refuse<K: Sink>(sink: &mut K, parts: &[&[u8]]) -> Result<bool, Fault>
+pub(crate) fn refuse<K: Sink>(sink: &mut K, parts: &[&[u8]]) -> Result<bool, Fault>
     ensures { ShowsRefusal (K.state sink.old) (K.state sink.new) result (with_end (parts_joined parts.now)) }
 {
     show_line(sink, parts)?;
@@ -18,7 +18,7 @@ pub fn refuse<K: Sink>(sink: &mut K, parts: &[&[u8]]) -> Result<bool, Fault>
 }
 
 /// The same of a line that ends with a number.
-pub fn refuse_with<K: Sink>(sink: &mut K, words: &[u8], number: usize) -> Result<bool, Fault>
+pub(crate) fn refuse_with<K: Sink>(sink: &mut K, words: &[u8], number: usize) -> Result<bool, Fault>
     ensures { ShowsRefusal (K.state sink.old) (K.state sink.new) result (with_end (words.now ++ decimal number)) }
 {
     let mut buffer = Buffer::new();
@@ -27,7 +27,7 @@ pub fn refuse_with<K: Sink>(sink: &mut K, words: &[u8], number: usize) -> Result
 }
 
 /// Shows why a book is refused, or answers the fault that ended its reading.
-pub fn refuse_book<K: Sink>(sink: &mut K, error: BookError) -> Result<bool, Fault>
+pub(crate) fn refuse_book<K: Sink>(sink: &mut K, error: BookError) -> Result<bool, Fault>
     ensures { RefusesForBook (K.state sink.old) (K.state sink.new) result error }
 {
     match error {

@@ -19,7 +19,7 @@ const TABLE_LIMIT: usize = 16_384;
 
 /// Why a source gave no table.
 #[derive(Clone, Copy, Debug, PartialEq, Eq)]
-pub enum TableFault {
+pub(crate) enum TableFault {
     /// More bytes came than a table file may have. None of them was judged.
     Long,
     /// The line of this number, from 1, isn't 16 hexadecimal digits. Each line before it is.
@@ -145,7 +145,11 @@ fn expect_end<S: Source>(source: &mut S) -> Result<usize, TableFault>
 ///
 /// `Long` once more than 16,384 bytes are there, and at the end of input `Line` or `Count`. `Memory` comes before the first
 /// fill, or where the bytes are a table.
-pub fn take_table<S: Source>(alloc: Global, source: &mut S, fills: u32) -> Result<Table, TableFault>
+pub(crate) fn take_table<S: Source>(
+    alloc: Global,
+    source: &mut S,
+    fills: u32,
+) -> Result<Table, TableFault>
     ensures found { IfOk result (ReadsTable fills (S.state source.old) (S.state source.new)) }
     ensures err { IfErr result (FindsNoTable fills (S.state source.old) (S.state source.new)) }
     ensures only { (words bytes : List ℕ) → Tells fills (S.state source.old) (S.state source.new) bytes → IsTableFile words bytes
@@ -158,7 +162,7 @@ pub fn take_table<S: Source>(alloc: Global, source: &mut S, fills: u32) -> Resul
 }
 
 /// Shows why a table file is refused, or answers the fault that ended its reading.
-pub fn refuse_table<K: Sink>(sink: &mut K, error: TableFault) -> Result<bool, Fault>
+pub(crate) fn refuse_table<K: Sink>(sink: &mut K, error: TableFault) -> Result<bool, Fault>
     ensures { RefusesForTable (K.state sink.old) (K.state sink.new) result error }
 {
     match error {

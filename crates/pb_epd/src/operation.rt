@@ -33,7 +33,7 @@ fn are_name_bytes(bytes: &[u8]) -> bool
 }
 
 /// Whether the bytes are an opcode.
-pub fn is_opcode(bytes: &[u8]) -> bool
+pub(crate) fn is_opcode(bytes: &[u8]) -> bool
     ensures { IsTrue result ↔ IsOpcode bytes.now }
 {
     match bytes.split_first() {
@@ -69,7 +69,7 @@ fn is_lawful(operand: &Operand) -> bool
 }
 
 /// The first unlawful operand, counted from 1.
-pub fn first_unlawful(operands: &[Operand]) -> Option<usize>
+pub(crate) fn first_unlawful(operands: &[Operand]) -> Option<usize>
     ensures { MatchOption result (All IsOperand operands.now) (λ n. IsFirstUnlawful n operands.now) }
 {
     for (i, operand) in operands.iter().enumerate() {

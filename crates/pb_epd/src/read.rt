@@ -19,17 +19,17 @@ use std::alloc::{AllocError, Global};
 
 /// The words that a line begins with, and what follows them.
 #[derive(Clone, Copy)]
-pub struct Fields<'a> {
-    pub placement: &'a [u8],
-    pub turn: &'a [u8],
-    pub castling: &'a [u8],
-    pub passed: &'a [u8],
-    pub rest: &'a [u8],
+pub(crate) struct Fields<'a> {
+    pub(crate) placement: &'a [u8],
+    pub(crate) turn: &'a [u8],
+    pub(crate) castling: &'a [u8],
+    pub(crate) passed: &'a [u8],
+    pub(crate) rest: &'a [u8],
 }
 
 /// What stands first among the operations.
 #[derive(Drop)]
-pub enum Taken<'a> {
+pub(crate) enum Taken<'a> {
     /// No token.
     Done,
     /// Tokens without an end.

@@ -19,7 +19,7 @@ fn is_text_byte(byte: u8) -> bool
 }
 
 /// How many spaces begin the text.
-pub fn space_run(text: &[u8]) -> usize
+pub(crate) fn space_run(text: &[u8]) -> usize
     ensures { IsRun (λ b. b ≡ 32) text.now result }
 {
     for (i, byte) in text.iter().enumerate() {
@@ -31,7 +31,7 @@ pub fn space_run(text: &[u8]) -> usize
 }
 
 /// How many bytes of a word begin the text.
-pub fn word_run(text: &[u8]) -> usize
+pub(crate) fn word_run(text: &[u8]) -> usize
     ensures { IsRun IsWordByte text.now result }
 {
     for (i, byte) in text.iter().enumerate() {
@@ -43,7 +43,7 @@ pub fn word_run(text: &[u8]) -> usize
 }
 
 /// How many bytes of a quoted text begin the text.
-pub fn text_run(text: &[u8]) -> usize
+pub(crate) fn text_run(text: &[u8]) -> usize
     ensures { IsRun IsTextByte text.now result }
 {
     for (i, byte) in text.iter().enumerate() {

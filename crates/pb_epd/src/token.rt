@@ -7,11 +7,11 @@ ghost use Rattle.pb_epd.specs.Lexeme.{token_of, Begins, IsStep};
 use crate::run::{space_run, text_run, word_run};
 
 /// The most bytes of a word or a text.
-pub const LONGEST: usize = 255;
+pub(crate) const LONGEST: usize = 255;
 
 /// A token as it stands in a line.
 #[derive(Clone, Copy)]
-pub enum Lexeme<'a> {
+pub(crate) enum Lexeme<'a> {
     Word(&'a [u8]),
     Text(&'a [u8]),
     End,
@@ -19,7 +19,7 @@ pub enum Lexeme<'a> {
 
 /// What comes next in a line.
 #[derive(Clone, Copy)]
-pub enum Step<'a> {
+pub(crate) enum Step<'a> {
     /// Spaces alone are left.
     Done,
     /// A token, and what follows it.
@@ -30,7 +30,7 @@ pub enum Step<'a> {
 
 impl Lexeme<'_> {
     /// Whether the token is a word or a text.
-    pub fn is_operand(&self) -> bool
+    pub(crate) fn is_operand(&self) -> bool
         ensures { IsTrue result ↔ IsOperandToken (token_of self.now) }
     {
         !matches!(self, Lexeme::End)
@@ -81,7 +81,7 @@ fn token_at(text: &[u8]) -> Option<(Lexeme<'_>, &[u8])>
 }
 
 /// What comes first in a text that follows a token.
-pub fn next_token<'a>(before: Lexeme<'_>, text: &'a [u8]) -> Step<'a>
+pub(crate) fn next_token<'a>(before: Lexeme<'_>, text: &'a [u8]) -> Step<'a>
     ensures { IsStep (token_of before.entry) text.now result }
 {
     let spaces = space_run(text);
@@ -98,7 +98,7 @@ pub fn next_token<'a>(before: Lexeme<'_>, text: &'a [u8]) -> Step<'a>
 }
 
 /// The offset of the first bad token.
-pub fn first_bad(text: &[u8]) -> Option<usize>
+pub(crate) fn first_bad(text: &[u8]) -> Option<usize>
     ensures { MatchOption result ((ts : List Token) × Tokens ts text.now) (λ at. IsBadAt text.now at) }
 {
     let mut before = Lexeme::End;

@@ -1,5 +1,5 @@
 -- Which refusal a line gets by itself: the first in the order below whose condition holds.
-use Rattle.std.specs.Prelude.{◌≡◌, ◌≢◌, ℕ, ◌+◌, ◌<◌, ◌⊎◌, List, [], ◌∷◌, ◌++◌, length, map, All, slice_index_or, ◌==◌}
+use Rattle.std.specs.Prelude.{◌≡◌, ◌≢◌, ℕ, ◌+◌, ◌<◌, ◌⊎◌, List, [], ◌∷◌, length, map, All, slice_index_or, ◌==◌}
 use Rattle.std.specs.List.{slice_split}
 use Rattle.pb_board.specs.Fen.{FenText}
 use Rattle.pb_board.specs.LineEnd.{without_return}

@@ -1,5 +1,5 @@
 -- Table files: 781 lines of 16 hexadecimal digits, one for each word of the table.
-use Rattle.std.specs.Prelude.{◌≡◌, ◌≢◌, ℕ, ◌+◌, ◌*◌, ◌^◌, ◌<◌, ◌≤◌, ◌⊎◌, List, [], ◌∷◌, ◌++◌, length, fold, All}
+use Rattle.std.specs.Prelude.{◌≡◌, ◌≢◌, ℕ, ◌+◌, ◌*◌, ◌^◌, ◌<◌, ◌≤◌, ◌⊎◌, List, ◌∷◌, ◌++◌, length, fold, All}
 use Rattle.std.specs.List.{AllZip}
 use Rattle.pb_board.specs.LineEnd.{without_return}
 use Rattle.pb_poly.specs.Lines.{lines}
