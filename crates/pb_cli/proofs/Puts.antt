@@ -6,8 +6,8 @@ use Rattle.std.proofs.Math.Seq.{take-append_seam, take-length}
 use Rattle.std.proofs.lemmas.List.{drop_more}
 use Rattle.std.specs.Io.KnownBytes.{Appends, Keeps}
 use Rattle.std.specs.Result.{IsErr}
-use Rattle.pb_poly.specs.Sink.{Put, SinkState}
 use Rattle.pb_board.specs.LineEnd.{with_end}
+use Rattle.pb_poly.specs.Sink.{Put, SinkState}
 use Rattle.pb_cli.specs.Line.{parts_joined}
 
 module _ (old mid new : Option (List ℕ)) (done part rest whole : List ℕ) (written : Appends old mid done) (is : done ++ (part ++ rest) ≡ whole) where

@@ -13,13 +13,13 @@ use Rattle.pb_poly.specs.declared.lines.LinesFault.{LinesFault}
 use Rattle.pb_poly.specs.declared.lines.LinesFault.TheVariants as lines
 use Rattle.pb_poly.specs.declared.source.Failed.{Failed}
 use Rattle.pb_poly.proofs.LineLemmas.{length-lines}
+use Rattle.pb_poly.specs.Count.{next_count}
 use Rattle.pb_cli.specs.declared.epd.Rewriter.{Rewriter}
 use Rattle.pb_cli.specs.declared.epd.Stop.{Stop}
 use Rattle.pb_cli.specs.declared.epd.Stop.TheVariants.{Write, Memory}
 use Rattle.pb_cli.specs.EpdShown.{EpdShown, LineShown}
 use Rattle.pb_cli.specs.EpdRun.{RewritesToWriteFault}
 use Rattle.pb_cli.specs.Rewriter.{Puts, RewritesAll, RewritesUntilStop, StopsAt, RewritesLine}
-use Rattle.pb_poly.specs.Count.{next_count}
 
 -- where what a line gives couldn't be put, the run stops at it
 pub stops_at : (sink sink' : SinkState) (number : ℕ) (line : List ℕ) (taken : Bool) (out : List ℕ) (stop : Stop)

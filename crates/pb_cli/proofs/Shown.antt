@@ -3,8 +3,8 @@ use Rattle.std.proofs.Common.{◌≡◌, ◌∙◌, ℕ, List, [], ◌++◌, ap,
 use Rattle.std.specs.Prelude.{Err, Ok, OnErr, Result}
 use Rattle.pb_board.specs.Fen.{FenText}
 use Rattle.pb_board.specs.Position.{Record}
-use Rattle.pb_poly.specs.Sink.{SinkState}
 use Rattle.pb_board.specs.LineEnd.{with_end}
+use Rattle.pb_poly.specs.Sink.{SinkState}
 use Rattle.pb_cli.specs.Shows.{Shows}
 use Rattle.pb_cli.specs.declared.fault.Fault.{Fault}
 

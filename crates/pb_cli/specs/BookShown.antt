@@ -1,10 +1,10 @@
 -- What the command `show` writes: a line for each entry of a book, or why the bytes are no book.
 use Rattle.std.specs.Prelude.{◌≡◌, ℕ, ◌+◌, ◌<◌, Bool, true, false, List, [], ◌∷◌, ◌++◌, codes, decimal, flat_map, length}
+use Rattle.pb_board.specs.LineEnd.{with_end}
 use Rattle.pb_poly.specs.declared.entry.Entry.{Entry}
 use Rattle.pb_poly.specs.Book.{BookBytes, NeverFall}
 use Rattle.pb_poly.specs.Reading.{Splits}
 use Rattle.pb_cli.specs.Hexadecimal.{hexadecimal}
-use Rattle.pb_board.specs.LineEnd.{with_end}
 
 -- key, code, weight and learn, one space between
 abbrev pub entry_line : Entry → List ℕ

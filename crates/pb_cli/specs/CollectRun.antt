@@ -12,10 +12,10 @@ use Rattle.pb_ledger.specs.Accepting.{Accepted, Answer, Run}
 use Rattle.pb_ledger.specs.Counting.{IsBook}
 use Rattle.pb_ledger.specs.Ledger.{LedgerState}
 use Rattle.pb_ledger.specs.Collecting.{CollectsUntil}
-use Rattle.pb_ledger.specs.Holding.{most_games}
 use Rattle.pb_ledger.specs.Replies.{replies}
 use Rattle.pb_ledger.specs.declared.collecting.CollectFault.{CollectFault}
 use Rattle.pb_ledger.specs.declared.collecting.CollectFault.TheVariants as collect
+use Rattle.pb_ledger.specs.Holding.{most_games}
 use Rattle.pb_cli.specs.declared.fault.Fault.{Fault}
 use Rattle.pb_cli.specs.declared.fault.Fault.TheVariants.{Read, Write, Endless, Memory}
 use Rattle.pb_cli.specs.declared.table.TableFault.TheVariants as table

@@ -1,12 +1,12 @@
 -- What the command `epd` writes: for each line its one ordered form, or why it is refused.
 use Rattle.std.specs.Prelude.{◌≡◌, ◌≢◌, ℕ, ◌+◌, ◌<◌, ◌≤◌, ◌&&◌, Bool, true, false, List, [], ◌∷◌, ◌++◌, length, All, codes, decimal}
 use Rattle.pb_board.specs.Words.{word_of}
+use Rattle.pb_board.specs.LineEnd.{without_return, with_end}
 use Rattle.pb_epd.specs.declared.refusal.EpdError.{EpdError}
 use Rattle.pb_epd.specs.declared.refusal.EpdError.TheVariants as epd
 use Rattle.pb_epd.specs.Epd.{EpdRecord, IsEpd, EpdText, EpdForm}
 use Rattle.pb_epd.specs.Refusal.{IsFirstDueEpd}
 use Rattle.pb_poly.specs.Lines.{line_limit}
-use Rattle.pb_board.specs.LineEnd.{without_return, with_end}
 
 -- no byte but spaces
 abbrev pub IsBlank : List ℕ → Type 0

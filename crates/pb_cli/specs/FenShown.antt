@@ -5,10 +5,10 @@ use Rattle.pb_board.specs.declared.refusal.FenError.{FenError}
 use Rattle.pb_board.specs.Position.{Record, IsRecord}
 use Rattle.pb_board.specs.Fen.{FenText}
 use Rattle.pb_board.specs.Refusal.{IsFirstDue, OfRecord, fields}
+use Rattle.pb_board.specs.LineEnd.{with_end}
 use Rattle.pb_moves.specs.Moved.{Moved}
 use Rattle.pb_moves.specs.Cases.{Legal}
 use Rattle.pb_moves.specs.Played.{Spells, IsFirstMisspelt, Plays}
-use Rattle.pb_board.specs.LineEnd.{with_end}
 use Rattle.pb_cli.specs.Refused.{fen_line, spelling_line, illegal_line}
 
 -- the text of the record after the moves

@@ -12,8 +12,8 @@ use Rattle.pb_ledger.specs.Basis.{Basis}
 use Rattle.pb_ledger.specs.Counting.{IsBook}
 use Rattle.pb_ledger.specs.Laws.{ArrivalsAreNumbered, NoRepeats, RepeatsAreAnsweredAlike}
 use Rattle.pb_ledger.specs.Replies.{replies}
-use Rattle.pb_cli.specs.BookShown.{IsBookFile}
 use Rattle.pb_ledger.specs.Holding.{most_games}
+use Rattle.pb_cli.specs.BookShown.{IsBookFile}
 use Rattle.pb_cli.specs.TableShown.{IsTableFile}
 
 -- a line that was refused left the games that are held as they were

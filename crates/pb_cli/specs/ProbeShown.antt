@@ -4,12 +4,12 @@ use Rattle.pb_board.specs.declared.refusal.FenError.{FenError}
 use Rattle.pb_board.specs.Position.{Record, IsRecord}
 use Rattle.pb_board.specs.Fen.{FenText}
 use Rattle.pb_board.specs.Refusal.{IsFirstDue, OfRecord, fields}
+use Rattle.pb_board.specs.LineEnd.{with_end}
 use Rattle.pb_moves.specs.Moved.{Moved}
 use Rattle.pb_moves.specs.Spelling.{spelling}
 use Rattle.pb_poly.specs.declared.entry.Entry.{Entry}
 use Rattle.pb_poly.specs.Found.{Found}
 use Rattle.pb_cli.specs.BookShown.{BookRefused, IsBookFile}
-use Rattle.pb_board.specs.LineEnd.{with_end}
 use Rattle.pb_cli.specs.Refused.{fen_line}
 use Rattle.pb_cli.specs.TableShown.{IsTableFile, TableRefused}
 

@@ -1,8 +1,8 @@
 -- The lines that refuse a record and moves.
 use Rattle.std.specs.Prelude.{ℕ, List, ◌++◌, codes, decimal}
 use Rattle.pb_board.specs.declared.refusal.FenError.{FenError}
-use Rattle.pb_board.specs.LineEnd.{with_end}
 use Rattle.pb_board.specs.Words.{word_of}
+use Rattle.pb_board.specs.LineEnd.{with_end}
 use Rattle.pb_cli.specs.declared.fen.Refusal.{Refusal}
 use Rattle.pb_cli.specs.declared.fen.Refusal.TheVariants as refusal
 

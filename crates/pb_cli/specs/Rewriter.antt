@@ -1,7 +1,6 @@
 -- What the rewriter of EPD lines does with lines.
 use Rattle.std.specs.Prelude.{◌≡◌, ℕ, ◌&&◌, Bool, true, false, List, take, Result, Ok, Err}
 use Rattle.std.specs.Io.KnownBytes.{Appends}
-use Rattle.pb_poly.specs.Count.{next_count}
 use Rattle.pb_poly.specs.Source.{SourceState}
 use Rattle.pb_poly.specs.Sink.{SinkState, StillWorks}
 use Rattle.pb_poly.specs.Reads.{ReadsAll}
@@ -9,6 +8,7 @@ use Rattle.pb_poly.specs.LineTask.{chunk_len}
 use Rattle.pb_poly.specs.Lines.{lines}
 use Rattle.pb_poly.specs.declared.lines.LinesFault.{LinesFault}
 use Rattle.pb_poly.specs.declared.lines.LinesFault.TheVariants as lines
+use Rattle.pb_poly.specs.Count.{next_count}
 use Rattle.pb_cli.specs.declared.epd.Rewriter.{Rewriter}
 use Rattle.pb_cli.specs.declared.epd.Stop.{Stop}
 use Rattle.pb_cli.specs.declared.epd.Stop.TheVariants.{Write, Memory}

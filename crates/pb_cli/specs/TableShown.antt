@@ -1,8 +1,8 @@
 -- Table files as a command takes them, and the lines of those that are refused.
 use Rattle.std.specs.Prelude.{◌≡◌, ℕ, ◌<◌, ◌≤◌, List, ◌++◌, codes, decimal, length}
+use Rattle.pb_board.specs.LineEnd.{with_end}
 use Rattle.pb_poly.specs.Table.{IsDueTable, TableText}
 use Rattle.pb_poly.specs.declared.table.TableError.TheVariants.{Line, Count}
-use Rattle.pb_board.specs.LineEnd.{with_end}
 
 -- the most bytes that a table file may have
 abbrev pub table_limit : ℕ

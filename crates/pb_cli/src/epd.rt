@@ -1,10 +1,10 @@
 //! The command `epd`: each EPD line is written in its one ordered form, or named as refused.
 ghost use Rattle.std.specs.Prelude.{◌≡◌, ◌≢◌, ◌≤◌, ◌↔◌, ◌++◌, IfErr, IfOk, IsTrue, OnOk, length, true};
+ghost use Rattle.pb_board.specs.LineEnd.{with_end};
 ghost use Rattle.pb_epd.specs.declared.refusal.EpdError.TheVariants as epd;
 ghost use Rattle.pb_poly.specs.Lines.{line_limit};
 ghost use Rattle.pb_cli.specs.EpdRun.{RewritesStream, RewritesTold, RewritesUntil};
 ghost use Rattle.pb_cli.specs.EpdShown.{IsBlank, epd_reason, refused_line};
-ghost use Rattle.pb_board.specs.LineEnd.{with_end};
 ghost use Rattle.pb_cli.specs.Line.{parts_joined};
 ghost use Rattle.pb_cli.specs.Rewriter.{LineTaken, Puts, RewritesAll, RewritesUntilStop};
 

@@ -10,6 +10,7 @@ use Rattle.pb_board.specs.Refusal.{IsFirstDue, OfRecord, fields}
 use Rattle.pb_board.proofs.Dues.{last_order}
 use Rattle.pb_board.proofs.Fens.{spelt_not_due}
 use Rattle.pb_board.proofs.Unique.{one_record}
+use Rattle.pb_board.specs.LineEnd.{without_return}
 use Rattle.pb_moves.specs.Attack.{Playable}
 use Rattle.pb_moves.specs.Played.{AreLegal, IsSpelled, IsFirstMisspelt}
 use Rattle.pb_games.specs.declared.outcome.Outcome.{Outcome}
@@ -17,7 +18,6 @@ use Rattle.pb_games.specs.declared.refusal.Refusal.TheVariants as refusal
 use Rattle.pb_games.specs.Header.{IsHeader}
 use Rattle.pb_games.specs.Ids.{IsId}
 use Rattle.pb_games.specs.LineFields.{submission_of}
-use Rattle.pb_board.specs.LineEnd.{without_return}
 use Rattle.pb_games.specs.Refusing.{IsFirstIllegal, Refuses, SpellsStart, field_of}
 use Rattle.pb_games.specs.Results.{outcome_text}
 use Rattle.pb_games.specs.Submissions.{IsLawful, IsGame, moves_text}

@@ -2,15 +2,15 @@
 use Rattle.std.specs.Prelude.{◌≡◌, ◌≢◌, ℕ, ◌+◌, ◌<◌, ◌⊎◌, List, [], ◌∷◌, length, map, All, slice_index_or, ◌==◌}
 use Rattle.std.specs.List.{slice_split}
 use Rattle.pb_board.specs.Fen.{FenText}
-use Rattle.pb_board.specs.LineEnd.{without_return}
 use Rattle.pb_board.specs.Position.{Position, Record, IsRecord}
 use Rattle.pb_board.specs.Refusal.{IsFirstDue, OfRecord, fields}
+use Rattle.pb_board.specs.LineEnd.{without_return}
 use Rattle.pb_moves.specs.Attack.{Playable}
 use Rattle.pb_moves.specs.Cases.{Legal}
 use Rattle.pb_moves.specs.Moved.{Moved, IsMove}
-use Rattle.pb_moves.specs.Played.{IsFirstMisspelt}
 use Rattle.pb_moves.specs.Spelling.{spelling}
 use Rattle.pb_moves.specs.Successor.{after}
+use Rattle.pb_moves.specs.Played.{IsFirstMisspelt}
 use Rattle.pb_games.specs.declared.outcome.Outcome.{Outcome}
 use Rattle.pb_games.specs.declared.refusal.Refusal.{Refusal}
 use Rattle.pb_games.specs.declared.refusal.Refusal.TheVariants as refusal

@@ -1,9 +1,9 @@
 -- The book of games as EPD (PGN Standard 1994, section 16.2): a line for each setup of the games that the book has moves for.
 use Rattle.std.specs.Prelude.{◌≡◌, ◌≢◌, ◌↔◌, ℕ, true, false, List, [], ◌∷◌, ◌++◌, length, map, flat_map, AllPairs, Contains, codes, decimal}
 use Rattle.std.specs.Io.KnownBytes.{Appends}
-use Rattle.pb_board.specs.LineEnd.{with_end}
 use Rattle.pb_board.specs.Fen.{FourFields}
 use Rattle.pb_board.specs.Position.{Position}
+use Rattle.pb_board.specs.LineEnd.{with_end}
 use Rattle.pb_epd.specs.ByteOrder.{IsBytesBelow}
 use Rattle.pb_epd.specs.Epd.{EpdForm, EpdRecord}
 use Rattle.pb_epd.specs.declared.operand.Operand.{Operand}

@@ -12,9 +12,9 @@ use Rattle.pb_board.specs.declared.setup.Rights.{Rights}
 use Rattle.pb_board.specs.Piece.{pawn_of}
 use Rattle.pb_board.specs.Board.{Board, Place, at, file, rank}
 use Rattle.pb_board.specs.Position.{Position, IsSetup, beyond}
+use Rattle.pb_board.specs.King.{is_same-is}
 use Rattle.pb_moves.specs.Attack.{files_apart}
 use Rattle.pb_board.specs.Piece.{is_same}
-use Rattle.pb_board.specs.King.{is_same-is}
 use Rattle.pb_poly.specs.Key.{ArePlaces, HasPlace, of_piece, white_short, white_long, black_short, black_long, en_passant, white_to_move, HasTaker, has_taker, is_pawn, is_pawn_of, number_of, passed_places, piece_place, piece_places, place_if, places, rights_places, turn_places}
 use Rattle.pb_poly.proofs.Among.{Among, Distinct, among_contained, among_either, among_left, among_right, contains_among, distinct_append, distinct_pairs}
 

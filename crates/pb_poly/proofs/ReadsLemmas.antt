@@ -6,8 +6,8 @@ use Rattle.std.proofs.KnownBytes.{Consumes-nil, Consumes-trans, Consumes-kept}
 use Rattle.std.proofs.Math.Bool.{or-true}
 use Rattle.std.proofs.lemmas.Bool.{lt-ltb, ne_eqb}
 use Rattle.pb_poly.specs.Source.{Fill, SourceState}
-use Rattle.pb_poly.specs.Count.{next_count}
 use Rattle.pb_poly.specs.Reads.{Reads, ReadsAll, ReadsOn, ReadsSome, ReadsToFault}
+use Rattle.pb_poly.specs.Count.{next_count}
 
 -- Before the first fill no byte has come.
 pub ReadsOn-none : (room : ℕ) (state : SourceState) → ReadsOn room 0 state state []

@@ -1,9 +1,9 @@
 use Rattle.std.proofs.Common.{◌∙◌, ◌++◌, ℕ, List, Ok, ap, append-nil, codes, refl, subst, sym, true}
 use Rattle.std.proofs.lemmas.Result.{err_from_is_err_and}
 use Rattle.pb_board.specs.Position.{Position}
+use Rattle.pb_board.specs.LineEnd.{with_end}
 use Rattle.pb_moves.specs.Moved.{Moved}
 use Rattle.pb_poly.specs.Found.{Found}
-use Rattle.pb_board.specs.LineEnd.{with_end}
 use Rattle.pb_cli.specs.ProbeRun.{JudgesProbe, StopsProbe, judged}
 use Rattle.pb_cli.specs.ProbeShown.{found}
 use Rattle.pb_cli.specs.ShowsRefusal.{ShowsRefusal}
