@@ -58,7 +58,7 @@ pub(crate) fn reaches(piece: Piece, board: &Board, from: Square, to: Square) -> 
     }
 }
 
-// Whether a piece attacks a square from so far in this direction of it, where nothing stands between.
+/// Whether a piece attacks a square from so far in this direction of it, where nothing stands between.
 #[inline(always)]
 fn strikes(piece: Piece, direction: Direction, steps: u8) -> bool
     ensures { IsTrue result ↔ Strikes piece.colour piece.kind direction steps }
@@ -73,7 +73,7 @@ fn strikes(piece: Piece, direction: Direction, steps: u8) -> bool
     }
 }
 
-// Whether a pawn of this colour attacks a square from a step in this direction of it.
+/// Whether a pawn of this colour attacks a square from a step in this direction of it.
 #[inline(always)]
 fn pawn_strikes(colour: Colour, direction: Direction) -> bool
     ensures { IsTrue result ↔ PawnStrikes colour direction }
@@ -84,7 +84,7 @@ fn pawn_strikes(colour: Colour, direction: Direction) -> bool
     }
 }
 
-// Whether the first piece in this direction is of this side and attacks the square.
+/// Whether the first piece in this direction is of this side and attacks the square.
 #[inline(always)]
 fn attacked_along(board: &Board, by: Colour, direction: Direction, square: Square) -> bool
     ensures { IsTrue result ↔ AttackedAlong board.now by direction square }
@@ -116,7 +116,7 @@ fn attacked_diagonally(board: &Board, square: Square, by: Colour) -> bool
         || attacked_along(board, by, Direction::NorthWest, square)
 }
 
-// Whether a piece of this side attacks the square along one of its lines.
+/// Whether a piece of this side attacks the square along one of its lines.
 #[inline(always)]
 fn attacked_on_lines(board: &Board, square: Square, by: Colour) -> bool
     ensures { IsTrue result ↔ ((d : Direction) × AttackedAlong board.now by d square) }

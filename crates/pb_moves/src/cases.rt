@@ -104,7 +104,7 @@ pub(crate) fn pawn_double(setup: &Setup, m: Move, pawn: Piece) -> Option<Change>
     }
 }
 
-// The rank on which the pawns of a side begin.
+/// The rank on which the pawns of a side begin.
 #[inline(always)]
 fn pawn_rank(side: Colour) -> u8
     ensures { result ≡ pawn_rank side }

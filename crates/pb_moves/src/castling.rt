@@ -23,7 +23,7 @@ pub(crate) enum Castling {
     BlackLong,
 }
 
-// The squares between which king and rook go.
+/// The squares between which king and rook go.
 #[derive(Clone, Copy)]
 struct Squares {
     king_from: u8,

@@ -76,7 +76,7 @@ static KNIGHT_SQUARES: [[u8; 8]; 64] = [
     [46, 53, 53, 53, 53, 53, 53, 53],
 ];
 
-// The squares that are a knight's move away.
+/// The squares that are a knight's move away.
 #[inline(always)]
 fn knight_squares(square: Square) -> &'static [u8; 8]
     ensures sound { (k : ℕ) → k < 8 →

@@ -115,7 +115,7 @@ pub(crate) fn make(
     }
 }
 
-// Whether this piece can't uncover its king: it isn't the king, and stands on no line with it.
+/// Whether this piece can't uncover its king: it isn't the king, and stands on no line with it.
 #[inline(always)]
 fn is_unpinned(setup: &Setup, from: Square, piece: Piece) -> bool
     ensures unpinned { IsTrue result ↔ IsUnpinned setup.now from piece }

@@ -15,7 +15,7 @@ use crate::legal::{change_of, make, own_piece};
 use crate::moves::Move;
 use pb_board::{Colour, Kind, Piece, Rights, Setup, Square};
 
-// Whether the move leaves or reaches the square of this index.
+/// Whether the move leaves or reaches the square of this index.
 #[inline(always)]
 fn touches(m: Move, index: u8) -> bool
     ensures { IsTrue result ↔ Touches m index }
@@ -23,7 +23,7 @@ fn touches(m: Move, index: u8) -> bool
     m.from().index() == index || m.to().index() == index
 }
 
-// Whether a flag with these two squares is kept.
+/// Whether a flag with these two squares is kept.
 #[inline(always)]
 fn keeps(flag: bool, m: Move, king: u8, rook: u8) -> bool
     ensures { KeepsFlag flag result m king rook }
@@ -64,7 +64,7 @@ fn passed_by(setup: &Setup, m: Move, piece: Piece) -> Option<Square>
     }
 }
 
-// The white and the black king, of this side's and its enemy's.
+/// The white and the black king, of this side's and its enemy's.
 #[inline(always)]
 fn by_colour(side: Colour, own: Square, enemy: Square) -> (Square, Square)
     ensures { (b : Board) → IsOnlyKing b side own → IsOnlyKing b (opponent side) enemy →
