@@ -52,6 +52,7 @@ fn program<'a>(alloc: Global) -> Result<Command<'a>, AllocError>
     Ok(named)
 }
 
+/// `fen FEN MOVES..`
 fn fen<'a>(alloc: Global) -> Result<Command<'a>, AllocError>
     ensures { IfOk result (IsCommand fen_command) }
 {
@@ -63,6 +64,7 @@ fn fen<'a>(alloc: Global) -> Result<Command<'a>, AllocError>
     Ok(whole)
 }
 
+/// `epd`
 fn epd<'a>(alloc: Global) -> Command<'a>
     ensures { IsCommand epd_command result }
 {
@@ -71,6 +73,7 @@ fn epd<'a>(alloc: Global) -> Command<'a>
     )
 }
 
+/// `show BOOK`
 fn show<'a>(alloc: Global) -> Result<Command<'a>, AllocError>
     ensures { IfOk result (IsCommand show_command) }
 {
@@ -81,6 +84,7 @@ fn show<'a>(alloc: Global) -> Result<Command<'a>, AllocError>
     Ok(whole)
 }
 
+/// `probe TABLE BOOK FEN`
 fn probe<'a>(alloc: Global) -> Result<Command<'a>, AllocError>
     ensures { IfOk result (IsCommand probe_command) }
 {
@@ -93,6 +97,7 @@ fn probe<'a>(alloc: Global) -> Result<Command<'a>, AllocError>
     Ok(whole)
 }
 
+/// `collect TABLE BOOK`
 fn collect<'a>(alloc: Global) -> Result<Command<'a>, AllocError>
     ensures { IfOk result (IsCommand collect_command) }
 {
@@ -104,6 +109,7 @@ fn collect<'a>(alloc: Global) -> Result<Command<'a>, AllocError>
     Ok(whole)
 }
 
+/// `export TABLE`
 fn export<'a>(alloc: Global) -> Result<Command<'a>, AllocError>
     ensures { IfOk result (IsCommand export_command) }
 {

@@ -122,6 +122,7 @@ fn order_of<'a>(alloc: Global, matches: &ArgMatches<'a>) -> Result<Order<'a>, Pa
     Err(ParseFault::Usage(String::new(alloc)))
 }
 
+/// The order of `fen`, of what clap found.
 fn fen<'a>(alloc: Global, given: &ArgMatches<'a>) -> Result<Order<'a>, ParseFault>
     ensures words { IfOk result (λ order. (name_of order ≡ codes "fen")
         × HasWords order (rows_of (found_of given.now))) }
@@ -132,6 +133,7 @@ fn fen<'a>(alloc: Global, given: &ArgMatches<'a>) -> Result<Order<'a>, ParseFaul
     Ok(Order::Fen { record, moves })
 }
 
+/// The order of `show`.
 fn show<'a>(alloc: Global, given: &ArgMatches<'a>) -> Result<Order<'a>, ParseFault>
     ensures words { IfOk result (λ order. (name_of order ≡ codes "show")
         × HasWords order (rows_of (found_of given.now))) }
@@ -142,6 +144,7 @@ fn show<'a>(alloc: Global, given: &ArgMatches<'a>) -> Result<Order<'a>, ParseFau
     })
 }
 
+/// The order of `probe`.
 fn probe<'a>(alloc: Global, given: &ArgMatches<'a>) -> Result<Order<'a>, ParseFault>
     ensures words { IfOk result (λ order. (name_of order ≡ codes "probe")
         × HasWords order (rows_of (found_of given.now))) }
@@ -154,6 +157,7 @@ fn probe<'a>(alloc: Global, given: &ArgMatches<'a>) -> Result<Order<'a>, ParseFa
     })
 }
 
+/// The order of `collect`.
 fn collect<'a>(alloc: Global, given: &ArgMatches<'a>) -> Result<Order<'a>, ParseFault>
     ensures words { IfOk result (λ order. (name_of order ≡ codes "collect")
         × HasWords order (rows_of (found_of given.now))) }
@@ -164,6 +168,7 @@ fn collect<'a>(alloc: Global, given: &ArgMatches<'a>) -> Result<Order<'a>, Parse
     Ok(Order::Collect { table, book })
 }
 
+/// The order of `export`.
 fn export<'a>(alloc: Global, given: &ArgMatches<'a>) -> Result<Order<'a>, ParseFault>
     ensures words { IfOk result (λ order. (name_of order ≡ codes "export")
         × HasWords order (rows_of (found_of given.now))) }
@@ -196,6 +201,7 @@ fn words<'a>(alloc: Global, given: &ArgMatches<'a>, id: &str) -> Result<Vec<&'a 
     }
 }
 
+/// A list of these words.
 fn copy_of<'a>(alloc: Global, found: &[&'a str]) -> Result<Vec<&'a str>, AllocError>
     ensures { IfOk result (λ copy. copy.items ≡ found.now) }
 {

@@ -48,6 +48,7 @@ impl Castling {
         }
     }
 
+    /// The side that castles so.
     fn colour(self) -> Colour
         ensures { result ≡ (castling_row self).colour }
     {
@@ -57,6 +58,7 @@ impl Castling {
         }
     }
 
+    /// Whether the rights have this castling.
     fn is_allowed(self, rights: Rights) -> bool
         ensures { result ≡ (castling_row self).right rights }
     {
@@ -68,6 +70,7 @@ impl Castling {
         }
     }
 
+    /// The squares between which king and rook go.
     fn squares(self) -> Squares
         ensures king_from { result.king_from ≡ (castling_row self).king_from }
         ensures king_to { result.king_to ≡ (castling_row self).king_to }
@@ -103,6 +106,7 @@ impl Castling {
         }
     }
 
+    /// Whether nothing stands between king and rook.
     fn way_is_empty(self, board: &Board) -> bool
         ensures { IsTrue result ↔ All (IsEmpty board.now) (castling_row self).empty }
     {
@@ -114,6 +118,7 @@ impl Castling {
         }
     }
 
+    /// Whether the enemy attacks neither the king's square nor the one that it crosses.
     fn way_is_safe(self, board: &Board) -> bool
         ensures { IsTrue result
             ↔ All (λ q. ¬ IsAttacked board.now (opponent (castling_row self).colour) q) (castling_row self).unattacked }
@@ -126,6 +131,7 @@ impl Castling {
         }
     }
 
+    /// Whether all that this castling needs holds, but for the square that the king reaches.
     fn may_castle(self, setup: &Setup) -> bool
         ensures { IsTrue result ↔ MayCastle (castling_row self) setup.now }
     {
@@ -163,6 +169,7 @@ impl Castling {
     }
 }
 
+/// Whether nothing stands on either square.
 fn both_empty(board: &Board, first: u8, second: u8) -> bool
     requires first { first < 64 }
     requires second { second < 64 }
