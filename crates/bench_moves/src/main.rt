@@ -9,7 +9,7 @@
 #![tactic(auto)]
 
 use pb_board::{Fen, Setup, read_fen};
-use pb_moves::{Move, legal_moves, play};
+use pb_moves::{Move, legal_moves, play, play_on};
 use pb_poly::{Table, key_after, key_of, read_table};
 use pb_samples::{Words, small_file};
 use std::alloc::{AllocError, Global};
@@ -75,10 +75,9 @@ fn play_game(game: &[Move]) -> u64 {
     let mut setup = Setup::start();
     let mut count: u64 = 0;
     for m in game {
-        let Some(next) = play(&setup, *m) else {
+        if !play_on(&mut setup, *m) {
             return count;
-        };
-        setup = next;
+        }
         count = count.wrapping_add(1);
     }
     count

@@ -13,6 +13,7 @@ use Rattle.pb_board.specs.King.{KeepsKings}
 use Rattle.pb_board.specs.Position.{HasNoEdgePawn, IsOnlyKing, position_of}
 use Rattle.pb_board.specs.Text.{letter}
 use Rattle.pb_board.specs.Initial.{initial_board}
+use Rattle.pb_board.specs.Mask.{masks_of}
 
 -- each place passes the test at its index
 abbrev pub all_from : (ℕ → Place → Bool) → ℕ → List Place → Bool
@@ -86,7 +87,7 @@ black_king : IsOnlyKing initial_board Black 60
 unfolding initial_board king_test is_it
 black_king = only_king initial_board Black 60 refl refl
 
-pub initial_keeps_kings : (rights : Rights) → KeepsKings (position_of initial_board White rights None) 4 60
+pub initial_keeps_kings : (rights : Rights) → KeepsKings (position_of initial_board White rights None) 4 60 (masks_of initial_board)
 unfolding initial_board
 initial_keeps_kings rights = record {
   rules = record {
@@ -98,4 +99,5 @@ initial_keeps_kings rights = record {
   };
   white = white_king;
   black = black_king;
+  masks_are = refl;
 }

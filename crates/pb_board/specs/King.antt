@@ -1,7 +1,7 @@
 -- Where the kings stand: a setup keeps their squares beside the board.
 use Rattle.std.specs.Prelude.{◌≡◌, ℕ, Bool, true, false, ◌&&◌, Some, None, length}
 use Rattle.std.specs.List.{position_or_len}
-use Rattle.std.proofs.Common.{ap₂, refl, sym, subst, arith, inl, inr}
+use Rattle.std.proofs.Common.{ap, ap₂, refl, sym, subst, ◌∙◌, arith, inl, inr}
 use Rattle.std.proofs.lemmas.Bool.{cases_Bool, cases_lt, false≢true}
 use Rattle.std.proofs.lemmas.List.{get_or_past}
 use Rattle.std.proofs.lemmas.List.Sums.{position_or_len_is}
@@ -12,12 +12,15 @@ use Rattle.pb_board.specs.declared.piece.Kind.TheVariants.{Pawn, Knight, Bishop,
 use Rattle.pb_board.specs.Piece.{king_of, is_same, is_king}
 use Rattle.pb_board.specs.Board.{Place, Board, at, is_king_of}
 use Rattle.pb_board.specs.Position.{Position, IsSetup, IsOnlyKing}
+use Rattle.pb_board.specs.declared.masks.Masks.{Masks}
+use Rattle.pb_board.specs.Mask.{masks_of}
 
--- the fields of a setup: a position that meets the rules, and the squares of its kings
-pub record KeepsKings (p : Position) (white_king black_king : ℕ) : Type 0 where
+-- the fields of a setup: a position that meets the rules, the squares of its kings, and the masks of its board
+pub record KeepsKings (p : Position) (white_king black_king : ℕ) (masks : Masks) : Type 0 where
   pub rules : IsSetup p
   pub white : IsOnlyKing p.board White white_king
   pub black : IsOnlyKing p.board Black black_king
+  pub masks_are : masks ≡ masks_of p.board
 
 -- the first square that holds a king of this side
 pub king_square : Board → Colour → ℕ
@@ -67,8 +70,9 @@ king_square_is board side square only =
     ])
     (λ _. subst (λ (p : Place). is_king_of side p ≡ true) (sym only.here) (king_passes side))
 
--- the kings' squares come back from the board
-pub kings-back : {A : Type 0} (make : ℕ → ℕ → A) (p : Position) (white_king black_king : ℕ) → KeepsKings p white_king black_king
-    → make (king_square p.board White) (king_square p.board Black) ≡ make white_king black_king
-kings-back make p white_king black_king kept =
-    ap₂ make (king_square_is p.board White white_king kept.white) (king_square_is p.board Black black_king kept.black)
+-- the kings' squares and the masks come back from the board
+pub kings-back : {A : Type 0} (make : ℕ → ℕ → Masks → A) (p : Position) (white_king black_king : ℕ) (masks : Masks) → KeepsKings p white_king black_king masks
+    → make (king_square p.board White) (king_square p.board Black) (masks_of p.board) ≡ make white_king black_king masks
+kings-back make p white_king black_king masks kept =
+    ap₂ (λ (w b : ℕ). make w b (masks_of p.board)) (king_square_is p.board White white_king kept.white) (king_square_is p.board Black black_king kept.black)
+    ∙ ap (λ (m : Masks). make white_king black_king m) (sym kept.masks_are)

@@ -8,6 +8,7 @@ pub mod First
 pub mod Fen
 pub mod Numeral
 pub mod Written
+pub mod Mask
 pub mod Initial
 pub mod Refusal
 pub mod Words

@@ -1,7 +1,8 @@
 -- Positions and records, and the rules that they meet (PGN Standard 1994, section 16.1).
-use Rattle.std.specs.Prelude.{◌≡◌, ℕ, ◌+◌, ◌-◌, ◌<◌, ◌^◌, length, Option, IfSome}
+use Rattle.std.specs.Prelude.{◌≡◌, ℕ, ◌+◌, ◌-◌, ◌<◌, ◌^◌, length, Option, Some, None, IfSome, slice_set}
 use Rattle.pb_board.specs.declared.piece.Colour.{Colour}
 use Rattle.pb_board.specs.declared.piece.Colour.TheVariants.{White, Black}
+use Rattle.pb_board.specs.declared.piece.Piece.{Piece}
 use Rattle.pb_board.specs.declared.setup.Rights.{Rights}
 use Rattle.pb_board.specs.Piece.{opponent, king_of, pawn_of}
 use Rattle.pb_board.specs.Board.{Board, rank, Holds, IsEmpty}
@@ -72,3 +73,7 @@ pub record IsRecord (f : Record) : Type 0 where
   pub half : f.half < 2 ^ 16
   pub low : 0 < f.full
   pub full : f.full < 2 ^ 16
+
+-- the board after a piece has gone from one square to another, in the place of what stood there
+abbrev pub carried_board : Board → ℕ → ℕ → Piece → Board
+carried_board board from to piece = slice_set (slice_set board from None) to (Some piece)

@@ -7,6 +7,7 @@ mod fields;
 mod initial;
 pub mod laws;
 mod line_end;
+mod masks;
 mod number;
 mod piece;
 mod placement;

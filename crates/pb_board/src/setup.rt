@@ -1,8 +1,9 @@
 //! Setups: what the first four fields of a FEN record say.
 
-ghost use Rattle.std.specs.Prelude.{◌≡◌, MatchResult, length};
+ghost use Rattle.std.specs.Prelude.{◌≡◌, ◌↔◌, ℕ, MatchResult, length};
 
 use crate::initial::initial_board;
+use crate::masks::{self, Masks};
 use crate::piece::{Colour, Piece};
 use crate::refusal::SetupError;
 use crate::rules::{has_no_edge_pawn, is_passed, one_king};
@@ -41,18 +42,22 @@ pub struct Setup {
     white_king: Square,
     #[derive_where(skip)]
     black_king: Square,
+    // So do the squares of each side's pieces and of each kind's.
+    #[derive_where(skip)]
+    masks: Masks,
 }
 
 impl Model for Setup {
     ghost use Rattle.pb_board.specs.declared.piece.Colour.TheVariants.{White, Black};
     ghost use Rattle.pb_board.specs.King.{KeepsKings, king_square, kings-back};
+    ghost use Rattle.pb_board.specs.Mask.{masks_of};
     ghost use Rattle.pb_board.specs.Position.{Position, position_of};
 
     ghost Value = { Position };
 
     ghost view = { λ s. position_of s.board s.turn s.rights s.ep };
 
-    ghost invariant = { λ s. KeepsKings (position_of s.board s.turn s.rights s.ep) s.white_king s.black_king };
+    ghost invariant = { λ s. KeepsKings (position_of s.board s.turn s.rights s.ep) s.white_king s.black_king s.masks };
 
     ghost inverse = { λ p. record {
       board = p.board;
@@ -61,25 +66,29 @@ impl Model for Setup {
       ep = p.ep;
       white_king = king_square p.board White;
       black_king = king_square p.board Black;
+      masks = masks_of p.board;
     } };
 
     ghost inverse_ok = { λ s h. kings-back
-        (λ white black. record {
+        (λ white black m. record {
           board = s.board;
           turn = s.turn;
           rights = s.rights;
           ep = s.ep;
           white_king = white;
           black_king = black;
+          masks = m;
         })
-        (position_of s.board s.turn s.rights s.ep) s.white_king s.black_king h };
+        (position_of s.board s.turn s.rights s.ep) s.white_king s.black_king s.masks h };
 }
 
 impl Setup {
     ghost use Rattle.pb_board.specs.declared.piece.Colour.TheVariants.{White, Black};
-    ghost use Rattle.pb_board.specs.Board.{at};
+    ghost use Rattle.pb_board.specs.Board.{at, Holds, IsEmpty};
+    ghost use Rattle.std.specs.Int.{bit_at};
     ghost use Rattle.pb_board.specs.Initial.{initial};
-    ghost use Rattle.pb_board.specs.Position.{IsSetup, IsOnlyKing, position_of};
+    ghost use Rattle.pb_board.specs.Piece.{opponent};
+    ghost use Rattle.pb_board.specs.Position.{IsSetup, IsOnlyKing, position_of, carried_board};
     ghost use Rattle.pb_board.specs.Refusal.{IsFirstFault};
 
     /// The setup of these parts, with the board by square index.
@@ -127,6 +136,7 @@ impl Setup {
         requires black { IsOnlyKing board Black black_king }
         ensures { result ≡ position_of board turn rights ep }
     {
+        let masks = masks::masks_of(&board);
         Setup {
             board,
             turn,
@@ -134,15 +144,51 @@ impl Setup {
             ep,
             white_king,
             black_king,
+            masks,
         }
+    }
+
+    /// Carries a piece from one square to another, in place: the other side is then to move, with these rights, this
+    /// en passant square and the kings on these squares. Nothing is tested.
+    #[inline(always)]
+    pub fn carry(
+        &mut self,
+        from: Square,
+        to: Square,
+        piece: Piece,
+        rights: Rights,
+        ep: Option<Square>,
+        white_king: Square,
+        black_king: Square,
+    )
+        requires rules { IsSetup (position_of (carried_board self.old.board from to piece) (opponent self.old.turn) rights ep) }
+        requires white { IsOnlyKing (carried_board self.old.board from to piece) White white_king }
+        requires black { IsOnlyKing (carried_board self.old.board from to piece) Black black_king }
+        ensures { self.new ≡ position_of (carried_board self.old.board from to piece) (opponent self.old.turn) rights ep }
+    {
+        let next = self;
+        let (left, reached) = (from.index() as usize, to.index() as usize);
+        masks::carry(&mut next.masks, from, to, piece);
+        next.board[left] = None;
+        next.board[reached] = Some(piece);
+        next.turn = match next.turn {
+            Colour::White => Colour::Black,
+            Colour::Black => Colour::White,
+        };
+        next.rights = rights;
+        next.ep = ep;
+        next.white_king = white_king;
+        next.black_king = black_king;
     }
 
     /// The initial array, with White to move and every castling open.
     pub fn start() -> Setup
         ensures { result ≡ initial }
     {
+        let board = initial_board();
+        let masks = masks::masks_of(&board);
         Setup {
-            board: initial_board(),
+            board,
             turn: Colour::White,
             rights: Rights {
                 white_short: true,
@@ -153,6 +199,7 @@ impl Setup {
             ep: None,
             white_king: Square::E1,
             black_king: Square::E8,
+            masks,
         }
     }
 
@@ -191,6 +238,22 @@ impl Setup {
         ensures { result ≡ self.now.ep }
     {
         self.ep
+    }
+
+    /// The squares on which something stands: bit `i` stands for the square of index `i`.
+    #[inline(always)]
+    pub fn occupied(&self) -> u64
+        ensures { (q : ℕ) → (bit_at result q ≡ 1) ↔ ¬ IsEmpty self.now.board q }
+    {
+        masks::occupied(self.masks)
+    }
+
+    /// The squares on which this piece stands: bit `i` stands for the square of index `i`.
+    #[inline(always)]
+    pub fn standing(&self, piece: Piece) -> u64
+        ensures { (q : ℕ) → (bit_at result q ≡ 1) ↔ Holds self.now.board q piece }
+    {
+        masks::standing(self.masks, piece)
     }
 
     /// The square of this colour's king.

@@ -2,6 +2,7 @@ mod CollectRuns
 mod Commands
 mod Effects
 mod ExportRuns
+mod Headlines
 mod Hexadecimals
 mod Judging
 mod Lines

@@ -1,6 +1,7 @@
 //! The command `collect`: submissions are answered, and the book of the games that are held then is made.
 ghost use Rattle.std.specs.Prelude.{◌≡◌, IfErr, IfNone, IfOk, IfSome, OnOk, false, true};
 ghost use Rattle.pb_cli.specs.CollectRun.{CollectsBook, EndsCollect, JudgesTable, TellsCollect, fault_of};
+ghost use Rattle.pb_cli.specs.Headline.{HasHeadline};
 ghost use Rattle.pb_cli.specs.Judged.{PutsText};
 ghost use Rattle.pb_cli.specs.OneEffect.{HasOneEffect};
 
@@ -52,6 +53,8 @@ pub fn run_collect<T: Source, S: Source, K: Sink>(
         (K.state sink.old) (K.state sink.new)) }
     // Each distinct submission counts once.
     ensures one_effect { IfOk result (λ answer. IfSome answer (HasOneEffect (T.state table_source.old).to_come (S.state source.old).to_come
+        (K.state sink.old) (K.state sink.new))) }
+    ensures headline { IfOk result (λ answer. IfSome answer (HasHeadline (T.state table_source.old).to_come (S.state source.old).to_come
         (K.state sink.old) (K.state sink.new))) }
     ensures handed_on { OnOk result (((K.state sink.new).failed ≡ false)
         × ((K.state sink.new).flushed ≡ true)) }

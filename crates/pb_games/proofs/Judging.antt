@@ -14,10 +14,12 @@ use Rattle.pb_board.specs.LineEnd.{without_return}
 use Rattle.pb_moves.specs.Attack.{Playable}
 use Rattle.pb_moves.specs.Played.{AreLegal, IsSpelled, IsFirstMisspelt}
 use Rattle.pb_games.specs.declared.outcome.Outcome.{Outcome}
+use Rattle.pb_games.specs.declared.refusal.Refusal.{Refusal}
 use Rattle.pb_games.specs.declared.refusal.Refusal.TheVariants as refusal
 use Rattle.pb_games.specs.Header.{IsHeader}
 use Rattle.pb_games.specs.Ids.{IsId}
-use Rattle.pb_games.specs.LineFields.{submission_of}
+use Rattle.pb_games.specs.LineFields.{submission_of, IsChecked}
+use Rattle.pb_games.specs.Reading.{AreRead, AreRefused}
 use Rattle.pb_games.specs.Refusing.{IsFirstIllegal, Refuses, SpellsStart, field_of}
 use Rattle.pb_games.specs.Results.{outcome_text}
 use Rattle.pb_games.specs.Submissions.{IsLawful, IsGame, moves_text}
@@ -110,3 +112,27 @@ module _ (line a d : List ℕ) (o : Outcome) (f : Record) (h : IsHeader line a o
           submits = record { id = h.id_is; game = is_game; text = without_return line; spells = (h.fen, h.text, text_is); is = cases_return line };
           legal = record { playable = playable; legal = legal };
         }
+
+-- the refusal that the words get is the line's
+pub moves_refused : (line a d : List ℕ) (o : Outcome) (f : Record) → IsHeader line a o f d → Playable f.setup → (e : Refusal) → AreRefused f.setup d e → Refuses line e
+moves_refused line a d o f h playable refusal.Long bad = absurd bad
+moves_refused line a d o f h playable refusal.Shape bad = absurd bad
+moves_refused line a d o f h playable refusal.Id bad = absurd bad
+moves_refused line a d o f h playable refusal.Result bad = absurd bad
+moves_refused line a d o f h playable (refusal.Fen e) bad = absurd bad
+moves_refused line a d o f h playable refusal.Start bad = absurd bad
+moves_refused line a d o f h playable (refusal.Spelling n) bad = misspelt_refused line a d o f h playable n bad
+moves_refused line a d o f h playable refusal.Plies bad = many_refused line a d o f h playable bad.0 bad.1
+moves_refused line a d o f h playable (refusal.Illegal n) bad = illegal_refused line a d o f h playable bad.spelt bad.few n bad.first
+moves_refused line a d o f h playable (refusal.Conflict n) bad = absurd bad
+moves_refused line a d o f h playable refusal.Full bad = absurd bad
+moves_refused line a d o f h playable refusal.Memory bad = absurd bad
+
+-- the moves that were read make a lawful submission
+pub moves_lawful : (line a d : List ℕ) (o : Outcome) (f : Record) (n : ℕ) → IsHeader line a o f d → Playable f.setup → AreRead f.setup d n → IsLawful line (submission_of a f o d)
+moves_lawful line a d o f n h playable read = lawful line a d o f h playable read.spelt (omega (arith, read.number, read.few)) read.legal
+
+pub moves_checked : (line a d : List ℕ) (o : Outcome) (f : Record) (n : ℕ) → IsHeader line a o f d → Playable f.setup → AreRead f.setup d n → IsChecked (submission_of a f o d) d n
+moves_checked line a d o f n h playable read =
+    let all = moves_lawful line a d o f n h playable read in
+    record { rules = record { id = all.submits.id; game = all.submits.game; legal = all.legal }; spelt = read.spelt; number = read.number }

@@ -4,6 +4,8 @@ pub mod Bytes
 pub mod Texts
 pub mod OneLine
 pub mod Dues
+pub mod Played
 pub mod Judging
 pub mod Refused
 pub mod OneRefused
+pub mod Again

@@ -7,3 +7,4 @@ pub mod Header
 pub mod Limits
 pub mod LineFields
 pub mod Laws
+pub mod Reading

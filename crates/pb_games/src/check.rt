@@ -1,20 +1,22 @@
 //! Judging a line.
 
-ghost use Rattle.std.specs.Prelude.{◌≡◌, ◌≤◌, ◌↔◌, All, IfErr, IfOk, IsTrue, MatchOption, MatchResult, Ok, length};
+ghost use Rattle.std.specs.Prelude.{◌≡◌, ◌≤◌, ◌↔◌, IfErr, IfOk, IsTrue, MatchResult, Ok, length};
 ghost use Rattle.pb_moves.specs.Attack.{Playable};
-ghost use Rattle.pb_moves.specs.Played.{AreLegal, IsFirstMisspelt, IsSpelled};
-ghost use Rattle.pb_games.specs.Refusing.{IsFirstIllegal, Refuses};
-ghost use Rattle.pb_games.specs.Submissions.{IsLawful, Submission};
-ghost use Rattle.pb_games.specs.Words.{words_of};
-ghost use Rattle.pb_games.specs.Limits.{most_bytes, most_plies};
+ghost use Rattle.pb_moves.specs.Played.{plies_from};
+ghost use Rattle.pb_games.specs.Reading.{AreRead, AreRefused, IsToldAll};
+ghost use Rattle.pb_games.specs.Refusing.{Refuses};
+ghost use Rattle.pb_games.specs.Submissions.{IsLawful, Submission, plies};
+ghost use Rattle.pb_games.specs.Words.{moves_named};
+ghost use Rattle.pb_games.specs.Limits.{most_bytes};
 
 use crate::header::read_header;
 use crate::line::Line;
-use crate::plies::Plies;
+use crate::outcome::Outcome;
+use crate::player::{Plain, Player};
 use crate::refusal::Refusal;
 use crate::words::Words;
 use pb_board::{Fen, Setup};
-use pb_moves::{play, playable, read_move};
+use pb_moves::{playable, read_move};
 
 /// The most moves that a game may have.
 const MAX_PLIES: u32 = 1024;
@@ -27,8 +29,7 @@ const MAX_PLIES: u32 = 1024;
 ///
 /// # Errors
 ///
-/// The first refusal whose cause stands, in the order of `Refusal`, from `Long` to `Illegal`. All words are read
-/// before the first move is played.
+/// The first refusal whose cause stands, in the order of `Refusal`, from `Long` to `Illegal`.
 pub fn check_line(line: &[u8]) -> Result<Line<'_>, Refusal>
     // What is answered is a legal game that the line submits, and its id.
     ensures found { IfOk result (λ s. IsLawful line.now s) }
@@ -37,13 +38,32 @@ pub fn check_line(line: &[u8]) -> Result<Line<'_>, Refusal>
     // A refusal is the first whose condition holds.
     ensures refused { IfErr result (λ e. Refuses line.now e) }
 {
-    judge(line)
+    judge_line(line, &mut Plain)
+}
+
+/// Judges a line as `check_line` does, and has its moves played by this player, each once. The answer is that of
+/// `check_line`, whatever the player keeps.
+///
+/// # Errors
+///
+/// Those of `check_line`. What the player holds then means nothing.
+pub fn judge_line<'a, P: Player>(line: &'a [u8], player: &mut P) -> Result<Line<'a>, Refusal>
+    ensures found { IfOk result (λ s. IsLawful line.now s) }
+    ensures only { (s : Submission) → IsLawful line.now s → result ≡ Ok s }
+    ensures refused { IfErr result (λ e. Refuses line.now e) }
+    // The player holds the plies of the legal game.
+    ensures told { IfOk result (λ s. IsToldAll (P.holds player.new) s.1.outcome (plies s.1)) }
+    ensures fixed { P.fixed player.new ≡ P.fixed player.old }
+{
+    judge(line, player)
 }
 
 /// The legal game that the line submits, or the first refusal that is due.
-fn judge(line: &[u8]) -> Result<Line<'_>, Refusal>
+fn judge<'a, P: Player>(line: &'a [u8], player: &mut P) -> Result<Line<'a>, Refusal>
     ensures found { IfOk result (λ s. IsLawful line.now s) }
     ensures refused { IfErr result (λ e. Refuses line.now e) }
+    ensures told { IfOk result (λ s. IsToldAll (P.holds player.new) s.1.outcome (plies s.1)) }
+    ensures fixed { P.fixed player.new ≡ P.fixed player.old }
 {
     // No `?`, since no proof is made of one at a struct that holds a reference beside a record.
     let header = match read_header(line) {
@@ -53,16 +73,9 @@ fn judge(line: &[u8]) -> Result<Line<'_>, Refusal>
     if !may_start(&header.start) {
         return Err(Refusal::Start);
     }
-    let plies = match count_moves(header.moves) {
-        Ok(plies) => plies,
-        Err(number) => return Err(Refusal::Spelling(number)),
-    };
-    if plies > MAX_PLIES {
-        return Err(Refusal::Plies);
-    }
-    match first_illegal(header.start.setup(), Plies::of(header.moves)) {
-        Some(number) => Err(Refusal::Illegal(number)),
-        None => Ok(Line::of(header, plies)),
+    match read_moves(player, header.start.setup(), header.outcome, header.moves) {
+        Ok(plies) => Ok(Line::of(header, plies)),
+        Err(refusal) => Err(refusal),
     }
 }
 
@@ -73,37 +86,38 @@ fn may_start(start: &Fen) -> bool
     playable(&start.setup())
 }
 
-/// How many words the field has, where each spells a move. The error is the number of the first that spells none,
-/// from 1.
-fn count_moves(field: &[u8]) -> Result<u32, u32>
+/// Reads the words of the field and plays the moves from this setup. The answer is their number, or the first refusal
+/// that is due. A move is played while those before it are legal and no more than may be; the words after it are read
+/// for their spelling alone, since a word that spells no move is refused first.
+fn read_moves<P: Player>(
+    player: &mut P,
+    start: Setup,
+    outcome: Outcome,
+    field: &[u8],
+) -> Result<u32, Refusal>
     requires { length field.now ≤ most_bytes }
-    ensures { MatchResult result
-        (λ n. (n ≡ length (words_of field.now)) × All IsSpelled (words_of field.now))
-        (IsFirstMisspelt (words_of field.now)) }
+    ensures read { MatchResult result (AreRead start field.now) (AreRefused start field.now) }
+    ensures told { IfOk result (λ _. IsToldAll (P.holds player.new) outcome (plies_from start (moves_named field.now))) }
+    ensures fixed { P.fixed player.new ≡ P.fixed player.old }
 {
+    player.begin(&start, outcome);
+    let mut setup = start;
+    let mut illegal = None;
     let mut count = 0;
     for word in Words::of(field) {
         count += 1;
-        let Some(_) = read_move(word) else {
-            return Err(count);
+        let Some(m) = read_move(word) else {
+            return Err(Refusal::Spelling(count));
         };
+        if illegal.is_none() && count <= MAX_PLIES && !player.play(&mut setup, m) {
+            illegal = Some(count);
+        }
     }
-    Ok(count)
-}
-
-/// The number of the first move that isn't legal where it is played, from 1.
-fn first_illegal(start: Setup, moves: Plies<'_>) -> Option<u32>
-    requires { length moves ≤ most_plies }
-    ensures { MatchOption result (AreLegal start moves.entry) (IsFirstIllegal start moves.entry) }
-{
-    let mut setup = start;
-    let mut number = 0;
-    for m in moves {
-        number += 1;
-        let Some(next) = play(&setup, m) else {
-            return Some(number);
-        };
-        setup = next;
+    if count > MAX_PLIES {
+        return Err(Refusal::Plies);
     }
-    None
+    match illegal {
+        Some(number) => Err(Refusal::Illegal(number)),
+        None => Ok(count),
+    }
 }

@@ -1,6 +1,7 @@
 //! The words of a field.
 
-ghost use Rattle.std.specs.Prelude.{◌≡◌};
+ghost use Rattle.std.specs.Prelude.{◌≡◌, ◌∷◌, [], ◌==◌, MatchOption};
+ghost use Rattle.std.specs.List.{slice_split};
 ghost use Rattle.std.specs.Iterator.{YieldsFirstRef, item_count};
 ghost use Rattle.pb_games.specs.Words.{words_of};
 
@@ -44,7 +45,7 @@ impl<'a> Iterator for Words<'a> {
 
     fn next(&mut self) -> Option<&'a [u8]> {
         let text = self.rest?;
-        match cut_once(text, b' ') {
+        match cut_word(text) {
             Some((word, rest)) => {
                 self.rest = Some(rest);
                 Some(word)
@@ -55,4 +56,19 @@ impl<'a> Iterator for Words<'a> {
             }
         }
     }
+}
+
+/// Cuts a text at its first space, into what stands before it and what stands after it.
+#[inline(always)]
+fn cut_word(text: &[u8]) -> Option<(&[u8], &[u8])>
+    ensures { MatchOption result (slice_split (λ b. b == 32) text.now ≡ text.now ∷ [])
+        (λ cut. slice_split (λ b. b == 32) text.now ≡ cut.0.now ∷ slice_split (λ b. b == 32) cut.1.now) }
+{
+    // Most words are moves of four bytes.
+    if let [a, b, c, d, b' ', rest @ ..] = text {
+        if *a != b' ' && *b != b' ' && *c != b' ' && *d != b' ' {
+            return Some((&text[..4], rest));
+        }
+    }
+    cut_once(text, b' ')
 }

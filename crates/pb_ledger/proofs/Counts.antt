@@ -22,12 +22,11 @@ count-le : (T : Basis) (A : List Submission) (k c : ℕ) → All IsSubmission A 
 count-le T A k c games = sum_by-le (λ s. points T s.1 k c) 2048 A (λ j d lt. omega (arith, points-le T (get_or A j d).1 k c, (games j d lt).game.few))
 
 -- so there is room for those of one game more
-pub points_fit : (f g : Content) (l : LedgerState) (s : Submission) → HoldsCounts f l → IsSubmission s → ((k c : ℕ) → held g k c ≡ held f k c)
-    → (k c : ℕ) → (held g k c).points + 2 * length (gifts_of l.basis s.1) ≤ 2 ^ 63
-points_fit f g l s h legal same k c =
-    let now : (held g k c).points ≡ count l.basis l.accepted k c = ap (λ (x : Held). x.points) (same k c ∙ h.counts k c) in
+pub points_fit : (f : Content) (l : LedgerState) (s : Submission) → HoldsCounts f l → IsSubmission s → (k c : ℕ) → (held f k c).points + 2 * length s.1.moves ≤ 2 ^ 63
+points_fit f l s h legal k c =
+    let now : (held f k c).points ≡ count l.basis l.accepted k c = ap (λ (x : Held). x.points) (h.counts k c) in
     let bound : length l.accepted * 2048 ≤ 1000000 * 2048 = omega (arith, h.rules.room, h.rules.few) in
-    omega (arith, now, bound, count-le l.basis l.accepted k c h.rules.games, length-gifts_of l.basis s.1, legal.game.few)
+    omega (arith, now, bound, count-le l.basis l.accepted k c h.rules.games, legal.game.few)
 
 -- the ledger with one game more
 abbrev pub with_game : LedgerState → Submission → LedgerState
@@ -36,9 +35,9 @@ with_game l s = record { basis = l.basis; cap = l.cap; accepted = l.accepted ++ 
 more_counted : (T : Basis) (A : List Submission) (s : Submission) (k c : ℕ) (h : Held) → h ≡ record { points = count T A k c } → more (points T s.1 k c) h ≡ record { points = count T (A ++ s ∷ []) k c }
 more_counted T A s k c h e = ap (more (points T s.1 k c)) e ∙ ap (λ n. record { points = n }) (sym (sum_by_push (λ u. points T u.1 k c) A s))
 
-pub Holds-push : (f g h : Content) (l : LedgerState) (s : Submission) → HoldsCounts f l → IsSubmission s → IsNewId s.0 l.accepted → length l.accepted < l.cap
-    → ((k c : ℕ) → held g k c ≡ held f k c) → ((k c : ℕ) → held h k c ≡ more (points l.basis s.1 k c) (held g k c)) → HoldsCounts h (with_game l s)
-Holds-push f g h l s old legal fresh room same added = record {
+pub Holds-push : (f g : Content) (l : LedgerState) (s : Submission) → HoldsCounts f l → IsSubmission s → IsNewId s.0 l.accepted → length l.accepted < l.cap
+    → ((k c : ℕ) → held g k c ≡ more (points l.basis s.1 k c) (held f k c)) → HoldsCounts g (with_game l s)
+Holds-push f g l s old legal fresh room added = record {
   rules = record {
     table = old.rules.table;
     few = old.rules.few;
@@ -46,5 +45,5 @@ Holds-push f g h l s old legal fresh room same added = record {
     games = All-push IsSubmission l.accepted s old.rules.games legal;
     ids = all_pairs_push (λ t u. t.0 ≢ u.0) l.accepted s old.rules.ids fresh;
   };
-  counts = λ k c. added k c ∙ more_counted l.basis l.accepted s k c (held g k c) (same k c ∙ old.counts k c);
+  counts = λ k c. added k c ∙ more_counted l.basis l.accepted s k c (held f k c) (old.counts k c);
 }

@@ -23,20 +23,14 @@ use Rattle.pb_ledger.specs.Counting.{credit, gained, gift_of, gifts_of, share}
 
 -- ---- the gifts of a game
 
--- what the plies of these moves give
-abbrev pub gifts_from : Basis → Outcome → Position → List Moved → List Gift
-gifts_from T o s ms = map (gift_of T o) (plies_from s ms)
-
 pub length-plies_from : (s : Position) (ms : List Moved) → length (plies_from s ms) ≡ length ms
 length-plies_from s [] = refl
 length-plies_from s (m ∷ ms) = ap suc (length-plies_from (after s m) ms)
 
--- what was written of the gifts of the game, where these moves are left from a setup with this key
-pub record Writing (T : Basis) (g : Game) (o : Outcome) (s : Position) (k : ℕ) (ms : List Moved) (written : List Gift) : Type 0 where
-  pub outcome : o ≡ g.outcome
-  pub key_is : k ≡ key T.words s
-  pub legal : AreLegal s ms
-  pub all : written ++ gifts_from T g.outcome s ms ≡ gifts_of T g
+-- the moves of plies
+pub moves_back : (s : Position) (ms : List Moved) → map (λ p. p.1) (plies_from s ms) ≡ ms
+moves_back s [] = refl
+moves_back s (m ∷ ms) = ap (λ rest. m ∷ rest) (moves_back (after s m) ms)
 
 -- as many gifts as moves
 pub length-gifts_of : (T : Basis) (g : Game) → length (gifts_of T g) ≡ length g.moves

@@ -1,3 +1,4 @@
+pub mod Arrivals
 pub mod BookLaws
 pub mod Books
 mod Collected

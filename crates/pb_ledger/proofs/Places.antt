@@ -1,5 +1,5 @@
 -- The games of a ledger by id.
-use Rattle.std.proofs.Common.{◌≡◌, ◌≢◌, ℕ, List, [], ◌∷◌, ◌++◌, Bool, true, false, Some, None, slice_get, sym, ap, ◌∙◌, true≢false}
+use Rattle.std.proofs.Common.{◌≡◌, ◌≢◌, ℕ, List, [], ◌∷◌, ◌++◌, Bool, true, false, Some, None, sym, ap, ◌∙◌, true≢false}
 use Rattle.std.specs.Bool.{Decides}
 use Rattle.std.specs.List.{AllByRecursion}
 use Rattle.std.specs.Map.{lookup, lookup_key}
@@ -15,9 +15,9 @@ use Rattle.pb_ledger.specs.Accepting.{IsNewId}
 bytes_same : (a b : List ℕ) → Decides (bytes_eq a b) (a ≡ b)
 bytes_same = bytes_eq-Decides
 
--- where an id is found at a place, that id stands there with its game
-pub found_at : (A : List Submission) (id key own : List ℕ) (k : ℕ) (g : Game) → id ≡ own → Some key ≡ lookup_key (bytes_eq id) A → slice_get A k ≡ Some (key, g) → slice_get A k ≡ Some (own, g)
-found_at A id key own k g e found at = at ∙ ap (λ x. Some (x, g)) (sym (lookup_key_same bytes_same id A key (sym found)) ∙ e)
+-- where an id is found, it is the id that stands there
+pub key_found : (A : List Submission) (id key : List ℕ) → Some key ≡ lookup_key (bytes_eq id) A → key ≡ id
+key_found A id key found = sym (lookup_key_same bytes_same id A key (sym found))
 
 -- an id that isn't found is new
 pub IsNewId-absent : (A : List Submission) (id : List ℕ) → lookup (bytes_eq id) A ≡ None → IsNewId id A

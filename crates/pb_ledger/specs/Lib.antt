@@ -1,4 +1,5 @@
 pub mod Accepting
+pub mod Arriving
 pub mod Basis
 pub mod Collecting
 pub mod Collector
@@ -9,6 +10,7 @@ pub mod Holding
 pub mod Laws
 pub mod Ledger
 pub mod Listing
+pub mod Noting
 pub mod Replies
 pub mod Setups
 pub use Rattle.pb_games.specs.Ids
@@ -18,7 +20,6 @@ pub use Rattle.pb_games.specs.Results
 pub use Rattle.pb_games.specs.Submissions
 pub use Rattle.pb_games.specs.Words
 pub use Rattle.pb_points.specs.ListTally
-pub use Rattle.pb_points.specs.MapTally
 pub use Rattle.pb_points.specs.Rows
 pub use Rattle.pb_points.specs.Tally
 pub use Rattle.pb_points.specs.Weight

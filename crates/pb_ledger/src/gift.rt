@@ -1,15 +1,12 @@
 //! What the plies of a game give to the points of moves.
 
 ghost use Rattle.std.specs.Prelude.{◌≡◌, ◌≤◌, ◌+◌, ◌*◌, ◌^◌, ℕ, IsSome, OnOk, All, length};
-ghost use Rattle.pb_games.specs.Submissions.{IsLegalGame};
 ghost use Rattle.pb_points.specs.Tally.{held, more};
-ghost use Rattle.pb_ledger.specs.Counting.{credit as credit_by, gained, gifts_of};
+ghost use Rattle.pb_ledger.specs.Counting.{credit as credit_by, gained};
 
 use pb_board::Colour;
-use pb_games::{Line, Outcome};
-use pb_moves::play;
+use pb_games::Outcome;
 use pb_points::Tally;
-use pb_poly::{Table, code_of, key_after, key_of};
 use std::alloc::AllocError;
 
 /// What a ply gives: its points, 0 to 2, to a move in a setup.
@@ -24,7 +21,7 @@ pub(crate) struct Gift {
 }
 
 /// The points of a ply of this side.
-fn credit(outcome: Outcome, side: Colour) -> u8
+pub(crate) fn credit(outcome: Outcome, side: Colour) -> u8
     ensures { result ≡ credit_by outcome side }
 {
     match (outcome, side) {
@@ -32,32 +29,6 @@ fn credit(outcome: Outcome, side: Colour) -> u8
         (Outcome::White, Colour::White) | (Outcome::Black, Colour::Black) => 2,
         (Outcome::White, Colour::Black) | (Outcome::Black, Colour::White) => 0,
     }
-}
-
-/// Writes what the line's plies give over the buffer.
-pub(crate) fn write_gifts(
-    gifts: &mut Vec<Gift>,
-    table: &Table,
-    line: &Line<'_>,
-) -> Result<(), AllocError>
-    requires { IsLegalGame line.now.1 }
-    ensures { OnOk result (gifts.new.items ≡ gifts_of (record { words = table.now }) line.now.1) }
-{
-    gifts.clear();
-    let outcome = line.outcome();
-    let mut setup = line.start().setup();
-    let mut key = key_of(table, &setup);
-    for m in line.moves() {
-        gifts.push(Gift {
-            key,
-            code: code_of(&setup, m),
-            points: credit(outcome, setup.turn()),
-        })?;
-        let next = play(&setup, m).unwrap();
-        key = key_after(table, key, &setup, m, &next);
-        setup = next;
-    }
-    Ok(())
 }
 
 /// Makes a row for each gift. No points change.

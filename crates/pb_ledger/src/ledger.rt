@@ -1,15 +1,20 @@
 //! The ledger.
 
-ghost use Rattle.std.specs.Prelude.{◌≡◌, ◌≤◌, ◌<◌, ◌++◌, ◌∷◌, [], ℕ, IfOk, MatchOption, OnErr, OnOk, Ok, length};
+ghost use Rattle.std.specs.Prelude.{◌≡◌, ◌≤◌, ◌+◌, ◌*◌, ◌^◌, ◌++◌, ◌∷◌, [], ℕ, IfOk, MatchOption, OnErr, OnOk, Ok, false, length};
 ghost use Rattle.pb_games.specs.Submissions.{IsLawful, IsSubmission, Submission};
+ghost use Rattle.pb_points.specs.Tally.{held, more};
 ghost use Rattle.pb_ledger.specs.Accepting.{Allowed, IsNewId, IsNumber, Takes};
-ghost use Rattle.pb_ledger.specs.Counting.{IsBook};
+ghost use Rattle.pb_ledger.specs.Arriving.{IsArrival};
+ghost use Rattle.pb_ledger.specs.Counting.{IsBook, points};
 ghost use Rattle.pb_ledger.specs.Holding.{IsLedger, Tallies, most_games};
+ghost use Rattle.pb_ledger.specs.Noting.{HasNoted};
 
-use crate::arrival::{submits_game, to_game};
-use crate::gift::{Gift, add_points, ensure_rows, write_gifts};
+use crate::arrival::Arrival;
+use crate::gift::{add_points, ensure_rows};
+use crate::recorder::Recorder;
+use crate::reply::first_field;
 use indexmap::IndexMap;
-use pb_games::{Game, Id, Line, Refusal, check_line};
+use pb_games::{Game, Id, Line, Refusal, check_line, repeats};
 use pb_points::{Tally, book_of};
 use pb_poly::{Book, Table};
 use std::alloc::{AllocError, Global};
@@ -18,19 +23,15 @@ use std::marker::Model;
 /// The most games that a ledger may be made for.
 pub const MAX_CAP: u32 = 1_000_000;
 
-/// The most moves of a game.
-const MAX_PLIES: usize = 1_024;
-
 /// The accepted games by id, in order of acceptance, with the points of their moves.
 #[derive(Drop)]
 pub struct Ledger<T: Tally> {
     alloc: Global,
-    table: Table,
     cap: u32,
     games: IndexMap<Id, Game>,
     tally: T,
-    // What the plies of the game that is being added give. It is made with the ledger, so that a ply takes no memory.
-    gifts: Vec<Gift>,
+    // It has the table.
+    recorder: Recorder,
 }
 
 impl<T: Tally> Model for Ledger<T> {
@@ -39,9 +40,9 @@ impl<T: Tally> Model for Ledger<T> {
 
     ghost Value = { LedgerState };
 
-    ghost view = { λ a. record { basis = record { words = a.table }; cap = a.cap; accepted = a.games.entries } };
+    ghost view = { λ a. record { basis = record { words = a.recorder.table }; cap = a.cap; accepted = a.games.entries } };
 
-    ghost invariant = { λ a. HoldsCounts (T.content a.tally) (record { basis = record { words = a.table }; cap = a.cap; accepted = a.games.entries }) };
+    ghost invariant = { λ a. HoldsCounts (T.content a.tally) (record { basis = record { words = a.recorder.table }; cap = a.cap; accepted = a.games.entries }) };
 }
 
 impl<T: Tally> Ledger<T> {
@@ -57,11 +58,10 @@ impl<T: Tally> Ledger<T> {
     {
         Ok(Ledger {
             alloc,
-            table: table.clone()?,
             cap,
             games: IndexMap::new(alloc),
             tally: T::new(alloc),
-            gifts: Vec::with_capacity(alloc, MAX_PLIES)?,
+            recorder: Recorder::new(alloc, table)?,
         })
     }
 
@@ -85,40 +85,59 @@ impl<T: Tally> Ledger<T> {
         ensures basis { self.new.basis ≡ self.old.basis }
         ensures cap { self.new.cap ≡ self.old.cap }
     {
-        let read = check_line(line)?;
-        if let Some((index, _, game)) = self.games.get_full(&read.id()) {
-            let number = index as u32 + 1;
-            return if submits_game(&read, game) {
-                Ok(number)
-            } else {
+        match self.arrival(line) {
+            Arrival::Repeat(number) => Ok(number),
+            Arrival::Other(number) => {
+                check_line(line)?;
                 Err(Refusal::Conflict(number))
-            };
-        }
-        if self.games.len() == self.cap as usize {
-            return Err(Refusal::Full);
-        }
-        match self.accept(&read) {
-            Ok(()) => Ok(self.len()),
-            Err(_) => Err(Refusal::Memory),
+            }
+            Arrival::New => self.take(line),
         }
     }
 
-    /// Adds a game under a new id. The insert is the last step that may fail, and only then points are added.
-    fn accept(&mut self, read: &Line<'_>) -> Result<(), AllocError>
-        requires legal { IsSubmission read.now }
-        requires new { IsNewId read.now.0 self.old.accepted }
-        requires room { length self.old.accepted < self.old.cap }
-        ensures ok { OnOk result (self.new.accepted ≡ self.old.accepted ++ read.now ∷ []) }
-        ensures err { OnErr result (self.new.accepted ≡ self.old.accepted) }
+    /// What the line is to the games that are held. Nothing is played: a game that is held is known to be legal.
+    fn arrival(&self, line: &[u8]) -> Arrival
+        ensures arrives { IsArrival self.now.accepted line.now result }
+        ensures rules { IsLedger self.now }
+    {
+        // The map holds what is always true of a ledger.
+        let games = &self.games;
+        let Some(id) = Id::new(first_field(line)) else {
+            return Arrival::New;
+        };
+        let Some((index, held, game)) = games.get_full(&id) else {
+            return Arrival::New;
+        };
+        let number = index as u32 + 1;
+        if repeats(line, held, game) {
+            Arrival::Repeat(number)
+        } else {
+            Arrival::Other(number)
+        }
+    }
+
+    /// Takes a line under whose id no game is held.
+    fn take(&mut self, line: &[u8]) -> Result<u32, Refusal>
+        requires { (s : Submission) → IsLawful line.now s → IsNewId s.0 self.old.accepted }
+        ensures reply { Allowed self.old.cap self.old.accepted line.now result }
+        ensures takes { Takes self.old.accepted line.now result self.new.accepted }
         ensures basis { self.new.basis ≡ self.old.basis }
         ensures cap { self.new.cap ≡ self.old.cap }
     {
-        let game = to_game(self.alloc, read)?;
-        write_gifts(&mut self.gifts, &self.table, read)?;
-        ensure_rows(&mut self.tally, &self.gifts)?;
-        self.games.insert(read.id(), game)?;
-        add_points(&mut self.tally, &self.gifts);
-        Ok(())
+        let read = self.recorder.judge(line)?;
+        if self.games.len() == self.cap as usize {
+            return Err(Refusal::Full);
+        }
+        match accept(
+            self.alloc,
+            &mut self.games,
+            &mut self.tally,
+            &self.recorder,
+            &read,
+        ) {
+            Ok(()) => Ok(self.len()),
+            Err(_) => Err(Refusal::Memory),
+        }
     }
 
     /// How many games are held.
@@ -142,7 +161,7 @@ impl<T: Tally> Ledger<T> {
     pub fn table(&self) -> &Table
         ensures { result.now ≡ self.now.basis.words }
     {
-        &self.table
+        self.recorder.table()
     }
 
     /// The points of the moves: those of the games that are held.
@@ -163,4 +182,28 @@ impl<T: Tally> Ledger<T> {
         let rows = self.tally.rows(alloc)?;
         book_of(alloc, &rows)
     }
+}
+
+/// Adds the game of the line that was judged last, under its new id. The insert is the last step that may fail, and only then
+/// points are added.
+fn accept<T: Tally>(
+    alloc: Global,
+    games: &mut IndexMap<Id, Game>,
+    tally: &mut T,
+    recorder: &Recorder,
+    read: &Line<'_>,
+) -> Result<(), AllocError>
+    requires noted { recorder.now.notes.failed ≡ false → HasNoted (record { words = recorder.now.table }) recorder.now.notes read.now.1 }
+    requires new { IsNewId read.now.0 games.old.entries }
+    requires fits { (k c : ℕ) → (held (T.content tally.old) k c).points + 2 * length read.now.1.moves ≤ 2 ^ 63 }
+    ensures game { OnOk result (games.new.entries ≡ games.old.entries ++ read.now ∷ []) }
+    ensures added { OnOk result ((k c : ℕ) → held (T.content tally.new) k c ≡ more (points (record { words = recorder.now.table }) read.now.1 k c) (held (T.content tally.old) k c)) }
+    ensures same_games { OnErr result (games.new.entries ≡ games.old.entries) }
+    ensures same_points { OnErr result ((k c : ℕ) → held (T.content tally.new) k c ≡ held (T.content tally.old) k c) }
+{
+    let game = recorder.game(alloc, read)?;
+    ensure_rows(tally, recorder.gifts())?;
+    games.insert(read.id(), game)?;
+    add_points(tally, recorder.gifts());
+    Ok(())
 }

@@ -112,7 +112,7 @@ fn id_beside(line: &[u8], refusal: Refusal) -> &[u8]
 }
 
 /// The first field of a line that is cut at every TAB.
-fn first_field(line: &[u8]) -> &[u8]
+pub(crate) fn first_field(line: &[u8]) -> &[u8]
     ensures { result.now ≡ field_of line.now 0 }
 {
     let line = without_return(line);

@@ -8,7 +8,7 @@ ghost use Rattle.pb_ledger.specs.Setups.{HoldsSetups, all_setups, setups_before}
 use crate::ledger::Ledger;
 use pb_board::{Setup, write_setup};
 use pb_games::Game;
-use pb_moves::play;
+use pb_moves::play_on;
 use pb_points::Tally;
 use std::alloc::{AllocError, Global};
 use std::collections::BTreeMap;
@@ -41,7 +41,8 @@ fn add_game(
     let mut setup = game.start.setup();
     for m in game.moves.as_slice() {
         add_setup(alloc, setups, &setup)?;
-        setup = play(&setup, *m).unwrap();
+        let played = play_on(&mut setup, *m);
+        prove!(played);
     }
     Ok(())
 }

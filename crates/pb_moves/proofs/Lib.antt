@@ -4,6 +4,11 @@ pub mod Below
 pub mod Knights
 pub mod Targets
 pub mod Rising
+pub mod Between
+pub mod Sets
+pub mod ClearWays
+pub mod Seen
+pub mod NearTargets
 pub mod Unique
 pub mod Kings
 pub mod Kept
@@ -12,4 +17,5 @@ pub mod LegalMoves
 pub mod Successors
 pub mod Plies
 pub mod Pins
+pub mod Carrying
 pub mod Listed

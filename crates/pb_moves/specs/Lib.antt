@@ -10,6 +10,7 @@ pub mod Listing
 pub mod MoveLaws
 pub mod Played
 pub mod Walk
+pub mod Sight
 pub mod Change
 pub mod Outcome
 pub mod Candidate

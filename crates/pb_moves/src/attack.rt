@@ -2,29 +2,16 @@
 
 ghost use Rattle.std.specs.Prelude.{◌≡◌, ◌<◌, ◌↔◌, IsTrue};
 ghost use Rattle.pb_board.specs.Board.{IsForward};
-ghost use Rattle.pb_moves.specs.Attack.{Clear, Reaches, IsAttacked};
+ghost use Rattle.pb_moves.specs.Attack.{Clear, IsDiagonal, IsStraight, Reaches, IsAttacked};
 ghost use Rattle.pb_moves.specs.declared.direction.Direction.{Direction};
 ghost use Rattle.pb_moves.specs.Walk.{PawnStrikes, Strikes, AttackedAlong, AttackedStraight, AttackedDiagonally};
 
 use crate::board::Board;
 use crate::direction::Direction;
 use crate::knight::attacked_by_knight;
-use crate::line::{first_along, line_between};
-use pb_board::{Colour, Kind, Piece, Square};
-
-/// Whether `to` lies on a line from `from`, with only empty squares between.
-fn clear_way(board: &Board, from: Square, to: Square) -> bool
-    requires { ¬ (from ≡ to) }
-    ensures { IsTrue result ↔ Clear board.now from to }
-{
-    match line_between(from, to) {
-        Some(line) => match first_along(board, from, line.direction) {
-            Some(hit) => line.steps <= hit.steps,
-            None => true,
-        },
-        None => false,
-    }
-}
+use crate::line::first_along;
+use crate::ways::{diagonal_way, straight_way};
+use pb_board::{Colour, Kind, Piece, Setup, Square};
 
 /// Whether `to` is this many ranks forward of `from`.
 #[inline(always)]
@@ -38,21 +25,42 @@ pub(crate) fn is_forward(colour: Colour, ranks: u8, from: Square, to: Square) ->
     }
 }
 
+/// Whether nothing stands between two squares of a diagonal.
+#[inline(always)]
+fn clear_diagonal(setup: &Setup, from: Square, to: Square) -> bool
+    requires { IsDiagonal from to }
+    ensures { IsTrue result ↔ Clear setup.now.board from to }
+{
+    diagonal_way(setup.occupied(), to, from)
+}
+
+/// Whether nothing stands between two squares of a file or a rank.
+#[inline(always)]
+fn clear_straight(setup: &Setup, from: Square, to: Square) -> bool
+    requires { IsStraight from to }
+    ensures { IsTrue result ↔ Clear setup.now.board from to }
+{
+    straight_way(setup.occupied(), to, from)
+}
+
 /// Whether this piece on `from` attacks `to`.
-pub(crate) fn reaches(piece: Piece, board: &Board, from: Square, to: Square) -> bool
-    ensures { IsTrue result ↔ Reaches piece board.now from to }
+#[inline(always)]
+pub(crate) fn reaches(piece: Piece, setup: &Setup, from: Square, to: Square) -> bool
+    ensures { IsTrue result ↔ Reaches piece setup.now.board from to }
 {
     let across = from.file().abs_diff(to.file());
     let along = from.rank().abs_diff(to.rank());
     match piece.kind {
         Kind::Pawn => across == 1 && is_forward(piece.colour, 1, from, to),
         Kind::Knight => across == 1 && along == 2 || across == 2 && along == 1,
-        Kind::Bishop => across == along && across != 0 && clear_way(board, from, to),
-        Kind::Rook => (across == 0) != (along == 0) && clear_way(board, from, to),
+        Kind::Bishop => across == along && across != 0 && clear_diagonal(setup, from, to),
+        Kind::Rook => (across == 0) != (along == 0) && clear_straight(setup, from, to),
         Kind::Queen => {
-            (across != 0 || along != 0)
-                && (across == along || across == 0 || along == 0)
-                && clear_way(board, from, to)
+            if across == along {
+                across != 0 && clear_diagonal(setup, from, to)
+            } else {
+                (across == 0 || along == 0) && clear_straight(setup, from, to)
+            }
         }
         Kind::King => across.max(along) == 1,
     }

@@ -24,7 +24,7 @@ pub(crate) fn piece_move(setup: &Setup, m: Move, piece: Piece) -> Option<Change>
     let (from, to) = (m.from(), m.to());
     if m.promo().is_none()
         && (is_empty(board, to) || is_prey(board, piece.colour, to))
-        && reaches(piece, board, from, to)
+        && reaches(piece, setup, from, to)
     {
         Some(Change::Carry(piece))
     } else {
@@ -75,7 +75,7 @@ pub(crate) fn pawn_capture(setup: &Setup, m: Move, pawn: Piece) -> Option<Change
     let board = setup.board();
     let (from, to) = (m.from(), m.to());
     let kind = becomes(colour, m)?;
-    if is_prey(board, colour, to) && reaches(pawn, board, from, to) {
+    if is_prey(board, colour, to) && reaches(pawn, setup, from, to) {
         Some(Change::Carry(Piece { colour, kind }))
     } else {
         None
@@ -136,7 +136,7 @@ pub(crate) fn en_passant(setup: &Setup, m: Move, pawn: Piece) -> Option<Change>
         Some(ep)
             if ep.index() == to.index()
                 && m.promo().is_none()
-                && reaches(pawn, setup.board(), from, to) => {
+                && reaches(pawn, setup, from, to) => {
             let gone = square_at(8 * from.rank() + to.file());
             Some(Change::CarryPast(pawn, gone))
         }

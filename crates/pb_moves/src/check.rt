@@ -7,20 +7,21 @@ ghost use Rattle.pb_moves.specs.Attack.{IsAttacked, InCheck, Playable};
 
 use crate::attack::attacked_on;
 use crate::board::{Board, opponent_of};
+use crate::sight::{is_attacked, sight_of};
 use pb_board::{Colour, Setup, Square};
 
 /// Whether some piece of this side attacks the square, whoever is to move.
 pub fn attacked(setup: &Setup, square: Square, by: Colour) -> bool
     ensures { IsTrue result ↔ IsAttacked setup.now.board by square }
 {
-    attacked_on(setup.board(), square, by)
+    is_attacked(&sight_of(setup, by), square, by)
 }
 
 /// Whether some enemy piece attacks this side's king.
 pub fn in_check(setup: &Setup, side: Colour) -> bool
     ensures { IsTrue result ↔ InCheck setup.now.board side }
 {
-    king_attacked(setup.board(), side, setup.king(side))
+    attacked(setup, setup.king(side), opponent_of(side))
 }
 
 /// Whether the side that isn't to move isn't in check: then the setup can have come about by a legal move.

@@ -9,15 +9,17 @@ ghost use Rattle.pb_moves.specs.Attack.{InCheck};
 ghost use Rattle.pb_moves.specs.Candidate.{HoldsOwn};
 ghost use Rattle.pb_moves.specs.Cases.{CaseOf, Legal};
 ghost use Rattle.pb_moves.specs.Change.{Finds, LeadsTo};
+ghost use Rattle.pb_moves.specs.declared.change.Change.TheVariants.{Carry};
 ghost use Rattle.pb_moves.specs.Outcome.{IsOutcome, IsUnpinned};
 
-use crate::board::Board;
+use crate::board::{Board, opponent_of};
 use crate::cases::{en_passant, pawn_capture, pawn_double, pawn_step, piece_move};
 use crate::castling::castles;
 use crate::change::Change;
 use crate::check::king_attacked;
 use crate::line::line_between;
 use crate::moves::Move;
+use crate::sight::{carried_sight, is_attacked, sight_of};
 use pb_board::{Kind, Piece, Setup, Square};
 
 /// The piece of the side to move that stands there.
@@ -125,6 +127,21 @@ fn is_unpinned(setup: &Setup, from: Square, piece: Piece) -> bool
     piece.kind != Kind::King && line_between(from, king).is_none()
 }
 
+/// Whether the mover's king is safe after a move that puts a piece in the place of what stood on a square. No board is made.
+#[inline(always)]
+pub(crate) fn is_safe(setup: &Setup, m: Move, piece: Piece, arriving: Piece) -> bool
+    requires own { HoldsOwn setup.now m.from piece }
+    requires leads { LeadsTo (CaseOf setup.now m piece) setup.now.board m (Carry arriving) }
+    ensures { IsTrue result ↔ Legal setup.now m }
+{
+    let (from, to) = (m.from(), m.to());
+    let side = setup.turn();
+    let enemy = opponent_of(side);
+    let king = king_after(setup, m, piece);
+    let seen = carried_sight(sight_of(setup, enemy), from, to);
+    !is_attacked(&seen, king, enemy)
+}
+
 /// Whether the move of this piece is legal. `checked` is false only where the mover isn't in check: then most moves need
 /// no test of check.
 pub(crate) fn is_legal_for(setup: &Setup, m: Move, piece: Piece, checked: bool) -> bool
@@ -134,6 +151,7 @@ pub(crate) fn is_legal_for(setup: &Setup, m: Move, piece: Piece, checked: bool) 
 {
     match change_of(setup, m, piece) {
         Some(Change::Carry(_)) if !checked && is_unpinned(setup, m.from(), piece) => true,
+        Some(Change::Carry(arriving)) => is_safe(setup, m, piece, arriving),
         Some(change) => {
             let mut board = *setup.board();
             make(setup, m, piece, change, &mut board).is_some()

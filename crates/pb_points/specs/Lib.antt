@@ -1,6 +1,7 @@
+pub mod BagTally
 pub mod Group
 pub mod ListTally
-pub mod MapTally
+pub mod PartTally
 pub mod Rows
 pub mod Tally
 pub mod Weight

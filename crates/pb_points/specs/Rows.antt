@@ -17,6 +17,10 @@ same_pair r s = is_row r.key r.code s
 abbrev pub IsBelow : Row → Row → Type 0
 IsBelow r s = (r.key < s.key) ⊎ ((r.key ≡ s.key) × (r.code < s.code))
 
+-- the row doesn't come after the other
+abbrev pub IsUpTo : Row → Row → Type 0
+IsUpTo r s = IsBelow r s ⊎ ((r.key ≡ s.key) × (r.code ≡ s.code))
+
 -- the row at a place
 abbrev pub row_at : List Row → ℕ → Row
 row_at rows i = slice_index_or rows i (record { key = 0; code = 0; points = 0 })

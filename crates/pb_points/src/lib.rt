@@ -1,16 +1,20 @@
 //! Points of moves under keys, kept as games arrive, and the weights and entries that are made of them.
 #![tactic(auto)]
 
+mod bag_tally;
 mod book;
 mod list_tally;
 mod map_tally;
+mod part_tally;
 mod row;
 mod tally;
 mod weight;
 
+pub use bag_tally::BagTally;
 pub use book::book_of;
 pub use list_tally::ListTally;
 pub use map_tally::MapTally;
+pub use part_tally::PartTally;
 pub use row::Row;
 pub use tally::Tally;
 pub use weight::scale;

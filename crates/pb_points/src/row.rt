@@ -1,8 +1,7 @@
 //! Rows of points, and their order.
 
 ghost use Rattle.std.specs.Prelude.{AllPairs, IsPermutation};
-ghost use Rattle.std.specs.List.{IsDistinct};
-ghost use Rattle.pb_points.specs.Rows.{IsBelow, same_pair};
+ghost use Rattle.pb_points.specs.Rows.{IsUpTo};
 
 /// The points of one move under one key.
 #[derive(Clone, Copy, Debug, PartialEq, Eq)]
@@ -17,8 +16,7 @@ pub struct Row {
 
 /// Puts the rows in order of key and then code.
 pub(crate) fn sort_rows(rows: &mut Vec<Row>)
-    requires { IsDistinct same_pair rows.old.items }
-    ensures sorted { AllPairs IsBelow rows.new.items }
+    ensures sorted { AllPairs IsUpTo rows.new.items }
     ensures permutation { IsPermutation rows.old.items rows.new.items }
 {
     rows.sort_unstable_by_key(|row| (row.key, row.code));

@@ -4,6 +4,7 @@ use Rattle.pb_ledger.specs.Collecting.{CollectsUntil}
 use Rattle.pb_cli.specs.CollectRun.{at_book, at_submissions, at_table}
 use Rattle.pb_cli.proofs.CollectRuns.{collected, made_book, put_refused, refused_fails, refused_put, tells_book, tells_refused}
 use Rattle.pb_cli.proofs.Effects.{has_one_effect}
+use Rattle.pb_cli.proofs.Headlines.{has_headline}
 use Rattle.pb_cli.proofs.collect.run_collect.Goals as goal
 
 pub returns-in_err-refuse_table-in-Err-clause-fault : goal.returns-in_err-refuse_table-in-Err-clause-fault
@@ -55,3 +56,9 @@ returns-clause-one_effect g c =
     let t = g.T.Source.state in let s = g.S.Source.state in let k = g.K.Sink.state in
     has_one_effect c.args.fills (t c.args.table_source.now) (t c.take_table.new.source) (s c.args.source.now) (s c.collect.new.source) (k c.args.sink.now) (k c.collect.new.sink) c.in-Ok-make_book.book
     c.entries.ensures.ordered c.entries.ensures.bounds (returns-clause-book g c)
+
+pub returns-clause-headline : goal.returns-clause-headline
+returns-clause-headline g c =
+    let t = g.T.Source.state in let s = g.S.Source.state in let k = g.K.Sink.state in
+    has_headline c.args.fills (t c.args.table_source.now) (t c.take_table.new.source) (s c.args.source.now) (s c.collect.new.source) (k c.args.sink.now) (k c.collect.new.sink) c.in-Ok-make_book.book
+    (returns-clause-book g c)

@@ -1,7 +1,7 @@
 use Rattle.std.proofs.Common.{rules, ℕ, ◌≡◌}
 use Rattle.std.proofs.lemmas.List.Sorted.{answers_always}
 use Rattle.pb_points.specs.declared.row.Row.{Row}
-use Rattle.pb_points.proofs.Pairs.{sorted_below}
+use Rattle.pb_points.proofs.Pairs.{sorted_up_to}
 use Rattle.pb_points.proofs.row.sort_rows.Goals as goal
 
 abbrev sort_key : Row → ℕ × ℕ
@@ -9,6 +9,5 @@ sort_key r = (r.key, r.code)
 
 pub returns-clause-sorted : goal.returns-clause-sorted
 returns-clause-sorted c =
-    let sort = c.sort_unstable_by_key in
-    sorted_below c.args.rows.now.items sort.new.self.items c.requires sort.ensures.permutation
-    (sort.ensures.sorted sort_key (answers_always _ (λ a r. r ≡ sort_key a.0.now) _ (λ f a r g q. search rules)))
+    sorted_up_to c.sort_unstable_by_key.new.self.items
+    (c.sort_unstable_by_key.ensures.sorted sort_key (answers_always _ (λ a r. r ≡ sort_key a.0.now) _ (λ f a r g q. search rules)))

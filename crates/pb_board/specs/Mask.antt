@@ -1,0 +1,48 @@
+-- Sets of squares as numbers, kept beside the board: bit i stands for the square of index i.
+use Rattle.std.specs.Prelude.{ℕ, ◌+◌, ◌*◌, Bool, true, false, ◌==◌, List, [], ◌∷◌, Some, None}
+use Rattle.pb_board.specs.declared.piece.Colour.{Colour}
+use Rattle.pb_board.specs.declared.piece.Colour.TheVariants.{White, Black}
+use Rattle.pb_board.specs.declared.piece.Kind.{Kind}
+use Rattle.pb_board.specs.declared.piece.Kind.TheVariants.{Pawn, Knight, Bishop, Rook, Queen, King}
+use Rattle.pb_board.specs.declared.masks.Masks.{Masks}
+use Rattle.pb_board.specs.Piece.{is_same}
+use Rattle.pb_board.specs.Board.{Place, Board}
+
+abbrev pub colour_number : Colour → ℕ
+colour_number White = 0
+colour_number Black = 1
+
+abbrev pub kind_number : Kind → ℕ
+kind_number Pawn = 0
+kind_number Knight = 1
+kind_number Bishop = 2
+kind_number Rook = 3
+kind_number Queen = 4
+kind_number King = 5
+
+-- a piece of this side stands there
+abbrev pub is_side : Colour → Place → Bool
+is_side side None = false
+is_side side (Some piece) = is_same piece.colour side
+
+-- a piece of this kind stands there
+abbrev pub is_kind : Kind → Place → Bool
+is_kind k None = false
+is_kind k (Some piece) = kind_number piece.kind == kind_number k
+
+abbrev pub bit_for : Bool → ℕ
+bit_for true = 1
+bit_for false = 0
+
+-- the squares whose places pass the test
+unfoldable pub mask_of : (Place → Bool) → Board → ℕ
+mask_of test [] = 0
+mask_of test (place ∷ rest) = bit_for (test place) + 2 * mask_of test rest
+
+-- the squares of each side's pieces, and of each kind's
+unfoldable pub masks_of : Board → Masks
+masks_of board = record {
+  sides = mask_of (is_side White) board ∷ mask_of (is_side Black) board ∷ [];
+  kinds = mask_of (is_kind Pawn) board ∷ mask_of (is_kind Knight) board ∷ mask_of (is_kind Bishop) board
+      ∷ mask_of (is_kind Rook) board ∷ mask_of (is_kind Queen) board ∷ mask_of (is_kind King) board ∷ [];
+}

@@ -1,0 +1,263 @@
+-- Attacks, told by sets of squares.
+use Rattle.std.proofs.Common.{◌≡◌, ◌≢◌, ℕ, ◌+◌, ◌*◌, ◌%◌, ◌^◌, w64, ◌<◌, ◌⊎◌, ◌↔◌, max, arith, refl, sym, ap, subst, ◌∙◌, inl, inr, bit_and, bit_or, Option, Some, None, length}
+use Rattle.pb_board.specs.declared.piece.Colour.{Colour}
+use Rattle.pb_board.specs.declared.piece.Kind.{Kind}
+use Rattle.pb_board.specs.declared.piece.Kind.TheVariants.{Pawn, Knight, Bishop, Rook, Queen, King}
+use Rattle.pb_board.specs.declared.piece.Piece.{Piece}
+use Rattle.pb_board.specs.Board.{Board, at, Holds, IsEmpty, file, rank}
+use Rattle.pb_moves.specs.declared.direction.Direction.{Direction}
+use Rattle.pb_moves.specs.declared.sight.Sight.{Sight}
+use Rattle.pb_moves.specs.Attack.{StepsFrom, EmptyBelow, Clear, ReachesBy, IsAttacked, IsKnightsMove, IsDiagonal, IsStraight, files_apart, ranks_apart}
+use mir.Val.{bits}
+use Rattle.std.proofs.lemmas.Nat.{and_le_l, or_lt}
+use Rattle.std.proofs.lemmas.Nat.Bits.{bit_at_set_same, bit_at_set_other}
+use Rattle.pb_moves.specs.Cases.{Carried}
+use Rattle.pb_moves.proofs.Rising.{without, without_other, without_same}
+use Rattle.pb_moves.proofs.Unique.{same_or_not}
+use Rattle.pb_moves.specs.Sight.{AreOf, AreOfEither, IsTaken, In, Open, Sees, SlidesStraight, SlidesDiagonally, StrikesFrom, piece_of}
+use Rattle.pb_moves.proofs.Rays.{clear_back, holds_on_board}
+use Rattle.pb_moves.proofs.Striking.{empty_by_clear, lies_by_clear, piece_is}
+use Rattle.pb_moves.proofs.Sets.{in_and, in_both, in_or, in_first, in_second}
+
+pub empty_or_not : (x : Option Piece) → (x ≡ None) ⊎ ¬ (x ≡ None)
+empty_or_not None = inl refl
+empty_or_not (Some p) = inr (λ e. cc)
+
+pub straight_sym : (a b : ℕ) → IsStraight a b → IsStraight b a
+straight_sym a b (inl s) = inl (omega arith, omega arith)
+straight_sym a b (inr s) = inr (omega arith, omega arith)
+
+pub diagonal_sym : (a b : ℕ) → IsDiagonal a b → IsDiagonal b a
+diagonal_sym a b s = (omega arith, omega arith)
+
+-- where nothing of the set stands between, the squares between are empty
+pub clear_if_open : (b : Board) (occ to from : ℕ) → IsTaken occ b → Open occ to from → Clear b from to
+clear_if_open b occ to from taken way =
+    clear_back b way.direction way.steps to from way.reaches (λ k c lo hi on at_c.
+    elim (empty_or_not (at b c)) [
+      | inl e ↦ e
+      | inr stands ↦ absurd (way.free k c lo hi on at_c ((taken c on).1 stands))
+    ])
+
+pub open_if_clear : (b : Board) (occ to from : ℕ) → IsTaken occ b → from ≢ to → Clear b from to → Open occ to from
+open_if_clear b occ to from taken ne clear =
+    let lies = lies_by_clear b from to ne clear in
+    let empty = empty_by_clear b lies.0 lies.1 from to lies.2 lies.3 clear in
+    record {
+      direction = lies.0;
+      steps = lies.1;
+      some = lies.2;
+      reaches = lies.3;
+      free = λ k c lo hi on at_c inside. (taken c on).0 inside (empty k c lo hi on at_c);
+    }
+
+clear_by_open : (b : Board) (side : Colour) (sight : Sight) (to from : ℕ) → Sees b side sight → Open sight.occupied to from → Clear b from to
+clear_by_open b side sight to from sees way = clear_if_open b sight.occupied to from sees.occupied way
+
+open_by_clear : (b : Board) (side : Colour) (sight : Sight) (to from : ℕ) → Sees b side sight → from ≢ to → Clear b from to → Open sight.occupied to from
+open_by_clear b side sight to from sees ne clear = open_if_clear b sight.occupied to from sees.occupied ne clear
+
+-- what the code looks at: the attackers next to the square, and those along its lines
+abbrev pub AnySees : ℕ → Sight → ℕ → Type 0
+AnySees near sight square =
+    ((a : ℕ) × (a < 64) × In near a) ⊎ (SlidesStraight sight.occupied sight.straight square ⊎ SlidesDiagonally sight.occupied sight.diagonal square)
+
+abbrev pub near_of : ℕ → ℕ → ℕ → Sight → ℕ
+near_of p n k sight = bit_or (bit_or (bit_and p sight.pawns) (bit_and n sight.knights)) (bit_and k sight.kings)
+
+pub attack_by : (b : Board) (side : Colour) (kind : Kind) (a square : ℕ) → Holds b a (piece_of side kind) → ReachesBy side kind b a square → IsAttacked b side square
+attack_by b side kind a square stands reaches = (a, record { piece = piece_of side kind; stands = stands; of_side = refl; reaches = reaches })
+
+pub near_attacks : (b : Board) (side : Colour) (sight : Sight) (square p n k a : ℕ) → Sees b side sight
+    → ((q : ℕ) → q < 64 → (In p q ↔ StrikesFrom side q square)) → ((q : ℕ) → q < 64 → (In n q ↔ IsKnightsMove q square))
+    → ((q : ℕ) → q < 64 → (In k q ↔ (max (files_apart q square) (ranks_apart q square) ≡ 1)))
+    → a < 64 → In (near_of p n k sight) a → IsAttacked b side square
+near_attacks b side sight square p n k a sees fp fn fk on inside =
+    elim (in_or (bit_or (bit_and p sight.pawns) (bit_and n sight.knights)) (bit_and k sight.kings) a inside) [
+      | inl h ↦ elim (in_or (bit_and p sight.pawns) (bit_and n sight.knights) a h) [
+        | inl x ↦ (let w = in_and p sight.pawns a x in attack_by b side Pawn a square ((sees.pawns a on).0 w.1) ((fp a on).0 w.0))
+        | inr x ↦ (let w = in_and n sight.knights a x in attack_by b side Knight a square ((sees.knights a on).0 w.1) ((fn a on).0 w.0))
+      ]
+      | inr x ↦ (let w = in_and k sight.kings a x in attack_by b side King a square ((sees.kings a on).0 w.1) ((fk a on).0 w.0))
+    ]
+
+pub straight_attacks : (b : Board) (side : Colour) (sight : Sight) (square : ℕ) → Sees b side sight → SlidesStraight sight.occupied sight.straight square → IsAttacked b side square
+straight_attacks b side sight square sees s =
+    let clear = clear_by_open b side sight square s.from sees s.way in
+    let line = straight_sym square s.from s.line in
+    elim ((sees.straight s.from s.on_board).0 s.stands) [
+      | inl rook ↦ attack_by b side Rook s.from square rook (line, clear)
+      | inr queen ↦ attack_by b side Queen s.from square queen (inr line, clear)
+    ]
+
+pub diagonal_attacks : (b : Board) (side : Colour) (sight : Sight) (square : ℕ) → Sees b side sight → SlidesDiagonally sight.occupied sight.diagonal square → IsAttacked b side square
+diagonal_attacks b side sight square sees s =
+    let clear = clear_by_open b side sight square s.from sees s.way in
+    let line = diagonal_sym square s.from s.line in
+    elim ((sees.diagonal s.from s.on_board).0 s.stands) [
+      | inl bishop ↦ attack_by b side Bishop s.from square bishop (line, clear)
+      | inr queen ↦ attack_by b side Queen s.from square queen (inl line, clear)
+    ]
+
+pub straight_differ : (a b : ℕ) → IsStraight a b → a ≢ b
+straight_differ a b (inl s) e = omega arith
+straight_differ a b (inr s) e = omega arith
+
+pub diagonal_differ : (a b : ℕ) → IsDiagonal a b → a ≢ b
+diagonal_differ a b s e = omega arith
+
+slides_by_straight : (b : Board) (side : Colour) (sight : Sight) (square a : ℕ) → Sees b side sight → a < 64 → In sight.straight a → IsStraight a square → Clear b a square
+    → SlidesStraight sight.occupied sight.straight square
+slides_by_straight b side sight square a sees on inside line clear = record {
+  from = a;
+  on_board = on;
+  stands = inside;
+  line = straight_sym a square line;
+  way = open_by_clear b side sight square a sees (straight_differ a square line) clear;
+}
+
+slides_by_diagonal : (b : Board) (side : Colour) (sight : Sight) (square a : ℕ) → Sees b side sight → a < 64 → In sight.diagonal a → IsDiagonal a square → Clear b a square
+    → SlidesDiagonally sight.occupied sight.diagonal square
+slides_by_diagonal b side sight square a sees on inside line clear = record {
+  from = a;
+  on_board = on;
+  stands = inside;
+  line = diagonal_sym a square line;
+  way = open_by_clear b side sight square a sees (diagonal_differ a square line) clear;
+}
+
+-- each attacker is seen
+pub seen_kind : (b : Board) (side : Colour) (kind : Kind) (sight : Sight) (square p n k a : ℕ) → Sees b side sight
+    → ((q : ℕ) → q < 64 → (In p q ↔ StrikesFrom side q square)) → ((q : ℕ) → q < 64 → (In n q ↔ IsKnightsMove q square))
+    → ((q : ℕ) → q < 64 → (In k q ↔ (max (files_apart q square) (ranks_apart q square) ≡ 1)))
+    → a < 64 → Holds b a (piece_of side kind) → ReachesBy side kind b a square → AnySees (near_of p n k sight) sight square
+seen_kind b side Pawn sight square p n k a sees fp fn fk on stands r =
+    inl (a, on, in_first _ _ a (in_first _ _ a (in_both p sight.pawns a ((fp a on).1 r) ((sees.pawns a on).1 stands))))
+seen_kind b side Knight sight square p n k a sees fp fn fk on stands r =
+    inl (a, on, in_first _ _ a (in_second _ _ a (in_both n sight.knights a ((fn a on).1 r) ((sees.knights a on).1 stands))))
+seen_kind b side King sight square p n k a sees fp fn fk on stands r =
+    inl (a, on, in_second _ _ a (in_both k sight.kings a ((fk a on).1 r) ((sees.kings a on).1 stands)))
+seen_kind b side Rook sight square p n k a sees fp fn fk on stands r =
+    inr (inl (slides_by_straight b side sight square a sees on ((sees.straight a on).1 (inl stands)) r.0 r.1))
+seen_kind b side Bishop sight square p n k a sees fp fn fk on stands r =
+    inr (inr (slides_by_diagonal b side sight square a sees on ((sees.diagonal a on).1 (inl stands)) r.0 r.1))
+seen_kind b side Queen sight square p n k a sees fp fn fk on stands r =
+    elim r.0 [
+      | inl line ↦ inr (inr (slides_by_diagonal b side sight square a sees on ((sees.diagonal a on).1 (inr stands)) line r.1))
+      | inr line ↦ inr (inl (slides_by_straight b side sight square a sees on ((sees.straight a on).1 (inr stands)) line r.1))
+    ]
+
+pub seen_attack : (b : Board) (side : Colour) (sight : Sight) (square p n k : ℕ) → Sees b side sight
+    → ((q : ℕ) → q < 64 → (In p q ↔ StrikesFrom side q square)) → ((q : ℕ) → q < 64 → (In n q ↔ IsKnightsMove q square))
+    → ((q : ℕ) → q < 64 → (In k q ↔ (max (files_apart q square) (ranks_apart q square) ≡ 1)))
+    → IsAttacked b side square → AnySees (near_of p n k sight) sight square
+seen_attack b side sight square p n k sees fp fn fk attack =
+    let a = attack.0 in
+    let q = attack.1.piece in
+    let on = holds_on_board b a q sees.full attack.1.stands in
+    let H : Piece → Type 0 = λ x. Holds b a x in
+    let stands = subst H (piece_is q side q.kind attack.1.of_side refl) attack.1.stands in
+    let R : Colour → Type 0 = λ x. ReachesBy x q.kind b a square in
+    let reaches = subst R attack.1.of_side attack.1.reaches in
+    seen_kind b side q.kind sight square p n k a sees fp fn fk on stands reaches
+
+pub near_small : (p n k : ℕ) (sight : Sight) → p < 2 ^ 64 → n < 2 ^ 64 → k < 2 ^ 64 → near_of p n k sight < 2 ^ 64
+near_small p n k sight sp sn sk =
+    let a = and_le_l p sight.pawns in
+    let b = and_le_l n sight.knights in
+    let c = and_le_l k sight.kings in
+    let x : bit_and p sight.pawns < 2 ^ 64 = omega arith in
+    let y : bit_and n sight.knights < 2 ^ 64 = omega arith in
+    let z : bit_and k sight.kings < 2 ^ 64 = omega arith in
+    or_lt 64 (bit_or (bit_and p sight.pawns) (bit_and n sight.knights)) (bit_and k sight.kings) (or_lt 64 (bit_and p sight.pawns) (bit_and n sight.knights) x y) z
+
+-- a set tells the places of a board that have a property
+abbrev pub Tells : ℕ → Board → (Option Piece → Type 0) → Type 0
+Tells mask board F = (q : ℕ) → q < 64 → (In mask q → F (at board q)) × (F (at board q) → In mask q)
+
+-- after a piece of the other side was carried, the sets without the square that it reaches
+pub tells_carried : (mask : ℕ) (old new : Board) (F : Option Piece → Type 0) (by : Colour) (from to : ℕ) (piece own : Piece)
+    → (F None → ⊥) → ((p : Piece) → F (Some p) → p.colour ≡ by) → Tells mask old F → Carried old new from to piece → piece.colour ≢ by → Holds old from own → own.colour ≢ by → to < 64
+    → Tells (without mask to) new F
+tells_carried mask old new F by from to piece own none side tells moved other stands enemy on q in_q =
+    elim (same_or_not q to) [
+      | inl e ↦
+          (let P : ℕ → Type 0 = λ x. (In (without mask to) x → F (at new x)) × (F (at new x) → In (without mask to) x) in
+          subst P (sym e) (
+            λ h. absurd (let gone = without_same mask to on in omega arith),
+            λ h. absurd (other (side piece (subst F moved.arrived h))),
+          ))
+      | inr t ↦
+          (let kept = without_other mask to q on in_q t in
+          elim (same_or_not q from) [
+            | inl e ↦
+                (let P : ℕ → Type 0 = λ x. F (at old x) in
+                let N : ℕ → Type 0 = λ x. F (at new x) in (
+                  λ h. absurd (enemy (side own (subst F stands (subst P e ((tells q in_q).0 (sym kept ∙ h)))))),
+                  λ h. absurd (none (subst F moved.left (subst N e h))),
+                ))
+            | inr f ↦
+                (let same = moved.others q f t in (
+                  λ h. subst F (sym same) ((tells q in_q).0 (sym kept ∙ h)),
+                  λ h. kept ∙ (tells q in_q).1 (subst F same h),
+                ))
+          ])
+    ]
+
+-- the same of what is taken
+pub taken_carried : (mask : ℕ) (old new : Board) (from to : ℕ) (piece : Piece) → IsTaken mask old → Carried old new from to piece → from < 64 → to < 64 → from ≢ to
+    → IsTaken (bit_or (without mask from) (1 * 2 ^ to % 2 ^ bits w64)) new
+taken_carried mask old new from to piece taken moved on_from on ne q in_q =
+    elim (same_or_not q to) [
+      | inl e ↦
+          (let P : ℕ → Type 0 = λ x. (In (bit_or (without mask from) (1 * 2 ^ to % 2 ^ bits w64)) x → ¬ IsEmpty new x) × (¬ IsEmpty new x → In (bit_or (without mask from) (1 * 2 ^ to % 2 ^ bits w64)) x) in
+          subst P (sym e) ((λ h empty. absurd (cc (moved.arrived, empty))), (λ h. bit_at_set_same w64 (without mask from) to on)))
+      | inr t ↦
+          (let set = bit_at_set_other w64 (without mask from) to on q t in
+          elim (same_or_not q from) [
+            | inl e ↦
+                (let P : ℕ → Type 0 = λ x. (In (without mask from) x → ⊥) × IsEmpty new x in
+                let gone = without_same mask from on_from in
+                let shut : (In (without mask from) from → ⊥) × IsEmpty new from = ((λ h. omega arith), moved.left) in
+                let both = subst P (sym e) shut in
+                ((λ h. absurd (both.0 (sym set ∙ h))), (λ h. absurd (h both.1))))
+            | inr f ↦
+                (let kept = without_other mask from q on_from in_q f in
+                let same = moved.others q f t in (
+                  λ h empty. (taken q in_q).0 (sym kept ∙ (sym set ∙ h)) (sym same ∙ empty),
+                  λ h. set ∙ (kept ∙ (taken q in_q).1 (λ empty. h (same ∙ empty))),
+                ))
+          ])
+    ]
+
+-- what is seen after the move, as the code computes it
+abbrev pub carried_sight : Sight → ℕ → ℕ → Sight
+carried_sight s from to = record {
+  occupied = bit_or (without s.occupied from) (1 * 2 ^ to % 2 ^ bits w64);
+  pawns = without s.pawns to;
+  knights = without s.knights to;
+  kings = without s.kings to;
+  straight = without s.straight to;
+  diagonal = without s.diagonal to;
+}
+
+some_side : (p : Piece) (side : Colour) (kind : Kind) → Some p ≡ Some (piece_of side kind) → p.colour ≡ side
+some_side p side k e = cc
+
+pub sees_carried : (old new : Board) (by : Colour) (sight : Sight) (from to : ℕ) (piece own : Piece) → Sees old by sight → Carried old new from to piece
+    → piece.colour ≢ by → Holds old from own → own.colour ≢ by → from < 64 → to < 64 → from ≢ to → Sees new by (carried_sight sight from to)
+sees_carried old new by sight from to piece own sees moved other stands enemy on_from on ne =
+    let one = λ (mask : ℕ) (kind : Kind) (tells : AreOf mask old by kind).
+    tells_carried mask old new (λ x. x ≡ Some (piece_of by kind)) by from to piece own (λ e. absurd cc) (λ p e. some_side p by kind e) tells moved other stands enemy on in
+    let either = λ (mask : ℕ) (kind second : Kind) (tells : AreOfEither mask old by kind second).
+    tells_carried mask old new (λ x. (x ≡ Some (piece_of by kind)) ⊎ (x ≡ Some (piece_of by second))) by from to piece own (λ e. elim e [ inl a ↦ absurd cc | inr a ↦ absurd cc ])
+    (λ p e. elim e [ inl a ↦ some_side p by kind a | inr a ↦ some_side p by second a ]) tells moved other stands enemy on in
+    record {
+      full = moved.squares;
+      occupied = taken_carried sight.occupied old new from to piece sees.occupied moved on_from on ne;
+      pawns = one sight.pawns Pawn sees.pawns;
+      knights = one sight.knights Knight sees.knights;
+      kings = one sight.kings King sees.kings;
+      straight = either sight.straight Rook Queen sees.straight;
+      diagonal = either sight.diagonal Bishop Queen sees.diagonal;
+    }

@@ -1,0 +1,11 @@
+use Rattle.pb_moves.specs.Sight.{IsTaken}
+use Rattle.pb_moves.proofs.Seen.{clear_if_open, open_if_clear, diagonal_differ}
+use Rattle.pb_moves.proofs.attack.clear_diagonal.Goals as goal
+
+pub returns : goal.returns
+returns c =
+    let b = c.args.setup.now.board in
+    let taken : IsTaken c.occupied.result c.args.setup.now.board = λ q on. c.occupied.ensures q in (
+      λ h. clear_if_open b c.occupied.result c.args.to c.args.from taken (c.diagonal_way.ensures.0 h),
+      λ clear. c.diagonal_way.ensures.1 (open_if_clear b c.occupied.result c.args.to c.args.from taken (diagonal_differ c.args.from c.args.to c.requires) clear),
+    )

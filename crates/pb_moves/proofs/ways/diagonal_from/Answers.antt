@@ -1,0 +1,12 @@
+use Rattle.std.proofs.Common.{ℕ, ◌≡◌, ◌↔◌, subst, get_or}
+use Rattle.std.specs.Int.{bit_at}
+use Rattle.pb_board.specs.declared.piece.Colour.TheVariants.{White}
+use Rattle.pb_moves.specs.declared.piece_targets.TheConstants.{BISHOP}
+use Rattle.pb_moves.specs.Attack.{IsDiagonal}
+use Rattle.pb_moves.proofs.Targets.{bishop_bit}
+use Rattle.pb_moves.proofs.ways.diagonal_from.Goals as goal
+
+pub returns-clause-lines : goal.returns-clause-lines
+returns-clause-lines c = λ q on.
+    let P : ℕ → Type 0 = λ s. (bit_at (get_or BISHOP c.index.result 0) q ≡ 1) ↔ IsDiagonal s q in
+    subst P c.index.ensures.value (bishop_bit White c.index.result q c.index.ensures.below on)

@@ -1,0 +1,107 @@
+//! What is seen of a board in sets of squares.
+
+ghost use Rattle.std.specs.Prelude.{◌≡◌, ◌≢◌, ℕ, ◌<◌, ◌↔◌, IsTrue, max};
+ghost use Rattle.pb_board.specs.Board.{Board, Holds};
+ghost use Rattle.pb_board.specs.declared.piece.Colour.{Colour};
+ghost use Rattle.pb_board.specs.declared.piece.Piece.{Piece};
+ghost use Rattle.pb_moves.specs.Cases.{Carried};
+ghost use Rattle.pb_moves.specs.Attack.{IsAttacked, IsKnightsMove, files_apart, ranks_apart};
+ghost use Rattle.pb_moves.specs.Sight.{In, Sees, StrikesFrom};
+
+use crate::near_targets::{BLACK_STRIKES, NEAR, WHITE_STRIKES};
+use crate::piece_targets::KNIGHT;
+use crate::ways::{slides_diagonally, slides_straight};
+use pb_board::{Colour, Kind, Piece, Setup, Square};
+
+/// What is taken, and where the attackers of one side stand: bit `i` stands for the square of index `i`.
+#[derive(Clone, Copy)]
+pub(crate) struct Sight {
+    pub(crate) occupied: u64,
+    pub(crate) pawns: u64,
+    pub(crate) knights: u64,
+    pub(crate) kings: u64,
+    pub(crate) straight: u64,
+    pub(crate) diagonal: u64,
+}
+
+/// What is seen of the setup's board, with the attackers of this side.
+#[inline(always)]
+pub(crate) fn sight_of(setup: &Setup, colour: Colour) -> Sight
+    ensures { Sees setup.now.board colour result }
+{
+    // The reader tells that the setup meets its rules.
+    let _turn = setup.turn();
+    let queens = setup.standing(Piece { colour, kind: Kind::Queen });
+    Sight {
+        occupied: setup.occupied(),
+        pawns: setup.standing(Piece { colour, kind: Kind::Pawn }),
+        knights: setup.standing(Piece { colour, kind: Kind::Knight }),
+        kings: setup.standing(Piece { colour, kind: Kind::King }),
+        straight: setup.standing(Piece { colour, kind: Kind::Rook }) | queens,
+        diagonal: setup.standing(Piece { colour, kind: Kind::Bishop }) | queens,
+    }
+}
+
+/// The squares from which a pawn of this colour attacks the square.
+#[inline(always)]
+fn pawns_from(colour: Colour, square: Square) -> u64
+    ensures { (a : ℕ) → a < 64 → (In result a ↔ StrikesFrom colour a square) }
+{
+    match colour {
+        Colour::White => BLACK_STRIKES[square.index() as usize],
+        Colour::Black => WHITE_STRIKES[square.index() as usize],
+    }
+}
+
+/// The squares from which a knight attacks the square.
+#[inline(always)]
+fn knights_from(square: Square) -> u64
+    ensures moves { (a : ℕ) → a < 64 → (In result a ↔ IsKnightsMove a square) }
+    ensures on_board { square < 64 }
+{
+    KNIGHT[square.index() as usize]
+}
+
+/// The squares from which a king attacks the square.
+#[inline(always)]
+fn kings_from(square: Square) -> u64
+    ensures { (a : ℕ) → a < 64 → (In result a ↔ (max (files_apart a square) (ranks_apart a square) ≡ 1)) }
+{
+    NEAR[square.index() as usize]
+}
+
+/// Whether some piece of the side attacks the square.
+#[inline(always)]
+pub(crate) fn is_attacked(sight: &Sight, square: Square, by: Colour) -> bool
+    ensures { (b : Board) → Sees b by sight.now → (IsTrue result ↔ IsAttacked b by square) }
+{
+    let near = pawns_from(by, square) & sight.pawns
+        | knights_from(square) & sight.knights
+        | kings_from(square) & sight.kings;
+    if near != 0 {
+        return true;
+    }
+    if slides_straight(sight.occupied, sight.straight, square) {
+        return true;
+    }
+    slides_diagonally(sight.occupied, sight.diagonal, square)
+}
+
+/// What is seen after a piece of the other side has gone from one square to another, in the place of what stood there.
+#[inline(always)]
+pub(crate) fn carried_sight(sight: Sight, from: Square, to: Square) -> Sight
+    requires { ¬ (from ≡ to) }
+    ensures { (old new : Board) (by : Colour) (piece own : Piece) → Sees old by sight → Carried old new from to piece
+        → piece.colour ≢ by → Holds old from own → own.colour ≢ by → Sees new by result }
+{
+    let left = !(1u64 << from.index());
+    let reached = 1u64 << to.index();
+    Sight {
+        occupied: sight.occupied & left | reached,
+        pawns: sight.pawns & !reached,
+        knights: sight.knights & !reached,
+        kings: sight.kings & !reached,
+        straight: sight.straight & !reached,
+        diagonal: sight.diagonal & !reached,
+    }
+}

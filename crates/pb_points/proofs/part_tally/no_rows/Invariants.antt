@@ -1,0 +1,6 @@
+use Rattle.std.proofs.Common.{◌≡◌, length}
+use Rattle.pb_points.specs.PartTally.{HoldNothing}
+use Rattle.pb_points.proofs.part_tally.no_rows.Given as goal
+
+abbrev pub invariant-loop : goal.invariant-loop
+invariant-loop g l = record { count : length l.parts.items ≡ l.counter; nothing : HoldNothing g.T.Tally.content l.parts.items }

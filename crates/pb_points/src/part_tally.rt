@@ -1,0 +1,80 @@
+//! A tally of tallies.
+
+ghost use Rattle.std.specs.Prelude.{◌≡◌, ◌<◌, ◌≤◌, ◌^◌, IfOk, length};
+ghost use Rattle.pb_points.specs.PartTally.{HoldsOwn, HoldNothing, parts_content, part_of as part};
+
+use crate::row::Row;
+use crate::tally::Tally;
+use std::alloc::{AllocError, Global};
+
+/// How many parts there are, one for each value of the upper nine bits of a key.
+const PARTS: usize = 512;
+
+/// Points in parts by the upper bits of the key, each part a tally of its own, so that what is worked on is small and near. The
+/// parts are made when the first row is.
+#[derive(Drop)]
+pub struct PartTally<T: Tally> {
+    alloc: Global,
+    parts: Vec<T>,
+    ghost whole: { 0 < length parts.items → length parts.items ≡ 512 },
+    ghost own: { HoldsOwn T.content parts.items },
+}
+
+/// The part of a key.
+fn part_of(key: u64) -> usize
+    ensures { result ≡ part key }
+{
+    (key >> 55) as usize
+}
+
+/// A tally without rows for each part.
+fn no_rows<T: Tally>(alloc: Global) -> Result<Vec<T>, AllocError>
+    ensures whole { IfOk result (λ v. length v.items ≡ 512) }
+    ensures nothing { IfOk result (λ v. HoldNothing T.content v.items) }
+{
+    let mut parts = Vec::with_capacity(alloc, PARTS)?;
+    for _ in 0..PARTS {
+        parts.push(T::new(alloc))?;
+    }
+    Ok(parts)
+}
+
+impl<T: Tally> Tally for PartTally<T> {
+    ghost content = { λ t. parts_content T.content t.parts.items };
+
+    fn new(alloc: Global) -> PartTally<T> {
+        PartTally {
+            alloc,
+            parts: Vec::new(alloc),
+        }
+    }
+
+    fn ensure(&mut self, key: u64, code: u16) -> Result<(), AllocError> {
+        if self.parts.is_empty() {
+            self.parts = no_rows(self.alloc)?;
+        }
+        self.parts[part_of(key)].ensure(key, code)
+    }
+
+    fn add(&mut self, key: u64, code: u16, points: u64) {
+        if let Some(part) = self.parts.get_mut(part_of(key)) {
+            part.add(key, code, points);
+        }
+    }
+
+    fn points(&self, key: u64, code: u16) -> u64 {
+        match self.parts.get(part_of(key)) {
+            Some(part) => part.points(key, code),
+            None => 0,
+        }
+    }
+
+    fn rows(&self, alloc: Global) -> Result<Vec<Row>, AllocError> {
+        let mut rows = Vec::new(alloc);
+        for part in &self.parts {
+            let more = part.rows(alloc)?;
+            rows.extend_from_slice(&more)?;
+        }
+        Ok(rows)
+    }
+}
