@@ -51,7 +51,7 @@ none_illegal s [] n legal bad = bad
 none_illegal s (m ∷ ms) n legal bad =
     elim bad [ inl here ↦ here.1 legal.0 | inr later ↦ none_illegal (after s m) ms later.0 legal.1 later.3 ]
 
-pub spelt_from_moves : (ms : List Moved) → All IsMove ms → All IsSpelled (map spelling ms)
+spelt_from_moves : (ms : List Moved) → All IsMove ms → All IsSpelled (map spelling ms)
 spelt_from_moves ms h = All-map IsSpelled spelling ms (All-weaker IsMove (λ m. IsSpelled (spelling m)) (λ m is. (m, record { is_move = is; is = refl })) ms h)
 
 module _ (line : List ℕ) (s : Submission) (h : IsLawful line s) where

@@ -12,7 +12,6 @@ mod move_list;
 mod outcome;
 mod player;
 mod plies;
-mod record;
 mod refusal;
 mod repeat;
 mod words;

@@ -14,6 +14,17 @@ pub enum Outcome {
     Draw,
 }
 
+/// The text of a result.
+pub(crate) fn result_text(outcome: Outcome) -> &'static [u8]
+    ensures { result.now ≡ outcome_text outcome }
+{
+    match outcome {
+        Outcome::White => b"1-0",
+        Outcome::Black => b"0-1",
+        Outcome::Draw => b"1/2-1/2",
+    }
+}
+
 /// The outcome that a result's text names (PGN Standard 1994, section 8.1.1.7), if it names one.
 pub(crate) fn read_outcome(text: &[u8]) -> Option<Outcome>
     ensures { MatchOption result

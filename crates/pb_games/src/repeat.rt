@@ -1,38 +1,48 @@
 //! Whether a line repeats a game that is known to be legal.
 
 ghost use Rattle.std.specs.Prelude.{◌≡◌, ◌↔◌, IsTrue, map};
+ghost use Rattle.pb_board.specs.Fen.{FenText};
 ghost use Rattle.pb_moves.specs.Spelling.{spelling};
-ghost use Rattle.pb_games.specs.Header.{IsHeaderOf};
+ghost use Rattle.pb_games.specs.Repeat.{AreFieldsOf};
 ghost use Rattle.pb_games.specs.Submissions.{IsLawful, IsSubmission};
 ghost use Rattle.pb_games.specs.Words.{words_of};
 
+use crate::fields::{Fields, cut_fields};
 use crate::game::Game;
-use crate::header::{Header, read_header};
 use crate::id::Id;
-use crate::record::same_record;
+use crate::outcome::result_text;
 use crate::words::Words;
+use pb_board::Fen;
 use pb_moves::Move;
 
-/// Whether the line submits this game under this id. The game is known to be legal, so nothing is played. It takes no memory.
+/// Whether the line submits this game under this id. The game is known to be legal, so its text is compared and nothing is played. It
+/// takes no memory.
 pub fn repeats(line: &[u8], id: &Id, game: &Game) -> bool
     requires { IsSubmission (id.now, game.now) }
     ensures { IsTrue result ↔ IsLawful line.now (id.now, game.now) }
 {
-    match read_header(line) {
-        Ok(header) => is_header_of(&header, id, game),
-        Err(_) => false,
+    match cut_fields(line) {
+        Some(fields) => are_fields_of(&fields, id, game),
+        None => false,
     }
 }
 
-/// Whether the header has this id and the outcome and the start of the game, and whether its words spell the game's moves.
-fn is_header_of(header: &Header<'_>, id: &Id, game: &Game) -> bool
-    ensures { let h = header.now in
-        IsTrue result ↔ IsHeaderOf (id.now, game.now) h.id.now h.outcome h.start h.moves.now }
+/// Whether the fields are those of this id and this game.
+fn are_fields_of(fields: &Fields<'_>, id: &Id, game: &Game) -> bool
+    ensures { let f = fields.now in
+        IsTrue result ↔ AreFieldsOf (id.now, game.now) f.id.now f.outcome.now f.start.now f.moves.now }
 {
-    header.id == id.as_bytes()
-        && header.outcome == game.outcome
-        && same_record(&header.start, &game.start)
-        && spell(header.moves, game.moves.as_slice())
+    fields.id == id.as_bytes()
+        && fields.outcome == result_text(game.outcome)
+        && is_text_of(fields.start, &game.start)
+        && spell(fields.moves, game.moves.as_slice())
+}
+
+/// Whether the text is that of the record.
+fn is_text_of(text: &[u8], record: &Fen) -> bool
+    ensures { IsTrue result ↔ FenText record.now text.now }
+{
+    text == record.text().as_bytes()
 }
 
 /// Whether the words of a field are the spellings of these moves.

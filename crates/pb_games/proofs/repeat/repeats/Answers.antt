@@ -1,22 +1,22 @@
-use Rattle.std.proofs.Common.{sym, true≢false}
+use Rattle.std.proofs.Common.{ap, length, sym, true≢false}
 use Rattle.pb_games.specs.Submissions.{Submission}
-use Rattle.pb_games.proofs.Again.{again, header_again}
-use Rattle.pb_games.proofs.Refused.{unlawful}
+use Rattle.pb_games.proofs.Again.{again, fields_again}
+use Rattle.pb_games.proofs.Texts.{fields_back}
 use Rattle.pb_games.proofs.repeat.repeats.Goals as goal
 
-pub returns-in-Ok : goal.returns-in-Ok
-returns-in-Ok c =
+pub returns-in-Some : goal.returns-in-Some
+returns-in-Some c =
     let line = c.args.line.now in
-    let h = c.in-Ok.header in
+    let f = c.in-Some.fields in
     let s : Submission = (c.args.id.now, c.args.game.now) in
-    let found = c.in-Ok.ensures.found in
-    let is = c.is_header_of.ensures in
+    let cut = c.in-Some.ensures.cut in
+    let is = c.are_fields_of.ensures in
     (
-      λ t. again line h.id.now h.moves.now h.outcome h.start s found c.requires (is.0 t),
-      λ lawful. is.1 (header_again line h.id.now h.moves.now h.outcome h.start s found lawful.submits),
+      λ t. again line f.id.now f.outcome.now f.start.now f.moves.now s cut c.requires (is.0 t),
+      λ lawful. is.1 (fields_again line f.id.now f.outcome.now f.start.now f.moves.now s cut lawful.submits),
     )
 
-pub returns-in-Err : goal.returns-in-Err
-returns-in-Err c =
+pub returns-in-None : goal.returns-in-None
+returns-in-None c =
     let s : Submission = (c.args.id.now, c.args.game.now) in
-    (λ t. absurd (true≢false (sym t)), λ lawful. absurd (unlawful c.args.line.now c.in-Err.field-0 s c.in-Err.ensures.refused lawful))
+    (λ t. absurd (true≢false (sym t)), λ lawful. absurd (c.in-None.ensures.cut (ap length (fields_back c.args.line.now s lawful.submits))))
