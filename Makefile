@@ -5,18 +5,19 @@ START := rnbqkbnr/pppppppp/8/8/8/8/PPPPPPPP/RNBQKBNR w KQkq - 0 1
 
 PREFIX := /usr/local
 
-.PHONY: build install demo test bench clean
+.PHONY: build try install demo test bench clean
 
 build: build/pbook
 
-# Proving and building end in one run of the program, which has to print the start record.
 build/pbook: $(SOURCES)
-	@mkdir -p build
-	@echo 'Proving and building pbook: some minutes the first time.'
-	@cd crates/pbook && rt run -- fen '$(START)' > ../../build/run 2> ../../build/log \
-	    || { cat ../../build/run ../../build/log; exit 1; }
-	@echo '$(START)' | cmp - build/run
-	@install -m 755 crates/pbook/out/pbook $@
+	@sh scripts/build.sh
+
+# The first commands of the demo, run in about a minute with checks in place of proofs. It shows what the program does, proves nothing, and
+# leaves no program behind.
+try:
+	@echo 'Running without proof; `make demo` proves first.'
+	@cd crates/pbook && rt try --data table.txt=../../examples/table.txt -- collect table.txt book.bin < ../../examples/games.txt | head -3
+	@cd crates/pbook && rt try --data table.txt=../../examples/table.txt -- export table.txt < ../../examples/games.txt | tail -1
 
 # Puts the program, its manual page and its completions for bash in place.
 install: build
