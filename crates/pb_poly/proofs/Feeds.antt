@@ -1,6 +1,9 @@
 -- Entries out of bytes that come in pieces.
 use Rattle.std.proofs.Common.{Ok, take-append-drop, ◌≡◌, ℕ, ◌-◌, ◌<◌, ◌≤◌, List, [], ◌∷◌, ◌++◌, length, take, drop, sym, ap, inr, ◌∙◌, subst, append_assoc, arith}
 use Rattle.std.proofs.lemmas.List.{append-nil, nil_from_length, take_rest}
+use Rattle.pb_io.specs.Source.{Fill, SourceState}
+use Rattle.pb_io.specs.Reads.{ReadsOn, ReadsSome, chunk_len}
+use Rattle.pb_io.proofs.ReadsLemmas.{ReadsSome-more}
 use Rattle.pb_poly.specs.declared.entry.Entry.{Entry}
 use Rattle.pb_poly.specs.declared.reading.BookError.{BookError}
 use Rattle.pb_poly.specs.declared.reading.BookError.TheVariants.{Unsorted, Cut, Read, Endless, Memory}
@@ -8,10 +11,7 @@ use Rattle.pb_poly.specs.Entry.{IsEntry, entry_bytes}
 use Rattle.pb_poly.specs.Book.{NeverFall, book_bytes}
 use Rattle.pb_poly.specs.Feeding.{FailsWithin, MeetsWithin, RefusesEntry}
 use Rattle.pb_poly.specs.Reading.{FindsNoBook, MeetsEntry, Splits}
-use Rattle.pb_poly.specs.Source.{Fill, SourceState}
-use Rattle.pb_poly.specs.Reads.{ReadsOn, ReadsSome, chunk_len}
 use Rattle.pb_poly.proofs.Entries.{book_bytes-push, bounds-push}
-use Rattle.pb_poly.proofs.ReadsLemmas.{ReadsSome-more}
 
 -- the part is whole with these bytes
 whole_bytes : (came : List ℕ) (entries : List Entry) (part bytes : List ℕ) (entry : Entry) → came ≡ book_bytes entries ++ part → part ++ bytes ≡ entry_bytes entry

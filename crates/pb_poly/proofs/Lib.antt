@@ -8,14 +8,10 @@ pub mod Finding
 pub mod KeyChanges
 pub mod KeyPlies
 pub mod Keys
-pub mod LineBufferLemmas
-pub mod LineLemmas
 pub mod Parity
 pub mod Places
-pub mod ReadsLemmas
 pub mod Runs
-pub mod SinkLemmas
 pub mod Tables
-pub mod TaskLemmas
 pub mod Told
-pub mod WritesLemmas
+pub use Rattle.pb_io.proofs.LineLemmas
+pub use Rattle.pb_io.proofs.ReadsLemmas

@@ -6,11 +6,11 @@ use Rattle.std.proofs.lemmas.List.{append-nil}
 use Rattle.std.proofs.lemmas.List.Elements.{All-append, All-cons, All-head, All-nil, All-tail}
 use Rattle.std.specs.Prelude.{IsSome, MatchOption, Option, Some, None, is_none, false}
 use Rattle.pb_board.specs.LineEnd.{without_return}
-use Rattle.pb_poly.specs.Lines.{is_line_feed, pieces, lines}
+use Rattle.pb_io.specs.Lines.{is_line_feed, pieces, lines}
+use Rattle.pb_io.proofs.LineLemmas.{IsLineFeedAt, IsQuiet, length-lines, pieces-nonempty}
 use Rattle.pb_poly.specs.declared.table.TableError.{TableError}
 use Rattle.pb_poly.specs.declared.table.TableError.TheVariants.{Line, Count, Memory}
 use Rattle.pb_poly.specs.Table.{IsDueTable, IsFirstUnspelled, IsWordLine, IsTable, SpellsWord, TableText, WritesWord}
-use Rattle.pb_poly.proofs.LineLemmas.{IsLineFeedAt, IsQuiet, length-lines, pieces-nonempty}
 use Rattle.pb_poly.proofs.Digits.{word_is_one, word_small}
 
 -- an LF ends the first line

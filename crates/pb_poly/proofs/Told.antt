@@ -3,10 +3,10 @@ use Rattle.std.proofs.Common.{◌≡◌, ℕ, ◌*◌, ◌+◌, List, [], ◌∷
 use Rattle.std.specs.Prelude.{IfErr, IfOk, MatchResult}
 use Rattle.std.specs.Io.KnownBytes.{Consumes, IsAtEnd}
 use Rattle.std.proofs.lemmas.List.{append-nil}
+use Rattle.pb_io.specs.Source.{SourceState}
 use Rattle.pb_poly.specs.declared.entry.Entry.{Entry}
 use Rattle.pb_poly.specs.declared.reading.BookError.{BookError}
 use Rattle.pb_poly.specs.declared.reading.BookError.TheVariants.{Unsorted, Cut, Read, Endless, Memory}
-use Rattle.pb_poly.specs.Source.{SourceState}
 use Rattle.pb_poly.specs.Book.{BookBytes, NeverFall, book_bytes}
 use Rattle.pb_poly.specs.Reading.{FindsNoBook, ReadsBook, Tells}
 use Rattle.pb_poly.proofs.EntryBytes.{NeverFall-front, begins, book_is_one, length-book_bytes}

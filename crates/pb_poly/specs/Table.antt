@@ -2,7 +2,7 @@
 use Rattle.std.specs.Prelude.{◌≡◌, ◌≢◌, ℕ, ◌+◌, ◌*◌, ◌^◌, ◌<◌, ◌≤◌, ◌⊎◌, List, ◌∷◌, ◌++◌, length, fold, All}
 use Rattle.std.specs.List.{AllZip}
 use Rattle.pb_board.specs.LineEnd.{without_return}
-use Rattle.pb_poly.specs.Lines.{lines}
+use Rattle.pb_io.specs.Lines.{lines}
 use Rattle.pb_poly.specs.declared.table.TableError.{TableError}
 use Rattle.pb_poly.specs.declared.table.TableError.TheVariants.{Line, Count, Memory}
 

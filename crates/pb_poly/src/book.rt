@@ -1,13 +1,12 @@
 //! Books: entries in the order of their keys.
 
 ghost use Rattle.std.specs.Prelude.{◌≡◌, ◌==◌, All, MatchOption, length, take_while};
+ghost use Rattle.pb_io.specs.Writes.{Writes};
 ghost use Rattle.pb_poly.specs.Book.{IsFirstFall, NeverFall, book_bytes};
 ghost use Rattle.pb_poly.specs.Entry.{IsEntry};
-ghost use Rattle.pb_poly.specs.Writes.{Writes};
 
 use crate::entry::{Entry, write_entry};
-use crate::sink::Sink;
-use crate::source::Failed;
+use pb_io::{Failed, Sink};
 use std::marker::Model;
 
 /// A PolyGlot book: entries whose keys never fall. Entries of one key stand together, in any order.

@@ -1,11 +1,10 @@
 //! Entries of books, and their bytes.
 
 ghost use Rattle.std.specs.Prelude.{◌≡◌, length};
+ghost use Rattle.pb_io.specs.Sink.{Put};
 ghost use Rattle.pb_poly.specs.Entry.{IsEntry, entry_bytes};
-ghost use Rattle.pb_poly.specs.Sink.{Put};
 
-use crate::sink::Sink;
-use crate::source::Failed;
+use pb_io::{Failed, Sink};
 
 /// How many bytes an entry has.
 pub(crate) const ENTRY_LEN: usize = 16;

@@ -1,28 +1,11 @@
-//! Laws of lines, of move codes, of keys, of books and of what they hold. Each is the contract of a function that does
-//! nothing.
+//! Laws of move codes, of keys, of books and of what they hold. Each is the contract of a function that does nothing.
 
-ghost use Rattle.std.specs.Prelude.{◌≡◌, ◌≤◌, ℕ, List, ◌++◌, length};
-ghost use Rattle.std.specs.List.{join_with_byte};
 ghost use Rattle.pb_poly.specs.Book.{BookIsOne, BytesAreOne};
 ghost use Rattle.pb_poly.specs.Code.{CodeIsOne};
 ghost use Rattle.pb_poly.specs.Found.{FoundIsOne};
 ghost use Rattle.pb_poly.specs.Key.{KeyIsOne, KeyIsParity};
-ghost use Rattle.pb_poly.specs.Lines.{ended_lines, lines, pieces};
 
-/// The pieces of a text, joined by LFs, are the text.
-pub fn pieces_join()
-    ensures { (bytes : List ℕ) → join_with_byte 10 (pieces bytes) ≡ bytes }
-{}
-
-/// The lines that an LF ended in a front of a text are the first lines of the text.
-pub fn lines_begin()
-    ensures { (front bytes : List ℕ) → (later : List (List ℕ)) × (lines (front ++ bytes) ≡ ended_lines front ++ later) }
-{}
-
-/// A text has no more lines than bytes.
-pub fn lines_few()
-    ensures { (bytes : List ℕ) → length (lines bytes) ≤ length bytes }
-{}
+pub use pb_io::laws::{lines_begin, lines_few, pieces_join};
 
 /// No two legal moves share a code.
 pub fn code_is_one()

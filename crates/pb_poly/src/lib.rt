@@ -1,5 +1,5 @@
-//! The PolyGlot book format, as the keys of positions, the codes of moves and the entries of books, and below it the ends
-//! of streams: where bytes come from and where they go, and the lines of a stream.
+//! The PolyGlot book format over any source and sink: tables, the keys of positions, the codes of moves, and books with what they
+//! hold for a setup; it knows of no games and of no file's name.
 #![tactic(auto)]
 
 mod book;
@@ -9,11 +9,7 @@ mod found;
 mod key;
 mod key_change;
 pub mod laws;
-mod line_buffer;
-mod lines;
 mod reading;
-mod sink;
-mod source;
 mod table;
 
 pub use book::{Book, write_book};
@@ -22,8 +18,9 @@ pub use entry::{Entry, write_entry};
 pub use found::probe;
 pub use key::key_of;
 pub use key_change::key_after;
-pub use lines::{LINE_LIMIT, LineTask, LinesFault, take_lines};
+pub use pb_io::{
+    Failed, FromRead, LINE_LIMIT, LineTask, LinesFault, MemSink, MemSource, Sink, Source, ToWrite,
+    take_lines,
+};
 pub use reading::{BookError, read_book};
-pub use sink::{MemSink, Sink, ToWrite};
-pub use source::{Failed, FromRead, MemSource, Source};
 pub use table::{Table, TableError, read_table};

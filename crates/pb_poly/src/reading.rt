@@ -1,17 +1,17 @@
 //! Books from sources.
 
 ghost use Rattle.std.specs.Prelude.{◌-◌, min, ◌≡◌, ◌<◌, ◌≤◌, ℕ, List, [], ◌∷◌, ◌++◌, IfOk, IfErr, MatchResult, OnOk, length, take};
+ghost use Rattle.pb_io.specs.Reads.{chunk_len};
 ghost use Rattle.pb_poly.specs.Book.{BookBytes, NeverFall};
 ghost use Rattle.pb_poly.specs.Entry.{IsEntry, entry_bytes};
 ghost use Rattle.pb_poly.specs.Feeding.{FailsWithin, RefusesEntry};
 ghost use Rattle.pb_poly.specs.Reading.{FindsNoBook, ReadsBook, Splits, Tells};
-ghost use Rattle.pb_poly.specs.Reads.{chunk_len};
 ghost use Rattle.pb_poly.specs.declared.reading.BookError.TheVariants.{Cut, Memory};
 ghost use Rattle.pb_poly.specs.declared.entry.Entry.{Entry};
 
 use crate::book::Book;
 use crate::entry::{ENTRY_LEN, Entry};
-use crate::source::{CHUNK_LEN, Source};
+use pb_io::{CHUNK_LEN, Source};
 use std::alloc::Global;
 use std::marker::Model;
 use thiserror::Error;

@@ -2,7 +2,7 @@
 
 ghost use Rattle.std.specs.Prelude.{◌≡◌, ◌+◌, ◌<◌, ℕ, List, ◌∷◌, All, IfOk, IfErr, MatchOption, MatchResult, length, slice_index};
 ghost use Rattle.std.specs.List.{AllZip};
-ghost use Rattle.pb_poly.specs.Lines.{lines};
+ghost use Rattle.pb_io.specs.Lines.{lines};
 ghost use Rattle.pb_poly.specs.Table.{IsDueTable, IsWordLine, IsTable, SpellsWord, TableText, WritesWord};
 ghost use Rattle.pb_poly.specs.declared.table.TableError.TheVariants.{Memory};
 

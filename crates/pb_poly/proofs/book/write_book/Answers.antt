@@ -3,10 +3,10 @@ use Rattle.std.specs.Io.KnownBytes.{Appends}
 use Rattle.std.proofs.KnownBytes.{Appends-trans}
 use Rattle.std.proofs.lemmas.List.{take_all}
 use Rattle.std.proofs.lemmas.Result.{err_from_is_err_and}
+use Rattle.pb_io.proofs.WritesLemmas.{Writes-flushed}
 use Rattle.pb_poly.specs.declared.entry.Entry.{Entry}
 use Rattle.pb_poly.specs.Book.{book_bytes}
 use Rattle.pb_poly.proofs.Entries.{front_of_book}
-use Rattle.pb_poly.proofs.WritesLemmas.{Writes-flushed}
 use Rattle.pb_poly.proofs.book.write_book.Goals as goal
 
 pub returns-in_err-write_entry : goal.returns-in_err-write_entry

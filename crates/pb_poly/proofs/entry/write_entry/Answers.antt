@@ -1,5 +1,5 @@
 use Rattle.std.proofs.Common.{ℕ, List, subst}
-use Rattle.pb_poly.specs.Sink.{Put}
+use Rattle.pb_io.specs.Sink.{Put}
 use Rattle.pb_poly.proofs.entry.write_entry.Goals as goal
 
 pub returns : goal.returns

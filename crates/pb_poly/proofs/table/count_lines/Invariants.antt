@@ -1,5 +1,5 @@
 use Rattle.std.proofs.Common.{◌≡◌, ℕ, List, ◌++◌, length, All}
-use Rattle.pb_poly.specs.Lines.{lines}
+use Rattle.pb_io.specs.Lines.{lines}
 use Rattle.pb_poly.specs.Table.{IsWordLine}
 use Rattle.pb_poly.proofs.table.count_lines.Given as goal
 

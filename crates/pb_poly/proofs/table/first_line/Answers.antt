@@ -1,7 +1,7 @@
 use Rattle.std.proofs.Common.{arith, length, ◌+◌, ◌∷◌, take, sym, ap, ◌∙◌}
 use Rattle.std.proofs.lemmas.List.{drop_all, take_rest}
-use Rattle.pb_poly.specs.Lines.{lines}
-use Rattle.pb_poly.proofs.LineLemmas.{line_feed_absent, line_feed_found}
+use Rattle.pb_io.specs.Lines.{lines}
+use Rattle.pb_io.proofs.LineLemmas.{line_feed_absent, line_feed_found}
 use Rattle.pb_poly.proofs.Tables.{lines-cut, lines-quiet}
 use Rattle.pb_poly.proofs.table.first_line.Goals as goal
 

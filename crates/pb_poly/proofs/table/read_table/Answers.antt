@@ -1,6 +1,6 @@
 use Rattle.std.proofs.Common.{sym, ◌∙◌}
-use Rattle.pb_poly.specs.Lines.{lines}
 use Rattle.std.proofs.lemmas.Result.{err_from_is_err_and}
+use Rattle.pb_io.specs.Lines.{lines}
 use Rattle.pb_poly.proofs.Tables.{is_table, length_zip, only_memory, table_of_spelled, words_are_one}
 use Rattle.pb_poly.proofs.table.read_table.Goals as goal
 

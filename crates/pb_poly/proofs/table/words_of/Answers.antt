@@ -1,6 +1,6 @@
 use Rattle.std.proofs.Common.{◌++◌, ◌∷◌, [], All}
 use Rattle.std.proofs.lemmas.List.Elements.{All-head, All-tail}
-use Rattle.pb_poly.specs.Lines.{lines}
+use Rattle.pb_io.specs.Lines.{lines}
 use Rattle.pb_poly.specs.Table.{IsWordLine}
 use Rattle.pb_poly.proofs.Tables.{before_more, word_found, word_judged, zip_more}
 use Rattle.pb_poly.proofs.table.words_of.Goals as goal

@@ -1,6 +1,6 @@
 use Rattle.std.proofs.Common.{◌≡◌, ℕ, List, ◌++◌, length, All}
 use Rattle.std.specs.List.{AllZip}
-use Rattle.pb_poly.specs.Lines.{lines}
+use Rattle.pb_io.specs.Lines.{lines}
 use Rattle.pb_poly.specs.Table.{IsWordLine, SpellsWord}
 use Rattle.pb_poly.proofs.table.words_of.Given as goal
 

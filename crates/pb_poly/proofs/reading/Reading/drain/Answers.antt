@@ -1,8 +1,8 @@
 use Rattle.std.proofs.Common.{arith, length, ◌<◌, ◌≤◌, ◌++◌, take}
 use Rattle.std.proofs.lemmas.Result.{err_from_is_err_and}
-use Rattle.pb_poly.proofs.ReadsLemmas.{ReadsOn-more}
+use Rattle.pb_io.proofs.ReadsLemmas.{ReadsOn-more}
+use Rattle.pb_io.specs.Reads.{chunk_len}
 use Rattle.pb_poly.proofs.Feeds.{finds_no_book}
-use Rattle.pb_poly.specs.Reads.{chunk_len}
 use Rattle.pb_poly.proofs.reading.Reading.drain.Goals as goal
 
 pub returns-in_err-feed-clause-err : goal.returns-in_err-feed-clause-err

@@ -1,5 +1,5 @@
 use Rattle.std.proofs.Common.{ℕ, List, length, ◌<◌, ◌≤◌}
-use Rattle.pb_poly.specs.Reads.{ReadsOn, chunk_len}
+use Rattle.pb_io.specs.Reads.{ReadsOn, chunk_len}
 use Rattle.pb_poly.specs.Reading.{Splits}
 use Rattle.pb_poly.proofs.reading.Reading.drain.Given as goal
 

@@ -1,0 +1,20 @@
+//! Laws of the lines of a stream. Each is the contract of a function that does nothing.
+
+ghost use Rattle.std.specs.Prelude.{◌≡◌, ◌≤◌, ℕ, List, ◌++◌, length};
+ghost use Rattle.std.specs.List.{join_with_byte};
+ghost use Rattle.pb_io.specs.Lines.{ended_lines, lines, pieces};
+
+/// The pieces of a text, joined by LFs, are the text.
+pub fn pieces_join()
+    ensures { (bytes : List ℕ) → join_with_byte 10 (pieces bytes) ≡ bytes }
+{}
+
+/// The lines that an LF ended in a front of a text are the first lines of the text.
+pub fn lines_begin()
+    ensures { (front bytes : List ℕ) → (later : List (List ℕ)) × (lines (front ++ bytes) ≡ ended_lines front ++ later) }
+{}
+
+/// A text has no more lines than bytes.
+pub fn lines_few()
+    ensures { (bytes : List ℕ) → length (lines bytes) ≤ length bytes }
+{}

@@ -1,0 +1,13 @@
+//! Where bytes come from and where they go, and the lines of a stream, whatever the bytes say: it knows of no chess, of no format
+//! of a file and of no file's name.
+#![tactic(auto)]
+
+pub mod laws;
+mod line_buffer;
+mod lines;
+mod sink;
+mod source;
+
+pub use lines::{LINE_LIMIT, LineTask, LinesFault, take_lines};
+pub use sink::{MemSink, Sink, ToWrite};
+pub use source::{CHUNK_LEN, Failed, FromRead, MemSource, Source};
