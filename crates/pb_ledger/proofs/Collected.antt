@@ -5,15 +5,15 @@ use Rattle.std.specs.Io.KnownBytes.{Appends}
 use Rattle.std.proofs.lemmas.List.{append-nil, append_assoc}
 use Rattle.std.proofs.lemmas.List.Sums.{sum_by-cons}
 use Rattle.std.proofs.KnownBytes.{Appends-nil, Appends-trans, Appends-kept}
-use Rattle.pb_poly.specs.Source.{SourceState}
-use Rattle.pb_poly.specs.Sink.{SinkState, Flush, StillWorks}
-use Rattle.pb_poly.specs.Lines.{lines, ended_lines}
-use Rattle.pb_poly.specs.Reads.{ReadsSome}
-use Rattle.pb_poly.specs.LineTask.{StopsAtLast, TakesAll, TakesStream, TakesUntil, chunk_len}
-use Rattle.pb_poly.specs.declared.lines.LinesFault.{LinesFault}
-use Rattle.pb_poly.specs.declared.lines.LinesFault.TheVariants.{Memory, Read, Endless, Stop}
-use Rattle.pb_poly.specs.declared.source.Failed.{Failed}
-use Rattle.pb_poly.proofs.LineLemmas.{length-lines}
+use Rattle.pb_io.specs.Source.{SourceState}
+use Rattle.pb_io.specs.Sink.{SinkState, Flush, StillWorks}
+use Rattle.pb_io.specs.Lines.{lines, ended_lines}
+use Rattle.pb_io.specs.Reads.{ReadsSome}
+use Rattle.pb_io.specs.LineTask.{StopsAtLast, TakesAll, TakesStream, TakesUntil, chunk_len}
+use Rattle.pb_io.specs.declared.lines.LinesFault.{LinesFault}
+use Rattle.pb_io.specs.declared.lines.LinesFault.TheVariants.{Memory, Read, Endless, Stop}
+use Rattle.pb_io.specs.declared.source.Failed.{Failed}
+use Rattle.pb_io.proofs.LineLemmas.{length-lines}
 use Rattle.pb_ledger.specs.Accepting.{Answer, Run}
 use Rattle.pb_ledger.specs.Ledger.{LedgerState}
 use Rattle.pb_ledger.specs.declared.totals.Totals.{Totals}

@@ -13,9 +13,9 @@ use Rattle.pb_games.specs.declared.game.Game.{Game}
 use Rattle.pb_games.specs.Submissions.{Submission, plies}
 use Rattle.pb_moves.specs.Moved.{Moved}
 use Rattle.pb_moves.specs.Played.{Ply}
-use Rattle.pb_poly.specs.Sink.{Flush, SinkState}
+use Rattle.pb_io.specs.Sink.{Flush, SinkState}
 use Rattle.pb_poly.specs.declared.entry.Entry.{Entry}
-use Rattle.pb_poly.specs.declared.source.Failed.{Failed}
+use Rattle.pb_io.specs.declared.source.Failed.{Failed}
 use Rattle.pb_ledger.specs.Basis.{Basis}
 use Rattle.pb_ledger.specs.Counting.{IsBook}
 use Rattle.pb_ledger.specs.Exporting.{ExportText, Exports, ExportsUntil, IsListed, IsListing, Listed, StandsBefore, text_of_lines}

@@ -13,9 +13,9 @@ use Rattle.pb_epd.proofs.Forms.{form_is_one}
 use Rattle.pb_epd.proofs.Lists.{contains_none, pairs_none, pairs_split}
 use Rattle.pb_moves.specs.Moved.{Moved}
 use Rattle.pb_poly.specs.Found.{Found}
-use Rattle.pb_poly.specs.Sink.{Put, SinkState, StillWorks}
+use Rattle.pb_io.specs.Sink.{Put, SinkState, StillWorks}
 use Rattle.pb_poly.specs.declared.entry.Entry.{Entry}
-use Rattle.pb_poly.specs.declared.source.Failed.{Failed}
+use Rattle.pb_io.specs.declared.source.Failed.{Failed}
 use Rattle.pb_poly.proofs.Finding.{found_is_one}
 use Rattle.pb_ledger.specs.Exporting.{Listed, with_book_moves}
 use Rattle.pb_ledger.specs.Listing.{IsListedOf, IsListingOf, PutsFront, PutsListing, SaysMoves, text_of}

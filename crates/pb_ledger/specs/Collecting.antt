@@ -1,11 +1,11 @@
 -- What taking the lines of a stream does to a ledger and a sink, and how it ends.
 use Rattle.std.specs.Prelude.{◌≡◌, ℕ, ◌+◌, ◌⊎◌, true, false, List, [], ◌∷◌, ◌++◌, length, take, count_by, is_err, Some, IfSome}
 use Rattle.std.specs.Io.KnownBytes.{Appends}
-use Rattle.pb_poly.specs.Source.{SourceState}
-use Rattle.pb_poly.specs.Sink.{SinkState, StillWorks}
-use Rattle.pb_poly.specs.Reads.{ReadsAll, ReadsOn, ReadsSome, ReadsToFault}
-use Rattle.pb_poly.specs.LineTask.{chunk_len}
-use Rattle.pb_poly.specs.Lines.{lines, ended_lines}
+use Rattle.pb_io.specs.Source.{SourceState}
+use Rattle.pb_io.specs.Sink.{SinkState, StillWorks}
+use Rattle.pb_io.specs.Reads.{ReadsAll, ReadsOn, ReadsSome, ReadsToFault}
+use Rattle.pb_io.specs.LineTask.{chunk_len}
+use Rattle.pb_io.specs.Lines.{lines, ended_lines}
 use Rattle.pb_ledger.specs.Accepting.{Accepted, Answer, Run}
 use Rattle.pb_ledger.specs.Ledger.{LedgerState}
 use Rattle.pb_ledger.specs.declared.totals.Totals.{Totals}

@@ -1,14 +1,14 @@
 -- What the collector does with lines.
 use Rattle.std.specs.Prelude.{◌≡◌, ℕ, ◌+◌, Bool, true, false, List, length, Result, Ok, Err}
-use Rattle.pb_poly.specs.Source.{SourceState}
-use Rattle.pb_poly.specs.Sink.{Put, SinkState, StillWorks}
-use Rattle.pb_poly.specs.Reads.{ReadsAll}
-use Rattle.pb_poly.specs.LineTask.{chunk_len}
-use Rattle.pb_poly.specs.Lines.{lines}
-use Rattle.pb_poly.specs.declared.lines.LinesFault.{LinesFault}
-use Rattle.pb_poly.specs.declared.lines.LinesFault.TheVariants.{Memory, Read, Endless, Stop}
-use Rattle.pb_poly.specs.declared.source.Failed.{Failed}
-use Rattle.pb_poly.specs.Count.{next_count}
+use Rattle.pb_io.specs.Source.{SourceState}
+use Rattle.pb_io.specs.Sink.{Put, SinkState, StillWorks}
+use Rattle.pb_io.specs.Reads.{ReadsAll}
+use Rattle.pb_io.specs.LineTask.{chunk_len}
+use Rattle.pb_io.specs.Lines.{lines}
+use Rattle.pb_io.specs.declared.lines.LinesFault.{LinesFault}
+use Rattle.pb_io.specs.declared.lines.LinesFault.TheVariants.{Memory, Read, Endless, Stop}
+use Rattle.pb_io.specs.declared.source.Failed.{Failed}
+use Rattle.pb_io.specs.Count.{next_count}
 use Rattle.pb_ledger.specs.Accepting.{Allowed, Answer, Takes}
 use Rattle.pb_ledger.specs.Ledger.{LedgerState}
 use Rattle.pb_ledger.specs.declared.totals.Totals.{Totals}

@@ -12,7 +12,7 @@ use Rattle.pb_games.specs.Submissions.{Submission, plies}
 use Rattle.pb_moves.specs.Moved.{Moved}
 use Rattle.pb_moves.specs.Spelling.{spelling}
 use Rattle.pb_poly.specs.Found.{Found}
-use Rattle.pb_poly.specs.Sink.{SinkState, StillWorks}
+use Rattle.pb_io.specs.Sink.{SinkState, StillWorks}
 use Rattle.pb_poly.specs.declared.entry.Entry.{Entry}
 use Rattle.pb_ledger.specs.Basis.{Basis}
 use Rattle.pb_ledger.specs.Counting.{IsBook}

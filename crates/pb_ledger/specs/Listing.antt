@@ -6,7 +6,7 @@ use Rattle.pb_epd.specs.ByteOrder.{IsBytesBelow}
 use Rattle.pb_epd.specs.Epd.{EpdForm}
 use Rattle.pb_moves.specs.Moved.{Moved}
 use Rattle.pb_poly.specs.Found.{Found}
-use Rattle.pb_poly.specs.Sink.{SinkState, StillWorks}
+use Rattle.pb_io.specs.Sink.{SinkState, StillWorks}
 use Rattle.pb_poly.specs.declared.entry.Entry.{Entry}
 use Rattle.pb_ledger.specs.Exporting.{FaultOf, Listed, text_of_lines, with_book_moves}
 use Rattle.pb_ledger.specs.Setups.{Named}

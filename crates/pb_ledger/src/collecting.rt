@@ -1,7 +1,7 @@
 //! Submissions in, replies out.
 
 ghost use Rattle.std.specs.Prelude.{◌≡◌, ◌≤◌, IfErr, IfOk, OnOk, length};
-ghost use Rattle.pb_poly.specs.Sink.{Put};
+ghost use Rattle.pb_io.specs.Sink.{Put};
 ghost use Rattle.pb_ledger.specs.Collecting.{CollectsStream, CollectsTold, CollectsUntil};
 ghost use Rattle.pb_ledger.specs.Collector.{CollectsAll, CollectsUntilStop, with_answer};
 ghost use Rattle.pb_ledger.specs.Replies.{named, reply_line};
