@@ -1,26 +1,10 @@
-//! The commands of `pbook` as functions: the command line as an order, and each command over the
-//! ends that it is handed.
+//! The command line of `pbook` as an order, and, handed on from the crates below, a function for each command that it may name.
+//! Nothing here knows what a command does.
 #![tactic(auto)]
 
-mod collect;
-mod epd;
-mod export;
-mod fault;
-mod fen;
 mod grammar;
-mod hexadecimal;
 mod order;
-mod output;
-mod probe;
-mod refusal;
-mod show;
-mod table;
 
-pub use collect::run_collect;
-pub use epd::run_epd;
-pub use export::run_export;
-pub use fault::{Fault, status};
-pub use fen::run_fen;
 pub use order::{Order, ParseFault, parse};
-pub use probe::run_probe;
-pub use show::run_show;
+pub use pb_collecting::{run_collect, run_export};
+pub use pb_commands::{Fault, run_epd, run_fen, run_probe, run_show, status};

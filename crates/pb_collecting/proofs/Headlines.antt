@@ -1,0 +1,193 @@
+-- The theorem of `pbook collect`, from what a run does.
+use Rattle.std.proofs.Common.{◌≡◌, ◌∙◌, zero, suc, ℕ, ◌+◌, ◌<◌, ◌≤◌, List, [], ◌∷◌, length, take, Option, Some, None, Ok, Err, Contains, slice_get, refl, sym, ap, subst, inl, inr, arith}
+use Rattle.std.proofs.lemmas.Option.{slice_get_within, get_or_from_slice_get}
+use Rattle.pb_io.specs.Source.{SourceState}
+use Rattle.pb_io.specs.Sink.{SinkState}
+use Rattle.pb_io.specs.Lines.{lines}
+use Rattle.pb_poly.specs.declared.entry.Entry.{Entry}
+use Rattle.pb_games.specs.declared.refusal.Refusal.TheVariants.{Memory}
+use Rattle.pb_games.specs.Submissions.{Submission, IsLawful}
+use Rattle.pb_games.proofs.Refused as refused
+use Rattle.pb_ledger.specs.Accepting.{Accepted, Allowed, Answer, Answers, IsNewId, IsNumber, Run}
+use Rattle.pb_ledger.specs.Holding.{most_games}
+use Rattle.pb_ledger.specs.Laws.{NoRepeats}
+use Rattle.pb_ledger.proofs.Numbers.{numbers_given, repeats_keep}
+use Rattle.pb_ledger.proofs.Replies.{Answered, answered, held, new, other, full as no_room, game_of, id_of, one_submission}
+use Rattle.pb_ledger.proofs.Runs.{own_ids}
+use Rattle.pb_collecting.specs.CollectRun.{CollectsBook, CollectsBytes}
+use Rattle.pb_collecting.specs.Headline.{Arrives, HasHeadline, Headline, IsAccepted, IsNewBefore, MayBeAnswered, WasAccepted, accepted, conflict, full, memory}
+use Rattle.pb_collecting.proofs.Effects.{told_book}
+
+-- ---- lists
+
+slice_get-take : {X : Type 0} (xs : List X) (i j : ℕ) (x : X) → slice_get (take i xs) j ≡ Some x → (j < i) × (slice_get xs j ≡ Some x)
+slice_get-take [] zero j x h = let no : None ≡ Some x = h in cc
+slice_get-take [] (suc i) j x h = let no : None ≡ Some x = h in cc
+slice_get-take (y ∷ xs) zero j x h = let no : None ≡ Some x = h in cc
+slice_get-take (y ∷ xs) (suc i) zero x h = (omega arith, h)
+slice_get-take (y ∷ xs) (suc i) (suc j) x h = let rest = slice_get-take xs i j x h in (omega (arith, rest.0), rest.1)
+
+slice_get-front : {X : Type 0} (xs : List X) (i j : ℕ) (x : X) → j < i → slice_get xs j ≡ Some x → slice_get (take i xs) j ≡ Some x
+slice_get-front [] i j x lt h = let no : None ≡ Some x = h in cc
+slice_get-front (y ∷ xs) zero j x lt h = absurd (omega (arith, lt))
+slice_get-front (y ∷ xs) (suc i) zero x lt h = h
+slice_get-front (y ∷ xs) (suc i) (suc j) x lt h = slice_get-front xs i j x (omega (arith, lt)) h
+
+slice_get-some : {X : Type 0} (xs : List X) (k : ℕ) → k < length xs → (x : X) × (slice_get xs k ≡ Some x)
+slice_get-some [] k lt = absurd (omega (arith, lt))
+slice_get-some (x ∷ xs) zero lt = (x, refl)
+slice_get-some (x ∷ xs) (suc k) lt = slice_get-some xs k (omega (arith, lt))
+
+one_of : {X : Type 0} (x y : X) → Some x ≡ Some y → x ≡ y
+one_of x y h = cc
+
+-- ---- runs
+
+run_length : (cap : ℕ) (A : List Submission) (L : List (List ℕ)) (R : List Answer) → Run cap A L R → length R ≡ length L
+run_length cap A [] [] run = refl
+run_length cap A (line ∷ L) (r ∷ R) run = let rest = run_length cap run.0 L R run.3 in omega (arith, rest)
+run_length cap A [] (r ∷ R) run = absurd run
+run_length cap A (line ∷ L) [] run = absurd run
+
+-- the list before a line, and what the line was allowed to be answered
+record Stage (cap : ℕ) (A : List Submission) (L : List (List ℕ)) (R : List Answer) (i : ℕ) (r : Answer) : Type 0 where
+  line : List ℕ
+  at : slice_get L i ≡ Some line
+  before : List Submission
+  run : Run cap A (take i L) (take i R)
+  taken : Accepted A (take i L) (take i R) before
+  allowed : Allowed cap before line r
+
+stage : (cap : ℕ) (A : List Submission) (L : List (List ℕ)) (R : List Answer) → Run cap A L R → (i : ℕ) (r : Answer) → slice_get R i ≡ Some r → Stage cap A L R i r
+stage cap A [] [] run i r told = let no : None ≡ Some r = told in absurd (cc)
+stage cap A (line ∷ L) (q ∷ R) run zero r told = record {
+  line = line;
+  at = refl;
+  before = A;
+  run = tt;
+  taken = refl;
+  allowed = subst (Allowed cap A line) (one_of q r told) run.1;
+}
+stage cap A (line ∷ L) (q ∷ R) run (suc i) r told =
+    let s = stage cap run.0 L R run.3 i r told in record {
+      line = s.line;
+      at = s.at;
+      before = s.before;
+      run = (run.0, run.1, run.2, s.run);
+      taken = (run.0, run.2, s.taken);
+      allowed = s.allowed;
+    }
+stage cap A [] (r ∷ R) run i q told = absurd run
+stage cap A (line ∷ L) [] run i q told = absurd run
+
+-- ---- one line
+
+module _ (cap : ℕ) (L : List (List ℕ)) (R : List Answer) (i : ℕ) (B : List Submission) (run : Run cap [] (take i L) (take i R)) (taken : Accepted [] (take i L) (take i R) B) where
+  was : (t : Submission) (n : ℕ) → IsNumber B n t → WasAccepted L R i t n
+  was t n h =
+      let g = (numbers_given cap (take i L) (take i R) B run taken n t).0 h in
+      let a = slice_get-take L i g.0 g.1 g.2 in
+      let b = slice_get-take R i g.0 (Ok n) g.4 in
+      (g.0, a.0, ((g.1, a.1, g.3), b.1))
+
+  number : (t : Submission) (n : ℕ) → WasAccepted L R i t n → IsNumber B n t
+  number t n w =
+      (numbers_given cap (take i L) (take i R) B run taken n t).1
+      (w.0, w.2.0.0, slice_get-front L i w.0 w.2.0.0 w.1 w.2.0.1, w.2.0.2, slice_get-front R i w.0 (Ok n) w.1 w.2.1)
+
+  new_id : (id : List ℕ) → IsNewId id B → IsNewBefore L R i id
+  new_id id fresh t n w e =
+      let at = number t n w in
+      fresh at.0 t (slice_get_within B at.0 t at.2) (ap id_of (get_or_from_slice_get B at.0 t t at.2) ∙ e)
+
+  last : (c : ℕ) → cap ≡ suc c → cap ≤ length B → (t : Submission) × WasAccepted L R i t cap
+  last c is many = let x = slice_get-some B c (omega (arith, is, many)) in (x.0, was x.0 cap (c, omega (arith, is), x.1))
+
+  answer : (c : ℕ) → cap ≡ suc c → cap ≡ most_games → (s : Submission) (r : Answer) → Answered cap B s r → MayBeAnswered L R i s r
+  answer c is top s r (held n e at) = accepted n e
+  answer c is top s r (new e fresh room) = accepted (length B + 1) e
+  answer c is top s r (other n g e at differs) = conflict (s.0, g) n (was (s.0, g) n at) refl (λ h. differs (ap game_of h)) e
+  answer c is top s r (no_room e fresh many) =
+      let x = last c is many in
+      full x.0 (subst (λ m. WasAccepted L R i x.0 m) top x.1) (new_id s.0 fresh) e
+
+  -- want of memory comes in place of the next number alone
+  wanting : (s : Submission) → Answers cap B s (Ok (length B + 1)) → IsNewBefore L R i s.0
+  wanting s (inl at) = absurd (omega (arith, slice_get_within B at.0 s at.2, at.1))
+  wanting s (inr h) = new_id s.0 h.0
+
+  arrival : (c : ℕ) → cap ≡ suc c → cap ≡ most_games → (line : List ℕ) (s : Submission) (r : Answer) → IsLawful line s → Allowed cap B line r → MayBeAnswered L R i s r
+  arrival c is top line s r law (inl (inl h)) =
+      answer c is top s r (answered cap B s r (subst (λ u. Answers cap B u r) (one_submission line h.0 s h.1 law) h.2))
+  arrival c is top line s r law (inl (inr h)) = absurd (refused.unlawful line h.0 s h.2 law)
+  arrival c is top line s r law (inr (e, inl h)) =
+      memory (wanting s (subst (λ u. Answers cap B u (Ok (length B + 1))) (one_submission line h.0 s h.1 law) h.2)) e
+  arrival c is top line s r law (inr (e, inr h)) = absurd (refused.unlawful line h.0 s h.2 law)
+
+legal_of : (cap : ℕ) (B : List Submission) (line : List ℕ) (n : ℕ) → Allowed cap B line (Ok n) → (s : Submission) × IsLawful line s
+legal_of cap B line n (inl (inl h)) = (h.0, h.1)
+legal_of cap B line n (inl (inr h)) = let no : Ok n ≡ Err h.0 = h.1 in absurd (cc)
+legal_of cap B line n (inr h) = let no : Ok n ≡ Err Memory = h.0 in absurd (cc)
+
+-- ---- whole runs
+
+module _ (L : List (List ℕ)) (R : List Answer) (A : List Submission) (run : Run most_games [] L R) (taken : Accepted [] L R A) where
+  only_legal : (i n : ℕ) → slice_get R i ≡ Some (Ok n) → (s : Submission) × Arrives L i s
+  only_legal i n told =
+      let s = stage most_games [] L R run i (Ok n) told in
+      let law = legal_of most_games s.before s.line n s.allowed in
+      (law.0, (s.line, s.at, law.1))
+
+  arrivals : (i : ℕ) (s : Submission) (r : Answer) → Arrives L i s → slice_get R i ≡ Some r → MayBeAnswered L R i s r
+  arrivals i s r here told =
+      let x = stage most_games [] L R run i r told in
+      let same = one_of here.0 x.line (sym here.1 ∙ x.at) in
+      arrival most_games L R i x.before x.run x.taken 999999 refl refl x.line s r (subst (λ b. IsLawful b s) same here.2) x.allowed
+
+  repeats : (i n : ℕ) (s : Submission) → WasAccepted L R i s n → Arrives L i s → slice_get R i ≡ Some (Ok n)
+  repeats i n s w here = repeats_keep most_games L R run w.0 i n w.2.0.0 here.0 s w.1 w.2.0.1 w.2.0.2 w.2.1 here.1 here.2
+
+  once : NoRepeats A
+  once i j d lt within e = own_ids L R A taken i j d lt within (ap id_of e)
+
+  members_to : (s : Submission) → Contains A s → (i n : ℕ) × IsAccepted L R i s n
+  members_to s h =
+      let x = slice_get-some A h.0 h.1 in
+      let same = sym (get_or_from_slice_get A h.0 x.0 s x.1) ∙ h.2 in
+      let g = (numbers_given most_games L R A run taken (suc h.0) s).0 (h.0, omega arith, x.1 ∙ ap (λ y. Some y) same) in
+      (g.0, suc h.0, ((g.1, g.2, g.3), g.4))
+
+  members_from : (s : Submission) → ((i n : ℕ) × IsAccepted L R i s n) → Contains A s
+  members_from s h =
+      let at = (numbers_given most_games L R A run taken h.1 s).1 (h.0, h.2.0.0, h.2.0.1, h.2.0.2, h.2.1) in
+      (at.0, slice_get_within A at.0 s at.2, get_or_from_slice_get A at.0 s s at.2)
+
+-- ---- sources that tell their bytes
+
+headline : (file bytes : List ℕ) (sink sink' : SinkState) (entries : List Entry) → CollectsBytes file bytes sink sink' entries → Headline file bytes sink sink' entries
+headline file bytes sink sink' entries h =
+    let g = h.takes in
+    let L = lines bytes in record {
+      words = h.words;
+      table = g.table;
+      answers = g.answers;
+      each = run_length most_games [] L g.answers g.run;
+      put = h.put;
+      only_legal = only_legal L g.answers h.held g.run g.accepted;
+      arrivals = arrivals L g.answers h.held g.run g.accepted;
+      repeats = repeats L g.answers h.held g.run g.accepted;
+      games = h.held;
+      once = once L g.answers h.held g.run g.accepted;
+      are = λ s. (members_to L g.answers h.held g.run g.accepted s, members_from L g.answers h.held g.run g.accepted s);
+      book = h.book;
+    }
+
+module _ (fills : ℕ) (t t' s s' : SourceState) (sink sink' : SinkState) (entries : List Entry) where
+  both : (file bytes : Option (List ℕ)) → t.to_come ≡ file → s.to_come ≡ bytes → CollectsBook fills t t' s s' sink sink' entries → HasHeadline file bytes sink sink' entries
+  both None bytes is_t is_s h = tt
+  both (Some file) None is_t is_s h = tt
+  both (Some file) (Some bytes) is_t is_s h =
+      headline file bytes sink sink' entries (told_book fills t t' s s' file bytes is_t is_s sink sink' entries h)
+
+  pub has_headline : CollectsBook fills t t' s s' sink sink' entries → HasHeadline t.to_come s.to_come sink sink' entries
+  has_headline h = both t.to_come s.to_come refl refl h

@@ -1,0 +1,4 @@
+mod CollectRuns
+mod Effects
+mod ExportRuns
+mod Headlines

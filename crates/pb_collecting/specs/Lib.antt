@@ -1,0 +1,4 @@
+pub mod CollectRun
+pub mod ExportRun
+pub mod Headline
+pub mod OneEffect

@@ -1,0 +1,83 @@
+//! The command `collect`: submissions are answered, and the book of the games that are held then is made.
+ghost use Rattle.std.specs.Prelude.{◌≡◌, IfErr, IfNone, IfOk, IfSome, OnOk, false, true};
+ghost use Rattle.pb_commands.specs.Judged.{PutsText};
+ghost use Rattle.pb_collecting.specs.CollectRun.{CollectsBook, EndsCollect, JudgesTable, TellsCollect, fault_of};
+ghost use Rattle.pb_collecting.specs.Headline.{HasHeadline};
+ghost use Rattle.pb_collecting.specs.OneEffect.{HasOneEffect};
+
+use pb_commands::{Fault, refuse_table, take_table};
+use pb_ledger::{CollectFault, Ledger, MAX_CAP, MapTally, collect};
+use pb_poly::{Book, Sink, Source};
+use std::alloc::Global;
+
+/// What a fault of collecting is to the run.
+pub(crate) fn collect_fault(fault: CollectFault) -> Fault
+    ensures { result ≡ fault_of fault }
+{
+    match fault {
+        CollectFault::Read => Fault::Read,
+        CollectFault::Write => Fault::Write,
+        CollectFault::Endless => Fault::Endless,
+        CollectFault::Memory => Fault::Memory,
+    }
+}
+
+/// Takes submission lines, puts the reply to each, and makes the opening book of the games that are held at the end: at most
+/// 1,000,000, each counted once however often it comes. The table of words that keys are made of is read first. Where it is
+/// refused, `refused table` and `long`, `line` or `count` is put, no submission is read, and there is no book.
+///
+/// Where no id names two games, the book is that of the distinct legal submissions that were accepted.
+///
+/// # Errors
+///
+/// `Memory` comes where a growth of the ledger's or the book's own found no memory; a submission that wants memory is refused
+/// in its reply. At a fault no book is made; the replies to the lines that were taken before have been put.
+pub fn run_collect<T: Source, S: Source, K: Sink>(
+    alloc: Global,
+    table_source: &mut T,
+    source: &mut S,
+    sink: &mut K,
+    fills: u32,
+) -> Result<Option<Book>, Fault>
+    // The table was read, all submissions were taken and answered, and this is the book of the games that are held.
+    ensures book { IfOk result (λ answer. IfSome answer (CollectsBook fills (T.state table_source.old) (T.state table_source.new)
+        (S.state source.old) (S.state source.new) (K.state sink.old) (K.state sink.new))) }
+    // The line that says why the table is refused was put.
+    ensures refused { IfOk result (λ answer. IfNone answer (PutsText
+        (JudgesTable fills (T.state table_source.old) (T.state table_source.new) (S.state source.old) (S.state source.new))
+        (K.state sink.old) (K.state sink.new) false)) }
+    // Of sources that tell their bytes, it is the table and the submissions of all bytes that were to come.
+    ensures told { IfOk result (TellsCollect (T.state table_source.old).to_come (S.state source.old).to_come
+        (K.state sink.old) (K.state sink.new)) }
+    // Each distinct submission counts once.
+    ensures one_effect { IfOk result (λ answer. IfSome answer (HasOneEffect (T.state table_source.old).to_come (S.state source.old).to_come
+        (K.state sink.old) (K.state sink.new))) }
+    ensures headline { IfOk result (λ answer. IfSome answer (HasHeadline (T.state table_source.old).to_come (S.state source.old).to_come
+        (K.state sink.old) (K.state sink.new))) }
+    ensures handed_on { OnOk result (((K.state sink.new).failed ≡ false)
+        × ((K.state sink.new).flushed ≡ true)) }
+    // What was done before a fault, and where the fault lies.
+    ensures fault { IfErr result (EndsCollect fills (T.state table_source.old) (T.state table_source.new)
+        (S.state source.old) (S.state source.new) (K.state sink.old) (K.state sink.new)) }
+{
+    let table = match take_table(alloc, table_source, fills) {
+        Ok(table) => table,
+        Err(error) => {
+            refuse_table(sink, error)?;
+            return Ok(None);
+        }
+    };
+    let Ok(mut ledger) = Ledger::<MapTally>::new(alloc, &table, MAX_CAP) else {
+        return Err(Fault::Memory);
+    };
+    match collect(alloc, source, sink, &mut ledger, fills) {
+        Ok(_) => {}
+        Err(fault) => return Err(collect_fault(fault)),
+    }
+    let Ok(book) = ledger.make_book(alloc) else {
+        return Err(Fault::Memory);
+    };
+    // The proof reads from this use that the keys never fall.
+    let _ = book.entries();
+    Ok(Some(book))
+}

@@ -1,0 +1,98 @@
+//! The command `export`: the book of submissions as EPD lines.
+ghost use Rattle.std.specs.Prelude.{◌≡◌, IfErr, IfOk, None, OnOk, false, true};
+ghost use Rattle.pb_commands.specs.Judged.{PutsText};
+ghost use Rattle.pb_collecting.specs.CollectRun.{JudgesTable};
+ghost use Rattle.pb_collecting.specs.ExportRun.{BlamesSink, EndsExport, ExportsGames, TellsExport, fault_of_export};
+
+use crate::collect::collect_fault;
+use pb_commands::{Fault, refuse_table, take_table};
+use pb_ledger::{ExportFault, Ledger, MAX_CAP, MapTally, collect, export};
+use pb_poly::{Failed, Sink, Source};
+use std::alloc::Global;
+
+/// A sink that drops what is put. It never fails.
+#[derive(Default, Drop)]
+struct Dropped {
+    flushed: bool,
+}
+
+impl Sink for Dropped {
+    ghost state = { λ s. record { bytes = None; failed = false; flushed = s.flushed } };
+
+    fn put(&mut self, _bytes: &[u8]) -> Result<(), Failed> {
+        self.flushed = false;
+        Ok(())
+    }
+
+    fn flush(&mut self) -> Result<(), Failed> {
+        self.flushed = true;
+        Ok(())
+    }
+
+    fn failed(&self) -> bool {
+        false
+    }
+}
+
+/// What a fault of exporting is to the run.
+fn export_fault(fault: ExportFault) -> Fault
+    ensures { result ≡ fault_of_export fault }
+{
+    match fault {
+        ExportFault::Write => Fault::Write,
+        ExportFault::Memory => Fault::Memory,
+    }
+}
+
+/// Takes submission lines and puts the opening book of the games that are held at the end, at most 1,000,000, as EPD lines: for
+/// each setup before a move of a game the moves that the book has for it, each with its weight. Replies are dropped. The table of
+/// words that keys are made of is read first. Where it is refused, `refused table` and `long`, `line` or `count` is put, no
+/// submission is read, and the answer is false.
+///
+/// # Errors
+///
+/// `Memory` comes where a growth of the ledger's or the export's own found no memory; a submission that wants memory is refused.
+/// Nothing is put before all submissions were taken, so a fault of theirs leaves the sink alone.
+pub fn run_export<T: Source, S: Source, K: Sink>(
+    alloc: Global,
+    table_source: &mut T,
+    source: &mut S,
+    sink: &mut K,
+    fills: u32,
+) -> Result<bool, Fault>
+    // Where the answer is true, the table was read, all submissions were taken, and the export of the games that are held was put.
+    ensures lines { IfOk result (λ done. done ≡ true → ExportsGames fills (T.state table_source.old) (T.state table_source.new)
+        (S.state source.old) (S.state source.new) (K.state sink.old) (K.state sink.new)) }
+    // Where it is false, the line that says why the table is refused was put.
+    ensures refused { IfOk result (λ done. done ≡ false → PutsText
+        (JudgesTable fills (T.state table_source.old) (T.state table_source.new) (S.state source.old) (S.state source.new))
+        (K.state sink.old) (K.state sink.new) false) }
+    // Of sources that tell their bytes, it is the table and the submissions of all bytes that were to come.
+    ensures told { IfOk result (TellsExport (T.state table_source.old).to_come (S.state source.old).to_come
+        (K.state sink.old) (K.state sink.new)) }
+    // What was put was handed on.
+    ensures handed_on { OnOk result (((K.state sink.new).failed ≡ false)
+        × ((K.state sink.new).flushed ≡ true)) }
+    // What was done before a fault, and where the fault lies.
+    ensures fault { IfErr result (EndsExport fills (T.state table_source.old) (T.state table_source.new)
+        (S.state source.old) (S.state source.new) (K.state sink.old) (K.state sink.new)) }
+    // The sink is blamed only where it has failed, and always where it has failed since.
+    ensures blame { IfErr result (BlamesSink (K.state sink.old) (K.state sink.new)) }
+{
+    let table = match take_table(alloc, table_source, fills) {
+        Ok(table) => table,
+        Err(error) => return refuse_table(sink, error),
+    };
+    let Ok(mut ledger) = Ledger::<MapTally>::new(alloc, &table, MAX_CAP) else {
+        return Err(Fault::Memory);
+    };
+    let mut replies = Dropped::default();
+    match collect(alloc, source, &mut replies, &mut ledger, fills) {
+        Ok(_) => {}
+        Err(fault) => return Err(collect_fault(fault)),
+    }
+    match export(alloc, &ledger, sink) {
+        Ok(_) => Ok(true),
+        Err(fault) => Err(export_fault(fault)),
+    }
+}

@@ -1,0 +1,9 @@
+//! The commands of `pbook` that take games, `collect` and `export`, as functions over the ends that they are handed. Nothing here
+//! knows the command line.
+#![tactic(auto)]
+
+mod collect;
+mod export;
+
+pub use collect::run_collect;
+pub use export::run_export;

@@ -1,0 +1,52 @@
+-- Words that spell moves, and moves that are played one after the other.
+use Rattle.std.proofs.Common.{◌≡◌, ◌∙◌, ℕ, ◌+◌, ◌<◌, ◌≤◌, All, Bor, List, [], ◌∷◌, ◌++◌, ap, drop, get_or, length, refl, None, Option, Some, subst, sym}
+use Rattle.std.specs.List.{AllZip}
+use Rattle.std.specs.Prelude.{MatchOption}
+use Rattle.std.proofs.Math.ListN.{drop_of_length-le}
+use Rattle.std.proofs.lemmas.List.{drop_more}
+use Rattle.std.proofs.lemmas.List.Elements.{All-head, All-tail}
+use Rattle.pb_board.specs.Position.{IsRecord, Record}
+use Rattle.pb_moves.specs.AfterRecord.{AfterRecord}
+use Rattle.pb_moves.specs.Cases.{Legal}
+use Rattle.pb_moves.specs.Moved.{IsMove, Moved}
+use Rattle.pb_moves.specs.Played.{IsSpelled, Plays, Spells}
+use Rattle.pb_moves.specs.Spelling.{spelling}
+use Rattle.pb_commands.specs.Line.{texts}
+
+-- the texts of the words from one on
+pub texts_from : (words : List (Bor (List ℕ))) (i : ℕ) (d : Bor (List ℕ)) → i < length words
+    → texts (drop i words) ≡ (get_or words i d).now ∷ texts (drop (i + 1) words)
+texts_from words i d below = ap texts (drop_more words i d below)
+
+pub texts_past : (words : List (Bor (List ℕ))) (i : ℕ) → length words ≤ i → texts (drop i words) ≡ []
+texts_past words i past = ap texts (drop_of_length-le words past)
+
+pub spelt_joined : (xs : List (List ℕ)) (ms : List Moved) (ys : List (List ℕ)) (ns : List Moved) → AllZip Spells xs ms
+    → AllZip Spells ys ns → AllZip Spells (xs ++ ys) (ms ++ ns)
+spelt_joined [] [] ys ns none spelt = spelt
+spelt_joined [] (m ∷ ms) ys ns bad spelt = absurd bad
+spelt_joined (x ∷ xs) [] ys ns bad spelt = absurd bad
+spelt_joined (x ∷ xs) (m ∷ ms) ys ns first spelt = (first.0, spelt_joined xs ms ys ns first.1 spelt)
+
+-- the moves that words spell
+pub spelt_moves : (words : List (List ℕ)) → All IsSpelled words → (moves : List Moved) × AllZip Spells words moves
+spelt_moves [] all = ([], tt)
+spelt_moves (w ∷ ws) all =
+    let first = All-head IsSpelled w ws all in
+    let others = spelt_moves ws (All-tail IsSpelled w ws all) in (first.0 ∷ others.0, (first.1, others.1))
+
+-- one move more
+pub plays_more : (f : Record) (ms : List Moved) (g : Record) (m : Moved) (h : Record) → Plays f ms g → Legal g.setup m
+    → AfterRecord g m h → Plays f (ms ++ m ∷ []) h
+plays_more f [] g m h same legal after =
+    (h, subst (λ (r : Record). Legal r.setup m) same legal, subst (λ (r : Record). AfterRecord r m h) same after, refl)
+plays_more f (n ∷ ms) g m h plays legal after =
+    (plays.0, plays.1, plays.2, plays_more plays.0 ms g m h plays.3 legal after)
+
+-- the move that a word spells is played, or isn't legal
+pub word_played : (word text : List ℕ) (f : Record) (m : Moved) (next : Option Record) → IsMove m × (text ≡ spelling m)
+    → text ≡ word → MatchOption next (¬ Legal f.setup m) (λ g. Legal f.setup m × AfterRecord f m g × IsRecord g)
+    → MatchOption next (IsSpelled word → (n : Moved) × Spells word n × ¬ Legal f.setup n)
+    (λ g. (n : Moved) × Spells word n × Legal f.setup n × AfterRecord f n g)
+word_played word text f m None read same illegal = λ _. (m, record { is_move = read.0; is = sym same ∙ read.1 }, illegal)
+word_played word text f m (Some g) read same played = (m, record { is_move = read.0; is = sym same ∙ read.1 }, played.0, played.1)

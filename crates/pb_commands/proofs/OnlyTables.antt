@@ -1,0 +1,43 @@
+-- What is read from a source that tells the bytes of a table file.
+use Rattle.std.proofs.Common.{◌≡◌, ℕ, List, Result, Ok, Err, ap, arith, length, length-append, refl, subst, sym}
+use Rattle.std.specs.Prelude.{IfErr, IfOk, MatchResult}
+use Rattle.pb_io.specs.Source.{SourceState}
+use Rattle.pb_io.specs.Lines.{lines}
+use Rattle.pb_poly.specs.Reading.{Tells}
+use Rattle.pb_poly.specs.Table.{IsDueTable}
+use Rattle.pb_poly.specs.declared.table.TableError.{TableError}
+use Rattle.pb_poly.specs.declared.table.TableError.TheVariants as poly
+use Rattle.pb_poly.proofs.Tables.{only_memory, words_are_one}
+use Rattle.pb_commands.specs.declared.table.TableFault.{TableFault}
+use Rattle.pb_commands.specs.declared.table.TableFault.TheVariants.{Long, Line, Count, Read, Endless, Memory}
+use Rattle.pb_commands.specs.TableReading.{FindsNoTable, ReadsTable}
+use Rattle.pb_commands.specs.TableShown.{IsTableFile, table_limit}
+use Rattle.pb_commands.proofs.Told.{all_came, came_first, no_endless, no_fault}
+
+pub tables_are_one : (words others bytes : List ℕ) → IsTableFile words bytes → IsTableFile others bytes → words ≡ others
+tables_are_one words others bytes h k = words_are_one (lines bytes) words others h.text.each k.text.each
+
+module _ (fills : ℕ) (old new : SourceState) (words bytes : List ℕ) (tells : Tells fills old new bytes) (is : IsTableFile words bytes) where
+  found : (others : List ℕ) → ReadsTable fills old new others → others ≡ words
+  found others h =
+      let all = all_came table_limit fills old new bytes tells.told h.came h.reads in
+      tables_are_one others words h.came h.is (subst (λ (xs : List ℕ). IsTableFile words xs) all is)
+
+  due : (x : TableError) (came : List ℕ) → bytes ≡ came → IsDueTable x came → x ≡ poly.Memory
+  due x came all h = only_memory words bytes x is.text (subst (λ (xs : List ℕ). IsDueTable x xs) (sym all) h)
+
+  refused : (e : TableFault) → FindsNoTable fills old new e → e ≡ Memory
+  refused Long h =
+      let c = came_first table_limit fills old new bytes tells.told h.came h.reads.reads in
+      absurd (omega (arith, h.long, is.few, ap length c.1, length-append h.came c.0))
+  refused (Line number) h =
+      absurd (cc (due (poly.Line number) h.came (all_came table_limit fills old new bytes tells.told h.came h.reads) h.due))
+  refused (Count count) h =
+      absurd (cc (due (poly.Count count) h.came (all_came table_limit fills old new bytes tells.told h.came h.reads) h.due))
+  refused Read h = absurd (no_fault table_limit fills old new bytes tells h.came h.reads)
+  refused Endless h = absurd (no_endless table_limit fills old new bytes tells h.came h.reads)
+  refused Memory h = refl
+
+  pub only_table : (result : Result (List ℕ) TableFault) → IfOk result (ReadsTable fills old new) → IfErr result (FindsNoTable fills old new) → MatchResult result (λ table. table ≡ words) (λ e. e ≡ Memory)
+  only_table (Ok table) h k = found table h
+  only_table (Err e) h k = refused e k

@@ -1,0 +1,73 @@
+-- Bytes that are put part by part.
+use Rattle.std.proofs.Common.{◌≡◌, ◌∙◌, ℕ, ◌+◌, ◌<◌, ◌≤◌, List, [], ◌∷◌, ◌++◌, Option, Result, Ok, Err, Bor, ap, append-nil, append_assoc, drop, false, get_or, length, refl, subst, sym, take, take-append-drop, true}
+use Rattle.std.proofs.KnownBytes.{Appends-kept, Appends-trans}
+use Rattle.std.proofs.Math.ListN.{drop_of_length-le}
+use Rattle.std.proofs.Math.Seq.{take-append_seam, take-length}
+use Rattle.std.proofs.lemmas.List.{drop_more}
+use Rattle.std.specs.Io.KnownBytes.{Appends, Keeps}
+use Rattle.std.specs.Result.{IsErr}
+use Rattle.pb_board.specs.LineEnd.{with_end}
+use Rattle.pb_io.specs.Sink.{Put, SinkState}
+use Rattle.pb_commands.specs.Line.{parts_joined}
+
+module _ (old mid new : Option (List ℕ)) (done part rest whole : List ℕ) (written : Appends old mid done) (is : done ++ (part ++ rest) ≡ whole) where
+  -- what was put, and one part more
+  pub put_more : Appends mid new part → (more : List ℕ) × Appends old new more × (more ++ rest ≡ whole)
+  put_more put = (done ++ part, Appends-trans old mid new done part written put, append_assoc done part rest ∙ is)
+
+  -- what was put, and a front of one part more, is a front of the whole
+  pub front_more : (k : ℕ) → Appends mid new (take k part) → (count : ℕ) × Appends old new (take count whole)
+  front_more k put =
+      let front = done ++ take k part in
+      let back = drop k part ++ rest in
+      let cut : front ++ back ≡ whole =
+      append_assoc done (take k part) back ∙ ap (λ xs. done ++ xs) (sym (append_assoc (take k part) (drop k part) rest))
+      ∙ ap (λ xs. done ++ (xs ++ rest)) (take-append-drop k part) ∙ is in
+      let is_front : front ≡ take (length front) whole =
+      sym (take-append_seam front back) ∙ ap (λ xs. take (length front) xs) cut in
+      (length front, subst (Appends old new) is_front (Appends-trans old mid new done (take k part) written put))
+
+-- all of it is a front of it
+pub front_all : (old mid new : Option (List ℕ)) (whole : List ℕ) → Appends old mid whole → Keeps mid new
+    → (count : ℕ) × Appends old new (take count whole)
+front_all old mid new whole written kept =
+    (length whole, subst (Appends old new) (sym (take-length whole)) (Appends-kept old mid new whole written kept))
+
+-- a put that failed
+pub put_failed : {E : Type 0} (old new : SinkState) (answer : Result (Unit {0}) E) (bytes : List ℕ) → IsErr answer
+    → (count : ℕ) × Appends old.bytes new.bytes (take count bytes) → new.failed ≡ true → new.flushed ≡ false
+    → Put old new answer bytes
+put_failed old new (Ok v) bytes failing front failed flushed = let bad : false ≡ true = failing in cc
+put_failed old new (Err e) bytes failing front failed flushed = record {
+  all = tt;
+  front = front;
+  failed = failed;
+  stays_failed = λ _. refl;
+  flushed = flushed;
+}
+
+-- the last part of what is put
+pub put_last : {E : Type 0} (old mid new : SinkState) (answer : Result (Unit {0}) E) (done part whole : List ℕ)
+    → Appends old.bytes mid.bytes done → done ++ part ≡ whole → (old.failed ≡ true → mid.failed ≡ true)
+    → Put mid new answer part → Put old new answer whole
+put_last old mid new (Ok v) done part whole written is stays put = record {
+  all = subst (Appends old.bytes new.bytes) is (Appends-trans _ _ _ done part written put.all);
+  front = tt;
+  failed = put.failed;
+  stays_failed = λ before. put.stays_failed (stays before);
+  flushed = put.flushed;
+}
+put_last old mid new (Err e) done part whole written is stays put =
+    let no_more : done ++ (part ++ []) ≡ whole = ap (λ xs. done ++ xs) (append-nil part) ∙ is in
+    put_failed old new (Err e) whole refl (front_more _ _ _ done part [] whole written no_more put.front.0 put.front.1) put.failed put.flushed
+
+-- the line from a part on
+pub line_from : (parts : List (Bor (List ℕ))) (i : ℕ) (d : Bor (List ℕ)) → i < length parts
+    → with_end (parts_joined (drop i parts)) ≡ (get_or parts i d).now ++ with_end (parts_joined (drop (i + 1) parts))
+line_from parts i d below =
+    ap (λ ps. with_end (parts_joined ps)) (drop_more parts i d below)
+    ∙ append_assoc (get_or parts i d).now (parts_joined (drop (i + 1) parts)) (10 ∷ [])
+
+-- the line's end
+pub line_end : (parts : List (Bor (List ℕ))) (i : ℕ) → length parts ≤ i → with_end (parts_joined (drop i parts)) ≡ 10 ∷ []
+line_end parts i past = ap (λ ps. with_end (parts_joined ps)) (drop_of_length-le parts past)

@@ -1,0 +1,44 @@
+-- The bytes of a table file, fill after fill.
+use Rattle.std.proofs.Common.{◌≡◌, ◌∙◌, ℕ, ◌+◌, ◌<◌, ◌≤◌, List, ◌++◌, Ok, Err, append-nil, arith, length, length-append, length-take, subst, sym, take}
+use Rattle.pb_io.specs.Source.{Fill, SourceState}
+use Rattle.pb_io.specs.Reads.{ReadsAll, ReadsOn}
+use Rattle.pb_io.specs.declared.source.Failed.{Failed}
+use Rattle.pb_io.proofs.ReadsLemmas.{ReadsAll-more, ReadsOn-more, ReadsSome-more, ReadsToFault-more}
+use Rattle.pb_commands.specs.declared.table.TableFault.{TableFault}
+use Rattle.pb_commands.specs.declared.table.TableFault.TheVariants.{Long, Line, Count, Read, Endless, Memory}
+use Rattle.pb_commands.specs.TableFilling.{FillsTable, HoldsMore}
+use Rattle.pb_commands.specs.TableReading.{FindsNoTable}
+use Rattle.pb_commands.specs.TableShown.{table_limit}
+
+-- after n fills these bytes are held
+module _ (n : ℕ) (old mid new : SourceState) (held : List ℕ) (on : ReadsOn table_limit n old mid held) where
+  pub holds_more : (held' : List ℕ) (count : ℕ) → 0 < count → HoldsMore mid new held held' count → ReadsOn table_limit (n + 1) old new held'
+  holds_more held' count some h =
+      let reads = ReadsOn-more table_limit n old mid new held h.slice h.fills.room h.fills.fits on count some h.fills.fill in
+      subst (λ (bytes : List ℕ). ReadsOn table_limit (n + 1) old new bytes) (sym h.more) reads
+
+  module _ (fills : ℕ) (below : n < fills) where
+    pub holds_all : (held' : List ℕ) (count : ℕ) → count ≡ 0 → HoldsMore mid new held held' count → ReadsAll table_limit fills old new held'
+    holds_all held' count none h =
+        let at_end : Fill {E = Failed} mid new (Ok 0) h.slice = subst (λ m. Fill {E = Failed} mid new (Ok m) h.slice) none h.fills.fill in
+        let same : held' ≡ held = h.more ∙ subst (λ m. held ++ take m h.slice ≡ held) (sym none) (append-nil held) in
+        subst (λ (bytes : List ℕ). ReadsAll table_limit fills old new bytes) (sym same)
+        (ReadsAll-more table_limit n old mid new held h.slice h.fills.room h.fills.fits on fills below at_end)
+
+    pub fill_fails : (held' : List ℕ) (x : TableFault) → length held ≤ table_limit → FillsTable mid new held held' (Err x) → FindsNoTable fills old new x
+    fill_fails held' Long few h =
+        let within : h.count ≤ length h.slice = h.fills.fill.within in record {
+          came = held ++ take h.count h.slice;
+          reads = ReadsSome-more table_limit n old mid new held h.slice h.fills.room h.fills.fits on fills h.count below h.fills.fill;
+          long = omega (arith, length-append held (take h.count h.slice), length-take h.count h.slice, h.full, h.some);
+        }
+    fill_fails held' Read few h =
+        let slice = h.0 in let e = h.1 in let fills_some = h.2 in record {
+          came = held;
+          reads = ReadsToFault-more table_limit n old mid new held slice fills_some.room fills_some.fits on fills e below fills_some.fill;
+          few = few;
+        }
+    fill_fails held' (Line _) few h = absurd h
+    fill_fails held' (Count _) few h = absurd h
+    fill_fails held' Endless few h = absurd h
+    fill_fails held' Memory few h = absurd h

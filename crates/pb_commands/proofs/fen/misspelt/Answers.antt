@@ -1,0 +1,22 @@
+use Rattle.std.proofs.Common.{◌∙◌, ◌+◌, [], ◌∷◌, ◌++◌, ap, append-nil, append_assoc, refl, sym}
+use Rattle.std.proofs.lemmas.List.{length_push}
+use Rattle.std.proofs.lemmas.List.Elements.{All-push, All-same}
+use Rattle.pb_moves.specs.Played.{IsSpelled}
+use Rattle.pb_commands.proofs.Moves.{texts_from, texts_past}
+use Rattle.pb_commands.proofs.fen.misspelt.Goals as goal
+
+pub loop-index-preserved : goal.loop-index-preserved
+loop-index-preserved c =
+    let so_far = c.loop-index.invariant in
+    let rest_is = texts_from c.args.words.now c.loop-index.index _ c.loop-index-test.true in record {
+      done = so_far.done ++ _ ∷ [];
+      cut = append_assoc so_far.done _ _ ∙ ap (λ ws. so_far.done ++ ws) (sym rest_is) ∙ so_far.cut;
+      count = length_push so_far.done _ ∙ ap (λ n. n + 1) so_far.count;
+      spelt = All-push IsSpelled so_far.done _ so_far.spelt (c.if-not-spells_move.ensures.0 refl);
+    }
+
+pub returns : goal.returns
+returns c =
+    let so_far = c.loop-index.invariant in
+    let past = texts_past c.args.words.now c.loop-index.index c.loop-index-test.false in
+    All-same IsSpelled _ so_far.done (sym so_far.cut ∙ ap (λ ws. so_far.done ++ ws) past ∙ append-nil so_far.done) so_far.spelt

@@ -1,0 +1,15 @@
+use Rattle.std.proofs.Common.{◌≡◌, ℕ, List, ◌++◌, true, drop}
+use Rattle.std.specs.Io.KnownBytes.{Appends}
+use Rattle.pb_board.specs.LineEnd.{with_end}
+use Rattle.pb_commands.specs.Line.{parts_joined}
+use Rattle.pb_commands.proofs.output.put_line.Given as goal
+
+-- the parts before this one have been put, and a sink that had failed still has
+abbrev pub invariant-loop-part : goal.invariant-loop-part
+invariant-loop-part g l =
+    let state = g.K.Sink.state in
+    record {
+      written : (done : List ℕ) × Appends (state l.initial.sink).bytes (state l.sink).bytes done
+          × (done ++ with_end (parts_joined (drop l.part-index l.parts)) ≡ with_end (parts_joined l.parts));
+      failed : (state l.initial.sink).failed ≡ true → (state l.sink).failed ≡ true;
+    }

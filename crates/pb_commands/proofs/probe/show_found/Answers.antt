@@ -1,0 +1,35 @@
+use Rattle.std.proofs.Common.{[], ℕ, refl, subst}
+use Rattle.std.specs.Io.KnownBytes.{Appends}
+use Rattle.std.proofs.KnownBytes.{Appends-nil}
+use Rattle.pb_moves.specs.Moved.{Moved}
+use Rattle.pb_io.specs.Sink.{Put}
+use Rattle.pb_io.specs.declared.source.Failed.{Failed}
+use Rattle.std.proofs.Common.{Err}
+use Rattle.pb_commands.specs.ProbeShown.{found_line}
+use Rattle.pb_commands.proofs.Lines.{PutsLines-more, flush_fails, line_fails, lines_shown}
+use Rattle.pb_commands.proofs.probe.show_found.Goals as goal
+
+abbrev Pair : Type 0
+Pair = Moved × ℕ
+
+pub loop-m-init : goal.loop-m-init
+loop-m-init g c = record { done = []; put = Appends-nil _; cut = refl }
+
+pub returns-in_default : goal.returns-in_default
+returns-in_default g c =
+    let state = g.K.Sink.state in
+    line_fails found_line c.args.found.now c.loop-m.m-index (state c.args.sink.now) (state c.loop-m.sink) (state c.put_found.new.sink) c.loop-m.invariant c.loop-m-item.result c.in_default.field-0 c.loop-m-test.true
+    (subst (λ (x : Pair). Put {E = Failed} (state c.loop-m.sink) (state c.put_found.new.sink) (Err c.in_default.field-0) (found_line x)) c.loop-m-item.is c.in_default.ensures)
+
+pub loop-m-preserved : goal.loop-m-preserved
+loop-m-preserved g c =
+    let state = g.K.Sink.state in
+    PutsLines-more found_line c.args.found.now c.loop-m.m-index (state c.args.sink.now) (state c.loop-m.sink) (state c.put_found.new.sink) c.loop-m.invariant c.loop-m-item.result c.loop-m-test.true
+    (subst (λ (x : Pair). Appends (state c.loop-m.sink).bytes (state c.put_found.new.sink).bytes (found_line x)) c.loop-m-item.is c.in-Ok.ensures.all)
+
+pub returns-in_default-flush : goal.returns-in_default-flush
+returns-in_default-flush g c =
+    flush_fails found_line c.args.found.now c.loop-m.m-index _ _ _ c.loop-m.invariant c.in_default-flush.field-0 c.loop-m-test.false c.in_default-flush.ensures
+
+pub returns : goal.returns
+returns g c = lines_shown found_line c.args.found.now c.loop-m.m-index _ _ _ c.loop-m.invariant c.loop-m-test.false c.in-Ok-flush.ensures

@@ -1,0 +1,8 @@
+use Rattle.pb_commands.specs.ProbeShown.{found_line}
+use Rattle.pb_commands.proofs.Lines.{PutsLines}
+use Rattle.pb_commands.proofs.probe.show_found.Given as goal
+
+-- the lines of the moves before this one have been put
+abbrev pub invariant-loop-m : goal.invariant-loop-m
+invariant-loop-m g l =
+    let state = g.K.Sink.state in PutsLines found_line l.found l.m-index (state l.initial.sink).bytes (state l.sink).bytes

@@ -1,0 +1,27 @@
+use Rattle.std.proofs.Common.{[], refl}
+use Rattle.std.proofs.KnownBytes.{Appends-nil}
+use Rattle.pb_poly.specs.declared.entry.Entry.{Entry}
+use Rattle.pb_commands.specs.BookShown.{entry_line}
+use Rattle.pb_commands.proofs.Lines.{PutsLines-more, flush_fails, line_fails, lines_shown}
+use Rattle.pb_commands.proofs.show.show_entries.Goals as goal
+
+abbrev none : Entry
+none = record { key = 0; code = 0; weight = 0; learn = 0 }
+
+pub loop-entry-init : goal.loop-entry-init
+loop-entry-init g c = record { done = []; put = Appends-nil _; cut = refl }
+
+pub returns-in_default : goal.returns-in_default
+returns-in_default g c =
+    line_fails entry_line c.args.entries.now c.loop-entry.entry-index _ _ _ c.loop-entry.invariant none c.in_default.field-0 c.loop-entry-test.true c.in_default.ensures
+
+pub loop-entry-preserved : goal.loop-entry-preserved
+loop-entry-preserved g c =
+    let state = g.K.Sink.state in PutsLines-more entry_line c.args.entries.now c.loop-entry.entry-index (state c.args.sink.now) (state c.loop-entry.sink) (state c.put_entry.new.sink) c.loop-entry.invariant none c.loop-entry-test.true c.in-Ok.ensures.all
+
+pub returns-in_default-flush : goal.returns-in_default-flush
+returns-in_default-flush g c =
+    flush_fails entry_line c.args.entries.now c.loop-entry.entry-index _ _ _ c.loop-entry.invariant c.in_default-flush.field-0 c.loop-entry-test.false c.in_default-flush.ensures
+
+pub returns : goal.returns
+returns g c = lines_shown entry_line c.args.entries.now c.loop-entry.entry-index _ _ _ c.loop-entry.invariant c.loop-entry-test.false c.in-Ok-flush.ensures

@@ -1,0 +1,12 @@
+use Rattle.std.proofs.Common.{List, ℕ, subst}
+use Rattle.pb_poly.specs.Table.{IsDueTable}
+use Rattle.pb_poly.specs.declared.table.TableError.TheVariants as poly
+use Rattle.pb_commands.proofs.table.TableBytes.read.Goals as goal
+
+pub returns-in-Err-Count-clause-err : goal.returns-in-Err-Count-clause-err
+returns-in-Err-Count-clause-err g c = record {
+  came = _;
+  reads = c.in_ok-drain.ensures.all;
+  few = c.as_bytes.ensures.few;
+  due = subst (λ (xs : List ℕ). IsDueTable (poly.Count c.in-Err-Count.count) xs) c.as_bytes.ensures.value (rw c.in-Err-Count.field-0-is at c.in-Err-Count.ensures.refused);
+}

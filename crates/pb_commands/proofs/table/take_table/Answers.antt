@@ -1,0 +1,7 @@
+use Rattle.pb_commands.proofs.OnlyTables.{only_table}
+use Rattle.pb_commands.proofs.table.take_table.Goals as goal
+
+pub returns-clause-only : goal.returns-clause-only
+returns-clause-only g c words bytes tells is =
+    let state = g.S.Source.state in
+    only_table c.args.fills (state c.args.source.now) (state c.read.new.source) words bytes tells is c.read.result c.read.ensures.found c.read.ensures.err

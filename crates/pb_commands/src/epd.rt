@@ -1,0 +1,195 @@
+//! The command `epd`: each EPD line is written in its one ordered form, or named as refused.
+ghost use Rattle.std.specs.Prelude.{◌≡◌, ◌≢◌, ◌≤◌, ◌↔◌, ◌++◌, IfErr, IfOk, IsTrue, OnOk, length, true};
+ghost use Rattle.pb_board.specs.LineEnd.{with_end};
+ghost use Rattle.pb_epd.specs.declared.refusal.EpdError.TheVariants as epd;
+ghost use Rattle.pb_io.specs.Lines.{line_limit};
+ghost use Rattle.pb_commands.specs.EpdRun.{RewritesStream, RewritesTold, RewritesUntil};
+ghost use Rattle.pb_commands.specs.EpdShown.{IsBlank, epd_reason, refused_line};
+ghost use Rattle.pb_commands.specs.Line.{parts_joined};
+ghost use Rattle.pb_commands.specs.Rewriter.{LineTaken, Puts, RewritesAll, RewritesUntilStop};
+
+use crate::fault::Fault;
+use crate::output::put_line;
+use itoa::Buffer;
+use pb_board::without_return;
+use pb_epd::{EpdError, read_epd, write_epd};
+use pb_poly::{LineTask, LinesFault, Sink, Source, take_lines};
+use std::alloc::Global;
+
+/// Why no further line is taken.
+#[derive(Clone, Copy)]
+enum Stop {
+    /// The sink has failed.
+    Write,
+    /// A growth found no memory.
+    Memory,
+}
+
+/// Rewrites lines one after the other.
+#[derive(Drop)]
+struct Rewriter<'s, K> {
+    alloc: Global,
+    sink: &'s mut K,
+    /// How many lines were taken so far.
+    lines: u64,
+    /// Whether none of them was refused.
+    all_taken: bool,
+}
+
+impl<K: Sink> LineTask for Rewriter<'_, K> {
+    type Stop = Stop;
+
+    ghost use Rattle.pb_commands.specs.Rewriter.{RewritesLine};
+
+    ghost takes = { RewritesLine K.state };
+
+    fn take(&mut self, line: &[u8]) -> Result<(), Stop> {
+        self.lines = self.lines.saturating_add(1);
+        let taken = rewrite_line(self.alloc, self.sink, self.lines, line)?;
+        self.all_taken = self.all_taken && taken;
+        Ok(())
+    }
+
+    fn take_long(&mut self) -> Result<(), Stop> {
+        self.lines = self.lines.saturating_add(1);
+        refuse(self.sink, self.lines, b"long", b"")?;
+        self.all_taken = false;
+        Ok(())
+    }
+}
+
+impl<K: Sink> Rewriter<'_, K> {
+    /// Takes the lines of the source.
+    fn take_all<S: Source>(&mut self, source: &mut S, fills: u32) -> Result<(), LinesFault<Stop>>
+        requires first { self.old.lines ≡ 0 }
+        requires none_refused { self.old.all_taken ≡ true }
+        ensures ok { OnOk result (RewritesAll fills (S.state source.old) (S.state source.new)
+            (K.state self.old.sink.now) (K.state self.new.sink.now) self.new.all_taken) }
+        ensures err { IfErr result (RewritesUntilStop fills (S.state source.old) (S.state source.new)
+            (K.state self.old.sink.now) (K.state self.new.sink.now)) }
+        ensures same_sink { self.new.sink.ghost_name ≡ self.old.sink.ghost_name }
+    {
+        take_lines(self.alloc, source, self, fills)
+    }
+}
+
+/// Rewrites EPD lines: of each line of the source, its one ordered form is put, or `refused`, the line's number from 1 and
+/// why it is no EPD record. A line of spaces alone is counted and passed over. Answers whether no line was refused.
+///
+/// A line is refused as `long` past 8,192 bytes; a final CR counts, and is dropped. A piece that no LF ended is taken at the
+/// end of input, and not at a fault. `Memory` comes where a growth found no memory, and ends the run after the lines before.
+pub fn run_epd<S: Source, K: Sink>(
+    alloc: Global,
+    source: &mut S,
+    sink: &mut K,
+    fills: u32,
+) -> Result<bool, Fault>
+    ensures shown { IfOk result (RewritesStream fills (S.state source.old) (S.state source.new) (K.state sink.old) (K.state sink.new)) }
+    ensures told { IfOk result (RewritesTold (S.state source.old) (S.state source.new) (K.state sink.old) (K.state sink.new)) }
+    ensures fault { IfErr result (RewritesUntil fills (S.state source.old) (S.state source.new) (K.state sink.old) (K.state sink.new)) }
+{
+    let mut rewriter = Rewriter {
+        alloc,
+        sink,
+        lines: 0,
+        all_taken: true,
+    };
+    let ended = rewriter.take_all(source, fills);
+    let Rewriter {
+        sink,
+        all_taken,
+        ..
+    } = rewriter;
+    match ended {
+        Ok(()) => match sink.flush() {
+            Ok(()) => Ok(all_taken),
+            Err(_) => Err(Fault::Write),
+        },
+        Err(LinesFault::Memory) => Err(Fault::Memory),
+        Err(LinesFault::Read) => Err(Fault::Read),
+        Err(LinesFault::Endless) => Err(Fault::Endless),
+        Err(LinesFault::Stop(Stop::Write)) => Err(Fault::Write),
+        Err(LinesFault::Stop(Stop::Memory)) => Err(Fault::Memory),
+    }
+}
+
+/// Puts what the line of this number gives, and answers whether it was taken.
+fn rewrite_line<K: Sink>(
+    alloc: Global,
+    sink: &mut K,
+    number: u64,
+    line: &[u8],
+) -> Result<bool, Stop>
+    requires { length line.now ≤ line_limit }
+    ensures { LineTaken (K.state sink.old) (K.state sink.new) number line.now result }
+{
+    let text = without_return(line);
+    if is_blank(text) {
+        return Ok(true);
+    }
+    match read_epd(alloc, text) {
+        Ok(record) => {
+            let Ok(form) = write_epd(alloc, &record) else {
+                return Err(Stop::Memory);
+            };
+            put(sink, &[form.as_slice()])?;
+            Ok(true)
+        }
+        Err(EpdError::Memory) => Err(Stop::Memory),
+        Err(error) => {
+            put_refusal(sink, number, error)?;
+            Ok(false)
+        }
+    }
+}
+
+/// Tells whether the text has no byte but spaces.
+fn is_blank(text: &[u8]) -> bool
+    ensures { IsTrue result ↔ IsBlank text.now }
+{
+    text.iter().all(|byte| *byte == b' ')
+}
+
+/// Puts why the line of this number is refused.
+fn put_refusal<K: Sink>(sink: &mut K, number: u64, error: EpdError) -> Result<(), Stop>
+    requires { error ≢ epd.Memory }
+    ensures { Puts (K.state sink.old) (K.state sink.new) (refused_line number (epd_reason error)) result }
+{
+    match error {
+        EpdError::Token(at) => {
+            let mut buffer = Buffer::new();
+            refuse(sink, number, b"token ", buffer.format(at).as_bytes())
+        }
+        EpdError::Fields => refuse(sink, number, b"fields", b""),
+        EpdError::Setup(refusal) => refuse(sink, number, b"setup ", refusal.word().as_bytes()),
+        EpdError::Opcode(place) => {
+            let mut buffer = Buffer::new();
+            refuse(sink, number, b"opcode ", buffer.format(place).as_bytes())
+        }
+        EpdError::Unended => refuse(sink, number, b"unended", b""),
+        EpdError::Repeated(place) => {
+            let mut buffer = Buffer::new();
+            refuse(sink, number, b"repeated ", buffer.format(place).as_bytes())
+        }
+        EpdError::Memory => unreachable!(),
+    }
+}
+
+/// Puts that the line of this number is refused, with a reason in two parts.
+fn refuse<K: Sink>(sink: &mut K, number: u64, word: &[u8], detail: &[u8]) -> Result<(), Stop>
+    ensures { Puts (K.state sink.old) (K.state sink.new) (refused_line number (word.now ++ detail.now)) result }
+{
+    let mut buffer = Buffer::new();
+    let digits = buffer.format(number);
+    put(sink, &[b"refused ", digits.as_bytes(), b" ", word, detail])
+}
+
+/// Puts the parts of a line in turn, and its end.
+fn put<K: Sink>(sink: &mut K, parts: &[&[u8]]) -> Result<(), Stop>
+    ensures { Puts (K.state sink.old) (K.state sink.new) (with_end (parts_joined parts.now)) result }
+{
+    match put_line(sink, parts) {
+        Ok(()) => Ok(()),
+        Err(_) => Err(Stop::Write),
+    }
+}

@@ -1,0 +1,34 @@
+//! How a command ends, as the number that the program exits with.
+ghost use Rattle.std.specs.Prelude.{◌≡◌};
+ghost use Rattle.pb_commands.specs.Status.{status_of};
+
+use thiserror::Error;
+
+/// Why a command could not go on to its end.
+#[derive(Clone, Copy, Debug, PartialEq, Eq, Error)]
+pub enum Fault {
+    /// A source of bytes failed.
+    #[error("read")]
+    Read,
+    /// A sink of bytes failed.
+    #[error("write")]
+    Write,
+    /// A source gave bytes as often as it could be asked, and still had not ended.
+    #[error("endless")]
+    Endless,
+    /// A growth of the command's own found no memory.
+    #[error("memory")]
+    Memory,
+}
+
+/// The exit status for what a command answers: 0 where the input was taken, 1 where it was
+/// refused, 3 where the command met a fault.
+pub fn status(answer: Result<bool, Fault>) -> u8
+    ensures { result ≡ status_of answer }
+{
+    match answer {
+        Ok(true) => 0,
+        Ok(false) => 1,
+        Err(_) => 3,
+    }
+}

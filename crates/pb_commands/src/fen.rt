@@ -1,0 +1,156 @@
+//! The command `fen`: moves are played from a FEN record, and the record after them is written.
+ghost use Rattle.std.specs.Prelude.{◌≡◌, ℕ, ◌+◌, ◌↔◌, Bool, List, All, IfErr, IfOk, IsTrue, MatchOption, MatchResult, OnErr, OnOk, false, take, true};
+ghost use Rattle.std.specs.Io.KnownBytes.{Appends};
+ghost use Rattle.pb_board.specs.Fen.{FenText};
+ghost use Rattle.pb_board.specs.Position.{IsRecord};
+ghost use Rattle.pb_board.specs.LineEnd.{with_end};
+ghost use Rattle.pb_moves.specs.AfterRecord.{AfterRecord};
+ghost use Rattle.pb_moves.specs.Cases.{Legal};
+ghost use Rattle.pb_moves.specs.Moved.{Moved};
+ghost use Rattle.pb_moves.specs.Played.{IsFirstMisspelt, IsSpelled, Spells};
+ghost use Rattle.pb_commands.specs.Line.{texts};
+ghost use Rattle.pb_commands.specs.FenShown.{FenShown, Unplayable};
+ghost use Rattle.pb_commands.specs.Plays.{PlaysWords};
+ghost use Rattle.pb_commands.specs.Refused.{refusal_line};
+ghost use Rattle.pb_commands.specs.Shows.{Shows};
+ghost use Rattle.pb_commands.specs.declared.fault.Fault.TheVariants.{Write};
+
+use crate::fault::Fault;
+use crate::output::show_line;
+use itoa::Buffer;
+use pb_board::{Fen, FenError, read_fen};
+use pb_moves::{advance, read_move};
+use pb_poly::Sink;
+use std::alloc::Global;
+
+/// Why a FEN record and its moves give no record.
+#[derive(Clone, Copy)]
+enum Refusal {
+    /// The text is no record.
+    Record(FenError),
+    /// The word with this number, from 1, spells no move.
+    Spelling(usize),
+    /// The move with this number, from 1, isn't legal where it is played.
+    Illegal(usize),
+}
+
+/// Plays the moves from a FEN record and shows the record after them on the sink. Where the input
+/// is refused, shows why: `refused fen` and the word of the first refusal of the record that is
+/// due, else `refused spelling` and the number of the first word that spells no move, else
+/// `refused illegal` and the number of the first move that isn't legal. Answers whether the input
+/// was taken.
+///
+/// It takes no memory of its own. `Write` comes where the sink has failed, and then a front of
+/// what was to be shown was put.
+pub fn run_fen<K: Sink>(
+    _alloc: Global,
+    fen: &[u8],
+    moves: &[&str],
+    sink: &mut K,
+) -> Result<bool, Fault>
+    ensures shown { IfOk result (λ answer. (out : List ℕ) × FenShown fen.now (texts moves.now) answer out
+        × Appends (K.state sink.old).bytes (K.state sink.new).bytes out) }
+    ensures handed_on { OnOk result (((K.state sink.new).failed ≡ false)
+        × ((K.state sink.new).flushed ≡ true)) }
+    ensures fault { IfErr result (λ fault. (fault ≡ Write) × ((K.state sink.new).failed ≡ true)) }
+    ensures front { OnErr result ((answer : Bool) × (out : List ℕ) × (count : ℕ)
+        × FenShown fen.now (texts moves.now) answer out
+        × Appends (K.state sink.old).bytes (K.state sink.new).bytes (take count out)) }
+{
+    match record_after(fen, moves) {
+        Ok(last) => {
+            show_line(sink, &[last.text().as_bytes()])?;
+            Ok(true)
+        }
+        Err(refusal) => {
+            show_refusal(sink, refusal)?;
+            Ok(false)
+        }
+    }
+}
+
+/// The record after the moves.
+fn record_after(fen: &[u8], moves: &[&str]) -> Result<Fen, Refusal>
+    ensures { MatchResult result
+        (λ last. (line : List ℕ) → FenText last line → FenShown fen.now (texts moves.now) true (with_end line))
+        (λ refusal. FenShown fen.now (texts moves.now) false (refusal_line refusal)) }
+{
+    let start = match read_fen(fen) {
+        Ok(start) => start,
+        Err(error) => return Err(Refusal::Record(error)),
+    };
+    if let Some(number) = misspelt(moves) {
+        return Err(Refusal::Spelling(number));
+    }
+    match play_words(start, moves) {
+        Ok(last) => Ok(last),
+        Err(number) => Err(Refusal::Illegal(number)),
+    }
+}
+
+/// The number of the first word that spells no move, from 1.
+fn misspelt(words: &[&str]) -> Option<usize>
+    ensures { MatchOption result (All IsSpelled (texts words.now)) (IsFirstMisspelt (texts words.now)) }
+{
+    for (index, word) in words.iter().enumerate() {
+        if !spells_move(word) {
+            return Some(index + 1);
+        }
+    }
+    None
+}
+
+/// Tells whether the word spells a move.
+fn spells_move(word: &str) -> bool
+    ensures { IsTrue result ↔ IsSpelled word.now }
+{
+    read_move(word.as_bytes()).is_some()
+}
+
+/// Plays the moves that the words spell. The error is the number of the first that isn't legal,
+/// from 1.
+fn play_words(start: Fen, words: &[&str]) -> Result<Fen, usize>
+    requires lawful { IsRecord start }
+    requires spelt { All IsSpelled (texts words.now) }
+    ensures { MatchResult result
+        (λ last. PlaysWords start (texts words.now) last)
+        (λ number. Unplayable start (texts words.now) number) }
+{
+    let mut record = start;
+    for (index, word) in words.iter().enumerate() {
+        let Some(next) = play_word(&record, word) else {
+            return Err(index + 1);
+        };
+        record = next;
+    }
+    Ok(record)
+}
+
+/// The record after the move that the word spells. None where the word spells no legal move.
+fn play_word(before: &Fen, word: &str) -> Option<Fen>
+    ensures { MatchOption result
+        (IsSpelled word.now → (m : Moved) × Spells word.now m × ¬ Legal before.now.setup m)
+        (λ next. (m : Moved) × Spells word.now m × Legal before.now.setup m × AfterRecord before.now m next) }
+{
+    let m = read_move(word.as_bytes())?;
+    advance(before, m)
+}
+
+/// Shows why the input is refused.
+fn show_refusal<K: Sink>(sink: &mut K, refusal: Refusal) -> Result<(), Fault>
+    ensures { Shows (K.state sink.old) (K.state sink.new) result (refusal_line refusal) }
+{
+    match refusal {
+        Refusal::Record(error) => show_line(sink, &[b"refused fen ", error.word().as_bytes()]),
+        Refusal::Spelling(number) => {
+            let mut buffer = Buffer::new();
+            let digits = buffer.format(number);
+            show_line(sink, &[b"refused spelling ", digits.as_bytes()])
+        }
+        Refusal::Illegal(number) => {
+            let mut buffer = Buffer::new();
+            let digits = buffer.format(number);
+            show_line(sink, &[b"refused illegal ", digits.as_bytes()])
+        }
+    }
+}

@@ -1,0 +1,94 @@
+//! The command `probe`: the moves that a book has for a position.
+ghost use Rattle.std.specs.Prelude.{◌≡◌, ℕ, Bool, IfErr, IfOk, IfSome, List, MatchResult, OnOk, false, true};
+ghost use Rattle.std.specs.Io.KnownBytes.{Appends};
+ghost use Rattle.pb_poly.specs.Reading.{Tells};
+ghost use Rattle.pb_io.specs.Sink.{Put};
+ghost use Rattle.pb_commands.specs.Judged.{PutsText, PutsUntil};
+ghost use Rattle.pb_commands.specs.ProbeRun.{JudgesProbe, StopsProbe};
+ghost use Rattle.pb_commands.specs.ProbeShown.{ProbeShown, found_line, probe_text};
+ghost use Rattle.pb_commands.specs.Shows.{Shows};
+ghost use Rattle.pb_commands.specs.declared.fault.Fault.TheVariants.{Memory};
+
+use crate::fault::Fault;
+use crate::output::put_line;
+use crate::refusal::{refuse, refuse_book};
+use crate::table::{refuse_table, take_table};
+use itoa::Buffer;
+use pb_board::read_fen;
+use pb_moves::Move;
+use pb_poly::{Failed, Sink, Source, probe, read_book};
+use std::alloc::Global;
+
+/// Shows the moves that a book has for a record's setup, each with its weight in decimal, in the book's order. The table of
+/// words that keys are made of, the book and the record are judged in this order, and the first that is refused is told:
+/// `refused table` and `long`, `line` or `count`, `refused book` and `unsorted` or `cut`, or `refused fen` and the word of the
+/// record's refusal. Nothing later is read then, nor after a fault. Answers whether all three were taken.
+///
+/// Where both sources tell bytes, don't fail and end within the fills, what is put is what those bytes show, a fault of the
+/// sink and want of memory aside.
+pub fn run_probe<T: Source, B: Source, K: Sink>(
+    alloc: Global,
+    table_source: &mut T,
+    book_source: &mut B,
+    fen: &[u8],
+    sink: &mut K,
+    fills: u32,
+) -> Result<bool, Fault>
+    ensures shown { IfOk result (PutsText (JudgesProbe fills (T.state table_source.old) (T.state table_source.new)
+        (B.state book_source.old) (B.state book_source.new) fen.now) (K.state sink.old) (K.state sink.new)) }
+    ensures told { IfOk result (λ answer. IfSome (T.state table_source.old).to_come (λ table. IfSome (B.state book_source.old).to_come (λ book.
+        PutsText (ProbeShown table book fen.now) (K.state sink.old) (K.state sink.new) answer))) }
+    ensures handed_on { OnOk result (((K.state sink.new).failed ≡ false)
+        × ((K.state sink.new).flushed ≡ true)) }
+    ensures fault { IfErr result (PutsUntil
+        (JudgesProbe fills (T.state table_source.old) (T.state table_source.new) (B.state book_source.old) (B.state book_source.new) fen.now)
+        (StopsProbe fills (T.state table_source.old) (T.state table_source.new) (B.state book_source.old) (B.state book_source.new) fen.now)
+        (K.state sink.old) (K.state sink.new)) }
+    ensures only { (table book : List ℕ) (answer : Bool) (out : List ℕ) → Tells fills (T.state table_source.old) (T.state table_source.new) table
+        → Tells fills (B.state book_source.old) (B.state book_source.new) book
+        → (K.state sink.new).failed ≡ false → ProbeShown table book fen.now answer out
+        → MatchResult result (λ taken. (taken ≡ answer) × Appends (K.state sink.old).bytes (K.state sink.new).bytes out) (λ e. e ≡ Memory) }
+{
+    let table = match take_table(alloc, table_source, fills) {
+        Ok(table) => table,
+        Err(error) => return refuse_table(sink, error),
+    };
+    let book = match read_book(alloc, book_source, fills) {
+        Ok(book) => book,
+        Err(error) => return refuse_book(sink, error),
+    };
+    let record = match read_fen(fen) {
+        Ok(record) => record,
+        Err(error) => return refuse(sink, &[b"refused fen ", error.word().as_bytes()]),
+    };
+    let Ok(found) = probe(alloc, &book, &table, &record.setup()) else {
+        return Err(Fault::Memory);
+    };
+    show_found(sink, found.as_slice())?;
+    Ok(true)
+}
+
+/// Shows the lines of the moves.
+fn show_found<K: Sink>(sink: &mut K, found: &[(Move, u16)]) -> Result<(), Fault>
+    ensures { Shows (K.state sink.old) (K.state sink.new) result (probe_text found.now) }
+{
+    for (m, weight) in found {
+        let Ok(()) = put_found(sink, m, *weight) else {
+            return Err(Fault::Write);
+        };
+    }
+    let Ok(()) = sink.flush() else {
+        return Err(Fault::Write);
+    };
+    Ok(())
+}
+
+/// Puts the line of a move.
+fn put_found<K: Sink>(sink: &mut K, m: &Move, weight: u16) -> Result<(), Failed>
+    ensures { Put (K.state sink.old) (K.state sink.new) result (found_line (m.now, weight)) }
+{
+    let text = m.text();
+    let mut buffer = Buffer::new();
+    let digits = buffer.format(weight);
+    put_line(sink, &[text.as_bytes(), b" ", digits.as_bytes()])
+}

@@ -1,0 +1,40 @@
+//! Lines that say why an input is refused.
+ghost use Rattle.std.specs.Prelude.{◌++◌, decimal};
+ghost use Rattle.pb_board.specs.LineEnd.{with_end};
+ghost use Rattle.pb_commands.specs.Line.{parts_joined};
+ghost use Rattle.pb_commands.specs.ShowsRefusal.{ShowsRefusal, RefusesForBook};
+
+use crate::fault::Fault;
+use crate::output::show_line;
+use itoa::Buffer;
+use pb_poly::{BookError, Sink};
+
+/// Shows the line of these parts and answers that the input was refused.
+pub(crate) fn refuse<K: Sink>(sink: &mut K, parts: &[&[u8]]) -> Result<bool, Fault>
+    ensures { ShowsRefusal (K.state sink.old) (K.state sink.new) result (with_end (parts_joined parts.now)) }
+{
+    show_line(sink, parts)?;
+    Ok(false)
+}
+
+/// The same of a line that ends with a number.
+pub(crate) fn refuse_with<K: Sink>(sink: &mut K, words: &[u8], number: usize) -> Result<bool, Fault>
+    ensures { ShowsRefusal (K.state sink.old) (K.state sink.new) result (with_end (words.now ++ decimal number)) }
+{
+    let mut buffer = Buffer::new();
+    let digits = buffer.format(number);
+    refuse(sink, &[words, digits.as_bytes()])
+}
+
+/// Shows why a book is refused, or answers the fault that ended its reading.
+pub(crate) fn refuse_book<K: Sink>(sink: &mut K, error: BookError) -> Result<bool, Fault>
+    ensures { RefusesForBook (K.state sink.old) (K.state sink.new) result error }
+{
+    match error {
+        BookError::Unsorted(number) => refuse_with(sink, b"refused book unsorted ", number),
+        BookError::Cut(extra) => refuse_with(sink, b"refused book cut ", extra),
+        BookError::Read => Err(Fault::Read),
+        BookError::Endless => Err(Fault::Endless),
+        BookError::Memory => Err(Fault::Memory),
+    }
+}

@@ -1,0 +1,76 @@
+//! The command `show`: a line for each entry of a book.
+ghost use Rattle.std.specs.Prelude.{◌≡◌, ℕ, Bool, IfErr, IfOk, IfSome, List, MatchResult, OnOk, false, true};
+ghost use Rattle.std.specs.Io.KnownBytes.{Appends};
+ghost use Rattle.pb_poly.specs.Reading.{Tells};
+ghost use Rattle.pb_io.specs.Sink.{Put};
+ghost use Rattle.pb_commands.specs.BookRun.{JudgesBook, StopsBook};
+ghost use Rattle.pb_commands.specs.BookShown.{BookShown, entry_line, show_text};
+ghost use Rattle.pb_commands.specs.Judged.{PutsText, PutsUntil};
+ghost use Rattle.pb_commands.specs.Shows.{Shows};
+ghost use Rattle.pb_commands.specs.declared.fault.Fault.TheVariants.{Memory};
+
+use crate::fault::Fault;
+use crate::hexadecimal::{digits_of_u16, digits_of_u32, digits_of_u64};
+use crate::output::put_line;
+use crate::refusal::refuse_book;
+use pb_poly::{Entry, Failed, Sink, Source, read_book};
+use std::alloc::Global;
+
+/// Shows a book: a line for each entry, with its key, code, weight and learn value as 16, 4, 4 and 8 lower-case hexadecimal
+/// digits. Where the source gives no book, shows `refused book unsorted` and the number, from 1, of the first entry whose key
+/// is below the key before it, or `refused book cut` and the number of bytes after the last whole entry. Answers whether the
+/// book was taken. The whole book is read before a line is put.
+///
+/// Where the source tells bytes, doesn't fail and ends within the fills, what is put is what those bytes show, a fault of the
+/// sink and want of memory aside. `Memory` comes where a growth of the book found no memory.
+pub fn run_show<S: Source, K: Sink>(
+    alloc: Global,
+    source: &mut S,
+    sink: &mut K,
+    fills: u32,
+) -> Result<bool, Fault>
+    ensures shown { IfOk result (PutsText (JudgesBook fills (S.state source.old) (S.state source.new)) (K.state sink.old) (K.state sink.new)) }
+    ensures told { IfOk result (λ answer. IfSome (S.state source.old).to_come (λ bytes.
+        PutsText (BookShown bytes) (K.state sink.old) (K.state sink.new) answer)) }
+    ensures handed_on { OnOk result (((K.state sink.new).failed ≡ false)
+        × ((K.state sink.new).flushed ≡ true)) }
+    ensures fault { IfErr result (PutsUntil (JudgesBook fills (S.state source.old) (S.state source.new))
+        (StopsBook fills (S.state source.old) (S.state source.new)) (K.state sink.old) (K.state sink.new)) }
+    ensures only { (bytes : List ℕ) (answer : Bool) (out : List ℕ) → Tells fills (S.state source.old) (S.state source.new) bytes
+        → (K.state sink.new).failed ≡ false → BookShown bytes answer out
+        → MatchResult result (λ taken. (taken ≡ answer) × Appends (K.state sink.old).bytes (K.state sink.new).bytes out) (λ e. e ≡ Memory) }
+{
+    match read_book(alloc, source, fills) {
+        Ok(book) => {
+            show_entries(sink, book.entries())?;
+            Ok(true)
+        }
+        Err(error) => refuse_book(sink, error),
+    }
+}
+
+/// Shows the lines of the entries.
+fn show_entries<K: Sink>(sink: &mut K, entries: &[Entry]) -> Result<(), Fault>
+    ensures { Shows (K.state sink.old) (K.state sink.new) result (show_text entries.now) }
+{
+    for entry in entries {
+        let Ok(()) = put_entry(sink, entry) else {
+            return Err(Fault::Write);
+        };
+    }
+    let Ok(()) = sink.flush() else {
+        return Err(Fault::Write);
+    };
+    Ok(())
+}
+
+/// Puts the line of an entry: its key, code, weight and learn value in hexadecimal digits.
+fn put_entry<K: Sink>(sink: &mut K, entry: &Entry) -> Result<(), Failed>
+    ensures { Put (K.state sink.old) (K.state sink.new) result (entry_line entry.now) }
+{
+    let key = digits_of_u64(entry.key);
+    let code = digits_of_u16(entry.code);
+    let weight = digits_of_u16(entry.weight);
+    let learn = digits_of_u32(entry.learn);
+    put_line(sink, &[&key, b" ", &code, b" ", &weight, b" ", &learn])
+}

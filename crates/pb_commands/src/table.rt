@@ -1,0 +1,173 @@
+//! Table files from sources.
+ghost use Rattle.std.specs.Prelude.{◌≡◌, ℕ, ◌<◌, ◌≤◌, List, [], IfErr, IfOk, MatchResult, OnOk, length};
+ghost use Rattle.pb_poly.specs.Reading.{Tells};
+ghost use Rattle.pb_io.specs.Reads.{ReadsAll};
+ghost use Rattle.pb_commands.specs.ShowsRefusal.{RefusesForTable};
+ghost use Rattle.pb_commands.specs.TableFilling.{FillsTable};
+ghost use Rattle.pb_commands.specs.TableReading.{FindsNoTable, ReadsTable};
+ghost use Rattle.pb_commands.specs.TableShown.{IsTableFile, table_limit};
+ghost use Rattle.pb_commands.specs.declared.table.TableFault.TheVariants.{Memory};
+
+use crate::fault::Fault;
+use crate::refusal::{refuse, refuse_with};
+use pb_poly::{Sink, Source, Table, TableError, read_table};
+use std::alloc::{AllocError, Global};
+use std::marker::Model;
+
+/// The most bytes that a table file may have.
+const TABLE_LIMIT: usize = 16_384;
+
+/// Why a source gave no table.
+#[derive(Clone, Copy, Debug, PartialEq, Eq)]
+pub enum TableFault {
+    /// More bytes came than a table file may have. None of them was judged.
+    Long,
+    /// The line of this number, from 1, isn't 16 hexadecimal digits. Each line before it is.
+    Line(usize),
+    /// Each line is 16 hexadecimal digits, and there are this many and not 781.
+    Count(usize),
+    /// The source has failed.
+    Read,
+    /// The fills were used up, and none was the end or a fault.
+    Endless,
+    /// No memory, for the bytes before the first fill or for the table after the last.
+    Memory,
+}
+
+/// What has come of a table file.
+#[derive(Drop)]
+struct TableBytes {
+    bytes: Vec<u8>,
+    len: usize,
+}
+
+impl Model for TableBytes {
+    ghost use Rattle.std.specs.Prelude.{◌≡◌, ◌≤◌, ℕ, List, length, take};
+    ghost use Rattle.pb_commands.specs.TableShown.{table_limit};
+
+    ghost Value = { List ℕ };
+
+    ghost view = { λ t. take t.len t.bytes.items };
+
+    ghost invariant = { λ t. (t.len ≤ table_limit) × (length t.bytes.items ≡ table_limit) };
+}
+
+impl TableBytes {
+    /// No bytes, and room for as many as a table file may have.
+    fn new(alloc: Global) -> Result<TableBytes, AllocError>
+        ensures { IfOk result (λ held. held ≡ []) }
+    {
+        Ok(TableBytes {
+            bytes: vec![in alloc; 0; TABLE_LIMIT]?,
+            len: 0,
+        })
+    }
+
+    /// The bytes.
+    fn as_bytes(&self) -> &[u8]
+        ensures value { result.now ≡ self.now }
+        ensures few { length self.now ≤ table_limit }
+    {
+        &self.bytes[..self.len]
+    }
+
+    /// Takes what one fill of the source gives, and answers how many bytes. Where there is no more room, it asks for one
+    /// byte, to tell whether the source is at its end.
+    fn fill<S: Source>(&mut self, source: &mut S) -> Result<usize, TableFault>
+        ensures fills { FillsTable (S.state source.old) (S.state source.new) self.old self.new result }
+        ensures few { length self.new ≤ table_limit }
+    {
+        if self.len == TABLE_LIMIT {
+            return expect_end(source);
+        }
+        let Ok(count) = source.fill(&mut self.bytes[self.len..]) else {
+            return Err(TableFault::Read);
+        };
+        self.len += count;
+        Ok(count)
+    }
+
+    /// Reads the source to its end.
+    fn drain<S: Source>(&mut self, source: &mut S, fills: u32) -> Result<(), TableFault>
+        requires { self.old ≡ [] }
+        ensures all { OnOk result (ReadsAll table_limit fills (S.state source.old) (S.state source.new) self.new) }
+        ensures err { IfErr result (FindsNoTable fills (S.state source.old) (S.state source.new)) }
+    {
+        for _made in 0..fills {
+            let count = self.fill(source)?;
+            if count == 0 {
+                return Ok(());
+            }
+        }
+        Err(TableFault::Endless)
+    }
+
+    /// The table of the source's bytes.
+    fn read<S: Source>(
+        mut self,
+        alloc: Global,
+        source: &mut S,
+        fills: u32,
+    ) -> Result<Table, TableFault>
+        requires { self ≡ [] }
+        ensures found { IfOk result (ReadsTable fills (S.state source.old) (S.state source.new)) }
+        ensures err { IfErr result (FindsNoTable fills (S.state source.old) (S.state source.new)) }
+    {
+        self.drain(source, fills)?;
+        match read_table(alloc, self.as_bytes()) {
+            Ok(table) => Ok(table),
+            Err(TableError::Line(number)) => Err(TableFault::Line(number)),
+            Err(TableError::Count(count)) => Err(TableFault::Count(count)),
+            Err(TableError::Memory) => Err(TableFault::Memory),
+        }
+    }
+}
+
+/// Answers 0 where the source is at its end, and `Long` where one byte more comes.
+fn expect_end<S: Source>(source: &mut S) -> Result<usize, TableFault>
+    ensures { (held : List ℕ) → length held ≡ table_limit
+        → FillsTable (S.state source.old) (S.state source.new) held held result }
+{
+    let mut further = [0];
+    match source.fill(&mut further) {
+        Ok(0) => Ok(0),
+        Ok(_) => Err(TableFault::Long),
+        Err(_) => Err(TableFault::Read),
+    }
+}
+
+/// Reads a table file to the end of input, in at most so many fills, in whatever pieces it comes.
+///
+/// Where the source tells bytes, doesn't fail and ends within the fills, the table is that of those bytes, want of memory
+/// aside.
+///
+/// # Errors
+///
+/// `Long` once more than 16,384 bytes are there, and at the end of input `Line` or `Count`. `Memory` comes before the first
+/// fill, or where the bytes are a table.
+pub fn take_table<S: Source>(alloc: Global, source: &mut S, fills: u32) -> Result<Table, TableFault>
+    ensures found { IfOk result (ReadsTable fills (S.state source.old) (S.state source.new)) }
+    ensures err { IfErr result (FindsNoTable fills (S.state source.old) (S.state source.new)) }
+    ensures only { (words bytes : List ℕ) → Tells fills (S.state source.old) (S.state source.new) bytes → IsTableFile words bytes
+        → MatchResult result (λ table. table ≡ words) (λ e. e ≡ Memory) }
+{
+    let Ok(held) = TableBytes::new(alloc) else {
+        return Err(TableFault::Memory);
+    };
+    held.read(alloc, source, fills)
+}
+
+/// Shows why a table file is refused, `refused table` and `long`, or `line` or `count` and its number, and answers false; or puts
+/// nothing, and answers the fault that ended its reading.
+pub fn refuse_table<K: Sink>(sink: &mut K, error: TableFault) -> Result<bool, Fault>
+    ensures { RefusesForTable (K.state sink.old) (K.state sink.new) result error }
+{
+    match error {
+        TableFault::Long => refuse(sink, &[b"refused table long"]),
+        TableFault::Line(number) => refuse_with(sink, b"refused table line ", number),
+        TableFault::Count(count) => refuse_with(sink, b"refused table count ", count),
+        TableFault::Read => Err(Fault::Read),
+        TableFault::Endless => Err(Fault::Endless),
+        TableFault::Memory => Err(Fault::Memory),
+    }
+}
