@@ -26,7 +26,7 @@ install: build
 	install -D -m 644 completions/pbook.bash '$(DESTDIR)$(PREFIX)/share/bash-completion/completions/pbook'
 
 # The main job on the bundled examples: a book is made of 300 games and looked into; then games are played from their records,
-# and EPD lines are rewritten. examples/book.bin was made of the same games by another program.
+# and EPD lines are rewritten. examples/book.bin and examples/export.epd were made of the same games by other programs.
 demo: build
 	@echo '$$ pbook collect examples/table.txt build/demo.bin < examples/games.txt'
 	@build/pbook collect examples/table.txt build/demo.bin < examples/games.txt > build/replies
@@ -39,6 +39,7 @@ demo: build
 	@echo '$$ pbook export examples/table.txt < examples/games.txt | tail -1'
 	@build/pbook export examples/table.txt < examples/games.txt > build/demo.epd
 	@tail -1 build/demo.epd
+	@cmp build/demo.epd examples/export.epd
 	@build/pbook epd < build/demo.epd | cmp - build/demo.epd
 	@while IFS='|' read -r record moves; do \
 	    echo "$$ pbook fen '$$record' $$moves"; \
