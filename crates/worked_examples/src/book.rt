@@ -75,7 +75,7 @@ pub(crate) fn tell(alloc: Global, book: &Book) -> anyhow::Result<String> {
         let code = entry.code;
         let weight = entry.weight;
         let learn = entry.learn;
-        write!(text, "{key:016x} {code:04x} {weight:04x} {learn:08x}\n")?;
+        writeln!(text, "{key:016x} {code:04x} {weight:04x} {learn:08x}")?;
     }
     Ok(text)
 }
@@ -107,7 +107,7 @@ fn count_entries<S: Source>(alloc: Global, source: &mut S) -> anyhow::Result<Str
     match read_book(alloc, source, u32::MAX) {
         Ok(book) => {
             let count = book.entries().len();
-            Ok(format!(in alloc; "{count} entries")?)
+            Ok(format!(in alloc; "entries: {count}")?)
         }
         Err(refusal) => Ok(format!(in alloc; "refused {refusal:?}")?),
     }
@@ -174,7 +174,7 @@ fn found(alloc: Global, table: &str, record: &str, texts: &[&str]) -> anyhow::Re
     let mut text = String::new(alloc);
     for (m, weight) in &probe(alloc, &book, &table, &setup_of(alloc, record)?)? {
         let m = shown(alloc, m.text().as_bytes())?;
-        write!(text, "{m} {weight}\n")?;
+        writeln!(text, "{m} {weight}")?;
     }
     Ok(text)
 }

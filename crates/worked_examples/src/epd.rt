@@ -29,7 +29,7 @@ fn read(alloc: Global, line: &str) -> anyhow::Result<String> {
 fn tell(alloc: Global, record: &Epd) -> anyhow::Result<String> {
     let text = shown(alloc, write_epd(alloc, record)?.as_slice())?;
     let count = record.len();
-    Ok(format!(in alloc; "{count} operations\n{text}")?)
+    Ok(format!(in alloc; "operations: {count}\n{text}")?)
 }
 
 /// The operands of an operation.
@@ -41,8 +41,8 @@ fn operands(alloc: Global, line: &str, opcode: &str) -> anyhow::Result<String> {
     let mut text = String::new(alloc);
     for operand in operands {
         match operand {
-            Operand::Word(word) => write!(text, "word {}\n", shown(alloc, word.as_bytes())?)?,
-            Operand::Text(quoted) => write!(text, "text {}\n", shown(alloc, quoted.as_bytes())?)?,
+            Operand::Word(word) => writeln!(text, "word {}", shown(alloc, word.as_bytes())?)?,
+            Operand::Text(quoted) => writeln!(text, "text {}", shown(alloc, quoted.as_bytes())?)?,
         }
     }
     Ok(text)
@@ -70,7 +70,7 @@ fn put_all(alloc: Global, record: &str, operations: &[&str]) -> anyhow::Result<S
             anyhow::bail!("no operation");
         };
         let answer = record.put(opcode.as_bytes(), words_of(alloc, words)?);
-        write!(text, "{answer:?}\n{}\n", tell(alloc, &record)?)?;
+        writeln!(text, "{answer:?}\n{}", tell(alloc, &record)?)?;
     }
     let kept = shown(alloc, write_setup(alloc, &record.setup())?.as_slice())?;
     write!(text, "setup {kept}")?;

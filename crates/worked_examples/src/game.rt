@@ -85,7 +85,7 @@ fn check(alloc: Global, text: &str, with_parts: bool) -> anyhow::Result<String> 
         Ok(line) if with_parts => parts(alloc, &line),
         Ok(line) => {
             let plies = line.plies();
-            Ok(format!(in alloc; "{plies} moves")?)
+            Ok(format!(in alloc; "moves: {plies}")?)
         }
         Err(refusal) => Ok(format!(in alloc; "refused {refusal:?}")?),
     }
@@ -100,7 +100,7 @@ fn parts(alloc: Global, line: &Line) -> anyhow::Result<String> {
     let plies = line.plies();
     let moves: Vec<Move> = line.moves().collect(alloc)?;
     let moves = texts_of(alloc, MoveList::of(moves).as_slice())?;
-    Ok(format!(in alloc; "{id} {id_bytes} {outcome:?}\n{start}\n{plies} moves {moves}")?)
+    Ok(format!(in alloc; "{id} {id_bytes} {outcome:?}\n{start}\nmoves: {plies} {moves}")?)
 }
 
 /// The bytes as an id.

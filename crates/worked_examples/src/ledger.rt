@@ -66,8 +66,8 @@ pub(crate) fn ledger_with<T: Tally>(
     let mut answers = String::new(alloc);
     for line in &lines_of(alloc, lines)? {
         match ledger.submit(line.as_slice()) {
-            Ok(number) => write!(answers, "ok {number}\n")?,
-            Err(refusal) => write!(answers, "refused {refusal:?}\n")?,
+            Ok(number) => writeln!(answers, "ok {number}")?,
+            Err(refusal) => writeln!(answers, "refused {refusal:?}")?,
         }
     }
     Ok((ledger, answers))
@@ -78,7 +78,7 @@ fn submit<T: Tally>(alloc: Global, cap: &str, lines: &[&str]) -> anyhow::Result<
     let cap = cap.parse::<u32>()?;
     let (ledger, answers) = ledger_with::<T>(alloc, "{powers}", cap, lines)?;
     let count = ledger.len();
-    Ok(format!(in alloc; "{answers}{count} held")?)
+    Ok(format!(in alloc; "{answers}held: {count}")?)
 }
 
 /// The game of a number.
@@ -113,7 +113,7 @@ fn book<T: Tally>(alloc: Global, table: &str, lines: &[&str]) -> anyhow::Result<
 fn tell_held<T: Tally>(alloc: Global, ledger: &Ledger<T>) -> anyhow::Result<String> {
     let count = ledger.len();
     let book = tell(alloc, &ledger.make_book(alloc)?)?;
-    Ok(format!(in alloc; "{count} held\n{book}")?)
+    Ok(format!(in alloc; "held: {count}\n{book}")?)
 }
 
 /// The number of EPD lines and the lines after these submissions.
@@ -122,7 +122,7 @@ fn exported<T: Tally>(alloc: Global, table: &str, lines: &[&str]) -> anyhow::Res
     let mut sink = MemSink::new(alloc);
     let count = export(alloc, &ledger, &mut sink)?;
     let text = shown(alloc, sink.as_bytes())?;
-    Ok(format!(in alloc; "{count} lines\n{text}")?)
+    Ok(format!(in alloc; "lines: {count}\n{text}")?)
 }
 
 /// The replies to a stream, what became of its lines, how many games are held, and their book.
@@ -155,7 +155,7 @@ fn cut_off<T: Tally>(alloc: Global, stream: &[u8]) -> anyhow::Result<String> {
         let mut sink = MemSink::new(alloc);
         let answer = collect(alloc, &mut source, &mut sink, &mut ledger, u32::MAX);
         let held = ledger.len();
-        runs.add(count, format!(in alloc; "{answer:?}, {held} held")?)?;
+        runs.add(count, format!(in alloc; "{answer:?}, held: {held}")?)?;
     }
     runs.finish()
 }

@@ -3,7 +3,7 @@
 use crate::record::{record_of, setup_of};
 use crate::text::{bytes_of, shown};
 use pb_board::Setup;
-use pb_moves::{Move, advance, is_legal, legal_moves, play, read_move};
+use pb_moves::{Move, advance, is_legal, legal_moves, play, play_on, read_move};
 use std::alloc::{AllocError, Global};
 
 /// The answer to a call.
@@ -96,13 +96,19 @@ fn count(alloc: Global, depth: u32, record: &str) -> anyhow::Result<String> {
     Ok(text)
 }
 
-/// Whether a move is legal, and whether it is played.
+/// Whether a move is legal, and whether it is played, on a setup of its own and in place.
 fn legal(alloc: Global, record: &str, text: &str) -> anyhow::Result<String> {
     let setup = setup_of(alloc, record)?;
     let m = spelled(text)?;
     let is_legal = is_legal(&setup, m);
-    let is_played = play(&setup, m).is_some();
-    Ok(format!(in alloc; "legal {is_legal}, played {is_played}")?)
+    let after = play(&setup, m);
+    let mut board = setup;
+    let is_played = play_on(&mut board, m);
+    let is_same = board == after.unwrap_or(setup);
+    let after = after.is_some();
+    Ok(format!(in alloc;
+        "legal {is_legal}, played {after}, in place {is_played}, the same {is_same}"
+    )?)
 }
 
 /// The record after these moves.

@@ -26,7 +26,7 @@ pub(crate) fn answer(alloc: Global, call: &[&str]) -> anyhow::Result<String> {
         ["fields", fields @ ..] => read_fields(alloc, fields),
         ["look", record, squares @ ..] => look(alloc, record, squares),
         ["attacked", record, square] => attackers(alloc, record, square),
-        ["build", turn, passed, pieces @ ..] => build(alloc, turn, passed, pieces),
+        ["build", turn, en_passant, pieces @ ..] => build(alloc, turn, en_passant, pieces),
         ["square", file, rank] => tell_square(alloc, square_of(file, rank)?),
         ["index", index] => tell_square(alloc, Square::from_index(index.parse::<u8>()?)),
         ["clocks", half, full] => clocks(alloc, half, full),
@@ -88,14 +88,14 @@ fn cut(alloc: Global, record: &str) -> anyhow::Result<String> {
 
 /// Four fields read as a setup and written again, and whether it is the initial array.
 fn read_fields(alloc: Global, fields: &[&str]) -> anyhow::Result<String> {
-    let [placement, turn, rights, passed] = fields else {
+    let [placement, turn, rights, en_passant] = fields else {
         anyhow::bail!("not four fields");
     };
     let four = [
         placement.as_bytes(),
         turn.as_bytes(),
         rights.as_bytes(),
-        passed.as_bytes(),
+        en_passant.as_bytes(),
     ];
     match read_setup(four) {
         Ok(setup) => {
@@ -139,21 +139,25 @@ fn look(alloc: Global, record: &str, squares: &[&str]) -> anyhow::Result<String>
     let setup = setup_of(alloc, record)?;
     let mut text = String::new(alloc);
     let kings = [Colour::White, Colour::Black].map(|colour| setup.king(colour).index());
-    let passed = setup.ep().map(|square| square.index());
-    write!(text, "{:?} to move, passed {passed:?}\n", setup.turn())?;
-    write!(text, "kings {} {}\n", kings[0], kings[1])?;
-    write!(text, "{:?}\n", setup.rights())?;
+    let en_passant = setup.ep().map(|square| square.index());
+    writeln!(
+        text,
+        "{:?} to move, en passant {en_passant:?}",
+        setup.turn()
+    )?;
+    writeln!(text, "kings {} {}", kings[0], kings[1])?;
+    writeln!(text, "{:?}", setup.rights())?;
     let white = in_check(&setup, Colour::White);
     let black = in_check(&setup, Colour::Black);
-    write!(
+    writeln!(
         text,
-        "in check: White {white}, Black {black}; playable {}\n",
+        "in check: White {white}, Black {black}; playable {}",
         playable(&setup)
     )?;
     for name in squares {
         match setup.at(named(alloc, name)?) {
-            Some(piece) => write!(text, "{name} {:?} {:?}\n", piece.colour, piece.kind)?,
-            None => write!(text, "{name} empty\n")?,
+            Some(piece) => writeln!(text, "{name} {:?} {:?}", piece.colour, piece.kind)?,
+            None => writeln!(text, "{name} empty")?,
         }
     }
     Ok(text)
@@ -203,18 +207,18 @@ fn board_of(alloc: Global, pieces: &[&str]) -> anyhow::Result<[Option<Piece>; 64
 }
 
 /// The setup of these pieces, without rights to castle.
-fn build(alloc: Global, turn: &str, passed: &str, pieces: &[&str]) -> anyhow::Result<String> {
+fn build(alloc: Global, turn: &str, en_passant: &str, pieces: &[&str]) -> anyhow::Result<String> {
     let turn = if turn == "White" {
         Colour::White
     } else {
         Colour::Black
     };
-    let passed = if passed == "-" {
+    let en_passant = if en_passant == "-" {
         None
     } else {
-        Some(named(alloc, passed)?)
+        Some(named(alloc, en_passant)?)
     };
-    match Setup::build(board_of(alloc, pieces)?, turn, NO_RIGHTS, passed) {
+    match Setup::build(board_of(alloc, pieces)?, turn, NO_RIGHTS, en_passant) {
         Ok(setup) => shown(alloc, write_setup(alloc, &setup)?.as_slice()),
         Err(refusal) => Ok(format!(in alloc; "refused {refusal:?}")?),
     }

@@ -47,7 +47,7 @@ impl Runs {
         if let Some(answer) = &self.answer {
             let first = self.first;
             let last = self.last;
-            write!(self.text, "from {first} to {last}\n{answer}\n")?;
+            writeln!(self.text, "from {first} to {last}\n{answer}")?;
         }
         Ok(())
     }

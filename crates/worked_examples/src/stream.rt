@@ -120,7 +120,7 @@ fn put_all<K: Sink>(alloc: Global, sink: &mut K, texts: &[&str]) -> anyhow::Resu
         };
         write!(answers, "{answer:?} ")?;
     }
-    write!(answers, "failed {}\n", sink.failed())?;
+    writeln!(answers, "failed {}", sink.failed())?;
     Ok(answers)
 }
 
@@ -157,5 +157,5 @@ fn narrow_sink(alloc: Global, room: &str, kind: &str, texts: &[&str]) -> anyhow:
     let answers = put_all(alloc, &mut ToWrite::new(&mut narrow), texts)?;
     let taken = shown(alloc, narrow.taken.as_slice())?;
     let flushes = narrow.flushes;
-    Ok(format!(in alloc; "{answers}{taken}\nflushed {flushes} times")?)
+    Ok(format!(in alloc; "{answers}{taken}\nflushes: {flushes}")?)
 }

@@ -3,10 +3,13 @@
 use crate::moves::spelled;
 use crate::record::setup_of;
 use crate::text::{bytes_of, shown};
-use pb_moves::play;
+use pb_moves::{legal_moves, play};
 use pb_poly::{Table, TableError, code_of, key_after, key_of, move_of, read_table};
 use std::alloc::{AllocError, Global};
 use std::fmt::Write;
+
+/// An odd number whose multiples look random.
+const ODD: u64 = 0x9e37_79b9_7f4a_7c15;
 
 /// A table that anyone can make.
 #[derive(Clone, Copy)]
@@ -17,6 +20,8 @@ pub(crate) enum Pattern {
     Places,
     /// Each word is 1.
     Ones,
+    /// Word i is the low 64 bits of (i + 1) * `ODD`.
+    Products,
 }
 
 impl Pattern {
@@ -26,6 +31,7 @@ impl Pattern {
             "powers" => Ok(Pattern::Powers),
             "places" => Ok(Pattern::Places),
             "ones" => Ok(Pattern::Ones),
+            "products" => Ok(Pattern::Products),
             _ => anyhow::bail!("no such word: {name}"),
         }
     }
@@ -36,6 +42,7 @@ impl Pattern {
             Pattern::Powers => 1 << (place % 64),
             Pattern::Places => place,
             Pattern::Ones => 1,
+            Pattern::Products => place.wrapping_add(1).wrapping_mul(ODD),
         }
     }
 
@@ -73,6 +80,7 @@ pub(crate) fn answer(alloc: Global, call: &[&str]) -> anyhow::Result<String> {
         ["cut", text] => cut(alloc, text),
         ["key", table, record] => key(alloc, table, record),
         ["keys", table, record, moves @ ..] => keys(alloc, table, record, moves),
+        ["codes", record] => codes(alloc, record),
         ["code", record, text] => code(alloc, record, text),
         ["move", record, code] => coded(alloc, record, code),
         _ => anyhow::bail!("no such call"),
@@ -172,7 +180,7 @@ fn keys(alloc: Global, table: &str, record: &str, moves: &[&str]) -> anyhow::Res
         let key = key_of(&table, &setup);
         let changed = key_after(&table, key, &setup, m, &after);
         let anew = key_of(&table, &after);
-        write!(text, "{word} anew {anew:016x}, by change {changed:016x}\n")?;
+        writeln!(text, "{word} anew {anew:016x}, by change {changed:016x}")?;
         setup = after;
     }
     Ok(text)
@@ -187,6 +195,20 @@ fn code(alloc: Global, record: &str, text: &str) -> anyhow::Result<String> {
         None => "none".to_string(alloc)?,
     };
     Ok(format!(in alloc; "{code:04x} {back}")?)
+}
+
+/// The codes of the legal moves in order, each the code of this move alone.
+fn codes(alloc: Global, record: &str) -> anyhow::Result<String> {
+    let setup = setup_of(alloc, record)?;
+    let mut text = String::new(alloc);
+    for m in &legal_moves(alloc, &setup)? {
+        let code = code_of(&setup, *m);
+        if move_of(&setup, code) != Some(*m) {
+            anyhow::bail!("another move has this code");
+        }
+        write!(text, " {code:04x}")?;
+    }
+    Ok(format!(in alloc; "codes:{text}")?)
 }
 
 /// The legal move of a code.

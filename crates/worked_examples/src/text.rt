@@ -1,6 +1,6 @@
 //! How rows write bytes. Printable bytes stand for themselves, and a word in braces for others: `{cr}`, `{lf}`, `{tab}`, `{space}`,
-//! `{nul}`; `{8192*a}` for that many `a`; `{start}` for the record of the start position; `{powers}`, `{places}` and `{ones}` for
-//! the files of tables, and `{powers:13260}` for the first so many bytes of one. Answers are written in the same way.
+//! `{nul}`; `{8192*a}` for that many `a`; `{start}` for the record of the start position; `{powers}`, `{places}`, `{ones}` and
+//! `{products}` for the files of tables, and `{powers:13260}` for the first so many bytes of one. Answers are written in the same way.
 
 use crate::table::Pattern;
 use std::alloc::Global;
