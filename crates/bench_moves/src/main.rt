@@ -11,7 +11,6 @@
 use pb_board::{Fen, Setup, read_fen};
 use pb_moves::{Move, legal_moves, play, play_on};
 use pb_poly::{Table, key_after, key_of, read_table};
-use pb_samples::{Words, small_file};
 use std::alloc::{AllocError, Global};
 use std::io::{BufWriter, Write};
 use std::{env, io};
@@ -160,8 +159,12 @@ fn write_lines<W: Write>(alloc: Global, out: &mut W, count: u64) -> io::Result<(
 
 /// A table of which word i is 2^(i mod 64).
 fn table(alloc: Global) -> io::Result<Table> {
-    let file = small_file(alloc, Words::Powers)?;
-    read_table(alloc, file.as_slice()).map_err(|_| io::Error::from(io::ErrorKind::InvalidData))
+    let mut file = String::new(alloc);
+    for place in 0..781_u32 {
+        let word = 1_u64 << (place % 64);
+        file.push_str(format!(in alloc; "{word:016x}\n")?.as_str())?;
+    }
+    read_table(alloc, file.as_bytes()).map_err(|_| io::Error::from(io::ErrorKind::InvalidData))
 }
 
 /// The number that a word writes, or 0.
