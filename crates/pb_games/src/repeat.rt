@@ -39,10 +39,10 @@ fn are_fields_of(fields: &Fields<'_>, id: &Id, game: &Game) -> bool
 }
 
 /// Whether the text is that of the record.
-fn is_text_of(text: &[u8], record: &Fen) -> bool
-    ensures { IsTrue result ↔ FenText record.now text.now }
+fn is_text_of(text: &[u8], fen: &Fen) -> bool
+    ensures { IsTrue result ↔ FenText fen.now text.now }
 {
-    text == record.text().as_bytes()
+    text == fen.text().as_bytes()
 }
 
 /// Whether the words of a field are the spellings of these moves.

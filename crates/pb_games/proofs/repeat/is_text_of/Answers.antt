@@ -5,7 +5,7 @@ use Rattle.pb_games.proofs.repeat.is_text_of.Goals as goal
 
 pub returns : goal.returns
 returns c =
-    let f = c.args.record.now in
+    let f = c.args.fen.now in
     let text = c.args.text.now in
     let own = c.as_bytes.result.now in
     let written = subst (FenText f) (sym c.as_bytes.ensures.value) c.text.ensures in
