@@ -19,8 +19,8 @@ pub again : (line id outcome start moves : List ℕ) (s : Submission) → fields
 again line id outcome start moves s cut known of =
     let moves_are : moves ≡ moves_text s.1.moves = sym (words-back moves) ∙ ap (join_with_byte 32) of.words_are in
     let text : without_return line ≡ join_with_byte 9 (s.0 ∷ outcome_text s.1.outcome ∷ start ∷ moves_text s.1.moves ∷ []) =
-        sym (join_with_byte-slice_split 9 (without_return line))
-        ∙ ap (join_with_byte 9) (cut ∙ (λ i. of.id_is i ∷ of.outcome_is i ∷ start ∷ moves_are i ∷ [])) in
+    sym (join_with_byte-slice_split 9 (without_return line))
+    ∙ ap (join_with_byte 9) (cut ∙ (λ i. of.id_is i ∷ of.outcome_is i ∷ start ∷ moves_are i ∷ [])) in
     record {
       submits = record { id = known.id; game = known.game; text = without_return line; spells = (start, of.start_is, text); is = cases_return line };
       legal = known.legal;

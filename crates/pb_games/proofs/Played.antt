@@ -36,8 +36,8 @@ module _ (holds now : List Ply → Position → Type 0) (start s t : Position) (
     legal = λ others. h.legal (subst (AreLegal s) (sym here) (legal, subst (λ u. AreLegal u (map move_named rest)) next others));
     illegal = λ n bad.
         let first : IsFirstIllegal s (map move_named left) (n + 1) =
-          subst (λ ms. IsFirstIllegal s ms (n + 1)) (sym here)
-              (inr (n, refl, legal, subst (λ u. IsFirstIllegal u (map move_named rest) n) next bad)) in
+        subst (λ ms. IsFirstIllegal s ms (n + 1)) (sym here)
+        (inr (n, refl, legal, subst (λ u. IsFirstIllegal u (map move_named rest) n) next bad)) in
         subst (λ k. IsFirstIllegal start all k) (omega arith) (h.illegal (n + 1) first);
     told = h.told ++ (s, m) ∷ [];
     held = push h.told h.held;

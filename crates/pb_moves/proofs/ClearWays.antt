@@ -1,6 +1,6 @@
 -- Clear ways by sets of squares, and going through the sliders that may look at a square.
-use Rattle.std.proofs.Common.{◌≡◌, ◌≢◌, ℕ, zero, ◌+◌, ◌<◌, ◌≤◌, ◌^◌, ◌⊎◌, ◌↔◌, arith, sym, subst, inl, inr, bit_and, w64}
-use Rattle.std.specs.Int.{bit_at, trailing_zeros}
+use Rattle.std.proofs.Common.{◌≡◌, ℕ, ◌<◌, ◌^◌, ◌↔◌, arith, sym, subst, inl, inr, bit_and, w64}
+use Rattle.std.specs.Int.{trailing_zeros}
 use Rattle.std.proofs.lemmas.Bool.{cases_lt}
 use Rattle.std.proofs.lemmas.Nat.{and_le_r}
 use Rattle.pb_moves.specs.Attack.{IsDiagonal, IsStraight}

@@ -1,13 +1,12 @@
 -- Attacks, told by sets of squares.
-use Rattle.std.proofs.Common.{◌≡◌, ◌≢◌, ℕ, ◌+◌, ◌*◌, ◌%◌, ◌^◌, w64, ◌<◌, ◌⊎◌, ◌↔◌, max, arith, refl, sym, ap, subst, ◌∙◌, inl, inr, bit_and, bit_or, Option, Some, None, length}
+use Rattle.std.proofs.Common.{◌≡◌, ◌≢◌, ℕ, ◌*◌, ◌%◌, ◌^◌, w64, ◌<◌, ◌⊎◌, ◌↔◌, max, arith, refl, sym, subst, ◌∙◌, inl, inr, bit_and, bit_or, Option, Some, None}
 use Rattle.pb_board.specs.declared.piece.Colour.{Colour}
 use Rattle.pb_board.specs.declared.piece.Kind.{Kind}
 use Rattle.pb_board.specs.declared.piece.Kind.TheVariants.{Pawn, Knight, Bishop, Rook, Queen, King}
 use Rattle.pb_board.specs.declared.piece.Piece.{Piece}
-use Rattle.pb_board.specs.Board.{Board, at, Holds, IsEmpty, file, rank}
-use Rattle.pb_moves.specs.declared.direction.Direction.{Direction}
+use Rattle.pb_board.specs.Board.{Board, at, Holds, IsEmpty}
 use Rattle.pb_moves.specs.declared.sight.Sight.{Sight}
-use Rattle.pb_moves.specs.Attack.{StepsFrom, EmptyBelow, Clear, ReachesBy, IsAttacked, IsKnightsMove, IsDiagonal, IsStraight, files_apart, ranks_apart}
+use Rattle.pb_moves.specs.Attack.{Clear, ReachesBy, IsAttacked, IsKnightsMove, IsDiagonal, IsStraight, files_apart, ranks_apart}
 use mir.Val.{bits}
 use Rattle.std.proofs.lemmas.Nat.{and_le_l, or_lt}
 use Rattle.std.proofs.lemmas.Nat.Bits.{bit_at_set_same, bit_at_set_other}

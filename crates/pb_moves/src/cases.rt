@@ -134,12 +134,11 @@ pub(crate) fn en_passant(setup: &Setup, m: Move, pawn: Piece) -> Option<Change>
     let (from, to) = (m.from(), m.to());
     match setup.ep() {
         Some(ep)
-            if ep.index() == to.index()
-                && m.promo().is_none()
-                && reaches(pawn, setup, from, to) => {
-            let gone = square_at(8 * from.rank() + to.file());
-            Some(Change::CarryPast(pawn, gone))
-        }
+            if ep.index() == to.index() && m.promo().is_none() && reaches(pawn, setup, from, to) =>
+            {
+                let gone = square_at(8 * from.rank() + to.file());
+                Some(Change::CarryPast(pawn, gone))
+            }
         _ => None,
     }
 }

@@ -31,14 +31,32 @@ pub(crate) fn sight_of(setup: &Setup, colour: Colour) -> Sight
 {
     // The reader tells that the setup meets its rules.
     let _turn = setup.turn();
-    let queens = setup.standing(Piece { colour, kind: Kind::Queen });
+    let queens = setup.standing(Piece {
+        colour,
+        kind: Kind::Queen,
+    });
     Sight {
         occupied: setup.occupied(),
-        pawns: setup.standing(Piece { colour, kind: Kind::Pawn }),
-        knights: setup.standing(Piece { colour, kind: Kind::Knight }),
-        kings: setup.standing(Piece { colour, kind: Kind::King }),
-        straight: setup.standing(Piece { colour, kind: Kind::Rook }) | queens,
-        diagonal: setup.standing(Piece { colour, kind: Kind::Bishop }) | queens,
+        pawns: setup.standing(Piece {
+            colour,
+            kind: Kind::Pawn,
+        }),
+        knights: setup.standing(Piece {
+            colour,
+            kind: Kind::Knight,
+        }),
+        kings: setup.standing(Piece {
+            colour,
+            kind: Kind::King,
+        }),
+        straight: setup.standing(Piece {
+            colour,
+            kind: Kind::Rook,
+        }) | queens,
+        diagonal: setup.standing(Piece {
+            colour,
+            kind: Kind::Bishop,
+        }) | queens,
     }
 }
 

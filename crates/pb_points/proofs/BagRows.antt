@@ -1,11 +1,10 @@
 -- Rows that add up.
 use Rattle.std.proofs.Common.{◌≡◌, ℕ, ◌+◌, ◌<◌, ◌≤◌, ◌^◌, zero, suc, Bool, true, false, cond, if◌then◌else◌, Option, Some, None, unwrap_or, List, [], ◌∷◌, ◌++◌, length, get_or, set, drop, take, All, AllPairs, Contains, ◌↔◌, IsPermutation, refl, sym, ap, ◌∙◌, inl, inr, arith, subst, add-one}
 use Rattle.std.specs.Prelude.{nat_lt, sum_by}
-use Rattle.std.specs.List.Sorted.{IsSortedBy}
 use Rattle.std.proofs.lemmas.Bool.{cases_lt}
 use Rattle.std.proofs.lemmas.Bool.Decides.{nat_tests}
 use Rattle.std.proofs.lemmas.List.Sums.{sum_by-cons, sum_by-drop_more, sum_by_push, sum_by-set, get_or-le-sum_by, sum_by_more}
-use Rattle.std.proofs.lemmas.List.Sorted.{ranks_by, sorted_far, sum_by-IsPermutation}
+use Rattle.std.proofs.lemmas.List.Sorted.{sum_by-IsPermutation}
 use Rattle.std.proofs.lemmas.List.Elements.{All-push, All-weaker}
 use Rattle.std.proofs.lemmas.List.{drop_all, get_or_default}
 use Rattle.std.proofs.lemmas.List.Quantifiers.{all_pairs_push}
@@ -13,7 +12,7 @@ use Rattle.pb_points.specs.declared.row.Row.{Row}
 use Rattle.pb_points.specs.BagTally.{HoldsSame, IsAddedUp, SumsFit, bag_content, count_of, gain, points_of}
 use Rattle.pb_points.specs.Rows.{IsBelow, IsUpTo, is_row}
 use Rattle.pb_points.specs.Tally.{Held, MakesRow, AddsPoints, held, held_of, is_pair, more, nothing}
-use Rattle.pb_points.proofs.Pairs.{is_pair_same, is_pair_itself, pair_total, row_lt, up_to}
+use Rattle.pb_points.proofs.Pairs.{is_pair_same, is_pair_itself}
 
 -- ---- what a count and a sum say together
 

@@ -13,21 +13,21 @@ returns-then-not-may_start-clause-refused g c =
 pub of-requires : goal.of-requires
 of-requires g c =
     moves_checked _ _ _ _ _ _ c.in-Ok.ensures.found (c.if-not-may_start.ensures.0 refl)
-      (subst (λ t. AreRead t c.in-Ok.header.moves.now c.in-Ok-read_moves.plies) c.setup.ensures.value c.in-Ok-read_moves.ensures.read)
+    (subst (λ t. AreRead t c.in-Ok.header.moves.now c.in-Ok-read_moves.plies) c.setup.ensures.value c.in-Ok-read_moves.ensures.read)
 
 pub returns-in-Ok-read_moves-clause-found : goal.returns-in-Ok-read_moves-clause-found
 returns-in-Ok-read_moves-clause-found g c =
     subst (IsLawful c.args.line.now) (sym c.of.ensures)
-      (moves_lawful _ _ _ _ _ c.in-Ok-read_moves.plies c.in-Ok.ensures.found (c.if-not-may_start.ensures.0 refl)
-        (subst (λ t. AreRead t c.in-Ok.header.moves.now c.in-Ok-read_moves.plies) c.setup.ensures.value c.in-Ok-read_moves.ensures.read))
+    (moves_lawful _ _ _ _ _ c.in-Ok-read_moves.plies c.in-Ok.ensures.found (c.if-not-may_start.ensures.0 refl)
+    (subst (λ t. AreRead t c.in-Ok.header.moves.now c.in-Ok-read_moves.plies) c.setup.ensures.value c.in-Ok-read_moves.ensures.read))
 
 pub returns-in-Ok-read_moves-clause-told : goal.returns-in-Ok-read_moves-clause-told
 returns-in-Ok-read_moves-clause-told g c =
     let h = c.in-Ok.header in
     subst (λ s. IsToldAll (g.P.Player.holds c.read_moves.new.player) s.1.outcome (plies s.1)) (sym c.of.ensures)
-      (subst (λ t. IsToldAll (g.P.Player.holds c.read_moves.new.player) h.outcome (plies_from t (moves_named h.moves.now))) c.setup.ensures.value c.in-Ok-read_moves.ensures.told)
+    (subst (λ t. IsToldAll (g.P.Player.holds c.read_moves.new.player) h.outcome (plies_from t (moves_named h.moves.now))) c.setup.ensures.value c.in-Ok-read_moves.ensures.told)
 
 pub returns-in-Err-read_moves-clause-refused : goal.returns-in-Err-read_moves-clause-refused
 returns-in-Err-read_moves-clause-refused g c =
     moves_refused _ _ _ _ _ c.in-Ok.ensures.found (c.if-not-may_start.ensures.0 refl) _
-      (subst (λ t. AreRefused t c.in-Ok.header.moves.now c.in-Err-read_moves.refusal) c.setup.ensures.value c.in-Err-read_moves.ensures.read)
+    (subst (λ t. AreRefused t c.in-Ok.header.moves.now c.in-Err-read_moves.refusal) c.setup.ensures.value c.in-Err-read_moves.ensures.read)

@@ -62,17 +62,19 @@ loop-word-preserved g c =
       number = ap (λ n. n + 1) so_far.number ∙ sym (length_push so_far.done word);
       spelt = All-push IsSpelled so_far.done word so_far.spelt (m, record { is_move = c.in-Some-read_move.ensures.0; is = c.in-Some-read_move.ensures.1 });
       fixed = elim c.else-is_none.branch [
-        else-is_none-via-then-is_none+then-count-le-MAX_PLIES+else-not-play w ↦ ap g.P.Player.fixed w.player-is ∙ w.if-not-play.ensures.fixed ∙ so_far.fixed
-      | else-is_none-via-then-is_none+else-count-le-MAX_PLIES w ↦ ap g.P.Player.fixed w.player-is ∙ so_far.fixed
-      | else-is_none-via-else-is_none w ↦ ap g.P.Player.fixed w.player-is ∙ so_far.fixed ];
+        | else-is_none-via-then-is_none+then-count-le-MAX_PLIES+else-not-play w ↦ ap g.P.Player.fixed w.player-is ∙ w.if-not-play.ensures.fixed ∙ so_far.fixed
+        | else-is_none-via-then-is_none+else-count-le-MAX_PLIES w ↦ ap g.P.Player.fixed w.player-is ∙ so_far.fixed
+        | else-is_none-via-else-is_none w ↦ ap g.P.Player.fixed w.player-is ∙ so_far.fixed
+      ];
       legal = λ none few. elim c.else-is_none.branch [
-        else-is_none-via-then-is_none+then-count-le-MAX_PLIES+else-not-play w ↦
-          subst (λ p. Leads (g.P.Player.holds p c.args.outcome) c.args.start (moves_named c.args.field.now) c.else-is_none.setup c.next.new.self (c.loop-word.count + 1)) (sym w.player-is)
+        | else-is_none-via-then-is_none+then-count-le-MAX_PLIES+else-not-play w ↦
+            subst (λ p. Leads (g.P.Player.holds p c.args.outcome) c.args.start (moves_named c.args.field.now) c.else-is_none.setup c.next.new.self (c.loop-word.count + 1)) (sym w.player-is)
             (subst (λ t. Leads (g.P.Player.holds w.play.new.self c.args.outcome) c.args.start (moves_named c.args.field.now) t c.next.new.self (c.loop-word.count + 1)) (sym w.setup-is)
-              (leads_more (g.P.Player.holds c.loop-word.player c.args.outcome) (g.P.Player.holds w.play.new.self c.args.outcome) c.args.start c.loop-word.setup w.play.new.setup (moves_named c.args.field.now) m word c.loop-word.word-iterator c.next.new.self c.loop-word.count
-                (so_far.legal none (omega (arith, few))) c.in-Some.ensures.steps named (w.if-not-play.ensures.played refl) (w.if-not-play.ensures.legal.0 refl) (w.if-not-play.ensures.told refl c.args.outcome)))
-      | else-is_none-via-then-is_none+else-count-le-MAX_PLIES w ↦ absurd (omega (arith, few, w.if-count-le-MAX_PLIES.false))
-      | else-is_none-via-else-is_none w ↦ absurd (not_none c.loop-word.illegal w.if-is_none.ensures none) ];
+            (leads_more (g.P.Player.holds c.loop-word.player c.args.outcome) (g.P.Player.holds w.play.new.self c.args.outcome) c.args.start c.loop-word.setup w.play.new.setup (moves_named c.args.field.now) m word c.loop-word.word-iterator c.next.new.self c.loop-word.count
+            (so_far.legal none (omega (arith, few))) c.in-Some.ensures.steps named (w.if-not-play.ensures.played refl) (w.if-not-play.ensures.legal.0 refl) (w.if-not-play.ensures.told refl c.args.outcome)))
+        | else-is_none-via-then-is_none+else-count-le-MAX_PLIES w ↦ absurd (omega (arith, few, w.if-count-le-MAX_PLIES.false))
+        | else-is_none-via-else-is_none w ↦ absurd (not_none c.loop-word.illegal w.if-is_none.ensures none)
+      ];
       bad = so_far.bad;
     }
 

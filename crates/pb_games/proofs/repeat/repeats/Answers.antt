@@ -10,8 +10,7 @@ returns-in-Some c =
     let f = c.in-Some.fields in
     let s : Submission = (c.args.id.now, c.args.game.now) in
     let cut = c.in-Some.ensures.cut in
-    let is = c.are_fields_of.ensures in
-    (
+    let is = c.are_fields_of.ensures in (
       λ t. again line f.id.now f.outcome.now f.start.now f.moves.now s cut c.requires (is.0 t),
       λ lawful. is.1 (fields_again line f.id.now f.outcome.now f.start.now f.moves.now s cut lawful.submits),
     )

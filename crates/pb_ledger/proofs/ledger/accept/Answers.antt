@@ -3,7 +3,6 @@ use Rattle.std.specs.Str.{bytes_eq}
 use Rattle.indexmap.proofs.CallerLemmas.{insert_entry-new}
 use Rattle.pb_points.specs.Tally.{Held}
 use Rattle.pb_ledger.specs.Basis.{Basis}
-use Rattle.pb_ledger.specs.Counting.{gifts_of}
 use Rattle.pb_ledger.proofs.Gifts.{length-gifts_of, small_gifts}
 use Rattle.pb_ledger.proofs.Places.{absent_from_new, inserted}
 use Rattle.pb_ledger.proofs.ledger.accept.Goals as goal

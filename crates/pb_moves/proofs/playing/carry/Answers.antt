@@ -2,7 +2,7 @@ use Rattle.std.proofs.Common.{rules, refl, subst, sym}
 use Rattle.pb_board.specs.declared.piece.Colour.{Colour}
 use Rattle.pb_board.specs.Position.{Position, IsOnlyKing, carried_board}
 use Rattle.pb_moves.specs.After.{After}
-use Rattle.pb_moves.proofs.Carrying.{Carrying, carrying}
+use Rattle.pb_moves.proofs.Carrying.{carrying}
 use Rattle.pb_moves.proofs.Kept.{setup_by_parts}
 use Rattle.pb_moves.proofs.Kings.{enemy_king_stays}
 use Rattle.pb_moves.proofs.Successors.{after_one}

@@ -1,4 +1,4 @@
-use Rattle.std.proofs.Common.{ℕ, ◌≡◌, subst, sym, ◌∙◌}
+use Rattle.std.proofs.Common.{ℕ, subst, sym, ◌∙◌}
 use Rattle.pb_board.specs.Board.{Holds}
 use Rattle.pb_moves.specs.Cases.{Carried}
 use Rattle.pb_moves.proofs.Seen.{sees_carried}

@@ -1,4 +1,4 @@
-use Rattle.std.proofs.Common.{ℕ, ◌-◌, ◌^◌, ◌<◌, w64}
+use Rattle.std.proofs.Common.{◌-◌, w64}
 use Rattle.std.specs.Int.{trailing_zeros}
 use Rattle.pb_moves.proofs.ClearWays.{Left}
 use Rattle.pb_moves.proofs.ways.slides_straight.Given as goal

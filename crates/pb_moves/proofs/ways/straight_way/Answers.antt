@@ -1,6 +1,4 @@
-use Rattle.std.proofs.Common.{◌≡◌, ℕ, ◌<◌, arith, inl, inr, IsTrue, nat_eq, bit_and}
-use Rattle.std.proofs.lemmas.Bool.{eq-eqb, eqb-true, cases_lt}
-use Rattle.pb_moves.specs.Sight.{In, Open}
+use Rattle.std.proofs.lemmas.Bool.{eq-eqb, eqb-true}
 use Rattle.pb_moves.proofs.ClearWays.{straight_open, open_straight}
 use Rattle.pb_moves.proofs.ways.straight_way.Goals as goal
 

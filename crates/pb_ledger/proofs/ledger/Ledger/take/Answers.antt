@@ -61,7 +61,7 @@ returns-in-Ok-clause-reply g c =
     let capped = ap (λ (l : LedgerState). l.cap) c.self.view_is in
     let room : length A < cap = omega (arith, ap length holds, capped, c.if-len-self.false, c.len.ensures.len, c.self.invariant.rules.room) in
     let number : c.len-in-Ok.result ≡ length A + 1 =
-        c.len-in-Ok.ensures.value ∙ ap length c.in-Ok.ensures.game ∙ length_push c.self.inside.games.entries read ∙ ap (λ n. n + 1) (ap length holds) in
+    c.len-in-Ok.ensures.value ∙ ap length c.in-Ok.ensures.game ∙ length_push c.self.inside.games.entries read ∙ ap (λ n. n + 1) (ap length holds) in
     subst (λ n. Allowed cap A c.args.line.now (Ok n)) (sym number) (Allowed-new cap A c.args.line.now read lawful (c.requires read lawful) room)
 
 pub returns-in-Ok-clause-takes : goal.returns-in-Ok-clause-takes
