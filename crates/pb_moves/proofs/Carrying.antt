@@ -35,7 +35,7 @@ carrying s m piece arriving from to same_from same_to ok is own leads =
     let T : ℕ → Type 0 = λ x. Carrying s m piece arriving (carried_board s.board m.from x arriving) m.from x in
     subst F (sym same_from) (subst T (sym same_to) base)
 
-no_own : (side : Colour) → opponent side ≢ side
+pub no_own : (side : Colour) → opponent side ≢ side
 no_own White same = cc
 no_own Black same = cc
 

@@ -8,17 +8,20 @@ use Rattle.pb_board.specs.declared.piece.Kind.TheVariants.{Pawn, Knight, Bishop,
 use Rattle.pb_board.specs.declared.piece.Colour.{Colour}
 use Rattle.pb_board.specs.declared.piece.Colour.TheVariants.{White, Black}
 use Rattle.pb_board.specs.declared.piece.Piece.{Piece}
-use Rattle.pb_board.specs.Board.{Board, Holds, IsForward, rank}
-use Rattle.pb_board.specs.Position.{Position}
+use Rattle.pb_board.specs.Board.{Board, Holds, IsEmpty, IsForward, rank}
+use Rattle.pb_board.specs.Piece.{opponent}
+use Rattle.pb_board.specs.Position.{EnPassantHolds, IsSetup, Position}
 use Rattle.pb_moves.specs.declared.castling.Castling.{Castling}
-use Rattle.pb_moves.specs.declared.castling.Castling.TheVariants.{WhiteShort}
+use Rattle.pb_moves.specs.declared.castling.Castling.TheVariants.{WhiteShort, WhiteLong, BlackShort, BlackLong}
 use Rattle.pb_moves.specs.Attack.{files_apart, ReachesBy}
 use Rattle.std.specs.Int.{bit_at, trailing_zeros}
+use Rattle.pb_moves.proofs.Carrying.{no_own}
+use Rattle.pb_moves.proofs.Kings.{holds_one}
 use Rattle.pb_moves.proofs.Legality.{case_at}
 use Rattle.pb_moves.proofs.Rising.{low_bits, zeros_bound, zeros_rise, without, without_other, without_small}
 use Rattle.pb_moves.specs.Moved.{Moved, IsMove, IsPromotion, promotion_number}
-use Rattle.pb_moves.specs.Castling.{castling_row}
-use Rattle.pb_moves.specs.Cases.{Legal, CaseOf, piece_move, pawn_step, pawn_double, pawn_capture, en_passant, castles, Becomes}
+use Rattle.pb_moves.specs.Castling.{MayCastle, castling_row}
+use Rattle.pb_moves.specs.Cases.{Legal, CaseOf, piece_move, pawn_step, pawn_double, pawn_capture, en_passant, castles, Becomes, IsPrey}
 use Rattle.pb_moves.specs.Listing.{place, ListsLegal}
 use Rattle.pb_moves.specs.Candidate.{HoldsOwn, MayGo, MayPromote, ListsBelow}
 
@@ -162,16 +165,42 @@ pub promotion_some : (o : Option Kind) → 0 < promotion_number o → (k : Kind)
 promotion_some None h = absurd (omega arith)
 promotion_some (Some k) h = (k, refl)
 
--- the bits of the squares from one on, to which a piece may go
-pub record HasTargets (p : Piece) (from k bits : ℕ) : Type 0 where
-  pub every : (q : ℕ) → q < 64 → k ≤ q → MayGo p.colour p.kind from q → bit_at bits q ≡ 1
+-- what is taken is no piece of the side that moves
+no_prey : (s : Position) (q : ℕ) (r : Piece) → IsPrey s.board s.turn q → HoldsOwn s q r → ⊥
+no_prey s q r prey own =
+    let enemy : Piece = record { colour = opponent s.turn; kind = prey.kind } in
+    no_own s.turn (ap (λ (x : Piece). x.colour) (holds_one s.board q enemy r prey.stands own.stands) ∙ own.own)
+
+not_empty : (s : Position) (q : ℕ) (r : Piece) → IsEmpty s.board q → HoldsOwn s q r → ⊥
+not_empty s q r empty own = let no : None ≡ Some r = sym empty ∙ own.stands in cc
+
+castling_free : (c : Castling) (s : Position) → MayCastle (castling_row c) s → IsEmpty s.board (castling_row c).king_to
+castling_free WhiteShort s may = may.empty 1 0 (omega arith)
+castling_free WhiteLong s may = may.empty 1 0 (omega arith)
+castling_free BlackShort s may = may.empty 1 0 (omega arith)
+castling_free BlackLong s may = may.empty 1 0 (omega arith)
+
+-- no piece goes to where a piece of its own side stands
+pub free_of_own : (s : Position) (m : Moved) (p : Piece) (b : Board) (r : Piece) → IsSetup s → CaseOf s m p b → HoldsOwn s m.to r → ⊥
+free_of_own s m p b r ok (piece_move x) own = elim x.target [ inl empty ↦ not_empty s m.to r empty own | inr prey ↦ no_prey s m.to r prey own ]
+free_of_own s m p b r ok (pawn_step x) own = not_empty s m.to r x.empty own
+free_of_own s m p b r ok (pawn_double x) own = not_empty s m.to r x.empty own
+free_of_own s m p b r ok (pawn_capture x) own = no_prey s m.to r x.target own
+free_of_own s m p b r ok (en_passant x) own =
+    let passed = subst (EnPassantHolds s.board s.turn) x.passed ok.en_passant in
+    not_empty s m.to r passed.1.empty own
+free_of_own s m p b r ok (castles c x) own = not_empty s m.to r (subst (λ q. IsEmpty s.board q) (sym x.to_table) (castling_free c s x.allowed)) own
+
+-- the bits of the squares from one on, to which a piece may go and on which no piece of its own side stands
+pub record HasTargets (s : Position) (p : Piece) (from k bits : ℕ) : Type 0 where
+  pub every : (q : ℕ) → q < 64 → k ≤ q → MayGo p.colour p.kind from q → ((r : Piece) → ¬ HoldsOwn s q r) → bit_at bits q ≡ 1
 
 -- no legal move goes to a square before the lowest of the bits
-pub lists_to_lowest : (s : Position) (ms : List Moved) (p : Piece) (from k bits : ℕ) → HoldsOwn s from p → bits < 2 ^ 64 → k ≤ trailing_zeros w64 bits
-    → HasTargets p from k bits → ListsBelow s ms (320 * from + 5 * k) → ListsBelow s ms (320 * from + 5 * trailing_zeros w64 bits)
-lists_to_lowest s ms p from k bits own small le targets lists =
-    lists_skip s ms (320 * from + 5 * k) (320 * from + 5 * trailing_zeros w64 bits) (omega arith) lists (λ q ok legal lo hi.
-    let a = ok.to_on_board in
+pub lists_to_lowest : (s : Position) (ms : List Moved) (p : Piece) (from k bits : ℕ) → IsSetup s → HoldsOwn s from p → bits < 2 ^ 64 → k ≤ trailing_zeros w64 bits
+    → HasTargets s p from k bits → ListsBelow s ms (320 * from + 5 * k) → ListsBelow s ms (320 * from + 5 * trailing_zeros w64 bits)
+lists_to_lowest s ms p from k bits ok own small le targets lists =
+    lists_skip s ms (320 * from + 5 * k) (320 * from + 5 * trailing_zeros w64 bits) (omega arith) lists (λ q is legal lo hi.
+    let a = is.to_on_board in
     let b = promotion_small q.promo in
     let bound = zeros_bound bits small in
     let same_from : q.from ≡ from = omega arith in
@@ -180,16 +209,16 @@ lists_to_lowest s ms p from k bits own small le targets lists =
     let P : ℕ → Type 0 = λ x. Holds s.board x p in
     let at_piece = case_at s q legal.new p (subst P (sym same_from) own.stands) legal.moves in
     let G : ℕ → Type 0 = λ x. MayGo p.colour p.kind x q.to in
-    let one = targets.every q.to a from_on (subst G same_from (case_goes s q p legal.new own.own at_piece)) in
+    let one = targets.every q.to a from_on (subst G same_from (case_goes s q p legal.new own.own at_piece)) (λ r. free_of_own s q p legal.new r ok at_piece) in
     let none = low_bits bits q.to small before in
     omega arith)
 
 -- the bits left after the lowest are those of the squares after it
-pub targets_left : (p : Piece) (from k bits : ℕ) → k ≤ trailing_zeros w64 bits → trailing_zeros w64 bits < 64 → HasTargets p from k bits
-    → HasTargets p from (trailing_zeros w64 bits + 1) (without bits (trailing_zeros w64 bits))
-targets_left p from k bits le some targets = record {
-  every = λ q on after may. (let ne : q ≢ trailing_zeros w64 bits = λ e. omega arith in
-      without_other bits (trailing_zeros w64 bits) q some on ne ∙ targets.every q on (omega arith) may);
+pub targets_left : (s : Position) (p : Piece) (from k bits : ℕ) → k ≤ trailing_zeros w64 bits → trailing_zeros w64 bits < 64 → HasTargets s p from k bits
+    → HasTargets s p from (trailing_zeros w64 bits + 1) (without bits (trailing_zeros w64 bits))
+targets_left s p from k bits le some targets = record {
+  every = λ q on after may free. (let ne : q ≢ trailing_zeros w64 bits = λ e. omega arith in
+      without_other bits (trailing_zeros w64 bits) q some on ne ∙ targets.every q on (omega arith) may free);
 }
 
 -- no promotion is legal where none may be
@@ -208,19 +237,19 @@ lists_pass_promotions s ms p from to on_to own none lists =
     none (subst H same_to (case_promotes s q p legal.new some.0 at_piece some.1)))
 
 -- after the moves to the square of the lowest bit, go on with the next
-pub lists_next : (s : Position) (ms : List Moved) (p : Piece) (from bits to : ℕ) → HoldsOwn s from p → bits < 2 ^ 64 → trailing_zeros w64 bits < 64
-    → to ≡ trailing_zeros w64 bits → HasTargets p from (trailing_zeros w64 bits) bits → ListsBelow s ms (320 * from + 5 * to + 5)
+pub lists_next : (s : Position) (ms : List Moved) (p : Piece) (from bits to : ℕ) → IsSetup s → HoldsOwn s from p → bits < 2 ^ 64 → trailing_zeros w64 bits < 64
+    → to ≡ trailing_zeros w64 bits → HasTargets s p from (trailing_zeros w64 bits) bits → ListsBelow s ms (320 * from + 5 * to + 5)
     → (let rest = without bits (trailing_zeros w64 bits) in
-    ListsBelow s ms (320 * from + 5 * trailing_zeros w64 rest) × HasTargets p from (trailing_zeros w64 rest) rest)
-lists_next s ms p from bits to own small some here targets lists =
+    ListsBelow s ms (320 * from + 5 * trailing_zeros w64 rest) × HasTargets s p from (trailing_zeros w64 rest) rest)
+lists_next s ms p from bits to ok own small some here targets lists =
     let k = trailing_zeros w64 bits in
     let rest = without bits (trailing_zeros w64 bits) in
     let smaller = without_small bits (trailing_zeros w64 bits) small in
     let rises = zeros_rise bits small smaller some in
     let le : trailing_zeros w64 bits + 1 ≤ trailing_zeros w64 (without bits (trailing_zeros w64 bits)) = omega arith in
-    let left = targets_left p from k bits (omega arith) some targets in
+    let left = targets_left s p from k bits (omega arith) some targets in
     let L : ℕ → Type 0 = λ n. ListsBelow s ms n in
     let next : 320 * from + 5 * to + 5 ≡ 320 * from + 5 * (trailing_zeros w64 bits + 1) = omega arith in (
-      lists_to_lowest s ms p from (k + 1) rest own smaller le left (subst L next lists),
-      record { every = λ q on after may. left.every q on (omega arith) may },
+      lists_to_lowest s ms p from (k + 1) rest ok own smaller le left (subst L next lists),
+      record { every = λ q on after may free. left.every q on (omega arith) may free },
     )

@@ -260,3 +260,17 @@ sees_carried old new by sight from to piece own sees moved other stands enemy on
       straight = either sight.straight Rook Queen sees.straight;
       diagonal = either sight.diagonal Bishop Queen sees.diagonal;
     }
+
+-- what stands on a square is in the union of the sets
+pub own_in : (board : Board) (side : Colour) (sight : Sight) (q : ℕ)
+    → (Holds board q (piece_of side Pawn) → In sight.pawns q) → (Holds board q (piece_of side Knight) → In sight.knights q) → (Holds board q (piece_of side King) → In sight.kings q)
+    → (Holds board q (piece_of side Rook) ⊎ Holds board q (piece_of side Queen) → In sight.straight q)
+    → (Holds board q (piece_of side Bishop) ⊎ Holds board q (piece_of side Queen) → In sight.diagonal q)
+    → (kind : Kind) → Holds board q (piece_of side kind)
+    → In (bit_or (bit_or (bit_or (bit_or sight.pawns sight.knights) sight.kings) sight.straight) sight.diagonal) q
+own_in board side sight q pawns knights kings straight diagonal Pawn h = in_first _ _ q (in_first _ _ q (in_first _ _ q (in_first _ _ q (pawns h))))
+own_in board side sight q pawns knights kings straight diagonal Knight h = in_first _ _ q (in_first _ _ q (in_first _ _ q (in_second _ _ q (knights h))))
+own_in board side sight q pawns knights kings straight diagonal King h = in_first _ _ q (in_first _ _ q (in_second _ _ q (kings h)))
+own_in board side sight q pawns knights kings straight diagonal Rook h = in_first _ _ q (in_second _ _ q (straight (inl h)))
+own_in board side sight q pawns knights kings straight diagonal Bishop h = in_second _ _ q (diagonal (inl h))
+own_in board side sight q pawns knights kings straight diagonal Queen h = in_second _ _ q (diagonal (inr h))

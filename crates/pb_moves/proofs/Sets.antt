@@ -1,10 +1,10 @@
 -- Sets of squares as numbers: what their meets and joins have, and when they are empty.
 use Rattle.std.proofs.Common.{◌≡◌, ℕ, zero, ◌+◌, ◌-◌, ◌*◌, ◌%◌, ◌<◌, ◌≤◌, ◌^◌, ◌⊎◌, arith, sym, subst, ◌∙◌, inl, inr, bit_and, bit_or, w64}
-use Rattle.std.specs.Int.{bit_at, trailing_zeros}
+use Rattle.std.specs.Int.{bit_at, bit_not, trailing_zeros}
 use Rattle.std.proofs.lemmas.Bool.{cases_lt}
 use Rattle.std.proofs.Math.Nat.{pow-le-pow_right}
 use Rattle.std.proofs.lemmas.Nat.{one_shl}
-use Rattle.std.proofs.lemmas.Nat.Bits.{bit_at-zero, bit_at-lt, bit_at_and, bit_at_or, bit_at_mask_inside, bit_at_mask_below, bit_at_mask_above}
+use Rattle.std.proofs.lemmas.Nat.Bits.{bit_at-zero, bit_at-lt, bit_at_and, bit_at_not, bit_at_or, bit_at_mask_inside, bit_at_mask_below, bit_at_mask_above}
 use Rattle.pb_moves.specs.Sight.{In}
 use Rattle.pb_moves.proofs.Rising.{zeros_some, low_bit}
 use Rattle.pb_moves.proofs.Unique.{same_or_not}
@@ -30,6 +30,13 @@ in_first x y q h = let is = bit_at_or x y q in let b = bit_at-lt y q in is ∙ o
 
 pub in_second : (x y q : ℕ) → In y q → In (bit_or x y) q
 in_second x y q h = let is = bit_at_or x y q in let a = bit_at-lt x q in is ∙ omega arith
+
+-- what isn't in a set is in what the code makes of it by `!`
+pub in_others : (x q : ℕ) → x < 2 ^ 64 → q < 64 → ¬ In x q → In (bit_not w64 x) q
+in_others x q small on out =
+    let is = bit_at_not w64 x q small on in
+    let bit = bit_at-lt x q in
+    elim (same_or_not (bit_at x q) 1) [ inl e ↦ absurd (out e) | inr ne ↦ is ∙ omega arith ]
 
 -- nothing is in the empty set
 pub in_none : (x q : ℕ) → x ≡ 0 → ¬ In x q

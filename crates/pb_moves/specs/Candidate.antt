@@ -1,5 +1,5 @@
 -- Squares to which a piece may go, and the legal moves found so far.
-use Rattle.std.specs.Prelude.{◌≡◌, ℕ, ◌<◌, ◌≤◌, ◌⊎◌, max, List, All, AllPairs, Contains}
+use Rattle.std.specs.Prelude.{◌≡◌, ℕ, ◌<◌, ◌≤◌, ◌⊎◌, ◌↔◌, max, List, All, AllPairs, Contains}
 use Rattle.pb_board.specs.declared.piece.Colour.{Colour}
 use Rattle.pb_board.specs.declared.piece.Kind.{Kind}
 use Rattle.pb_board.specs.declared.piece.Kind.TheVariants.{Pawn, Knight, Bishop, Rook, Queen, King}
@@ -10,11 +10,16 @@ use Rattle.pb_moves.specs.Attack.{files_apart, ranks_apart, IsKnightsMove, IsDia
 use Rattle.pb_moves.specs.Moved.{Moved, IsMove}
 use Rattle.pb_moves.specs.Cases.{Legal}
 use Rattle.pb_moves.specs.Listing.{place}
+use Rattle.pb_moves.specs.Sight.{In}
 
 -- this piece of the side to move stands there
 pub record HoldsOwn (s : Position) (square : ℕ) (piece : Piece) : Type 0 where
   pub stands : Holds s.board square piece
   pub own : piece.colour ≡ s.turn
+
+-- the set has the squares of the board on which a piece of the side to move stands
+abbrev pub AreOwn : ℕ → Position → Type 0
+AreOwn own s = (q : ℕ) → q < 64 → In own q ↔ ((piece : Piece) × HoldsOwn s q piece)
 
 -- a piece of this colour and kind can go from one square to the other on some board
 abbrev pub MayGo : Colour → Kind → ℕ → ℕ → Type 0

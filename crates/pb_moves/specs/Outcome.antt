@@ -3,7 +3,7 @@ use Rattle.std.specs.Prelude.{◌≢◌, ℕ, ◌⊎◌}
 use Rattle.pb_board.specs.declared.piece.Kind.TheVariants.{King}
 use Rattle.pb_board.specs.declared.piece.Piece.{Piece}
 use Rattle.pb_board.specs.Board.{Board}
-use Rattle.pb_board.specs.Position.{Position, IsOnlyKing}
+use Rattle.pb_board.specs.Position.{Position, IsOnlyKing, IsSetup}
 use Rattle.pb_moves.specs.Attack.{InCheck, IsDiagonal, IsStraight}
 use Rattle.pb_moves.specs.Cases.{CaseOf}
 use Rattle.pb_moves.specs.Moved.{Moved}
@@ -19,3 +19,9 @@ pub record IsUnpinned (s : Position) (from : ℕ) (piece : Piece) : Type 0 where
   pub king : ℕ
   pub only : IsOnlyKing s.board s.turn king
   pub apart : ¬ (IsDiagonal from king ⊎ IsStraight from king)
+
+-- the piece can't uncover its king, and its side isn't in check
+pub record IsFree (s : Position) (from : ℕ) (piece : Piece) : Type 0 where
+  pub rules : IsSetup s
+  pub unchecked : ¬ InCheck s.board s.turn
+  pub unpinned : IsUnpinned s from piece

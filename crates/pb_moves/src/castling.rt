@@ -9,8 +9,8 @@ ghost use Rattle.pb_moves.specs.Attack.{IsAttacked};
 ghost use Rattle.pb_moves.specs.Castling.{castling_row, Castled, MayCastle};
 ghost use Rattle.pb_moves.specs.Cases.{Castles};
 
-use crate::attack::attacked_on;
 use crate::board::{Board, holds, is_empty, opponent_of, square_at};
+use crate::check::attacked;
 use crate::moves::Move;
 use pb_board::{Colour, Kind, Piece, Rights, Setup, Square};
 
@@ -119,15 +119,15 @@ impl Castling {
     }
 
     /// Whether the enemy attacks neither the king's square nor the one that it crosses.
-    fn way_is_safe(self, board: &Board) -> bool
+    fn way_is_safe(self, setup: &Setup) -> bool
         ensures { IsTrue result
-            ↔ All (λ q. ¬ IsAttacked board.now (opponent (castling_row self).colour) q) (castling_row self).unattacked }
+            ↔ All (λ q. ¬ IsAttacked setup.now.board (opponent (castling_row self).colour) q) (castling_row self).unattacked }
     {
         match self {
-            Castling::WhiteShort => both_safe(board, Colour::White, 4, 5),
-            Castling::WhiteLong => both_safe(board, Colour::White, 4, 3),
-            Castling::BlackShort => both_safe(board, Colour::Black, 60, 61),
-            Castling::BlackLong => both_safe(board, Colour::Black, 60, 59),
+            Castling::WhiteShort => both_safe(setup, Colour::White, 4, 5),
+            Castling::WhiteLong => both_safe(setup, Colour::White, 4, 3),
+            Castling::BlackShort => both_safe(setup, Colour::Black, 60, 61),
+            Castling::BlackLong => both_safe(setup, Colour::Black, 60, 59),
         }
     }
 
@@ -147,7 +147,7 @@ impl Castling {
         if !holds(board, square_at(self.squares().rook_from), rook) {
             return false;
         }
-        self.way_is_empty(board) && self.way_is_safe(board)
+        self.way_is_empty(board) && self.way_is_safe(setup)
     }
 
     /// Moves king and rook.
@@ -179,14 +179,14 @@ fn both_empty(board: &Board, first: u8, second: u8) -> bool
 }
 
 /// Whether the enemy attacks neither of these squares.
-fn both_safe(board: &Board, side: Colour, first: u8, second: u8) -> bool
+fn both_safe(setup: &Setup, side: Colour, first: u8, second: u8) -> bool
     requires first { first < 64 }
     requires second { second < 64 }
     ensures { IsTrue result
-        ↔ (¬ IsAttacked board.now (opponent side) first × ¬ IsAttacked board.now (opponent side) second) }
+        ↔ (¬ IsAttacked setup.now.board (opponent side) first × ¬ IsAttacked setup.now.board (opponent side) second) }
 {
     let enemy = opponent_of(side);
-    !attacked_on(board, square_at(first), enemy) && !attacked_on(board, square_at(second), enemy)
+    !attacked(setup, square_at(first), enemy) && !attacked(setup, square_at(second), enemy)
 }
 
 /// The castling of this move, if it is one that the setup allows.

@@ -10,7 +10,7 @@ ghost use Rattle.pb_moves.specs.Candidate.{HoldsOwn};
 ghost use Rattle.pb_moves.specs.Cases.{CaseOf, Legal};
 ghost use Rattle.pb_moves.specs.Change.{Finds, LeadsTo};
 ghost use Rattle.pb_moves.specs.declared.change.Change.TheVariants.{Carry};
-ghost use Rattle.pb_moves.specs.Outcome.{IsOutcome, IsUnpinned};
+ghost use Rattle.pb_moves.specs.Outcome.{IsFree, IsOutcome, IsUnpinned};
 
 use crate::board::{Board, opponent_of};
 use crate::cases::{en_passant, pawn_capture, pawn_double, pawn_step, piece_move};
@@ -127,6 +127,16 @@ fn is_unpinned(setup: &Setup, from: Square, piece: Piece) -> bool
     piece.kind != Kind::King && line_between(from, king).is_none()
 }
 
+/// Whether the moves of this piece need no test of check, where they put it in the place of what stood on a square. `checked` is false
+/// only where the mover isn't in check.
+#[inline(always)]
+pub(crate) fn is_free(setup: &Setup, from: Square, piece: Piece, checked: bool) -> bool
+    requires checked { ¬ IsTrue checked → ¬ InCheck setup.now.board setup.now.turn }
+    ensures { IsTrue result → IsFree setup.now from piece }
+{
+    !checked && is_unpinned(setup, from, piece)
+}
+
 /// Whether the mover's king is safe after a move that puts a piece in the place of what stood on a square. No board is made.
 #[inline(always)]
 pub(crate) fn is_safe(setup: &Setup, m: Move, piece: Piece, arriving: Piece) -> bool
@@ -142,15 +152,16 @@ pub(crate) fn is_safe(setup: &Setup, m: Move, piece: Piece, arriving: Piece) -> 
     !is_attacked(&seen, king, enemy)
 }
 
-/// Whether the move of this piece is legal. `checked` is false only where the mover isn't in check: then most moves need
-/// no test of check.
-pub(crate) fn is_legal_for(setup: &Setup, m: Move, piece: Piece, checked: bool) -> bool
+/// Whether the move of this piece is legal. `free` is true only where most moves of the piece need no test of check.
+pub(crate) fn is_legal_for(setup: &Setup, m: Move, piece: Piece, free: bool) -> bool
     requires own { HoldsOwn setup.now m.from piece }
-    requires checked { ¬ IsTrue checked → ¬ InCheck setup.now.board setup.now.turn }
+    requires free { IsTrue free → IsFree setup.now m.from piece }
     ensures { IsTrue result ↔ Legal setup.now m }
 {
+    // The reader tells that the move meets its rules.
+    let _from = m.from();
     match change_of(setup, m, piece) {
-        Some(Change::Carry(_)) if !checked && is_unpinned(setup, m.from(), piece) => true,
+        Some(Change::Carry(_)) if free => true,
         Some(Change::Carry(arriving)) => is_safe(setup, m, piece, arriving),
         Some(change) => {
             let mut board = *setup.board();
@@ -166,7 +177,7 @@ pub fn is_legal(setup: &Setup, m: Move) -> bool
     ensures { IsTrue result ↔ Legal setup.now m }
 {
     match own_piece(setup, m.from()) {
-        Some(piece) => is_legal_for(setup, m, piece, true),
+        Some(piece) => is_legal_for(setup, m, piece, false),
         None => false,
     }
 }

@@ -5,15 +5,20 @@ ghost use Rattle.std.specs.Option.{ForSome};
 ghost use Rattle.pb_moves.specs.Attack.{InCheck};
 ghost use Rattle.pb_moves.specs.Moved.{IsPromotion, promotion_number};
 ghost use Rattle.pb_moves.specs.Listing.{ListsLegal};
-ghost use Rattle.pb_moves.specs.Candidate.{HoldsOwn, MayPromote, ListsBelow};
+ghost use Rattle.pb_moves.specs.Outcome.{IsFree};
+ghost use Rattle.pb_moves.specs.Candidate.{AreOwn, HoldsOwn, MayPromote, ListsBelow};
 
 use crate::board::square_at;
 use crate::candidates::candidates;
 use crate::check::in_check;
-use crate::legal::{is_legal_for, own_piece};
+use crate::legal::{is_free, is_legal_for, own_piece};
 use crate::moves::Move;
+use crate::sight::sight_of;
 use pb_board::{Kind, Piece, Setup, Square};
 use std::alloc::{AllocError, Global};
+
+/// Room for the moves of most setups, so that the list seldom grows.
+const USUAL_MOVES: usize = 64;
 
 /// All legal moves of the setup, each once, by the square that they leave, then the square that they reach, both
 /// from a1 to h8 by index, then the promotion: knight, bishop, rook, queen.
@@ -21,32 +26,49 @@ pub fn legal_moves(alloc: Global, setup: &Setup) -> Result<Vec<Move>, AllocError
     ensures { IfOk result (λ v. ListsLegal setup.now v.items) }
 {
     let checked = in_check(setup, setup.turn());
-    let mut moves = Vec::new(alloc);
+    let own = own_squares(setup);
+    let mut moves = Vec::with_capacity(alloc, USUAL_MOVES)?;
     for index in 0..64u8 {
-        push_from(setup, checked, square_at(index), &mut moves)?;
+        push_from(setup, checked, own, square_at(index), &mut moves)?;
     }
     Ok(moves)
+}
+
+/// The squares on which the side to move has a piece: bit `i` stands for the square of index `i`.
+fn own_squares(setup: &Setup) -> u64
+    ensures { AreOwn result setup.now }
+{
+    let own = sight_of(setup, setup.turn());
+    own.pawns | own.knights | own.kings | own.straight | own.diagonal
 }
 
 /// Adds the legal moves from one square.
 fn push_from(
     setup: &Setup,
     checked: bool,
+    own: u64,
     from: Square,
     moves: &mut Vec<Move>,
 ) -> Result<(), AllocError>
     requires checked { ¬ IsTrue checked → ¬ InCheck setup.now.board setup.now.turn }
+    requires own { AreOwn own setup.now }
     requires before { ListsBelow setup.now moves.old.items (320 * from) }
     ensures { OnOk result (ListsBelow setup.now moves.new.items (320 * from + 320)) }
 {
+    if own >> from.index() & 1 == 0 {
+        return Ok(());
+    }
     let Some(piece) = own_piece(setup, from) else {
         return Ok(());
     };
-    let mut rest = candidates(piece, from);
+    // The reader tells that the setup meets its rules.
+    let _turn = setup.turn();
+    let free = is_free(setup, from, piece, checked);
+    let mut rest = candidates(piece, from) & !own;
     while rest != 0 {
         let index = rest.trailing_zeros();
         let to = square_at(index as u8);
-        push_to(setup, checked, piece, from, to, moves)?;
+        push_to(setup, free, piece, from, to, moves)?;
         rest &= !(1 << index);
     }
     Ok(())
@@ -63,39 +85,39 @@ fn may_promote(kind: Kind, to: Square) -> bool
 /// Adds the legal moves of this piece from one square to another.
 fn push_to(
     setup: &Setup,
-    checked: bool,
+    free: bool,
     piece: Piece,
     from: Square,
     to: Square,
     moves: &mut Vec<Move>,
 ) -> Result<(), AllocError>
-    requires checked { ¬ IsTrue checked → ¬ InCheck setup.now.board setup.now.turn }
+    requires free { IsTrue free → IsFree setup.now from piece }
     requires own { HoldsOwn setup.now from piece }
     requires before { ListsBelow setup.now moves.old.items (320 * from + 5 * to) }
     ensures { OnOk result (ListsBelow setup.now moves.new.items (320 * from + 5 * to + 5)) }
 {
-    push_legal(setup, checked, piece, from, to, None, moves)?;
+    push_legal(setup, free, piece, from, to, None, moves)?;
     if !may_promote(piece.kind, to) {
         return Ok(());
     }
-    push_legal(setup, checked, piece, from, to, Some(Kind::Knight), moves)?;
-    push_legal(setup, checked, piece, from, to, Some(Kind::Bishop), moves)?;
-    push_legal(setup, checked, piece, from, to, Some(Kind::Rook), moves)?;
-    push_legal(setup, checked, piece, from, to, Some(Kind::Queen), moves)?;
+    push_legal(setup, free, piece, from, to, Some(Kind::Knight), moves)?;
+    push_legal(setup, free, piece, from, to, Some(Kind::Bishop), moves)?;
+    push_legal(setup, free, piece, from, to, Some(Kind::Rook), moves)?;
+    push_legal(setup, free, piece, from, to, Some(Kind::Queen), moves)?;
     Ok(())
 }
 
 /// Adds the move between these squares with this promotion, if it is legal.
 fn push_legal(
     setup: &Setup,
-    checked: bool,
+    free: bool,
     piece: Piece,
     from: Square,
     to: Square,
     promotion: Option<Kind>,
     moves: &mut Vec<Move>,
 ) -> Result<(), AllocError>
-    requires checked { ¬ IsTrue checked → ¬ InCheck setup.now.board setup.now.turn }
+    requires free { IsTrue free → IsFree setup.now from piece }
     requires own { HoldsOwn setup.now from piece }
     requires promotion { ForSome promotion IsPromotion }
     requires before { ListsBelow setup.now moves.old.items (320 * from + 5 * to + promotion_number promotion) }
@@ -104,7 +126,7 @@ fn push_legal(
     let Some(m) = Move::new(from, to, promotion) else {
         return Ok(());
     };
-    if !is_legal_for(setup, m, piece, checked) {
+    if !is_legal_for(setup, m, piece, free) {
         return Ok(());
     }
     moves.push(m)?;

@@ -1,23 +1,45 @@
-use Rattle.std.proofs.Common.{◌≡◌, ℕ, ◌+◌, ◌*◌, subst, arith, w64}
-use Rattle.std.specs.Int.{trailing_zeros}
+use Rattle.std.proofs.Common.{◌≡◌, ℕ, ◌+◌, ◌*◌, bit_and, subst, sym, arith, w64}
+use Rattle.std.specs.Int.{bit_not, trailing_zeros}
 use Rattle.std.specs.Int.Count.{trailing_of_zero}
-use Rattle.pb_moves.specs.Candidate.{ListsBelow}
-use Rattle.pb_moves.proofs.Listed.{lists_pass_from, lists_to_lowest, lists_next}
+use Rattle.pb_moves.specs.Candidate.{HoldsOwn, ListsBelow}
+use Rattle.pb_moves.specs.Sight.{In}
+use Rattle.std.proofs.lemmas.Nat.{and_le_l}
+use Rattle.std.proofs.lemmas.Nat.Bits.{shr_and_one}
+use Rattle.pb_moves.proofs.Listed.{HasTargets, lists_pass_from, lists_to_lowest, lists_next}
 use Rattle.pb_moves.proofs.Rising.{zeros_rise, without_small, zeros_some}
+use Rattle.pb_moves.proofs.Sets.{in_both, in_others}
 use Rattle.pb_moves.proofs.listing.push_from.Goals as goal
+
+pub returns-then-own-index-eq0 : goal.returns-then-own-index-eq0
+returns-then-own-index-eq0 c =
+    let s = c.args.setup.now in
+    let own = c.args.own in
+    let i = c.index.result in
+    let test = c.if-own-index-eq0.true in
+    let bit = shr_and_one own i in
+    let out : ¬ In own i = λ stands. omega (arith, test, bit, stands) in
+    lists_pass_from s c.args.moves.now.items c.args.from
+    (λ p held. out ((c.requires.own i c.index.ensures.below).1 (p, subst (λ q. HoldsOwn s q p) (sym c.index.ensures.value) held))) c.requires.before
 
 pub returns-in_default : goal.returns-in_default
 returns-in_default c = lists_pass_from c.args.setup.now c.args.moves.now.items c.args.from c.in_default.ensures c.requires.before
 
 pub loop-rest-init : goal.loop-rest-init
 loop-rest-init c =
-    let bits = c.candidates-rest.result in
+    let may = c.candidates.result in
+    let own = c.args.own in
     let L : ℕ → Type 0 = λ n. ListsBelow c.args.setup.now c.args.moves.now.items n in
     let first : 320 * c.args.from ≡ 320 * c.args.from + 5 * 0 = omega arith in
+    let targets : HasTargets c.args.setup.now c.in-Some.piece c.args.from 0 (bit_and may (bit_not w64 own)) =
     record {
-      before = lists_to_lowest c.args.setup.now c.args.moves.now.items c.in-Some.piece c.args.from 0 bits c.in-Some.ensures c.candidates-rest.type_inv (omega arith)
-          (record { every = λ q on after may. (c.candidates-rest.ensures q on).1 may }) (subst L first c.requires.before);
-      targets = record { every = λ q on after may. (c.candidates-rest.ensures q on).1 may };
+      every = λ q on after goes free.
+          in_both may (bit_not w64 own) q ((c.candidates.ensures q on).1 goes)
+          (in_others own q (omega arith) on (λ stands. let held = (c.requires.own q on).0 stands in free held.0 held.1));
+    } in
+    record {
+      before = lists_to_lowest c.args.setup.now c.args.moves.now.items c.in-Some.piece c.args.from 0 (bit_and may (bit_not w64 own)) c.turn-turn.ensures.rules c.in-Some.ensures (omega (arith, and_le_l may (bit_not w64 own))) (omega arith)
+          targets (subst L first c.requires.before);
+      targets = record { every = λ q on after goes free. targets.every q on (omega arith) goes free };
     }
 
 pub loop-rest-smaller : goal.loop-rest-smaller
@@ -31,7 +53,7 @@ pub loop-rest-preserved : goal.loop-rest-preserved
 loop-rest-preserved c =
     let bits = c.loop-rest.rest in
     let some = zeros_some bits (omega arith) (omega arith) in
-    let next = lists_next c.args.setup.now c.push_to.new.moves.items c.in-Some.piece c.args.from bits c.square_at-to.result c.in-Some.ensures (omega arith) some
+    let next = lists_next c.args.setup.now c.push_to.new.moves.items c.in-Some.piece c.args.from bits c.square_at-to.result c.turn-turn.ensures.rules c.in-Some.ensures (omega arith) some
     c.square_at-to.ensures c.loop-rest.invariant.targets c.in_ok-push_to.ensures in
     record { before = next.0; targets = next.1 }
 

@@ -8,7 +8,7 @@ use Rattle.pb_moves.proofs.listing.push_from.Given as goal
 abbrev pub invariant-loop-rest : goal.invariant-loop-rest
 invariant-loop-rest l = record {
   before : ListsBelow l.setup l.moves.items (320 * l.from + 5 * trailing_zeros w64 l.rest);
-  targets : HasTargets l.piece l.from (trailing_zeros w64 l.rest) l.rest;
+  targets : HasTargets l.setup l.piece l.from (trailing_zeros w64 l.rest) l.rest;
 }
 
 abbrev pub decreases-loop-rest : goal.decreases-loop-rest
