@@ -1,7 +1,7 @@
 use Rattle.std.proofs.Common.{ℕ, ◌≡◌, subst}
 use Rattle.pb_board.specs.Position.{carried_board}
 use Rattle.pb_board.specs.Mask.{masks_of}
-use Rattle.pb_board.proofs.MaskBits.{carried_masks, masks_carried}
+use Rattle.pb_board.proofs.MaskCarries.{carried_masks, masks_carried}
 use Rattle.pb_board.proofs.masks.carry.Goals as goal
 
 pub returns : goal.returns
