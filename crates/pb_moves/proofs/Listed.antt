@@ -236,6 +236,18 @@ lists_pass_promotions s ms p from to on_to own none lists =
     let H : ℕ → Type 0 = λ x. MayPromote p.kind x in
     none (subst H same_to (case_promotes s q p legal.new some.0 at_piece some.1)))
 
+-- no legal move goes to a square to which no case leads
+pub lists_pass_to : (s : Position) (ms : List Moved) (p : Piece) (from to : ℕ) → to < 64 → HoldsOwn s from p
+    → ((m : Moved) (b : Board) → m.from ≡ from → m.to ≡ to → ¬ CaseOf s m p b) → ListsBelow s ms (320 * from + 5 * to) → ListsBelow s ms (320 * from + 5 * to + 5)
+lists_pass_to s ms p from to on_to own none lists =
+    lists_skip s ms (320 * from + 5 * to) (320 * from + 5 * to + 5) (omega arith) lists (λ q ok legal lo hi.
+    let a = ok.to_on_board in
+    let b = promotion_small q.promo in
+    let same_from : q.from ≡ from = omega arith in
+    let same_to : q.to ≡ to = omega arith in
+    let P : ℕ → Type 0 = λ x. Holds s.board x p in
+    none q legal.new same_from same_to (case_at s q legal.new p (subst P (sym same_from) own.stands) legal.moves))
+
 -- after the moves to the square of the lowest bit, go on with the next
 pub lists_next : (s : Position) (ms : List Moved) (p : Piece) (from bits to : ℕ) → IsSetup s → HoldsOwn s from p → bits < 2 ^ 64 → trailing_zeros w64 bits < 64
     → to ≡ trailing_zeros w64 bits → HasTargets s p from (trailing_zeros w64 bits) bits → ListsBelow s ms (320 * from + 5 * to + 5)

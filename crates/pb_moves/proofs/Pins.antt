@@ -1,72 +1,66 @@
--- A piece that stands on no line with its king doesn't uncover it.
-use Rattle.std.proofs.Common.{◌≡◌, ◌≢◌, ℕ, ◌-◌, ◌<◌, ◌⊎◌, arith, sym, ap, subst, ◌∙◌}
+-- A piece whose king wouldn't be attacked without it can go anywhere.
+use Rattle.std.proofs.Common.{◌≡◌, ◌≢◌, ℕ, ◌<◌, inl, inr, None, length, sym, ap, subst, ◌∙◌}
 use Rattle.pb_board.specs.declared.piece.Colour.{Colour}
 use Rattle.pb_board.specs.declared.piece.Colour.TheVariants.{White, Black}
 use Rattle.pb_board.specs.declared.piece.Kind.{Kind}
 use Rattle.pb_board.specs.declared.piece.Kind.TheVariants.{Pawn, Knight, Bishop, Rook, Queen, King}
 use Rattle.pb_board.specs.declared.piece.Piece.{Piece}
 use Rattle.pb_board.specs.Piece.{opponent}
-use Rattle.pb_board.specs.Board.{Board, Holds}
-use Rattle.pb_board.specs.Position.{Position, IsSetup}
-use Rattle.pb_moves.specs.declared.direction.Direction.{Direction}
-use Rattle.pb_moves.specs.declared.direction.Direction.TheVariants.{North}
-use Rattle.pb_moves.specs.Attack.{StepsFrom, Clear, ReachesBy, IsAttacked, InCheck, IsDiagonal, IsStraight}
+use Rattle.pb_board.specs.Board.{Board, Holds, IsEmpty}
+use Rattle.pb_board.specs.Position.{Position}
+use Rattle.pb_moves.specs.Attack.{Clear, ReachesBy, IsAttacked}
 use Rattle.pb_moves.specs.Moved.{Moved}
 use Rattle.pb_moves.specs.Candidate.{HoldsOwn}
-use Rattle.pb_moves.specs.Outcome.{IsUnpinned}
+use Rattle.pb_moves.specs.Outcome.{IsFree, Lifted}
 use Rattle.pb_moves.specs.Cases.{Carried, CaseOf, piece_move, pawn_step, pawn_double, pawn_capture, en_passant, castles, Legal}
 use Rattle.pb_moves.specs.Change.{LeadsTo}
+use Rattle.pb_moves.specs.Successor.{put}
 use Rattle.pb_moves.specs.declared.change.Change.TheVariants.{Carry}
-use Rattle.pb_moves.proofs.Rays.{lined}
+use Rattle.pb_moves.proofs.Unique.{same_or_not}
 use Rattle.pb_moves.proofs.Kings.{holds_one, holds_at, empty_holds, king_stays, no_king}
 use Rattle.pb_moves.proofs.Legality.{legal_out_of_check}
-use Rattle.pb_moves.proofs.Successors.{moved_board, carried_put}
+use Rattle.pb_moves.proofs.Successors.{at_put_other, at_put_same, length_put, moved_board, carried_put}
 
--- the rest of a line, from a square on it
-pub steps_on : (d : Direction) (n k a b c : ℕ) → k < n → StepsFrom d n a b → StepsFrom d k a c → StepsFrom d (n - k) c b
-steps_on North n k a b c lt p q = (omega arith, omega arith)
-steps_on d n k a b c lt p q = (omega arith, omega arith)
+-- the board from which a piece has gone
+pub lifted_put : (old : Board) (from : ℕ) → length old ≡ 64 → from < 64 → Lifted old (put old from None) from
+lifted_put old from full on = record {
+  squares = length_put old from None full;
+  left = at_put_same old from None full on;
+  others = λ q off. at_put_other old from q None off;
+}
 
-pub steps_leave : (d : Direction) (n a b : ℕ) → 0 < n → StepsFrom d n a b → a ≢ b
-steps_leave North n a b lo p same = omega arith
-steps_leave d n a b lo p same = omega arith
+-- what is clear after a piece has gone elsewhere is clear where the piece is gone for good
+pub clear_lifted : (old new lifted : Board) (from to a b : ℕ) (p : Piece) → Carried old new from to p → Lifted old lifted from → Clear new a b → Clear lifted a b
+clear_lifted old new lifted from to a b p moved gone clear = record {
+  direction = clear.direction;
+  steps = clear.steps;
+  reaches = clear.reaches;
+  empty = λ k c lo hi on at_c.
+      (let empty = clear.empty k c lo hi on at_c in
+      let E : ℕ → Type 0 = λ q. IsEmpty lifted q in
+      elim (same_or_not c from) [
+        | inl same ↦ subst E (sym same) gone.left
+        | inr off ↦ gone.others c off ∙ (sym (moved.others c off (λ same. empty_holds new to c p empty (sym same) moved.arrived)) ∙ empty)
+      ]);
+}
 
--- what is clear after a piece left a square off the line was clear before
-pub clear_before : (old new : Board) (from to a b : ℕ) (p : Piece) → Carried old new from to p → ¬ (IsDiagonal from b ⊎ IsStraight from b) → Clear new a b → Clear old a b
-clear_before old new from to a b p moved apart clear =
-    let d = clear.direction in
-    let n = clear.steps in
-    record {
-      direction = d;
-      steps = n;
-      reaches = clear.reaches;
-      empty = λ k c lo hi on at_c.
-          (let empty = clear.empty k c lo hi on at_c in
-          let off_from : c ≢ from = λ same. (
-          let P : ℕ → Type 0 = λ q. StepsFrom d (n - k) q b in
-          let rest = subst P same (steps_on d n k a b c hi clear.reaches at_c) in
-          apart (lined d (n - k) from b (steps_leave d (n - k) from b (omega arith) rest) rest)) in
-          let off_to : c ≢ to = λ same. empty_holds new to c p empty (sym same) moved.arrived in
-          sym (moved.others c off_from off_to) ∙ empty);
-    }
-
-pub reaches_before : (colour : Colour) (kind : Kind) (old new : Board) (from to a b : ℕ) (p : Piece) → Carried old new from to p
-    → ¬ (IsDiagonal from b ⊎ IsStraight from b) → ReachesBy colour kind new a b → ReachesBy colour kind old a b
-reaches_before colour Pawn old new from to a b p moved apart r = r
-reaches_before colour Knight old new from to a b p moved apart r = r
-reaches_before colour King old new from to a b p moved apart r = r
-reaches_before colour Bishop old new from to a b p moved apart r = (r.0, clear_before old new from to a b p moved apart r.1)
-reaches_before colour Rook old new from to a b p moved apart r = (r.0, clear_before old new from to a b p moved apart r.1)
-reaches_before colour Queen old new from to a b p moved apart r = (r.0, clear_before old new from to a b p moved apart r.1)
+pub reaches_lifted : (colour : Colour) (kind : Kind) (old new lifted : Board) (from to a b : ℕ) (p : Piece) → Carried old new from to p → Lifted old lifted from
+    → ReachesBy colour kind new a b → ReachesBy colour kind lifted a b
+reaches_lifted colour Pawn old new lifted from to a b p moved gone r = r
+reaches_lifted colour Knight old new lifted from to a b p moved gone r = r
+reaches_lifted colour King old new lifted from to a b p moved gone r = r
+reaches_lifted colour Bishop old new lifted from to a b p moved gone r = (r.0, clear_lifted old new lifted from to a b p moved gone r.1)
+reaches_lifted colour Rook old new lifted from to a b p moved gone r = (r.0, clear_lifted old new lifted from to a b p moved gone r.1)
+reaches_lifted colour Queen old new lifted from to a b p moved gone r = (r.0, clear_lifted old new lifted from to a b p moved gone r.1)
 
 pub differ : (side : Colour) → opponent side ≢ side
 differ White same = cc
 differ Black same = cc
 
--- an attack on the king after the move was there before it
-pub attacked_before : (old new : Board) (side : Colour) (from to king : ℕ) (p : Piece) → Carried old new from to p → p.colour ≡ side
-    → ¬ (IsDiagonal from king ⊎ IsStraight from king) → IsAttacked new (opponent side) king → IsAttacked old (opponent side) king
-attacked_before old new side from to king p moved own apart attack =
+-- an attack on the king after the move is there where the piece is gone for good
+pub attacked_lifted : (old new lifted : Board) (side : Colour) (from to king : ℕ) (p : Piece) → Carried old new from to p → Lifted old lifted from → p.colour ≡ side
+    → IsAttacked new (opponent side) king → IsAttacked lifted (opponent side) king
+attacked_lifted old new lifted side from to king p moved gone own attack =
     let a = attack.0 in
     let q = attack.1.piece in
     let off_from : a ≢ from = λ same. empty_holds new a from q moved.left same attack.1.stands in
@@ -77,9 +71,9 @@ attacked_before old new side from to king p moved own apart attack =
       a,
       record {
         piece = q;
-        stands = sym (moved.others a off_from off_to) ∙ attack.1.stands;
+        stands = gone.others a off_from ∙ (sym (moved.others a off_from off_to) ∙ attack.1.stands);
         of_side = attack.1.of_side;
-        reaches = reaches_before q.colour q.kind old new from to a king p moved apart attack.1.reaches;
+        reaches = reaches_lifted q.colour q.kind old new lifted from to a king p moved gone attack.1.reaches;
       },
     )
 
@@ -94,22 +88,18 @@ arrives_own s m p q new own here (castles c x) =
     let F : Piece → Colour = λ z. z.colour in
     ap F (holds_one new m.to q _ here (holds_at new _ m.to _ (sym x.to_table) x.after.king)) ∙ sym x.allowed.side
 
--- so the move is legal where the mover wasn't in check
-pub legal_unpinned : (s : Position) (m : Moved) (p arriving : Piece) → IsSetup s → m.from < 64 → m.to < 64 → m.from ≢ m.to → HoldsOwn s m.from p
-    → LeadsTo (CaseOf s m p) s.board m (Carry arriving) → IsUnpinned s m.from p → ¬ InCheck s.board s.turn → Legal s m
-legal_unpinned s m p arriving ok on_from on_to moves own leads free safe =
+-- so the move of a piece that its king doesn't need is legal
+pub legal_free : (s : Position) (m : Moved) (p arriving : Piece) → m.from < 64 → m.to < 64 → m.from ≢ m.to → HoldsOwn s m.from p
+    → LeadsTo (CaseOf s m p) s.board m (Carry arriving) → IsFree s m.from p → Legal s m
+legal_free s m p arriving on_from on_to moves own leads free =
     let new = moved_board s.board m.from m.to arriving in
-    let moved = carried_put s.board m.from m.to arriving ok.places on_from on_to moves in
+    let lifted = put s.board m.from None in
+    let moved = carried_put s.board m.from m.to arriving free.rules.places on_from on_to moves in
+    let gone = lifted_put s.board m.from free.rules.places on_from in
     let case = leads.1 new moved in
-    let stays = king_stays s m p new s.turn free.king ok own.stands own.own (no_king p s.turn free.no_king) free.only case in
+    let stays = king_stays s m p new s.turn free.king free.rules own.stands own.own (no_king p s.turn free.no_king) free.only case in
     let arrives = arrives_own s m p arriving new own.own moved.arrived case in
     legal_out_of_check s m new p own case (λ check.
     let here : check.0 ≡ free.king = stays.nowhere_else check.0 check.1.stands in
     let P : ℕ → Type 0 = λ k. IsAttacked new (opponent s.turn) k in
-    safe (
-      free.king,
-      record {
-        stands = free.only.here;
-        attacked = attacked_before s.board new s.turn m.from m.to free.king arriving moved arrives free.apart (subst P here check.1.attacked);
-      },
-    ))
+    free.covered lifted gone (attacked_lifted s.board new lifted s.turn m.from m.to free.king arriving moved gone arrives (subst P here check.1.attacked)))

@@ -11,6 +11,7 @@ use mir.Val.{bits}
 use Rattle.std.proofs.lemmas.Nat.{and_le_l, or_lt}
 use Rattle.std.proofs.lemmas.Nat.Bits.{bit_at_set_same, bit_at_set_other}
 use Rattle.pb_moves.specs.Cases.{Carried}
+use Rattle.pb_moves.specs.Outcome.{Lifted}
 use Rattle.pb_moves.proofs.Rising.{without, without_other, without_same}
 use Rattle.pb_moves.proofs.Unique.{same_or_not}
 use Rattle.pb_moves.specs.Sight.{AreOf, AreOfEither, IsTaken, In, Open, Sees, SlidesStraight, SlidesDiagonally, StrikesFrom, piece_of}
@@ -254,6 +255,56 @@ sees_carried old new by sight from to piece own sees moved other stands enemy on
     record {
       full = moved.squares;
       occupied = taken_carried sight.occupied old new from to piece sees.occupied moved on_from on ne;
+      pawns = one sight.pawns Pawn sees.pawns;
+      knights = one sight.knights Knight sees.knights;
+      kings = one sight.kings King sees.kings;
+      straight = either sight.straight Rook Queen sees.straight;
+      diagonal = either sight.diagonal Bishop Queen sees.diagonal;
+    }
+
+-- after a piece of the other side has gone, the sets are the same
+tells_lifted : (mask : ℕ) (old new : Board) (F : Option Piece → Type 0) (by : Colour) (from : ℕ) (own : Piece)
+    → (F None → ⊥) → ((p : Piece) → F (Some p) → p.colour ≡ by) → Tells mask old F → Lifted old new from → Holds old from own → own.colour ≢ by → Tells mask new F
+tells_lifted mask old new F by from own none side tells gone stands enemy q on =
+    elim (same_or_not q from) [
+      | inl e ↦
+          (let P : ℕ → Type 0 = λ x. F (at old x) in
+          let N : ℕ → Type 0 = λ x. F (at new x) in (
+            λ h. absurd (enemy (side own (subst F stands (subst P e ((tells q on).0 h))))),
+            λ h. absurd (none (subst F gone.left (subst N e h))),
+          ))
+      | inr f ↦ (let same = gone.others q f in ((λ h. subst F (sym same) ((tells q on).0 h)), (λ h. (tells q on).1 (subst F same h))))
+    ]
+
+-- the same of what is taken, without the square
+taken_lifted : (mask : ℕ) (old new : Board) (from : ℕ) → IsTaken mask old → Lifted old new from → from < 64 → IsTaken (without mask from) new
+taken_lifted mask old new from taken gone on_from q on =
+    elim (same_or_not q from) [
+      | inl e ↦
+          (let P : ℕ → Type 0 = λ x. (In (without mask from) x → ⊥) × IsEmpty new x in
+          let cleared = without_same mask from on_from in
+          let shut : (In (without mask from) from → ⊥) × IsEmpty new from = ((λ h. omega arith), gone.left) in
+          let both = subst P (sym e) shut in
+          ((λ h. absurd (both.0 h)), (λ h. absurd (h both.1))))
+      | inr f ↦
+          (let kept = without_other mask from q on_from on f in
+          let same = gone.others q f in (
+            λ h empty. (taken q on).0 (sym kept ∙ h) (sym same ∙ empty),
+            λ h. kept ∙ (taken q on).1 (λ empty. h (same ∙ empty)),
+          ))
+    ]
+
+pub sees_lifted : (old new : Board) (by : Colour) (sight : Sight) (from : ℕ) (own : Piece) → Sees old by sight → Lifted old new from
+    → Holds old from own → own.colour ≢ by → from < 64 → Sees new by (record sight { occupied = without sight.occupied from })
+sees_lifted old new by sight from own sees gone stands enemy on =
+    let one = λ (mask : ℕ) (kind : Kind) (tells : AreOf mask old by kind).
+    tells_lifted mask old new (λ x. x ≡ Some (piece_of by kind)) by from own (λ e. absurd cc) (λ p e. some_side p by kind e) tells gone stands enemy in
+    let either = λ (mask : ℕ) (kind second : Kind) (tells : AreOfEither mask old by kind second).
+    tells_lifted mask old new (λ x. (x ≡ Some (piece_of by kind)) ⊎ (x ≡ Some (piece_of by second))) by from own (λ e. elim e [ inl a ↦ absurd cc | inr a ↦ absurd cc ])
+    (λ p e. elim e [ inl a ↦ some_side p by kind a | inr a ↦ some_side p by second a ]) tells gone stands enemy in
+    record {
+      full = gone.squares;
+      occupied = taken_lifted sight.occupied old new from sees.occupied gone on;
       pawns = one sight.pawns Pawn sees.pawns;
       knights = one sight.knights Knight sees.knights;
       kings = one sight.kings King sees.kings;

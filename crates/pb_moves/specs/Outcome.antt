@@ -1,10 +1,11 @@
 -- What a legal move leads to: the board after it, and where the mover's king stands.
-use Rattle.std.specs.Prelude.{◌≢◌, ℕ, ◌⊎◌}
+use Rattle.std.specs.Prelude.{◌≡◌, ◌≢◌, ℕ, length}
 use Rattle.pb_board.specs.declared.piece.Kind.TheVariants.{King}
 use Rattle.pb_board.specs.declared.piece.Piece.{Piece}
-use Rattle.pb_board.specs.Board.{Board}
+use Rattle.pb_board.specs.Board.{Board, at, IsEmpty}
+use Rattle.pb_board.specs.Piece.{opponent}
 use Rattle.pb_board.specs.Position.{Position, IsOnlyKing, IsSetup}
-use Rattle.pb_moves.specs.Attack.{InCheck, IsDiagonal, IsStraight}
+use Rattle.pb_moves.specs.Attack.{InCheck, IsAttacked}
 use Rattle.pb_moves.specs.Cases.{CaseOf}
 use Rattle.pb_moves.specs.Moved.{Moved}
 
@@ -13,15 +14,16 @@ pub record IsOutcome (s : Position) (m : Moved) (piece : Piece) (board : Board) 
   pub only_king : IsOnlyKing board s.turn king
   pub safe : ¬ InCheck board s.turn
 
--- the piece isn't the king, and stands on no line with its side's king
-pub record IsUnpinned (s : Position) (from : ℕ) (piece : Piece) : Type 0 where
+-- on the new board the square is empty, and the others are as they were
+pub record Lifted (old new : Board) (square : ℕ) : Type 0 where
+  pub squares : length new ≡ 64
+  pub left : IsEmpty new square
+  pub others : (q : ℕ) → q ≢ square → at new q ≡ at old q
+
+-- the piece isn't the king, and its side's king wouldn't be attacked if it were gone
+pub record IsFree (s : Position) (from : ℕ) (piece : Piece) : Type 0 where
+  pub rules : IsSetup s
   pub no_king : piece.kind ≢ King
   pub king : ℕ
   pub only : IsOnlyKing s.board s.turn king
-  pub apart : ¬ (IsDiagonal from king ⊎ IsStraight from king)
-
--- the piece can't uncover its king, and its side isn't in check
-pub record IsFree (s : Position) (from : ℕ) (piece : Piece) : Type 0 where
-  pub rules : IsSetup s
-  pub unchecked : ¬ InCheck s.board s.turn
-  pub unpinned : IsUnpinned s from piece
+  pub covered : (b : Board) → Lifted s.board b from → ¬ IsAttacked b (opponent s.turn) king

@@ -10,7 +10,8 @@ use crate::board::Board;
 use crate::direction::Direction;
 use crate::knight::attacked_by_knight;
 use crate::line::first_along;
-use crate::ways::{diagonal_way, straight_way};
+use crate::sight::{kings_from, knights_from};
+use crate::ways::{diagonal_from, diagonal_way, has, straight_from, straight_way};
 use pb_board::{Colour, Kind, Piece, Setup, Square};
 
 /// Whether `to` is this many ranks forward of `from`.
@@ -25,22 +26,20 @@ pub(crate) fn is_forward(colour: Colour, ranks: u8, from: Square, to: Square) ->
     }
 }
 
-/// Whether nothing stands between two squares of a diagonal.
+/// Whether a bishop on `from` attacks `to`.
 #[inline(always)]
-fn clear_diagonal(setup: &Setup, from: Square, to: Square) -> bool
-    requires { IsDiagonal from to }
-    ensures { IsTrue result ↔ Clear setup.now.board from to }
+fn bishop_reaches(setup: &Setup, from: Square, to: Square) -> bool
+    ensures { IsTrue result ↔ (IsDiagonal from to × Clear setup.now.board from to) }
 {
-    diagonal_way(setup.occupied(), to, from)
+    has(diagonal_from(from), to) && diagonal_way(setup.occupied(), to, from)
 }
 
-/// Whether nothing stands between two squares of a file or a rank.
+/// Whether a rook on `from` attacks `to`.
 #[inline(always)]
-fn clear_straight(setup: &Setup, from: Square, to: Square) -> bool
-    requires { IsStraight from to }
-    ensures { IsTrue result ↔ Clear setup.now.board from to }
+fn rook_reaches(setup: &Setup, from: Square, to: Square) -> bool
+    ensures { IsTrue result ↔ (IsStraight from to × Clear setup.now.board from to) }
 {
-    straight_way(setup.occupied(), to, from)
+    has(straight_from(from), to) && straight_way(setup.occupied(), to, from)
 }
 
 /// Whether this piece on `from` attacks `to`.
@@ -48,21 +47,13 @@ fn clear_straight(setup: &Setup, from: Square, to: Square) -> bool
 pub(crate) fn reaches(piece: Piece, setup: &Setup, from: Square, to: Square) -> bool
     ensures { IsTrue result ↔ Reaches piece setup.now.board from to }
 {
-    let across = from.file().abs_diff(to.file());
-    let along = from.rank().abs_diff(to.rank());
     match piece.kind {
-        Kind::Pawn => across == 1 && is_forward(piece.colour, 1, from, to),
-        Kind::Knight => across == 1 && along == 2 || across == 2 && along == 1,
-        Kind::Bishop => across == along && across != 0 && clear_diagonal(setup, from, to),
-        Kind::Rook => (across == 0) != (along == 0) && clear_straight(setup, from, to),
-        Kind::Queen => {
-            if across == along {
-                across != 0 && clear_diagonal(setup, from, to)
-            } else {
-                (across == 0 || along == 0) && clear_straight(setup, from, to)
-            }
-        }
-        Kind::King => across.max(along) == 1,
+        Kind::Pawn => from.file().abs_diff(to.file()) == 1 && is_forward(piece.colour, 1, from, to),
+        Kind::Knight => has(knights_from(to), from),
+        Kind::Bishop => bishop_reaches(setup, from, to),
+        Kind::Rook => rook_reaches(setup, from, to),
+        Kind::Queen => bishop_reaches(setup, from, to) || rook_reaches(setup, from, to),
+        Kind::King => has(kings_from(to), from),
     }
 }
 

@@ -14,7 +14,7 @@ use crate::moves::Move;
 use pb_board::{Colour, Kind, Piece, Setup, Square};
 
 /// A move of a knight, bishop, rook, queen or king to where it attacks.
-#[inline]
+#[inline(always)]
 pub(crate) fn piece_move(setup: &Setup, m: Move, piece: Piece) -> Option<Change>
     requires own { piece.colour ≡ setup.now.turn }
     requires no_pawn { piece.kind ≢ Pawn }

@@ -1,25 +1,26 @@
 //! Legal moves.
 
-ghost use Rattle.std.specs.Prelude.{◌≡◌, ◌≢◌, ◌↔◌, IsTrue, MatchOption};
+ghost use Rattle.std.specs.Prelude.{◌≡◌, ◌↔◌, IsTrue, MatchOption};
 ghost use Rattle.pb_board.specs.declared.piece.Kind.TheVariants.{Pawn, King};
 ghost use Rattle.pb_board.specs.declared.piece.Piece.{Piece};
 ghost use Rattle.pb_board.specs.Board.{Board};
-ghost use Rattle.pb_board.specs.Position.{IsOnlyKing, IsSetup};
-ghost use Rattle.pb_moves.specs.Attack.{InCheck};
+ghost use Rattle.pb_board.specs.Piece.{opponent};
+ghost use Rattle.pb_board.specs.Position.{IsOnlyKing};
 ghost use Rattle.pb_moves.specs.Candidate.{HoldsOwn};
 ghost use Rattle.pb_moves.specs.Cases.{CaseOf, Legal};
 ghost use Rattle.pb_moves.specs.Change.{Finds, LeadsTo};
 ghost use Rattle.pb_moves.specs.declared.change.Change.TheVariants.{Carry};
-ghost use Rattle.pb_moves.specs.Outcome.{IsFree, IsOutcome, IsUnpinned};
+ghost use Rattle.pb_moves.specs.Moved.{Moved};
+ghost use Rattle.pb_moves.specs.Sight.{Sees};
+ghost use Rattle.pb_moves.specs.Outcome.{IsFree, IsOutcome};
 
-use crate::board::{Board, opponent_of};
+use crate::board::{Board, is_empty, opponent_of};
 use crate::cases::{en_passant, pawn_capture, pawn_double, pawn_step, piece_move};
 use crate::castling::castles;
 use crate::change::Change;
 use crate::check::king_attacked;
-use crate::line::line_between;
 use crate::moves::Move;
-use crate::sight::{carried_sight, is_attacked, sight_of};
+use crate::sight::{Sight, carried_sight, is_attacked, lifted_sight, sight_of};
 use pb_board::{Kind, Piece, Setup, Square};
 
 /// The piece of the side to move that stands there.
@@ -34,6 +35,7 @@ pub(crate) fn own_piece(setup: &Setup, square: Square) -> Option<Piece>
 }
 
 /// What the move of this pawn does.
+#[inline(never)]
 fn pawn_change(setup: &Setup, m: Move, pawn: Piece) -> Option<Change>
     requires own { pawn.colour ≡ setup.now.turn }
     requires pawn { pawn.kind ≡ Pawn }
@@ -52,6 +54,7 @@ fn pawn_change(setup: &Setup, m: Move, pawn: Piece) -> Option<Change>
 }
 
 /// What the move of this king does.
+#[inline(never)]
 fn king_change(setup: &Setup, m: Move, king: Piece) -> Option<Change>
     requires own { king.colour ≡ setup.now.turn }
     requires king { king.kind ≡ King }
@@ -67,6 +70,7 @@ fn king_change(setup: &Setup, m: Move, king: Piece) -> Option<Change>
 }
 
 /// What the move of this piece does by one of the cases, if one applies.
+#[inline(always)]
 pub(crate) fn change_of(setup: &Setup, m: Move, piece: Piece) -> Option<Change>
     requires { piece.colour ≡ setup.now.turn }
     ensures { Finds (CaseOf setup.now m piece) setup.now.board m result }
@@ -75,6 +79,23 @@ pub(crate) fn change_of(setup: &Setup, m: Move, piece: Piece) -> Option<Change>
         Kind::Pawn => pawn_change(setup, m, piece),
         Kind::King => king_change(setup, m, piece),
         _ => piece_move(setup, m, piece),
+    }
+}
+
+/// Whether what stands on the square lets a pawn go there: nothing ahead of it, and aside something to take, or some pawn that can be
+/// taken in passing. Other pieces are let pass. Where the answer is no, no move of the piece goes there.
+#[inline(always)]
+pub(crate) fn has_way(setup: &Setup, piece: Piece, from: Square, to: Square) -> bool
+    ensures { (m : Moved) (b : Board) → m.from ≡ from → m.to ≡ to → CaseOf setup.now m piece b → IsTrue result }
+{
+    if piece.kind != Kind::Pawn {
+        return true;
+    }
+    let empty = is_empty(setup.board(), to);
+    if from.file() == to.file() {
+        empty
+    } else {
+        !empty || setup.ep().is_some()
     }
 }
 
@@ -117,24 +138,20 @@ pub(crate) fn make(
     }
 }
 
-/// Whether this piece can't uncover its king: it isn't the king, and stands on no line with it.
+/// Whether the moves of this piece need no test of check, where they put it in the place of what stood on a square: it isn't the
+/// king, and its king wouldn't be attacked if it were gone. `enemy` is what is seen of the board and the enemy's attackers.
 #[inline(always)]
-fn is_unpinned(setup: &Setup, from: Square, piece: Piece) -> bool
-    ensures unpinned { IsTrue result ↔ IsUnpinned setup.now from piece }
-    ensures rules { IsSetup setup.now }
-{
-    let king = setup.king(setup.turn());
-    piece.kind != Kind::King && line_between(from, king).is_none()
-}
-
-/// Whether the moves of this piece need no test of check, where they put it in the place of what stood on a square. `checked` is false
-/// only where the mover isn't in check.
-#[inline(always)]
-pub(crate) fn is_free(setup: &Setup, from: Square, piece: Piece, checked: bool) -> bool
-    requires checked { ¬ IsTrue checked → ¬ InCheck setup.now.board setup.now.turn }
+pub(crate) fn is_free(setup: &Setup, enemy: &Sight, from: Square, piece: Piece) -> bool
+    requires own { HoldsOwn setup.now from piece }
+    requires seen { Sees setup.now.board (opponent setup.now.turn) enemy.now }
     ensures { IsTrue result → IsFree setup.now from piece }
 {
-    !checked && is_unpinned(setup, from, piece)
+    if piece.kind == Kind::King {
+        return false;
+    }
+    let side = setup.turn();
+    let seen = lifted_sight(*enemy, from);
+    !is_attacked(&seen, setup.king(side), opponent_of(side))
 }
 
 /// Whether the mover's king is safe after a move that puts a piece in the place of what stood on a square. No board is made.
@@ -153,6 +170,7 @@ pub(crate) fn is_safe(setup: &Setup, m: Move, piece: Piece, arriving: Piece) -> 
 }
 
 /// Whether the move of this piece is legal. `free` is true only where most moves of the piece need no test of check.
+#[inline(always)]
 pub(crate) fn is_legal_for(setup: &Setup, m: Move, piece: Piece, free: bool) -> bool
     requires own { HoldsOwn setup.now m.from piece }
     requires free { IsTrue free → IsFree setup.now m.from piece }

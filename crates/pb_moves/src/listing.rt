@@ -2,18 +2,19 @@
 
 ghost use Rattle.std.specs.Prelude.{◌≡◌, ◌+◌, ◌*◌, ◌<◌, ◌↔◌, IsTrue, IfOk, OnOk};
 ghost use Rattle.std.specs.Option.{ForSome};
-ghost use Rattle.pb_moves.specs.Attack.{InCheck};
+ghost use Rattle.pb_board.specs.Piece.{opponent};
 ghost use Rattle.pb_moves.specs.Moved.{IsPromotion, promotion_number};
 ghost use Rattle.pb_moves.specs.Listing.{ListsLegal};
 ghost use Rattle.pb_moves.specs.Outcome.{IsFree};
+ghost use Rattle.pb_moves.specs.Sight.{Sees};
 ghost use Rattle.pb_moves.specs.Candidate.{AreOwn, HoldsOwn, MayPromote, ListsBelow};
 
-use crate::board::square_at;
+use crate::board::{opponent_of, square_at};
 use crate::candidates::candidates;
-use crate::check::in_check;
-use crate::legal::{is_free, is_legal_for, own_piece};
+use crate::legal::{has_way, is_free, is_legal_for, own_piece};
 use crate::moves::Move;
-use crate::sight::sight_of;
+use crate::sight::{Sight, sight_of};
+use crate::ways::has;
 use pb_board::{Kind, Piece, Setup, Square};
 use std::alloc::{AllocError, Global};
 
@@ -25,11 +26,11 @@ const USUAL_MOVES: usize = 64;
 pub fn legal_moves(alloc: Global, setup: &Setup) -> Result<Vec<Move>, AllocError>
     ensures { IfOk result (λ v. ListsLegal setup.now v.items) }
 {
-    let checked = in_check(setup, setup.turn());
     let own = own_squares(setup);
+    let enemy = sight_of(setup, opponent_of(setup.turn()));
     let mut moves = Vec::with_capacity(alloc, USUAL_MOVES)?;
     for index in 0..64u8 {
-        push_from(setup, checked, own, square_at(index), &mut moves)?;
+        push_from(setup, &enemy, own, square_at(index), &mut moves)?;
     }
     Ok(moves)
 }
@@ -45,17 +46,17 @@ fn own_squares(setup: &Setup) -> u64
 /// Adds the legal moves from one square.
 fn push_from(
     setup: &Setup,
-    checked: bool,
+    enemy: &Sight,
     own: u64,
     from: Square,
     moves: &mut Vec<Move>,
 ) -> Result<(), AllocError>
-    requires checked { ¬ IsTrue checked → ¬ InCheck setup.now.board setup.now.turn }
+    requires seen { Sees setup.now.board (opponent setup.now.turn) enemy.now }
     requires own { AreOwn own setup.now }
     requires before { ListsBelow setup.now moves.old.items (320 * from) }
     ensures { OnOk result (ListsBelow setup.now moves.new.items (320 * from + 320)) }
 {
-    if own >> from.index() & 1 == 0 {
+    if !has(own, from) {
         return Ok(());
     }
     let Some(piece) = own_piece(setup, from) else {
@@ -63,7 +64,7 @@ fn push_from(
     };
     // The reader tells that the setup meets its rules.
     let _turn = setup.turn();
-    let free = is_free(setup, from, piece, checked);
+    let free = is_free(setup, enemy, from, piece);
     let mut rest = candidates(piece, from) & !own;
     while rest != 0 {
         let index = rest.trailing_zeros();
@@ -83,6 +84,7 @@ fn may_promote(kind: Kind, to: Square) -> bool
 }
 
 /// Adds the legal moves of this piece from one square to another.
+#[inline(always)]
 fn push_to(
     setup: &Setup,
     free: bool,
@@ -96,8 +98,12 @@ fn push_to(
     requires before { ListsBelow setup.now moves.old.items (320 * from + 5 * to) }
     ensures { OnOk result (ListsBelow setup.now moves.new.items (320 * from + 5 * to + 5)) }
 {
+    let promotes = may_promote(piece.kind, to);
+    if !has_way(setup, piece, from, to) {
+        return Ok(());
+    }
     push_legal(setup, free, piece, from, to, None, moves)?;
-    if !may_promote(piece.kind, to) {
+    if !promotes {
         return Ok(());
     }
     push_legal(setup, free, piece, from, to, Some(Kind::Knight), moves)?;
@@ -108,6 +114,7 @@ fn push_to(
 }
 
 /// Adds the move between these squares with this promotion, if it is legal.
+#[inline(always)]
 fn push_legal(
     setup: &Setup,
     free: bool,

@@ -6,6 +6,7 @@ ghost use Rattle.pb_board.specs.declared.piece.Colour.{Colour};
 ghost use Rattle.pb_board.specs.declared.piece.Piece.{Piece};
 ghost use Rattle.pb_moves.specs.Cases.{Carried};
 ghost use Rattle.pb_moves.specs.Attack.{IsAttacked, IsKnightsMove, files_apart, ranks_apart};
+ghost use Rattle.pb_moves.specs.Outcome.{Lifted};
 ghost use Rattle.pb_moves.specs.Sight.{In, Sees, StrikesFrom};
 
 use crate::near_targets::{BLACK_STRIKES, NEAR, WHITE_STRIKES};
@@ -73,7 +74,7 @@ fn pawns_from(colour: Colour, square: Square) -> u64
 
 /// The squares from which a knight attacks the square.
 #[inline(always)]
-fn knights_from(square: Square) -> u64
+pub(crate) fn knights_from(square: Square) -> u64
     ensures moves { (a : ℕ) → a < 64 → (In result a ↔ IsKnightsMove a square) }
     ensures on_board { square < 64 }
 {
@@ -82,7 +83,7 @@ fn knights_from(square: Square) -> u64
 
 /// The squares from which a king attacks the square.
 #[inline(always)]
-fn kings_from(square: Square) -> u64
+pub(crate) fn kings_from(square: Square) -> u64
     ensures { (a : ℕ) → a < 64 → (In result a ↔ (max (files_apart a square) (ranks_apart a square) ≡ 1)) }
 {
     NEAR[square.index() as usize]
@@ -121,5 +122,17 @@ pub(crate) fn carried_sight(sight: Sight, from: Square, to: Square) -> Sight
         kings: sight.kings & !reached,
         straight: sight.straight & !reached,
         diagonal: sight.diagonal & !reached,
+    }
+}
+
+/// What is seen after a piece of the other side has gone from its square.
+#[inline(always)]
+pub(crate) fn lifted_sight(sight: Sight, from: Square) -> Sight
+    ensures { (old new : Board) (by : Colour) (own : Piece) → Sees old by sight → Lifted old new from
+        → Holds old from own → own.colour ≢ by → Sees new by result }
+{
+    Sight {
+        occupied: sight.occupied & !(1u64 << from.index()),
+        ..sight
     }
 }

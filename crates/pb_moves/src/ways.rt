@@ -8,6 +8,15 @@ use crate::board::square_at;
 use crate::piece_targets::{BISHOP, ROOK};
 use pb_board::Square;
 
+/// Whether the square is among those of a set.
+#[inline(always)]
+pub(crate) fn has(set: u64, square: Square) -> bool
+    ensures inside { IsTrue result ↔ In set square }
+    ensures on_board { square < 64 }
+{
+    set >> square.index() & 1 == 1
+}
+
 /// The squares of the same file or rank.
 #[inline(always)]
 pub(crate) fn straight_from(square: Square) -> u64

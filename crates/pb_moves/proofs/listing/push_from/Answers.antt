@@ -1,25 +1,17 @@
-use Rattle.std.proofs.Common.{◌≡◌, ℕ, ◌+◌, ◌*◌, bit_and, subst, sym, arith, w64}
+use Rattle.std.proofs.Common.{◌≡◌, ℕ, ◌+◌, ◌*◌, bit_and, subst, arith, w64}
 use Rattle.std.specs.Int.{bit_not, trailing_zeros}
 use Rattle.std.specs.Int.Count.{trailing_of_zero}
-use Rattle.pb_moves.specs.Candidate.{HoldsOwn, ListsBelow}
-use Rattle.pb_moves.specs.Sight.{In}
+use Rattle.pb_moves.specs.Candidate.{ListsBelow}
 use Rattle.std.proofs.lemmas.Nat.{and_le_l}
-use Rattle.std.proofs.lemmas.Nat.Bits.{shr_and_one}
 use Rattle.pb_moves.proofs.Listed.{HasTargets, lists_pass_from, lists_to_lowest, lists_next}
 use Rattle.pb_moves.proofs.Rising.{zeros_rise, without_small, zeros_some}
 use Rattle.pb_moves.proofs.Sets.{in_both, in_others}
 use Rattle.pb_moves.proofs.listing.push_from.Goals as goal
 
-pub returns-then-own-index-eq0 : goal.returns-then-own-index-eq0
-returns-then-own-index-eq0 c =
-    let s = c.args.setup.now in
-    let own = c.args.own in
-    let i = c.index.result in
-    let test = c.if-own-index-eq0.true in
-    let bit = shr_and_one own i in
-    let out : ¬ In own i = λ stands. omega (arith, test, bit, stands) in
-    lists_pass_from s c.args.moves.now.items c.args.from
-    (λ p held. out ((c.requires.own i c.index.ensures.below).1 (p, subst (λ q. HoldsOwn s q p) (sym c.index.ensures.value) held))) c.requires.before
+pub returns-then-not-has : goal.returns-then-not-has
+returns-then-not-has c =
+    lists_pass_from c.args.setup.now c.args.moves.now.items c.args.from
+    (λ p held. let inside = c.has.ensures.inside.1 ((c.requires.own c.args.from c.has.ensures.on_board).1 (p, held)) in let out = c.if-not-has.true in cc) c.requires.before
 
 pub returns-in_default : goal.returns-in_default
 returns-in_default c = lists_pass_from c.args.setup.now c.args.moves.now.items c.args.from c.in_default.ensures c.requires.before

@@ -1,11 +1,16 @@
 use Rattle.std.proofs.Common.{◌≡◌, ℕ, ◌+◌, ◌*◌, subst, arith}
 use Rattle.pb_moves.specs.Candidate.{ListsBelow}
-use Rattle.pb_moves.proofs.Listed.{lists_pass_promotions}
+use Rattle.pb_moves.proofs.Listed.{lists_pass_promotions, lists_pass_to}
 use Rattle.pb_moves.proofs.listing.push_to.Goals as goal
 
-pub returns-then-not-may_promote : goal.returns-then-not-may_promote
-returns-then-not-may_promote c =
+pub returns-then-not-promotes : goal.returns-then-not-promotes
+returns-then-not-promotes c =
     let Q : ℕ → Type 0 = λ n. ListsBelow c.args.setup.now c.push_legal.new.moves.items n in
     let same : 320 * c.args.from + 5 * c.args.to + 0 + 1 ≡ 320 * c.args.from + 5 * c.args.to + 1 = omega arith in
-    lists_pass_promotions c.args.setup.now c.push_legal.new.moves.items c.args.piece c.args.from c.args.to c.may_promote.ensures.on_board c.requires.own
-    (λ may. let yes = c.may_promote.ensures.promotes.1 may in let f = c.if-not-may_promote.true in cc) (subst Q same c.in_ok-push_legal.ensures)
+    lists_pass_promotions c.args.setup.now c.push_legal.new.moves.items c.args.piece c.args.from c.args.to c.may_promote-promotes.ensures.on_board c.requires.own
+    (λ may. let yes = c.may_promote-promotes.ensures.promotes.1 may in let f = c.if-not-promotes.true in cc) (subst Q same c.in_ok-push_legal.ensures)
+
+pub returns-then-not-has_way : goal.returns-then-not-has_way
+returns-then-not-has_way c =
+    lists_pass_to c.args.setup.now c.args.moves.now.items c.args.piece c.args.from c.args.to c.may_promote-promotes.ensures.on_board c.requires.own
+    (λ m b from to case. let way = c.has_way.ensures m b from to case in let none = c.if-not-has_way.true in cc) c.requires.before
