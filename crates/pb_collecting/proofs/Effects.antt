@@ -12,10 +12,10 @@ use Rattle.pb_games.specs.Submissions.{Submission}
 use Rattle.pb_games.specs.declared.refusal.Refusal.{Refusal}
 use Rattle.pb_ledger.specs.Accepting.{Accepted, Allowed, Answer, OneGame, Run, Takes}
 use Rattle.pb_ledger.specs.Basis.{Basis}
-use Rattle.pb_ledger.proofs.BookLaws.{one_book, one_text}
-use Rattle.pb_ledger.proofs.Distinct.{accepts_the_taken, lawful_arrives, no_repeats}
-use Rattle.pb_ledger.proofs.Numbers.{repeats_keep}
-use Rattle.pb_ledger.proofs.Replies.{Takes-refusal, Takes-unique}
+use Rattle.pb_accepted.proofs.BookLaws.{one_book, one_text}
+use Rattle.pb_accepted.proofs.Distinct.{accepts_the_taken, lawful_arrives, no_repeats}
+use Rattle.pb_accepted.proofs.Numbers.{repeats_keep}
+use Rattle.pb_accepted.proofs.Replies.{Takes-refusal, Takes-unique}
 use Rattle.pb_ledger.specs.Replies.{replies}
 use Rattle.pb_ledger.specs.Holding.{most_games}
 use Rattle.pb_commands.proofs.Told.{all_came, told_table}

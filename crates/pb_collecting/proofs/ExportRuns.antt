@@ -10,7 +10,7 @@ use Rattle.pb_ledger.specs.Exporting.{ExportLines, Exports, ExportsUntil}
 use Rattle.pb_ledger.specs.declared.totals.Totals.{Totals}
 use Rattle.pb_ledger.specs.declared.collecting.CollectFault.{CollectFault}
 use Rattle.pb_ledger.specs.declared.collecting.CollectFault.TheVariants as collect
-use Rattle.pb_ledger.specs.declared.exporting.ExportFault.{ExportFault}
+use Rattle.pb_export.specs.declared.exporting.ExportFault.{ExportFault}
 use Rattle.pb_commands.specs.Judged.{PutsText, PutsUntil}
 use Rattle.pb_commands.specs.ShowsRefusal.{RefusesForTable}
 use Rattle.pb_commands.specs.TableReading.{FindsNoTable, ReadsTable}

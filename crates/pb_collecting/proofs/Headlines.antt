@@ -11,9 +11,9 @@ use Rattle.pb_games.proofs.Refused as refused
 use Rattle.pb_ledger.specs.Accepting.{Accepted, Allowed, Answer, Answers, IsNewId, IsNumber, Run}
 use Rattle.pb_ledger.specs.Holding.{most_games}
 use Rattle.pb_ledger.specs.Laws.{NoRepeats}
-use Rattle.pb_ledger.proofs.Numbers.{numbers_given, repeats_keep}
-use Rattle.pb_ledger.proofs.Replies.{Answered, answered, held, new, other, full as no_room, game_of, id_of, one_submission}
-use Rattle.pb_ledger.proofs.Runs.{own_ids}
+use Rattle.pb_accepted.proofs.Numbers.{numbers_given, repeats_keep}
+use Rattle.pb_accepted.proofs.Replies.{Answered, answered, held, new, other, full as no_room, game_of, id_of, one_submission}
+use Rattle.pb_accepted.proofs.Runs.{own_ids}
 use Rattle.pb_collecting.specs.CollectRun.{CollectsBook, CollectsBytes}
 use Rattle.pb_collecting.specs.Headline.{Arrives, HasHeadline, Headline, IsAccepted, IsNewBefore, MayBeAnswered, WasAccepted, accepted, conflict, full, memory}
 use Rattle.pb_collecting.proofs.Effects.{told_book}

@@ -9,8 +9,8 @@ use Rattle.pb_ledger.specs.Ledger.{LedgerState}
 use Rattle.pb_ledger.specs.Collecting.{CollectsUntil}
 use Rattle.pb_ledger.specs.Exporting.{ExportLines, ExportsUntil, text_of_lines}
 use Rattle.pb_ledger.specs.declared.collecting.CollectFault.{CollectFault}
-use Rattle.pb_ledger.specs.declared.exporting.ExportFault.{ExportFault}
-use Rattle.pb_ledger.specs.declared.exporting.ExportFault.TheVariants as export
+use Rattle.pb_export.specs.declared.exporting.ExportFault.{ExportFault}
+use Rattle.pb_export.specs.declared.exporting.ExportFault.TheVariants as export
 use Rattle.pb_commands.specs.declared.fault.Fault.{Fault}
 use Rattle.pb_commands.specs.declared.fault.Fault.TheVariants.{Write, Memory}
 use Rattle.pb_commands.specs.Judged.{PutsUntil}

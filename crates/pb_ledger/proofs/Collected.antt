@@ -14,13 +14,13 @@ use Rattle.pb_io.specs.declared.lines.LinesFault.{LinesFault}
 use Rattle.pb_io.specs.declared.lines.LinesFault.TheVariants.{Memory, Read, Endless, Stop}
 use Rattle.pb_io.specs.declared.source.Failed.{Failed}
 use Rattle.pb_io.proofs.LineLemmas.{length-lines}
-use Rattle.pb_ledger.specs.Accepting.{Answer, Run}
-use Rattle.pb_ledger.specs.Ledger.{LedgerState}
+use Rattle.pb_accepted.specs.Accepting.{Answer, Run}
+use Rattle.pb_accepted.specs.Ledger.{LedgerState}
 use Rattle.pb_ledger.specs.declared.totals.Totals.{Totals}
 use Rattle.pb_ledger.specs.declared.collecting.Collector.{Collector}
 use Rattle.pb_ledger.specs.Collecting.{Collects, CollectsButOne, CollectsToWriteFault, Leads}
 use Rattle.pb_ledger.specs.Collector.{CollectsAll, CollectsUntilStop, Submitted, TakesLine, added, with_answer}
-use Rattle.pb_ledger.specs.Replies.{replies, reply_line}
+use Rattle.pb_accepted.specs.Replies.{replies, reply_line}
 
 -- ---- counts
 

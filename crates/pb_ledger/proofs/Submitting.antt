@@ -8,10 +8,10 @@ use Rattle.pb_games.specs.declared.refusal.Refusal.TheVariants as refusal
 use Rattle.pb_games.specs.Refusing.{Refuses, field_of, order}
 use Rattle.pb_games.specs.Submissions.{IsLawful, Submission}
 use Rattle.pb_games.proofs.Texts.{fields_back}
-use Rattle.pb_ledger.specs.Accepting.{Allowed, Answer, Takes}
-use Rattle.pb_ledger.proofs.Replies.{Takes-refusal}
+use Rattle.pb_accepted.specs.Accepting.{Allowed, Answer, Takes}
+use Rattle.pb_accepted.proofs.Replies.{Takes-refusal}
 use Rattle.pb_ledger.specs.Collector.{added}
-use Rattle.pb_ledger.specs.Replies.{named}
+use Rattle.pb_accepted.specs.Replies.{named}
 
 -- ---- the id that is named
 

@@ -6,12 +6,12 @@ use Rattle.pb_io.specs.Sink.{SinkState, StillWorks}
 use Rattle.pb_io.specs.Reads.{ReadsAll, ReadsOn, ReadsSome, ReadsToFault}
 use Rattle.pb_io.specs.LineTask.{chunk_len}
 use Rattle.pb_io.specs.Lines.{lines, ended_lines}
-use Rattle.pb_ledger.specs.Accepting.{Accepted, Answer, Run}
-use Rattle.pb_ledger.specs.Ledger.{LedgerState}
+use Rattle.pb_accepted.specs.Accepting.{Accepted, Answer, Run}
+use Rattle.pb_accepted.specs.Ledger.{LedgerState}
 use Rattle.pb_ledger.specs.declared.totals.Totals.{Totals}
 use Rattle.pb_ledger.specs.declared.collecting.CollectFault.{CollectFault}
 use Rattle.pb_ledger.specs.declared.collecting.CollectFault.TheVariants.{Read, Write, Endless, Memory}
-use Rattle.pb_ledger.specs.Replies.{replies, reply_line}
+use Rattle.pb_accepted.specs.Replies.{replies, reply_line}
 
 -- the answers to these lines lead from one ledger to the other, which has the same basis and cap
 pub record Leads (ledger ledger' : LedgerState) (L : List (List ℕ)) (R : List Answer) : Type 0 where

@@ -9,11 +9,11 @@ use Rattle.pb_io.specs.declared.lines.LinesFault.{LinesFault}
 use Rattle.pb_io.specs.declared.lines.LinesFault.TheVariants.{Memory, Read, Endless, Stop}
 use Rattle.pb_io.specs.declared.source.Failed.{Failed}
 use Rattle.pb_io.specs.Count.{next_count}
-use Rattle.pb_ledger.specs.Accepting.{Allowed, Answer, Takes}
-use Rattle.pb_ledger.specs.Ledger.{LedgerState}
+use Rattle.pb_accepted.specs.Accepting.{Allowed, Answer, Takes}
+use Rattle.pb_accepted.specs.Ledger.{LedgerState}
 use Rattle.pb_ledger.specs.declared.totals.Totals.{Totals}
 use Rattle.pb_ledger.specs.declared.collecting.Collector.{Collector}
-use Rattle.pb_ledger.specs.Replies.{reply_line}
+use Rattle.pb_accepted.specs.Replies.{reply_line}
 use Rattle.pb_ledger.specs.Collecting.{Collects, CollectsEndless, CollectsToReadFault, CollectsToWriteFault, Counts}
 
 -- the totals with one more answer, to a line that brought a new game or didn't

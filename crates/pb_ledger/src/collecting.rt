@@ -4,11 +4,10 @@ ghost use Rattle.std.specs.Prelude.{◌≡◌, ◌≤◌, IfErr, IfOk, OnOk, len
 ghost use Rattle.pb_io.specs.Sink.{Put};
 ghost use Rattle.pb_ledger.specs.Collecting.{CollectsStream, CollectsTold, CollectsUntil};
 ghost use Rattle.pb_ledger.specs.Collector.{CollectsAll, CollectsUntilStop, with_answer};
-ghost use Rattle.pb_ledger.specs.Replies.{named, reply_line};
+ghost use Rattle.pb_accepted.specs.Replies.{named, reply_line};
 
-use crate::ledger::Ledger;
-use crate::reply::Reply;
 use crate::totals::Totals;
+use pb_accepted::{Ledger, Reply};
 use pb_games::Refusal;
 use pb_points::Tally;
 use pb_poly::{Failed, LineTask, LinesFault, Sink, Source, take_lines};

@@ -1,24 +1,15 @@
-//! A ledger of submitted games, in which a game that comes again counts once; the opening book of the games that it holds, the
-//! same book as EPD lines, and a stream of submissions, each answered by its reply line.
+//! A stream of submissions to a ledger: each line is submitted, counted and answered by its reply line. It hands on the accepted
+//! games and the export of their book, knows no chess itself, and names no file.
 #![tactic(auto)]
 
-mod arrival;
-mod book_moves;
 mod collecting;
-mod exporting;
-mod gift;
 pub mod laws;
-mod ledger;
-mod notes;
-mod recorder;
-mod reply;
-mod setups;
 mod totals;
 
 pub use collecting::{CollectFault, collect};
-pub use exporting::{ExportFault, export};
-pub use ledger::{Ledger, MAX_CAP};
-pub use pb_games::{Game, Id, Line, MoveList, Outcome, Plies, Refusal, check_line};
-pub use pb_points::{ListTally, MapTally, Row, Tally, scale};
-pub use reply::Reply;
+pub use pb_accepted::{
+    Game, Id, Ledger, Line, ListTally, MAX_CAP, MapTally, MoveList, Outcome, Plies, Refusal, Reply,
+    Row, Tally, check_line, scale,
+};
+pub use pb_export::{ExportFault, export};
 pub use totals::Totals;

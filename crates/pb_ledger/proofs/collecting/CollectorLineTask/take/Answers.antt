@@ -1,5 +1,5 @@
 use Rattle.std.proofs.Common.{◌≡◌, ◌+◌, sym, subst, length, nat_lt}
-use Rattle.pb_ledger.specs.Ledger.{LedgerState}
+use Rattle.pb_accepted.specs.Ledger.{LedgerState}
 use Rattle.pb_ledger.specs.Collector.{Submitted, added}
 use Rattle.pb_ledger.proofs.Submitting.{grows, named_short}
 use Rattle.pb_ledger.proofs.collecting.CollectorLineTask.take.Goals as goal

@@ -2,10 +2,10 @@ use Rattle.std.proofs.Common.{◌≡◌, Err, false, refl, sym, ap, subst, arith
 use Rattle.pb_games.specs.declared.refusal.Refusal.TheVariants.{Long}
 use Rattle.pb_games.specs.Refusing.{Refuses}
 use Rattle.pb_games.proofs.Dues.{first_due, none_at_first}
-use Rattle.pb_ledger.specs.Accepting.{Answer}
-use Rattle.pb_ledger.specs.Ledger.{LedgerState}
+use Rattle.pb_accepted.specs.Accepting.{Answer}
+use Rattle.pb_accepted.specs.Ledger.{LedgerState}
 use Rattle.pb_ledger.specs.Collector.{Submitted}
-use Rattle.pb_ledger.proofs.Replies.{Allowed-refused, Takes-refused}
+use Rattle.pb_accepted.proofs.Replies.{Allowed-refused, Takes-refused}
 use Rattle.pb_ledger.proofs.collecting.CollectorLineTask.take_long.Goals as goal
 
 pub returns : goal.returns

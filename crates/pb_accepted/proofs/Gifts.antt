@@ -1,0 +1,172 @@
+-- What the plies of a game give, and what gifts do to a tally, one after another.
+use Rattle.std.proofs.Common.{suc, ◌≡◌, ℕ, ◌+◌, ◌*◌, ◌<◌, ◌≤◌, ◌^◌, Bool, true, false, if◌then◌else◌, Option, Some, IsSome, unwrap_or, List, [], ◌∷◌, map, take, length, get_or, All, refl, sym, ap, subst, ◌∙◌, inl, inr, arith}
+use Rattle.std.proofs.lemmas.Bool.{cases_lt}
+use Rattle.std.proofs.lemmas.List.{get_or_default, length-map, take_all}
+use Rattle.std.proofs.lemmas.List.Elements.{All-map, All-weaker}
+use Rattle.std.proofs.lemmas.List.Sums.{sum_by_more, sum_by_more_le, sum_by-le}
+use Rattle.pb_board.specs.declared.piece.Colour.{Colour}
+use Rattle.pb_board.specs.declared.piece.Colour.TheVariants as side
+use Rattle.pb_board.specs.Position.{Position}
+use Rattle.pb_moves.specs.Moved.{Moved}
+use Rattle.pb_moves.specs.Successor.{after}
+use Rattle.pb_moves.specs.Played.{plies_from}
+use Rattle.pb_poly.specs.Key.{key}
+use Rattle.pb_games.specs.declared.game.Game.{Game}
+use Rattle.pb_games.specs.declared.outcome.Outcome.{Outcome}
+use Rattle.pb_games.specs.declared.outcome.Outcome.TheVariants.{White, Black, Draw}
+use Rattle.pb_games.specs.Submissions.{plies}
+use Rattle.pb_points.proofs.Pairs.{is_pair_itself}
+use Rattle.pb_points.specs.Tally.{Content, Held, MakesRow, AddsPoints, held, is_pair, more}
+use Rattle.pb_accepted.specs.declared.gift.Gift.{Gift}
+use Rattle.pb_accepted.specs.Basis.{Basis}
+use Rattle.pb_accepted.specs.Counting.{credit, gained, gift_of, gifts_of, share}
+
+-- ---- the gifts of a game
+
+pub length-plies_from : (s : Position) (ms : List Moved) → length (plies_from s ms) ≡ length ms
+length-plies_from s [] = refl
+length-plies_from s (m ∷ ms) = ap suc (length-plies_from (after s m) ms)
+
+-- the moves of plies
+pub moves_back : (s : Position) (ms : List Moved) → map (λ p. p.1) (plies_from s ms) ≡ ms
+moves_back s [] = refl
+moves_back s (m ∷ ms) = ap (λ rest. m ∷ rest) (moves_back (after s m) ms)
+
+-- as many gifts as moves
+pub length-gifts_of : (T : Basis) (g : Game) → length (gifts_of T g) ≡ length g.moves
+length-gifts_of T g = length-map (plies g) (gift_of T g.outcome) ∙ length-plies_from g.start.setup g.moves
+
+credit-le : (o : Outcome) (side : Colour) → credit o side ≤ 2
+credit-le White side.White = omega arith
+credit-le White side.Black = omega arith
+credit-le Black side.White = omega arith
+credit-le Black side.Black = omega arith
+credit-le Draw side = omega arith
+
+-- no gift has more than two points
+pub small_gifts : (T : Basis) (g : Game) → All (λ r. r.points ≤ 2) (gifts_of T g)
+small_gifts T g = All-map (λ (r : Gift). r.points ≤ 2) (gift_of T g.outcome) (plies g) (λ j p lt. credit-le g.outcome (get_or (plies g) j p).0.turn)
+
+share-le : (k c : ℕ) (r : Gift) → share k c r ≤ r.points
+share-le k c r = by (is_pair r.key r.code k c)
+  where
+    by : (b : Bool) → (if b then r.points else 0) ≤ r.points
+    by true = omega arith
+    by false = omega arith
+
+-- gifts of at most two points add at most two each
+pub gained-le : (gifts : List Gift) (k c : ℕ) → All (λ r. r.points ≤ 2) gifts → gained gifts k c ≤ length gifts * 2
+gained-le gifts k c small = sum_by-le (share k c) 2 gifts (λ j d lt. omega (arith, share-le k c (get_or gifts j d), small j d lt))
+
+-- ---- rows that are made
+
+-- the row of the gift is there
+abbrev pub IsThere : Content → Gift → Type 0
+IsThere f r = IsSome (f r.key r.code)
+
+same_made : (f g : Content) (key code : ℕ) → MakesRow f g key code → (k c : ℕ) → held g k c ≡ held f k c
+same_made f g key code made k c = ap (λ o. unwrap_or o (record { points = 0 })) (made k c) ∙ by (f k c) (is_pair key code k c)
+  where
+    by : (o : Option Held) (b : Bool) → unwrap_or (if b then Some (unwrap_or o (record { points = 0 })) else o) (record { points = 0 }) ≡ unwrap_or o (record { points = 0 })
+    by o true = refl
+    by o false = refl
+
+stays : (o : Option Held) (b : Bool) (h : Held) → IsSome o → IsSome (if b then Some h else o)
+stays o true h there = refl
+stays o false h there = there
+
+-- the gift at a place
+abbrev pub gift_at : List Gift → ℕ → Gift
+gift_at gifts i = get_or gifts i (record { key = 0; code = 0; points = 0 })
+
+-- from f to g what is held stayed, and the rows of the first `done` gifts are there
+pub record Ensured (f g : Content) (gifts : List Gift) (done : ℕ) : Type 0 where
+  pub same : (k c : ℕ) → held g k c ≡ held f k c
+  pub there : (j : ℕ) (d : Gift) → j < done → j < length gifts → IsThere g (get_or gifts j d)
+
+pub Ensured-none : (f : Content) (gifts : List Gift) → Ensured f f gifts 0
+Ensured-none f gifts = record { same = λ k c. refl; there = λ j d lt _. absurd (omega (arith, lt)) }
+
+pub Ensured-more : (f g h : Content) (gifts : List Gift) (i : ℕ) → Ensured f g gifts i → MakesRow g h (gift_at gifts i).key (gift_at gifts i).code → Ensured f h gifts (i + 1)
+Ensured-more f g h gifts i e made = record { same = λ k c. same_made g h r.key r.code made k c ∙ e.same k c; there = there }
+  where
+    r : Gift
+    r = gift_at gifts i
+
+    kept : (q : Gift) → IsThere g q → IsThere h q
+    kept q had = subst IsSome (sym (made q.key q.code)) (stays (g q.key q.code) (is_pair r.key r.code q.key q.code) (held g q.key q.code) had)
+
+    now : IsThere h r
+    now = subst IsSome (sym (made r.key r.code ∙ ap (λ b. if b then Some (held g r.key r.code) else g r.key r.code) (is_pair_itself r.key r.code))) refl
+
+    there : (j : ℕ) (d : Gift) → j < i + 1 → j < length gifts → IsThere h (get_or gifts j d)
+    there j d lt within = elim (cases_lt j i) [
+      | inl before ↦ kept (get_or gifts j d) (e.there j d before within)
+      | inr from ↦
+          let same : j ≡ i = omega (arith, lt, from) in
+          subst (IsThere h) (ap (λ n. gift_at gifts n) (sym same) ∙ get_or_default gifts j (record { key = 0; code = 0; points = 0 }) d within) now
+    ]
+
+pub Ensured-all : (f g : Content) (gifts : List Gift) (i : ℕ) → length gifts ≤ i → Ensured f g gifts i → All (IsThere g) gifts
+Ensured-all f g gifts i far e j d lt = e.there j d (omega (arith, lt, far)) lt
+
+-- ---- points that are added
+
+-- from f to g the points of the first `done` gifts were added, and the rows of all are there
+pub record Added (f g : Content) (gifts : List Gift) (done : ℕ) : Type 0 where
+  pub sums : (k c : ℕ) → held g k c ≡ more (gained (take done gifts) k c) (held f k c)
+  pub there : All (IsThere g) gifts
+
+more-zero : (h : Held) → h ≡ more 0 h
+more-zero h i = let none : h.points ≡ h.points + 0 = omega arith in record { points = none i }
+
+more-more : (m n p : ℕ) (h : Held) → p ≡ m + n → more n (more m h) ≡ more p h
+more-more m n p h e i = let sum : h.points + m + n ≡ h.points + p = omega (arith, e) in record { points = sum i }
+
+pub Added-none : (f : Content) (gifts : List Gift) → All (IsThere f) gifts → Added f f gifts 0
+Added-none f gifts there = record { sums = λ k c. more-zero (held f k c); there = there }
+
+held_added : (g h : Content) (key code n : ℕ) → AddsPoints g h key code n → (k c : ℕ) → held h k c ≡ more (if is_pair key code k c then n else 0) (held g k c)
+held_added g h key code n adds k c = ap (λ o. unwrap_or o (record { points = 0 })) (adds k c) ∙ by (is_pair key code k c)
+  where
+    by : (b : Bool) → unwrap_or (if b then Some (more n (held g k c)) else g k c) (record { points = 0 }) ≡ more (if b then n else 0) (held g k c)
+    by true = refl
+    by false = more-zero (held g k c)
+
+pub Added-more : (f g h : Content) (gifts : List Gift) (i : ℕ) → i < length gifts → Added f g gifts i → AddsPoints g h (gift_at gifts i).key (gift_at gifts i).code (gift_at gifts i).points → Added f h gifts (i + 1)
+Added-more f g h gifts i lt e adds = record { sums = sums; there = All-weaker (IsThere g) (IsThere h) kept gifts e.there }
+  where
+    r : Gift
+    r = gift_at gifts i
+
+    kept : (q : Gift) → IsThere g q → IsThere h q
+    kept q had = subst IsSome (sym (adds q.key q.code)) (stays (g q.key q.code) (is_pair r.key r.code q.key q.code) (more r.points (held g q.key q.code)) had)
+
+    sums : (k c : ℕ) → held h k c ≡ more (gained (take (i + 1) gifts) k c) (held f k c)
+    sums k c =
+        held_added g h r.key r.code r.points adds k c ∙ ap (more (share k c r)) (e.sums k c)
+        ∙ more-more (gained (take i gifts) k c) (share k c r) (gained (take (i + 1) gifts) k c) (held f k c) (sum_by_more (share k c) gifts i (record { key = 0; code = 0; points = 0 }) lt)
+
+pub Added-all : (f g : Content) (gifts : List Gift) (i : ℕ) → length gifts ≤ i → Added f g gifts i → (k c : ℕ) → held g k c ≡ more (gained gifts k c) (held f k c)
+Added-all f g gifts i far e k c = e.sums k c ∙ ap (λ gs. more (gained gs k c) (held f k c)) (take_all i gifts far)
+
+-- the next row is there, and its points fit
+pub Added-there : (f g : Content) (gifts : List Gift) (i : ℕ) → i < length gifts → Added f g gifts i → IsThere g (gift_at gifts i)
+Added-there f g gifts i lt e = e.there i (record { key = 0; code = 0; points = 0 }) lt
+
+own_share : (r : Gift) → share r.key r.code r ≡ r.points
+own_share r = ap (λ b. if b then r.points else 0) (is_pair_itself r.key r.code)
+
+pub Added-fits : (f g : Content) (gifts : List Gift) (i : ℕ) → i < length gifts → All (λ r. r.points ≤ 2) gifts → ((k c : ℕ) → (held f k c).points + 2 * length gifts ≤ 2 ^ 63) → Added f g gifts i
+    → (held g (gift_at gifts i).key (gift_at gifts i).code).points + (gift_at gifts i).points ≤ 2 ^ 63
+Added-fits f g gifts i lt small fits e =
+    let r = gift_at gifts i in
+    let now : (held g r.key r.code).points ≡ (held f r.key r.code).points + gained (take i gifts) r.key r.code = ap (λ (h : Held). h.points) (e.sums r.key r.code) in
+    omega (
+      arith,
+      now,
+      fits r.key r.code,
+      sum_by_more_le (share r.key r.code) gifts i (record { key = 0; code = 0; points = 0 }) lt,
+      own_share r,
+      gained-le gifts r.key r.code small,
+    )

@@ -1,0 +1,11 @@
+pub mod Arrivals
+pub mod BookLaws
+pub mod Books
+pub mod Counts
+pub mod Distinct
+pub mod Gifts
+pub mod Members
+pub mod Numbers
+pub mod Places
+pub mod Replies
+pub mod Runs

@@ -1,0 +1,116 @@
+-- Lists with the same members.
+use Rattle.std.proofs.Common.{zero, suc, ◌≡◌, ◌≢◌, ℕ, ◌+◌, ◌<◌, ◌⊎◌, List, [], ◌∷◌, ◌++◌, append-nil, length, get_or, Contains, AllPairs, IsPermutation, refl, sym, ap, subst, ◌∙◌, inl, inr, arith}
+use Rattle.std.specs.List.{remove}
+use Rattle.std.proofs.lemmas.Bool.{cases_lt}
+use Rattle.std.proofs.lemmas.List.{length-append}
+use Rattle.std.proofs.lemmas.List.Edits.{length-remove, get_or-remove_below, get_or-remove_above}
+use Rattle.std.proofs.lemmas.List.Quantifiers.{all_pairs_remove}
+use Rattle.std.proofs.lemmas.List.Sorted.{IsPermutation-refl, IsPermutation-sym, IsPermutation-trans, IsPermutation-cons, IsPermutation-remove, Contains-permutation}
+
+module _ {X : Type 0} where
+  pub contains_cases : (x : X) (xs : List X) (z : X) → Contains (x ∷ xs) z → (x ≡ z) ⊎ Contains xs z
+  contains_cases x xs z h = by h.0 h.1 h.2
+    where
+      by : (k : ℕ) → k < length (x ∷ xs) → get_or (x ∷ xs) k z ≡ z → (x ≡ z) ⊎ Contains xs z
+      by zero lt e = inl e
+      by (suc k) lt e = inr (k, omega arith, e)
+
+  pub contains_head : (x : X) (xs : List X) → Contains (x ∷ xs) x
+  contains_head x xs = (0, omega arith, refl)
+
+  pub contains_tail : (x : X) (xs : List X) (z : X) → Contains xs z → Contains (x ∷ xs) z
+  contains_tail x xs z h = (suc h.0, omega (arith, h.1), h.2)
+
+  none_in_nil : (z : X) → Contains [] z → ⊥
+  none_in_nil z h = omega (arith, h.1)
+
+  module _ (R : X → X → Type 0) where
+    pub pairs_head : (x : X) (xs : List X) (z : X) → AllPairs R (x ∷ xs) → Contains xs z → R x z
+    pairs_head x xs z h c = subst (R x) c.2 (h 0 (suc c.0) z (omega arith) (omega (arith, c.1)))
+
+    pub pairs_tail : (x : X) (xs : List X) → AllPairs R (x ∷ xs) → AllPairs R xs
+    pairs_tail x xs h i j d lt fits = h (suc i) (suc j) d (omega arith) (omega arith)
+
+    same_heads : ((x y : X) → R x y → R y x → ⊥) → (x y : X) (xs ys : List X) → AllPairs R (x ∷ xs) → AllPairs R (y ∷ ys) → Contains (y ∷ ys) x → Contains (x ∷ xs) y → x ≡ y
+    same_heads asym x y xs ys h k to from = elim (contains_cases y ys x to) [
+      | inl e ↦ sym e
+      | inr below ↦ elim (contains_cases x xs y from) [
+        | inl e ↦ e
+        | inr above ↦ absurd (asym x y (pairs_head x xs y h above) (pairs_head y ys x k below))
+      ]
+    ]
+
+    into_tail : ((x : X) → R x x → ⊥) → (x y z : X) (xs ys : List X) → AllPairs R (x ∷ xs) → x ≡ y → Contains xs z → Contains (y ∷ ys) z → Contains ys z
+    into_tail irr x y z xs ys h heads here there = elim (contains_cases y ys z there) [
+      | inl e ↦ absurd (irr z (subst (λ w. R w z) (heads ∙ e) (pairs_head x xs z h here)))
+      | inr later ↦ later
+    ]
+
+    -- the heads are one where the second list goes on only with what is above the first
+    heads_one : ((x : X) → R x x → ⊥) → ((x y : X) → R x y → R y x → ⊥) → (x y : X) (xs ys : List X) → AllPairs R (x ∷ xs) → AllPairs R (y ∷ ys) → Contains (y ∷ ys) x → Contains (x ∷ xs) y ⊎ ((w : X) → Contains (x ∷ xs) w → R w y) → x ≡ y
+    heads_one irr asym x y xs ys h k to (inl from) = same_heads asym x y xs ys h k to from
+    heads_one irr asym x y xs ys h k to (inr above) = elim (contains_cases y ys x to) [
+      | inl e ↦ sym e
+      | inr below ↦ absurd (asym x y (above x (contains_head x xs)) (pairs_head y ys x k below))
+    ]
+
+    -- a list in a strict order begins with another, whose members it has, where its others are above them
+    pub begins_in_order : ((x : X) → R x x → ⊥) → ((x y : X) → R x y → R y x → ⊥) → (xs ys : List X) → AllPairs R xs → AllPairs R ys → ((z : X) → Contains xs z → Contains ys z)
+        → ((z : X) → Contains ys z → Contains xs z ⊎ ((w : X) → Contains xs w → R w z)) → (rest : List X) × (ys ≡ xs ++ rest)
+    begins_in_order irr asym [] ys h k to from = (ys, refl)
+    begins_in_order irr asym (x ∷ xs) [] h k to from = absurd (none_in_nil x (to x (contains_head x xs)))
+    begins_in_order irr asym (x ∷ xs) (y ∷ ys) h k to from =
+        let heads = heads_one irr asym x y xs ys h k (to x (contains_head x xs)) (from y (contains_head y ys)) in
+        let tails = begins_in_order irr asym xs ys (pairs_tail x xs h) (pairs_tail y ys k)
+        (λ z c. into_tail irr x y z xs ys h heads c (to z (contains_tail x xs z c)))
+        (λ z c. elim (from z (contains_tail y ys z c)) [
+          | inl here ↦ inl (into_tail irr y x z ys xs k (sym heads) c here)
+          | inr above ↦ inr (λ w d. above w (contains_tail x xs w d))
+        ]) in
+        (tails.0, (λ i. sym heads i ∷ tails.1 i))
+
+    -- lists in a strict order with the same members are one
+    pub same_in_order : ((x : X) → R x x → ⊥) → ((x y : X) → R x y → R y x → ⊥) → (xs ys : List X) → AllPairs R xs → AllPairs R ys → ((z : X) → Contains xs z → Contains ys z) → ((z : X) → Contains ys z → Contains xs z) → xs ≡ ys
+    same_in_order irr asym xs ys h k to from =
+        let longer = begins_in_order irr asym xs ys h k to (λ z c. inl (from z c)) in
+        let shorter = begins_in_order irr asym ys xs k h from (λ z c. inl (to z c)) in
+        by longer.0 shorter.0 longer.1 shorter.1
+      where
+        by : (more less : List X) → ys ≡ xs ++ more → xs ≡ ys ++ less → xs ≡ ys
+        by [] less e f = sym (append-nil xs) ∙ sym e
+        by (r ∷ more) less e f =
+            let above : length ys ≡ length xs + length (r ∷ more) = ap length e ∙ length-append xs (r ∷ more) in
+            let below : length xs ≡ length ys + length less = ap length f ∙ length-append ys less in
+            absurd (omega (arith, above, below))
+
+  -- no member stands twice
+  abbrev pub NoRepeats : List X → Type 0
+  NoRepeats xs = AllPairs (λ x y. x ≢ y) xs
+
+  -- a member that was taken out is gone
+  gone : (ys : List X) (k : ℕ) (x : X) → k < length ys → get_or ys k x ≡ x → NoRepeats ys → Contains (remove ys k) x → ⊥
+  gone ys k x lt here once c =
+      let m = c.0 in
+      let n = length-remove ys k lt in
+      elim (cases_lt m k) [
+        | inl before ↦ once m k x before lt (sym (get_or-remove_below ys k x m before lt) ∙ c.2 ∙ sym here)
+        | inr from ↦ once k (m + 1) x (omega arith) (omega (arith, c.1, n)) (here ∙ sym c.2 ∙ get_or-remove_above ys k x m from lt)
+      ]
+
+  -- lists without repeats that have the same members are one in another order
+  pub permutation_from_members : (xs ys : List X) → NoRepeats xs → NoRepeats ys → ((z : X) → Contains xs z → Contains ys z) → ((z : X) → Contains ys z → Contains xs z) → IsPermutation xs ys
+  permutation_from_members [] [] h k to from = IsPermutation-refl []
+  permutation_from_members [] (y ∷ ys) h k to from = absurd (none_in_nil y (from y (contains_head y ys)))
+  permutation_from_members (x ∷ xs) ys h k to from =
+      let place = to x (contains_head x xs) in
+      let out = IsPermutation-remove ys place.0 x place.1 (sym place.2) in
+      let rest = permutation_from_members xs (remove ys place.0) (pairs_tail (λ x y. x ≢ y) x xs h) (all_pairs_remove (λ x y. x ≢ y) ys place.0 place.1 k)
+      (λ z c. elim (contains_cases x (remove ys place.0) z (Contains-permutation ys (x ∷ remove ys place.0) z out (to z (contains_tail x xs z c)))) [
+        | inl e ↦ absurd (pairs_head (λ x y. x ≢ y) x xs z h c e)
+        | inr here ↦ here
+      ])
+      (λ z c. elim (contains_cases x xs z (from z (Contains-permutation (x ∷ remove ys place.0) ys z (IsPermutation-sym ys (x ∷ remove ys place.0) out) (contains_tail x (remove ys place.0) z c)))) [
+        | inl e ↦ absurd (gone ys place.0 x place.1 place.2 k (subst (Contains (remove ys place.0)) (sym e) c))
+        | inr here ↦ here
+      ]) in
+      IsPermutation-trans (x ∷ xs) (x ∷ remove ys place.0) ys (IsPermutation-cons x xs (remove ys place.0) rest) (IsPermutation-sym ys (x ∷ remove ys place.0) out)

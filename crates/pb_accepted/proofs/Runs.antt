@@ -1,0 +1,63 @@
+-- Whole runs, line by line.
+use Rattle.std.proofs.Common.{◌≡◌, ℕ, List, [], ◌∷◌, ◌++◌, refl, sym, subst, ◌∙◌, arith}
+use Rattle.pb_games.specs.Submissions.{Submission}
+use Rattle.pb_accepted.specs.Accepting.{Answer, Allowed, Takes, Accepted, Run}
+use Rattle.pb_accepted.specs.Holding.{HaveOwnIds}
+use Rattle.pb_accepted.proofs.Replies.{Takes-unique, takes_allowed, HaveOwnIds-Takes}
+
+-- ---- what is accepted
+
+pub HaveOwnIds-nil : HaveOwnIds []
+HaveOwnIds-nil i j d lt within = absurd (omega (arith, within))
+
+pub HaveOwnIds-Accepted : (A : List Submission) (L : List (List ℕ)) (R : List Answer) (B : List Submission) → Accepted A L R B → HaveOwnIds A → HaveOwnIds B
+HaveOwnIds-Accepted A [] [] B h own = subst HaveOwnIds (sym h) own
+HaveOwnIds-Accepted A (line ∷ L) (r ∷ R) B h own = HaveOwnIds-Accepted h.0 L R B h.2 (HaveOwnIds-Takes A line r h.0 h.1 own)
+HaveOwnIds-Accepted A [] (r ∷ R) B h own = absurd h
+HaveOwnIds-Accepted A (line ∷ L) [] B h own = absurd h
+
+pub own_ids : (L : List (List ℕ)) (R : List Answer) (A : List Submission) → Accepted [] L R A → HaveOwnIds A
+own_ids L R A h = HaveOwnIds-Accepted [] L R A h HaveOwnIds-nil
+
+pub Accepted-unique : (A : List Submission) (L : List (List ℕ)) (R : List Answer) (B C : List Submission) → Accepted A L R B → Accepted A L R C → B ≡ C
+Accepted-unique A [] [] B C h k = h ∙ sym k
+Accepted-unique A (line ∷ L) (r ∷ R) B C h k =
+    Accepted-unique h.0 L R B C h.2 (subst (λ M. Accepted M L R C) (sym (Takes-unique A line r h.0 k.0 h.1 k.1)) k.2)
+Accepted-unique A [] (r ∷ R) B C h k = absurd h
+Accepted-unique A (line ∷ L) [] B C h k = absurd h
+
+-- each run leaves some list
+pub accepted_of : (cap : ℕ) (A : List Submission) (L : List (List ℕ)) (R : List Answer) → Run cap A L R → (B : List Submission) × Accepted A L R B
+accepted_of cap A [] [] run = (A, refl)
+accepted_of cap A (line ∷ L) (r ∷ R) run = let rest = accepted_of cap run.0 L R run.3 in (rest.0, (run.0, run.2, rest.1))
+accepted_of cap A [] (r ∷ R) run = absurd run
+accepted_of cap A (line ∷ L) [] run = absurd run
+
+-- ---- runs that go on
+
+pub Run-append : (cap : ℕ) (A B : List Submission) (K L : List (List ℕ)) (Q R : List Answer)
+    → Run cap A K Q → Accepted A K Q B → Run cap B L R → Run cap A (K ++ L) (Q ++ R)
+Run-append cap A B [] L [] R run accepted more = subst (λ X. Run cap X L R) accepted more
+Run-append cap A B (line ∷ K) L (q ∷ Q) R run accepted more =
+    let same = Takes-unique A line q accepted.0 run.0 accepted.1 run.2 in
+    (run.0, run.1, run.2, Run-append cap run.0 B K L Q R run.3 (subst (λ M. Accepted M K Q B) same accepted.2) more)
+Run-append cap A B [] L (q ∷ Q) R run accepted more = absurd run
+Run-append cap A B (line ∷ K) L [] R run accepted more = absurd run
+
+pub Accepted-append : (A B C : List Submission) (K L : List (List ℕ)) (Q R : List Answer)
+    → Accepted A K Q B → Accepted B L R C → Accepted A (K ++ L) (Q ++ R) C
+Accepted-append A B C [] L [] R accepted more = subst (λ X. Accepted X L R C) accepted more
+Accepted-append A B C (line ∷ K) L (q ∷ Q) R accepted more = (accepted.0, accepted.1, Accepted-append accepted.0 B C K L Q R accepted.2 more)
+Accepted-append A B C [] L (q ∷ Q) R accepted more = absurd accepted
+Accepted-append A B C (line ∷ K) L [] R accepted more = absurd accepted
+
+-- by one more line
+pub Run-push : (cap : ℕ) (A : List Submission) (L : List (List ℕ)) (R : List Answer) (B : List Submission) (line : List ℕ) (r : Answer)
+    → Run cap A L R → Accepted A L R B → Allowed cap B line r → Run cap A (L ++ line ∷ []) (R ++ r ∷ [])
+Run-push cap A L R B line r run accepted allowed =
+    let taken = takes_allowed cap B line r allowed in
+    Run-append cap A B L (line ∷ []) R (r ∷ []) run accepted (taken.0, allowed, taken.1, tt)
+
+pub Accepted-push : (A : List Submission) (L : List (List ℕ)) (R : List Answer) (B C : List Submission) (line : List ℕ) (r : Answer)
+    → Accepted A L R B → Takes B line r C → Accepted A (L ++ line ∷ []) (R ++ r ∷ []) C
+Accepted-push A L R B C line r accepted taken = Accepted-append A B C L (line ∷ []) R (r ∷ []) accepted (C, taken, refl)

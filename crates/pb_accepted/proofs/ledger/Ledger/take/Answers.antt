@@ -1,0 +1,86 @@
+use Rattle.std.proofs.Common.{◌≡◌, ℕ, ◌+◌, ◌<◌, ◌≤◌, ◌++◌, ◌∷◌, [], Ok, length, sym, ap, subst, ◌∙◌, arith}
+use Rattle.std.proofs.lemmas.List.{length_push}
+use Rattle.pb_points.specs.Tally.{held, more}
+use Rattle.pb_accepted.specs.Accepting.{Allowed, IsNewId, Takes}
+use Rattle.pb_accepted.specs.Counting.{points}
+use Rattle.pb_accepted.specs.Holding.{HoldsCounts}
+use Rattle.pb_accepted.specs.Ledger.{LedgerState}
+use Rattle.pb_accepted.proofs.Arrivals.{submitted}
+use Rattle.pb_accepted.proofs.Counts.{Holds-push, points_fit}
+use Rattle.pb_accepted.proofs.Replies.{Allowed-full, Allowed-memory, Allowed-new, Takes-new}
+use Rattle.pb_accepted.proofs.ledger.Ledger.take.Goals as goal
+
+pub returns-then-len-self-clause-reply : goal.returns-then-len-self-clause-reply
+returns-then-len-self-clause-reply g c =
+    let A = c.args.self.now.accepted in
+    let cap = c.args.self.now.cap in
+    let read = c.in_ok-read.read in
+    let lawful = c.in_ok-read.ensures.found in
+    let holds = ap (λ (l : LedgerState). l.accepted) c.self.view_is in
+    let capped = ap (λ (l : LedgerState). l.cap) c.self.view_is in
+    let many : cap ≤ length A = omega (arith, ap length holds, capped, c.if-len-self.true, c.len.ensures.len) in
+    Allowed-full cap A c.args.line.now read lawful (c.requires read lawful) many
+
+pub accept-requires-clause-new : goal.accept-requires-clause-new
+accept-requires-clause-new g c =
+    let read = c.in_ok-read.read in
+    subst (IsNewId read.0) (sym (ap (λ (l : LedgerState). l.accepted) c.self.view_is)) (c.requires read c.in_ok-read.ensures.found)
+
+pub accept-requires-clause-fits : goal.accept-requires-clause-fits
+accept-requires-clause-fits g c =
+    let inside = c.self.inside in
+    let l : LedgerState = record { basis = record { words = inside.recorder.table }; cap = inside.cap; accepted = inside.games.entries } in
+    let read = c.in_ok-read.read in
+    points_fit (g.T.Tally.content inside.tally) l read c.self.invariant (submitted c.args.line.now read c.in_ok-read.ensures.found)
+
+pub invariant_of-self-in-Ok : goal.invariant_of-self-in-Ok
+invariant_of-self-in-Ok g c =
+    let inside = c.self.inside in
+    let A = inside.games.entries in
+    let l : LedgerState = record { basis = record { words = inside.recorder.table }; cap = inside.cap; accepted = A } in
+    let f = g.T.Tally.content inside.tally in
+    let h = g.T.Tally.content c.accept.new.tally in
+    let read = c.in_ok-read.read in
+    let lawful = c.in_ok-read.ensures.found in
+    let holds = ap (λ (x : LedgerState). x.accepted) c.self.view_is in
+    let fresh = subst (IsNewId read.0) (sym holds) (c.requires read lawful) in
+    let room : length A < inside.cap = omega (arith, c.if-len-self.false, c.len.ensures.len, c.self.invariant.rules.room) in
+    let table = c.in_ok-read.ensures.table in
+    let added = subst (λ w. (k d : ℕ) → held h k d ≡ more (points (record { words = w }) read.1 k d) (held f k d)) table c.in-Ok.ensures.added in
+    let pushed = Holds-push f h l read c.self.invariant (submitted c.args.line.now read lawful) fresh room added in
+    subst (λ w. HoldsCounts h (record { basis = record { words = w }; cap = inside.cap; accepted = c.accept.new.games.entries })) (sym table)
+    (subst (λ X. HoldsCounts h (record { basis = l.basis; cap = inside.cap; accepted = X })) (sym c.in-Ok.ensures.game) pushed)
+
+pub returns-in-Ok-clause-reply : goal.returns-in-Ok-clause-reply
+returns-in-Ok-clause-reply g c =
+    let A = c.args.self.now.accepted in
+    let cap = c.args.self.now.cap in
+    let read = c.in_ok-read.read in
+    let lawful = c.in_ok-read.ensures.found in
+    let holds = ap (λ (l : LedgerState). l.accepted) c.self.view_is in
+    let capped = ap (λ (l : LedgerState). l.cap) c.self.view_is in
+    let room : length A < cap = omega (arith, ap length holds, capped, c.if-len-self.false, c.len.ensures.len, c.self.invariant.rules.room) in
+    let number : c.len-in-Ok.result ≡ length A + 1 =
+    c.len-in-Ok.ensures.value ∙ ap length c.in-Ok.ensures.game ∙ length_push c.self.inside.games.entries read ∙ ap (λ n. n + 1) (ap length holds) in
+    subst (λ n. Allowed cap A c.args.line.now (Ok n)) (sym number) (Allowed-new cap A c.args.line.now read lawful (c.requires read lawful) room)
+
+pub returns-in-Ok-clause-takes : goal.returns-in-Ok-clause-takes
+returns-in-Ok-clause-takes g c =
+    let A = c.args.self.now.accepted in
+    let read = c.in_ok-read.read in
+    let lawful = c.in_ok-read.ensures.found in
+    let line = c.args.line.now in
+    let number = c.len-in-Ok.result in
+    let holds = ap (λ (l : LedgerState). l.accepted) c.self.view_is in
+    subst (Takes A line (Ok number)) (sym (c.in-Ok.ensures.game ∙ ap (λ X. X ++ read ∷ []) holds)) (Takes-new c.args.self.now.cap A line read lawful number (c.requires read lawful))
+
+pub returns-in-Err-clause-reply : goal.returns-in-Err-clause-reply
+returns-in-Err-clause-reply g c =
+    let A = c.args.self.now.accepted in
+    let cap = c.args.self.now.cap in
+    let read = c.in_ok-read.read in
+    let lawful = c.in_ok-read.ensures.found in
+    let holds = ap (λ (l : LedgerState). l.accepted) c.self.view_is in
+    let capped = ap (λ (l : LedgerState). l.cap) c.self.view_is in
+    let room : length A < cap = omega (arith, ap length holds, capped, c.if-len-self.false, c.len.ensures.len, c.self.invariant.rules.room) in
+    Allowed-memory cap A c.args.line.now read lawful (c.requires read lawful) room

@@ -1,0 +1,78 @@
+-- Points, counts, weights and the book of a list of games. T is the basis, S the list of submissions.
+use Rattle.std.specs.Prelude.{◌≡◌, ℕ, ◌≤◌, ◌↔◌, List, map, sum_by, count_by, AllPairs, Contains, if◌then◌else◌}
+use Rattle.std.specs.List.{flat_map}
+use Rattle.pb_board.specs.declared.piece.Colour.{Colour}
+use Rattle.pb_board.specs.declared.piece.Colour.TheVariants as side
+use Rattle.pb_moves.specs.Played.{Ply}
+use Rattle.pb_poly.specs.Key.{key}
+use Rattle.pb_poly.specs.Code.{code}
+use Rattle.pb_poly.specs.declared.entry.Entry.{Entry}
+use Rattle.pb_games.specs.declared.game.Game.{Game}
+use Rattle.pb_games.specs.declared.outcome.Outcome.{Outcome}
+use Rattle.pb_games.specs.declared.outcome.Outcome.TheVariants.{White, Black, Draw}
+use Rattle.pb_games.specs.Submissions.{Submission, plies}
+use Rattle.pb_points.specs.Tally.{is_pair}
+use Rattle.pb_points.specs.Weight.{scaled, Before}
+use Rattle.pb_accepted.specs.declared.gift.Gift.{Gift}
+use Rattle.pb_accepted.specs.Basis.{Basis}
+
+-- the points of a ply, by the result and the side that moved: 2 where it won, 1 for a draw, 0 where it lost
+abbrev pub credit : Outcome → Colour → ℕ
+credit White side.White = 2
+credit White side.Black = 0
+credit Black side.White = 0
+credit Black side.Black = 2
+credit Draw _ = 1
+
+-- the plies of a game that count
+abbrev pub counted : Basis → Game → List Ply
+counted T g = plies g
+
+-- a ply's key, code and points
+abbrev pub gift_of : Basis → Outcome → Ply → Gift
+gift_of T o p = record { key = key T.words p.0; code = code p.0 p.1; points = credit o p.0.turn }
+
+-- what the plies of a game give, and those of all games, one after another
+abbrev pub gifts_of : Basis → Game → List Gift
+gifts_of T g = map (gift_of T g.outcome) (counted T g)
+
+abbrev pub all_gifts : Basis → List Submission → List Gift
+all_gifts T S = flat_map (λ s. gifts_of T s.1) S
+
+-- what a gift adds to the points of this key and code
+abbrev pub share : ℕ → ℕ → Gift → ℕ
+share k c r = if is_pair r.key r.code k c then r.points else 0
+
+-- what gifts add to the points of a key and a code
+abbrev pub gained : List Gift → ℕ → ℕ → ℕ
+gained gifts k c = sum_by (share k c) gifts
+
+-- the points that a game gives to a key and a code
+abbrev pub points : Basis → Game → ℕ → ℕ → ℕ
+points T g k c = gained (gifts_of T g) k c
+
+-- the count of a key and a code: the sum of the points over all games
+abbrev pub count : Basis → List Submission → ℕ → ℕ → ℕ
+count T S k c = sum_by (λ s. points T s.1 k c) S
+
+-- how many plies have this key and code
+abbrev pub times : Basis → List Submission → ℕ → ℕ → ℕ
+times T S k c = count_by (λ r. is_pair r.key r.code k c) (all_gifts T S)
+
+-- some ply has this key and code
+abbrev pub Occurs : Basis → List Submission → ℕ → ℕ → Type 0
+Occurs T S k c = 1 ≤ times T S k c
+
+-- M is the greatest count under the key, over the codes that occur under it
+pub record IsGreatest (T : Basis) (S : List Submission) (k M : ℕ) : Type 0 where
+  pub above : (c : ℕ) → Occurs T S k c → count T S k c ≤ M
+  pub met : (c : ℕ) × Occurs T S k c × (count T S k c ≡ M)
+
+-- the weight of a key and a code: its count, scaled by the greatest count under the key
+abbrev pub IsWeight : Basis → List Submission → ℕ → ℕ → ℕ → Type 0
+IsWeight T S k c w = (M : ℕ) × IsGreatest T S k M × (w ≡ scaled (count T S k c) M)
+
+-- the entries are the book of the games: for each key and code that occur, an entry with its weight, unless that is 0
+pub record IsBook (T : Basis) (S : List Submission) (E : List Entry) : Type 0 where
+  pub ordered : AllPairs Before E
+  pub members : (e : Entry) → Contains E e ↔ (Occurs T S e.key e.code × IsWeight T S e.key e.code e.weight × (1 ≤ e.weight) × (e.learn ≡ 0))

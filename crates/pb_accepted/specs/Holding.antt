@@ -1,0 +1,33 @@
+-- What is true of each ledger.
+use Rattle.std.specs.Prelude.{◌≡◌, ◌≢◌, ℕ, ◌≤◌, List, length, All, AllPairs}
+use Rattle.pb_poly.specs.Table.{IsTable}
+use Rattle.pb_games.specs.Submissions.{Submission, IsSubmission}
+use Rattle.pb_points.specs.Tally.{Content, held}
+use Rattle.pb_accepted.specs.Basis.{Basis}
+use Rattle.pb_accepted.specs.Counting.{count}
+use Rattle.pb_accepted.specs.Ledger.{LedgerState}
+
+-- no id stands twice
+abbrev pub HaveOwnIds : List Submission → Type 0
+HaveOwnIds A = AllPairs (λ s t. s.0 ≢ t.0) A
+
+-- the most games that a ledger may hold
+abbrev pub most_games : ℕ
+most_games = 1000000
+
+-- the rules that every ledger meets
+pub record IsLedger (l : LedgerState) : Type 0 where
+  pub table : IsTable l.basis.words
+  pub few : l.cap ≤ most_games
+  pub room : length l.accepted ≤ l.cap
+  pub games : All IsSubmission l.accepted
+  pub ids : HaveOwnIds l.accepted
+
+-- the tally holds the counts of the games, and a row that isn't there counts 0
+abbrev pub Tallies : Content → Basis → List Submission → Type 0
+Tallies content T A = (k c : ℕ) → held content k c ≡ record { points = count T A k c }
+
+-- the ledger meets its rules, and its tally holds the counts of its games
+pub record HoldsCounts (content : Content) (l : LedgerState) : Type 0 where
+  pub rules : IsLedger l
+  pub counts : Tallies content l.basis l.accepted

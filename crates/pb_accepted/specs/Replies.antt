@@ -1,0 +1,44 @@
+-- The reply lines: a line for each submission, with its LF.
+use Rattle.std.specs.Prelude.{ℕ, List, [], ◌∷◌, ◌++◌, Ok, Err, codes, decimal}
+use Rattle.pb_board.specs.LineEnd.{with_end}
+use Rattle.pb_games.specs.declared.refusal.Refusal.{Refusal}
+use Rattle.pb_games.specs.declared.refusal.Refusal.TheVariants as refusal
+use Rattle.pb_games.specs.Refusing.{field_of}
+use Rattle.pb_accepted.specs.Accepting.{Answer}
+
+-- why a line is refused
+abbrev pub reason : Refusal → List ℕ
+reason refusal.Long = codes "long"
+reason refusal.Shape = codes "shape"
+reason refusal.Id = codes "id"
+reason refusal.Result = codes "result"
+reason (refusal.Fen e) = codes "fen"
+reason refusal.Start = codes "start"
+reason (refusal.Spelling n) = codes "spelling " ++ decimal n
+reason refusal.Plies = codes "plies"
+reason (refusal.Illegal n) = codes "illegal " ++ decimal n
+reason (refusal.Conflict n) = codes "conflict " ++ decimal n
+reason refusal.Full = codes "full"
+reason refusal.Memory = codes "memory"
+
+-- the id that a reply names: the line's first field, or a - where the line is refused before its id stands
+abbrev pub named : List ℕ → Answer → List ℕ
+named line (Err refusal.Long) = codes "-"
+named line (Err refusal.Shape) = codes "-"
+named line (Err refusal.Id) = codes "-"
+named line r = field_of line 0
+
+-- what the reply says of the line with this id
+abbrev pub reply_text : List ℕ → Answer → List ℕ
+reply_text id (Ok n) = codes "ok " ++ id ++ 32 ∷ decimal n
+reply_text id (Err e) = codes "refused " ++ id ++ 32 ∷ reason e
+
+-- the reply line to a line with this answer
+abbrev pub reply_line : List ℕ → Answer → List ℕ
+reply_line line r = with_end (reply_text (named line r) r)
+
+-- the reply lines to these lines with these answers
+abbrev pub replies : List (List ℕ) → List Answer → List ℕ
+replies [] R = []
+replies (line ∷ L) [] = []
+replies (line ∷ L) (r ∷ R) = reply_line line r ++ replies L R

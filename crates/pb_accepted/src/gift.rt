@@ -1,0 +1,55 @@
+//! What the plies of a game give to the points of moves.
+
+ghost use Rattle.std.specs.Prelude.{◌≡◌, ◌≤◌, ◌+◌, ◌*◌, ◌^◌, ℕ, IsSome, OnOk, All, length};
+ghost use Rattle.pb_points.specs.Tally.{held, more};
+ghost use Rattle.pb_accepted.specs.Counting.{credit as credit_by, gained};
+
+use pb_board::Colour;
+use pb_games::Outcome;
+use pb_points::Tally;
+use std::alloc::AllocError;
+
+/// What a ply gives: its points, 0 to 2, to a move in a setup.
+#[derive(Clone, Copy)]
+pub(crate) struct Gift {
+    /// The key of the setup before the move.
+    pub(crate) key: u64,
+    /// The code of the move.
+    pub(crate) code: u16,
+    /// Two points for a ply of the side that won, one in a drawn game, none for a ply of the side that lost.
+    pub(crate) points: u8,
+}
+
+/// The points of a ply of this side.
+pub(crate) fn credit(outcome: Outcome, side: Colour) -> u8
+    ensures { result ≡ credit_by outcome side }
+{
+    match (outcome, side) {
+        (Outcome::Draw, _) => 1,
+        (Outcome::White, Colour::White) | (Outcome::Black, Colour::Black) => 2,
+        (Outcome::White, Colour::Black) | (Outcome::Black, Colour::White) => 0,
+    }
+}
+
+/// Makes a row for each gift. No points change.
+pub(crate) fn ensure_rows<T: Tally>(tally: &mut T, gifts: &[Gift]) -> Result<(), AllocError>
+    ensures same { (k c : ℕ) → held (T.content tally.new) k c ≡ held (T.content tally.old) k c }
+    ensures rows { OnOk result (All (λ r. IsSome (T.content tally.new r.key r.code)) gifts.now) }
+{
+    for gift in gifts {
+        tally.ensure(gift.key, gift.code)?;
+    }
+    Ok(())
+}
+
+/// Adds the points of each gift.
+pub(crate) fn add_points<T: Tally>(tally: &mut T, gifts: &[Gift])
+    requires rows { All (λ r. IsSome (T.content tally.old r.key r.code)) gifts.now }
+    requires small { All (λ r. r.points ≤ 2) gifts.now }
+    requires fits { (k c : ℕ) → (held (T.content tally.old) k c).points + 2 * length gifts.now ≤ 2 ^ 63 }
+    ensures { (k c : ℕ) → held (T.content tally.new) k c ≡ more (gained gifts.now k c) (held (T.content tally.old) k c) }
+{
+    for gift in gifts {
+        tally.add(gift.key, gift.code, u64::from(gift.points));
+    }
+}

@@ -1,0 +1,57 @@
+//! Laws of ledgers. Each is the contract of a function that does nothing, over the definitions alone.
+
+ghost use Rattle.pb_accepted.specs.Laws.{AcceptedIsOne, AcceptedJoin, AcceptingGoesOn, AcceptsTheTaken, BookByMembers, CountsByMembers, HeldIsAnswered, IdsAreDistinct, LawfulArrives, NoConflict, NumbersAreDistinct, NumbersAreGiven, OneBook, OneReply, OneBookText, RefusalsChangeNothing, RepeatsKeepTheirNumber, RunsAccept, RunsGoOn, RunsJoin, SameBytes, TakenHasNoRepeats, TakenIsOne};
+
+/// What one line is answered and does, where no id stands twice: one reply and no other, to a submission that is held its
+/// number, and a refused line changes nothing.
+pub fn one_line()
+    ensures reply { OneReply }
+    ensures held { HeldIsAnswered }
+    ensures refused { RefusalsChangeNothing }
+{}
+
+/// The lines with their answers fix what is accepted, and no id stands twice in it.
+pub fn accepted()
+    ensures distinct { IdsAreDistinct }
+    ensures one { AcceptedIsOne }
+{}
+
+/// Each run leaves some list; a run and one more line are a run, and so are two runs in a row.
+pub fn runs()
+    ensures accept { RunsAccept }
+    ensures go_on { RunsGoOn }
+    ensures accepting_goes_on { AcceptingGoesOn }
+    ensures join { RunsJoin }
+    ensures accepted_join { AcceptedJoin }
+{}
+
+/// A submission has one number; the numbers of what is held, 1 to its length, are those that were answered; and once it was
+/// answered with a number, a submission is answered with that number whenever it comes again.
+pub fn numbers()
+    ensures distinct { NumbersAreDistinct }
+    ensures given { NumbersAreGiven }
+    ensures kept { RepeatsKeepTheirNumber }
+{}
+
+/// Where no id names two games, what is held is the distinct submissions that were taken, no answer is a conflict, and a
+/// lawful arrival is refused only a new number, for want of room or memory.
+pub fn one_game()
+    ensures taken { AcceptsTheTaken }
+    ensures no_conflict { NoConflict }
+    ensures arrives { LawfulArrives }
+{}
+
+/// The distinct submissions are one list, without repeats.
+pub fn distinct()
+    ensures one { TakenIsOne }
+    ensures no_repeats { TakenHasNoRepeats }
+{}
+
+/// At most one list of entries is the book of a list of games, and one text its bytes; both depend on the members alone.
+pub fn books()
+    ensures one { OneBook }
+    ensures counts { CountsByMembers }
+    ensures members { BookByMembers }
+    ensures text { OneBookText }
+    ensures same_bytes { SameBytes }
+{}

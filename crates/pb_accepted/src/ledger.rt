@@ -1,0 +1,209 @@
+//! The ledger.
+
+ghost use Rattle.std.specs.Prelude.{◌≡◌, ◌≤◌, ◌+◌, ◌*◌, ◌^◌, ◌++◌, ◌∷◌, [], ℕ, IfOk, MatchOption, OnErr, OnOk, Ok, false, length};
+ghost use Rattle.pb_games.specs.Submissions.{IsLawful, IsSubmission, Submission};
+ghost use Rattle.pb_points.specs.Tally.{held, more};
+ghost use Rattle.pb_accepted.specs.Accepting.{Allowed, IsNewId, IsNumber, Takes};
+ghost use Rattle.pb_accepted.specs.Arriving.{IsArrival};
+ghost use Rattle.pb_accepted.specs.Counting.{IsBook, points};
+ghost use Rattle.pb_accepted.specs.Holding.{IsLedger, Tallies, most_games};
+ghost use Rattle.pb_accepted.specs.Noting.{HasNoted};
+
+use crate::arrival::Arrival;
+use crate::gift::{add_points, ensure_rows};
+use crate::recorder::Recorder;
+use crate::reply::first_field;
+use indexmap::IndexMap;
+use pb_games::{Game, Id, Line, Refusal, check_line, repeats};
+use pb_points::{Tally, book_of};
+use pb_poly::{Book, Table};
+use std::alloc::{AllocError, Global};
+use std::marker::Model;
+
+/// The most games that a ledger may be made for.
+pub const MAX_CAP: u32 = 1_000_000;
+
+/// The accepted games by id, in order of acceptance, with the points of their moves.
+#[derive(Drop)]
+pub struct Ledger<T: Tally> {
+    alloc: Global,
+    cap: u32,
+    games: IndexMap<Id, Game>,
+    tally: T,
+    // It has the table.
+    recorder: Recorder,
+}
+
+impl<T: Tally> Model for Ledger<T> {
+    ghost use Rattle.pb_accepted.specs.Ledger.{LedgerState};
+    ghost use Rattle.pb_accepted.specs.Holding.{HoldsCounts};
+
+    ghost Value = { LedgerState };
+
+    ghost view = { λ a. record { basis = record { words = a.recorder.table }; cap = a.cap; accepted = a.games.entries } };
+
+    ghost invariant = { λ a. HoldsCounts (T.content a.tally) (record { basis = record { words = a.recorder.table }; cap = a.cap; accepted = a.games.entries }) };
+}
+
+impl<T: Tally> Ledger<T> {
+    /// A ledger without games, for at most `cap` of them, 1 to 1,000,000. It keeps a copy of the table.
+    ///
+    /// # Errors
+    ///
+    /// There was no memory for the copy, or for what one game needs while it is added.
+    pub fn new(alloc: Global, table: &Table, cap: u32) -> Result<Ledger<T>, AllocError>
+        requires some { 1 ≤ cap }
+        requires few { cap ≤ most_games }
+        ensures { IfOk result (λ l. l ≡ record { basis = record { words = table.now }; cap = cap; accepted = [] }) }
+    {
+        Ok(Ledger {
+            alloc,
+            cap,
+            games: IndexMap::new(alloc),
+            tally: T::new(alloc),
+            recorder: Recorder::new(alloc, table)?,
+        })
+    }
+
+    /// Takes a line without its LF: a legal game under a new id is held from now on. The answer is the game's number, from 1
+    /// in order of acceptance; a line that submits a game that is held, under its id, gets the number that the game has.
+    ///
+    /// A line that isn't a new legal game takes no memory.
+    ///
+    /// # Errors
+    ///
+    /// What `check_line` refuses; `Conflict` with the number of the other game that is held under this id; `Full` where the id is
+    /// new and no more games may be held; `Memory` where the game is new and there was no memory for it. Nothing has changed
+    /// then.
+    pub fn submit(&mut self, line: &[u8]) -> Result<u32, Refusal>
+        // The answer is the reply to the line, or want of memory where that is a new number.
+        ensures reply { Allowed self.old.cap self.old.accepted line.now result }
+        // A lawful submission under a new id is added where there is room and memory, and nothing else is.
+        ensures takes { Takes self.old.accepted line.now result self.new.accepted }
+        // One that is held gets its number.
+        ensures held { (s : Submission) (n : ℕ) → IsLawful line.now s → IsNumber self.old.accepted n s → result ≡ Ok n }
+        ensures basis { self.new.basis ≡ self.old.basis }
+        ensures cap { self.new.cap ≡ self.old.cap }
+    {
+        match self.arrival(line) {
+            Arrival::Repeat(number) => Ok(number),
+            Arrival::Other(number) => {
+                check_line(line)?;
+                Err(Refusal::Conflict(number))
+            }
+            Arrival::New => self.take(line),
+        }
+    }
+
+    /// What the line is to the games that are held. Nothing is played: a game that is held is known to be legal.
+    fn arrival(&self, line: &[u8]) -> Arrival
+        ensures arrives { IsArrival self.now.accepted line.now result }
+        ensures rules { IsLedger self.now }
+    {
+        // The map holds what is always true of a ledger.
+        let games = &self.games;
+        let Some(id) = Id::new(first_field(line)) else {
+            return Arrival::New;
+        };
+        let Some((index, held, game)) = games.get_full(&id) else {
+            return Arrival::New;
+        };
+        let number = index as u32 + 1;
+        if repeats(line, held, game) {
+            Arrival::Repeat(number)
+        } else {
+            Arrival::Other(number)
+        }
+    }
+
+    /// Takes a line under whose id no game is held.
+    fn take(&mut self, line: &[u8]) -> Result<u32, Refusal>
+        requires { (s : Submission) → IsLawful line.now s → IsNewId s.0 self.old.accepted }
+        ensures reply { Allowed self.old.cap self.old.accepted line.now result }
+        ensures takes { Takes self.old.accepted line.now result self.new.accepted }
+        ensures basis { self.new.basis ≡ self.old.basis }
+        ensures cap { self.new.cap ≡ self.old.cap }
+    {
+        let read = self.recorder.judge(line)?;
+        if self.games.len() == self.cap as usize {
+            return Err(Refusal::Full);
+        }
+        match accept(
+            self.alloc,
+            &mut self.games,
+            &mut self.tally,
+            &self.recorder,
+            &read,
+        ) {
+            Ok(()) => Ok(self.len()),
+            Err(_) => Err(Refusal::Memory),
+        }
+    }
+
+    /// How many games are held.
+    pub fn len(&self) -> u32
+        ensures value { result ≡ length self.now.accepted }
+        ensures rules { IsLedger self.now }
+    {
+        self.games.len() as u32
+    }
+
+    /// The game with this number, from 1, and its id.
+    pub fn get(&self, number: u32) -> Option<(&Id, &Game)>
+        ensures { MatchOption result
+            ((s : Submission) → ¬ IsNumber self.now.accepted number s)
+            (λ p. IsNumber self.now.accepted number (p.0.now, p.1.now)) }
+    {
+        self.games.get_index((number as usize).checked_sub(1)?)
+    }
+
+    /// The table.
+    pub fn table(&self) -> &Table
+        ensures { result.now ≡ self.now.basis.words }
+    {
+        self.recorder.table()
+    }
+
+    /// The points of the moves: those of the games that are held.
+    pub fn tally(&self) -> &T
+        ensures { Tallies (T.content result.now) self.now.basis self.now.accepted }
+    {
+        &self.tally
+    }
+
+    /// The opening book of the games that are held.
+    ///
+    /// # Errors
+    ///
+    /// There was no memory for the rows of the tally, or for the entries.
+    pub fn make_book(&self, alloc: Global) -> Result<Book, AllocError>
+        ensures { IfOk result (λ book. IsBook self.now.basis self.now.accepted book) }
+    {
+        let rows = self.tally.rows(alloc)?;
+        book_of(alloc, &rows)
+    }
+}
+
+/// Adds the game of the line that was judged last, under its new id. The insert is the last step that may fail, and only then
+/// points are added.
+fn accept<T: Tally>(
+    alloc: Global,
+    games: &mut IndexMap<Id, Game>,
+    tally: &mut T,
+    recorder: &Recorder,
+    read: &Line<'_>,
+) -> Result<(), AllocError>
+    requires noted { recorder.now.notes.failed ≡ false → HasNoted (record { words = recorder.now.table }) recorder.now.notes read.now.1 }
+    requires new { IsNewId read.now.0 games.old.entries }
+    requires fits { (k c : ℕ) → (held (T.content tally.old) k c).points + 2 * length read.now.1.moves ≤ 2 ^ 63 }
+    ensures game { OnOk result (games.new.entries ≡ games.old.entries ++ read.now ∷ []) }
+    ensures added { OnOk result ((k c : ℕ) → held (T.content tally.new) k c ≡ more (points (record { words = recorder.now.table }) read.now.1 k c) (held (T.content tally.old) k c)) }
+    ensures same_games { OnErr result (games.new.entries ≡ games.old.entries) }
+    ensures same_points { OnErr result ((k c : ℕ) → held (T.content tally.new) k c ≡ held (T.content tally.old) k c) }
+{
+    let game = recorder.game(alloc, read)?;
+    ensure_rows(tally, recorder.gifts())?;
+    games.insert(read.id(), game)?;
+    add_points(tally, recorder.gifts());
+    Ok(())
+}

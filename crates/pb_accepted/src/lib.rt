@@ -1,0 +1,16 @@
+//! The accepted games by id, in which a game that comes again counts once, the points of their moves and the book of them, and the
+//! reply line to a submission; it knows of no stream, of no EPD and of no file.
+#![tactic(auto)]
+
+mod arrival;
+mod gift;
+pub mod laws;
+mod ledger;
+mod notes;
+mod recorder;
+mod reply;
+
+pub use ledger::{Ledger, MAX_CAP};
+pub use pb_games::{Game, Id, Line, MoveList, Outcome, Plies, Refusal, check_line};
+pub use pb_points::{ListTally, MapTally, Row, Tally, scale};
+pub use reply::Reply;

@@ -1,0 +1,110 @@
+//! A player that writes down what each ply gives, so that a line is read once and its moves are played once.
+
+ghost use Rattle.std.specs.Prelude.{◌≡◌, false, IfErr, IfOk, Ok, OnOk};
+ghost use Rattle.pb_games.specs.Refusing.{Refuses};
+ghost use Rattle.pb_games.specs.Submissions.{IsLawful, Submission};
+ghost use Rattle.pb_accepted.specs.Noting.{HasNoted};
+
+use crate::gift::{Gift, credit};
+use crate::notes::Notes;
+use pb_board::Setup;
+use pb_games::{Game, Line, MoveList, Outcome, Player, Refusal, judge_line};
+use pb_moves::{Move, play_on};
+use pb_poly::{Table, code_of, key_after, key_of};
+use std::alloc::{AllocError, Global};
+
+/// The most moves of a game.
+const MAX_PLIES: usize = 1_024;
+
+/// Plays the moves of a game, and writes down what each gives. Its buffers are made with it, so that a ply takes no memory.
+#[derive(Drop)]
+pub(crate) struct Recorder {
+    table: Table,
+    outcome: Outcome,
+    key: u64,
+    notes: Notes,
+}
+
+impl Recorder {
+    /// A recorder that makes keys by a copy of this table.
+    pub(crate) fn new(alloc: Global, table: &Table) -> Result<Recorder, AllocError>
+        ensures { IfOk result (λ r. r.table ≡ table.now) }
+    {
+        Ok(Recorder {
+            table: table.clone()?,
+            outcome: Outcome::Draw,
+            key: 0,
+            notes: Notes::new(alloc, MAX_PLIES)?,
+        })
+    }
+
+    /// The table.
+    pub(crate) fn table(&self) -> &Table
+        ensures { result.now ≡ self.now.table }
+    {
+        &self.table
+    }
+
+    /// Judges a line as `check_line` does. Where it submits a legal game, the game's moves and what they give are written down.
+    pub(crate) fn judge<'a>(&mut self, line: &'a [u8]) -> Result<Line<'a>, Refusal>
+        ensures found { IfOk result (λ s. IsLawful line.now s) }
+        ensures only { (s : Submission) → IsLawful line.now s → result ≡ Ok s }
+        ensures refused { IfErr result (λ e. Refuses line.now e) }
+        ensures noted { IfOk result (λ s. self.new.notes.failed ≡ false → HasNoted (record { words = self.new.table }) self.new.notes s.1) }
+        ensures table { self.new.table ≡ self.old.table }
+    {
+        judge_line(line, self)
+    }
+
+    /// The game of the line that was judged last, for which memory is taken once.
+    pub(crate) fn game(&self, alloc: Global, line: &Line<'_>) -> Result<Game, AllocError>
+        requires { self.now.notes.failed ≡ false → HasNoted (record { words = self.now.table }) self.now.notes line.now.1 }
+        ensures game { IfOk result (λ g. g ≡ line.now.1) }
+        ensures whole { OnOk result (self.now.notes.failed ≡ false) }
+    {
+        if self.notes.failed {
+            return Err(AllocError);
+        }
+        Ok(Game {
+            start: line.start(),
+            outcome: line.outcome(),
+            moves: MoveList::of(Vec::from_slice(alloc, &self.notes.moves)?),
+        })
+    }
+
+    /// What the plies of the game give that was judged last.
+    pub(crate) fn gifts(&self) -> &[Gift]
+        ensures { result.now ≡ self.now.notes.gifts.items }
+    {
+        &self.notes.gifts
+    }
+}
+
+impl Player for Recorder {
+    ghost use Rattle.pb_accepted.specs.Noting.{Holds};
+
+    ghost holds = { λ r outcome ps t. Holds (record { words = r.table }) r.outcome r.key r.notes outcome ps t };
+
+    ghost fixed = { λ r. r.table };
+
+    fn begin(&mut self, start: &Setup, outcome: Outcome) {
+        self.outcome = outcome;
+        self.key = key_of(&self.table, start);
+        self.notes.clear();
+    }
+
+    fn play(&mut self, setup: &mut Setup, m: Move) -> bool {
+        let before = *setup;
+        if !play_on(setup, m) {
+            return false;
+        }
+        let gift = Gift {
+            key: self.key,
+            code: code_of(&before, m),
+            points: credit(self.outcome, before.turn()),
+        };
+        self.notes.add(gift, m);
+        self.key = key_after(&self.table, self.key, &before, m, setup);
+        true
+    }
+}

@@ -1,0 +1,33 @@
+use Rattle.std.proofs.Common.{◌+◌, List, take, subst, arith}
+use Rattle.std.proofs.lemmas.List.{take_all}
+use Rattle.pb_board.specs.Position.{Position}
+use Rattle.pb_games.specs.Submissions.{Submission}
+use Rattle.pb_accepted.specs.Accepting.{IsNumber}
+use Rattle.pb_export.specs.Setups.{HoldsSetups, all_setups}
+use Rattle.pb_export.proofs.SetupTexts.{all_setups-more, game_there, numbered_game, setups_fit}
+use Rattle.pb_export.proofs.setups.setups_of.Goals as goal
+
+pub unwrap-requires : goal.unwrap-requires
+unwrap-requires g c =
+    let games = c.args.ledger.now.accepted in
+    game_there games c.loop-index.index c.get.result (λ p. IsNumber games (c.loop-index.index + 1) (p.0.now, p.1.now)) (omega (arith, c.len-index-end.ensures.value)) c.get.ensures
+
+pub add_game-requires : goal.add_game-requires
+add_game-requires g c =
+    let number = rw c.unwrap.ensures at c.get.ensures in
+    numbered_game c.args.ledger.now.accepted (c.loop-index.index + 1) _ c.len-index-end.ensures.rules.games number
+
+pub loop-index-preserved : goal.loop-index-preserved
+loop-index-preserved g c =
+    let games = c.args.ledger.now.accepted in
+    let number = rw c.unwrap.ensures at c.get.ensures in
+    subst (λ (known : List Position). HoldsSetups known c.add_game.new.setups.entries) (all_setups-more games c.loop-index.index _ number)
+    (c.in_ok-add_game.ensures (all_setups (take c.loop-index.index games)) c.loop-index.invariant)
+
+pub returns-clause-setups : goal.returns-clause-setups
+returns-clause-setups g c =
+    let games = c.args.ledger.now.accepted in
+    subst (λ (S : List Submission). HoldsSetups (all_setups S) c.loop-index.setups.entries) (take_all c.loop-index.index games (omega (arith, c.loop-index-test.false, c.len-index-end.ensures.value))) c.loop-index.invariant
+
+pub returns-clause-few : goal.returns-clause-few
+returns-clause-few g c = setups_fit c.args.ledger.now c.loop-index.setups.entries c.len-index-end.ensures.rules (returns-clause-setups g c)

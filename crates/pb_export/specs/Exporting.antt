@@ -1,0 +1,92 @@
+-- The book of games as EPD (PGN Standard 1994, section 16.2): a line for each setup of the games that the book has moves for.
+use Rattle.std.specs.Prelude.{◌≡◌, ◌≢◌, ◌↔◌, ℕ, true, false, List, [], ◌∷◌, ◌++◌, length, map, flat_map, AllPairs, Contains, codes, decimal}
+use Rattle.std.specs.Io.KnownBytes.{Appends}
+use Rattle.pb_board.specs.Fen.{FourFields}
+use Rattle.pb_board.specs.Position.{Position}
+use Rattle.pb_board.specs.LineEnd.{with_end}
+use Rattle.pb_epd.specs.ByteOrder.{IsBytesBelow}
+use Rattle.pb_epd.specs.Epd.{EpdForm, EpdRecord}
+use Rattle.pb_epd.specs.declared.operand.Operand.{Operand}
+use Rattle.pb_epd.specs.declared.operand.Operand.TheVariants.{Word}
+use Rattle.pb_games.specs.Submissions.{Submission, plies}
+use Rattle.pb_moves.specs.Moved.{Moved}
+use Rattle.pb_moves.specs.Spelling.{spelling}
+use Rattle.pb_poly.specs.Found.{Found}
+use Rattle.pb_io.specs.Sink.{SinkState, StillWorks}
+use Rattle.pb_poly.specs.declared.entry.Entry.{Entry}
+use Rattle.pb_accepted.specs.Basis.{Basis}
+use Rattle.pb_accepted.specs.Counting.{IsBook}
+use Rattle.pb_accepted.specs.Ledger.{LedgerState}
+use Rattle.pb_export.specs.declared.exporting.ExportFault.{ExportFault}
+use Rattle.pb_export.specs.declared.exporting.ExportFault.TheVariants as fault
+
+-- the setup stands before a ply of one of the games
+abbrev pub StandsBefore : List Submission → Position → Type 0
+StandsBefore S s = (x : Submission) × (m : Moved) × Contains S x × Contains (plies x.1) (s, m)
+
+-- a move and its weight, as two words
+abbrev pub move_and_weight : Moved × ℕ → List Operand
+move_and_weight p = Word (spelling p.0) ∷ Word (decimal p.1) ∷ []
+
+-- the setup with the one operation `bkm`, whose operands are these moves, each followed by its weight
+abbrev pub with_book_moves : Position → List (Moved × ℕ) → EpdRecord
+with_book_moves s moves = record { setup = s; operations = (codes "bkm", flat_map move_and_weight moves) ∷ [] }
+
+-- a setup, its four fields, the moves that a book has for it with their weights, and the line that says so
+pub record Listed : Type 0 where
+  pub setup : Position
+  pub fields : List ℕ
+  pub moves : List (Moved × ℕ)
+  pub line : List ℕ
+
+-- the setup stands before a ply, and these moves, one at least, are what the book has for it
+pub record IsListed (T : Basis) (S : List Submission) (book : List Entry) (x : Listed) : Type 0 where
+  pub stands : StandsBefore S x.setup
+  pub fields : FourFields x.setup x.fields
+  pub found : Found book T.words x.setup x.moves
+  pub some : x.moves ≢ []
+  pub line : EpdForm (with_book_moves x.setup x.moves) x.line
+
+-- the setups for which this book has moves, each once, in byte order of their four fields
+pub record IsListing (T : Basis) (S : List Submission) (book : List Entry) (listed : List Listed) : Type 0 where
+  pub ordered : AllPairs (λ x y. IsBytesBelow x.fields y.fields) listed
+  pub members : (x : Listed) → Contains listed x ↔ IsListed T S book x
+
+-- the lines of the export of the games
+pub record ExportLines (T : Basis) (S : List Submission) (lines : List (List ℕ)) : Type 0 where
+  pub book : List Entry
+  pub is_book : IsBook T S book
+  pub listed : List Listed
+  pub is_listing : IsListing T S book listed
+  pub are : lines ≡ map (λ x. x.line) listed
+
+-- lines as a text, with an LF after each
+abbrev pub text_of_lines : List (List ℕ) → List ℕ
+text_of_lines lines = flat_map with_end lines
+
+-- the text of the export of the games
+abbrev pub ExportText : Basis → List Submission → List ℕ → Type 0
+ExportText T S text = (lines : List (List ℕ)) × ExportLines T S lines × (text ≡ text_of_lines lines)
+
+-- ---- what an export does
+
+-- the export of the games held was put and handed on, in so many lines
+pub record Exports (ledger : LedgerState) (sink sink' : SinkState) (count : ℕ) : Type 0 where
+  pub lines : List (List ℕ)
+  pub are : ExportLines ledger.basis ledger.accepted lines
+  pub counted : count ≡ length lines
+  pub put : Appends sink.bytes sink'.bytes (text_of_lines lines)
+  pub works : sink'.failed ≡ false
+  pub flushed : sink'.flushed ≡ true
+
+-- what a fault says of the sink
+abbrev pub FaultOf : ExportFault → SinkState → SinkState → Type 0
+FaultOf fault.Write sink sink' = sink'.failed ≡ true
+FaultOf fault.Memory sink sink' = StillWorks sink.failed sink'.failed
+
+-- the export ended with a fault: a front of the text was put
+pub record ExportsUntil (ledger : LedgerState) (sink sink' : SinkState) (e : ExportFault) : Type 0 where
+  pub some : List ℕ
+  pub put : Appends sink.bytes sink'.bytes some
+  pub front : (text : List ℕ) → ExportText ledger.basis ledger.accepted text → (rest : List ℕ) × (text ≡ some ++ rest)
+  pub cause : FaultOf e sink sink'

@@ -1,5 +1,0 @@
-use Rattle.pb_ledger.proofs.BookLaws.{one_book, same_count, same_book, one_text, same_bytes}
-use Rattle.pb_ledger.proofs.laws.books.Goals as goal
-
-pub returns : goal.returns
-returns c = record { one = one_book; counts = same_count; members = same_book; text = one_text; same_bytes = same_bytes }

@@ -1,5 +1,0 @@
-use Rattle.pb_ledger.proofs.Distinct.{Taken-unique, no_repeats}
-use Rattle.pb_ledger.proofs.laws.distinct.Goals as goal
-
-pub returns : goal.returns
-returns c = record { one = Taken-unique; no_repeats = no_repeats }

@@ -1,5 +1,0 @@
-use Rattle.pb_ledger.proofs.Replies.{one_reply, allowed_held, Takes-refusal}
-use Rattle.pb_ledger.proofs.laws.one_line.Goals as goal
-
-pub returns : goal.returns
-returns c = record { reply = one_reply; held = allowed_held; refused = Takes-refusal }
