@@ -1,22 +1,23 @@
 -- How a run of the command `collect` ends, from what its parts do.
-use Rattle.std.proofs.Common.{◌≡◌, ℕ, Bool, List, Option, Some, None, Result, false, refl, subst}
+use Rattle.std.proofs.Common.{◌≡◌, ℕ, Bool, List, Option, Some, None, Result, Ok, Err, false, refl, subst, sym, true}
 use Rattle.std.specs.Prelude.{IfErr, IfOk}
 use Rattle.pb_io.specs.Source.{SourceState}
 use Rattle.pb_io.specs.Sink.{SinkState}
 use Rattle.pb_poly.specs.declared.entry.Entry.{Entry}
-use Rattle.pb_ledger.specs.Basis.{Basis}
 use Rattle.pb_ledger.specs.Counting.{IsBook}
 use Rattle.pb_ledger.specs.Ledger.{LedgerState}
-use Rattle.pb_ledger.specs.Collecting.{CollectsStream}
-use Rattle.pb_ledger.specs.declared.totals.Totals.{Totals}
 use Rattle.pb_commands.specs.Judged.{PutsText, PutsUntil}
 use Rattle.pb_commands.specs.ShowsRefusal.{RefusesForTable}
-use Rattle.pb_commands.specs.TableReading.{FindsNoTable, ReadsTable}
+use Rattle.pb_commands.specs.TableReading.{FindsNoTable}
 use Rattle.pb_commands.specs.declared.fault.Fault.{Fault}
 use Rattle.pb_commands.specs.declared.table.TableFault.{TableFault}
+use Rattle.pb_commands.specs.declared.table.TableFault.TheVariants as table
 use Rattle.pb_commands.proofs.Judging.{no_table_fails, no_table_put}
 use Rattle.pb_commands.proofs.Told.{told_no_table}
-use Rattle.pb_collecting.specs.CollectRun.{CollectsBook, CollectsGames, JudgesTable, StopsTable, TakesGames, TellsCollect, new_ledger}
+use Rattle.pb_collecting.specs.CollectRun.{CollectsBook, EndsCollect, JudgesTable, StopsTable, TellsCollect, at_submissions, at_table}
+use Rattle.pb_collecting.specs.Taking.{FillsLedger, RefusesGames, StopsTaking, TakesOrStops}
+use Rattle.pb_collecting.specs.declared.taking.NoGames.{NoGames}
+use Rattle.pb_collecting.specs.declared.taking.NoGames.TheVariants.{Table, Submissions}
 use Rattle.pb_collecting.proofs.Effects.{told_book}
 
 module _ (fills : ℕ) (t t' s s' : SourceState) (sink sink' : SinkState) where
@@ -47,42 +48,44 @@ module _ (fills : ℕ) (t t' s s' : SourceState) (sink sink' : SinkState) where
   pub tells_refused : PutsText judges sink sink' false → TellsCollect t.to_come s.to_come sink sink' None
   tells_refused h = refused_told t.to_come s.to_come refl h
 
-  -- ---- submissions
+  -- the line that refuses the table was put and handed on
+  hands_on : (answer : Bool) (e : TableFault) → RefusesForTable sink sink' (Ok answer) e → (sink'.failed ≡ false) × (sink'.flushed ≡ true)
+  hands_on answer table.Long r = r.shows.handed_on
+  hands_on answer (table.Line n) r = r.shows.handed_on
+  hands_on answer (table.Count n) r = r.shows.handed_on
+  hands_on answer table.Read r = absurd (cc r.answered)
+  hands_on answer table.Endless r = absurd (cc r.answered)
+  hands_on answer table.Memory r = absurd (cc r.answered)
 
-  abbrev taken : (words : List ℕ) (l' : LedgerState) (totals : Totals) → ReadsTable fills t t' words
-      → CollectsStream fills s s' sink sink' (new_ledger words) l' totals → TakesGames fills t t' s s' words l'.accepted
-  taken words l' totals read h = record {
-    table = read;
-    came = h.came;
-    reads = h.reads;
-    answers = h.answers;
-    run = h.collects.leads.run;
-    accepted = h.collects.leads.accepted;
+  pub refused : s' ≡ s → (answer : Bool) (e : TableFault) → FindsNoTable fills t t' e → RefusesForTable sink sink' (Ok answer) e
+      → PutsText judges sink sink' false × (sink'.failed ≡ false) × (sink'.flushed ≡ true)
+  refused same answer e h r =
+      let on = hands_on answer e r in (put_refused answer (refused_put same (Ok answer) e h r), on.0, on.1)
+
+  -- no games were taken: `mid` is the state of the sink before that is told
+  module _ (mid : SinkState) where
+    pub no_games_put : (why : NoGames) (answer : Bool) → TakesOrStops fills t t' s s' sink mid (Err why) → RefusesGames mid sink' (Ok answer) why
+        → PutsText judges sink sink' false × (sink'.failed ≡ false) × (sink'.flushed ≡ true)
+    no_games_put (Table e) answer h r = refused h.1 answer e h.0 (subst (λ (m : SinkState). RefusesForTable m sink' (Ok answer) e) h.2 r)
+    no_games_put (Submissions e) answer h r = absurd (cc r.answered)
+
+    pub no_games_fails : (why : NoGames) (fault : Fault) → TakesOrStops fills t t' s s' sink mid (Err why) → RefusesGames mid sink' (Err fault) why
+        → EndsCollect fills t t' s s' sink sink' fault
+    no_games_fails (Table e) fault h r =
+        at_table (refused_fails h.1 (Err fault) e h.0 (subst (λ (m : SinkState). RefusesForTable m sink' (Err fault) e) h.2 r))
+    no_games_fails (Submissions e) fault h r =
+        at_submissions e (subst (λ (m : SinkState). StopsTaking fills t t' s s' sink m e) (sym r.same) h) (cc r.answered)
+
+  -- ---- books
+
+  pub made_book : (ledger : LedgerState) (entries : List Entry) → FillsLedger fills t t' s s' sink sink' ledger → IsBook ledger.basis ledger.accepted entries
+      → CollectsBook fills t t' s s' sink sink' entries
+  made_book ledger entries h book = record {
+    words = h.words;
+    held = h.held;
+    games = h.games;
+    book = subst (λ (m : LedgerState). IsBook m.basis m.accepted entries) h.is book;
   }
-
-  pub took : (words : List ℕ) (l l' : LedgerState) (totals : Totals) → l ≡ new_ledger words → ReadsTable fills t t' words
-      → CollectsStream fills s s' sink sink' l l' totals → TakesGames fills t t' s s' words l'.accepted
-  took words l l' totals is read g = taken words l' totals read (subst (λ m. CollectsStream fills s s' sink sink' m l' totals) is g)
-
-  pub collected : (words : List ℕ) (l l' : LedgerState) (totals : Totals) → l ≡ new_ledger words → ReadsTable fills t t' words
-      → CollectsStream fills s s' sink sink' l l' totals → CollectsGames fills t t' s s' sink sink' words l'.accepted
-  collected words l l' totals is read g =
-      let h = subst (λ m. CollectsStream fills s s' sink sink' m l' totals) is g in record {
-        takes = taken words l' totals read h;
-        put = h.collects.put;
-        works = h.works;
-        flushed = h.flushed;
-      }
-
-  pub made_book : (words : List ℕ) (l l' : LedgerState) (totals : Totals) (entries : List Entry) → l ≡ new_ledger words → ReadsTable fills t t' words
-      → CollectsStream fills s s' sink sink' l l' totals → IsBook l'.basis l'.accepted entries → CollectsBook fills t t' s s' sink sink' entries
-  made_book words l l' totals entries is read g book =
-      let h = subst (λ m. CollectsStream fills s s' sink sink' m l' totals) is g in record {
-        words = words;
-        held = l'.accepted;
-        games = collected words l l' totals is read g;
-        book = subst (λ (T : Basis). IsBook T l'.accepted entries) h.collects.leads.basis book;
-      }
 
   book_told : (entries : List Entry) (file bytes : Option (List ℕ)) → t.to_come ≡ file → s.to_come ≡ bytes → CollectsBook fills t t' s s' sink sink' entries
       → TellsCollect file bytes sink sink' (Some entries)

@@ -3,7 +3,7 @@ use Rattle.std.proofs.Common.{◌≡◌, ◌∙◌, ℕ, List, [], ◌∷◌, Op
 use Rattle.std.specs.Io.KnownBytes.{Appends}
 use Rattle.pb_io.specs.Source.{SourceState}
 use Rattle.pb_io.specs.Sink.{SinkState}
-use Rattle.pb_poly.specs.Book.{NeverFall, book_bytes}
+use Rattle.pb_poly.specs.Book.{NeverFall}
 use Rattle.pb_poly.specs.Entry.{IsEntry}
 use Rattle.pb_io.specs.Reads.{chunk_len}
 use Rattle.pb_io.specs.Lines.{lines}
@@ -11,16 +11,16 @@ use Rattle.pb_poly.specs.declared.entry.Entry.{Entry}
 use Rattle.pb_games.specs.Submissions.{Submission}
 use Rattle.pb_games.specs.declared.refusal.Refusal.{Refusal}
 use Rattle.pb_ledger.specs.Accepting.{Accepted, Allowed, Answer, OneGame, Run, Takes}
-use Rattle.pb_ledger.specs.Basis.{Basis}
-use Rattle.pb_accepted.proofs.BookLaws.{one_book, one_text}
 use Rattle.pb_accepted.proofs.Distinct.{accepts_the_taken, lawful_arrives, no_repeats}
 use Rattle.pb_accepted.proofs.Numbers.{repeats_keep}
 use Rattle.pb_accepted.proofs.Replies.{Takes-refusal, Takes-unique}
 use Rattle.pb_ledger.specs.Replies.{replies}
 use Rattle.pb_ledger.specs.Holding.{most_games}
 use Rattle.pb_commands.proofs.Told.{all_came, told_table}
-use Rattle.pb_collecting.specs.CollectRun.{CollectsBook, CollectsBytes, TakesGames, TakesTold}
+use Rattle.pb_collecting.specs.CollectRun.{CollectsBook, CollectsBytes, TakesTold}
+use Rattle.pb_collecting.specs.Taking.{TakesGames}
 use Rattle.pb_collecting.specs.OneEffect.{HasOneEffect, OneEffect, RefusalsLeaveTheGames}
+use Rattle.pb_collecting.proofs.OneTexts.{has_one_text}
 
 -- ---- refused lines
 
@@ -73,8 +73,7 @@ one_effect : (file bytes : List ℕ) (sink sink' : SinkState) (entries : List En
     → CollectsBytes file bytes sink sink' entries → OneGame (lines bytes) → OneEffect file bytes sink sink' entries
 one_effect file bytes sink sink' entries ordered bounds h one =
     let g = h.takes in
-    let taken = accepts_the_taken (lines bytes) g.answers h.held one g.accepted in
-    let T : Basis = record { words = h.words } in record {
+    let taken = accepts_the_taken (lines bytes) g.answers h.held one g.accepted in record {
       words = h.words;
       table = g.table;
       answers = g.answers;
@@ -84,14 +83,7 @@ one_effect file bytes sink sink' entries ordered bounds h one =
       are_taken = taken;
       once = no_repeats (lines bytes) g.answers h.held taken;
       book = h.book;
-      text = record {
-        text = book_bytes entries;
-        is_file = record { are = record { bounds = bounds; are = refl }; ordered = ordered };
-        only = λ others other is spelled. (
-          one_book T h.held others entries is h.book,
-          one_text T h.held others entries other (book_bytes entries) is spelled h.book (record { bounds = bounds; are = refl }),
-        );
-      };
+      text = has_one_text (record { words = h.words }) h.held entries ordered bounds h.book;
       arrivals = lawful_arrives most_games (lines bytes) g.answers one g.run;
       repeats = repeats_keep most_games (lines bytes) g.answers g.run;
       refusals = refusals_leave most_games (lines bytes) g.answers g.run;

@@ -1,9 +1,11 @@
 -- The theorem of `pbook collect`, from what a run does.
-use Rattle.std.proofs.Common.{◌≡◌, ◌∙◌, zero, suc, ℕ, ◌+◌, ◌<◌, ◌≤◌, List, [], ◌∷◌, length, take, Option, Some, None, Ok, Err, Contains, slice_get, refl, sym, ap, subst, inl, inr, arith}
+use Rattle.std.proofs.Common.{◌≡◌, ◌∙◌, zero, suc, ℕ, ◌+◌, ◌<◌, ◌≤◌, List, [], ◌∷◌, length, take, Option, Some, None, Ok, Err, All, Contains, slice_get, refl, sym, ap, subst, inl, inr, arith}
 use Rattle.std.proofs.lemmas.Option.{slice_get_within, get_or_from_slice_get}
 use Rattle.pb_io.specs.Source.{SourceState}
 use Rattle.pb_io.specs.Sink.{SinkState}
 use Rattle.pb_io.specs.Lines.{lines}
+use Rattle.pb_poly.specs.Book.{NeverFall}
+use Rattle.pb_poly.specs.Entry.{IsEntry}
 use Rattle.pb_poly.specs.declared.entry.Entry.{Entry}
 use Rattle.pb_games.specs.declared.refusal.Refusal.TheVariants.{Memory}
 use Rattle.pb_games.specs.Submissions.{Submission, IsLawful}
@@ -17,6 +19,7 @@ use Rattle.pb_accepted.proofs.Runs.{own_ids}
 use Rattle.pb_collecting.specs.CollectRun.{CollectsBook, CollectsBytes}
 use Rattle.pb_collecting.specs.Headline.{Arrives, HasHeadline, Headline, IsAccepted, IsNewBefore, MayBeAnswered, WasAccepted, accepted, conflict, full, memory}
 use Rattle.pb_collecting.proofs.Effects.{told_book}
+use Rattle.pb_collecting.proofs.OneTexts.{has_one_text}
 
 -- ---- lists
 
@@ -164,8 +167,9 @@ module _ (L : List (List ℕ)) (R : List Answer) (A : List Submission) (run : Ru
 
 -- ---- sources that tell their bytes
 
-headline : (file bytes : List ℕ) (sink sink' : SinkState) (entries : List Entry) → CollectsBytes file bytes sink sink' entries → Headline file bytes sink sink' entries
-headline file bytes sink sink' entries h =
+headline : (file bytes : List ℕ) (sink sink' : SinkState) (entries : List Entry) → NeverFall entries → All IsEntry entries
+    → CollectsBytes file bytes sink sink' entries → Headline file bytes sink sink' entries
+headline file bytes sink sink' entries ordered bounds h =
     let g = h.takes in
     let L = lines bytes in record {
       words = h.words;
@@ -180,14 +184,15 @@ headline file bytes sink sink' entries h =
       once = once L g.answers h.held g.run g.accepted;
       are = λ s. (members_to L g.answers h.held g.run g.accepted s, members_from L g.answers h.held g.run g.accepted s);
       book = h.book;
+      text = has_one_text (record { words = h.words }) h.held entries ordered bounds h.book;
     }
 
-module _ (fills : ℕ) (t t' s s' : SourceState) (sink sink' : SinkState) (entries : List Entry) where
+module _ (fills : ℕ) (t t' s s' : SourceState) (sink sink' : SinkState) (entries : List Entry) (ordered : NeverFall entries) (bounds : All IsEntry entries) where
   both : (file bytes : Option (List ℕ)) → t.to_come ≡ file → s.to_come ≡ bytes → CollectsBook fills t t' s s' sink sink' entries → HasHeadline file bytes sink sink' entries
   both None bytes is_t is_s h = tt
   both (Some file) None is_t is_s h = tt
   both (Some file) (Some bytes) is_t is_s h =
-      headline file bytes sink sink' entries (told_book fills t t' s s' file bytes is_t is_s sink sink' entries h)
+      headline file bytes sink sink' entries ordered bounds (told_book fills t t' s s' file bytes is_t is_s sink sink' entries h)
 
   pub has_headline : CollectsBook fills t t' s s' sink sink' entries → HasHeadline t.to_come s.to_come sink sink' entries
   has_headline h = both t.to_come s.to_come refl refl h

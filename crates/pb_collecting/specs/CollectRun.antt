@@ -1,50 +1,28 @@
 -- How a run of the command `collect` ends, over the states of its two sources and its sink before and after. Below, `t` and `t'`
 -- are the states of the table's source, `s` and `s'` those of the submissions'.
-use Rattle.std.specs.Prelude.{◌≡◌, ℕ, Bool, true, false, List, [], Option, Some, None, IfSome}
+use Rattle.std.specs.Prelude.{◌≡◌, ℕ, All, Bool, true, false, List, [], Option, Some, None, Result, Ok, Err, IfSome}
 use Rattle.std.specs.Io.KnownBytes.{Appends}
 use Rattle.pb_io.specs.Source.{SourceState}
 use Rattle.pb_io.specs.Sink.{SinkState}
-use Rattle.pb_io.specs.Reads.{ReadsAll, chunk_len}
 use Rattle.pb_io.specs.Lines.{lines}
+use Rattle.pb_poly.specs.Book.{NeverFall}
+use Rattle.pb_poly.specs.Entry.{IsEntry}
 use Rattle.pb_poly.specs.declared.entry.Entry.{Entry}
 use Rattle.pb_games.specs.Submissions.{Submission}
 use Rattle.pb_ledger.specs.Accepting.{Accepted, Answer, Run}
 use Rattle.pb_ledger.specs.Counting.{IsBook}
-use Rattle.pb_ledger.specs.Ledger.{LedgerState}
-use Rattle.pb_ledger.specs.Collecting.{CollectsUntil}
 use Rattle.pb_ledger.specs.Replies.{replies}
 use Rattle.pb_ledger.specs.declared.collecting.CollectFault.{CollectFault}
-use Rattle.pb_ledger.specs.declared.collecting.CollectFault.TheVariants as collect
 use Rattle.pb_ledger.specs.Holding.{most_games}
 use Rattle.pb_commands.specs.declared.fault.Fault.{Fault}
 use Rattle.pb_commands.specs.declared.fault.Fault.TheVariants.{Read, Write, Endless, Memory}
 use Rattle.pb_commands.specs.declared.table.TableFault.TheVariants as table
-use Rattle.pb_commands.specs.Judged.{PutsUntil}
-use Rattle.pb_commands.specs.TableReading.{FindsNoTable, ReadsTable, RefusesTable}
+use Rattle.pb_commands.specs.Judged.{PutsText, PutsUntil}
+use Rattle.pb_commands.specs.TableReading.{FindsNoTable, RefusesTable}
 use Rattle.pb_commands.specs.TableShown.{IsTableFile, TableRefused}
+use Rattle.pb_collecting.specs.Taking.{CollectsGames, StopsTaking, fault_of}
 
--- a ledger of a table with these words, and without games
-abbrev pub new_ledger : List ℕ → LedgerState
-new_ledger words = record { basis = record { words = words }; cap = most_games; accepted = [] }
-
--- the table of these words was read, and all lines of the stream were submitted, from no games on, and answered; these games are
--- held
-pub record TakesGames (fills : ℕ) (t t' s s' : SourceState) (words : List ℕ) (held : List Submission) : Type 0 where
-  pub table : ReadsTable fills t t' words
-  pub came : List ℕ
-  pub reads : ReadsAll chunk_len fills s s' came
-  pub answers : List Answer
-  pub run : Run most_games [] (lines came) answers
-  pub accepted : Accepted [] (lines came) answers held
-
--- the same, and the replies were put and handed on
-pub record CollectsGames (fills : ℕ) (t t' s s' : SourceState) (sink sink' : SinkState) (words : List ℕ) (held : List Submission) : Type 0 where
-  pub takes : TakesGames fills t t' s s' words held
-  pub put : Appends sink.bytes sink'.bytes (replies (lines takes.came) takes.answers)
-  pub works : sink'.failed ≡ false
-  pub flushed : sink'.flushed ≡ true
-
--- the same, and the entries are the book of the games that are held
+-- all submissions were taken and answered, and the entries are the book of the games that are held
 pub record CollectsBook (fills : ℕ) (t t' s s' : SourceState) (sink sink' : SinkState) (entries : List Entry) : Type 0 where
   pub words : List ℕ
   pub held : List Submission
@@ -90,19 +68,20 @@ StopsTable fills t t' s s' Endless = FindsNoTable fills t t' table.Endless × (s
 StopsTable fills t t' s s' Memory = FindsNoTable fills t t' table.Memory × (s' ≡ s)
 StopsTable fills t t' s s' Write = ⊥
 
--- what a fault of collecting is to the run
-abbrev pub fault_of : CollectFault → Fault
-fault_of collect.Read = Read
-fault_of collect.Write = Write
-fault_of collect.Endless = Endless
-fault_of collect.Memory = Memory
-
 -- how a run ends with a fault
 pub data EndsCollect (fills : ℕ) (t t' s s' : SourceState) (sink sink' : SinkState) (fault : Fault) : Type 0 where
   -- at the table, or at the line that refuses it: no submission was read
   at_table : PutsUntil (JudgesTable fills t t' s s') (StopsTable fills t t' s s') sink sink' fault → EndsCollect fills t t' s s' sink sink' fault
   -- while the submissions were collected into a new ledger, or for want of memory for it
-  at_submissions : (words : List ℕ) (ledger : LedgerState) (e : CollectFault) → ReadsTable fills t t' words
-      → CollectsUntil fills s s' sink sink' (new_ledger words) ledger e → fault ≡ fault_of e → EndsCollect fills t t' s s' sink sink' fault
+  at_submissions : (e : CollectFault) → StopsTaking fills t t' s s' sink sink' e → fault ≡ fault_of e → EndsCollect fills t t' s s' sink sink' fault
   -- for want of memory for the book: all submissions were taken and answered
   at_book : (words : List ℕ) (held : List Submission) → CollectsGames fills t t' s s' sink sink' words held → fault ≡ Memory → EndsCollect fills t t' s s' sink sink' fault
+
+-- how a run ends: with a book, whose keys never fall and whose parts are in their ranges, with the line that refuses the table, or
+-- with a fault
+abbrev pub CollectsOrEnds : ℕ → SourceState → SourceState → SourceState → SourceState → SinkState → SinkState → Result (Option (List Entry)) Fault → Type 0
+CollectsOrEnds fills t t' s s' sink sink' (Ok (Some entries)) =
+    CollectsBook fills t t' s s' sink sink' entries × NeverFall entries × All IsEntry entries
+CollectsOrEnds fills t t' s s' sink sink' (Ok None) =
+    PutsText (JudgesTable fills t t' s s') sink sink' false × (sink'.failed ≡ false) × (sink'.flushed ≡ true)
+CollectsOrEnds fills t t' s s' sink sink' (Err fault) = EndsCollect fills t t' s s' sink sink' fault

@@ -13,6 +13,7 @@ use Rattle.pb_ledger.specs.Holding.{most_games}
 use Rattle.pb_ledger.specs.Laws.{NoRepeats}
 use Rattle.pb_ledger.specs.Replies.{replies}
 use Rattle.pb_commands.specs.TableShown.{IsTableFile}
+use Rattle.pb_collecting.specs.OneText.{HasOneText}
 
 -- line i is the text of a legal game under an id
 abbrev pub Arrives : List (List ℕ) → ℕ → Submission → Type 0
@@ -57,6 +58,8 @@ pub record Headline (file bytes : List ℕ) (sink sink' : SinkState) (entries : 
   pub once : NoRepeats games
   pub are : (s : Submission) → Contains games s ↔ ((i n : ℕ) × IsAccepted (lines bytes) answers i s n)
   pub book : IsBook (record { words = words }) games entries
+  -- its text decodes to its entries and to no others
+  pub text : HasOneText (record { words = words }) games entries
 
 -- where the two sources tell their bytes
 abbrev pub HasHeadline : Option (List ℕ) → Option (List ℕ) → SinkState → SinkState → List Entry → Type 0

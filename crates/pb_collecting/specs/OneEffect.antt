@@ -2,7 +2,6 @@
 use Rattle.std.specs.Prelude.{◌≡◌, ℕ, ◌+◌, List, [], Option, Some, Err, IfSome, slice_get, take}
 use Rattle.std.specs.Io.KnownBytes.{Appends}
 use Rattle.pb_io.specs.Sink.{SinkState}
-use Rattle.pb_poly.specs.Book.{BookBytes}
 use Rattle.pb_io.specs.Lines.{lines}
 use Rattle.pb_poly.specs.declared.entry.Entry.{Entry}
 use Rattle.pb_games.specs.Submissions.{Submission}
@@ -13,20 +12,13 @@ use Rattle.pb_ledger.specs.Counting.{IsBook}
 use Rattle.pb_ledger.specs.Laws.{ArrivalsAreNumbered, NoRepeats, RepeatsAreAnsweredAlike}
 use Rattle.pb_ledger.specs.Replies.{replies}
 use Rattle.pb_ledger.specs.Holding.{most_games}
-use Rattle.pb_commands.specs.BookShown.{IsBookFile}
 use Rattle.pb_commands.specs.TableShown.{IsTableFile}
+use Rattle.pb_collecting.specs.OneText.{HasOneText}
 
 -- a line that was refused left the games that are held as they were
 abbrev pub RefusalsLeaveTheGames : List (List ℕ) → List Answer → Type 0
 RefusalsLeaveTheGames L R = (i : ℕ) (e : Refusal) (A B : List Submission) → slice_get R i ≡ Some (Err e)
     → Accepted [] (take i L) (take i R) A → Accepted [] (take (i + 1) L) (take (i + 1) R) B → B ≡ A
-
--- the entries have one text, from which they are read back, and neither the entries nor the text of a book of these
--- submissions could be others
-pub record HasOneText (T : Basis) (S : List Submission) (entries : List Entry) : Type 0 where
-  pub text : List ℕ
-  pub is_file : IsBookFile entries text
-  pub only : (others : List Entry) (bytes : List ℕ) → IsBook T S others → BookBytes others bytes → (others ≡ entries) × (bytes ≡ text)
 
 -- What a run makes of a table file and of the bytes of submissions, where no id names two games.
 pub record OneEffect (file bytes : List ℕ) (sink sink' : SinkState) (entries : List Entry) : Type 0 where

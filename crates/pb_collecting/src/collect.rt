@@ -1,26 +1,14 @@
 //! The command `collect`: submissions are answered, and the book of the games that are held then is made.
 ghost use Rattle.std.specs.Prelude.{◌≡◌, IfErr, IfNone, IfOk, IfSome, OnOk, false, true};
 ghost use Rattle.pb_commands.specs.Judged.{PutsText};
-ghost use Rattle.pb_collecting.specs.CollectRun.{CollectsBook, EndsCollect, JudgesTable, TellsCollect, fault_of};
+ghost use Rattle.pb_collecting.specs.CollectRun.{CollectsOrEnds, CollectsBook, EndsCollect, JudgesTable, TellsCollect};
 ghost use Rattle.pb_collecting.specs.Headline.{HasHeadline};
 ghost use Rattle.pb_collecting.specs.OneEffect.{HasOneEffect};
 
-use pb_commands::{Fault, refuse_table, take_table};
-use pb_ledger::{CollectFault, Ledger, MAX_CAP, MapTally, collect};
+use crate::taking::{refuse_games, take_games};
+use pb_commands::Fault;
 use pb_poly::{Book, Sink, Source};
 use std::alloc::Global;
-
-/// What a fault of collecting is to the run.
-pub(crate) fn collect_fault(fault: CollectFault) -> Fault
-    ensures { result ≡ fault_of fault }
-{
-    match fault {
-        CollectFault::Read => Fault::Read,
-        CollectFault::Write => Fault::Write,
-        CollectFault::Endless => Fault::Endless,
-        CollectFault::Memory => Fault::Memory,
-    }
-}
 
 /// Takes submission lines, puts the reply to each, and makes the opening book of the games that are held at the end: at most
 /// 1,000,000, each counted once however often it comes. The table of words that keys are made of is read first. Where it is
@@ -60,20 +48,27 @@ pub fn run_collect<T: Source, S: Source, K: Sink>(
     ensures fault { IfErr result (EndsCollect fills (T.state table_source.old) (T.state table_source.new)
         (S.state source.old) (S.state source.new) (K.state sink.old) (K.state sink.new)) }
 {
-    let table = match take_table(alloc, table_source, fills) {
-        Ok(table) => table,
-        Err(error) => {
-            refuse_table(sink, error)?;
+    collect_submissions(alloc, table_source, source, sink, fills)
+}
+
+/// The same, told in one clause.
+fn collect_submissions<T: Source, S: Source, K: Sink>(
+    alloc: Global,
+    table_source: &mut T,
+    source: &mut S,
+    sink: &mut K,
+    fills: u32,
+) -> Result<Option<Book>, Fault>
+    ensures { CollectsOrEnds fills (T.state table_source.old) (T.state table_source.new) (S.state source.old) (S.state source.new)
+        (K.state sink.old) (K.state sink.new) result }
+{
+    let ledger = match take_games(alloc, table_source, source, sink, fills) {
+        Ok(ledger) => ledger,
+        Err(why) => {
+            refuse_games(sink, why)?;
             return Ok(None);
         }
     };
-    let Ok(mut ledger) = Ledger::<MapTally>::new(alloc, &table, MAX_CAP) else {
-        return Err(Fault::Memory);
-    };
-    match collect(alloc, source, sink, &mut ledger, fills) {
-        Ok(_) => {}
-        Err(fault) => return Err(collect_fault(fault)),
-    }
     let Ok(book) = ledger.make_book(alloc) else {
         return Err(Fault::Memory);
     };

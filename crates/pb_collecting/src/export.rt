@@ -2,11 +2,11 @@
 ghost use Rattle.std.specs.Prelude.{◌≡◌, IfErr, IfOk, None, OnOk, false, true};
 ghost use Rattle.pb_commands.specs.Judged.{PutsText};
 ghost use Rattle.pb_collecting.specs.CollectRun.{JudgesTable};
-ghost use Rattle.pb_collecting.specs.ExportRun.{BlamesSink, EndsExport, ExportsGames, TellsExport, fault_of_export};
+ghost use Rattle.pb_collecting.specs.ExportRun.{BlamesSink, EndsExport, ExportsOrStops, ExportsGames, TellsExport, fault_of_export};
 
-use crate::collect::collect_fault;
-use pb_commands::{Fault, refuse_table, take_table};
-use pb_ledger::{ExportFault, Ledger, MAX_CAP, MapTally, collect, export};
+use crate::taking::{refuse_games, take_games};
+use pb_commands::Fault;
+use pb_ledger::{ExportFault, export};
 use pb_poly::{Failed, Sink, Source};
 use std::alloc::Global;
 
@@ -79,18 +79,31 @@ pub fn run_export<T: Source, S: Source, K: Sink>(
     // The sink is blamed only where it has failed, and always where it has failed since.
     ensures blame { IfErr result (BlamesSink (K.state sink.old) (K.state sink.new)) }
 {
-    let table = match take_table(alloc, table_source, fills) {
-        Ok(table) => table,
-        Err(error) => return refuse_table(sink, error),
-    };
-    let Ok(mut ledger) = Ledger::<MapTally>::new(alloc, &table, MAX_CAP) else {
-        return Err(Fault::Memory);
-    };
     let mut replies = Dropped::default();
-    match collect(alloc, source, &mut replies, &mut ledger, fills) {
-        Ok(_) => {}
-        Err(fault) => return Err(collect_fault(fault)),
-    }
+    export_submissions(alloc, table_source, source, &mut replies, sink, fills)
+}
+
+/// The same with a sink for the replies, which are put and handed on before the export. One list of answers is that of the replies and
+/// that by which the games are held whose export is put.
+///
+/// # Errors
+///
+/// As for `run_export`; `Write` comes where either sink has failed.
+pub fn export_submissions<T: Source, S: Source, D: Sink, K: Sink>(
+    alloc: Global,
+    table_source: &mut T,
+    source: &mut S,
+    replies: &mut D,
+    sink: &mut K,
+    fills: u32,
+) -> Result<bool, Fault>
+    ensures { ExportsOrStops fills (T.state table_source.old) (T.state table_source.new) (S.state source.old) (S.state source.new)
+        (D.state replies.old) (D.state replies.new) (K.state sink.old) (K.state sink.new) result }
+{
+    let ledger = match take_games(alloc, table_source, source, replies, fills) {
+        Ok(ledger) => ledger,
+        Err(why) => return refuse_games(sink, why),
+    };
     match export(alloc, &ledger, sink) {
         Ok(_) => Ok(true),
         Err(fault) => Err(export_fault(fault)),

@@ -4,6 +4,7 @@
 
 mod collect;
 mod export;
+mod taking;
 
 pub use collect::run_collect;
-pub use export::run_export;
+pub use export::{export_submissions, run_export};

@@ -1,0 +1,52 @@
+-- What the clauses of the command `collect` say, from how its run ends.
+use Rattle.std.proofs.Common.{◌≡◌, ℕ, List, Option, Some, None, Result, Ok, Err, false, true}
+use Rattle.std.specs.Prelude.{IfErr, IfNone, IfOk, IfSome, OnOk}
+use Rattle.pb_io.specs.Source.{SourceState}
+use Rattle.pb_io.specs.Sink.{SinkState}
+use Rattle.pb_poly.specs.declared.entry.Entry.{Entry}
+use Rattle.pb_commands.specs.Judged.{PutsText}
+use Rattle.pb_commands.specs.declared.fault.Fault.{Fault}
+use Rattle.pb_collecting.specs.CollectRun.{CollectsBook, CollectsOrEnds, EndsCollect, JudgesTable, TellsCollect}
+use Rattle.pb_collecting.specs.Headline.{HasHeadline}
+use Rattle.pb_collecting.specs.OneEffect.{HasOneEffect}
+use Rattle.pb_collecting.proofs.CollectRuns.{tells_book, tells_refused}
+use Rattle.pb_collecting.proofs.Effects.{has_one_effect}
+use Rattle.pb_collecting.proofs.Headlines.{has_headline}
+
+module _ (fills : ℕ) (t t' s s' : SourceState) (sink sink' : SinkState) where
+  abbrev Ends : Result (Option (List Entry)) Fault → Type 0
+  Ends = CollectsOrEnds fills t t' s s' sink sink'
+
+  pub book : (result : Result (Option (List Entry)) Fault) → Ends result → IfOk result (λ answer. IfSome answer (CollectsBook fills t t' s s' sink sink'))
+  book (Ok (Some entries)) h = h.0
+  book (Ok None) h = tt
+  book (Err fault) h = tt
+
+  pub refused : (result : Result (Option (List Entry)) Fault) → Ends result → IfOk result (λ answer. IfNone answer (PutsText (JudgesTable fills t t' s s') sink sink' false))
+  refused (Ok (Some entries)) h = tt
+  refused (Ok None) h = h.0
+  refused (Err fault) h = tt
+
+  pub told : (result : Result (Option (List Entry)) Fault) → Ends result → IfOk result (TellsCollect t.to_come s.to_come sink sink')
+  told (Ok (Some entries)) h = tells_book fills t t' s s' sink sink' entries h.0
+  told (Ok None) h = tells_refused fills t t' s s' sink sink' h.0
+  told (Err fault) h = tt
+
+  pub one_effect : (result : Result (Option (List Entry)) Fault) → Ends result → IfOk result (λ answer. IfSome answer (HasOneEffect t.to_come s.to_come sink sink'))
+  one_effect (Ok (Some entries)) h = has_one_effect fills t t' s s' sink sink' entries h.1 h.2 h.0
+  one_effect (Ok None) h = tt
+  one_effect (Err fault) h = tt
+
+  pub headline : (result : Result (Option (List Entry)) Fault) → Ends result → IfOk result (λ answer. IfSome answer (HasHeadline t.to_come s.to_come sink sink'))
+  headline (Ok (Some entries)) h = has_headline fills t t' s s' sink sink' entries h.1 h.2 h.0
+  headline (Ok None) h = tt
+  headline (Err fault) h = tt
+
+  pub handed_on : (result : Result (Option (List Entry)) Fault) → Ends result → OnOk result ((sink'.failed ≡ false) × (sink'.flushed ≡ true))
+  handed_on (Ok (Some entries)) h = (h.0.games.works, h.0.games.flushed)
+  handed_on (Ok None) h = (h.1, h.2)
+  handed_on (Err fault) h = tt
+
+  pub ends : (result : Result (Option (List Entry)) Fault) → Ends result → IfErr result (EndsCollect fills t t' s s' sink sink')
+  ends (Ok answer) h = tt
+  ends (Err fault) h = h

@@ -1,0 +1,101 @@
+-- What the clauses of the command `export` say, from how its run ends.
+use Rattle.std.proofs.Common.{◌≡◌, ◌∙◌, ◌≢◌, ℕ, Bool, List, Option, Some, None, Result, Ok, Err, ap, false, refl, sym, true}
+use Rattle.std.specs.Prelude.{IfErr, IfOk, OnOk}
+use Rattle.pb_io.specs.Source.{SourceState}
+use Rattle.pb_io.specs.Sink.{SinkState}
+use Rattle.pb_ledger.specs.Ledger.{LedgerState}
+use Rattle.pb_ledger.specs.Collecting.{CollectsUntil}
+use Rattle.pb_ledger.specs.Exporting.{ExportsUntil}
+use Rattle.pb_ledger.specs.declared.collecting.CollectFault.{CollectFault}
+use Rattle.pb_ledger.specs.declared.collecting.CollectFault.TheVariants as collect
+use Rattle.pb_export.specs.declared.exporting.ExportFault.{ExportFault}
+use Rattle.pb_export.specs.declared.exporting.ExportFault.TheVariants as export
+use Rattle.pb_commands.specs.Judged.{PutsText, PutsUntil}
+use Rattle.pb_commands.specs.declared.fault.Fault.{Fault}
+use Rattle.pb_commands.specs.declared.fault.Fault.TheVariants.{Read, Write, Endless, Memory}
+use Rattle.pb_collecting.specs.CollectRun.{JudgesTable, StopsTable}
+use Rattle.pb_collecting.specs.ExportRun.{BlamesSink, EndsExport, ExportsGames, ExportsOrStops, StopsExport, TellsExport, at_export, at_submissions, at_table, fault_of_export}
+use Rattle.pb_collecting.specs.Taking.{fault_of, new_ledger}
+use Rattle.pb_collecting.proofs.CollectRuns.{tells_refused}
+use Rattle.pb_collecting.proofs.Effects.{told_games}
+
+-- ---- which faults blame the sink
+
+-- a sink that was left alone isn't blamed
+no_blame : (sink sink' : SinkState) (fault : Fault) → fault ≢ Write → sink' ≡ sink → BlamesSink sink sink' fault
+no_blame sink sink' fault other same = record {
+  only = λ is. absurd (other is);
+  always = λ works fails. absurd (cc (sym fails ∙ ap (λ (x : SinkState). x.failed) same ∙ works));
+}
+
+blame_until : (judges : Bool → List ℕ → Type 0) (stops : Fault → Type 0) (sink sink' : SinkState) (fault : Fault) → PutsUntil judges stops sink sink' fault → BlamesSink sink sink' fault
+blame_until judges stops sink sink' Write h = record { only = λ is. h.fails; always = λ works fails. refl }
+blame_until judges stops sink sink' Read h = no_blame sink sink' Read (λ is. cc is) h.1
+blame_until judges stops sink sink' Endless h = no_blame sink sink' Endless (λ is. cc is) h.1
+blame_until judges stops sink sink' Memory h = no_blame sink sink' Memory (λ is. cc is) h.1
+
+-- a sink that has not failed is no reason to end
+not_written : (fills : ℕ) (s s' : SourceState) (dropped dropped' : SinkState) (l l' : LedgerState) (e : CollectFault) → dropped'.failed ≡ false
+    → CollectsUntil fills s s' dropped dropped' l l' e → fault_of e ≢ Write
+not_written fills s s' dropped dropped' l l' collect.Read works h = λ is. cc is
+not_written fills s s' dropped dropped' l l' collect.Write works h = absurd (cc (sym h.fails ∙ works))
+not_written fills s s' dropped dropped' l l' collect.Endless works h = λ is. cc is
+not_written fills s s' dropped dropped' l l' collect.Memory works h = λ is. cc is
+
+-- at the export
+blame_export : (l : LedgerState) (sink sink' : SinkState) (fault : Fault) (e : ExportFault) → ExportsUntil l sink sink' e → fault ≡ fault_of_export e → BlamesSink sink sink' fault
+blame_export l sink sink' fault export.Write h is = record { only = λ _. h.cause; always = λ works fails. is }
+blame_export l sink sink' fault export.Memory h is = record {
+  only = λ write. absurd (cc (sym write ∙ is));
+  always = λ works fails. absurd (cc (sym fails ∙ h.cause works));
+}
+
+module _ (fills : ℕ) (t t' s s' : SourceState) (d d' sink sink' : SinkState) where
+  abbrev Ends : Result Bool Fault → Type 0
+  Ends = ExportsOrStops fills t t' s s' d d' sink sink'
+
+  pub lines : (result : Result Bool Fault) → Ends result → IfOk result (λ done. done ≡ true → ExportsGames fills t t' s s' sink sink')
+  lines (Ok true) h = λ is. record { words = h.words; held = h.held; takes = h.games.takes; puts = h.puts }
+  lines (Ok false) h = λ is. absurd (cc is)
+  lines (Err fault) h = tt
+
+  pub refused : (result : Result Bool Fault) → Ends result → IfOk result (λ done. done ≡ false → PutsText (JudgesTable fills t t' s s') sink sink' false)
+  refused (Ok true) h = λ is. absurd (cc is)
+  refused (Ok false) h = λ is. h.refused
+  refused (Err fault) h = tt
+
+  games_told : (file bytes : Option (List ℕ)) → t.to_come ≡ file → s.to_come ≡ bytes → ExportsGames fills t t' s s' sink sink' → TellsExport file bytes sink sink' true
+  games_told None bytes is_t is_s h = tt
+  games_told (Some file) None is_t is_s h = tt
+  games_told (Some file) (Some bytes) is_t is_s h = record {
+    words = h.words;
+    held = h.held;
+    takes = told_games fills t t' s s' file bytes is_t is_s h.words h.held h.takes;
+    puts = h.puts;
+  }
+
+  pub told : (result : Result Bool Fault) → Ends result → IfOk result (TellsExport t.to_come s.to_come sink sink')
+  told (Ok true) h = games_told t.to_come s.to_come refl refl (record { words = h.words; held = h.held; takes = h.games.takes; puts = h.puts })
+  told (Ok false) h = tells_refused fills t t' s s' sink sink' h.refused
+  told (Err fault) h = tt
+
+  pub handed_on : (result : Result Bool Fault) → Ends result → OnOk result ((sink'.failed ≡ false) × (sink'.flushed ≡ true))
+  handed_on (Ok true) h = (h.works, h.flushed)
+  handed_on (Ok false) h = (h.works, h.flushed)
+  handed_on (Err fault) h = tt
+
+  -- the sink for the replies hasn't failed
+  module _ (works : d'.failed ≡ false) where
+    pub ends : (result : Result Bool Fault) → Ends result → IfErr result (EndsExport fills t t' s s' sink sink')
+    ends (Ok done) h = tt
+    ends (Err fault) h = record { dropped = d; dropped' = d'; stops = h; works = works }
+
+    blame_stop : (fault : Fault) → StopsExport fills t t' s s' d d' sink sink' fault → BlamesSink sink sink' fault
+    blame_stop fault (at_table h no_reply) = blame_until (JudgesTable fills t t' s s') (StopsTable fills t t' s s') sink sink' fault h
+    blame_stop fault (at_submissions e h is same) =
+        no_blame sink sink' fault (λ write. not_written fills s s' d d' (new_ledger h.words) h.ledger e works h.until (sym is ∙ write)) same
+    blame_stop fault (at_export words held e games h is) = blame_export _ sink sink' fault e h is
+
+    pub blame : (result : Result Bool Fault) → Ends result → IfErr result (BlamesSink sink sink')
+    blame (Ok done) h = tt
+    blame (Err fault) h = blame_stop fault h

@@ -1,0 +1,79 @@
+-- What taking submissions gives, over the states of the two sources and of the sink for the replies before and after. Below, `t` and
+-- `t'` are the states of the table's source, `s` and `s'` those of the submissions'.
+use Rattle.std.specs.Prelude.{◌≡◌, ℕ, Bool, true, false, List, [], Result, Ok, Err}
+use Rattle.std.specs.Io.KnownBytes.{Appends}
+use Rattle.pb_io.specs.Source.{SourceState}
+use Rattle.pb_io.specs.Sink.{SinkState}
+use Rattle.pb_io.specs.Reads.{ReadsAll, chunk_len}
+use Rattle.pb_io.specs.Lines.{lines}
+use Rattle.pb_games.specs.Submissions.{Submission}
+use Rattle.pb_ledger.specs.Accepting.{Accepted, Answer, Run}
+use Rattle.pb_ledger.specs.Ledger.{LedgerState}
+use Rattle.pb_ledger.specs.Collecting.{CollectsUntil}
+use Rattle.pb_ledger.specs.Replies.{replies}
+use Rattle.pb_ledger.specs.declared.collecting.CollectFault.{CollectFault}
+use Rattle.pb_ledger.specs.declared.collecting.CollectFault.TheVariants as collect
+use Rattle.pb_ledger.specs.Holding.{most_games}
+use Rattle.pb_commands.specs.ShowsRefusal.{FaultsAlone, RefusesForTable}
+use Rattle.pb_commands.specs.declared.fault.Fault.{Fault}
+use Rattle.pb_commands.specs.declared.fault.Fault.TheVariants.{Read, Write, Endless, Memory}
+use Rattle.pb_commands.specs.TableReading.{FindsNoTable, ReadsTable}
+use Rattle.pb_collecting.specs.declared.taking.NoGames.{NoGames}
+use Rattle.pb_collecting.specs.declared.taking.NoGames.TheVariants.{Table, Submissions}
+
+-- a ledger of a table with these words, and with these games
+abbrev pub ledger_of : List ℕ → List Submission → LedgerState
+ledger_of words held = record { basis = record { words = words }; cap = most_games; accepted = held }
+
+-- the same without games
+abbrev pub new_ledger : List ℕ → LedgerState
+new_ledger words = ledger_of words []
+
+-- the table of these words was read, and all lines of the stream were submitted, from no games on, and answered; these games are
+-- held
+pub record TakesGames (fills : ℕ) (t t' s s' : SourceState) (words : List ℕ) (held : List Submission) : Type 0 where
+  pub table : ReadsTable fills t t' words
+  pub came : List ℕ
+  pub reads : ReadsAll chunk_len fills s s' came
+  pub answers : List Answer
+  pub run : Run most_games [] (lines came) answers
+  pub accepted : Accepted [] (lines came) answers held
+
+-- the same, and the replies were put and handed on
+pub record CollectsGames (fills : ℕ) (t t' s s' : SourceState) (sink sink' : SinkState) (words : List ℕ) (held : List Submission) : Type 0 where
+  pub takes : TakesGames fills t t' s s' words held
+  pub put : Appends sink.bytes sink'.bytes (replies (lines takes.came) takes.answers)
+  pub works : sink'.failed ≡ false
+  pub flushed : sink'.flushed ≡ true
+
+-- the same, and this ledger holds the games
+pub record FillsLedger (fills : ℕ) (t t' s s' : SourceState) (sink sink' : SinkState) (ledger : LedgerState) : Type 0 where
+  pub words : List ℕ
+  pub held : List Submission
+  pub games : CollectsGames fills t t' s s' sink sink' words held
+  pub is : ledger ≡ ledger_of words held
+
+-- the table was read, and then not all submissions were taken and answered
+pub record StopsTaking (fills : ℕ) (t t' s s' : SourceState) (sink sink' : SinkState) (e : CollectFault) : Type 0 where
+  pub words : List ℕ
+  pub table : ReadsTable fills t t' words
+  pub ledger : LedgerState
+  pub until : CollectsUntil fills s s' sink sink' (new_ledger words) ledger e
+
+-- how taking ends; without a table no submission is read, and no reply is put
+abbrev pub TakesOrStops : ℕ → SourceState → SourceState → SourceState → SourceState → SinkState → SinkState → Result LedgerState NoGames → Type 0
+TakesOrStops fills t t' s s' sink sink' (Ok ledger) = FillsLedger fills t t' s s' sink sink' ledger
+TakesOrStops fills t t' s s' sink sink' (Err (Table e)) = FindsNoTable fills t t' e × (s' ≡ s) × (sink' ≡ sink)
+TakesOrStops fills t t' s s' sink sink' (Err (Submissions e)) = StopsTaking fills t t' s s' sink sink' e
+
+-- what a fault of collecting is to the run
+abbrev pub fault_of : CollectFault → Fault
+fault_of collect.Read = Read
+fault_of collect.Write = Write
+fault_of collect.Endless = Endless
+fault_of collect.Memory = Memory
+
+-- what is done where no games were taken
+abbrev pub RefusesGames : SinkState → SinkState → Result Bool Fault → NoGames → Type 0
+RefusesGames old new answer (Table e) = RefusesForTable old new answer e
+RefusesGames old new answer (Submissions e) = FaultsAlone old new answer (fault_of e)

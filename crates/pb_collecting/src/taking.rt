@@ -1,0 +1,63 @@
+//! Games out of submissions.
+ghost use Rattle.std.specs.Prelude.{◌≡◌};
+ghost use Rattle.pb_collecting.specs.Taking.{RefusesGames, TakesOrStops, fault_of};
+
+use pb_commands::{Fault, TableFault, refuse_table, take_table};
+use pb_ledger::{CollectFault, Ledger, MAX_CAP, MapTally, collect};
+use pb_poly::{Sink, Source};
+use std::alloc::Global;
+
+/// Why not all submissions were taken.
+#[derive(Clone, Copy)]
+pub(crate) enum NoGames {
+    /// There is no table.
+    Table(TableFault),
+    /// The lines were not all taken and answered, or there was no memory for the ledger.
+    Submissions(CollectFault),
+}
+
+/// Reads the table, then takes the submissions into a new ledger and puts the reply to each.
+pub(crate) fn take_games<T: Source, S: Source, K: Sink>(
+    alloc: Global,
+    table_source: &mut T,
+    source: &mut S,
+    replies: &mut K,
+    fills: u32,
+) -> Result<Ledger<MapTally>, NoGames>
+    ensures { TakesOrStops fills (T.state table_source.old) (T.state table_source.new) (S.state source.old) (S.state source.new)
+        (K.state replies.old) (K.state replies.new) result }
+{
+    let table = match take_table(alloc, table_source, fills) {
+        Ok(table) => table,
+        Err(error) => return Err(NoGames::Table(error)),
+    };
+    let Ok(mut ledger) = Ledger::<MapTally>::new(alloc, &table, MAX_CAP) else {
+        return Err(NoGames::Submissions(CollectFault::Memory));
+    };
+    match collect(alloc, source, replies, &mut ledger, fills) {
+        Ok(_) => Ok(ledger),
+        Err(fault) => Err(NoGames::Submissions(fault)),
+    }
+}
+
+/// Shows why the table is refused and answers false, or puts nothing and answers the fault that ended the run.
+pub(crate) fn refuse_games<K: Sink>(sink: &mut K, why: NoGames) -> Result<bool, Fault>
+    ensures { RefusesGames (K.state sink.old) (K.state sink.new) result why }
+{
+    match why {
+        NoGames::Table(error) => refuse_table(sink, error),
+        NoGames::Submissions(fault) => Err(collect_fault(fault)),
+    }
+}
+
+/// What a fault of collecting is to the run.
+fn collect_fault(fault: CollectFault) -> Fault
+    ensures { result ≡ fault_of fault }
+{
+    match fault {
+        CollectFault::Read => Fault::Read,
+        CollectFault::Write => Fault::Write,
+        CollectFault::Endless => Fault::Endless,
+        CollectFault::Memory => Fault::Memory,
+    }
+}
