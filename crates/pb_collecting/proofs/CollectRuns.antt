@@ -8,10 +8,10 @@ use Rattle.pb_ledger.specs.Counting.{IsBook}
 use Rattle.pb_ledger.specs.Ledger.{LedgerState}
 use Rattle.pb_commands.specs.Judged.{PutsText, PutsUntil}
 use Rattle.pb_commands.specs.ShowsRefusal.{RefusesForTable}
-use Rattle.pb_commands.specs.TableReading.{FindsNoTable}
+use Rattle.pb_poly.specs.TableReading.{FindsNoTable}
 use Rattle.pb_commands.specs.declared.fault.Fault.{Fault}
-use Rattle.pb_commands.specs.declared.table.TableFault.{TableFault}
-use Rattle.pb_commands.specs.declared.table.TableFault.TheVariants as table
+use Rattle.pb_poly.specs.declared.table_file.TableFault.{TableFault}
+use Rattle.pb_poly.specs.declared.table_file.TableFault.TheVariants as table
 use Rattle.pb_commands.proofs.Judging.{no_table_fails, no_table_put}
 use Rattle.pb_commands.proofs.Told.{told_no_table}
 use Rattle.pb_collecting.specs.CollectRun.{CollectsBook, EndsCollect, JudgesTable, StopsTable, TellsCollect, at_submissions, at_table}

@@ -16,7 +16,8 @@ use Rattle.pb_accepted.proofs.Numbers.{repeats_keep}
 use Rattle.pb_accepted.proofs.Replies.{Takes-refusal, Takes-unique}
 use Rattle.pb_ledger.specs.Replies.{replies}
 use Rattle.pb_ledger.specs.Holding.{most_games}
-use Rattle.pb_commands.proofs.Told.{all_came, told_table}
+use Rattle.pb_poly.proofs.ToldReads.{all_came}
+use Rattle.pb_commands.proofs.Told.{told_table}
 use Rattle.pb_collecting.specs.CollectRun.{CollectsBook, CollectsBytes, TakesTold}
 use Rattle.pb_collecting.specs.Taking.{TakesGames}
 use Rattle.pb_collecting.specs.OneEffect.{HasOneEffect, OneEffect, RefusalsLeaveTheGames}

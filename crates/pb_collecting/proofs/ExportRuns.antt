@@ -8,9 +8,9 @@ use Rattle.pb_ledger.specs.Exporting.{Exports, ExportsUntil}
 use Rattle.pb_export.specs.declared.exporting.ExportFault.{ExportFault}
 use Rattle.pb_commands.specs.Judged.{PutsText, PutsUntil}
 use Rattle.pb_commands.specs.ShowsRefusal.{RefusesForTable}
-use Rattle.pb_commands.specs.TableReading.{FindsNoTable}
+use Rattle.pb_poly.specs.TableReading.{FindsNoTable}
 use Rattle.pb_commands.specs.declared.fault.Fault.{Fault}
-use Rattle.pb_commands.specs.declared.table.TableFault.{TableFault}
+use Rattle.pb_poly.specs.declared.table_file.TableFault.{TableFault}
 use Rattle.pb_collecting.specs.CollectRun.{JudgesTable}
 use Rattle.pb_collecting.specs.ExportRun.{ExportsAnswered, ExportsOrStops, StopsExport, at_export, at_submissions, at_table, fault_of_export}
 use Rattle.pb_collecting.specs.Taking.{FillsLedger, RefusesGames, TakesOrStops}

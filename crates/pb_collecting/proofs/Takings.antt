@@ -7,7 +7,7 @@ use Rattle.pb_ledger.specs.Ledger.{LedgerState}
 use Rattle.pb_ledger.specs.Collecting.{CollectsStream, CollectsUntil}
 use Rattle.pb_ledger.specs.declared.totals.Totals.{Totals}
 use Rattle.pb_ledger.specs.declared.collecting.CollectFault.{CollectFault}
-use Rattle.pb_commands.specs.TableReading.{ReadsTable}
+use Rattle.pb_poly.specs.TableReading.{ReadsTable}
 use Rattle.pb_collecting.specs.Taking.{FillsLedger, StopsTaking, ledger_of, new_ledger}
 
 module _ (fills : ℕ) (t t' s s' : SourceState) (sink sink' : SinkState) (words : List ℕ) (l l' : LedgerState) (is : l ≡ new_ledger words) (read : ReadsTable fills t t' words) where

@@ -16,10 +16,12 @@ use Rattle.pb_ledger.specs.declared.collecting.CollectFault.{CollectFault}
 use Rattle.pb_ledger.specs.Holding.{most_games}
 use Rattle.pb_commands.specs.declared.fault.Fault.{Fault}
 use Rattle.pb_commands.specs.declared.fault.Fault.TheVariants.{Read, Write, Endless, Memory}
-use Rattle.pb_commands.specs.declared.table.TableFault.TheVariants as table
+use Rattle.pb_poly.specs.declared.table_file.TableFault.TheVariants as table
 use Rattle.pb_commands.specs.Judged.{PutsText, PutsUntil}
-use Rattle.pb_commands.specs.TableReading.{FindsNoTable, RefusesTable}
-use Rattle.pb_commands.specs.TableShown.{IsTableFile, TableRefused}
+use Rattle.pb_poly.specs.TableReading.{FindsNoTable}
+use Rattle.pb_commands.specs.TableRun.{RefusesTable}
+use Rattle.pb_poly.specs.Table.{IsTableFile}
+use Rattle.pb_commands.specs.TableShown.{TableRefused}
 use Rattle.pb_collecting.specs.Taking.{CollectsGames, StopsTaking, fault_of}
 
 -- all submissions were taken and answered, and the entries are the book of the games that are held

@@ -12,7 +12,7 @@ use Rattle.pb_ledger.specs.Counting.{IsBook}
 use Rattle.pb_ledger.specs.Holding.{most_games}
 use Rattle.pb_ledger.specs.Laws.{NoRepeats}
 use Rattle.pb_ledger.specs.Replies.{replies}
-use Rattle.pb_commands.specs.TableShown.{IsTableFile}
+use Rattle.pb_poly.specs.Table.{IsTableFile}
 use Rattle.pb_collecting.specs.OneText.{HasOneText}
 
 -- line i is the text of a legal game under an id

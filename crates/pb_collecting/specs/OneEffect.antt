@@ -12,7 +12,7 @@ use Rattle.pb_ledger.specs.Counting.{IsBook}
 use Rattle.pb_ledger.specs.Laws.{ArrivalsAreNumbered, NoRepeats, RepeatsAreAnsweredAlike}
 use Rattle.pb_ledger.specs.Replies.{replies}
 use Rattle.pb_ledger.specs.Holding.{most_games}
-use Rattle.pb_commands.specs.TableShown.{IsTableFile}
+use Rattle.pb_poly.specs.Table.{IsTableFile}
 use Rattle.pb_collecting.specs.OneText.{HasOneText}
 
 -- a line that was refused left the games that are held as they were

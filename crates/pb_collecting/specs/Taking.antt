@@ -17,7 +17,7 @@ use Rattle.pb_ledger.specs.Holding.{most_games}
 use Rattle.pb_commands.specs.ShowsRefusal.{FaultsAlone, RefusesForTable}
 use Rattle.pb_commands.specs.declared.fault.Fault.{Fault}
 use Rattle.pb_commands.specs.declared.fault.Fault.TheVariants.{Read, Write, Endless, Memory}
-use Rattle.pb_commands.specs.TableReading.{FindsNoTable, ReadsTable}
+use Rattle.pb_poly.specs.TableReading.{FindsNoTable, ReadsTable}
 use Rattle.pb_collecting.specs.declared.taking.NoGames.{NoGames}
 use Rattle.pb_collecting.specs.declared.taking.NoGames.TheVariants.{Table, Submissions}
 

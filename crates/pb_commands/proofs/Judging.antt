@@ -10,11 +10,12 @@ use Rattle.pb_poly.specs.declared.reading.BookError.TheVariants as book
 use Rattle.pb_commands.specs.BookRun.{RefusesBook, cut_short, unsorted}
 use Rattle.pb_commands.specs.Judged.{PutsText, PutsUntil}
 use Rattle.pb_commands.specs.ShowsRefusal.{FaultsAlone, ShowsRefusal, RefusesForBook, RefusesForTable}
-use Rattle.pb_commands.specs.TableReading.{FindsNoTable, RefusesTable, count, line, long}
+use Rattle.pb_poly.specs.TableReading.{FindsNoTable}
+use Rattle.pb_commands.specs.TableRun.{RefusesTable, count, line, long}
 use Rattle.pb_commands.specs.declared.fault.Fault.{Fault}
 use Rattle.pb_commands.specs.declared.fault.Fault.TheVariants.{Read, Write, Endless, Memory}
-use Rattle.pb_commands.specs.declared.table.TableFault.{TableFault}
-use Rattle.pb_commands.specs.declared.table.TableFault.TheVariants as table
+use Rattle.pb_poly.specs.declared.table_file.TableFault.{TableFault}
+use Rattle.pb_poly.specs.declared.table_file.TableFault.TheVariants as table
 
 -- the text under another relation
 pub text_as : (judges others : Bool → List ℕ → Type 0) (sink sink' : SinkState) (answer : Bool) → ((out : List ℕ) → judges answer out → others answer out)

@@ -13,16 +13,16 @@ use Rattle.pb_board.proofs.Unique.{one_record}
 use Rattle.pb_poly.specs.Found.{Found}
 use Rattle.pb_io.specs.Lines.{lines}
 use Rattle.pb_poly.proofs.Tables.{spelled_at}
-use Rattle.pb_poly.specs.Table.{IsFirstUnspelled, IsWordLine}
+use Rattle.pb_poly.specs.Table.{IsFirstUnspelled, IsTableFile, IsWordLine}
 use Rattle.pb_poly.specs.declared.entry.Entry.{Entry}
 use Rattle.pb_poly.specs.declared.table.TableError.TheVariants as poly
 use Rattle.pb_poly.proofs.Finding.{found_is_one}
 use Rattle.pb_poly.proofs.Tables.{only_memory}
 use Rattle.pb_commands.specs.Refused.{fen_line}
 use Rattle.pb_commands.specs.ProbeShown.{FenProbed, ProbeShown, probe_text}
-use Rattle.pb_commands.specs.TableShown.{IsTableFile, TableRefused, count_line, unspelled_line}
+use Rattle.pb_commands.specs.TableShown.{TableRefused, count_line, unspelled_line}
 use Rattle.pb_commands.proofs.OneBook.{book_not_refused, books_are_one, refusal_is_one}
-use Rattle.pb_commands.proofs.OnlyTables.{tables_are_one}
+use Rattle.pb_poly.proofs.OnlyTables.{tables_are_one}
 
 -- ---- tables
 

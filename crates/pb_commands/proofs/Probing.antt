@@ -16,15 +16,16 @@ use Rattle.pb_commands.specs.ProbeRun.{JudgesProbe, StopsProbe, StopsReading}
 use Rattle.pb_commands.specs.Refused.{fen_line}
 use Rattle.pb_commands.specs.ProbeShown.{FenProbed, ProbeShown}
 use Rattle.pb_commands.specs.ShowsRefusal.{ShowsRefusal, RefusesForBook, RefusesForTable}
-use Rattle.pb_commands.specs.TableReading.{FindsNoTable, ReadsTable}
-use Rattle.pb_commands.specs.TableShown.{table_limit}
+use Rattle.pb_poly.specs.TableReading.{FindsNoTable, ReadsTable}
+use Rattle.pb_poly.specs.Table.{table_limit}
 use Rattle.pb_commands.specs.declared.fault.Fault.{Fault}
 use Rattle.pb_commands.specs.declared.fault.Fault.TheVariants.{Memory}
-use Rattle.pb_commands.specs.declared.table.TableFault.{TableFault}
-use Rattle.pb_commands.specs.declared.table.TableFault.TheVariants as table_fault
+use Rattle.pb_poly.specs.declared.table_file.TableFault.{TableFault}
+use Rattle.pb_poly.specs.declared.table_file.TableFault.TheVariants as table_fault
 use Rattle.pb_commands.proofs.Judging.{no_book_fails, no_book_put, no_table_fails, no_table_put, only_text, refusal_fails, refusal_put, text_as}
 use Rattle.pb_commands.proofs.OneProbe.{probe_is_one}
-use Rattle.pb_commands.proofs.Told.{no_endless, no_fault, told_book, told_no_book, told_no_table, told_table}
+use Rattle.pb_poly.proofs.ToldReads.{no_endless, no_fault}
+use Rattle.pb_commands.proofs.Told.{told_book, told_no_book, told_no_table, told_table}
 
 module _ (fills : ℕ) (t t' b b' : SourceState) (fen : List ℕ) (sink sink' : SinkState) where
   abbrev judges : Bool → List ℕ → Type 0

@@ -1,24 +1,17 @@
 -- What is read from a source that tells its bytes.
 use Rattle.std.proofs.Common.{◌≡◌, ◌∙◌, ℕ, ◌≤◌, Bool, List, ◌++◌, Some, ap, append_assoc, arith, length, length-append, subst, sym}
-use Rattle.pb_poly.proofs.Told.{all_came as came_whole, consumed}
+use Rattle.pb_poly.proofs.ToldReads.{all_came, came_first}
 use Rattle.pb_io.specs.Source.{SourceState}
 use Rattle.pb_poly.specs.Book.{BookBytes}
-use Rattle.pb_poly.specs.Reading.{ReadsBook, Splits, Tells}
-use Rattle.pb_io.specs.Reads.{Reads, ReadsAll, ReadsOn, ReadsToFault}
-use Rattle.pb_poly.specs.Table.{IsDueTable}
+use Rattle.pb_poly.specs.Reading.{ReadsBook, Splits}
+use Rattle.pb_poly.specs.Table.{IsDueTable, IsTableFile, table_limit}
+use Rattle.pb_poly.specs.TableReading.{ReadsTable}
 use Rattle.pb_poly.specs.declared.entry.Entry.{Entry}
 use Rattle.pb_poly.specs.declared.table.TableError.TheVariants as poly
 use Rattle.pb_commands.specs.BookShown.{BookRefused, BookShown, IsBookFile}
 use Rattle.pb_commands.specs.BookRun.{JudgesBook, RefusesBook}
-use Rattle.pb_commands.specs.TableReading.{ReadsTable, RefusesTable}
-use Rattle.pb_commands.specs.TableShown.{IsTableFile, TableRefused, table_limit}
-
-module _ (room fills : ℕ) (old new : SourceState) (bytes : List ℕ) (told : old.to_come ≡ Some bytes) where
-  pub came_first : (came : List ℕ) → Reads room fills old new came → (rest : List ℕ) × (bytes ≡ came ++ rest)
-  came_first came h = let c = consumed old.to_come new.to_come bytes came told h.bytes in (c.0, c.2)
-
-  pub all_came : (came : List ℕ) → ReadsAll room fills old new came → bytes ≡ came
-  all_came came h = came_whole old.to_come new.to_come bytes came told h.some.reads.bytes h.ended
+use Rattle.pb_commands.specs.TableRun.{RefusesTable}
+use Rattle.pb_commands.specs.TableShown.{TableRefused}
 
 module _ (fills : ℕ) (old new : SourceState) (bytes : List ℕ) (told : old.to_come ≡ Some bytes) where
   -- ---- books
@@ -79,14 +72,3 @@ module _ (fills : ℕ) (old new : SourceState) (bytes : List ℕ) (told : old.to
   pub told_shown : (answer : Bool) (out : List ℕ) → JudgesBook fills old new answer out → BookShown bytes answer out
   told_shown answer out (JudgesBook.shown entries h answered is) = BookShown.shown entries (told_book entries h) answered is
   told_shown answer out (JudgesBook.refused h answered) = BookShown.refused (told_no_book out h) answered
-
--- ---- a source that tells its bytes, doesn't fail and ends within the fills
-
-module _ (room fills : ℕ) (old new : SourceState) (bytes : List ℕ) (tells : Tells fills old new bytes) where
-  pub no_fault : (came : List ℕ) → ReadsToFault room fills old new came → ⊥
-  no_fault came h = cc (sym h.fails ∙ tells.works)
-
-  pub no_endless : (came : List ℕ) → ReadsOn room fills old new came → ⊥
-  no_endless came h =
-      let c = came_first room fills old new bytes tells.told came h.reads in
-      omega (arith, h.many, tells.ends, ap length c.1, length-append came c.0)

@@ -14,6 +14,8 @@ pub mod Rewriter
 pub mod Shows
 pub mod ShowsRefusal
 pub mod Status
-pub mod TableFilling
-pub mod TableReading
+pub mod TableRun
 pub mod TableShown
+pub use Rattle.pb_poly.specs.TableFilling
+pub use Rattle.pb_poly.specs.TableReading
+pub use Rattle.pb_poly.specs.declared.table_file.TableFault

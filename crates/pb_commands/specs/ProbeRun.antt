@@ -9,11 +9,12 @@ use Rattle.pb_io.specs.Source.{SourceState}
 use Rattle.pb_poly.specs.Reading.{FindsNoBook, ReadsBook}
 use Rattle.pb_commands.specs.declared.fault.Fault.{Fault}
 use Rattle.pb_commands.specs.declared.fault.Fault.TheVariants.{Read, Write, Endless, Memory}
-use Rattle.pb_commands.specs.declared.table.TableFault.{TableFault}
-use Rattle.pb_commands.specs.declared.table.TableFault.TheVariants as table
+use Rattle.pb_poly.specs.declared.table_file.TableFault.{TableFault}
+use Rattle.pb_poly.specs.declared.table_file.TableFault.TheVariants as table
 use Rattle.pb_commands.specs.BookRun.{RefusesBook}
 use Rattle.pb_commands.specs.ProbeShown.{FenProbed}
-use Rattle.pb_commands.specs.TableReading.{FindsNoTable, ReadsTable, RefusesTable}
+use Rattle.pb_poly.specs.TableReading.{FindsNoTable, ReadsTable}
+use Rattle.pb_commands.specs.TableRun.{RefusesTable}
 
 -- Below, `t` and `t'` are the states of the table's source, `b` and `b'` those of the book's.
 

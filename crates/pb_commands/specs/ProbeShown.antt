@@ -11,7 +11,8 @@ use Rattle.pb_poly.specs.declared.entry.Entry.{Entry}
 use Rattle.pb_poly.specs.Found.{Found}
 use Rattle.pb_commands.specs.BookShown.{BookRefused, IsBookFile}
 use Rattle.pb_commands.specs.Refused.{fen_line}
-use Rattle.pb_commands.specs.TableShown.{IsTableFile, TableRefused}
+use Rattle.pb_poly.specs.Table.{IsTableFile}
+use Rattle.pb_commands.specs.TableShown.{TableRefused}
 
 -- the move and its weight, a space between
 abbrev pub found_line : Moved × ℕ → List ℕ

@@ -5,8 +5,8 @@ use Rattle.pb_poly.specs.declared.reading.BookError.{BookError}
 use Rattle.pb_poly.specs.declared.reading.BookError.TheVariants as book
 use Rattle.pb_commands.specs.declared.fault.Fault.{Fault}
 use Rattle.pb_commands.specs.declared.fault.Fault.TheVariants.{Read, Endless, Memory}
-use Rattle.pb_commands.specs.declared.table.TableFault.{TableFault}
-use Rattle.pb_commands.specs.declared.table.TableFault.TheVariants as table
+use Rattle.pb_poly.specs.declared.table_file.TableFault.{TableFault}
+use Rattle.pb_poly.specs.declared.table_file.TableFault.TheVariants as table
 use Rattle.pb_commands.specs.BookShown.{cut_line, unsorted_line}
 use Rattle.pb_commands.specs.Shows.{Shows}
 use Rattle.pb_commands.specs.TableShown.{count_line, unspelled_line, long_line}

@@ -1,5 +1,5 @@
 //! The commands of `pbook` that need no ledger, as functions over the ends that they are handed, and what every command shares: its
-//! faults, its exit status, and the reading and refusing of a table file. Nothing here knows the command line or a game.
+//! faults, its exit status, and the line that refuses a table file. Nothing here knows the command line or a game.
 #![tactic(auto)]
 
 mod epd;
@@ -10,11 +10,11 @@ mod output;
 mod probe;
 mod refusal;
 mod show;
-mod table;
 
 pub use epd::run_epd;
 pub use fault::{Fault, status};
 pub use fen::run_fen;
+pub use pb_poly::{TableFault, take_table};
 pub use probe::run_probe;
+pub use refusal::refuse_table;
 pub use show::run_show;
-pub use table::{TableFault, refuse_table, take_table};

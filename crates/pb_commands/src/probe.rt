@@ -11,12 +11,11 @@ ghost use Rattle.pb_commands.specs.declared.fault.Fault.TheVariants.{Memory};
 
 use crate::fault::Fault;
 use crate::output::put_line;
-use crate::refusal::{refuse, refuse_book};
-use crate::table::{refuse_table, take_table};
+use crate::refusal::{refuse, refuse_book, refuse_table};
 use itoa::Buffer;
 use pb_board::read_fen;
 use pb_moves::Move;
-use pb_poly::{Failed, Sink, Source, probe, read_book};
+use pb_poly::{Failed, Sink, Source, probe, read_book, take_table};
 use std::alloc::Global;
 
 /// Shows the moves that a book has for a record's setup, each with its weight in decimal, in the book's order. The table of

@@ -2,12 +2,12 @@
 ghost use Rattle.std.specs.Prelude.{◌++◌, decimal};
 ghost use Rattle.pb_board.specs.LineEnd.{with_end};
 ghost use Rattle.pb_commands.specs.Line.{parts_joined};
-ghost use Rattle.pb_commands.specs.ShowsRefusal.{ShowsRefusal, RefusesForBook};
+ghost use Rattle.pb_commands.specs.ShowsRefusal.{ShowsRefusal, RefusesForBook, RefusesForTable};
 
 use crate::fault::Fault;
 use crate::output::show_line;
 use itoa::Buffer;
-use pb_poly::{BookError, Sink};
+use pb_poly::{BookError, Sink, TableFault};
 
 /// Shows the line of these parts and answers that the input was refused.
 pub(crate) fn refuse<K: Sink>(sink: &mut K, parts: &[&[u8]]) -> Result<bool, Fault>
@@ -36,5 +36,20 @@ pub(crate) fn refuse_book<K: Sink>(sink: &mut K, error: BookError) -> Result<boo
         BookError::Read => Err(Fault::Read),
         BookError::Endless => Err(Fault::Endless),
         BookError::Memory => Err(Fault::Memory),
+    }
+}
+
+/// Shows why a table file is refused, `refused table` and `long`, or `line` or `count` and its number, and answers false; or puts
+/// nothing, and answers the fault that ended its reading.
+pub fn refuse_table<K: Sink>(sink: &mut K, error: TableFault) -> Result<bool, Fault>
+    ensures { RefusesForTable (K.state sink.old) (K.state sink.new) result error }
+{
+    match error {
+        TableFault::Long => refuse(sink, &[b"refused table long"]),
+        TableFault::Line(number) => refuse_with(sink, b"refused table line ", number),
+        TableFault::Count(count) => refuse_with(sink, b"refused table count ", count),
+        TableFault::Read => Err(Fault::Read),
+        TableFault::Endless => Err(Fault::Endless),
+        TableFault::Memory => Err(Fault::Memory),
     }
 }

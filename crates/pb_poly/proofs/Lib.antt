@@ -8,10 +8,13 @@ pub mod Finding
 pub mod KeyChanges
 pub mod KeyPlies
 pub mod Keys
+pub mod OnlyTables
 pub mod Parity
 pub mod Places
 pub mod Runs
+pub mod TableFills
 pub mod Tables
 pub mod Told
+pub mod ToldReads
 pub use Rattle.pb_io.proofs.LineLemmas
 pub use Rattle.pb_io.proofs.ReadsLemmas

@@ -9,6 +9,8 @@ pub mod KeyChange
 pub mod Ordered
 pub mod Reading
 pub mod Table
+pub mod TableFilling
+pub mod TableReading
 pub use Rattle.pb_io.specs.Count
 pub use Rattle.pb_io.specs.LineTask
 pub use Rattle.pb_io.specs.Lines

@@ -39,6 +39,15 @@ pub record TableText (words : List ℕ) (bytes : List ℕ) : Type 0 where
   pub all : length words ≡ 781
   pub each : AllZip SpellsWord (lines bytes) words
 
+-- the most bytes that a table file may have
+abbrev pub table_limit : ℕ
+table_limit = 16384
+
+-- the same where a table is read from a source
+pub record IsTableFile (words bytes : List ℕ) : Type 0 where
+  pub few : length bytes ≤ table_limit
+  pub text : TableText words bytes
+
 -- the line of this number, from 1, spells no word, and each line before it does
 pub record IsFirstUnspelled (number : ℕ) (bytes : List ℕ) : Type 0 where
   pub before : List (List ℕ)

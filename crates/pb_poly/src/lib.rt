@@ -11,6 +11,7 @@ mod key_change;
 pub mod laws;
 mod reading;
 mod table;
+mod table_file;
 
 pub use book::{Book, write_book};
 pub use code::{code_of, move_of};
@@ -24,3 +25,4 @@ pub use pb_io::{
 };
 pub use reading::{BookError, read_book};
 pub use table::{Table, TableError, read_table};
+pub use table_file::{TableFault, take_table};

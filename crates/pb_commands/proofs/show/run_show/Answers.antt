@@ -7,7 +7,8 @@ use Rattle.pb_commands.specs.BookRun.{JudgesBook, StopsBook, refused, shown}
 use Rattle.pb_commands.specs.BookShown.{BookShown}
 use Rattle.pb_commands.proofs.Judging.{no_book_fails, no_book_put, only_text, text_fails, told_as}
 use Rattle.pb_commands.proofs.OneBook.{shown_is_one}
-use Rattle.pb_commands.proofs.Told.{no_endless, no_fault, told_shown}
+use Rattle.pb_poly.proofs.ToldReads.{no_endless, no_fault}
+use Rattle.pb_commands.proofs.Told.{told_shown}
 use Rattle.pb_commands.proofs.show.run_show.Goals as goal
 
 pub returns-in_err-show_entries-in-Ok-clause-fault : goal.returns-in_err-show_entries-in-Ok-clause-fault

@@ -1,5 +1,5 @@
-use Rattle.pb_commands.proofs.OnlyTables.{only_table}
-use Rattle.pb_commands.proofs.table.take_table.Goals as goal
+use Rattle.pb_poly.proofs.OnlyTables.{only_table}
+use Rattle.pb_poly.proofs.table_file.take_table.Goals as goal
 
 pub returns-clause-only : goal.returns-clause-only
 returns-clause-only g c words bytes tells is =

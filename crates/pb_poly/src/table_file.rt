@@ -2,15 +2,13 @@
 ghost use Rattle.std.specs.Prelude.{◌≡◌, ℕ, ◌<◌, ◌≤◌, List, [], IfErr, IfOk, MatchResult, OnOk, length};
 ghost use Rattle.pb_poly.specs.Reading.{Tells};
 ghost use Rattle.pb_io.specs.Reads.{ReadsAll};
-ghost use Rattle.pb_commands.specs.ShowsRefusal.{RefusesForTable};
-ghost use Rattle.pb_commands.specs.TableFilling.{FillsTable};
-ghost use Rattle.pb_commands.specs.TableReading.{FindsNoTable, ReadsTable};
-ghost use Rattle.pb_commands.specs.TableShown.{IsTableFile, table_limit};
-ghost use Rattle.pb_commands.specs.declared.table.TableFault.TheVariants.{Memory};
+ghost use Rattle.pb_poly.specs.Table.{IsTableFile, table_limit};
+ghost use Rattle.pb_poly.specs.TableFilling.{FillsTable};
+ghost use Rattle.pb_poly.specs.TableReading.{FindsNoTable, ReadsTable};
+ghost use Rattle.pb_poly.specs.declared.table_file.TableFault.TheVariants.{Memory};
 
-use crate::fault::Fault;
-use crate::refusal::{refuse, refuse_with};
-use pb_poly::{Sink, Source, Table, TableError, read_table};
+use crate::table::{Table, TableError, read_table};
+use pb_io::Source;
 use std::alloc::{AllocError, Global};
 use std::marker::Model;
 
@@ -43,7 +41,7 @@ struct TableBytes {
 
 impl Model for TableBytes {
     ghost use Rattle.std.specs.Prelude.{◌≡◌, ◌≤◌, ℕ, List, length, take};
-    ghost use Rattle.pb_commands.specs.TableShown.{table_limit};
+    ghost use Rattle.pb_poly.specs.Table.{table_limit};
 
     ghost Value = { List ℕ };
 
@@ -155,19 +153,4 @@ pub fn take_table<S: Source>(alloc: Global, source: &mut S, fills: u32) -> Resul
         return Err(TableFault::Memory);
     };
     held.read(alloc, source, fills)
-}
-
-/// Shows why a table file is refused, `refused table` and `long`, or `line` or `count` and its number, and answers false; or puts
-/// nothing, and answers the fault that ended its reading.
-pub fn refuse_table<K: Sink>(sink: &mut K, error: TableFault) -> Result<bool, Fault>
-    ensures { RefusesForTable (K.state sink.old) (K.state sink.new) result error }
-{
-    match error {
-        TableFault::Long => refuse(sink, &[b"refused table long"]),
-        TableFault::Line(number) => refuse_with(sink, b"refused table line ", number),
-        TableFault::Count(count) => refuse_with(sink, b"refused table count ", count),
-        TableFault::Read => Err(Fault::Read),
-        TableFault::Endless => Err(Fault::Endless),
-        TableFault::Memory => Err(Fault::Memory),
-    }
 }

@@ -1,7 +1,7 @@
 use Rattle.std.proofs.Common.{length, ◌≤◌}
 use Rattle.pb_io.specs.Reads.{ReadsOn}
-use Rattle.pb_commands.specs.TableShown.{table_limit}
-use Rattle.pb_commands.proofs.table.TableBytes.drain.Given as goal
+use Rattle.pb_poly.specs.Table.{table_limit}
+use Rattle.pb_poly.proofs.table_file.TableBytes.drain.Given as goal
 
 -- the source reads on, and what came is held
 abbrev pub invariant-loop-made : goal.invariant-loop-made

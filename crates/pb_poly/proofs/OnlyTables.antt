@@ -4,15 +4,14 @@ use Rattle.std.specs.Prelude.{IfErr, IfOk, MatchResult}
 use Rattle.pb_io.specs.Source.{SourceState}
 use Rattle.pb_io.specs.Lines.{lines}
 use Rattle.pb_poly.specs.Reading.{Tells}
-use Rattle.pb_poly.specs.Table.{IsDueTable}
+use Rattle.pb_poly.specs.Table.{IsDueTable, IsTableFile, table_limit}
 use Rattle.pb_poly.specs.declared.table.TableError.{TableError}
 use Rattle.pb_poly.specs.declared.table.TableError.TheVariants as poly
 use Rattle.pb_poly.proofs.Tables.{only_memory, words_are_one}
-use Rattle.pb_commands.specs.declared.table.TableFault.{TableFault}
-use Rattle.pb_commands.specs.declared.table.TableFault.TheVariants.{Long, Line, Count, Read, Endless, Memory}
-use Rattle.pb_commands.specs.TableReading.{FindsNoTable, ReadsTable}
-use Rattle.pb_commands.specs.TableShown.{IsTableFile, table_limit}
-use Rattle.pb_commands.proofs.Told.{all_came, came_first, no_endless, no_fault}
+use Rattle.pb_poly.specs.declared.table_file.TableFault.{TableFault}
+use Rattle.pb_poly.specs.declared.table_file.TableFault.TheVariants.{Long, Line, Count, Read, Endless, Memory}
+use Rattle.pb_poly.specs.TableReading.{FindsNoTable, ReadsTable}
+use Rattle.pb_poly.proofs.ToldReads.{all_came, came_first, no_endless, no_fault}
 
 pub tables_are_one : (words others bytes : List ℕ) → IsTableFile words bytes → IsTableFile others bytes → words ≡ others
 tables_are_one words others bytes h k = words_are_one (lines bytes) words others h.text.each k.text.each

@@ -1,7 +1,7 @@
 use Rattle.std.proofs.Common.{List, ℕ, subst}
 use Rattle.pb_poly.specs.Table.{IsDueTable}
 use Rattle.pb_poly.specs.declared.table.TableError.TheVariants as poly
-use Rattle.pb_commands.proofs.table.TableBytes.read.Goals as goal
+use Rattle.pb_poly.proofs.table_file.TableBytes.read.Goals as goal
 
 pub returns-in-Err-Count-clause-err : goal.returns-in-Err-Count-clause-err
 returns-in-Err-Count-clause-err g c = record {

@@ -2,9 +2,9 @@ use Rattle.std.proofs.Common.{arith, length, ◌≤◌, ◌≡◌, [], List, ℕ
 use Rattle.std.proofs.lemmas.Result.{err_from_is_err_and}
 use Rattle.pb_io.specs.Reads.{ReadsOn}
 use Rattle.pb_io.proofs.ReadsLemmas.{ReadsOn-none}
-use Rattle.pb_commands.specs.TableShown.{table_limit}
-use Rattle.pb_commands.proofs.TableFills.{fill_fails, holds_all, holds_more}
-use Rattle.pb_commands.proofs.table.TableBytes.drain.Goals as goal
+use Rattle.pb_poly.specs.Table.{table_limit}
+use Rattle.pb_poly.proofs.TableFills.{fill_fails, holds_all, holds_more}
+use Rattle.pb_poly.proofs.table_file.TableBytes.drain.Goals as goal
 
 pub loop-made-init : goal.loop-made-init
 loop-made-init g c =

@@ -2,12 +2,11 @@
 use Rattle.std.specs.Prelude.{◌≡◌, ℕ, ◌<◌, ◌≤◌, ◌⊎◌, List, length}
 use Rattle.pb_io.specs.Source.{SourceState}
 use Rattle.pb_io.specs.Reads.{ReadsAll, ReadsOn, ReadsSome, ReadsToFault}
-use Rattle.pb_poly.specs.Table.{IsDueTable}
+use Rattle.pb_poly.specs.Table.{IsDueTable, IsTableFile, table_limit}
 use Rattle.pb_poly.specs.declared.table.TableError.{TableError}
 use Rattle.pb_poly.specs.declared.table.TableError.TheVariants as poly
-use Rattle.pb_commands.specs.declared.table.TableFault.{TableFault}
-use Rattle.pb_commands.specs.declared.table.TableFault.TheVariants.{Long, Line, Count, Read, Endless, Memory}
-use Rattle.pb_commands.specs.TableShown.{IsTableFile, long_line, count_line, unspelled_line, table_limit}
+use Rattle.pb_poly.specs.declared.table_file.TableFault.{TableFault}
+use Rattle.pb_poly.specs.declared.table_file.TableFault.TheVariants.{Long, Line, Count, Read, Endless, Memory}
 
 -- the stream is the table file of these words and no more
 pub record ReadsTable (fills : ℕ) (old new : SourceState) (words : List ℕ) : Type 0 where
@@ -48,9 +47,3 @@ FindsNoTable fills old new (Count count) = FindsDue fills old new (poly.Count co
 FindsNoTable fills old new Read = FindsTableFault fills old new
 FindsNoTable fills old new Endless = FindsNoEnd fills old new
 FindsNoTable fills old new Memory = (new ≡ old) ⊎ FindsDue fills old new poly.Memory
-
--- the stream is refused as a table file, and this line says why
-pub data RefusesTable (fills : ℕ) (old new : SourceState) (out : List ℕ) : Type 0 where
-  long : FindsNoTable fills old new Long → out ≡ long_line → RefusesTable fills old new out
-  line : (number : ℕ) → FindsNoTable fills old new (Line number) → out ≡ unspelled_line number → RefusesTable fills old new out
-  count : (count : ℕ) → FindsNoTable fills old new (Count count) → out ≡ count_line count → RefusesTable fills old new out

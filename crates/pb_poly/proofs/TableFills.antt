@@ -4,11 +4,11 @@ use Rattle.pb_io.specs.Source.{Fill, SourceState}
 use Rattle.pb_io.specs.Reads.{ReadsAll, ReadsOn}
 use Rattle.pb_io.specs.declared.source.Failed.{Failed}
 use Rattle.pb_io.proofs.ReadsLemmas.{ReadsAll-more, ReadsOn-more, ReadsSome-more, ReadsToFault-more}
-use Rattle.pb_commands.specs.declared.table.TableFault.{TableFault}
-use Rattle.pb_commands.specs.declared.table.TableFault.TheVariants.{Long, Line, Count, Read, Endless, Memory}
-use Rattle.pb_commands.specs.TableFilling.{FillsTable, HoldsMore}
-use Rattle.pb_commands.specs.TableReading.{FindsNoTable}
-use Rattle.pb_commands.specs.TableShown.{table_limit}
+use Rattle.pb_poly.specs.declared.table_file.TableFault.{TableFault}
+use Rattle.pb_poly.specs.declared.table_file.TableFault.TheVariants.{Long, Line, Count, Read, Endless, Memory}
+use Rattle.pb_poly.specs.TableFilling.{FillsTable, HoldsMore}
+use Rattle.pb_poly.specs.TableReading.{FindsNoTable}
+use Rattle.pb_poly.specs.Table.{table_limit}
 
 -- after n fills these bytes are held
 module _ (n : ℕ) (old mid new : SourceState) (held : List ℕ) (on : ReadsOn table_limit n old mid held) where
