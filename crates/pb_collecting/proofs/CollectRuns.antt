@@ -1,18 +1,16 @@
 -- How a run of the command `collect` ends, from what its parts do.
 use Rattle.std.proofs.Common.{◌≡◌, ℕ, Bool, List, Option, Some, None, Result, Ok, Err, false, refl, subst, sym, true}
-use Rattle.std.specs.Prelude.{IfErr, IfOk}
 use Rattle.pb_io.specs.Source.{SourceState}
 use Rattle.pb_io.specs.Sink.{SinkState}
 use Rattle.pb_poly.specs.declared.entry.Entry.{Entry}
 use Rattle.pb_ledger.specs.Counting.{IsBook}
 use Rattle.pb_ledger.specs.Ledger.{LedgerState}
-use Rattle.pb_commands.specs.Judged.{PutsText, PutsUntil}
+use Rattle.pb_commands.specs.Judged.{PutsOrEnds, PutsText}
 use Rattle.pb_commands.specs.ShowsRefusal.{RefusesForTable}
 use Rattle.pb_poly.specs.TableReading.{FindsNoTable}
 use Rattle.pb_commands.specs.declared.fault.Fault.{Fault}
 use Rattle.pb_poly.specs.declared.table_file.TableFault.{TableFault}
-use Rattle.pb_poly.specs.declared.table_file.TableFault.TheVariants as table
-use Rattle.pb_commands.proofs.Judging.{no_table_fails, no_table_put}
+use Rattle.pb_commands.proofs.Judging.{no_table}
 use Rattle.pb_commands.proofs.Told.{told_no_table}
 use Rattle.pb_collecting.specs.CollectRun.{CollectsBook, EndsCollect, JudgesTable, StopsTable, TellsCollect, at_submissions, at_table}
 use Rattle.pb_collecting.specs.Taking.{FillsLedger, RefusesGames, StopsTaking, TakesOrStops}
@@ -29,13 +27,9 @@ module _ (fills : ℕ) (t t' s s' : SourceState) (sink sink' : SinkState) where
   abbrev stops : Fault → Type 0
   stops = StopsTable fills t t' s s'
 
-  pub refused_put : s' ≡ s → (result : Result Bool Fault) (e : TableFault) → FindsNoTable fills t t' e → RefusesForTable sink sink' result e → IfOk result (PutsText judges sink sink')
-  refused_put same result e h r =
-      no_table_put judges stops sink sink' fills t t' (λ out x. record { refused = x; unread = same; answered = refl }) (λ x. (x, same)) (λ x. (x, same)) (λ x. (x, same)) result e h r
-
-  pub refused_fails : s' ≡ s → (result : Result Bool Fault) (e : TableFault) → FindsNoTable fills t t' e → RefusesForTable sink sink' result e → IfErr result (PutsUntil judges stops sink sink')
-  refused_fails same result e h r =
-      no_table_fails judges stops sink sink' fills t t' (λ out x. record { refused = x; unread = same; answered = refl }) (λ x. (x, same)) (λ x. (x, same)) (λ x. (x, same)) result e h r
+  pub table_ends : s' ≡ s → (result : Result Bool Fault) (e : TableFault) → FindsNoTable fills t t' e → RefusesForTable sink sink' result e → PutsOrEnds judges stops sink sink' result
+  table_ends same result e h r =
+      no_table judges stops sink sink' fills t t' (λ out x. record { refused = x; unread = same; answered = refl }) (λ x. (x, same)) (λ x. (x, same)) (λ x. (x, same)) result e h r
 
   -- the answer of a text that was put is that of a refusal
   pub put_refused : (answer : Bool) → PutsText judges sink sink' answer → PutsText judges sink sink' false
@@ -49,18 +43,9 @@ module _ (fills : ℕ) (t t' s s' : SourceState) (sink sink' : SinkState) where
   tells_refused h = refused_told t.to_come s.to_come refl h
 
   -- the line that refuses the table was put and handed on
-  hands_on : (answer : Bool) (e : TableFault) → RefusesForTable sink sink' (Ok answer) e → (sink'.failed ≡ false) × (sink'.flushed ≡ true)
-  hands_on answer table.Long r = r.shows.handed_on
-  hands_on answer (table.Line n) r = r.shows.handed_on
-  hands_on answer (table.Count n) r = r.shows.handed_on
-  hands_on answer table.Read r = absurd (cc r.answered)
-  hands_on answer table.Endless r = absurd (cc r.answered)
-  hands_on answer table.Memory r = absurd (cc r.answered)
-
   pub refused : s' ≡ s → (answer : Bool) (e : TableFault) → FindsNoTable fills t t' e → RefusesForTable sink sink' (Ok answer) e
       → PutsText judges sink sink' false × (sink'.failed ≡ false) × (sink'.flushed ≡ true)
-  refused same answer e h r =
-      let on = hands_on answer e r in (put_refused answer (refused_put same (Ok answer) e h r), on.0, on.1)
+  refused same answer e h r = let ends = table_ends same (Ok answer) e h r in (put_refused answer ends.0, ends.1, ends.2)
 
   -- no games were taken: `mid` is the state of the sink before that is told
   module _ (mid : SinkState) where
@@ -72,7 +57,7 @@ module _ (fills : ℕ) (t t' s s' : SourceState) (sink sink' : SinkState) where
     pub no_games_fails : (why : NoGames) (fault : Fault) → TakesOrStops fills t t' s s' sink mid (Err why) → RefusesGames mid sink' (Err fault) why
         → EndsCollect fills t t' s s' sink sink' fault
     no_games_fails (Table e) fault h r =
-        at_table (refused_fails h.1 (Err fault) e h.0 (subst (λ (m : SinkState). RefusesForTable m sink' (Err fault) e) h.2 r))
+        at_table (table_ends h.1 (Err fault) e h.0 (subst (λ (m : SinkState). RefusesForTable m sink' (Err fault) e) h.2 r))
     no_games_fails (Submissions e) fault h r =
         at_submissions e (subst (λ (m : SinkState). StopsTaking fills t t' s s' sink m e) (sym r.same) h) (cc r.answered)
 

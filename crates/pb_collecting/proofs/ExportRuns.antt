@@ -16,17 +16,17 @@ use Rattle.pb_collecting.specs.ExportRun.{ExportsAnswered, ExportsOrStops, Stops
 use Rattle.pb_collecting.specs.Taking.{FillsLedger, RefusesGames, TakesOrStops}
 use Rattle.pb_collecting.specs.declared.taking.NoGames.{NoGames}
 use Rattle.pb_collecting.specs.declared.taking.NoGames.TheVariants.{Table, Submissions}
-use Rattle.pb_collecting.proofs.CollectRuns.{refused, refused_fails, refused_put}
+use Rattle.pb_collecting.proofs.CollectRuns.{refused, table_ends}
 
 module _ (fills : ℕ) (t t' s s' : SourceState) (d d' sink sink' : SinkState) where
   -- the table is refused, or a fault ended its reading
   module _ (same : s' ≡ s) (no_reply : d' ≡ d) (e : TableFault) (h : FindsNoTable fills t t' e) where
     no_table : (result : Result Bool Fault) → RefusesForTable sink sink' result e → ExportsOrStops fills t t' s s' d d' sink sink' result
-    no_table (Ok true) r = absurd (cc (refused_put fills t t' s s' sink sink' same (Ok true) e h r).judged.answered)
+    no_table (Ok true) r = absurd (cc (table_ends fills t t' s s' sink sink' same (Ok true) e h r).0.judged.answered)
     no_table (Ok false) r =
         let on = refused fills t t' s s' sink sink' same false e h r in
         record { refused = on.0; no_reply = no_reply; works = on.1; flushed = on.2 }
-    no_table (Err fault) r = at_table (refused_fails fills t t' s s' sink sink' same (Err fault) e h r) no_reply
+    no_table (Err fault) r = at_table (table_ends fills t t' s s' sink sink' same (Err fault) e h r) no_reply
 
   -- no games were taken
   pub no_games : (why : NoGames) → TakesOrStops fills t t' s s' d d' (Err why) → (result : Result Bool Fault) → RefusesGames sink sink' result why

@@ -1,3 +1,4 @@
+mod EpdClauses
 mod Hexadecimals
 pub mod Judging
 mod Lines
@@ -7,5 +8,6 @@ mod OneProbe
 mod Probing
 mod Puts
 mod Rewriting
+mod Showing
 mod Shown
 pub mod Told

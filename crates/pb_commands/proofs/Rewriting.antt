@@ -4,9 +4,14 @@ use Rattle.std.specs.Io.KnownBytes.{Appends}
 use Rattle.std.proofs.Math.Seq.{take-append-add, take-length}
 use Rattle.std.proofs.lemmas.List.{append-nil, append_assoc, length-append}
 use Rattle.std.proofs.KnownBytes.{Appends-nil, Appends-trans, Appends-kept}
+use Rattle.pb_board.specs.LineEnd.{without_return}
+use Rattle.pb_epd.specs.declared.refusal.EpdError.TheVariants as epd
+use Rattle.pb_epd.specs.Epd.{EpdRecord, EpdText, IsEpd}
+use Rattle.pb_epd.specs.Refusal.{IsFirstDueEpd}
+use Rattle.pb_epd.proofs.Texts.{text_not_due}
 use Rattle.pb_io.specs.Source.{SourceState}
 use Rattle.pb_io.specs.Sink.{SinkState, Flush, StillWorks}
-use Rattle.pb_io.specs.Lines.{lines, ended_lines, last_piece, line_at_end}
+use Rattle.pb_io.specs.Lines.{lines, ended_lines, line_limit, last_piece, line_at_end}
 use Rattle.pb_io.specs.Reads.{Reads, ReadsSome}
 use Rattle.pb_io.specs.LineTask.{StopsAtLast, TakesAll, TakesStream, TakesUntil, chunk_len}
 use Rattle.pb_io.specs.declared.lines.LinesFault.{LinesFault}
@@ -17,7 +22,7 @@ use Rattle.pb_io.specs.Count.{next_count}
 use Rattle.pb_commands.specs.declared.epd.Rewriter.{Rewriter}
 use Rattle.pb_commands.specs.declared.epd.Stop.{Stop}
 use Rattle.pb_commands.specs.declared.epd.Stop.TheVariants.{Write, Memory}
-use Rattle.pb_commands.specs.EpdShown.{EpdShown, LineShown}
+use Rattle.pb_commands.specs.EpdShown.{EpdShown, IsBlank, LineShown, MayWant}
 use Rattle.pb_commands.specs.EpdRun.{RewritesToWriteFault}
 use Rattle.pb_commands.specs.Rewriter.{Puts, RewritesAll, RewritesUntilStop, StopsAt, RewritesLine}
 
@@ -27,6 +32,14 @@ pub stops_at : (sink sink' : SinkState) (number : ℕ) (line : List ℕ) (taken 
 stops_at sink sink' number line taken out Write shown puts =
     record { taken = taken; out = out; shown = shown; count = puts.0.0; put = puts.0.1; fails = puts.1 }
 stops_at sink sink' number line taken out Memory shown puts = absurd puts
+
+-- want of memory comes first of a record's text, and so at the line that has this text
+pub wants_at : (line text : List ℕ) (e : EpdRecord) → text ≡ without_return line → length line ≤ line_limit → ¬ IsBlank (without_return line) → IsEpd e → EpdText e text → MayWant line
+wants_at line text e same short full lawful spells = record {
+  short = short;
+  full = full;
+  due = subst (λ (x : List ℕ). IsFirstDueEpd epd.Memory x) same (record { due = tt; first = λ y other lt. text_not_due e text lawful spells y other });
+}
 
 and_true : (a : Bool) → a ≡ (a && true)
 and_true true = refl
@@ -152,11 +165,12 @@ module _ {K : Type 0} (state : K → SinkState) where
     shown : EpdShown (s.lines + 1) before answer out
     put : Appends (state s.sink.now).bytes (state t.sink.now).bytes out
     works : StillWorks (state s.sink.now).failed (state t.sink.now).failed
+    wants : MayWant last
 
   stopped_of : (s t : Rewriter K) (ls : List (List ℕ)) → s.lines + length ls < 2 ^ 64 → StopsAtLast (RewritesLine state) s ls Memory t → Stopped s t ls
   stopped_of s t ls few h =
       let run = run_of s h.2 h.0 (omega (arith, fewer s ls h.0 h.1 few h.3)) h.4 in
-      let same : state h.2.sink.now ≡ state t.sink.now = sym h.5.shows in record {
+      let same : state h.2.sink.now ≡ state t.sink.now = sym h.5.shows.0 in record {
         before = h.0;
         last = h.1;
         cut = sym h.3;
@@ -165,6 +179,7 @@ module _ {K : Type 0} (state : K → SinkState) where
         shown = run.shown;
         put = subst (λ (x : SinkState). Appends (state s.sink.now).bytes x.bytes run.out) same run.put;
         works = subst (λ (x : SinkState). StillWorks (state s.sink.now).failed x.failed) same run.works;
+        wants = h.5.shows.1;
       }
 
   same_at_stop : (s t : Rewriter K) (ls : List (List ℕ)) (e : Stop) → s.lines + length ls < 2 ^ 64 → StopsAtLast (RewritesLine state) s ls e t → t.sink.ghost_name ≡ s.sink.ghost_name
@@ -265,7 +280,7 @@ module _ {K : Type 0} (state : K → SinkState) where
           | inl now ↦
               let stopped = stopped_of s t (ended_lines h.came) (few_ended h.came h.rest h.reads.reads) now in record {
                 before = stopped.before;
-                are = inr (record { came = h.came; rest = h.rest; reads = h.reads; last = stopped.last; are = inl stopped.cut });
+                are = inr (record { came = h.came; rest = h.rest; reads = h.reads; last = stopped.last; are = inl stopped.cut; wants = stopped.wants });
                 answer = stopped.answer;
                 rewrites = record { out = stopped.out; shown = from_one stopped.before stopped.answer stopped.out stopped.shown; put = stopped.put };
                 source_works = λ _. h.reads.works;
@@ -274,7 +289,7 @@ module _ {K : Type 0} (state : K → SinkState) where
           | inr end ↦
               let stopped = stopped_of s t (lines h.came) (few h.came end.0.some.reads) end.1 in record {
                 before = stopped.before;
-                are = inr (record { came = h.came; rest = h.rest; reads = h.reads; last = stopped.last; are = inr (end.0, stopped.cut) });
+                are = inr (record { came = h.came; rest = h.rest; reads = h.reads; last = stopped.last; are = inr (end.0, stopped.cut); wants = stopped.wants });
                 answer = stopped.answer;
                 rewrites = record { out = stopped.out; shown = from_one stopped.before stopped.answer stopped.out stopped.shown; put = stopped.put };
                 source_works = λ _. h.reads.works;

@@ -1,5 +1,5 @@
 -- How a run of the command `epd` ends, over the states of its source and its sink before and after.
-use Rattle.std.specs.Prelude.{◌≡◌, ℕ, ◌⊎◌, Bool, true, false, List, ◌∷◌, ◌++◌, take, Some, IfSome, []}
+use Rattle.std.specs.Prelude.{◌≡◌, ℕ, ◌⊎◌, Bool, true, false, List, ◌∷◌, ◌++◌, take, Some, IfSome, [], Result, Ok, Err}
 use Rattle.std.specs.Io.KnownBytes.{Appends}
 use Rattle.pb_io.specs.Source.{SourceState}
 use Rattle.pb_io.specs.Sink.{SinkState, StillWorks}
@@ -8,7 +8,7 @@ use Rattle.pb_io.specs.LineTask.{chunk_len}
 use Rattle.pb_io.specs.Lines.{lines, ended_lines}
 use Rattle.pb_commands.specs.declared.fault.Fault.{Fault}
 use Rattle.pb_commands.specs.declared.fault.Fault.TheVariants.{Read, Write, Endless, Memory}
-use Rattle.pb_commands.specs.EpdShown.{EpdShown}
+use Rattle.pb_commands.specs.EpdShown.{EpdShown, MayWant}
 
 -- the lines, from the first on, gave this answer, and what they give was put
 pub record Rewrites (sink sink' : SinkState) (ls : List (List ℕ)) (answer : Bool) : Type 0 where
@@ -59,13 +59,14 @@ pub record RewritesToWriteFault (fills : ℕ) (source source' : SourceState) (si
   pub put : Appends sink.bytes sink'.bytes (take count out)
   pub fails : sink'.failed ≡ true
 
--- lines that came, but for the last of them
+-- lines that came, but for the last of them, at which memory was wanting
 pub record AllButLast (fills : ℕ) (source source' : SourceState) (before : List (List ℕ)) : Type 0 where
   pub came : List ℕ
   pub rest : List ℕ
   pub reads : ReadsSome chunk_len fills source source' (came ++ rest)
   pub last : List ℕ
   pub are : (before ++ last ∷ [] ≡ ended_lines came) ⊎ (ReadsAll chunk_len fills source source' came × (before ++ last ∷ [] ≡ lines came))
+  pub wants : MayWant last
 
 -- memory was wanting, before the first fill or at a line: the lines before it were rewritten
 pub record RewritesToMemory (fills : ℕ) (source source' : SourceState) (sink sink' : SinkState) : Type 0 where
@@ -81,3 +82,8 @@ RewritesUntil fills source source' sink sink' Read = RewritesToReadFault fills s
 RewritesUntil fills source source' sink sink' Endless = RewritesEndless fills source source' sink sink'
 RewritesUntil fills source source' sink sink' Write = RewritesToWriteFault fills source source' sink sink'
 RewritesUntil fills source source' sink sink' Memory = RewritesToMemory fills source source' sink sink'
+
+-- how a run ends
+abbrev pub RewritesOrEnds : ℕ → SourceState → SourceState → SinkState → SinkState → Result Bool Fault → Type 0
+RewritesOrEnds fills source source' sink sink' (Ok answer) = RewritesStream fills source source' sink sink' answer
+RewritesOrEnds fills source source' sink sink' (Err fault) = RewritesUntil fills source source' sink sink' fault

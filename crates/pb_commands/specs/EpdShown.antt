@@ -43,3 +43,9 @@ EpdShown number [] answer out = (answer ≡ true) × (out ≡ [])
 EpdShown number (line ∷ lines) answer out =
     (taken others : Bool) × (first rest : List ℕ) × LineShown number line taken first × EpdShown (number + 1) lines others rest
     × (answer ≡ (taken && others)) × (out ≡ first ++ rest)
+
+-- want of memory may end a run at this line: it is neither long nor blank, has no bad token, and begins with four words
+pub record MayWant (line : List ℕ) : Type 0 where
+  pub short : length line ≤ line_limit
+  pub full : ¬ IsBlank (without_return line)
+  pub due : IsFirstDueEpd epd.Memory (without_return line)

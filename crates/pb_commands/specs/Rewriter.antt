@@ -12,7 +12,7 @@ use Rattle.pb_io.specs.Count.{next_count}
 use Rattle.pb_commands.specs.declared.epd.Rewriter.{Rewriter}
 use Rattle.pb_commands.specs.declared.epd.Stop.{Stop}
 use Rattle.pb_commands.specs.declared.epd.Stop.TheVariants.{Write, Memory}
-use Rattle.pb_commands.specs.EpdShown.{LineShown}
+use Rattle.pb_commands.specs.EpdShown.{LineShown, MayWant}
 use Rattle.pb_commands.specs.EpdRun.{Rewrites, RewritesEndless, RewritesToMemory, RewritesToReadFault, RewritesToWriteFault}
 
 -- these bytes were put, or the sink has failed and a front of them was
@@ -39,7 +39,7 @@ pub record FailsAtLine (sink sink' : SinkState) (number : ℕ) (line : List ℕ)
 
 abbrev pub StopsAt : SinkState → SinkState → ℕ → List ℕ → Stop → Type 0
 StopsAt sink sink' number line Write = FailsAtLine sink sink' number line
-StopsAt sink sink' number line Memory = sink' ≡ sink
+StopsAt sink sink' number line Memory = (sink' ≡ sink) × MayWant line
 
 -- what taking the line of this number does to the sink
 abbrev pub LineTaken : SinkState → SinkState → ℕ → List ℕ → Result Bool Stop → Type 0

@@ -3,7 +3,7 @@ ghost use Rattle.std.specs.Prelude.{◌≡◌, ◌≢◌, ◌≤◌, ◌↔◌, 
 ghost use Rattle.pb_board.specs.LineEnd.{with_end};
 ghost use Rattle.pb_epd.specs.declared.refusal.EpdError.TheVariants as epd;
 ghost use Rattle.pb_io.specs.Lines.{line_limit};
-ghost use Rattle.pb_commands.specs.EpdRun.{RewritesStream, RewritesTold, RewritesUntil};
+ghost use Rattle.pb_commands.specs.EpdRun.{RewritesOrEnds, RewritesStream, RewritesTold, RewritesUntil};
 ghost use Rattle.pb_commands.specs.EpdShown.{IsBlank, epd_reason, refused_line};
 ghost use Rattle.pb_commands.specs.Line.{parts_joined};
 ghost use Rattle.pb_commands.specs.Rewriter.{LineTaken, Puts, RewritesAll, RewritesUntilStop};
@@ -77,7 +77,8 @@ impl<K: Sink> Rewriter<'_, K> {
 /// why it is no EPD record. A line of spaces alone is counted and passed over. Answers whether no line was refused.
 ///
 /// A line is refused as `long` past 8,192 bytes; a final CR counts, and is dropped. A piece that no LF ended is taken at the
-/// end of input, and not at a fault. `Memory` comes where a growth found no memory, and ends the run after the lines before.
+/// end of input, and not at a fault. `Memory` comes where a growth found no memory, and ends the run after the lines before; it
+/// never comes in place of a refusal of a long line, of one with a bad token or of one that doesn't begin with four words.
 pub fn run_epd<S: Source, K: Sink>(
     alloc: Global,
     source: &mut S,
@@ -87,6 +88,18 @@ pub fn run_epd<S: Source, K: Sink>(
     ensures shown { IfOk result (RewritesStream fills (S.state source.old) (S.state source.new) (K.state sink.old) (K.state sink.new)) }
     ensures told { IfOk result (RewritesTold (S.state source.old) (S.state source.new) (K.state sink.old) (K.state sink.new)) }
     ensures fault { IfErr result (RewritesUntil fills (S.state source.old) (S.state source.new) (K.state sink.old) (K.state sink.new)) }
+{
+    rewrite_stream(alloc, source, sink, fills)
+}
+
+/// The same, told in one clause.
+fn rewrite_stream<S: Source, K: Sink>(
+    alloc: Global,
+    source: &mut S,
+    sink: &mut K,
+    fills: u32,
+) -> Result<bool, Fault>
+    ensures { RewritesOrEnds fills (S.state source.old) (S.state source.new) (K.state sink.old) (K.state sink.new) result }
 {
     let mut rewriter = Rewriter {
         alloc,

@@ -3,7 +3,7 @@ ghost use Rattle.std.specs.Prelude.{◌≡◌, ℕ, Bool, IfErr, IfOk, IfSome, L
 ghost use Rattle.std.specs.Io.KnownBytes.{Appends};
 ghost use Rattle.pb_poly.specs.Reading.{Tells};
 ghost use Rattle.pb_io.specs.Sink.{Put};
-ghost use Rattle.pb_commands.specs.Judged.{PutsText, PutsUntil};
+ghost use Rattle.pb_commands.specs.Judged.{PutsOrEnds, PutsText, PutsUntil};
 ghost use Rattle.pb_commands.specs.ProbeRun.{JudgesProbe, StopsProbe};
 ghost use Rattle.pb_commands.specs.ProbeShown.{ProbeShown, found_line, probe_text};
 ghost use Rattle.pb_commands.specs.Shows.{Shows};
@@ -47,6 +47,23 @@ pub fn run_probe<T: Source, B: Source, K: Sink>(
         → Tells fills (B.state book_source.old) (B.state book_source.new) book
         → (K.state sink.new).failed ≡ false → ProbeShown table book fen.now answer out
         → MatchResult result (λ taken. (taken ≡ answer) × Appends (K.state sink.old).bytes (K.state sink.new).bytes out) (λ e. e ≡ Memory) }
+{
+    show_moves(alloc, table_source, book_source, fen, sink, fills)
+}
+
+/// The same, told in one clause.
+fn show_moves<T: Source, B: Source, K: Sink>(
+    alloc: Global,
+    table_source: &mut T,
+    book_source: &mut B,
+    fen: &[u8],
+    sink: &mut K,
+    fills: u32,
+) -> Result<bool, Fault>
+    ensures { PutsOrEnds
+        (JudgesProbe fills (T.state table_source.old) (T.state table_source.new) (B.state book_source.old) (B.state book_source.new) fen.now)
+        (StopsProbe fills (T.state table_source.old) (T.state table_source.new) (B.state book_source.old) (B.state book_source.new) fen.now)
+        (K.state sink.old) (K.state sink.new) result }
 {
     let table = match take_table(alloc, table_source, fills) {
         Ok(table) => table,

@@ -5,7 +5,7 @@ ghost use Rattle.pb_poly.specs.Reading.{Tells};
 ghost use Rattle.pb_io.specs.Sink.{Put};
 ghost use Rattle.pb_commands.specs.BookRun.{JudgesBook, StopsBook};
 ghost use Rattle.pb_commands.specs.BookShown.{BookShown, entry_line, show_text};
-ghost use Rattle.pb_commands.specs.Judged.{PutsText, PutsUntil};
+ghost use Rattle.pb_commands.specs.Judged.{PutsOrEnds, PutsText, PutsUntil};
 ghost use Rattle.pb_commands.specs.Shows.{Shows};
 ghost use Rattle.pb_commands.specs.declared.fault.Fault.TheVariants.{Memory};
 
@@ -39,6 +39,19 @@ pub fn run_show<S: Source, K: Sink>(
     ensures only { (bytes : List ℕ) (answer : Bool) (out : List ℕ) → Tells fills (S.state source.old) (S.state source.new) bytes
         → (K.state sink.new).failed ≡ false → BookShown bytes answer out
         → MatchResult result (λ taken. (taken ≡ answer) × Appends (K.state sink.old).bytes (K.state sink.new).bytes out) (λ e. e ≡ Memory) }
+{
+    show_book(alloc, source, sink, fills)
+}
+
+/// The same, told in one clause.
+fn show_book<S: Source, K: Sink>(
+    alloc: Global,
+    source: &mut S,
+    sink: &mut K,
+    fills: u32,
+) -> Result<bool, Fault>
+    ensures { PutsOrEnds (JudgesBook fills (S.state source.old) (S.state source.new)) (StopsBook fills (S.state source.old) (S.state source.new))
+        (K.state sink.old) (K.state sink.new) result }
 {
     match read_book(alloc, source, fills) {
         Ok(book) => {

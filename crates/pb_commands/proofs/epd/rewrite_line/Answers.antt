@@ -6,7 +6,7 @@ use Rattle.pb_epd.specs.declared.refusal.EpdError.TheVariants as epd
 use Rattle.pb_epd.specs.Epd.{EpdForm, EpdText}
 use Rattle.pb_epd.specs.Refusal.{IsFirstDueEpd}
 use Rattle.pb_commands.specs.EpdShown.{IsBlank, blank, written, refused}
-use Rattle.pb_commands.proofs.Rewriting.{stops_at}
+use Rattle.pb_commands.proofs.Rewriting.{stops_at, wants_at}
 use Rattle.pb_commands.proofs.epd.rewrite_line.Goals as goal
 
 pub returns-then-is_blank : goal.returns-then-is_blank
@@ -50,3 +50,20 @@ returns-in_ok-put_refusal-in-Err g c =
       put = c.in_ok-put_refusal-in-Err.ensures.0;
       works = λ _. c.in_ok-put_refusal-in-Err.ensures.1;
     }
+
+pub returns-in_default : goal.returns-in_default
+returns-in_default g c = (
+  refl,
+  wants_at _ _ c.in-Ok.record c.without_return-text.ensures c.requires
+      (λ blank. false≢true (c.if-is_blank.ensures.1 (subst IsBlank (sym c.without_return-text.ensures) blank))) c.in-Ok.ensures.found.0 c.in-Ok.ensures.found.1,
+)
+
+pub returns-in-Err-Memory : goal.returns-in-Err-Memory
+returns-in-Err-Memory g c = (
+  refl,
+  record {
+    short = c.requires;
+    full = λ blank. false≢true (c.if-is_blank.ensures.1 (subst IsBlank (sym c.without_return-text.ensures) blank));
+    due = subst (IsFirstDueEpd epd.Memory) c.without_return-text.ensures (rw c.in-Err-Memory.field-0-is at c.in-Err-Memory.ensures.refused);
+  },
+)

@@ -1,7 +1,11 @@
-use Rattle.std.proofs.Common.{rules}
-use Rattle.pb_commands.proofs.Rewriting.{unflushed}
+use Rattle.pb_commands.proofs.EpdClauses.{ends, shown, told}
 use Rattle.pb_commands.proofs.epd.run_epd.Goals as goal
 
-pub returns-in-Err-clause-fault : goal.returns-in-Err-clause-fault
-returns-in-Err-clause-fault g c =
-    let fails = unflushed _ _ _ _ _ _ _ _ c.in-Ok.ensures.ok c.in-Err.ensures in search rules
+pub returns-clause-shown : goal.returns-clause-shown
+returns-clause-shown g c = shown _ _ _ _ _ c.rewrite_stream.result c.rewrite_stream.ensures
+
+pub returns-clause-told : goal.returns-clause-told
+returns-clause-told g c = told _ _ _ _ _ c.rewrite_stream.result c.rewrite_stream.ensures
+
+pub returns-clause-fault : goal.returns-clause-fault
+returns-clause-fault g c = ends _ _ _ _ _ c.rewrite_stream.result c.rewrite_stream.ensures

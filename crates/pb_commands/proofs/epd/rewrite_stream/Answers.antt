@@ -1,0 +1,7 @@
+use Rattle.std.proofs.Common.{rules}
+use Rattle.pb_commands.proofs.Rewriting.{unflushed}
+use Rattle.pb_commands.proofs.epd.rewrite_stream.Goals as goal
+
+pub returns-in-Err : goal.returns-in-Err
+returns-in-Err g c =
+    let fails = unflushed _ _ _ _ _ _ _ _ c.in-Ok.ensures.ok c.in-Err.ensures in search rules
