@@ -9,6 +9,7 @@ use Rattle.pb_poly.specs.declared.reading.BookError.{BookError}
 use Rattle.pb_poly.specs.declared.reading.BookError.TheVariants as book
 use Rattle.pb_commands.specs.BookRun.{RefusesBook, cut_short, unsorted}
 use Rattle.pb_commands.specs.Judged.{PutsOrEnds, PutsText, PutsUntil}
+use Rattle.pb_commands.specs.Shows.{Shows}
 use Rattle.pb_commands.specs.ShowsRefusal.{FaultsAlone, ShowsRefusal, RefusesForBook, RefusesForTable}
 use Rattle.pb_poly.specs.TableReading.{FindsNoTable}
 use Rattle.pb_commands.specs.TableRun.{RefusesTable, count, line, long}
@@ -24,7 +25,7 @@ text_as judges others sink sink' answer as_other h = record { out = h.out; judge
 
 module _ (judges : Bool → List ℕ → Type 0) (stops : Fault → Type 0) (sink sink' : SinkState) where
   -- where the text couldn't be shown
-  pub text_fails : (answer : Bool) (out : List ℕ) (e : Fault) → judges answer out → (e ≡ Write) × (sink'.failed ≡ true)
+  text_fails : (answer : Bool) (out : List ℕ) (e : Fault) → judges answer out → (e ≡ Write) × (sink'.failed ≡ true)
       → (count : ℕ) × Appends sink.bytes sink'.bytes (take count out) → PutsUntil judges stops sink sink' e
   text_fails answer out e judged fault front =
       subst (λ x. PutsUntil judges stops sink sink' x) (sym fault.0)
@@ -32,6 +33,14 @@ module _ (judges : Bool → List ℕ → Type 0) (stops : Fault → Type 0) (sin
 
   abbrev Ends : Result Bool Fault → Type 0
   Ends = PutsOrEnds judges stops sink sink'
+
+  -- a text that was shown, or couldn't be
+  module _ {A : Type 0} (answer : Bool) (out : List ℕ) (judged : judges answer out) where
+    pub text_shown : (v : A) → Shows {A = A} sink sink' (Ok v) out → Ends (Ok answer)
+    text_shown v h = let on = h.handed_on in (record { out = out; judged = judged; put = h.all }, on.0, on.1)
+
+    pub text_not_shown : (e : Fault) → Shows {A = A} sink sink' (Err e) out → Ends (Err e)
+    text_not_shown e h = text_fails answer out e judged h.fault h.front
 
   -- ---- what the clauses of a command say, from how it ends
 

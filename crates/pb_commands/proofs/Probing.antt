@@ -27,7 +27,7 @@ use Rattle.pb_commands.specs.declared.fault.Fault.{Fault}
 use Rattle.pb_commands.specs.declared.fault.Fault.TheVariants.{Memory}
 use Rattle.pb_poly.specs.declared.table_file.TableFault.{TableFault}
 use Rattle.pb_poly.specs.declared.table_file.TableFault.TheVariants as table_fault
-use Rattle.pb_commands.proofs.Judging.{hands_on, no_book, no_table, only_text, puts_text, puts_until, refusal, text_as, text_fails}
+use Rattle.pb_commands.proofs.Judging.{hands_on, no_book, no_table, only_text, puts_text, puts_until, refusal, text_as, text_not_shown, text_shown}
 use Rattle.pb_commands.proofs.OneProbe.{probe_is_one}
 use Rattle.pb_poly.proofs.ToldReads.{no_endless, no_fault}
 use Rattle.pb_commands.proofs.Told.{told_book, told_no_book, told_no_table, told_table}
@@ -61,14 +61,15 @@ module _ (fills : ℕ) (t t' b b' : SourceState) (fen : List ℕ) (sink sink' : 
       shown = JudgesProbe.judged words entries read read_too
           (FenProbed.found f pairs lawful text (subst (λ (x : Position). Found entries words x pairs) is_setup found) refl refl)
 
-      pub at_moves : {A : Type 0} (v : A) (others : List (Moved × ℕ)) → others ≡ pairs → Shows sink sink' (Ok v) (probe_text others) → Ends (Ok true)
-      at_moves v others same h =
-          let on = h.handed_on in
-          (record { out = probe_text others; judged = subst (λ (x : List (Moved × ℕ)). judges true (probe_text x)) (sym same) shown; put = h.all }, on.0, on.1)
+      module _ (others : List (Moved × ℕ)) (same : others ≡ pairs) where
+        shown_as : judges true (probe_text others)
+        shown_as = subst (λ (x : List (Moved × ℕ)). judges true (probe_text x)) (sym same) shown
 
-      pub at_fault : {A : Type 0} (others : List (Moved × ℕ)) (e : Fault) → others ≡ pairs → Shows {A = A} sink sink' (Err e) (probe_text others) → Ends (Err e)
-      at_fault others e same h =
-          text_fails judges stops sink sink' true (probe_text others) e (subst (λ (x : List (Moved × ℕ)). judges true (probe_text x)) (sym same) shown) h.fault h.front
+        pub at_moves : {A : Type 0} (v : A) → Shows {A = A} sink sink' (Ok v) (probe_text others) → Ends (Ok true)
+        at_moves = text_shown judges stops sink sink' true (probe_text others) shown_as
+
+        pub at_fault : {A : Type 0} (e : Fault) → Shows {A = A} sink sink' (Err e) (probe_text others) → Ends (Err e)
+        at_fault = text_not_shown judges stops sink sink' true (probe_text others) shown_as
 
   -- what the clauses of the command say, from how it ends
   pub put : (result : Result Bool Fault) → Ends result → IfOk result (PutsText judges sink sink')

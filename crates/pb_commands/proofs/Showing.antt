@@ -16,7 +16,7 @@ use Rattle.pb_commands.specs.Shows.{Shows}
 use Rattle.pb_commands.specs.ShowsRefusal.{RefusesForBook}
 use Rattle.pb_commands.specs.declared.fault.Fault.{Fault}
 use Rattle.pb_commands.specs.declared.fault.Fault.TheVariants.{Memory}
-use Rattle.pb_commands.proofs.Judging.{hands_on, no_book, only_text, puts_text, puts_until, text_fails, told_as}
+use Rattle.pb_commands.proofs.Judging.{hands_on, no_book, only_text, puts_text, puts_until, text_not_shown, text_shown, told_as}
 use Rattle.pb_commands.proofs.OneBook.{shown_is_one}
 use Rattle.pb_commands.proofs.Told.{told_shown}
 
@@ -35,11 +35,11 @@ module _ (fills : ℕ) (s s' : SourceState) (sink sink' : SinkState) where
     shown : judges true (show_text entries)
     shown = JudgesBook.shown entries (subst (λ (es : List Entry). ReadsBook fills s s' es) (sym same) read) refl refl
 
-    pub at_entries : {A : Type 0} (v : A) → Shows sink sink' (Ok v) (show_text entries) → Ends (Ok true)
-    at_entries v h = let on = h.handed_on in (record { out = show_text entries; judged = shown; put = h.all }, on.0, on.1)
+    pub at_entries : {A : Type 0} (v : A) → Shows {A = A} sink sink' (Ok v) (show_text entries) → Ends (Ok true)
+    at_entries = text_shown judges stops sink sink' true (show_text entries) shown
 
     pub at_fault : {A : Type 0} (e : Fault) → Shows {A = A} sink sink' (Err e) (show_text entries) → Ends (Err e)
-    at_fault e h = text_fails judges stops sink sink' true (show_text entries) e shown h.fault h.front
+    at_fault = text_not_shown judges stops sink sink' true (show_text entries) shown
 
   pub at_refusal : (result : Result Bool Fault) (e : BookError) → FindsNoBook fills s s' e → RefusesForBook sink sink' result e → Ends result
   at_refusal result e h r =

@@ -10,6 +10,7 @@ ghost use Rattle.pb_moves.specs.Moved.{Moved};
 ghost use Rattle.pb_moves.specs.Played.{IsFirstMisspelt, IsSpelled, Spells};
 ghost use Rattle.pb_commands.specs.Line.{texts};
 ghost use Rattle.pb_commands.specs.FenShown.{FenShown, Unplayable};
+ghost use Rattle.pb_commands.specs.Judged.{PutsOrEnds, StopsNever};
 ghost use Rattle.pb_commands.specs.Plays.{PlaysWords};
 ghost use Rattle.pb_commands.specs.Refused.{refusal_line};
 ghost use Rattle.pb_commands.specs.Shows.{Shows};
@@ -56,6 +57,13 @@ pub fn run_fen<K: Sink>(
     ensures front { OnErr result ((answer : Bool) × (out : List ℕ) × (count : ℕ)
         × FenShown fen.now (texts moves.now) answer out
         × Appends (K.state sink.old).bytes (K.state sink.new).bytes (take count out)) }
+{
+    show_record(fen, moves, sink)
+}
+
+/// The same, told in one clause.
+fn show_record<K: Sink>(fen: &[u8], moves: &[&str], sink: &mut K) -> Result<bool, Fault>
+    ensures { PutsOrEnds (FenShown fen.now (texts moves.now)) StopsNever (K.state sink.old) (K.state sink.new) result }
 {
     match record_after(fen, moves) {
         Ok(last) => {

@@ -23,10 +23,10 @@ returns-in_err-show_found g c =
     let p = err_from_is_err_and c.from_residual.result c.from_residual.ensures.1 in
     rw (p.1, p.2) (at_fault _ _ _ _ _ _ _ _ c.in-Ok.table c.in-Ok.ensures.found c.in-Ok-read_book.book c.in-Ok-read_book.ensures.found
     c.in-Ok-read_fen.record c.in-Ok-read_fen.ensures.found.0 c.in-Ok-read_fen.ensures.found.1 _ c.setup.ensures.value _ c.in-Ok-probe.ensures
-    c.as_slice.result.now c.in_err-show_found.field-0.0 c.as_slice.ensures.value c.in_err-show_found.ensures)
+    c.as_slice.result.now c.as_slice.ensures.value c.in_err-show_found.field-0.0 c.in_err-show_found.ensures)
 
 pub returns : goal.returns
 returns g c =
     at_moves _ _ _ _ _ _ _ _ c.in-Ok.table c.in-Ok.ensures.found c.in-Ok-read_book.book c.in-Ok-read_book.ensures.found
     c.in-Ok-read_fen.record c.in-Ok-read_fen.ensures.found.0 c.in-Ok-read_fen.ensures.found.1 _ c.setup.ensures.value _ c.in-Ok-probe.ensures
-    _ c.as_slice.result.now c.as_slice.ensures.value c.in_ok-show_found.ensures
+    c.as_slice.result.now c.as_slice.ensures.value _ c.in_ok-show_found.ensures
