@@ -1,4 +1,4 @@
-use Rattle.std.proofs.Common.{◌≡◌, List, ℕ, Result, Ok, Err, ap}
+use Rattle.std.proofs.Common.{◌≡◌, List, ℕ, Result, Ok, Err, ap, rules}
 use Rattle.std.specs.Prelude.{IfOk, IfErr}
 use Rattle.pb_games.specs.declared.refusal.Refusal.{Refusal}
 use Rattle.pb_games.specs.Refusing.{Refuses}
@@ -13,3 +13,9 @@ only_one line (Err e) found refused s lawful = absurd (unlawful line e s refused
 
 pub returns-clause-only : goal.returns-clause-only
 returns-clause-only g c = only_one c.args.line.now c.judge.result c.judge.ensures.found c.judge.ensures.refused
+
+pub returns-clause-found : goal.returns-clause-found
+returns-clause-found g c = search rules
+
+pub returns-clause-refused : goal.returns-clause-refused
+returns-clause-refused g c = search rules

@@ -1,4 +1,4 @@
-use Rattle.std.proofs.Common.{◌≡◌, refl, subst, ◌+◌, ◌++◌, ◌∷◌, [], length, length-append, append-nil, append_assoc, sym, ap, ◌∙◌, arith}
+use Rattle.std.proofs.Common.{◌≡◌, refl, subst, ◌+◌, ◌++◌, ◌∷◌, [], length, length-append, append-nil, append_assoc, sym, ap, ◌∙◌, arith, rules}
 use Rattle.std.proofs.lemmas.List.{length_push}
 use Rattle.std.proofs.lemmas.List.Elements.{All-push, All-same}
 use Rattle.pb_moves.specs.Played.{IsSpelled}
@@ -111,3 +111,6 @@ returns-in-None-illegal-clause-told g c =
     let so_far = c.loop-word.invariant in
     let led = so_far.legal c.in-None-illegal.is (omega (arith, c.if-count-gt-MAX_PLIES.false)) in
     (c.loop-word.setup, told_all (g.P.Player.holds c.loop-word.player c.args.outcome) c.args.start c.loop-word.setup (moves_named c.args.field.now) _ c.loop-word.count led c.in-None.ensures.steps.0)
+
+pub returns-in_default-clause-read : goal.returns-in_default-clause-read
+returns-in_default-clause-read g c = search rules
