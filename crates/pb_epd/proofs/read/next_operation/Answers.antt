@@ -1,4 +1,4 @@
-use Rattle.std.proofs.Common.{refl, arith}
+use Rattle.std.proofs.Common.{refl, arith, rules}
 use Rattle.pb_epd.proofs.Bad.{steps_shorter}
 use Rattle.std.proofs.lemmas.Bool.{false≢true}
 use Rattle.pb_epd.proofs.TokenLists.{done_only, stuck_none}
@@ -33,3 +33,6 @@ pub returns-in-Some-opcode_of-clause-sound : goal.returns-in-Some-opcode_of-clau
 returns-in-Some-opcode_of-clause-sound c =
     let cut = rw c.in-Some.is at c.in_ok-operands.ensures in
     (omega (arith, cut.shorter, steps_shorter _ _ _ _ c.in-Found.ensures), record { opcode = c.in-Some-opcode_of.ensures.1; operands = cut.lawful }, λ left. steps_back _ _ _ _ c.in-Found.ensures (cut.back left))
+
+pub returns-in-Bad-clause-sound : goal.returns-in-Bad-clause-sound
+returns-in-Bad-clause-sound c = search rules
