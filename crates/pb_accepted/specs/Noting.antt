@@ -1,28 +1,20 @@
 -- What is noted of a game while its plies are played.
-use Rattle.std.specs.Prelude.{◌≡◌, ℕ, false, List, [], ◌∷◌, ◌++◌, map}
+use Rattle.std.specs.Prelude.{◌≡◌, ℕ, List, map}
 use Rattle.pb_board.specs.Position.{Position}
-use Rattle.pb_moves.specs.Moved.{Moved}
 use Rattle.pb_moves.specs.Played.{Ply}
 use Rattle.pb_poly.specs.Key.{key}
 use Rattle.pb_games.specs.declared.game.Game.{Game}
 use Rattle.pb_games.specs.declared.outcome.Outcome.{Outcome}
-use Rattle.pb_accepted.specs.declared.gift.Gift.{Gift}
 use Rattle.pb_accepted.specs.declared.notes.Notes.{Notes}
 use Rattle.pb_accepted.specs.Basis.{Basis}
 use Rattle.pb_accepted.specs.Counting.{gift_of, gifts_of}
 
--- a ply was noted after those before it
-pub record NotesPly (old new : Notes) (gift : Gift) (m : Moved) : Type 0 where
-  pub whole : old.failed ≡ false
-  pub gifts : new.gifts.items ≡ old.gifts.items ++ gift ∷ []
-  pub moves : new.moves.items ≡ old.moves.items ++ m ∷ []
-
--- these plies of a game with this outcome were noted, unless memory failed, and the key is that of the setup
+-- these plies of a game with this outcome were noted, and the key is that of the setup
 pub record Holds (T : Basis) (o : Outcome) (k : ℕ) (notes : Notes) (outcome : Outcome) (ps : List Ply) (t : Position) : Type 0 where
   pub outcome_is : o ≡ outcome
   pub key_is : k ≡ key T.words t
-  pub gifts : notes.failed ≡ false → notes.gifts.items ≡ map (gift_of T outcome) ps
-  pub moves : notes.failed ≡ false → notes.moves.items ≡ map (λ p. p.1) ps
+  pub gifts : notes.gifts.items ≡ map (gift_of T outcome) ps
+  pub moves : notes.moves.items ≡ map (λ p. p.1) ps
 
 -- all of the game was noted
 pub record HasNoted (T : Basis) (notes : Notes) (g : Game) : Type 0 where

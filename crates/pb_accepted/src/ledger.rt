@@ -1,6 +1,6 @@
 //! The ledger.
 
-ghost use Rattle.std.specs.Prelude.{◌≡◌, ◌≤◌, ◌+◌, ◌*◌, ◌^◌, ◌++◌, ◌∷◌, [], ℕ, IfOk, MatchOption, OnErr, OnOk, Ok, false, length};
+ghost use Rattle.std.specs.Prelude.{◌≡◌, ◌≤◌, ◌+◌, ◌*◌, ◌^◌, ◌++◌, ◌∷◌, [], ℕ, IfOk, MatchOption, OnErr, OnOk, Ok, length};
 ghost use Rattle.pb_games.specs.Submissions.{IsLawful, IsSubmission, Submission};
 ghost use Rattle.pb_points.specs.Tally.{held, more};
 ghost use Rattle.pb_accepted.specs.Accepting.{Allowed, IsNewId, IsNumber, Takes};
@@ -193,7 +193,7 @@ fn accept<T: Tally>(
     recorder: &Recorder,
     read: &Line<'_>,
 ) -> Result<(), AllocError>
-    requires noted { recorder.now.notes.failed ≡ false → HasNoted (record { words = recorder.now.table }) recorder.now.notes read.now.1 }
+    requires noted { HasNoted (record { words = recorder.now.table }) recorder.now.notes read.now.1 }
     requires new { IsNewId read.now.0 games.old.entries }
     requires fits { (k c : ℕ) → (held (T.content tally.old) k c).points + 2 * length read.now.1.moves ≤ 2 ^ 63 }
     ensures game { OnOk result (games.new.entries ≡ games.old.entries ++ read.now ∷ []) }

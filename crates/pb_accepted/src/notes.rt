@@ -1,28 +1,28 @@
 //! The gifts and the moves of a game, as far as it was played.
 
-ghost use Rattle.std.specs.Prelude.{◌≡◌, [], false};
-ghost use Rattle.pb_accepted.specs.Noting.{NotesPly};
+ghost use Rattle.std.specs.Prelude.{◌≡◌, ◌<◌, ◌≤◌, ◌++◌, ◌∷◌, [], vec_capacity, vec_len};
+ghost use Rattle.pb_games.specs.Limits.{most_plies};
 
 use crate::gift::Gift;
+use pb_games::MAX_PLIES;
 use pb_moves::Move;
 use std::alloc::{AllocError, Global};
 
-/// Gifts and moves in two buffers.
+/// Gifts and moves in two buffers, each with room for the most plies of a game.
 #[derive(Drop)]
 pub(crate) struct Notes {
     pub(crate) gifts: Vec<Gift>,
     pub(crate) moves: Vec<Move>,
-    /// Whether there was no memory for some of them.
-    pub(crate) failed: bool,
+    ghost gift_room: { most_plies ≤ vec_capacity gifts },
+    ghost move_room: { most_plies ≤ vec_capacity moves },
 }
 
 impl Notes {
-    /// Empty buffers with room for so many plies.
-    pub(crate) fn new(alloc: Global, plies: usize) -> Result<Notes, AllocError> {
+    /// Empty buffers.
+    pub(crate) fn new(alloc: Global) -> Result<Notes, AllocError> {
         Ok(Notes {
-            gifts: Vec::with_capacity(alloc, plies)?,
-            moves: Vec::with_capacity(alloc, plies)?,
-            failed: false,
+            gifts: Vec::with_capacity(alloc, MAX_PLIES as usize)?,
+            moves: Vec::with_capacity(alloc, MAX_PLIES as usize)?,
         })
     }
 
@@ -33,19 +33,17 @@ impl Notes {
     {
         self.gifts.clear();
         self.moves.clear();
-        self.failed = false;
     }
 
-    /// Adds a ply.
+    /// Adds a ply, for which there is room.
     #[inline(always)]
     pub(crate) fn add(&mut self, gift: Gift, m: Move)
-        ensures { self.new.failed ≡ false → NotesPly self.old self.new gift m }
+        requires gifts { vec_len self.old.gifts < most_plies }
+        requires moves { vec_len self.old.moves < most_plies }
+        ensures gifts { self.new.gifts.items ≡ self.old.gifts.items ++ gift ∷ [] }
+        ensures moves { self.new.moves.items ≡ self.old.moves.items ++ m ∷ [] }
     {
-        if self.gifts.push(gift).is_err() {
-            self.failed = true;
-        }
-        if self.moves.push(m).is_err() {
-            self.failed = true;
-        }
+        self.gifts.push(gift).unwrap();
+        self.moves.push(m).unwrap();
     }
 }

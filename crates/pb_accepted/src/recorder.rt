@@ -1,6 +1,6 @@
 //! A player that writes down what each ply gives, so that a line is read once and its moves are played once.
 
-ghost use Rattle.std.specs.Prelude.{◌≡◌, false, IfErr, IfOk, Ok, OnOk};
+ghost use Rattle.std.specs.Prelude.{◌≡◌, IfErr, IfOk, Ok};
 ghost use Rattle.pb_games.specs.Refusing.{Refuses};
 ghost use Rattle.pb_games.specs.Submissions.{IsLawful, Submission};
 ghost use Rattle.pb_accepted.specs.Noting.{HasNoted};
@@ -12,9 +12,6 @@ use pb_games::{Game, Line, MoveList, Outcome, Player, Refusal, judge_line};
 use pb_moves::{Move, play_on};
 use pb_poly::{Table, code_of, key_after, key_of};
 use std::alloc::{AllocError, Global};
-
-/// The most moves of a game.
-const MAX_PLIES: usize = 1_024;
 
 /// Plays the moves of a game, and writes down what each gives. Its buffers are made with it, so that a ply takes no memory.
 #[derive(Drop)]
@@ -34,7 +31,7 @@ impl Recorder {
             table: table.clone()?,
             outcome: Outcome::Draw,
             key: 0,
-            notes: Notes::new(alloc, MAX_PLIES)?,
+            notes: Notes::new(alloc)?,
         })
     }
 
@@ -50,7 +47,7 @@ impl Recorder {
         ensures found { IfOk result (λ s. IsLawful line.now s) }
         ensures only { (s : Submission) → IsLawful line.now s → result ≡ Ok s }
         ensures refused { IfErr result (λ e. Refuses line.now e) }
-        ensures noted { IfOk result (λ s. self.new.notes.failed ≡ false → HasNoted (record { words = self.new.table }) self.new.notes s.1) }
+        ensures noted { IfOk result (λ s. HasNoted (record { words = self.new.table }) self.new.notes s.1) }
         ensures table { self.new.table ≡ self.old.table }
     {
         judge_line(line, self)
@@ -58,13 +55,9 @@ impl Recorder {
 
     /// The game of the line that was judged last, for which memory is taken once.
     pub(crate) fn game(&self, alloc: Global, line: &Line<'_>) -> Result<Game, AllocError>
-        requires { self.now.notes.failed ≡ false → HasNoted (record { words = self.now.table }) self.now.notes line.now.1 }
-        ensures game { IfOk result (λ g. g ≡ line.now.1) }
-        ensures whole { OnOk result (self.now.notes.failed ≡ false) }
+        requires { HasNoted (record { words = self.now.table }) self.now.notes line.now.1 }
+        ensures { IfOk result (λ g. g ≡ line.now.1) }
     {
-        if self.notes.failed {
-            return Err(AllocError);
-        }
         Ok(Game {
             start: line.start(),
             outcome: line.outcome(),

@@ -19,7 +19,7 @@ use pb_board::{Fen, Setup};
 use pb_moves::{playable, read_move};
 
 /// The most moves that a game may have.
-const MAX_PLIES: u32 = 1024;
+pub const MAX_PLIES: u32 = 1024;
 
 /// Reads a line, without its LF, as a submission of a legal game: an id, the result, the FEN record that the game
 /// starts from and the moves, with a TAB between each two. The moves are words as e2e4 and e7e8q with single spaces

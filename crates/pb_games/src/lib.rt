@@ -16,7 +16,7 @@ mod refusal;
 mod repeat;
 mod words;
 
-pub use check::{check_line, judge_line};
+pub use check::{MAX_PLIES, check_line, judge_line};
 pub use game::Game;
 pub use id::Id;
 pub use line::Line;

@@ -10,13 +10,13 @@ use Rattle.pb_accepted.proofs.ledger.accept.Goals as goal
 pub add_points-requires-clause-small : goal.add_points-requires-clause-small
 add_points-requires-clause-small g c =
     let T : Basis = record { words = c.args.recorder.now.table } in
-    let gifts = c.gifts-2.ensures ∙ (c.requires.noted c.in_ok-game.ensures.whole).gifts in
+    let gifts = c.gifts-2.ensures ∙ c.requires.noted.gifts in
     subst (All (λ r. r.points ≤ 2)) (sym gifts) (small_gifts T c.args.read.now.1)
 
 pub add_points-requires-clause-fits : goal.add_points-requires-clause-fits
 add_points-requires-clause-fits g c =
     let T : Basis = record { words = c.args.recorder.now.table } in
-    let gifts = c.gifts-2.ensures ∙ (c.requires.noted c.in_ok-game.ensures.whole).gifts in
+    let gifts = c.gifts-2.ensures ∙ c.requires.noted.gifts in
     let many : length c.gifts-2.result.now ≡ length c.args.read.now.1.moves = ap length gifts ∙ length-gifts_of T c.args.read.now.1 in
     λ k d. omega (arith, ap (λ (h : Held). h.points) (c.in_ok-ensure_rows.ensures.same k d), c.requires.fits k d, many)
 
@@ -24,5 +24,5 @@ pub returns-clause-game : goal.returns-clause-game
 returns-clause-game g c =
     let A = c.args.games.now.entries in
     let read = c.args.read.now in
-    inserted A c.insert.new.self.entries c.id.result c.in_ok-game.game read c.id.ensures c.in_ok-game.ensures.game
+    inserted A c.insert.new.self.entries c.id.result c.in_ok-game.game read c.id.ensures c.in_ok-game.ensures
     (c.in_ok-insert.ensures.entries ∙ insert_entry-new bytes_eq c.args.games.now c.id.result c.in_ok-game.game (absent_from_new A read.0 c.id.result c.id.ensures c.requires.new))

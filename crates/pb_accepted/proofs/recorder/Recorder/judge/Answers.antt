@@ -1,4 +1,4 @@
-use Rattle.std.proofs.Common.{◌≡◌, ℕ, false, Result, Ok, Err, ◌∙◌}
+use Rattle.std.proofs.Common.{ℕ, Result, Ok, Err, ◌∙◌}
 use Rattle.std.specs.Prelude.{IfOk}
 use Rattle.pb_games.specs.declared.outcome.Outcome.{Outcome}
 use Rattle.pb_games.specs.declared.refusal.Refusal.{Refusal}
@@ -10,8 +10,8 @@ use Rattle.pb_accepted.specs.Noting.{HasNoted, Holds}
 use Rattle.pb_accepted.proofs.Gifts.{moves_back}
 use Rattle.pb_accepted.proofs.recorder.Recorder.judge.Goals as goal
 
-noted : (T : Basis) (o : Outcome) (k : ℕ) (notes : Notes) (r : Result Submission Refusal) → IfOk r (λ s. IsToldAll (Holds T o k notes) s.1.outcome (plies s.1)) → IfOk r (λ s. notes.failed ≡ false → HasNoted T notes s.1)
-noted T o k notes (Ok s) told = λ whole. record { gifts = told.1.gifts whole; moves = told.1.moves whole ∙ moves_back s.1.start.setup s.1.moves }
+noted : (T : Basis) (o : Outcome) (k : ℕ) (notes : Notes) (r : Result Submission Refusal) → IfOk r (λ s. IsToldAll (Holds T o k notes) s.1.outcome (plies s.1)) → IfOk r (λ s. HasNoted T notes s.1)
+noted T o k notes (Ok s) told = record { gifts = told.1.gifts; moves = told.1.moves ∙ moves_back s.1.start.setup s.1.moves }
 noted T o k notes (Err e) told = _
 
 pub returns-clause-noted : goal.returns-clause-noted
