@@ -101,25 +101,15 @@ fn order_of<'a>(alloc: Global, matches: &ArgMatches<'a>) -> Result<Order<'a>, Pa
     ensures words { IfOk result (λ order. IsOrderOf order (subcommand_rows_of matches.now)) }
     ensures refused { IfErr result (RefusesRightly (subcommand_rows_of matches.now)) }
 {
-    if let Some(given) = matches.subcommand_matches("fen") {
-        return fen(alloc, given);
+    match matches.subcommand() {
+        Some(("fen", given)) => fen(alloc, given),
+        Some(("epd", _)) => Ok(Order::Epd),
+        Some(("show", given)) => show(alloc, given),
+        Some(("probe", given)) => probe(alloc, given),
+        Some(("collect", given)) => collect(alloc, given),
+        Some(("export", given)) => export(alloc, given),
+        _ => Err(ParseFault::Usage(String::new(alloc))),
     }
-    if matches.subcommand_matches("epd").is_some() {
-        return Ok(Order::Epd);
-    }
-    if let Some(given) = matches.subcommand_matches("show") {
-        return show(alloc, given);
-    }
-    if let Some(given) = matches.subcommand_matches("probe") {
-        return probe(alloc, given);
-    }
-    if let Some(given) = matches.subcommand_matches("collect") {
-        return collect(alloc, given);
-    }
-    if let Some(given) = matches.subcommand_matches("export") {
-        return export(alloc, given);
-    }
-    Err(ParseFault::Usage(String::new(alloc)))
 }
 
 /// The order of `fen`, of what clap found.
