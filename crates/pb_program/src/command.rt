@@ -5,6 +5,9 @@ use pb_cli::{Fault, Order, run_collect, run_epd, run_export, run_fen, run_probe,
 use pb_poly::{FromRead, Sink, ToWrite};
 use std::io;
 
+/// How many fills a command may make of a source: as many as can be counted, so that only a source without an end meets the limit.
+pub const FILLS: u32 = u32::MAX;
+
 /// What a command answers; the error is that a file can't be opened or made.
 type Answer = io::Result<Result<bool, Fault>>;
 
@@ -17,11 +20,11 @@ pub(crate) fn answer<K: Sink>(rt: &HostRuntime, order: &Order<'_>, output: &mut 
         }
         Order::Epd => {
             let mut input = FromRead::new(rt.reader());
-            Ok(run_epd(rt.alloc(), &mut input, output, u32::MAX))
+            Ok(run_epd(rt.alloc(), &mut input, output, FILLS))
         }
         Order::Show { book } => {
             let mut book = open(rt, book)?;
-            Ok(run_show(rt.alloc(), &mut book, output, u32::MAX))
+            Ok(run_show(rt.alloc(), &mut book, output, FILLS))
         }
         Order::Probe {
             table,
@@ -32,7 +35,7 @@ pub(crate) fn answer<K: Sink>(rt: &HostRuntime, order: &Order<'_>, output: &mut 
         Order::Export { table } => {
             let mut table = open(rt, table)?;
             let mut input = FromRead::new(rt.reader());
-            Ok(run_export(rt.alloc(), &mut table, &mut input, output, u32::MAX))
+            Ok(run_export(rt.alloc(), &mut table, &mut input, output, FILLS))
         }
     }
 }
@@ -48,7 +51,7 @@ fn probe<K: Sink>(
     let mut table = open(rt, table)?;
     let mut book = open(rt, book)?;
     let record = record.as_bytes();
-    Ok(run_probe(rt.alloc(), &mut table, &mut book, record, output, u32::MAX))
+    Ok(run_probe(rt.alloc(), &mut table, &mut book, record, output, FILLS))
 }
 
 /// Makes the file of the book once there is one, so that a fault or a refused table leaves the old file.
@@ -57,7 +60,7 @@ fn collect(rt: &HostRuntime, table: &str, book: &str) -> Answer {
     let mut input = FromRead::new(rt.reader());
     // Each reply is written at once, so that it can be waited for before the next line is sent.
     let mut replies = ToWrite::new(io::writer(rt));
-    match run_collect(rt.alloc(), &mut table, &mut input, &mut replies, u32::MAX) {
+    match run_collect(rt.alloc(), &mut table, &mut input, &mut replies, FILLS) {
         Ok(Some(made)) => save(rt, book, &made),
         Ok(None) => Ok(Ok(false)),
         Err(fault) => Ok(Err(fault)),

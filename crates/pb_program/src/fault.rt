@@ -15,14 +15,8 @@ pub(crate) fn no_file(rt: &HostRuntime) -> u8
 }
 
 /// Tells of a fault in a line after what the command wrote. A sink that failed is left alone.
-pub(crate) fn tell_fault<W: Write>(output: &mut ToWrite<W>, fault: Fault) {
-    let line = match fault {
-        Fault::Write => return,
-        Fault::Read => "fault read\n",
-        Fault::Endless => "fault endless\n",
-        Fault::Memory => "fault memory\n",
-    };
-    if output.put(line.as_bytes()).is_ok() {
-        let _ = output.flush();
+pub(crate) fn tell_fault<W: Write>(rt: &HostRuntime, output: &mut ToWrite<W>, fault: Fault) {
+    if fault != Fault::Write && output.flush().is_ok() {
+        let _ = println!(rt; "fault {fault}");
     }
 }

@@ -7,4 +7,5 @@ mod fault;
 mod file;
 mod program;
 
+pub use command::FILLS;
 pub use program::{USAGE, run, want_of_memory};

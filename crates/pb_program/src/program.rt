@@ -41,7 +41,7 @@ fn perform(rt: &HostRuntime, order: &Order<'_>) -> u8
         return no_file(rt);
     };
     if let Err(fault) = answer {
-        tell_fault(&mut output, fault);
+        tell_fault(rt, &mut output, fault);
     }
     status(answer)
 }
@@ -50,6 +50,6 @@ fn perform(rt: &HostRuntime, order: &Order<'_>) -> u8
 pub fn want_of_memory(rt: &HostRuntime) -> u8
     ensures { result ≡ 3 }
 {
-    let _ = println!(rt; "fault memory");
+    let _ = println!(rt; "fault {}", Fault::Memory);
     status(Err(Fault::Memory))
 }
