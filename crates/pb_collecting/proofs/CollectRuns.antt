@@ -32,7 +32,7 @@ module _ (fills : ℕ) (t t' s s' : SourceState) (sink sink' : SinkState) where
       no_table judges stops sink sink' fills t t' (λ out x. record { refused = x; unread = same; answered = refl }) (λ x. (x, same)) (λ x. (x, same)) (λ x. (x, same)) result e h r
 
   -- the answer of a text that was put is that of a refusal
-  pub put_refused : (answer : Bool) → PutsText judges sink sink' answer → PutsText judges sink sink' false
+  put_refused : (answer : Bool) → PutsText judges sink sink' answer → PutsText judges sink sink' false
   put_refused answer h = subst (λ a. PutsText judges sink sink' a) h.judged.answered h
 
   refused_told : (file bytes : Option (List ℕ)) → t.to_come ≡ file → PutsText judges sink sink' false → TellsCollect file bytes sink sink' None

@@ -1,17 +1,14 @@
 -- How a run of the command `export` ends, from what its parts do.
-use Rattle.std.proofs.Common.{◌≡◌, ℕ, Bool, List, Result, Ok, Err, false, refl, subst, sym, true}
-use Rattle.std.specs.Prelude.{IfErr, IfOk}
+use Rattle.std.proofs.Common.{◌≡◌, ℕ, Bool, Result, Ok, Err, false, refl, subst, true}
 use Rattle.pb_io.specs.Source.{SourceState}
 use Rattle.pb_io.specs.Sink.{SinkState}
 use Rattle.pb_ledger.specs.Ledger.{LedgerState}
 use Rattle.pb_ledger.specs.Exporting.{Exports, ExportsUntil}
 use Rattle.pb_export.specs.declared.exporting.ExportFault.{ExportFault}
-use Rattle.pb_commands.specs.Judged.{PutsText, PutsUntil}
 use Rattle.pb_commands.specs.ShowsRefusal.{RefusesForTable}
 use Rattle.pb_poly.specs.TableReading.{FindsNoTable}
 use Rattle.pb_commands.specs.declared.fault.Fault.{Fault}
 use Rattle.pb_poly.specs.declared.table_file.TableFault.{TableFault}
-use Rattle.pb_collecting.specs.CollectRun.{JudgesTable}
 use Rattle.pb_collecting.specs.ExportRun.{ExportsAnswered, ExportsOrStops, StopsExport, at_export, at_submissions, at_table, fault_of_export}
 use Rattle.pb_collecting.specs.Taking.{FillsLedger, RefusesGames, TakesOrStops}
 use Rattle.pb_collecting.specs.declared.taking.NoGames.{NoGames}

@@ -7,7 +7,6 @@ use Rattle.pb_poly.specs.declared.entry.Entry.{Entry}
 use Rattle.pb_games.specs.Submissions.{Submission}
 use Rattle.pb_games.specs.declared.refusal.Refusal.{Refusal}
 use Rattle.pb_ledger.specs.Accepting.{Accepted, Answer, OneGame, Run, Taken}
-use Rattle.pb_ledger.specs.Basis.{Basis}
 use Rattle.pb_ledger.specs.Counting.{IsBook}
 use Rattle.pb_ledger.specs.Laws.{ArrivalsAreNumbered, NoRepeats, RepeatsAreAnsweredAlike}
 use Rattle.pb_ledger.specs.Replies.{replies}
