@@ -1,180 +1,197 @@
 //! Books of entries.
 
-ghost use Rattle.std.specs.Prelude.{◌≤◌};
-
-use crate::narrow::BreaksOff;
+use crate::ends::{failing_source, source_of};
+use crate::moves::tell_move;
+use crate::page::{Done, Page, Trouble};
 use crate::record::setup_of;
 use crate::runs::Runs;
 use crate::table::table_of;
-use crate::text::{bytes_of, fills_of, shown};
-use pb_poly::{
-    Book, Entry, FromRead, MemSink, MemSource, Sink, Source, probe, read_book, write_book,
-    write_entry,
-};
+use crate::text::{bytes_of, count_of, fills_of};
+use pb_poly::{Book, Entry, MemSink, Sink, Source, probe, read_book, write_book, write_entry};
 use std::alloc::Global;
-use std::fmt::Write;
-use std::io::ErrorKind;
 
 /// The answer to a call.
-pub(crate) fn answer(alloc: Global, call: &[&str]) -> anyhow::Result<String> {
+pub(crate) fn answer(page: &mut Page, call: &[&str]) -> Done {
     match call {
-        ["read", piece, fills, entries @ ..] => {
-            let file = file_of(alloc, entries)?;
-            read(
-                alloc,
-                file.as_bytes(),
-                piece.parse::<usize>()?,
-                fills_of(fills)?,
-            )
-        }
-        ["pieces", most, entries @ ..] => pieces(alloc, most, entries),
-        ["cut", entries @ ..] => cut(alloc, entries),
-        ["cut-off", entries @ ..] => cut_off(alloc, entries),
-        ["of", entries @ ..] => of(alloc, entries),
-        ["probe", table, record, entries @ ..] => found(alloc, table, record, entries),
-        _ => anyhow::bail!("no such call"),
+        ["read", piece, fills, entries @ ..] => read(page, piece, fills, entries),
+        ["pieces", most, entries @ ..] => pieces(page, most, entries),
+        ["cut", entries @ ..] => cut(page, entries),
+        ["cut-off", entries @ ..] => cut_off(page, entries),
+        ["of", entries @ ..] => of(page, entries),
+        ["probe", table, record, entries @ ..] => found(page, table, record, entries),
+        _ => Err(Trouble::Row),
     }
 }
 
-/// The entry of a key, a code, a weight and a learn value, in hexadecimal.
-fn entry_of(alloc: Global, text: &str) -> anyhow::Result<Option<Entry>> {
-    let words: Vec<&str> = text.split(' ').collect(alloc)?;
-    let [key, code, weight, learn] = words.as_slice() else {
-        return Ok(None);
-    };
-    Ok(Some(Entry {
-        key: u64::from_str_radix(key, 16)?,
-        code: u16::from_str_radix(code, 16)?,
-        weight: u16::from_str_radix(weight, 16)?,
-        learn: u32::from_str_radix(learn, 16)?,
-    }))
+/// The number that a word writes in hexadecimal.
+fn hexadecimal(word: &str) -> Result<u64, Trouble> {
+    match u64::from_str_radix(word, 16) {
+        Ok(number) => Ok(number),
+        Err(_) => Err(Trouble::Row),
+    }
 }
 
-/// The file of these entries. An argument that isn't four words stands for bytes.
-pub(crate) fn file_of(alloc: Global, entries: &[&str]) -> anyhow::Result<MemSink> {
+/// The number of 16 bits that a word writes in hexadecimal.
+fn short_hexadecimal(word: &str) -> Result<u16, Trouble> {
+    match u16::try_from(hexadecimal(word)?) {
+        Ok(number) => Ok(number),
+        Err(_) => Err(Trouble::Row),
+    }
+}
+
+/// The number of 32 bits that a word writes in hexadecimal.
+fn long_hexadecimal(word: &str) -> Result<u32, Trouble> {
+    match u32::try_from(hexadecimal(word)?) {
+        Ok(number) => Ok(number),
+        Err(_) => Err(Trouble::Row),
+    }
+}
+
+/// The entry of a key, a code, a weight and a learn value.
+fn entry_of(alloc: Global, text: &str) -> Result<Entry, Trouble> {
+    let words: Vec<&str> = text.split(' ').collect(alloc)?;
+    let [key, code, weight, learn] = words.as_slice() else {
+        return Err(Trouble::Row);
+    };
+    Ok(Entry {
+        key: hexadecimal(key)?,
+        code: short_hexadecimal(code)?,
+        weight: short_hexadecimal(weight)?,
+        learn: long_hexadecimal(learn)?,
+    })
+}
+
+/// The file of these entries. An argument without a space stands for bytes.
+pub(crate) fn file_of(alloc: Global, entries: &[&str]) -> Result<MemSink, Trouble> {
     let mut file = MemSink::new(alloc);
     for text in entries {
-        match entry_of(alloc, text)? {
-            Some(entry) => write_entry(&mut file, &entry)?,
-            None => file.put(bytes_of(alloc, text)?.as_slice())?,
+        if text.contains(' ') {
+            write_entry(&mut file, &entry_of(alloc, text)?)?;
+        } else {
+            file.put(bytes_of(alloc, text)?.as_slice())?;
         }
     }
     Ok(file)
 }
 
-/// These bytes, in pieces of at most this size.
-pub(crate) fn source_of(bytes: &[u8], piece: usize) -> MemSource<'_> {
-    MemSource::new(bytes, piece.max(1))
-}
-
 /// The entries, a line each.
-pub(crate) fn tell(alloc: Global, book: &Book) -> anyhow::Result<String> {
-    let mut text = String::new(alloc);
+pub(crate) fn tell(page: &mut Page, book: &Book) -> Done {
     for entry in book.entries() {
-        let key = entry.key;
-        let code = entry.code;
-        let weight = entry.weight;
-        let learn = entry.learn;
-        writeln!(text, "{key:016x} {code:04x} {weight:04x} {learn:08x}")?;
+        page.put_digits(entry.key.to_be_bytes().as_slice())?;
+        page.put(" ")?;
+        page.put_digits(entry.code.to_be_bytes().as_slice())?;
+        page.put(" ")?;
+        page.put_digits(entry.weight.to_be_bytes().as_slice())?;
+        page.put(" ")?;
+        page.put_digits(entry.learn.to_be_bytes().as_slice())?;
+        page.put("\n")?;
     }
-    Ok(text)
+    Ok(())
 }
 
 /// The entries of a file, and whether they are written as they were read.
-fn read(alloc: Global, file: &[u8], piece: usize, fills: u32) -> anyhow::Result<String> {
-    let book = match read_book(alloc, &mut source_of(file, piece), fills) {
-        Ok(book) => book,
-        Err(refusal) => return Ok(format!(in alloc; "refused {refusal:?}")?),
-    };
-    let mut again = MemSink::new(alloc);
-    write_book(&mut again, &book)?;
-    let is_same = again.as_bytes() == file;
-    Ok(format!(in alloc; "{}written the same {is_same}", tell(alloc, &book)?)?)
+fn tell_read(page: &mut Page, file: &[u8], piece: usize, fills: u32) -> Done {
+    match read_book(page.alloc, &mut source_of(file, piece), fills) {
+        Ok(book) => tell_again(page, file, &book),
+        Err(refusal) => page.put_refusal(&refusal),
+    }
+}
+
+/// The entries of a book, and whether they are written as this file.
+fn tell_again(page: &mut Page, file: &[u8], book: &Book) -> Done {
+    tell(page, book)?;
+    let mut again = MemSink::new(page.alloc);
+    write_book(&mut again, book)?;
+    page.put_count("written the same ", &(again.as_bytes() == file))
+}
+
+/// The file, read in pieces of this size and so many fills.
+fn read(page: &mut Page, piece: &str, fills: &str, entries: &[&str]) -> Done {
+    let file = file_of(page.alloc, entries)?;
+    tell_read(page, file.as_bytes(), count_of(piece)?, fills_of(fills)?)
 }
 
 /// The file, read in pieces of each size up to this.
-fn pieces(alloc: Global, most: &str, entries: &[&str]) -> anyhow::Result<String> {
-    let file = file_of(alloc, entries)?;
-    let mut runs = Runs::new(alloc);
-    for piece in 1..=most.parse::<usize>()? {
-        runs.add(piece, read(alloc, file.as_bytes(), piece, u32::MAX)?)?;
+fn pieces(page: &mut Page, most: &str, entries: &[&str]) -> Done {
+    let file = file_of(page.alloc, entries)?;
+    let mut runs = Runs::new();
+    for piece in 1..=count_of(most)? {
+        let mut answer = Page::new(page.alloc);
+        tell_read(&mut answer, file.as_bytes(), piece, u32::MAX)?;
+        runs.add(page, piece, answer)?;
     }
-    runs.finish()
+    runs.end(page)
 }
 
 /// How many entries a source gives, or why it gives no book.
-fn count_entries<S: Source>(alloc: Global, source: &mut S) -> anyhow::Result<String> {
+fn count_entries<S: Source>(alloc: Global, source: &mut S) -> Result<Page, Trouble> {
+    let mut page = Page::new(alloc);
     match read_book(alloc, source, u32::MAX) {
-        Ok(book) => {
-            let count = book.entries().len();
-            Ok(format!(in alloc; "entries: {count}")?)
-        }
-        Err(refusal) => Ok(format!(in alloc; "refused {refusal:?}")?),
+        Ok(book) => page.put_count("entries: ", &book.entries().len())?,
+        Err(refusal) => page.put_refusal(&refusal)?,
     }
+    Ok(page)
 }
 
 /// Each front of the file, read.
-fn cut(alloc: Global, entries: &[&str]) -> anyhow::Result<String> {
-    let file = file_of(alloc, entries)?;
+fn cut(page: &mut Page, entries: &[&str]) -> Done {
+    let file = file_of(page.alloc, entries)?;
     let bytes = file.as_bytes();
-    let mut runs = Runs::new(alloc);
+    let mut runs = Runs::new();
     for count in 0..=bytes.len() {
-        runs.add(
-            count,
-            count_entries(alloc, &mut source_of(&bytes[..count], 1))?,
-        )?;
+        let answer = count_entries(page.alloc, &mut source_of(&bytes[..count], 1))?;
+        runs.add(page, count, answer)?;
     }
-    runs.finish()
+    runs.end(page)
 }
 
-/// Each front of the file from a reader that fails after it.
-fn cut_off(alloc: Global, entries: &[&str]) -> anyhow::Result<String> {
-    let file = file_of(alloc, entries)?;
+/// The file from a reader that fails once after each front of it.
+fn cut_off(page: &mut Page, entries: &[&str]) -> Done {
+    let file = file_of(page.alloc, entries)?;
     let bytes = file.as_bytes();
-    let mut runs = Runs::new(alloc);
+    let mut runs = Runs::new();
     for count in 0..=bytes.len() {
-        let mut source = FromRead::new(BreaksOff {
-            rest: &bytes[..count],
-            kind: ErrorKind::Other,
-        });
-        runs.add(count, count_entries(alloc, &mut source)?)?;
+        let answer = count_entries(page.alloc, &mut failing_source(bytes, 2, count))?;
+        runs.add(page, count, answer)?;
     }
-    runs.finish()
+    runs.end(page)
 }
 
 /// These entries.
-fn entries_of(alloc: Global, texts: &[&str]) -> anyhow::Result<Vec<Entry>> {
+fn entries_of(alloc: Global, texts: &[&str]) -> Result<Vec<Entry>, Trouble> {
     let mut entries = Vec::new(alloc);
     for text in texts {
-        match entry_of(alloc, text)? {
-            Some(entry) => entries.push(entry)?,
-            None => anyhow::bail!("no entry: {text}"),
-        }
+        entries.push(entry_of(alloc, text)?)?;
     }
     Ok(entries)
 }
 
 /// The book of these entries, or the number of the first whose key falls.
-fn of(alloc: Global, texts: &[&str]) -> anyhow::Result<String> {
-    match Book::of(entries_of(alloc, texts)?) {
-        Ok(book) => Ok(format!(in alloc; "a book\n{}", tell(alloc, &book)?)?),
+fn of(page: &mut Page, texts: &[&str]) -> Done {
+    match Book::of(entries_of(page.alloc, texts)?) {
+        Ok(book) => {
+            page.put("a book\n")?;
+            tell(page, &book)
+        }
         Err((number, back)) => {
-            let count = back.len();
-            Ok(format!(in alloc; "refused entry {number}, {count} handed back")?)
+            page.put_count("refused entry ", &number)?;
+            page.put_count(", ", &back.len())?;
+            page.put(" handed back")
         }
     }
 }
 
 /// The moves that the book of these entries has for a record, with their weights.
-fn found(alloc: Global, table: &str, record: &str, texts: &[&str]) -> anyhow::Result<String> {
-    let table = table_of(alloc, table)?;
-    let Ok(book) = Book::of(entries_of(alloc, texts)?) else {
-        anyhow::bail!("keys fall");
+fn found(page: &mut Page, table: &str, record: &str, texts: &[&str]) -> Done {
+    let Ok(book) = Book::of(entries_of(page.alloc, texts)?) else {
+        return Err(Trouble::Row);
     };
-    let mut text = String::new(alloc);
-    for (m, weight) in &probe(alloc, &book, &table, &setup_of(alloc, record)?)? {
-        let m = shown(alloc, m.text().as_bytes())?;
-        writeln!(text, "{m} {weight}")?;
+    let table = table_of(page.alloc, table)?;
+    let setup = setup_of(page.alloc, record)?;
+    for (m, weight) in &probe(page.alloc, &book, &table, &setup)? {
+        tell_move(page, Some(*m))?;
+        page.put_count(" ", weight)?;
+        page.put("\n")?;
     }
-    Ok(text)
+    Ok(())
 }

@@ -1,150 +1,177 @@
 //! The commands over books, tables and submissions, over memory.
 
-use crate::book::{file_of, source_of};
+use crate::book::file_of;
 use crate::command::told;
+use crate::ends::{Ends, Giver, Taker, ends_of, failing_source};
 use crate::game::stream_of;
+use crate::page::{Done, Page, Trouble};
 use crate::runs::Runs;
-use crate::text::{bytes_of, fills_of, shown};
-use pb_cli::{run_collect, run_export, run_probe, run_show};
-use pb_poly::{MemSink, MemSource, Source, write_book};
-use std::alloc::Global;
-use std::fmt::Write;
+use crate::text::{bytes_of, count_of};
+use pb_cli::{Fault, run_collect, run_export, run_probe, run_show};
+use pb_poly::{Book, FromRead, MemSink, Source, ToWrite, write_book};
 
 /// How large the pieces of tables are.
 const TABLE_PIECE: usize = 1000;
 
 /// The answer to a call.
-pub(crate) fn answer(alloc: Global, call: &[&str]) -> anyhow::Result<String> {
+pub(crate) fn answer(page: &mut Page, call: &[&str]) -> Done {
     match call {
-        ["show", fills, entries @ ..] => {
-            let file = file_of(alloc, entries)?;
-            show(alloc, file.as_bytes(), 1, fills_of(fills)?)
-        }
-        ["show-pieces", most, entries @ ..] => show_pieces(alloc, most, entries),
-        ["probe", table, fills, record, entries @ ..] => {
-            let file = file_of(alloc, entries)?;
-            probe(alloc, table, fills, record, file.as_bytes())
-        }
-        ["collect", table, fills, lines @ ..] => {
-            let stream = stream_of(alloc, lines)?;
-            collect(alloc, table, fills, &mut source_of(stream.as_slice(), 100))
-        }
-        ["export", table, fills, lines @ ..] => {
-            let stream = stream_of(alloc, lines)?;
-            export(alloc, table, fills, &mut source_of(stream.as_slice(), 7))
-        }
-        ["collect-leaves", table, lines @ ..] => {
-            let stream = stream_of(alloc, lines)?;
-            let mut source = source_of(stream.as_slice(), 100);
-            let answer = collect(alloc, table, "all", &mut source)?;
-            leaves(alloc, answer.as_str(), &mut source)
-        }
-        ["export-leaves", table, lines @ ..] => {
-            let stream = stream_of(alloc, lines)?;
-            let mut source = source_of(stream.as_slice(), 7);
-            let answer = export(alloc, table, "all", &mut source)?;
-            leaves(alloc, answer.as_str(), &mut source)
-        }
-        _ => anyhow::bail!("no such call"),
+        ["show", ends, entries @ ..] => show(page, ends, entries),
+        ["show-pieces", most, entries @ ..] => show_pieces(page, most, entries),
+        ["probe", table, ends, record, entries @ ..] => probe(page, table, ends, record, entries),
+        ["collect", table, ends, lines @ ..] => collect(page, table, ends, lines),
+        ["export", table, ends, lines @ ..] => export(page, table, ends, lines),
+        ["collect-leaves", table, lines @ ..] => collect_leaves(page, table, lines),
+        ["export-leaves", table, lines @ ..] => export_leaves(page, table, lines),
+        _ => Err(Trouble::Row),
     }
+}
+
+/// The command `show` over a file in pieces of this size.
+fn show_over(page: &mut Page, file: &[u8], piece: usize, ends: Ends) -> Done {
+    let mut source = failing_source(file, piece, ends.input);
+    let mut taker = Taker::new(page.alloc, ends.output, true);
+    let answer = run_show(
+        page.alloc,
+        &mut source,
+        &mut ToWrite::new(&mut taker),
+        ends.fills,
+    );
+    told(page, answer, taker.taken.as_slice())
 }
 
 /// The command `show` over a file.
-fn show(alloc: Global, file: &[u8], piece: usize, fills: u32) -> anyhow::Result<String> {
-    let mut source = source_of(file, piece);
-    let mut sink = MemSink::new(alloc);
-    let answer = run_show(alloc, &mut source, &mut sink, fills);
-    told(alloc, answer, sink.as_bytes())
+fn show(page: &mut Page, ends: &str, entries: &[&str]) -> Done {
+    let file = file_of(page.alloc, entries)?;
+    show_over(page, file.as_bytes(), 1, ends_of(ends)?)
 }
 
 /// The command `show` over a file in pieces of each size up to this.
-fn show_pieces(alloc: Global, most: &str, entries: &[&str]) -> anyhow::Result<String> {
-    let file = file_of(alloc, entries)?;
-    let mut runs = Runs::new(alloc);
-    for piece in 1..=most.parse::<usize>()? {
-        runs.add(piece, show(alloc, file.as_bytes(), piece, u32::MAX)?)?;
+fn show_pieces(page: &mut Page, most: &str, entries: &[&str]) -> Done {
+    let file = file_of(page.alloc, entries)?;
+    let mut runs = Runs::new();
+    for piece in 1..=count_of(most)? {
+        let mut answer = Page::new(page.alloc);
+        show_over(&mut answer, file.as_bytes(), piece, ends_of("all")?)?;
+        runs.add(page, piece, answer)?;
     }
-    runs.finish()
+    runs.end(page)
 }
 
 /// The command `probe` over a table and a book.
-fn probe(
-    alloc: Global,
-    table: &str,
-    fills: &str,
-    record: &str,
-    file: &[u8],
-) -> anyhow::Result<String> {
-    let table = bytes_of(alloc, table)?;
-    let record = bytes_of(alloc, record)?;
-    let mut table = source_of(table.as_slice(), TABLE_PIECE);
-    let mut book = source_of(file, 3);
-    let mut sink = MemSink::new(alloc);
-    let fills = fills_of(fills)?;
+fn probe(page: &mut Page, table: &str, ends: &str, record: &str, entries: &[&str]) -> Done {
+    let ends = ends_of(ends)?;
+    let table = bytes_of(page.alloc, table)?;
+    let file = file_of(page.alloc, entries)?;
+    let record = bytes_of(page.alloc, record)?;
+    let mut table = failing_source(table.as_slice(), TABLE_PIECE, ends.table);
+    let mut book = failing_source(file.as_bytes(), 3, ends.input);
+    let mut taker = Taker::new(page.alloc, ends.output, true);
     let answer = run_probe(
-        alloc,
+        page.alloc,
         &mut table,
         &mut book,
         record.as_slice(),
-        &mut sink,
-        fills,
+        &mut ToWrite::new(&mut taker),
+        ends.fills,
     );
-    told(alloc, answer, sink.as_bytes())
+    told(page, answer, taker.taken.as_slice())
 }
 
-/// The command `collect`: the replies, and the book as entries and as bytes of a file.
-fn collect(
-    alloc: Global,
+/// The command `collect` over a source: the replies, and the book as bytes of a file.
+fn collect_over(
+    page: &mut Page,
     table: &str,
-    fills: &str,
-    source: &mut MemSource,
-) -> anyhow::Result<String> {
-    let table = bytes_of(alloc, table)?;
-    let mut table = source_of(table.as_slice(), TABLE_PIECE);
-    let mut sink = MemSink::new(alloc);
-    let answer = run_collect(alloc, &mut table, source, &mut sink, fills_of(fills)?);
-    let replies = shown(alloc, sink.as_bytes())?;
+    source: &mut FromRead<Giver<'_>>,
+    ends: Ends,
+) -> Done {
+    let table = bytes_of(page.alloc, table)?;
+    let mut table = failing_source(table.as_slice(), TABLE_PIECE, ends.table);
+    let mut taker = Taker::new(page.alloc, ends.output, true);
+    let mut replies = ToWrite::new(&mut taker);
+    let answer = run_collect(page.alloc, &mut table, source, &mut replies, ends.fills);
+    page.put_bytes(taker.taken.as_slice())?;
+    tell_book(page, answer)
+}
+
+/// The book that a command gives, as bytes of a file.
+fn tell_book(page: &mut Page, answer: Result<Option<Book>, Fault>) -> Done {
     match answer {
         Ok(Some(book)) => {
-            let mut file = MemSink::new(alloc);
+            let mut file = MemSink::new(page.alloc);
             write_book(&mut file, &book)?;
-            Ok(format!(in alloc; "{replies}a book\n{}", digits_of(alloc, file.as_bytes())?)?)
+            page.put("a book\n")?;
+            tell_digits(page, file.as_bytes())
         }
-        Ok(None) => Ok(format!(in alloc; "{replies}no book")?),
-        Err(fault) => Ok(format!(in alloc; "{replies}fault {fault:?}")?),
+        Ok(None) => page.put("no book"),
+        Err(fault) => {
+            page.put("fault ")?;
+            page.put_debug(&fault)
+        }
     }
 }
 
 /// The bytes in hexadecimal, sixteen a line.
-fn digits_of(alloc: Global, bytes: &[u8]) -> anyhow::Result<String> {
-    let mut text = String::new(alloc);
-    for entry in bytes.chunks(16) {
-        for byte in entry {
-            write!(text, "{byte:02x}")?;
+fn tell_digits(page: &mut Page, bytes: &[u8]) -> Done {
+    for (place, byte) in bytes.iter().enumerate() {
+        if place % 16 == 0 {
+            page.put("\n")?;
         }
-        text.push('\n')?;
+        page.put_digits(&[*byte])?;
     }
-    Ok(text)
+    Ok(())
 }
 
-/// The command `export`.
-fn export(
-    alloc: Global,
-    table: &str,
-    fills: &str,
-    source: &mut MemSource,
-) -> anyhow::Result<String> {
-    let table = bytes_of(alloc, table)?;
-    let mut table = source_of(table.as_slice(), TABLE_PIECE);
-    let mut sink = MemSink::new(alloc);
-    let answer = run_export(alloc, &mut table, source, &mut sink, fills_of(fills)?);
-    told(alloc, answer, sink.as_bytes())
+/// The command `collect` over lines.
+fn collect(page: &mut Page, table: &str, ends: &str, lines: &[&str]) -> Done {
+    let ends = ends_of(ends)?;
+    let stream = stream_of(page.alloc, lines)?;
+    let mut source = failing_source(stream.as_slice(), 100, ends.input);
+    collect_over(page, table, &mut source, ends)
 }
 
-/// An answer, and the three bytes that the source gives after it.
-fn leaves(alloc: Global, answer: &str, source: &mut MemSource) -> anyhow::Result<String> {
+/// The command `export` over a source.
+fn export_over(page: &mut Page, table: &str, source: &mut FromRead<Giver<'_>>, ends: Ends) -> Done {
+    let table = bytes_of(page.alloc, table)?;
+    let mut table = failing_source(table.as_slice(), TABLE_PIECE, ends.table);
+    let mut taker = Taker::new(page.alloc, ends.output, true);
+    let mut sink = ToWrite::new(&mut taker);
+    let answer = run_export(page.alloc, &mut table, source, &mut sink, ends.fills);
+    told(page, answer, taker.taken.as_slice())
+}
+
+/// The command `export` over lines.
+fn export(page: &mut Page, table: &str, ends: &str, lines: &[&str]) -> Done {
+    let ends = ends_of(ends)?;
+    let stream = stream_of(page.alloc, lines)?;
+    let mut source = failing_source(stream.as_slice(), 7, ends.input);
+    export_over(page, table, &mut source, ends)
+}
+
+/// The command `collect` over lines, and what the source gives after it.
+fn collect_leaves(page: &mut Page, table: &str, lines: &[&str]) -> Done {
+    let ends = ends_of("all")?;
+    let stream = stream_of(page.alloc, lines)?;
+    let mut source = failing_source(stream.as_slice(), 100, ends.input);
+    collect_over(page, table, &mut source, ends)?;
+    tell_next(page, &mut source)
+}
+
+/// The command `export` over lines, and what the source gives after it.
+fn export_leaves(page: &mut Page, table: &str, lines: &[&str]) -> Done {
+    let ends = ends_of("all")?;
+    let stream = stream_of(page.alloc, lines)?;
+    let mut source = failing_source(stream.as_slice(), 7, ends.input);
+    export_over(page, table, &mut source, ends)?;
+    tell_next(page, &mut source)
+}
+
+/// The next three bytes of a source.
+fn tell_next(page: &mut Page, source: &mut FromRead<Giver<'_>>) -> Done {
     let mut next = [0; 3];
     let filled = source.fill(&mut next);
-    let next = shown(alloc, next.as_slice())?;
-    Ok(format!(in alloc; "{answer}\n{filled:?} {next}")?)
+    page.put("\n")?;
+    page.put_debug(&filled)?;
+    page.put(" ")?;
+    page.put_bytes(next.as_slice())
 }

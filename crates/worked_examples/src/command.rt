@@ -1,149 +1,161 @@
 //! The command line, and the commands `fen` and `epd` over memory, readers and writers.
 
-use crate::book::source_of;
 use crate::book_command;
-use crate::narrow::BreaksOff;
+use crate::ends::{Ends, Taker, ends_of, failing_source};
+use crate::page::{Done, Page, Trouble};
 use crate::runs::Runs;
-use crate::text::{bytes_of, fills_of, shown};
+use crate::text::{bytes_of, count_of};
 use pb_cli::{Fault, ParseFault, parse, run_epd, run_fen, status};
-use pb_poly::{FromRead, MemSink, Source, ToWrite};
-use std::alloc::Global;
-use std::io::{Cursor, ErrorKind};
+use pb_poly::{FromRead, ToWrite};
+use pb_program::FILLS;
+use std::io::Cursor;
 
-/// How much room the writers have at most.
+/// How much room the array of a writer has.
 const ROOM: usize = 128;
 
 /// The answer to a call.
-pub(crate) fn answer(alloc: Global, call: &[&str]) -> anyhow::Result<String> {
+pub(crate) fn answer(page: &mut Page, call: &[&str]) -> Done {
     match call {
-        ["parse", words @ ..] => parsed(alloc, words),
-        ["status"] => statuses(alloc),
-        ["fen", record, moves @ ..] => fen(alloc, record, moves),
-        ["fen-room", most, record] => fen_room(alloc, most, record),
-        ["epd", piece, fills, text] => {
-            let bytes = bytes_of(alloc, text)?;
-            let mut source = source_of(bytes.as_slice(), piece.parse::<usize>()?);
-            epd(alloc, &mut source, fills_of(fills)?)
-        }
-        ["epd-pieces", most, text] => epd_pieces(alloc, most, text),
-        ["epd-streams", text] => epd_streams(alloc, text),
-        ["epd-failing-reader", text] => epd_failing_reader(alloc, text),
-        ["epd-room", most, text] => epd_room(alloc, most, text),
-        _ => book_command::answer(alloc, call),
+        ["parse", words @ ..] => parsed(page, words),
+        ["status"] => statuses(page),
+        ["faults"] => faults(page),
+        ["fills"] => page.put_display(&FILLS),
+        ["fen", record, moves @ ..] => fen(page, record, moves),
+        ["fen-room", most, record] => fen_room(page, most, record),
+        ["epd", piece, ends, text] => epd(page, piece, ends, text),
+        ["epd-pieces", most, text] => epd_pieces(page, most, text),
+        ["epd-streams", text] => epd_streams(page, text),
+        ["epd-room", most, text] => epd_room(page, most, text),
+        _ => book_command::answer(page, call),
     }
 }
 
 /// The answer of a command with its status, and what was put.
-pub(crate) fn told(
-    alloc: Global,
-    answer: Result<bool, Fault>,
-    put: &[u8],
-) -> anyhow::Result<String> {
-    let status = status(answer);
-    let text = shown(alloc, put)?;
-    Ok(format!(in alloc; "{answer:?} status {status}\n{text}")?)
+pub(crate) fn told(page: &mut Page, answer: Result<bool, Fault>, put: &[u8]) -> Done {
+    page.put_debug(&answer)?;
+    page.put_count(" status ", &status(answer))?;
+    page.put("\n")?;
+    page.put_bytes(put)
 }
 
 /// The order that a command line gives, or whether its text is shown instead.
-fn parsed(alloc: Global, words: &[&str]) -> anyhow::Result<String> {
-    match parse(alloc, words) {
-        Ok(order) => Ok(format!(in alloc; "{order:?}")?),
-        Err(ParseFault::Usage(_)) => Ok("usage".to_string(alloc)?),
-        Err(ParseFault::Memory) => Ok("memory".to_string(alloc)?),
+fn parsed(page: &mut Page, words: &[&str]) -> Done {
+    match parse(page.alloc, words) {
+        Ok(order) => page.put_debug(&order),
+        Err(ParseFault::Usage(_)) => page.put("usage"),
+        Err(ParseFault::Memory) => page.put("memory"),
     }
 }
 
 /// The status for each answer of a command.
-fn statuses(alloc: Global) -> anyhow::Result<String> {
-    let mut text = String::new(alloc);
-    for answer in [
-        Ok(true),
-        Ok(false),
-        Err(Fault::Read),
-        Err(Fault::Write),
-        Err(Fault::Endless),
-        Err(Fault::Memory),
-    ] {
-        text.push_str(told(alloc, answer, b"")?.as_str())?;
-    }
-    Ok(text)
+fn statuses(page: &mut Page) -> Done {
+    told(page, Ok(true), b"")?;
+    told(page, Ok(false), b"")?;
+    told(page, Err(Fault::Read), b"")?;
+    told(page, Err(Fault::Write), b"")?;
+    told(page, Err(Fault::Endless), b"")?;
+    told(page, Err(Fault::Memory), b"")
+}
+
+/// The word that tells each fault.
+fn faults(page: &mut Page) -> Done {
+    page.put_count("a source failed: ", &Fault::Read)?;
+    page.put_count("\na sink failed: ", &Fault::Write)?;
+    page.put_count("\na source didn't end: ", &Fault::Endless)?;
+    page.put_count("\nno memory: ", &Fault::Memory)
 }
 
 /// The command `fen`.
-fn fen(alloc: Global, record: &str, moves: &[&str]) -> anyhow::Result<String> {
-    let record = bytes_of(alloc, record)?;
-    let mut sink = MemSink::new(alloc);
-    let answer = run_fen(alloc, record.as_slice(), moves, &mut sink);
-    told(alloc, answer, sink.as_bytes())
+fn fen(page: &mut Page, record: &str, moves: &[&str]) -> Done {
+    let record = bytes_of(page.alloc, record)?;
+    let mut taker = Taker::new(page.alloc, usize::MAX, false);
+    let answer = run_fen(
+        page.alloc,
+        record.as_slice(),
+        moves,
+        &mut ToWrite::new(&mut taker),
+    );
+    told(page, answer, taker.taken.as_slice())
 }
 
 /// The command `fen` into each room up to this many bytes.
-fn fen_room(alloc: Global, most: &str, record: &str) -> anyhow::Result<String> {
-    let record = bytes_of(alloc, record)?;
-    let mut room = [0; ROOM];
-    let mut runs = Runs::new(alloc);
-    for len in 0..=most.parse::<usize>()?.min(ROOM) {
-        let answer = {
-            let mut sink = ToWrite::new(&mut room[..len]);
-            run_fen(alloc, record.as_slice(), &[], &mut sink)
-        };
-        runs.add(len, told(alloc, answer, b"")?)?;
+fn fen_room(page: &mut Page, most: &str, record: &str) -> Done {
+    let record = bytes_of(page.alloc, record)?;
+    let mut runs = Runs::new();
+    for room in 0..=count_of(most)? {
+        let mut taker = Taker::new(page.alloc, room, false);
+        let ended = run_fen(
+            page.alloc,
+            record.as_slice(),
+            &[],
+            &mut ToWrite::new(&mut taker),
+        );
+        let mut answer = Page::new(page.alloc);
+        told(&mut answer, ended, b"")?;
+        runs.add(page, room, answer)?;
     }
-    runs.finish()
+    runs.end(page)
 }
 
-/// The command `epd` over a source, into memory.
-fn epd<S: Source>(alloc: Global, source: &mut S, fills: u32) -> anyhow::Result<String> {
-    let mut sink = MemSink::new(alloc);
-    let answer = run_epd(alloc, source, &mut sink, fills);
-    told(alloc, answer, sink.as_bytes())
+/// The command `epd` over a text in pieces of this size, where the ends are as said, and what it put.
+fn run_over(page: &mut Page, text: &[u8], piece: usize, ends: Ends) -> Done {
+    let mut source = failing_source(text, piece, ends.input);
+    let mut taker = Taker::new(page.alloc, ends.output, true);
+    let answer = run_epd(
+        page.alloc,
+        &mut source,
+        &mut ToWrite::new(&mut taker),
+        ends.fills,
+    );
+    told(page, answer, taker.taken.as_slice())
+}
+
+/// The command `epd` over a text.
+fn epd(page: &mut Page, piece: &str, ends: &str, text: &str) -> Done {
+    let bytes = bytes_of(page.alloc, text)?;
+    run_over(page, bytes.as_slice(), count_of(piece)?, ends_of(ends)?)
 }
 
 /// The command `epd` over a text in pieces of each size up to this.
-fn epd_pieces(alloc: Global, most: &str, text: &str) -> anyhow::Result<String> {
-    let bytes = bytes_of(alloc, text)?;
-    let mut runs = Runs::new(alloc);
-    for piece in 1..=most.parse::<usize>()? {
-        let answer = epd(alloc, &mut source_of(bytes.as_slice(), piece), u32::MAX)?;
-        runs.add(piece, answer)?;
+fn epd_pieces(page: &mut Page, most: &str, text: &str) -> Done {
+    let bytes = bytes_of(page.alloc, text)?;
+    let mut runs = Runs::new();
+    for piece in 1..=count_of(most)? {
+        let mut answer = Page::new(page.alloc);
+        run_over(&mut answer, bytes.as_slice(), piece, ends_of("all")?)?;
+        runs.add(page, piece, answer)?;
     }
-    runs.finish()
+    runs.end(page)
 }
 
 /// The command `epd` over a reader and a writer of std.
-fn epd_streams(alloc: Global, text: &str) -> anyhow::Result<String> {
-    let bytes = bytes_of(alloc, text)?;
+fn epd_streams(page: &mut Page, text: &str) -> Done {
+    let bytes = bytes_of(page.alloc, text)?;
     let mut room = [0; ROOM];
     let answer = {
         let mut source = FromRead::new(bytes.as_slice());
         let mut sink = ToWrite::new(Cursor::new(room.as_mut_slice()));
-        run_epd(alloc, &mut source, &mut sink, u32::MAX)
+        run_epd(page.alloc, &mut source, &mut sink, u32::MAX)
     };
-    told(alloc, answer, room.as_slice())
-}
-
-/// The command `epd` over a reader that fails after a text.
-fn epd_failing_reader(alloc: Global, text: &str) -> anyhow::Result<String> {
-    let bytes = bytes_of(alloc, text)?;
-    let mut source = FromRead::new(BreaksOff {
-        rest: bytes.as_slice(),
-        kind: ErrorKind::Other,
-    });
-    epd(alloc, &mut source, u32::MAX)
+    told(page, answer, room.as_slice())
 }
 
 /// The command `epd` into each room up to this many bytes.
-fn epd_room(alloc: Global, most: &str, text: &str) -> anyhow::Result<String> {
-    let bytes = bytes_of(alloc, text)?;
-    let mut room = [0; ROOM];
-    let mut runs = Runs::new(alloc);
-    for len in 0..=most.parse::<usize>()?.min(ROOM) {
-        let answer = {
-            let mut source = source_of(bytes.as_slice(), 16);
-            let mut sink = ToWrite::new(Cursor::new(&mut room[..len]));
-            run_epd(alloc, &mut source, &mut sink, u32::MAX)
-        };
-        runs.add(len, told(alloc, answer, b"")?)?;
+fn epd_room(page: &mut Page, most: &str, text: &str) -> Done {
+    let bytes = bytes_of(page.alloc, text)?;
+    let mut runs = Runs::new();
+    for room in 0..=count_of(most)? {
+        let mut source = failing_source(bytes.as_slice(), 16, usize::MAX);
+        let mut taker = Taker::new(page.alloc, room, false);
+        let ended = run_epd(
+            page.alloc,
+            &mut source,
+            &mut ToWrite::new(&mut taker),
+            u32::MAX,
+        );
+        let mut answer = Page::new(page.alloc);
+        told(&mut answer, ended, b"")?;
+        runs.add(page, room, answer)?;
     }
-    runs.finish()
+    runs.end(page)
 }

@@ -1,51 +1,64 @@
 //! EPD records.
 
+use crate::page::{Done, Page, Trouble};
 use crate::record::setup_of;
-use crate::text::{bytes_of, shown};
+use crate::text::bytes_of;
 use pb_board::write_setup;
 use pb_epd::{Epd, Operand, OperandBytes, read_epd, write_epd};
 use std::alloc::{AllocError, Global};
-use std::fmt::Write;
 
 /// The answer to a call.
-pub(crate) fn answer(alloc: Global, call: &[&str]) -> anyhow::Result<String> {
+pub(crate) fn answer(page: &mut Page, call: &[&str]) -> Done {
     match call {
-        ["read", line] => read(alloc, line),
-        ["operands", line, opcode] => operands(alloc, line, opcode),
-        ["put", record, operations @ ..] => put_all(alloc, record, operations),
-        _ => anyhow::bail!("no such call"),
+        ["read", line] => read(page, line),
+        ["operands", line, opcode] => operands(page, line, opcode),
+        ["put", record, operations @ ..] => put_all(page, record, operations),
+        _ => Err(Trouble::Row),
     }
 }
 
 /// The line's one form after the number of its operations, or why it is refused.
-fn read(alloc: Global, line: &str) -> anyhow::Result<String> {
-    match read_epd(alloc, bytes_of(alloc, line)?.as_slice()) {
-        Ok(record) => tell(alloc, &record),
-        Err(refusal) => Ok(format!(in alloc; "refused {refusal:?}")?),
+fn read(page: &mut Page, line: &str) -> Done {
+    match read_epd(page.alloc, bytes_of(page.alloc, line)?.as_slice()) {
+        Ok(record) => tell(page, &record),
+        Err(refusal) => page.put_refusal(&refusal),
     }
 }
 
 /// How many operations a record has, and its text.
-fn tell(alloc: Global, record: &Epd) -> anyhow::Result<String> {
-    let text = shown(alloc, write_epd(alloc, record)?.as_slice())?;
-    let count = record.len();
-    Ok(format!(in alloc; "operations: {count}\n{text}")?)
+fn tell(page: &mut Page, record: &Epd) -> Done {
+    page.put_count("operations: ", &record.len())?;
+    page.put("\n")?;
+    page.put_bytes(write_epd(page.alloc, record)?.as_slice())
 }
 
 /// The operands of an operation.
-fn operands(alloc: Global, line: &str, opcode: &str) -> anyhow::Result<String> {
-    let record = read_epd(alloc, bytes_of(alloc, line)?.as_slice())?;
-    let Some(operands) = record.get(opcode.as_bytes()) else {
-        return Ok("none".to_string(alloc)?);
+fn operands(page: &mut Page, line: &str, opcode: &str) -> Done {
+    let Ok(record) = read_epd(page.alloc, bytes_of(page.alloc, line)?.as_slice()) else {
+        return Err(Trouble::Row);
     };
-    let mut text = String::new(alloc);
+    let Some(operands) = record.get(opcode.as_bytes()) else {
+        return page.put("none");
+    };
     for operand in operands {
-        match operand {
-            Operand::Word(word) => writeln!(text, "word {}", shown(alloc, word.as_bytes())?)?,
-            Operand::Text(quoted) => writeln!(text, "text {}", shown(alloc, quoted.as_bytes())?)?,
+        tell_operand(page, operand)?;
+    }
+    Ok(())
+}
+
+/// An operand, and whether it is a word or a quoted text.
+fn tell_operand(page: &mut Page, operand: &Operand) -> Done {
+    match operand {
+        Operand::Word(word) => {
+            page.put("word ")?;
+            page.put_bytes(word.as_bytes())?;
+        }
+        Operand::Text(quoted) => {
+            page.put("text ")?;
+            page.put_bytes(quoted.as_bytes())?;
         }
     }
-    Ok(text)
+    page.put("\n")
 }
 
 /// The words of these texts, as operands.
@@ -58,21 +71,26 @@ fn words_of(alloc: Global, texts: &[&str]) -> Result<Vec<Operand>, AllocError> {
     Ok(operands)
 }
 
-/// The record to which these operations are put in turn, each an opcode and words with a comma before each: the answer to each, and
-/// the record after it.
-fn put_all(alloc: Global, record: &str, operations: &[&str]) -> anyhow::Result<String> {
-    let setup = setup_of(alloc, record)?;
-    let mut record = Epd::new(alloc, setup);
-    let mut text = String::new(alloc);
+/// The record to which these operations are put in turn: the answer to each, and the record after it.
+fn put_all(page: &mut Page, record: &str, operations: &[&str]) -> Done {
+    let setup = setup_of(page.alloc, record)?;
+    let mut record = Epd::new(page.alloc, setup);
     for operation in operations {
-        let parts: Vec<&str> = operation.split(',').collect(alloc)?;
-        let [opcode, words @ ..] = parts.as_slice() else {
-            anyhow::bail!("no operation");
-        };
-        let answer = record.put(opcode.as_bytes(), words_of(alloc, words)?);
-        writeln!(text, "{answer:?}\n{}", tell(alloc, &record)?)?;
+        put(page, &mut record, operation)?;
     }
-    let kept = shown(alloc, write_setup(alloc, &record.setup())?.as_slice())?;
-    write!(text, "setup {kept}")?;
-    Ok(text)
+    page.put("setup ")?;
+    page.put_bytes(write_setup(page.alloc, &record.setup())?.as_slice())
+}
+
+/// Puts an operation, an opcode and words with a comma before each.
+fn put(page: &mut Page, record: &mut Epd, operation: &str) -> Done {
+    let parts: Vec<&str> = operation.split(',').collect(page.alloc)?;
+    let [opcode, words @ ..] = parts.as_slice() else {
+        return Err(Trouble::Row);
+    };
+    let answer = record.put(opcode.as_bytes(), words_of(page.alloc, words)?);
+    page.put_debug(&answer)?;
+    page.put("\n")?;
+    tell(page, record)?;
+    page.put("\n")
 }

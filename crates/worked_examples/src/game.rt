@@ -1,25 +1,32 @@
 //! Submissions. Rows write a line with `|` for each TAB, a field `S` for the record of the start position, and `#` for the number
 //! where `128*` in front of the line stands for so many lines.
 
-use crate::moves::texts_of;
-use crate::text::{bytes_of, shown};
+use crate::moves::tell_moves;
+use crate::page::{Done, Page, Trouble};
+use crate::text::{bytes_of, small_of};
 use pb_ledger::{Id, Line, MoveList, check_line};
 use pb_moves::Move;
 use std::alloc::Global;
 
 /// The answer to a call.
-pub(crate) fn answer(alloc: Global, call: &[&str]) -> anyhow::Result<String> {
+pub(crate) fn answer(page: &mut Page, call: &[&str]) -> Done {
     match call {
-        ["check", line] => check(alloc, line, false),
-        ["parts", line] => check(alloc, line, true),
-        ["id", text] => id(alloc, text),
-        _ => anyhow::bail!("no such call"),
+        ["check", line] => check(page, line),
+        ["parts", line] => parts(page, line),
+        ["id", text] => id(page, text),
+        _ => Err(Trouble::Row),
     }
 }
 
 /// The line that an argument writes.
-fn line_of(alloc: Global, text: &str) -> anyhow::Result<Vec<u8>> {
+fn line_of(alloc: Global, text: &str) -> Result<Vec<u8>, Trouble> {
     let mut line = Vec::new(alloc);
+    push_line(alloc, &mut line, text)?;
+    Ok(line)
+}
+
+/// Adds the line that an argument writes.
+fn push_line(alloc: Global, line: &mut Vec<u8>, text: &str) -> Done {
     for (number, field) in text.split('|').enumerate() {
         if number > 0 {
             line.push(b'\t')?;
@@ -27,50 +34,57 @@ fn line_of(alloc: Global, text: &str) -> anyhow::Result<Vec<u8>> {
         let field = if field == "S" { "{start}" } else { field };
         line.extend_from_slice(bytes_of(alloc, field)?.as_slice())?;
     }
-    Ok(line)
+    Ok(())
 }
 
 /// The line that an argument writes with this number.
-fn numbered(alloc: Global, text: &str, number: u32) -> anyhow::Result<Vec<u8>> {
-    match text.split_once('#') {
-        Some((front, back)) => {
-            let text = format!(in alloc; "{front}{number}{back}")?;
-            line_of(alloc, text.as_str())
-        }
-        None => line_of(alloc, text),
-    }
+fn numbered(alloc: Global, text: &str, number: u32) -> Result<Vec<u8>, Trouble> {
+    let Some((front, back)) = text.split_once('#') else {
+        return line_of(alloc, text);
+    };
+    let mut page = Page::new(alloc);
+    page.put_count(front, &number)?;
+    page.put(back)?;
+    line_of(alloc, page.as_str())
 }
 
 /// How many lines an argument stands for, and how they are written.
 fn times_of(text: &str) -> (u32, &str) {
-    if let Some((count, rest)) = text.split_once('*') {
-        if let Ok(count) = count.parse::<u32>() {
-            return (count, rest);
-        }
+    match text.split_once('*') {
+        Some((count, rest)) => match small_of(count) {
+            Ok(count) => (count, rest),
+            Err(_) => (1, text),
+        },
+        None => (1, text),
     }
-    (1, text)
 }
 
 /// The lines that arguments write.
-pub(crate) fn lines_of(alloc: Global, texts: &[&str]) -> anyhow::Result<Vec<Vec<u8>>> {
+pub(crate) fn lines_of(alloc: Global, texts: &[&str]) -> Result<Vec<Vec<u8>>, Trouble> {
     let mut lines = Vec::new(alloc);
     for text in texts {
-        let (times, text) = times_of(text);
-        for number in 1..=times {
-            lines.push(numbered(alloc, text, number)?)?;
-        }
+        push_times(alloc, &mut lines, text)?;
     }
     Ok(lines)
 }
 
+/// Adds the lines that an argument writes.
+fn push_times(alloc: Global, lines: &mut Vec<Vec<u8>>, text: &str) -> Done {
+    let (times, text) = times_of(text);
+    for number in 1..=times {
+        lines.push(numbered(alloc, text, number)?)?;
+    }
+    Ok(())
+}
+
 /// The lines that arguments write, each with an LF but one that ends in `{end}`.
-pub(crate) fn stream_of(alloc: Global, texts: &[&str]) -> anyhow::Result<Vec<u8>> {
+pub(crate) fn stream_of(alloc: Global, texts: &[&str]) -> Result<Vec<u8>, Trouble> {
     let mut stream = Vec::new(alloc);
     for text in texts {
         match text.split_once("{end}") {
-            Some((text, _)) => stream.extend_from_slice(line_of(alloc, text)?.as_slice())?,
+            Some((text, _)) => push_line(alloc, &mut stream, text)?,
             None => {
-                stream.extend_from_slice(line_of(alloc, text)?.as_slice())?;
+                push_line(alloc, &mut stream, text)?;
                 stream.push(b'\n')?;
             }
         }
@@ -78,35 +92,41 @@ pub(crate) fn stream_of(alloc: Global, texts: &[&str]) -> anyhow::Result<Vec<u8>
     Ok(stream)
 }
 
-/// The line, judged: its number of moves, and its parts where they are asked for.
-fn check(alloc: Global, text: &str, with_parts: bool) -> anyhow::Result<String> {
-    let bytes = line_of(alloc, text)?;
-    match check_line(bytes.as_slice()) {
-        Ok(line) if with_parts => parts(alloc, &line),
-        Ok(line) => {
-            let plies = line.plies();
-            Ok(format!(in alloc; "moves: {plies}")?)
-        }
-        Err(refusal) => Ok(format!(in alloc; "refused {refusal:?}")?),
+/// The line, judged: its number of moves.
+fn check(page: &mut Page, text: &str) -> Done {
+    match check_line(line_of(page.alloc, text)?.as_slice()) {
+        Ok(line) => page.put_count("moves: ", &line.plies()),
+        Err(refusal) => page.put_refusal(&refusal),
+    }
+}
+
+/// The line, judged: its parts.
+fn parts(page: &mut Page, text: &str) -> Done {
+    match check_line(line_of(page.alloc, text)?.as_slice()) {
+        Ok(line) => tell_parts(page, &line),
+        Err(refusal) => page.put_refusal(&refusal),
     }
 }
 
 /// The parts of a line.
-fn parts(alloc: Global, line: &Line) -> anyhow::Result<String> {
-    let id = shown(alloc, line.id().as_bytes())?;
-    let id_bytes = shown(alloc, line.id_bytes())?;
-    let outcome = line.outcome();
-    let start = shown(alloc, line.start().text().as_bytes())?;
-    let plies = line.plies();
-    let moves: Vec<Move> = line.moves().collect(alloc)?;
-    let moves = texts_of(alloc, MoveList::of(moves).as_slice())?;
-    Ok(format!(in alloc; "{id} {id_bytes} {outcome:?}\n{start}\nmoves: {plies} {moves}")?)
+fn tell_parts(page: &mut Page, line: &Line) -> Done {
+    page.put_bytes(line.id().as_bytes())?;
+    page.put(" ")?;
+    page.put_bytes(line.id_bytes())?;
+    page.put(" ")?;
+    page.put_debug(&line.outcome())?;
+    page.put("\n")?;
+    page.put_bytes(line.start().text().as_bytes())?;
+    page.put_count("\nmoves: ", &line.plies())?;
+    page.put(" ")?;
+    let moves: Vec<Move> = line.moves().collect(page.alloc)?;
+    tell_moves(page, MoveList::of(moves).as_slice())
 }
 
 /// The bytes as an id.
-fn id(alloc: Global, text: &str) -> anyhow::Result<String> {
-    match Id::new(bytes_of(alloc, text)?.as_slice()) {
-        Some(id) => shown(alloc, id.as_bytes()),
-        None => Ok("none".to_string(alloc)?),
+fn id(page: &mut Page, text: &str) -> Done {
+    match Id::new(bytes_of(page.alloc, text)?.as_slice()) {
+        Some(id) => page.put_bytes(id.as_bytes()),
+        None => page.put("none"),
     }
 }

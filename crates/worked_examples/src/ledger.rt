@@ -1,187 +1,215 @@
 //! Ledgers of submitted games, their books and their exports, over both tallies. The answer stands once where both give the same.
 
-use crate::book::{source_of, tell};
+use crate::book::tell;
+use crate::ends::{Taker, failing_source, source_of};
 use crate::game::{lines_of, stream_of};
-use crate::moves::texts_of;
-use crate::narrow::{BreaksOff, Narrow};
+use crate::moves::tell_moves;
+use crate::page::{Done, Page, Trouble};
 use crate::runs::Runs;
 use crate::table::table_of;
-use crate::text::{fills_of, shown};
+use crate::text::{count_of, fills_of, small_of};
 use pb_ledger::{Ledger, ListTally, MapTally, Tally, collect, export};
-use pb_poly::{FromRead, MemSink, ToWrite};
+use pb_poly::{MemSink, ToWrite};
 use std::alloc::Global;
-use std::fmt::Write;
-use std::io::ErrorKind;
+
+/// How many games a ledger holds where a row names no number.
+const CAP: u32 = 1000;
 
 /// The answer to a call.
-pub(crate) fn answer(alloc: Global, call: &[&str]) -> anyhow::Result<String> {
-    let by_map = answer_by::<MapTally>(alloc, call)?;
-    let by_list = answer_by::<ListTally>(alloc, call)?;
-    if by_map.as_str() == by_list.as_str() {
-        return Ok(by_map);
+pub(crate) fn answer(page: &mut Page, call: &[&str]) -> Done {
+    let mut by_map = Page::new(page.alloc);
+    answer_by::<MapTally>(&mut by_map, call)?;
+    let mut by_list = Page::new(page.alloc);
+    answer_by::<ListTally>(&mut by_list, call)?;
+    if by_map.as_str() != by_list.as_str() {
+        page.put("another by list\n")?;
+        page.put(by_list.as_str())?;
+        page.put("\nby map\n")?;
     }
-    Ok(format!(in alloc; "by map\n{by_map}\nby list\n{by_list}")?)
+    page.put(by_map.as_str())
 }
 
 /// The answer to a call, over one tally.
-fn answer_by<T: Tally>(alloc: Global, call: &[&str]) -> anyhow::Result<String> {
+fn answer_by<T: Tally>(page: &mut Page, call: &[&str]) -> Done {
     match call {
-        ["submit", cap, lines @ ..] => submit::<T>(alloc, cap, lines),
-        ["games", lines @ ..] => games::<T>(alloc, lines),
-        ["book", table, lines @ ..] => book::<T>(alloc, table, lines),
-        ["export", table, lines @ ..] => exported::<T>(alloc, table, lines),
+        ["submit", cap, lines @ ..] => submit::<T>(page, cap, lines),
+        ["games", lines @ ..] => games::<T>(page, lines),
+        ["book", table, lines @ ..] => book::<T>(page, table, lines),
+        ["export", table, lines @ ..] => exported::<T>(page, table, lines),
         ["collect", cap, piece, fills, lines @ ..] => {
-            let stream = stream_of(alloc, lines)?;
-            let piece = piece.parse::<usize>()?;
-            collected::<T>(alloc, cap, stream.as_slice(), piece, fills_of(fills)?)
+            collected::<T>(page, [cap, piece, fills], lines)
         }
-        ["collect-cut-off", lines @ ..] => {
-            cut_off::<T>(alloc, stream_of(alloc, lines)?.as_slice())
-        }
-        ["collect-cramped", most, lines @ ..] => {
-            cramped_up_to::<T>(alloc, most, stream_of(alloc, lines)?.as_slice())
-        }
-        _ => anyhow::bail!("no such call"),
+        ["collect-cut-off", lines @ ..] => cut_off::<T>(page, lines),
+        ["collect-cramped", most, lines @ ..] => cramped_up_to::<T>(page, most, lines),
+        _ => Err(Trouble::Row),
     }
 }
 
 /// An empty ledger for at most so many games, 1 to 1,000.
-pub(crate) fn ledger_of<T: Tally>(
-    alloc: Global,
-    table: &str,
-    cap: u32,
-) -> anyhow::Result<Ledger<T>> {
+fn ledger_of<T: Tally>(alloc: Global, table: &str, cap: u32) -> Result<Ledger<T>, Trouble> {
     let table = table_of(alloc, table)?;
-    Ok(Ledger::new(alloc, &table, cap.clamp(1, 1000))?)
+    Ok(Ledger::new(alloc, &table, cap.clamp(1, CAP))?)
 }
 
-/// A ledger with the games of these lines, and the answer to each line.
-pub(crate) fn ledger_with<T: Tally>(
-    alloc: Global,
+/// A ledger with the games of these lines, where the answer to each line is told.
+fn ledger_with<T: Tally>(
+    page: &mut Page,
     table: &str,
     cap: u32,
     lines: &[&str],
-) -> anyhow::Result<(Ledger<T>, String)> {
-    let mut ledger = ledger_of(alloc, table, cap)?;
-    let mut answers = String::new(alloc);
-    for line in &lines_of(alloc, lines)? {
+) -> Result<Ledger<T>, Trouble> {
+    let mut ledger = ledger_of(page.alloc, table, cap)?;
+    for line in &lines_of(page.alloc, lines)? {
         match ledger.submit(line.as_slice()) {
-            Ok(number) => writeln!(answers, "ok {number}")?,
-            Err(refusal) => writeln!(answers, "refused {refusal:?}")?,
+            Ok(number) => page.put_count("ok ", &number)?,
+            Err(refusal) => page.put_refusal(&refusal)?,
         }
+        page.put("\n")?;
     }
-    Ok((ledger, answers))
+    Ok(ledger)
+}
+
+/// A ledger with the games of these lines.
+pub(crate) fn quiet_ledger<T: Tally>(
+    alloc: Global,
+    table: &str,
+    lines: &[&str],
+) -> Result<Ledger<T>, Trouble> {
+    ledger_with(&mut Page::new(alloc), table, CAP, lines)
 }
 
 /// The answers to these lines, and how many games are held then.
-fn submit<T: Tally>(alloc: Global, cap: &str, lines: &[&str]) -> anyhow::Result<String> {
-    let cap = cap.parse::<u32>()?;
-    let (ledger, answers) = ledger_with::<T>(alloc, "{powers}", cap, lines)?;
-    let count = ledger.len();
-    Ok(format!(in alloc; "{answers}held: {count}")?)
+fn submit<T: Tally>(page: &mut Page, cap: &str, lines: &[&str]) -> Done {
+    let ledger = ledger_with::<T>(page, "{powers}", small_of(cap)?, lines)?;
+    page.put_count("held: ", &ledger.len())
 }
 
 /// The game of a number.
-fn game<T: Tally>(alloc: Global, ledger: &Ledger<T>, number: u32) -> anyhow::Result<String> {
+fn tell_game<T: Tally>(page: &mut Page, ledger: &Ledger<T>, number: u32) -> Done {
+    page.put_display(&number)?;
     let Some((id, game)) = ledger.get(number) else {
-        return Ok(format!(in alloc; "{number} none\n")?);
+        return page.put(" none\n");
     };
-    let id = shown(alloc, id.as_bytes())?;
-    let outcome = game.outcome;
-    let start = shown(alloc, game.start.text().as_bytes())?;
-    let moves = texts_of(alloc, game.moves.as_slice())?;
-    Ok(format!(in alloc; "{number} {id} {outcome:?} {start} {moves}\n")?)
+    page.put(" ")?;
+    page.put_bytes(id.as_bytes())?;
+    page.put(" ")?;
+    page.put_debug(&game.outcome)?;
+    page.put(" ")?;
+    page.put_bytes(game.start.text().as_bytes())?;
+    page.put(" ")?;
+    tell_moves(page, game.moves.as_slice())?;
+    page.put("\n")
 }
 
 /// The games that are held after these lines, by their numbers from 0 to the first that isn't there.
-fn games<T: Tally>(alloc: Global, lines: &[&str]) -> anyhow::Result<String> {
-    let (ledger, _) = ledger_with::<T>(alloc, "{powers}", 1000, lines)?;
-    let mut text = String::new(alloc);
+fn games<T: Tally>(page: &mut Page, lines: &[&str]) -> Done {
+    let ledger = quiet_ledger::<T>(page.alloc, "{powers}", lines)?;
     for number in 0..=ledger.len().saturating_add(1) {
-        text.push_str(game(alloc, &ledger, number)?.as_str())?;
+        tell_game(page, &ledger, number)?;
     }
-    Ok(text)
+    Ok(())
 }
 
 /// The book after these lines.
-fn book<T: Tally>(alloc: Global, table: &str, lines: &[&str]) -> anyhow::Result<String> {
-    let (ledger, _) = ledger_with::<T>(alloc, table, 1000, lines)?;
-    tell_held(alloc, &ledger)
+fn book<T: Tally>(page: &mut Page, table: &str, lines: &[&str]) -> Done {
+    let ledger = quiet_ledger::<T>(page.alloc, table, lines)?;
+    tell_held(page, &ledger)
 }
 
 /// How many games a ledger holds, and their book.
-fn tell_held<T: Tally>(alloc: Global, ledger: &Ledger<T>) -> anyhow::Result<String> {
-    let count = ledger.len();
-    let book = tell(alloc, &ledger.make_book(alloc)?)?;
-    Ok(format!(in alloc; "held: {count}\n{book}")?)
+fn tell_held<T: Tally>(page: &mut Page, ledger: &Ledger<T>) -> Done {
+    page.put_count("held: ", &ledger.len())?;
+    page.put("\n")?;
+    tell(page, &ledger.make_book(page.alloc)?)
 }
 
 /// The number of EPD lines and the lines after these submissions.
-fn exported<T: Tally>(alloc: Global, table: &str, lines: &[&str]) -> anyhow::Result<String> {
-    let (ledger, _) = ledger_with::<T>(alloc, table, 1000, lines)?;
-    let mut sink = MemSink::new(alloc);
-    let count = export(alloc, &ledger, &mut sink)?;
-    let text = shown(alloc, sink.as_bytes())?;
-    Ok(format!(in alloc; "lines: {count}\n{text}")?)
+fn exported<T: Tally>(page: &mut Page, table: &str, lines: &[&str]) -> Done {
+    let ledger = quiet_ledger::<T>(page.alloc, table, lines)?;
+    let mut sink = MemSink::new(page.alloc);
+    let Ok(count) = export(page.alloc, &ledger, &mut sink) else {
+        return Err(Trouble::Memory);
+    };
+    page.put_count("lines: ", &count)?;
+    page.put("\n")?;
+    page.put_bytes(sink.as_bytes())
 }
 
 /// The replies to a stream, what became of its lines, how many games are held, and their book.
-fn collected<T: Tally>(
-    alloc: Global,
-    cap: &str,
-    stream: &[u8],
-    piece: usize,
-    fills: u32,
-) -> anyhow::Result<String> {
-    let mut ledger = ledger_of::<T>(alloc, "{powers}", cap.parse::<u32>()?)?;
-    let mut source = source_of(stream, piece);
-    let mut sink = MemSink::new(alloc);
-    let answer = collect(alloc, &mut source, &mut sink, &mut ledger, fills);
-    let replies = shown(alloc, sink.as_bytes())?;
-    let held = tell_held(alloc, &ledger)?;
-    Ok(format!(in alloc; "{replies}{answer:?}\n{held}")?)
+fn collected<T: Tally>(page: &mut Page, [cap, piece, fills]: [&str; 3], lines: &[&str]) -> Done {
+    let stream = stream_of(page.alloc, lines)?;
+    let mut ledger = ledger_of::<T>(page.alloc, "{powers}", small_of(cap)?)?;
+    let mut source = source_of(stream.as_slice(), count_of(piece)?);
+    let mut sink = MemSink::new(page.alloc);
+    let answer = collect(
+        page.alloc,
+        &mut source,
+        &mut sink,
+        &mut ledger,
+        fills_of(fills)?,
+    );
+    page.put_bytes(sink.as_bytes())?;
+    page.put_debug(&answer)?;
+    page.put("\n")?;
+    tell_held(page, &ledger)
 }
 
-/// For each front of a stream the answer where its reader fails then, and how many games are held.
-fn cut_off<T: Tally>(alloc: Global, stream: &[u8]) -> anyhow::Result<String> {
-    let table = table_of(alloc, "{powers}")?;
-    let mut runs = Runs::new(alloc);
+/// For each front of a stream the answer where its reader fails once after it, and how many games are held.
+fn cut_off<T: Tally>(page: &mut Page, lines: &[&str]) -> Done {
+    let stream = stream_of(page.alloc, lines)?;
+    let mut runs = Runs::new();
     for count in 0..=stream.len() {
-        let mut ledger = Ledger::<T>::new(alloc, &table, 1000)?;
-        let mut source = FromRead::new(BreaksOff {
-            rest: &stream[..count],
-            kind: ErrorKind::Other,
-        });
-        let mut sink = MemSink::new(alloc);
-        let answer = collect(alloc, &mut source, &mut sink, &mut ledger, u32::MAX);
-        let held = ledger.len();
-        runs.add(count, format!(in alloc; "{answer:?}, held: {held}")?)?;
+        let mut answer = Page::new(page.alloc);
+        cut_off_at::<T>(&mut answer, stream.as_slice(), count)?;
+        runs.add(page, count, answer)?;
     }
-    runs.finish()
+    runs.end(page)
 }
 
-/// The answer where the replies have only so much room, and then to the same stream with room for all.
-fn cramped<T: Tally>(alloc: Global, stream: &[u8], room: usize) -> anyhow::Result<String> {
-    let mut ledger = ledger_of::<T>(alloc, "{powers}", 1000)?;
-    let mut narrow = Narrow::new(alloc, room, false);
-    let first = {
-        let mut sink = ToWrite::new(&mut narrow);
-        let mut source = source_of(stream, 64);
-        collect(alloc, &mut source, &mut sink, &mut ledger, u32::MAX)
-    };
-    let mut sink = MemSink::new(alloc);
+/// The answer where the reader of a stream fails once after so many bytes, and how many games are held.
+fn cut_off_at<T: Tally>(page: &mut Page, stream: &[u8], count: usize) -> Done {
+    let mut ledger = ledger_of::<T>(page.alloc, "{powers}", CAP)?;
+    let mut source = failing_source(stream, 2, count);
+    let mut sink = MemSink::new(page.alloc);
+    let answer = collect(page.alloc, &mut source, &mut sink, &mut ledger, u32::MAX);
+    page.put_debug(&answer)?;
+    page.put_count(", held: ", &ledger.len())
+}
+
+/// The answer where the writer of the replies fails once after so many bytes, and then to the same stream with room for all.
+fn cramped<T: Tally>(page: &mut Page, stream: &[u8], room: usize) -> Done {
+    let mut ledger = ledger_of::<T>(page.alloc, "{powers}", CAP)?;
+    let mut taker = Taker::new(page.alloc, room, false);
     let mut source = source_of(stream, 64);
-    let _ = collect(alloc, &mut source, &mut sink, &mut ledger, u32::MAX);
-    let replies = shown(alloc, sink.as_bytes())?;
-    let held = tell_held(alloc, &ledger)?;
-    Ok(format!(in alloc; "{:?}\n{replies}{held}", first.err())?)
+    let first = collect(
+        page.alloc,
+        &mut source,
+        &mut ToWrite::new(&mut taker),
+        &mut ledger,
+        u32::MAX,
+    );
+    page.put_debug(&first.err())?;
+    page.put("\n")?;
+    let mut sink = MemSink::new(page.alloc);
+    let _ = collect(
+        page.alloc,
+        &mut source_of(stream, 64),
+        &mut sink,
+        &mut ledger,
+        u32::MAX,
+    );
+    page.put_bytes(sink.as_bytes())?;
+    tell_held(page, &ledger)
 }
 
 /// The same for each room up to this.
-fn cramped_up_to<T: Tally>(alloc: Global, most: &str, stream: &[u8]) -> anyhow::Result<String> {
-    let mut runs = Runs::new(alloc);
-    for room in 0..=most.parse::<usize>()? {
-        runs.add(room, cramped::<T>(alloc, stream, room)?)?;
+fn cramped_up_to<T: Tally>(page: &mut Page, most: &str, lines: &[&str]) -> Done {
+    let stream = stream_of(page.alloc, lines)?;
+    let mut runs = Runs::new();
+    for room in 0..=count_of(most)? {
+        let mut answer = Page::new(page.alloc);
+        cramped::<T>(&mut answer, stream.as_slice(), room)?;
+        runs.add(page, room, answer)?;
     }
-    runs.finish()
+    runs.end(page)
 }

@@ -1,62 +1,72 @@
-//! Worked examples over all crates, as data. Each line of standard input is a row: its name, a topic, a call and the call's
-//! arguments, with a TAB between each two. Each line of its answer is printed after the row's name. What the answers have to be
-//! stands in the file `stdout` beside this crate's sources: the values come from the standards, from worked tables and from other
-//! programs, never from a run. Empty lines and lines that begin with `#` are passed over.
+//! Worked examples over all crates, as data. Each line of the file `rows.txt` in the folder of the run is a row: its name, a topic, a
+//! call and the call's arguments, with a TAB between each two. Each line of its answer is printed after the row's name. What the
+//! answers have to be stands in the file `stdout` beside this crate's sources: the values come from the standards, from worked
+//! tables and from other programs, never from a run. Empty lines and lines that begin with `#` are passed over.
+//!
+//! The topic `run` runs the program `pbook` over the words that follow. What it prints comes after the row's name in a line of its
+//! own. Standard input has its submissions, and the folder of the run a table, one of 780 lines, and an older file in the place of
+//! the book.
 #![tactic(auto)]
 
 mod book;
 mod book_command;
 mod command;
+mod ends;
 mod epd;
 mod game;
 mod ledger;
 mod moves;
-mod narrow;
+mod page;
 mod points;
+mod program;
 mod record;
 mod runs;
 mod stream;
 mod table;
 mod text;
 
-use std::alloc::Global;
-use std::io;
+use crate::page::{Done, Page, Trouble};
+use std::fs::File;
+use std::io::{self, BufRead, BufReader};
 
 /// The answer to a call of a topic.
-fn answer(alloc: Global, topic: &str, call: &[&str]) -> anyhow::Result<String> {
+fn answer(page: &mut Page, topic: &str, call: &[&str]) -> Done {
     match topic {
-        "record" => record::answer(alloc, call),
-        "moves" => moves::answer(alloc, call),
-        "epd" => epd::answer(alloc, call),
-        "table" => table::answer(alloc, call),
-        "book" => book::answer(alloc, call),
-        "stream" => stream::answer(alloc, call),
-        "game" => game::answer(alloc, call),
-        "ledger" => ledger::answer(alloc, call),
-        "points" => points::answer(alloc, call),
-        "command" => command::answer(alloc, call),
-        _ => anyhow::bail!("no such topic: {topic}"),
+        "record" => record::answer(page, call),
+        "moves" => moves::answer(page, call),
+        "epd" => epd::answer(page, call),
+        "table" => table::answer(page, call),
+        "book" => book::answer(page, call),
+        "stream" => stream::answer(page, call),
+        "game" => game::answer(page, call),
+        "ledger" => ledger::answer(page, call),
+        "points" => points::answer(page, call),
+        "command" => command::answer(page, call),
+        _ => Err(Trouble::Row),
     }
 }
 
-/// The name of a row and its answer.
-fn answer_row<'a>(alloc: Global, row: &'a str) -> anyhow::Result<(&'a str, String)> {
-    let words: Vec<&'a str> = row.split('\t').collect(alloc)?;
-    let [name, topic, call @ ..] = words.as_slice() else {
-        anyhow::bail!("no row: {row}");
-    };
-    match answer(alloc, topic, call) {
-        Ok(text) => Ok((name, text)),
-        Err(error) => Ok((name, format!(in alloc; "failed: {error}")?)),
-    }
-}
-
-/// Prints the answer to a row, each line after the row's name.
+/// Prints the answer to a row.
 fn print_row(rt: &HostRuntime, row: &str) -> io::Result<()> {
-    let (name, text) = match answer_row(rt.alloc(), row) {
-        Ok(answer) => answer,
-        Err(error) => return println!(rt; "{error}"),
+    let words: Vec<&str> = row.split('\t').collect(rt.alloc())?;
+    let [name, topic, call @ ..] = words.as_slice() else {
+        return println!(rt; "no row: {row}");
     };
+    let mut page = Page::new(rt.alloc());
+    let done = if *topic == "run" {
+        println!(rt; "{name}: run")?;
+        program::answer(rt, &mut page, call)
+    } else {
+        answer(&mut page, topic, call)
+    };
+    if let Err(trouble) = done {
+        return println!(rt; "{name}: failed {trouble:?}");
+    }
+    print_answer(rt, name, page.as_str())
+}
+
+/// Prints an answer, each line after the row's name.
+fn print_answer(rt: &HostRuntime, name: &str, text: &str) -> io::Result<()> {
     if text.is_empty() {
         return println!(rt; "{name}: nothing");
     }
@@ -69,7 +79,8 @@ fn print_row(rt: &HostRuntime, row: &str) -> io::Result<()> {
 }
 
 fn main(rt: HostRuntime) -> io::Result<()> {
-    for row in rt.lines(rt.alloc()) {
+    let rows = BufReader::new(rt.alloc(), File::open(&rt, "rows.txt")?)?;
+    for row in rows.lines(rt.alloc()) {
         let row = row?;
         if !row.is_empty() && !row.as_str().starts_with('#') {
             print_row(&rt, row.as_str())?;

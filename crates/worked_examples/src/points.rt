@@ -1,6 +1,8 @@
 //! The points that a ledger keeps, beside those counted again from its games, and weights.
 
-use crate::ledger::ledger_with;
+use crate::ledger::quiet_ledger;
+use crate::page::{Done, Page, Trouble};
+use crate::text::number_of;
 use pb_board::Colour;
 use pb_ledger::{Game, Ledger, ListTally, MapTally, Outcome, Row, Tally, scale};
 use pb_moves::play;
@@ -8,25 +10,32 @@ use pb_poly::{Table, code_of, key_of};
 use std::alloc::Global;
 
 /// The answer to a call.
-pub(crate) fn answer(alloc: Global, call: &[&str]) -> anyhow::Result<String> {
+pub(crate) fn answer(page: &mut Page, call: &[&str]) -> Done {
     match call {
-        ["recount", table, lines @ ..] => {
-            let by_map = recount::<MapTally>(alloc, table, lines)?;
-            let by_list = recount::<ListTally>(alloc, table, lines)?;
-            Ok(format!(in alloc; "by map {by_map}, by list {by_list}")?)
-        }
-        ["scale", count, greatest] => {
-            let count = count.parse::<u64>()?;
-            let greatest = greatest.parse::<u64>()?.max(count);
-            let weight = scale(count, greatest);
-            Ok(format!(in alloc; "{weight}")?)
-        }
-        _ => anyhow::bail!("no such call"),
+        ["recount", table, lines @ ..] => tell_recount(page, table, lines),
+        ["scale", count, greatest] => tell_scale(page, count, greatest),
+        _ => Err(Trouble::Row),
     }
 }
 
+/// Whether each tally has the points of the games that are held after these lines, and no others.
+fn tell_recount(page: &mut Page, table: &str, lines: &[&str]) -> Done {
+    page.put_count("by map ", &recount::<MapTally>(page.alloc, table, lines)?)?;
+    page.put_count(
+        ", by list ",
+        &recount::<ListTally>(page.alloc, table, lines)?,
+    )
+}
+
+/// The weight of so many points beside the most that a move of its key has.
+fn tell_scale(page: &mut Page, count: &str, greatest: &str) -> Done {
+    let count = number_of(count)?;
+    let greatest = number_of(greatest)?.max(count);
+    page.put_display(&scale(count, greatest))
+}
+
 /// Adds what each ply of a game gives.
-fn add_game(rows: &mut Vec<Row>, table: &Table, game: &Game) -> anyhow::Result<()> {
+fn add_game(rows: &mut Vec<Row>, table: &Table, game: &Game) -> Done {
     let mut setup = game.start.setup();
     for m in game.moves.as_slice() {
         let points = match (game.outcome, setup.turn()) {
@@ -40,7 +49,7 @@ fn add_game(rows: &mut Vec<Row>, table: &Table, game: &Game) -> anyhow::Result<(
             points,
         })?;
         let Some(next) = play(&setup, *m) else {
-            anyhow::bail!("a move that is held isn't legal");
+            return Err(Trouble::Row);
         };
         setup = next;
     }
@@ -48,12 +57,12 @@ fn add_game(rows: &mut Vec<Row>, table: &Table, game: &Game) -> anyhow::Result<(
 }
 
 /// What each ply of all games gives.
-fn rows_of<T: Tally>(alloc: Global, ledger: &Ledger<T>) -> anyhow::Result<Vec<Row>> {
+fn rows_of<T: Tally>(alloc: Global, ledger: &Ledger<T>) -> Result<Vec<Row>, Trouble> {
     let mut rows = Vec::new(alloc);
     for number in 1..ledger.len().wrapping_add(1) {
         match ledger.get(number) {
             Some((_, game)) => add_game(&mut rows, ledger.table(), game)?,
-            None => anyhow::bail!("no game {number}"),
+            None => return Err(Trouble::Row),
         }
     }
     Ok(rows)
@@ -71,8 +80,8 @@ fn points_of(rows: &[Row], key: u64, code: u16) -> u64 {
 }
 
 /// Whether the tally has the points of the games that are held after these lines, and no others.
-fn recount<T: Tally>(alloc: Global, table: &str, lines: &[&str]) -> anyhow::Result<bool> {
-    let (ledger, _) = ledger_with::<T>(alloc, table, 1000, lines)?;
+fn recount<T: Tally>(alloc: Global, table: &str, lines: &[&str]) -> Result<bool, Trouble> {
+    let ledger = quiet_ledger::<T>(alloc, table, lines)?;
     let rows = rows_of(alloc, &ledger)?;
     for row in &rows {
         let points = points_of(rows.as_slice(), row.key, row.code);

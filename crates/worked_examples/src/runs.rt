@@ -1,22 +1,19 @@
 //! Answers for each number of a range, of which equal ones in a row are told once.
 
-use std::alloc::Global;
-use std::fmt::Write;
+use crate::page::{Done, Page};
 
-/// The answers so far.
+/// The answer for the last numbers.
 #[derive(Drop)]
 pub(crate) struct Runs {
-    text: String,
     first: usize,
     last: usize,
-    answer: Option<String>,
+    answer: Option<Page>,
 }
 
 impl Runs {
     /// No answers.
-    pub(crate) fn new(alloc: Global) -> Runs {
+    pub(crate) fn new() -> Runs {
         Runs {
-            text: String::new(alloc),
             first: 0,
             last: 0,
             answer: None,
@@ -24,9 +21,9 @@ impl Runs {
     }
 
     /// Adds the answer for a number.
-    pub(crate) fn add(&mut self, number: usize, answer: String) -> anyhow::Result<()> {
+    pub(crate) fn add(&mut self, page: &mut Page, number: usize, answer: Page) -> Done {
         if !self.ends_with(answer.as_str()) {
-            self.end_run()?;
+            self.end(page)?;
             self.first = number;
             self.answer = Some(answer);
         }
@@ -43,19 +40,14 @@ impl Runs {
     }
 
     /// Tells the answer for the last numbers.
-    fn end_run(&mut self) -> anyhow::Result<()> {
-        if let Some(answer) = &self.answer {
-            let first = self.first;
-            let last = self.last;
-            writeln!(self.text, "from {first} to {last}\n{answer}")?;
-        }
-        Ok(())
-    }
-
-    /// All answers.
-    pub(crate) fn finish(mut self) -> anyhow::Result<String> {
-        self.end_run()?;
-        let Runs { text, .. } = self;
-        Ok(text)
+    pub(crate) fn end(&self, page: &mut Page) -> Done {
+        let Some(answer) = &self.answer else {
+            return Ok(());
+        };
+        page.put_count("from ", &self.first)?;
+        page.put_count(" to ", &self.last)?;
+        page.put("\n")?;
+        page.put(answer.as_str())?;
+        page.put("\n")
     }
 }

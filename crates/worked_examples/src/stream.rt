@@ -2,35 +2,28 @@
 
 ghost use Rattle.std.specs.Prelude.{⊤};
 
-use crate::book::source_of;
-use crate::narrow::{BreaksOff, Narrow};
+use crate::ends::{Giver, Taker, source_of};
+use crate::page::{Done, Page, Trouble};
 use crate::runs::Runs;
-use crate::text::{bytes_of, fills_of, shown};
-use pb_poly::{FromRead, LineTask, MemSink, Sink, Source, ToWrite, take_lines};
-use std::alloc::{AllocError, Global};
-use std::fmt::Write;
+use crate::text::{bytes_of, count_of, fills_of};
+use pb_poly::{FromRead, LineTask, MemSink, MemSource, Sink, Source, ToWrite, take_lines};
+use std::alloc::AllocError;
 use std::io::{Cursor, ErrorKind};
 
 /// The answer to a call.
-pub(crate) fn answer(alloc: Global, call: &[&str]) -> anyhow::Result<String> {
+pub(crate) fn answer(page: &mut Page, call: &[&str]) -> Done {
     match call {
-        ["lines", piece, fills, text] => {
-            let bytes = bytes_of(alloc, text)?;
-            let mut source = source_of(bytes.as_slice(), piece.parse::<usize>()?);
-            lines(alloc, &mut source, fills_of(fills)?)
-        }
-        ["pieces", most, text] => pieces(alloc, most, text),
-        ["reader", text] => {
-            let bytes = bytes_of(alloc, text)?;
-            lines(alloc, &mut FromRead::new(bytes.as_slice()), u32::MAX)
-        }
-        ["failing-reader", kind, text] => failing_reader(alloc, kind, text),
-        ["fill", piece, text, rooms @ ..] => fill_all(alloc, piece, text, rooms),
-        ["memory-sink", texts @ ..] => memory_sink(alloc, texts),
-        ["vec-sink", texts @ ..] => vec_sink(alloc, texts),
-        ["array-sink", texts @ ..] => array_sink(alloc, texts),
-        ["narrow-sink", room, kind, texts @ ..] => narrow_sink(alloc, room, kind, texts),
-        _ => anyhow::bail!("no such call"),
+        ["lines", piece, fills, text] => lines(page, piece, fills, text),
+        ["pieces", most, text] => pieces(page, most, text),
+        ["reader", text] => reader(page, text),
+        ["failing-reader", kind, text] => failing_reader(page, kind, text),
+        ["reader-fails-once", until, text] => reader_fails_once(page, until, text),
+        ["fill", piece, text, rooms @ ..] => fill_all(page, piece, text, rooms),
+        ["memory-sink", texts @ ..] => memory_sink(page, texts),
+        ["vec-sink", texts @ ..] => vec_sink(page, texts),
+        ["array-sink", texts @ ..] => array_sink(page, texts),
+        ["narrow-sink", room, kind, texts @ ..] => narrow_sink(page, room, kind, texts),
+        _ => Err(Trouble::Row),
     }
 }
 
@@ -59,103 +52,135 @@ impl LineTask for Barred {
 }
 
 /// What became of a source's lines, and what was written down of them.
-fn lines<S: Source>(alloc: Global, source: &mut S, fills: u32) -> anyhow::Result<String> {
+fn take_all<S: Source>(page: &mut Page, source: &mut S, fills: u32) -> Done {
     let mut task = Barred {
-        text: Vec::new(alloc),
+        text: Vec::new(page.alloc),
     };
-    let answer = take_lines(alloc, source, &mut task, fills);
-    let taken = shown(alloc, task.text.as_slice())?;
-    Ok(format!(in alloc; "{answer:?}\n{taken}")?)
+    let answer = take_lines(page.alloc, source, &mut task, fills);
+    page.put_debug(&answer)?;
+    page.put("\n")?;
+    page.put_bytes(task.text.as_slice())
+}
+
+/// The lines of a text in pieces of this size and so many fills.
+fn lines(page: &mut Page, piece: &str, fills: &str, text: &str) -> Done {
+    let bytes = bytes_of(page.alloc, text)?;
+    let mut source = source_of(bytes.as_slice(), count_of(piece)?);
+    take_all(page, &mut source, fills_of(fills)?)
 }
 
 /// The lines of a text that comes in pieces of each size up to this.
-fn pieces(alloc: Global, most: &str, text: &str) -> anyhow::Result<String> {
-    let bytes = bytes_of(alloc, text)?;
-    let mut runs = Runs::new(alloc);
-    for piece in 1..=most.parse::<usize>()? {
-        let answer = lines(alloc, &mut source_of(bytes.as_slice(), piece), u32::MAX)?;
-        runs.add(piece, answer)?;
+fn pieces(page: &mut Page, most: &str, text: &str) -> Done {
+    let bytes = bytes_of(page.alloc, text)?;
+    let mut runs = Runs::new();
+    for piece in 1..=count_of(most)? {
+        let mut answer = Page::new(page.alloc);
+        take_all(
+            &mut answer,
+            &mut source_of(bytes.as_slice(), piece),
+            u32::MAX,
+        )?;
+        runs.add(page, piece, answer)?;
     }
-    runs.finish()
+    runs.end(page)
 }
 
-/// The lines of a reader that fails after a text, and what the source answers after that.
-fn failing_reader(alloc: Global, kind: &str, text: &str) -> anyhow::Result<String> {
+/// The lines of a reader of std.
+fn reader(page: &mut Page, text: &str) -> Done {
+    let bytes = bytes_of(page.alloc, text)?;
+    take_all(page, &mut FromRead::new(bytes.as_slice()), u32::MAX)
+}
+
+/// The lines of a reader that fails once after a text, and what the source answers after that.
+fn failing_reader(page: &mut Page, kind: &str, text: &str) -> Done {
     let kind = match kind {
         "interrupted" => ErrorKind::Interrupted,
         _ => ErrorKind::UnexpectedEof,
     };
-    let bytes = bytes_of(alloc, text)?;
-    let mut source = FromRead::new(BreaksOff {
-        rest: bytes.as_slice(),
-        kind,
-    });
-    let answer = lines(alloc, &mut source, u32::MAX)?;
-    let failed = source.failed();
-    let next = source.fill(&mut [0; 4]);
-    Ok(format!(in alloc; "{answer}\nfailed {failed}, then {next:?}")?)
+    let bytes = bytes_of(page.alloc, text)?;
+    let mut source = FromRead::new(Giver::new(bytes.as_slice(), 2, bytes.len(), kind));
+    take_all(page, &mut source, u32::MAX)?;
+    page.put_count("\nfailed ", &source.failed())?;
+    page.put(", then ")?;
+    page.put_debug(&source.fill(&mut [0; 4]))
 }
 
-/// How many bytes each of these fills gives, and whether the source has failed.
-fn fill_all(alloc: Global, piece: &str, text: &str, rooms: &[&str]) -> anyhow::Result<String> {
-    let bytes = bytes_of(alloc, text)?;
-    let mut source = source_of(bytes.as_slice(), piece.parse::<usize>()?);
-    let mut answers = String::new(alloc);
+/// The lines of a reader with one interrupted read, what the source answers after that, and how often the reader was asked
+/// after its failure.
+fn reader_fails_once(page: &mut Page, until: &str, text: &str) -> Done {
+    let bytes = bytes_of(page.alloc, text)?;
+    let mut giver = Giver::new(
+        bytes.as_slice(),
+        2,
+        count_of(until)?,
+        ErrorKind::Interrupted,
+    );
+    let next = {
+        let mut source = FromRead::new(&mut giver);
+        take_all(page, &mut source, u32::MAX)?;
+        source.fill(&mut [0; 4])
+    };
+    page.put("\nthen ")?;
+    page.put_debug(&next)?;
+    page.put_count("\nreads after the failure: ", &giver.later)
+}
+
+/// How many bytes each of these fills of a source in memory gives, and whether it has failed.
+fn fill_all(page: &mut Page, piece: &str, text: &str, rooms: &[&str]) -> Done {
+    let bytes = bytes_of(page.alloc, text)?;
+    let mut source = MemSource::new(bytes.as_slice(), count_of(piece)?.max(1));
     for room in rooms {
-        let mut slice = vec![in alloc; 0; room.parse::<usize>()?]?;
-        let answer = source.fill(slice.as_mut_slice());
-        write!(answers, "{answer:?} ")?;
+        let mut slice = vec![in page.alloc; 0; count_of(room)?]?;
+        page.put_debug(&source.fill(slice.as_mut_slice()))?;
+        page.put(" ")?;
     }
-    write!(answers, "failed {}", source.failed())?;
-    Ok(answers)
+    page.put_count("failed ", &source.failed())
 }
 
 /// What a sink answers to these texts in turn, where the text `flush` flushes it, and whether it has failed then.
-fn put_all<K: Sink>(alloc: Global, sink: &mut K, texts: &[&str]) -> anyhow::Result<String> {
-    let mut answers = String::new(alloc);
+fn put_all<K: Sink>(page: &mut Page, sink: &mut K, texts: &[&str]) -> Done {
     for text in texts {
         let answer = match *text {
             "flush" => sink.flush(),
-            text => sink.put(bytes_of(alloc, text)?.as_slice()),
+            text => sink.put(bytes_of(page.alloc, text)?.as_slice()),
         };
-        write!(answers, "{answer:?} ")?;
+        page.put_debug(&answer)?;
+        page.put(" ")?;
     }
-    writeln!(answers, "failed {}", sink.failed())?;
-    Ok(answers)
+    page.put_count("failed ", &sink.failed())?;
+    page.put("\n")
 }
 
 /// A sink in memory.
-fn memory_sink(alloc: Global, texts: &[&str]) -> anyhow::Result<String> {
-    let mut sink = MemSink::new(alloc);
-    let mut answers = put_all(alloc, &mut sink, texts)?;
-    answers.push_str(shown(alloc, sink.as_bytes())?.as_str())?;
-    Ok(answers)
+fn memory_sink(page: &mut Page, texts: &[&str]) -> Done {
+    let mut sink = MemSink::new(page.alloc);
+    put_all(page, &mut sink, texts)?;
+    page.put_bytes(sink.as_bytes())
 }
 
 /// A sink into a vector.
-fn vec_sink(alloc: Global, texts: &[&str]) -> anyhow::Result<String> {
-    let mut bytes = Vec::new(alloc);
-    let mut answers = put_all(alloc, &mut ToWrite::new(&mut bytes), texts)?;
-    answers.push_str(shown(alloc, bytes.as_slice())?.as_str())?;
-    Ok(answers)
+fn vec_sink(page: &mut Page, texts: &[&str]) -> Done {
+    let mut bytes = Vec::new(page.alloc);
+    put_all(page, &mut ToWrite::new(&mut bytes), texts)?;
+    page.put_bytes(bytes.as_slice())
 }
 
 /// A sink into an array of four bytes.
-fn array_sink(alloc: Global, texts: &[&str]) -> anyhow::Result<String> {
+fn array_sink(page: &mut Page, texts: &[&str]) -> Done {
     let mut array = [0; 4];
-    let mut answers = {
-        let mut sink = ToWrite::new(Cursor::new(array.as_mut_slice()));
-        put_all(alloc, &mut sink, texts)?
-    };
-    answers.push_str(shown(alloc, array.as_slice())?.as_str())?;
-    Ok(answers)
+    put_all(
+        page,
+        &mut ToWrite::new(Cursor::new(array.as_mut_slice())),
+        texts,
+    )?;
+    page.put_bytes(array.as_slice())
 }
 
-/// A sink into a writer with little room.
-fn narrow_sink(alloc: Global, room: &str, kind: &str, texts: &[&str]) -> anyhow::Result<String> {
-    let mut narrow = Narrow::new(alloc, room.parse::<usize>()?, kind == "broken");
-    let answers = put_all(alloc, &mut ToWrite::new(&mut narrow), texts)?;
-    let taken = shown(alloc, narrow.taken.as_slice())?;
-    let flushes = narrow.flushes;
-    Ok(format!(in alloc; "{answers}{taken}\nflushes: {flushes}")?)
+/// A sink into a writer that fails once.
+fn narrow_sink(page: &mut Page, room: &str, kind: &str, texts: &[&str]) -> Done {
+    let mut taker = Taker::new(page.alloc, count_of(room)?, kind == "broken");
+    taker.fails_at_flush = kind == "broken";
+    put_all(page, &mut ToWrite::new(&mut taker), texts)?;
+    page.put_bytes(taker.taken.as_slice())?;
+    page.put_count("\nflushes: ", &taker.flushes)
 }

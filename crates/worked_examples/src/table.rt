@@ -1,12 +1,13 @@
 //! Tables of words, and the keys and codes that are made with them.
 
-use crate::moves::spelled;
+use crate::moves::{spelled, tell_move};
+use crate::page::{Done, Page, Trouble};
 use crate::record::setup_of;
-use crate::text::{bytes_of, shown};
-use pb_moves::{legal_moves, play};
+use crate::text::{bytes_of, count_of};
+use pb_board::Setup;
+use pb_moves::{Move, legal_moves, play};
 use pb_poly::{Table, TableError, code_of, key_after, key_of, move_of, read_table};
 use std::alloc::{AllocError, Global};
-use std::fmt::Write;
 
 /// An odd number whose multiples look random.
 const ODD: u64 = 0x9e37_79b9_7f4a_7c15;
@@ -26,13 +27,13 @@ pub(crate) enum Pattern {
 
 impl Pattern {
     /// The pattern of a name.
-    pub(crate) fn named(name: &str) -> anyhow::Result<Pattern> {
+    pub(crate) fn named(name: &str) -> Result<Pattern, Trouble> {
         match name {
             "powers" => Ok(Pattern::Powers),
             "places" => Ok(Pattern::Places),
             "ones" => Ok(Pattern::Ones),
             "products" => Ok(Pattern::Products),
-            _ => anyhow::bail!("no such word: {name}"),
+            _ => Err(Trouble::Row),
         }
     }
 
@@ -72,37 +73,51 @@ fn push_word(text: &mut Vec<u8>, word: u64, digits: &[u8; 16]) -> Result<(), All
 }
 
 /// The answer to a call.
-pub(crate) fn answer(alloc: Global, call: &[&str]) -> anyhow::Result<String> {
+pub(crate) fn answer(page: &mut Page, call: &[&str]) -> Done {
     match call {
-        ["read", text] => read(alloc, bytes_of(alloc, text)?.as_slice()),
-        ["words", pattern, digits, ending] => words(alloc, pattern, digits, ending),
-        ["without", at, text] => without(alloc, at, text),
-        ["cut", text] => cut(alloc, text),
-        ["key", table, record] => key(alloc, table, record),
-        ["keys", table, record, moves @ ..] => keys(alloc, table, record, moves),
-        ["codes", record] => codes(alloc, record),
-        ["code", record, text] => code(alloc, record, text),
-        ["move", record, code] => coded(alloc, record, code),
-        _ => anyhow::bail!("no such call"),
+        ["read", text] => read(page, text),
+        ["words", pattern, digits, ending] => words(page, pattern, digits, ending),
+        ["without", at, text] => without(page, at, text),
+        ["cut", text] => cut(page, text),
+        ["key", table, record] => key(page, table, record),
+        ["keys", table, record, moves @ ..] => keys(page, table, record, moves),
+        ["codes", record] => codes(page, record),
+        ["code", record, text] => code(page, record, text),
+        ["move", record, code] => coded(page, record, code),
+        _ => Err(Trouble::Row),
+    }
+}
+
+/// The table of these bytes.
+fn taken(alloc: Global, bytes: &[u8]) -> Result<Table, Trouble> {
+    match read_table(alloc, bytes) {
+        Ok(table) => Ok(table),
+        Err(_) => Err(Trouble::Row),
     }
 }
 
 /// The table that an argument writes.
-pub(crate) fn table_of(alloc: Global, text: &str) -> anyhow::Result<Table> {
-    Ok(read_table(alloc, bytes_of(alloc, text)?.as_slice())?)
+pub(crate) fn table_of(alloc: Global, text: &str) -> Result<Table, Trouble> {
+    taken(alloc, bytes_of(alloc, text)?.as_slice())
+}
+
+/// The bytes, read as a table.
+fn read(page: &mut Page, text: &str) -> Done {
+    let bytes = bytes_of(page.alloc, text)?;
+    tell_read(page, bytes.as_slice())
 }
 
 /// Whether bytes are a table, or why not.
-fn read(alloc: Global, bytes: &[u8]) -> anyhow::Result<String> {
-    match read_table(alloc, bytes) {
-        Ok(_table) => Ok("a table".to_string(alloc)?),
-        Err(refusal) => Ok(format!(in alloc; "refused {refusal:?}")?),
+fn tell_read(page: &mut Page, bytes: &[u8]) -> Done {
+    match read_table(page.alloc, bytes) {
+        Ok(_table) => page.put("a table"),
+        Err(refusal) => page.put_refusal(&refusal),
     }
 }
 
 /// Whether the file is a table with the pattern's words.
-fn has_words(alloc: Global, pattern: Pattern, text: &[u8]) -> anyhow::Result<bool> {
-    let table = read_table(alloc, text)?;
+fn has_words(alloc: Global, pattern: Pattern, text: &[u8]) -> Result<bool, Trouble> {
+    let table = taken(alloc, text)?;
     for place in 0..781_usize {
         if table.word(place) != pattern.at(place as u64) {
             return Ok(false);
@@ -112,29 +127,33 @@ fn has_words(alloc: Global, pattern: Pattern, text: &[u8]) -> anyhow::Result<boo
 }
 
 /// Whether the pattern's file is read as its words, whole and without its last byte.
-fn words(alloc: Global, pattern: &str, digits: &str, ending: &str) -> anyhow::Result<String> {
+fn words(page: &mut Page, pattern: &str, digits: &str, ending: &str) -> Done {
     let pattern = Pattern::named(pattern)?;
     let digits = match digits {
         "small" => b"0123456789abcdef",
         _ => b"0123456789ABCDEF",
     };
-    let file = pattern.file(alloc, digits, bytes_of(alloc, ending)?.as_slice())?;
-    let whole = has_words(alloc, pattern, file.as_slice())?;
+    let ending = bytes_of(page.alloc, ending)?;
+    let file = pattern.file(page.alloc, digits, ending.as_slice())?;
     let cut = &file.as_slice()[..file.len().saturating_sub(1)];
-    let cut = has_words(alloc, pattern, cut)?;
-    Ok(format!(in alloc; "whole {whole}, without its last byte {cut}")?)
+    page.put_count("whole ", &has_words(page.alloc, pattern, file.as_slice())?)?;
+    page.put_count(
+        ", without its last byte ",
+        &has_words(page.alloc, pattern, cut)?,
+    )
 }
 
 /// The file without the byte at an offset, read.
-fn without(alloc: Global, at: &str, text: &str) -> anyhow::Result<String> {
-    let at = at.parse::<usize>()?;
-    let mut rest = Vec::new(alloc);
-    for (index, byte) in bytes_of(alloc, text)?.iter().enumerate() {
+fn without(page: &mut Page, at: &str, text: &str) -> Done {
+    let at = count_of(at)?;
+    let bytes = bytes_of(page.alloc, text)?;
+    let mut rest = Vec::new(page.alloc);
+    for (index, byte) in bytes.iter().enumerate() {
         if index != at {
             rest.push(*byte)?;
         }
     }
-    read(alloc, rest.as_slice())
+    tell_read(page, rest.as_slice())
 }
 
 /// Why the first so many bytes of a table's file, of which each line has 17, are no table.
@@ -149,72 +168,82 @@ fn due_after(count: usize) -> Option<TableError> {
 }
 
 /// Each shorter front of a table's file, read: how many are refused as they have to be, or the first that isn't.
-fn cut(alloc: Global, text: &str) -> anyhow::Result<String> {
-    let bytes = bytes_of(alloc, text)?;
-    for (count, _) in bytes.iter().enumerate() {
-        let answer = read_table(alloc, &bytes.as_slice()[..count]).err();
+fn cut(page: &mut Page, text: &str) -> Done {
+    let bytes = bytes_of(page.alloc, text)?;
+    for count in 0..bytes.len() {
+        let answer = read_table(page.alloc, &bytes.as_slice()[..count]).err();
         if answer != due_after(count) {
-            return Ok(format!(in alloc; "{answer:?} for {count} bytes")?);
+            page.put_debug(&answer)?;
+            return page.put_count(" for ", &count);
         }
     }
-    let count = bytes.len();
-    Ok(format!(in alloc; "{count} fronts judged")?)
+    page.put_display(&bytes.len())?;
+    page.put(" fronts judged")
 }
 
 /// The key of a record's setup.
-fn key(alloc: Global, table: &str, record: &str) -> anyhow::Result<String> {
-    let key = key_of(&table_of(alloc, table)?, &setup_of(alloc, record)?);
-    Ok(format!(in alloc; "{key:016x}")?)
+fn key(page: &mut Page, table: &str, record: &str) -> Done {
+    let key = key_of(
+        &table_of(page.alloc, table)?,
+        &setup_of(page.alloc, record)?,
+    );
+    page.put_digits(key.to_be_bytes().as_slice())
 }
 
 /// The key after each of these moves, made anew and of the key before it.
-fn keys(alloc: Global, table: &str, record: &str, moves: &[&str]) -> anyhow::Result<String> {
-    let table = table_of(alloc, table)?;
-    let mut setup = setup_of(alloc, record)?;
-    let mut text = String::new(alloc);
+fn keys(page: &mut Page, table: &str, record: &str, moves: &[&str]) -> Done {
+    let table = table_of(page.alloc, table)?;
+    let mut setup = setup_of(page.alloc, record)?;
     for word in moves {
-        let m = spelled(word)?;
-        let Some(after) = play(&setup, m) else {
-            anyhow::bail!("{word} isn't legal");
-        };
-        let key = key_of(&table, &setup);
-        let changed = key_after(&table, key, &setup, m, &after);
-        let anew = key_of(&table, &after);
-        writeln!(text, "{word} anew {anew:016x}, by change {changed:016x}")?;
-        setup = after;
+        page.put(word)?;
+        setup = tell_keys(page, &table, &setup, spelled(word)?)?;
     }
-    Ok(text)
+    Ok(())
+}
+
+/// The key after a move, made anew and of the key before it, and the setup after it.
+fn tell_keys(page: &mut Page, table: &Table, setup: &Setup, m: Move) -> Result<Setup, Trouble> {
+    let Some(after) = play(setup, m) else {
+        return Err(Trouble::Row);
+    };
+    let changed = key_after(table, key_of(table, setup), setup, m, &after);
+    page.put(" anew ")?;
+    page.put_digits(key_of(table, &after).to_be_bytes().as_slice())?;
+    page.put(", by change ")?;
+    page.put_digits(changed.to_be_bytes().as_slice())?;
+    page.put("\n")?;
+    Ok(after)
 }
 
 /// The code of a move, and the move of this code.
-fn code(alloc: Global, record: &str, text: &str) -> anyhow::Result<String> {
-    let setup = setup_of(alloc, record)?;
+fn code(page: &mut Page, record: &str, text: &str) -> Done {
+    let setup = setup_of(page.alloc, record)?;
     let code = code_of(&setup, spelled(text)?);
-    let back = match move_of(&setup, code) {
-        Some(m) => shown(alloc, m.text().as_bytes())?,
-        None => "none".to_string(alloc)?,
-    };
-    Ok(format!(in alloc; "{code:04x} {back}")?)
+    page.put_digits(code.to_be_bytes().as_slice())?;
+    page.put(" ")?;
+    tell_move(page, move_of(&setup, code))
 }
 
 /// The codes of the legal moves in order, each the code of this move alone.
-fn codes(alloc: Global, record: &str) -> anyhow::Result<String> {
-    let setup = setup_of(alloc, record)?;
-    let mut text = String::new(alloc);
-    for m in &legal_moves(alloc, &setup)? {
+fn codes(page: &mut Page, record: &str) -> Done {
+    let setup = setup_of(page.alloc, record)?;
+    page.put("codes:")?;
+    for m in &legal_moves(page.alloc, &setup)? {
         let code = code_of(&setup, *m);
         if move_of(&setup, code) != Some(*m) {
-            anyhow::bail!("another move has this code");
+            return Err(Trouble::Row);
         }
-        write!(text, " {code:04x}")?;
+        page.put(" ")?;
+        page.put_digits(code.to_be_bytes().as_slice())?;
     }
-    Ok(format!(in alloc; "codes:{text}")?)
+    Ok(())
 }
 
 /// The legal move of a code.
-fn coded(alloc: Global, record: &str, code: &str) -> anyhow::Result<String> {
-    match move_of(&setup_of(alloc, record)?, u16::from_str_radix(code, 16)?) {
-        Some(m) => shown(alloc, m.text().as_bytes()),
-        None => Ok("none".to_string(alloc)?),
+fn coded(page: &mut Page, record: &str, code: &str) -> Done {
+    let setup = setup_of(page.alloc, record)?;
+    match u16::from_str_radix(code, 16) {
+        Ok(code) => tell_move(page, move_of(&setup, code)),
+        Err(_) => Err(Trouble::Row),
     }
 }
