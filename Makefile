@@ -51,13 +51,14 @@ demo: build
 test:
 	rt ci
 
-# Times the program that plays moves, and the commands.
+# Times the program that plays moves, and the commands, and compares a book with PolyGlot's own.
 bench: build
 	@cd crates/bench_moves && rt run -- perft '$(START)' 1 > /dev/null
 	@sh bench/moves.sh
 	@sh bench/epd.sh
 	@sh bench/books.sh
 	@sh bench/collect.sh
+	@sh bench/same_entries.sh
 	@sh bench/export.sh
 
 clean:
