@@ -2,10 +2,8 @@
 use Rattle.std.proofs.Common.{ℕ, ◌<◌, max, arith, inl, inr}
 use Rattle.std.proofs.lemmas.Bool.{cases_order}
 use Rattle.pb_board.specs.Board.{file, rank}
-use Rattle.pb_moves.specs.declared.direction.Direction.{Direction}
-use Rattle.pb_moves.specs.declared.direction.Direction.TheVariants.{North, NorthEast, East, SouthEast, South, SouthWest, West, NorthWest}
 use Rattle.pb_moves.specs.Sight.{Between}
-use Rattle.pb_moves.specs.Attack.{StepsFrom, IsDiagonal, IsStraight, files_apart, ranks_apart}
+use Rattle.pb_moves.specs.Attack.{Direction, North, NorthEast, East, SouthEast, South, SouthWest, West, NorthWest, StepsFrom, IsDiagonal, IsStraight, files_apart, ranks_apart}
 
 -- a king's moves from a to b along a line
 abbrev pub far : ℕ → ℕ → ℕ

@@ -14,8 +14,7 @@ use Rattle.pb_moves.specs.Moved.{Moved}
 use Rattle.pb_moves.specs.Castling.{CastlingRow, Castled}
 use Rattle.pb_moves.specs.Cases.{Carried, CarriedPast, Becomes, pawn_rank, CaseOf, piece_move, pawn_step, pawn_double, pawn_capture, en_passant, castles}
 use Rattle.pb_moves.specs.After.{passed_over}
-use Rattle.pb_moves.proofs.Unique.{same_or_not, passed_at}
-use Rattle.pb_moves.proofs.Striking.{piece_is}
+use Rattle.pb_moves.proofs.Unique.{piece_is, same_or_not, passed_at}
 use Rattle.pb_moves.proofs.Kings.{holds_one, holds_at, empty_holds, pawn_reach, kings_after, white_and_black}
 
 -- pawns stay off the first and last rank where the carried piece does

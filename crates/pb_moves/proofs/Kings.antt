@@ -14,8 +14,7 @@ use Rattle.pb_moves.specs.Attack.{ReachesBy}
 use Rattle.pb_moves.specs.Moved.{Moved}
 use Rattle.pb_moves.specs.Castling.{CastlingRow, castling_row, Castled, MayCastle}
 use Rattle.pb_moves.specs.Cases.{Carried, CarriedPast, Becomes, CaseOf, piece_move, pawn_step, pawn_double, pawn_capture, en_passant, castles, IsPrey}
-use Rattle.pb_moves.proofs.Unique.{same_or_not, passed_at}
-use Rattle.pb_moves.proofs.Striking.{piece_is}
+use Rattle.pb_moves.proofs.Unique.{piece_is, same_or_not, passed_at}
 
 -- two pieces do not stand on one square
 pub holds_one : (board : Board) (q : ℕ) (p r : Piece) → Holds board q p → Holds board q r → p ≡ r

@@ -29,17 +29,18 @@ pawn_cases s m piece pawn step double capture None h = λ b x.
       | castles c y ↦ (let king = y.king in cc)
     ]
 
--- a king that neither moves as a piece nor castles has no case
-pub king_no_case : (s : Position) (m : Moved) (piece : Piece) → piece.kind ≡ King → ((b : Board) → ¬ PieceMove s m piece b)
-    → ((c : Castling) (b : Board) → ¬ Castles (castling_row c) s m piece b) → (b : Board) → ¬ CaseOf s m piece b
-king_no_case s m piece king move none b x =
+-- a king's last case
+pub king_cases : (s : Position) (m : Moved) (piece : Piece) → piece.kind ≡ King → ((b : Board) → ¬ PieceMove s m piece b)
+    → (o : Option Change) → Finds (λ b. (c : Castling) × Castles (castling_row c) s m piece b) s.board m o → Finds (CaseOf s m piece) s.board m o
+king_cases s m piece king move (Some x) h = (h.0, λ b changes. let found = h.1 b changes in castles found.0 found.1)
+king_cases s m piece king move None h = λ b x.
     elim x [
       | piece_move y ↦ move b y
       | pawn_step y ↦ (let pawn = y.pawn in cc)
       | pawn_double y ↦ (let pawn = y.pawn in cc)
       | pawn_capture y ↦ (let pawn = y.pawn in cc)
       | en_passant y ↦ (let pawn = y.pawn in cc)
-      | castles c y ↦ none c b y
+      | castles c y ↦ h b (c, y)
     ]
 
 -- the case of the piece that stands on `from`

@@ -1,7 +1,5 @@
 pub mod Rays
-pub mod Striking
 pub mod Below
-pub mod Knights
 pub mod Targets
 pub mod Rising
 pub mod Between
@@ -17,5 +15,5 @@ pub mod LegalMoves
 pub mod Successors
 pub mod Plies
 pub mod Pins
-pub mod Carrying
+pub mod Changing
 pub mod Listed

@@ -15,7 +15,7 @@ use Rattle.pb_moves.specs.declared.castling.Castling.{Castling}
 use Rattle.pb_moves.specs.declared.castling.Castling.TheVariants.{WhiteShort, WhiteLong, BlackShort, BlackLong}
 use Rattle.pb_moves.specs.Attack.{files_apart, ReachesBy}
 use Rattle.std.specs.Int.{bit_at, trailing_zeros}
-use Rattle.pb_moves.proofs.Carrying.{no_own}
+use Rattle.pb_moves.proofs.Pins.{differ}
 use Rattle.pb_moves.proofs.Kings.{holds_one}
 use Rattle.pb_moves.proofs.Legality.{case_at}
 use Rattle.pb_moves.proofs.Rising.{low_bits, zeros_bound, zeros_rise, without, without_other, without_small}
@@ -169,7 +169,7 @@ promotion_some (Some k) h = (k, refl)
 no_prey : (s : Position) (q : ℕ) (r : Piece) → IsPrey s.board s.turn q → HoldsOwn s q r → ⊥
 no_prey s q r prey own =
     let enemy : Piece = record { colour = opponent s.turn; kind = prey.kind } in
-    no_own s.turn (ap (λ (x : Piece). x.colour) (holds_one s.board q enemy r prey.stands own.stands) ∙ own.own)
+    differ s.turn (ap (λ (x : Piece). x.colour) (holds_one s.board q enemy r prey.stands own.stands) ∙ own.own)
 
 not_empty : (s : Position) (q : ℕ) (r : Piece) → IsEmpty s.board q → HoldsOwn s q r → ⊥
 not_empty s q r empty own = let no : None ≡ Some r = sym empty ∙ own.stands in cc

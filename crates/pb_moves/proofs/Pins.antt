@@ -11,7 +11,7 @@ use Rattle.pb_board.specs.Position.{Position}
 use Rattle.pb_moves.specs.Attack.{Clear, ReachesBy, IsAttacked}
 use Rattle.pb_moves.specs.Moved.{Moved}
 use Rattle.pb_moves.specs.Candidate.{HoldsOwn}
-use Rattle.pb_moves.specs.Outcome.{IsFree, Lifted}
+use Rattle.pb_moves.specs.Free.{IsFree, Lifted}
 use Rattle.pb_moves.specs.Cases.{Carried, CaseOf, piece_move, pawn_step, pawn_double, pawn_capture, en_passant, castles, Legal}
 use Rattle.pb_moves.specs.Change.{LeadsTo}
 use Rattle.pb_moves.specs.Successor.{put}

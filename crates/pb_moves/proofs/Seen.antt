@@ -6,17 +6,17 @@ use Rattle.pb_board.specs.declared.piece.Kind.TheVariants.{Pawn, Knight, Bishop,
 use Rattle.pb_board.specs.declared.piece.Piece.{Piece}
 use Rattle.pb_board.specs.Board.{Board, at, Holds, IsEmpty}
 use Rattle.pb_moves.specs.declared.sight.Sight.{Sight}
-use Rattle.pb_moves.specs.Attack.{Clear, ReachesBy, IsAttacked, IsKnightsMove, IsDiagonal, IsStraight, files_apart, ranks_apart}
+use Rattle.pb_moves.specs.Attack.{StepsFrom, Clear, ReachesBy, IsAttacked, IsKnightsMove, IsDiagonal, IsStraight, files_apart, ranks_apart}
 use mir.Val.{bits}
+use Rattle.std.proofs.lemmas.Bool.{cases_lt}
 use Rattle.std.proofs.lemmas.Nat.{and_le_l, or_lt}
 use Rattle.std.proofs.lemmas.Nat.Bits.{bit_at_set_same, bit_at_set_other}
 use Rattle.pb_moves.specs.Cases.{Carried}
-use Rattle.pb_moves.specs.Outcome.{Lifted}
+use Rattle.pb_moves.specs.Free.{Lifted}
 use Rattle.pb_moves.proofs.Rising.{without, without_other, without_same}
-use Rattle.pb_moves.proofs.Unique.{same_or_not}
+use Rattle.pb_moves.proofs.Unique.{piece_is, same_or_not}
 use Rattle.pb_moves.specs.Sight.{AreOf, AreOfEither, IsTaken, In, Open, Sees, SlidesStraight, SlidesDiagonally, StrikesFrom, piece_of}
-use Rattle.pb_moves.proofs.Rays.{clear_back, holds_on_board}
-use Rattle.pb_moves.proofs.Striking.{empty_by_clear, lies_by_clear, piece_is}
+use Rattle.pb_moves.proofs.Rays.{back, back_from, clear_back, empty_back, holds_on_board, steps_none}
 use Rattle.pb_moves.proofs.Sets.{in_and, in_both, in_or, in_first, in_second}
 
 pub empty_or_not : (x : Option Piece) → (x ≡ None) ⊎ ¬ (x ≡ None)
@@ -41,15 +41,19 @@ clear_if_open b occ to from taken way =
 
 pub open_if_clear : (b : Board) (occ to from : ℕ) → IsTaken occ b → from ≢ to → Clear b from to → Open occ to from
 open_if_clear b occ to from taken ne clear =
-    let lies = lies_by_clear b from to ne clear in
-    let empty = empty_by_clear b lies.0 lies.1 from to lies.2 lies.3 clear in
-    record {
-      direction = lies.0;
-      steps = lies.1;
-      some = lies.2;
-      reaches = lies.3;
-      free = λ k c lo hi on at_c inside. (taken c on).0 inside (empty k c lo hi on at_c);
-    }
+    elim (cases_lt 0 clear.steps) [
+      | inl l ↦ record {
+        direction = back clear.direction;
+        steps = clear.steps;
+        some = l;
+        reaches = back_from clear.direction clear.steps from to clear.reaches;
+        free = λ k c lo hi on at_c inside. (taken c on).0 inside (empty_back b clear.direction clear.steps from to clear.reaches clear.empty k c lo hi on at_c);
+      }
+      | inr g ↦
+          (let none : clear.steps ≡ 0 = omega arith in
+          let P : ℕ → Type 0 = λ x. StepsFrom clear.direction x from to in
+          absurd (ne (sym (steps_none clear.direction from to (subst P none clear.reaches)))))
+    ]
 
 clear_by_open : (b : Board) (side : Colour) (sight : Sight) (to from : ℕ) → Sees b side sight → Open sight.occupied to from → Clear b from to
 clear_by_open b side sight to from sees way = clear_if_open b sight.occupied to from sees.occupied way

@@ -20,8 +20,7 @@ use Rattle.pb_moves.specs.Cases.{Carried, CarriedPast, Becomes, CaseOf, piece_mo
 use Rattle.pb_moves.specs.After.{passed_over, Touches, KeepsFlag, After}
 use Rattle.pb_moves.specs.Successor.{put, arriving, beside, board_of, carried, keeps, ep_of_kind, ep_of, after}
 use Rattle.pb_moves.specs.MoveLaws.{AfterIs, OneAfter, AfterIsSetup}
-use Rattle.pb_moves.proofs.Unique.{carried_one, carried_past_one, castled_one, case_one, king_near, pawn_files, step_ranks, passed_at}
-use Rattle.pb_moves.proofs.Striking.{piece_is}
+use Rattle.pb_moves.proofs.Unique.{piece_is, carried_one, carried_past_one, castled_one, case_one, king_near, pawn_files, step_ranks, passed_at}
 use Rattle.pb_moves.proofs.Kings.{pawn_reach, castling_king}
 use Rattle.pb_moves.proofs.Kept.{setup_by_parts}
 use Rattle.pb_moves.proofs.LegalMoves.{legal_is_move}

@@ -13,7 +13,6 @@ use Rattle.pb_board.specs.declared.piece.Kind.TheVariants.{Pawn, Knight, Bishop,
 use Rattle.pb_moves.specs.Candidate.{MayGo}
 use Rattle.pb_moves.specs.Attack.{files_apart, ranks_apart, IsKnightsMove, IsDiagonal, IsStraight}
 use Rattle.pb_moves.proofs.Below.{all_below, all_below_at}
-use Rattle.pb_moves.proofs.Knights.{is_knights_move, apart_passes, apart_is}
 use Rattle.pb_moves.proofs.Unique.{same_or_not}
 
 pub both : (x y : Bool) → x ≡ true → y ≡ true → (x && y) ≡ true
@@ -30,6 +29,10 @@ tests_diagonal a b = eqb (files_apart a b) (ranks_apart a b) && ltb 0 (files_apa
 abbrev pub tests_straight : ℕ → ℕ → Bool
 tests_straight a b =
     (eqb (files_apart a b) 0 && ltb 0 (ranks_apart a b)) || (ltb 0 (files_apart a b) && eqb (ranks_apart a b) 0)
+
+abbrev pub tests_knight : ℕ → ℕ → Bool
+tests_knight a b =
+    (eqb (files_apart a b) 1 && eqb (ranks_apart a b) 2) || (eqb (files_apart a b) 2 && eqb (ranks_apart a b) 1)
 
 abbrev pub tests_king : ℕ → ℕ → Bool
 tests_king a b = eqb (max (files_apart a b) (ranks_apart a b)) 1 || (eqb (files_apart a b) 2 && eqb (ranks_apart a b) 0)
@@ -75,7 +78,7 @@ white_pawn_is_right = refl
 black_pawn_is_right : is_right BLACK_PAWN tests_black_pawn ≡ true
 black_pawn_is_right = refl
 
-knight_is_right : is_right KNIGHT is_knights_move ≡ true
+knight_is_right : is_right KNIGHT tests_knight ≡ true
 knight_is_right = refl
 
 bishop_is_right : is_right BISHOP tests_diagonal ≡ true
@@ -114,7 +117,13 @@ black_pawn_bit a b x y =
     (either_part _ _ _ _ (both_parts _ _ _ _ (eqb-true (rank a) (rank b + 1)) (leb-true (files_apart a b) 1)) (both_parts _ _ _ _ (eqb-true (rank a) (rank b + 2)) (eqb-true (files_apart a b) 0)))
 
 pub knight_bit : (colour : Colour) (a b : ℕ) → a < 64 → b < 64 → (bit_at (get_or KNIGHT a 0) b ≡ 1) ↔ MayGo colour Knight a b
-knight_bit colour a b x y = bit_tells KNIGHT is_knights_move a b (IsKnightsMove a b) knight_is_right x y (apart_passes a b) (apart_is a b)
+knight_bit colour a b x y =
+    bit_tells KNIGHT tests_knight a b (IsKnightsMove a b) knight_is_right x y
+    (λ h. elim h [
+      | inl tall ↦ either _ _ (inl (both _ _ (eq-eqb (files_apart a b) 1 tall.0) (eq-eqb (ranks_apart a b) 2 tall.1)))
+      | inr wide ↦ either _ _ (inr (both _ _ (eq-eqb (files_apart a b) 2 wide.0) (eq-eqb (ranks_apart a b) 1 wide.1)))
+    ])
+    (either_part _ _ _ _ (both_parts _ _ _ _ (eqb-true (files_apart a b) 1) (eqb-true (ranks_apart a b) 2)) (both_parts _ _ _ _ (eqb-true (files_apart a b) 2) (eqb-true (ranks_apart a b) 1)))
 
 pub bishop_bit : (colour : Colour) (a b : ℕ) → a < 64 → b < 64 → (bit_at (get_or BISHOP a 0) b ≡ 1) ↔ MayGo colour Bishop a b
 bishop_bit colour a b x y =

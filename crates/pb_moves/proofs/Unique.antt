@@ -32,6 +32,13 @@ same_boards b c m n e = same_lists b c None (m ∙ sym n) e
 pub same_or_not : (a b : ℕ) → (a ≡ b) ⊎ (a ≢ b)
 same_or_not a b = elim (cases_order a b) [ inl e ↦ inl e | inr o ↦ inr (λ same. elim o [ inl l ↦ omega arith | inr g ↦ omega arith ]) ]
 
+-- a piece is its colour and its kind
+pub piece_is : (p : Piece) (colour : Colour) (kind : Kind) → p.colour ≡ colour → p.kind ≡ kind → p ≡ record { colour = colour; kind = kind }
+piece_is p colour kind c k =
+    let F : Kind → Piece = λ x. record { colour = p.colour; kind = x } in
+    let G : Colour → Piece = λ x. record { colour = x; kind = kind } in
+    ap F k ∙ ap G c
+
 -- what two boards hold at a square that is known on both
 pub both_at : (b c : Board) (q r : ℕ) (x : Option Piece) → q ≡ r → at b r ≡ x → at c r ≡ x → at b q ≡ at c q
 both_at b c q r x same left right = let P : ℕ → Type 0 = λ k. at b k ≡ at c k in subst P (sym same) (left ∙ sym right)

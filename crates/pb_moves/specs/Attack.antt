@@ -7,8 +7,17 @@ use Rattle.pb_board.specs.declared.piece.Piece.{Piece}
 use Rattle.pb_board.specs.Position.{Position}
 use Rattle.pb_board.specs.Piece.{opponent, king_of}
 use Rattle.pb_board.specs.Board.{Board, file, rank, Holds, IsEmpty, IsForward}
-use Rattle.pb_moves.specs.declared.direction.Direction.{Direction}
-use Rattle.pb_moves.specs.declared.direction.Direction.TheVariants.{North, NorthEast, East, SouthEast, South, SouthWest, West, NorthWest}
+
+-- a king's moves, seen from White's side of the board
+pub data Direction : Type 0 where
+  North : Direction
+  NorthEast : Direction
+  East : Direction
+  SouthEast : Direction
+  South : Direction
+  SouthWest : Direction
+  West : Direction
+  NorthWest : Direction
 
 -- b is n of a king's moves in this one direction from a
 abbrev pub StepsFrom : Direction → ℕ → ℕ → ℕ → Type 0

@@ -1,6 +1,7 @@
 -- What a move does to the board, as a value.
-use Rattle.std.specs.Prelude.{◌≢◌, Option, MatchOption}
-use Rattle.pb_board.specs.Board.{Board}
+use Rattle.std.specs.Prelude.{◌≡◌, ◌≢◌, ◌<◌, Option, MatchOption}
+use Rattle.pb_board.specs.Piece.{rook_of}
+use Rattle.pb_board.specs.Board.{Board, Holds}
 use Rattle.pb_moves.specs.declared.change.Change.{Change}
 use Rattle.pb_moves.specs.declared.change.Change.TheVariants.{Carry, CarryPast, Castle}
 use Rattle.pb_moves.specs.Castling.{castling_row, Castled}
@@ -13,15 +14,18 @@ Changes (Carry piece) m old new = Carried old new m.from m.to piece
 Changes (CarryPast piece gone) m old new = CarriedPast old new m.from m.to gone piece
 Changes (Castle castling) m old new = Castled (castling_row castling) old new
 
--- a pawn that is taken elsewhere doesn't stand where the capturer goes
-abbrev pub FitsMove : Change → Moved → Type 0
-FitsMove (Carry piece) m = Unit {0}
-FitsMove (CarryPast piece gone) m = gone ≢ m.to
-FitsMove (Castle castling) m = Unit {0}
+-- the change is one of this move: a pawn that is taken elsewhere stands on neither of its squares; a king that castles goes between
+-- them, and its rook is there
+abbrev pub Fits : Change → Moved → Board → Type 0
+Fits (Carry piece) m old = Unit {0}
+Fits (CarryPast piece gone) m old = (gone < 64) × (gone ≢ m.from) × (gone ≢ m.to)
+Fits (Castle castling) m old =
+    let row = castling_row castling in
+    (m.from ≡ row.king_from) × (m.to ≡ row.king_to) × Holds old row.rook_from (rook_of row.colour)
 
 -- each board to which the change leads has the property
 abbrev pub LeadsTo : (Board → Type 0) → Board → Moved → Change → Type 0
-LeadsTo P old m change = FitsMove change m × ((new : Board) → Changes change m old new → P new)
+LeadsTo P old m change = Fits change m old × ((new : Board) → Changes change m old new → P new)
 
 -- a change that leads to the property, or none where no board has it
 abbrev pub Finds : (Board → Type 0) → Board → Moved → Option Change → Type 0

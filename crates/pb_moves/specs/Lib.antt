@@ -9,8 +9,7 @@ pub mod Spelling
 pub mod Listing
 pub mod MoveLaws
 pub mod Played
-pub mod Walk
 pub mod Sight
 pub mod Change
-pub mod Outcome
+pub mod Free
 pub mod Candidate

@@ -6,9 +6,8 @@ use Rattle.pb_board.specs.declared.piece.Kind.{Kind}
 use Rattle.pb_board.specs.declared.piece.Kind.TheVariants.{Pawn, Knight, Bishop, Rook, Queen, King}
 use Rattle.pb_board.specs.declared.piece.Piece.{Piece}
 use Rattle.pb_board.specs.Board.{Board, IsEmpty, Holds, IsForward}
-use Rattle.pb_moves.specs.declared.direction.Direction.{Direction}
 use Rattle.pb_moves.specs.declared.sight.Sight.{Sight}
-use Rattle.pb_moves.specs.Attack.{StepsFrom, IsDiagonal, IsStraight, files_apart}
+use Rattle.pb_moves.specs.Attack.{Direction, StepsFrom, IsDiagonal, IsStraight, files_apart}
 
 -- the square is among those that the number stands for
 abbrev pub In : ℕ → ℕ → Type 0

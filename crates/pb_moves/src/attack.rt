@@ -1,15 +1,9 @@
-//! Which squares a piece attacks, and whether a square is attacked.
+//! Which squares a piece attacks.
 
 ghost use Rattle.std.specs.Prelude.{◌≡◌, ◌<◌, ◌↔◌, IsTrue};
 ghost use Rattle.pb_board.specs.Board.{IsForward};
-ghost use Rattle.pb_moves.specs.Attack.{Clear, IsDiagonal, IsStraight, Reaches, IsAttacked};
-ghost use Rattle.pb_moves.specs.declared.direction.Direction.{Direction};
-ghost use Rattle.pb_moves.specs.Walk.{PawnStrikes, Strikes, AttackedAlong, AttackedStraight, AttackedDiagonally};
+ghost use Rattle.pb_moves.specs.Attack.{Clear, IsDiagonal, IsStraight, Reaches};
 
-use crate::board::Board;
-use crate::direction::Direction;
-use crate::knight::attacked_by_knight;
-use crate::line::first_along;
 use crate::sight::{kings_from, knights_from};
 use crate::ways::{diagonal_from, diagonal_way, has, straight_from, straight_way};
 use pb_board::{Colour, Kind, Piece, Setup, Square};
@@ -55,79 +49,4 @@ pub(crate) fn reaches(piece: Piece, setup: &Setup, from: Square, to: Square) -> 
         Kind::Queen => bishop_reaches(setup, from, to) || rook_reaches(setup, from, to),
         Kind::King => has(kings_from(to), from),
     }
-}
-
-/// Whether a piece attacks a square from so far in this direction of it, where nothing stands between.
-#[inline(always)]
-fn strikes(piece: Piece, direction: Direction, steps: u8) -> bool
-    ensures { IsTrue result ↔ Strikes piece.colour piece.kind direction steps }
-{
-    match piece.kind {
-        Kind::Pawn => steps == 1 && pawn_strikes(piece.colour, direction),
-        Kind::Knight => false,
-        Kind::Bishop => direction.is_diagonal(),
-        Kind::Rook => !direction.is_diagonal(),
-        Kind::Queen => true,
-        Kind::King => steps == 1,
-    }
-}
-
-/// Whether a pawn of this colour attacks a square from a step in this direction of it.
-#[inline(always)]
-fn pawn_strikes(colour: Colour, direction: Direction) -> bool
-    ensures { IsTrue result ↔ PawnStrikes colour direction }
-{
-    match colour {
-        Colour::White => matches!(direction, Direction::SouthEast | Direction::SouthWest),
-        Colour::Black => matches!(direction, Direction::NorthEast | Direction::NorthWest),
-    }
-}
-
-/// Whether the first piece in this direction is of this side and attacks the square.
-#[inline(always)]
-fn attacked_along(board: &Board, by: Colour, direction: Direction, square: Square) -> bool
-    ensures { IsTrue result ↔ AttackedAlong board.now by direction square }
-{
-    match first_along(board, square, direction) {
-        Some(hit) => hit.piece.colour == by && strikes(hit.piece, direction, hit.steps),
-        None => false,
-    }
-}
-
-/// Whether a piece of this side attacks the square along its rank or its file. Each direction is written out, so that
-/// it is known where the walk is compiled.
-fn attacked_straight(board: &Board, square: Square, by: Colour) -> bool
-    ensures { IsTrue result ↔ AttackedStraight board.now by square }
-{
-    attacked_along(board, by, Direction::North, square)
-        || attacked_along(board, by, Direction::East, square)
-        || attacked_along(board, by, Direction::South, square)
-        || attacked_along(board, by, Direction::West, square)
-}
-
-/// Whether a piece of this side attacks the square along a diagonal.
-fn attacked_diagonally(board: &Board, square: Square, by: Colour) -> bool
-    ensures { IsTrue result ↔ AttackedDiagonally board.now by square }
-{
-    attacked_along(board, by, Direction::NorthEast, square)
-        || attacked_along(board, by, Direction::SouthEast, square)
-        || attacked_along(board, by, Direction::SouthWest, square)
-        || attacked_along(board, by, Direction::NorthWest, square)
-}
-
-/// Whether a piece of this side attacks the square along one of its lines.
-#[inline(always)]
-fn attacked_on_lines(board: &Board, square: Square, by: Colour) -> bool
-    ensures { IsTrue result ↔ ((d : Direction) × AttackedAlong board.now by d square) }
-{
-    attacked_straight(board, square, by) || attacked_diagonally(board, square, by)
-}
-
-/// Whether some piece of this side attacks the square.
-pub(crate) fn attacked_on(board: &Board, square: Square, by: Colour) -> bool
-    ensures { IsTrue result ↔ IsAttacked board.now by square }
-{
-    // The reader tells that the square is on the board.
-    let _index = square.index();
-    attacked_on_lines(board, square, by) || attacked_by_knight(board, square, by)
 }

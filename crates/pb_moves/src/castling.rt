@@ -2,14 +2,16 @@
 
 ghost use Rattle.std.specs.Prelude.{◌≡◌, ◌≢◌, ◌<◌, ◌↔◌, IsTrue, All, MatchOption};
 ghost use Rattle.pb_board.specs.declared.piece.Kind.TheVariants.{King};
-ghost use Rattle.pb_board.specs.Board.{Board, IsEmpty};
+ghost use Rattle.pb_board.specs.Board.{IsEmpty};
 ghost use Rattle.pb_board.specs.Piece.{opponent};
 ghost use Rattle.pb_moves.specs.declared.castling.Castling.{Castling};
 ghost use Rattle.pb_moves.specs.Attack.{IsAttacked};
 ghost use Rattle.pb_moves.specs.Castling.{castling_row, Castled, MayCastle};
 ghost use Rattle.pb_moves.specs.Cases.{Castles};
+ghost use Rattle.pb_moves.specs.Change.{Finds};
 
 use crate::board::{Board, holds, is_empty, opponent_of, square_at};
+use crate::change::Change;
 use crate::check::attacked;
 use crate::moves::Move;
 use pb_board::{Colour, Kind, Piece, Rights, Setup, Square};
@@ -150,6 +152,15 @@ impl Castling {
         self.way_is_empty(board) && self.way_is_safe(setup)
     }
 
+    /// The squares between which the rook goes.
+    #[inline(always)]
+    pub(crate) fn rook_squares(self) -> (Square, Square)
+        ensures { (result.0 ≡ (castling_row self).rook_from) × (result.1 ≡ (castling_row self).rook_to) }
+    {
+        let squares = self.squares();
+        (square_at(squares.rook_from), square_at(squares.rook_to))
+    }
+
     /// Moves king and rook.
     pub(crate) fn apply(self, board: &mut Board)
         ensures { Castled (castling_row self) board.old board.new }
@@ -190,15 +201,14 @@ fn both_safe(setup: &Setup, side: Colour, first: u8, second: u8) -> bool
 }
 
 /// The castling of this move, if it is one that the setup allows.
-pub(crate) fn castles(setup: &Setup, m: Move, piece: Piece) -> Option<Castling>
-    requires own { piece.colour ≡ setup.now.turn }
-    requires king { piece.kind ≡ King }
-    ensures { MatchOption result
-        ((c : Castling) (b : Board) → ¬ Castles (castling_row c) setup.now m piece b)
-        (λ c. (b : Board) → Castled (castling_row c) setup.now.board b → Castles (castling_row c) setup.now m piece b) }
+pub(crate) fn castles(setup: &Setup, m: Move, king: Piece) -> Option<Change>
+    requires king { king.kind ≡ King }
+    ensures { Finds (λ b. (c : Castling) × Castles (castling_row c) setup.now m king b) setup.now.board m result }
 {
     match Castling::of(m.from(), m.to()) {
-        Some(castling) if m.promo().is_none() && castling.may_castle(setup) => Some(castling),
+        Some(castling) if m.promo().is_none() && castling.may_castle(setup) => {
+            Some(Change::Castle(castling))
+        }
         _ => None,
     }
 }

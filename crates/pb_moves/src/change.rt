@@ -19,13 +19,13 @@ pub(crate) enum Change {
 }
 
 impl Change {
-    ghost use Rattle.pb_moves.specs.Change.{Changes, FitsMove};
+    ghost use Rattle.pb_moves.specs.Change.{Changes, Fits};
     ghost use Rattle.pb_moves.specs.Moved.{IsMove};
 
     /// Makes the change on the board.
     #[inline(always)]
     pub(crate) fn apply(self, board: &mut Board, m: Move)
-        requires { FitsMove self m }
+        requires { Fits self m board.old }
         ensures { Changes self m board.old board.new }
     {
         match self {

@@ -2,11 +2,9 @@
 
 ghost use Rattle.std.specs.Prelude.{◌≡◌, ◌<◌, ◌↔◌, IsTrue};
 ghost use Rattle.pb_board.specs.Piece.{opponent};
-ghost use Rattle.pb_board.specs.Position.{IsOnlyKing};
 ghost use Rattle.pb_moves.specs.Attack.{IsAttacked, InCheck, Playable};
 
-use crate::attack::attacked_on;
-use crate::board::{Board, opponent_of};
+use crate::board::opponent_of;
 use crate::sight::{is_attacked, sight_of};
 use pb_board::{Colour, Setup, Square};
 
@@ -29,12 +27,4 @@ pub fn playable(setup: &Setup) -> bool
     ensures { IsTrue result ↔ Playable setup.now }
 {
     !in_check(setup, opponent_of(setup.turn()))
-}
-
-/// Whether some enemy piece attacks this side's only king, which stands there.
-pub(crate) fn king_attacked(board: &Board, side: Colour, king: Square) -> bool
-    requires { IsOnlyKing board.now side king }
-    ensures { IsTrue result ↔ InCheck board.now side }
-{
-    attacked_on(board, king, opponent_of(side))
 }

@@ -8,17 +8,15 @@ ghost use Rattle.pb_board.specs.Piece.{opponent};
 ghost use Rattle.pb_board.specs.Position.{IsOnlyKing};
 ghost use Rattle.pb_moves.specs.Candidate.{HoldsOwn};
 ghost use Rattle.pb_moves.specs.Cases.{CaseOf, Legal};
-ghost use Rattle.pb_moves.specs.Change.{Finds, LeadsTo};
-ghost use Rattle.pb_moves.specs.declared.change.Change.TheVariants.{Carry};
+ghost use Rattle.pb_moves.specs.Change.{Changes, Finds, LeadsTo};
 ghost use Rattle.pb_moves.specs.Moved.{Moved};
 ghost use Rattle.pb_moves.specs.Sight.{Sees};
-ghost use Rattle.pb_moves.specs.Outcome.{IsFree, IsOutcome};
+ghost use Rattle.pb_moves.specs.Free.{IsFree};
 
-use crate::board::{Board, is_empty, opponent_of};
+use crate::board::{is_empty, opponent_of};
 use crate::cases::{en_passant, pawn_capture, pawn_double, pawn_step, piece_move};
 use crate::castling::castles;
 use crate::change::Change;
-use crate::check::king_attacked;
 use crate::moves::Move;
 use crate::sight::{Sight, carried_sight, is_attacked, lifted_sight, sight_of};
 use pb_board::{Kind, Piece, Setup, Square};
@@ -63,10 +61,7 @@ fn king_change(setup: &Setup, m: Move, king: Piece) -> Option<Change>
     if let Some(change) = piece_move(setup, m, king) {
         return Some(change);
     }
-    match castles(setup, m, king) {
-        Some(castling) => Some(Change::Castle(castling)),
-        None => None,
-    }
+    castles(setup, m, king)
 }
 
 /// What the move of this piece does by one of the cases, if one applies.
@@ -113,28 +108,23 @@ pub(crate) fn king_after(setup: &Setup, m: Move, piece: Piece) -> Square
     }
 }
 
-/// Makes the change on the setup's board, and tells where the mover's king then stands. None where it is attacked
-/// there.
+/// What is seen of the enemy's attackers after the change. What it carries besides the move's piece goes after it, and a pawn that takes
+/// another in passing goes by way of that pawn's square.
 #[inline(always)]
-pub(crate) fn make(
-    setup: &Setup,
-    m: Move,
-    piece: Piece,
-    change: Change,
-    board: &mut Board,
-) -> Option<Square>
+fn sight_after(setup: &Setup, m: Move, piece: Piece, change: Change) -> Sight
     requires own { HoldsOwn setup.now m.from piece }
     requires leads { LeadsTo (CaseOf setup.now m piece) setup.now.board m change }
-    requires same { board.old ≡ setup.now.board }
-    ensures { MatchOption result (¬ Legal setup.now m) (IsOutcome setup.now m piece board.new) }
+    ensures { (b : Board) → Changes change m setup.now.board b → Sees b (opponent setup.now.turn) result }
 {
-    let side = setup.turn();
-    change.apply(board, m);
-    let king = king_after(setup, m, piece);
-    if king_attacked(board, side, king) {
-        None
-    } else {
-        Some(king)
+    let (from, to) = (m.from(), m.to());
+    let seen = sight_of(setup, opponent_of(setup.turn()));
+    match change {
+        Change::Carry(_) => carried_sight(seen, from, to),
+        Change::CarryPast(_, gone) => carried_sight(carried_sight(seen, from, gone), gone, to),
+        Change::Castle(castling) => {
+            let (rook_from, rook_to) = castling.rook_squares();
+            carried_sight(carried_sight(seen, from, to), rook_from, rook_to)
+        }
     }
 }
 
@@ -154,19 +144,18 @@ pub(crate) fn is_free(setup: &Setup, enemy: &Sight, from: Square, piece: Piece) 
     !is_attacked(&seen, setup.king(side), opponent_of(side))
 }
 
-/// Whether the mover's king is safe after a move that puts a piece in the place of what stood on a square. No board is made.
+/// Whether the mover's king is safe after the move of this piece. No board is made.
 #[inline(always)]
-pub(crate) fn is_safe(setup: &Setup, m: Move, piece: Piece, arriving: Piece) -> bool
+pub(crate) fn is_safe(setup: &Setup, m: Move, piece: Piece, change: Change) -> bool
     requires own { HoldsOwn setup.now m.from piece }
-    requires leads { LeadsTo (CaseOf setup.now m piece) setup.now.board m (Carry arriving) }
+    requires leads { LeadsTo (CaseOf setup.now m piece) setup.now.board m change }
     ensures { IsTrue result ↔ Legal setup.now m }
 {
-    let (from, to) = (m.from(), m.to());
-    let side = setup.turn();
-    let enemy = opponent_of(side);
+    // The reader tells that the move meets its rules.
+    let _from = m.from();
     let king = king_after(setup, m, piece);
-    let seen = carried_sight(sight_of(setup, enemy), from, to);
-    !is_attacked(&seen, king, enemy)
+    let seen = sight_after(setup, m, piece, change);
+    !is_attacked(&seen, king, opponent_of(setup.turn()))
 }
 
 /// Whether the move of this piece is legal. `free` is true only where most moves of the piece need no test of check.
@@ -180,11 +169,7 @@ pub(crate) fn is_legal_for(setup: &Setup, m: Move, piece: Piece, free: bool) -> 
     let _from = m.from();
     match change_of(setup, m, piece) {
         Some(Change::Carry(_)) if free => true,
-        Some(Change::Carry(arriving)) => is_safe(setup, m, piece, arriving),
-        Some(change) => {
-            let mut board = *setup.board();
-            make(setup, m, piece, change, &mut board).is_some()
-        }
+        Some(change) => is_safe(setup, m, piece, change),
         None => false,
     }
 }

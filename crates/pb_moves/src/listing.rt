@@ -5,7 +5,7 @@ ghost use Rattle.std.specs.Option.{ForSome};
 ghost use Rattle.pb_board.specs.Piece.{opponent};
 ghost use Rattle.pb_moves.specs.Moved.{IsPromotion, promotion_number};
 ghost use Rattle.pb_moves.specs.Listing.{ListsLegal};
-ghost use Rattle.pb_moves.specs.Outcome.{IsFree};
+ghost use Rattle.pb_moves.specs.Free.{IsFree};
 ghost use Rattle.pb_moves.specs.Sight.{Sees};
 ghost use Rattle.pb_moves.specs.Candidate.{AreOwn, HoldsOwn, MayPromote, ListsBelow};
 

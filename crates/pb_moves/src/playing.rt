@@ -15,7 +15,7 @@ ghost use Rattle.pb_moves.specs.declared.change.Change.TheVariants.{Carry};
 use crate::board::opponent_of;
 use crate::cases::passed;
 use crate::change::Change;
-use crate::legal::{change_of, is_safe, king_after, make, own_piece};
+use crate::legal::{change_of, is_safe, king_after, own_piece};
 use crate::moves::Move;
 use pb_board::{Colour, Kind, Piece, Rights, Setup, Square};
 
@@ -92,27 +92,6 @@ fn by_colour(side: Colour, own: Square, enemy: Square) -> (Square, Square)
     }
 }
 
-/// The setup after the move, made anew from its parts. None exactly where the move isn't legal.
-#[inline(never)]
-fn play_anew(setup: &Setup, m: Move) -> Option<Setup>
-    ensures played { MatchOption result
-        (¬ Legal setup.now m)
-        (λ t. Legal setup.now m × After setup.now m t × IsSetup t) }
-    ensures is { IfSome result (λ t. t ≡ after setup.now m) }
-{
-    let piece = own_piece(setup, m.from())?;
-    let change = change_of(setup, m, piece)?;
-    let mut board = *setup.board();
-    let king = make(setup, m, piece, change, &mut board)?;
-    let side = setup.turn();
-    let enemy = opponent_of(side);
-    let enemy_king = setup.king(enemy);
-    let (white_king, black_king) = by_colour(side, king, enemy_king);
-    let rights = rights_after(setup, m);
-    let ep = passed_by(setup, m, piece);
-    Some(Setup::of_parts(board, enemy, rights, ep, white_king, black_king))
-}
-
 /// Plays the move in place, where it is legal, and tells whether it is. Where it isn't, the setup stays as it is.
 pub fn play_on(setup: &mut Setup, m: Move) -> bool
     ensures legal { IsTrue result ↔ Legal setup.old m }
@@ -122,25 +101,27 @@ pub fn play_on(setup: &mut Setup, m: Move) -> bool
     let Some(piece) = own_piece(setup, m.from()) else {
         return false;
     };
-    match change_of(setup, m, piece) {
-        Some(Change::Carry(arriving)) => carry(setup, m, piece, arriving),
-        Some(_) => replace(setup, m),
-        None => false,
-    }
-}
-
-/// Plays a move that puts a piece in the place of what stood on a square.
-#[inline(always)]
-fn carry(setup: &mut Setup, m: Move, piece: Piece, arriving: Piece) -> bool
-    requires own { HoldsOwn setup.old m.from piece }
-    requires leads { LeadsTo (CaseOf setup.old m piece) setup.old.board m (Carry arriving) }
-    ensures legal { IsTrue result ↔ Legal setup.old m }
-    ensures played { IsTrue result → (setup.new ≡ after setup.old m) }
-    ensures refused { ¬ IsTrue result → (setup.new ≡ setup.old) }
-{
-    if !is_safe(setup, m, piece, arriving) {
+    let Some(change) = change_of(setup, m, piece) else {
+        return false;
+    };
+    if !is_safe(setup, m, piece, change) {
         return false;
     }
+    match &change {
+        Change::Carry(arriving) => carry(setup, m, piece, *arriving),
+        _ => *setup = made_anew(setup, m, piece, change),
+    }
+    true
+}
+
+/// Plays a legal move that puts a piece in the place of what stood on a square.
+#[inline(always)]
+fn carry(setup: &mut Setup, m: Move, piece: Piece, arriving: Piece)
+    requires own { HoldsOwn setup.old m.from piece }
+    requires leads { LeadsTo (CaseOf setup.old m piece) setup.old.board m (Carry arriving) }
+    requires legal { Legal setup.old m }
+    ensures { setup.new ≡ after setup.old m }
+{
     let (from, to) = (m.from(), m.to());
     let side = setup.turn();
     let enemy = opponent_of(side);
@@ -150,23 +131,26 @@ fn carry(setup: &mut Setup, m: Move, piece: Piece, arriving: Piece) -> bool
     let rights = rights_after(setup, m);
     let ep = passed_by(setup, m, piece);
     setup.carry(from, to, arriving, rights, ep, white_king, black_king);
-    true
 }
 
-/// Plays a move by way of a new setup.
+/// The setup after a legal move, made anew from its parts.
 #[inline(never)]
-fn replace(setup: &mut Setup, m: Move) -> bool
-    ensures legal { IsTrue result ↔ Legal setup.old m }
-    ensures played { IsTrue result → (setup.new ≡ after setup.old m) }
-    ensures refused { ¬ IsTrue result → (setup.new ≡ setup.old) }
+fn made_anew(setup: &Setup, m: Move, piece: Piece, change: Change) -> Setup
+    requires own { HoldsOwn setup.now m.from piece }
+    requires leads { LeadsTo (CaseOf setup.now m piece) setup.now.board m change }
+    requires legal { Legal setup.now m }
+    ensures { result ≡ after setup.now m }
 {
-    match play_anew(setup, m) {
-        Some(next) => {
-            *setup = next;
-            true
-        }
-        None => false,
-    }
+    let side = setup.turn();
+    let enemy = opponent_of(side);
+    let king = king_after(setup, m, piece);
+    let enemy_king = setup.king(enemy);
+    let (white_king, black_king) = by_colour(side, king, enemy_king);
+    let rights = rights_after(setup, m);
+    let ep = passed_by(setup, m, piece);
+    let mut board = *setup.board();
+    change.apply(&mut board, m);
+    Setup::of_parts(board, enemy, rights, ep, white_king, black_king)
 }
 
 /// The setup after the move. None exactly where the move isn't legal.

@@ -6,7 +6,7 @@ ghost use Rattle.pb_board.specs.declared.piece.Colour.{Colour};
 ghost use Rattle.pb_board.specs.declared.piece.Piece.{Piece};
 ghost use Rattle.pb_moves.specs.Cases.{Carried};
 ghost use Rattle.pb_moves.specs.Attack.{IsAttacked, IsKnightsMove, files_apart, ranks_apart};
-ghost use Rattle.pb_moves.specs.Outcome.{Lifted};
+ghost use Rattle.pb_moves.specs.Free.{Lifted};
 ghost use Rattle.pb_moves.specs.Sight.{In, Sees, StrikesFrom};
 
 use crate::near_targets::{BLACK_STRIKES, NEAR, WHITE_STRIKES};

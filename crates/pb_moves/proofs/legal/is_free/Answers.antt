@@ -6,7 +6,7 @@ use Rattle.pb_board.specs.Piece.{opponent}
 use Rattle.pb_board.specs.Position.{IsOnlyKing}
 use Rattle.pb_moves.specs.Attack.{IsAttacked}
 use Rattle.pb_moves.specs.Sight.{Sees}
-use Rattle.pb_moves.proofs.Carrying.{own_differs}
+use Rattle.pb_moves.proofs.Changing.{own_differs}
 use Rattle.pb_moves.proofs.legal.is_free.Goals as goal
 
 pub returns : goal.returns

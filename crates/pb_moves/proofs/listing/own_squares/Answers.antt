@@ -7,7 +7,7 @@ use Rattle.pb_moves.specs.Candidate.{HoldsOwn}
 use Rattle.pb_moves.specs.Sight.{piece_of}
 use Rattle.pb_moves.proofs.Seen.{own_in}
 use Rattle.pb_moves.proofs.Sets.{in_or}
-use Rattle.pb_moves.proofs.Striking.{piece_is}
+use Rattle.pb_moves.proofs.Unique.{piece_is}
 use Rattle.pb_moves.proofs.listing.own_squares.Goals as goal
 
 pub returns : goal.returns

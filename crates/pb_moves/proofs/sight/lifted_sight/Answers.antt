@@ -1,6 +1,6 @@
 use Rattle.std.proofs.Common.{ℕ, subst, sym}
 use Rattle.pb_board.specs.Board.{Holds}
-use Rattle.pb_moves.specs.Outcome.{Lifted}
+use Rattle.pb_moves.specs.Free.{Lifted}
 use Rattle.pb_moves.proofs.Seen.{sees_lifted}
 use Rattle.pb_moves.proofs.sight.lifted_sight.Goals as goal
 

@@ -1,18 +1,11 @@
--- What a legal move leads to: the board after it, and where the mover's king stands.
+-- A piece without which its king is safe.
 use Rattle.std.specs.Prelude.{◌≡◌, ◌≢◌, ℕ, length}
 use Rattle.pb_board.specs.declared.piece.Kind.TheVariants.{King}
 use Rattle.pb_board.specs.declared.piece.Piece.{Piece}
 use Rattle.pb_board.specs.Board.{Board, at, IsEmpty}
 use Rattle.pb_board.specs.Piece.{opponent}
 use Rattle.pb_board.specs.Position.{Position, IsOnlyKing, IsSetup}
-use Rattle.pb_moves.specs.Attack.{InCheck, IsAttacked}
-use Rattle.pb_moves.specs.Cases.{CaseOf}
-use Rattle.pb_moves.specs.Moved.{Moved}
-
-pub record IsOutcome (s : Position) (m : Moved) (piece : Piece) (board : Board) (king : ℕ) : Type 0 where
-  pub by_case : CaseOf s m piece board
-  pub only_king : IsOnlyKing board s.turn king
-  pub safe : ¬ InCheck board s.turn
+use Rattle.pb_moves.specs.Attack.{IsAttacked}
 
 -- on the new board the square is empty, and the others are as they were
 pub record Lifted (old new : Board) (square : ℕ) : Type 0 where

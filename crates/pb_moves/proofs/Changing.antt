@@ -1,0 +1,145 @@
+-- A change, told from the setup before it.
+use Rattle.std.proofs.Common.{◌≡◌, ◌≢◌, ◌↔◌, ℕ, Bool, true, false, not, IsTrue, refl, inl, inr, sym, subst, ◌∙◌, Some, None, length}
+use Rattle.std.proofs.lemmas.Bool.{false≢true}
+use Rattle.pb_board.specs.declared.piece.Colour.{Colour}
+use Rattle.pb_board.specs.declared.piece.Piece.{Piece}
+use Rattle.pb_board.specs.Piece.{opponent, king_of, rook_of}
+use Rattle.pb_board.specs.Board.{Board, Holds}
+use Rattle.pb_board.specs.Position.{Position, IsSetup, IsOnlyKing, carried_board}
+use Rattle.pb_moves.specs.declared.castling.Castling.{Castling}
+use Rattle.pb_moves.specs.declared.change.Change.{Change}
+use Rattle.pb_moves.specs.declared.change.Change.TheVariants.{Carry, CarryPast, Castle}
+use Rattle.pb_moves.specs.declared.sight.Sight.{Sight}
+use Rattle.pb_moves.specs.Moved.{Moved, IsMove}
+use Rattle.pb_moves.specs.Attack.{IsAttacked, InCheck}
+use Rattle.pb_moves.specs.Candidate.{HoldsOwn}
+use Rattle.pb_moves.specs.Castling.{CastlingRow, castling_row, Castled}
+use Rattle.pb_moves.specs.Cases.{Carried, CarriedPast, CaseOf, Legal}
+use Rattle.pb_moves.specs.Change.{Changes, Fits, LeadsTo}
+use Rattle.pb_moves.specs.Sight.{Sees}
+use Rattle.pb_moves.specs.Successor.{put}
+use Rattle.pb_moves.proofs.Unique.{both_at, same_or_not}
+use Rattle.pb_moves.proofs.Kings.{holds_at}
+use Rattle.pb_moves.proofs.Legality.{not_legal_in_check, legal_out_of_check}
+use Rattle.pb_moves.proofs.Pins.{arrives_own, differ}
+use Rattle.pb_moves.proofs.Successors.{carried_put, carried_past_put, castled_board, castled_put, rows}
+
+-- the board after a change
+abbrev pub changed_board : Change → Moved → Board → Board
+changed_board (Carry piece) m old = carried_board old m.from m.to piece
+changed_board (CarryPast piece gone) m old = put (carried_board old m.from m.to piece) gone None
+changed_board (Castle castling) m old = castled_board (castling_row castling) old
+
+pub changes_board : (change : Change) (m : Moved) (old : Board) → length old ≡ 64 → IsMove m → Fits change m old → Changes change m old (changed_board change m old)
+changes_board (Carry piece) m old full is fits = carried_put old m.from m.to piece full is.from_on_board is.to_on_board is.moves
+changes_board (CarryPast piece gone) m old full is fits =
+    carried_past_put old m.from m.to gone piece full is.from_on_board is.to_on_board fits.0 is.moves (λ e. fits.1 (sym e)) (λ e. fits.2 (sym e))
+changes_board (Castle castling) m old full is fits = castled_put (castling_row castling) old (rows castling) full fits.2
+
+-- the case of a carried piece, with the squares as the code names them
+pub carry_case : (s : Position) (m : Moved) (piece arriving : Piece) (from to : ℕ) → from ≡ m.from → to ≡ m.to → IsSetup s → IsMove m
+    → LeadsTo (CaseOf s m piece) s.board m (Carry arriving) → CaseOf s m piece (carried_board s.board from to arriving)
+carry_case s m piece arriving from to same_from same_to ok is leads =
+    let F : ℕ → Type 0 = λ x. CaseOf s m piece (carried_board s.board x to arriving) in
+    let T : ℕ → Type 0 = λ x. CaseOf s m piece (carried_board s.board m.from x arriving) in
+    subst F (sym same_from) (subst T (sym same_to) (leads.1 _ (changes_board (Carry arriving) m s.board ok.places is leads.0)))
+
+-- the other two changes carry twice
+pub past_twice : (old mid new : Board) (from to gone : ℕ) (p : Piece) → CarriedPast old new from to gone p → Carried old mid from gone p → Carried mid new gone to p
+past_twice old mid new from to gone p moved first = record {
+  squares = moved.squares;
+  left = moved.taken;
+  arrived = moved.arrived;
+  others = λ q g t. elim (same_or_not q from) [
+    | inl e ↦ both_at new mid q from None e moved.left first.left
+    | inr f ↦ moved.others q f t g ∙ sym (first.others q f g)
+  ];
+}
+
+pub castled_twice : (row : CastlingRow) (old mid new : Board) → Castled row old new → Carried old mid row.king_from row.king_to (king_of row.colour)
+    → Carried mid new row.rook_from row.rook_to (rook_of row.colour)
+castled_twice row old mid new moved first = record {
+  squares = moved.squares;
+  left = moved.rook_left;
+  arrived = moved.rook;
+  others = λ q f t. elim (same_or_not q row.king_from) [
+    | inl e ↦ both_at new mid q row.king_from None e moved.king_left first.left
+    | inr g ↦ elim (same_or_not q row.king_to) [
+      | inl e ↦ both_at new mid q row.king_to (Some (king_of row.colour)) e moved.king first.arrived
+      | inr u ↦ moved.others q g f u t ∙ sym (first.others q g u)
+    ]
+  ];
+}
+
+pub own_differs : (side enemy colour : Colour) → enemy ≡ opponent side → colour ≡ side → colour ≢ enemy
+own_differs side enemy colour e c same =
+    let both : opponent side ≡ side = sym e ∙ (sym same ∙ c) in differ side both
+
+-- what is seen of the enemy's attackers before and after the side to move has carried a piece
+abbrev pub Follows : Position → Sight → ℕ → ℕ → Sight → Type 0
+Follows s seen from to after = (old new : Board) (piece own : Piece) → Sees old (opponent s.turn) seen → Carried old new from to piece
+    → piece.colour ≡ s.turn → Holds old from own → own.colour ≡ s.turn → Sees new (opponent s.turn) after
+
+pub follows : (s : Position) (seen : Sight) (from to : ℕ) (after : Sight)
+    → ((old new : Board) (by : Colour) (piece own : Piece) → Sees old by seen → Carried old new from to piece → piece.colour ≢ by → Holds old from own → own.colour ≢ by → Sees new by after)
+    → Follows s seen from to after
+follows s seen from to after carries old new piece own sees moved arrives stands leaves =
+    let other = λ (p : Piece) (e : p.colour ≡ s.turn). own_differs s.turn (opponent s.turn) p.colour refl e in
+    carries old new (opponent s.turn) piece own sees moved (other piece arrives) stands (other own leaves)
+
+-- what is seen after each change
+pub sees_carry : (s : Position) (m : Moved) (piece p : Piece) (seen after : Sight) → HoldsOwn s m.from piece → LeadsTo (CaseOf s m piece) s.board m (Carry p)
+    → Sees s.board (opponent s.turn) seen → Follows s seen m.from m.to after → (b : Board) → Changes (Carry p) m s.board b → Sees b (opponent s.turn) after
+sees_carry s m piece p seen after own leads sees carries b moved =
+    carries s.board b p piece sees moved (arrives_own s m piece p b own.own moved.arrived (leads.1 b moved)) own.stands own.own
+
+pub sees_past : (s : Position) (m : Moved) (piece p : Piece) (gone : ℕ) (seen one two : Sight) → IsSetup s → IsMove m → HoldsOwn s m.from piece
+    → LeadsTo (CaseOf s m piece) s.board m (CarryPast p gone) → Sees s.board (opponent s.turn) seen → Follows s seen m.from gone one → Follows s one gone m.to two
+    → (b : Board) → Changes (CarryPast p gone) m s.board b → Sees b (opponent s.turn) two
+sees_past s m piece p gone seen one two ok is own leads sees there on b moved =
+    let arrives = arrives_own s m piece p b own.own moved.arrived (leads.1 b moved) in
+    let mid = carried_board s.board m.from gone p in
+    let first = carried_put s.board m.from gone p ok.places is.from_on_board leads.0.0 (λ e. leads.0.1 (sym e)) in
+    on mid b p p (there s.board mid p piece sees first arrives own.stands own.own) (past_twice s.board mid b m.from m.to gone p moved first) arrives first.arrived arrives
+
+pub sees_castle : (s : Position) (m : Moved) (piece : Piece) (c : Castling) (seen one two : Sight) → IsSetup s → IsMove m → HoldsOwn s m.from piece
+    → LeadsTo (CaseOf s m piece) s.board m (Castle c) → Sees s.board (opponent s.turn) seen → Follows s seen m.from m.to one
+    → Follows s one (castling_row c).rook_from (castling_row c).rook_to two → (b : Board) → Changes (Castle c) m s.board b → Sees b (opponent s.turn) two
+sees_castle s m piece c seen one two ok is own leads sees king_goes rook_goes b moved =
+    let row = castling_row c in
+    let squares = rows c in
+    let king = king_of row.colour in
+    let fits = leads.0 in
+    let side : row.colour ≡ s.turn = arrives_own s m piece king b own.own (holds_at b row.king_to m.to king (sym fits.1) moved.king) (leads.1 b moved) in
+    let mid = carried_board s.board row.king_from row.king_to king in
+    let first = carried_put s.board row.king_from row.king_to king ok.places squares.king_from squares.king_to squares.king_moves in
+    let F : ℕ → Type 0 = λ x. Follows s seen x m.to one in
+    let T : ℕ → Type 0 = λ x. Follows s seen row.king_from x one in
+    let goes = subst T fits.1 (subst F fits.0 king_goes) in
+    let after_king = goes s.board mid king piece sees first side (holds_at s.board m.from row.king_from piece fits.0 own.stands) own.own in
+    let waits = first.others row.rook_from (λ e. squares.from_rook (sym e)) (λ e. squares.to_rook (sym e)) ∙ fits.2 in
+    rook_goes mid b (rook_of row.colour) (rook_of row.colour) after_king (castled_twice row s.board mid b moved first) side waits side
+
+-- the king's square is attacked just where the side is in check
+pub check_by_attack : (new : Board) (side enemy : Colour) (king : ℕ) → enemy ≡ opponent side → IsOnlyKing new side king → IsAttacked new enemy king → InCheck new side
+check_by_attack new side enemy king e only attack =
+    let P : Colour → Type 0 = λ x. IsAttacked new x king in
+    (king, record { stands = only.here; attacked = subst P e attack })
+
+pub attack_by_check : (new : Board) (side enemy : Colour) (king : ℕ) → enemy ≡ opponent side → IsOnlyKing new side king → InCheck new side → IsAttacked new enemy king
+attack_by_check new side enemy king e only check =
+    let P : Colour → Type 0 = λ x. IsAttacked new x king in
+    let K : ℕ → Type 0 = λ x. IsAttacked new (opponent side) x in
+    subst P (sym e) (subst K (only.nowhere_else check.0 check.1.stands) check.1.attacked)
+
+-- the mover is safe, and the move legal, just where the test finds no attack on its king
+pub safe_test : (s : Position) (m : Moved) (piece : Piece) (new : Board) (enemy : Colour) (king : ℕ) (hit : Bool) → IsSetup s → HoldsOwn s m.from piece → CaseOf s m piece new
+    → enemy ≡ opponent s.turn → IsOnlyKing new s.turn king → (IsTrue hit ↔ IsAttacked new enemy king) → (IsTrue (not hit) ↔ Legal s m)
+safe_test s m piece new enemy king true ok own case e only tells = (
+  λ h. absurd (false≢true h),
+  λ legal. absurd (not_legal_in_check s m new piece ok own case (check_by_attack new s.turn enemy king e only (tells.0 refl)) legal),
+)
+safe_test s m piece new enemy king false ok own case e only tells = (
+  λ h. legal_out_of_check s m new piece own case (λ check. false≢true (tells.1 (attack_by_check new s.turn enemy king e only check))),
+  λ legal. refl,
+)

@@ -1,0 +1,64 @@
+use Rattle.std.proofs.Common.{◌≡◌, subst, sym, ap, ◌∙◌}
+use Rattle.pb_board.specs.declared.piece.Colour.{Colour}
+use Rattle.pb_board.specs.Board.{Board}
+use Rattle.pb_board.specs.Piece.{opponent}
+use Rattle.pb_board.specs.Position.{Position, position_of, IsOnlyKing, IsSetup}
+use Rattle.pb_moves.specs.After.{After}
+use Rattle.pb_moves.specs.Change.{Changes}
+use Rattle.pb_moves.proofs.Kept.{setup_by_parts}
+use Rattle.pb_moves.proofs.Kings.{enemy_king_stays}
+use Rattle.pb_moves.proofs.Successors.{after_one}
+use Rattle.pb_moves.proofs.playing.made_anew.Goals as goal
+
+pub of_parts-requires-clause-rules : goal.of_parts-requires-clause-rules
+of_parts-requires-clause-rules c =
+    let s = c.args.setup.now in
+    let board = c.apply.new.board in
+    let C : Board → Type 0 = λ b. Changes c.args.change c.args.m b board in
+    let case = c.requires.leads.1 board (subst C c.board.ensures.value c.apply.ensures) in
+    let enemy : c.opponent_of-enemy.result ≡ opponent s.turn = c.opponent_of-enemy.ensures ∙ ap opponent c.turn-side.ensures.value in
+    let Q : Colour → Type 0 = λ side. IsSetup (position_of board side c.rights_after-rights.result c.passed_by-ep.result) in
+    subst Q (sym enemy)
+    (setup_by_parts s c.args.m c.args.piece board c.rights_after-rights.result c.passed_by-ep.result
+    c.turn-side.ensures.rules c.requires.own.stands c.requires.own.own case (c.passed_by-ep.ensures board case))
+
+pub of_parts-requires-clause-white : goal.of_parts-requires-clause-white
+of_parts-requires-clause-white c =
+    let s = c.args.setup.now in
+    let board = c.apply.new.board in
+    let C : Board → Type 0 = λ b. Changes c.args.change c.args.m b board in
+    let case = c.requires.leads.1 board (subst C c.board.ensures.value c.apply.ensures) in
+    let Q : Colour → Type 0 = λ side. IsOnlyKing board side c.king_after-king.result in
+    (c.by_colour-white_king.ensures board (subst Q (sym c.turn-side.ensures.value) (c.king_after-king.ensures board case))
+    (enemy_king_stays s c.args.m c.args.piece board c.turn-side.result c.opponent_of-enemy.result c.king-enemy_king.result
+    c.turn-side.ensures.rules c.requires.own.stands c.requires.own.own c.turn-side.ensures.value c.opponent_of-enemy.ensures c.king-enemy_king.ensures case)).0
+
+pub of_parts-requires-clause-black : goal.of_parts-requires-clause-black
+of_parts-requires-clause-black c =
+    let s = c.args.setup.now in
+    let board = c.apply.new.board in
+    let C : Board → Type 0 = λ b. Changes c.args.change c.args.m b board in
+    let case = c.requires.leads.1 board (subst C c.board.ensures.value c.apply.ensures) in
+    let Q : Colour → Type 0 = λ side. IsOnlyKing board side c.king_after-king.result in
+    (c.by_colour-white_king.ensures board (subst Q (sym c.turn-side.ensures.value) (c.king_after-king.ensures board case))
+    (enemy_king_stays s c.args.m c.args.piece board c.turn-side.result c.opponent_of-enemy.result c.king-enemy_king.result
+    c.turn-side.ensures.rules c.requires.own.stands c.requires.own.own c.turn-side.ensures.value c.opponent_of-enemy.ensures c.king-enemy_king.ensures case)).1
+
+pub returns : goal.returns
+returns c =
+    let s = c.args.setup.now in
+    let board = c.apply.new.board in
+    let C : Board → Type 0 = λ b. Changes c.args.change c.args.m b board in
+    let case = c.requires.leads.1 board (subst C c.board.ensures.value c.apply.ensures) in
+    let rights = c.rights_after-rights.ensures in
+    let A : Position → Type 0 = λ t. After s c.args.m t in
+    let parts = subst A (sym c.of_parts.ensures) (record {
+      moves = record { piece = c.args.piece; stands = c.requires.own.stands; own = c.requires.own.own; by_case = case };
+      turn = c.opponent_of-enemy.ensures ∙ ap opponent c.turn-side.ensures.value;
+      white_short = rights.white_short;
+      white_long = rights.white_long;
+      black_short = rights.black_short;
+      black_long = rights.black_long;
+      ep = c.passed_by-ep.ensures board case;
+    }) in
+    after_one s c.args.m c.of_parts.result c.turn-side.ensures.rules c.requires.legal parts
