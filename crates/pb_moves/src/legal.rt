@@ -111,16 +111,16 @@ pub(crate) fn king_after(setup: &Setup, m: Move, piece: Piece) -> Square
 /// What is seen of the enemy's attackers after the change. What it carries besides the move's piece goes after it, and a pawn that takes
 /// another in passing goes by way of that pawn's square.
 #[inline(always)]
-fn sight_after(setup: &Setup, m: Move, piece: Piece, change: Change) -> Sight
+fn sight_after(setup: &Setup, m: Move, piece: Piece, change: &Change) -> Sight
     requires own { HoldsOwn setup.now m.from piece }
-    requires leads { LeadsTo (CaseOf setup.now m piece) setup.now.board m change }
-    ensures { (b : Board) → Changes change m setup.now.board b → Sees b (opponent setup.now.turn) result }
+    requires leads { LeadsTo (CaseOf setup.now m piece) setup.now.board m change.now }
+    ensures { (b : Board) → Changes change.now m setup.now.board b → Sees b (opponent setup.now.turn) result }
 {
     let (from, to) = (m.from(), m.to());
     let seen = sight_of(setup, opponent_of(setup.turn()));
     match change {
         Change::Carry(_) => carried_sight(seen, from, to),
-        Change::CarryPast(_, gone) => carried_sight(carried_sight(seen, from, gone), gone, to),
+        Change::CarryPast(_, gone) => carried_sight(carried_sight(seen, from, *gone), *gone, to),
         Change::Castle(castling) => {
             let (rook_from, rook_to) = castling.rook_squares();
             carried_sight(carried_sight(seen, from, to), rook_from, rook_to)
@@ -146,9 +146,9 @@ pub(crate) fn is_free(setup: &Setup, enemy: &Sight, from: Square, piece: Piece) 
 
 /// Whether the mover's king is safe after the move of this piece. No board is made.
 #[inline(always)]
-pub(crate) fn is_safe(setup: &Setup, m: Move, piece: Piece, change: Change) -> bool
+pub(crate) fn is_safe(setup: &Setup, m: Move, piece: Piece, change: &Change) -> bool
     requires own { HoldsOwn setup.now m.from piece }
-    requires leads { LeadsTo (CaseOf setup.now m piece) setup.now.board m change }
+    requires leads { LeadsTo (CaseOf setup.now m piece) setup.now.board m change.now }
     ensures { IsTrue result ↔ Legal setup.now m }
 {
     // The reader tells that the move meets its rules.
@@ -156,6 +156,16 @@ pub(crate) fn is_safe(setup: &Setup, m: Move, piece: Piece, change: Change) -> b
     let king = king_after(setup, m, piece);
     let seen = sight_after(setup, m, piece, change);
     !is_attacked(&seen, king, opponent_of(setup.turn()))
+}
+
+/// The same out of line, for the changes that are rare.
+#[inline(never)]
+fn is_safe_out_of_line(setup: &Setup, m: Move, piece: Piece, change: &Change) -> bool
+    requires own { HoldsOwn setup.now m.from piece }
+    requires leads { LeadsTo (CaseOf setup.now m piece) setup.now.board m change.now }
+    ensures { IsTrue result ↔ Legal setup.now m }
+{
+    is_safe(setup, m, piece, change)
 }
 
 /// Whether the move of this piece is legal. `free` is true only where most moves of the piece need no test of check.
@@ -169,7 +179,9 @@ pub(crate) fn is_legal_for(setup: &Setup, m: Move, piece: Piece, free: bool) -> 
     let _from = m.from();
     match change_of(setup, m, piece) {
         Some(Change::Carry(_)) if free => true,
-        Some(change) => is_safe(setup, m, piece, change),
+        // The usual change stands alone, so that it is compiled without the others.
+        Some(Change::Carry(arriving)) => is_safe(setup, m, piece, &Change::Carry(arriving)),
+        Some(change) => is_safe_out_of_line(setup, m, piece, &change),
         None => false,
     }
 }

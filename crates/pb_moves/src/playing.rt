@@ -101,27 +101,25 @@ pub fn play_on(setup: &mut Setup, m: Move) -> bool
     let Some(piece) = own_piece(setup, m.from()) else {
         return false;
     };
-    let Some(change) = change_of(setup, m, piece) else {
-        return false;
-    };
-    if !is_safe(setup, m, piece, change) {
-        return false;
+    match change_of(setup, m, piece) {
+        Some(Change::Carry(arriving)) => carry(setup, m, piece, arriving),
+        Some(change) => replace(setup, m, piece, change),
+        None => false,
     }
-    match &change {
-        Change::Carry(arriving) => carry(setup, m, piece, *arriving),
-        _ => *setup = made_anew(setup, m, piece, change),
-    }
-    true
 }
 
-/// Plays a legal move that puts a piece in the place of what stood on a square.
+/// Plays a move that puts a piece in the place of what stood on a square.
 #[inline(always)]
-fn carry(setup: &mut Setup, m: Move, piece: Piece, arriving: Piece)
+fn carry(setup: &mut Setup, m: Move, piece: Piece, arriving: Piece) -> bool
     requires own { HoldsOwn setup.old m.from piece }
     requires leads { LeadsTo (CaseOf setup.old m piece) setup.old.board m (Carry arriving) }
-    requires legal { Legal setup.old m }
-    ensures { setup.new ≡ after setup.old m }
+    ensures legal { IsTrue result ↔ Legal setup.old m }
+    ensures played { IsTrue result → (setup.new ≡ after setup.old m) }
+    ensures refused { ¬ IsTrue result → (setup.new ≡ setup.old) }
 {
+    if !is_safe(setup, m, piece, &Change::Carry(arriving)) {
+        return false;
+    }
     let (from, to) = (m.from(), m.to());
     let side = setup.turn();
     let enemy = opponent_of(side);
@@ -131,16 +129,21 @@ fn carry(setup: &mut Setup, m: Move, piece: Piece, arriving: Piece)
     let rights = rights_after(setup, m);
     let ep = passed_by(setup, m, piece);
     setup.carry(from, to, arriving, rights, ep, white_king, black_king);
+    true
 }
 
-/// The setup after a legal move, made anew from its parts.
+/// Plays a move by way of a new setup.
 #[inline(never)]
-fn made_anew(setup: &Setup, m: Move, piece: Piece, change: Change) -> Setup
-    requires own { HoldsOwn setup.now m.from piece }
-    requires leads { LeadsTo (CaseOf setup.now m piece) setup.now.board m change }
-    requires legal { Legal setup.now m }
-    ensures { result ≡ after setup.now m }
+fn replace(setup: &mut Setup, m: Move, piece: Piece, change: Change) -> bool
+    requires own { HoldsOwn setup.old m.from piece }
+    requires leads { LeadsTo (CaseOf setup.old m piece) setup.old.board m change }
+    ensures legal { IsTrue result ↔ Legal setup.old m }
+    ensures played { IsTrue result → (setup.new ≡ after setup.old m) }
+    ensures refused { ¬ IsTrue result → (setup.new ≡ setup.old) }
 {
+    if !is_safe(setup, m, piece, &change) {
+        return false;
+    }
     let side = setup.turn();
     let enemy = opponent_of(side);
     let king = king_after(setup, m, piece);
@@ -150,7 +153,9 @@ fn made_anew(setup: &Setup, m: Move, piece: Piece, change: Change) -> Setup
     let ep = passed_by(setup, m, piece);
     let mut board = *setup.board();
     change.apply(&mut board, m);
-    Setup::of_parts(board, enemy, rights, ep, white_king, black_king)
+    let next = Setup::of_parts(board, enemy, rights, ep, white_king, black_king);
+    *setup = next;
+    true
 }
 
 /// The setup after the move. None exactly where the move isn't legal.

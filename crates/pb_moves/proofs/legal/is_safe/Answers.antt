@@ -11,8 +11,8 @@ returns c =
     let m = c.args.m in
     let ok = c.turn.ensures.rules in
     let enemy : c.opponent_of.result ≡ opponent s.turn = c.opponent_of.ensures ∙ ap opponent c.turn.ensures.value in
-    let new = changed_board c.args.change m s.board in
-    let moved = changes_board c.args.change m s.board ok.places c.from-from.ensures.rules c.requires.leads.0 in
+    let new = changed_board c.args.change.now m s.board in
+    let moved = changes_board c.args.change.now m s.board ok.places c.from-from.ensures.rules c.requires.leads.0 in
     let case = c.requires.leads.1 new moved in
     let S : Colour → Type 0 = λ x. Sees new x c.sight_after-seen.result in
     safe_test s m c.args.piece new c.opponent_of.result c.king_after-king.result c.is_attacked.result ok c.requires.own case enemy

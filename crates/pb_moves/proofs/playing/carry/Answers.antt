@@ -1,4 +1,4 @@
-use Rattle.std.proofs.Common.{refl, subst, sym}
+use Rattle.std.proofs.Common.{rules, refl, subst, sym}
 use Rattle.pb_board.specs.declared.piece.Colour.{Colour}
 use Rattle.pb_board.specs.Position.{Position, IsOnlyKing, carried_board}
 use Rattle.pb_moves.specs.After.{After}
@@ -42,8 +42,8 @@ carry-requires-clause-black c =
     (enemy_king_stays s m c.args.piece new c.turn-side.result c.opponent_of-enemy.result c.king-enemy_king.result
     c.turn-side.ensures.rules c.requires.own.stands c.requires.own.own c.turn-side.ensures.value c.opponent_of-enemy.ensures c.king-enemy_king.ensures case)).1
 
-pub returns : goal.returns
-returns c =
+pub returns-clause-played : goal.returns-clause-played
+returns-clause-played c = λ _.
     let s = c.args.setup.now in
     let m = c.args.m in
     let new = carried_board s.board c.from-from.result c.to-to.result c.args.arriving in
@@ -60,4 +60,4 @@ returns c =
       black_long = rights.black_long;
       ep = c.passed_by-ep.ensures new case;
     }) in
-    after_one s m c.carry.new.self c.turn-side.ensures.rules c.requires.legal parts
+    after_one s m c.carry.new.self c.turn-side.ensures.rules (c.is_safe.ensures.0 (search rules)) parts

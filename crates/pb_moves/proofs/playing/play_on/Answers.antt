@@ -9,7 +9,7 @@ returns-in_default-clause-legal c =
     let P : ℕ → Type 0 = λ q. (p : Piece) → ¬ HoldsOwn c.args.setup.now q p in
     (λ h. absurd cc, λ legal. absurd (not_legal_without_piece c.args.setup.now c.args.m (subst P c.from.ensures.value c.in_default.ensures) legal))
 
-pub returns-in_default-change_of-clause-legal : goal.returns-in_default-change_of-clause-legal
-returns-in_default-change_of-clause-legal c =
+pub returns-in-None-clause-legal : goal.returns-in-None-clause-legal
+returns-in-None-clause-legal c =
     let P : ℕ → Type 0 = λ q. HoldsOwn c.args.setup.now q c.in-Some.piece in
-    (λ h. absurd cc, λ legal. absurd (not_legal_without_case c.args.setup.now c.args.m c.in-Some.piece (subst P c.from.ensures.value c.in-Some.ensures) c.in_default-change_of.ensures legal))
+    (λ h. absurd cc, λ legal. absurd (not_legal_without_case c.args.setup.now c.args.m c.in-Some.piece (subst P c.from.ensures.value c.in-Some.ensures) c.in-None.ensures legal))

@@ -1,4 +1,4 @@
-use Rattle.std.proofs.Common.{◌≡◌, subst, sym, ap, ◌∙◌}
+use Rattle.std.proofs.Common.{rules, ◌≡◌, subst, sym, ap, ◌∙◌}
 use Rattle.pb_board.specs.declared.piece.Colour.{Colour}
 use Rattle.pb_board.specs.Board.{Board}
 use Rattle.pb_board.specs.Piece.{opponent}
@@ -8,10 +8,10 @@ use Rattle.pb_moves.specs.Change.{Changes}
 use Rattle.pb_moves.proofs.Kept.{setup_by_parts}
 use Rattle.pb_moves.proofs.Kings.{enemy_king_stays}
 use Rattle.pb_moves.proofs.Successors.{after_one}
-use Rattle.pb_moves.proofs.playing.made_anew.Goals as goal
+use Rattle.pb_moves.proofs.playing.replace.Goals as goal
 
-pub of_parts-requires-clause-rules : goal.of_parts-requires-clause-rules
-of_parts-requires-clause-rules c =
+pub of_parts-next-requires-clause-rules : goal.of_parts-next-requires-clause-rules
+of_parts-next-requires-clause-rules c =
     let s = c.args.setup.now in
     let board = c.apply.new.board in
     let C : Board → Type 0 = λ b. Changes c.args.change c.args.m b board in
@@ -22,8 +22,8 @@ of_parts-requires-clause-rules c =
     (setup_by_parts s c.args.m c.args.piece board c.rights_after-rights.result c.passed_by-ep.result
     c.turn-side.ensures.rules c.requires.own.stands c.requires.own.own case (c.passed_by-ep.ensures board case))
 
-pub of_parts-requires-clause-white : goal.of_parts-requires-clause-white
-of_parts-requires-clause-white c =
+pub of_parts-next-requires-clause-white : goal.of_parts-next-requires-clause-white
+of_parts-next-requires-clause-white c =
     let s = c.args.setup.now in
     let board = c.apply.new.board in
     let C : Board → Type 0 = λ b. Changes c.args.change c.args.m b board in
@@ -33,8 +33,8 @@ of_parts-requires-clause-white c =
     (enemy_king_stays s c.args.m c.args.piece board c.turn-side.result c.opponent_of-enemy.result c.king-enemy_king.result
     c.turn-side.ensures.rules c.requires.own.stands c.requires.own.own c.turn-side.ensures.value c.opponent_of-enemy.ensures c.king-enemy_king.ensures case)).0
 
-pub of_parts-requires-clause-black : goal.of_parts-requires-clause-black
-of_parts-requires-clause-black c =
+pub of_parts-next-requires-clause-black : goal.of_parts-next-requires-clause-black
+of_parts-next-requires-clause-black c =
     let s = c.args.setup.now in
     let board = c.apply.new.board in
     let C : Board → Type 0 = λ b. Changes c.args.change c.args.m b board in
@@ -44,15 +44,15 @@ of_parts-requires-clause-black c =
     (enemy_king_stays s c.args.m c.args.piece board c.turn-side.result c.opponent_of-enemy.result c.king-enemy_king.result
     c.turn-side.ensures.rules c.requires.own.stands c.requires.own.own c.turn-side.ensures.value c.opponent_of-enemy.ensures c.king-enemy_king.ensures case)).1
 
-pub returns : goal.returns
-returns c =
+pub returns-clause-played : goal.returns-clause-played
+returns-clause-played c = λ _.
     let s = c.args.setup.now in
     let board = c.apply.new.board in
     let C : Board → Type 0 = λ b. Changes c.args.change c.args.m b board in
     let case = c.requires.leads.1 board (subst C c.board.ensures.value c.apply.ensures) in
     let rights = c.rights_after-rights.ensures in
     let A : Position → Type 0 = λ t. After s c.args.m t in
-    let parts = subst A (sym c.of_parts.ensures) (record {
+    let parts = subst A (sym c.of_parts-next.ensures) (record {
       moves = record { piece = c.args.piece; stands = c.requires.own.stands; own = c.requires.own.own; by_case = case };
       turn = c.opponent_of-enemy.ensures ∙ ap opponent c.turn-side.ensures.value;
       white_short = rights.white_short;
@@ -61,4 +61,4 @@ returns c =
       black_long = rights.black_long;
       ep = c.passed_by-ep.ensures board case;
     }) in
-    after_one s c.args.m c.of_parts.result c.turn-side.ensures.rules c.requires.legal parts
+    after_one s c.args.m c.of_parts-next.result c.turn-side.ensures.rules (c.is_safe.ensures.0 (search rules)) parts
