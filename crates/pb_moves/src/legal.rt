@@ -18,7 +18,7 @@ use crate::cases::{en_passant, pawn_capture, pawn_double, pawn_step, piece_move}
 use crate::castling::castles;
 use crate::change::Change;
 use crate::moves::Move;
-use crate::sight::{Sight, carried_sight, is_attacked, lifted_sight, sight_of};
+use crate::sight::{Sight, carried_sight, is_attacked, is_seen, lifted_sight, sight_of};
 use pb_board::{Kind, Piece, Setup, Square};
 
 /// The piece of the side to move that stands there.
@@ -158,14 +158,18 @@ pub(crate) fn is_safe(setup: &Setup, m: Move, piece: Piece, change: &Change) -> 
     !is_attacked(&seen, king, opponent_of(setup.turn()))
 }
 
-/// The same out of line, for the changes that are rare.
-#[inline(never)]
-fn is_safe_out_of_line(setup: &Setup, m: Move, piece: Piece, change: &Change) -> bool
+/// The same for the changes that are rare.
+#[inline(always)]
+fn is_safe_rare(setup: &Setup, m: Move, piece: Piece, change: &Change) -> bool
     requires own { HoldsOwn setup.now m.from piece }
     requires leads { LeadsTo (CaseOf setup.now m piece) setup.now.board m change.now }
     ensures { IsTrue result ↔ Legal setup.now m }
 {
-    is_safe(setup, m, piece, change)
+    // The reader tells that the move meets its rules.
+    let _from = m.from();
+    let king = king_after(setup, m, piece);
+    let seen = sight_after(setup, m, piece, change);
+    !is_seen(&seen, king, opponent_of(setup.turn()))
 }
 
 /// Whether the move of this piece is legal. `free` is true only where most moves of the piece need no test of check.
@@ -181,7 +185,7 @@ pub(crate) fn is_legal_for(setup: &Setup, m: Move, piece: Piece, free: bool) -> 
         Some(Change::Carry(_)) if free => true,
         // The usual change stands alone, so that it is compiled without the others.
         Some(Change::Carry(arriving)) => is_safe(setup, m, piece, &Change::Carry(arriving)),
-        Some(change) => is_safe_out_of_line(setup, m, piece, &change),
+        Some(change) => is_safe_rare(setup, m, piece, &change),
         None => false,
     }
 }

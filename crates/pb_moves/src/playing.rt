@@ -103,7 +103,7 @@ pub fn play_on(setup: &mut Setup, m: Move) -> bool
     };
     match change_of(setup, m, piece) {
         Some(Change::Carry(arriving)) => carry(setup, m, piece, arriving),
-        Some(change) => replace(setup, m, piece, change),
+        Some(_) => replace(setup, m),
         None => false,
     }
 }
@@ -134,13 +134,17 @@ fn carry(setup: &mut Setup, m: Move, piece: Piece, arriving: Piece) -> bool
 
 /// Plays a move by way of a new setup.
 #[inline(never)]
-fn replace(setup: &mut Setup, m: Move, piece: Piece, change: Change) -> bool
-    requires own { HoldsOwn setup.old m.from piece }
-    requires leads { LeadsTo (CaseOf setup.old m piece) setup.old.board m change }
+fn replace(setup: &mut Setup, m: Move) -> bool
     ensures legal { IsTrue result ↔ Legal setup.old m }
     ensures played { IsTrue result → (setup.new ≡ after setup.old m) }
     ensures refused { ¬ IsTrue result → (setup.new ≡ setup.old) }
 {
+    let Some(piece) = own_piece(setup, m.from()) else {
+        return false;
+    };
+    let Some(change) = change_of(setup, m, piece) else {
+        return false;
+    };
     if !is_safe(setup, m, piece, &change) {
         return false;
     }

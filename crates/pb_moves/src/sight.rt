@@ -106,6 +106,14 @@ pub(crate) fn is_attacked(sight: &Sight, square: Square, by: Colour) -> bool
     slides_diagonally(sight.occupied, sight.diagonal, square)
 }
 
+/// The same out of line.
+#[inline(never)]
+pub(crate) fn is_seen(sight: &Sight, square: Square, by: Colour) -> bool
+    ensures { (b : Board) → Sees b by sight.now → (IsTrue result ↔ IsAttacked b by square) }
+{
+    is_attacked(sight, square, by)
+}
+
 /// What is seen after a piece of the other side has gone from one square to another, in the place of what stood there.
 #[inline(always)]
 pub(crate) fn carried_sight(sight: Sight, from: Square, to: Square) -> Sight
