@@ -1,5 +1,5 @@
 -- A change, told from the setup before it.
-use Rattle.std.proofs.Common.{◌≡◌, ◌≢◌, ◌↔◌, ℕ, Bool, true, false, not, IsTrue, refl, inl, inr, sym, subst, ◌∙◌, Some, None, length}
+use Rattle.std.proofs.Common.{◌≡◌, ◌≢◌, ◌↔◌, ℕ, Bool, true, false, not, IsTrue, refl, inl, inr, sym, ap, subst, ◌∙◌, Some, None, length}
 use Rattle.std.proofs.lemmas.Bool.{false≢true}
 use Rattle.pb_board.specs.declared.piece.Colour.{Colour}
 use Rattle.pb_board.specs.declared.piece.Piece.{Piece}
@@ -133,13 +133,25 @@ attack_by_check new side enemy king e only check =
     subst P (sym e) (subst K (only.nowhere_else check.0 check.1.stands) check.1.attacked)
 
 -- the mover is safe, and the move legal, just where the test finds no attack on its king
-pub safe_test : (s : Position) (m : Moved) (piece : Piece) (new : Board) (enemy : Colour) (king : ℕ) (hit : Bool) → IsSetup s → HoldsOwn s m.from piece → CaseOf s m piece new
+test_tells : (s : Position) (m : Moved) (piece : Piece) (new : Board) (enemy : Colour) (king : ℕ) (hit : Bool) → IsSetup s → HoldsOwn s m.from piece → CaseOf s m piece new
     → enemy ≡ opponent s.turn → IsOnlyKing new s.turn king → (IsTrue hit ↔ IsAttacked new enemy king) → (IsTrue (not hit) ↔ Legal s m)
-safe_test s m piece new enemy king true ok own case e only tells = (
+test_tells s m piece new enemy king true ok own case e only tells = (
   λ h. absurd (false≢true h),
   λ legal. absurd (not_legal_in_check s m new piece ok own case (check_by_attack new s.turn enemy king e only (tells.0 refl)) legal),
 )
-safe_test s m piece new enemy king false ok own case e only tells = (
+test_tells s m piece new enemy king false ok own case e only tells = (
   λ h. legal_out_of_check s m new piece own case (λ check. false≢true (tells.1 (attack_by_check new s.turn enemy king e only check))),
   λ legal. refl,
 )
+
+pub safe_test : (s : Position) (m : Moved) (piece : Piece) (change : Change) (side enemy : Colour) (king : ℕ) (sight : Sight) (hit : Bool) → IsSetup s → IsMove m
+    → HoldsOwn s m.from piece → LeadsTo (CaseOf s m piece) s.board m change → side ≡ s.turn → enemy ≡ opponent side
+    → ((b : Board) → CaseOf s m piece b → IsOnlyKing b s.turn king) → ((b : Board) → Changes change m s.board b → Sees b (opponent s.turn) sight)
+    → ((b : Board) → Sees b enemy sight → (IsTrue hit ↔ IsAttacked b enemy king)) → (IsTrue (not hit) ↔ Legal s m)
+safe_test s m piece change side enemy king sight hit ok is own leads same e only sees tells =
+    let new = changed_board change m s.board in
+    let moved = changes_board change m s.board ok.places is leads.0 in
+    let case = leads.1 new moved in
+    let other : enemy ≡ opponent s.turn = e ∙ ap opponent same in
+    let S : Colour → Type 0 = λ x. Sees new x sight in
+    test_tells s m piece new enemy king hit ok own case other (only new case) (tells new (subst S (sym other) (sees new moved)))

@@ -18,7 +18,9 @@ use crate::cases::{en_passant, pawn_capture, pawn_double, pawn_step, piece_move}
 use crate::castling::castles;
 use crate::change::Change;
 use crate::moves::Move;
-use crate::sight::{Sight, carried_sight, is_attacked, is_seen, lifted_sight, sight_of};
+use crate::sight::{
+    Sight, carried_sight, is_attacked, is_attacked_out_of_line, lifted_sight, sight_of,
+};
 use pb_board::{Kind, Piece, Setup, Square};
 
 /// The piece of the side to move that stands there.
@@ -108,8 +110,8 @@ pub(crate) fn king_after(setup: &Setup, m: Move, piece: Piece) -> Square
     }
 }
 
-/// What is seen of the enemy's attackers after the change. What it carries besides the move's piece goes after it, and a pawn that takes
-/// another in passing goes by way of that pawn's square.
+/// What is seen of the enemy's attackers after the change. Each change carries a piece, or two in turn: a pawn that takes another in
+/// passing goes by way of that pawn's square, and a rook goes after its king.
 #[inline(always)]
 fn sight_after(setup: &Setup, m: Move, piece: Piece, change: &Change) -> Sight
     requires own { HoldsOwn setup.now m.from piece }
@@ -158,9 +160,9 @@ pub(crate) fn is_safe(setup: &Setup, m: Move, piece: Piece, change: &Change) -> 
     !is_attacked(&seen, king, opponent_of(setup.turn()))
 }
 
-/// The same for the changes that are rare.
+/// The same with the test out of line, for the changes that are rare.
 #[inline(always)]
-fn is_safe_rare(setup: &Setup, m: Move, piece: Piece, change: &Change) -> bool
+fn is_safe_out_of_line(setup: &Setup, m: Move, piece: Piece, change: &Change) -> bool
     requires own { HoldsOwn setup.now m.from piece }
     requires leads { LeadsTo (CaseOf setup.now m piece) setup.now.board m change.now }
     ensures { IsTrue result ↔ Legal setup.now m }
@@ -169,7 +171,7 @@ fn is_safe_rare(setup: &Setup, m: Move, piece: Piece, change: &Change) -> bool
     let _from = m.from();
     let king = king_after(setup, m, piece);
     let seen = sight_after(setup, m, piece, change);
-    !is_seen(&seen, king, opponent_of(setup.turn()))
+    !is_attacked_out_of_line(&seen, king, opponent_of(setup.turn()))
 }
 
 /// Whether the move of this piece is legal. `free` is true only where most moves of the piece need no test of check.
@@ -185,7 +187,7 @@ pub(crate) fn is_legal_for(setup: &Setup, m: Move, piece: Piece, free: bool) -> 
         Some(Change::Carry(_)) if free => true,
         // The usual change stands alone, so that it is compiled without the others.
         Some(Change::Carry(arriving)) => is_safe(setup, m, piece, &Change::Carry(arriving)),
-        Some(change) => is_safe_rare(setup, m, piece, &change),
+        Some(change) => is_safe_out_of_line(setup, m, piece, &change),
         None => false,
     }
 }

@@ -108,7 +108,7 @@ pub(crate) fn is_attacked(sight: &Sight, square: Square, by: Colour) -> bool
 
 /// The same out of line.
 #[inline(never)]
-pub(crate) fn is_seen(sight: &Sight, square: Square, by: Colour) -> bool
+pub(crate) fn is_attacked_out_of_line(sight: &Sight, square: Square, by: Colour) -> bool
     ensures { (b : Board) → Sees b by sight.now → (IsTrue result ↔ IsAttacked b by square) }
 {
     is_attacked(sight, square, by)
