@@ -1,6 +1,8 @@
 pub mod CollectRun
 pub mod ExportRun
 pub mod Headline
+pub mod Keeping
 pub mod OneEffect
 pub mod OneText
+pub mod Place
 pub mod Taking

@@ -4,7 +4,11 @@
 
 mod collect;
 mod export;
+mod keeping;
+mod place;
 mod taking;
 
 pub use collect::run_collect;
 pub use export::{export_submissions, run_export};
+pub use keeping::{NoBook, collect_into};
+pub use place::{MemPlace, NotKept, Place};

@@ -1,0 +1,34 @@
+-- What a run of the command `collect` leaves at the place of its book, over the states of its ends before and after. Below, `t` and `t'`
+-- are the states of the table's source, `s` and `s'` those of the submissions'.
+use Rattle.std.specs.Prelude.{◌≡◌, ℕ, Bool, true, false, List, Option, Some, None, Result, Ok, Err}
+use Rattle.pb_io.specs.Source.{SourceState}
+use Rattle.pb_io.specs.Sink.{SinkState}
+use Rattle.pb_poly.specs.Book.{book_bytes}
+use Rattle.pb_poly.specs.declared.entry.Entry.{Entry}
+use Rattle.pb_commands.specs.Judged.{PutsText}
+use Rattle.pb_collecting.specs.CollectRun.{CollectsBook, EndsCollect, JudgesTable, TellsCollect}
+use Rattle.pb_collecting.specs.Headline.{HasHeadline}
+use Rattle.pb_collecting.specs.Place.{Keeps, PlaceState}
+use Rattle.pb_collecting.specs.declared.place.NotKept.{NotKept}
+use Rattle.pb_collecting.specs.declared.keeping.NoBook.{NoBook}
+use Rattle.pb_collecting.specs.declared.keeping.NoBook.TheVariants.{Run, Keep}
+
+-- The entries are the book of the run, for sources that tell their bytes with all that the theorem says, and their bytes were kept
+-- with this answer.
+pub record KeepsBook (fills : ℕ) (t t' s s' : SourceState) (sink sink' : SinkState) (place place' : PlaceState) (answer : Result (Unit {0}) NotKept) : Type 0 where
+  pub entries : List Entry
+  pub book : CollectsBook fills t t' s s' sink sink' entries
+  pub told : TellsCollect t.to_come s.to_come sink sink' (Some entries)
+  pub headline : HasHeadline t.to_come s.to_come sink sink' entries
+  pub keeps : Keeps place place' answer (book_bytes entries)
+
+-- the line that refuses the table was put, and the place is as it was
+pub record RefusesBook (fills : ℕ) (t t' s s' : SourceState) (sink sink' : SinkState) (place place' : PlaceState) : Type 0 where
+  pub refused : PutsText (JudgesTable fills t t' s s') sink sink' false
+  pub told : TellsCollect t.to_come s.to_come sink sink' None
+  pub same : place' ≡ place
+
+-- how a run ends without a book at the place: before there was one, and then the place is as it was, or in keeping it
+abbrev pub EndsKeeping : ℕ → SourceState → SourceState → SourceState → SourceState → SinkState → SinkState → PlaceState → PlaceState → NoBook → Type 0
+EndsKeeping fills t t' s s' sink sink' place place' (Run fault) = EndsCollect fills t t' s s' sink sink' fault × (place' ≡ place)
+EndsKeeping fills t t' s s' sink sink' place place' (Keep why) = KeepsBook fills t t' s s' sink sink' place place' (Err why)

@@ -1,0 +1,59 @@
+//! The command `collect` up to the place where its book is kept.
+
+ghost use Rattle.std.specs.Prelude.{◌≡◌, IfErr, IfOk, Ok, OnOk, false, true};
+ghost use Rattle.pb_collecting.specs.Keeping.{EndsKeeping, KeepsBook, RefusesBook};
+
+use crate::collect::run_collect;
+use crate::place::{NotKept, Place};
+use pb_commands::Fault;
+use pb_poly::{Sink, Source};
+use std::alloc::Global;
+
+/// Why no book is kept at the place.
+#[derive(Clone, Copy, Debug, PartialEq, Eq)]
+pub enum NoBook {
+    /// The run met a fault before there was a book. The place was left alone.
+    Run(Fault),
+    /// The book was made and not kept.
+    Keep(NotKept),
+}
+
+/// Takes submission lines, puts the reply to each, and keeps the opening book of the games that are held at the end: at most
+/// 1,000,000, each counted once however often it comes. The table of words that keys are made of is read first. Where it is refused,
+/// `refused table` and `long`, `line` or `count` is put, no submission is read, nothing is kept, and the answer is false.
+///
+/// # Errors
+///
+/// `Run` is the fault of `run_collect`, and then the place is as it was; `Keep` is the fault that the place met when it was to keep the
+/// book of this run.
+pub fn collect_into<T: Source, S: Source, K: Sink, P: Place>(
+    alloc: Global,
+    table_source: &mut T,
+    source: &mut S,
+    sink: &mut K,
+    place: &mut P,
+    fills: u32,
+) -> Result<bool, NoBook>
+    // Where the answer is true, the place holds the bytes of the book of the games that are held, which is the book of the theorem.
+    ensures kept { IfOk result (λ kept. kept ≡ true → KeepsBook fills (T.state table_source.old) (T.state table_source.new)
+        (S.state source.old) (S.state source.new) (K.state sink.old) (K.state sink.new) (P.state place.old) (P.state place.new) (Ok tt)) }
+    // Where it is false, the line that says why the table is refused was put.
+    ensures refused { IfOk result (λ kept. kept ≡ false → RefusesBook fills (T.state table_source.old) (T.state table_source.new)
+        (S.state source.old) (S.state source.new) (K.state sink.old) (K.state sink.new) (P.state place.old) (P.state place.new)) }
+    // What was put was handed on.
+    ensures handed_on { OnOk result (((K.state sink.new).failed ≡ false)
+        × ((K.state sink.new).flushed ≡ true)) }
+    // What was done before a fault, where the fault lies, and what it leaves at the place.
+    ensures fault { IfErr result (EndsKeeping fills (T.state table_source.old) (T.state table_source.new)
+        (S.state source.old) (S.state source.new) (K.state sink.old) (K.state sink.new) (P.state place.old) (P.state place.new)) }
+{
+    let book = match run_collect(alloc, table_source, source, sink, fills) {
+        Ok(Some(book)) => book,
+        Ok(None) => return Ok(false),
+        Err(fault) => return Err(NoBook::Run(fault)),
+    };
+    match place.keep(&book) {
+        Ok(()) => Ok(true),
+        Err(why) => Err(NoBook::Keep(why)),
+    }
+}

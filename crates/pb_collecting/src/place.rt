@@ -1,0 +1,76 @@
+//! Where a book is kept.
+
+ghost use Rattle.std.specs.Prelude.{◌≡◌, None, Some, option_and_then};
+ghost use Rattle.std.specs.Option.{option_copied};
+ghost use Rattle.pb_poly.specs.Book.{book_bytes};
+ghost use Rattle.pb_collecting.specs.Place.{Keeps, PlaceState};
+
+use pb_poly::{Book, MemSink, Sink, write_book};
+use std::alloc::Global;
+
+/// Why a book was not kept.
+#[derive(Clone, Copy, Debug, PartialEq, Eq)]
+pub enum NotKept {
+    /// The place can't be opened. What it held is still there.
+    Open,
+    /// A write failed. A front of the book may be all that is left.
+    Write,
+    /// There was no memory to write with. The place may be empty.
+    Memory,
+}
+
+/// A place for one book.
+pub trait Place {
+    /// What is known of the place.
+    ghost state: { Self → PlaceState };
+
+    /// Puts the bytes of the book in the place of what was there.
+    fn keep(&mut self, book: &Book) -> Result<(), NotKept>
+        ensures { Keeps (state self.old) (state self.new) result (book_bytes book.now) };
+}
+
+/// A place in memory. It fails only for want of memory, and then it keeps what it had.
+#[derive(Drop)]
+pub struct MemPlace {
+    alloc: Global,
+    kept: Option<MemSink>,
+    fault: Option<NotKept>,
+}
+
+impl MemPlace {
+    /// A place where nothing was kept yet.
+    pub fn new(alloc: Global) -> MemPlace
+        ensures { ⟦<MemPlace as Place>⟧.state result ≡ record { found = Some None; fault = None } }
+    {
+        MemPlace {
+            alloc,
+            kept: None,
+            fault: None,
+        }
+    }
+
+    /// The bytes that were kept last.
+    pub fn kept(&self) -> Option<&[u8]>
+        ensures { (⟦<MemPlace as Place>⟧.state self.now).found ≡ Some (option_copied result) }
+    {
+        match &self.kept {
+            Some(bytes) => Some(bytes.as_bytes()),
+            None => None,
+        }
+    }
+}
+
+impl Place for MemPlace {
+    ghost state = { λ p. record { found = Some (option_and_then (λ s. (⟦<MemSink as Sink>⟧.state s).bytes) p.kept); fault = p.fault } };
+
+    fn keep(&mut self, book: &Book) -> Result<(), NotKept> {
+        let mut draft = MemSink::new(self.alloc);
+        if write_book(&mut draft, book).is_err() {
+            self.fault = Some(NotKept::Memory);
+            return Err(NotKept::Memory);
+        }
+        self.kept = Some(draft);
+        self.fault = None;
+        Ok(())
+    }
+}
