@@ -14,15 +14,15 @@ pub record PlaceState : Type 0 where
 abbrev pub Holds : PlaceState → PlaceState → List ℕ → Type 0
 Holds old new bytes = IfSome old.found (λ before. new.found ≡ Some (Some bytes))
 
--- what is found where keeping these bytes failed: all is as it was where the place couldn't be opened; it may be empty where memory
--- was wanting, and have a front of the bytes where a write failed
-abbrev pub Leaves : PlaceState → PlaceState → NotKept → List ℕ → Type 0
-Leaves old new Open bytes = new.found ≡ old.found
-Leaves old new Memory bytes = (new.found ≡ old.found) ⊎ Holds old new []
-Leaves old new Write bytes = (new.found ≡ old.found) ⊎ ((count : ℕ) × Holds old new (take count bytes))
+-- what keeping these bytes may leave, when it fails, in the place of what was there: nothing else where the place couldn't be opened, an
+-- empty file where memory was wanting, a front of the bytes where a write failed
+abbrev pub Spoils : PlaceState → PlaceState → NotKept → List ℕ → Type 0
+Spoils old new Open bytes = ⊥
+Spoils old new Memory bytes = Holds old new []
+Spoils old new Write bytes = (count : ℕ) × Holds old new (take count bytes)
 
--- Keeping bytes: the place holds them, or it tells why not.
+-- Keeping bytes: the place holds them, or it is as it was or spoilt, and tells why.
 pub record Keeps (old new : PlaceState) (answer : Result (Unit {0}) NotKept) (bytes : List ℕ) : Type 0 where
   pub holds : OnOk answer (Holds old new bytes)
-  pub leaves : IfErr answer (λ why. Leaves old new why bytes)
+  pub leaves : IfErr answer (λ why. (new.found ≡ old.found) ⊎ Spoils old new why bytes)
   pub fault : new.fault ≡ result_err answer

@@ -1,7 +1,9 @@
 //! Each command over the files that it names and the standard streams.
 
-use crate::file::{open, save};
-use pb_cli::{Fault, Order, run_collect, run_epd, run_export, run_fen, run_probe, run_show};
+use crate::file::{BookFile, NotOpened, open};
+use pb_cli::{
+    Fault, NoBook, NotKept, Order, collect_into, run_epd, run_export, run_fen, run_probe, run_show,
+};
 use pb_poly::{FromRead, Sink, ToWrite};
 use std::io;
 
@@ -9,7 +11,7 @@ use std::io;
 pub const FILLS: u32 = u32::MAX;
 
 /// What a command answers; the error is that a file can't be opened or made.
-type Answer = io::Result<Result<bool, Fault>>;
+type Answer = Result<Result<bool, Fault>, NotOpened>;
 
 /// What the order's command answers. The files that it reads are opened before anything is read.
 pub(crate) fn answer<K: Sink>(rt: &HostRuntime, order: &Order<'_>, output: &mut K) -> Answer {
@@ -60,9 +62,19 @@ fn collect(rt: &HostRuntime, table: &str, book: &str) -> Answer {
     let mut input = FromRead::new(rt.reader());
     // Each reply is written at once, so that it can be waited for before the next line is sent.
     let mut replies = ToWrite::new(io::writer(rt));
-    match run_collect(rt.alloc(), &mut table, &mut input, &mut replies, FILLS) {
-        Ok(Some(made)) => save(rt, book, &made),
-        Ok(None) => Ok(Ok(false)),
-        Err(fault) => Ok(Err(fault)),
+    let mut file = BookFile::new(rt, book);
+    match collect_into(
+        rt.alloc(),
+        &mut table,
+        &mut input,
+        &mut replies,
+        &mut file,
+        FILLS,
+    ) {
+        Ok(kept) => Ok(Ok(kept)),
+        Err(NoBook::Run(fault)) => Ok(Err(fault)),
+        Err(NoBook::Keep(NotKept::Open)) => Err(NotOpened),
+        Err(NoBook::Keep(NotKept::Write)) => Ok(Err(Fault::Write)),
+        Err(NoBook::Keep(NotKept::Memory)) => Ok(Err(Fault::Memory)),
     }
 }
