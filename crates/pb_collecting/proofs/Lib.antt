@@ -4,5 +4,7 @@ mod Effects
 mod ExportClauses
 mod ExportRuns
 mod Headlines
+mod KeepClauses
+mod KeepRuns
 mod OneTexts
 mod Takings

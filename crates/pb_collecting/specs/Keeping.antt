@@ -32,3 +32,11 @@ pub record RefusesBook (fills : ℕ) (t t' s s' : SourceState) (sink sink' : Sin
 abbrev pub EndsKeeping : ℕ → SourceState → SourceState → SourceState → SourceState → SinkState → SinkState → PlaceState → PlaceState → NoBook → Type 0
 EndsKeeping fills t t' s s' sink sink' place place' (Run fault) = EndsCollect fills t t' s s' sink sink' fault × (place' ≡ place)
 EndsKeeping fills t t' s s' sink sink' place place' (Keep why) = KeepsBook fills t t' s s' sink sink' place place' (Err why)
+
+-- how a run ends: with its book at the place, with the line that refuses the table, or without a book
+abbrev pub KeepsOrEnds : ℕ → SourceState → SourceState → SourceState → SourceState → SinkState → SinkState → PlaceState → PlaceState → Result Bool NoBook → Type 0
+KeepsOrEnds fills t t' s s' sink sink' place place' (Ok true) =
+    KeepsBook fills t t' s s' sink sink' place place' (Ok tt) × (sink'.failed ≡ false) × (sink'.flushed ≡ true)
+KeepsOrEnds fills t t' s s' sink sink' place place' (Ok false) =
+    RefusesBook fills t t' s s' sink sink' place place' × (sink'.failed ≡ false) × (sink'.flushed ≡ true)
+KeepsOrEnds fills t t' s s' sink sink' place place' (Err why) = EndsKeeping fills t t' s s' sink sink' place place' why

@@ -52,7 +52,7 @@ pub fn run_collect<T: Source, S: Source, K: Sink>(
 }
 
 /// The same, told in one clause.
-fn collect_submissions<T: Source, S: Source, K: Sink>(
+pub(crate) fn collect_submissions<T: Source, S: Source, K: Sink>(
     alloc: Global,
     table_source: &mut T,
     source: &mut S,

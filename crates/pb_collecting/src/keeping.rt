@@ -1,9 +1,9 @@
 //! The command `collect` up to the place where its book is kept.
 
 ghost use Rattle.std.specs.Prelude.{◌≡◌, IfErr, IfOk, Ok, OnOk, false, true};
-ghost use Rattle.pb_collecting.specs.Keeping.{EndsKeeping, KeepsBook, RefusesBook};
+ghost use Rattle.pb_collecting.specs.Keeping.{EndsKeeping, KeepsBook, KeepsOrEnds, RefusesBook};
 
-use crate::collect::run_collect;
+use crate::collect::collect_submissions;
 use crate::place::{NotKept, Place};
 use pb_commands::Fault;
 use pb_poly::{Sink, Source};
@@ -47,7 +47,22 @@ pub fn collect_into<T: Source, S: Source, K: Sink, P: Place>(
     ensures fault { IfErr result (EndsKeeping fills (T.state table_source.old) (T.state table_source.new)
         (S.state source.old) (S.state source.new) (K.state sink.old) (K.state sink.new) (P.state place.old) (P.state place.new)) }
 {
-    let book = match run_collect(alloc, table_source, source, sink, fills) {
+    collect_and_keep(alloc, table_source, source, sink, place, fills)
+}
+
+/// The same, told in one clause.
+fn collect_and_keep<T: Source, S: Source, K: Sink, P: Place>(
+    alloc: Global,
+    table_source: &mut T,
+    source: &mut S,
+    sink: &mut K,
+    place: &mut P,
+    fills: u32,
+) -> Result<bool, NoBook>
+    ensures { KeepsOrEnds fills (T.state table_source.old) (T.state table_source.new) (S.state source.old) (S.state source.new)
+        (K.state sink.old) (K.state sink.new) (P.state place.old) (P.state place.new) result }
+{
+    let book = match collect_submissions(alloc, table_source, source, sink, fills) {
         Ok(Some(book)) => book,
         Ok(None) => return Ok(false),
         Err(fault) => return Err(NoBook::Run(fault)),

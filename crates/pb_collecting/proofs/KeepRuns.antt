@@ -1,0 +1,34 @@
+-- How a run of the command `collect` with the place of its book ends, from what its parts do.
+use Rattle.std.proofs.Common.{◌≡◌, ℕ, List, Option, Some, None, Result, Ok, false, refl, subst, true}
+use Rattle.pb_io.specs.Source.{SourceState}
+use Rattle.pb_io.specs.Sink.{SinkState}
+use Rattle.pb_poly.specs.Book.{book_bytes}
+use Rattle.pb_poly.specs.declared.entry.Entry.{Entry}
+use Rattle.pb_collecting.specs.CollectRun.{CollectsOrEnds}
+use Rattle.pb_collecting.specs.Keeping.{KeepsBook, RefusesBook}
+use Rattle.pb_collecting.specs.Place.{Keeps, PlaceState}
+use Rattle.pb_collecting.specs.declared.place.NotKept.{NotKept}
+use Rattle.pb_collecting.proofs.CollectClauses.{handed_on, headline, told}
+
+module _ (fills : ℕ) (t t' s s' : SourceState) (sink sink' : SinkState) where
+  pub no_book : (place : PlaceState) (made : Option (List Entry)) → made ≡ None → CollectsOrEnds fills t t' s s' sink sink' (Ok made)
+      → RefusesBook fills t t' s s' sink sink' place place × (sink'.failed ≡ false) × (sink'.flushed ≡ true)
+  no_book place None is h = (record { refused = h.0; told = told fills t t' s s' sink sink' (Ok None) h; same = refl }, h.1, h.2)
+  no_book place (Some entries) is h = absurd (cc is)
+
+  pub made_book : (place place' : PlaceState) (entries : List Entry) (made : Option (List Entry)) → made ≡ Some entries → CollectsOrEnds fills t t' s s' sink sink' (Ok made)
+      → (answer : Result (Unit {0}) NotKept) → Keeps place place' answer (book_bytes entries)
+      → KeepsBook fills t t' s s' sink sink' place place' answer × (sink'.failed ≡ false) × (sink'.flushed ≡ true)
+  made_book place place' entries made is h answer keeps =
+      let run : CollectsOrEnds fills t t' s s' sink sink' (Ok (Some entries)) = subst (λ (m : Option (List Entry)). CollectsOrEnds fills t t' s s' sink sink' (Ok m)) is h in
+      let ends = handed_on fills t t' s s' sink sink' (Ok (Some entries)) run in (
+        record {
+          entries = entries;
+          book = run.0;
+          told = told fills t t' s s' sink sink' (Ok (Some entries)) run;
+          headline = headline fills t t' s s' sink sink' (Ok (Some entries)) run;
+          keeps = keeps;
+        },
+        ends.0,
+        ends.1,
+      )
