@@ -8,9 +8,7 @@ use Rattle.pb_commands.specs.Judged.{PutsText}
 use Rattle.pb_commands.specs.declared.fault.Fault.{Fault}
 use Rattle.pb_collecting.specs.CollectRun.{CollectsBook, CollectsOrEnds, EndsCollect, JudgesTable, TellsCollect}
 use Rattle.pb_collecting.specs.Headline.{HasHeadline}
-use Rattle.pb_collecting.specs.OneEffect.{HasOneEffect}
 use Rattle.pb_collecting.proofs.CollectRuns.{tells_book, tells_refused}
-use Rattle.pb_collecting.proofs.Effects.{has_one_effect}
 use Rattle.pb_collecting.proofs.Headlines.{has_headline}
 
 module _ (fills : ℕ) (t t' s s' : SourceState) (sink sink' : SinkState) where
@@ -31,11 +29,6 @@ module _ (fills : ℕ) (t t' s s' : SourceState) (sink sink' : SinkState) where
   told (Ok (Some entries)) h = tells_book fills t t' s s' sink sink' entries h.0
   told (Ok None) h = tells_refused fills t t' s s' sink sink' h.0
   told (Err fault) h = tt
-
-  pub one_effect : (result : Result (Option (List Entry)) Fault) → Ends result → IfOk result (λ answer. IfSome answer (HasOneEffect t.to_come s.to_come sink sink'))
-  one_effect (Ok (Some entries)) h = has_one_effect fills t t' s s' sink sink' entries h.1 h.2 h.0
-  one_effect (Ok None) h = tt
-  one_effect (Err fault) h = tt
 
   pub headline : (result : Result (Option (List Entry)) Fault) → Ends result → IfOk result (λ answer. IfSome answer (HasHeadline t.to_come s.to_come sink sink'))
   headline (Ok (Some entries)) h = has_headline fills t t' s s' sink sink' entries h.1 h.2 h.0

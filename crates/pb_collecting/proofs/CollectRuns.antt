@@ -16,7 +16,7 @@ use Rattle.pb_collecting.specs.CollectRun.{CollectsBook, EndsCollect, JudgesTabl
 use Rattle.pb_collecting.specs.Taking.{FillsLedger, RefusesGames, StopsTaking, TakesOrStops}
 use Rattle.pb_collecting.specs.declared.taking.NoGames.{NoGames}
 use Rattle.pb_collecting.specs.declared.taking.NoGames.TheVariants.{Table, Submissions}
-use Rattle.pb_collecting.proofs.Effects.{told_book}
+use Rattle.pb_collecting.proofs.ToldRuns.{told_book}
 
 module _ (fills : ℕ) (t t' s s' : SourceState) (sink sink' : SinkState) where
   -- ---- no table

@@ -17,7 +17,7 @@ use Rattle.pb_collecting.specs.CollectRun.{JudgesTable, StopsTable}
 use Rattle.pb_collecting.specs.ExportRun.{BlamesSink, EndsExport, ExportsGames, ExportsOrStops, StopsExport, TellsExport, at_export, at_submissions, at_table, fault_of_export}
 use Rattle.pb_collecting.specs.Taking.{fault_of, new_ledger}
 use Rattle.pb_collecting.proofs.CollectRuns.{tells_refused}
-use Rattle.pb_collecting.proofs.Effects.{told_games}
+use Rattle.pb_collecting.proofs.ToldRuns.{told_games}
 
 -- ---- which faults blame the sink
 

@@ -18,7 +18,7 @@ use Rattle.pb_accepted.proofs.Replies.{Answered, answered, held, new, other, ful
 use Rattle.pb_accepted.proofs.Runs.{own_ids}
 use Rattle.pb_collecting.specs.CollectRun.{CollectsBook, CollectsBytes}
 use Rattle.pb_collecting.specs.Headline.{Arrives, HasHeadline, Headline, IsAccepted, IsNewBefore, MayBeAnswered, WasAccepted, accepted, conflict, full, memory}
-use Rattle.pb_collecting.proofs.Effects.{told_book}
+use Rattle.pb_collecting.proofs.ToldRuns.{told_book}
 use Rattle.pb_collecting.proofs.OneTexts.{has_one_text}
 
 -- ---- lists
@@ -153,14 +153,14 @@ module _ (L : List (List ℕ)) (R : List Answer) (A : List Submission) (run : Ru
   once : NoRepeats A
   once i j d lt within e = own_ids L R A taken i j d lt within (ap id_of e)
 
-  members_to : (s : Submission) → Contains A s → (i n : ℕ) × IsAccepted L R i s n
+  pub members_to : (s : Submission) → Contains A s → (i n : ℕ) × IsAccepted L R i s n
   members_to s h =
       let x = slice_get-some A h.0 h.1 in
       let same = sym (get_or_from_slice_get A h.0 x.0 s x.1) ∙ h.2 in
       let g = (numbers_given most_games L R A run taken (suc h.0) s).0 (h.0, omega arith, x.1 ∙ ap (λ y. Some y) same) in
       (g.0, suc h.0, ((g.1, g.2, g.3), g.4))
 
-  members_from : (s : Submission) → ((i n : ℕ) × IsAccepted L R i s n) → Contains A s
+  pub members_from : (s : Submission) → ((i n : ℕ) × IsAccepted L R i s n) → Contains A s
   members_from s h =
       let at = (numbers_given most_games L R A run taken h.1 s).1 (h.0, h.2.0.0, h.2.0.1, h.2.0.2, h.2.1) in
       (at.0, slice_get_within A at.0 s at.2, get_or_from_slice_get A at.0 s s at.2)
@@ -185,6 +185,7 @@ headline file bytes sink sink' entries ordered bounds h =
       are = λ s. (members_to L g.answers h.held g.run g.accepted s, members_from L g.answers h.held g.run g.accepted s);
       book = h.book;
       text = has_one_text (record { words = h.words }) h.held entries ordered bounds h.book;
+      run = g.run;
     }
 
 module _ (fills : ℕ) (t t' s s' : SourceState) (sink sink' : SinkState) (entries : List Entry) (ordered : NeverFall entries) (bounds : All IsEntry entries) where

@@ -1,6 +1,6 @@
 mod CollectClauses
 mod CollectRuns
-mod Effects
+mod EffectLaws
 mod ExportClauses
 mod ExportRuns
 mod Headlines
@@ -8,3 +8,4 @@ mod KeepClauses
 mod KeepRuns
 mod OneTexts
 mod Takings
+mod ToldRuns

@@ -1,13 +1,13 @@
 -- The theorem of `pbook collect`, for a table file and the bytes of submissions. Read this file first: nothing is assumed of the
 -- submissions, and a list is counted from 0.
-use Rattle.std.specs.Prelude.{◌≡◌, ◌≢◌, ◌↔◌, ℕ, ◌<◌, List, Option, Some, Ok, Err, IfSome, Contains, length, slice_get}
+use Rattle.std.specs.Prelude.{◌≡◌, ◌≢◌, ◌↔◌, ℕ, ◌<◌, List, [], Option, Some, Ok, Err, IfSome, Contains, length, slice_get}
 use Rattle.std.specs.Io.KnownBytes.{Appends}
 use Rattle.pb_io.specs.Sink.{SinkState}
 use Rattle.pb_io.specs.Lines.{lines}
 use Rattle.pb_poly.specs.declared.entry.Entry.{Entry}
 use Rattle.pb_games.specs.Submissions.{Submission, IsLawful}
 use Rattle.pb_games.specs.declared.refusal.Refusal.TheVariants.{Conflict, Full, Memory}
-use Rattle.pb_ledger.specs.Accepting.{Answer}
+use Rattle.pb_ledger.specs.Accepting.{Answer, Run}
 use Rattle.pb_ledger.specs.Counting.{IsBook}
 use Rattle.pb_ledger.specs.Holding.{most_games}
 use Rattle.pb_ledger.specs.Laws.{NoRepeats}
@@ -60,6 +60,8 @@ pub record Headline (file bytes : List ℕ) (sink sink' : SinkState) (entries : 
   pub book : IsBook (record { words = words }) games entries
   -- its text decodes to its entries and to no others
   pub text : HasOneText (record { words = words }) games entries
+  -- line by line, the answers are those of a ledger; more follows from this, as `Laws` says
+  pub run : Run most_games [] (lines bytes) answers
 
 -- where the two sources tell their bytes
 abbrev pub HasHeadline : Option (List ℕ) → Option (List ℕ) → SinkState → SinkState → List Entry → Type 0

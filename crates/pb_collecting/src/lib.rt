@@ -5,6 +5,7 @@
 mod collect;
 mod export;
 mod keeping;
+pub mod laws;
 mod place;
 mod taking;
 

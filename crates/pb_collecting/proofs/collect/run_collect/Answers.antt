@@ -1,4 +1,4 @@
-use Rattle.pb_collecting.proofs.CollectClauses.{book, ends, handed_on, headline, one_effect, refused, told}
+use Rattle.pb_collecting.proofs.CollectClauses.{book, ends, handed_on, headline, refused, told}
 use Rattle.pb_collecting.proofs.collect.run_collect.Goals as goal
 
 pub returns-clause-book : goal.returns-clause-book
@@ -9,9 +9,6 @@ returns-clause-refused g c = refused _ _ _ _ _ _ _ c.collect_submissions.result 
 
 pub returns-clause-told : goal.returns-clause-told
 returns-clause-told g c = told _ _ _ _ _ _ _ c.collect_submissions.result c.collect_submissions.ensures
-
-pub returns-clause-one_effect : goal.returns-clause-one_effect
-returns-clause-one_effect g c = one_effect _ _ _ _ _ _ _ c.collect_submissions.result c.collect_submissions.ensures
 
 pub returns-clause-headline : goal.returns-clause-headline
 returns-clause-headline g c = headline _ _ _ _ _ _ _ c.collect_submissions.result c.collect_submissions.ensures

@@ -1,0 +1,76 @@
+-- What follows from the theorem of `pbook collect`.
+use Rattle.std.proofs.Common.{◌≡◌, ◌∙◌, ℕ, List, [], ◌∷◌, Some, None, Err, add-one, slice_get, subst, suc, sym, take, zero}
+use Rattle.pb_io.specs.Sink.{SinkState}
+use Rattle.pb_io.specs.Lines.{lines}
+use Rattle.pb_poly.specs.declared.entry.Entry.{Entry}
+use Rattle.pb_games.specs.Submissions.{Submission}
+use Rattle.pb_games.specs.declared.refusal.Refusal.{Refusal}
+use Rattle.pb_ledger.specs.Accepting.{Accepted, Allowed, Answer, OneGame, Run, Takes}
+use Rattle.pb_ledger.specs.Holding.{most_games}
+use Rattle.pb_ledger.specs.Laws.{RepeatsAreAnsweredAlike, SameMembers}
+use Rattle.pb_accepted.proofs.BookLaws.{same_book}
+use Rattle.pb_accepted.proofs.Distinct.{accepts_the_taken, lawful_arrives, no_conflict, no_repeats}
+use Rattle.pb_accepted.proofs.Numbers.{repeats_keep}
+use Rattle.pb_accepted.proofs.Replies.{Takes-refusal, Takes-unique}
+use Rattle.pb_accepted.proofs.Runs.{accepted_of}
+use Rattle.pb_collecting.specs.Headline.{Headline}
+use Rattle.pb_collecting.specs.Laws.{OneEffect, RefusalsLeaveTheGames}
+use Rattle.pb_collecting.proofs.Headlines.{members_from, members_to}
+use Rattle.pb_collecting.proofs.OneTexts.{has_one_text}
+
+-- ---- refused lines
+
+refusal_leaves : (cap : ℕ) (A : List Submission) (L : List (List ℕ)) (R : List Answer) → Run cap A L R
+    → (i : ℕ) (e : Refusal) (B C : List Submission) → slice_get R i ≡ Some (Err e)
+    → Accepted A (take i L) (take i R) B → Accepted A (take (suc i) L) (take (suc i) R) C → C ≡ B
+refusal_leaves cap A [] [] run i e B C told h k = let none : None ≡ Some (Err e) = told in absurd (cc)
+refusal_leaves cap A (line ∷ L) (r ∷ R) run zero e B C told h k =
+    let f : Some r ≡ Some (Err e) = told in
+    let is : r ≡ Err e = cc in
+    k.2 ∙ Takes-refusal cap A line e k.0 (subst (λ x. Allowed cap A line x) is run.1) (subst (λ x. Takes A line x k.0) is k.1) ∙ sym h
+refusal_leaves cap A (line ∷ L) (r ∷ R) run (suc i) e B C told h k =
+    let one = Takes-unique A line r h.0 run.0 h.1 run.2 in
+    let other = Takes-unique A line r k.0 run.0 k.1 run.2 in
+    refusal_leaves cap run.0 L R run.3 i e B C told
+    (subst (λ M. Accepted M (take i L) (take i R) B) one h.2) (subst (λ M. Accepted M (take (suc i) L) (take (suc i) R) C) other k.2)
+refusal_leaves cap A [] (r ∷ R) run i e B C told h k = absurd run
+refusal_leaves cap A (line ∷ L) [] run i e B C told h k = absurd run
+
+refusals_leave : (cap : ℕ) (L : List (List ℕ)) (R : List Answer) → Run cap [] L R → RefusalsLeaveTheGames L R
+refusals_leave cap L R run i e A B told h k =
+    refusal_leaves cap [] L R run i e A B told h (subst (λ n. Accepted [] (take n L) (take n R) B) (add-one i) k)
+
+-- ---- what is so of every run, and where no id names two games
+
+module _ (file bytes : List ℕ) (sink sink' : SinkState) (entries : List Entry) (h : Headline file bytes sink sink' entries) where
+  pub repeats_alike : RepeatsAreAnsweredAlike (lines bytes) h.answers
+  repeats_alike = repeats_keep most_games (lines bytes) h.answers h.run
+
+  pub games_at_refusals : RefusalsLeaveTheGames (lines bytes) h.answers
+  games_at_refusals = refusals_leave most_games (lines bytes) h.answers h.run
+
+  -- what a run leaves are its games
+  same_games : (held : List Submission) → Accepted [] (lines bytes) h.answers held → SameMembers h.games held
+  same_games held accepted s = (
+    (λ here. members_from (lines bytes) h.answers held h.run accepted s ((h.are s).0 here)),
+    (λ here. (h.are s).1 (members_to (lines bytes) h.answers held h.run accepted s here)),
+  )
+
+  effect : OneGame (lines bytes) → (held : List Submission) → Accepted [] (lines bytes) h.answers held → OneEffect bytes h.words h.answers h.games entries
+  effect one held accepted =
+      let taken = accepts_the_taken (lines bytes) h.answers held one accepted in
+      let once = no_repeats (lines bytes) h.answers held taken in
+      let same = same_games held accepted in
+      let book = same_book (record { words = h.words }) h.games held h.once once same entries h.book in record {
+        taken = held;
+        are_taken = taken;
+        once = once;
+        same = same;
+        book = book;
+        text = has_one_text (record { words = h.words }) held entries h.text.is_file.ordered h.text.is_file.are.bounds book;
+        arrivals = lawful_arrives most_games (lines bytes) h.answers one h.run;
+        no_conflict = no_conflict most_games (lines bytes) h.answers one h.run;
+      }
+
+  pub one_effect : OneGame (lines bytes) → OneEffect bytes h.words h.answers h.games entries
+  one_effect one = let held = accepted_of most_games [] (lines bytes) h.answers h.run in effect one held.0 held.1

@@ -1,0 +1,49 @@
+-- Laws of the theorem of `pbook collect`: what follows from `Headline` alone.
+use Rattle.std.specs.Prelude.{◌≡◌, ◌≢◌, ℕ, ◌+◌, List, [], Some, Err, All, slice_get, take}
+use Rattle.pb_io.specs.Sink.{SinkState}
+use Rattle.pb_io.specs.Lines.{lines}
+use Rattle.pb_poly.specs.declared.entry.Entry.{Entry}
+use Rattle.pb_games.specs.Submissions.{Submission}
+use Rattle.pb_games.specs.declared.refusal.Refusal.{Refusal}
+use Rattle.pb_games.specs.declared.refusal.Refusal.TheVariants.{Conflict}
+use Rattle.pb_ledger.specs.Accepting.{Accepted, Answer, OneGame, Taken}
+use Rattle.pb_ledger.specs.Counting.{IsBook}
+use Rattle.pb_ledger.specs.Holding.{most_games}
+use Rattle.pb_ledger.specs.Laws.{ArrivalsAreNumbered, NoRepeats, RepeatsAreAnsweredAlike, SameMembers}
+use Rattle.pb_collecting.specs.Headline.{Headline}
+use Rattle.pb_collecting.specs.OneText.{HasOneText}
+
+-- a line that was refused left the games that are held as they were
+abbrev pub RefusalsLeaveTheGames : List (List ℕ) → List Answer → Type 0
+RefusalsLeaveTheGames L R = (i : ℕ) (e : Refusal) (A B : List Submission) → slice_get R i ≡ Some (Err e)
+    → Accepted [] (take i L) (take i R) A → Accepted [] (take (i + 1) L) (take (i + 1) R) B → B ≡ A
+
+-- What more is so of a run in which no id names two games.
+pub record OneEffect (bytes words : List ℕ) (answers : List Answer) (games : List Submission) (entries : List Entry) : Type 0 where
+  -- the games are the distinct legal submissions that were accepted, and the book is that of these, each of them once
+  pub taken : List Submission
+  pub are_taken : Taken [] (lines bytes) answers taken
+  pub once : NoRepeats taken
+  pub same : SameMembers games taken
+  pub book : IsBook (record { words = words }) taken entries
+  pub text : HasOneText (record { words = words }) taken entries
+  -- each legal arrival is accepted, unless its id is new and room or memory is refused
+  pub arrivals : ArrivalsAreNumbered most_games (lines bytes) answers
+  pub no_conflict : All (λ r. (n : ℕ) → r ≢ Err (Conflict n)) answers
+
+-- ---- the laws
+
+-- where no id names two games, each submission of a run has its one effect
+abbrev pub HasOneEffect : Type 0
+HasOneEffect = (file bytes : List ℕ) (sink sink' : SinkState) (entries : List Entry) (h : Headline file bytes sink sink' entries)
+    → OneGame (lines bytes) → OneEffect bytes h.words h.answers h.games entries
+
+-- in every run a repeat is answered as its first acceptance was
+abbrev pub AnswersRepeatsAlike : Type 0
+AnswersRepeatsAlike = (file bytes : List ℕ) (sink sink' : SinkState) (entries : List Entry) (h : Headline file bytes sink sink' entries)
+    → RepeatsAreAnsweredAlike (lines bytes) h.answers
+
+-- and a refused submission changes nothing
+abbrev pub KeepsGamesAtRefusals : Type 0
+KeepsGamesAtRefusals = (file bytes : List ℕ) (sink sink' : SinkState) (entries : List Entry) (h : Headline file bytes sink sink' entries)
+    → RefusalsLeaveTheGames (lines bytes) h.answers
