@@ -13,7 +13,7 @@ use std::alloc::Global;
 /// 1,000,000, each counted once however often it comes. The table of words that keys are made of is read first. Where it is
 /// refused, `refused table` and `long`, `line` or `count` is put, no submission is read, and there is no book.
 ///
-/// Where no id names two games, the book is that of the distinct legal submissions that were accepted.
+/// Where no id names two games, the book is that of the distinct legal submissions that were accepted (`laws::one_game`).
 ///
 /// # Errors
 ///
@@ -36,7 +36,7 @@ pub fn run_collect<T: Source, S: Source, K: Sink>(
     // Of sources that tell their bytes, it is the table and the submissions of all bytes that were to come.
     ensures told { IfOk result (TellsCollect (T.state table_source.old).to_come (S.state source.old).to_come
         (K.state sink.old) (K.state sink.new)) }
-    // And all that the theorem says is so.
+    // All that is promised of them: which lines are accepted, that each game counts once, and that the book has one text.
     ensures headline { IfOk result (λ answer. IfSome answer (HasHeadline (T.state table_source.old).to_come (S.state source.old).to_come
         (K.state sink.old) (K.state sink.new))) }
     ensures handed_on { OnOk result (((K.state sink.new).failed ≡ false)

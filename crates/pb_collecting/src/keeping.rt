@@ -34,7 +34,7 @@ pub fn collect_into<T: Source, S: Source, K: Sink, P: Place>(
     place: &mut P,
     fills: u32,
 ) -> Result<bool, NoBook>
-    // Where the answer is true, the place holds the bytes of the book of the games that are held, which is the book of the theorem.
+    // Where the answer is true, the place holds the bytes of the book of the games that are held, and all that is promised of it is so.
     ensures kept { IfOk result (λ kept. kept ≡ true → KeepsBook fills (T.state table_source.old) (T.state table_source.new)
         (S.state source.old) (S.state source.new) (K.state sink.old) (K.state sink.new) (P.state place.old) (P.state place.new) (Ok tt)) }
     // Where it is false, the line that says why the table is refused was put.

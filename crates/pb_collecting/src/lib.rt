@@ -1,5 +1,5 @@
-//! The commands of `pbook` that take games, `collect` and `export`, as functions over the ends that they are handed. Nothing here
-//! knows the command line.
+//! The commands of `pbook` that take games, `collect` and `export`, as functions over the ends that they are handed and over the place
+//! where the book is kept. Nothing here knows the command line or a file.
 #![tactic(auto)]
 
 mod collect;
