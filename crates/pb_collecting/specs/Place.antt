@@ -4,25 +4,25 @@ use Rattle.std.specs.Result.{result_err}
 use Rattle.pb_collecting.specs.declared.place.NotKept.{NotKept}
 use Rattle.pb_collecting.specs.declared.place.NotKept.TheVariants.{Open, Write, Memory}
 
--- What is known of a place: what a reader finds there, where the place tells it (none: there is nothing), and why the last book that
--- came wasn't kept, if it wasn't.
+-- What is known of a place: what a reader finds there, bytes or nothing, where the place tells it; and why the last book that came
+-- wasn't kept, if it wasn't.
 pub record PlaceState : Type 0 where
   pub found : Option (Option (List ℕ))
   pub fault : Option NotKept
 
 -- a reader of the place finds these bytes and nothing else, where the place told what is found
-abbrev pub Holds : PlaceState → PlaceState → List ℕ → Type 0
-Holds old new bytes = IfSome old.found (λ before. new.found ≡ Some (Some bytes))
+abbrev pub HoldsBytes : PlaceState → PlaceState → List ℕ → Type 0
+HoldsBytes old new bytes = IfSome old.found (λ before. new.found ≡ Some (Some bytes))
 
 -- what keeping these bytes may leave, when it fails, in the place of what was there: nothing else where the place couldn't be opened, an
 -- empty file where memory was wanting, a front of the bytes where a write failed
 abbrev pub Spoils : PlaceState → PlaceState → NotKept → List ℕ → Type 0
 Spoils old new Open bytes = ⊥
-Spoils old new Memory bytes = Holds old new []
-Spoils old new Write bytes = (count : ℕ) × Holds old new (take count bytes)
+Spoils old new Memory bytes = HoldsBytes old new []
+Spoils old new Write bytes = (count : ℕ) × HoldsBytes old new (take count bytes)
 
--- Keeping bytes: the place holds them, or it is as it was or spoilt, and tells why.
+-- Keeping bytes: the place holds them, or it tells why not, and is as it was or spoilt.
 pub record Keeps (old new : PlaceState) (answer : Result (Unit {0}) NotKept) (bytes : List ℕ) : Type 0 where
-  pub holds : OnOk answer (Holds old new bytes)
+  pub holds : OnOk answer (HoldsBytes old new bytes)
   pub leaves : IfErr answer (λ why. (new.found ≡ old.found) ⊎ Spoils old new why bytes)
   pub fault : new.fault ≡ result_err answer
