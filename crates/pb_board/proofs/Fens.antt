@@ -12,8 +12,8 @@ use Rattle.pb_board.specs.declared.refusal.FenError.{FenError}
 use Rattle.pb_board.specs.declared.refusal.FenError.TheVariants as refusal
 use Rattle.pb_board.specs.Board.{Place}
 use Rattle.pb_board.specs.Position.{Position, Record, IsSetup, HasOneKing, HasNoEdgePawn, EnPassantHolds, OnPassedRank, IsPassed}
-use Rattle.pb_board.specs.Text.{PlacementText, number_text}
-use Rattle.pb_board.specs.Fen.{FenText, SetupText, SetupTexts}
+use Rattle.pb_board.specs.Text.{PlacementText, turn_text, castling_text, passed_text, number_text}
+use Rattle.pb_board.specs.Fen.{AreFields, FenText}
 use Rattle.pb_board.specs.Position.{IsRecord, record_of}
 use Rattle.pb_board.specs.Refusal.{IsDue, IsFirstDue, OfRecord, OfSetup, AreParts, IsRefusedAs, IsFault, IsFirstFault, order, field, fields, SpellsBoard, SpellsPassed, refusal_of}
 use Rattle.pb_board.proofs.Unique.{placement_one_board, turn_injective, passed_injective, fields_of_text, on_rank, one_record, one_setup}
@@ -76,8 +76,12 @@ module _ (among : FenError → Type 0) (pieces : List (List ℕ)) (p : Position)
 
 -- ---- four texts
 
-parts_text : (p : Position) (a b c d : List ℕ) → AreParts p a b c d → SetupText p a b c d
-parts_text p a b c d h = record { placement_is = (h.board_is p.board h.places).1 refl; turn_is = h.turn_is; castling_is = h.rights_is; passed_is = h.passed_is }
+pub setup_found : (p : Position) (a b c d : List ℕ) → AreParts p a b c d → AreFields p (a ∷ b ∷ c ∷ d ∷ [])
+setup_found p a b c d h = record {
+  placement = a;
+  placement_is = (h.board_is p.board h.places).1 refl;
+  are = ap (λ x. a ∷ x ∷ c ∷ d ∷ []) h.turn_is ∙ ap (λ x. a ∷ turn_text p.turn ∷ x ∷ d ∷ []) h.rights_is ∙ ap (λ x. a ∷ turn_text p.turn ∷ castling_text p.rights ∷ x ∷ []) h.passed_is;
+}
 
 pub four_begin : (a b c d : List ℕ) → Begins (a ∷ b ∷ c ∷ d ∷ []) a b c d
 four_begin a b c d = record { first = refl; second = refl; third = refl; fourth = refl }
@@ -98,9 +102,6 @@ setup_fault e p a b c d h r =
     let n7 = none_more refusal.Half 6 OfSetup pieces refl n6 (λ member _. member) in
     let n8 = none_more refusal.Full 7 OfSetup pieces refl n7 (λ member _. member) in
     subst (λ x. IsFirstDue OfSetup x pieces) (sym r.is) (fault_due OfSetup pieces p a b c d cut h r.cause n8 (setup_refusal r.cause) r.first)
-
-pub setup_found : (p : Position) (a b c d : List ℕ) → AreParts p a b c d → SetupTexts p (a ∷ b ∷ c ∷ d ∷ [])
-setup_found p a b c d h = record { placement = a; turn = b; castling = c; passed = d; spells = parts_text p a b c d h; are = refl }
 
 -- a list of four
 pub four_cells : {A : Type 0} (xs : List A) (d : A) → length xs ≡ 4 → xs ≡ get_or xs 0 d ∷ get_or xs 1 d ∷ get_or xs 2 d ∷ get_or xs 3 d ∷ []
@@ -179,11 +180,8 @@ module _ (text a b c d e f : List ℕ) (cut : fields text ≡ a ∷ b ∷ c ∷ 
     text_found half full number count lawful = (
       record { setup = lawful; half = number.0; low = count.0; full = count.1 },
       record {
-        placement = a;
-        turn = b;
-        castling = c;
-        passed = d;
-        setup_is = parts_text p a b c d h;
+        four = a ∷ b ∷ c ∷ d ∷ [];
+        fields = setup_found p a b c d h;
         joined =
             sym (join_with_byte-slice_split 32 text) ∙ ap (join_with_byte 32) cut ∙ ap (λ x. join_with_byte 32 (a ∷ b ∷ c ∷ d ∷ x ∷ f ∷ [])) number.1 ∙ ap (λ x. join_with_byte 32 (a ∷ b ∷ c ∷ d ∷ number_text half ∷ x ∷ [])) count.2;
       },
@@ -195,24 +193,31 @@ passed_holds : (board : List Place) (turn : Colour) (ep : Option ℕ) → EnPass
 passed_holds board turn None h = h
 passed_holds board turn (Some q) h = h.1
 
+-- the fields of a setup are its parts
+parts_of : (p : Position) (placement : List ℕ) → IsSetup p → PlacementText p.board placement → AreParts p placement (turn_text p.turn) (castling_text p.rights) (passed_text p.ep)
+parts_of p placement lawful h = record {
+  places = lawful.places;
+  board_is = λ x len. (λ k. placement_one_board x p.board placement len lawful.places k h, λ e. subst (λ w. PlacementText w placement) (sym e) h);
+  turn_is = refl;
+  rights_is = refl;
+  passed_is = refl;
+  rank_is = on_rank p.board p.turn p.ep lawful.en_passant;
+}
+
 -- where the text spells a record, no refusal is due
 pub spelt_not_due : (f : Record) (text : List ℕ) → IsRecord f → FenText f text → NoneBefore OfRecord 11 (fields text)
 spelt_not_due f text lawful h =
     let cut = fields_of_text f text lawful h in
-    let s = h.setup_is in
     let p = f.setup in
-    let parts : AreParts p h.placement h.turn h.castling h.passed = record {
-      places = lawful.setup.places;
-      board_is = λ x len. (λ k. placement_one_board x p.board h.placement len lawful.setup.places k s.placement_is, λ e. subst (λ w. PlacementText w h.placement) (sym e) s.placement_is);
-      turn_is = s.turn_is;
-      rights_is = s.castling_is;
-      passed_is = s.passed_is;
-      rank_is = on_rank p.board p.turn p.ep lawful.setup.en_passant;
-    } in
-    let begin = six_begin text h.placement h.turn h.castling h.passed (number_text f.half) (number_text f.full) cut in
-    let n8 = none_of_full text h.placement h.turn h.castling h.passed (number_text f.half) (number_text f.full) cut p parts f.half f.full (lawful.half, refl) (lawful.low, lawful.full, refl) in
-    let board = spells_board OfRecord (fields text) p h.placement h.turn h.castling h.passed begin parts in
-    let passed = spells_passed OfRecord (fields text) p h.placement h.turn h.castling h.passed begin parts in
+    let a = h.fields.placement in
+    let b = turn_text p.turn in
+    let c = castling_text p.rights in
+    let d = passed_text p.ep in
+    let parts = parts_of p a lawful.setup h.fields.placement_is in
+    let begin = six_begin text a b c d (number_text f.half) (number_text f.full) cut in
+    let n8 = none_of_full text a b c d (number_text f.half) (number_text f.full) cut p parts f.half f.full (lawful.half, refl) (lawful.low, lawful.full, refl) in
+    let board = spells_board OfRecord (fields text) p a b c d begin parts in
+    let passed = spells_passed OfRecord (fields text) p a b c d begin parts in
     let n9 = none_more refusal.Kings 8 OfRecord (fields text) refl n8 (λ _ due. due p.board board lawful.setup.white_king lawful.setup.black_king) in
     let n10 = none_more refusal.Pawns 9 OfRecord (fields text) refl n9 (λ _ due. due p.board board lawful.setup.pawns) in
     none_more refusal.EnPassantPawn 10 OfRecord (fields text) refl n10 (λ _ due. due p.board p.turn p.ep board passed (passed_holds p.board p.turn p.ep lawful.setup.en_passant))
@@ -222,41 +227,37 @@ pub only_record : (r : Result Record FenError) (f : Record) (text : List ℕ) �
 only_record (Ok g) f text found refused lawful h = ap (λ x. Ok x) (one_record g f text found.0 lawful found.1 h)
 only_record (Err e) f text found refused lawful h = absurd ((spelt_not_due f text lawful h).none e tt (last_order e) refused.due)
 
-pub setup_not_due : (p : Position) (four : List (List ℕ)) → IsSetup p → SetupTexts p four → NoneBefore OfSetup 11 four
+pub setup_not_due : (p : Position) (four : List (List ℕ)) → IsSetup p → AreFields p four → NoneBefore OfSetup 11 four
 setup_not_due p four lawful h =
-    let s = h.spells in
-    let parts : AreParts p h.placement h.turn h.castling h.passed = record {
-      places = lawful.places;
-      board_is = λ x len. (λ k. placement_one_board x p.board h.placement len lawful.places k s.placement_is, λ e. subst (λ w. PlacementText w h.placement) (sym e) s.placement_is);
-      turn_is = s.turn_is;
-      rights_is = s.castling_is;
-      passed_is = s.passed_is;
-      rank_is = on_rank p.board p.turn p.ep lawful.en_passant;
-    } in
-    let pieces = h.placement ∷ h.turn ∷ h.castling ∷ h.passed ∷ [] in
-    let begin = four_begin h.placement h.turn h.castling h.passed in
-    let n6 = none_of_four OfSetup pieces p h.placement h.turn h.castling h.passed begin parts (none_of_setup pieces) in
+    let a = h.placement in
+    let b = turn_text p.turn in
+    let c = castling_text p.rights in
+    let d = passed_text p.ep in
+    let pieces = a ∷ b ∷ c ∷ d ∷ [] in
+    let parts = parts_of p a lawful h.placement_is in
+    let begin = four_begin a b c d in
+    let n6 = none_of_four OfSetup pieces p a b c d begin parts (none_of_setup pieces) in
     let n7 = none_more refusal.Half 6 OfSetup pieces refl n6 (λ member _. member) in
     let n8 = none_more refusal.Full 7 OfSetup pieces refl n7 (λ member _. member) in
-    let board = spells_board OfSetup pieces p h.placement h.turn h.castling h.passed begin parts in
-    let passed = spells_passed OfSetup pieces p h.placement h.turn h.castling h.passed begin parts in
+    let board = spells_board OfSetup pieces p a b c d begin parts in
+    let passed = spells_passed OfSetup pieces p a b c d begin parts in
     let n9 = none_more refusal.Kings 8 OfSetup pieces refl n8 (λ _ due. due p.board board lawful.white_king lawful.black_king) in
     let n10 = none_more refusal.Pawns 9 OfSetup pieces refl n9 (λ _ due. due p.board board lawful.pawns) in
     subst (NoneBefore OfSetup 11) (sym h.are) (none_more refusal.EnPassantPawn 10 OfSetup pieces refl n10 (λ _ due. due p.board p.turn p.ep board passed (passed_holds p.board p.turn p.ep lawful.en_passant)))
 
-pub setup_never_due : (p : Position) (four : List (List ℕ)) (e : FenError) → IsSetup p → SetupTexts p four → IsFirstDue OfSetup e four → ⊥
+pub setup_never_due : (p : Position) (four : List (List ℕ)) (e : FenError) → IsSetup p → AreFields p four → IsFirstDue OfSetup e four → ⊥
 setup_never_due p four e lawful h refused = (setup_not_due p four lawful h).none e refused.member (last_order e) refused.due
 
-pub only_setup : (r : Result Position FenError) (p : Position) (four : List (List ℕ)) → IfOk r (λ s. IsSetup s × SetupTexts s four) → IfErr r (λ e. IsFirstDue OfSetup e four) → IsSetup p → SetupTexts p four → r ≡ Ok p
+pub only_setup : (r : Result Position FenError) (p : Position) (four : List (List ℕ)) → IfOk r (λ s. IsSetup s × AreFields s four) → IfErr r (λ e. IsFirstDue OfSetup e four) → IsSetup p → AreFields p four → r ≡ Ok p
 only_setup (Ok s) p four found refused lawful h = ap (λ x. Ok x) (one_setup s p four found.0 lawful found.1 h)
 only_setup (Err e) p four found refused lawful h = absurd (setup_never_due p four e lawful h refused)
 
 pub four_texts : (four : List (Bor (List ℕ))) (d : Bor (List ℕ)) → length four ≡ 4 → map (λ t. t.now) four ≡ (get_or four 0 d).now ∷ (get_or four 1 d).now ∷ (get_or four 2 d).now ∷ (get_or four 3 d).now ∷ []
 four_texts four d e = ap (λ (w : List (Bor (List ℕ))). map (λ t. t.now) w) (four_cells four d e)
 
-pub built_found : (r : Result Position FenError) (p : Position) (four : List (List ℕ)) (a b c d : List ℕ) → four ≡ a ∷ b ∷ c ∷ d ∷ [] → AreParts p a b c d → MatchResult r (λ s. (s ≡ p) × IsSetup p) (λ e. IsRefusedAs e p) → IfOk r (λ s. IsSetup s × SetupTexts s four)
+pub built_found : (r : Result Position FenError) (p : Position) (four : List (List ℕ)) (a b c d : List ℕ) → four ≡ a ∷ b ∷ c ∷ d ∷ [] → AreParts p a b c d → MatchResult r (λ s. (s ≡ p) × IsSetup p) (λ e. IsRefusedAs e p) → IfOk r (λ s. IsSetup s × AreFields s four)
 built_found (Ok s) p four a b c d is h built =
-    (subst IsSetup (sym built.0) built.1, subst (λ w. SetupTexts s w) (sym is) (subst (λ w. SetupTexts w (a ∷ b ∷ c ∷ d ∷ [])) (sym built.0) (setup_found p a b c d h)))
+    (subst IsSetup (sym built.0) built.1, subst (λ w. AreFields s w) (sym is) (subst (λ w. AreFields w (a ∷ b ∷ c ∷ d ∷ [])) (sym built.0) (setup_found p a b c d h)))
 built_found (Err e) p four a b c d is h built = tt
 
 pub built_refused : (r : Result Position FenError) (p : Position) (four : List (List ℕ)) (a b c d : List ℕ) → four ≡ a ∷ b ∷ c ∷ d ∷ [] → AreParts p a b c d → MatchResult r (λ s. (s ≡ p) × IsSetup p) (λ e. IsRefusedAs e p) → IfErr r (λ e. IsFirstDue OfSetup e four)

@@ -1,5 +1,5 @@
 -- Each of the first four fields of a record is a word: 1 to 255 bytes that are no space, no quotation mark and no semicolon.
-use Rattle.std.proofs.Common.{◌≢◌, ℕ, ◌≤◌, Bool, true, false, List, [], ◌∷◌, ◌++◌, length, Option, Some, None, sym, ap, subst, arith}
+use Rattle.std.proofs.Common.{◌≢◌, ℕ, ◌≤◌, Bool, true, false, List, [], ◌∷◌, ◌++◌, length, Option, Some, None, ap, arith}
 use Rattle.std.specs.List.{All}
 use Rattle.std.proofs.lemmas.List.{length-append}
 use Rattle.std.proofs.lemmas.List.Elements.{All-nil, All-cons, All-weaker, All-same}
@@ -9,7 +9,7 @@ use Rattle.pb_board.specs.declared.setup.Rights.{Rights}
 use Rattle.pb_board.specs.Board.{Board}
 use Rattle.pb_board.specs.Position.{Position, IsSetup}
 use Rattle.pb_board.specs.Text.{PlacementText, turn_text, castling_text, flag_letters, letter_if, or_dash, passed_text}
-use Rattle.pb_board.specs.Fen.{SetupTexts}
+use Rattle.pb_board.specs.Fen.{AreFields}
 use Rattle.pb_board.proofs.FieldBytes.{IsFieldByte, AreFieldBytes, ranks_length, placement_bytes, turn_bytes, castling_bytes, passed_bytes}
 use Rattle.pb_board.proofs.Unique.{on_rank}
 
@@ -67,14 +67,15 @@ placement_word board text h =
     let lengths = ranks_length 8 board h.0 h.1 in
     word text (omega (arith, lengths.0, ap length h.2)) (omega (arith, lengths.1, ap length h.2)) (placement_bytes board text h)
 
-pub setup_words : (p : Position) (four : List (List ℕ)) → IsSetup p → SetupTexts p four → All IsWord four
+pub setup_words : (p : Position) (four : List (List ℕ)) → IsSetup p → AreFields p four → All IsWord four
 setup_words p four lawful h =
-    let s = h.spells in
-    let passed = passed_length p.ep in
-    All-same IsWord four (h.placement ∷ h.turn ∷ h.castling ∷ h.passed ∷ []) h.are
-    (All-cons IsWord h.placement (h.turn ∷ h.castling ∷ h.passed ∷ []) (placement_word p.board h.placement s.placement_is)
-    (All-cons IsWord h.turn (h.castling ∷ h.passed ∷ []) (subst IsWord (sym s.turn_is) (turn_word p.turn))
-    (All-cons IsWord h.castling (h.passed ∷ []) (subst IsWord (sym s.castling_is) (castling_word p.rights))
-    (All-cons IsWord h.passed []
-    (subst IsWord (sym s.passed_is) (word (passed_text p.ep) passed.0 passed.1 (passed_bytes p.turn p.ep (on_rank p.board p.turn p.ep lawful.en_passant))))
+    let turn = turn_text p.turn in
+    let castling = castling_text p.rights in
+    let passed = passed_text p.ep in
+    let lengths = passed_length p.ep in
+    All-same IsWord four (h.placement ∷ turn ∷ castling ∷ passed ∷ []) h.are
+    (All-cons IsWord h.placement (turn ∷ castling ∷ passed ∷ []) (placement_word p.board h.placement h.placement_is)
+    (All-cons IsWord turn (castling ∷ passed ∷ []) (turn_word p.turn)
+    (All-cons IsWord castling (passed ∷ []) (castling_word p.rights)
+    (All-cons IsWord passed [] (word passed lengths.0 lengths.1 (passed_bytes p.turn p.ep (on_rank p.board p.turn p.ep lawful.en_passant)))
     (All-nil IsWord)))))

@@ -12,7 +12,7 @@ use Rattle.pb_board.specs.declared.setup.Rights.{Rights}
 use Rattle.pb_board.specs.Board.{Place}
 use Rattle.pb_board.specs.Position.{Position, Record, IsSetup, OnPassedRank, EnPassantHolds, position_of}
 use Rattle.pb_board.specs.Text.{letter, BeginsOccupied, RankText, RankTexts, PlacementText, rank_of, ranks_down, turn_text, castling_text, passed_text, number_text}
-use Rattle.pb_board.specs.Fen.{FenText, FourFields, SetupTexts}
+use Rattle.pb_board.specs.Fen.{AreFields, FourFields, FenText}
 use Rattle.pb_board.specs.Position.{IsRecord, record_of}
 use Rattle.pb_board.specs.Refusal.{fields}
 use Rattle.pb_board.proofs.Letters.{letter_injective, letter_above}
@@ -116,22 +116,22 @@ on_rank board turn (Some q) h = h.0
 above_passed : (p : Position) → IsSetup p → Above 32 (passed_text p.ep)
 above_passed p lawful = above_space (passed_text p.ep) (passed_bytes p.turn p.ep (on_rank p.board p.turn p.ep lawful.en_passant))
 
-pub fields_of_text : (f : Record) (t : List ℕ) → IsRecord f → (h : FenText f t) → fields t ≡ h.placement ∷ h.turn ∷ h.castling ∷ h.passed ∷ number_text f.half ∷ number_text f.full ∷ []
+-- the text, field by field
+pub joined_fields : (f : Record) (t : List ℕ) → (h : FenText f t)
+    → t ≡ join_with_byte 32 (h.fields.placement ∷ turn_text f.setup.turn ∷ castling_text f.setup.rights ∷ passed_text f.setup.ep ∷ number_text f.half ∷ number_text f.full ∷ [])
+joined_fields f t h = h.joined ∙ ap (λ (four : List (List ℕ)). join_with_byte 32 (four ++ number_text f.half ∷ number_text f.full ∷ [])) h.fields.are
+
+pub fields_of_text : (f : Record) (t : List ℕ) → IsRecord f → (h : FenText f t)
+    → fields t ≡ h.fields.placement ∷ turn_text f.setup.turn ∷ castling_text f.setup.rights ∷ passed_text f.setup.ep ∷ number_text f.half ∷ number_text f.full ∷ []
 fields_of_text f t lawful h =
-    let s = h.setup_is in
-    ap fields h.joined ∙ split_join 32 (h.placement ∷ h.turn ∷ h.castling ∷ h.passed ∷ number_text f.half ∷ number_text f.full ∷ []) (
-      above_space h.placement (placement_bytes f.setup.board h.placement s.placement_is),
+    let p = f.setup in
+    ap fields (joined_fields f t h) ∙ split_join 32 (h.fields.placement ∷ turn_text p.turn ∷ castling_text p.rights ∷ passed_text p.ep ∷ number_text f.half ∷ number_text f.full ∷ []) (
+      above_space h.fields.placement (placement_bytes p.board h.fields.placement h.fields.placement_is),
       (
-        subst (Above 32) (sym s.turn_is) (above_space _ (turn_bytes f.setup.turn)),
+        above_space _ (turn_bytes p.turn),
         (
-          subst (Above 32) (sym s.castling_is) (above_space _ (castling_bytes f.setup.rights)),
-          (
-            subst (Above 32) (sym s.passed_is) (above_passed f.setup lawful.setup),
-            (
-              above_space _ (number_bytes f.half lawful.half),
-              (above_space _ (number_bytes f.full lawful.full), tt),
-            ),
-          ),
+          above_space _ (castling_bytes p.rights),
+          (above_passed p lawful.setup, (above_space _ (number_bytes f.half lawful.half), (above_space _ (number_bytes f.full lawful.full), tt))),
         ),
       ),
     ) (lit< tt)
@@ -182,54 +182,33 @@ passed_injective turn (Some x) (Some y) h k e =
     let same : x ≡ y = omega (arith, file, h, k) in
     ap (λ n. Some n) same
 
+one_list_of_fields : (p : Position) (s t : List (List ℕ)) → AreFields p s → AreFields p t → s ≡ t
+one_list_of_fields p s t h k =
+    h.are ∙ ap (λ x. x ∷ turn_text p.turn ∷ castling_text p.rights ∷ passed_text p.ep ∷ []) (placement_one_text p.board h.placement k.placement h.placement_is k.placement_is) ∙ sym k.are
+
 pub one_text : (f : Record) (t u : List ℕ) → FenText f t → FenText f u → t ≡ u
 one_text f t u h k =
-    let a = h.setup_is in
-    let b = k.setup_is in
-    let rest = number_text f.half ∷ number_text f.full ∷ [] in
-    h.joined ∙ ap (λ x. join_with_byte 32 (x ∷ h.turn ∷ h.castling ∷ h.passed ∷ rest)) (placement_one_text f.setup.board h.placement k.placement a.placement_is b.placement_is)
-    ∙ ap (λ x. join_with_byte 32 (k.placement ∷ x ∷ h.castling ∷ h.passed ∷ rest)) (a.turn_is ∙ sym b.turn_is)
-    ∙ ap (λ x. join_with_byte 32 (k.placement ∷ k.turn ∷ x ∷ h.passed ∷ rest)) (a.castling_is ∙ sym b.castling_is)
-    ∙ ap (λ x. join_with_byte 32 (k.placement ∷ k.turn ∷ k.castling ∷ x ∷ rest)) (a.passed_is ∙ sym b.passed_is)
-    ∙ sym k.joined
+    h.joined ∙ ap (λ (four : List (List ℕ)). join_with_byte 32 (four ++ number_text f.half ∷ number_text f.full ∷ [])) (one_list_of_fields f.setup h.four k.four h.fields k.fields) ∙ sym k.joined
 
 pub one_setup_text : (p : Position) (t u : List ℕ) → FourFields p t → FourFields p u → t ≡ u
-one_setup_text p t u h k =
-    let a = h.spells in
-    let b = k.spells in
-    h.joined ∙ ap (λ x. join_with_byte 32 (x ∷ h.turn ∷ h.castling ∷ h.passed ∷ [])) (placement_one_text p.board h.placement k.placement a.placement_is b.placement_is)
-    ∙ ap (λ x. join_with_byte 32 (k.placement ∷ x ∷ h.castling ∷ h.passed ∷ [])) (a.turn_is ∙ sym b.turn_is)
-    ∙ ap (λ x. join_with_byte 32 (k.placement ∷ k.turn ∷ x ∷ h.passed ∷ [])) (a.castling_is ∙ sym b.castling_is)
-    ∙ ap (λ x. join_with_byte 32 (k.placement ∷ k.turn ∷ k.castling ∷ x ∷ [])) (a.passed_is ∙ sym b.passed_is)
-    ∙ sym k.joined
+one_setup_text p t u h k = h.joined ∙ ap (join_with_byte 32) (one_list_of_fields p h.four k.four h.fields k.fields) ∙ sym k.joined
+
+pub one_setup : (p q : Position) (four : List (List ℕ)) → IsSetup p → IsSetup q → AreFields p four → AreFields q four → p ≡ q
+one_setup p q four lp lq h k =
+    let cells = sym h.are ∙ k.are in
+    let cell = λ (i : ℕ). ap (λ (w : List (List ℕ)). get_or w i []) cells in
+    let boards : p.board ≡ q.board = placement_one_board p.board q.board h.placement lp.places lq.places h.placement_is (subst (PlacementText q.board) (sym (cell 0)) k.placement_is) in
+    let turns : p.turn ≡ q.turn = turn_injective p.turn q.turn (cell 1) in
+    let rights : p.rights ≡ q.rights = castling_injective p.rights q.rights (cell 2) in
+    let eps : p.ep ≡ q.ep = passed_injective p.turn p.ep q.ep (on_rank p.board p.turn p.ep lp.en_passant) (subst (λ x. IfSome q.ep (λ y. OnPassedRank x y)) (sym turns) (on_rank q.board q.turn q.ep lq.en_passant)) (cell 3) in
+    ap (λ x. position_of x p.turn p.rights p.ep) boards ∙ ap (λ x. position_of q.board x p.rights p.ep) turns ∙ ap (λ x. position_of q.board q.turn x p.ep) rights ∙ ap (λ x. position_of q.board q.turn q.rights x) eps
 
 pub one_record : (f g : Record) (t : List ℕ) → IsRecord f → IsRecord g → FenText f t → FenText g t → f ≡ g
 one_record f g t lf lg h k =
-    let a = h.setup_is in
-    let b = k.setup_is in
-    let cells : h.placement ∷ h.turn ∷ h.castling ∷ h.passed ∷ number_text f.half ∷ number_text f.full ∷ [] ≡ k.placement ∷ k.turn ∷ k.castling ∷ k.passed ∷ number_text g.half ∷ number_text g.full ∷ [] = sym (fields_of_text f t lf h) ∙ fields_of_text g t lg k in
+    let cells = sym (fields_of_text f t lf h) ∙ fields_of_text g t lg k in
     let cell = λ (i : ℕ). ap (λ (w : List (List ℕ)). get_or w i []) cells in
-    let boards : f.setup.board ≡ g.setup.board = placement_one_board f.setup.board g.setup.board h.placement lf.setup.places lg.setup.places a.placement_is (subst (PlacementText g.setup.board) (sym (cell 0)) b.placement_is) in
-    let turns : f.setup.turn ≡ g.setup.turn = turn_injective f.setup.turn g.setup.turn (sym a.turn_is ∙ cell 1 ∙ b.turn_is) in
-    let rights : f.setup.rights ≡ g.setup.rights = castling_injective f.setup.rights g.setup.rights (sym a.castling_is ∙ cell 2 ∙ b.castling_is) in
-    let eps : f.setup.ep ≡ g.setup.ep = passed_injective f.setup.turn f.setup.ep g.setup.ep (on_rank f.setup.board f.setup.turn f.setup.ep lf.setup.en_passant) (subst (λ x. IfSome g.setup.ep (λ q. OnPassedRank x q)) (sym turns) (on_rank g.setup.board g.setup.turn g.setup.ep lg.setup.en_passant)) (sym a.passed_is ∙ cell 3 ∙ b.passed_is) in
+    let fields : AreFields g.setup h.four = record { placement = k.fields.placement; placement_is = k.fields.placement_is; are = h.fields.are ∙ ap (take 4) cells } in
+    let setups : f.setup ≡ g.setup = one_setup f.setup g.setup h.four lf.setup lg.setup h.fields fields in
     let halves : f.half ≡ g.half = decimal_injective f.half g.half (omega (arith, lf.half)) (omega (arith, lg.half)) (cell 4) in
     let fulls : f.full ≡ g.full = decimal_injective f.full g.full (omega (arith, lf.full)) (omega (arith, lg.full)) (cell 5) in
-    ap (λ x. record_of (position_of x f.setup.turn f.setup.rights f.setup.ep) f.half f.full) boards
-    ∙ ap (λ x. record_of (position_of g.setup.board x f.setup.rights f.setup.ep) f.half f.full) turns
-    ∙ ap (λ x. record_of (position_of g.setup.board g.setup.turn x f.setup.ep) f.half f.full) rights
-    ∙ ap (λ x. record_of (position_of g.setup.board g.setup.turn g.setup.rights x) f.half f.full) eps
-    ∙ ap (λ x. record_of g.setup x f.full) halves
-    ∙ ap (λ x. record_of g.setup g.half x) fulls
-
-pub one_setup : (p q : Position) (four : List (List ℕ)) → IsSetup p → IsSetup q → SetupTexts p four → SetupTexts q four → p ≡ q
-one_setup p q four lp lq h k =
-    let a = h.spells in
-    let b = k.spells in
-    let cells = sym h.are ∙ k.are in
-    let cell = λ (i : ℕ). ap (λ (w : List (List ℕ)). get_or w i []) cells in
-    let boards : p.board ≡ q.board = placement_one_board p.board q.board h.placement lp.places lq.places a.placement_is (subst (PlacementText q.board) (sym (cell 0)) b.placement_is) in
-    let turns : p.turn ≡ q.turn = turn_injective p.turn q.turn (sym a.turn_is ∙ cell 1 ∙ b.turn_is) in
-    let rights : p.rights ≡ q.rights = castling_injective p.rights q.rights (sym a.castling_is ∙ cell 2 ∙ b.castling_is) in
-    let eps : p.ep ≡ q.ep = passed_injective p.turn p.ep q.ep (on_rank p.board p.turn p.ep lp.en_passant) (subst (λ x. IfSome q.ep (λ y. OnPassedRank x y)) (sym turns) (on_rank q.board q.turn q.ep lq.en_passant)) (sym a.passed_is ∙ cell 3 ∙ b.passed_is) in
-    ap (λ x. position_of x p.turn p.rights p.ep) boards ∙ ap (λ x. position_of q.board x p.rights p.ep) turns ∙ ap (λ x. position_of q.board q.turn x p.ep) rights ∙ ap (λ x. position_of q.board q.turn q.rights x) eps
+    ap (λ x. record_of x f.half f.full) setups ∙ ap (λ x. record_of g.setup x f.full) halves ∙ ap (λ x. record_of g.setup g.half x) fulls

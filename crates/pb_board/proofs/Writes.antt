@@ -124,17 +124,10 @@ turn_short Black = refl
 
 pub setup_written : (p : Position) (start s1 s2 s3 s4 s5 s6 s7 : List ℕ) (b : List Place) (t : Colour) (r : Rights) (e : Option ℕ) → b ≡ p.board → t ≡ p.turn → r ≡ p.rights → e ≡ p.ep → AppendsPlacement start s1 b → s2 ≡ s1 ++ 32 ∷ [] → s3 ≡ s2 ++ turn_text t → s4 ≡ s3 ++ 32 ∷ [] → s5 ≡ s4 ++ castling_text r → s6 ≡ s5 ++ 32 ∷ [] → s7 ≡ s6 ++ passed_text e → length (castling_text r) ≤ 4 → length (passed_text e) ≤ 2 → AppendsSetup start s7 p
 setup_written p start s1 s2 s3 s4 s5 s6 s7 b t r e b-is t-is r-is e-is h h2 h3 h4 h5 h6 h7 four two = record {
-  placement = h.text;
-  turn = turn_text t;
-  castling = castling_text r;
-  passed = passed_text e;
-  spells = record {
-    placement_is = subst (λ w. PlacementText w h.text) b-is h.spells;
-    turn_is = ap turn_text t-is;
-    castling_is = ap castling_text r-is;
-    passed_is = ap passed_text e-is;
-  };
-  short = omega (arith, length-four h.text (turn_text t) (castling_text r) (passed_text e), h.short, turn_short t, four, two);
+  text = join_with_byte 32 (h.text ∷ turn_text p.turn ∷ castling_text p.rights ∷ passed_text p.ep ∷ []);
+  spells = record { four = _; fields = record { placement = h.text; placement_is = subst (λ w. PlacementText w h.text) b-is h.spells; are = refl }; joined = refl };
+  short =
+      omega (arith, length-four h.text (turn_text p.turn) (castling_text p.rights) (passed_text p.ep), h.short, turn_short p.turn, rw r-is at four, rw e-is at two);
   appended =
-      rw (h7, h6, h5, h4, h3, h2, h.appended) (join_four start h.text (turn_text t) (castling_text r) (passed_text e));
+      rw (h7, h6, h5, h4, h3, h2, h.appended, t-is, r-is, e-is) (join_four start h.text (turn_text p.turn) (castling_text p.rights) (passed_text p.ep));
 }

@@ -1,10 +1,9 @@
 -- What the writers of the parts of a record put at the end of a text.
-use Rattle.std.specs.Prelude.{◌≡◌, ℕ, ◌≤◌, List, [], ◌∷◌, ◌++◌, length}
-use Rattle.std.specs.List.{join_with_byte}
+use Rattle.std.specs.Prelude.{◌≡◌, ℕ, ◌≤◌, List, ◌++◌, length}
 use Rattle.pb_board.specs.Board.{Place}
 use Rattle.pb_board.specs.Position.{Position}
 use Rattle.pb_board.specs.Text.{RankText, PlacementText}
-use Rattle.pb_board.specs.Fen.{SetupText}
+use Rattle.pb_board.specs.Fen.{FourFields}
 
 -- new is old and the text of a rank
 pub record AppendsRank (old new : List ℕ) (squares : List Place) : Type 0 where
@@ -22,10 +21,7 @@ pub record AppendsPlacement (old new : List ℕ) (board : List Place) : Type 0 w
 
 -- new is old and the first four fields, joined by single spaces
 pub record AppendsSetup (old new : List ℕ) (p : Position) : Type 0 where
-  pub placement : List ℕ
-  pub turn : List ℕ
-  pub castling : List ℕ
-  pub passed : List ℕ
-  pub spells : SetupText p placement turn castling passed
-  pub short : length (join_with_byte 32 (placement ∷ turn ∷ castling ∷ passed ∷ [])) ≤ 81
-  pub appended : new ≡ old ++ join_with_byte 32 (placement ∷ turn ∷ castling ∷ passed ∷ [])
+  pub text : List ℕ
+  pub spells : FourFields p text
+  pub short : length text ≤ 81
+  pub appended : new ≡ old ++ text

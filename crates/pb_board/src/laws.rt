@@ -2,7 +2,7 @@
 
 ghost use Rattle.std.specs.Prelude.{◌≡◌, ℕ, List};
 ghost use Rattle.pb_board.specs.Position.{Position, Record, IsSetup, IsRecord};
-ghost use Rattle.pb_board.specs.Fen.{FenText, FourFields, SetupTexts};
+ghost use Rattle.pb_board.specs.Fen.{AreFields, FourFields, FenText};
 ghost use Rattle.pb_board.specs.Refusal.{IsFirstDue, OfRecord, fields};
 ghost use Rattle.pb_board.specs.declared.refusal.FenError.{FenError};
 
@@ -23,7 +23,7 @@ pub fn one_record()
 
 /// No four texts have two setups.
 pub fn one_setup()
-    ensures { (p q : Position) (four : List (List ℕ)) → IsSetup p → IsSetup q → SetupTexts p four → SetupTexts q four → p ≡ q }
+    ensures { (p q : Position) (four : List (List ℕ)) → IsSetup p → IsSetup q → AreFields p four → AreFields q four → p ≡ q }
 {}
 
 /// No refusal is due for a text of a record.

@@ -2,7 +2,7 @@
 
 ghost use Rattle.std.specs.Prelude.{◌≡◌, ◌<◌, ◌∷◌, [], map, Ok, IfOk, IfErr, MatchResult};
 ghost use Rattle.pb_board.specs.Position.{Position, Record, IsSetup, position_of};
-ghost use Rattle.pb_board.specs.Fen.{FenText, SetupTexts};
+ghost use Rattle.pb_board.specs.Fen.{AreFields, FenText};
 ghost use Rattle.pb_board.specs.Position.{IsRecord};
 ghost use Rattle.pb_board.specs.Refusal.{order, IsFirstDue, OfRecord, OfSetup, AreParts, IsRefusedAs, fields, refusal_of};
 
@@ -85,9 +85,9 @@ fn refusal_of(error: SetupError) -> FenError
 /// The setup that the first four fields of a record spell.
 pub fn read_setup(four: [&[u8]; 4]) -> Result<Setup, FenError>
     // What is read is a setup, and the texts spell it.
-    ensures found { IfOk result (λ s. IsSetup s × SetupTexts s (map (λ t. t.now) four.entry)) }
+    ensures found { IfOk result (λ s. IsSetup s × AreFields s (map (λ t. t.now) four.entry)) }
     // The texts of a setup are read.
-    ensures only { (p : Position) → IsSetup p → SetupTexts p (map (λ t. t.now) four.entry) → result ≡ Ok p }
+    ensures only { (p : Position) → IsSetup p → AreFields p (map (λ t. t.now) four.entry) → result ≡ Ok p }
     // A refusal is the first whose condition holds.
     ensures refused { IfErr result (λ e. IsFirstDue OfSetup e (map (λ t. t.now) four.entry)) }
 {
@@ -96,7 +96,7 @@ pub fn read_setup(four: [&[u8]; 4]) -> Result<Setup, FenError>
 
 /// The setup that the four texts spell, or the first refusal that is due.
 fn judge_setup(four: &[&[u8]; 4]) -> Result<Setup, FenError>
-    ensures found { IfOk result (λ s. IsSetup s × SetupTexts s (map (λ t. t.now) four.now)) }
+    ensures found { IfOk result (λ s. IsSetup s × AreFields s (map (λ t. t.now) four.now)) }
     ensures refused { IfErr result (λ e. IsFirstDue OfSetup e (map (λ t. t.now) four.now)) }
 {
     let parts = read_parts(four[0], four[1], four[2], four[3])?;

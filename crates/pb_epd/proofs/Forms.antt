@@ -1,11 +1,12 @@
 -- Forms of a record: each is a text of it, and no text has two records.
-use Rattle.std.proofs.Common.{◌≡◌, ◌≢◌, ℕ, List, [], ◌∷◌, ◌++◌, Result, Ok, Err, refl, sym, ap, subst, ◌∙◌, inl, inr, arith}
+use Rattle.std.proofs.Common.{◌≡◌, ◌≢◌, ℕ, List, [], ◌∷◌, ◌++◌, length, Result, Ok, Err, refl, sym, ap, subst, ◌∙◌, inl, inr, arith}
 use Rattle.std.specs.Prelude.{All, Contains, IfOk, IfErr, MatchResult, map, flat_map}
-use Rattle.std.specs.List.{slice_split}
+use Rattle.std.specs.List.{slice_split, join_with_byte}
 use Rattle.std.proofs.lemmas.List.{append_assoc, append-nil, same_from_push}
 use Rattle.std.proofs.lemmas.List.Elements.{All-head, All-tail, All-cons, All-weaker}
 use Rattle.pb_board.specs.Position.{Position}
-use Rattle.pb_board.specs.Fen.{SetupTexts}
+use Rattle.pb_board.specs.Text.{turn_text, castling_text, passed_text}
+use Rattle.pb_board.specs.Fen.{AreFields}
 use Rattle.pb_board.proofs.Unique.{one_setup, one_setup_text}
 use Rattle.pb_board.proofs.FieldWords.{IsPlainByte, IsWord, setup_words}
 use Rattle.pb_epd.specs.declared.operand.Operand.{Operand}
@@ -20,7 +21,7 @@ use Rattle.pb_epd.proofs.Lists.{map_injective}
 use Rattle.pb_epd.proofs.TokenLists.{tokens_one}
 use Rattle.pb_epd.proofs.Groups.{group_of, operations_cut}
 use Rattle.pb_epd.proofs.Order.{distinct_in_order, same_in_order}
-use Rattle.pb_epd.proofs.Texts.{four_are, setup_texts, text_not_due}
+use Rattle.pb_epd.proofs.Texts.{four_are, text_tokens, text_not_due}
 use Rattle.pb_epd.proofs.Writing.{spaced, operation_put}
 
 -- ---- no text has two records
@@ -46,12 +47,9 @@ operations_one os ps e =
 
 pub record_is_one : (e f : EpdRecord) (bytes : List ℕ) → IsEpd e → IsEpd f → EpdText e bytes → EpdText f bytes → e ≡ f
 record_is_one e f bytes he hf h k =
-    let tokens = tokens_one end_mark
-    (word k.placement ∷ word k.turn ∷ word k.castling ∷ word k.passed ∷ flat_map operation_tokens k.operations)
-    (word h.placement ∷ word h.turn ∷ word h.castling ∷ word h.passed ∷ flat_map operation_tokens h.operations) bytes k.tokens h.tokens in
-    let four = four_are h.placement h.turn h.castling h.passed (flat_map operation_tokens h.operations) (k.placement ∷ k.turn ∷ k.castling ∷ k.passed ∷ []) (flat_map operation_tokens k.operations) refl tokens in
-    let spells = subst (λ w. SetupTexts f.setup w) four.0 (setup_texts f.setup k.placement k.turn k.castling k.passed k.spells) in
-    let setups = one_setup e.setup f.setup (h.placement ∷ h.turn ∷ h.castling ∷ h.passed ∷ []) he.setup hf.setup (setup_texts e.setup h.placement h.turn h.castling h.passed h.spells) spells in
+    let tokens = tokens_one end_mark (map word k.four ++ flat_map operation_tokens k.operations) _ bytes k.tokens (text_tokens e bytes h) in
+    let four = four_are _ _ _ _ (flat_map operation_tokens h.operations) k.four (flat_map operation_tokens k.operations) (ap length k.fields.are) tokens in
+    let setups = one_setup e.setup f.setup h.four he.setup hf.setup h.fields (subst (AreFields f.setup) (four.0 ∙ sym h.fields.are) k.fields) in
     let same = operations_one k.operations h.operations four.1 in
     let operations = same_in_order e.operations f.operations he.ordered hf.ordered (λ o. (
       λ m. (k.same o).0 (subst (λ w. Contains w o) (sym same) ((h.same o).1 m)),
@@ -136,28 +134,31 @@ word_token bytes h = (h.0, h.1, All-weaker IsPlainByte IsWordByte plain_word byt
 
 pub form_is_text : (e : EpdRecord) (bytes : List ℕ) → IsEpd e → EpdForm e bytes → EpdText e bytes
 form_is_text e bytes lawful form =
+    let p = e.setup in
     let s = form.spells in
-    let words = setup_words e.setup (s.placement ∷ s.turn ∷ s.castling ∷ s.passed ∷ []) lawful.setup (setup_texts e.setup s.placement s.turn s.castling s.passed s.spells) in
-    let after1 = All-tail IsWord s.placement (s.turn ∷ s.castling ∷ s.passed ∷ []) words in
-    let after2 = All-tail IsWord s.turn (s.castling ∷ s.passed ∷ []) after1 in
-    let after3 = All-tail IsWord s.castling (s.passed ∷ []) after2 in
+    let placement = s.fields.placement in
+    let turn = turn_text p.turn in
+    let castling = castling_text p.rights in
+    let passed = passed_text p.ep in
+    let fields : AreFields p (placement ∷ turn ∷ castling ∷ passed ∷ []) = record { placement = placement; placement_is = s.fields.placement_is; are = refl } in
+    let words = setup_words p (placement ∷ turn ∷ castling ∷ passed ∷ []) lawful.setup fields in
+    let after1 = All-tail IsWord placement (turn ∷ castling ∷ passed ∷ []) words in
+    let after2 = All-tail IsWord turn (castling ∷ passed ∷ []) after1 in
+    let after3 = All-tail IsWord castling (passed ∷ []) after2 in
     let ops = flat_map operation_tokens e.operations in
     let rest = flat_map (λ o. 32 ∷ operation_text o) e.operations in
-    let four = spaced_token (word s.castling) (word s.passed) ops rest (word_token s.passed (All-head IsWord s.passed [] after3)) (operations_stand (word s.passed) e.operations lawful.lawful) in
-    let three = spaced_token (word s.turn) (word s.castling) (word s.passed ∷ ops) (32 ∷ (s.passed ++ rest)) (word_token s.castling (All-head IsWord s.castling (s.passed ∷ []) after2)) four in
-    let two = spaced_token (word s.placement) (word s.turn) (word s.castling ∷ word s.passed ∷ ops) (32 ∷ (s.castling ++ 32 ∷ (s.passed ++ rest))) (word_token s.turn (All-head IsWord s.turn (s.castling ∷ s.passed ∷ []) after1)) three in
-    let whole : bytes ≡ s.placement ++ 32 ∷ (s.turn ++ 32 ∷ (s.castling ++ 32 ∷ (s.passed ++ rest))) = form.is ∙ ap (λ w. w ++ rest) s.joined ∙ simp append_assoc in
+    let four = spaced_token (word castling) (word passed) ops rest (word_token passed (All-head IsWord passed [] after3)) (operations_stand (word passed) e.operations lawful.lawful) in
+    let three = spaced_token (word turn) (word castling) (word passed ∷ ops) (32 ∷ (passed ++ rest)) (word_token castling (All-head IsWord castling (passed ∷ []) after2)) four in
+    let two = spaced_token (word placement) (word turn) (word castling ∷ word passed ∷ ops) (32 ∷ (castling ++ 32 ∷ (passed ++ rest))) (word_token turn (All-head IsWord turn (castling ∷ passed ∷ []) after1)) three in
+    let whole : bytes ≡ placement ++ 32 ∷ (turn ++ 32 ∷ (castling ++ 32 ∷ (passed ++ rest))) = form.is ∙ ap (λ w. w ++ rest) (s.joined ∙ ap (join_with_byte 32) s.fields.are) ∙ simp append_assoc in
     record {
-      placement = s.placement;
-      turn = s.turn;
-      castling = s.castling;
-      passed = s.passed;
-      spells = s.spells;
+      four = placement ∷ turn ∷ castling ∷ passed ∷ [];
+      fields = fields;
       operations = e.operations;
       lawful = lawful.lawful;
       distinct = distinct_in_order e.operations lawful.ordered;
       same = λ o. (λ k. k, λ k. k);
-      tokens = (0, 32 ∷ (s.turn ++ 32 ∷ (s.castling ++ 32 ∷ (s.passed ++ rest))), word_token s.placement (All-head IsWord s.placement (s.turn ∷ s.castling ∷ s.passed ∷ []) words), λ no. absurd no, whole, two);
+      tokens = (0, 32 ∷ (turn ++ 32 ∷ (castling ++ 32 ∷ (passed ++ rest))), word_token placement (All-head IsWord placement (turn ∷ castling ∷ passed ∷ []) words), λ no. absurd no, whole, two);
     }
 
 pub form_is_one : (e : EpdRecord) (b c : List ℕ) → EpdForm e b → EpdForm e c → b ≡ c

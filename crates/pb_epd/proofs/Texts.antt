@@ -1,10 +1,11 @@
 -- The texts of a record, and the one refusal that is due first.
-use Rattle.std.proofs.Common.{◌≡◌, ◌≢◌, ℕ, ◌<◌, List, [], ◌∷◌, ◌++◌, length, get_or, Result, Ok, Err, refl, sym, ap, subst, ◌∙◌, arith}
+use Rattle.std.proofs.Common.{◌≡◌, ◌≢◌, ℕ, ◌<◌, List, [], ◌∷◌, ◌++◌, length, Result, Ok, Err, refl, sym, ap, subst, ◌∙◌, arith}
 use Rattle.std.specs.Prelude.{All, IfOk, IfErr, map, flat_map}
 use Rattle.std.specs.List.{slice_split}
 use Rattle.std.proofs.lemmas.List.{append-nil, same_from_push}
 use Rattle.pb_board.specs.Position.{Position, IsSetup}
-use Rattle.pb_board.specs.Fen.{SetupText, SetupTexts}
+use Rattle.pb_board.specs.Text.{turn_text, castling_text, passed_text}
+use Rattle.pb_board.specs.Fen.{AreFields}
 use Rattle.pb_board.specs.Refusal.{IsFirstDue, OfSetup}
 use Rattle.pb_board.specs.declared.refusal.FenError.{FenError}
 use Rattle.pb_board.proofs.Fens.{setup_never_due}
@@ -19,17 +20,6 @@ use Rattle.pb_epd.proofs.Lists.{all_middle}
 use Rattle.pb_epd.proofs.TokenLists.{tokens_one}
 use Rattle.pb_epd.proofs.Bad.{bad_none}
 use Rattle.pb_epd.proofs.Groups.{group_of, operations_cut, all_named, none_repeats, last_group}
-
-pub setup_text : (p : Position) (a b c d : List ℕ) → SetupTexts p (a ∷ b ∷ c ∷ d ∷ []) → SetupText p a b c d
-setup_text p a b c d h =
-    let cell = λ (i : ℕ). ap (λ (w : List (List ℕ)). get_or w i []) (sym h.are) in
-    let one = subst (λ w. SetupText p w h.turn h.castling h.passed) (cell 0) h.spells in
-    let two = subst (λ w. SetupText p a w h.castling h.passed) (cell 1) one in
-    let three = subst (λ w. SetupText p a b w h.passed) (cell 2) two in
-    subst (λ w. SetupText p a b c w) (cell 3) three
-
-pub setup_texts : (p : Position) (a b c d : List ℕ) → SetupText p a b c d → SetupTexts p (a ∷ b ∷ c ∷ d ∷ [])
-setup_texts p a b c d h = record { placement = a; turn = b; castling = c; passed = d; spells = h; are = refl }
 
 word_is : (a b : List ℕ) (ts us : List Token) → word a ∷ ts ≡ word b ∷ us → a ≡ b
 word_is a b ts us e = cc
@@ -81,7 +71,7 @@ module _ (bytes a b c d : List ℕ) (others : List Token) (tokens : Tokens (word
       let last = last_group others in
       (a ∷ b ∷ c ∷ d ∷ [], last.0, last.1, is_cut last.0 last.1 last.2, h)
 
-  pub setup_not_due : (p : Position) (e : FenError) → IsSetup p → SetupTexts p (a ∷ b ∷ c ∷ d ∷ []) → NotDue (epd.Setup e) bytes
+  pub setup_not_due : (p : Position) (e : FenError) → IsSetup p → AreFields p (a ∷ b ∷ c ∷ d ∷ []) → NotDue (epd.Setup e) bytes
   setup_not_due p e lawful spells due =
       let f = cut_is due.0 due.1 due.2 due.3 in
       setup_never_due p (a ∷ b ∷ c ∷ d ∷ []) e lawful spells (subst (IsFirstDue OfSetup e) f.0 due.4)
@@ -122,7 +112,7 @@ module _ (bytes a b c d : List ℕ) (others : List Token) (tokens : Tokens (word
   pub setup_first : (e : FenError) → IsFirstDue OfSetup e (a ∷ b ∷ c ∷ d ∷ []) → IsFirstDueEpd (epd.Setup e) bytes
   setup_first e h = record { due = setup_due e h; first = none_before_setup }
 
-  module _ (p : Position) (lawful : IsSetup p) (spells : SetupTexts p (a ∷ b ∷ c ∷ d ∷ [])) where
+  module _ (p : Position) (lawful : IsSetup p) (spells : AreFields p (a ∷ b ∷ c ∷ d ∷ [])) where
     none_before_opcode : (y : EpdError) → y ≢ epd.Memory → epd_order y < 5 → NotDue y bytes
     none_before_opcode (epd.Token at) other lt = token_not_due bytes (word a ∷ word b ∷ word c ∷ word d ∷ others) at tokens
     none_before_opcode epd.Fields other lt = fields_not_due
@@ -173,13 +163,10 @@ fields_first bytes ts tokens due = record { due = due; first = first }
 
 -- ---- a record that was read
 
-pub text_found : (e : EpdRecord) (bytes a b c d : List ℕ) (ts us : List Token) (p : Position) → Tokens ts bytes → ts ≡ word a ∷ word b ∷ word c ∷ word d ∷ us → SetupTexts p (a ∷ b ∷ c ∷ d ∷ []) → e.setup ≡ p → AreOperations us e.operations → EpdText e bytes
-text_found e bytes a b c d ts us p tokens is spells same h = record {
-  placement = a;
-  turn = b;
-  castling = c;
-  passed = d;
-  spells = setup_text e.setup a b c d (subst (λ q. SetupTexts q (a ∷ b ∷ c ∷ d ∷ [])) (sym same) spells);
+pub text_found : (e : EpdRecord) (bytes a b c d : List ℕ) (ts us : List Token) (p : Position) → Tokens ts bytes → ts ≡ word a ∷ word b ∷ word c ∷ word d ∷ us → AreFields p (a ∷ b ∷ c ∷ d ∷ []) → e.setup ≡ p → AreOperations us e.operations → EpdText e bytes
+text_found e bytes a b c d ts us p tokens is fields same h = record {
+  four = a ∷ b ∷ c ∷ d ∷ [];
+  fields = subst (λ q. AreFields q (a ∷ b ∷ c ∷ d ∷ [])) (sym same) fields;
   operations = h.operations;
   lawful = h.lawful;
   distinct = h.distinct;
@@ -188,6 +175,10 @@ text_found e bytes a b c d ts us p tokens is spells same h = record {
 }
 
 -- ---- the text of a record
+
+pub text_tokens : (e : EpdRecord) (bytes : List ℕ) → (h : EpdText e bytes)
+    → Tokens (word h.fields.placement ∷ word (turn_text e.setup.turn) ∷ word (castling_text e.setup.rights) ∷ word (passed_text e.setup.ep) ∷ flat_map operation_tokens h.operations) bytes
+text_tokens e bytes h = subst (λ four. Tokens (map word four ++ flat_map operation_tokens h.operations) bytes) h.fields.are h.tokens
 
 module _ (e : EpdRecord) (bytes : List ℕ) (lawful : IsEpd e) (h : EpdText e bytes) where
   text_named : AreNamed (flat_map operation_tokens h.operations) (map group_of h.operations) []
@@ -198,22 +189,17 @@ module _ (e : EpdRecord) (bytes : List ℕ) (lawful : IsEpd e) (h : EpdText e by
 
   no_repeat : (n : ℕ) → NotDue (epd.Repeated n) bytes
   no_repeat n due =
-      let f = cut_is bytes h.placement h.turn h.castling h.passed (flat_map operation_tokens h.operations) h.tokens due.0 (due.1 ++ due.2 ∷ due.3) due.4 due.5 in
+      let f = cut_is bytes _ _ _ _ _ (text_tokens e bytes h) due.0 (due.1 ++ due.2 ∷ due.3) due.4 due.5 in
       let same = same_from_push (map group_of h.operations) (due.1 ++ due.2 ∷ due.3) [] due.4 (sym text_named.cut ∙ f.1) in
       none_repeats h.operations h.distinct due.1 due.3 due.2 same.0 due.8
 
-  text_spells : SetupTexts e.setup (h.placement ∷ h.turn ∷ h.castling ∷ h.passed ∷ [])
-  text_spells = setup_texts e.setup h.placement h.turn h.castling h.passed h.spells
-
   -- no refusal but want of memory is due
   pub text_not_due : (x : EpdError) → x ≢ epd.Memory → NotDue x bytes
-  text_not_due (epd.Token at) other = token_not_due bytes (word h.placement ∷ word h.turn ∷ word h.castling ∷ word h.passed ∷ flat_map operation_tokens h.operations) at h.tokens
-  text_not_due epd.Fields other = fields_not_due bytes h.placement h.turn h.castling h.passed (flat_map operation_tokens h.operations) h.tokens
-  text_not_due (epd.Setup f) other =
-      setup_not_due bytes h.placement h.turn h.castling h.passed (flat_map operation_tokens h.operations) h.tokens e.setup f lawful.setup text_spells
-  text_not_due (epd.Opcode n) other =
-      opcode_not_due bytes h.placement h.turn h.castling h.passed (flat_map operation_tokens h.operations) h.tokens n (map group_of h.operations) [] text_named
-  text_not_due epd.Unended other = unended_not_due bytes h.placement h.turn h.castling h.passed (flat_map operation_tokens h.operations) h.tokens (map group_of h.operations) text_named
+  text_not_due (epd.Token at) other = token_not_due bytes _ at h.tokens
+  text_not_due epd.Fields other = fields_not_due bytes _ _ _ _ _ (text_tokens e bytes h)
+  text_not_due (epd.Setup f) other = setup_not_due bytes _ _ _ _ _ (text_tokens e bytes h) e.setup f lawful.setup (subst (AreFields e.setup) h.fields.are h.fields)
+  text_not_due (epd.Opcode n) other = opcode_not_due bytes _ _ _ _ _ (text_tokens e bytes h) n (map group_of h.operations) [] text_named
+  text_not_due epd.Unended other = unended_not_due bytes _ _ _ _ _ (text_tokens e bytes h) (map group_of h.operations) text_named
   text_not_due (epd.Repeated n) other = no_repeat n
   text_not_due epd.Memory other = absurd (other refl)
 
@@ -225,7 +211,7 @@ module _ (bytes a b c d rest : List ℕ) (next : (ts : List Token) → Tokens ts
       let f = next ts tokens in
       setup_first bytes a b c d f.others (subst (λ w. Tokens w bytes) f.is tokens) e h
 
-  module _ (p : Position) (lawful : IsSetup p) (spells : SetupTexts p (a ∷ b ∷ c ∷ d ∷ [])) where
+  module _ (p : Position) (lawful : IsSetup p) (spells : AreFields p (a ∷ b ∷ c ∷ d ∷ [])) where
     pub found_all : (HasTokens (word d) rest → HasTokens end_mark bytes) → (r : Result EpdRecord EpdError) → IfOk r (λ e. (e.setup ≡ p) × IsEpd e × HasTokens (word d) rest × ((vs : List Token) → TokensAfter (word d) vs rest → AreOperations vs e.operations)) → IfOk r (λ e. IsEpd e × EpdText e bytes)
     found_all back (Ok e) h =
         let whole = back h.2 in

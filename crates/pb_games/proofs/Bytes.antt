@@ -13,7 +13,7 @@ use Rattle.pb_board.specs.Text.{turn_text, castling_text, flag_letters, letter_i
 use Rattle.pb_board.proofs.FieldBytes.{AreFieldBytes, above_space, ranks_length, placement_bytes, turn_bytes, castling_bytes, passed_bytes, number_bytes}
 use Rattle.pb_board.proofs.Joins.{Above, AllAbove}
 use Rattle.pb_board.proofs.Numbers.{clock_numeral}
-use Rattle.pb_board.proofs.Unique.{on_rank}
+use Rattle.pb_board.proofs.Unique.{on_rank, joined_fields}
 use Rattle.pb_moves.specs.Moved.{Moved}
 use Rattle.pb_moves.specs.Spelling.{spelling, promotion_text}
 use Rattle.pb_games.specs.declared.outcome.Outcome.{Outcome}
@@ -62,20 +62,13 @@ field_above text h = Above-weaker 31 32 text (omega arith) (above_space text h)
 
 pub fen_above : (f : Record) (text : List ℕ) → IsRecord f → FenText f text → Above 31 text
 fen_above f text lawful h =
-    let s = h.setup_is in
-    let passed = passed_bytes f.setup.turn f.setup.ep (on_rank f.setup.board f.setup.turn f.setup.ep lawful.setup.en_passant) in
-    subst (Above 31) (sym h.joined) (join_above 31 32 (h.placement ∷ h.turn ∷ h.castling ∷ h.passed ∷ number_text f.half ∷ number_text f.full ∷ []) (lit< tt) (
-      field_above h.placement (placement_bytes f.setup.board h.placement s.placement_is),
-      (
-        subst (Above 31) (sym s.turn_is) (field_above _ (turn_bytes f.setup.turn)),
-        (
-          subst (Above 31) (sym s.castling_is) (field_above _ (castling_bytes f.setup.rights)),
-          (
-            subst (Above 31) (sym s.passed_is) (field_above _ passed),
-            (field_above _ (number_bytes f.half lawful.half), (field_above _ (number_bytes f.full lawful.full), tt)),
-          ),
-        ),
-      ),
+    let p = f.setup in
+    let passed = passed_bytes p.turn p.ep (on_rank p.board p.turn p.ep lawful.setup.en_passant) in
+    let half = field_above _ (number_bytes f.half lawful.half) in
+    let full = field_above _ (number_bytes f.full lawful.full) in
+    subst (Above 31) (sym (joined_fields f text h)) (join_above 31 32 (h.fields.placement ∷ turn_text p.turn ∷ castling_text p.rights ∷ passed_text p.ep ∷ number_text f.half ∷ number_text f.full ∷ []) (lit< tt) (
+      field_above h.fields.placement (placement_bytes p.board h.fields.placement h.fields.placement_is),
+      (field_above _ (turn_bytes p.turn), (field_above _ (castling_bytes p.rights), (field_above _ passed, (half, (full, tt))))),
     ))
 
 letter_short : (flag : Bool) (c : ℕ) → length (letter_if flag c) ≤ 1
@@ -124,12 +117,12 @@ six_short p t c e a b hp ht hc he ha hb =
 -- a rough bound: none has more than 93
 pub fen_short : (f : Record) (text : List ℕ) → IsRecord f → FenText f text → length text ≤ 94
 fen_short f text lawful h =
-    let s = h.setup_is in
-    let board = (ranks_length 8 f.setup.board s.placement_is.0 s.placement_is.1).1 in
-    let whole = six_short h.placement h.turn h.castling h.passed (number_text f.half) (number_text f.full) (omega (arith, board, ap length s.placement_is.2))
-    (omega (arith, turn_short f.setup.turn, ap length s.turn_is)) (omega (arith, castling_short f.setup.rights, ap length s.castling_is)) (omega (arith, passed_short f.setup.ep, ap length s.passed_is))
-    (clock_numeral f.half lawful.half).short (clock_numeral f.full lawful.full).short in
-    omega (arith, whole, ap length h.joined)
+    let p = f.setup in
+    let board = h.fields.placement_is in
+    let ranks = (ranks_length 8 p.board board.0 board.1).1 in
+    let whole = six_short h.fields.placement (turn_text p.turn) (castling_text p.rights) (passed_text p.ep) (number_text f.half) (number_text f.full) (omega (arith, ranks, ap length board.2))
+    (turn_short p.turn) (castling_short p.rights) (passed_short p.ep) (clock_numeral f.half lawful.half).short (clock_numeral f.full lawful.full).short in
+    omega (arith, whole, ap length (joined_fields f text h))
 
 -- ---- the moves
 
