@@ -3,8 +3,8 @@ use Rattle.std.proofs.Common.{◌≡◌, ℕ, Bool, List, Option, Some, None, Re
 use Rattle.pb_io.specs.Source.{SourceState}
 use Rattle.pb_io.specs.Sink.{SinkState}
 use Rattle.pb_poly.specs.declared.entry.Entry.{Entry}
-use Rattle.pb_ledger.specs.Counting.{IsBook}
-use Rattle.pb_ledger.specs.Ledger.{LedgerState}
+use Rattle.pb_accepted.specs.Counting.{IsBook}
+use Rattle.pb_accepted.specs.Ledger.{LedgerState}
 use Rattle.pb_commands.specs.Judged.{PutsOrEnds, PutsText}
 use Rattle.pb_commands.specs.ShowsRefusal.{RefusesForTable}
 use Rattle.pb_poly.specs.TableReading.{FindsNoTable}

@@ -5,9 +5,9 @@ use Rattle.pb_io.specs.Lines.{lines}
 use Rattle.pb_poly.specs.declared.entry.Entry.{Entry}
 use Rattle.pb_games.specs.Submissions.{Submission}
 use Rattle.pb_games.specs.declared.refusal.Refusal.{Refusal}
-use Rattle.pb_ledger.specs.Accepting.{Accepted, Allowed, Answer, OneGame, Run, Takes}
-use Rattle.pb_ledger.specs.Holding.{most_games}
-use Rattle.pb_ledger.specs.Laws.{RepeatsAreAnsweredAlike, SameMembers}
+use Rattle.pb_accepted.specs.Accepting.{Accepted, Allowed, Answer, OneGame, Run, Takes}
+use Rattle.pb_accepted.specs.Holding.{most_games}
+use Rattle.pb_accepted.specs.Laws.{RepeatsAreAnsweredAlike, SameMembers}
 use Rattle.pb_accepted.proofs.BookLaws.{same_book}
 use Rattle.pb_accepted.proofs.Distinct.{accepts_the_taken, lawful_arrives, no_conflict, no_repeats}
 use Rattle.pb_accepted.proofs.Numbers.{repeats_keep}
@@ -15,7 +15,7 @@ use Rattle.pb_accepted.proofs.Replies.{Takes-refusal, Takes-unique}
 use Rattle.pb_accepted.proofs.Runs.{accepted_of}
 use Rattle.pb_collecting.specs.Headline.{Headline}
 use Rattle.pb_collecting.specs.Laws.{OneEffect, RefusalsLeaveTheGames}
-use Rattle.pb_collecting.proofs.Headlines.{members_from, members_to}
+use Rattle.pb_collecting.proofs.Headlines.{contained, number_from, number_to, numbered}
 use Rattle.pb_collecting.proofs.OneTexts.{has_one_text}
 
 -- ---- refused lines
@@ -42,18 +42,18 @@ refusals_leave cap L R run i e A B told h k =
 
 -- ---- what is so of every run, and where no id names two games
 
-module _ (file bytes : List ℕ) (sink sink' : SinkState) (entries : List Entry) (h : Headline file bytes sink sink' entries) where
+module _ (file bytes : List ℕ) (sink sink' : SinkState) (entries : List Entry) (h : Headline file bytes sink sink' entries) (run : Run most_games [] (lines bytes) h.answers) where
   pub repeats_alike : RepeatsAreAnsweredAlike (lines bytes) h.answers
-  repeats_alike = repeats_keep most_games (lines bytes) h.answers h.run
+  repeats_alike = repeats_keep most_games (lines bytes) h.answers run
 
   pub games_at_refusals : RefusalsLeaveTheGames (lines bytes) h.answers
-  games_at_refusals = refusals_leave most_games (lines bytes) h.answers h.run
+  games_at_refusals = refusals_leave most_games (lines bytes) h.answers run
 
   -- what a run leaves are its games
   same_games : (held : List Submission) → Accepted [] (lines bytes) h.answers held → SameMembers h.games held
   same_games held accepted s = (
-    (λ here. members_from (lines bytes) h.answers held h.run accepted s ((h.are s).0 here)),
-    (λ here. (h.are s).1 (members_to (lines bytes) h.answers held h.run accepted s here)),
+    (λ here. let m = numbered h.games s here in contained held m.0 s (number_from (lines bytes) h.answers held run accepted m.0 s ((h.are m.0 s).0 m.1))),
+    (λ here. let m = numbered held s here in contained h.games m.0 s ((h.are m.0 s).1 (number_to (lines bytes) h.answers held run accepted m.0 s m.1))),
   )
 
   effect : OneGame (lines bytes) → (held : List Submission) → Accepted [] (lines bytes) h.answers held → OneEffect bytes h.words h.answers h.games entries
@@ -68,9 +68,9 @@ module _ (file bytes : List ℕ) (sink sink' : SinkState) (entries : List Entry)
         same = same;
         book = book;
         text = has_one_text (record { words = h.words }) held entries h.text.is_file.ordered h.text.is_file.are.bounds book;
-        arrivals = lawful_arrives most_games (lines bytes) h.answers one h.run;
-        no_conflict = no_conflict most_games (lines bytes) h.answers one h.run;
+        arrivals = lawful_arrives most_games (lines bytes) h.answers one run;
+        no_conflict = no_conflict most_games (lines bytes) h.answers one run;
       }
 
   pub one_effect : OneGame (lines bytes) → OneEffect bytes h.words h.answers h.games entries
-  one_effect one = let held = accepted_of most_games [] (lines bytes) h.answers h.run in effect one held.0 held.1
+  one_effect one = let held = accepted_of most_games [] (lines bytes) h.answers run in effect one held.0 held.1

@@ -2,8 +2,8 @@
 use Rattle.std.proofs.Common.{◌≡◌, ℕ, Bool, Result, Ok, Err, false, refl, subst, true}
 use Rattle.pb_io.specs.Source.{SourceState}
 use Rattle.pb_io.specs.Sink.{SinkState}
-use Rattle.pb_ledger.specs.Ledger.{LedgerState}
-use Rattle.pb_ledger.specs.Exporting.{Exports, ExportsUntil}
+use Rattle.pb_accepted.specs.Ledger.{LedgerState}
+use Rattle.pb_export.specs.Exporting.{Exports, ExportsUntil}
 use Rattle.pb_export.specs.declared.exporting.ExportFault.{ExportFault}
 use Rattle.pb_commands.specs.ShowsRefusal.{RefusesForTable}
 use Rattle.pb_poly.specs.TableReading.{FindsNoTable}

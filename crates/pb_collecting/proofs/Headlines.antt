@@ -10,9 +10,9 @@ use Rattle.pb_poly.specs.declared.entry.Entry.{Entry}
 use Rattle.pb_games.specs.declared.refusal.Refusal.TheVariants.{Memory}
 use Rattle.pb_games.specs.Submissions.{Submission, IsLawful}
 use Rattle.pb_games.proofs.Refused as refused
-use Rattle.pb_ledger.specs.Accepting.{Accepted, Allowed, Answer, Answers, IsNewId, IsNumber, Run}
-use Rattle.pb_ledger.specs.Holding.{most_games}
-use Rattle.pb_ledger.specs.Laws.{NoRepeats}
+use Rattle.pb_accepted.specs.Accepting.{Accepted, Allowed, Answer, Answers, IsNewId, IsNumber, Run}
+use Rattle.pb_accepted.specs.Holding.{most_games}
+use Rattle.pb_accepted.specs.Laws.{NoRepeats}
 use Rattle.pb_accepted.proofs.Numbers.{numbers_given, repeats_keep}
 use Rattle.pb_accepted.proofs.Replies.{Answered, answered, held, new, other, full as no_room, game_of, id_of, one_submission}
 use Rattle.pb_accepted.proofs.Runs.{own_ids}
@@ -40,6 +40,16 @@ slice_get-some : {X : Type 0} (xs : List X) (k : ℕ) → k < length xs → (x :
 slice_get-some [] k lt = absurd (omega (arith, lt))
 slice_get-some (x ∷ xs) zero lt = (x, refl)
 slice_get-some (x ∷ xs) (suc k) lt = slice_get-some xs k (omega (arith, lt))
+
+-- the members of a list are those that have a number
+pub numbered : (A : List Submission) (s : Submission) → Contains A s → (n : ℕ) × IsNumber A n s
+numbered A s h =
+    let x = slice_get-some A h.0 h.1 in
+    let same = sym (get_or_from_slice_get A h.0 x.0 s x.1) ∙ h.2 in
+    (h.0 + 1, (h.0, refl, x.1 ∙ ap (λ y. Some y) same))
+
+pub contained : (A : List Submission) (n : ℕ) (s : Submission) → IsNumber A n s → Contains A s
+contained A n s at = (at.0, slice_get_within A at.0 s at.2, get_or_from_slice_get A at.0 s s at.2)
 
 one_of : {X : Type 0} (x y : X) → Some x ≡ Some y → x ≡ y
 one_of x y h = cc
@@ -132,6 +142,16 @@ legal_of cap B line n (inl (inl h)) = (h.0, h.1)
 legal_of cap B line n (inl (inr h)) = let no : Ok n ≡ Err h.0 = h.1 in absurd (cc)
 legal_of cap B line n (inr h) = let no : Ok n ≡ Err Memory = h.0 in absurd (cc)
 
+-- a number past the first has the one below it in the list
+below_answer : (cap : ℕ) (B : List Submission) (s : Submission) (n : ℕ) → Answers cap B s (Ok (n + 2)) → n < length B
+below_answer cap B s n (inl at) = omega (arith, at.1, slice_get_within B at.0 s at.2)
+below_answer cap B s n (inr h) = omega (arith, h.2)
+
+below : (cap : ℕ) (B : List Submission) (line : List ℕ) (n : ℕ) → Allowed cap B line (Ok (n + 2)) → n < length B
+below cap B line n (inl (inl h)) = below_answer cap B h.0 n h.2
+below cap B line n (inl (inr h)) = let no : Ok (n + 2) ≡ Err h.0 = h.1 in absurd (cc)
+below cap B line n (inr h) = let no : Ok (n + 2) ≡ Err Memory = h.0 in absurd (cc)
+
 -- ---- whole runs
 
 module _ (L : List (List ℕ)) (R : List Answer) (A : List Submission) (run : Run most_games [] L R) (taken : Accepted [] L R A) where
@@ -153,40 +173,43 @@ module _ (L : List (List ℕ)) (R : List Answer) (A : List Submission) (run : Ru
   once : NoRepeats A
   once i j d lt within e = own_ids L R A taken i j d lt within (ap id_of e)
 
-  pub members_to : (s : Submission) → Contains A s → (i n : ℕ) × IsAccepted L R i s n
-  members_to s h =
-      let x = slice_get-some A h.0 h.1 in
-      let same = sym (get_or_from_slice_get A h.0 x.0 s x.1) ∙ h.2 in
-      let g = (numbers_given most_games L R A run taken (suc h.0) s).0 (h.0, omega arith, x.1 ∙ ap (λ y. Some y) same) in
-      (g.0, suc h.0, ((g.1, g.2, g.3), g.4))
+  in_turn : (i n : ℕ) (s : Submission) → IsAccepted L R i s (n + 2) → (t : Submission) × WasAccepted L R i t (n + 1)
+  in_turn i n s here =
+      let x = stage most_games [] L R run i (Ok (n + 2)) here.1 in
+      let t = slice_get-some x.before n (below most_games x.before x.line n x.allowed) in
+      (t.0, was most_games L R i x.before x.run x.taken t.0 (n + 1) (n, refl, t.1))
 
-  pub members_from : (s : Submission) → ((i n : ℕ) × IsAccepted L R i s n) → Contains A s
-  members_from s h =
-      let at = (numbers_given most_games L R A run taken h.1 s).1 (h.0, h.2.0.0, h.2.0.1, h.2.0.2, h.2.1) in
-      (at.0, slice_get_within A at.0 s at.2, get_or_from_slice_get A at.0 s s at.2)
+  pub number_to : (n : ℕ) (s : Submission) → IsNumber A n s → (i : ℕ) × IsAccepted L R i s n
+  number_to n s h = let g = (numbers_given most_games L R A run taken n s).0 h in (g.0, ((g.1, g.2, g.3), g.4))
+
+  pub number_from : (n : ℕ) (s : Submission) → ((i : ℕ) × IsAccepted L R i s n) → IsNumber A n s
+  number_from n s h = (numbers_given most_games L R A run taken n s).1 (h.0, h.1.0.0, h.1.0.1, h.1.0.2, h.1.1)
 
 -- ---- sources that tell their bytes
 
 headline : (file bytes : List ℕ) (sink sink' : SinkState) (entries : List Entry) → NeverFall entries → All IsEntry entries
-    → CollectsBytes file bytes sink sink' entries → Headline file bytes sink sink' entries
+    → CollectsBytes file bytes sink sink' entries → (h : Headline file bytes sink sink' entries) × Run most_games [] (lines bytes) h.answers
 headline file bytes sink sink' entries ordered bounds h =
     let g = h.takes in
-    let L = lines bytes in record {
-      words = h.words;
-      table = g.table;
-      answers = g.answers;
-      each = run_length most_games [] L g.answers g.run;
-      put = h.put;
-      only_legal = only_legal L g.answers h.held g.run g.accepted;
-      arrivals = arrivals L g.answers h.held g.run g.accepted;
-      repeats = repeats L g.answers h.held g.run g.accepted;
-      games = h.held;
-      once = once L g.answers h.held g.run g.accepted;
-      are = λ s. (members_to L g.answers h.held g.run g.accepted s, members_from L g.answers h.held g.run g.accepted s);
-      book = h.book;
-      text = has_one_text (record { words = h.words }) h.held entries ordered bounds h.book;
-      run = g.run;
-    }
+    let L = lines bytes in (
+      record {
+        words = h.words;
+        table = g.table;
+        answers = g.answers;
+        each = run_length most_games [] L g.answers g.run;
+        put = h.put;
+        only_legal = only_legal L g.answers h.held g.run g.accepted;
+        arrivals = arrivals L g.answers h.held g.run g.accepted;
+        repeats = repeats L g.answers h.held g.run g.accepted;
+        games = h.held;
+        in_turn = in_turn L g.answers h.held g.run g.accepted;
+        once = once L g.answers h.held g.run g.accepted;
+        are = λ n s. (number_to L g.answers h.held g.run g.accepted n s, number_from L g.answers h.held g.run g.accepted n s);
+        book = h.book;
+        text = has_one_text (record { words = h.words }) h.held entries ordered bounds h.book;
+      },
+      g.run,
+    )
 
 module _ (fills : ℕ) (t t' s s' : SourceState) (sink sink' : SinkState) (entries : List Entry) (ordered : NeverFall entries) (bounds : All IsEntry entries) where
   both : (file bytes : Option (List ℕ)) → t.to_come ≡ file → s.to_come ≡ bytes → CollectsBook fills t t' s s' sink sink' entries → HasHeadline file bytes sink sink' entries

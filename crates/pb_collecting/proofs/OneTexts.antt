@@ -5,8 +5,8 @@ use Rattle.pb_poly.specs.Entry.{IsEntry}
 use Rattle.pb_poly.specs.declared.entry.Entry.{Entry}
 use Rattle.pb_poly.proofs.EntryBytes.{book_is_one}
 use Rattle.pb_games.specs.Submissions.{Submission}
-use Rattle.pb_ledger.specs.Basis.{Basis}
-use Rattle.pb_ledger.specs.Counting.{IsBook}
+use Rattle.pb_accepted.specs.Basis.{Basis}
+use Rattle.pb_accepted.specs.Counting.{IsBook}
 use Rattle.pb_accepted.proofs.BookLaws.{one_book, one_text}
 use Rattle.pb_collecting.specs.OneText.{HasOneText}
 

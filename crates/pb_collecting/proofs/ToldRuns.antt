@@ -7,9 +7,9 @@ use Rattle.pb_io.specs.Reads.{chunk_len}
 use Rattle.pb_io.specs.Lines.{lines}
 use Rattle.pb_poly.specs.declared.entry.Entry.{Entry}
 use Rattle.pb_games.specs.Submissions.{Submission}
-use Rattle.pb_ledger.specs.Accepting.{Accepted, Run}
-use Rattle.pb_ledger.specs.Replies.{replies}
-use Rattle.pb_ledger.specs.Holding.{most_games}
+use Rattle.pb_accepted.specs.Accepting.{Accepted, Run}
+use Rattle.pb_accepted.specs.Replies.{replies}
+use Rattle.pb_accepted.specs.Holding.{most_games}
 use Rattle.pb_poly.proofs.ToldReads.{all_came}
 use Rattle.pb_commands.proofs.Told.{told_table}
 use Rattle.pb_collecting.specs.CollectRun.{CollectsBook, CollectsBytes, TakesTold}

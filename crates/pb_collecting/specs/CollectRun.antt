@@ -9,11 +9,11 @@ use Rattle.pb_poly.specs.Book.{NeverFall}
 use Rattle.pb_poly.specs.Entry.{IsEntry}
 use Rattle.pb_poly.specs.declared.entry.Entry.{Entry}
 use Rattle.pb_games.specs.Submissions.{Submission}
-use Rattle.pb_ledger.specs.Accepting.{Accepted, Answer, Run}
-use Rattle.pb_ledger.specs.Counting.{IsBook}
-use Rattle.pb_ledger.specs.Replies.{replies}
+use Rattle.pb_accepted.specs.Accepting.{Accepted, Answer, Run}
+use Rattle.pb_accepted.specs.Counting.{IsBook}
+use Rattle.pb_accepted.specs.Replies.{replies}
 use Rattle.pb_ledger.specs.declared.collecting.CollectFault.{CollectFault}
-use Rattle.pb_ledger.specs.Holding.{most_games}
+use Rattle.pb_accepted.specs.Holding.{most_games}
 use Rattle.pb_commands.specs.declared.fault.Fault.{Fault}
 use Rattle.pb_commands.specs.declared.fault.Fault.TheVariants.{Read, Write, Endless, Memory}
 use Rattle.pb_poly.specs.declared.table_file.TableFault.TheVariants as table

@@ -5,7 +5,7 @@ use Rattle.std.specs.Io.KnownBytes.{Appends}
 use Rattle.pb_io.specs.Source.{SourceState}
 use Rattle.pb_io.specs.Sink.{SinkState}
 use Rattle.pb_games.specs.Submissions.{Submission}
-use Rattle.pb_ledger.specs.Exporting.{ExportLines, ExportsUntil, text_of_lines}
+use Rattle.pb_export.specs.Exporting.{ExportLines, ExportsUntil, text_of_lines}
 use Rattle.pb_ledger.specs.declared.collecting.CollectFault.{CollectFault}
 use Rattle.pb_export.specs.declared.exporting.ExportFault.{ExportFault}
 use Rattle.pb_export.specs.declared.exporting.ExportFault.TheVariants as export

@@ -1,17 +1,17 @@
 -- The theorem of `pbook collect`, for a table file and the bytes of submissions. Read this file first: nothing is assumed of the
 -- submissions, and a list is counted from 0.
-use Rattle.std.specs.Prelude.{◌≡◌, ◌≢◌, ◌↔◌, ℕ, ◌<◌, List, [], Option, Some, Ok, Err, IfSome, Contains, length, slice_get}
+use Rattle.std.specs.Prelude.{◌≡◌, ◌≢◌, ◌↔◌, ℕ, ◌+◌, ◌<◌, List, [], Option, Some, Ok, Err, IfSome, length, slice_get}
 use Rattle.std.specs.Io.KnownBytes.{Appends}
 use Rattle.pb_io.specs.Sink.{SinkState}
 use Rattle.pb_io.specs.Lines.{lines}
 use Rattle.pb_poly.specs.declared.entry.Entry.{Entry}
 use Rattle.pb_games.specs.Submissions.{Submission, IsLawful}
 use Rattle.pb_games.specs.declared.refusal.Refusal.TheVariants.{Conflict, Full, Memory}
-use Rattle.pb_ledger.specs.Accepting.{Answer, Run}
-use Rattle.pb_ledger.specs.Counting.{IsBook}
-use Rattle.pb_ledger.specs.Holding.{most_games}
-use Rattle.pb_ledger.specs.Laws.{NoRepeats}
-use Rattle.pb_ledger.specs.Replies.{replies}
+use Rattle.pb_accepted.specs.Accepting.{Answer, IsNumber, Run}
+use Rattle.pb_accepted.specs.Counting.{IsBook}
+use Rattle.pb_accepted.specs.Holding.{most_games}
+use Rattle.pb_accepted.specs.Laws.{NoRepeats}
+use Rattle.pb_accepted.specs.Replies.{replies}
 use Rattle.pb_poly.specs.Table.{IsTableFile}
 use Rattle.pb_collecting.specs.OneText.{HasOneText}
 
@@ -53,16 +53,17 @@ pub record Headline (file bytes : List ℕ) (sink sink' : SinkState) (entries : 
   pub arrivals : (i : ℕ) (s : Submission) (r : Answer) → Arrives (lines bytes) i s → slice_get answers i ≡ Some r → MayBeAnswered (lines bytes) answers i s r
   -- one that comes again gets its number again
   pub repeats : (i n : ℕ) (s : Submission) → WasAccepted (lines bytes) answers i s n → Arrives (lines bytes) i s → slice_get answers i ≡ Some (Ok n)
-  -- the book is that of the accepted submissions, each of them once
+  -- no number is given before the one below it
+  pub in_turn : (i n : ℕ) (s : Submission) → IsAccepted (lines bytes) answers i s (n + 2) → (t : Submission) × WasAccepted (lines bytes) answers i t (n + 1)
+  -- the book is that of the accepted submissions, each of them once, in order of their numbers
   pub games : List Submission
   pub once : NoRepeats games
-  pub are : (s : Submission) → Contains games s ↔ ((i n : ℕ) × IsAccepted (lines bytes) answers i s n)
+  pub are : (n : ℕ) (s : Submission) → IsNumber games n s ↔ ((i : ℕ) × IsAccepted (lines bytes) answers i s n)
   pub book : IsBook (record { words = words }) games entries
   -- its text decodes to its entries and to no others
   pub text : HasOneText (record { words = words }) games entries
-  -- line by line, the answers are those of a ledger; more follows from this, as `Laws` says
-  pub run : Run most_games [] (lines bytes) answers
 
--- where the two sources tell their bytes
+-- Where the two sources tell their bytes, it is so, and the answers are those of a ledger, line by line. `Laws` says what follows.
 abbrev pub HasHeadline : Option (List ℕ) → Option (List ℕ) → SinkState → SinkState → List Entry → Type 0
-HasHeadline file bytes sink sink' entries = IfSome file (λ f. IfSome bytes (λ b. Headline f b sink sink' entries))
+HasHeadline file bytes sink sink' entries =
+    IfSome file (λ f. IfSome bytes (λ b. (h : Headline f b sink sink' entries) × Run most_games [] (lines b) h.answers))

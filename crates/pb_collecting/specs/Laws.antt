@@ -1,4 +1,4 @@
--- Laws of the theorem of `pbook collect`: what follows from `Headline` alone.
+-- Laws of the theorem of `pbook collect`: what follows from `Headline`, where the answers are those of a ledger.
 use Rattle.std.specs.Prelude.{◌≡◌, ◌≢◌, ℕ, ◌+◌, List, [], Some, Err, All, slice_get, take}
 use Rattle.pb_io.specs.Sink.{SinkState}
 use Rattle.pb_io.specs.Lines.{lines}
@@ -6,10 +6,10 @@ use Rattle.pb_poly.specs.declared.entry.Entry.{Entry}
 use Rattle.pb_games.specs.Submissions.{Submission}
 use Rattle.pb_games.specs.declared.refusal.Refusal.{Refusal}
 use Rattle.pb_games.specs.declared.refusal.Refusal.TheVariants.{Conflict}
-use Rattle.pb_ledger.specs.Accepting.{Accepted, Answer, OneGame, Taken}
-use Rattle.pb_ledger.specs.Counting.{IsBook}
-use Rattle.pb_ledger.specs.Holding.{most_games}
-use Rattle.pb_ledger.specs.Laws.{ArrivalsAreNumbered, NoRepeats, RepeatsAreAnsweredAlike, SameMembers}
+use Rattle.pb_accepted.specs.Accepting.{Accepted, Answer, OneGame, Run, Taken}
+use Rattle.pb_accepted.specs.Counting.{IsBook}
+use Rattle.pb_accepted.specs.Holding.{most_games}
+use Rattle.pb_accepted.specs.Laws.{ArrivalsAreNumbered, NoRepeats, RepeatsAreAnsweredAlike, SameMembers}
 use Rattle.pb_collecting.specs.Headline.{Headline}
 use Rattle.pb_collecting.specs.OneText.{HasOneText}
 
@@ -36,14 +36,14 @@ pub record OneEffect (bytes words : List ℕ) (answers : List Answer) (games : L
 -- where no id names two games, each submission of a run has its one effect
 abbrev pub HasOneEffect : Type 0
 HasOneEffect = (file bytes : List ℕ) (sink sink' : SinkState) (entries : List Entry) (h : Headline file bytes sink sink' entries)
-    → OneGame (lines bytes) → OneEffect bytes h.words h.answers h.games entries
+    → Run most_games [] (lines bytes) h.answers → OneGame (lines bytes) → OneEffect bytes h.words h.answers h.games entries
 
 -- in every run a repeat is answered as its first acceptance was
 abbrev pub AnswersRepeatsAlike : Type 0
 AnswersRepeatsAlike = (file bytes : List ℕ) (sink sink' : SinkState) (entries : List Entry) (h : Headline file bytes sink sink' entries)
-    → RepeatsAreAnsweredAlike (lines bytes) h.answers
+    → Run most_games [] (lines bytes) h.answers → RepeatsAreAnsweredAlike (lines bytes) h.answers
 
 -- and a refused submission changes nothing
 abbrev pub KeepsGamesAtRefusals : Type 0
 KeepsGamesAtRefusals = (file bytes : List ℕ) (sink sink' : SinkState) (entries : List Entry) (h : Headline file bytes sink sink' entries)
-    → RefusalsLeaveTheGames (lines bytes) h.answers
+    → Run most_games [] (lines bytes) h.answers → RefusalsLeaveTheGames (lines bytes) h.answers

@@ -3,8 +3,8 @@ use Rattle.std.specs.Prelude.{◌≡◌, ℕ, List}
 use Rattle.pb_poly.specs.Book.{BookBytes}
 use Rattle.pb_poly.specs.declared.entry.Entry.{Entry}
 use Rattle.pb_games.specs.Submissions.{Submission}
-use Rattle.pb_ledger.specs.Basis.{Basis}
-use Rattle.pb_ledger.specs.Counting.{IsBook}
+use Rattle.pb_accepted.specs.Basis.{Basis}
+use Rattle.pb_accepted.specs.Counting.{IsBook}
 use Rattle.pb_commands.specs.BookShown.{IsBookFile}
 
 -- the entries have one text, which decodes to them and to no others, and neither the entries nor the text of a book of these

@@ -7,13 +7,13 @@ use Rattle.pb_io.specs.Sink.{SinkState}
 use Rattle.pb_io.specs.Reads.{ReadsAll, chunk_len}
 use Rattle.pb_io.specs.Lines.{lines}
 use Rattle.pb_games.specs.Submissions.{Submission}
-use Rattle.pb_ledger.specs.Accepting.{Accepted, Answer, Run}
-use Rattle.pb_ledger.specs.Ledger.{LedgerState}
+use Rattle.pb_accepted.specs.Accepting.{Accepted, Answer, Run}
+use Rattle.pb_accepted.specs.Ledger.{LedgerState}
 use Rattle.pb_ledger.specs.Collecting.{CollectsUntil}
-use Rattle.pb_ledger.specs.Replies.{replies}
+use Rattle.pb_accepted.specs.Replies.{replies}
 use Rattle.pb_ledger.specs.declared.collecting.CollectFault.{CollectFault}
 use Rattle.pb_ledger.specs.declared.collecting.CollectFault.TheVariants as collect
-use Rattle.pb_ledger.specs.Holding.{most_games}
+use Rattle.pb_accepted.specs.Holding.{most_games}
 use Rattle.pb_commands.specs.ShowsRefusal.{FaultsAlone, RefusesForTable}
 use Rattle.pb_commands.specs.declared.fault.Fault.{Fault}
 use Rattle.pb_commands.specs.declared.fault.Fault.TheVariants.{Read, Write, Endless, Memory}
