@@ -22,7 +22,7 @@ pub(crate) fn open(rt: &HostRuntime, path: &str) -> Result<FromRead<File>, NotOp
     }
 }
 
-/// The file of a book, as a place. What a file holds no contract knows.
+/// The file of a book, as a place that doesn't tell what it holds, since no contract knows the bytes of a file.
 #[derive(Drop)]
 pub(crate) struct BookFile<'a> {
     rt: &'a HostRuntime,
