@@ -2,7 +2,9 @@
 use Rattle.std.proofs.Common.{ℕ, ◌<◌, max, arith, inl, inr}
 use Rattle.std.proofs.lemmas.Bool.{cases_order}
 use Rattle.pb_board.specs.Board.{file, rank}
-use Rattle.pb_moves.specs.Sight.{Between}
+use Rattle.pb_moves.specs.Sight.{Along, Between}
+use Rattle.pb_moves.specs.declared.ways.Lines.{Lines}
+use Rattle.pb_moves.specs.declared.ways.Lines.TheVariants.{Straight, Diagonal}
 use Rattle.pb_moves.specs.Attack.{Direction, North, NorthEast, East, SouthEast, South, SouthWest, West, NorthWest, StepsFrom, IsDiagonal, IsStraight, files_apart, ranks_apart}
 
 -- a king's moves from a to b along a line
@@ -141,3 +143,18 @@ diagonal_lies a b s =
         ]
       ]
     ]
+
+-- the same for lines of either kind
+pub inside : (lines : Lines) (d : Direction) (n a b q : ℕ) → Along lines a b → Along lines a q → Along lines b q → Between a b q → StepsFrom d n a b → 0 < n
+    → (0 < far a q) × (far a q < n) × StepsFrom d (far a q) a q
+inside Straight d n a b q s u v w p lo = straight_inside d n a b q s u v w p lo
+inside Diagonal d n a b q s u v w p lo = diagonal_inside d n a b q s u v w p lo
+
+pub outside : (lines : Lines) (d : Direction) (n k a b q : ℕ) → Along lines a b → StepsFrom d n a b → 0 < k → k < n → StepsFrom d k a q
+    → Along lines a q × Along lines b q × Between a b q
+outside Straight d n k a b q s p lo hi r = straight_outside d n k a b q s p lo hi r
+outside Diagonal d n k a b q s p lo hi r = diagonal_outside d n k a b q s p lo hi r
+
+pub lies : (lines : Lines) (a b : ℕ) → Along lines a b → LinedUp a b
+lies Straight a b s = straight_lies a b s
+lies Diagonal a b s = diagonal_lies a b s

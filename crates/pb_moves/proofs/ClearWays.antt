@@ -3,33 +3,33 @@ use Rattle.std.proofs.Common.{◌≡◌, ℕ, ◌<◌, ◌^◌, ◌↔◌, arith
 use Rattle.std.specs.Int.{trailing_zeros}
 use Rattle.std.proofs.lemmas.Bool.{cases_lt}
 use Rattle.std.proofs.lemmas.Nat.{and_le_r}
-use Rattle.pb_moves.specs.Attack.{IsDiagonal, IsStraight}
-use Rattle.pb_moves.specs.Sight.{Between, In, Open, SlidesStraight, SlidesDiagonally}
-use Rattle.pb_moves.proofs.Between.{far, straight_inside, diagonal_inside, straight_outside, diagonal_outside, straight_lies, diagonal_lies}
+use Rattle.pb_moves.specs.Sight.{Along, Between, In, Open, Slides}
+use Rattle.pb_moves.specs.declared.ways.Lines.{Lines}
+use Rattle.pb_moves.proofs.Between.{far, inside, lies, outside}
 use Rattle.pb_moves.proofs.Rising.{low_bit, without, without_other, without_same}
 use Rattle.pb_moves.proofs.Sets.{in_and, in_both, in_none, in_some}
 use Rattle.pb_moves.proofs.Unique.{same_or_not}
 
 -- what the code finds between two squares
-pub straight_open : (occ a b x y z : ℕ) → IsStraight a b → ((q : ℕ) → q < 64 → (In x q ↔ IsStraight a q)) → ((q : ℕ) → q < 64 → (In y q ↔ IsStraight b q)) → ((q : ℕ) → (In z q ↔ Between a b q))
+pub line_open : (lines : Lines) (occ a b x y z : ℕ) → Along lines a b → ((q : ℕ) → q < 64 → (In x q ↔ Along lines a q)) → ((q : ℕ) → q < 64 → (In y q ↔ Along lines b q)) → ((q : ℕ) → (In z q ↔ Between a b q))
     → bit_and (bit_and (bit_and x y) z) occ ≡ 0 → Open occ a b
-straight_open occ a b x y z s fx fy fz e =
-    let l = straight_lies a b s in
+line_open lines occ a b x y z s fx fy fz e =
+    let l = lies lines a b s in
     record {
       direction = l.direction;
       steps = l.steps;
       some = l.some;
       reaches = l.reaches;
       free = λ k c lo hi on to inside.
-          (let o = straight_outside l.direction l.steps k a b c s l.reaches lo hi to in
+          (let o = outside lines l.direction l.steps k a b c s l.reaches lo hi to in
           let line = in_both x y c ((fx c on).1 o.0) ((fy c on).1 o.1) in
           let between = in_both (bit_and x y) z c line ((fz c).1 o.2) in
           in_none (bit_and (bit_and (bit_and x y) z) occ) c e (in_both (bit_and (bit_and x y) z) occ c between inside));
     }
 
-pub open_straight : (occ a b x y z : ℕ) → IsStraight a b → ((q : ℕ) → q < 64 → (In x q ↔ IsStraight a q)) → ((q : ℕ) → q < 64 → (In y q ↔ IsStraight b q)) → ((q : ℕ) → (In z q ↔ Between a b q))
+pub open_line : (lines : Lines) (occ a b x y z : ℕ) → Along lines a b → ((q : ℕ) → q < 64 → (In x q ↔ Along lines a q)) → ((q : ℕ) → q < 64 → (In y q ↔ Along lines b q)) → ((q : ℕ) → (In z q ↔ Between a b q))
     → occ < 2 ^ 64 → Open occ a b → bit_and (bit_and (bit_and x y) z) occ ≡ 0
-open_straight occ a b x y z s fx fy fz small way =
+open_line lines occ a b x y z s fx fy fz small way =
     let all = bit_and (bit_and (bit_and x y) z) occ in
     let le = and_le_r (bit_and (bit_and x y) z) occ in
     let below : bit_and (bit_and (bit_and x y) z) occ < 2 ^ 64 = omega arith in
@@ -40,43 +40,8 @@ open_straight occ a b x y z s fx fy fz small way =
           let in_occ = in_and (bit_and (bit_and x y) z) occ q w.2 in
           let in_z = in_and (bit_and x y) z q in_occ.0 in
           let in_xy = in_and x y q in_z.0 in
-          let inside = straight_inside way.direction way.steps a b q s ((fx q w.1).0 in_xy.0) ((fy q w.1).0 in_xy.1) ((fz q).0 in_z.1) way.reaches way.some in
-          absurd (way.free (far a q) q inside.0 inside.1 w.1 inside.2 in_occ.1))
-      | inr none ↦ omega arith
-    ]
-
--- what the code finds between two squares
-pub diagonal_open : (occ a b x y z : ℕ) → IsDiagonal a b → ((q : ℕ) → q < 64 → (In x q ↔ IsDiagonal a q)) → ((q : ℕ) → q < 64 → (In y q ↔ IsDiagonal b q)) → ((q : ℕ) → (In z q ↔ Between a b q))
-    → bit_and (bit_and (bit_and x y) z) occ ≡ 0 → Open occ a b
-diagonal_open occ a b x y z s fx fy fz e =
-    let l = diagonal_lies a b s in
-    record {
-      direction = l.direction;
-      steps = l.steps;
-      some = l.some;
-      reaches = l.reaches;
-      free = λ k c lo hi on to inside.
-          (let o = diagonal_outside l.direction l.steps k a b c s l.reaches lo hi to in
-          let line = in_both x y c ((fx c on).1 o.0) ((fy c on).1 o.1) in
-          let between = in_both (bit_and x y) z c line ((fz c).1 o.2) in
-          in_none (bit_and (bit_and (bit_and x y) z) occ) c e (in_both (bit_and (bit_and x y) z) occ c between inside));
-    }
-
-pub open_diagonal : (occ a b x y z : ℕ) → IsDiagonal a b → ((q : ℕ) → q < 64 → (In x q ↔ IsDiagonal a q)) → ((q : ℕ) → q < 64 → (In y q ↔ IsDiagonal b q)) → ((q : ℕ) → (In z q ↔ Between a b q))
-    → occ < 2 ^ 64 → Open occ a b → bit_and (bit_and (bit_and x y) z) occ ≡ 0
-open_diagonal occ a b x y z s fx fy fz small way =
-    let all = bit_and (bit_and (bit_and x y) z) occ in
-    let le = and_le_r (bit_and (bit_and x y) z) occ in
-    let below : bit_and (bit_and (bit_and x y) z) occ < 2 ^ 64 = omega arith in
-    elim (cases_lt 0 all) [
-      | inl some ↦
-          (let w = in_some all below some in
-          let q = w.0 in
-          let in_occ = in_and (bit_and (bit_and x y) z) occ q w.2 in
-          let in_z = in_and (bit_and x y) z q in_occ.0 in
-          let in_xy = in_and x y q in_z.0 in
-          let inside = diagonal_inside way.direction way.steps a b q s ((fx q w.1).0 in_xy.0) ((fy q w.1).0 in_xy.1) ((fz q).0 in_z.1) way.reaches way.some in
-          absurd (way.free (far a q) q inside.0 inside.1 w.1 inside.2 in_occ.1))
+          let steps = inside lines way.direction way.steps a b q s ((fx q w.1).0 in_xy.0) ((fy q w.1).0 in_xy.1) ((fz q).0 in_z.1) way.reaches way.some in
+          absurd (way.free (far a q) q steps.0 steps.1 w.1 steps.2 in_occ.1))
       | inr none ↦ omega arith
     ]
 
@@ -103,9 +68,9 @@ left_next occ square start rest at left small some here shut =
       ];
     }
 
-pub found_straight : (occ square sliders x rest at : ℕ) → ((q : ℕ) → q < 64 → (In x q ↔ IsStraight square q)) → Left occ square (bit_and x sliders) rest → rest < 2 ^ 64
-    → trailing_zeros w64 rest < 64 → at ≡ trailing_zeros w64 rest → IsStraight square at × (Open occ square at → SlidesStraight occ sliders square)
-found_straight occ square sliders x rest at lines left small some here =
+pub found_slider : (lines : Lines) (occ square sliders x rest at : ℕ) → ((q : ℕ) → q < 64 → (In x q ↔ Along lines square q)) → Left occ square (bit_and x sliders) rest → rest < 2 ^ 64
+    → trailing_zeros w64 rest < 64 → at ≡ trailing_zeros w64 rest → Along lines square at × (Open occ square at → Slides lines occ sliders square)
+found_slider kind occ square sliders x rest at lines left small some here =
     let on : at < 64 = omega arith in
     let P : ℕ → Type 0 = λ q. In rest q in
     let inside = left.from_start at on (subst P (sym here) (low_bit rest small some)) in
@@ -113,20 +78,6 @@ found_straight occ square sliders x rest at lines left small some here =
     let line = (lines at on).0 both.0 in
     (line, λ way. record { from = at; on_board = on; stands = both.1; line = line; way = way })
 
-pub none_straight : (occ square sliders x rest : ℕ) → ((q : ℕ) → q < 64 → (In x q ↔ IsStraight square q)) → Left occ square (bit_and x sliders) rest → rest ≡ 0 → ¬ SlidesStraight occ sliders square
-none_straight occ square sliders x rest lines left none h =
-    left.seen h.from h.on_board (in_both x sliders h.from ((lines h.from h.on_board).1 h.line) h.stands) (in_none rest h.from none) h.way
-
-pub found_diagonal : (occ square sliders x rest at : ℕ) → ((q : ℕ) → q < 64 → (In x q ↔ IsDiagonal square q)) → Left occ square (bit_and x sliders) rest → rest < 2 ^ 64
-    → trailing_zeros w64 rest < 64 → at ≡ trailing_zeros w64 rest → IsDiagonal square at × (Open occ square at → SlidesDiagonally occ sliders square)
-found_diagonal occ square sliders x rest at lines left small some here =
-    let on : at < 64 = omega arith in
-    let P : ℕ → Type 0 = λ q. In rest q in
-    let inside = left.from_start at on (subst P (sym here) (low_bit rest small some)) in
-    let both = in_and x sliders at inside in
-    let line = (lines at on).0 both.0 in
-    (line, λ way. record { from = at; on_board = on; stands = both.1; line = line; way = way })
-
-pub none_diagonal : (occ square sliders x rest : ℕ) → ((q : ℕ) → q < 64 → (In x q ↔ IsDiagonal square q)) → Left occ square (bit_and x sliders) rest → rest ≡ 0 → ¬ SlidesDiagonally occ sliders square
-none_diagonal occ square sliders x rest lines left none h =
+pub none_slides : (lines : Lines) (occ square sliders x rest : ℕ) → ((q : ℕ) → q < 64 → (In x q ↔ Along lines square q)) → Left occ square (bit_and x sliders) rest → rest ≡ 0 → ¬ Slides lines occ sliders square
+none_slides kind occ square sliders x rest lines left none h =
     left.seen h.from h.on_board (in_both x sliders h.from ((lines h.from h.on_board).1 h.line) h.stands) (in_none rest h.from none) h.way

@@ -6,7 +6,7 @@ use Rattle.pb_board.specs.declared.piece.Kind.TheVariants.{Pawn, Knight, Bishop,
 use Rattle.pb_board.specs.declared.piece.Piece.{Piece}
 use Rattle.pb_board.specs.Board.{Board, at, Holds, IsEmpty}
 use Rattle.pb_moves.specs.declared.sight.Sight.{Sight}
-use Rattle.pb_moves.specs.Attack.{StepsFrom, Clear, ReachesBy, IsAttacked, IsKnightsMove, IsDiagonal, IsStraight, files_apart, ranks_apart}
+use Rattle.pb_moves.specs.Attack.{StepsFrom, Clear, ReachesBy, IsAttacked, IsKnightsMove, files_apart, ranks_apart}
 use mir.Val.{bits}
 use Rattle.std.proofs.lemmas.Bool.{cases_lt}
 use Rattle.std.proofs.lemmas.Nat.{and_le_l, or_lt}
@@ -15,7 +15,9 @@ use Rattle.pb_moves.specs.Cases.{Carried}
 use Rattle.pb_moves.specs.Free.{Lifted}
 use Rattle.pb_moves.proofs.Rising.{without, without_other, without_same}
 use Rattle.pb_moves.proofs.Unique.{piece_is, same_or_not}
-use Rattle.pb_moves.specs.Sight.{AreOf, AreOfEither, IsTaken, In, Open, Sees, SlidesStraight, SlidesDiagonally, StrikesFrom, piece_of}
+use Rattle.pb_moves.specs.Sight.{Along, AreOf, AreOfEither, IsTaken, In, Open, Sees, Slides, StrikesFrom, piece_of}
+use Rattle.pb_moves.specs.declared.ways.Lines.{Lines}
+use Rattle.pb_moves.specs.declared.ways.Lines.TheVariants.{Straight, Diagonal}
 use Rattle.pb_moves.proofs.Rays.{back, back_from, clear_back, empty_back, holds_on_board, steps_none}
 use Rattle.pb_moves.proofs.Sets.{in_and, in_both, in_or, in_first, in_second}
 
@@ -23,12 +25,10 @@ pub empty_or_not : (x : Option Piece) → (x ≡ None) ⊎ ¬ (x ≡ None)
 empty_or_not None = inl refl
 empty_or_not (Some p) = inr (λ e. cc)
 
-pub straight_sym : (a b : ℕ) → IsStraight a b → IsStraight b a
-straight_sym a b (inl s) = inl (omega arith, omega arith)
-straight_sym a b (inr s) = inr (omega arith, omega arith)
-
-pub diagonal_sym : (a b : ℕ) → IsDiagonal a b → IsDiagonal b a
-diagonal_sym a b s = (omega arith, omega arith)
+pub along_sym : (lines : Lines) (a b : ℕ) → Along lines a b → Along lines b a
+along_sym Straight a b (inl s) = inl (omega arith, omega arith)
+along_sym Straight a b (inr s) = inr (omega arith, omega arith)
+along_sym Diagonal a b s = (omega arith, omega arith)
 
 -- where nothing of the set stands between, the squares between are empty
 pub clear_if_open : (b : Board) (occ to from : ℕ) → IsTaken occ b → Open occ to from → Clear b from to
@@ -64,7 +64,7 @@ open_by_clear b side sight to from sees ne clear = open_if_clear b sight.occupie
 -- what the code looks at: the attackers next to the square, and those along its lines
 abbrev pub AnySees : ℕ → Sight → ℕ → Type 0
 AnySees near sight square =
-    ((a : ℕ) × (a < 64) × In near a) ⊎ (SlidesStraight sight.occupied sight.straight square ⊎ SlidesDiagonally sight.occupied sight.diagonal square)
+    ((a : ℕ) × (a < 64) × In near a) ⊎ (Slides Straight sight.occupied sight.straight square ⊎ Slides Diagonal sight.occupied sight.diagonal square)
 
 abbrev pub near_of : ℕ → ℕ → ℕ → Sight → ℕ
 near_of p n k sight = bit_or (bit_or (bit_and p sight.pawns) (bit_and n sight.knights)) (bit_and k sight.kings)
@@ -85,49 +85,37 @@ near_attacks b side sight square p n k a sees fp fn fk on inside =
       | inr x ↦ (let w = in_and k sight.kings a x in attack_by b side King a square ((sees.kings a on).0 w.1) ((fk a on).0 w.0))
     ]
 
-pub straight_attacks : (b : Board) (side : Colour) (sight : Sight) (square : ℕ) → Sees b side sight → SlidesStraight sight.occupied sight.straight square → IsAttacked b side square
+pub straight_attacks : (b : Board) (side : Colour) (sight : Sight) (square : ℕ) → Sees b side sight → Slides Straight sight.occupied sight.straight square → IsAttacked b side square
 straight_attacks b side sight square sees s =
     let clear = clear_by_open b side sight square s.from sees s.way in
-    let line = straight_sym square s.from s.line in
+    let line = along_sym Straight square s.from s.line in
     elim ((sees.straight s.from s.on_board).0 s.stands) [
       | inl rook ↦ attack_by b side Rook s.from square rook (line, clear)
       | inr queen ↦ attack_by b side Queen s.from square queen (inr line, clear)
     ]
 
-pub diagonal_attacks : (b : Board) (side : Colour) (sight : Sight) (square : ℕ) → Sees b side sight → SlidesDiagonally sight.occupied sight.diagonal square → IsAttacked b side square
+pub diagonal_attacks : (b : Board) (side : Colour) (sight : Sight) (square : ℕ) → Sees b side sight → Slides Diagonal sight.occupied sight.diagonal square → IsAttacked b side square
 diagonal_attacks b side sight square sees s =
     let clear = clear_by_open b side sight square s.from sees s.way in
-    let line = diagonal_sym square s.from s.line in
+    let line = along_sym Diagonal square s.from s.line in
     elim ((sees.diagonal s.from s.on_board).0 s.stands) [
       | inl bishop ↦ attack_by b side Bishop s.from square bishop (line, clear)
       | inr queen ↦ attack_by b side Queen s.from square queen (inl line, clear)
     ]
 
-pub straight_differ : (a b : ℕ) → IsStraight a b → a ≢ b
-straight_differ a b (inl s) e = omega arith
-straight_differ a b (inr s) e = omega arith
+pub along_differ : (lines : Lines) (a b : ℕ) → Along lines a b → a ≢ b
+along_differ Straight a b (inl s) e = omega arith
+along_differ Straight a b (inr s) e = omega arith
+along_differ Diagonal a b s e = omega arith
 
-pub diagonal_differ : (a b : ℕ) → IsDiagonal a b → a ≢ b
-diagonal_differ a b s e = omega arith
-
-slides_by_straight : (b : Board) (side : Colour) (sight : Sight) (square a : ℕ) → Sees b side sight → a < 64 → In sight.straight a → IsStraight a square → Clear b a square
-    → SlidesStraight sight.occupied sight.straight square
-slides_by_straight b side sight square a sees on inside line clear = record {
+slides_by : (lines : Lines) (b : Board) (side : Colour) (sight : Sight) (sliders square a : ℕ) → Sees b side sight → a < 64 → In sliders a → Along lines a square → Clear b a square
+    → Slides lines sight.occupied sliders square
+slides_by lines b side sight sliders square a sees on inside line clear = record {
   from = a;
   on_board = on;
   stands = inside;
-  line = straight_sym a square line;
-  way = open_by_clear b side sight square a sees (straight_differ a square line) clear;
-}
-
-slides_by_diagonal : (b : Board) (side : Colour) (sight : Sight) (square a : ℕ) → Sees b side sight → a < 64 → In sight.diagonal a → IsDiagonal a square → Clear b a square
-    → SlidesDiagonally sight.occupied sight.diagonal square
-slides_by_diagonal b side sight square a sees on inside line clear = record {
-  from = a;
-  on_board = on;
-  stands = inside;
-  line = diagonal_sym a square line;
-  way = open_by_clear b side sight square a sees (diagonal_differ a square line) clear;
+  line = along_sym lines a square line;
+  way = open_by_clear b side sight square a sees (along_differ lines a square line) clear;
 }
 
 -- each attacker is seen
@@ -142,13 +130,13 @@ seen_kind b side Knight sight square p n k a sees fp fn fk on stands r =
 seen_kind b side King sight square p n k a sees fp fn fk on stands r =
     inl (a, on, in_second _ _ a (in_both k sight.kings a ((fk a on).1 r) ((sees.kings a on).1 stands)))
 seen_kind b side Rook sight square p n k a sees fp fn fk on stands r =
-    inr (inl (slides_by_straight b side sight square a sees on ((sees.straight a on).1 (inl stands)) r.0 r.1))
+    inr (inl (slides_by Straight b side sight sight.straight square a sees on ((sees.straight a on).1 (inl stands)) r.0 r.1))
 seen_kind b side Bishop sight square p n k a sees fp fn fk on stands r =
-    inr (inr (slides_by_diagonal b side sight square a sees on ((sees.diagonal a on).1 (inl stands)) r.0 r.1))
+    inr (inr (slides_by Diagonal b side sight sight.diagonal square a sees on ((sees.diagonal a on).1 (inl stands)) r.0 r.1))
 seen_kind b side Queen sight square p n k a sees fp fn fk on stands r =
     elim r.0 [
-      | inl line ↦ inr (inr (slides_by_diagonal b side sight square a sees on ((sees.diagonal a on).1 (inr stands)) line r.1))
-      | inr line ↦ inr (inl (slides_by_straight b side sight square a sees on ((sees.straight a on).1 (inr stands)) line r.1))
+      | inl line ↦ inr (inr (slides_by Diagonal b side sight sight.diagonal square a sees on ((sees.diagonal a on).1 (inr stands)) line r.1))
+      | inr line ↦ inr (inl (slides_by Straight b side sight sight.straight square a sees on ((sees.straight a on).1 (inr stands)) line r.1))
     ]
 
 pub seen_attack : (b : Board) (side : Colour) (sight : Sight) (square p n k : ℕ) → Sees b side sight

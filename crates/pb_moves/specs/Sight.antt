@@ -7,6 +7,8 @@ use Rattle.pb_board.specs.declared.piece.Kind.TheVariants.{Pawn, Knight, Bishop,
 use Rattle.pb_board.specs.declared.piece.Piece.{Piece}
 use Rattle.pb_board.specs.Board.{Board, IsEmpty, Holds, IsForward}
 use Rattle.pb_moves.specs.declared.sight.Sight.{Sight}
+use Rattle.pb_moves.specs.declared.ways.Lines.{Lines}
+use Rattle.pb_moves.specs.declared.ways.Lines.TheVariants.{Straight, Diagonal}
 use Rattle.pb_moves.specs.Attack.{Direction, StepsFrom, IsDiagonal, IsStraight, files_apart}
 
 -- the square is among those that the number stands for
@@ -52,19 +54,17 @@ pub record Open (occupied a b : ℕ) : Type 0 where
   pub reaches : StepsFrom direction steps a b
   pub free : (k c : ℕ) → 0 < k → k < steps → c < 64 → StepsFrom direction k a c → ¬ In occupied c
 
--- one of the sliders stands on a straight line with the square, and the way is clear
-pub record SlidesStraight (occupied sliders square : ℕ) : Type 0 where
-  pub from : ℕ
-  pub on_board : from < 64
-  pub stands : In sliders from
-  pub line : IsStraight square from
-  pub way : Open occupied square from
+-- the two squares lie on one line of this kind
+abbrev pub Along : Lines → ℕ → ℕ → Type 0
+Along Straight a b = IsStraight a b
+Along Diagonal a b = IsDiagonal a b
 
-pub record SlidesDiagonally (occupied sliders square : ℕ) : Type 0 where
+-- one of the sliders stands on a line of this kind with the square, and the way is clear
+pub record Slides (lines : Lines) (occupied sliders square : ℕ) : Type 0 where
   pub from : ℕ
   pub on_board : from < 64
   pub stands : In sliders from
-  pub line : IsDiagonal square from
+  pub line : Along lines square from
   pub way : Open occupied square from
 
 -- a pawn of this colour on a attacks b

@@ -2,10 +2,11 @@
 
 ghost use Rattle.std.specs.Prelude.{◌≡◌, ◌<◌, ◌↔◌, IsTrue};
 ghost use Rattle.pb_board.specs.Board.{IsForward};
-ghost use Rattle.pb_moves.specs.Attack.{Clear, IsDiagonal, IsStraight, Reaches};
+ghost use Rattle.pb_moves.specs.Attack.{Clear, Reaches};
+ghost use Rattle.pb_moves.specs.Sight.{Along};
 
 use crate::sight::{kings_from, knights_from};
-use crate::ways::{diagonal_from, diagonal_way, has, straight_from, straight_way};
+use crate::ways::{Lines, has};
 use pb_board::{Colour, Kind, Piece, Setup, Square};
 
 /// Whether `to` is this many ranks forward of `from`.
@@ -20,20 +21,12 @@ pub(crate) fn is_forward(colour: Colour, ranks: u8, from: Square, to: Square) ->
     }
 }
 
-/// Whether a bishop on `from` attacks `to`.
+/// Whether a piece on `from` that slides along these lines attacks `to`.
 #[inline(always)]
-fn bishop_reaches(setup: &Setup, from: Square, to: Square) -> bool
-    ensures { IsTrue result ↔ (IsDiagonal from to × Clear setup.now.board from to) }
+fn slider_reaches(lines: Lines, setup: &Setup, from: Square, to: Square) -> bool
+    ensures { IsTrue result ↔ (Along lines from to × Clear setup.now.board from to) }
 {
-    has(diagonal_from(from), to) && diagonal_way(setup.occupied(), to, from)
-}
-
-/// Whether a rook on `from` attacks `to`.
-#[inline(always)]
-fn rook_reaches(setup: &Setup, from: Square, to: Square) -> bool
-    ensures { IsTrue result ↔ (IsStraight from to × Clear setup.now.board from to) }
-{
-    has(straight_from(from), to) && straight_way(setup.occupied(), to, from)
+    has(lines.through(from), to) && lines.is_open(setup.occupied(), to, from)
 }
 
 /// Whether this piece on `from` attacks `to`.
@@ -44,9 +37,12 @@ pub(crate) fn reaches(piece: Piece, setup: &Setup, from: Square, to: Square) -> 
     match piece.kind {
         Kind::Pawn => from.file().abs_diff(to.file()) == 1 && is_forward(piece.colour, 1, from, to),
         Kind::Knight => has(knights_from(to), from),
-        Kind::Bishop => bishop_reaches(setup, from, to),
-        Kind::Rook => rook_reaches(setup, from, to),
-        Kind::Queen => bishop_reaches(setup, from, to) || rook_reaches(setup, from, to),
+        Kind::Bishop => slider_reaches(Lines::Diagonal, setup, from, to),
+        Kind::Rook => slider_reaches(Lines::Straight, setup, from, to),
+        Kind::Queen => {
+            slider_reaches(Lines::Diagonal, setup, from, to)
+                || slider_reaches(Lines::Straight, setup, from, to)
+        }
         Kind::King => has(kings_from(to), from),
     }
 }

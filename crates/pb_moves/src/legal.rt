@@ -9,6 +9,7 @@ ghost use Rattle.pb_board.specs.Position.{IsOnlyKing};
 ghost use Rattle.pb_moves.specs.Candidate.{HoldsOwn};
 ghost use Rattle.pb_moves.specs.Cases.{CaseOf, Legal};
 ghost use Rattle.pb_moves.specs.Change.{Changes, Finds, LeadsTo};
+ghost use Rattle.pb_moves.specs.declared.change.Change.TheVariants.{Carry};
 ghost use Rattle.pb_moves.specs.Moved.{Moved};
 ghost use Rattle.pb_moves.specs.Sight.{Sees};
 ghost use Rattle.pb_moves.specs.Free.{IsFree};
@@ -146,32 +147,33 @@ pub(crate) fn is_free(setup: &Setup, enemy: &Sight, from: Square, piece: Piece) 
     !is_attacked(&seen, setup.king(side), opponent_of(side))
 }
 
-/// Whether the mover's king is safe after the move of this piece. No board is made.
+/// Whether the mover's king is safe after a move that puts a piece in the place of what stood on a square.
 #[inline(always)]
-pub(crate) fn is_safe(setup: &Setup, m: Move, piece: Piece, change: &Change) -> bool
+pub(crate) fn is_safe(setup: &Setup, m: Move, piece: Piece, arriving: Piece) -> bool
     requires own { HoldsOwn setup.now m.from piece }
-    requires leads { LeadsTo (CaseOf setup.now m piece) setup.now.board m change.now }
+    requires leads { LeadsTo (CaseOf setup.now m piece) setup.now.board m (Carry arriving) }
     ensures { IsTrue result ↔ Legal setup.now m }
 {
-    // The reader tells that the move meets its rules.
-    let _from = m.from();
+    let (from, to) = (m.from(), m.to());
+    let enemy = opponent_of(setup.turn());
     let king = king_after(setup, m, piece);
-    let seen = sight_after(setup, m, piece, change);
-    !is_attacked(&seen, king, opponent_of(setup.turn()))
+    let seen = carried_sight(sight_of(setup, enemy), from, to);
+    !is_attacked(&seen, king, enemy)
 }
 
-/// The same with the test out of line, for the changes that are rare.
+/// Whether the mover's king is safe after any move of this piece, with the test out of line.
 #[inline(always)]
-fn is_safe_out_of_line(setup: &Setup, m: Move, piece: Piece, change: &Change) -> bool
+pub(crate) fn is_safe_after(setup: &Setup, m: Move, piece: Piece, change: &Change) -> bool
     requires own { HoldsOwn setup.now m.from piece }
     requires leads { LeadsTo (CaseOf setup.now m piece) setup.now.board m change.now }
     ensures { IsTrue result ↔ Legal setup.now m }
 {
     // The reader tells that the move meets its rules.
     let _from = m.from();
+    let enemy = opponent_of(setup.turn());
     let king = king_after(setup, m, piece);
     let seen = sight_after(setup, m, piece, change);
-    !is_attacked_out_of_line(&seen, king, opponent_of(setup.turn()))
+    !is_attacked_out_of_line(&seen, king, enemy)
 }
 
 /// Whether the move of this piece is legal. `free` is true only where most moves of the piece need no test of check.
@@ -185,9 +187,8 @@ pub(crate) fn is_legal_for(setup: &Setup, m: Move, piece: Piece, free: bool) -> 
     let _from = m.from();
     match change_of(setup, m, piece) {
         Some(Change::Carry(_)) if free => true,
-        // The usual change stands alone, so that it is compiled without the others.
-        Some(Change::Carry(arriving)) => is_safe(setup, m, piece, &Change::Carry(arriving)),
-        Some(change) => is_safe_out_of_line(setup, m, piece, &change),
+        Some(Change::Carry(arriving)) => is_safe(setup, m, piece, arriving),
+        Some(change) => is_safe_after(setup, m, piece, &change),
         None => false,
     }
 }

@@ -15,7 +15,7 @@ ghost use Rattle.pb_moves.specs.declared.change.Change.TheVariants.{Carry};
 use crate::board::opponent_of;
 use crate::cases::passed;
 use crate::change::Change;
-use crate::legal::{change_of, is_safe, king_after, own_piece};
+use crate::legal::{change_of, is_safe, is_safe_after, king_after, own_piece};
 use crate::moves::Move;
 use pb_board::{Colour, Kind, Piece, Rights, Setup, Square};
 
@@ -117,7 +117,7 @@ fn carry(setup: &mut Setup, m: Move, piece: Piece, arriving: Piece) -> bool
     ensures played { IsTrue result → (setup.new ≡ after setup.old m) }
     ensures refused { ¬ IsTrue result → (setup.new ≡ setup.old) }
 {
-    if !is_safe(setup, m, piece, &Change::Carry(arriving)) {
+    if !is_safe(setup, m, piece, arriving) {
         return false;
     }
     let (from, to) = (m.from(), m.to());
@@ -145,7 +145,7 @@ fn replace(setup: &mut Setup, m: Move) -> bool
     let Some(change) = change_of(setup, m, piece) else {
         return false;
     };
-    if !is_safe(setup, m, piece, &change) {
+    if !is_safe_after(setup, m, piece, &change) {
         return false;
     }
     let side = setup.turn();

@@ -11,7 +11,7 @@ ghost use Rattle.pb_moves.specs.Sight.{In, Sees, StrikesFrom};
 
 use crate::near_targets::{BLACK_STRIKES, NEAR, WHITE_STRIKES};
 use crate::piece_targets::KNIGHT;
-use crate::ways::{slides_diagonally, slides_straight};
+use crate::ways::Lines;
 use pb_board::{Colour, Kind, Piece, Setup, Square};
 
 /// What is taken, and where the attackers of one side stand: bit `i` stands for the square of index `i`.
@@ -100,10 +100,10 @@ pub(crate) fn is_attacked(sight: &Sight, square: Square, by: Colour) -> bool
     if near != 0 {
         return true;
     }
-    if slides_straight(sight.occupied, sight.straight, square) {
+    if Lines::Straight.slides(sight.occupied, sight.straight, square) {
         return true;
     }
-    slides_diagonally(sight.occupied, sight.diagonal, square)
+    Lines::Diagonal.slides(sight.occupied, sight.diagonal, square)
 }
 
 /// The same out of line.

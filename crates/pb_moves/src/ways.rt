@@ -1,8 +1,7 @@
 //! Clear ways on the board, told by sets of squares.
 
 ghost use Rattle.std.specs.Prelude.{◌≡◌, ℕ, ◌<◌, ◌⊎◌, ◌↔◌, IsTrue};
-ghost use Rattle.pb_moves.specs.Attack.{IsDiagonal, IsStraight};
-ghost use Rattle.pb_moves.specs.Sight.{Between, In, Open, SlidesDiagonally, SlidesStraight};
+ghost use Rattle.pb_moves.specs.Sight.{Between, In};
 
 use crate::board::square_at;
 use crate::piece_targets::{BISHOP, ROOK};
@@ -15,24 +14,6 @@ pub(crate) fn has(set: u64, square: Square) -> bool
     ensures on_board { square < 64 }
 {
     set >> square.index() & 1 == 1
-}
-
-/// The squares of the same file or rank.
-#[inline(always)]
-pub(crate) fn straight_from(square: Square) -> u64
-    ensures lines { (q : ℕ) → q < 64 → (In result q ↔ IsStraight square q) }
-    ensures on_board { square < 64 }
-{
-    ROOK[square.index() as usize]
-}
-
-/// The squares of the same diagonals.
-#[inline(always)]
-pub(crate) fn diagonal_from(square: Square) -> u64
-    ensures lines { (q : ℕ) → q < 64 → (In result q ↔ IsDiagonal square q) }
-    ensures on_board { square < 64 }
-{
-    BISHOP[square.index() as usize]
 }
 
 /// The squares whose indices lie between these two.
@@ -55,54 +36,54 @@ fn interval(a: Square, b: Square) -> u64
     if a < b { run(a, b) } else { run(b, a) }
 }
 
-/// Whether nothing of the set stands between two squares of a file or a rank.
-#[inline(always)]
-pub(crate) fn straight_way(occupied: u64, a: Square, b: Square) -> bool
-    requires { IsStraight a b }
-    ensures { IsTrue result ↔ Open occupied a b }
-{
-    let line = straight_from(a) & straight_from(b);
-    line & interval(a, b) & occupied == 0
+/// The two kinds of lines along which pieces slide.
+#[derive(Clone, Copy)]
+pub(crate) enum Lines {
+    /// Files and ranks.
+    Straight,
+    /// Diagonals.
+    Diagonal,
 }
 
-/// Whether nothing of the set stands between two squares of a diagonal.
-#[inline(always)]
-pub(crate) fn diagonal_way(occupied: u64, a: Square, b: Square) -> bool
-    requires { IsDiagonal a b }
-    ensures { IsTrue result ↔ Open occupied a b }
-{
-    let line = diagonal_from(a) & diagonal_from(b);
-    line & interval(a, b) & occupied == 0
-}
+impl Lines {
+    ghost use Rattle.pb_moves.specs.Sight.{Along, Open, Slides};
 
-/// Whether one of the sliders looks at the square along its file or its rank.
-#[inline(always)]
-pub(crate) fn slides_straight(occupied: u64, sliders: u64, square: Square) -> bool
-    ensures { IsTrue result ↔ SlidesStraight occupied sliders square }
-{
-    let mut rest = straight_from(square) & sliders;
-    while rest != 0 {
-        let index = rest.trailing_zeros();
-        if straight_way(occupied, square, square_at(index as u8)) {
-            return true;
+    /// The squares of the lines through a square, without the square itself.
+    #[inline(always)]
+    pub(crate) fn through(self, square: Square) -> u64
+        ensures lines { (q : ℕ) → q < 64 → (In result q ↔ Along self square q) }
+        ensures on_board { square < 64 }
+    {
+        let index = square.index() as usize;
+        match self {
+            Lines::Straight => ROOK[index],
+            Lines::Diagonal => BISHOP[index],
         }
-        rest &= !(1 << index);
     }
-    false
-}
 
-/// Whether one of the sliders looks at the square along a diagonal.
-#[inline(always)]
-pub(crate) fn slides_diagonally(occupied: u64, sliders: u64, square: Square) -> bool
-    ensures { IsTrue result ↔ SlidesDiagonally occupied sliders square }
-{
-    let mut rest = diagonal_from(square) & sliders;
-    while rest != 0 {
-        let index = rest.trailing_zeros();
-        if diagonal_way(occupied, square, square_at(index as u8)) {
-            return true;
-        }
-        rest &= !(1 << index);
+    /// Whether nothing of the set stands between two squares of one of these lines.
+    #[inline(always)]
+    pub(crate) fn is_open(self, occupied: u64, a: Square, b: Square) -> bool
+        requires { Along self a b }
+        ensures { IsTrue result ↔ Open occupied a b }
+    {
+        let line = self.through(a) & self.through(b);
+        line & interval(a, b) & occupied == 0
     }
-    false
+
+    /// Whether one of the sliders looks at the square along one of these lines.
+    #[inline(always)]
+    pub(crate) fn slides(self, occupied: u64, sliders: u64, square: Square) -> bool
+        ensures { IsTrue result ↔ Slides self occupied sliders square }
+    {
+        let mut rest = self.through(square) & sliders;
+        while rest != 0 {
+            let index = rest.trailing_zeros();
+            if self.is_open(occupied, square, square_at(index as u8)) {
+                return true;
+            }
+            rest &= !(1 << index);
+        }
+        false
+    }
 }

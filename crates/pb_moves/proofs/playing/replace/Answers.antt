@@ -76,7 +76,7 @@ returns-clause-played c = λ _.
       black_long = rights.black_long;
       ep = c.passed_by-ep.ensures board case;
     }) in
-    after_one s c.args.m c.of_parts-next.result c.turn-side.ensures.rules (c.is_safe.ensures.0 (search rules)) parts
+    after_one s c.args.m c.of_parts-next.result c.turn-side.ensures.rules (c.is_safe_after.ensures.0 (search rules)) parts
 
 pub returns-in_default-clause-legal : goal.returns-in_default-clause-legal
 returns-in_default-clause-legal c =

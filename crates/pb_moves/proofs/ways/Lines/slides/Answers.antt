@@ -1,23 +1,23 @@
 use Rattle.std.proofs.Common.{arith, refl, w64}
 use Rattle.std.specs.Int.{trailing_zeros}
-use Rattle.pb_moves.proofs.ClearWays.{left_all, left_next, found_straight, none_straight}
+use Rattle.pb_moves.proofs.ClearWays.{left_all, left_next, found_slider, none_slides}
 use Rattle.pb_moves.proofs.Rising.{zeros_rise, without_small, zeros_some}
-use Rattle.pb_moves.proofs.ways.slides_straight.Goals as goal
+use Rattle.pb_moves.proofs.ways.Lines.slides.Goals as goal
 
 pub loop-rest-init : goal.loop-rest-init
 loop-rest-init c = left_all _ _ _
 
-pub straight_way-requires : goal.straight_way-requires
-straight_way-requires c =
+pub is_open-requires : goal.is_open-requires
+is_open-requires c =
     let rest = c.loop-rest.rest in
     let some = zeros_some rest (omega arith) (omega arith) in
-    (found_straight c.args.occupied c.args.square c.args.sliders c.straight_from.result rest c.square_at.result c.straight_from.ensures.lines c.loop-rest.invariant (omega arith) some c.square_at.ensures).0
+    (found_slider c.args.self c.args.occupied c.args.square c.args.sliders c.through.result rest c.square_at.result c.through.ensures.lines c.loop-rest.invariant (omega arith) some c.square_at.ensures).0
 
-pub returns-then-straight_way : goal.returns-then-straight_way
-returns-then-straight_way c =
+pub returns-then-is_open : goal.returns-then-is_open
+returns-then-is_open c =
     let rest = c.loop-rest.rest in
     let some = zeros_some rest (omega arith) (omega arith) in (
-      λ _. (found_straight c.args.occupied c.args.square c.args.sliders c.straight_from.result rest c.square_at.result c.straight_from.ensures.lines c.loop-rest.invariant (omega arith) some c.square_at.ensures).1 (c.straight_way.ensures.0 c.if-straight_way.true),
+      λ _. (found_slider c.args.self c.args.occupied c.args.square c.args.sliders c.through.result rest c.square_at.result c.through.ensures.lines c.loop-rest.invariant (omega arith) some c.square_at.ensures).1 (c.is_open.ensures.0 c.if-is_open.true),
       λ _. refl,
     )
 
@@ -33,10 +33,10 @@ loop-rest-preserved c =
     let rest = c.loop-rest.rest in
     let some = zeros_some rest (omega arith) (omega arith) in
     left_next c.args.occupied c.args.square _ rest c.square_at.result c.loop-rest.invariant (omega arith) some c.square_at.ensures
-    (λ way. let h = c.straight_way.ensures.1 way in let f = c.if-straight_way.false in cc)
+    (λ way. let h = c.is_open.ensures.1 way in let f = c.if-is_open.false in cc)
 
 pub returns : goal.returns
 returns c = (
   λ h. absurd cc,
-  λ h. absurd (none_straight c.args.occupied c.args.square c.args.sliders c.straight_from.result c.loop-rest.rest c.straight_from.ensures.lines c.loop-rest.invariant (omega arith) h),
+  λ h. absurd (none_slides c.args.self c.args.occupied c.args.square c.args.sliders c.through.result c.loop-rest.rest c.through.ensures.lines c.loop-rest.invariant (omega arith) h),
 )

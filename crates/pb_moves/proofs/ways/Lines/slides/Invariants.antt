@@ -1,7 +1,7 @@
 use Rattle.std.proofs.Common.{◌-◌, w64}
 use Rattle.std.specs.Int.{trailing_zeros}
 use Rattle.pb_moves.proofs.ClearWays.{Left}
-use Rattle.pb_moves.proofs.ways.slides_diagonally.Given as goal
+use Rattle.pb_moves.proofs.ways.Lines.slides.Given as goal
 
 -- the sliders before the lowest of the rest don't look at the square
 abbrev pub invariant-loop-rest : goal.invariant-loop-rest
