@@ -1,16 +1,11 @@
 -- Tests of the numbers below a bound, computed once for a table.
-use Rattle.std.proofs.Common.{◌≡◌, ℕ, ◌<◌, ◌&&◌, ◌||◌, arith, ap, subst, sym, ◌∙◌, Bool, true, false, zero, suc, inl, inr}
-use Rattle.std.proofs.lemmas.Bool.{and_parts, cases_Bool, cases_lt, false≢true}
+use Rattle.std.proofs.Common.{◌≡◌, ℕ, ◌<◌, ◌&&◌, arith, subst, Bool, true, zero, suc, inl, inr}
+use Rattle.std.proofs.lemmas.Bool.{and_parts, cases_lt}
 
 -- a test of each number below n
 abbrev pub all_below : (ℕ → Bool) → ℕ → Bool
 all_below p zero = true
 all_below p (suc n) = p n && all_below p n
-
--- a test that some number below n passes
-abbrev pub any_below : (ℕ → Bool) → ℕ → Bool
-any_below p zero = false
-any_below p (suc n) = p n || any_below p n
 
 pub all_below_at : (p : ℕ → Bool) (n k : ℕ) → all_below p n ≡ true → k < n → p k ≡ true
 all_below_at p zero k h lt = absurd (omega arith)
@@ -19,13 +14,4 @@ all_below_at p (suc n) k h lt =
     elim (cases_lt k n) [
       | inl l ↦ all_below_at p n k parts.1 l
       | inr g ↦ (let same : n ≡ k = omega arith in let P : ℕ → Type 0 = λ x. p x ≡ true in subst P same parts.0)
-    ]
-
-pub any_below_at : (p : ℕ → Bool) (n : ℕ) → any_below p n ≡ true → (k : ℕ) × (k < n) × (p k ≡ true)
-any_below_at p zero h = absurd (false≢true h)
-any_below_at p (suc n) h =
-    elim (cases_Bool (p n)) [
-      | inl passes ↦ (n, omega arith, passes)
-      | inr fails ↦ (let below : any_below p n ≡ true = sym (ap (λ (b : Bool). b || any_below p n) fails) ∙ h in
-          let w = any_below_at p n below in (w.0, omega (arith, w.1), w.2))
     ]

@@ -13,7 +13,6 @@ pub mod laws;
 mod legal;
 mod listing;
 mod moves;
-mod near_targets;
 mod pawn_targets;
 mod piece_targets;
 mod playing;

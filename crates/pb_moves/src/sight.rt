@@ -9,8 +9,8 @@ ghost use Rattle.pb_moves.specs.Attack.{IsAttacked, IsKnightsMove, files_apart, 
 ghost use Rattle.pb_moves.specs.Free.{Lifted};
 ghost use Rattle.pb_moves.specs.Sight.{In, Sees, StrikesFrom};
 
-use crate::near_targets::{BLACK_STRIKES, NEAR, WHITE_STRIKES};
-use crate::piece_targets::KNIGHT;
+use crate::pawn_targets::{BLACK_PAWN, WHITE_PAWN};
+use crate::piece_targets::{BISHOP, KNIGHT, NEAR};
 use crate::ways::Lines;
 use pb_board::{Colour, Kind, Piece, Setup, Square};
 
@@ -61,14 +61,15 @@ pub(crate) fn sight_of(setup: &Setup, colour: Colour) -> Sight
     }
 }
 
-/// The squares from which a pawn of this colour attacks the square.
+/// The squares from which a pawn of this colour attacks the square: those to which a pawn of the other colour may go from it on a diagonal.
 #[inline(always)]
 fn pawns_from(colour: Colour, square: Square) -> u64
     ensures { (a : ℕ) → a < 64 → (In result a ↔ StrikesFrom colour a square) }
 {
+    let index = square.index() as usize;
     match colour {
-        Colour::White => BLACK_STRIKES[square.index() as usize],
-        Colour::Black => WHITE_STRIKES[square.index() as usize],
+        Colour::White => BLACK_PAWN[index] & BISHOP[index],
+        Colour::Black => WHITE_PAWN[index] & BISHOP[index],
     }
 }
 
@@ -100,10 +101,10 @@ pub(crate) fn is_attacked(sight: &Sight, square: Square, by: Colour) -> bool
     if near != 0 {
         return true;
     }
-    if Lines::Straight.slides(sight.occupied, sight.straight, square) {
+    if Lines::Diagonal.slides(sight.occupied, sight.diagonal, square) {
         return true;
     }
-    Lines::Diagonal.slides(sight.occupied, sight.diagonal, square)
+    Lines::Straight.slides(sight.occupied, sight.straight, square)
 }
 
 /// The same out of line.

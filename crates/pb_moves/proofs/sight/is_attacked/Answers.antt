@@ -17,7 +17,7 @@ returns-then-near-ne0 c = λ b sees.
 
 pub returns-then-slides : goal.returns-then-slides
 returns-then-slides c = λ b sees. (
-  λ _. straight_attacks b c.args.by c.args.sight.now c.args.square sees (c.slides.ensures.0 c.if-slides.true),
+  λ _. diagonal_attacks b c.args.by c.args.sight.now c.args.square sees (c.slides.ensures.0 c.if-slides.true),
   λ _. refl,
 )
 
@@ -27,12 +27,12 @@ returns c = λ b sees.
     let n = c.knights_from.result in
     let k = c.kings_from.result in
     let sight = c.args.sight.now in (
-      λ h. diagonal_attacks b c.args.by sight c.args.square sees (c.slides-2.ensures.0 h),
+      λ h. straight_attacks b c.args.by sight c.args.square sees (c.slides-2.ensures.0 h),
       λ attack. elim (seen_attack b c.args.by sight c.args.square p n k sees c.pawns_from.ensures c.knights_from.ensures.moves c.kings_from.ensures attack) [
         | inl w ↦ absurd (in_none (near_of p n k sight) w.0 (omega arith) w.2)
         | inr r ↦ elim r [
-          | inl s ↦ absurd (let h = c.slides.ensures.1 s in let f = c.if-slides.false in cc)
-          | inr d ↦ c.slides-2.ensures.1 d
+          | inl s ↦ c.slides-2.ensures.1 s
+          | inr d ↦ absurd (let h = c.slides.ensures.1 d in let f = c.if-slides.false in cc)
         ]
       ],
     )

@@ -1,5 +1,5 @@
 use Rattle.std.proofs.Common.{ℕ, ◌≡◌, ◌↔◌, max, subst, get_or}
-use Rattle.pb_moves.specs.declared.near_targets.TheConstants.{NEAR}
+use Rattle.pb_moves.specs.declared.piece_targets.TheConstants.{NEAR}
 use Rattle.pb_moves.specs.Attack.{files_apart, ranks_apart}
 use Rattle.pb_moves.specs.Sight.{In}
 use Rattle.pb_moves.proofs.NearTargets.{near_back}
