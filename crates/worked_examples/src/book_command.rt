@@ -7,7 +7,7 @@ use crate::game::stream_of;
 use crate::page::{Done, Page, Trouble};
 use crate::runs::Runs;
 use crate::text::{bytes_of, count_of};
-use pb_cli::{Fault, run_collect, run_export, run_probe, run_show};
+use pb_cli::{Fault, MemPlace, collect_into, run_collect, run_export, run_probe, run_show};
 use pb_poly::{Book, FromRead, MemSink, Source, ToWrite, write_book};
 
 /// How large the pieces of tables are.
@@ -21,6 +21,7 @@ pub(crate) fn answer(page: &mut Page, call: &[&str]) -> Done {
         ["probe", table, ends, record, entries @ ..] => probe(page, table, ends, record, entries),
         ["collect", table, ends, lines @ ..] => collect(page, table, ends, lines),
         ["export", table, ends, lines @ ..] => export(page, table, ends, lines),
+        ["collect-into", table, ends, lines @ ..] => collect_into_memory(page, table, ends, lines),
         ["collect-leaves", table, lines @ ..] => collect_leaves(page, table, lines),
         ["export-leaves", table, lines @ ..] => export_leaves(page, table, lines),
         _ => Err(Trouble::Row),
@@ -128,6 +129,31 @@ fn collect(page: &mut Page, table: &str, ends: &str, lines: &[&str]) -> Done {
     let stream = stream_of(page.alloc, lines)?;
     let mut source = failing_source(stream.as_slice(), 100, ends.input);
     collect_over(page, table, &mut source, ends)
+}
+
+/// The command `collect` with a place in memory for its book: the replies, the answer and what is kept then.
+fn collect_into_memory(page: &mut Page, table: &str, ends: &str, lines: &[&str]) -> Done {
+    let ends = ends_of(ends)?;
+    let table = bytes_of(page.alloc, table)?;
+    let stream = stream_of(page.alloc, lines)?;
+    let mut table = failing_source(table.as_slice(), TABLE_PIECE, ends.table);
+    let mut source = failing_source(stream.as_slice(), 100, ends.input);
+    let mut replies = MemSink::new(page.alloc);
+    let mut place = MemPlace::new(page.alloc);
+    let answer = collect_into(
+        page.alloc,
+        &mut table,
+        &mut source,
+        &mut replies,
+        &mut place,
+        ends.fills,
+    );
+    page.put_bytes(replies.as_bytes())?;
+    page.put_debug(&answer)?;
+    match place.kept() {
+        Some(bytes) => tell_digits(page, bytes),
+        None => page.put("\nnothing is kept"),
+    }
 }
 
 /// The command `export` over a source.
