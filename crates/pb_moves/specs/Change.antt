@@ -14,8 +14,8 @@ Changes (Carry piece) m old new = Carried old new m.from m.to piece
 Changes (CarryPast piece gone) m old new = CarriedPast old new m.from m.to gone piece
 Changes (Castle castling) m old new = Castled (castling_row castling) old new
 
--- the change is one of this move: a pawn that is taken elsewhere stands on neither of its squares; a king that castles goes between
--- them, and its rook is there
+-- the change is one of this move: a pawn that is taken elsewhere stands on neither of its two squares; a king that castles goes from the
+-- one to the other, and its rook stands where it leaves
 abbrev pub Fits : Change → Moved → Board → Type 0
 Fits (Carry piece) m old = Unit {0}
 Fits (CarryPast piece gone) m old = (gone < 64) × (gone ≢ m.from) × (gone ≢ m.to)
