@@ -1,82 +1,84 @@
--- The first refusal that is due.
-use Rattle.std.proofs.Common.{◌≡◌, ℕ, zero, suc, ◌<◌, List, refl, sym, ap, subst, ◌∙◌, inl, inr, arith, lit<}
-use Rattle.std.proofs.lemmas.Bool.{cases_eq}
-use Rattle.pb_board.specs.declared.refusal.FenError.{FenError}
-use Rattle.pb_board.specs.declared.refusal.FenError.TheVariants as refusal
-use Rattle.pb_board.specs.Refusal.{IsDue, IsFirstDue, order}
+-- The first of a list that is due.
+use Rattle.std.proofs.Common.{◌≡◌, ◌↔◌, ◌⊎◌, List, [], ◌∷◌, ◌++◌, length, refl, sym, ap, subst, ◌∙◌, inl, inr, arith}
+use Rattle.std.specs.Prelude.{All, Contains, map}
+use Rattle.std.proofs.lemmas.List.{append_assoc, length-append}
+use Rattle.std.proofs.lemmas.List.Elements.{All-nil, All-cons, All-head, All-tail, All-append, All-contains, Contains-append_right}
+use Rattle.pb_board.specs.Refusal.{IsFirstOf}
 
--- ---- the order
+module _ {E : Type 0} (due : E → Type 0) where
+  abbrev pub NotDue : E → Type 0
+  NotDue d = ¬ due d
 
-of_order : ℕ → FenError
-of_order zero = refusal.Fields
-of_order (suc zero) = refusal.Fields
-of_order (suc (suc zero)) = refusal.Placement
-of_order (suc (suc (suc zero))) = refusal.Turn
-of_order (suc (suc (suc (suc zero)))) = refusal.Castling
-of_order (suc (suc (suc (suc (suc zero))))) = refusal.EnPassantText
-of_order (suc (suc (suc (suc (suc (suc zero)))))) = refusal.Half
-of_order (suc (suc (suc (suc (suc (suc (suc zero))))))) = refusal.Full
-of_order (suc (suc (suc (suc (suc (suc (suc (suc zero)))))))) = refusal.Kings
-of_order (suc (suc (suc (suc (suc (suc (suc (suc (suc zero))))))))) = refusal.Pawns
-of_order (suc (suc (suc (suc (suc (suc (suc (suc (suc (suc n)))))))))) = refusal.EnPassantPawn
+  pub first_here : (e : E) (xs : List E) → due e → IsFirstOf (e ∷ xs) due e
+  first_here e xs h = record { before = []; after = xs; are = refl; is_due = h; none_before = All-nil NotDue }
 
-order_back : (e : FenError) → of_order (order e) ≡ e
-unfolding of_order
-order_back refusal.Fields = refl
-order_back refusal.Placement = refl
-order_back refusal.Turn = refl
-order_back refusal.Castling = refl
-order_back refusal.EnPassantText = refl
-order_back refusal.Half = refl
-order_back refusal.Full = refl
-order_back refusal.Kings = refl
-order_back refusal.Pawns = refl
-order_back refusal.EnPassantPawn = refl
+  pub first_later : (d e : E) (xs : List E) → NotDue d → IsFirstOf xs due e → IsFirstOf (d ∷ xs) due e
+  first_later d e xs fine h = record {
+    before = d ∷ h.before;
+    after = h.after;
+    are = ap (λ w. d ∷ w) h.are;
+    is_due = h.is_due;
+    none_before = All-cons NotDue d h.before fine h.none_before;
+  }
 
-order_injective : (d e : FenError) → order d ≡ order e → d ≡ e
-order_injective d e same = sym (order_back d) ∙ ap of_order same ∙ order_back e
+  cases_from : (d e : E) (xs before after : List E) → d ∷ xs ≡ before ++ e ∷ after → due e → All NotDue before → (d ≡ e) ⊎ (NotDue d × IsFirstOf xs due e)
+  cases_from d e xs [] after are h none = inl (cc (are))
+  cases_from d e xs (b ∷ before) after are h none =
+      let same : d ≡ b = cc (are) in
+      inr (
+        subst NotDue (sym same) (All-head NotDue b before none),
+        record { before = before; after = after; are = cc (are); is_due = h; none_before = All-tail NotDue b before none },
+      )
 
-some_order : (e : FenError) → 0 < order e
-some_order refusal.Fields = lit< tt
-some_order refusal.Placement = lit< tt
-some_order refusal.Turn = lit< tt
-some_order refusal.Castling = lit< tt
-some_order refusal.EnPassantText = lit< tt
-some_order refusal.Half = lit< tt
-some_order refusal.Full = lit< tt
-some_order refusal.Kings = lit< tt
-some_order refusal.Pawns = lit< tt
-some_order refusal.EnPassantPawn = lit< tt
+  first_cases : (d e : E) (xs : List E) → IsFirstOf (d ∷ xs) due e → (d ≡ e) ⊎ (NotDue d × IsFirstOf xs due e)
+  first_cases d e xs h = cases_from d e xs h.before h.after h.are h.is_due h.none_before
 
--- none of these refusals before the n-th is due
-pub record NoneBefore (among : FenError → Type 0) (n : ℕ) (pieces : List (List ℕ)) : Type 0 where
-  pub none : (d : FenError) → among d → order d < n → IsDue d pieces → ⊥
+  none_of_none : (e : E) → IsFirstOf [] due e → ⊥
+  none_of_none e h = omega (arith, ap length h.are, length-append h.before (e ∷ h.after))
 
-pub none_at_first : (among : FenError → Type 0) (pieces : List (List ℕ)) → NoneBefore among 1 pieces
-none_at_first among pieces = record { none = λ d _ lt _. omega (arith, some_order d, lt) }
+  -- a list has one first that is due
+  pub one_first : (xs : List E) (d e : E) → IsFirstOf xs due d → IsFirstOf xs due e → d ≡ e
+  one_first [] d e h k = absurd (none_of_none d h)
+  one_first (x ∷ xs) d e h k =
+      elim (first_cases x d xs h) [
+        | inl a ↦ elim (first_cases x e xs k) [ inl b ↦ sym a ∙ b | inr b ↦ absurd (b.0 (subst due (sym a) h.is_due)) ]
+        | inr a ↦ elim (first_cases x e xs k) [ inl b ↦ absurd (a.0 (subst due (sym b) k.is_due)) | inr b ↦ one_first xs d e a.1 b.1 ]
+      ]
 
-pub none_more : (e : FenError) (n : ℕ) (among : FenError → Type 0) (pieces : List (List ℕ)) → n ≡ order e → NoneBefore among n pieces → (among e → IsDue e pieces → ⊥) → NoneBefore among (suc n) pieces
-none_more e n among pieces is before not_due = record {
-  none = λ d member lt due.
-      elim (cases_eq (order d) n) [
-        | inl same ↦
-            let here : d ≡ e = order_injective d e (same ∙ is) in
-            not_due (subst among here member) (subst (λ x. IsDue x pieces) here due)
-        | inr other ↦ before.none d member (omega arith) due
-      ];
-}
+  pub first_front : (xs ys : List E) (e : E) → IsFirstOf xs due e → IsFirstOf (xs ++ ys) due e
+  first_front xs ys e h = record {
+    before = h.before;
+    after = h.after ++ ys;
+    are = ap (λ w. w ++ ys) h.are ∙ append_assoc h.before (e ∷ h.after) ys;
+    is_due = h.is_due;
+    none_before = h.none_before;
+  }
 
-pub first_due : (e : FenError) (n : ℕ) (among : FenError → Type 0) (pieces : List (List ℕ)) → n ≡ order e → NoneBefore among n pieces → among e → IsDue e pieces → IsFirstDue among e pieces
-first_due e n among pieces is before member due = record { member = member; due = due; first = λ d m lt. before.none d m (omega (arith, lt, is)) }
+  pub first_behind : (front xs : List E) (e : E) → All NotDue front → IsFirstOf xs due e → IsFirstOf (front ++ xs) due e
+  first_behind front xs e none h = record {
+    before = front ++ h.before;
+    after = h.after;
+    are = ap (λ w. front ++ w) h.are ∙ sym (append_assoc front h.before (e ∷ h.after));
+    is_due = h.is_due;
+    none_before = All-append NotDue front h.before none h.none_before;
+  }
 
-pub last_order : (e : FenError) → order e < 11
-last_order refusal.Fields = lit< tt
-last_order refusal.Placement = lit< tt
-last_order refusal.Turn = lit< tt
-last_order refusal.Castling = lit< tt
-last_order refusal.EnPassantText = lit< tt
-last_order refusal.Half = lit< tt
-last_order refusal.Full = lit< tt
-last_order refusal.Kings = lit< tt
-last_order refusal.Pawns = lit< tt
-last_order refusal.EnPassantPawn = lit< tt
+  pub none_first : (xs : List E) (e : E) → All NotDue xs → IsFirstOf xs due e → ⊥
+  none_first xs e none h =
+      All-contains NotDue xs e none (subst (λ w. Contains w e) (sym h.are) (Contains-append_right h.before (e ∷ h.after) e (0, omega arith, refl))) h.is_due
+
+-- where the same are due under other names
+module _ {D E : Type 0} (g : D → E) (due : D → Type 0) (other : E → Type 0) where
+  abbrev IsSame : D → Type 0
+  IsSame d = due d ↔ other (g d)
+
+  pub first_map : (xs : List D) (d : D) → All IsSame xs → IsFirstOf xs due d → IsFirstOf (map g xs) other (g d)
+  first_map [] d same h = absurd (none_of_none due d h)
+  first_map (x ∷ xs) d same h =
+      elim (first_cases due x d xs h) [
+        | inl is ↦
+            subst (λ y. IsFirstOf (map g (x ∷ xs)) other (g y)) is
+            (first_here other (g x) (map g xs) ((All-head IsSame x xs same).0 (subst due (sym is) h.is_due)))
+        | inr later ↦
+            first_later other (g x) (g d) (map g xs) (λ there. later.0 ((All-head IsSame x xs same).1 there)) (first_map xs d (All-tail IsSame x xs same) later.1)
+      ]

@@ -1,6 +1,7 @@
 -- What was read of the six fields of a record, and what follows for the whole.
-use Rattle.std.proofs.Common.{◌≡◌, ℕ, ◌^◌, ◌<◌, ◌↔◌, ◌⊎◌, List, [], ◌∷◌, length, get_or, Option, Some, None, refl, sym, ap, subst, ◌∙◌, inl, inr, arith, lit<}
-use Rattle.std.specs.Prelude.{IfSome, IfOk, IfErr, MatchResult, Result, Ok, Err, map}
+use Rattle.std.proofs.Common.{◌≡◌, ℕ, ◌^◌, ◌<◌, ◌↔◌, List, [], ◌∷◌, ◌++◌, length, take, drop, get_or, Option, Some, None, refl, sym, ap, subst, ◌∙◌, arith}
+use Rattle.std.proofs.lemmas.List.Elements.{All-nil, All-cons, All-append}
+use Rattle.std.specs.Prelude.{All, IfSome, IfOk, IfErr, MatchResult, Result, Ok, Err, map}
 use Rattle.std.specs.Borrow.{Bor}
 use Rattle.std.specs.List.{join_with_byte}
 use Rattle.std.proofs.lemmas.List.Splits.{join_with_byte-slice_split}
@@ -15,9 +16,9 @@ use Rattle.pb_board.specs.Position.{Position, Record, IsSetup, HasOneKing, HasNo
 use Rattle.pb_board.specs.Text.{PlacementText, turn_text, castling_text, passed_text, number_text}
 use Rattle.pb_board.specs.Fen.{AreFields, FenText}
 use Rattle.pb_board.specs.Position.{IsRecord, record_of}
-use Rattle.pb_board.specs.Refusal.{IsDue, IsFirstDue, OfRecord, OfSetup, AreParts, IsRefusedAs, IsFault, IsFirstFault, order, field, fields, SpellsBoard, SpellsPassed, refusal_of}
+use Rattle.pb_board.specs.Refusal.{IsDue, IsFirstDue, of_record, of_setup, AreParts, IsRefusedAs, IsFault, IsFirstFault, field, fields, SpellsBoard, SpellsPassed, refusal_of}
 use Rattle.pb_board.proofs.Unique.{placement_one_board, turn_injective, passed_injective, fields_of_text, on_rank, one_record, one_setup}
-use Rattle.pb_board.proofs.Dues.{NoneBefore, none_at_first, none_more, first_due, last_order}
+use Rattle.pb_board.proofs.Dues.{first_here, first_later, first_front, first_behind, first_map, none_first}
 
 en_passant : (board : List Place) (turn : Colour) (ep : Option ℕ) → IfSome ep (λ q. OnPassedRank turn q) → IfSome ep (λ q. IsPassed board turn q) → EnPassantHolds board turn ep
 en_passant board turn None h k = h
@@ -30,23 +31,44 @@ pub record Begins (pieces : List (List ℕ)) (placement turn castling passed : L
   pub third : field pieces 2 ≡ castling
   pub fourth : field pieces 3 ≡ passed
 
-module _ (among : FenError → Type 0) (pieces : List (List ℕ)) (p : Position) (a b c d : List ℕ) (cut : Begins pieces a b c d) (h : AreParts p a b c d) where
-  pub spells_board : SpellsBoard pieces p.board
+abbrev NotDue : List (List ℕ) → FenError → Type 0
+NotDue pieces d = ¬ IsDue d pieces
+
+-- the refusals of the four texts, and those of the setup that they spell
+abbrev of_texts : List FenError
+of_texts = take 4 of_setup
+
+abbrev of_parts : List FenError
+of_parts = drop 4 of_setup
+
+all_two : {A : Type 0} (P : A → Type 0) (x y : A) → P x → P y → All P (x ∷ y ∷ [])
+all_two P x y h k = All-cons P x (y ∷ []) h (All-cons P y [] k (All-nil P))
+
+all_three : {A : Type 0} (P : A → Type 0) (x y z : A) → P x → P y → P z → All P (x ∷ y ∷ z ∷ [])
+all_three P x y z h k l = All-cons P x (y ∷ z ∷ []) h (all_two P y z k l)
+
+all_four : {A : Type 0} (P : A → Type 0) (w x y z : A) → P w → P x → P y → P z → All P (w ∷ x ∷ y ∷ z ∷ [])
+all_four P w x y z g h k l = All-cons P w (x ∷ y ∷ z ∷ []) g (all_three P x y z h k l)
+
+passed_holds : (board : List Place) (turn : Colour) (ep : Option ℕ) → EnPassantHolds board turn ep → IfSome ep (λ q. IsPassed board turn q)
+passed_holds board turn None h = h
+passed_holds board turn (Some q) h = h.1
+
+module _ (pieces : List (List ℕ)) (p : Position) (a b c d : List ℕ) (cut : Begins pieces a b c d) (h : AreParts p a b c d) where
+  spells_board : SpellsBoard pieces p.board
   spells_board = record { places = h.places; placement = subst (PlacementText p.board) (sym cut.first) ((h.board_is p.board h.places).1 refl) }
 
   only_board : (x : List Place) → SpellsBoard pieces x → x ≡ p.board
   only_board x s = (h.board_is x s.places).0 (subst (PlacementText x) cut.first s.placement)
 
-  pub spells_passed : SpellsPassed pieces p.turn p.ep
+  spells_passed : SpellsPassed pieces p.turn p.ep
   spells_passed = record { side = cut.second ∙ h.turn_is; square = cut.fourth ∙ h.passed_is; rank = h.rank_is }
 
   -- none of the refusals of the four texts is due
-  pub none_of_four : NoneBefore among 2 pieces → NoneBefore among 6 pieces
-  none_of_four n2 =
-      let n3 = none_more refusal.Placement 2 among pieces refl n2 (λ _ due. due p.board spells_board) in
-      let n4 = none_more refusal.Turn 3 among pieces refl n3 (λ _ due. due p.turn (cut.second ∙ h.turn_is)) in
-      let n5 = none_more refusal.Castling 4 among pieces refl n4 (λ _ due. due p.rights (cut.third ∙ h.rights_is)) in
-      none_more refusal.EnPassantText 5 among pieces refl n5 (λ _ due. due p.turn p.ep spells_passed)
+  no_text_due : All (NotDue pieces) of_texts
+  no_text_due =
+      all_four (NotDue pieces) refusal.Placement refusal.Turn refusal.Castling refusal.EnPassantText
+      (λ due. due p.board spells_board) (λ due. due p.turn (cut.second ∙ h.turn_is)) (λ due. due p.rights (cut.third ∙ h.rights_is)) (λ due. due p.turn p.ep spells_passed)
 
   kings_due : IsFault fault.Kings p → IsDue refusal.Kings pieces
   kings_due bad x s white black =
@@ -63,16 +85,19 @@ module _ (among : FenError → Type 0) (pieces : List (List ℕ)) (p : Position)
       let square : q ≡ p.ep = passed_injective t q p.ep sp.rank (subst (λ w. IfSome p.ep (λ y. OnPassedRank w y)) (sym side) h.rank_is) (sym sp.square ∙ cut.fourth ∙ h.passed_is) in
       bad (en_passant p.board p.turn p.ep h.rank_is (subst (λ w. IfSome w (λ y. IsPassed p.board p.turn y)) square (subst (λ w. IfSome q (λ y. IsPassed p.board w y)) side (subst (λ w. IfSome q (λ y. IsPassed w t y)) same passed))))
 
-  -- a setup that was refused, where no refusal of a text is due
-  pub fault_due : (e : SetupError) → NoneBefore among 8 pieces → among (refusal_of e) → IsFirstFault e p → IsFirstDue among (refusal_of e) pieces
-  fault_due fault.Kings n8 member f = first_due refusal.Kings 8 among pieces refl n8 member (kings_due f.due)
-  fault_due fault.Pawns n8 member f =
-      let n9 = none_more refusal.Kings 8 among pieces refl n8 (λ _ due. f.first fault.Kings (lit< tt) (λ white black. due p.board spells_board white black)) in
-      first_due refusal.Pawns 9 among pieces refl n9 member (pawns_due f.due)
-  fault_due fault.EnPassant n8 member f =
-      let n9 = none_more refusal.Kings 8 among pieces refl n8 (λ _ due. f.first fault.Kings (lit< tt) (λ white black. due p.board spells_board white black)) in
-      let n10 = none_more refusal.Pawns 9 among pieces refl n9 (λ _ due. f.first fault.Pawns (lit< tt) (λ none. due p.board spells_board none)) in
-      first_due refusal.EnPassantPawn 10 among pieces refl n10 member (passed_due f.due)
+  -- the parts break a rule exactly where the refusal of that rule is due
+  fault_is : (e : SetupError) → IsFault e p ↔ IsDue (refusal_of e) pieces
+  fault_is fault.Kings = (kings_due, λ due white black. due p.board spells_board white black)
+  fault_is fault.Pawns = (pawns_due, λ due none. due p.board spells_board none)
+  fault_is fault.EnPassant = (passed_due, λ due holds. due p.board p.turn p.ep spells_board spells_passed (passed_holds p.board p.turn p.ep holds))
+
+  fault_due : (e : SetupError) → IsFirstFault e p → IsFirstDue of_parts (refusal_of e) pieces
+  fault_due e f = first_map refusal_of (λ x. IsFault x p) (λ x. IsDue x pieces) (fault.Kings ∷ fault.Pawns ∷ fault.EnPassant ∷ []) e (λ i x lt. fault_is _) f
+
+  no_fault_due : IsSetup p → All (NotDue pieces) of_parts
+  no_fault_due lawful =
+      all_three (NotDue pieces) refusal.Kings refusal.Pawns refusal.EnPassantPawn
+      (λ due. (fault_is fault.Kings).1 due lawful.white_king lawful.black_king) (λ due. (fault_is fault.Pawns).1 due lawful.pawns) (λ due. (fault_is fault.EnPassant).1 due lawful.en_passant)
 
 -- ---- four texts
 
@@ -86,22 +111,15 @@ setup_found p a b c d h = record {
 pub four_begin : (a b c d : List ℕ) → Begins (a ∷ b ∷ c ∷ d ∷ []) a b c d
 four_begin a b c d = record { first = refl; second = refl; third = refl; fourth = refl }
 
-none_of_setup : (pieces : List (List ℕ)) → NoneBefore OfSetup 2 pieces
-none_of_setup pieces = none_more refusal.Fields 1 OfSetup pieces refl (none_at_first OfSetup pieces) (λ member _. member)
+pub texts_refused : (e : FenError) (four : List (List ℕ)) (a b c d : List ℕ) → four ≡ a ∷ b ∷ c ∷ d ∷ [] → IsFirstDue (take 4 of_setup) e (a ∷ b ∷ c ∷ d ∷ []) → IsFirstDue of_setup e four
+texts_refused e four a b c d is h = subst (IsFirstDue of_setup e) (sym is) (first_front (λ x. IsDue x (a ∷ b ∷ c ∷ d ∷ [])) of_texts of_parts e h)
 
-setup_refusal : (e : SetupError) → OfSetup (refusal_of e)
-setup_refusal fault.Kings = tt
-setup_refusal fault.Pawns = tt
-setup_refusal fault.EnPassant = tt
-
-pub setup_fault : (e : FenError) (p : Position) (a b c d : List ℕ) → AreParts p a b c d → IsRefusedAs e p → IsFirstDue OfSetup e (a ∷ b ∷ c ∷ d ∷ [])
+pub setup_fault : (e : FenError) (p : Position) (a b c d : List ℕ) → AreParts p a b c d → IsRefusedAs e p → IsFirstDue of_setup e (a ∷ b ∷ c ∷ d ∷ [])
 setup_fault e p a b c d h r =
     let pieces = a ∷ b ∷ c ∷ d ∷ [] in
     let cut = four_begin a b c d in
-    let n6 = none_of_four OfSetup pieces p a b c d cut h (none_of_setup pieces) in
-    let n7 = none_more refusal.Half 6 OfSetup pieces refl n6 (λ member _. member) in
-    let n8 = none_more refusal.Full 7 OfSetup pieces refl n7 (λ member _. member) in
-    subst (λ x. IsFirstDue OfSetup x pieces) (sym r.is) (fault_due OfSetup pieces p a b c d cut h r.cause n8 (setup_refusal r.cause) r.first)
+    subst (λ x. IsFirstDue of_setup x pieces) (sym r.is)
+    (first_behind (λ x. IsDue x pieces) of_texts of_parts (refusal_of r.cause) (no_text_due pieces p a b c d cut h) (fault_due pieces p a b c d cut h r.cause r.first))
 
 -- a list of four
 pub four_cells : {A : Type 0} (xs : List A) (d : A) → length xs ≡ 4 → xs ≡ get_or xs 0 d ∷ get_or xs 1 d ∷ get_or xs 2 d ∷ get_or xs 3 d ∷ []
@@ -114,67 +132,59 @@ four_cells (w ∷ x ∷ y ∷ z ∷ v ∷ vs) d e = absurd (omega (arith, e))
 
 -- ---- six texts
 
--- what a refusal of the first four asks is the same of all six
-four_of_six : (x : FenError) (a b c d e f : List ℕ) → OfSetup x → IsDue x (a ∷ b ∷ c ∷ d ∷ []) ↔ IsDue x (a ∷ b ∷ c ∷ d ∷ e ∷ f ∷ [])
-four_of_six refusal.Fields a b c d e f member = absurd member
-four_of_six refusal.Placement a b c d e f member = (λ h board s. h board (record { places = s.places; placement = s.placement }), λ h board s. h board (record { places = s.places; placement = s.placement }))
-four_of_six refusal.Turn a b c d e f member = (λ h. h, λ h. h)
-four_of_six refusal.Castling a b c d e f member = (λ h. h, λ h. h)
-four_of_six refusal.EnPassantText a b c d e f member = (λ h t q s. h t q (record { side = s.side; square = s.square; rank = s.rank }), λ h t q s. h t q (record { side = s.side; square = s.square; rank = s.rank }))
-four_of_six refusal.Half a b c d e f member = absurd member
-four_of_six refusal.Full a b c d e f member = absurd member
-four_of_six refusal.Kings a b c d e f member = (λ h board s. h board (record { places = s.places; placement = s.placement }), λ h board s. h board (record { places = s.places; placement = s.placement }))
-four_of_six refusal.Pawns a b c d e f member = (λ h board s. h board (record { places = s.places; placement = s.placement }), λ h board s. h board (record { places = s.places; placement = s.placement }))
-four_of_six refusal.EnPassantPawn a b c d e f member = (
-  λ h board t q s r. h board t q (record { places = s.places; placement = s.placement }) (record { side = r.side; square = r.square; rank = r.rank }),
-  λ h board t q s r. h board t q (record { places = s.places; placement = s.placement }) (record { side = r.side; square = r.square; rank = r.rank }),
-)
-
-of_text : (x : FenError) → order x < 6 → (x ≡ refusal.Fields) ⊎ OfSetup x
-of_text refusal.Fields lt = inl refl
-of_text refusal.Placement lt = inr tt
-of_text refusal.Turn lt = inr tt
-of_text refusal.Castling lt = inr tt
-of_text refusal.EnPassantText lt = inr tt
-of_text refusal.Half lt = absurd (omega (arith, lt))
-of_text refusal.Full lt = absurd (omega (arith, lt))
-of_text refusal.Kings lt = absurd (omega (arith, lt))
-of_text refusal.Pawns lt = absurd (omega (arith, lt))
-of_text refusal.EnPassantPawn lt = absurd (omega (arith, lt))
+-- what a refusal of one of the four texts asks is the same of all six
+four_of_six : (a b c d e f : List ℕ) → All (λ x. IsDue x (a ∷ b ∷ c ∷ d ∷ []) ↔ IsDue x (a ∷ b ∷ c ∷ d ∷ e ∷ f ∷ [])) of_texts
+four_of_six a b c d e f =
+    let Same : FenError → Type 0 = λ x. IsDue x (a ∷ b ∷ c ∷ d ∷ []) ↔ IsDue x (a ∷ b ∷ c ∷ d ∷ e ∷ f ∷ []) in
+    all_four Same refusal.Placement refusal.Turn refusal.Castling refusal.EnPassantText
+    (λ h board s. h board (record { places = s.places; placement = s.placement }), λ h board s. h board (record { places = s.places; placement = s.placement }))
+    (λ h. h, λ h. h) (λ h. h, λ h. h)
+    (λ h t q s. h t q (record { side = s.side; square = s.square; rank = s.rank }), λ h t q s. h t q (record { side = s.side; square = s.square; rank = s.rank }))
 
 module _ (text a b c d e f : List ℕ) (cut : fields text ≡ a ∷ b ∷ c ∷ d ∷ e ∷ f ∷ []) where
   six_begin : Begins (fields text) a b c d
   six_begin = record { first = ap (λ p. field p 0) cut; second = ap (λ p. field p 1) cut; third = ap (λ p. field p 2) cut; fourth = ap (λ p. field p 3) cut }
 
-  none_of_fields : NoneBefore OfRecord 2 (fields text)
-  none_of_fields = none_more refusal.Fields 1 OfRecord (fields text) refl (none_at_first OfRecord (fields text)) (λ _ due. due (ap length cut))
+  are_six : NotDue (fields text) refusal.Fields
+  are_six due = due (ap length cut)
 
   -- a refusal of one of the first four fields
-  pub four_refused : (x : FenError) → order x < 6 → IsFirstDue OfSetup x (a ∷ b ∷ c ∷ d ∷ []) → IsFirstDue OfRecord x (fields text)
-  four_refused x lt h = record {
-    member = tt;
-    due = subst (IsDue x) (sym cut) ((four_of_six x a b c d e f h.member).0 h.due);
-    first = λ y _ less due.
-        elim (of_text y (omega arith)) [
-          | inl is ↦ (subst (λ z. IsDue z (fields text)) is due) (ap length cut)
-          | inr member ↦ h.first y member less ((four_of_six y a b c d e f member).1 (subst (IsDue y) cut due))
-        ];
-  }
+  pub four_refused : (x : FenError) → IsFirstDue (take 4 of_setup) x (a ∷ b ∷ c ∷ d ∷ []) → IsFirstDue of_record x (fields text)
+  four_refused x h =
+      let six = a ∷ b ∷ c ∷ d ∷ e ∷ f ∷ [] in
+      let here : IsFirstDue of_texts x six = first_map (λ y. y) (λ y. IsDue y (a ∷ b ∷ c ∷ d ∷ [])) (λ y. IsDue y six) of_texts x (four_of_six a b c d e f) h in
+      first_later (λ y. IsDue y (fields text)) refusal.Fields x _ are_six
+      (first_front (λ y. IsDue y (fields text)) of_texts (refusal.Half ∷ refusal.Full ∷ of_parts) x (subst (IsFirstDue of_texts x) (sym cut) here))
 
   module _ (p : Position) (h : AreParts p a b c d) where
-    none_of_parts : NoneBefore OfRecord 6 (fields text)
-    none_of_parts = none_of_four OfRecord (fields text) p a b c d six_begin h none_of_fields
+    -- the fields before the fifth are no cause
+    no_field_due : All (NotDue (fields text)) (refusal.Fields ∷ of_texts)
+    no_field_due = All-cons (NotDue (fields text)) refusal.Fields of_texts are_six (no_text_due (fields text) p a b c d six_begin h)
 
-    none_of_half : (half : ℕ) → half < 2 ^ 16 → e ≡ number_text half → NoneBefore OfRecord 7 (fields text)
-    none_of_half half lt is = none_more refusal.Half 6 OfRecord (fields text) refl none_of_parts (λ _ due. due half lt (ap (λ w. field w 4) cut ∙ is))
+    no_half_due : (half : ℕ) → (half < 2 ^ 16) × (e ≡ number_text half) → NotDue (fields text) refusal.Half
+    no_half_due half is due = due half is.0 (ap (λ w. field w 4) cut ∙ is.1)
 
-    none_of_full : (half full : ℕ) → (half < 2 ^ 16) × (e ≡ number_text half) → (0 < full) × (full < 2 ^ 16) × (f ≡ number_text full) → NoneBefore OfRecord 8 (fields text)
-    none_of_full half full is count =
-        none_more refusal.Full 7 OfRecord (fields text) refl (none_of_half half is.0 is.1) (λ _ due. due full count.0 count.1 (ap (λ w. field w 5) cut ∙ count.2))
+    -- nor are the clocks
+    no_clock_due : (half full : ℕ) → (half < 2 ^ 16) × (e ≡ number_text half) → (0 < full) × (full < 2 ^ 16) × (f ≡ number_text full) → All (NotDue (fields text)) (refusal.Fields ∷ (of_texts ++ refusal.Half ∷ refusal.Full ∷ []))
+    no_clock_due half full is count =
+        All-append (NotDue (fields text)) (refusal.Fields ∷ of_texts) (refusal.Half ∷ refusal.Full ∷ []) no_field_due
+        (all_two (NotDue (fields text)) refusal.Half refusal.Full (no_half_due half is) (λ due. due full count.0 count.1 (ap (λ w. field w 5) cut ∙ count.2)))
 
-    pub setup_refused : (x : FenError) (half full : ℕ) → (half < 2 ^ 16) × (e ≡ number_text half) → (0 < full) × (full < 2 ^ 16) × (f ≡ number_text full) → IsRefusedAs x p → IsFirstDue OfRecord x (fields text)
+    pub half_refused : ((n : ℕ) → n < 2 ^ 16 → e ≡ number_text n → ⊥) → IsFirstDue of_record refusal.Half (fields text)
+    half_refused bad =
+        first_behind (λ y. IsDue y (fields text)) (refusal.Fields ∷ of_texts) (refusal.Half ∷ refusal.Full ∷ of_parts) refusal.Half no_field_due
+        (first_here (λ y. IsDue y (fields text)) refusal.Half (refusal.Full ∷ of_parts) (λ n lt is. bad n lt (sym (ap (λ w. field w 4) cut) ∙ is)))
+
+    pub full_refused : (half : ℕ) → (half < 2 ^ 16) × (e ≡ number_text half) → ((n : ℕ) → 0 < n → n < 2 ^ 16 → f ≡ number_text n → ⊥) → IsFirstDue of_record refusal.Full (fields text)
+    full_refused half number bad =
+        first_behind (λ y. IsDue y (fields text)) (refusal.Fields ∷ of_texts) (refusal.Half ∷ refusal.Full ∷ of_parts) refusal.Full no_field_due
+        (first_later (λ y. IsDue y (fields text)) refusal.Half refusal.Full (refusal.Full ∷ of_parts) (no_half_due half number)
+        (first_here (λ y. IsDue y (fields text)) refusal.Full of_parts (λ n low lt is. bad n low lt (sym (ap (λ w. field w 5) cut) ∙ is))))
+
+    pub setup_refused : (x : FenError) (half full : ℕ) → (half < 2 ^ 16) × (e ≡ number_text half) → (0 < full) × (full < 2 ^ 16) × (f ≡ number_text full) → IsRefusedAs x p → IsFirstDue of_record x (fields text)
     setup_refused x half full is count r =
-        subst (λ w. IsFirstDue OfRecord w (fields text)) (sym r.is) (fault_due OfRecord (fields text) p a b c d six_begin h r.cause (none_of_full half full is count) tt r.first)
+        subst (λ w. IsFirstDue of_record w (fields text)) (sym r.is)
+        (first_behind (λ y. IsDue y (fields text)) (refusal.Fields ∷ (of_texts ++ refusal.Half ∷ refusal.Full ∷ [])) of_parts (refusal_of r.cause) (no_clock_due half full is count) (fault_due (fields text) p a b c d six_begin h r.cause r.first))
 
     pub text_found : (half full : ℕ) → (half < 2 ^ 16) × (e ≡ number_text half) → (0 < full) × (full < 2 ^ 16) × (f ≡ number_text full) → IsSetup p → IsRecord (record_of p half full) × FenText (record_of p half full) text
     text_found half full number count lawful = (
@@ -189,10 +199,6 @@ module _ (text a b c d e f : List ℕ) (cut : fields text ≡ a ∷ b ∷ c ∷ 
 
 -- ---- the other way: a text of a record
 
-passed_holds : (board : List Place) (turn : Colour) (ep : Option ℕ) → EnPassantHolds board turn ep → IfSome ep (λ q. IsPassed board turn q)
-passed_holds board turn None h = h
-passed_holds board turn (Some q) h = h.1
-
 -- the fields of a setup are its parts
 parts_of : (p : Position) (placement : List ℕ) → IsSetup p → PlacementText p.board placement → AreParts p placement (turn_text p.turn) (castling_text p.rights) (passed_text p.ep)
 parts_of p placement lawful h = record {
@@ -205,50 +211,37 @@ parts_of p placement lawful h = record {
 }
 
 -- where the text spells a record, no refusal is due
-pub spelt_not_due : (f : Record) (text : List ℕ) → IsRecord f → FenText f text → NoneBefore OfRecord 11 (fields text)
-spelt_not_due f text lawful h =
-    let cut = fields_of_text f text lawful h in
+pub record_never_due : (f : Record) (text : List ℕ) (e : FenError) → IsRecord f → FenText f text → IsFirstDue of_record e (fields text) → ⊥
+record_never_due f text e lawful h =
     let p = f.setup in
     let a = h.fields.placement in
     let b = turn_text p.turn in
     let c = castling_text p.rights in
     let d = passed_text p.ep in
+    let cut = fields_of_text f text lawful h in
     let parts = parts_of p a lawful.setup h.fields.placement_is in
-    let begin = six_begin text a b c d (number_text f.half) (number_text f.full) cut in
-    let n8 = none_of_full text a b c d (number_text f.half) (number_text f.full) cut p parts f.half f.full (lawful.half, refl) (lawful.low, lawful.full, refl) in
-    let board = spells_board OfRecord (fields text) p a b c d begin parts in
-    let passed = spells_passed OfRecord (fields text) p a b c d begin parts in
-    let n9 = none_more refusal.Kings 8 OfRecord (fields text) refl n8 (λ _ due. due p.board board lawful.setup.white_king lawful.setup.black_king) in
-    let n10 = none_more refusal.Pawns 9 OfRecord (fields text) refl n9 (λ _ due. due p.board board lawful.setup.pawns) in
-    none_more refusal.EnPassantPawn 10 OfRecord (fields text) refl n10 (λ _ due. due p.board p.turn p.ep board passed (passed_holds p.board p.turn p.ep lawful.setup.en_passant))
+    let clocks = no_clock_due text a b c d (number_text f.half) (number_text f.full) cut p parts f.half f.full (lawful.half, refl) (lawful.low, lawful.full, refl) in
+    let setup = no_fault_due (fields text) p a b c d (six_begin text a b c d (number_text f.half) (number_text f.full) cut) parts lawful.setup in
+    none_first (λ x. IsDue x (fields text)) of_record e (All-append (NotDue (fields text)) (refusal.Fields ∷ (of_texts ++ refusal.Half ∷ refusal.Full ∷ [])) of_parts clocks setup)
 
 -- what `read_fen` answers for a text of the record f
-pub only_record : (r : Result Record FenError) (f : Record) (text : List ℕ) → IfOk r (λ g. IsRecord g × FenText g text) → IfErr r (λ e. IsFirstDue OfRecord e (fields text)) → IsRecord f → FenText f text → r ≡ Ok f
+pub only_record : (r : Result Record FenError) (f : Record) (text : List ℕ) → IfOk r (λ g. IsRecord g × FenText g text) → IfErr r (λ e. IsFirstDue of_record e (fields text)) → IsRecord f → FenText f text → r ≡ Ok f
 only_record (Ok g) f text found refused lawful h = ap (λ x. Ok x) (one_record g f text found.0 lawful found.1 h)
-only_record (Err e) f text found refused lawful h = absurd ((spelt_not_due f text lawful h).none e tt (last_order e) refused.due)
+only_record (Err e) f text found refused lawful h = absurd (record_never_due f text e lawful h refused)
 
-pub setup_not_due : (p : Position) (four : List (List ℕ)) → IsSetup p → AreFields p four → NoneBefore OfSetup 11 four
-setup_not_due p four lawful h =
+pub setup_never_due : (p : Position) (four : List (List ℕ)) (e : FenError) → IsSetup p → AreFields p four → IsFirstDue of_setup e four → ⊥
+setup_never_due p four e lawful h refused =
     let a = h.placement in
     let b = turn_text p.turn in
     let c = castling_text p.rights in
     let d = passed_text p.ep in
     let pieces = a ∷ b ∷ c ∷ d ∷ [] in
     let parts = parts_of p a lawful h.placement_is in
-    let begin = four_begin a b c d in
-    let n6 = none_of_four OfSetup pieces p a b c d begin parts (none_of_setup pieces) in
-    let n7 = none_more refusal.Half 6 OfSetup pieces refl n6 (λ member _. member) in
-    let n8 = none_more refusal.Full 7 OfSetup pieces refl n7 (λ member _. member) in
-    let board = spells_board OfSetup pieces p a b c d begin parts in
-    let passed = spells_passed OfSetup pieces p a b c d begin parts in
-    let n9 = none_more refusal.Kings 8 OfSetup pieces refl n8 (λ _ due. due p.board board lawful.white_king lawful.black_king) in
-    let n10 = none_more refusal.Pawns 9 OfSetup pieces refl n9 (λ _ due. due p.board board lawful.pawns) in
-    subst (NoneBefore OfSetup 11) (sym h.are) (none_more refusal.EnPassantPawn 10 OfSetup pieces refl n10 (λ _ due. due p.board p.turn p.ep board passed (passed_holds p.board p.turn p.ep lawful.en_passant)))
+    let texts = no_text_due pieces p a b c d (four_begin a b c d) parts in
+    let setup = no_fault_due pieces p a b c d (four_begin a b c d) parts lawful in
+    none_first (λ x. IsDue x pieces) of_setup e (All-append (NotDue pieces) of_texts of_parts texts setup) (subst (IsFirstDue of_setup e) h.are refused)
 
-pub setup_never_due : (p : Position) (four : List (List ℕ)) (e : FenError) → IsSetup p → AreFields p four → IsFirstDue OfSetup e four → ⊥
-setup_never_due p four e lawful h refused = (setup_not_due p four lawful h).none e refused.member (last_order e) refused.due
-
-pub only_setup : (r : Result Position FenError) (p : Position) (four : List (List ℕ)) → IfOk r (λ s. IsSetup s × AreFields s four) → IfErr r (λ e. IsFirstDue OfSetup e four) → IsSetup p → AreFields p four → r ≡ Ok p
+pub only_setup : (r : Result Position FenError) (p : Position) (four : List (List ℕ)) → IfOk r (λ s. IsSetup s × AreFields s four) → IfErr r (λ e. IsFirstDue of_setup e four) → IsSetup p → AreFields p four → r ≡ Ok p
 only_setup (Ok s) p four found refused lawful h = ap (λ x. Ok x) (one_setup s p four found.0 lawful found.1 h)
 only_setup (Err e) p four found refused lawful h = absurd (setup_never_due p four e lawful h refused)
 
@@ -260,6 +253,6 @@ built_found (Ok s) p four a b c d is h built =
     (subst IsSetup (sym built.0) built.1, subst (λ w. AreFields s w) (sym is) (subst (λ w. AreFields w (a ∷ b ∷ c ∷ d ∷ [])) (sym built.0) (setup_found p a b c d h)))
 built_found (Err e) p four a b c d is h built = tt
 
-pub built_refused : (r : Result Position FenError) (p : Position) (four : List (List ℕ)) (a b c d : List ℕ) → four ≡ a ∷ b ∷ c ∷ d ∷ [] → AreParts p a b c d → MatchResult r (λ s. (s ≡ p) × IsSetup p) (λ e. IsRefusedAs e p) → IfErr r (λ e. IsFirstDue OfSetup e four)
+pub built_refused : (r : Result Position FenError) (p : Position) (four : List (List ℕ)) (a b c d : List ℕ) → four ≡ a ∷ b ∷ c ∷ d ∷ [] → AreParts p a b c d → MatchResult r (λ s. (s ≡ p) × IsSetup p) (λ e. IsRefusedAs e p) → IfErr r (λ e. IsFirstDue of_setup e four)
 built_refused (Ok s) p four a b c d is h built = tt
-built_refused (Err e) p four a b c d is h built = subst (IsFirstDue OfSetup e) (sym is) (setup_fault e p a b c d h built)
+built_refused (Err e) p four a b c d is h built = subst (IsFirstDue of_setup e) (sym is) (setup_fault e p a b c d h built)

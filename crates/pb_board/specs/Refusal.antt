@@ -1,5 +1,5 @@
--- Which refusal is answered: the first in the order below whose condition holds.
-use Rattle.std.specs.Prelude.{◌≡◌, ◌≢◌, ℕ, ◌<◌, ◌^◌, ◌↔◌, List, [], length, Option, ◌==◌, slice_index_or, IfSome}
+-- Which refusal is answered: the first of a list whose condition holds.
+use Rattle.std.specs.Prelude.{◌≡◌, ◌≢◌, ℕ, ◌<◌, ◌^◌, ◌↔◌, List, [], ◌∷◌, ◌++◌, length, Option, ◌==◌, slice_index_or, IfSome, All}
 use Rattle.std.specs.List.{slice_split}
 use Rattle.pb_board.specs.declared.piece.Colour.{Colour}
 use Rattle.pb_board.specs.declared.piece.Colour.TheVariants.{White, Black}
@@ -12,6 +12,14 @@ use Rattle.pb_board.specs.Board.{Board}
 use Rattle.pb_board.specs.Position.{Position, HasOneKing, HasNoEdgePawn, EnPassantHolds, OnPassedRank, IsPassed}
 use Rattle.pb_board.specs.Text.{PlacementText, turn_text, castling_text, passed_text, number_text}
 
+-- this one of the list is due, and none before it
+pub record IsFirstOf {E : Type 0} (errors : List E) (due : E → Type 0) (e : E) : Type 0 where
+  pub before : List E
+  pub after : List E
+  pub are : errors ≡ before ++ e ∷ after
+  pub is_due : due e
+  pub none_before : All (λ d. ¬ due d) before
+
 -- ---- a setup of parts
 
 -- when parts are no setup
@@ -20,14 +28,9 @@ IsFault fault.Kings p = HasOneKing p.board White → HasOneKing p.board Black �
 IsFault fault.Pawns p = HasNoEdgePawn p.board → ⊥
 IsFault fault.EnPassant p = EnPassantHolds p.board p.turn p.ep → ⊥
 
-abbrev pub fault_order : SetupError → ℕ
-fault_order fault.Kings = 1
-fault_order fault.Pawns = 2
-fault_order fault.EnPassant = 3
-
-pub record IsFirstFault (e : SetupError) (p : Position) : Type 0 where
-  pub due : IsFault e p
-  pub first : (d : SetupError) → fault_order d < fault_order e → IsFault d p → ⊥
+-- the first cause, in the order in which they are looked for
+abbrev pub IsFirstFault : SetupError → Position → Type 0
+IsFirstFault e p = IsFirstOf (fault.Kings ∷ fault.Pawns ∷ fault.EnPassant ∷ []) (λ d. IsFault d p) e
 
 -- ---- a text
 
@@ -64,46 +67,25 @@ IsDue refusal.Pawns pieces = (board : Board) → SpellsBoard pieces board → Ha
 IsDue refusal.EnPassantPawn pieces =
     (board : Board) (turn : Colour) (ep : Option ℕ) → SpellsBoard pieces board → SpellsPassed pieces turn ep → IfSome ep (λ q. IsPassed board turn q) → ⊥
 
-abbrev pub order : FenError → ℕ
-order refusal.Fields = 1
-order refusal.Placement = 2
-order refusal.Turn = 3
-order refusal.Castling = 4
-order refusal.EnPassantText = 5
-order refusal.Half = 6
-order refusal.Full = 7
-order refusal.Kings = 8
-order refusal.Pawns = 9
-order refusal.EnPassantPawn = 10
+-- the refusals of a whole record, in order
+abbrev pub of_record : List FenError
+of_record =
+    refusal.Fields ∷ refusal.Placement ∷ refusal.Turn ∷ refusal.Castling ∷ refusal.EnPassantText ∷ refusal.Half ∷ refusal.Full
+    ∷ refusal.Kings ∷ refusal.Pawns ∷ refusal.EnPassantPawn ∷ []
+
+-- the refusals of the first four fields alone, in order
+abbrev pub of_setup : List FenError
+of_setup = refusal.Placement ∷ refusal.Turn ∷ refusal.Castling ∷ refusal.EnPassantText ∷ refusal.Kings ∷ refusal.Pawns ∷ refusal.EnPassantPawn ∷ []
+
+-- the first of these refusals that is due
+abbrev pub IsFirstDue : List FenError → FenError → List (List ℕ) → Type 0
+IsFirstDue errors e pieces = IsFirstOf errors (λ d. IsDue d pieces) e
 
 -- the refusal of a text whose parts are no setup: the rank of the square was judged before
 abbrev pub refusal_of : SetupError → FenError
 refusal_of fault.Kings = refusal.Kings
 refusal_of fault.Pawns = refusal.Pawns
 refusal_of fault.EnPassant = refusal.EnPassantPawn
-
--- the refusals of a whole record
-abbrev pub OfRecord : FenError → Type 0
-OfRecord e = Unit {0}
-
--- the refusals of the first four fields alone
-abbrev pub OfSetup : FenError → Type 0
-OfSetup refusal.Fields = ⊥
-OfSetup refusal.Placement = Unit {0}
-OfSetup refusal.Turn = Unit {0}
-OfSetup refusal.Castling = Unit {0}
-OfSetup refusal.EnPassantText = Unit {0}
-OfSetup refusal.Half = ⊥
-OfSetup refusal.Full = ⊥
-OfSetup refusal.Kings = Unit {0}
-OfSetup refusal.Pawns = Unit {0}
-OfSetup refusal.EnPassantPawn = Unit {0}
-
--- among these refusals this one is due, and none before it
-pub record IsFirstDue (among : FenError → Type 0) (e : FenError) (pieces : List (List ℕ)) : Type 0 where
-  pub member : among e
-  pub due : IsDue e pieces
-  pub first : (d : FenError) → among d → order d < order e → IsDue d pieces → ⊥
 
 -- what the four texts spell, and nothing else
 pub record AreParts (p : Position) (placement turn castling passed : List ℕ) : Type 0 where

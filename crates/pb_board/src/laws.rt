@@ -3,7 +3,7 @@
 ghost use Rattle.std.specs.Prelude.{◌≡◌, ℕ, List};
 ghost use Rattle.pb_board.specs.Position.{Position, Record, IsSetup, IsRecord};
 ghost use Rattle.pb_board.specs.Fen.{AreFields, FourFields, FenText};
-ghost use Rattle.pb_board.specs.Refusal.{IsFirstDue, OfRecord, fields};
+ghost use Rattle.pb_board.specs.Refusal.{IsFirstDue, of_record, fields};
 ghost use Rattle.pb_board.specs.declared.refusal.FenError.{FenError};
 
 /// No record has two texts.
@@ -28,5 +28,5 @@ pub fn one_setup()
 
 /// No refusal is due for a text of a record.
 pub fn none_due()
-    ensures { (f : Record) (t : List ℕ) (e : FenError) → IsRecord f → FenText f t → IsFirstDue OfRecord e (fields t) → ⊥ }
+    ensures { (f : Record) (t : List ℕ) (e : FenError) → IsRecord f → FenText f t → IsFirstDue of_record e (fields t) → ⊥ }
 {}

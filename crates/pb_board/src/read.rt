@@ -1,10 +1,10 @@
 //! Reading a FEN record.
 
-ghost use Rattle.std.specs.Prelude.{◌≡◌, ◌<◌, ◌∷◌, [], map, Ok, IfOk, IfErr, MatchResult};
+ghost use Rattle.std.specs.Prelude.{◌≡◌, ◌∷◌, [], map, take, Ok, IfOk, IfErr, MatchResult};
 ghost use Rattle.pb_board.specs.Position.{Position, Record, IsSetup, position_of};
 ghost use Rattle.pb_board.specs.Fen.{AreFields, FenText};
 ghost use Rattle.pb_board.specs.Position.{IsRecord};
-ghost use Rattle.pb_board.specs.Refusal.{order, IsFirstDue, OfRecord, OfSetup, AreParts, IsRefusedAs, fields, refusal_of};
+ghost use Rattle.pb_board.specs.Refusal.{IsFirstDue, of_record, of_setup, AreParts, IsRefusedAs, fields, refusal_of};
 
 use crate::fen::Fen;
 use crate::fields::cut_fields;
@@ -26,6 +26,7 @@ struct Parts {
 }
 
 /// What the first four fields spell, or the first refusal that is due among theirs.
+#[tactic(auto, using(crate::proofs::Firsts::placement_first, crate::proofs::Firsts::turn_first))]
 fn read_parts(
     placement: &[u8],
     turn: &[u8],
@@ -33,7 +34,7 @@ fn read_parts(
     passed: &[u8],
 ) -> Result<Parts, FenError>
     ensures { MatchResult result (λ p. AreParts (position_of p.board p.turn p.rights p.ep) placement.now turn.now castling.now passed.now)
-        (λ e. (order e < 6) × IsFirstDue OfSetup e (placement.now ∷ turn.now ∷ castling.now ∷ passed.now ∷ [])) }
+        (λ e. IsFirstDue (take 4 of_setup) e (placement.now ∷ turn.now ∷ castling.now ∷ passed.now ∷ [])) }
 {
     let Some(board) = read_placement(placement) else {
         return Err(FenError::Placement);
@@ -89,7 +90,7 @@ pub fn read_setup(four: [&[u8]; 4]) -> Result<Setup, FenError>
     // The texts of a setup are read.
     ensures only { (p : Position) → IsSetup p → AreFields p (map (λ t. t.now) four.entry) → result ≡ Ok p }
     // A refusal is the first whose condition holds.
-    ensures refused { IfErr result (λ e. IsFirstDue OfSetup e (map (λ t. t.now) four.entry)) }
+    ensures refused { IfErr result (λ e. IsFirstDue of_setup e (map (λ t. t.now) four.entry)) }
 {
     judge_setup(&four)
 }
@@ -97,7 +98,7 @@ pub fn read_setup(four: [&[u8]; 4]) -> Result<Setup, FenError>
 /// The setup that the four texts spell, or the first refusal that is due.
 fn judge_setup(four: &[&[u8]; 4]) -> Result<Setup, FenError>
     ensures found { IfOk result (λ s. IsSetup s × AreFields s (map (λ t. t.now) four.now)) }
-    ensures refused { IfErr result (λ e. IsFirstDue OfSetup e (map (λ t. t.now) four.now)) }
+    ensures refused { IfErr result (λ e. IsFirstDue of_setup e (map (λ t. t.now) four.now)) }
 {
     let parts = read_parts(four[0], four[1], four[2], four[3])?;
     build(parts.board, parts.turn, parts.rights, parts.ep)
@@ -110,7 +111,7 @@ pub fn read_fen(text: &[u8]) -> Result<Fen, FenError>
     // The text of a record is read.
     ensures only { (f : Record) → IsRecord f → FenText f text.now → result ≡ Ok f }
     // A refusal is the first whose condition holds.
-    ensures refused { IfErr result (λ e. IsFirstDue OfRecord e (fields text.now)) }
+    ensures refused { IfErr result (λ e. IsFirstDue of_record e (fields text.now)) }
 {
     judge(text)
 }
@@ -118,7 +119,7 @@ pub fn read_fen(text: &[u8]) -> Result<Fen, FenError>
 /// The record that the text spells, or the first refusal that is due.
 fn judge(text: &[u8]) -> Result<Fen, FenError>
     ensures found { IfOk result (λ f. IsRecord f × FenText f text.now) }
-    ensures refused { IfErr result (λ e. IsFirstDue OfRecord e (fields text.now)) }
+    ensures refused { IfErr result (λ e. IsFirstDue of_record e (fields text.now)) }
 {
     let Some(fields) = cut_fields(text) else {
         return Err(FenError::Fields);

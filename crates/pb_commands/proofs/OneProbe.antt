@@ -1,14 +1,10 @@
 -- Bytes show one text of a table, a book and a record.
-use Rattle.std.proofs.Common.{◌≡◌, ◌∙◌, ℕ, ◌==◌, All, Bool, List, [], ◌∷◌, ◌++◌, ap, arith, cond, inl, inr, length, refl, subst, sym}
-use Rattle.std.proofs.lemmas.Bool.{cases_lt}
+use Rattle.std.proofs.Common.{◌≡◌, ◌∙◌, ℕ, All, Bool, List, [], ◌∷◌, ◌++◌, ap, arith, length, refl, subst, sym}
 use Rattle.std.proofs.lemmas.List.Elements.{All-head, All-tail}
-use Rattle.pb_board.specs.declared.refusal.FenError.{FenError}
-use Rattle.pb_board.specs.declared.refusal.FenError.TheVariants as refusal
-use Rattle.pb_board.specs.Fen.{FenText}
-use Rattle.pb_board.specs.Position.{IsRecord, Record}
-use Rattle.pb_board.specs.Refusal.{IsFirstDue, OfRecord, fields, order}
-use Rattle.pb_board.proofs.Dues.{last_order}
-use Rattle.pb_board.proofs.Fens.{spelt_not_due}
+use Rattle.pb_board.specs.Position.{Record}
+use Rattle.pb_board.specs.Refusal.{IsDue, of_record, fields}
+use Rattle.pb_board.proofs.Dues.{one_first}
+use Rattle.pb_board.proofs.Fens.{record_never_due}
 use Rattle.pb_board.proofs.Unique.{one_record}
 use Rattle.pb_poly.specs.Found.{Found}
 use Rattle.pb_io.specs.Lines.{lines}
@@ -66,44 +62,11 @@ table_refusal_is_one bytes x y (TableRefused.count n few due is) (TableRefused.c
 
 -- ---- records
 
--- the refusal of this place in their order
-placed : ℕ → FenError
-placed n =
-    cond (n == 1) refusal.Fields (cond (n == 2) refusal.Placement (cond (n == 3) refusal.Turn (cond (n == 4) refusal.Castling (cond (n == 5) refusal.EnPassantText
-    (cond (n == 6) refusal.Half (cond (n == 7) refusal.Full (cond (n == 8) refusal.Kings (cond (n == 9) refusal.Pawns refusal.EnPassantPawn))))))))
-
-at_place : (e : FenError) → placed (order e) ≡ e
-unfolding placed
-at_place refusal.Fields = refl
-at_place refusal.Placement = refl
-at_place refusal.Turn = refl
-at_place refusal.Castling = refl
-at_place refusal.EnPassantText = refl
-at_place refusal.Half = refl
-at_place refusal.Full = refl
-at_place refusal.Kings = refl
-at_place refusal.Pawns = refl
-at_place refusal.EnPassantPawn = refl
-
-one_due : (d e : FenError) (pieces : List (List ℕ)) → IsFirstDue OfRecord d pieces → IsFirstDue OfRecord e pieces → d ≡ e
-one_due d e pieces h k =
-    elim (cases_lt (order d) (order e)) [
-      | inl earlier ↦ absurd (k.first d tt earlier h.due)
-      | inr later ↦
-          elim (cases_lt (order e) (order d)) [
-            | inl earlier ↦ absurd (h.first e tt earlier k.due)
-            | inr same ↦ let is : order d ≡ order e = omega arith in sym (at_place d) ∙ ap placed is ∙ at_place e
-          ]
-    ]
-
-record_not_refused : (f : Record) (fen : List ℕ) (e : FenError) → IsRecord f → FenText f fen → IsFirstDue OfRecord e (fields fen) → ⊥
-record_not_refused f fen e lawful text h = (spelt_not_due f fen lawful text).none e tt (last_order e) h.due
-
 probed_is_one : (words : List ℕ) (entries : List Entry) (fen : List ℕ) (a b : Bool) (x y : List ℕ) → FenProbed words entries fen a x → FenProbed words entries fen b y → (a ≡ b) × (x ≡ y)
 probed_is_one words entries fen a b x y (FenProbed.no_record d h is out) (FenProbed.no_record e k is' out') =
-    (is ∙ sym is', out ∙ ap fen_line (one_due d e (fields fen) h k) ∙ sym out')
-probed_is_one words entries fen a b x y (FenProbed.no_record d h is out) (FenProbed.found f pairs lawful text k is' out') = absurd (record_not_refused f fen d lawful text h)
-probed_is_one words entries fen a b x y (FenProbed.found f pairs lawful text k is out) (FenProbed.no_record e h is' out') = absurd (record_not_refused f fen e lawful text h)
+    (is ∙ sym is', out ∙ ap fen_line (one_first (λ x. IsDue x (fields fen)) of_record d e h k) ∙ sym out')
+probed_is_one words entries fen a b x y (FenProbed.no_record d h is out) (FenProbed.found f pairs lawful text k is' out') = absurd (record_never_due f fen d lawful text h)
+probed_is_one words entries fen a b x y (FenProbed.found f pairs lawful text k is out) (FenProbed.no_record e h is' out') = absurd (record_never_due f fen e lawful text h)
 probed_is_one words entries fen a b x y (FenProbed.found f pairs lawful text k is out) (FenProbed.found g others lawful' text' k' is' out') =
     let same : g ≡ f = one_record g f fen lawful' lawful text' text in
     let found : Found entries words f.setup others = subst (λ (r : Record). Found entries words r.setup others) same k' in

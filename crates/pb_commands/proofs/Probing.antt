@@ -5,7 +5,7 @@ use Rattle.std.specs.Io.KnownBytes.{Appends}
 use Rattle.pb_board.specs.declared.refusal.FenError.{FenError}
 use Rattle.pb_board.specs.Fen.{FenText}
 use Rattle.pb_board.specs.Position.{IsRecord, Position, Record}
-use Rattle.pb_board.specs.Refusal.{IsFirstDue, OfRecord, fields}
+use Rattle.pb_board.specs.Refusal.{IsFirstDue, of_record, fields}
 use Rattle.pb_moves.specs.Moved.{Moved}
 use Rattle.pb_poly.specs.Found.{Found}
 use Rattle.pb_io.specs.Sink.{SinkState}
@@ -51,7 +51,7 @@ module _ (fills : ℕ) (t t' b b' : SourceState) (fen : List ℕ) (sink sink' : 
       no_book judges stops sink sink' fills b b' (λ out x. JudgesProbe.no_book words read x refl) (λ x. inr (words, read, x)) (λ x. inr (words, read, x)) (λ x. inl (inr (words, read, x))) result e h r
 
   module _ (words : List ℕ) (read : ReadsTable fills t t' words) (entries : List Entry) (read_too : ReadsBook fills b b' entries) where
-    pub at_record : (result : Result Bool Fault) (e : FenError) → IsFirstDue OfRecord e (fields fen) → (line : List ℕ) → line ≡ fen_line e → ShowsRefusal sink sink' result line → Ends result
+    pub at_record : (result : Result Bool Fault) (e : FenError) → IsFirstDue of_record e (fields fen) → (line : List ℕ) → line ≡ fen_line e → ShowsRefusal sink sink' result line → Ends result
     at_record result e due line is r =
         refusal judges stops sink sink' result line (JudgesProbe.judged words entries read read_too (FenProbed.no_record e due refl is)) r
 

@@ -4,7 +4,7 @@ use Rattle.std.specs.List.{AllZip}
 use Rattle.pb_board.specs.declared.refusal.FenError.{FenError}
 use Rattle.pb_board.specs.Position.{Record, IsRecord}
 use Rattle.pb_board.specs.Fen.{FenText}
-use Rattle.pb_board.specs.Refusal.{IsFirstDue, OfRecord, fields}
+use Rattle.pb_board.specs.Refusal.{IsFirstDue, of_record, fields}
 use Rattle.pb_board.specs.LineEnd.{with_end}
 use Rattle.pb_moves.specs.Moved.{Moved}
 use Rattle.pb_moves.specs.Cases.{Legal}
@@ -36,7 +36,7 @@ pub record Unplayable (start : Record) (words : List (List ℕ)) (n : ℕ) : Typ
 -- the record is judged first, then the spelling of all words, then the moves in order
 pub data FenShown (fen : List ℕ) (words : List (List ℕ)) (answer : Bool) (out : List ℕ) : Type 0 where
   played : (line : List ℕ) → Played fen words line → answer ≡ true → out ≡ with_end line → FenShown fen words answer out
-  no_record : (e : FenError) → IsFirstDue OfRecord e (fields fen) → answer ≡ false
+  no_record : (e : FenError) → IsFirstDue of_record e (fields fen) → answer ≡ false
       → out ≡ fen_line e → FenShown fen words answer out
   misspelt : (start : Record) (n : ℕ) → IsRecord start → FenText start fen → IsFirstMisspelt words n → answer ≡ false
       → out ≡ spelling_line n → FenShown fen words answer out

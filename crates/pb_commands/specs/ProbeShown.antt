@@ -3,7 +3,7 @@ use Rattle.std.specs.Prelude.{◌≡◌, ℕ, Bool, true, false, List, ◌∷◌
 use Rattle.pb_board.specs.declared.refusal.FenError.{FenError}
 use Rattle.pb_board.specs.Position.{Record, IsRecord}
 use Rattle.pb_board.specs.Fen.{FenText}
-use Rattle.pb_board.specs.Refusal.{IsFirstDue, OfRecord, fields}
+use Rattle.pb_board.specs.Refusal.{IsFirstDue, of_record, fields}
 use Rattle.pb_board.specs.LineEnd.{with_end}
 use Rattle.pb_moves.specs.Moved.{Moved}
 use Rattle.pb_moves.specs.Spelling.{spelling}
@@ -23,7 +23,7 @@ probe_text found = flat_map found_line found
 
 -- what the text of a record shows under a table and a book, and whether it is one
 pub data FenProbed (words : List ℕ) (entries : List Entry) (fen : List ℕ) (answer : Bool) (out : List ℕ) : Type 0 where
-  no_record : (e : FenError) → IsFirstDue OfRecord e (fields fen) → answer ≡ false → out ≡ fen_line e → FenProbed words entries fen answer out
+  no_record : (e : FenError) → IsFirstDue of_record e (fields fen) → answer ≡ false → out ≡ fen_line e → FenProbed words entries fen answer out
   found : (f : Record) (pairs : List (Moved × ℕ)) → IsRecord f → FenText f fen → Found entries words f.setup pairs
       → answer ≡ true → out ≡ probe_text pairs → FenProbed words entries fen answer out
 

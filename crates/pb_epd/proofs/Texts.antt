@@ -6,7 +6,7 @@ use Rattle.std.proofs.lemmas.List.{append-nil, same_from_push}
 use Rattle.pb_board.specs.Position.{Position, IsSetup}
 use Rattle.pb_board.specs.Text.{turn_text, castling_text, passed_text}
 use Rattle.pb_board.specs.Fen.{AreFields}
-use Rattle.pb_board.specs.Refusal.{IsFirstDue, OfSetup}
+use Rattle.pb_board.specs.Refusal.{IsFirstDue, of_setup}
 use Rattle.pb_board.specs.declared.refusal.FenError.{FenError}
 use Rattle.pb_board.proofs.Fens.{setup_never_due}
 use Rattle.pb_epd.specs.declared.refusal.EpdError.{EpdError}
@@ -66,7 +66,7 @@ module _ (bytes a b c d : List ℕ) (others : List Token) (tokens : Tokens (word
       let f = four_are a b c d others four h.rest h.four_words same in
       (f.0, ap (slice_split is_end) (sym f.1) ∙ h.cut)
 
-  pub setup_due : (e : FenError) → IsFirstDue OfSetup e (a ∷ b ∷ c ∷ d ∷ []) → IsDueEpd (epd.Setup e) bytes
+  pub setup_due : (e : FenError) → IsFirstDue of_setup e (a ∷ b ∷ c ∷ d ∷ []) → IsDueEpd (epd.Setup e) bytes
   setup_due e h =
       let last = last_group others in
       (a ∷ b ∷ c ∷ d ∷ [], last.0, last.1, is_cut last.0 last.1 last.2, h)
@@ -74,7 +74,7 @@ module _ (bytes a b c d : List ℕ) (others : List Token) (tokens : Tokens (word
   pub setup_not_due : (p : Position) (e : FenError) → IsSetup p → AreFields p (a ∷ b ∷ c ∷ d ∷ []) → NotDue (epd.Setup e) bytes
   setup_not_due p e lawful spells due =
       let f = cut_is due.0 due.1 due.2 due.3 in
-      setup_never_due p (a ∷ b ∷ c ∷ d ∷ []) e lawful spells (subst (IsFirstDue OfSetup e) f.0 due.4)
+      setup_never_due p (a ∷ b ∷ c ∷ d ∷ []) e lawful spells (subst (IsFirstDue of_setup e) f.0 due.4)
 
   pub opcode_due : (n : ℕ) → IsUnnamedAt n others → IsDueEpd (epd.Opcode n) bytes
   opcode_due n h = (a ∷ b ∷ c ∷ d ∷ [], h.before, h.group, h.after, h.unended, is_cut (h.before ++ h.group ∷ h.after) h.unended h.cut, h.count, h.named, h.unnamed)
@@ -109,7 +109,7 @@ module _ (bytes a b c d : List ℕ) (others : List Token) (tokens : Tokens (word
   none_before_setup (epd.Repeated n) other lt = absurd (omega (arith, lt))
   none_before_setup epd.Memory other lt = absurd (other refl)
 
-  pub setup_first : (e : FenError) → IsFirstDue OfSetup e (a ∷ b ∷ c ∷ d ∷ []) → IsFirstDueEpd (epd.Setup e) bytes
+  pub setup_first : (e : FenError) → IsFirstDue of_setup e (a ∷ b ∷ c ∷ d ∷ []) → IsFirstDueEpd (epd.Setup e) bytes
   setup_first e h = record { due = setup_due e h; first = none_before_setup }
 
   module _ (p : Position) (lawful : IsSetup p) (spells : AreFields p (a ∷ b ∷ c ∷ d ∷ [])) where
@@ -206,7 +206,7 @@ module _ (e : EpdRecord) (bytes : List ℕ) (lawful : IsEpd e) (h : EpdText e by
 -- ---- what the reader answers
 
 module _ (bytes a b c d rest : List ℕ) (next : (ts : List Token) → Tokens ts bytes → FourFollow a b c d rest ts) where
-  pub setup_refused : (e : FenError) → IsFirstDue OfSetup e (a ∷ b ∷ c ∷ d ∷ []) → (ts : List Token) → Tokens ts bytes → IsFirstDueEpd (epd.Setup e) bytes
+  pub setup_refused : (e : FenError) → IsFirstDue of_setup e (a ∷ b ∷ c ∷ d ∷ []) → (ts : List Token) → Tokens ts bytes → IsFirstDueEpd (epd.Setup e) bytes
   setup_refused e h ts tokens =
       let f = next ts tokens in
       setup_first bytes a b c d f.others (subst (λ w. Tokens w bytes) f.is tokens) e h

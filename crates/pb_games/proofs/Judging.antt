@@ -3,12 +3,10 @@ use Rattle.std.proofs.Common.{◌≡◌, ℕ, ◌<◌, ◌≤◌, List, [], ◌�
 use Rattle.std.specs.List.{All, join_with_byte}
 use Rattle.std.proofs.lemmas.List.{length-map}
 use Rattle.std.proofs.lemmas.List.Splits.{join_with_byte-slice_split}
-use Rattle.pb_board.specs.declared.refusal.FenError.{FenError}
 use Rattle.pb_board.specs.Fen.{FenText}
-use Rattle.pb_board.specs.Position.{Record, IsRecord}
-use Rattle.pb_board.specs.Refusal.{IsFirstDue, OfRecord, fields}
-use Rattle.pb_board.proofs.Dues.{last_order}
-use Rattle.pb_board.proofs.Fens.{spelt_not_due}
+use Rattle.pb_board.specs.Position.{Record}
+use Rattle.pb_board.specs.Refusal.{IsFirstDue, of_record, fields}
+use Rattle.pb_board.proofs.Fens.{record_never_due}
 use Rattle.pb_board.proofs.Unique.{one_record}
 use Rattle.pb_board.specs.LineEnd.{without_return}
 use Rattle.pb_moves.specs.Attack.{Playable}
@@ -27,10 +25,6 @@ use Rattle.pb_games.specs.Words.{words_of, move_named, moves_named}
 use Rattle.pb_games.proofs.Dues.{NoneBefore, none_at_first, none_more, first_due}
 use Rattle.pb_board.proofs.LineEnds.{cases_return}
 use Rattle.pb_games.proofs.WordLemmas.{spellings_back, named_are_moves, words-back, none_misspelt}
-
--- where a text spells a record, no refusal is its first
-pub not_refused : (f : Record) (text : List ℕ) (e : FenError) → IsRecord f → FenText f text → ¬ IsFirstDue OfRecord e (fields text)
-not_refused f text e lawful h due = (spelt_not_due f text lawful h).none e due.member (last_order e) due.due
 
 module _ (line a d : List ℕ) (o : Outcome) (f : Record) (h : IsHeader line a o f d) where
   id_at : field_of line 0 ≡ a
@@ -51,7 +45,7 @@ module _ (line a d : List ℕ) (o : Outcome) (f : Record) (h : IsHeader line a o
       let n3 = none_more 2 line n2 (λ due. due (ap length h.cut)) in
       let n4 = none_more 3 line n3 (λ due. due (subst IsId (sym id_at) h.id_is)) in
       let n5 = none_more 4 line n4 (λ due. due o result_at) in
-      none_more 5 line n5 (λ due. not_refused f h.fen due.0 h.bounds h.text (subst (λ t. IsFirstDue OfRecord due.0 (fields t)) fen_at due.1))
+      none_more 5 line n5 (λ due. record_never_due f h.fen due.0 h.bounds h.text (subst (λ t. IsFirstDue of_record due.0 (fields t)) fen_at due.1))
 
   spells_start : SpellsStart line f
   spells_start = record { bounds = h.bounds; text = subst (FenText f) (sym fen_at) h.text }

@@ -6,7 +6,9 @@ use Rattle.std.proofs.lemmas.Bool.{cases_lt}
 use Rattle.pb_board.specs.declared.refusal.FenError.{FenError}
 use Rattle.pb_board.specs.declared.refusal.FenError.TheVariants as fen
 use Rattle.pb_board.specs.Position.{Position, Record}
-use Rattle.pb_board.specs.Refusal as board
+use Rattle.pb_board.specs.Refusal.{of_record, fields}
+use Rattle.pb_board.specs.Refusal.{IsDue as IsFenDue}
+use Rattle.pb_board.proofs.Dues.{one_first}
 use Rattle.pb_board.proofs.Unique.{one_record}
 use Rattle.pb_moves.specs.Moved.{Moved}
 use Rattle.pb_moves.specs.Played.{IsSpelled, IsFirstMisspelt}
@@ -18,45 +20,6 @@ use Rattle.pb_games.specs.Laws.{OneRefusal}
 use Rattle.pb_games.proofs.OneLine.{spellings_injective}
 
 -- ---- the causes of one place in the order
-
-fen_at : ℕ → FenError
-fen_at zero = fen.Fields
-fen_at (suc zero) = fen.Fields
-fen_at (suc (suc zero)) = fen.Placement
-fen_at (suc (suc (suc zero))) = fen.Turn
-fen_at (suc (suc (suc (suc zero)))) = fen.Castling
-fen_at (suc (suc (suc (suc (suc zero))))) = fen.EnPassantText
-fen_at (suc (suc (suc (suc (suc (suc zero)))))) = fen.Half
-fen_at (suc (suc (suc (suc (suc (suc (suc zero))))))) = fen.Full
-fen_at (suc (suc (suc (suc (suc (suc (suc (suc zero)))))))) = fen.Kings
-fen_at (suc (suc (suc (suc (suc (suc (suc (suc (suc zero))))))))) = fen.Pawns
-fen_at (suc (suc (suc (suc (suc (suc (suc (suc (suc (suc n)))))))))) = fen.EnPassantPawn
-
-fen_back : (e : FenError) → fen_at (board.order e) ≡ e
-unfolding fen_at
-fen_back fen.Fields = refl
-fen_back fen.Placement = refl
-fen_back fen.Turn = refl
-fen_back fen.Castling = refl
-fen_back fen.EnPassantText = refl
-fen_back fen.Half = refl
-fen_back fen.Full = refl
-fen_back fen.Kings = refl
-fen_back fen.Pawns = refl
-fen_back fen.EnPassantPawn = refl
-
--- a text that is no record has one first cause
-one_fen : (pieces : List (List ℕ)) (d e : FenError) → board.IsFirstDue board.OfRecord d pieces → board.IsFirstDue board.OfRecord e pieces → d ≡ e
-one_fen pieces d e h k =
-    elim (cases_lt (board.order d) (board.order e)) [
-      | inl less ↦ absurd (k.first d h.member less h.due)
-      | inr more ↦ elim (cases_lt (board.order e) (board.order d)) [
-        | inl less ↦ absurd (h.first e k.member less k.due)
-        | inr le ↦
-            let same : board.order d ≡ board.order e = omega arith in
-            sym (fen_back d) ∙ ap fen_at same ∙ fen_back e
-      ]
-    ]
 
 -- a word before the first that is misspelt spells a move
 misspelt_later : (words : List (List ℕ)) (m n : ℕ) → IsFirstMisspelt words m → IsFirstMisspelt words n → m < n → ⊥
@@ -128,7 +91,7 @@ one_cause line (suc zero) m n d e h j = refl
 one_cause line (suc (suc zero)) m n d e h j = refl
 one_cause line (suc (suc (suc zero))) m n d e h j = refl
 one_cause line (suc (suc (suc (suc zero)))) m n d e h j = refl
-one_cause line (suc (suc (suc (suc (suc zero))))) m n d e h j = ap (λ x. refusal.Fen x) (one_fen _ d e h j)
+one_cause line (suc (suc (suc (suc (suc zero))))) m n d e h j = ap (λ x. refusal.Fen x) (one_first (λ x. IsFenDue x (fields (field_of line 2))) of_record d e h j)
 one_cause line (suc (suc (suc (suc (suc (suc zero)))))) m n d e h j = refl
 one_cause line (suc (suc (suc (suc (suc (suc (suc zero))))))) m n d e h j = ap (λ x. refusal.Spelling x) (one_misspelt _ m n h j)
 one_cause line (suc (suc (suc (suc (suc (suc (suc (suc zero)))))))) m n d e h j = refl

@@ -5,7 +5,8 @@ use Rattle.std.proofs.lemmas.List.{length-map}
 use Rattle.std.proofs.lemmas.List.Elements.{All-map, All-weaker}
 use Rattle.pb_board.specs.Fen.{FenText}
 use Rattle.pb_board.specs.Position.{Position, Record}
-use Rattle.pb_board.specs.Refusal.{IsFirstDue, OfRecord, fields}
+use Rattle.pb_board.specs.Refusal.{IsFirstDue, of_record, fields}
+use Rattle.pb_board.proofs.Fens.{record_never_due}
 use Rattle.pb_board.proofs.Unique.{one_record}
 use Rattle.pb_moves.specs.Attack.{Playable}
 use Rattle.pb_moves.specs.Moved.{Moved, IsMove}
@@ -20,7 +21,6 @@ use Rattle.pb_games.specs.Results.{outcome_text}
 use Rattle.pb_games.specs.Submissions.{Submission, IsLawful, moves_text}
 use Rattle.pb_games.specs.Words.{words_of}
 use Rattle.pb_games.specs.Laws.{RefusedByItself, RefusedIsUnlawful}
-use Rattle.pb_games.proofs.Judging.{not_refused}
 use Rattle.pb_games.proofs.OneLine.{words_of_text, spellings_injective}
 use Rattle.pb_games.proofs.Texts.{fields_back, short_line}
 use Rattle.pb_games.proofs.WordLemmas.{none_misspelt}
@@ -70,7 +70,7 @@ module _ (line : List ℕ) (s : Submission) (h : IsLawful line s) where
   none_due refusal.Id due = due (subst IsId (sym (field_is 0)) h.submits.id)
   none_due refusal.Result due = due s.1.outcome (field_is 1)
   none_due (refusal.Fen e) due =
-      not_refused s.1.start h.submits.spells.0 e h.submits.game.start h.submits.spells.1 (subst (λ t. IsFirstDue OfRecord e (fields t)) (field_is 2) due)
+      record_never_due s.1.start h.submits.spells.0 e h.submits.game.start h.submits.spells.1 (subst (λ t. IsFirstDue of_record e (fields t)) (field_is 2) due)
   none_due refusal.Start due = due.2 (subst (λ (f : Record). Playable f.setup) (sym (start_is due.0 due.1)) h.legal.playable)
   none_due (refusal.Spelling n) due =
       none_misspelt (map spelling s.1.moves) n (spelt_from_moves s.1.moves h.submits.game.moves) (subst (λ ws. IsFirstMisspelt ws n) words_are due)

@@ -3,7 +3,7 @@ use Rattle.std.specs.Prelude.{◌≡◌, ◌≢◌, ℕ, ◌+◌, ◌<◌, ◌�
 use Rattle.std.specs.List.{slice_split}
 use Rattle.pb_board.specs.Fen.{FenText}
 use Rattle.pb_board.specs.Position.{Position, Record, IsRecord}
-use Rattle.pb_board.specs.Refusal.{IsFirstDue, OfRecord, fields}
+use Rattle.pb_board.specs.Refusal.{IsFirstDue, of_record, fields}
 use Rattle.pb_board.specs.LineEnd.{without_return}
 use Rattle.pb_moves.specs.Attack.{Playable}
 use Rattle.pb_moves.specs.Cases.{Legal}
@@ -53,7 +53,7 @@ IsDue refusal.Long line = most_bytes < length line
 IsDue refusal.Shape line = length (fields_of line) ≢ 4
 IsDue refusal.Id line = ¬ IsId (field_of line 0)
 IsDue refusal.Result line = (outcome : Outcome) → field_of line 1 ≢ outcome_text outcome
-IsDue (refusal.Fen e) line = IsFirstDue OfRecord e (fields (field_of line 2))
+IsDue (refusal.Fen e) line = IsFirstDue of_record e (fields (field_of line 2))
 IsDue refusal.Start line = (f : Record) × SpellsStart line f × ¬ Playable f.setup
 IsDue (refusal.Spelling n) line = IsFirstMisspelt (move_words line) n
 IsDue refusal.Plies line = most_plies < length (move_words line)

@@ -1,5 +1,8 @@
-use Rattle.std.proofs.Common.{rules}
+use Rattle.pb_board.proofs.Firsts.{castling_first, passed_first}
 use Rattle.pb_board.proofs.read.read_parts.Goals as goal
 
-pub returns-in_default : goal.returns-in_default
-returns-in_default c = search rules
+pub returns-in_default-read_rights : goal.returns-in_default-read_rights
+returns-in_default-read_rights c = castling_first _ _ _ _ _ c.in-Some.ensures _ c.in-Some-read_turn.ensures c.in_default-read_rights.ensures
+
+pub returns-in_default-read_passed : goal.returns-in_default-read_passed
+returns-in_default-read_passed c = passed_first _ _ _ _ _ c.in-Some.ensures _ c.in-Some-read_turn.ensures _ c.in-Some-read_rights.ensures c.in_default-read_passed.ensures

@@ -1,0 +1,61 @@
+-- The first refusal of parts and of texts, from what was found of each.
+use Rattle.std.proofs.Common.{◌≡◌, ℕ, ◌↔◌, List, [], ◌∷◌, length, take, Option, refl, sym, subst, ◌∙◌}
+use Rattle.std.specs.Prelude.{IfSome}
+use Rattle.pb_board.specs.declared.piece.Colour.{Colour}
+use Rattle.pb_board.specs.declared.piece.Colour.TheVariants.{White, Black}
+use Rattle.pb_board.specs.declared.setup.Rights.{Rights}
+use Rattle.pb_board.specs.declared.refusal.SetupError.TheVariants as fault
+use Rattle.pb_board.specs.declared.refusal.FenError.TheVariants as refusal
+use Rattle.pb_board.specs.Board.{Board}
+use Rattle.pb_board.specs.Position.{Position, HasOneKing, HasNoEdgePawn, EnPassantHolds, OnPassedRank}
+use Rattle.pb_board.specs.Text.{PlacementText, turn_text, castling_text, passed_text}
+use Rattle.pb_board.specs.Refusal.{IsDue, IsFirstDue, IsFault, IsFirstFault, of_setup}
+use Rattle.pb_board.proofs.Dues.{first_here, first_later}
+use Rattle.pb_board.proofs.Unique.{turn_injective}
+
+-- ---- parts
+
+module _ (p : Position) where
+  pub kings_first : (HasOneKing p.board White → HasOneKing p.board Black → ⊥) → IsFirstFault fault.Kings p
+  kings_first bad = first_here (λ x. IsFault x p) fault.Kings (fault.Pawns ∷ fault.EnPassant ∷ []) bad
+
+  pub pawns_first : HasOneKing p.board White → HasOneKing p.board Black → (HasNoEdgePawn p.board → ⊥) → IsFirstFault fault.Pawns p
+  pawns_first white black bad =
+      first_later (λ x. IsFault x p) fault.Kings fault.Pawns (fault.Pawns ∷ fault.EnPassant ∷ []) (λ due. due white black)
+      (first_here (λ x. IsFault x p) fault.Pawns (fault.EnPassant ∷ []) bad)
+
+  pub en_passant_first : HasOneKing p.board White → HasOneKing p.board Black → HasNoEdgePawn p.board → (EnPassantHolds p.board p.turn p.ep → ⊥) → IsFirstFault fault.EnPassant p
+  en_passant_first white black pawns bad =
+      first_later (λ x. IsFault x p) fault.Kings fault.EnPassant (fault.Pawns ∷ fault.EnPassant ∷ []) (λ due. due white black)
+      (first_later (λ x. IsFault x p) fault.Pawns fault.EnPassant (fault.EnPassant ∷ []) (λ due. due pawns) (first_here (λ x. IsFault x p) fault.EnPassant [] bad))
+
+-- ---- texts
+
+module _ (a b c d : List ℕ) where
+  abbrev four : List (List ℕ)
+  four = a ∷ b ∷ c ∷ d ∷ []
+
+  pub placement_first : ((x : Board) → length x ≡ 64 → PlacementText x a → ⊥) → IsFirstDue (take 4 of_setup) refusal.Placement four
+  placement_first bad = first_here (λ x. IsDue x four) refusal.Placement _ (λ x s. bad x s.places s.placement)
+
+  module _ (board : Board) (placement : (length board ≡ 64) × ((x : Board) → length x ≡ 64 → PlacementText x a ↔ x ≡ board)) where
+    is_placement : IsDue refusal.Placement four → ⊥
+    is_placement due = due board (record { places = placement.0; placement = (placement.1 board placement.0).1 refl })
+
+    pub turn_first : ((turn : Colour) → b ≡ turn_text turn → ⊥) → IsFirstDue (take 4 of_setup) refusal.Turn four
+    turn_first bad = first_later (λ x. IsDue x four) refusal.Placement _ _ is_placement (first_here (λ x. IsDue x four) refusal.Turn _ bad)
+
+    module _ (turn : Colour) (second : b ≡ turn_text turn) where
+      pub castling_first : ((rights : Rights) → c ≡ castling_text rights → ⊥) → IsFirstDue (take 4 of_setup) refusal.Castling four
+      castling_first bad =
+          first_later (λ x. IsDue x four) refusal.Placement _ _ is_placement
+          (first_later (λ x. IsDue x four) refusal.Turn _ _ (λ due. due turn second) (first_here (λ x. IsDue x four) refusal.Castling _ bad))
+
+      pub passed_first : (rights : Rights) → c ≡ castling_text rights → ((ep : Option ℕ) → d ≡ passed_text ep → IfSome ep (λ q. OnPassedRank turn q) → ⊥) → IsFirstDue (take 4 of_setup) refusal.EnPassantText four
+      passed_first rights third bad =
+          first_later (λ x. IsDue x four) refusal.Placement _ _ is_placement
+          (first_later (λ x. IsDue x four) refusal.Turn _ _ (λ due. due turn second)
+          (first_later (λ x. IsDue x four) refusal.Castling _ _ (λ due. due rights third)
+          (first_here (λ x. IsDue x four) refusal.EnPassantText _ (λ t ep s.
+          let same : t ≡ turn = turn_injective t turn (sym s.side ∙ second) in
+          bad ep s.square (subst (λ w. IfSome ep (λ q. OnPassedRank w q)) same s.rank)))))
