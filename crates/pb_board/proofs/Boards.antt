@@ -1,11 +1,11 @@
 -- Reading the ranks of a placement from rank 8 down.
 use Rattle.std.proofs.Common.{◌≡◌, ℕ, suc, ◌+◌, ◌-◌, ◌*◌, ◌<◌, ◌≤◌, ◌↔◌, eqb, List, [], ◌∷◌, ◌++◌, length, take, drop, refl, sym, ap, subst, ◌∙◌, inl, inr, arith}
-use Rattle.std.specs.List.{slice_split, join_with_byte}
+use Rattle.std.specs.List.{AllZip, slice_split, join_with_byte}
 use Rattle.std.proofs.lemmas.List.{length-drop, length-take, length-append, take-append-drop, drop-drop, drop_at, drop_all}
 use Rattle.std.proofs.lemmas.List.Splits.{join_with_byte-slice_split}
 use borrow.Rule.Slice.PartMut.{put_mid, post_of}
 use Rattle.pb_board.specs.Board.{Place}
-use Rattle.pb_board.specs.Text.{RankText, RankTexts, PlacementText, rank_of, ranks_down}
+use Rattle.pb_board.specs.Text.{RankText, PlacementText, rank_of, ranks_down}
 use Rattle.pb_board.proofs.Letters.{letter_above}
 use Rattle.pb_board.proofs.Joins.{Above, AllAbove, split_join, split_one}
 use Rattle.pb_board.proofs.Ranks.{same_front}
@@ -21,13 +21,13 @@ rank_above s (c ∷ t) h = (
   rank_above h.0 t h.2,
 )
 
-pub ranks_above : (rs : List (List Place)) (ts : List (List ℕ)) → RankTexts rs ts → AllAbove 47 ts
+pub ranks_above : (rs : List (List Place)) (ts : List (List ℕ)) → AllZip RankText rs ts → AllAbove 47 ts
 ranks_above [] [] h = tt
 ranks_above [] (t ∷ ts) h = absurd h
 ranks_above (r ∷ rs) [] h = absurd h
 ranks_above (r ∷ rs) (t ∷ ts) h = (rank_above r t h.0, ranks_above rs ts h.1)
 
-pub as_many : (rs : List (List Place)) (ts : List (List ℕ)) → RankTexts rs ts → length ts ≡ length rs
+pub as_many : (rs : List (List Place)) (ts : List (List ℕ)) → AllZip RankText rs ts → length ts ≡ length rs
 as_many [] [] h = refl
 as_many [] (t ∷ ts) h = absurd h
 as_many (r ∷ rs) [] h = absurd h
@@ -37,19 +37,19 @@ abbrev pub rows : List ℕ → List (List ℕ)
 rows text = slice_split (λ b. eqb b 47) text
 
 -- a placement, by the pieces between its slashes
-pub placement_rows : (board : List Place) (text : List ℕ) → PlacementText board text → RankTexts (ranks_down board 8) (rows text)
+pub placement_rows : (board : List Place) (text : List ℕ) → PlacementText board text → AllZip RankText (ranks_down board 8) (rows text)
 placement_rows board text h =
     let many = as_many (ranks_down board 8) h.0 h.1 in
     let pieces : rows text ≡ h.0 = ap rows h.2 ∙ split_join 47 h.0 (ranks_above (ranks_down board 8) h.0 h.1) (omega (arith, many)) in
-    subst (λ (ts : List (List ℕ)). RankTexts (ranks_down board 8) ts) (sym pieces) h.1
+    subst (λ (ts : List (List ℕ)). AllZip RankText (ranks_down board 8) ts) (sym pieces) h.1
 
-pub rows_placement : (board : List Place) (text : List ℕ) → RankTexts (ranks_down board 8) (rows text) → PlacementText board text
+pub rows_placement : (board : List Place) (text : List ℕ) → AllZip RankText (ranks_down board 8) (rows text) → PlacementText board text
 rows_placement board text h = (rows text, h, sym (join_with_byte-slice_split 47 text))
 
 -- b agrees with the ranks from rank n on, and the rest of the text spells those below
 pub record Below (board : List Place) (n : ℕ) (rest : List ℕ) (b : List Place) : Type 0 where
   pub done : drop (8 * n) b ≡ drop (8 * n) board
-  pub below : RankTexts (ranks_down b n) (rows rest)
+  pub below : AllZip RankText (ranks_down b n) (rows rest)
 
 -- the ranks from rank n on were read
 pub record InBoard (text : List ℕ) (board : List Place) (n : ℕ) (rest : List ℕ) : Type 0 where
@@ -81,7 +81,7 @@ board_rank text board after n rest first next squares h lt cut is size put = rec
   size = size;
   agrees = λ b len p.
       let a = h.agrees b len p in
-      let texts : RankTexts (rank_of b n ∷ ranks_down b n) (first ∷ rows next) = subst (λ (ts : List (List ℕ)). RankTexts (rank_of b n ∷ ranks_down b n) ts) cut a.below in
+      let texts : AllZip RankText (rank_of b n ∷ ranks_down b n) (first ∷ rows next) = subst (λ (ts : List (List ℕ)). AllZip RankText (rank_of b n ∷ ranks_down b n) ts) cut a.below in
       let same : rank_of b n ≡ squares = (is.same (rank_of b n) (rank_len b n len lt)).0 texts.0 in
       record {
         done = rank_cut b n ∙ ap (λ (w : List Place). w ++ drop (8 * suc n) b) same ∙ ap (λ (w : List Place). squares ++ w) a.done ∙ sym put;
@@ -91,7 +91,7 @@ board_rank text board after n rest first next squares h lt cut is size put = rec
       let both : rank_of b n ++ drop (8 * suc n) b ≡ squares ++ drop (8 * suc n) board = sym (rank_cut b n) ∙ a.done ∙ put in
       let parts = same_front (rank_of b n) squares (drop (8 * suc n) b) (drop (8 * suc n) board) (rank_len b n len lt ∙ sym is.len) both in
       let spelt : RankText (rank_of b n) first = (is.same (rank_of b n) (rank_len b n len lt)).1 parts.0 in
-      h.spells b len (record { done = parts.1; below = subst (λ (ts : List (List ℕ)). RankTexts (rank_of b n ∷ ranks_down b n) ts) (sym cut) (spelt, a.below) });
+      h.spells b len (record { done = parts.1; below = subst (λ (ts : List (List ℕ)). AllZip RankText (rank_of b n ∷ ranks_down b n) ts) (sym cut) (spelt, a.below) });
 }
 
 pub board_uncut : (text : List ℕ) (board : List Place) (n : ℕ) (rest : List ℕ) → InBoard text board (suc (suc n)) rest → rows rest ≡ rest ∷ [] → (b : List Place) → length b ≡ 64 → PlacementText b text → ⊥
@@ -101,16 +101,16 @@ board_uncut text board n rest h whole b len p =
 
 pub board_unread : (text : List ℕ) (board : List Place) (n : ℕ) (rest first : List ℕ) (more : List (List ℕ)) → InBoard text board (suc n) rest → n < 8 → rows rest ≡ first ∷ more → ((s : List Place) → length s ≡ 8 → RankText s first → ⊥) → (b : List Place) → length b ≡ 64 → PlacementText b text → ⊥
 board_unread text board n rest first more h lt cut none b len p =
-    let texts : RankTexts (rank_of b n ∷ ranks_down b n) (first ∷ more) = subst (λ (ts : List (List ℕ)). RankTexts (rank_of b n ∷ ranks_down b n) ts) cut (h.agrees b len p).below in
+    let texts : AllZip RankText (rank_of b n ∷ ranks_down b n) (first ∷ more) = subst (λ (ts : List (List ℕ)). AllZip RankText (rank_of b n ∷ ranks_down b n) ts) cut (h.agrees b len p).below in
     none (rank_of b n) (rank_len b n len lt) texts.0
 
 -- the last rank has no slash
-single : (r : List Place) (ts : List (List ℕ)) (rest : List ℕ) → RankTexts (r ∷ []) ts → join_with_byte 47 ts ≡ rest → RankText r rest
+single : (r : List Place) (ts : List (List ℕ)) (rest : List ℕ) → AllZip RankText (r ∷ []) ts → join_with_byte 47 ts ≡ rest → RankText r rest
 single r [] rest h e = absurd h
 single r (t ∷ []) rest h e = subst (RankText r) e h.0
 single r (t ∷ u ∷ ts) rest h e = absurd h.1
 
-last_row : (b : List Place) (rest : List ℕ) → RankTexts (ranks_down b 1) (rows rest) → RankText (rank_of b 0) rest
+last_row : (b : List Place) (rest : List ℕ) → AllZip RankText (ranks_down b 1) (rows rest) → RankText (rank_of b 0) rest
 last_row b rest h = single (rank_of b 0) (rows rest) rest h (join_with_byte-slice_split 47 rest)
 
 pub board_last_unread : (text : List ℕ) (board : List Place) (rest : List ℕ) → InBoard text board 1 rest → ((s : List Place) → length s ≡ 8 → RankText s rest → ⊥) → (b : List Place) → length b ≡ 64 → PlacementText b text → ⊥
@@ -128,7 +128,7 @@ board_done text board after rest squares h is size put b len = (
       let spelt : RankText (rank_of b 0) rest = (is.same (rank_of b 0) (rank_len b 0 len (omega arith))).1 parts.0 in
       h.spells b len (record {
         done = parts.1;
-        below = subst (λ (ts : List (List ℕ)). RankTexts (rank_of b 0 ∷ []) ts) (sym (split_one 47 rest (rank_above (rank_of b 0) rest spelt))) (spelt, tt);
+        below = subst (λ (ts : List (List ℕ)). AllZip RankText (rank_of b 0 ∷ []) ts) (sym (split_one 47 rest (rank_above (rank_of b 0) rest spelt))) (spelt, tt);
       }),
 )
 

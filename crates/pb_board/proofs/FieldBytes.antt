@@ -2,7 +2,7 @@
 -- a word of a record that has them among other words.
 use Rattle.std.proofs.Common.{◌≢◌, ℕ, zero, suc, ◌+◌, ◌*◌, ◌<◌, ◌≤◌, ◌^◌, Bool, true, false, List, [], ◌∷◌, length, drop, get_or, replicate, Option, Some, None, sym, ap, subst, inl, inr, arith}
 use Rattle.std.specs.Prelude.{IfSome}
-use Rattle.std.specs.List.{All, join_with_byte}
+use Rattle.std.specs.List.{AllZip, All, join_with_byte}
 use Rattle.std.specs.Fmt.{decimal}
 use Rattle.std.proofs.lemmas.List.{length-append, length-replicate, length-take}
 use Rattle.std.proofs.lemmas.List.Elements.{All-nil, All-cons, All-head, All-tail, All-append, All-from_get_or, All-same}
@@ -13,7 +13,7 @@ use Rattle.pb_board.specs.declared.piece.Kind.TheVariants.{Pawn, Knight, Bishop,
 use Rattle.pb_board.specs.declared.setup.Rights.{Rights}
 use Rattle.pb_board.specs.Board.{Place, Board, file, rank}
 use Rattle.pb_board.specs.Position.{OnPassedRank}
-use Rattle.pb_board.specs.Text.{letter_of, RankText, RankTexts, PlacementText, rank_of, ranks_down, turn_text, castling_text, flag_letters, letter_if, or_dash, passed_text, number_text}
+use Rattle.pb_board.specs.Text.{letter_of, RankText, PlacementText, rank_of, ranks_down, turn_text, castling_text, flag_letters, letter_if, or_dash, passed_text, number_text}
 use Rattle.pb_board.proofs.Numbers.{clock_numeral}
 use Rattle.pb_board.proofs.Joins.{Above}
 
@@ -76,7 +76,7 @@ rank_short squares (c ∷ text) h =
       | inr q ↦ omega (arith, rest, q.1, ap length q.4, length-append (replicate {A = Place} q.0 None) h.0, length-replicate {A = Place} q.0 None)
     ]
 
-ranks_bytes : (n : ℕ) (board : Board) (texts : List (List ℕ)) → RankTexts (ranks_down board n) texts → AreFieldBytes (join_with_byte 47 texts)
+ranks_bytes : (n : ℕ) (board : Board) (texts : List (List ℕ)) → AllZip RankText (ranks_down board n) texts → AreFieldBytes (join_with_byte 47 texts)
 ranks_bytes zero board [] h = All-nil IsFieldByte
 ranks_bytes zero board (t ∷ ts) h = absurd h
 ranks_bytes (suc n) board [] h = absurd h
@@ -86,7 +86,7 @@ ranks_bytes (suc n) board (t ∷ u ∷ ts) h =
     (All-cons IsFieldByte 47 (join_with_byte 47 (u ∷ ts)) (byte 47 (omega arith) (omega arith)) (ranks_bytes n board (u ∷ ts) h.1))
 
 -- n ranks have at most eight bytes each, and a slash between two
-pub ranks_length : (n : ℕ) (board : Board) (texts : List (List ℕ)) → RankTexts (ranks_down board n) texts → (n ≤ length (join_with_byte 47 texts) + 1) × (length (join_with_byte 47 texts) ≤ 9 * n)
+pub ranks_length : (n : ℕ) (board : Board) (texts : List (List ℕ)) → AllZip RankText (ranks_down board n) texts → (n ≤ length (join_with_byte 47 texts) + 1) × (length (join_with_byte 47 texts) ≤ 9 * n)
 ranks_length zero board [] h = (omega arith, omega arith)
 ranks_length zero board (t ∷ ts) h = absurd h
 ranks_length (suc n) board [] h = absurd h

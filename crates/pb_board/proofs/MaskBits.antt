@@ -14,9 +14,9 @@ use Rattle.pb_board.specs.declared.piece.Kind.TheVariants.{Pawn, Knight, Bishop,
 use Rattle.pb_board.specs.declared.piece.Piece.{Piece}
 use Rattle.pb_board.specs.declared.masks.Masks.{Masks}
 use Rattle.pb_board.specs.Board.{Place, Board, at, Holds, IsEmpty}
-use Rattle.pb_board.specs.King.{is_same-is}
-use Rattle.pb_board.specs.Piece.{is_same}
-use Rattle.pb_board.specs.Mask.{colour_number, kind_number, is_side, is_kind, bit_for, mask_of, masks_of}
+use Rattle.pb_board.specs.King.{colour_one, kind_one}
+use Rattle.pb_board.specs.Piece.{colour_number, kind_number}
+use Rattle.pb_board.specs.Mask.{is_side, is_kind, bit_for, mask_of, masks_of}
 
 bit_small : (b : Bool) → bit_for b < 2
 bit_small true = omega arith
@@ -251,15 +251,6 @@ occupied_bit m b q e =
     let place = taken_place (at b q) in
     subst P (sym e) ((λ one. place.0 (sym is ∙ one)), (λ h. is ∙ place.1 h))
 
-pub kind_one : (j k : Kind) → kind_number j ≡ kind_number k → j ≡ k
-kind_one Pawn Pawn e = refl
-kind_one Knight Knight e = refl
-kind_one Bishop Bishop e = refl
-kind_one Rook Rook e = refl
-kind_one Queen Queen e = refl
-kind_one King King e = refl
-kind_one j k e = absurd (omega arith)
-
 one_for : (b : Bool) → bit_for b ≡ 1 → b ≡ true
 one_for true e = refl
 one_for false e = absurd (omega arith)
@@ -267,22 +258,19 @@ one_for false e = absurd (omega arith)
 same_number : (n : ℕ) → (n == n) ≡ true
 same_number n = eq-eqb n n refl
 
-same_colour : (c : Colour) → is_same c c ≡ true
-same_colour White = refl
-same_colour Black = refl
-
 held_place : (x : Place) (p : Piece) → (min (bit_for (is_side p.colour x)) (bit_for (is_kind p.kind x)) ≡ 1) ↔ (x ≡ Some p)
 held_place None p = (λ e. absurd (omega arith), λ h. absurd cc)
 held_place (Some r) p = (
-  λ e. let a = bit_small (is_same r.colour p.colour) in
+  λ e. let a = bit_small (colour_number r.colour == colour_number p.colour) in
       let k = bit_small (kind_number r.kind == kind_number p.kind) in
-      let colour = is_same-is r.colour p.colour (one_for (is_same r.colour p.colour) (omega arith)) in
+      let side = eqb-true (colour_number r.colour) (colour_number p.colour) (one_for (colour_number r.colour == colour_number p.colour) (omega arith)) in
+      let colour = colour_one r.colour p.colour side in
       let number = eqb-true (kind_number r.kind) (kind_number p.kind) (one_for (kind_number r.kind == kind_number p.kind) (omega arith)) in
       let kind = kind_one r.kind p.kind number in
       ap₂ (λ (x : Colour) (y : Kind). Some (record { colour = x; kind = y })) colour kind,
-  λ h. let P : Piece → Type 0 = λ z. min (bit_for (is_same z.colour p.colour)) (bit_for (kind_number z.kind == kind_number p.kind)) ≡ 1 in
+  λ h. let P : Piece → Type 0 = λ z. min (bit_for (colour_number z.colour == colour_number p.colour)) (bit_for (kind_number z.kind == kind_number p.kind)) ≡ 1 in
       let same : p ≡ r = cc in
-      let colour = same_colour p.colour in
+      let colour = same_number (colour_number p.colour) in
       let number = same_number (kind_number p.kind) in
       subst P same (ap (λ (t : Bool). min (bit_for t) (bit_for (kind_number p.kind == kind_number p.kind))) colour ∙ ap (λ (t : Bool). min 1 (bit_for t)) number),
 )

@@ -11,7 +11,8 @@ use Rattle.pb_board.specs.declared.piece.Piece.{Piece}
 use Rattle.pb_board.specs.declared.masks.Masks.{Masks}
 use Rattle.pb_board.specs.Board.{Place, Board, IsEmpty}
 use Rattle.pb_board.specs.Position.{carried_board}
-use Rattle.pb_board.specs.Mask.{colour_number, kind_number, is_side, is_kind, mask_of, masks_of}
+use Rattle.pb_board.specs.Piece.{colour_number, kind_number}
+use Rattle.pb_board.specs.Mask.{is_side, is_kind, mask_of, masks_of}
 use Rattle.pb_board.proofs.MaskBits.{cleared, cleared_masks, mask_small, masks_placed, placed_masks, with_bit, masks_cleared_base}
 
 -- the mask without two squares

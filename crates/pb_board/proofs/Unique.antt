@@ -1,7 +1,7 @@
 -- No record has two texts, and no text has two records.
 use Rattle.std.proofs.Common.{◌≡◌, ℕ, zero, suc, ◌+◌, ◌*◌, ◌%◌, ◌≤◌, Bool, true, false, cond, eqb, List, [], ◌∷◌, ◌++◌, length, take, get_or, replicate, Option, Some, None, refl, sym, ap, subst, ◌∙◌, inl, inr, arith, lit<}
 use Rattle.std.specs.Prelude.{IfSome}
-use Rattle.std.specs.List.{join_with_byte}
+use Rattle.std.specs.List.{AllZip, join_with_byte}
 use Rattle.std.proofs.Math.Seq.{take-add}
 use Rattle.std.proofs.lemmas.List.{take_all}
 use Rattle.std.proofs.lemmas.Fmt.{decimal_injective}
@@ -11,7 +11,7 @@ use Rattle.pb_board.specs.declared.piece.Piece.{Piece}
 use Rattle.pb_board.specs.declared.setup.Rights.{Rights}
 use Rattle.pb_board.specs.Board.{Place}
 use Rattle.pb_board.specs.Position.{Position, Record, IsSetup, OnPassedRank, EnPassantHolds, position_of}
-use Rattle.pb_board.specs.Text.{letter, BeginsOccupied, RankText, RankTexts, PlacementText, rank_of, ranks_down, turn_text, castling_text, passed_text, number_text}
+use Rattle.pb_board.specs.Text.{letter, BeginsOccupied, RankText, PlacementText, rank_of, ranks_down, turn_text, castling_text, passed_text, number_text}
 use Rattle.pb_board.specs.Fen.{AreFields, FourFields, FenText}
 use Rattle.pb_board.specs.Position.{IsRecord, record_of}
 use Rattle.pb_board.specs.Refusal.{fields}
@@ -83,7 +83,7 @@ rank_one_text (c ∷ t) (d ∷ u) s h k =
 
 -- ---- placements
 
-ranks_one_text : (rs : List (List Place)) (ts us : List (List ℕ)) → RankTexts rs ts → RankTexts rs us → ts ≡ us
+ranks_one_text : (rs : List (List Place)) (ts us : List (List ℕ)) → AllZip RankText rs ts → AllZip RankText rs us → ts ≡ us
 ranks_one_text [] [] [] h k = refl
 ranks_one_text [] [] (u ∷ us) h k = absurd k
 ranks_one_text [] (t ∷ ts) us h k = absurd h
@@ -95,7 +95,7 @@ ranks_one_text (r ∷ rs) (t ∷ ts) (u ∷ us) h k =
 pub placement_one_text : (b : List Place) (x y : List ℕ) → PlacementText b x → PlacementText b y → x ≡ y
 placement_one_text b x y h k = h.2 ∙ ap (join_with_byte 47) (ranks_one_text (ranks_down b 8) h.0 k.0 h.1 k.1) ∙ sym k.2
 
-ranks_one_board : (n : ℕ) (a b : List Place) (ts : List (List ℕ)) → RankTexts (ranks_down a n) ts → RankTexts (ranks_down b n) ts → take (8 * n) a ≡ take (8 * n) b
+ranks_one_board : (n : ℕ) (a b : List Place) (ts : List (List ℕ)) → AllZip RankText (ranks_down a n) ts → AllZip RankText (ranks_down b n) ts → take (8 * n) a ≡ take (8 * n) b
 ranks_one_board zero a b ts h k = refl
 ranks_one_board (suc n) a b [] h k = absurd h
 ranks_one_board (suc n) a b (t ∷ ts) h k =

@@ -1,6 +1,6 @@
 -- Writing ranks and boards.
 use Rattle.std.proofs.Common.{◌≡◌, ℕ, zero, suc, ◌+◌, ◌-◌, ◌*◌, ◌<◌, ◌≤◌, false, cond, eqb, List, [], ◌∷◌, ◌++◌, length, take, drop, get_or, replicate, Option, Some, None, refl, sym, ap, subst, ◌∙◌, inl, inr, arith}
-use Rattle.std.specs.List.{join_with_byte}
+use Rattle.std.specs.List.{AllZip, join_with_byte}
 use Rattle.std.proofs.lemmas.List.{append_assoc, append-nil, length-take, length-drop, drop_more, length-append, replicate-append-replicate}
 use Rattle.std.proofs.lemmas.Bool.Decides.{nat_tests}
 use Rattle.pb_board.specs.declared.piece.Piece.{Piece}
@@ -9,7 +9,7 @@ use Rattle.pb_board.specs.declared.piece.Colour.TheVariants.{White, Black}
 use Rattle.pb_board.specs.declared.setup.Rights.{Rights}
 use Rattle.pb_board.specs.Board.{Place}
 use Rattle.pb_board.specs.Position.{Position}
-use Rattle.pb_board.specs.Text.{letter, BeginsOccupied, RankText, RankTexts, PlacementText, rank_of, ranks_down, turn_text, castling_text, passed_text}
+use Rattle.pb_board.specs.Text.{letter, BeginsOccupied, RankText, PlacementText, rank_of, ranks_down, turn_text, castling_text, passed_text}
 use Rattle.pb_board.specs.Written.{AppendsRank, AppendsPlacement, AppendsSetup}
 
 -- the first i squares were written, but for a run of empty ones at their end
@@ -76,7 +76,7 @@ pub record InRows (board : List Place) (n : ℕ) (start out : List ℕ) : Type 0
   pub texts : List (List ℕ)
   pub out_is : out ≡ start ++ join_with_byte 47 (first ∷ texts)
   pub short : length (join_with_byte 47 (first ∷ texts)) + 9 * n ≤ 71
-  pub completes : (us : List (List ℕ)) → RankTexts (ranks_down board n) us → RankTexts (ranks_down board 8) ((first ∷ texts) ++ us)
+  pub completes : (us : List (List ℕ)) → AllZip RankText (ranks_down board n) us → AllZip RankText (ranks_down board 8) ((first ∷ texts) ++ us)
 
 pub rows_more : (board : List Place) (n : ℕ) (start out slash after : List ℕ) (squares : List Place) → InRows board (suc n) start out → squares ≡ rank_of board n → length squares ≡ 8 → slash ≡ out ++ 47 ∷ [] → AppendsRank slash after squares → InRows board n start after
 rows_more board n start out slash after squares h is len put k = record {
@@ -88,13 +88,13 @@ rows_more board n start out slash after squares h is len put k = record {
       ∙ ap (λ w. start ++ w) (sym (join_push 47 h.first h.texts k.text));
   short = omega (arith, h.short, k.short, ap length (join_push 47 h.first h.texts k.text), length-append (join_with_byte 47 (h.first ∷ h.texts)) (47 ∷ k.text));
   completes = λ us r.
-      subst (λ w. RankTexts (ranks_down board 8) w) (sym (append_assoc (h.first ∷ h.texts) (k.text ∷ []) us)) (h.completes (k.text ∷ us) (subst (λ w. RankText w k.text) is k.spells, r));
+      subst (λ w. AllZip RankText (ranks_down board 8) w) (sym (append_assoc (h.first ∷ h.texts) (k.text ∷ []) us)) (h.completes (k.text ∷ us) (subst (λ w. RankText w k.text) is k.spells, r));
 }
 
 pub rows_done : (board : List Place) (start out : List ℕ) → InRows board 0 start out → AppendsPlacement start out board
 rows_done board start out h = record {
   text = join_with_byte 47 (h.first ∷ h.texts);
-  spells = (h.first ∷ h.texts, subst (λ w. RankTexts (ranks_down board 8) w) (append-nil (h.first ∷ h.texts)) (h.completes [] tt), refl);
+  spells = (h.first ∷ h.texts, subst (λ w. AllZip RankText (ranks_down board 8) w) (append-nil (h.first ∷ h.texts)) (h.completes [] tt), refl);
   short = omega (arith, h.short);
   appended = h.out_is;
 }

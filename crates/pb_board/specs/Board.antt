@@ -1,9 +1,9 @@
 -- A board, by what stands on each of its squares. A square is its index, 8 * rank + file, with a1 at 0 and h8 at 63.
-use Rattle.std.specs.Prelude.{◌≡◌, ℕ, ◌/◌, ◌%◌, ◌+◌, Bool, false, ◌&&◌, List, Option, Some, None, slice_index_or}
+use Rattle.std.specs.Prelude.{◌≡◌, ℕ, ◌/◌, ◌%◌, ◌+◌, Bool, false, ◌&&◌, ◌==◌, List, Option, Some, None, slice_index_or}
 use Rattle.pb_board.specs.declared.piece.Colour.{Colour}
 use Rattle.pb_board.specs.declared.piece.Colour.TheVariants.{White, Black}
 use Rattle.pb_board.specs.declared.piece.Piece.{Piece}
-use Rattle.pb_board.specs.Piece.{is_same, is_king}
+use Rattle.pb_board.specs.Piece.{colour_number, kind_number}
 
 -- what stands on a square: a piece or nothing
 abbrev pub Place : Type 0
@@ -38,7 +38,7 @@ abbrev pub IsForward : Colour → ℕ → ℕ → ℕ → Type 0
 IsForward White n a b = rank b ≡ rank a + n
 IsForward Black n a b = rank a ≡ rank b + n
 
--- the king of this side stands there
-abbrev pub is_king_of : Colour → Place → Bool
-is_king_of side None = false
-is_king_of side (Some piece) = is_king piece.kind && is_same piece.colour side
+-- this piece stands there
+abbrev pub is_piece : Piece → Place → Bool
+is_piece piece None = false
+is_piece piece (Some p) = kind_number p.kind == kind_number piece.kind && colour_number p.colour == colour_number piece.colour

@@ -1,17 +1,18 @@
 -- Where the kings stand: a setup keeps their squares beside the board.
-use Rattle.std.specs.Prelude.{◌≡◌, ℕ, Bool, true, false, ◌&&◌, Some, None, length}
+use Rattle.std.specs.Prelude.{◌≡◌, ℕ, Bool, true, false, ◌&&◌, ◌==◌, Some, None, length}
 use Rattle.std.specs.List.{position_or_len}
 use Rattle.std.proofs.Common.{ap, ap₂, refl, sym, subst, ◌∙◌, arith, inl, inr}
-use Rattle.std.proofs.lemmas.Bool.{cases_Bool, cases_lt, false≢true}
+use Rattle.std.proofs.lemmas.Bool.{cases_Bool, cases_lt, eq-eqb, eqb-true, false≢true}
 use Rattle.std.proofs.lemmas.List.{get_or_past}
 use Rattle.std.proofs.lemmas.List.Sums.{position_or_len_is}
 use Rattle.pb_board.specs.declared.piece.Colour.{Colour}
 use Rattle.pb_board.specs.declared.piece.Colour.TheVariants.{White, Black}
 use Rattle.pb_board.specs.declared.piece.Kind.{Kind}
 use Rattle.pb_board.specs.declared.piece.Kind.TheVariants.{Pawn, Knight, Bishop, Rook, Queen, King}
-use Rattle.pb_board.specs.Piece.{king_of, is_same, is_king}
-use Rattle.pb_board.specs.Board.{Place, Board, at, is_king_of}
+use Rattle.pb_board.specs.Piece.{colour_number, kind_number, king_of}
+use Rattle.pb_board.specs.Board.{Place, Board, at, is_piece}
 use Rattle.pb_board.specs.Position.{Position, IsSetup, IsOnlyKing}
+use Rattle.pb_board.specs.declared.piece.Piece.{Piece}
 use Rattle.pb_board.specs.declared.masks.Masks.{Masks}
 use Rattle.pb_board.specs.Mask.{masks_of}
 
@@ -24,51 +25,53 @@ pub record KeepsKings (p : Position) (white_king black_king : ℕ) (masks : Mask
 
 -- the first square that holds a king of this side
 pub king_square : Board → Colour → ℕ
-king_square board side = position_or_len (is_king_of side) board
-
-pub is_same-is : (a b : Colour) → is_same a b ≡ true → a ≡ b
-is_same-is White White e = refl
-is_same-is White Black e = absurd (false≢true e)
-is_same-is Black White e = absurd (false≢true e)
-is_same-is Black Black e = refl
-
-pub is_king-is : (kind : Kind) → is_king kind ≡ true → kind ≡ King
-is_king-is Pawn e = absurd (false≢true e)
-is_king-is Knight e = absurd (false≢true e)
-is_king-is Bishop e = absurd (false≢true e)
-is_king-is Rook e = absurd (false≢true e)
-is_king-is Queen e = absurd (false≢true e)
-is_king-is King e = refl
+king_square board side = position_or_len (is_piece (king_of side)) board
 
 both : (a b : Bool) → (a && b) ≡ true → (a ≡ true) × (b ≡ true)
 both true b e = (refl, e)
 both false b e = absurd (false≢true e)
 
--- where the test passes, this king stands
-king_there : (side : Colour) (place : Place) → is_king_of side place ≡ true → place ≡ Some (king_of side)
-king_there side None e = absurd (false≢true e)
-king_there side (Some piece) e =
-    let parts = both (is_king piece.kind) (is_same piece.colour side) e in
-    ap₂ (λ (c : Colour) (k : Kind). Some (record { colour = c; kind = k })) (is_same-is piece.colour side parts.1) (is_king-is piece.kind parts.0)
+pub colour_one : (c d : Colour) → colour_number c ≡ colour_number d → c ≡ d
+colour_one White White e = refl
+colour_one Black Black e = refl
+colour_one c d e = absurd (omega arith)
 
-king_passes : (side : Colour) → is_king_of side (Some (king_of side)) ≡ true
-king_passes White = refl
-king_passes Black = refl
+pub kind_one : (j k : Kind) → kind_number j ≡ kind_number k → j ≡ k
+kind_one Pawn Pawn e = refl
+kind_one Knight Knight e = refl
+kind_one Bishop Bishop e = refl
+kind_one Rook Rook e = refl
+kind_one Queen Queen e = refl
+kind_one King King e = refl
+kind_one j k e = absurd (omega arith)
+
+-- where the test passes, this piece stands
+pub is_piece-is : (piece : Piece) (place : Place) → is_piece piece place ≡ true → place ≡ Some piece
+is_piece-is piece None e = absurd (false≢true e)
+is_piece-is piece (Some p) e =
+    let parts = both (kind_number p.kind == kind_number piece.kind) (colour_number p.colour == colour_number piece.colour) e in
+    let colour = colour_one p.colour piece.colour (eqb-true (colour_number p.colour) (colour_number piece.colour) parts.1) in
+    let kind = kind_one p.kind piece.kind (eqb-true (kind_number p.kind) (kind_number piece.kind) parts.0) in
+    ap₂ (λ (c : Colour) (k : Kind). Some (record { colour = c; kind = k })) colour kind
+
+pub is_piece-passes : (piece : Piece) → is_piece piece (Some piece) ≡ true
+is_piece-passes piece =
+    ap₂ (λ (k c : Bool). k && c) (eq-eqb (kind_number piece.kind) (kind_number piece.kind) refl) (eq-eqb (colour_number piece.colour) (colour_number piece.colour) refl)
 
 -- the square of the one king is found in the board
 king_square_is : (board : Board) (side : Colour) (square : ℕ) → IsOnlyKing board side square → king_square board side ≡ square
 unfolding king_square
 king_square_is board side square only =
-    position_or_len_is (is_king_of side) board square None
+    position_or_len_is (is_piece (king_of side)) board square None
     (elim (cases_lt square (length board)) [
       | inl less ↦ omega arith
       | inr past ↦ absurd cc (get_or_past board square None past, only.here)
     ])
-    (λ k before. elim (cases_Bool (is_king_of side (at board k))) [
-      | inl passes ↦ let same : k ≡ square = only.nowhere_else k (king_there side (at board k) passes) in absurd (omega arith)
+    (λ k before. elim (cases_Bool (is_piece (king_of side) (at board k))) [
+      | inl passes ↦ let same : k ≡ square = only.nowhere_else k (is_piece-is (king_of side) (at board k) passes) in absurd (omega arith)
       | inr fails ↦ fails
     ])
-    (λ _. subst (λ (p : Place). is_king_of side p ≡ true) (sym only.here) (king_passes side))
+    (λ _. subst (λ (p : Place). is_piece (king_of side) p ≡ true) (sym only.here) (is_piece-passes (king_of side)))
 
 -- the kings' squares and the masks come back from the board
 pub kings-back : {A : Type 0} (make : ℕ → ℕ → Masks → A) (p : Position) (white_king black_king : ℕ) (masks : Masks) → KeepsKings p white_king black_king masks

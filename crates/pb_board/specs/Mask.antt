@@ -5,25 +5,13 @@ use Rattle.pb_board.specs.declared.piece.Colour.TheVariants.{White, Black}
 use Rattle.pb_board.specs.declared.piece.Kind.{Kind}
 use Rattle.pb_board.specs.declared.piece.Kind.TheVariants.{Pawn, Knight, Bishop, Rook, Queen, King}
 use Rattle.pb_board.specs.declared.masks.Masks.{Masks}
-use Rattle.pb_board.specs.Piece.{is_same}
+use Rattle.pb_board.specs.Piece.{colour_number, kind_number}
 use Rattle.pb_board.specs.Board.{Place, Board}
-
-abbrev pub colour_number : Colour → ℕ
-colour_number White = 0
-colour_number Black = 1
-
-abbrev pub kind_number : Kind → ℕ
-kind_number Pawn = 0
-kind_number Knight = 1
-kind_number Bishop = 2
-kind_number Rook = 3
-kind_number Queen = 4
-kind_number King = 5
 
 -- a piece of this side stands there
 abbrev pub is_side : Colour → Place → Bool
 is_side side None = false
-is_side side (Some piece) = is_same piece.colour side
+is_side side (Some piece) = colour_number piece.colour == colour_number side
 
 -- a piece of this kind stands there
 abbrev pub is_kind : Kind → Place → Bool

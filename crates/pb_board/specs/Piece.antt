@@ -1,5 +1,5 @@
 -- Sides and pieces.
-use Rattle.std.specs.Prelude.{Bool, true, false}
+use Rattle.std.specs.Prelude.{ℕ}
 use Rattle.pb_board.specs.declared.piece.Colour.{Colour}
 use Rattle.pb_board.specs.declared.piece.Colour.TheVariants.{White, Black}
 use Rattle.pb_board.specs.declared.piece.Kind.{Kind}
@@ -19,16 +19,14 @@ pawn_of colour = record { colour = colour; kind = Pawn }
 abbrev pub rook_of : Colour → Piece
 rook_of colour = record { colour = colour; kind = Rook }
 
-abbrev pub is_same : Colour → Colour → Bool
-is_same White White = true
-is_same White Black = false
-is_same Black White = false
-is_same Black Black = true
+abbrev pub colour_number : Colour → ℕ
+colour_number White = 0
+colour_number Black = 1
 
-abbrev pub is_king : Kind → Bool
-is_king Pawn = false
-is_king Knight = false
-is_king Bishop = false
-is_king Rook = false
-is_king Queen = false
-is_king King = true
+abbrev pub kind_number : Kind → ℕ
+kind_number Pawn = 0
+kind_number Knight = 1
+kind_number Bishop = 2
+kind_number Rook = 3
+kind_number Queen = 4
+kind_number King = 5

@@ -1,6 +1,6 @@
 -- The texts of the parts of a FEN record (PGN Standard 1994, section 16.1).
 use Rattle.std.specs.Prelude.{◌≡◌, ℕ, zero, suc, ◌+◌, ◌-◌, ◌*◌, ◌≤◌, ◌⊎◌, Bool, true, false, List, [], ◌∷◌, ◌++◌, take, drop, replicate, Option, Some, None}
-use Rattle.std.specs.List.{join_with_byte}
+use Rattle.std.specs.List.{AllZip, join_with_byte}
 use Rattle.std.specs.Fmt.{decimal}
 use Rattle.pb_board.specs.declared.piece.Colour.{Colour}
 use Rattle.pb_board.specs.declared.piece.Colour.TheVariants.{White, Black}
@@ -56,16 +56,9 @@ abbrev pub ranks_down : List Place → ℕ → List (List Place)
 ranks_down board zero = []
 ranks_down board (suc n) = rank_of board n ∷ ranks_down board n
 
--- the texts of these ranks, one for each
-abbrev pub RankTexts : List (List Place) → List (List ℕ) → Type 0
-RankTexts [] [] = Unit {0}
-RankTexts [] (t ∷ ts) = ⊥
-RankTexts (r ∷ rs) [] = ⊥
-RankTexts (r ∷ rs) (t ∷ ts) = RankText r t × RankTexts rs ts
-
 -- eight ranks, from rank 8 to rank 1, joined by /
 abbrev pub PlacementText : List Place → List ℕ → Type 0
-PlacementText board text = (texts : List (List ℕ)) × RankTexts (ranks_down board 8) texts × (text ≡ join_with_byte 47 texts)
+PlacementText board text = (texts : List (List ℕ)) × AllZip RankText (ranks_down board 8) texts × (text ≡ join_with_byte 47 texts)
 
 -- w or b
 abbrev pub turn_text : Colour → List ℕ

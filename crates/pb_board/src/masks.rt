@@ -4,7 +4,8 @@ ghost use Rattle.std.specs.Prelude.{◌≡◌, ◌<◌, ◌↔◌, ℕ, length, 
 ghost use Rattle.std.specs.Int.{bit_at};
 ghost use Rattle.pb_board.specs.Board.{Board, IsEmpty, Holds};
 ghost use Rattle.pb_board.specs.Position.{carried_board};
-ghost use Rattle.pb_board.specs.Mask.{colour_number, kind_number, masks_of};
+ghost use Rattle.pb_board.specs.Piece.{colour_number, kind_number};
+ghost use Rattle.pb_board.specs.Mask.{masks_of};
 
 use crate::piece::{Colour, Kind, Piece};
 use crate::square::Square;

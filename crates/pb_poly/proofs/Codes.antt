@@ -8,8 +8,9 @@ use Rattle.pb_board.specs.declared.piece.Kind.{Kind}
 use Rattle.pb_board.specs.declared.piece.Kind.TheVariants.{Pawn, Knight, Bishop, Rook, Queen, King}
 use Rattle.pb_board.specs.declared.piece.Piece.{Piece}
 use Rattle.pb_board.specs.Position.{Position}
-use Rattle.pb_board.specs.Board.{Board, Place, at, is_king_of}
-use Rattle.pb_board.specs.King.{is_king-is}
+use Rattle.pb_board.specs.Board.{Board, Place, at, is_piece}
+use Rattle.pb_board.specs.King.{is_piece-is}
+use Rattle.pb_board.specs.Piece.{king_of}
 use Rattle.pb_moves.specs.Attack.{files_apart}
 use Rattle.pb_moves.specs.Moved.{Moved, IsPromotion, moved_of, promotion_number}
 use Rattle.pb_moves.specs.Cases.{CaseOf, piece_move, pawn_step, pawn_double, pawn_capture, en_passant, castles, Legal}
@@ -39,26 +40,23 @@ castling_back : (side : Colour) (from to : ℕ) → files_apart from to ≤ 2 �
 castling_back White from to near = grind (arith, nat_tests)
 castling_back Black from to near = grind (arith, nat_tests)
 
-kind_of_king : (side : Colour) (piece : Piece) → is_king_of side (Some piece) ≡ true → piece.kind ≡ King
-kind_of_king side piece e = grind (arith, nat_tests, is_king-is)
-
 -- the king castles by its own move alone, so the code's square gives back the one that the move reaches
 back_if : (s : Position) (m : Moved) (king : Bool) → (king ≡ true → files_apart m.from m.to ≤ 2)
     → cond king (castling_from s.turn m.from (cond king (castling_to s.turn m.from m.to) m.to)) (cond king (castling_to s.turn m.from m.to) m.to) ≡ m.to
 back_if s m true near = castling_back s.turn m.from m.to (near refl)
 back_if s m false near = refl
 
-king_goes_near : (s : Position) (m : Moved) (piece : Piece) (new : Board) (place : Place) → place ≡ Some piece → CaseOf s m piece new → is_king_of s.turn place ≡ true → files_apart m.from m.to ≤ 2
+king_goes_near : (s : Position) (m : Moved) (piece : Piece) (new : Board) (place : Place) → place ≡ Some piece → CaseOf s m piece new → is_piece (king_of s.turn) place ≡ true → files_apart m.from m.to ≤ 2
 king_goes_near s m piece new None stands x king = absurd (cc)
 king_goes_near s m piece new (Some other) stands x king =
     let same : other ≡ piece = cc in
-    let is : other.kind ≡ King = kind_of_king s.turn other king in
+    let is : other.kind ≡ King = (let there = is_piece-is (king_of s.turn) (Some other) king in cc) in
     king_files s m piece new x (ap (λ (p : Piece). p.kind) (sym same) ∙ is)
 
 reached_back : (s : Position) (m : Moved) → Legal s m → reached s m.from (coded_to s m) ≡ m.to
 reached_back s m legal =
     let case = legal.moves in
-    back_if s m (is_king_of s.turn (at s.board m.from)) (king_goes_near s m case.piece legal.new (at s.board m.from) case.stands case.by_case)
+    back_if s m (is_piece (king_of s.turn) (at s.board m.from)) (king_goes_near s m case.piece legal.new (at s.board m.from) case.stands case.by_case)
 
 castling_on_board : (side : Colour) (from to : ℕ) → to < 64 → castling_to side from to < 64
 castling_on_board White from to near = grind (arith, nat_tests)
@@ -69,7 +67,7 @@ on_board_if true side from to near = castling_on_board side from to near
 on_board_if false side from to near = near
 
 coded_on_board : (s : Position) (m : Moved) → m.to < 64 → coded_to s m < 64
-coded_on_board s m near = on_board_if (is_king_of s.turn (at s.board m.from)) s.turn m.from m.to near
+coded_on_board s m near = on_board_if (is_piece (king_of s.turn) (at s.board m.from)) s.turn m.from m.to near
 
 -- the three parts of a code
 apart_again : (to from promo number : ℕ) → to < 64 → from < 64 → to % 8 + 8 * (to / 8) + 64 * (from % 8) + 512 * (from / 8) + 4096 * promo ≡ number

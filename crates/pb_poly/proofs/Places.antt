@@ -10,12 +10,11 @@ use Rattle.pb_board.specs.declared.piece.Kind.TheVariants.{Pawn, Knight, Bishop,
 use Rattle.pb_board.specs.declared.piece.Piece.{Piece}
 use Rattle.pb_board.specs.declared.setup.Rights.{Rights}
 use Rattle.pb_board.specs.Piece.{pawn_of}
-use Rattle.pb_board.specs.Board.{Board, Place, at, file, rank}
+use Rattle.pb_board.specs.Board.{Board, Place, at, file, rank, is_piece}
 use Rattle.pb_board.specs.Position.{Position, IsSetup, beyond}
-use Rattle.pb_board.specs.King.{is_same-is}
+use Rattle.pb_board.specs.King.{is_piece-is, is_piece-passes}
 use Rattle.pb_moves.specs.Attack.{files_apart}
-use Rattle.pb_board.specs.Piece.{is_same}
-use Rattle.pb_poly.specs.Key.{ArePlaces, HasPlace, of_piece, white_short, white_long, black_short, black_long, en_passant, white_to_move, HasTaker, has_taker, is_pawn, is_pawn_of, number_of, passed_places, piece_place, piece_places, place_if, places, rights_places, turn_places}
+use Rattle.pb_poly.specs.Key.{ArePlaces, HasPlace, of_piece, white_short, white_long, black_short, black_long, en_passant, white_to_move, HasTaker, has_taker, number_of, passed_places, piece_place, piece_places, place_if, places, rights_places, turn_places}
 use Rattle.pb_poly.proofs.Among.{Among, Distinct, among_contained, among_either, among_left, among_right, contains_among, distinct_append, distinct_pairs}
 
 -- ---- the pieces
@@ -113,25 +112,8 @@ distinct_turn Black = tt
 
 -- ---- the en passant square
 
-same-is_same : (a : Colour) → is_same a a ≡ true
-same-is_same White = refl
-same-is_same Black = refl
-
-pawn_stands : (kind : Kind) (colour side : Colour) → (is_pawn kind && is_same colour side) ≡ true → (kind ≡ Pawn) × (colour ≡ side)
-pawn_stands Pawn colour side h = (refl, is_same-is colour side h)
-pawn_stands k colour side h = absurd (cc)
-
-abbrev some_piece : Colour → Kind → Place
-some_piece colour kind = Some (record { colour = colour; kind = kind })
-
-pawn_there : (side : Colour) (place : Place) → is_pawn_of side place ≡ true → place ≡ Some (pawn_of side)
-pawn_there side None h = absurd (cc)
-pawn_there side (Some p) h =
-    let is = pawn_stands p.kind p.colour side h in
-    ap (λ (k : Kind). some_piece p.colour k) is.0 ∙ ap (λ (c : Colour). some_piece c Pawn) is.1
-
-there_pawn : (side : Colour) (place : Place) → place ≡ Some (pawn_of side) → is_pawn_of side place ≡ true
-there_pawn side place h = let P : Place → Type 0 = λ x. is_pawn_of side x ≡ true in subst P (sym h) (same-is_same side)
+there_pawn : (side : Colour) (place : Place) → place ≡ Some (pawn_of side) → is_piece (pawn_of side) place ≡ true
+there_pawn side place h = let P : Place → Type 0 = λ x. is_piece (pawn_of side) x ≡ true in subst P (sym h) (is_piece-passes (pawn_of side))
 
 either_true : (a b : Bool) → (a || b) ≡ true → (a ≡ true) ⊎ (b ≡ true)
 either_true true b h = inl refl
@@ -176,27 +158,27 @@ beside_either taker pawn same next = elim (cases_lt taker pawn) [
 taker_of : (s : Position) (passed : ℕ) → has_taker s.board s.turn (beyond s.turn passed) ≡ true → HasTaker s passed
 taker_of s passed h =
     let pawn : ℕ = beyond s.turn passed in
-    elim (either_true (not (file pawn == 0) && is_pawn_of s.turn (at s.board (pawn - 1))) (not (file pawn == 7) && is_pawn_of s.turn (at s.board (pawn + 1))) h) [
+    elim (either_true (not (file pawn == 0) && is_piece (pawn_of s.turn) (at s.board (pawn - 1))) (not (file pawn == 7) && is_piece (pawn_of s.turn) (at s.board (pawn + 1))) h) [
       | inl left ↦
-          let parts = and_parts (not (file pawn == 0)) (is_pawn_of s.turn (at s.board (pawn - 1))) left in
+          let parts = and_parts (not (file pawn == 0)) (is_piece (pawn_of s.turn) (at s.board (pawn - 1))) left in
           let inside : pawn % 8 ≢ 0 = other_than (file pawn) 0 parts.0 in
-          record { taker = pawn - 1; stands = pawn_there s.turn (at s.board (pawn - 1)) parts.1; same_rank = rank_before pawn inside; next_file = file_before pawn inside }
+          record { taker = pawn - 1; stands = is_piece-is (pawn_of s.turn) (at s.board (pawn - 1)) parts.1; same_rank = rank_before pawn inside; next_file = file_before pawn inside }
       | inr right ↦
-          let parts = and_parts (not (file pawn == 7)) (is_pawn_of s.turn (at s.board (pawn + 1))) right in
+          let parts = and_parts (not (file pawn == 7)) (is_piece (pawn_of s.turn) (at s.board (pawn + 1))) right in
           let inside : pawn % 8 ≢ 7 = other_than (file pawn) 7 parts.0 in
-          record { taker = pawn + 1; stands = pawn_there s.turn (at s.board (pawn + 1)) parts.1; same_rank = rank_next pawn inside; next_file = file_next pawn inside }
+          record { taker = pawn + 1; stands = is_piece-is (pawn_of s.turn) (at s.board (pawn + 1)) parts.1; same_rank = rank_next pawn inside; next_file = file_next pawn inside }
     ]
 
 of_taker : (s : Position) (passed : ℕ) → HasTaker s passed → has_taker s.board s.turn (beyond s.turn passed) ≡ true
 of_taker s passed h =
     let pawn : ℕ = beyond s.turn passed in
-    let left : Bool = not (file pawn == 0) && is_pawn_of s.turn (at s.board (pawn - 1)) in
-    let right : Bool = not (file pawn == 7) && is_pawn_of s.turn (at s.board (pawn + 1)) in
+    let left : Bool = not (file pawn == 0) && is_piece (pawn_of s.turn) (at s.board (pawn - 1)) in
+    let right : Bool = not (file pawn == 7) && is_piece (pawn_of s.turn) (at s.board (pawn + 1)) in
     let stands = there_pawn s.turn (at s.board h.taker) h.stands in
-    let P : ℕ → Type 0 = λ q. is_pawn_of s.turn (at s.board q) ≡ true in
+    let P : ℕ → Type 0 = λ q. is_piece (pawn_of s.turn) (at s.board q) ≡ true in
     elim (beside_either h.taker pawn h.same_rank h.next_file) [
-      | inl l ↦ true_left left right (both_true (not (file pawn == 0)) (is_pawn_of s.turn (at s.board (pawn - 1))) (tells_other (file pawn) 0 l.1) (subst P l.0 stands))
-      | inr r ↦ true_right left right (both_true (not (file pawn == 7)) (is_pawn_of s.turn (at s.board (pawn + 1))) (tells_other (file pawn) 7 r.1) (subst P r.0 stands))
+      | inl l ↦ true_left left right (both_true (not (file pawn == 0)) (is_piece (pawn_of s.turn) (at s.board (pawn - 1))) (tells_other (file pawn) 0 l.1) (subst P l.0 stands))
+      | inr r ↦ true_right left right (both_true (not (file pawn == 7)) (is_piece (pawn_of s.turn) (at s.board (pawn + 1))) (tells_other (file pawn) 7 r.1) (subst P r.0 stands))
     ]
 
 among_passed : (s : Position) (ep : Option ℕ) (n : ℕ) → Among (passed_places s ep) n → (passed : ℕ) × (ep ≡ Some passed) × HasTaker s passed × (n ≡ 772 + file passed)

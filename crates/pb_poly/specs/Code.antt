@@ -3,8 +3,9 @@
 use Rattle.std.specs.Prelude.{◌≡◌, ℕ, ◌+◌, ◌*◌, ◌&&◌, ◌==◌, if◌then◌else◌}
 use Rattle.pb_board.specs.declared.piece.Colour.{Colour}
 use Rattle.pb_board.specs.declared.piece.Colour.TheVariants.{White, Black}
+use Rattle.pb_board.specs.Piece.{king_of}
 use Rattle.pb_board.specs.Position.{Position, IsSetup}
-use Rattle.pb_board.specs.Board.{file, rank, at, is_king_of}
+use Rattle.pb_board.specs.Board.{file, rank, at, is_piece}
 use Rattle.pb_moves.specs.Moved.{Moved, IsMove, promotion_number}
 use Rattle.pb_moves.specs.Cases.{Legal}
 
@@ -15,7 +16,7 @@ castling_to Black from to = if from == 60 && to == 62 then 63 else (if from == 6
 
 -- the square that the code names as the one that the move reaches
 abbrev pub coded_to : Position → Moved → ℕ
-coded_to s m = if is_king_of s.turn (at s.board m.from) then castling_to s.turn m.from m.to else m.to
+coded_to s m = if is_piece (king_of s.turn) (at s.board m.from) then castling_to s.turn m.from m.to else m.to
 
 abbrev pub code : Position → Moved → ℕ
 code s m = file (coded_to s m) + 8 * rank (coded_to s m) + 64 * file m.from + 512 * rank m.from + 4096 * promotion_number m.promo

@@ -4,8 +4,9 @@ use Rattle.pb_board.specs.declared.piece.Colour.{Colour}
 use Rattle.pb_board.specs.declared.piece.Colour.TheVariants.{White, Black}
 use Rattle.pb_board.specs.declared.piece.Kind.{Kind}
 use Rattle.pb_board.specs.declared.piece.Kind.TheVariants.{Knight, Bishop, Rook, Queen}
+use Rattle.pb_board.specs.Piece.{king_of}
 use Rattle.pb_board.specs.Position.{Position}
-use Rattle.pb_board.specs.Board.{at, is_king_of}
+use Rattle.pb_board.specs.Board.{at, is_piece}
 
 -- the promotion of a number
 abbrev pub promotion_of : ℕ → Option Kind
@@ -18,4 +19,4 @@ castling_from Black from named = if from == 60 && named == 63 then 62 else (if f
 
 -- the square that a move from this square reaches where its code names that one
 abbrev pub reached : Position → ℕ → ℕ → ℕ
-reached s from named = if is_king_of s.turn (at s.board from) then castling_from s.turn from named else named
+reached s from named = if is_piece (king_of s.turn) (at s.board from) then castling_from s.turn from named else named

@@ -1,30 +1,21 @@
 -- Keys of setups: the places of the table that a setup has, and the parity of the words there.
-use Rattle.std.specs.Prelude.{◌≡◌, ◌≢◌, ◌↔◌, ℕ, ◌+◌, ◌-◌, ◌*◌, ◌%◌, ◌^◌, ◌<◌, Bool, not, ◌&&◌, ◌||◌, ◌==◌, true, false, Option, Some, None, List, [], ◌∷◌, ◌++◌, if◌then◌else◌, IsTrue, AllPairs, Contains, fold, sum_by, slice_index, bit_xor}
+use Rattle.std.specs.Prelude.{◌≡◌, ◌≢◌, ◌↔◌, ℕ, ◌+◌, ◌-◌, ◌*◌, ◌%◌, ◌^◌, ◌<◌, Bool, not, ◌&&◌, ◌||◌, ◌==◌, Option, Some, None, List, [], ◌∷◌, ◌++◌, if◌then◌else◌, IsTrue, AllPairs, Contains, fold, sum_by, slice_index, bit_xor}
 use Rattle.std.specs.Int.{bit_at}
 use Rattle.pb_board.specs.declared.piece.Colour.{Colour}
 use Rattle.pb_board.specs.declared.piece.Colour.TheVariants.{White, Black}
 use Rattle.pb_board.specs.declared.piece.Kind.{Kind}
-use Rattle.pb_board.specs.declared.piece.Kind.TheVariants.{Pawn, Knight, Bishop, Rook, Queen, King}
 use Rattle.pb_board.specs.declared.piece.Piece.{Piece}
 use Rattle.pb_board.specs.declared.setup.Rights.{Rights}
-use Rattle.pb_board.specs.Piece.{pawn_of, is_same}
+use Rattle.pb_board.specs.Piece.{kind_number, pawn_of}
 use Rattle.pb_board.specs.Position.{Position, IsSetup, beyond}
-use Rattle.pb_board.specs.Board.{Board, Place, file, rank, at, Holds}
+use Rattle.pb_board.specs.Board.{Board, file, rank, at, Holds, is_piece}
 use Rattle.pb_moves.specs.Attack.{files_apart}
 use Rattle.pb_poly.specs.Table.{IsTable}
 
--- the kinds of pieces in the table's order: black pawn, white pawn, black knight, ..
-abbrev pub kind_number : Kind → ℕ
-kind_number Pawn = 0
-kind_number Knight = 2
-kind_number Bishop = 4
-kind_number Rook = 6
-kind_number Queen = 8
-kind_number King = 10
-
+-- the pieces in the table's order: black pawn, white pawn, black knight, ..
 abbrev pub number_of : Colour → Kind → ℕ
-number_of White kind = kind_number kind + 1
-number_of Black kind = kind_number kind
+number_of White kind = 2 * kind_number kind + 1
+number_of Black kind = 2 * kind_number kind
 
 abbrev pub piece_place : Piece → ℕ → ℕ
 piece_place piece square = 64 * number_of piece.colour piece.kind + square
@@ -76,23 +67,10 @@ place_if flag place = if flag then place ∷ [] else []
 abbrev pub rights_places : Rights → List ℕ
 rights_places r = place_if r.white_short 768 ++ (place_if r.white_long 769 ++ (place_if r.black_short 770 ++ place_if r.black_long 771))
 
-abbrev pub is_pawn : Kind → Bool
-is_pawn Pawn = true
-is_pawn Knight = false
-is_pawn Bishop = false
-is_pawn Rook = false
-is_pawn Queen = false
-is_pawn King = false
-
--- a pawn of this side stands there
-abbrev pub is_pawn_of : Colour → Place → Bool
-is_pawn_of side None = false
-is_pawn_of side (Some piece) = is_pawn piece.kind && is_same piece.colour side
-
 -- a pawn of the side to move stands on the square one file lower or higher
 abbrev pub has_taker : Board → Colour → ℕ → Bool
 has_taker board turn pawn =
-    (not (file pawn == 0) && is_pawn_of turn (at board (pawn - 1))) || (not (file pawn == 7) && is_pawn_of turn (at board (pawn + 1)))
+    (not (file pawn == 0) && is_piece (pawn_of turn) (at board (pawn - 1))) || (not (file pawn == 7) && is_piece (pawn_of turn) (at board (pawn + 1)))
 
 abbrev pub passed_places : Position → Option ℕ → List ℕ
 passed_places s None = []

@@ -1,7 +1,8 @@
 //! Move codes of PolyGlot books.
 
 ghost use Rattle.std.specs.Prelude.{◌≡◌, ◌<◌, ◌≤◌, MatchOption, Some};
-ghost use Rattle.pb_board.specs.Board.{at, is_king_of};
+ghost use Rattle.pb_board.specs.Piece.{king_of};
+ghost use Rattle.pb_board.specs.Board.{at, is_piece};
 ghost use Rattle.pb_moves.specs.Moved.{Moved, promotion_number as promotion_number_by};
 ghost use Rattle.pb_poly.specs.Decoding.{castling_from as castling_from_by, promotion_of as promotion_by, reached as reached_by};
 ghost use Rattle.pb_poly.specs.Code.{HasCode, castling_to as castling_to_by, code as code_by, coded_to as coded_to_by};
@@ -25,7 +26,7 @@ fn promotion_number(promo: Option<Kind>) -> u16
 
 /// Whether the king of the side to move stands there.
 fn has_own_king(setup: &Setup, square: Square) -> bool
-    ensures { result ≡ is_king_of setup.now.turn (at setup.now.board square) }
+    ensures { result ≡ is_piece (king_of setup.now.turn) (at setup.now.board square) }
 {
     match setup.at(square) {
         Some(piece) => piece.kind == Kind::King && piece.colour == setup.turn(),

@@ -1,9 +1,11 @@
 //! Keys of setups.
 
 ghost use Rattle.std.specs.Prelude.{◌≡◌, ◌<◌, ◌+◌};
-ghost use Rattle.pb_board.specs.Board.{at, file};
+ghost use Rattle.pb_board.specs.declared.piece.Colour.TheVariants.{Black};
+ghost use Rattle.pb_board.specs.Piece.{pawn_of};
+ghost use Rattle.pb_board.specs.Board.{at, file, is_piece};
 ghost use Rattle.pb_board.specs.Position.{OnPassedRank, beyond as beyond_by};
-ghost use Rattle.pb_poly.specs.Key.{IsKey, has_taker as has_taker_by, is_pawn_of, joined, key as key_by, kind_number as kind_number_by, passed_places, piece_place as piece_place_by, piece_places, place_if, rights_places, turn_places};
+ghost use Rattle.pb_poly.specs.Key.{IsKey, has_taker as has_taker_by, joined, key as key_by, number_of as number_of_by, passed_places, piece_place as piece_place_by, piece_places, place_if, rights_places, turn_places};
 
 use crate::table::Table;
 use pb_board::{Colour, Kind, Piece, Rights, Setup, Square};
@@ -11,9 +13,9 @@ use pb_board::{Colour, Kind, Piece, Rights, Setup, Square};
 /// The place of the word for White to move.
 pub(crate) const WHITE_TO_MOVE: usize = 780;
 
-/// The number of a kind of pieces in the table's order.
-fn kind_number(kind: Kind) -> usize
-    ensures value { result ≡ kind_number_by kind }
+/// The number of the black pieces of a kind in the table's order; that of the white ones is one more.
+fn number_of_black(kind: Kind) -> usize
+    ensures value { result ≡ number_of_by Black kind }
     ensures few { result < 11 }
 {
     match kind {
@@ -33,8 +35,8 @@ pub(crate) fn piece_place(piece: Piece, square: usize) -> usize
     ensures few { result < 768 }
 {
     let number = match piece.colour {
-        Colour::White => kind_number(piece.kind) + 1,
-        Colour::Black => kind_number(piece.kind),
+        Colour::White => number_of_black(piece.kind) + 1,
+        Colour::Black => number_of_black(piece.kind),
     };
     64 * number + square
 }
@@ -73,7 +75,7 @@ fn with_rights(table: &Table, key: u64, rights: Rights) -> u64
 /// Whether a pawn of the side to move stands on the square of this index.
 fn has_own_pawn(setup: &Setup, square: u8) -> bool
     requires { square < 64 }
-    ensures { result ≡ is_pawn_of setup.now.turn (at setup.now.board square) }
+    ensures { result ≡ is_piece (pawn_of setup.now.turn) (at setup.now.board square) }
 {
     match setup.board()[square as usize] {
         Some(piece) => piece.kind == Kind::Pawn && piece.colour == setup.turn(),
