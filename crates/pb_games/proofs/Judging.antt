@@ -1,5 +1,5 @@
 -- What was read of the fields of a line, and what follows for the whole.
-use Rattle.std.proofs.Common.{◌≡◌, ℕ, ◌<◌, ◌≤◌, List, [], ◌∷◌, length, slice_index_or, sym, ap, subst, ◌∙◌, arith}
+use Rattle.std.proofs.Common.{◌≡◌, ℕ, ◌<◌, ◌≤◌, List, [], ◌∷◌, length, slice_index_or, refl, sym, ap, subst, ◌∙◌, arith}
 use Rattle.std.specs.List.{All, join_with_byte}
 use Rattle.std.proofs.lemmas.List.{length-map}
 use Rattle.std.proofs.lemmas.List.Splits.{join_with_byte-slice_split}
@@ -15,24 +15,18 @@ use Rattle.pb_games.specs.declared.outcome.Outcome.{Outcome}
 use Rattle.pb_games.specs.declared.refusal.Refusal.{Refusal}
 use Rattle.pb_games.specs.declared.refusal.Refusal.TheVariants as refusal
 use Rattle.pb_games.specs.Header.{IsHeader}
-use Rattle.pb_games.specs.Ids.{IsId}
 use Rattle.pb_games.specs.LineFields.{submission_of, IsChecked}
 use Rattle.pb_games.specs.Reading.{AreRead, AreRefused}
 use Rattle.pb_games.specs.Refusing.{IsFirstIllegal, Refuses, SpellsStart, field_of}
 use Rattle.pb_games.specs.Results.{outcome_text}
 use Rattle.pb_games.specs.Submissions.{IsLawful, IsGame, moves_text}
 use Rattle.pb_games.specs.Words.{words_of, move_named, moves_named}
-use Rattle.pb_games.proofs.Dues.{NoneBefore, none_at_first, none_more, first_due}
+use Rattle.pb_games.proofs.Dues.{NoneBefore, none_more, first_due}
+use Rattle.pb_games.proofs.Headers.{none_before_fen}
 use Rattle.pb_board.proofs.LineEnds.{cases_return}
 use Rattle.pb_games.proofs.WordLemmas.{spellings_back, named_are_moves, words-back, none_misspelt}
 
 module _ (line a d : List ℕ) (o : Outcome) (f : Record) (h : IsHeader line a o f d) where
-  id_at : field_of line 0 ≡ a
-  id_at = ap (λ (w : List (List ℕ)). slice_index_or w 0 []) h.cut
-
-  result_at : field_of line 1 ≡ outcome_text o
-  result_at = ap (λ (w : List (List ℕ)). slice_index_or w 1 []) h.cut
-
   fen_at : field_of line 2 ≡ h.fen
   fen_at = ap (λ (w : List (List ℕ)). slice_index_or w 2 []) h.cut
 
@@ -41,11 +35,8 @@ module _ (line a d : List ℕ) (o : Outcome) (f : Record) (h : IsHeader line a o
 
   none_before_start : NoneBefore 6 line
   none_before_start =
-      let n2 = none_more 1 line (none_at_first line) (λ due. omega (arith, h.short, due)) in
-      let n3 = none_more 2 line n2 (λ due. due (ap length h.cut)) in
-      let n4 = none_more 3 line n3 (λ due. due (subst IsId (sym id_at) h.id_is)) in
-      let n5 = none_more 4 line n4 (λ due. due o result_at) in
-      none_more 5 line n5 (λ due. record_never_due f h.fen due.0 h.bounds h.text (subst (λ t. IsFirstDue of_record due.0 (fields t)) fen_at due.1))
+      none_more 5 line (none_before_fen line h.short a (outcome_text o) h.fen d h.cut h.id_is o refl)
+      (λ due. record_never_due f h.fen due.0 h.bounds h.text (subst (λ t. IsFirstDue of_record due.0 (fields t)) fen_at due.1))
 
   spells_start : SpellsStart line f
   spells_start = record { bounds = h.bounds; text = subst (FenText f) (sym fen_at) h.text }

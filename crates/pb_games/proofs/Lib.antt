@@ -4,6 +4,7 @@ pub mod Bytes
 pub mod Texts
 pub mod OneLine
 pub mod Dues
+pub mod Headers
 pub mod Played
 pub mod Judging
 pub mod Refused

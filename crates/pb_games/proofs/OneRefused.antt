@@ -15,8 +15,9 @@ use Rattle.pb_moves.specs.Played.{IsSpelled, IsFirstMisspelt}
 use Rattle.pb_moves.specs.Successor.{after}
 use Rattle.pb_games.specs.declared.refusal.Refusal.{Refusal}
 use Rattle.pb_games.specs.declared.refusal.Refusal.TheVariants as refusal
-use Rattle.pb_games.specs.Refusing.{IsDue, IsFirstIllegal, Refuses, order, field_of}
+use Rattle.pb_games.specs.Refusing.{IsDue, IsFirstIllegal, Refuses, field_of}
 use Rattle.pb_games.specs.Laws.{OneRefusal}
+use Rattle.pb_games.proofs.Dues.{none_before, order}
 use Rattle.pb_games.proofs.OneLine.{spellings_injective}
 
 -- ---- the causes of one place in the order
@@ -101,8 +102,8 @@ one_cause line (suc (suc (suc (suc (suc (suc (suc (suc (suc (suc k)))))))))) m n
 same_place : (line : List ℕ) (d e : Refusal) → Refuses line d → Refuses line e → order d ≡ order e
 same_place line d e h k =
     elim (cases_lt (order d) (order e)) [
-      | inl less ↦ absurd (k.first d less h.due)
-      | inr le ↦ elim (cases_lt (order e) (order d)) [ inl less ↦ absurd (h.first e less k.due) | inr ge ↦ omega arith ]
+      | inl less ↦ absurd (none_before line e k d less h.due)
+      | inr le ↦ elim (cases_lt (order e) (order d)) [ inl less ↦ absurd (none_before line d h e less k.due) | inr ge ↦ omega arith ]
     ]
 
 pub one_refusal : OneRefusal

@@ -3,6 +3,7 @@ use Rattle.std.proofs.Common.{◌≡◌, ℕ, List, [], ◌∷◌, length, map, 
 use Rattle.std.specs.List.{All}
 use Rattle.std.proofs.lemmas.List.{length-map}
 use Rattle.std.proofs.lemmas.List.Elements.{All-map, All-weaker}
+use Rattle.pb_board.specs.declared.refusal.FenError.TheVariants as fen
 use Rattle.pb_board.specs.Fen.{FenText}
 use Rattle.pb_board.specs.Position.{Position, Record}
 use Rattle.pb_board.specs.Refusal.{IsFirstDue, of_record, fields}
@@ -28,18 +29,16 @@ use Rattle.pb_games.proofs.WordLemmas.{none_misspelt}
 -- ---- for a cause of its own
 
 due_of_line : (line : List ℕ) (e : Refusal) → IsDue e line → IsOfLine e
-due_of_line line refusal.Long due = tt
-due_of_line line refusal.Shape due = tt
-due_of_line line refusal.Id due = tt
-due_of_line line refusal.Result due = tt
-due_of_line line (refusal.Fen e) due = tt
-due_of_line line refusal.Start due = tt
-due_of_line line (refusal.Spelling n) due = tt
-due_of_line line refusal.Plies due = tt
-due_of_line line (refusal.Illegal n) due = tt
-due_of_line line (refusal.Conflict n) due = due
-due_of_line line refusal.Full due = due
-due_of_line line refusal.Memory due = due
+due_of_line line refusal.Long due = (fen.Fields, 0, 0, (0, omega arith, refl))
+due_of_line line refusal.Shape due = (fen.Fields, 0, 0, (1, omega arith, refl))
+due_of_line line refusal.Id due = (fen.Fields, 0, 0, (2, omega arith, refl))
+due_of_line line refusal.Result due = (fen.Fields, 0, 0, (3, omega arith, refl))
+due_of_line line (refusal.Fen e) due = (e, 0, 0, (4, omega arith, refl))
+due_of_line line refusal.Start due = (fen.Fields, 0, 0, (5, omega arith, refl))
+due_of_line line (refusal.Spelling n) due = (fen.Fields, n, 0, (6, omega arith, refl))
+due_of_line line refusal.Plies due = (fen.Fields, 0, 0, (7, omega arith, refl))
+due_of_line line (refusal.Illegal n) due = (fen.Fields, 0, n, (8, omega arith, refl))
+due_of_line line _ due = absurd due
 
 pub of_line : RefusedByItself
 of_line line e h = due_of_line line e h.due
@@ -79,9 +78,7 @@ module _ (line : List ℕ) (s : Submission) (h : IsLawful line s) where
       let moves = spellings_injective due.1 s.1.moves due.3.bounds h.submits.game.moves (due.3.words ∙ words_are) in
       let start : due.0.setup ≡ s.1.start.setup = ap (λ (f : Record). f.setup) (start_is due.0 due.2) in
       none_illegal s.1.start.setup s.1.moves n h.legal.legal (subst (λ ms. IsFirstIllegal s.1.start.setup ms n) moves (subst (λ t. IsFirstIllegal t due.1 n) start due.4))
-  none_due (refusal.Conflict n) due = due
-  none_due refusal.Full due = due
-  none_due refusal.Memory due = due
+  none_due _ due = due
 
 pub unlawful : RefusedIsUnlawful
 unlawful line e s h lawful = none_due line s lawful e h.due

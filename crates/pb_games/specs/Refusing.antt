@@ -1,6 +1,7 @@
 -- Which refusal a line gets by itself: the first in the order below whose condition holds.
-use Rattle.std.specs.Prelude.{◌≡◌, ◌≢◌, ℕ, ◌+◌, ◌<◌, ◌⊎◌, List, [], ◌∷◌, length, map, All, slice_index_or, ◌==◌}
+use Rattle.std.specs.Prelude.{◌≡◌, ◌≢◌, ℕ, ◌+◌, ◌<◌, ◌⊎◌, List, [], ◌∷◌, ◌++◌, length, map, All, Contains, slice_index_or, ◌==◌}
 use Rattle.std.specs.List.{slice_split}
+use Rattle.pb_board.specs.declared.refusal.FenError.{FenError}
 use Rattle.pb_board.specs.Fen.{FenText}
 use Rattle.pb_board.specs.Position.{Position, Record, IsRecord}
 use Rattle.pb_board.specs.Refusal.{IsFirstDue, of_record, fields}
@@ -59,40 +60,18 @@ IsDue (refusal.Spelling n) line = IsFirstMisspelt (move_words line) n
 IsDue refusal.Plies line = most_plies < length (move_words line)
 IsDue (refusal.Illegal n) line =
     (f : Record) × (moves : List Moved) × SpellsStart line f × SpellsMoves line moves × IsFirstIllegal f.setup moves n
-IsDue (refusal.Conflict n) line = ⊥
-IsDue refusal.Full line = ⊥
-IsDue refusal.Memory line = ⊥
+IsDue _ line = ⊥
 
-abbrev pub order : Refusal → ℕ
-order refusal.Long = 1
-order refusal.Shape = 2
-order refusal.Id = 3
-order refusal.Result = 4
-order (refusal.Fen e) = 5
-order refusal.Start = 6
-order (refusal.Spelling n) = 7
-order refusal.Plies = 8
-order (refusal.Illegal n) = 9
-order (refusal.Conflict n) = 10
-order refusal.Full = 11
-order refusal.Memory = 12
+-- the refusals that look at the line alone, in the order in which they are looked for: one has a cause, two have a number
+abbrev pub in_order : FenError → ℕ → ℕ → List Refusal
+in_order e m n =
+    refusal.Long ∷ refusal.Shape ∷ refusal.Id ∷ refusal.Result ∷ refusal.Fen e ∷ refusal.Start ∷ refusal.Spelling m ∷ refusal.Plies ∷ refusal.Illegal n ∷ []
 
--- the refusals that look at the line alone
+-- a refusal that looks at the line alone
 abbrev pub IsOfLine : Refusal → Type 0
-IsOfLine refusal.Long = Unit {0}
-IsOfLine refusal.Shape = Unit {0}
-IsOfLine refusal.Id = Unit {0}
-IsOfLine refusal.Result = Unit {0}
-IsOfLine (refusal.Fen e) = Unit {0}
-IsOfLine refusal.Start = Unit {0}
-IsOfLine (refusal.Spelling n) = Unit {0}
-IsOfLine refusal.Plies = Unit {0}
-IsOfLine (refusal.Illegal n) = Unit {0}
-IsOfLine (refusal.Conflict n) = ⊥
-IsOfLine refusal.Full = ⊥
-IsOfLine refusal.Memory = ⊥
+IsOfLine r = (e : FenError) × (m : ℕ) × (n : ℕ) × Contains (in_order e m n) r
 
--- the line by itself is refused so: this refusal is due, and none before it
-pub record Refuses (line : List ℕ) (e : Refusal) : Type 0 where
-  pub due : IsDue e line
-  pub first : (d : Refusal) → order d < order e → ¬ IsDue d line
+-- the line by itself is refused so: this refusal is due, and none before it, whatever their causes and numbers
+pub record Refuses (line : List ℕ) (r : Refusal) : Type 0 where
+  pub due : IsDue r line
+  pub first : (e : FenError) (m n : ℕ) (before after : List Refusal) → in_order e m n ≡ before ++ r ∷ after → All (λ d. ¬ IsDue d line) before

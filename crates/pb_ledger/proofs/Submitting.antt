@@ -5,8 +5,9 @@ use Rattle.std.proofs.lemmas.Bool.{cases_lt, lt-ltb, le-ltb}
 use Rattle.std.proofs.lemmas.List.{length-append}
 use Rattle.pb_games.specs.declared.refusal.Refusal.{Refusal}
 use Rattle.pb_games.specs.declared.refusal.Refusal.TheVariants as refusal
-use Rattle.pb_games.specs.Refusing.{Refuses, field_of, order}
+use Rattle.pb_games.specs.Refusing.{Refuses, field_of}
 use Rattle.pb_games.specs.Submissions.{IsLawful, Submission}
+use Rattle.pb_games.proofs.Dues.{none_before, order}
 use Rattle.pb_games.proofs.Texts.{fields_back}
 use Rattle.pb_accepted.specs.Accepting.{Allowed, Answer, Takes}
 use Rattle.pb_accepted.proofs.Replies.{Takes-refusal}
@@ -34,7 +35,7 @@ named_lawful line s r h =
 judged_id : (line : List ℕ) (e : Refusal) → 3 < order e → Refuses line e → length (field_of line 0) ≤ 64
 judged_id line e after refuses =
     elim (cases_lt 64 (length (field_of line 0))) [
-      | inl long ↦ absurd (refuses.first refusal.Id after (λ id. omega (arith, id.few)))
+      | inl long ↦ absurd (none_before line e refuses refusal.Id after (λ id. omega (arith, id.few)))
       | inr short ↦ short
     ]
 
