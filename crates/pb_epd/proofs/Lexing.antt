@@ -4,8 +4,8 @@ use Rattle.std.specs.Prelude.{All}
 use Rattle.std.proofs.lemmas.List.{take-append-drop, append_assoc, append-nil, drop_all, drop_more, length-drop, length-replicate}
 use Rattle.std.proofs.lemmas.List.Elements.{All-head, All-tail, All-replicate}
 use Rattle.pb_epd.specs.Run.{IsRun}
-use Rattle.pb_epd.specs.Token.{Token, word, text, end_mark, IsToken, IsWordByte, IsTextByte, IsWholeBefore, BeginsWith, BeginsWithWordByte, BeginsUnspaced, IsOperandToken, MayFollow}
-use Rattle.pb_epd.specs.Lexeme.{Begins, Steps, IsStuck}
+use Rattle.pb_epd.specs.Token.{Token, word, text, end_mark, IsToken, IsWordByte, IsTextByte, IsOperandToken, MayFollow}
+use Rattle.pb_epd.specs.Lexeme.{IsWholeBefore, BeginsWith, BeginsWithWordByte, BeginsUnspaced, Begins, Steps, IsStuck}
 use Rattle.pb_epd.proofs.Runs.{Stops, same_run, run_inside, run_stops, run_only, run_length}
 
 pub whole_from_stops : (bytes : List ℕ) → Stops IsWordByte bytes → ¬ BeginsWithWordByte bytes
@@ -91,7 +91,7 @@ unwrapped bytes t rest h = record { rest = rest; is_token = h.is_token; stands =
 no_word_at : (b : ℕ) (x w r : List ℕ) → ¬ IsWordByte b → IsToken (word w) → IsWholeBefore (word w) r → b ∷ x ≡ w ++ r → ⊥
 no_word_at b x w r bad is whole e = no_word_first b x w bad (record { rest = r; is_token = is; stands = e; whole = whole })
 
-no_word_quote : ¬ IsWordByte 34
+pub no_word_quote : ¬ IsWordByte 34
 no_word_quote h = h.no_quote refl
 
 pub no_word_end : ¬ IsWordByte 59

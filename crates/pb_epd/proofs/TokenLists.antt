@@ -1,12 +1,12 @@
 -- Lists of tokens that stand in bytes: no bytes have two.
 use Rattle.std.proofs.Common.{◌≡◌, ◌≢◌, ℕ, zero, suc, ◌+◌, ◌≤◌, List, [], ◌∷◌, ◌++◌, replicate, refl, sym, ap, subst, ◌∙◌, arith, add-one}
 use Rattle.std.proofs.lemmas.List.{append_assoc, append-nil, replicate-append-replicate, replicate_more}
-use Rattle.pb_epd.specs.Token.{Token, word, text, end_mark, IsToken, IsWordByte, IsWholeBefore, BeginsWithWordByte, MayFollow, TokensAfter, last_token, token_text}
-use Rattle.pb_epd.specs.Lexeme.{Steps, IsStuck}
+use Rattle.pb_epd.specs.Token.{Token, word, text, end_mark, IsToken, IsWordByte, MayFollow, TokensAfter, token_text}
+use Rattle.pb_epd.specs.Lexeme.{IsWholeBefore, BeginsWithWordByte, last_token, Steps, IsStuck}
 use Rattle.pb_epd.specs.Reading.{Follow}
 use Rattle.pb_epd.proofs.Lexing.{spaces_alone, steps_one, stuck_steps, begins_unspaced, no_word_end}
 
-no_word_space : ¬ IsWordByte 32
+pub no_word_space : ¬ IsWordByte 32
 no_word_space h = omega (arith, h.low)
 
 -- ---- a token is whole before what follows it

@@ -1,10 +1,37 @@
 -- What the tokenizer tells of the front of a text.
-use Rattle.std.specs.Prelude.{◌≡◌, ℕ, List, ◌++◌, replicate}
+use Rattle.std.specs.Prelude.{◌≡◌, ◌≢◌, ℕ, List, [], ◌∷◌, ◌++◌, replicate}
 use Rattle.pb_epd.specs.declared.token.Lexeme.{Lexeme}
 use Rattle.pb_epd.specs.declared.token.Lexeme.TheVariants as lexeme
 use Rattle.pb_epd.specs.declared.token.Step.{Step}
 use Rattle.pb_epd.specs.declared.token.Step.TheVariants as step
-use Rattle.pb_epd.specs.Token.{Token, word, text, end_mark, IsToken, token_text, MayFollow, IsWholeBefore, BeginsWith, BeginsUnspaced}
+use Rattle.pb_epd.specs.Token.{Token, word, text, end_mark, IsToken, IsWordByte, token_text, MayFollow}
+
+-- the last of the tokens, where there is one, and else an end
+abbrev pub last_token : Token → List Token → Token
+last_token before [] = before
+last_token before (t ∷ ts) = last_token t ts
+
+abbrev pub BeginsWithWordByte : List ℕ → Type 0
+BeginsWithWordByte [] = ⊥
+BeginsWithWordByte (b ∷ bytes) = IsWordByte b
+
+-- a word is as long a run as there is
+abbrev pub IsWholeBefore : Token → List ℕ → Type 0
+IsWholeBefore (word bytes) rest = ¬ BeginsWithWordByte rest
+IsWholeBefore (text bytes) rest = Unit {0}
+IsWholeBefore end_mark rest = Unit {0}
+
+-- a whole token begins the bytes
+pub record BeginsWith (bytes : List ℕ) (t : Token) : Type 0 where
+  pub rest : List ℕ
+  pub is_token : IsToken t
+  pub stands : bytes ≡ token_text t ++ rest
+  pub whole : IsWholeBefore t rest
+
+-- a byte that is no space
+abbrev pub BeginsUnspaced : List ℕ → Type 0
+BeginsUnspaced [] = ⊥
+BeginsUnspaced (b ∷ bytes) = b ≢ 32
 
 -- the token that stands there
 abbrev pub token_of : Lexeme → Token
