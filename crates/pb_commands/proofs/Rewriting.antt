@@ -6,9 +6,9 @@ use Rattle.std.proofs.lemmas.List.{append-nil, append_assoc, length-append}
 use Rattle.std.proofs.KnownBytes.{Appends-nil, Appends-trans, Appends-kept}
 use Rattle.pb_board.specs.LineEnd.{without_return}
 use Rattle.pb_epd.specs.declared.refusal.EpdError.TheVariants as epd
-use Rattle.pb_epd.specs.Epd.{EpdRecord, EpdText, IsEpd}
+use Rattle.pb_epd.specs.Epd.{EpdRecord, EpdText}
 use Rattle.pb_epd.specs.Refusal.{IsFirstDueEpd}
-use Rattle.pb_epd.proofs.Texts.{text_not_due}
+use Rattle.pb_epd.proofs.Texts.{text_memory}
 use Rattle.pb_io.specs.Source.{SourceState}
 use Rattle.pb_io.specs.Sink.{SinkState, Flush, StillWorks}
 use Rattle.pb_io.specs.Lines.{lines, ended_lines, line_limit, last_piece, line_at_end}
@@ -34,11 +34,11 @@ stops_at sink sink' number line taken out Write shown puts =
 stops_at sink sink' number line taken out Memory shown puts = absurd puts
 
 -- want of memory comes first of a record's text, and so at the line that has this text
-pub wants_at : (line text : List ℕ) (e : EpdRecord) → text ≡ without_return line → length line ≤ line_limit → ¬ IsBlank (without_return line) → IsEpd e → EpdText e text → MayWant line
-wants_at line text e same short full lawful spells = record {
+pub wants_at : (line text : List ℕ) (e : EpdRecord) → text ≡ without_return line → length line ≤ line_limit → ¬ IsBlank (without_return line) → EpdText e text → MayWant line
+wants_at line text e same short full spells = record {
   short = short;
   full = full;
-  due = subst (λ (x : List ℕ). IsFirstDueEpd epd.Memory x) same (record { due = tt; first = λ y other lt. text_not_due e text lawful spells y other });
+  due = subst (λ (x : List ℕ). IsFirstDueEpd epd.Memory x) same (text_memory e text spells);
 }
 
 and_true : (a : Bool) → a ≡ (a && true)

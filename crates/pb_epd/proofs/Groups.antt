@@ -11,9 +11,9 @@ use Rattle.std.proofs.lemmas.List.Quantifiers.{all_pairs_push}
 use Rattle.pb_epd.specs.declared.operand.Operand.{Operand}
 use Rattle.pb_epd.specs.Token.{Token, word, text, end_mark, IsOperandToken, TokensAfter}
 use Rattle.pb_epd.specs.Operation.{Operation, IsOperation, operand_token, operation_tokens}
-use Rattle.pb_epd.specs.Refusal.{is_end, IsNamed, BeginsWithOpcode, IsRepeat}
-use Rattle.pb_epd.specs.Reading.{HasTokens, AreOperands, BeginsUnnamed, BeginsWithOperation, AreOperations, AreNamed, IsUnnamedAt, IsRepeatedAt}
-use Rattle.pb_epd.proofs.Lists.{all_middle, contains_map, contains_unmap, split_map, pairs_split}
+use Rattle.pb_epd.specs.Refusal.{is_end, BeginOtherwise, BreaksAt, IsNamed}
+use Rattle.pb_epd.specs.Reading.{HasTokens, AreOperands, BeginsUnnamed, BeginsWithOperation, AreOperations, AreNamed, IsUnnamedAt}
+use Rattle.pb_epd.proofs.Lists.{all_middle, breaks_from, contains_map, pairs_cons, pairs_head, pairs_none, pairs_split, pairs_tail}
 use Rattle.pb_epd.proofs.Reader.{operands_are}
 
 -- ---- groups
@@ -48,7 +48,7 @@ operations_cut (o ∷ operations) others =
     ∙ operation_cut o (flat_map operation_tokens operations ++ others) ∙ ap (λ w. group_of o ∷ w) (operations_cut operations others)
 
 named : (o : Operation) → IsOperation o → IsNamed (group_of o)
-named o h = (o.0, (map operand_token o.1, h.opcode, refl))
+named o h = (o.0, map operand_token o.1, h.opcode, refl)
 
 pub all_named : (operations : List Operation) → All IsOperation operations → All IsNamed (map group_of operations)
 all_named operations h = All-map IsNamed group_of operations (All-weaker IsOperation (λ o. IsNamed (group_of o)) named operations h)
@@ -67,18 +67,15 @@ last_group ts = last_of (slice_split is_end ts) (omega (arith, length-slice_spli
 abbrev pub AreDistinct : List Operation → Type 0
 AreDistinct operations = AllPairs (λ o p. o.0 ≢ p.0) operations
 
-opcode_is : (o : Operation) (us : List Token) (opcode : List ℕ) → group_of o ≡ us → BeginsWithOpcode us opcode → o.0 ≡ opcode
-opcode_is o us opcode e h =
-    let both : word o.0 ∷ map operand_token o.1 ≡ word opcode ∷ h.0 = e ∙ h.2 in
-    cc (both)
+otherwise : (o p : Operation) → o.0 ≢ p.0 → BeginOtherwise (group_of o) (group_of p)
+otherwise o p other e = let same : o.0 ≡ p.0 = cc (e) in other same
 
-pub none_repeats : (operations : List Operation) → AreDistinct operations → (front back : List (List Token)) (us : List Token) → map group_of operations ≡ front ++ us ∷ back → ¬ IsRepeat front us
-none_repeats operations h front back us e r =
-    let s = split_map group_of operations front us back e in
-    let k = subst (λ w. Contains w r.1) (sym s.front_is) r.3 in
-    let m = contains_unmap group_of s.before r.1 k in
-    let apart = pairs_split (λ (o p : Operation). o.0 ≢ p.0) s.before s.at s.after m.0 (subst AreDistinct s.are h) m.1 in
-    apart (opcode_is m.0 r.1 r.0 m.2 r.4 ∙ sym (opcode_is s.at us r.0 s.at_is r.2))
+pub begin_otherwise : (operations : List Operation) → AreDistinct operations → AllPairs BeginOtherwise (map group_of operations)
+begin_otherwise [] h = pairs_none BeginOtherwise
+begin_otherwise (o ∷ operations) h =
+    pairs_cons BeginOtherwise (group_of o) (map group_of operations)
+    (All-map (BeginOtherwise (group_of o)) group_of operations (All-weaker (λ (p : Operation). o.0 ≢ p.0) (λ p. BeginOtherwise (group_of o) (group_of p)) (otherwise o) operations (pairs_head (λ (x y : Operation). x.0 ≢ y.0) o operations h)))
+    (begin_otherwise operations (pairs_tail (λ (x y : Operation). x.0 ≢ y.0) o operations h))
 
 -- the n-th operation is the first whose opcode stood before
 pub record RepeatsAt (n : ℕ) (operations : List Operation) : Type 0 where
@@ -91,18 +88,12 @@ pub record RepeatsAt (n : ℕ) (operations : List Operation) : Type 0 where
   pub operands : List Operand
   pub earlier : Contains front (o.0, operands)
 
-pub repeated_at : (n : ℕ) (operations : List Operation) → All IsOperation operations → RepeatsAt n operations → IsRepeatedAt n (map group_of operations)
-repeated_at n operations lawful h =
-    let is = all_middle IsOperation h.front h.o h.back (subst (All IsOperation) h.are lawful) in
-    record {
-      before = map group_of h.front;
-      group = group_of h.o;
-      after = map group_of h.back;
-      are = ap (map group_of) h.are ∙ map-append group_of h.front (h.o ∷ h.back);
-      count = omega (arith, h.count, length-map h.front group_of);
-      first = λ front back us e. none_repeats h.front h.distinct front back us e;
-      repeat = (h.o.0, group_of (h.o.0, h.operands), (map operand_token h.o.1, is.opcode, refl), contains_map group_of h.front (h.o.0, h.operands) h.earlier, (map operand_token h.operands, is.opcode, refl));
-    }
+pub repeated_at : (n : ℕ) (operations : List Operation) → RepeatsAt n operations → BreaksAt (AllPairs BeginOtherwise) (map group_of operations) n
+repeated_at n operations h =
+    let front = map group_of h.front in
+    breaks_from (AllPairs BeginOtherwise) (map group_of operations) front (group_of h.o) (map group_of h.back) n
+    (ap (map group_of) h.are ∙ map-append group_of h.front (h.o ∷ h.back)) (omega (arith, h.count, length-map h.front group_of)) (begin_otherwise h.front h.distinct)
+    (λ apart. pairs_split BeginOtherwise front (group_of h.o) [] (group_of (h.o.0, h.operands)) apart (contains_map group_of h.front (h.o.0, h.operands) h.earlier) refl)
 
 -- ---- operations that were read so far
 
@@ -216,11 +207,11 @@ module _ (start : Token) (bytes : List ℕ) (held : List Operation) (before : To
   named_so_far : (unended : List Token) → slice_split is_end so_far.others ≡ unended ∷ [] → AreNamed ts (map group_of so_far.operations) unended
   named_so_far unended e = record { cut = cut_so_far (unended ∷ []) e; named = all_named so_far.operations so_far.lawful }
 
-  pub read_repeated : (n : ℕ) → repeated ≡ Some n → ((us : List Token) → TokensAfter before us rest → us ≡ []) → (ended : List (List Token)) × AreNamed ts ended [] × IsRepeatedAt n ended
+  pub read_repeated : (n : ℕ) → repeated ≡ Some n → ((us : List Token) → TokensAfter before us rest → us ≡ []) → (ended : List (List Token)) × AreNamed ts ended [] × BreaksAt (AllPairs BeginOtherwise) ended n
   read_repeated n is none = (
     map group_of so_far.operations,
     named_so_far [] (ap (slice_split is_end) (none_left none)),
-    repeated_at n so_far.operations so_far.lawful (subst (λ r. Standing r so_far.operations held) is so_far.standing),
+    repeated_at n so_far.operations (subst (λ r. Standing r so_far.operations held) is so_far.standing),
   )
 
   pub read_unended : ((us : List Token) → TokensAfter before us rest → (us ≢ []) × AreOperands us) → (ended : List (List Token)) × (unended : List Token) × AreNamed ts ended unended × (unended ≢ [])
@@ -233,15 +224,13 @@ module _ (start : Token) (bytes : List ℕ) (held : List Operation) (before : To
       let l = left so_far.others so_far.after in
       let cut = ap (slice_split is_end) l.is ∙ cut_group l.group l.others l.operands in
       let last = last_group l.others in
+      let before = map group_of so_far.operations in
       record {
-        before = map group_of so_far.operations;
-        group = l.group;
-        after = last.0;
+        ended = before ++ l.group ∷ last.0;
         unended = last.1;
         cut =
-            cut_so_far (l.group ∷ slice_split is_end l.others) cut ∙ ap (λ w. map group_of so_far.operations ++ l.group ∷ w) last.2
-            ∙ sym (append_assoc (map group_of so_far.operations) (l.group ∷ last.0) (last.1 ∷ []));
-        count = omega (arith, so_far.counted, length-map so_far.operations group_of);
-        named = all_named so_far.operations so_far.lawful;
-        unnamed = l.unnamed;
+            cut_so_far (l.group ∷ slice_split is_end l.others) cut ∙ ap (λ w. before ++ l.group ∷ w) last.2
+            ∙ sym (append_assoc before (l.group ∷ last.0) (last.1 ∷ []));
+        breaks = breaks_from (All IsNamed) (before ++ l.group ∷ last.0) before l.group last.0 (count + 1) refl (omega (arith, so_far.counted, length-map so_far.operations group_of))
+            (all_named so_far.operations so_far.lawful) (λ k. l.unnamed (all_middle IsNamed before l.group [] k));
       }

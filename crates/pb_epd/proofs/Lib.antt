@@ -4,6 +4,7 @@ pub mod TokenLists
 pub mod Bad
 pub mod Lists
 pub mod Maps
+pub mod Dues
 pub mod Puts
 pub mod Writing
 pub mod Reader

@@ -1,8 +1,10 @@
 -- What a list contains, and what holds of its pairs.
-use Rattle.std.proofs.Common.{◌≡◌, ℕ, zero, suc, ◌<◌, ◌⊎◌, List, [], ◌∷◌, ◌++◌, length, get_or, refl, ap, ◌∙◌, subst, inl, inr, arith}
+use Rattle.std.proofs.Common.{◌≡◌, ℕ, zero, suc, ◌+◌, ◌-◌, ◌<◌, ◌⊎◌, List, [], ◌∷◌, ◌++◌, length, get_or, take, refl, sym, ap, ◌∙◌, subst, inl, inr, arith}
 use Rattle.std.specs.Prelude.{All, AllPairs, Contains, map}
-use Rattle.std.proofs.lemmas.List.{length-append}
-use Rattle.std.proofs.lemmas.List.Elements.{Contains-get_or, Contains-append_right, All-contains}
+use Rattle.std.proofs.lemmas.List.{get_or-take, length-take}
+use Rattle.std.proofs.Math.Seq.{take-append-add, take-append_seam}
+use Rattle.std.proofs.lemmas.List.Elements.{All-take, Contains-get_or, Contains-append_right, All-contains}
+use Rattle.pb_epd.specs.Refusal.{BreaksAt}
 
 module _ {A : Type 0} where
   pub contains_head : (x : A) (xs : List A) → Contains (x ∷ xs) x
@@ -43,7 +45,7 @@ module _ {A : Type 0} where
   pub pairs_head : (R : A → A → Type 0) (x : A) (xs : List A) → AllPairs R (x ∷ xs) → All (R x) xs
   pairs_head R x xs h k d lt = h 0 (suc k) d (omega arith) (omega (arith, lt))
 
--- what a mapped list contains, and where it is cut
+-- what a mapped list contains
 module _ {A B : Type 0} (g : A → B) where
   pub contains_map : (xs : List A) (y : A) → Contains xs y → Contains (map g xs) (g y)
   contains_map [] y h = absurd (contains_none y h)
@@ -70,32 +72,6 @@ module _ {A B : Type 0} (g : A → B) where
       let tails : map g xs ≡ map g ys = cc in
       ap (λ w. w ∷ xs) (one x y head) ∙ ap (λ w. y ∷ w) (map_injective one xs ys tails)
 
-  cons_same : (x : A) (xs ys : List A) → xs ≡ ys → x ∷ xs ≡ x ∷ ys
-  cons_same x xs ys tails = ap (λ w. x ∷ w) tails
-
-  same_cons : (x y : B) (xs ys : List B) → x ≡ y → xs ≡ ys → x ∷ xs ≡ y ∷ ys
-  same_cons x y xs ys head tails = ap (λ w. w ∷ xs) head ∙ ap (λ w. y ∷ w) tails
-
-  pub record SplitMap (xs : List A) (front : List B) (z : B) : Type 0 where
-    pub before : List A
-    pub at : A
-    pub after : List A
-    pub are : xs ≡ before ++ at ∷ after
-    pub front_is : map g before ≡ front
-    pub at_is : g at ≡ z
-
-  pub split_map : (xs : List A) (front : List B) (z : B) (back : List B) → map g xs ≡ front ++ z ∷ back → SplitMap xs front z
-  split_map [] front z back e = absurd (omega (arith, ap length e, length-append front (z ∷ back)))
-  split_map (x ∷ xs) [] z back e =
-      let head_is : g x ≡ z = cc in
-      record { before = []; at = x; after = xs; are = refl; front_is = refl; at_is = head_is }
-  split_map (x ∷ xs) (y ∷ front) z back e =
-      let head : g x ≡ y = cc in
-      let tails : map g xs ≡ front ++ z ∷ back = cc in
-      let s = split_map xs front z back tails in
-      let front_is = same_cons (g x) y (map g s.before) front head s.front_is in
-      record { before = x ∷ s.before; at = s.at; after = s.after; are = cons_same x xs (s.before ++ s.at ∷ s.after) s.are; front_is = front_is; at_is = s.at_is }
-
 module _ {A : Type 0} (R : A → A → Type 0) where
   pub pairs_split : (front : List A) (x : A) (back : List A) (y : A) → AllPairs R (front ++ x ∷ back) → Contains front y → R y x
   pairs_split [] x back y h k = absurd (contains_none y k)
@@ -104,3 +80,21 @@ module _ {A : Type 0} (R : A → A → Type 0) where
         | inl same ↦ subst (λ z. R z x) same (all_middle (R w) front x back (pairs_head R w (front ++ x ∷ back) h))
         | inr there ↦ pairs_split front x back y (pairs_tail R w (front ++ x ∷ back) h) there
       ]
+
+-- where a list breaks a rule
+module _ {A : Type 0} where
+  pub breaks_from : (rule : List A → Type 0) (xs before : List A) (x : A) (after : List A) (n : ℕ) → xs ≡ before ++ x ∷ after → n ≡ length before + 1 → rule before → ¬ rule (before ++ x ∷ []) → BreaksAt rule xs n
+  breaks_from rule xs before x after n are number kept broken =
+      let front : n - 1 ≡ length before = omega (arith, number) in
+      let up_to : take (n - 1) xs ≡ before = ap (λ m. take m xs) front ∙ ap (take (length before)) are ∙ take-append_seam before (x ∷ after) in
+      let with_it : take n xs ≡ before ++ x ∷ [] = ap (λ m. take m xs) number ∙ ap (take (length before + 1)) are ∙ take-append-add before (x ∷ after) 1 in
+      (subst rule (sym up_to) kept, λ k. broken (subst rule with_it k))
+
+  -- what each keeps is broken nowhere
+  pub all_unbroken : (P : A → Type 0) (xs : List A) (n : ℕ) → All P xs → BreaksAt (All P) xs n → ⊥
+  all_unbroken P xs n h k = k.1 (All-take P n xs h)
+
+  pub pairs_unbroken : (R : A → A → Type 0) (xs : List A) (n : ℕ) → AllPairs R xs → BreaksAt (AllPairs R) xs n → ⊥
+  pairs_unbroken R xs n h k = k.1 (λ i j d less lt.
+      let within : (j < n) × (j < length xs) = (omega (arith, lt, length-take n xs), omega (arith, lt, length-take n xs)) in
+      rw (get_or-take n xs i d (omega (arith, less, within.0)), get_or-take n xs j d within.0) (h i j d less within.1))

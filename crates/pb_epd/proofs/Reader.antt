@@ -154,7 +154,7 @@ module _ (before : Token) (bytes : List ℕ) (t : Token) (rest : List ℕ) (firs
   pub taken_end : t ≡ end_mark → (ts : List Token) → TokensAfter before ts bytes → BeginsUnnamed ts
   taken_end is ts h =
       let f = found_first before t ts bytes rest h first in
-      record { group = []; others = f.others; is = f.is ∙ ap (λ x. x ∷ f.others) is; operands = All-nil IsOperandToken; unnamed = λ n. cc (n.1.2) }
+      record { group = []; others = f.others; is = f.is ∙ ap (λ x. x ∷ f.others) is; operands = All-nil IsOperandToken; unnamed = λ n. cc (n.3) }
 
   pub taken_unended : IsOperandToken t → ((us : List Token) → TokensAfter t us rest → AreOperands us) → (ts : List Token) → TokensAfter before ts bytes → (ts ≢ []) × AreOperands ts
   taken_unended operand more ts h =

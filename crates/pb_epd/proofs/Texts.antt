@@ -1,6 +1,6 @@
 -- The texts of a record, and the one refusal that is due first.
 use Rattle.std.proofs.Common.{◌≡◌, ◌≢◌, ℕ, ◌<◌, List, [], ◌∷◌, ◌++◌, length, Result, Ok, Err, refl, sym, ap, subst, ◌∙◌, arith}
-use Rattle.std.specs.Prelude.{All, IfOk, IfErr, map, flat_map}
+use Rattle.std.specs.Prelude.{All, AllPairs, IfOk, IfErr, map, flat_map}
 use Rattle.std.specs.List.{slice_split}
 use Rattle.std.proofs.lemmas.List.{append-nil, same_from_push}
 use Rattle.pb_board.specs.Position.{Position, IsSetup}
@@ -11,15 +11,16 @@ use Rattle.pb_board.specs.declared.refusal.FenError.{FenError}
 use Rattle.pb_board.proofs.Fens.{setup_never_due}
 use Rattle.pb_epd.specs.declared.refusal.EpdError.{EpdError}
 use Rattle.pb_epd.specs.declared.refusal.EpdError.TheVariants as epd
-use Rattle.pb_epd.specs.Token.{Token, word, end_mark, Tokens, TokensAfter}
+use Rattle.pb_epd.specs.Token.{Token, word, end_mark, Tokens, TokensAfter, IsBadAt}
 use Rattle.pb_epd.specs.Operation.{operation_tokens}
 use Rattle.pb_epd.specs.Epd.{EpdRecord, IsEpd, EpdText}
-use Rattle.pb_epd.specs.Refusal.{is_end, IsNamed, IsCut, IsDueEpd, IsFirstDueEpd, epd_order}
-use Rattle.pb_epd.specs.Reading.{HasTokens, FourFollow, AreOperations, AreNamed, IsUnnamedAt, IsRepeatedAt, IsRefused}
-use Rattle.pb_epd.proofs.Lists.{all_middle}
+use Rattle.pb_epd.specs.Refusal.{BeginOtherwise, Cut, IsDueEpd, IsFirstDueEpd, IsNamed, is_end}
+use Rattle.pb_epd.specs.Reading.{HasTokens, FourFollow, AreOperations, AreNamed, IsRefused}
+use Rattle.pb_epd.proofs.Lists.{all_unbroken, pairs_unbroken}
+use Rattle.pb_epd.proofs.Dues.{epd_place, first_epd, memory_first}
 use Rattle.pb_epd.proofs.TokenLists.{tokens_one}
 use Rattle.pb_epd.proofs.Bad.{bad_none}
-use Rattle.pb_epd.proofs.Groups.{group_of, operations_cut, all_named, none_repeats, last_group}
+use Rattle.pb_epd.proofs.Groups.{all_named, begin_otherwise, group_of, last_group, operations_cut}
 
 word_is : (a b : List ℕ) (ts us : List Token) → word a ∷ ts ≡ word b ∷ us → a ≡ b
 word_is a b ts us e = cc
@@ -53,113 +54,90 @@ NotDue x bytes = IsDueEpd x bytes → ⊥
 pub token_not_due : (bytes : List ℕ) (ts : List Token) (at : ℕ) → Tokens ts bytes → NotDue (epd.Token at) bytes
 token_not_due bytes ts at tokens due = bad_none bytes at due ts tokens
 
+pub token_first : (bytes : List ℕ) (at : ℕ) → IsBadAt bytes at → IsFirstDueEpd (epd.Token at) bytes
+token_first bytes at bad = first_epd (epd.Token at) bytes bad first
+  where
+    first : (y : EpdError) → epd_place y < 1 → NotDue y bytes
+    first epd.Fields lt = absurd (omega (arith, lt))
+    first _ lt = absurd (omega (arith, lt))
+
 module _ (bytes a b c d : List ℕ) (others : List Token) (tokens : Tokens (word a ∷ word b ∷ word c ∷ word d ∷ others) bytes) where
+  abbrev pub is_cut : (ended : List (List Token)) (unended : List Token) → slice_split is_end others ≡ ended ++ unended ∷ [] → Cut bytes
+  is_cut ended unended cut = record { four = a ∷ b ∷ c ∷ d ∷ []; rest = others; ended = ended; unended = unended; four_words = refl; tokens = tokens; cut = cut }
+
+  cut_is : (k : Cut bytes) → (k.four ≡ a ∷ b ∷ c ∷ d ∷ []) × (slice_split is_end others ≡ k.ended ++ k.unended ∷ [])
+  cut_is k =
+      let same = tokens_one end_mark (map word k.four ++ k.rest) (word a ∷ word b ∷ word c ∷ word d ∷ others) bytes k.tokens tokens in
+      let f = four_are a b c d others k.four k.rest k.four_words same in
+      (f.0, ap (slice_split is_end) (sym f.1) ∙ k.cut)
+
+  abbrev pub some_cut : Cut bytes
+  some_cut = let last = last_group others in is_cut last.0 last.1 last.2
+
   pub fields_not_due : NotDue epd.Fields bytes
-  fields_not_due due = due (a ∷ b ∷ c ∷ d ∷ []) others refl tokens
-
-  pub is_cut : (ended : List (List Token)) (unended : List Token) → slice_split is_end others ≡ ended ++ unended ∷ [] → IsCut bytes (a ∷ b ∷ c ∷ d ∷ []) ended unended
-  is_cut ended unended cut = record { rest = others; tokens = tokens; four_words = refl; cut = cut }
-
-  cut_is : (four : List (List ℕ)) (ended : List (List Token)) (unended : List Token) → IsCut bytes four ended unended → (four ≡ a ∷ b ∷ c ∷ d ∷ []) × (slice_split is_end others ≡ ended ++ unended ∷ [])
-  cut_is four ended unended h =
-      let same = tokens_one end_mark (map word four ++ h.rest) (word a ∷ word b ∷ word c ∷ word d ∷ others) bytes h.tokens tokens in
-      let f = four_are a b c d others four h.rest h.four_words same in
-      (f.0, ap (slice_split is_end) (sym f.1) ∙ h.cut)
-
-  pub setup_due : (e : FenError) → IsFirstDue of_setup e (a ∷ b ∷ c ∷ d ∷ []) → IsDueEpd (epd.Setup e) bytes
-  setup_due e h =
-      let last = last_group others in
-      (a ∷ b ∷ c ∷ d ∷ [], last.0, last.1, is_cut last.0 last.1 last.2, h)
+  fields_not_due due = due some_cut
 
   pub setup_not_due : (p : Position) (e : FenError) → IsSetup p → AreFields p (a ∷ b ∷ c ∷ d ∷ []) → NotDue (epd.Setup e) bytes
-  setup_not_due p e lawful spells due =
-      let f = cut_is due.0 due.1 due.2 due.3 in
-      setup_never_due p (a ∷ b ∷ c ∷ d ∷ []) e lawful spells (subst (IsFirstDue of_setup e) f.0 due.4)
-
-  pub opcode_due : (n : ℕ) → IsUnnamedAt n others → IsDueEpd (epd.Opcode n) bytes
-  opcode_due n h = (a ∷ b ∷ c ∷ d ∷ [], h.before, h.group, h.after, h.unended, is_cut (h.before ++ h.group ∷ h.after) h.unended h.cut, h.count, h.named, h.unnamed)
+  setup_not_due p e lawful spells due = setup_never_due p (a ∷ b ∷ c ∷ d ∷ []) e lawful spells (subst (IsFirstDue of_setup e) (cut_is due.0).0 due.1)
 
   pub opcode_not_due : (n : ℕ) (ended : List (List Token)) (unended : List Token) → AreNamed others ended unended → NotDue (epd.Opcode n) bytes
   opcode_not_due n ended unended h due =
-      let f = cut_is due.0 (due.1 ++ due.2 ∷ due.3) due.4 due.5 in
-      let same = same_from_push ended (due.1 ++ due.2 ∷ due.3) unended due.4 (sym h.cut ∙ f.1) in
-      due.8 (all_middle IsNamed due.1 due.2 due.3 (subst (All IsNamed) same.0 h.named))
-
-  pub unended_due : (ended : List (List Token)) (unended : List Token) → AreNamed others ended unended → unended ≢ [] → IsDueEpd epd.Unended bytes
-  unended_due ended unended h some = (a ∷ b ∷ c ∷ d ∷ [], ended, unended, is_cut ended unended h.cut, some)
+      let k = due.0 in
+      let same = same_from_push ended k.ended unended k.unended (sym h.cut ∙ (cut_is k).1) in
+      all_unbroken IsNamed k.ended n (subst (All IsNamed) same.0 h.named) due.1
 
   pub unended_not_due : (ended : List (List Token)) → AreNamed others ended [] → NotDue epd.Unended bytes
-  unended_not_due ended h due =
-      let f = cut_is due.0 due.1 due.2 due.3 in
-      due.4 (sym (same_from_push ended due.1 [] due.2 (sym h.cut ∙ f.1)).1)
-
-  pub repeated_due : (n : ℕ) (ended : List (List Token)) → AreNamed others ended [] → IsRepeatedAt n ended → IsDueEpd (epd.Repeated n) bytes
-  repeated_due n ended h r =
-      let cut : slice_split is_end others ≡ (r.before ++ r.group ∷ r.after) ++ [] ∷ [] = h.cut ∙ ap (λ (w : List (List Token)). w ++ [] ∷ []) r.are in
-      (a ∷ b ∷ c ∷ d ∷ [], r.before, r.group, r.after, [], is_cut (r.before ++ r.group ∷ r.after) [] cut, r.count, r.first, r.repeat)
+  unended_not_due ended h due = due.1 (sym (same_from_push ended due.0.ended [] due.0.unended (sym h.cut ∙ (cut_is due.0).1)).1)
 
   -- ---- the first that is due
 
-  none_before_setup : (y : EpdError) → y ≢ epd.Memory → epd_order y < 4 → NotDue y bytes
-  none_before_setup (epd.Token at) other lt = token_not_due bytes (word a ∷ word b ∷ word c ∷ word d ∷ others) at tokens
-  none_before_setup epd.Fields other lt = fields_not_due
-  none_before_setup (epd.Setup e) other lt = absurd (omega (arith, lt))
-  none_before_setup (epd.Opcode n) other lt = absurd (omega (arith, lt))
-  none_before_setup epd.Unended other lt = absurd (omega (arith, lt))
-  none_before_setup (epd.Repeated n) other lt = absurd (omega (arith, lt))
-  none_before_setup epd.Memory other lt = absurd (other refl)
+  none_before_setup : (y : EpdError) → epd_place y < 3 → NotDue y bytes
+  none_before_setup (epd.Token at) lt = token_not_due bytes (word a ∷ word b ∷ word c ∷ word d ∷ others) at tokens
+  none_before_setup epd.Fields lt = fields_not_due
+  none_before_setup _ lt = absurd (omega (arith, lt))
 
   pub setup_first : (e : FenError) → IsFirstDue of_setup e (a ∷ b ∷ c ∷ d ∷ []) → IsFirstDueEpd (epd.Setup e) bytes
-  setup_first e h = record { due = setup_due e h; first = none_before_setup }
+  setup_first e h = first_epd (epd.Setup e) bytes (some_cut, h) none_before_setup
 
   module _ (p : Position) (lawful : IsSetup p) (spells : AreFields p (a ∷ b ∷ c ∷ d ∷ [])) where
-    none_before_opcode : (y : EpdError) → y ≢ epd.Memory → epd_order y < 5 → NotDue y bytes
-    none_before_opcode (epd.Token at) other lt = token_not_due bytes (word a ∷ word b ∷ word c ∷ word d ∷ others) at tokens
-    none_before_opcode epd.Fields other lt = fields_not_due
-    none_before_opcode (epd.Setup e) other lt = setup_not_due p e lawful spells
-    none_before_opcode (epd.Opcode n) other lt = absurd (omega (arith, lt))
-    none_before_opcode epd.Unended other lt = absurd (omega (arith, lt))
-    none_before_opcode (epd.Repeated n) other lt = absurd (omega (arith, lt))
-    none_before_opcode epd.Memory other lt = absurd (other refl)
+    none_before_opcode : (y : EpdError) → epd_place y < 4 → NotDue y bytes
+    none_before_opcode (epd.Setup e) lt = setup_not_due p e lawful spells
+    none_before_opcode (epd.Token at) lt = none_before_setup (epd.Token at) (omega arith)
+    none_before_opcode epd.Fields lt = fields_not_due
+    none_before_opcode _ lt = absurd (omega (arith, lt))
 
-    none_before_unended : (ended : List (List Token)) (unended : List Token) → AreNamed others ended unended → (y : EpdError) → y ≢ epd.Memory → epd_order y < 6 → NotDue y bytes
-    none_before_unended ended unended h (epd.Token at) other lt = none_before_opcode (epd.Token at) other (omega arith)
-    none_before_unended ended unended h epd.Fields other lt = fields_not_due
-    none_before_unended ended unended h (epd.Setup e) other lt = setup_not_due p e lawful spells
-    none_before_unended ended unended h (epd.Opcode n) other lt = opcode_not_due n ended unended h
-    none_before_unended ended unended h epd.Unended other lt = absurd (omega (arith, lt))
-    none_before_unended ended unended h (epd.Repeated n) other lt = absurd (omega (arith, lt))
-    none_before_unended ended unended h epd.Memory other lt = absurd (other refl)
+    none_before_unended : (ended : List (List Token)) (unended : List Token) → AreNamed others ended unended → (y : EpdError) → epd_place y < 5 → NotDue y bytes
+    none_before_unended ended unended h (epd.Opcode n) lt = opcode_not_due n ended unended h
+    none_before_unended ended unended h epd.Unended lt = absurd (omega (arith, lt))
+    none_before_unended ended unended h (epd.Repeated n) lt = absurd (omega (arith, lt))
+    none_before_unended ended unended h epd.Memory lt = absurd (omega (arith, lt))
+    none_before_unended ended unended h (epd.Token at) lt = none_before_opcode (epd.Token at) (omega arith)
+    none_before_unended ended unended h epd.Fields lt = fields_not_due
+    none_before_unended ended unended h (epd.Setup e) lt = setup_not_due p e lawful spells
 
-    none_before_repeated : (ended : List (List Token)) → AreNamed others ended [] → (y : EpdError) → y ≢ epd.Memory → epd_order y < 7 → NotDue y bytes
-    none_before_repeated ended h (epd.Token at) other lt = none_before_opcode (epd.Token at) other (omega arith)
-    none_before_repeated ended h epd.Fields other lt = fields_not_due
-    none_before_repeated ended h (epd.Setup e) other lt = setup_not_due p e lawful spells
-    none_before_repeated ended h (epd.Opcode n) other lt = opcode_not_due n ended [] h
-    none_before_repeated ended h epd.Unended other lt = unended_not_due ended h
-    none_before_repeated ended h (epd.Repeated n) other lt = absurd (omega (arith, lt))
-    none_before_repeated ended h epd.Memory other lt = absurd (other refl)
+    none_before_repeated : (ended : List (List Token)) → AreNamed others ended [] → (y : EpdError) → epd_place y < 6 → NotDue y bytes
+    none_before_repeated ended h epd.Unended lt = unended_not_due ended h
+    none_before_repeated ended h (epd.Repeated n) lt = absurd (omega (arith, lt))
+    none_before_repeated ended h epd.Memory lt = absurd (omega (arith, lt))
+    none_before_repeated ended h (epd.Token at) lt = none_before_opcode (epd.Token at) (omega arith)
+    none_before_repeated ended h epd.Fields lt = fields_not_due
+    none_before_repeated ended h (epd.Setup e) lt = setup_not_due p e lawful spells
+    none_before_repeated ended h (epd.Opcode n) lt = opcode_not_due n ended [] h
 
     pub refused_first : (x : EpdError) → IsRefused x others → IsFirstDueEpd x bytes
-    refused_first (epd.Token at) h = absurd h
-    refused_first epd.Fields h = absurd h
-    refused_first (epd.Setup e) h = absurd h
-    refused_first (epd.Opcode n) h = record { due = opcode_due n h; first = none_before_opcode }
-    refused_first epd.Unended h = record { due = unended_due h.0 h.1 h.2 h.3; first = none_before_unended h.0 h.1 h.2 }
-    refused_first (epd.Repeated n) h = record { due = repeated_due n h.0 h.1 h.2; first = none_before_repeated h.0 h.1 }
-    refused_first epd.Memory h = record { due = tt; first = λ y other lt. none_before_setup y other (omega (arith, lt)) }
+    refused_first (epd.Opcode n) h = first_epd (epd.Opcode n) bytes (is_cut h.ended h.unended h.cut, h.breaks) none_before_opcode
+    refused_first epd.Unended h = first_epd epd.Unended bytes (is_cut h.0 h.1 h.2.cut, h.3) (none_before_unended h.0 h.1 h.2)
+    refused_first (epd.Repeated n) h = first_epd (epd.Repeated n) bytes (is_cut h.0 [] h.1.cut, h.2) (none_before_repeated h.0 h.1)
+    refused_first epd.Memory h = memory_first bytes some_cut
+    refused_first _ h = absurd h
 
-pub fields_first : (bytes : List ℕ) (ts : List Token) → Tokens ts bytes → IsDueEpd epd.Fields bytes → IsFirstDueEpd epd.Fields bytes
-fields_first bytes ts tokens due = record { due = due; first = first }
+pub fields_first : (bytes : List ℕ) (ts : List Token) → Tokens ts bytes
+    → ((four : List (List ℕ)) (us : List Token) → length four ≡ 4 → ¬ Tokens (map word four ++ us) bytes) → IsFirstDueEpd epd.Fields bytes
+fields_first bytes ts tokens none = first_epd epd.Fields bytes (λ k. none k.four k.rest k.four_words k.tokens) first
   where
-    first : (y : EpdError) → y ≢ epd.Memory → epd_order y < 2 → NotDue y bytes
-    first (epd.Token at) other lt = token_not_due bytes ts at tokens
-    first epd.Fields other lt = absurd (omega (arith, lt))
-    first (epd.Setup e) other lt = absurd (omega (arith, lt))
-    first (epd.Opcode n) other lt = absurd (omega (arith, lt))
-    first epd.Unended other lt = absurd (omega (arith, lt))
-    first (epd.Repeated n) other lt = absurd (omega (arith, lt))
-    first epd.Memory other lt = absurd (other refl)
+    first : (y : EpdError) → epd_place y < 2 → NotDue y bytes
+    first (epd.Token at) lt = token_not_due bytes ts at tokens
+    first _ lt = absurd (omega (arith, lt))
 
 -- ---- a record that was read
 
@@ -189,9 +167,10 @@ module _ (e : EpdRecord) (bytes : List ℕ) (lawful : IsEpd e) (h : EpdText e by
 
   no_repeat : (n : ℕ) → NotDue (epd.Repeated n) bytes
   no_repeat n due =
-      let f = cut_is bytes _ _ _ _ _ (text_tokens e bytes h) due.0 (due.1 ++ due.2 ∷ due.3) due.4 due.5 in
-      let same = same_from_push (map group_of h.operations) (due.1 ++ due.2 ∷ due.3) [] due.4 (sym text_named.cut ∙ f.1) in
-      none_repeats h.operations h.distinct due.1 due.3 due.2 same.0 due.8
+      let k = due.0 in
+      let f = cut_is bytes _ _ _ _ _ (text_tokens e bytes h) k in
+      let same = same_from_push (map group_of h.operations) k.ended [] k.unended (sym text_named.cut ∙ f.1) in
+      pairs_unbroken BeginOtherwise k.ended n (subst (AllPairs BeginOtherwise) same.0 (begin_otherwise h.operations h.distinct)) due.1
 
   -- no refusal but want of memory is due
   pub text_not_due : (x : EpdError) → x ≢ epd.Memory → NotDue x bytes
@@ -202,6 +181,10 @@ module _ (e : EpdRecord) (bytes : List ℕ) (lawful : IsEpd e) (h : EpdText e by
   text_not_due epd.Unended other = unended_not_due bytes _ _ _ _ _ (text_tokens e bytes h) (map group_of h.operations) text_named
   text_not_due (epd.Repeated n) other = no_repeat n
   text_not_due epd.Memory other = absurd (other refl)
+
+-- want of memory may come at the text of a record
+pub text_memory : (e : EpdRecord) (bytes : List ℕ) → EpdText e bytes → IsFirstDueEpd epd.Memory bytes
+text_memory e bytes h = memory_first bytes (some_cut bytes _ _ _ _ _ (text_tokens e bytes h))
 
 -- ---- what the reader answers
 

@@ -1,5 +1,5 @@
 -- What the parts of the reader tell of the tokens of a line.
-use Rattle.std.specs.Prelude.{◌≡◌, ◌≢◌, ◌<◌, ◌↔◌, ℕ, ◌+◌, List, [], ◌∷◌, ◌++◌, length, map, flat_map, All, AllPairs, Contains}
+use Rattle.std.specs.Prelude.{◌≡◌, ◌≢◌, ◌<◌, ◌↔◌, ℕ, List, [], ◌∷◌, ◌++◌, length, map, flat_map, All, AllPairs, Contains}
 use Rattle.std.specs.List.{slice_split}
 use Rattle.pb_epd.specs.declared.operand.Operand.{Operand}
 use Rattle.pb_epd.specs.declared.read.Taken.{Taken}
@@ -8,7 +8,7 @@ use Rattle.pb_epd.specs.declared.refusal.EpdError.{EpdError}
 use Rattle.pb_epd.specs.declared.refusal.EpdError.TheVariants as epd
 use Rattle.pb_epd.specs.Token.{Token, word, end_mark, TokensAfter, IsOperandToken}
 use Rattle.pb_epd.specs.Operation.{Operation, IsOperand, IsOperation, operand_token, operation_tokens}
-use Rattle.pb_epd.specs.Refusal.{is_end, IsNamed, IsRepeat}
+use Rattle.pb_epd.specs.Refusal.{is_end, BeginOtherwise, BreaksAt, IsNamed}
 
 -- the bytes are tokens that follow this one
 abbrev pub HasTokens : Token → List ℕ → Type 0
@@ -86,29 +86,15 @@ pub record AreNamed (ts : List Token) (ended : List (List Token)) (unended : Lis
 
 -- the first ended operation that does not begin with an opcode
 pub record IsUnnamedAt (n : ℕ) (ts : List Token) : Type 0 where
-  pub before : List (List Token)
-  pub group : List Token
-  pub after : List (List Token)
+  pub ended : List (List Token)
   pub unended : List Token
-  pub cut : slice_split is_end ts ≡ (before ++ group ∷ after) ++ unended ∷ []
-  pub count : n ≡ length before + 1
-  pub named : All IsNamed before
-  pub unnamed : ¬ IsNamed group
-
--- the first operation whose opcode stood before
-pub record IsRepeatedAt (n : ℕ) (ended : List (List Token)) : Type 0 where
-  pub before : List (List Token)
-  pub group : List Token
-  pub after : List (List Token)
-  pub are : ended ≡ before ++ group ∷ after
-  pub count : n ≡ length before + 1
-  pub first : (front back : List (List Token)) (us : List Token) → before ≡ front ++ us ∷ back → ¬ IsRepeat front us
-  pub repeat : IsRepeat before group
+  pub cut : slice_split is_end ts ≡ ended ++ unended ∷ []
+  pub breaks : BreaksAt (All IsNamed) ended n
 
 -- why operations are refused
 abbrev pub IsRefused : EpdError → List Token → Type 0
 IsRefused (epd.Opcode n) ts = IsUnnamedAt n ts
 IsRefused epd.Unended ts = (ended : List (List Token)) × (unended : List Token) × AreNamed ts ended unended × (unended ≢ [])
-IsRefused (epd.Repeated n) ts = (ended : List (List Token)) × AreNamed ts ended [] × IsRepeatedAt n ended
+IsRefused (epd.Repeated n) ts = (ended : List (List Token)) × AreNamed ts ended [] × BreaksAt (AllPairs BeginOtherwise) ended n
 IsRefused epd.Memory ts = Unit {0}
 IsRefused _ ts = ⊥

@@ -3,7 +3,7 @@
 ghost use Rattle.std.specs.Prelude.{◌≡◌, ◌≤◌, ◌↔◌, ◌⊎◌, [], List, length, Contains, IfErr, OnOk, OnErr, MatchOption};
 ghost use Rattle.pb_epd.specs.Epd.{EpdRecord, IsEpd, operations_of};
 ghost use Rattle.pb_epd.specs.Operation.{Operation, IsOperation};
-ghost use Rattle.pb_epd.specs.Refusal.{IsFirstDuePut, put_order};
+ghost use Rattle.pb_epd.specs.Refusal.{IsFirstDuePut};
 ghost use Rattle.pb_epd.specs.declared.operand.Operand.{Operand};
 
 use crate::operand::Operand;
@@ -108,7 +108,6 @@ impl Epd {
         ensures fresh { OnOk result ((old : List Operand) → ¬ Contains self.old.operations (opcode.now, old)) }
         ensures same { OnErr result (self.new ≡ self.old) }
         ensures refused { IfErr result (λ x. IsFirstDuePut x self.old opcode.now operands.items) }
-        ensures kind { IfErr result (λ x. 3 ≤ put_order x) }
     {
         if self.operations.contains_key(opcode) {
             return Err(PutError::Repeated);

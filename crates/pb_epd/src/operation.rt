@@ -2,7 +2,8 @@
 
 ghost use Rattle.std.specs.Prelude.{◌≡◌, ◌↔◌, ◌+◌, List, All, IsTrue, MatchOption};
 ghost use Rattle.pb_epd.specs.Token.{IsToken, text as text_token, word};
-ghost use Rattle.pb_epd.specs.Operation.{IsLetter, IsNameByte, IsOpcode, IsOperand, IsFirstUnlawful};
+ghost use Rattle.pb_epd.specs.Operation.{IsLetter, IsNameByte, IsOpcode, IsOperand};
+ghost use Rattle.pb_epd.specs.Refusal.{BreaksAt};
 
 use crate::operand::Operand;
 use crate::run::{text_run, word_run};
@@ -70,7 +71,7 @@ fn is_lawful(operand: &Operand) -> bool
 
 /// The first unlawful operand, counted from 1.
 pub(crate) fn first_unlawful(operands: &[Operand]) -> Option<usize>
-    ensures { MatchOption result (All IsOperand operands.now) (λ n. IsFirstUnlawful n operands.now) }
+    ensures { MatchOption result (All IsOperand operands.now) (λ n. BreaksAt (All IsOperand) operands.now n) }
 {
     for (i, operand) in operands.iter().enumerate() {
         if !is_lawful(operand) {
