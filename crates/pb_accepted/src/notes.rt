@@ -1,7 +1,7 @@
 //! The gifts and the moves of a game, as far as it was played.
 
 ghost use Rattle.std.specs.Prelude.{◌≡◌, ◌<◌, ◌≤◌, ◌++◌, ◌∷◌, [], vec_capacity, vec_len};
-ghost use Rattle.pb_games.specs.Limits.{most_plies};
+ghost use Rattle.pb_games.specs.declared.check.TheConstants.{MAX_PLIES};
 
 use crate::gift::Gift;
 use pb_games::MAX_PLIES;
@@ -13,8 +13,8 @@ use std::alloc::{AllocError, Global};
 pub(crate) struct Notes {
     pub(crate) gifts: Vec<Gift>,
     pub(crate) moves: Vec<Move>,
-    ghost gift_room: { most_plies ≤ vec_capacity gifts },
-    ghost move_room: { most_plies ≤ vec_capacity moves },
+    ghost gift_room: { MAX_PLIES ≤ vec_capacity gifts },
+    ghost move_room: { MAX_PLIES ≤ vec_capacity moves },
 }
 
 impl Notes {
@@ -38,8 +38,8 @@ impl Notes {
     /// Adds a ply, for which there is room.
     #[inline(always)]
     pub(crate) fn add(&mut self, gift: Gift, m: Move)
-        requires gifts { vec_len self.old.gifts < most_plies }
-        requires moves { vec_len self.old.moves < most_plies }
+        requires gifts { vec_len self.old.gifts < MAX_PLIES }
+        requires moves { vec_len self.old.moves < MAX_PLIES }
         ensures gifts { self.new.gifts.items ≡ self.old.gifts.items ++ gift ∷ [] }
         ensures moves { self.new.moves.items ≡ self.old.moves.items ++ m ∷ [] }
     {

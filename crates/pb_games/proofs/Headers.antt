@@ -5,12 +5,12 @@ use Rattle.pb_board.specs.Refusal.{IsFirstDue, of_record, fields}
 use Rattle.pb_games.specs.declared.outcome.Outcome.{Outcome}
 use Rattle.pb_games.specs.declared.refusal.Refusal.TheVariants as refusal
 use Rattle.pb_games.specs.Ids.{IsId}
-use Rattle.pb_games.specs.Limits.{most_bytes}
+use Rattle.pb_games.specs.declared.header.TheConstants.{MAX_BYTES}
 use Rattle.pb_games.specs.Refusing.{Refuses, field_of, fields_of}
 use Rattle.pb_games.specs.Results.{outcome_text}
 use Rattle.pb_games.proofs.Dues.{NoneBefore, none_at_first, none_more, first_due}
 
-module _ (line : List ℕ) (short : length line ≤ most_bytes) where
+module _ (line : List ℕ) (short : length line ≤ MAX_BYTES) where
   none_before_shape : NoneBefore 2 line
   none_before_shape = none_more 1 line (none_at_first line) (λ due. omega (arith, short, due))
 

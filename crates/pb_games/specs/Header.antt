@@ -6,11 +6,11 @@ use Rattle.pb_games.specs.declared.outcome.Outcome.{Outcome}
 use Rattle.pb_games.specs.Ids.{IsId}
 use Rattle.pb_games.specs.Refusing.{fields_of}
 use Rattle.pb_games.specs.Results.{outcome_text}
-use Rattle.pb_games.specs.Limits.{most_bytes}
+use Rattle.pb_games.specs.declared.header.TheConstants.{MAX_BYTES}
 
 -- the line isn't too long and has four fields: this id, the text of this outcome, a text of this record, and the moves
 pub record IsHeader (line id : List ℕ) (outcome : Outcome) (start : Record) (moves : List ℕ) : Type 0 where
-  pub short : length line ≤ most_bytes
+  pub short : length line ≤ MAX_BYTES
   pub room : length moves ≤ length line
   pub fen : List ℕ
   pub cut : fields_of line ≡ id ∷ outcome_text outcome ∷ fen ∷ moves ∷ []

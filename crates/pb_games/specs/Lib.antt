@@ -4,7 +4,6 @@ pub mod Results
 pub mod Submissions
 pub mod Refusing
 pub mod Header
-pub mod Limits
 pub mod LineFields
 pub mod Laws
 pub mod Reading

@@ -5,7 +5,7 @@ use Rattle.pb_moves.specs.Played.{Ply, AreLegal, IsSpelled, IsFirstMisspelt}
 use Rattle.pb_games.specs.declared.outcome.Outcome.{Outcome}
 use Rattle.pb_games.specs.declared.refusal.Refusal.{Refusal}
 use Rattle.pb_games.specs.declared.refusal.Refusal.TheVariants as refusal
-use Rattle.pb_games.specs.Limits.{most_plies}
+use Rattle.pb_games.specs.declared.check.TheConstants.{MAX_PLIES}
 use Rattle.pb_games.specs.Refusing.{IsFirstIllegal}
 use Rattle.pb_games.specs.Words.{words_of, moves_named}
 
@@ -13,13 +13,13 @@ use Rattle.pb_games.specs.Words.{words_of, moves_named}
 pub record AreRead (start : Position) (field : List ℕ) (plies : ℕ) : Type 0 where
   pub spelt : All IsSpelled (words_of field)
   pub number : plies ≡ length (words_of field)
-  pub few : plies ≤ most_plies
+  pub few : plies ≤ MAX_PLIES
   pub legal : AreLegal start (moves_named field)
 
 -- each word spells a move, they aren't too many, and the n-th is the first that isn't legal
 pub record IsStopped (start : Position) (field : List ℕ) (n : ℕ) : Type 0 where
   pub spelt : All IsSpelled (words_of field)
-  pub few : length (words_of field) ≤ most_plies
+  pub few : length (words_of field) ≤ MAX_PLIES
   pub first : IsFirstIllegal start (moves_named field) n
 
 -- the refusal that the words of the field get from this start
@@ -31,7 +31,7 @@ AreRefused start field refusal.Result = ⊥
 AreRefused start field (refusal.Fen e) = ⊥
 AreRefused start field refusal.Start = ⊥
 AreRefused start field (refusal.Spelling n) = IsFirstMisspelt (words_of field) n
-AreRefused start field refusal.Plies = All IsSpelled (words_of field) × (most_plies < length (words_of field))
+AreRefused start field refusal.Plies = All IsSpelled (words_of field) × (MAX_PLIES < length (words_of field))
 AreRefused start field (refusal.Illegal n) = IsStopped start field n
 AreRefused start field (refusal.Conflict n) = ⊥
 AreRefused start field refusal.Full = ⊥
@@ -39,7 +39,7 @@ AreRefused start field refusal.Memory = ⊥
 
 -- some plies of some game are held, which led here, and a further one isn't too many
 abbrev pub CanTake : (Outcome → List Ply → Position → Type 0) → Position → Type 0
-CanTake holds setup = (outcome : Outcome) × (told : List Ply) × holds outcome told setup × (length told < most_plies)
+CanTake holds setup = (outcome : Outcome) × (told : List Ply) × holds outcome told setup × (length told < MAX_PLIES)
 
 -- the plies of these moves from the start are held
 abbrev pub IsToldAll : (Outcome → List Ply → Position → Type 0) → Outcome → List Ply → Type 0

@@ -7,7 +7,7 @@ ghost use Rattle.pb_games.specs.Reading.{AreRead, AreRefused, IsToldAll};
 ghost use Rattle.pb_games.specs.Refusing.{Refuses};
 ghost use Rattle.pb_games.specs.Submissions.{IsLawful, Submission, plies};
 ghost use Rattle.pb_games.specs.Words.{moves_named};
-ghost use Rattle.pb_games.specs.Limits.{most_bytes};
+ghost use Rattle.pb_games.specs.declared.header.TheConstants.{MAX_BYTES};
 
 use crate::header::read_header;
 use crate::line::Line;
@@ -95,7 +95,7 @@ fn read_moves<P: Player>(
     outcome: Outcome,
     field: &[u8],
 ) -> Result<u32, Refusal>
-    requires { length field.now ≤ most_bytes }
+    requires { length field.now ≤ MAX_BYTES }
     ensures read { MatchResult result (AreRead start field.now) (AreRefused start field.now) }
     ensures told { IfOk result (λ _. IsToldAll (P.holds player.new) outcome (plies_from start (moves_named field.now))) }
     ensures fixed { P.fixed player.new ≡ P.fixed player.old }
