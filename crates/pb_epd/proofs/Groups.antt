@@ -12,7 +12,7 @@ use Rattle.pb_epd.specs.declared.operand.Operand.{Operand}
 use Rattle.pb_epd.specs.Token.{Token, word, text, end_mark, IsOperandToken, TokensAfter}
 use Rattle.pb_epd.specs.Operation.{Operation, IsOperation, operand_token, operation_tokens}
 use Rattle.pb_epd.specs.Refusal.{is_end, BeginOtherwise, BreaksAt, IsNamed}
-use Rattle.pb_epd.specs.Reading.{HasTokens, AreOperands, BeginsUnnamed, BeginsWithOperation, AreOperations, AreNamed, IsUnnamedAt}
+use Rattle.pb_epd.specs.Reading.{HasTokens, AreOperands, BeginsUnnamed, BeginsWithOperation, AreOperations, AreDistinct, AreHeld, AreNamed, IsUnnamedAt, RepeatsAt, Standing}
 use Rattle.pb_epd.proofs.Lists.{all_middle, breaks_from, contains_map, pairs_cons, pairs_head, pairs_none, pairs_split, pairs_tail}
 use Rattle.pb_epd.proofs.Reader.{operands_are}
 
@@ -64,9 +64,6 @@ last_group ts = last_of (slice_split is_end ts) (omega (arith, length-slice_spli
 
 -- ---- opcodes that stood before
 
-abbrev pub AreDistinct : List Operation → Type 0
-AreDistinct operations = AllPairs (λ o p. o.0 ≢ p.0) operations
-
 otherwise : (o p : Operation) → o.0 ≢ p.0 → BeginOtherwise (group_of o) (group_of p)
 otherwise o p other e = let same : o.0 ≡ p.0 = cc (e) in other same
 
@@ -77,17 +74,6 @@ begin_otherwise (o ∷ operations) h =
     (All-map (BeginOtherwise (group_of o)) group_of operations (All-weaker (λ (p : Operation). o.0 ≢ p.0) (λ p. BeginOtherwise (group_of o) (group_of p)) (otherwise o) operations (pairs_head (λ (x y : Operation). x.0 ≢ y.0) o operations h)))
     (begin_otherwise operations (pairs_tail (λ (x y : Operation). x.0 ≢ y.0) o operations h))
 
--- the n-th operation is the first whose opcode stood before
-pub record RepeatsAt (n : ℕ) (operations : List Operation) : Type 0 where
-  pub front : List Operation
-  pub o : Operation
-  pub back : List Operation
-  pub are : operations ≡ front ++ o ∷ back
-  pub count : n ≡ length front + 1
-  pub distinct : AreDistinct front
-  pub operands : List Operand
-  pub earlier : Contains front (o.0, operands)
-
 pub repeated_at : (n : ℕ) (operations : List Operation) → RepeatsAt n operations → BreaksAt (AllPairs BeginOtherwise) (map group_of operations) n
 repeated_at n operations h =
     let front = map group_of h.front in
@@ -96,14 +82,6 @@ repeated_at n operations h =
     (λ apart. pairs_split BeginOtherwise front (group_of h.o) [] (group_of (h.o.0, h.operands)) apart (contains_map group_of h.front (h.o.0, h.operands) h.earlier) refl)
 
 -- ---- operations that were read so far
-
--- they are distinct and, as a map, those that are held
-pub record AreHeld (operations held : List Operation) : Type 0 where
-  pub distinct : AreDistinct operations
-  pub same : (o : Operation) → Contains operations o ↔ Contains held o
-
-abbrev pub Standing : Option ℕ → List Operation → List Operation → Type 0
-Standing repeated operations held = MatchOption repeated (AreHeld operations held) (λ n. RepeatsAt n operations)
 
 held_more : (operations held new : List Operation) (x : Operation) → AreHeld operations held → ((o : Operation) → Contains new o ↔ (Contains held o ⊎ (o ≡ x))) → ((old : List Operand) → ¬ Contains held (x.0, old)) → AreHeld (operations ++ x ∷ []) new
 held_more operations held new x h gains fresh = record {

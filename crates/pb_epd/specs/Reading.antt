@@ -1,7 +1,8 @@
 -- What the parts of the reader tell of the tokens of a line.
-use Rattle.std.specs.Prelude.{◌≡◌, ◌≢◌, ◌<◌, ◌↔◌, ℕ, List, [], ◌∷◌, ◌++◌, length, map, flat_map, All, AllPairs, Contains}
+use Rattle.std.specs.Prelude.{◌≡◌, ◌≢◌, ◌<◌, ◌↔◌, ℕ, ◌+◌, List, [], ◌∷◌, ◌++◌, length, map, flat_map, All, AllPairs, Contains, MatchOption, Option}
 use Rattle.std.specs.List.{slice_split}
 use Rattle.pb_epd.specs.declared.operand.Operand.{Operand}
+use Rattle.pb_epd.specs.declared.read.SoFar.{SoFar}
 use Rattle.pb_epd.specs.declared.read.Taken.{Taken}
 use Rattle.pb_epd.specs.declared.read.Taken.TheVariants as taken
 use Rattle.pb_epd.specs.declared.refusal.EpdError.{EpdError}
@@ -78,6 +79,35 @@ pub record AreOperations (ts : List Token) (map : List Operation) : Type 0 where
   pub lawful : All IsOperation operations
   pub distinct : AllPairs (λ o p. o.0 ≢ p.0) operations
   pub same : (o : Operation) → Contains operations o ↔ Contains map o
+
+-- no opcode stands twice
+abbrev pub AreDistinct : List Operation → Type 0
+AreDistinct operations = AllPairs (λ o p. o.0 ≢ p.0) operations
+
+-- the n-th operation is the first whose opcode stood before
+pub record RepeatsAt (n : ℕ) (operations : List Operation) : Type 0 where
+  pub front : List Operation
+  pub o : Operation
+  pub back : List Operation
+  pub are : operations ≡ front ++ o ∷ back
+  pub count : n ≡ length front + 1
+  pub distinct : AreDistinct front
+  pub operands : List Operand
+  pub earlier : Contains front (o.0, operands)
+
+-- they are distinct and, as a map, those that are held
+pub record AreHeld (operations held : List Operation) : Type 0 where
+  pub distinct : AreDistinct operations
+  pub same : (o : Operation) → Contains operations o ↔ Contains held o
+
+abbrev pub Standing : Option ℕ → List Operation → List Operation → Type 0
+Standing repeated operations held = MatchOption repeated (AreHeld operations held) (λ n. RepeatsAt n operations)
+
+-- where the operations that were read stand so, they do with one more
+abbrev pub StandsWith : Operation → SoFar → SoFar → Type 0
+StandsWith x old new =
+    (operations : List Operation) → old.count ≡ length operations → Standing old.repeated operations old.epd.operations
+    → Standing new.repeated (operations ++ x ∷ []) new.epd.operations
 
 -- each ended operation begins with an opcode
 pub record AreNamed (ts : List Token) (ended : List (List Token)) (unended : List Token) : Type 0 where

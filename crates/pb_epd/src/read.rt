@@ -1,12 +1,12 @@
 //! Reading an EPD record.
 
-ghost use Rattle.std.specs.Prelude.{◌≡◌, ◌∷◌, ◌++◌, ◌<◌, ◌≤◌, [], ℕ, List, All, length, map, IfOk, IfErr, IfSome, MatchOption, MatchResult};
+ghost use Rattle.std.specs.Prelude.{◌≡◌, ◌∷◌, ◌++◌, ◌+◌, ◌^◌, ◌<◌, ◌≤◌, [], ℕ, List, All, length, map, IfOk, IfErr, IfSome, MatchOption, MatchResult, OnOk};
 ghost use Rattle.pb_epd.specs.Token.{Token, word, end_mark, Tokens, TokensAfter, IsOperandToken};
 ghost use Rattle.pb_epd.specs.Lexeme.{token_of};
 ghost use Rattle.pb_epd.specs.Epd.{EpdRecord, IsEpd, EpdText};
-ghost use Rattle.pb_epd.specs.Operation.{IsOpcode, IsOperand, operand_token};
+ghost use Rattle.pb_epd.specs.Operation.{IsOpcode, IsOperand, IsOperation, operand_token};
 ghost use Rattle.pb_epd.specs.Refusal.{IsNamed, IsFirstDueEpd};
-ghost use Rattle.pb_epd.specs.Reading.{HasTokens, EndsSoundly, Follow, FourFollow, EndsWithOperands, AreOperands, IsTaken, IsSound, AreOperations, IsRefused};
+ghost use Rattle.pb_epd.specs.Reading.{HasTokens, EndsSoundly, Follow, FourFollow, EndsWithOperands, AreOperands, IsTaken, IsSound, AreOperations, IsRefused, StandsWith};
 ghost use Rattle.pb_epd.specs.declared.refusal.EpdError.TheVariants as epd;
 
 use crate::epd::Epd;
@@ -19,7 +19,7 @@ use std::alloc::{AllocError, Global};
 
 /// The words that a line begins with, and what follows them.
 #[derive(Clone, Copy)]
-pub(crate) struct Fields<'a> {
+pub(crate) struct FourWords<'a> {
     pub(crate) placement: &'a [u8],
     pub(crate) turn: &'a [u8],
     pub(crate) castling: &'a [u8],
@@ -37,7 +37,19 @@ pub(crate) enum Taken<'a> {
     /// An ended operation that does not begin with an opcode.
     Unnamed,
     /// An opcode with its operands, and what follows their end.
-    Operation(&'a [u8], Vec<Operand>, &'a [u8]),
+    Operation {
+        opcode: &'a [u8],
+        operands: Vec<Operand>,
+        rest: &'a [u8],
+    },
+}
+
+/// The operations that were read so far: the record of them, their number, and the first whose opcode stood before.
+#[derive(Drop)]
+pub(crate) struct SoFar {
+    pub(crate) epd: Epd,
+    pub(crate) count: usize,
+    pub(crate) repeated: Option<usize>,
 }
 
 /// The word that comes next, and what follows it.
@@ -57,7 +69,7 @@ fn next_word<'a>(before: Lexeme<'_>, text: &'a [u8]) -> Option<(&'a [u8], &'a [u
 }
 
 /// The four words that a line begins with.
-fn four_words(text: &[u8]) -> Option<Fields<'_>>
+fn four_words(text: &[u8]) -> Option<FourWords<'_>>
     ensures next { MatchOption result
         ((four : List (List ℕ)) (ts : List Token) → length four ≡ 4 → ¬ Tokens (map word four ++ ts) text.now)
         (λ f. (ts : List Token) → Tokens ts text.now → FourFollow f.placement.now f.turn.now f.castling.now f.passed.now f.rest.now ts) }
@@ -67,7 +79,7 @@ fn four_words(text: &[u8]) -> Option<Fields<'_>>
     let (turn, rest) = next_word(Lexeme::Word(placement), rest)?;
     let (castling, rest) = next_word(Lexeme::Word(turn), rest)?;
     let (passed, rest) = next_word(Lexeme::Word(castling), rest)?;
-    Some(Fields {
+    Some(FourWords {
         placement,
         turn,
         castling,
@@ -146,8 +158,33 @@ fn next_operation<'a>(
         return Ok(Taken::Unended);
     };
     match opcode_of(first) {
-        Some(opcode) => Ok(Taken::Operation(opcode, operands, rest)),
+        Some(opcode) => Ok(Taken::Operation {
+            opcode,
+            operands,
+            rest,
+        }),
         None => Ok(Taken::Unnamed),
+    }
+}
+
+/// Adds an operation to those that were read so far. An opcode that stood before is noted, and its operands are dropped.
+fn step(so_far: &mut SoFar, opcode: &[u8], operands: Vec<Operand>) -> Result<(), EpdError>
+    requires lawful { IsOperation (opcode.now, operands.items) }
+    requires room { so_far.old.count + 1 < 2 ^ 64 }
+    ensures rules { IsEpd so_far.new.epd }
+    ensures setup { so_far.new.epd.setup ≡ so_far.old.epd.setup }
+    ensures count { so_far.new.count ≡ so_far.old.count + 1 }
+    ensures stands { OnOk result (StandsWith (opcode.now, operands.items) so_far.old so_far.new) }
+    ensures memory { IfErr result (λ x. x ≡ epd.Memory) }
+{
+    so_far.count += 1;
+    match so_far.epd.add(opcode, operands) {
+        Ok(()) => Ok(()),
+        Err(PutError::Repeated) => {
+            so_far.repeated = so_far.repeated.or(Some(so_far.count));
+            Ok(())
+        }
+        Err(_) => Err(EpdError::Memory),
     }
 }
 
@@ -161,32 +198,35 @@ fn read_operations(
     ensures found { IfOk result (λ e. (e.setup ≡ setup) × IsEpd e × HasTokens (token_of before.entry) text.now × ((ts : List Token) → TokensAfter (token_of before.entry) ts text.now → AreOperations ts e.operations)) }
     ensures refused { IfErr result (λ x. (ts : List Token) → TokensAfter (token_of before.entry) ts text.now → IsRefused x ts) }
 {
-    let mut epd = Epd::new(alloc, setup);
+    let mut so_far = SoFar {
+        epd: Epd::new(alloc, setup),
+        count: 0,
+        repeated: None,
+    };
     let mut before = before;
-    let mut rest = text;
-    let mut count = 0;
-    let mut repeated = None;
+    let mut left = text;
     loop {
-        match next_operation(alloc, before, rest) {
+        match next_operation(alloc, before, left) {
             Ok(Taken::Done) => break,
             Ok(Taken::Unended) => return Err(EpdError::Unended),
-            Ok(Taken::Unnamed) => return Err(EpdError::Opcode(count + 1)),
-            Ok(Taken::Operation(opcode, operands, after)) => {
-                count += 1;
+            Ok(Taken::Unnamed) => return Err(EpdError::Opcode(so_far.count + 1)),
+            Ok(
+                Taken::Operation {
+                    opcode,
+                    operands,
+                    rest,
+                },
+            ) => {
+                step(&mut so_far, opcode, operands)?;
                 before = Lexeme::End;
-                rest = after;
-                match epd.add(opcode, operands) {
-                    Ok(()) => {}
-                    Err(PutError::Repeated) => repeated = repeated.or(Some(count)),
-                    Err(_) => return Err(EpdError::Memory),
-                }
+                left = rest;
             }
             Err(_) => return Err(EpdError::Memory),
         }
     }
-    match repeated {
+    match so_far.repeated {
         Some(number) => Err(EpdError::Repeated(number)),
-        None => Ok(epd),
+        None => Ok(so_far.epd),
     }
 }
 
