@@ -7,7 +7,7 @@ use pb_board::{cut_once, without_return};
 
 /// The fields of a line that is cut at every TAB.
 #[derive(Clone, Copy)]
-pub(crate) struct Fields<'a> {
+pub(crate) struct LineFields<'a> {
     pub(crate) id: &'a [u8],
     pub(crate) outcome: &'a [u8],
     pub(crate) start: &'a [u8],
@@ -15,7 +15,7 @@ pub(crate) struct Fields<'a> {
 }
 
 /// The four fields of a line without one final CR, if they are four.
-pub(crate) fn cut_fields(line: &[u8]) -> Option<Fields<'_>>
+pub(crate) fn cut_fields(line: &[u8]) -> Option<LineFields<'_>>
     ensures cut { MatchOption result (length (fields_of line.now) ≢ 4)
         (λ f. fields_of line.now ≡ f.id.now ∷ f.outcome.now ∷ f.start.now ∷ f.moves.now ∷ []) }
     ensures short { IfSome result (λ f. length f.moves.now ≤ length line.now) }
@@ -26,7 +26,7 @@ pub(crate) fn cut_fields(line: &[u8]) -> Option<Fields<'_>>
     let None = cut_once(moves, b'\t') else {
         return None;
     };
-    Some(Fields {
+    Some(LineFields {
         id,
         outcome,
         start,

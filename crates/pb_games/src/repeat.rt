@@ -7,7 +7,7 @@ ghost use Rattle.pb_games.specs.Repeat.{AreFieldsOf};
 ghost use Rattle.pb_games.specs.Submissions.{IsLawful, IsSubmission};
 ghost use Rattle.pb_games.specs.Words.{words_of};
 
-use crate::fields::{Fields, cut_fields};
+use crate::fields::{LineFields, cut_fields};
 use crate::game::Game;
 use crate::id::Id;
 use crate::outcome::result_text;
@@ -28,7 +28,7 @@ pub fn repeats(line: &[u8], id: &Id, game: &Game) -> bool
 }
 
 /// Whether the fields are those of this id and this game.
-fn are_fields_of(fields: &Fields<'_>, id: &Id, game: &Game) -> bool
+fn are_fields_of(fields: &LineFields<'_>, id: &Id, game: &Game) -> bool
     ensures { let f = fields.now in
         IsTrue result ↔ AreFieldsOf (id.now, game.now) f.id.now f.outcome.now f.start.now f.moves.now }
 {
