@@ -11,13 +11,13 @@ use Rattle.pb_epd.specs.Refusal.{IsFirstDueEpd}
 use Rattle.pb_epd.proofs.Texts.{text_memory}
 use Rattle.pb_io.specs.Source.{SourceState}
 use Rattle.pb_io.specs.Sink.{SinkState, Flush, StillWorks}
-use Rattle.pb_io.specs.Lines.{lines, ended_lines, line_limit, last_piece, line_at_end}
+use Rattle.pb_io.specs.Lines.{lines, ended_lines, line_limit}
 use Rattle.pb_io.specs.Reads.{Reads, ReadsSome}
 use Rattle.pb_io.specs.LineTask.{StopsAtLast, TakesAll, TakesStream, TakesUntil, chunk_len}
 use Rattle.pb_io.specs.declared.lines.LinesFault.{LinesFault}
 use Rattle.pb_io.specs.declared.lines.LinesFault.TheVariants as lines
 use Rattle.pb_io.specs.declared.source.Failed.{Failed}
-use Rattle.pb_io.proofs.LineLemmas.{length-lines}
+use Rattle.pb_io.proofs.LineLemmas.{length-ended_lines, length-lines}
 use Rattle.pb_io.specs.Count.{next_count}
 use Rattle.pb_commands.specs.declared.epd.Rewriter.{Rewriter}
 use Rattle.pb_commands.specs.declared.epd.Stop.{Stop}
@@ -73,10 +73,6 @@ shown-push number (first ∷ before) line answer taken out last h shown = (
   ap (λ a. a && taken) h.6 ∙ and_assoc h.0 h.1 taken,
   ap (λ o. o ++ last) h.7 ∙ append_assoc h.2 h.3 last,
 )
-
-length-ended : (bytes : List ℕ) → length (ended_lines bytes) ≤ length bytes
-length-ended bytes =
-    omega (arith, length-lines bytes, length-append (ended_lines bytes) (line_at_end (last_piece bytes)))
 
 module _ {K : Type 0} (state : K → SinkState) where
   -- lines that were taken gave this, and it was put
@@ -192,17 +188,17 @@ module _ {K : Type 0} (state : K → SinkState) where
     few came reads = omega (arith, small, first, reads.few, length-lines came)
 
     few_ended : (came rest : List ℕ) → Reads chunk_len fills old new (came ++ rest) → s.lines + length (ended_lines came) < 2 ^ 64
-    few_ended came rest reads = omega (arith, small, first, reads.few, length-ended came, length-append came rest)
+    few_ended came rest reads = omega (arith, small, first, reads.few, length-ended_lines came, length-append came rest)
 
     few_came : (came : List ℕ) → Reads chunk_len fills old new came → s.lines + length (ended_lines came) < 2 ^ 64
-    few_came came reads = omega (arith, small, first, reads.few, length-ended came)
+    few_came came reads = omega (arith, small, first, reads.few, length-ended_lines came)
 
     from_one : (ls : List (List ℕ)) (answer : Bool) (out : List ℕ) → EpdShown (s.lines + 1) ls answer out → EpdShown 1 ls answer out
     from_one ls answer out shown = subst (λ n. EpdShown (n + 1) ls answer out) first shown
 
     pub all_of : s.all_taken ≡ true → TakesStream (RewritesLine state) fills old new s t → RewritesAll fills old new (state s.sink.now) (state t.sink.now) t.all_taken
     all_of fresh h =
-        let run = run_of s t (lines h.came) (few h.came h.reads.some.reads) h.taken in
+        let run = run_of s t (lines h.came) (few h.came h.reads.some.reads) h.done in
         let answer : t.all_taken ≡ run.answer = run.answered ∙ ap (λ b. b && run.answer) fresh in record {
           came = h.came;
           reads = h.reads;
@@ -229,7 +225,7 @@ module _ {K : Type 0} (state : K → SinkState) where
           sink_works = subst (λ (x : SinkState). StillWorks (state s.sink.now).failed x.failed) same (λ w. w);
         }
     until_of lines.Read h =
-        let run = run_of s t (ended_lines h.came) (few_came h.came h.reads.reads) h.taken in record {
+        let run = run_of s t (ended_lines h.came) (few_came h.came h.reads.reads) h.done in record {
           came = h.came;
           reads = h.reads;
           answer = run.answer;
@@ -237,77 +233,69 @@ module _ {K : Type 0} (state : K → SinkState) where
           works = run.works;
         }
     until_of lines.Endless h =
-        let run = run_of s t (ended_lines h.came) (few_came h.came h.reads.reads) h.taken in record {
+        let run = run_of s t (ended_lines h.came) (few_came h.came h.reads.reads) h.done in record {
           came = h.came;
           reads = h.reads;
           answer = run.answer;
           rewrites = record { out = run.out; shown = from_one (ended_lines h.came) run.answer run.out run.shown; put = run.put };
           works = run.works;
         }
-    until_of (lines.Stop Write) h =
-        elim h.stops [
-          | inl now ↦
-              let cut = cut_of s t (ended_lines h.came) (few_ended h.came h.rest h.reads.reads) now in record {
-                came = h.came;
-                rest = h.rest;
-                reads = h.reads;
-                so_far = ended_lines h.came;
-                are = inl refl;
-                answer = cut.answer;
-                out = cut.out;
-                shown = from_one (ended_lines h.came) cut.answer cut.out cut.shown;
-                count = cut.count;
-                put = cut.put;
-                fails = cut.fails;
-              }
-          | inr end ↦
-              let cut = cut_of s t (lines h.came) (few h.came end.0.some.reads) end.1 in record {
-                came = h.came;
-                rest = h.rest;
-                reads = h.reads;
-                so_far = lines h.came;
-                are = inr (end.0, refl);
-                answer = cut.answer;
-                out = cut.out;
-                shown = from_one (lines h.came) cut.answer cut.out cut.shown;
-                count = cut.count;
-                put = cut.put;
-                fails = cut.fails;
-              }
-        ]
-    until_of (lines.Stop Memory) h =
-        elim h.stops [
-          | inl now ↦
-              let stopped = stopped_of s t (ended_lines h.came) (few_ended h.came h.rest h.reads.reads) now in record {
-                before = stopped.before;
-                are = inr (record { came = h.came; rest = h.rest; reads = h.reads; last = stopped.last; are = inl stopped.cut; wants = stopped.wants });
-                answer = stopped.answer;
-                rewrites = record { out = stopped.out; shown = from_one stopped.before stopped.answer stopped.out stopped.shown; put = stopped.put };
-                source_works = λ _. h.reads.works;
-                sink_works = stopped.works;
-              }
-          | inr end ↦
-              let stopped = stopped_of s t (lines h.came) (few h.came end.0.some.reads) end.1 in record {
-                before = stopped.before;
-                are = inr (record { came = h.came; rest = h.rest; reads = h.reads; last = stopped.last; are = inr (end.0, stopped.cut); wants = stopped.wants });
-                answer = stopped.answer;
-                rewrites = record { out = stopped.out; shown = from_one stopped.before stopped.answer stopped.out stopped.shown; put = stopped.put };
-                source_works = λ _. h.reads.works;
-                sink_works = stopped.works;
-              }
-        ]
+    until_of (lines.Stop Write) (inl h) =
+        let cut = cut_of s t (ended_lines h.came) (few_ended h.came h.reads.0 h.reads.1.reads) h.done in record {
+          came = h.came;
+          rest = h.reads.0;
+          reads = h.reads.1;
+          so_far = ended_lines h.came;
+          are = inl refl;
+          answer = cut.answer;
+          out = cut.out;
+          shown = from_one (ended_lines h.came) cut.answer cut.out cut.shown;
+          count = cut.count;
+          put = cut.put;
+          fails = cut.fails;
+        }
+    until_of (lines.Stop Write) (inr h) =
+        let cut = cut_of s t (lines h.came) (few h.came h.reads.some.reads) h.done in record {
+          came = h.came;
+          rest = [];
+          reads = subst (λ (bytes : List ℕ). ReadsSome chunk_len fills old new bytes) (sym (append-nil h.came)) h.reads.some;
+          so_far = lines h.came;
+          are = inr (h.reads, refl);
+          answer = cut.answer;
+          out = cut.out;
+          shown = from_one (lines h.came) cut.answer cut.out cut.shown;
+          count = cut.count;
+          put = cut.put;
+          fails = cut.fails;
+        }
+    until_of (lines.Stop Memory) (inl h) =
+        let stopped = stopped_of s t (ended_lines h.came) (few_ended h.came h.reads.0 h.reads.1.reads) h.done in record {
+          before = stopped.before;
+          are = inr (record { came = h.came; rest = h.reads.0; reads = h.reads.1; last = stopped.last; are = inl stopped.cut; wants = stopped.wants });
+          answer = stopped.answer;
+          rewrites = record { out = stopped.out; shown = from_one stopped.before stopped.answer stopped.out stopped.shown; put = stopped.put };
+          source_works = λ _. h.reads.1.works;
+          sink_works = stopped.works;
+        }
+    until_of (lines.Stop Memory) (inr h) =
+        let stopped = stopped_of s t (lines h.came) (few h.came h.reads.some.reads) h.done in
+        let reads = subst (λ (bytes : List ℕ). ReadsSome chunk_len fills old new bytes) (sym (append-nil h.came)) h.reads.some in record {
+          before = stopped.before;
+          are = inr (record { came = h.came; rest = []; reads = reads; last = stopped.last; are = inr (h.reads, stopped.cut); wants = stopped.wants });
+          answer = stopped.answer;
+          rewrites = record { out = stopped.out; shown = from_one stopped.before stopped.answer stopped.out stopped.shown; put = stopped.put };
+          source_works = λ _. h.reads.some.works;
+          sink_works = stopped.works;
+        }
 
     pub same_of : (r : Result (Unit {0}) (LinesFault Stop)) → OnOk r (TakesStream (RewritesLine state) fills old new s t) → IfErr r (TakesUntil (RewritesLine state) fills old new s t)
         → t.sink.ghost_name ≡ s.sink.ghost_name
-    same_of (Ok tt) h k = (run_of s t (lines h.came) (few h.came h.reads.some.reads) h.taken).same
+    same_of (Ok tt) h k = (run_of s t (lines h.came) (few h.came h.reads.some.reads) h.done).same
     same_of (Err lines.Memory) h k = ap (λ (x : Rewriter K). x.sink.ghost_name) k.1
-    same_of (Err lines.Read) h k = (run_of s t (ended_lines k.came) (few_came k.came k.reads.reads) k.taken).same
-    same_of (Err lines.Endless) h k = (run_of s t (ended_lines k.came) (few_came k.came k.reads.reads) k.taken).same
-    same_of (Err (lines.Stop e)) h k =
-        elim k.stops [
-          | inl now ↦ same_at_stop s t (ended_lines k.came) e (few_ended k.came k.rest k.reads.reads) now
-          | inr end ↦ same_at_stop s t (lines k.came) e (few k.came end.0.some.reads) end.1
-        ]
+    same_of (Err lines.Read) h k = (run_of s t (ended_lines k.came) (few_came k.came k.reads.reads) k.done).same
+    same_of (Err lines.Endless) h k = (run_of s t (ended_lines k.came) (few_came k.came k.reads.reads) k.done).same
+    same_of (Err (lines.Stop e)) h (inl k) = same_at_stop s t (ended_lines k.came) e (few_ended k.came k.reads.0 k.reads.1.reads) k.done
+    same_of (Err (lines.Stop e)) h (inr k) = same_at_stop s t (lines k.came) e (few k.came k.reads.some.reads) k.done
 
 -- all lines were rewritten, and what was put couldn't be handed on
 pub unflushed : (fills : ℕ) (old new : SourceState) (sink sink' sink'' : SinkState) (answer : Bool) (e : Failed)

@@ -176,7 +176,7 @@ module _ {T K : Type 0} (state : K → SinkState) where
   pub all_of : (fills : ℕ) (old new : SourceState) (s t : Collector T K) → fills < 2 ^ 32 → s.totals ≡ record { lines = 0; new = 0; repeats = 0; refused = 0 }
       → TakesStream (TakesLine state) fills old new s t → CollectsAll fills old new (Sink s) (Sink t) s.ledger.now t.ledger.now t.totals
   all_of fills old new s t small fresh h =
-      let taken = taken_of s t (lines h.came) h.taken in
+      let taken = taken_of s t (lines h.came) h.done in
       let all = ap (λ (x : Totals). x.lines) fresh in let new_games = ap (λ (x : Totals). x.new) fresh in
       let repeats = ap (λ (x : Totals). x.repeats) fresh in let refused = ap (λ (x : Totals). x.refused) fresh in
       let grows = taken.counts (omega arith) (omega (arith, small, h.reads.some.reads.few, length-lines h.came)) in record {
@@ -197,33 +197,32 @@ module _ {T K : Type 0} (state : K → SinkState) where
       → CollectsUntilStop fills old new (Sink s) (Sink t) s.ledger.now t.ledger.now e
   until_of fills old new s t Memory h = (h.0, ap (λ (x : Collector T K). Sink x) h.1, ap (λ (x : Collector T K). x.ledger.now) h.1)
   until_of fills old new s t Read h =
-      let taken = taken_of s t (ended_lines h.came) h.taken in
+      let taken = taken_of s t (ended_lines h.came) h.done in
       record { came = h.came; answers = taken.answers; reads = h.reads; collects = taken.collects; works = taken.works }
   until_of fills old new s t Endless h =
-      let taken = taken_of s t (ended_lines h.came) h.taken in
+      let taken = taken_of s t (ended_lines h.came) h.done in
       record { came = h.came; answers = taken.answers; reads = h.reads; collects = taken.collects; works = taken.works }
-  until_of fills old new s t (Stop e) h =
-      elim h.stops [
-        | inl now ↦
-            let stopped = stopped_at s t (ended_lines h.came) e now in
-            record { came = h.came; rest = h.rest; reads = h.reads; collects = inl stopped.collects; fails = stopped.fails }
-        | inr end ↦
-            let stopped = stopped_at s t (lines h.came) e end.1 in
-            record { came = h.came; rest = h.rest; reads = h.reads; collects = inr (end.0, inl stopped.collects); fails = stopped.fails }
-      ]
+  until_of fills old new s t (Stop e) (inl h) =
+      let stopped = stopped_at s t (ended_lines h.came) e h.done in
+      record { came = h.came; rest = h.reads.0; reads = h.reads.1; collects = inl stopped.collects; fails = stopped.fails }
+  until_of fills old new s t (Stop e) (inr h) =
+      let stopped = stopped_at s t (lines h.came) e h.done in record {
+        came = h.came;
+        rest = [];
+        reads = subst (λ (bytes : List ℕ). ReadsSome chunk_len fills old new bytes) (sym (append-nil h.came)) h.reads.some;
+        collects = inr (h.reads, inl stopped.collects);
+        fails = stopped.fails;
+      }
 
   same_of : (fills : ℕ) (old new : SourceState) (s t : Collector T K) (r : Result (Unit {0}) (LinesFault Failed))
       → OnOk r (TakesStream (TakesLine state) fills old new s t) → IfErr r (TakesUntil (TakesLine state) fills old new s t) → Same s t
-  same_of fills old new s t (Ok tt) h k = (taken_of s t (lines h.came) h.taken).same
+  same_of fills old new s t (Ok tt) h k = (taken_of s t (lines h.came) h.done).same
   same_of fills old new s t (Err Memory) h k =
       record { ledger = ap (λ (x : Collector T K). x.ledger.ghost_name) k.1; sink = ap (λ (x : Collector T K). x.sink.ghost_name) k.1 }
-  same_of fills old new s t (Err Read) h k = (taken_of s t (ended_lines k.came) k.taken).same
-  same_of fills old new s t (Err Endless) h k = (taken_of s t (ended_lines k.came) k.taken).same
-  same_of fills old new s t (Err (Stop e)) h k =
-      elim k.stops [
-        | inl now ↦ (stopped_at s t (ended_lines k.came) e now).same
-        | inr end ↦ (stopped_at s t (lines k.came) e end.1).same
-      ]
+  same_of fills old new s t (Err Read) h k = (taken_of s t (ended_lines k.came) k.done).same
+  same_of fills old new s t (Err Endless) h k = (taken_of s t (ended_lines k.came) k.done).same
+  same_of fills old new s t (Err (Stop e)) h (inl k) = (stopped_at s t (ended_lines k.came) e k.done).same
+  same_of fills old new s t (Err (Stop e)) h (inr k) = (stopped_at s t (lines k.came) e k.done).same
 
   pub same_ledger_of : (fills : ℕ) (old new : SourceState) (s t : Collector T K) (r : Result (Unit {0}) (LinesFault Failed))
       → OnOk r (TakesStream (TakesLine state) fills old new s t) → IfErr r (TakesUntil (TakesLine state) fills old new s t)
