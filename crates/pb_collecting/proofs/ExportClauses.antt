@@ -38,7 +38,7 @@ blame_until judges stops sink sink' Memory h = no_blame sink sink' Memory (λ is
 not_written : (fills : ℕ) (s s' : SourceState) (dropped dropped' : SinkState) (l l' : LedgerState) (e : CollectFault) → dropped'.failed ≡ false
     → CollectsUntil fills s s' dropped dropped' l l' e → fault_of e ≢ Write
 not_written fills s s' dropped dropped' l l' collect.Read works h = λ is. cc is
-not_written fills s s' dropped dropped' l l' collect.Write works h = absurd (cc (sym h.fails ∙ works))
+not_written fills s s' dropped dropped' l l' collect.Write works h = absurd (cc (sym h.1 ∙ works))
 not_written fills s s' dropped dropped' l l' collect.Endless works h = λ is. cc is
 not_written fills s s' dropped dropped' l l' collect.Memory works h = λ is. cc is
 

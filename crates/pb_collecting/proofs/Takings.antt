@@ -14,14 +14,15 @@ module _ (fills : ℕ) (t t' s s' : SourceState) (sink sink' : SinkState) (words
   pub took_all : (totals : Totals) → CollectsStream fills s s' sink sink' l l' totals → FillsLedger fills t t' s s' sink sink' l'
   took_all totals g =
       let h = subst (λ m. CollectsStream fills s s' sink sink' m l' totals) is g in
-      let leads = h.collects.leads in record {
+      let collects = h.0.done.0 in
+      let leads = collects.leads in record {
         words = words;
         held = l'.accepted;
         games = record {
-          takes = record { table = read; came = h.came; reads = h.reads; answers = h.answers; run = leads.run; accepted = leads.accepted };
-          put = h.collects.put;
-          works = h.works;
-          flushed = h.flushed;
+          takes = record { table = read; came = h.0.came; reads = h.0.reads; answers = collects.answers; run = leads.run; accepted = leads.accepted };
+          put = collects.put;
+          works = h.1;
+          flushed = h.2;
         };
         is = ap (λ (T : Basis). record l' { basis = T }) leads.basis ∙ ap (λ n. record (ledger_of words l'.accepted) { cap = n }) leads.cap;
       }

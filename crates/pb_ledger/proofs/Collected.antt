@@ -2,24 +2,25 @@
 use Rattle.std.proofs.Common.{◌≡◌, ℕ, ◌+◌, ◌^◌, ◌<◌, Bool, true, false, cond, List, [], ◌∷◌, ◌++◌, length, take, Result, Ok, Err, OnOk, IfErr, refl, sym, ap, ◌∙◌, subst, arith, inl, inr}
 use Rattle.std.specs.Prelude.{count_by, is_err}
 use Rattle.std.specs.Io.KnownBytes.{Appends}
-use Rattle.std.proofs.lemmas.List.{append-nil, append_assoc}
+use Rattle.std.proofs.lemmas.List.{append_assoc}
 use Rattle.std.proofs.lemmas.List.Sums.{sum_by-cons}
 use Rattle.std.proofs.KnownBytes.{Appends-nil, Appends-trans, Appends-kept}
 use Rattle.pb_io.specs.Source.{SourceState}
 use Rattle.pb_io.specs.Sink.{SinkState, Flush, StillWorks}
 use Rattle.pb_io.specs.Lines.{lines, ended_lines}
-use Rattle.pb_io.specs.Reads.{ReadsSome}
-use Rattle.pb_io.specs.LineTask.{StopsAtLast, TakesAll, TakesStream, TakesUntil, chunk_len}
+use Rattle.pb_io.specs.LineTask.{AtEnd, StopsAtLast, TakesAll, TakesStream, TakesUntil}
 use Rattle.pb_io.specs.declared.lines.LinesFault.{LinesFault}
 use Rattle.pb_io.specs.declared.lines.LinesFault.TheVariants.{Memory, Read, Endless, Stop}
 use Rattle.pb_io.specs.declared.source.Failed.{Failed}
-use Rattle.pb_io.proofs.LineLemmas.{length-lines}
+use Rattle.pb_io.proofs.EndLemmas.{AtEnd-weaker, AtFault-weaker, AtLine-weaker, AtNoEnd-weaker}
 use Rattle.pb_accepted.specs.Accepting.{Answer, Run}
 use Rattle.pb_accepted.specs.Ledger.{LedgerState}
 use Rattle.pb_ledger.specs.declared.totals.Totals.{Totals}
 use Rattle.pb_ledger.specs.declared.collecting.Collector.{Collector}
-use Rattle.pb_ledger.specs.Collecting.{Collects, CollectsButOne, CollectsToWriteFault, Leads}
-use Rattle.pb_ledger.specs.Collector.{CollectsAll, CollectsUntilStop, Submitted, TakesLine, added, with_answer}
+use Rattle.pb_ledger.specs.declared.collecting.CollectFault.TheVariants as collect
+use Rattle.pb_ledger.specs.Collecting.{Collects, CollectsButOne, CollectsCounted, CollectsStream, CollectsUntil, Leads}
+use Rattle.pb_ledger.specs.Collector.{TakesLine, with_answer}
+use Rattle.pb_ledger.proofs.Submitting.{added, grows, took}
 use Rattle.pb_accepted.specs.Replies.{replies, reply_line}
 
 -- ---- counts
@@ -58,13 +59,14 @@ Leads-none : (ledger : LedgerState) → Leads ledger ledger [] []
 Leads-none ledger = record { run = tt; accepted = refl; basis = refl; cap = refl }
 
 Leads-more : (a b c : LedgerState) (line : List ℕ) (answer : Answer) (L : List (List ℕ)) (R : List Answer)
-    → Submitted a b line answer → Leads b c L R → Leads a c (line ∷ L) (answer ∷ R)
-Leads-more a b c line answer L R one rest = record {
-  run = (b.accepted, one.allowed, one.takes, subst (λ cap. Run cap b.accepted L R) one.cap rest.run);
-  accepted = (b.accepted, one.takes, rest.accepted);
-  basis = rest.basis ∙ one.basis;
-  cap = rest.cap ∙ one.cap;
-}
+    → Leads a b (line ∷ []) (answer ∷ []) → Leads b c L R → Leads a c (line ∷ L) (answer ∷ R)
+Leads-more a b c line answer L R one rest =
+    let takes = took a b line answer one in record {
+      run = (b.accepted, one.run.1, takes, subst (λ cap. Run cap b.accepted L R) one.cap rest.run);
+      accepted = (b.accepted, takes, rest.accepted);
+      basis = rest.basis ∙ one.basis;
+      cap = rest.cap ∙ one.cap;
+    }
 
 module _ {T K : Type 0} (state : K → SinkState) where
   abbrev Sink : Collector T K → SinkState
@@ -77,18 +79,16 @@ module _ {T K : Type 0} (state : K → SinkState) where
 
   -- lines that were taken gave these answers
   record Taken (s t : Collector T K) (ls : List (List ℕ)) : Type 0 where
-    answers : List Answer
-    collects : Collects (Sink s) (Sink t) s.ledger.now t.ledger.now ls answers
-    number : length answers ≡ length ls
+    collects : Collects (Sink s) (Sink t) s.ledger.now t.ledger.now ls
+    number : length collects.answers ≡ length ls
     counts : AddsUp s.totals → s.totals.lines + length ls < 2 ^ 64
-        → Grows (length s.ledger.now.accepted) (length t.ledger.now.accepted) s.totals t.totals (length ls) (count_by is_err answers)
+        → Grows (length s.ledger.now.accepted) (length t.ledger.now.accepted) s.totals t.totals (length ls) (count_by is_err collects.answers)
     works : StillWorks (Sink s).failed (Sink t).failed
     same : Same s t
 
   taken_of : (s t : Collector T K) (ls : List (List ℕ)) → TakesAll (TakesLine state) s ls t → Taken s t ls
   taken_of s t [] h = let P : Collector T K → Type 0 = λ x. Taken s x [] in subst P (sym h) (record {
-    answers = [];
-    collects = record { leads = Leads-none s.ledger.now; put = Appends-nil (Sink s).bytes };
+    collects = record { answers = []; leads = Leads-none s.ledger.now; put = Appends-nil (Sink s).bytes };
     number = refl;
     counts = λ sum few. record { all = omega arith; refused = omega arith; new_games = omega arith; adds_up = sum };
     works = λ w. w;
@@ -96,16 +96,17 @@ module _ {T K : Type 0} (state : K → SinkState) where
   })
   taken_of s t (line ∷ ls) h =
       let m : Collector T K = h.0 in let one = h.1 in let rest = taken_of m t ls h.2 in record {
-        answers = one.answer ∷ rest.answers;
         collects = record {
-          leads = Leads-more s.ledger.now m.ledger.now t.ledger.now line one.answer ls rest.answers one.submitted rest.collects.leads;
+          answers = one.answer ∷ rest.collects.answers;
+          leads = Leads-more s.ledger.now m.ledger.now t.ledger.now line one.answer ls rest.collects.answers one.leads rest.collects.leads;
           put = Appends-trans _ _ _ _ _ one.put.all rest.collects.put;
         };
         number = omega (arith, rest.number);
         counts = λ sum few.
-            let first = one_more _ _ s.totals m.totals one.answer one.is_new one.counted one.grown sum (omega (arith, few)) in
+            let grown = grows s.ledger.now.cap s.ledger.now.accepted line one.answer m.ledger.now.accepted one.leads.run.1 (took s.ledger.now m.ledger.now line one.answer one.leads) in
+            let first = one_more _ _ s.totals m.totals one.answer _ one.counted grown sum (omega (arith, few)) in
             let others = rest.counts first.adds_up (omega (arith, few, first.all)) in
-            let refusals = more_refused one.answer rest.answers in record {
+            let refusals = more_refused one.answer rest.collects.answers in record {
               all = omega (arith, first.all, others.all);
               refused = omega (arith, first.refused, others.refused, refusals);
               new_games = omega (arith, first.new_games, others.new_games);
@@ -130,7 +131,7 @@ module _ {T K : Type 0} (state : K → SinkState) where
   stopped_of s m t [] line e taken last = let P : Collector T K → Type 0 = λ x. Stopped x t [] line in subst P taken (record {
     answers = [];
     answer = last.answer;
-    leads = Leads-more m.ledger.now t.ledger.now t.ledger.now line last.answer [] [] last.submitted (Leads-none t.ledger.now);
+    leads = Leads-more m.ledger.now t.ledger.now t.ledger.now line last.answer [] [] last.leads (Leads-none t.ledger.now);
     count = last.put.front.0;
     put = last.put.front.1;
     fails = last.put.failed;
@@ -140,7 +141,7 @@ module _ {T K : Type 0} (state : K → SinkState) where
       let next : Collector T K = taken.0 in let one = taken.1 in let rest = stopped_of next m t before line e taken.2 last in record {
         answers = one.answer ∷ rest.answers;
         answer = rest.answer;
-        leads = Leads-more s.ledger.now next.ledger.now t.ledger.now first one.answer (before ++ line ∷ []) (rest.answers ++ rest.answer ∷ []) one.submitted rest.leads;
+        leads = Leads-more s.ledger.now next.ledger.now t.ledger.now first one.answer (before ++ line ∷ []) (rest.answers ++ rest.answer ∷ []) one.leads rest.leads;
         count = rest.count;
         put = let P : List ℕ → Type 0 = λ bytes. Appends (Sink s).bytes (Sink t).bytes bytes in
             subst P (sym (append_assoc (reply_line first one.answer) (replies before rest.answers) (take rest.count (reply_line line rest.answer))))
@@ -173,46 +174,54 @@ module _ {T K : Type 0} (state : K → SinkState) where
 
   -- ---- the whole of a stream
 
-  pub all_of : (fills : ℕ) (old new : SourceState) (s t : Collector T K) → fills < 2 ^ 32 → s.totals ≡ record { lines = 0; new = 0; repeats = 0; refused = 0 }
-      → TakesStream (TakesLine state) fills old new s t → CollectsAll fills old new (Sink s) (Sink t) s.ledger.now t.ledger.now t.totals
-  all_of fills old new s t small fresh h =
-      let taken = taken_of s t (lines h.came) h.done in
-      let all = ap (λ (x : Totals). x.lines) fresh in let new_games = ap (λ (x : Totals). x.new) fresh in
-      let repeats = ap (λ (x : Totals). x.repeats) fresh in let refused = ap (λ (x : Totals). x.refused) fresh in
-      let grows = taken.counts (omega arith) (omega (arith, small, h.reads.some.reads.few, length-lines h.came)) in record {
-        came = h.came;
-        answers = taken.answers;
-        reads = h.reads;
-        collects = taken.collects;
-        counts = record {
-          all = omega (arith, grows.all, taken.number);
-          refusals = omega (arith, grows.refused);
-          new_games = omega (arith, grows.new_games);
-          others = grows.adds_up;
-        };
-        works = taken.works;
-      }
+  module _ (fills : ℕ) (old new : SourceState) (s t : Collector T K) where
+    stream_of : fills < 2 ^ 32 → s.totals ≡ record { lines = 0; new = 0; repeats = 0; refused = 0 }
+        → TakesStream (TakesLine state) fills old new s t → AtEnd fills old new (CollectsCounted (Sink s) (Sink t) s.ledger.now t.ledger.now t.totals)
+    stream_of small fresh h = AtEnd-weaker fills old new _ _ (λ ls few taken.
+        let all_taken = taken_of s t ls taken in
+        let all = ap (λ (x : Totals). x.lines) fresh in let new_games = ap (λ (x : Totals). x.new) fresh in
+        let repeats = ap (λ (x : Totals). x.repeats) fresh in let refused = ap (λ (x : Totals). x.refused) fresh in
+        let grows = all_taken.counts (omega arith) (omega (arith, small, few)) in (
+          all_taken.collects,
+          record {
+            all = omega (arith, grows.all, all_taken.number);
+            refusals = omega (arith, grows.refused);
+            new_games = omega (arith, grows.new_games);
+            others = grows.adds_up;
+          },
+        )) h
 
-  pub until_of : (fills : ℕ) (old new : SourceState) (s t : Collector T K) (e : LinesFault Failed) → TakesUntil (TakesLine state) fills old new s t e
-      → CollectsUntilStop fills old new (Sink s) (Sink t) s.ledger.now t.ledger.now e
-  until_of fills old new s t Memory h = (h.0, ap (λ (x : Collector T K). Sink x) h.1, ap (λ (x : Collector T K). x.ledger.now) h.1)
-  until_of fills old new s t Read h =
-      let taken = taken_of s t (ended_lines h.came) h.done in
-      record { came = h.came; answers = taken.answers; reads = h.reads; collects = taken.collects; works = taken.works }
-  until_of fills old new s t Endless h =
-      let taken = taken_of s t (ended_lines h.came) h.done in
-      record { came = h.came; answers = taken.answers; reads = h.reads; collects = taken.collects; works = taken.works }
-  until_of fills old new s t (Stop e) (inl h) =
-      let stopped = stopped_at s t (ended_lines h.came) e h.done in
-      record { came = h.came; rest = h.reads.0; reads = h.reads.1; collects = inl stopped.collects; fails = stopped.fails }
-  until_of fills old new s t (Stop e) (inr h) =
-      let stopped = stopped_at s t (lines h.came) e h.done in record {
-        came = h.came;
-        rest = [];
-        reads = subst (λ (bytes : List ℕ). ReadsSome chunk_len fills old new bytes) (sym (append-nil h.came)) h.reads.some;
-        collects = inr (h.reads, inl stopped.collects);
-        fails = stopped.fails;
-      }
+    pub handed_on : (sink' : SinkState) (u : Unit {0}) → fills < 2 ^ 32 → s.totals ≡ record { lines = 0; new = 0; repeats = 0; refused = 0 }
+        → TakesStream (TakesLine state) fills old new s t → Flush {E = Failed} (Sink t) sink' (Ok u) → CollectsStream fills old new (Sink s) sink' s.ledger.now t.ledger.now t.totals
+    handed_on sink' u small fresh h flush = (
+      AtEnd-weaker fills old new _ _ (λ ls few c. (record { answers = c.0.answers; leads = c.0.leads; put = Appends-kept _ _ _ _ c.0.put flush.bytes }, c.1)) (stream_of small fresh h),
+      flush.failed,
+      flush.flushed,
+    )
+
+    -- all lines were taken, and the replies couldn't be handed on
+    pub unflushed : (sink' : SinkState) (e : Failed) → TakesStream (TakesLine state) fills old new s t → Flush {E = Failed} (Sink t) sink' (Err e)
+        → CollectsUntil fills old new (Sink s) sink' s.ledger.now t.ledger.now collect.Write
+    unflushed sink' e h flush = (
+      inr (AtEnd-weaker fills old new _ _ (λ ls few taken. let c = (taken_of s t ls taken).collects in record { answers = c.answers; leads = c.leads; put = Appends-kept _ _ _ _ c.put flush.bytes }) h),
+      flush.failed,
+    )
+
+    pub until_memory : TakesUntil (TakesLine state) fills old new s t Memory → CollectsUntil fills old new (Sink s) (Sink t) s.ledger.now t.ledger.now collect.Memory
+    until_memory h = (h.0, ap (λ (x : Collector T K). Sink x) h.1, ap (λ (x : Collector T K). x.ledger.now) h.1)
+
+    pub until_fault : TakesUntil (TakesLine state) fills old new s t Read → CollectsUntil fills old new (Sink s) (Sink t) s.ledger.now t.ledger.now collect.Read
+    until_fault h = (AtFault-weaker fills old new _ _ (λ ls few taken. (taken_of s t ls taken).collects) h, (taken_of s t (ended_lines h.came) h.done).works)
+
+    pub until_endless : TakesUntil (TakesLine state) fills old new s t Endless → CollectsUntil fills old new (Sink s) (Sink t) s.ledger.now t.ledger.now collect.Endless
+    until_endless h = (AtNoEnd-weaker fills old new _ _ (λ ls few taken. (taken_of s t ls taken).collects) h, (taken_of s t (ended_lines h.came) h.done).works)
+
+    stop_fails : (e : Failed) → TakesUntil (TakesLine state) fills old new s t (Stop e) → (Sink t).failed ≡ true
+    stop_fails e (inl h) = (stopped_at s t (ended_lines h.came) e h.done).fails
+    stop_fails e (inr h) = (stopped_at s t (lines h.came) e h.done).fails
+
+    pub until_stop : (e : Failed) → TakesUntil (TakesLine state) fills old new s t (Stop e) → CollectsUntil fills old new (Sink s) (Sink t) s.ledger.now t.ledger.now collect.Write
+    until_stop e h = (inl (AtLine-weaker fills old new _ _ (λ ls few stops. (stopped_at s t ls e stops).collects) h), stop_fails e h)
 
   same_of : (fills : ℕ) (old new : SourceState) (s t : Collector T K) (r : Result (Unit {0}) (LinesFault Failed))
       → OnOk r (TakesStream (TakesLine state) fills old new s t) → IfErr r (TakesUntil (TakesLine state) fills old new s t) → Same s t
@@ -233,14 +242,3 @@ module _ {T K : Type 0} (state : K → SinkState) where
       → OnOk r (TakesStream (TakesLine state) fills old new s t) → IfErr r (TakesUntil (TakesLine state) fills old new s t)
       → t.sink.ghost_name ≡ s.sink.ghost_name
   same_sink_of fills old new s t r h k = (same_of fills old new s t r h k).sink
-
--- all lines were taken, and the replies couldn't be handed on
-pub unflushed : (fills : ℕ) (old new : SourceState) (sink sink' sink'' : SinkState) (ledger ledger' : LedgerState) (totals : Totals) (e : Failed)
-    → CollectsAll fills old new sink sink' ledger ledger' totals → Flush {E = Failed} sink' sink'' (Err e) → CollectsToWriteFault fills old new sink sink'' ledger ledger'
-unflushed fills old new sink sink' sink'' ledger ledger' totals e h flush = record {
-  came = h.came;
-  rest = [];
-  reads = subst (λ (bytes : List ℕ). ReadsSome chunk_len fills old new bytes) (sym (append-nil h.came)) h.reads.some;
-  collects = inr (h.reads, inr (h.answers, record { leads = h.collects.leads; put = Appends-kept _ _ _ _ h.collects.put flush.bytes }));
-  fails = flush.failed;
-}

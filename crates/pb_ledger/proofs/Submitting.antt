@@ -1,5 +1,5 @@
 -- A line and its answer: the id that its reply names, and how many games it adds.
-use Rattle.std.proofs.Common.{◌≡◌, ℕ, ◌+◌, ◌<◌, ◌≤◌, nat_lt, List, [], ◌∷◌, length, Ok, Err, sym, ap, subst, ◌∙◌, arith, inl, inr}
+use Rattle.std.proofs.Common.{◌≡◌, ℕ, ◌+◌, ◌<◌, ◌≤◌, Bool, true, false, nat_lt, List, [], ◌∷◌, length, Ok, Err, refl, sym, ap, subst, ◌∙◌, arith, inl, inr}
 use Rattle.std.specs.Prelude.{slice_index_or}
 use Rattle.std.proofs.lemmas.Bool.{cases_lt, lt-ltb, le-ltb}
 use Rattle.std.proofs.lemmas.List.{length-append}
@@ -11,7 +11,8 @@ use Rattle.pb_games.proofs.Dues.{none_before, order}
 use Rattle.pb_games.proofs.Texts.{fields_back}
 use Rattle.pb_accepted.specs.Accepting.{Allowed, Answer, Takes}
 use Rattle.pb_accepted.proofs.Replies.{Takes-refusal}
-use Rattle.pb_ledger.specs.Collector.{added}
+use Rattle.pb_accepted.specs.Ledger.{LedgerState}
+use Rattle.pb_ledger.specs.Collecting.{Leads}
 use Rattle.pb_accepted.specs.Replies.{named}
 
 -- ---- the id that is named
@@ -52,7 +53,27 @@ named_short cap A line r (inl (inr h)) = subst (λ q. IsNamedShort line q) (sym 
 named_short cap A line r (inr (_, inl lawful)) = named_lawful line lawful.0 r lawful.1
 named_short cap A line r (inr (_, inr h)) = absurd (cc (h.1))
 
+-- ---- one line
+
+-- what a submission leads to
+pub Leads-one : (ledger ledger' : LedgerState) (line : List ℕ) (answer : Answer) → Allowed ledger.cap ledger.accepted line answer → Takes ledger.accepted line answer ledger'.accepted
+    → ledger'.basis ≡ ledger.basis → ledger'.cap ≡ ledger.cap → Leads ledger ledger' (line ∷ []) (answer ∷ [])
+Leads-one ledger ledger' line answer allowed takes basis cap = record {
+  run = (ledger'.accepted, allowed, takes, tt);
+  accepted = (ledger'.accepted, takes, refl);
+  basis = basis;
+  cap = cap;
+}
+
+pub took : (ledger ledger' : LedgerState) (line : List ℕ) (answer : Answer) → Leads ledger ledger' (line ∷ []) (answer ∷ []) → Takes ledger.accepted line answer ledger'.accepted
+took ledger ledger' line answer one = subst (λ (M : List Submission). Takes ledger.accepted line answer M) (sym one.accepted.2) one.accepted.1
+
 -- ---- how many games an answer adds
+
+abbrev pub added : Answer → Bool → ℕ
+added (Ok n) true = 1
+added (Ok n) false = 0
+added (Err e) is_new = 0
 
 -- a line adds a game where the list has grown, and a line that is refused adds none
 pub grows : (cap : ℕ) (A : List Submission) (line : List ℕ) (r : Answer) (B : List Submission) → Allowed cap A line r → Takes A line r B

@@ -3,7 +3,7 @@
 ghost use Rattle.std.specs.Prelude.{◌≡◌, ◌≤◌, IfErr, IfOk, OnOk, length};
 ghost use Rattle.pb_io.specs.Sink.{Put};
 ghost use Rattle.pb_ledger.specs.Collecting.{CollectsStream, CollectsTold, CollectsUntil};
-ghost use Rattle.pb_ledger.specs.Collector.{CollectsAll, CollectsUntilStop, with_answer};
+ghost use Rattle.pb_ledger.specs.Collector.{with_answer};
 ghost use Rattle.pb_accepted.specs.Replies.{named, reply_line};
 
 use crate::totals::Totals;
@@ -80,22 +80,31 @@ impl<T: Tally, K: Sink> LineTask for Collector<'_, '_, T, K> {
 }
 
 impl<T: Tally, K: Sink> Collector<'_, '_, T, K> {
-    /// Takes the lines of the source.
+    /// Takes the lines of the source, and hands on their replies.
     fn take_all<S: Source>(
         &mut self,
         alloc: Global,
         source: &mut S,
         fills: u32,
-    ) -> Result<(), LinesFault<Failed>>
+    ) -> Result<(), CollectFault>
         requires { self.old.totals ≡ record { lines = 0; new = 0; repeats = 0; refused = 0 } }
-        ensures ok { OnOk result (CollectsAll fills (S.state source.old) (S.state source.new)
+        ensures ok { OnOk result (CollectsStream fills (S.state source.old) (S.state source.new)
             (K.state self.old.sink.now) (K.state self.new.sink.now) self.old.ledger.now self.new.ledger.now self.new.totals) }
-        ensures err { IfErr result (CollectsUntilStop fills (S.state source.old) (S.state source.new)
+        ensures err { IfErr result (CollectsUntil fills (S.state source.old) (S.state source.new)
             (K.state self.old.sink.now) (K.state self.new.sink.now) self.old.ledger.now self.new.ledger.now) }
         ensures same_ledger { self.new.ledger.ghost_name ≡ self.old.ledger.ghost_name }
         ensures same_sink { self.new.sink.ghost_name ≡ self.old.sink.ghost_name }
     {
-        take_lines(alloc, source, self, fills)
+        match take_lines(alloc, source, self, fills) {
+            Ok(()) => match self.sink.flush() {
+                Ok(()) => Ok(()),
+                Err(_) => Err(CollectFault::Write),
+            },
+            Err(LinesFault::Memory) => Err(CollectFault::Memory),
+            Err(LinesFault::Read) => Err(CollectFault::Read),
+            Err(LinesFault::Endless) => Err(CollectFault::Endless),
+            Err(LinesFault::Stop(_)) => Err(CollectFault::Write),
+        }
     }
 }
 
@@ -134,16 +143,11 @@ pub fn collect<T: Tally, S: Source, K: Sink>(
         sink,
         totals,
     } = collector;
-    // The proof reads what the reference holds from this use.
+    // The proof reads what the references hold from these uses.
     let _ = &*ledger;
+    let _ = &*sink;
     match ended {
-        Ok(()) => match sink.flush() {
-            Ok(()) => Ok(totals),
-            Err(_) => Err(CollectFault::Write),
-        },
-        Err(LinesFault::Memory) => Err(CollectFault::Memory),
-        Err(LinesFault::Read) => Err(CollectFault::Read),
-        Err(LinesFault::Endless) => Err(CollectFault::Endless),
-        Err(LinesFault::Stop(_)) => Err(CollectFault::Write),
+        Ok(()) => Ok(totals),
+        Err(fault) => Err(fault),
     }
 }

@@ -1,7 +1,7 @@
 use Rattle.std.proofs.Common.{rules}
-use Rattle.pb_ledger.proofs.Collected.{unflushed}
+use Rattle.pb_io.proofs.EndLemmas.{told_of}
 use Rattle.pb_ledger.proofs.collecting.collect.Goals as goal
 
-pub returns-in-Err-clause-fault : goal.returns-in-Err-clause-fault
-returns-in-Err-clause-fault g c =
-    let fails = unflushed _ _ _ _ _ _ _ _ _ c.in-Err.field-0 c.in-Ok.ensures.ok c.in-Err.ensures in search rules
+pub returns-in-Ok-clause-told : goal.returns-in-Ok-clause-told
+returns-in-Ok-clause-told g c =
+    let told = told_of c.args.fills (g.S.Source.state c.args.source.now) (g.S.Source.state c.take_all-ended.new.source) _ c.in-Ok.ensures.ok.0 in search rules
