@@ -2,7 +2,7 @@
 use Rattle.std.proofs.Common.{Ok, take-append-drop, ◌≡◌, ℕ, ◌-◌, ◌<◌, ◌≤◌, List, [], ◌∷◌, ◌++◌, length, take, drop, sym, ap, inr, ◌∙◌, subst, append_assoc, arith}
 use Rattle.std.proofs.lemmas.List.{append-nil, nil_from_length, take_rest}
 use Rattle.pb_io.specs.Source.{Fill, SourceState}
-use Rattle.pb_io.specs.Reads.{ReadsOn, ReadsSome, chunk_len}
+use Rattle.pb_io.specs.Reads.{ReadsFront, ReadsOn, ReadsSome, chunk_len}
 use Rattle.pb_io.proofs.ReadsLemmas.{ReadsSome-more}
 use Rattle.pb_poly.specs.declared.entry.Entry.{Entry}
 use Rattle.pb_poly.specs.declared.reading.BookError.{BookError}
@@ -10,7 +10,7 @@ use Rattle.pb_poly.specs.declared.reading.BookError.TheVariants.{Unsorted, Cut, 
 use Rattle.pb_poly.specs.Entry.{IsEntry, entry_bytes}
 use Rattle.pb_poly.specs.Book.{NeverFall, book_bytes}
 use Rattle.pb_poly.specs.Feeding.{FailsWithin, MeetsWithin, RefusesEntry}
-use Rattle.pb_poly.specs.Reading.{FindsNoBook, MeetsEntry, Splits}
+use Rattle.pb_poly.specs.Reading.{FindsNoBook, Splits}
 use Rattle.pb_poly.proofs.Entries.{book_bytes-push, bounds-push}
 
 -- the part is whole with these bytes
@@ -102,21 +102,25 @@ IsTaken-fails old now chunk rest e h fails came k =
     )
 
 -- an entry that isn't added, in what a fill gave
-meets : {F : Type 0} (n fills : ℕ) (old mid new : SourceState) (came slice : List ℕ) (count : ℕ) (before : List Entry) (entry : Entry) → 0 < length slice → length slice ≤ chunk_len → n < fills
-    → ReadsOn chunk_len n old mid came → Fill {E = F} mid new (Ok count) slice → MeetsWithin came (take count slice) before entry → MeetsEntry fills old new before entry
-meets n fills old mid new came slice count before entry room fits l on fill m = record {
-  came = came ++ m.front;
-  rest = m.rest;
-  reads = subst (λ (bytes : List ℕ). ReadsSome chunk_len fills old new bytes) (ap (λ xs. came ++ xs) m.cut ∙ sym (append_assoc came m.front m.rest)) (ReadsSome-more chunk_len n old mid new came slice room fits on fills count l fill);
-  bytes = m.bytes;
-  ordered = m.ordered;
-}
+module _ {F : Type 0} (n fills : ℕ) (old mid new : SourceState) (came slice : List ℕ) (count : ℕ) (room : 0 < length slice) (fits : length slice ≤ chunk_len) (l : n < fills)
+    (on : ReadsOn chunk_len n old mid came) (fill : Fill {E = F} mid new (Ok count) slice) where
+  reads_front : (before : List Entry) (entry : Entry) (m : MeetsWithin came (take count slice) before entry) → ReadsFront chunk_len fills old new (came ++ m.front)
+  reads_front before entry m = (
+    m.rest,
+    subst (λ (bytes : List ℕ). ReadsSome chunk_len fills old new bytes) (ap (λ xs. came ++ xs) m.cut ∙ sym (append_assoc came m.front m.rest)) (ReadsSome-more chunk_len n old mid new came slice room fits on fills count l fill),
+  )
 
-pub finds_no_book : {F : Type 0} (n fills : ℕ) (old mid new : SourceState) (came slice : List ℕ) (count : ℕ) (e : BookError) → 0 < length slice → length slice ≤ chunk_len → n < fills
-    → ReadsOn chunk_len n old mid came → Fill {E = F} mid new (Ok count) slice → FailsWithin came (take count slice) e → FindsNoBook fills old new e
-finds_no_book n fills old mid new came slice count (Unsorted k) room fits l on fill f =
-    record { before = f.0; entry = f.1; meets = meets n fills old mid new came slice count f.0 f.1 room fits l on fill f.2; falls = f.3.0; number_is = f.3.1 }
-finds_no_book n fills old mid new came slice count Memory room fits l on fill f = inr (f.0, f.1, meets n fills old mid new came slice count f.0 f.1 room fits l on fill f.2)
-finds_no_book n fills old mid new came slice count (Cut k) room fits l on fill f = absurd f.3
-finds_no_book n fills old mid new came slice count Read room fits l on fill f = absurd f.3
-finds_no_book n fills old mid new came slice count Endless room fits l on fill f = absurd f.3
+  pub finds_no_book : (e : BookError) → FailsWithin came (take count slice) e → FindsNoBook fills old new e
+  finds_no_book (Unsorted k) f = record {
+    came = came ++ f.2.front;
+    reads = reads_front f.0 f.1 f.2;
+    due = (f.0, f.1, record { bytes = f.2.bytes; ordered = f.2.ordered }, f.3.0, f.3.1);
+  }
+  finds_no_book Memory f = inr (record {
+    came = came ++ f.2.front;
+    reads = reads_front f.0 f.1 f.2;
+    due = (f.0, f.1, record { bytes = f.2.bytes; ordered = f.2.ordered });
+  })
+  finds_no_book (Cut k) f = absurd f.3
+  finds_no_book Read f = absurd f.3
+  finds_no_book Endless f = absurd f.3

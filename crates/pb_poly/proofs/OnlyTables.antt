@@ -28,11 +28,11 @@ module _ (fills : ℕ) (old new : SourceState) (words bytes : List ℕ) (tells :
   refused : (e : TableFault) → FindsNoTable fills old new e → e ≡ Memory
   refused Long h =
       let c = came_first table_limit fills old new bytes tells.told h.came h.reads.reads in
-      absurd (omega (arith, h.long, is.few, ap length c.1, length-append h.came c.0))
+      absurd (omega (arith, h.due, is.few, ap length c.1, length-append h.came c.0))
   refused (Line number) h =
-      absurd (cc (due (poly.Line number) h.came (all_came table_limit fills old new bytes tells.told h.came h.reads) h.due))
+      absurd (cc (due (poly.Line number) h.came (all_came table_limit fills old new bytes tells.told h.came h.reads) h.due.1))
   refused (Count count) h =
-      absurd (cc (due (poly.Count count) h.came (all_came table_limit fills old new bytes tells.told h.came h.reads) h.due))
+      absurd (cc (due (poly.Count count) h.came (all_came table_limit fills old new bytes tells.told h.came h.reads) h.due.1))
   refused Read h = absurd (no_fault table_limit fills old new bytes tells h.came h.reads)
   refused Endless h = absurd (no_endless table_limit fills old new bytes tells h.came h.reads)
   refused Memory h = refl

@@ -30,13 +30,13 @@ module _ (n : ℕ) (old mid new : SourceState) (held : List ℕ) (on : ReadsOn t
         let within : h.count ≤ length h.slice = h.fills.fill.within in record {
           came = held ++ take h.count h.slice;
           reads = ReadsSome-more table_limit n old mid new held h.slice h.fills.room h.fills.fits on fills h.count below h.fills.fill;
-          long = omega (arith, length-append held (take h.count h.slice), length-take h.count h.slice, h.full, h.some);
+          due = omega (arith, length-append held (take h.count h.slice), length-take h.count h.slice, h.full, h.some);
         }
     fill_fails held' Read few h =
         let slice = h.0 in let e = h.1 in let fills_some = h.2 in record {
           came = held;
           reads = ReadsToFault-more table_limit n old mid new held slice fills_some.room fills_some.fits on fills e below fills_some.fill;
-          few = few;
+          due = few;
         }
     fill_fails held' (Line _) few h = absurd h
     fill_fails held' (Count _) few h = absurd h

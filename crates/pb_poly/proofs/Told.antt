@@ -34,19 +34,18 @@ module _ (fills : ℕ) (old new : SourceState) (entries : List Entry) (bytes : L
 
   refused : (e : BookError) → FindsNoBook fills old new e → e ≡ Memory
   refused (Unsorted number) h =
-      let m = h.meets in
-      let c = consumed old.to_come new.to_come bytes (m.came ++ m.rest) tells.told m.reads.reads.bytes in
-      let front : List Entry = h.before ++ h.entry ∷ [] in
-      let is : book_bytes entries ≡ book_bytes front ++ (m.rest ++ c.0) = sym are.are ∙ c.2 ∙ append_assoc m.came m.rest c.0 ∙ ap (λ xs. xs ++ (m.rest ++ c.0)) m.bytes.are in
-      let cut = begins entries front (m.rest ++ c.0) are.bounds m.bytes.bounds is in
-      absurd (h.falls (NeverFall-front front cut.0 (subst (λ (es : List Entry). NeverFall es) cut.1 ordered)))
+      let c = consumed old.to_come new.to_come bytes (h.came ++ h.reads.0) tells.told h.reads.1.reads.bytes in
+      let front : List Entry = h.due.0 ++ h.due.1 ∷ [] in
+      let is : book_bytes entries ≡ book_bytes front ++ (h.reads.0 ++ c.0) =
+      sym are.are ∙ c.2 ∙ append_assoc h.came h.reads.0 c.0 ∙ ap (λ xs. xs ++ (h.reads.0 ++ c.0)) h.due.2.bytes.are in
+      let cut = begins entries front (h.reads.0 ++ c.0) are.bounds h.due.2.bytes.bounds is in
+      absurd (h.due.3 (NeverFall-front front cut.0 (subst (λ (es : List Entry). NeverFall es) cut.1 ordered)))
   refused (Cut extra) h =
       let all : bytes ≡ h.came = all_came old.to_come new.to_come bytes h.came tells.told h.reads.some.reads.bytes h.reads.ended in
-      let cut = begins entries h.entries h.part are.bounds h.splits.bounds (sym are.are ∙ all ∙ h.splits.bytes) in
-      let long : length h.part ≡ 16 * length cut.0 = ap length (sym cut.2) ∙ length-book_bytes cut.0 in
-      let small = h.splits.partial in
-      let some = h.some in
-      absurd (omega arith)
+      let splits = h.due.2 in
+      let cut = begins entries h.due.0 h.due.1 are.bounds splits.bounds (sym are.are ∙ all ∙ splits.bytes) in
+      let long : length h.due.1 ≡ 16 * length cut.0 = ap length (sym cut.2) ∙ length-book_bytes cut.0 in
+      absurd (omega (arith, splits.partial, h.due.3, h.due.4, long))
   refused Read h = absurd (cc (sym h.reads.fails ∙ tells.works))
   refused Endless h =
       let c = consumed old.to_come new.to_come bytes h.came tells.told h.reads.reads.bytes in

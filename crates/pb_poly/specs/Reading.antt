@@ -1,7 +1,7 @@
 -- What reading a book gives.
 use Rattle.std.specs.Prelude.{◌≡◌, ℕ, ◌+◌, ◌<◌, ◌⊎◌, List, [], ◌∷◌, ◌++◌, All, length, Some, false}
 use Rattle.pb_io.specs.Source.{SourceState}
-use Rattle.pb_io.specs.Reads.{ReadsAll, ReadsOn, ReadsSome, ReadsToFault, chunk_len}
+use Rattle.pb_io.specs.Reads.{ReadsAll, ReadsFront, ReadsOn, ReadsToFault, chunk_len}
 use Rattle.pb_poly.specs.declared.entry.Entry.{Entry}
 use Rattle.pb_poly.specs.declared.reading.BookError.{BookError}
 use Rattle.pb_poly.specs.declared.reading.BookError.TheVariants.{Unsorted, Cut, Read, Endless, Memory}
@@ -22,55 +22,37 @@ pub record ReadsBook (fills : ℕ) (old new : SourceState) (entries : List Entry
   pub bytes : BookBytes entries came
   pub ordered : NeverFall entries
 
--- the last fill's bytes make the entry whole that comes after these
-pub record MeetsEntry (fills : ℕ) (old new : SourceState) (before : List Entry) (entry : Entry) : Type 0 where
-  pub came : List ℕ
-  pub rest : List ℕ
-  pub reads : ReadsSome chunk_len fills old new (came ++ rest)
+-- the bytes are those of entries whose keys never fall, and of one entry more
+pub record BringsEntry (came : List ℕ) (before : List Entry) (entry : Entry) : Type 0 where
   pub bytes : BookBytes (before ++ entry ∷ []) came
   pub ordered : NeverFall before
 
--- the entry of this number, from 1, is the first whose key is below the key before it
-pub record FindsUnsorted (fills : ℕ) (old new : SourceState) (number : ℕ) : Type 0 where
-  pub before : List Entry
-  pub entry : Entry
-  pub meets : MeetsEntry fills old new before entry
-  pub falls : ¬ NeverFall (before ++ entry ∷ [])
-  pub number_is : number ≡ length before + 1
+-- how far a stream was read that gave no book for this reason
+abbrev pub BookRead : BookError → ℕ → ℕ → SourceState → SourceState → List ℕ → Type 0
+BookRead (Unsorted number) = ReadsFront
+BookRead (Cut extra) = ReadsAll
+BookRead Read = ReadsToFault
+BookRead Endless = ReadsOn
+BookRead Memory = ReadsFront
 
--- the stream ends with this many bytes after the last whole entry
-pub record FindsCut (fills : ℕ) (old new : SourceState) (extra : ℕ) : Type 0 where
-  pub came : List ℕ
-  pub reads : ReadsAll chunk_len fills old new came
-  pub entries : List Entry
-  pub part : List ℕ
-  pub splits : Splits came entries part
-  pub some : 0 < length part
-  pub extra_is : extra ≡ length part
+-- what is so of the bytes that came: an entry has a key below the key before it, with its number from 1; or less than an entry is left
+abbrev pub BookDue : BookError → List ℕ → Type 0
+BookDue (Unsorted number) came =
+    (before : List Entry) × (entry : Entry) × BringsEntry came before entry × (¬ NeverFall (before ++ entry ∷ [])) × (number ≡ length before + 1)
+BookDue (Cut extra) came = (entries : List Entry) × (part : List ℕ) × Splits came entries part × (0 < extra) × (extra ≡ length part)
+BookDue Memory came = (before : List Entry) × (entry : Entry) × BringsEntry came before entry
+BookDue fault came = (entries : List Entry) × (part : List ℕ) × Splits came entries part
 
--- the source failed after entries whose keys never fall
-pub record FindsFault (fills : ℕ) (old new : SourceState) : Type 0 where
+-- bytes came that give no book for this reason
+pub record MeetsNoBook (fills : ℕ) (old new : SourceState) (e : BookError) : Type 0 where
   pub came : List ℕ
-  pub reads : ReadsToFault chunk_len fills old new came
-  pub entries : List Entry
-  pub part : List ℕ
-  pub splits : Splits came entries part
-
--- the fills were used up after entries whose keys never fall
-pub record FindsNoEnd (fills : ℕ) (old new : SourceState) : Type 0 where
-  pub came : List ℕ
-  pub reads : ReadsOn chunk_len fills old new came
-  pub entries : List Entry
-  pub part : List ℕ
-  pub splits : Splits came entries part
+  pub reads : BookRead e chunk_len fills old new came
+  pub due : BookDue e came
 
 -- why no book was read
 abbrev pub FindsNoBook : ℕ → SourceState → SourceState → BookError → Type 0
-FindsNoBook fills old new (Unsorted number) = FindsUnsorted fills old new number
-FindsNoBook fills old new (Cut extra) = FindsCut fills old new extra
-FindsNoBook fills old new Read = FindsFault fills old new
-FindsNoBook fills old new Endless = FindsNoEnd fills old new
-FindsNoBook fills old new Memory = (new ≡ old) ⊎ ((before : List Entry) × (entry : Entry) × MeetsEntry fills old new before entry)
+FindsNoBook fills old new Memory = (new ≡ old) ⊎ MeetsNoBook fills old new Memory
+FindsNoBook fills old new e = MeetsNoBook fills old new e
 
 -- the source tells that just these bytes come, it doesn't fail, and the fills are more than the bytes
 pub record Tells (fills : ℕ) (old new : SourceState) (bytes : List ℕ) : Type 0 where

@@ -9,8 +9,8 @@ pub returns-in_err-feed-clause-err : goal.returns-in_err-feed-clause-err
 returns-in_err-feed-clause-err g c =
     let now = c.loop-made.invariant in let state = g.S.Source.state in let room : 0 < length c.fill.new.into = omega arith in let fits : length c.fill.new.into ≤ chunk_len = omega arith in
     let p = err_from_is_err_and c.from_residual.result c.from_residual.ensures.1 in rw (p.1, p.2) (
-    finds_no_book c.loop-made._made c.args.fills (state c.args.source.now) (state c.loop-made.source) (state c.fill.new.self) now.0 c.fill.new.into c.in-Ok.count c.in_err-feed.field-0.0
-    room fits c.loop-made-test.true now.1 c.in-Ok.ensures (c.in_err-feed.ensures.err now.0 now.2))
+    finds_no_book c.loop-made._made c.args.fills (state c.args.source.now) (state c.loop-made.source) (state c.fill.new.self) now.0 c.fill.new.into c.in-Ok.count
+    room fits c.loop-made-test.true now.1 c.in-Ok.ensures c.in_err-feed.field-0.0 (c.in_err-feed.ensures.err now.0 now.2))
 
 pub loop-made-preserved : goal.loop-made-preserved
 loop-made-preserved g c =

@@ -39,5 +39,5 @@ returns-clause-err g c =
     let state = g.S.Source.state in let all : c.loop-made._made ≡ c.args.fills = omega arith in record {
       came = c.loop-made.self;
       reads = subst (λ n. ReadsOn table_limit n (state c.args.source.now) (state c.loop-made.source) c.loop-made.self) all c.loop-made.invariant.reads;
-      few = c.loop-made.invariant.few;
+      due = c.loop-made.invariant.few;
     }

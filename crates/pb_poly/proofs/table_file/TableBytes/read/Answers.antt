@@ -7,6 +7,8 @@ pub returns-in-Err-Count-clause-err : goal.returns-in-Err-Count-clause-err
 returns-in-Err-Count-clause-err g c = record {
   came = _;
   reads = c.in_ok-drain.ensures.all;
-  few = c.as_bytes.ensures.few;
-  due = subst (λ (xs : List ℕ). IsDueTable (poly.Count c.in-Err-Count.count) xs) c.as_bytes.ensures.value (rw c.in-Err-Count.field-0-is at c.in-Err-Count.ensures.refused);
+  due = (
+    c.as_bytes.ensures.few,
+    subst (λ (xs : List ℕ). IsDueTable (poly.Count c.in-Err-Count.count) xs) c.as_bytes.ensures.value (rw c.in-Err-Count.field-0-is at c.in-Err-Count.ensures.refused),
+  );
 }
