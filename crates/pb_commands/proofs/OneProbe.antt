@@ -1,24 +1,26 @@
 -- Bytes show one text of a table, a book and a record.
-use Rattle.std.proofs.Common.{◌≡◌, ◌∙◌, ℕ, All, Bool, List, [], ◌∷◌, ◌++◌, ap, arith, length, refl, subst, sym}
+use Rattle.std.proofs.Common.{◌≡◌, ◌∙◌, ℕ, All, Bool, List, [], ◌∷◌, ◌++◌, Result, Ok, Err, ap, arith, length, refl, subst, sym, true}
 use Rattle.std.proofs.lemmas.List.Elements.{All-head, All-tail}
-use Rattle.pb_board.specs.Position.{Record}
+use Rattle.pb_board.specs.declared.refusal.FenError.{FenError}
+use Rattle.pb_board.specs.Position.{IsRecord, Record}
 use Rattle.pb_board.specs.Refusal.{IsDue, of_record, fields}
 use Rattle.pb_board.proofs.Dues.{one_first}
 use Rattle.pb_board.proofs.Fens.{record_never_due}
 use Rattle.pb_board.proofs.Unique.{one_record}
-use Rattle.pb_poly.specs.Found.{Found}
 use Rattle.pb_io.specs.Lines.{lines}
-use Rattle.pb_poly.proofs.Tables.{spelled_at}
-use Rattle.pb_poly.specs.Table.{IsFirstUnspelled, IsTableFile, IsWordLine}
+use Rattle.pb_poly.proofs.Tables.{only_memory, spelled_at}
+use Rattle.pb_poly.specs.Table.{IsFirstUnspelled, IsWordLine}
 use Rattle.pb_poly.specs.declared.entry.Entry.{Entry}
 use Rattle.pb_poly.specs.declared.table.TableError.TheVariants as poly
+use Rattle.pb_poly.specs.declared.table_file.TableFault.{TableFault}
+use Rattle.pb_poly.specs.declared.table_file.TableFault.TheVariants as table_fault
 use Rattle.pb_poly.proofs.Finding.{found_is_one}
-use Rattle.pb_poly.proofs.Tables.{only_memory}
-use Rattle.pb_commands.specs.Refused.{fen_line}
-use Rattle.pb_commands.specs.ProbeShown.{FenProbed, ProbeShown, probe_text}
-use Rattle.pb_commands.specs.TableShown.{TableRefused, count_line, unspelled_line}
-use Rattle.pb_commands.proofs.OneBook.{book_not_refused, books_are_one, refusal_is_one}
 use Rattle.pb_poly.proofs.OnlyTables.{tables_are_one}
+use Rattle.pb_commands.specs.BookJudged.{AsBook, book_verdict}
+use Rattle.pb_commands.specs.ProbeShown.{FoundShown, ProbeShown, probe_text}
+use Rattle.pb_commands.specs.RecordJudged.{AsRecord, record_verdict}
+use Rattle.pb_commands.specs.TableJudged.{AsTable, table_verdict}
+use Rattle.pb_commands.proofs.OneBook.{one_book}
 
 -- ---- tables
 
@@ -44,47 +46,72 @@ no_line : (bytes : List ℕ) (n : ℕ) → All IsWordLine (lines bytes) → IsFi
 no_line bytes n all h =
     h.unspelled (spelled_at h.before h.line h.after (subst (λ (ls : List (List ℕ)). All IsWordLine ls) h.cut all))
 
-table_not_refused : (bytes words out : List ℕ) → IsTableFile words bytes → TableRefused bytes out → ⊥
-table_not_refused bytes words out h (TableRefused.long long is) = omega (arith, long, h.few)
-table_not_refused bytes words out h (TableRefused.line n few due is) = cc (only_memory words bytes (poly.Line n) h.text due)
-table_not_refused bytes words out h (TableRefused.count n few due is) = cc (only_memory words bytes (poly.Count n) h.text due)
-
-table_refusal_is_one : (bytes x y : List ℕ) → TableRefused bytes x → TableRefused bytes y → x ≡ y
-table_refusal_is_one bytes x y (TableRefused.long h is) (TableRefused.long k is') = is ∙ sym is'
-table_refusal_is_one bytes x y (TableRefused.long h is) (TableRefused.line m few due is') = absurd (omega (arith, h, few))
-table_refusal_is_one bytes x y (TableRefused.long h is) (TableRefused.count m few due is') = absurd (omega (arith, h, few))
-table_refusal_is_one bytes x y (TableRefused.line n few due is) (TableRefused.long k is') = absurd (omega (arith, k, few))
-table_refusal_is_one bytes x y (TableRefused.line n few due is) (TableRefused.line m few' due' is') = is ∙ ap unspelled_line (one_line bytes n m due due') ∙ sym is'
-table_refusal_is_one bytes x y (TableRefused.line n few due is) (TableRefused.count m few' due' is') = absurd (no_line bytes n due'.2 due)
-table_refusal_is_one bytes x y (TableRefused.count n few due is) (TableRefused.long k is') = absurd (omega (arith, k, few))
-table_refusal_is_one bytes x y (TableRefused.count n few due is) (TableRefused.line m few' due' is') = absurd (no_line bytes m due.2 due')
-table_refusal_is_one bytes x y (TableRefused.count n few due is) (TableRefused.count m few' due' is') = is ∙ ap count_line (due.0 ∙ sym due'.0) ∙ sym is'
+-- bytes are one table file, or none for one reason
+one_table : (bytes : List ℕ) (r x : Result (List ℕ) TableFault) → AsTable bytes r → AsTable bytes x → r ≡ x
+one_table bytes (Ok words) (Ok others) h k = ap (λ ws. Ok ws) (tables_are_one words others bytes h k)
+one_table bytes (Ok words) (Err table_fault.Long) h k = absurd (omega (arith, k, h.few))
+one_table bytes (Ok words) (Err (table_fault.Line m)) h k = absurd (cc (only_memory words bytes (poly.Line m) h.text k.1))
+one_table bytes (Ok words) (Err (table_fault.Count m)) h k = absurd (cc (only_memory words bytes (poly.Count m) h.text k.1))
+one_table bytes (Err table_fault.Long) (Ok others) h k = absurd (omega (arith, h, k.few))
+one_table bytes (Err table_fault.Long) (Err table_fault.Long) h k = refl
+one_table bytes (Err table_fault.Long) (Err (table_fault.Line m)) h k = absurd (omega (arith, h, k.0))
+one_table bytes (Err table_fault.Long) (Err (table_fault.Count m)) h k = absurd (omega (arith, h, k.0))
+one_table bytes (Err (table_fault.Line n)) (Ok others) h k = absurd (cc (only_memory others bytes (poly.Line n) k.text h.1))
+one_table bytes (Err (table_fault.Line n)) (Err table_fault.Long) h k = absurd (omega (arith, k, h.0))
+one_table bytes (Err (table_fault.Line n)) (Err (table_fault.Line m)) h k = ap (λ number. Err (table_fault.Line number)) (one_line bytes n m h.1 k.1)
+one_table bytes (Err (table_fault.Line n)) (Err (table_fault.Count m)) h k = absurd (no_line bytes n k.1.2 h.1)
+one_table bytes (Err (table_fault.Count n)) (Ok others) h k = absurd (cc (only_memory others bytes (poly.Count n) k.text h.1))
+one_table bytes (Err (table_fault.Count n)) (Err table_fault.Long) h k = absurd (omega (arith, k, h.0))
+one_table bytes (Err (table_fault.Count n)) (Err (table_fault.Line m)) h k = absurd (no_line bytes m h.1.2 k.1)
+one_table bytes (Err (table_fault.Count n)) (Err (table_fault.Count m)) h k = ap (λ count. Err (table_fault.Count count)) (h.1.0 ∙ sym k.1.0)
+one_table bytes (Err table_fault.Read) x h k = absurd h
+one_table bytes (Err table_fault.Endless) x h k = absurd h
+one_table bytes (Err table_fault.Memory) x h k = absurd h
+one_table bytes r (Err table_fault.Read) h k = absurd k
+one_table bytes r (Err table_fault.Endless) h k = absurd k
+one_table bytes r (Err table_fault.Memory) h k = absurd k
 
 -- ---- records
 
-probed_is_one : (words : List ℕ) (entries : List Entry) (fen : List ℕ) (a b : Bool) (x y : List ℕ) → FenProbed words entries fen a x → FenProbed words entries fen b y → (a ≡ b) × (x ≡ y)
-probed_is_one words entries fen a b x y (FenProbed.no_record d h is out) (FenProbed.no_record e k is' out') =
-    (is ∙ sym is', out ∙ ap fen_line (one_first (λ x. IsDue x (fields fen)) of_record d e h k) ∙ sym out')
-probed_is_one words entries fen a b x y (FenProbed.no_record d h is out) (FenProbed.found f pairs lawful text k is' out') = absurd (record_never_due f fen d lawful text h)
-probed_is_one words entries fen a b x y (FenProbed.found f pairs lawful text k is out) (FenProbed.no_record e h is' out') = absurd (record_never_due f fen e lawful text h)
-probed_is_one words entries fen a b x y (FenProbed.found f pairs lawful text k is out) (FenProbed.found g others lawful' text' k' is' out') =
-    let same : g ≡ f = one_record g f fen lawful' lawful text' text in
-    let found : Found entries words f.setup others = subst (λ (r : Record). Found entries words r.setup others) same k' in
-    (is ∙ sym is', out ∙ ap probe_text (found_is_one entries words f.setup pairs others lawful.setup k found) ∙ sym out')
+one_text : (fen : List ℕ) (r x : Result Record FenError) → AsRecord fen r → AsRecord fen x → r ≡ x
+one_text fen (Ok f) (Ok g) h k = ap (λ y. Ok y) (one_record f g fen h.0 k.0 h.1 k.1)
+one_text fen (Ok f) (Err e) h k = absurd (record_never_due f fen e h.0 h.1 k)
+one_text fen (Err d) (Ok g) h k = absurd (record_never_due g fen d k.0 k.1 h)
+one_text fen (Err d) (Err e) h k = ap (λ y. Err y) (one_first (λ y. IsDue y (fields fen)) of_record d e h k)
 
 -- ---- all three
 
-pub probe_is_one : (table book fen : List ℕ) (a b : Bool) (x y : List ℕ) → ProbeShown table book fen a x → ProbeShown table book fen b y → (a ≡ b) × (x ≡ y)
-probe_is_one table book fen a b x y (ProbeShown.no_table h is) (ProbeShown.no_table k is') = (is ∙ sym is', table_refusal_is_one table x y h k)
-probe_is_one table book fen a b x y (ProbeShown.no_table h is) (ProbeShown.no_book words t k is') = absurd (table_not_refused table words x t h)
-probe_is_one table book fen a b x y (ProbeShown.no_table h is) (ProbeShown.judged words entries t k p) = absurd (table_not_refused table words x t h)
-probe_is_one table book fen a b x y (ProbeShown.no_book words t h is) (ProbeShown.no_table k is') = absurd (table_not_refused table words y t k)
-probe_is_one table book fen a b x y (ProbeShown.no_book words t h is) (ProbeShown.no_book others t' k is') = (is ∙ sym is', refusal_is_one book x y h k)
-probe_is_one table book fen a b x y (ProbeShown.no_book words t h is) (ProbeShown.judged others entries t' k p) = absurd (book_not_refused book entries x k h)
-probe_is_one table book fen a b x y (ProbeShown.judged words entries t h p) (ProbeShown.no_table k is') = absurd (table_not_refused table words y t k)
-probe_is_one table book fen a b x y (ProbeShown.judged words entries t h p) (ProbeShown.no_book others t' k is') = absurd (book_not_refused book entries y h k)
-probe_is_one table book fen a b x y (ProbeShown.judged words entries t h p) (ProbeShown.judged others entries' t' h' p') =
-    let same_words : others ≡ words = tables_are_one others words table t' t in
-    let same_entries : entries' ≡ entries = books_are_one book entries' entries h' h in
-    let there : FenProbed others entries fen b y = subst (λ (es : List Entry). FenProbed others es fen b y) same_entries p' in
-    probed_is_one words entries fen a b x y p (subst (λ (ws : List ℕ). FenProbed ws entries fen b y) same_words there)
+-- a text that is put for moves that are found is one
+found_one : (words : List ℕ) (entries : List Entry) (f : Record) → IsRecord f → (a b : Bool × List ℕ) → FoundShown words entries f (Ok a) → FoundShown words entries f (Ok b) → a ≡ b
+found_one words entries f lawful a b (FoundShown.found pairs h is) (FoundShown.found others k is') =
+    let same = found_is_one entries words f.setup pairs others lawful.setup h k in cc (is ∙ ap (λ ps. Ok (true, probe_text ps)) same ∙ sym is')
+found_one words entries f lawful a b (FoundShown.found pairs h is) (FoundShown.no_memory is') = absurd (cc is')
+found_one words entries f lawful a b (FoundShown.no_memory is) k = absurd (cc is)
+
+module _ (table book fen : List ℕ) where
+  pub probe_is_one : (a b : Bool × List ℕ) → ProbeShown (AsTable table) (AsBook book) fen (Ok a) → ProbeShown (AsTable table) (AsBook book) fen (Ok b) → a ≡ b
+  probe_is_one a b (ProbeShown.no_table d t is) (ProbeShown.no_table e t' is') =
+      let same : d ≡ e = cc (one_table table (Err d) (Err e) t t') in cc (is ∙ ap table_verdict same ∙ sym is')
+  probe_is_one a b (ProbeShown.no_table d t is) (ProbeShown.no_book others e t' h' is') = absurd (cc (one_table table (Err d) (Ok others) t t'))
+  probe_is_one a b (ProbeShown.no_table d t is) (ProbeShown.no_record others entries' e t' h' r' is') = absurd (cc (one_table table (Err d) (Ok others) t t'))
+  probe_is_one a b (ProbeShown.no_table d t is) (ProbeShown.probed others entries' g t' h' r' y) = absurd (cc (one_table table (Err d) (Ok others) t t'))
+  probe_is_one a b (ProbeShown.no_book words d t h is) (ProbeShown.no_table e t' is') = absurd (cc (one_table table (Ok words) (Err e) t t'))
+  probe_is_one a b (ProbeShown.no_book words d t h is) (ProbeShown.no_book others e t' h' is') =
+      let same : d ≡ e = cc (one_book book (Err d) (Err e) h h') in cc (is ∙ ap book_verdict same ∙ sym is')
+  probe_is_one a b (ProbeShown.no_book words d t h is) (ProbeShown.no_record others entries' e t' h' r' is') = absurd (cc (one_book book (Err d) (Ok entries') h h'))
+  probe_is_one a b (ProbeShown.no_book words d t h is) (ProbeShown.probed others entries' g t' h' r' y) = absurd (cc (one_book book (Err d) (Ok entries') h h'))
+  probe_is_one a b (ProbeShown.no_record words entries d t h r is) (ProbeShown.no_table e t' is') = absurd (cc (one_table table (Ok words) (Err e) t t'))
+  probe_is_one a b (ProbeShown.no_record words entries d t h r is) (ProbeShown.no_book others e t' h' is') = absurd (cc (one_book book (Ok entries) (Err e) h h'))
+  probe_is_one a b (ProbeShown.no_record words entries d t h r is) (ProbeShown.no_record others entries' e t' h' r' is') =
+      let same : d ≡ e = cc (one_text fen (Err d) (Err e) r r') in cc (is ∙ ap record_verdict same ∙ sym is')
+  probe_is_one a b (ProbeShown.no_record words entries d t h r is) (ProbeShown.probed others entries' g t' h' r' y) = absurd (cc (one_text fen (Err d) (Ok g) r r'))
+  probe_is_one a b (ProbeShown.probed words entries f t h r x) (ProbeShown.no_table e t' is') = absurd (cc (one_table table (Ok words) (Err e) t t'))
+  probe_is_one a b (ProbeShown.probed words entries f t h r x) (ProbeShown.no_book others e t' h' is') = absurd (cc (one_book book (Ok entries) (Err e) h h'))
+  probe_is_one a b (ProbeShown.probed words entries f t h r x) (ProbeShown.no_record others entries' e t' h' r' is') = absurd (cc (one_text fen (Ok f) (Err e) r r'))
+  probe_is_one a b (ProbeShown.probed words entries f t h r x) (ProbeShown.probed others entries' g t' h' r' y) =
+      let same_words : others ≡ words = cc (one_table table (Ok others) (Ok words) t' t) in
+      let same_entries : entries' ≡ entries = cc (one_book book (Ok entries') (Ok entries) h' h) in
+      let same_record : g ≡ f = cc (one_text fen (Ok g) (Ok f) r' r) in
+      let at_words = subst (λ (ws : List ℕ). FoundShown ws entries' g (Ok b)) same_words y in
+      let at_entries = subst (λ (es : List Entry). FoundShown words es g (Ok b)) same_entries at_words in
+      found_one words entries f r.0 a b x (subst (λ (z : Record). FoundShown words entries z (Ok b)) same_record at_entries)

@@ -8,62 +8,82 @@ use Rattle.pb_io.specs.Source.{SourceState}
 use Rattle.pb_poly.specs.Reading.{FindsNoBook, ReadsBook, Tells}
 use Rattle.pb_poly.specs.declared.entry.Entry.{Entry}
 use Rattle.pb_poly.specs.declared.reading.BookError.{BookError}
+use Rattle.pb_poly.specs.declared.reading.BookError.TheVariants as book_error
 use Rattle.pb_poly.proofs.ToldReads.{no_endless, no_fault}
-use Rattle.pb_commands.specs.BookRun.{JudgesBook, StopsBook}
+use Rattle.pb_commands.specs.BookJudged.{AsBook, ReadAsBook, book_verdict}
 use Rattle.pb_commands.specs.BookShown.{BookShown, show_text}
-use Rattle.pb_commands.specs.Judged.{PutsOrEnds, PutsText, PutsUntil}
+use Rattle.pb_commands.specs.Judged.{PutsOrEnds, PutsText, PutsUntil, Verdict}
 use Rattle.pb_commands.specs.Shows.{Shows}
-use Rattle.pb_commands.specs.ShowsRefusal.{RefusesForBook}
 use Rattle.pb_commands.specs.declared.fault.Fault.{Fault}
-use Rattle.pb_commands.specs.declared.fault.Fault.TheVariants.{Memory}
-use Rattle.pb_commands.proofs.Judging.{hands_on, no_book, only_text, puts_text, puts_until, text_not_shown, text_shown, told_as}
+use Rattle.pb_commands.specs.declared.fault.Fault.TheVariants.{Read, Endless, Memory}
+use Rattle.pb_commands.proofs.Judging.{hands_on, only_text, puts_text, puts_until, shows, text_not_shown, text_shown, told_as}
 use Rattle.pb_commands.proofs.OneBook.{shown_is_one}
 use Rattle.pb_commands.proofs.Told.{told_shown}
 
-module _ (fills : ℕ) (s s' : SourceState) (sink sink' : SinkState) where
-  abbrev judges : Bool → List ℕ → Type 0
-  judges = JudgesBook fills s s'
+-- a source that tells its bytes, doesn't fail and ends within the fills gives no fault of reading
+module _ (fills : ℕ) (s s' : SourceState) (bytes : List ℕ) (tells : Tells fills s s' bytes) where
+  pub no_book_fault : (e : BookError) → FindsNoBook fills s s' e → Err Read ≡ book_verdict e → ⊥
+  no_book_fault (book_error.Unsorted n) h is = cc is
+  no_book_fault (book_error.Cut n) h is = cc is
+  no_book_fault book_error.Read h is = no_fault chunk_len fills s s' bytes tells h.came h.reads
+  no_book_fault book_error.Endless h is = cc is
+  no_book_fault book_error.Memory h is = cc is
 
-  abbrev stops : Fault → Type 0
-  stops = StopsBook fills s s'
+  pub no_book_end : (e : BookError) → FindsNoBook fills s s' e → Err Endless ≡ book_verdict e → ⊥
+  no_book_end (book_error.Unsorted n) h is = cc is
+  no_book_end (book_error.Cut n) h is = cc is
+  no_book_end book_error.Read h is = cc is
+  no_book_end book_error.Endless h is = no_endless chunk_len fills s s' bytes tells h.came h.reads
+  no_book_end book_error.Memory h is = cc is
+
+  no_fault_shown : BookShown (ReadAsBook fills s s') (Err Read) → ⊥
+  no_fault_shown (BookShown.shown entries h is) = cc is
+  no_fault_shown (BookShown.no_book e h is) = no_book_fault e h is
+
+  no_end_shown : BookShown (ReadAsBook fills s s') (Err Endless) → ⊥
+  no_end_shown (BookShown.shown entries h is) = cc is
+  no_end_shown (BookShown.no_book e h is) = no_book_end e h is
+
+module _ (fills : ℕ) (s s' : SourceState) (sink sink' : SinkState) where
+  abbrev judges : Verdict → Type 0
+  judges = BookShown (ReadAsBook fills s s')
 
   abbrev Ends : Result Bool Fault → Type 0
-  Ends = PutsOrEnds judges stops sink sink'
+  Ends = PutsOrEnds judges sink sink'
 
   -- the book was read, and these are its entries
   module _ (book entries : List Entry) (read : ReadsBook fills s s' book) (same : entries ≡ book) where
-    shown : judges true (show_text entries)
-    shown = JudgesBook.shown entries (subst (λ (es : List Entry). ReadsBook fills s s' es) (sym same) read) refl refl
+    shown : judges (Ok (true, show_text entries))
+    shown = BookShown.shown entries (subst (λ (es : List Entry). ReadsBook fills s s' es) (sym same) read) refl
 
     pub at_entries : {A : Type 0} (v : A) → Shows {A = A} sink sink' (Ok v) (show_text entries) → Ends (Ok true)
-    at_entries = text_shown judges stops sink sink' true (show_text entries) shown
+    at_entries = text_shown judges sink sink' true (show_text entries) shown
 
     pub at_fault : {A : Type 0} (e : Fault) → Shows {A = A} sink sink' (Err e) (show_text entries) → Ends (Err e)
-    at_fault = text_not_shown judges stops sink sink' true (show_text entries) shown
+    at_fault = text_not_shown judges sink sink' true (show_text entries) shown
 
-  pub at_refusal : (result : Result Bool Fault) (e : BookError) → FindsNoBook fills s s' e → RefusesForBook sink sink' result e → Ends result
-  at_refusal result e h r =
-      no_book judges stops sink sink' fills s s' (λ out x. JudgesBook.refused x refl) (λ x. x) (λ x. x) (λ x. x) result e h r
+  pub at_refusal : (result : Result Bool Fault) (e : BookError) → FindsNoBook fills s s' e → PutsOrEnds (λ verdict. verdict ≡ book_verdict e) sink sink' result → Ends result
+  at_refusal result e h r = shows judges (book_verdict e) (BookShown.no_book e h refl) sink sink' result r
 
   -- what the clauses of the command say, from how it ends
   pub put : (result : Result Bool Fault) → Ends result → IfOk result (PutsText judges sink sink')
-  put = puts_text judges stops sink sink'
+  put = puts_text judges sink sink'
 
   pub handed_on : (result : Result Bool Fault) → Ends result → OnOk result ((sink'.failed ≡ false) × (sink'.flushed ≡ true))
-  handed_on = hands_on judges stops sink sink'
+  handed_on = hands_on judges sink sink'
 
-  pub ended : (result : Result Bool Fault) → Ends result → IfErr result (PutsUntil judges stops sink sink')
-  ended = puts_until judges stops sink sink'
+  pub ended : (result : Result Bool Fault) → Ends result → IfErr result (PutsUntil judges sink sink')
+  ended = puts_until judges sink sink'
 
   -- where the source tells its bytes
   pub told_text : (result : Result Bool Fault) → IfOk result (PutsText judges sink sink')
-      → IfOk result (λ answer. IfSome s.to_come (λ bytes. PutsText (BookShown bytes) sink sink' answer))
-  told_text result h = told_as judges (λ bytes. BookShown bytes) sink sink' s.to_come result (λ bytes told. told_shown fills s s' bytes told) h
+      → IfOk result (λ answer. IfSome s.to_come (λ bytes. PutsText (BookShown (AsBook bytes)) sink sink' answer))
+  told_text result h = told_as judges (λ bytes. BookShown (AsBook bytes)) sink sink' s.to_come result (λ bytes told. told_shown fills s s' bytes told) h
 
   -- where it tells its bytes, doesn't fail and ends within the fills
-  pub only_shown : (bytes : List ℕ) → Tells fills s s' bytes → sink'.failed ≡ false → (answer : Bool) (out : List ℕ) → BookShown bytes answer out
+  pub only_shown : (bytes : List ℕ) → Tells fills s s' bytes → sink'.failed ≡ false → (answer : Bool) (out : List ℕ) → BookShown (AsBook bytes) (Ok (answer, out))
       → (result : Result Bool Fault) → Ends result
       → MatchResult result (λ taken. (taken ≡ answer) × Appends sink.bytes sink'.bytes out) (λ e. e ≡ Memory)
   only_shown bytes tells works answer out is result ends =
-      only_text judges (BookShown bytes) stops sink sink' works (told_shown fills s s' bytes tells.told) (shown_is_one bytes)
-      (λ h. no_fault chunk_len fills s s' bytes tells h.came h.reads) (λ h. no_endless chunk_len fills s s' bytes tells h.came h.reads) answer out is result ends
+      only_text judges (BookShown (AsBook bytes)) sink sink' works (told_shown fills s s' bytes tells.told) (shown_is_one bytes)
+      (no_fault_shown fills s s' bytes tells) (no_end_shown fills s s' bytes tells) answer out is result ends

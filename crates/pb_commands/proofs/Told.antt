@@ -1,17 +1,20 @@
 -- What is read from a source that tells its bytes.
-use Rattle.std.proofs.Common.{◌≡◌, ◌∙◌, ℕ, ◌≤◌, Bool, List, ◌++◌, Some, ap, append_assoc, arith, length, length-append, subst, sym}
+use Rattle.std.proofs.Common.{◌≡◌, ◌∙◌, ℕ, ◌≤◌, Bool, List, [], ◌++◌, Ok, Err, Some, ap, append_assoc, arith, length, length-append, refl, subst, sym}
 use Rattle.pb_poly.proofs.ToldReads.{all_came, came_first}
 use Rattle.pb_io.specs.Source.{SourceState}
 use Rattle.pb_poly.specs.Book.{BookBytes}
-use Rattle.pb_poly.specs.Reading.{ReadsBook, Splits}
+use Rattle.pb_poly.specs.Reading.{FindsNoBook, ReadsBook, Splits}
 use Rattle.pb_poly.specs.Table.{IsDueTable, IsTableFile, table_limit}
-use Rattle.pb_poly.specs.TableReading.{ReadsTable}
+use Rattle.pb_poly.specs.TableReading.{FindsNoTable, ReadsTable}
 use Rattle.pb_poly.specs.declared.entry.Entry.{Entry}
+use Rattle.pb_poly.specs.declared.reading.BookError.{BookError}
+use Rattle.pb_poly.specs.declared.reading.BookError.TheVariants as book
 use Rattle.pb_poly.specs.declared.table.TableError.TheVariants as poly
-use Rattle.pb_commands.specs.BookShown.{BookRefused, BookShown, IsBookFile}
-use Rattle.pb_commands.specs.BookRun.{JudgesBook, RefusesBook}
-use Rattle.pb_commands.specs.TableRun.{RefusesTable}
-use Rattle.pb_commands.specs.TableShown.{TableRefused}
+use Rattle.pb_poly.specs.declared.table_file.TableFault.{TableFault}
+use Rattle.pb_poly.specs.declared.table_file.TableFault.TheVariants as table
+use Rattle.pb_commands.specs.BookJudged.{AsBook, IsBookFile, ReadAsBook, book_verdict}
+use Rattle.pb_commands.specs.BookShown.{BookShown}
+use Rattle.pb_commands.specs.TableJudged.{AsTable, table_verdict}
 
 module _ (fills : ℕ) (old new : SourceState) (bytes : List ℕ) (told : old.to_come ≡ Some bytes) where
   -- ---- books
@@ -23,30 +26,29 @@ module _ (fills : ℕ) (old new : SourceState) (bytes : List ℕ) (told : old.to
         ordered = h.ordered;
       }
 
-  pub told_no_book : (out : List ℕ) → RefusesBook fills old new out → BookRefused bytes out
-  told_no_book out (RefusesBook.unsorted number h is) =
+  -- what is put then is the same of the bytes
+  pub told_no_book : (e : BookError) (x : Bool × List ℕ) → Ok x ≡ book_verdict e → FindsNoBook fills old new e → AsBook bytes (Err e)
+  told_no_book (book.Unsorted number) x is h =
       let m = h.meets in
-      let c = came_first _ fills old new bytes told (m.came ++ m.rest) m.reads.reads in
-      BookRefused.unsorted number (record {
+      let c = came_first _ fills old new bytes told (m.came ++ m.rest) m.reads.reads in record {
         front = m.came;
         rest = m.rest ++ c.0;
         cut = c.1 ∙ append_assoc m.came m.rest c.0;
-        before = h.before;
-        entry = h.entry;
+        entries = _;
         are = m.bytes;
-        ordered = m.ordered;
-        falls = h.falls;
-        number_is = h.number_is;
-      }) is
-  told_no_book out (RefusesBook.cut_short extra h is) =
-      let all = all_came _ fills old new bytes told h.came h.reads in
-      BookRefused.cut_short extra (record {
+        falls = record { before = h.before; entry = h.entry; after = []; cut = refl; ordered = m.ordered; falls = h.falls; number_is = h.number_is };
+      }
+  told_no_book (book.Cut extra) x is h =
+      let all = all_came _ fills old new bytes told h.came h.reads in record {
         entries = h.entries;
         part = h.part;
         splits = subst (λ (xs : List ℕ). Splits xs h.entries h.part) (sym all) h.splits;
         some = h.some;
         extra_is = h.extra_is;
-      }) is
+      }
+  told_no_book book.Read x is h = absurd (cc is)
+  told_no_book book.Endless x is h = absurd (cc is)
+  told_no_book book.Memory x is h = absurd (cc is)
 
   -- ---- tables
 
@@ -54,21 +56,26 @@ module _ (fills : ℕ) (old new : SourceState) (bytes : List ℕ) (told : old.to
   told_table words h =
       let all = all_came _ fills old new bytes told h.came h.reads in subst (λ (xs : List ℕ). IsTableFile words xs) (sym all) h.is
 
-  pub told_no_table : (out : List ℕ) → RefusesTable fills old new out → TableRefused bytes out
-  told_no_table out (RefusesTable.long h is) =
+  pub told_no_table : (e : TableFault) (x : Bool × List ℕ) → Ok x ≡ table_verdict e → FindsNoTable fills old new e → AsTable bytes (Err e)
+  told_no_table table.Long x is h =
       let c = came_first _ fills old new bytes told h.came h.reads.reads in
-      TableRefused.long (omega (arith, h.long, ap length c.1, length-append h.came c.0)) is
-  told_no_table out (RefusesTable.line number h is) =
-      let all = all_came _ fills old new bytes told h.came h.reads in
-      TableRefused.line number (subst (λ (xs : List ℕ). length xs ≤ table_limit) (sym all) h.few)
-      (subst (λ (xs : List ℕ). IsDueTable (poly.Line number) xs) (sym all) h.due) is
-  told_no_table out (RefusesTable.count count h is) =
-      let all = all_came _ fills old new bytes told h.came h.reads in
-      TableRefused.count count (subst (λ (xs : List ℕ). length xs ≤ table_limit) (sym all) h.few)
-      (subst (λ (xs : List ℕ). IsDueTable (poly.Count count) xs) (sym all) h.due) is
+      omega (arith, h.long, ap length c.1, length-append h.came c.0)
+  told_no_table (table.Line number) x is h =
+      let all = all_came _ fills old new bytes told h.came h.reads in (
+        subst (λ (xs : List ℕ). length xs ≤ table_limit) (sym all) h.few,
+        subst (λ (xs : List ℕ). IsDueTable (poly.Line number) xs) (sym all) h.due,
+      )
+  told_no_table (table.Count count) x is h =
+      let all = all_came _ fills old new bytes told h.came h.reads in (
+        subst (λ (xs : List ℕ). length xs ≤ table_limit) (sym all) h.few,
+        subst (λ (xs : List ℕ). IsDueTable (poly.Count count) xs) (sym all) h.due,
+      )
+  told_no_table table.Read x is h = absurd (cc is)
+  told_no_table table.Endless x is h = absurd (cc is)
+  told_no_table table.Memory x is h = absurd (cc is)
 
   -- ---- what they show
 
-  pub told_shown : (answer : Bool) (out : List ℕ) → JudgesBook fills old new answer out → BookShown bytes answer out
-  told_shown answer out (JudgesBook.shown entries h answered is) = BookShown.shown entries (told_book entries h) answered is
-  told_shown answer out (JudgesBook.refused h answered) = BookShown.refused (told_no_book out h) answered
+  pub told_shown : (answer : Bool) (out : List ℕ) → BookShown (ReadAsBook fills old new) (Ok (answer, out)) → BookShown (AsBook bytes) (Ok (answer, out))
+  told_shown answer out (BookShown.shown entries h is) = BookShown.shown entries (told_book entries h) is
+  told_shown answer out (BookShown.no_book e h is) = BookShown.no_book e (told_no_book e (answer, out) is h) is

@@ -1,4 +1,4 @@
-pub mod BookRun
+pub mod BookJudged
 pub mod BookShown
 pub mod EpdRun
 pub mod EpdShown
@@ -7,15 +7,13 @@ pub mod Hexadecimal
 pub mod Judged
 pub mod Line
 pub mod Plays
-pub mod ProbeRun
 pub mod ProbeShown
+pub mod RecordJudged
 pub mod Refused
 pub mod Rewriter
 pub mod Shows
-pub mod ShowsRefusal
 pub mod Status
-pub mod TableRun
-pub mod TableShown
+pub mod TableJudged
 pub use Rattle.pb_poly.specs.TableFilling
 pub use Rattle.pb_poly.specs.TableReading
 pub use Rattle.pb_poly.specs.declared.table_file.TableFault

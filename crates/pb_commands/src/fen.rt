@@ -1,6 +1,5 @@
 //! The command `fen`: moves are played from a FEN record, and the record after them is written.
-ghost use Rattle.std.specs.Prelude.{◌≡◌, ℕ, ◌+◌, ◌↔◌, Bool, List, All, IfErr, IfOk, IsTrue, MatchOption, MatchResult, OnErr, OnOk, false, take, true};
-ghost use Rattle.std.specs.Io.KnownBytes.{Appends};
+ghost use Rattle.std.specs.Prelude.{◌≡◌, ℕ, ◌+◌, ◌↔◌, List, All, IfErr, IfOk, IsTrue, MatchOption, MatchResult, Ok, OnOk, false, true};
 ghost use Rattle.pb_board.specs.Fen.{FenText};
 ghost use Rattle.pb_board.specs.Position.{IsRecord};
 ghost use Rattle.pb_board.specs.LineEnd.{with_end};
@@ -10,15 +9,14 @@ ghost use Rattle.pb_moves.specs.Moved.{Moved};
 ghost use Rattle.pb_moves.specs.Played.{IsFirstMisspelt, IsSpelled, Spells};
 ghost use Rattle.pb_commands.specs.Line.{texts};
 ghost use Rattle.pb_commands.specs.FenShown.{FenShown, Unplayable};
-ghost use Rattle.pb_commands.specs.Judged.{PutsOrEnds, StopsNever};
+ghost use Rattle.pb_commands.specs.Judged.{PutsFront, PutsOrEnds, PutsText};
 ghost use Rattle.pb_commands.specs.Plays.{PlaysWords};
-ghost use Rattle.pb_commands.specs.Refused.{refusal_line};
-ghost use Rattle.pb_commands.specs.Shows.{Shows};
+ghost use Rattle.pb_commands.specs.Refused.{refusal_verdict};
 ghost use Rattle.pb_commands.specs.declared.fault.Fault.TheVariants.{Write};
 
 use crate::fault::Fault;
 use crate::output::show_line;
-use itoa::Buffer;
+use crate::refusal::{refuse, refuse_with};
 use pb_board::{Fen, FenError, read_fen};
 use pb_moves::{advance, read_move};
 use pb_poly::Sink;
@@ -49,39 +47,33 @@ pub fn run_fen<K: Sink>(
     moves: &[&str],
     sink: &mut K,
 ) -> Result<bool, Fault>
-    ensures shown { IfOk result (λ answer. (out : List ℕ) × FenShown fen.now (texts moves.now) answer out
-        × Appends (K.state sink.old).bytes (K.state sink.new).bytes out) }
+    ensures shown { IfOk result (PutsText (FenShown fen.now (texts moves.now)) (K.state sink.old) (K.state sink.new)) }
     ensures handed_on { OnOk result (((K.state sink.new).failed ≡ false)
         × ((K.state sink.new).flushed ≡ true)) }
-    ensures fault { IfErr result (λ fault. (fault ≡ Write) × ((K.state sink.new).failed ≡ true)) }
-    ensures front { OnErr result ((answer : Bool) × (out : List ℕ) × (count : ℕ)
-        × FenShown fen.now (texts moves.now) answer out
-        × Appends (K.state sink.old).bytes (K.state sink.new).bytes (take count out)) }
+    ensures fault { IfErr result (λ fault. (fault ≡ Write)
+        × PutsFront (FenShown fen.now (texts moves.now)) (K.state sink.old) (K.state sink.new)) }
 {
     show_record(fen, moves, sink)
 }
 
 /// The same, told in one clause.
 fn show_record<K: Sink>(fen: &[u8], moves: &[&str], sink: &mut K) -> Result<bool, Fault>
-    ensures { PutsOrEnds (FenShown fen.now (texts moves.now)) StopsNever (K.state sink.old) (K.state sink.new) result }
+    ensures { PutsOrEnds (FenShown fen.now (texts moves.now)) (K.state sink.old) (K.state sink.new) result }
 {
     match record_after(fen, moves) {
         Ok(last) => {
             show_line(sink, &[last.text().as_bytes()])?;
             Ok(true)
         }
-        Err(refusal) => {
-            show_refusal(sink, refusal)?;
-            Ok(false)
-        }
+        Err(refusal) => show_refusal(sink, refusal),
     }
 }
 
 /// The record after the moves.
 fn record_after(fen: &[u8], moves: &[&str]) -> Result<Fen, Refusal>
     ensures { MatchResult result
-        (λ last. (line : List ℕ) → FenText last line → FenShown fen.now (texts moves.now) true (with_end line))
-        (λ refusal. FenShown fen.now (texts moves.now) false (refusal_line refusal)) }
+        (λ last. (text : List ℕ) → FenText last text → FenShown fen.now (texts moves.now) (Ok (true, with_end text)))
+        (λ refusal. FenShown fen.now (texts moves.now) (refusal_verdict refusal)) }
 {
     let start = match read_fen(fen) {
         Ok(start) => start,
@@ -144,21 +136,13 @@ fn play_word(before: &Fen, word: &str) -> Option<Fen>
     advance(before, m)
 }
 
-/// Shows why the input is refused.
-fn show_refusal<K: Sink>(sink: &mut K, refusal: Refusal) -> Result<(), Fault>
-    ensures { Shows (K.state sink.old) (K.state sink.new) result (refusal_line refusal) }
+/// Shows why the input is refused, and answers that it was.
+fn show_refusal<K: Sink>(sink: &mut K, refusal: Refusal) -> Result<bool, Fault>
+    ensures { PutsOrEnds (λ verdict. verdict ≡ refusal_verdict refusal) (K.state sink.old) (K.state sink.new) result }
 {
     match refusal {
-        Refusal::Record(error) => show_line(sink, &[b"refused fen ", error.word().as_bytes()]),
-        Refusal::Spelling(number) => {
-            let mut buffer = Buffer::new();
-            let digits = buffer.format(number);
-            show_line(sink, &[b"refused spelling ", digits.as_bytes()])
-        }
-        Refusal::Illegal(number) => {
-            let mut buffer = Buffer::new();
-            let digits = buffer.format(number);
-            show_line(sink, &[b"refused illegal ", digits.as_bytes()])
-        }
+        Refusal::Record(error) => refuse(sink, &[b"refused fen ", error.word().as_bytes()]),
+        Refusal::Spelling(number) => refuse_with(sink, b"refused spelling ", number),
+        Refusal::Illegal(number) => refuse_with(sink, b"refused illegal ", number),
     }
 }

@@ -1,12 +1,13 @@
 //! The command `probe`: the moves that a book has for a position.
-ghost use Rattle.std.specs.Prelude.{◌≡◌, ℕ, Bool, IfErr, IfOk, IfSome, List, MatchResult, OnOk, false, true};
+ghost use Rattle.std.specs.Prelude.{◌≡◌, ℕ, Bool, IfErr, IfOk, IfSome, List, MatchResult, Ok, OnOk, false, true};
 ghost use Rattle.std.specs.Io.KnownBytes.{Appends};
 ghost use Rattle.pb_poly.specs.Reading.{Tells};
 ghost use Rattle.pb_io.specs.Sink.{Put};
 ghost use Rattle.pb_commands.specs.Judged.{PutsOrEnds, PutsText, PutsUntil};
-ghost use Rattle.pb_commands.specs.ProbeRun.{JudgesProbe, StopsProbe};
-ghost use Rattle.pb_commands.specs.ProbeShown.{ProbeShown, found_line, probe_text};
+ghost use Rattle.pb_commands.specs.BookJudged.{AsBook};
+ghost use Rattle.pb_commands.specs.ProbeShown.{ProbeShown, ProbesSources, found_line, probe_text};
 ghost use Rattle.pb_commands.specs.Shows.{Shows};
+ghost use Rattle.pb_commands.specs.TableJudged.{AsTable};
 ghost use Rattle.pb_commands.specs.declared.fault.Fault.TheVariants.{Memory};
 
 use crate::fault::Fault;
@@ -33,19 +34,18 @@ pub fn run_probe<T: Source, B: Source, K: Sink>(
     sink: &mut K,
     fills: u32,
 ) -> Result<bool, Fault>
-    ensures shown { IfOk result (PutsText (JudgesProbe fills (T.state table_source.old) (T.state table_source.new)
+    ensures shown { IfOk result (PutsText (ProbesSources fills (T.state table_source.old) (T.state table_source.new)
         (B.state book_source.old) (B.state book_source.new) fen.now) (K.state sink.old) (K.state sink.new)) }
     ensures told { IfOk result (λ answer. IfSome (T.state table_source.old).to_come (λ table. IfSome (B.state book_source.old).to_come (λ book.
-        PutsText (ProbeShown table book fen.now) (K.state sink.old) (K.state sink.new) answer))) }
+        PutsText (ProbeShown (AsTable table) (AsBook book) fen.now) (K.state sink.old) (K.state sink.new) answer))) }
     ensures handed_on { OnOk result (((K.state sink.new).failed ≡ false)
         × ((K.state sink.new).flushed ≡ true)) }
     ensures fault { IfErr result (PutsUntil
-        (JudgesProbe fills (T.state table_source.old) (T.state table_source.new) (B.state book_source.old) (B.state book_source.new) fen.now)
-        (StopsProbe fills (T.state table_source.old) (T.state table_source.new) (B.state book_source.old) (B.state book_source.new) fen.now)
+        (ProbesSources fills (T.state table_source.old) (T.state table_source.new) (B.state book_source.old) (B.state book_source.new) fen.now)
         (K.state sink.old) (K.state sink.new)) }
     ensures only { (table book : List ℕ) (answer : Bool) (out : List ℕ) → Tells fills (T.state table_source.old) (T.state table_source.new) table
         → Tells fills (B.state book_source.old) (B.state book_source.new) book
-        → (K.state sink.new).failed ≡ false → ProbeShown table book fen.now answer out
+        → (K.state sink.new).failed ≡ false → ProbeShown (AsTable table) (AsBook book) fen.now (Ok (answer, out))
         → MatchResult result (λ taken. (taken ≡ answer) × Appends (K.state sink.old).bytes (K.state sink.new).bytes out) (λ e. e ≡ Memory) }
 {
     show_moves(alloc, table_source, book_source, fen, sink, fills)
@@ -61,8 +61,7 @@ fn show_moves<T: Source, B: Source, K: Sink>(
     fills: u32,
 ) -> Result<bool, Fault>
     ensures { PutsOrEnds
-        (JudgesProbe fills (T.state table_source.old) (T.state table_source.new) (B.state book_source.old) (B.state book_source.new) fen.now)
-        (StopsProbe fills (T.state table_source.old) (T.state table_source.new) (B.state book_source.old) (B.state book_source.new) fen.now)
+        (ProbesSources fills (T.state table_source.old) (T.state table_source.new) (B.state book_source.old) (B.state book_source.new) fen.now)
         (K.state sink.old) (K.state sink.new) result }
 {
     let table = match take_table(alloc, table_source, fills) {

@@ -1,8 +1,10 @@
 //! Lines that say why an input is refused.
-ghost use Rattle.std.specs.Prelude.{◌++◌, decimal};
+ghost use Rattle.std.specs.Prelude.{◌≡◌, ◌++◌, Ok, decimal, false};
 ghost use Rattle.pb_board.specs.LineEnd.{with_end};
 ghost use Rattle.pb_commands.specs.Line.{parts_joined};
-ghost use Rattle.pb_commands.specs.ShowsRefusal.{ShowsRefusal, RefusesForBook, RefusesForTable};
+ghost use Rattle.pb_commands.specs.BookJudged.{book_verdict};
+ghost use Rattle.pb_commands.specs.Judged.{PutsOrEnds};
+ghost use Rattle.pb_commands.specs.TableJudged.{table_verdict};
 
 use crate::fault::Fault;
 use crate::output::show_line;
@@ -11,7 +13,7 @@ use pb_poly::{BookError, Sink, TableFault};
 
 /// Shows the line of these parts and answers that the input was refused.
 pub(crate) fn refuse<K: Sink>(sink: &mut K, parts: &[&[u8]]) -> Result<bool, Fault>
-    ensures { ShowsRefusal (K.state sink.old) (K.state sink.new) result (with_end (parts_joined parts.now)) }
+    ensures { PutsOrEnds (λ verdict. verdict ≡ Ok (false, with_end (parts_joined parts.now))) (K.state sink.old) (K.state sink.new) result }
 {
     show_line(sink, parts)?;
     Ok(false)
@@ -19,7 +21,7 @@ pub(crate) fn refuse<K: Sink>(sink: &mut K, parts: &[&[u8]]) -> Result<bool, Fau
 
 /// The same of a line that ends with a number.
 pub(crate) fn refuse_with<K: Sink>(sink: &mut K, words: &[u8], number: usize) -> Result<bool, Fault>
-    ensures { ShowsRefusal (K.state sink.old) (K.state sink.new) result (with_end (words.now ++ decimal number)) }
+    ensures { PutsOrEnds (λ verdict. verdict ≡ Ok (false, with_end (words.now ++ decimal number))) (K.state sink.old) (K.state sink.new) result }
 {
     let mut buffer = Buffer::new();
     let digits = buffer.format(number);
@@ -28,7 +30,7 @@ pub(crate) fn refuse_with<K: Sink>(sink: &mut K, words: &[u8], number: usize) ->
 
 /// Shows why a book is refused, or answers the fault that ended its reading.
 pub(crate) fn refuse_book<K: Sink>(sink: &mut K, error: BookError) -> Result<bool, Fault>
-    ensures { RefusesForBook (K.state sink.old) (K.state sink.new) result error }
+    ensures { PutsOrEnds (λ verdict. verdict ≡ book_verdict error) (K.state sink.old) (K.state sink.new) result }
 {
     match error {
         BookError::Unsorted(number) => refuse_with(sink, b"refused book unsorted ", number),
@@ -42,7 +44,7 @@ pub(crate) fn refuse_book<K: Sink>(sink: &mut K, error: BookError) -> Result<boo
 /// Shows why a table file is refused, `refused table` and `long`, or `line` or `count` and its number, and answers false; or puts
 /// nothing, and answers the fault that ended its reading.
 pub fn refuse_table<K: Sink>(sink: &mut K, error: TableFault) -> Result<bool, Fault>
-    ensures { RefusesForTable (K.state sink.old) (K.state sink.new) result error }
+    ensures { PutsOrEnds (λ verdict. verdict ≡ table_verdict error) (K.state sink.old) (K.state sink.new) result }
 {
     match error {
         TableFault::Long => refuse(sink, &[b"refused table long"]),

@@ -1,9 +1,9 @@
 //! The command `show`: a line for each entry of a book.
-ghost use Rattle.std.specs.Prelude.{◌≡◌, ℕ, Bool, IfErr, IfOk, IfSome, List, MatchResult, OnOk, false, true};
+ghost use Rattle.std.specs.Prelude.{◌≡◌, ℕ, Bool, IfErr, IfOk, IfSome, List, MatchResult, Ok, OnOk, false, true};
 ghost use Rattle.std.specs.Io.KnownBytes.{Appends};
 ghost use Rattle.pb_poly.specs.Reading.{Tells};
 ghost use Rattle.pb_io.specs.Sink.{Put};
-ghost use Rattle.pb_commands.specs.BookRun.{JudgesBook, StopsBook};
+ghost use Rattle.pb_commands.specs.BookJudged.{AsBook, ReadAsBook};
 ghost use Rattle.pb_commands.specs.BookShown.{BookShown, entry_line, show_text};
 ghost use Rattle.pb_commands.specs.Judged.{PutsOrEnds, PutsText, PutsUntil};
 ghost use Rattle.pb_commands.specs.Shows.{Shows};
@@ -29,15 +29,16 @@ pub fn run_show<S: Source, K: Sink>(
     sink: &mut K,
     fills: u32,
 ) -> Result<bool, Fault>
-    ensures shown { IfOk result (PutsText (JudgesBook fills (S.state source.old) (S.state source.new)) (K.state sink.old) (K.state sink.new)) }
+    ensures shown { IfOk result (PutsText (BookShown (ReadAsBook fills (S.state source.old) (S.state source.new)))
+        (K.state sink.old) (K.state sink.new)) }
     ensures told { IfOk result (λ answer. IfSome (S.state source.old).to_come (λ bytes.
-        PutsText (BookShown bytes) (K.state sink.old) (K.state sink.new) answer)) }
+        PutsText (BookShown (AsBook bytes)) (K.state sink.old) (K.state sink.new) answer)) }
     ensures handed_on { OnOk result (((K.state sink.new).failed ≡ false)
         × ((K.state sink.new).flushed ≡ true)) }
-    ensures fault { IfErr result (PutsUntil (JudgesBook fills (S.state source.old) (S.state source.new))
-        (StopsBook fills (S.state source.old) (S.state source.new)) (K.state sink.old) (K.state sink.new)) }
+    ensures fault { IfErr result (PutsUntil (BookShown (ReadAsBook fills (S.state source.old) (S.state source.new)))
+        (K.state sink.old) (K.state sink.new)) }
     ensures only { (bytes : List ℕ) (answer : Bool) (out : List ℕ) → Tells fills (S.state source.old) (S.state source.new) bytes
-        → (K.state sink.new).failed ≡ false → BookShown bytes answer out
+        → (K.state sink.new).failed ≡ false → BookShown (AsBook bytes) (Ok (answer, out))
         → MatchResult result (λ taken. (taken ≡ answer) × Appends (K.state sink.old).bytes (K.state sink.new).bytes out) (λ e. e ≡ Memory) }
 {
     show_book(alloc, source, sink, fills)
@@ -50,8 +51,7 @@ fn show_book<S: Source, K: Sink>(
     sink: &mut K,
     fills: u32,
 ) -> Result<bool, Fault>
-    ensures { PutsOrEnds (JudgesBook fills (S.state source.old) (S.state source.new)) (StopsBook fills (S.state source.old) (S.state source.new))
-        (K.state sink.old) (K.state sink.new) result }
+    ensures { PutsOrEnds (BookShown (ReadAsBook fills (S.state source.old) (S.state source.new))) (K.state sink.old) (K.state sink.new) result }
 {
     match read_book(alloc, source, fills) {
         Ok(book) => {

@@ -1,4 +1,4 @@
-use Rattle.pb_commands.proofs.Shown.{ended, front, handed_on, shown}
+use Rattle.pb_commands.proofs.Shown.{ended, handed_on, shown}
 use Rattle.pb_commands.proofs.fen.run_fen.Goals as goal
 
 pub returns-clause-shown : goal.returns-clause-shown
@@ -9,6 +9,3 @@ returns-clause-handed_on g c = handed_on _ _ _ _ c.show_record.result c.show_rec
 
 pub returns-clause-fault : goal.returns-clause-fault
 returns-clause-fault g c = ended _ _ _ _ c.show_record.result c.show_record.ensures
-
-pub returns-clause-front : goal.returns-clause-front
-returns-clause-front g c = front _ _ _ _ c.show_record.result c.show_record.ensures
