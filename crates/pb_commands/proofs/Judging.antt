@@ -15,7 +15,7 @@ text_as judges others sink sink' answer as_other h = record { out = h.out; judge
 
 -- what is put where the input comes to this is put where it comes to what follows from it
 module _ (judges others : Verdict → Type 0) (as_other : (verdict : Verdict) → judges verdict → others verdict) (sink sink' : SinkState) where
-  until_as : (fault : Fault) → PutsUntil judges sink sink' fault → PutsUntil others sink sink' fault
+  pub until_as : (fault : Fault) → PutsUntil judges sink sink' fault → PutsUntil others sink sink' fault
   until_as Write h = record {
     answer = h.answer;
     out = h.out;

@@ -43,7 +43,7 @@ module _ (fills : ℕ) (t t' : SourceState) (bytes : List ℕ) (tells : Tells fi
   no_table_end table_fault.Long h is = cc is
   no_table_end (table_fault.Line n) h is = cc is
   no_table_end (table_fault.Count n) h is = cc is
-  no_table_end table_fault.Read h is = cc is
+  no_table_end table_fault.Read h is = cc
   no_table_end table_fault.Endless h is = no_endless table_limit fills t t' bytes tells h.came h.reads
   no_table_end table_fault.Memory h is = cc is
 

@@ -32,7 +32,7 @@ module _ (fills : ℕ) (s s' : SourceState) (bytes : List ℕ) (tells : Tells fi
   pub no_book_end : (e : BookError) → FindsNoBook fills s s' e → Err Endless ≡ book_verdict e → ⊥
   no_book_end (book_error.Unsorted n) h is = cc is
   no_book_end (book_error.Cut n) h is = cc is
-  no_book_end book_error.Read h is = cc is
+  no_book_end book_error.Read h is = cc
   no_book_end book_error.Endless h is = no_endless chunk_len fills s s' bytes tells h.came h.reads
   no_book_end book_error.Memory h is = cc is
 

@@ -1,5 +1,5 @@
 -- What the command `epd` writes: for each line its one ordered form, or why it is refused.
-use Rattle.std.specs.Prelude.{◌≡◌, ◌≢◌, ℕ, ◌+◌, ◌<◌, ◌≤◌, ◌&&◌, Bool, true, false, List, [], ◌∷◌, ◌++◌, length, All, codes, decimal}
+use Rattle.std.specs.Prelude.{◌≡◌, ℕ, ◌+◌, ◌<◌, ◌≤◌, ◌&&◌, Bool, true, List, [], ◌∷◌, ◌++◌, Ok, Err, length, All, codes, decimal}
 use Rattle.pb_board.specs.Words.{word_of}
 use Rattle.pb_board.specs.LineEnd.{without_return, with_end}
 use Rattle.pb_epd.specs.declared.refusal.EpdError.{EpdError}
@@ -7,45 +7,39 @@ use Rattle.pb_epd.specs.declared.refusal.EpdError.TheVariants as epd
 use Rattle.pb_epd.specs.Epd.{EpdRecord, IsEpd, EpdText, EpdForm}
 use Rattle.pb_epd.specs.Refusal.{IsFirstDueEpd}
 use Rattle.pb_io.specs.Lines.{line_limit}
+use Rattle.pb_commands.specs.declared.fault.Fault.TheVariants.{Memory}
+use Rattle.pb_commands.specs.Judged.{Verdict, refused}
 
 -- no byte but spaces
 abbrev pub IsBlank : List ℕ → Type 0
 IsBlank text = All (λ b. b ≡ 32) text
 
--- want of memory is no line
-abbrev pub epd_reason : EpdError → List ℕ
-epd_reason (epd.Token at) = codes "token " ++ decimal at
-epd_reason epd.Fields = codes "fields"
-epd_reason (epd.Setup e) = codes "setup " ++ word_of e
-epd_reason (epd.Opcode n) = codes "opcode " ++ decimal n
-epd_reason epd.Unended = codes "unended"
-epd_reason (epd.Repeated n) = codes "repeated " ++ decimal n
-epd_reason epd.Memory = []
+-- the line of this number is refused
+abbrev pub refused_line : ℕ → List ℕ → Verdict
+refused_line number why = refused (decimal number ++ (32 ∷ why))
 
-abbrev pub refused_line : ℕ → List ℕ → List ℕ
-refused_line number why = with_end (codes "refused " ++ (decimal number ++ (32 ∷ why)))
+-- what comes of the line of this number for this reason why it is no EPD record
+abbrev pub epd_verdict : ℕ → EpdError → Verdict
+epd_verdict number (epd.Token at) = refused_line number (codes "token " ++ decimal at)
+epd_verdict number epd.Fields = refused_line number (codes "fields")
+epd_verdict number (epd.Setup e) = refused_line number (codes "setup " ++ word_of e)
+epd_verdict number (epd.Opcode n) = refused_line number (codes "opcode " ++ decimal n)
+epd_verdict number epd.Unended = refused_line number (codes "unended")
+epd_verdict number (epd.Repeated n) = refused_line number (codes "repeated " ++ decimal n)
+epd_verdict number epd.Memory = Err Memory
 
 -- what the line of this number gives, and whether it was taken
-pub data LineShown (number : ℕ) (line : List ℕ) (taken : Bool) (out : List ℕ) : Type 0 where
-  long : line_limit < length line → taken ≡ false → out ≡ refused_line number (codes "long") → LineShown number line taken out
-  blank : length line ≤ line_limit → IsBlank (without_return line)
-      → taken ≡ true → out ≡ [] → LineShown number line taken out
-  written : (form : List ℕ) (e : EpdRecord) → length line ≤ line_limit
-      → IsEpd e → EpdText e (without_return line) → EpdForm e form
-      → taken ≡ true → out ≡ with_end form → LineShown number line taken out
-  refused : (x : EpdError) → length line ≤ line_limit → ¬ IsBlank (without_return line)
-      → x ≢ epd.Memory → IsFirstDueEpd x (without_return line)
-      → taken ≡ false → out ≡ refused_line number (epd_reason x) → LineShown number line taken out
+pub data LineShown (number : ℕ) (line : List ℕ) (verdict : Verdict) : Type 0 where
+  long : line_limit < length line → verdict ≡ refused_line number (codes "long") → LineShown number line verdict
+  blank : length line ≤ line_limit → IsBlank (without_return line) → verdict ≡ Ok (true, []) → LineShown number line verdict
+  written : (form : List ℕ) (e : EpdRecord) → length line ≤ line_limit → IsEpd e → EpdText e (without_return line) → EpdForm e form
+      → verdict ≡ Ok (true, with_end form) → LineShown number line verdict
+  no_record : (x : EpdError) → length line ≤ line_limit → ¬ IsBlank (without_return line) → IsFirstDueEpd x (without_return line)
+      → verdict ≡ epd_verdict number x → LineShown number line verdict
 
 -- the lines in order, the first of this number
-abbrev pub EpdShown : ℕ → List (List ℕ) → Bool → List ℕ → Type 0
-EpdShown number [] answer out = (answer ≡ true) × (out ≡ [])
-EpdShown number (line ∷ lines) answer out =
-    (taken others : Bool) × (first rest : List ℕ) × LineShown number line taken first × EpdShown (number + 1) lines others rest
-    × (answer ≡ (taken && others)) × (out ≡ first ++ rest)
-
--- want of memory may end a run at this line: it is neither long nor blank, has no bad token, and begins with four words
-pub record MayWant (line : List ℕ) : Type 0 where
-  pub short : length line ≤ line_limit
-  pub full : ¬ IsBlank (without_return line)
-  pub due : IsFirstDueEpd epd.Memory (without_return line)
+abbrev pub EpdShown : ℕ → List (List ℕ) → Verdict → Type 0
+EpdShown number [] verdict = verdict ≡ Ok (true, [])
+EpdShown number (line ∷ lines) verdict =
+    (taken others : Bool) × (first rest : List ℕ) × LineShown number line (Ok (taken, first)) × EpdShown (number + 1) lines (Ok (others, rest))
+    × (verdict ≡ Ok ((taken && others), first ++ rest))

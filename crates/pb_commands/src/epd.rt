@@ -1,12 +1,13 @@
 //! The command `epd`: each EPD line is written in its one ordered form, or named as refused.
-ghost use Rattle.std.specs.Prelude.{◌≡◌, ◌≢◌, ◌≤◌, ◌↔◌, ◌++◌, IfErr, IfOk, IsTrue, OnOk, length, true};
+ghost use Rattle.std.specs.Prelude.{◌≡◌, ◌≤◌, ◌↔◌, ◌++◌, IfErr, IfOk, IsTrue, OnOk, decimal, false, length, true};
 ghost use Rattle.pb_board.specs.LineEnd.{with_end};
-ghost use Rattle.pb_epd.specs.declared.refusal.EpdError.TheVariants as epd;
 ghost use Rattle.pb_io.specs.Lines.{line_limit};
-ghost use Rattle.pb_commands.specs.EpdRun.{RewritesOrEnds, RewritesStream, RewritesTold, RewritesUntil};
-ghost use Rattle.pb_commands.specs.EpdShown.{IsBlank, epd_reason, refused_line};
+ghost use Rattle.pb_io.specs.LineTask.{AtEnd, IfTold};
+ghost use Rattle.pb_commands.specs.EpdRun.{RewritesOrEnds, RewritesStream, RewritesUntil};
+ghost use Rattle.pb_commands.specs.EpdShown.{EpdShown, IsBlank, LineShown, epd_verdict, refused_line};
+ghost use Rattle.pb_commands.specs.Judged.{PutsText};
 ghost use Rattle.pb_commands.specs.Line.{parts_joined};
-ghost use Rattle.pb_commands.specs.Rewriter.{LineTaken, Puts, RewritesAll, RewritesUntilStop};
+ghost use Rattle.pb_commands.specs.Rewriter.{Puts, PutsOrStops, fault_of};
 
 use crate::fault::Fault;
 use crate::output::put_line;
@@ -15,15 +16,6 @@ use pb_board::without_return;
 use pb_epd::{EpdError, read_epd, write_epd};
 use pb_poly::{LineTask, LinesFault, Sink, Source, take_lines};
 use std::alloc::Global;
-
-/// Why no further line is taken.
-#[derive(Clone, Copy)]
-enum Stop {
-    /// The sink has failed.
-    Write,
-    /// A growth found no memory.
-    Memory,
-}
 
 /// Rewrites lines one after the other.
 #[derive(Drop)]
@@ -37,20 +29,20 @@ struct Rewriter<'s, K> {
 }
 
 impl<K: Sink> LineTask for Rewriter<'_, K> {
-    type Stop = Stop;
+    type Stop = Fault;
 
     ghost use Rattle.pb_commands.specs.Rewriter.{RewritesLine};
 
     ghost takes = { RewritesLine K.state };
 
-    fn take(&mut self, line: &[u8]) -> Result<(), Stop> {
+    fn take(&mut self, line: &[u8]) -> Result<(), Fault> {
         self.lines = self.lines.saturating_add(1);
         let taken = rewrite_line(self.alloc, self.sink, self.lines, line)?;
         self.all_taken = self.all_taken && taken;
         Ok(())
     }
 
-    fn take_long(&mut self) -> Result<(), Stop> {
+    fn take_long(&mut self) -> Result<(), Fault> {
         self.lines = self.lines.saturating_add(1);
         refuse(self.sink, self.lines, b"long", b"")?;
         self.all_taken = false;
@@ -60,13 +52,13 @@ impl<K: Sink> LineTask for Rewriter<'_, K> {
 
 impl<K: Sink> Rewriter<'_, K> {
     /// Takes the lines of the source.
-    fn take_all<S: Source>(&mut self, source: &mut S, fills: u32) -> Result<(), LinesFault<Stop>>
+    fn take_all<S: Source>(&mut self, source: &mut S, fills: u32) -> Result<(), LinesFault<Fault>>
         requires first { self.old.lines ≡ 0 }
         requires none_refused { self.old.all_taken ≡ true }
-        ensures ok { OnOk result (RewritesAll fills (S.state source.old) (S.state source.new)
+        ensures ok { OnOk result (RewritesStream fills (S.state source.old) (S.state source.new)
             (K.state self.old.sink.now) (K.state self.new.sink.now) self.new.all_taken) }
-        ensures err { IfErr result (RewritesUntilStop fills (S.state source.old) (S.state source.new)
-            (K.state self.old.sink.now) (K.state self.new.sink.now)) }
+        ensures err { IfErr result (λ e. RewritesUntil fills (S.state source.old) (S.state source.new)
+            (K.state self.old.sink.now) (K.state self.new.sink.now) (fault_of e)) }
         ensures same_sink { self.new.sink.ghost_name ≡ self.old.sink.ghost_name }
     {
         take_lines(self.alloc, source, self, fills)
@@ -85,8 +77,12 @@ pub fn run_epd<S: Source, K: Sink>(
     sink: &mut K,
     fills: u32,
 ) -> Result<bool, Fault>
-    ensures shown { IfOk result (RewritesStream fills (S.state source.old) (S.state source.new) (K.state sink.old) (K.state sink.new)) }
-    ensures told { IfOk result (RewritesTold (S.state source.old) (S.state source.new) (K.state sink.old) (K.state sink.new)) }
+    ensures shown { IfOk result (λ answer. AtEnd fills (S.state source.old) (S.state source.new)
+        (λ ls. PutsText (EpdShown 1 ls) (K.state sink.old) (K.state sink.new) answer)) }
+    ensures told { IfOk result (λ answer. IfTold (S.state source.old) (S.state source.new)
+        (λ ls. PutsText (EpdShown 1 ls) (K.state sink.old) (K.state sink.new) answer)) }
+    ensures handed_on { OnOk result (((K.state sink.new).failed ≡ false)
+        × ((K.state sink.new).flushed ≡ true)) }
     ensures fault { IfErr result (RewritesUntil fills (S.state source.old) (S.state source.new) (K.state sink.old) (K.state sink.new)) }
 {
     rewrite_stream(alloc, source, sink, fills)
@@ -121,8 +117,7 @@ fn rewrite_stream<S: Source, K: Sink>(
         Err(LinesFault::Memory) => Err(Fault::Memory),
         Err(LinesFault::Read) => Err(Fault::Read),
         Err(LinesFault::Endless) => Err(Fault::Endless),
-        Err(LinesFault::Stop(Stop::Write)) => Err(Fault::Write),
-        Err(LinesFault::Stop(Stop::Memory)) => Err(Fault::Memory),
+        Err(LinesFault::Stop(fault)) => Err(fault),
     }
 }
 
@@ -132,9 +127,9 @@ fn rewrite_line<K: Sink>(
     sink: &mut K,
     number: u64,
     line: &[u8],
-) -> Result<bool, Stop>
+) -> Result<bool, Fault>
     requires { length line.now ≤ line_limit }
-    ensures { LineTaken (K.state sink.old) (K.state sink.new) number line.now result }
+    ensures { PutsOrStops (LineShown number line.now) (K.state sink.old) (K.state sink.new) result }
 {
     let text = without_return(line);
     if is_blank(text) {
@@ -143,16 +138,12 @@ fn rewrite_line<K: Sink>(
     match read_epd(alloc, text) {
         Ok(record) => {
             let Ok(form) = write_epd(alloc, &record) else {
-                return Err(Stop::Memory);
+                return Err(Fault::Memory);
             };
             put(sink, &[form.as_slice()])?;
             Ok(true)
         }
-        Err(EpdError::Memory) => Err(Stop::Memory),
-        Err(error) => {
-            put_refusal(sink, number, error)?;
-            Ok(false)
-        }
+        Err(error) => put_refusal(sink, number, error),
     }
 }
 
@@ -163,46 +154,45 @@ fn is_blank(text: &[u8]) -> bool
     text.iter().all(|byte| *byte == b' ')
 }
 
-/// Puts why the line of this number is refused.
-fn put_refusal<K: Sink>(sink: &mut K, number: u64, error: EpdError) -> Result<(), Stop>
-    requires { error ≢ epd.Memory }
-    ensures { Puts (K.state sink.old) (K.state sink.new) (refused_line number (epd_reason error)) result }
+/// Puts why the line of this number is refused and answers that it was, or puts nothing where memory was wanting.
+fn put_refusal<K: Sink>(sink: &mut K, number: u64, error: EpdError) -> Result<bool, Fault>
+    ensures { PutsOrStops (λ verdict. verdict ≡ epd_verdict number error) (K.state sink.old) (K.state sink.new) result }
 {
     match error {
-        EpdError::Token(at) => {
-            let mut buffer = Buffer::new();
-            refuse(sink, number, b"token ", buffer.format(at).as_bytes())
-        }
+        EpdError::Token(at) => refuse_at(sink, number, b"token ", at),
         EpdError::Fields => refuse(sink, number, b"fields", b""),
         EpdError::Setup(refusal) => refuse(sink, number, b"setup ", refusal.word().as_bytes()),
-        EpdError::Opcode(place) => {
-            let mut buffer = Buffer::new();
-            refuse(sink, number, b"opcode ", buffer.format(place).as_bytes())
-        }
+        EpdError::Opcode(place) => refuse_at(sink, number, b"opcode ", place),
         EpdError::Unended => refuse(sink, number, b"unended", b""),
-        EpdError::Repeated(place) => {
-            let mut buffer = Buffer::new();
-            refuse(sink, number, b"repeated ", buffer.format(place).as_bytes())
-        }
-        EpdError::Memory => unreachable!(),
+        EpdError::Repeated(place) => refuse_at(sink, number, b"repeated ", place),
+        EpdError::Memory => Err(Fault::Memory),
     }
 }
 
-/// Puts that the line of this number is refused, with a reason in two parts.
-fn refuse<K: Sink>(sink: &mut K, number: u64, word: &[u8], detail: &[u8]) -> Result<(), Stop>
-    ensures { Puts (K.state sink.old) (K.state sink.new) (refused_line number (word.now ++ detail.now)) result }
+/// Puts that the line of this number is refused, with a reason that ends with a place.
+fn refuse_at<K: Sink>(sink: &mut K, number: u64, word: &[u8], place: usize) -> Result<bool, Fault>
+    ensures { PutsOrStops (λ verdict. verdict ≡ refused_line number (word.now ++ decimal place)) (K.state sink.old) (K.state sink.new) result }
+{
+    let mut buffer = Buffer::new();
+    refuse(sink, number, word, buffer.format(place).as_bytes())
+}
+
+/// Puts that the line of this number is refused, with a reason in two parts, and answers that it was.
+fn refuse<K: Sink>(sink: &mut K, number: u64, word: &[u8], detail: &[u8]) -> Result<bool, Fault>
+    ensures { PutsOrStops (λ verdict. verdict ≡ refused_line number (word.now ++ detail.now)) (K.state sink.old) (K.state sink.new) result }
 {
     let mut buffer = Buffer::new();
     let digits = buffer.format(number);
-    put(sink, &[b"refused ", digits.as_bytes(), b" ", word, detail])
+    put(sink, &[b"refused ", digits.as_bytes(), b" ", word, detail])?;
+    Ok(false)
 }
 
 /// Puts the parts of a line in turn, and its end.
-fn put<K: Sink>(sink: &mut K, parts: &[&[u8]]) -> Result<(), Stop>
+fn put<K: Sink>(sink: &mut K, parts: &[&[u8]]) -> Result<(), Fault>
     ensures { Puts (K.state sink.old) (K.state sink.new) (with_end (parts_joined parts.now)) result }
 {
     match put_line(sink, parts) {
         Ok(()) => Ok(()),
-        Err(_) => Err(Stop::Write),
+        Err(_) => Err(Fault::Write),
     }
 }

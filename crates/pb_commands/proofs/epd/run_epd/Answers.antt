@@ -1,4 +1,4 @@
-use Rattle.pb_commands.proofs.EpdClauses.{ends, shown, told}
+use Rattle.pb_commands.proofs.EpdClauses.{ends, handed_on, shown, told}
 use Rattle.pb_commands.proofs.epd.run_epd.Goals as goal
 
 pub returns-clause-shown : goal.returns-clause-shown
@@ -6,6 +6,9 @@ returns-clause-shown g c = shown _ _ _ _ _ c.rewrite_stream.result c.rewrite_str
 
 pub returns-clause-told : goal.returns-clause-told
 returns-clause-told g c = told _ _ _ _ _ c.rewrite_stream.result c.rewrite_stream.ensures
+
+pub returns-clause-handed_on : goal.returns-clause-handed_on
+returns-clause-handed_on g c = handed_on _ _ _ _ _ c.rewrite_stream.result c.rewrite_stream.ensures
 
 pub returns-clause-fault : goal.returns-clause-fault
 returns-clause-fault g c = ends _ _ _ _ _ c.rewrite_stream.result c.rewrite_stream.ensures
