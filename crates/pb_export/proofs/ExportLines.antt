@@ -1,7 +1,6 @@
 -- The export of games: what was put at its end, and what at a fault.
 use Rattle.std.proofs.Common.{◌≡◌, ℕ, ◌⊎◌, Err, Ok, List, [], ◌∷◌, ◌++◌, map, append-nil, append_assoc, refl, sym, ap, subst, ◌∙◌, inl, inr}
 use Rattle.std.specs.Prelude.{Contains}
-use Rattle.std.specs.Global.{Vec}
 use Rattle.std.proofs.KnownBytes.{Appends-kept}
 use Rattle.std.proofs.lemmas.List.{length-map}
 use Rattle.std.proofs.lemmas.List.Elements.{All-contains, Contains-append_cases, Contains-append_left, Contains-append_right}
@@ -21,7 +20,7 @@ use Rattle.pb_accepted.specs.Counting.{IsBook}
 use Rattle.pb_export.specs.Exporting.{ExportText, Exports, ExportsUntil, IsListed, IsListing, Listed, StandsBefore, text_of_lines}
 use Rattle.pb_accepted.specs.Ledger.{LedgerState}
 use Rattle.pb_export.specs.Listing.{IsListedOf, IsListingOf, PutsFront, PutsListing, text_of}
-use Rattle.pb_export.specs.Setups.{HoldsSetups, InTextOrder, Named, all_setups, named_of, setups_before}
+use Rattle.pb_export.specs.Setups.{HoldsSetups, InTextOrder, Named, all_setups, setups_before}
 use Rattle.pb_export.specs.declared.exporting.ExportFault.{ExportFault}
 use Rattle.pb_export.specs.declared.exporting.ExportFault.TheVariants as fault
 use Rattle.pb_accepted.proofs.BookLaws.{one_book}
@@ -59,44 +58,44 @@ across (z ∷ front) back x y h here there = elim (contains_cases z front x here
   | inr later ↦ across front back x y (pairs_tail (λ (v w : Named). IsBytesBelow v.0 w.0) z (front ++ back) h) later there
 ]
 
-module _ (T : Basis) (S : List Submission) (book : List Entry) (entries : List (Vec ℕ × Position)) (holds : HoldsSetups (all_setups S) entries) where
-  listed_of : (x : Listed) → IsListedOf T.words book (named_of entries) x → IsListed T S book x
+module _ (T : Basis) (S : List Submission) (book : List Entry) (named : List Named) (holds : HoldsSetups (all_setups S) named) where
+  listed_of : (x : Listed) → IsListedOf T.words book named x → IsListed T S book x
   listed_of x k =
       let is = (holds.members (x.fields, x.setup)).0 k.among in
       record { stands = stands_before S x.setup is.0; fields = is.1; found = k.found; some = k.some; line = k.line }
 
-  of_listed : (x : Listed) → IsListed T S book x → IsListedOf T.words book (named_of entries) x
+  of_listed : (x : Listed) → IsListed T S book x → IsListedOf T.words book named x
   of_listed x k = record { among = (holds.members (x.fields, x.setup)).1 (setup_is_there S x.setup k.stands, k.fields); found = k.found; some = k.some; line = k.line }
 
-  pub whole_listing : (listed : List Listed) → IsListingOf T.words book (named_of entries) listed → IsListing T S book listed
+  pub whole_listing : (listed : List Listed) → IsListingOf T.words book named listed → IsListing T S book listed
   whole_listing listed h = record { ordered = h.ordered; members = λ x. ((λ c. listed_of x ((h.members x).0 c)), (λ c. (h.members x).1 (of_listed x c))) }
 
   -- the listing of the first setups is the beginning of that of all
-  pub listing_begins : (front back : List Named) (listed all : List Listed) → named_of entries ≡ front ++ back → IsListingOf T.words book front listed → IsListing T S book all → (rest : List Listed) × (all ≡ listed ++ rest)
+  pub listing_begins : (front back : List Named) (listed all : List Listed) → named ≡ front ++ back → IsListingOf T.words book front listed → IsListing T S book all → (rest : List Listed) × (all ≡ listed ++ rest)
   listing_begins front back listed all are h k =
       begins_in_order (λ (x y : Listed). IsBytesBelow x.fields y.fields) (λ x. below_itself x.fields) (λ x y. both_below x.fields y.fields) listed all h.ordered k.ordered to from
     where
       to : (x : Listed) → Contains listed x → Contains all x
       to x c =
           let own = (h.members x).0 c in
-          let there = subst (λ named. Contains named (x.fields, x.setup)) (sym are) (Contains-append_left front back (x.fields, x.setup) own.among) in
+          let there = subst (λ xs. Contains xs (x.fields, x.setup)) (sym are) (Contains-append_left front back (x.fields, x.setup) own.among) in
           (k.members x).1 (listed_of x (record { among = there; found = own.found; some = own.some; line = own.line }))
 
       from : (x : Listed) → Contains all x → Contains listed x ⊎ ((w : Listed) → Contains listed w → IsBytesBelow w.fields x.fields)
       from x c =
           let own = of_listed x ((k.members x).0 c) in
-          elim (Contains-append_cases front back (x.fields, x.setup) (subst (λ named. Contains named (x.fields, x.setup)) are own.among)) [
+          elim (Contains-append_cases front back (x.fields, x.setup) (subst (λ xs. Contains xs (x.fields, x.setup)) are own.among)) [
             | inl first ↦ inl ((h.members x).1 (record { among = first; found = own.found; some = own.some; line = own.line }))
             | inr later ↦ inr (λ w d. across front back (w.fields, w.setup) (x.fields, x.setup) (subst InTextOrder are holds.ordered) ((h.members w).0 d).among later)
           ]
 
 -- ---- what an export put
 
-pub exported : (l : LedgerState) (book : List Entry) (entries : List (Vec ℕ × Position)) (sink now new : SinkState) (count : ℕ) → IsBook l.basis l.accepted book → HoldsSetups (all_setups l.accepted) entries
-    → PutsListing l.basis.words book (named_of entries) sink now count → Flush {E = Failed} now new (Ok tt) → Exports l sink new count
-exported l book entries sink now new count is_book holds h flush = record {
+pub exported : (l : LedgerState) (book : List Entry) (named : List Named) (sink now new : SinkState) (count : ℕ) → IsBook l.basis l.accepted book → HoldsSetups (all_setups l.accepted) named
+    → PutsListing l.basis.words book named sink now count → Flush {E = Failed} now new (Ok tt) → Exports l sink new count
+exported l book named sink now new count is_book holds h flush = record {
   lines = map (λ (x : Listed). x.line) h.listed;
-  are = record { book = book; is_book = is_book; listed = h.listed; is_listing = whole_listing l.basis l.accepted book entries holds h.listed h.is; are = refl };
+  are = record { book = book; is_book = is_book; listed = h.listed; is_listing = whole_listing l.basis l.accepted book named holds h.listed h.is; are = refl };
   counted = h.counted ∙ sym (length-map h.listed (λ (x : Listed). x.line));
   put = Appends-kept sink.bytes now.bytes new.bytes (text_of h.listed) h.put flush.bytes;
   works = flush.failed;
@@ -104,30 +103,30 @@ exported l book entries sink now new count is_book holds h flush = record {
 }
 
 -- what was put is a front of the text
-front_of_text : (T : Basis) (S : List Submission) (book : List Entry) (entries : List (Vec ℕ × Position)) (front back : List Named) (listed : List Listed) (some rest : List ℕ)
-    → IsBook T S book → HoldsSetups (all_setups S) entries → named_of entries ≡ front ++ back → IsListingOf T.words book front listed → text_of listed ≡ some ++ rest
+front_of_text : (T : Basis) (S : List Submission) (book : List Entry) (named : List Named) (front back : List Named) (listed : List Listed) (some rest : List ℕ)
+    → IsBook T S book → HoldsSetups (all_setups S) named → named ≡ front ++ back → IsListingOf T.words book front listed → text_of listed ≡ some ++ rest
     → (text : List ℕ) → ExportText T S text → (later : List ℕ) × (text ≡ some ++ later)
-front_of_text T S book entries front back listed some rest is_book holds are h cut text spelt =
+front_of_text T S book named front back listed some rest is_book holds are h cut text spelt =
     let e = spelt.1 in
     let same : e.book ≡ book = one_book T S e.book book e.is_book is_book in
-    let longer = listing_begins T S book entries holds front back listed e.listed are h (subst (λ b. IsListing T S b e.listed) same e.is_listing) in
+    let longer = listing_begins T S book named holds front back listed e.listed are h (subst (λ b. IsListing T S b e.listed) same e.is_listing) in
     (rest ++ text_of longer.0, spelt.2 ∙ ap text_of_lines e.are ∙ ap text_of longer.1 ∙ text_of-append listed longer.0 ∙ ap (λ bytes. bytes ++ text_of longer.0) cut ∙ append_assoc some rest (text_of longer.0))
 
-module _ (l : LedgerState) (book : List Entry) (entries : List (Vec ℕ × Position)) (is_book : IsBook l.basis l.accepted book) (holds : HoldsSetups (all_setups l.accepted) entries) where
+module _ (l : LedgerState) (book : List Entry) (named : List Named) (is_book : IsBook l.basis l.accepted book) (holds : HoldsSetups (all_setups l.accepted) named) where
   -- a fault at a line
-  pub stopped_at : (sink new : SinkState) (x : ExportFault) → PutsFront l.basis.words book (named_of entries) sink new x → ExportsUntil l sink new x
+  pub stopped_at : (sink new : SinkState) (x : ExportFault) → PutsFront l.basis.words book named sink new x → ExportsUntil l sink new x
   stopped_at sink new x h = record {
     some = h.some;
     put = h.put;
-    front = front_of_text l.basis l.accepted book entries h.front h.back h.listed h.some h.rest is_book holds h.are h.is h.text;
+    front = front_of_text l.basis l.accepted book named h.front h.back h.listed h.some h.rest is_book holds h.are h.is h.text;
     cause = h.cause;
   }
 
   -- a fault of the flush
-  pub unflushed : (sink now new : SinkState) (count : ℕ) (e : Failed) → PutsListing l.basis.words book (named_of entries) sink now count → Flush {E = Failed} now new (Err e) → ExportsUntil l sink new fault.Write
+  pub unflushed : (sink now new : SinkState) (count : ℕ) (e : Failed) → PutsListing l.basis.words book named sink now count → Flush {E = Failed} now new (Err e) → ExportsUntil l sink new fault.Write
   unflushed sink now new count e h flush = record {
     some = text_of h.listed;
     put = Appends-kept sink.bytes now.bytes new.bytes (text_of h.listed) h.put flush.bytes;
-    front = front_of_text l.basis l.accepted book entries (named_of entries) [] h.listed (text_of h.listed) [] is_book holds (sym (append-nil (named_of entries))) h.is (sym (append-nil (text_of h.listed)));
+    front = front_of_text l.basis l.accepted book named named [] h.listed (text_of h.listed) [] is_book holds (sym (append-nil named)) h.is (sym (append-nil (text_of h.listed)));
     cause = flush.failed;
   }

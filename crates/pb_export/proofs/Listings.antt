@@ -1,5 +1,5 @@
 -- The lines of an export, one setup after another.
-use Rattle.std.proofs.Common.{◌≡◌, ℕ, ◌+◌, ◌<◌, ◌≤◌, ◌^◌, Err, List, [], ◌∷◌, ◌++◌, length, take, drop, get_or, append-nil, append_assoc, refl, sym, ap, subst, ◌∙◌, inl, inr, arith}
+use Rattle.std.proofs.Common.{◌≡◌, ℕ, ◌+◌, ◌<◌, Err, List, [], ◌∷◌, ◌++◌, length, take, drop, get_or, append-nil, append_assoc, refl, sym, ap, subst, ◌∙◌, inl, inr, arith}
 use Rattle.std.specs.Prelude.{Contains}
 use Rattle.std.specs.Io.KnownBytes.{Appends}
 use Rattle.std.proofs.KnownBytes.{Appends-nil, Appends-trans}
@@ -112,7 +112,6 @@ pub record Putting (words : List ℕ) (book : List Entry) (all : List Named) (si
   pub listed : List Listed
   pub is : IsListingOf words book front listed
   pub counted : count ≡ length listed
-  pub few : length listed ≤ length front
   pub put : Appends sink.bytes now.bytes (text_of listed)
   pub works : StillWorks sink.failed now.failed
 
@@ -123,7 +122,6 @@ Putting-none words book all sink = record {
   listed = [];
   is = IsListingOf-none words book;
   counted = refl;
-  few = omega arith;
   put = Appends-nil sink.bytes;
   works = λ w. w;
 }
@@ -153,10 +151,6 @@ module _ (words : List ℕ) (book : List Entry) (all : List Named) (sink now : S
     cause = h.works;
   }
 
-  -- the count of the lines stays below that of the setups
-  pub Putting-few : (x : Named) (rest : List Named) → Putting words book all sink now count (x ∷ rest) → length all < 2 ^ 32 → count + 1 < 2 ^ 32
-  Putting-few x rest h few = omega (arith, h.counted, h.few, few, ap length h.are, length-append h.front (x ∷ rest))
-
   module _ (t : List ℕ) (s : Position) (rest : List Named) (h : Putting words book all sink now count ((t, s) ∷ rest)) (rules : IsSetup s) where
     passed : (h.front ++ (t, s) ∷ []) ++ rest ≡ all
     passed = append_assoc h.front ((t, s) ∷ []) rest ∙ h.are
@@ -168,7 +162,6 @@ module _ (words : List ℕ) (book : List Entry) (all : List Named) (sink now : S
       listed = h.listed;
       is = IsListingOf-skip words book h.front t s h.listed h.is rules none;
       counted = h.counted;
-      few = omega (arith, h.few, length_push h.front (t, s));
       put = h.put;
       works = h.works;
     }
@@ -196,7 +189,6 @@ module _ (words : List ℕ) (book : List Entry) (all : List Named) (sink now : S
         listed = with_it;
         is = is_with_it;
         counted = omega (arith, h.counted, length_with_it);
-        few = omega (arith, h.few, length_with_it, length_push h.front (t, s));
         put = subst (Appends sink.bytes new.bytes) (sym with_text) (Appends-trans sink.bytes now.bytes new.bytes (text_of h.listed) line h.put put);
         works = λ w. works (h.works w);
       }

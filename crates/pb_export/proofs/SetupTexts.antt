@@ -1,14 +1,11 @@
--- The setups of games, in a map by their texts.
-use Rattle.std.proofs.Common.{suc, ◌≡◌, ℕ, ◌+◌, ◌*◌, ◌^◌, ◌<◌, ◌≤◌, true, false, List, [], ◌∷◌, ◌++◌, Option, Some, None, slice_get, append-nil, append_assoc, length, take, drop, get_or, refl, sym, ap, subst, ◌∙◌, inl, inr, arith}
-use Rattle.std.specs.Prelude.{All, Contains, IsSome, MatchOption, is_some, map}
-use Rattle.std.specs.Global.{Vec}
-use Rattle.std.specs.List.Sorted.{IsStrictlySortedBy}
-use Rattle.std.specs.Map.{lookup, keys_of}
-use Rattle.std.specs.BTreeMap.{insert_entry}
+-- The setups of games, by their texts.
+use Rattle.std.proofs.Common.{suc, ◌≡◌, ℕ, ◌+◌, ◌*◌, ◌^◌, ◌<◌, ◌≤◌, List, [], ◌∷◌, ◌++◌, Option, Some, None, slice_get, append-nil, append_assoc, length, take, drop, get_or, refl, sym, ap, subst, ◌∙◌, inl, inr, arith}
+use Rattle.std.specs.Prelude.{All, Contains, IsSome, MatchOption, map, ◌↔◌}
 use Rattle.std.proofs.Math.ListN.{drop_of_length-le}
 use Rattle.std.proofs.lemmas.List.{drop_more, flat_map_more, length-append, length-map, length_push, take_more}
 use Rattle.std.proofs.lemmas.Option.{get_or_from_slice_get, slice_get_cases, slice_get_within}
 use Rattle.std.proofs.lemmas.List.Elements.{All-contains, All-nil, All-push, Contains-append_left, Contains-push, Contains-push_cases}
+use Rattle.arrayvec.specs.ArrayString.{ArrayString}
 use Rattle.pb_board.specs.Fen.{FourFields}
 use Rattle.pb_board.specs.Position.{Position, IsSetup}
 use Rattle.pb_board.proofs.Unique.{one_setup_text}
@@ -21,15 +18,13 @@ use Rattle.pb_epd.specs.Operation.{IsOperation, Operation}
 use Rattle.pb_epd.specs.ByteOrder.{IsBytesBelow}
 use Rattle.pb_epd.proofs.Forms.{form_is_text, record_is_one}
 use Rattle.pb_epd.proofs.Lists.{contains_none, pairs_none}
-use Rattle.pb_epd.proofs.Maps.{key_order, is_at}
 use Rattle.pb_games.specs.declared.game.Game.{Game}
 use Rattle.pb_games.specs.Submissions.{IsLegalGame, IsSubmission, Submission, plies}
 use Rattle.pb_accepted.specs.Accepting.{IsNumber}
-use Rattle.pb_export.specs.Setups.{HoldsSetups, Named, all_setups, setups_before}
+use Rattle.pb_export.specs.Setups.{HoldsTexts, all_setups, setups_before, texts_of}
 use Rattle.pb_accepted.specs.Holding.{IsLedger}
 use Rattle.pb_accepted.specs.Ledger.{LedgerState}
 use Rattle.pb_accepted.proofs.Gifts.{length-plies_from}
-use Rattle.pb_export.proofs.TextMaps.{Gains, in_text_order, insert_gains, named_there, none_there}
 
 -- ---- one text, one setup
 
@@ -47,59 +42,37 @@ setup_of_text p q t hp hq ht hu = ap (λ (e : EpdRecord). e.setup) (record_is_on
 
 -- ---- one setup more
 
-abbrev Entries : Type 0
-Entries = List (Vec ℕ × Position)
-
-pub HoldsSetups-none : HoldsSetups [] []
-HoldsSetups-none = record {
+pub HoldsTexts-none : HoldsTexts [] []
+HoldsTexts-none = record {
   setups = All-nil IsSetup;
-  ordered = pairs_none (λ (x y : Named). IsBytesBelow x.0 y.0);
-  members = λ x. ((λ h. absurd (contains_none x h)), (λ h. absurd (contains_none x.1 h.0)));
+  members = λ t. ((λ h. absurd (contains_none t h)), (λ h. absurd (contains_none h.0 h.1)));
   few = omega arith;
 }
 
-module _ (known : List Position) (entries : Entries) (s : Position) (h : HoldsSetups known entries) (rules : IsSetup s) where
-  -- one that is there
-  pub HoldsSetups-again : (text : List ℕ) → FourFields s text → is_some (lookup (is_at text) entries) ≡ true → HoldsSetups (known ++ s ∷ []) entries
-  HoldsSetups-again text spells there =
-      let had = named_there text entries there in
-      let is = (h.members (text, had.0)).0 had.1 in
-      let same : had.0 ≡ s = setup_of_text had.0 s text (All-contains IsSetup known had.0 h.setups is.0) rules is.1 spells in
-      let known_one : Contains known s = subst (Contains known) same is.0 in
-      record {
-        setups = All-push IsSetup known s h.setups rules;
-        ordered = h.ordered;
-        members = λ x. (
-          λ k. let m = (h.members x).0 k in (Contains-append_left known (s ∷ []) x.1 m.0, m.1),
-          λ k. (h.members x).1 (elim (Contains-push_cases known s x.1 k.0) [ inl old ↦ old | inr e ↦ subst (Contains known) e known_one ], k.1),
-        );
-        few = omega (arith, h.few, length_push known s);
-      }
+module _ (known : List Position) (texts : List (List ℕ)) (h : HoldsTexts known texts) where
+  pub HoldsTexts-more : (s : Position) (t : List ℕ) → IsSetup s → FourFields s t → HoldsTexts (known ++ s ∷ []) (texts ++ t ∷ [])
+  HoldsTexts-more s t rules spells = record {
+    setups = All-push IsSetup known s h.setups rules;
+    members = λ u. (
+      λ c. elim (Contains-push_cases texts t u c) [
+        | inl old ↦ let m = (h.members u).0 old in (m.0, Contains-append_left known (s ∷ []) m.0 m.1, m.2)
+        | inr e ↦ (s, Contains-push known s, subst (FourFields s) e spells)
+      ],
+      λ k. elim (Contains-push_cases known s k.0 k.1) [
+        | inl old ↦ Contains-append_left texts (t ∷ []) u ((h.members u).1 (k.0, old, k.2))
+        | inr e ↦ subst (Contains (texts ++ t ∷ [])) (one_setup_text s t u spells (subst (λ p. FourFields p u) (sym e) k.2)) (Contains-push texts t)
+      ],
+    );
+    few = omega (arith, h.few, length_push known s, length_push texts t);
+  }
 
-  -- and one that isn't
-  pub HoldsSetups-new : (new : Entries) (k : Vec ℕ) → FourFields s k.items → is_some (lookup (is_at k.items) entries) ≡ false → new ≡ insert_entry key_order entries k s → length new ≤ length entries + 1
-      → IsStrictlySortedBy key_order (keys_of new) → HoldsSetups (known ++ s ∷ []) new
-  HoldsSetups-new new k spells absent is grown sorted =
-      let none = none_there k.items entries absent in
-      let gains : Gains k s entries new = subst (Gains k s entries) (sym is) (insert_gains k s entries none) in
-      record {
-        setups = All-push IsSetup known s h.setups rules;
-        ordered = in_text_order new sorted;
-        members = λ x. (
-          λ c. elim ((gains x).0 c) [
-            | inl old ↦ let m = (h.members x).0 old in (Contains-append_left known (s ∷ []) x.1 m.0, m.1)
-            | inr e ↦ subst (λ (y : Named). Contains (known ++ s ∷ []) y.1 × FourFields y.1 y.0) e (Contains-push known s, spells)
-          ],
-          λ c. elim (Contains-push_cases known s x.1 c.0) [
-            | inl old ↦ (gains x).1 (inl ((h.members x).1 (old, c.1)))
-            | inr e ↦ (gains x).1 (inr (named_as x e c.1))
-          ],
-        );
-        few = omega (arith, h.few, grown, length_push known s);
-      }
-    where
-      named_as : (x : Named) → s ≡ x.1 → FourFields x.1 x.0 → (k.items, s) ≡ x
-      named_as x e other = ap (λ (t : List ℕ). (t, s)) (one_setup_text s k.items x.0 spells (subst (λ p. FourFields p x.0) (sym e) other)) ∙ ap (λ (p : Position). (x.0, p)) e
+  -- where the texts are the same, in another order or without repeats
+  pub HoldsTexts-kept : (new : List (List ℕ)) → ((t : List ℕ) → Contains new t ↔ Contains texts t) → length new ≤ length texts → HoldsTexts known new
+  HoldsTexts-kept new same few = record {
+    setups = h.setups;
+    members = λ t. ((λ c. (h.members t).0 ((same t).0 c)), (λ k. (same t).1 ((h.members t).1 k)));
+    few = omega (arith, h.few, few);
+  }
 
 -- ---- the setups of a game
 
@@ -108,17 +81,17 @@ abbrev pub setups_from : Position → List Moved → List Position
 setups_from s ms = map (λ p. p.0) (plies_from s ms)
 
 -- the setups of the game are in the map but for those before these moves, which are left from this setup
-pub record Adding (g : Game) (old new : Entries) (s : Position) (ms : List Moved) : Type 0 where
+pub record Adding (g : Game) (old new : List (List ℕ)) (s : Position) (ms : List Moved) : Type 0 where
   pub legal : AreLegal s ms
   pub done : List Position
   pub all : done ++ setups_from s ms ≡ setups_before g
-  pub holds : (known : List Position) → HoldsSetups known old → HoldsSetups (known ++ done) new
+  pub holds : (known : List Position) → HoldsTexts known old → HoldsTexts (known ++ done) new
 
-pub Adding-none : (g : Game) (old : Entries) → AreLegal g.start.setup g.moves → Adding g old old g.start.setup g.moves
-Adding-none g old legal = record { legal = legal; done = []; all = refl; holds = λ known h. subst (λ xs. HoldsSetups xs old) (sym (append-nil known)) h }
+pub Adding-none : (g : Game) (old : List (List ℕ)) → AreLegal g.start.setup g.moves → Adding g old old g.start.setup g.moves
+Adding-none g old legal = record { legal = legal; done = []; all = refl; holds = λ known h. subst (λ xs. HoldsTexts xs old) (sym (append-nil known)) h }
 
-module _ (g : Game) (old mid new : Entries) (s : Position) (ms : List Moved) (i : ℕ) where
-  pub Adding-more : (d : Moved) → i < length ms → Adding g old mid s (drop i ms) → ((known : List Position) → HoldsSetups known mid → HoldsSetups (known ++ s ∷ []) new) → Adding g old new (after s (get_or ms i d)) (drop (i + 1) ms)
+module _ (g : Game) (old mid new : List (List ℕ)) (s : Position) (ms : List Moved) (i : ℕ) where
+  pub Adding-more : (d : Moved) → i < length ms → Adding g old mid s (drop i ms) → ((known : List Position) → HoldsTexts known mid → HoldsTexts (known ++ s ∷ []) new) → Adding g old new (after s (get_or ms i d)) (drop (i + 1) ms)
   Adding-more d lt h adds =
       let m = get_or ms i d in
       let cut : drop i ms ≡ m ∷ drop (i + 1) ms = drop_more ms i d lt in
@@ -128,17 +101,17 @@ module _ (g : Game) (old mid new : Entries) (s : Position) (ms : List Moved) (i 
         legal = legal.1;
         done = h.done ++ s ∷ [];
         all = append_assoc h.done (s ∷ []) (setups_from (after s m) (drop (i + 1) ms)) ∙ all;
-        holds = λ known k. subst (λ xs. HoldsSetups xs new) (append_assoc known h.done (s ∷ [])) (adds (known ++ h.done) (h.holds known k));
+        holds = λ known k. subst (λ xs. HoldsTexts xs new) (append_assoc known h.done (s ∷ [])) (adds (known ++ h.done) (h.holds known k));
       }
 
   pub Adding-legal : (d : Moved) → i < length ms → Adding g old mid s (drop i ms) → Legal s (get_or ms i d)
   Adding-legal d lt h = (subst (AreLegal s) (drop_more ms i d lt) h.legal).0
 
-  pub Adding-all : length ms ≤ i → Adding g old mid s (drop i ms) → (known : List Position) → HoldsSetups known old → HoldsSetups (known ++ setups_before g) mid
+  pub Adding-all : length ms ≤ i → Adding g old mid s (drop i ms) → (known : List Position) → HoldsTexts known old → HoldsTexts (known ++ setups_before g) mid
   Adding-all past h known k =
       let none : setups_from s (drop i ms) ≡ [] = ap (setups_from s) (drop_of_length-le ms past) in
       let is : h.done ≡ setups_before g = sym (append-nil h.done) ∙ ap (λ xs. h.done ++ xs) (sym none) ∙ h.all in
-      subst (λ xs. HoldsSetups (known ++ xs) mid) is (h.holds known k)
+      subst (λ xs. HoldsTexts (known ++ xs) mid) is (h.holds known k)
 
 -- ---- the setups of all games
 
@@ -169,5 +142,8 @@ setups_few (x ∷ S) games =
     omega (arith, length-append (setups_before x.1) (all_setups S), first, own, setups_few S (λ k d lt. games (suc k) d (omega (arith, lt))))
 
 -- so a ledger's setups can be counted in 32 bits
-pub setups_fit : (l : LedgerState) (entries : Entries) → IsLedger l → HoldsSetups (all_setups l.accepted) entries → length entries < 2 ^ 32
-setups_fit l entries rules h = omega (arith, h.few, setups_few l.accepted rules.games, rules.room, rules.few)
+pub setups_fit : (l : LedgerState) (texts : List (List ℕ)) → IsLedger l → HoldsTexts (all_setups l.accepted) texts → length texts < 2 ^ 32
+setups_fit l texts rules h = omega (arith, h.few, setups_few l.accepted rules.games, rules.room, rules.few)
+
+pub texts_few : (old new : List ArrayString) → length new ≤ length old → length (texts_of new) ≤ length (texts_of old)
+texts_few old new h = omega (arith, h, length-map old (λ (t : ArrayString). t.bytes), length-map new (λ (t : ArrayString). t.bytes))

@@ -1,19 +1,17 @@
 //! The book of a ledger as EPD lines.
 
-ghost use Rattle.std.specs.Prelude.{◌≡◌, ◌<◌, ◌^◌, IfErr, IfOk, length};
+ghost use Rattle.std.specs.Prelude.{◌≡◌, ◌<◌, ◌^◌, All, IfErr, IfOk, List, length};
 ghost use Rattle.pb_export.specs.Exporting.{Exports, ExportsUntil};
 ghost use Rattle.pb_export.specs.Listing.{PutsFront, PutsListing};
-ghost use Rattle.pb_export.specs.Setups.{named_of};
+ghost use Rattle.pb_export.specs.Setups.{AreNamed, IsSetupText, Named, texts_of};
 ghost use Rattle.pb_export.specs.declared.exporting.ExportFault.TheVariants as fault;
 
 use crate::book_moves::line_of;
-use crate::setups::setups_of;
+use crate::setups::{SetupText, setup_of, setups_of};
 use pb_accepted::Ledger;
-use pb_board::Setup;
 use pb_points::Tally;
 use pb_poly::{Book, Failed, Sink, Table};
 use std::alloc::{AllocError, Global};
-use std::collections::BTreeMap;
 use thiserror::Error;
 
 /// Why the export of a ledger wasn't written whole.
@@ -62,8 +60,8 @@ pub fn export<T: Tally, K: Sink>(
     ensures fault { IfErr result (ExportsUntil ledger.now (K.state sink.old) (K.state sink.new)) }
 {
     let book = ledger.make_book(alloc)?;
-    let setups = setups_of(alloc, ledger)?;
-    let count = put_lines(alloc, &book, ledger.table(), &setups, sink)?;
+    let texts = setups_of(alloc, ledger)?;
+    let count = put_lines(alloc, &book, ledger.table(), &texts, sink)?;
     sink.flush()?;
     Ok(count)
 }
@@ -73,18 +71,20 @@ fn put_lines<K: Sink>(
     alloc: Global,
     book: &Book,
     table: &Table,
-    setups: &BTreeMap<Vec<u8>, Setup>,
+    texts: &[SetupText],
     sink: &mut K,
 ) -> Result<u32, ExportFault>
-    requires { length setups.now.entries < 2 ^ 32 }
-    ensures ok { IfOk result (PutsListing table.now book.now (named_of setups.now.entries) (K.state sink.old) (K.state sink.new)) }
-    ensures fault { IfErr result (PutsFront table.now book.now (named_of setups.now.entries) (K.state sink.old) (K.state sink.new)) }
+    requires texts { All (λ t. IsSetupText t.bytes) texts.now }
+    requires few { length texts.now < 2 ^ 32 }
+    ensures ok { IfOk result (λ count. (named : List Named) → AreNamed named (texts_of texts.now)
+        → PutsListing table.now book.now named (K.state sink.old) (K.state sink.new) count) }
+    ensures fault { IfErr result (λ e. (named : List Named) → AreNamed named (texts_of texts.now)
+        → PutsFront table.now book.now named (K.state sink.old) (K.state sink.new) e) }
 {
     let mut count = 0;
-    for (_text, setup) in setups {
-        // The reader tells that the setup meets its rules.
-        let _turn = setup.turn();
-        if let Some(line) = line_of(alloc, book, table, setup)? {
+    for text in texts {
+        let setup = setup_of(text);
+        if let Some(line) = line_of(alloc, book, table, &setup)? {
             sink.put(line.as_slice())?;
             count += 1;
         }
