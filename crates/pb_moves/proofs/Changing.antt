@@ -1,10 +1,11 @@
 -- A change, told from the setup before it.
-use Rattle.std.proofs.Common.{◌≡◌, ◌≢◌, ◌↔◌, ℕ, Bool, true, false, not, IsTrue, refl, inl, inr, sym, ap, subst, ◌∙◌, Some, None, length}
+use Rattle.std.proofs.Common.{◌≡◌, ◌≢◌, ◌↔◌, ℕ, Bool, true, false, not, IsTrue, arith, refl, inl, inr, sym, ap, subst, ◌∙◌, Option, Some, None, [], ◌∷◌, length}
+use Rattle.std.proofs.lemmas.List.Elements.{All-nil}
 use Rattle.std.proofs.lemmas.Bool.{false≢true}
 use Rattle.pb_board.specs.declared.piece.Colour.{Colour}
 use Rattle.pb_board.specs.declared.piece.Piece.{Piece}
 use Rattle.pb_board.specs.Piece.{opponent, king_of, rook_of}
-use Rattle.pb_board.specs.Board.{Board, Holds}
+use Rattle.pb_board.specs.Board.{Board, Place, at, Holds}
 use Rattle.pb_board.specs.Position.{Position, IsSetup, IsOnlyKing, carried_board}
 use Rattle.pb_moves.specs.declared.castling.Castling.{Castling}
 use Rattle.pb_moves.specs.declared.change.Change.{Change}
@@ -13,16 +14,24 @@ use Rattle.pb_moves.specs.declared.sight.Sight.{Sight}
 use Rattle.pb_moves.specs.Moved.{Moved, IsMove}
 use Rattle.pb_moves.specs.Attack.{IsAttacked, InCheck}
 use Rattle.pb_moves.specs.Candidate.{HoldsOwn}
-use Rattle.pb_moves.specs.Castling.{CastlingRow, castling_row, Castled}
-use Rattle.pb_moves.specs.Cases.{Carried, CarriedPast, CaseOf, Legal}
+use Rattle.pb_moves.specs.Castling.{castling_row, rook_goes}
+use Rattle.pb_moves.specs.Cases.{Differs, CaseOf, Legal}
 use Rattle.pb_moves.specs.Change.{Changes, Fits, LeadsTo}
 use Rattle.pb_moves.specs.Sight.{Sees}
 use Rattle.pb_moves.specs.Successor.{put}
-use Rattle.pb_moves.proofs.Unique.{both_at, same_or_not}
-use Rattle.pb_moves.proofs.Kings.{holds_at}
+use Rattle.pb_moves.proofs.Differing.{All-two, arrived, carried_past_put, carried_put, off_one, off_two, same_or_not}
 use Rattle.pb_moves.proofs.Legality.{not_legal_in_check, legal_out_of_check}
 use Rattle.pb_moves.proofs.Pins.{arrives_own, differ}
-use Rattle.pb_moves.proofs.Successors.{carried_put, carried_past_put, castled_board, castled_put, rows}
+use Rattle.pb_moves.proofs.Successors.{castled_board, castled_put, rows}
+
+-- a castling's squares are those of the move
+pub castle_changes : (castling : Castling) (m : Moved) (old new : Board) → Fits (Castle castling) m old
+    → (let row = castling_row castling in Differs old new ((row.king_from, None) ∷ (row.king_to, Some (king_of row.colour)) ∷ rook_goes row)) → Changes (Castle castling) m old new
+castle_changes castling m old new fits moved =
+    let row = castling_row castling in
+    let F : ℕ → Type 0 = λ z. Differs old new ((z, None) ∷ (row.king_to, Some (king_of row.colour)) ∷ rook_goes row) in
+    let T : ℕ → Type 0 = λ z. Differs old new ((m.from, None) ∷ (z, Some (king_of row.colour)) ∷ rook_goes row) in
+    subst T (sym fits.1) (subst F (sym fits.0) moved)
 
 -- the board after a change
 abbrev pub changed_board : Change → Moved → Board → Board
@@ -33,8 +42,9 @@ changed_board (Castle castling) m old = castled_board (castling_row castling) ol
 pub changes_board : (change : Change) (m : Moved) (old : Board) → length old ≡ 64 → IsMove m → Fits change m old → Changes change m old (changed_board change m old)
 changes_board (Carry piece) m old full is fits = carried_put old m.from m.to piece full is.from_on_board is.to_on_board is.moves
 changes_board (CarryPast piece gone) m old full is fits =
-    carried_past_put old m.from m.to gone piece full is.from_on_board is.to_on_board fits.0 is.moves (λ e. fits.1 (sym e)) (λ e. fits.2 (sym e))
-changes_board (Castle castling) m old full is fits = castled_put (castling_row castling) old (rows castling) full fits.2
+    carried_past_put old m.from m.to gone piece full is.from_on_board is.to_on_board fits.0 is.moves fits.1 fits.2
+changes_board (Castle castling) m old full is fits =
+    castle_changes castling m old (castled_board (castling_row castling) old) fits (castled_put (castling_row castling) old (rows castling) full fits.2)
 
 -- the case of a carried piece, with the squares as the code names them
 pub carry_case : (s : Position) (m : Moved) (piece arriving : Piece) (from to : ℕ) → from ≡ m.from → to ≡ m.to → IsSetup s → IsMove m
@@ -44,32 +54,52 @@ carry_case s m piece arriving from to same_from same_to ok is leads =
     let T : ℕ → Type 0 = λ x. CaseOf s m piece (carried_board s.board m.from x arriving) in
     subst F (sym same_from) (subst T (sym same_to) (leads.1 _ (changes_board (Carry arriving) m s.board ok.places is leads.0)))
 
--- the other two changes carry twice
-pub past_twice : (old mid new : Board) (from to gone : ℕ) (p : Piece) → CarriedPast old new from to gone p → Carried old mid from gone p → Carried mid new gone to p
-past_twice old mid new from to gone p moved first = record {
-  squares = moved.squares;
-  left = moved.taken;
-  arrived = moved.arrived;
-  others = λ q g t. elim (same_or_not q from) [
-    | inl e ↦ both_at new mid q from None e moved.left first.left
-    | inr f ↦ moved.others q f t g ∙ sym (first.others q f g)
-  ];
-}
+-- what two boards hold at a square that is known on both
+both_at : (b c : Board) (q r : ℕ) (x : Option Piece) → q ≡ r → at b r ≡ x → at c r ≡ x → at b q ≡ at c q
+both_at b c q r x same left right = let P : ℕ → Type 0 = λ k. at b k ≡ at c k in subst P (sym same) (left ∙ sym right)
 
-pub castled_twice : (row : CastlingRow) (old mid new : Board) → Castled row old new → Carried old mid row.king_from row.king_to (king_of row.colour)
-    → Carried mid new row.rook_from row.rook_to (rook_of row.colour)
-castled_twice row old mid new moved first = record {
-  squares = moved.squares;
-  left = moved.rook_left;
-  arrived = moved.rook;
-  others = λ q f t. elim (same_or_not q row.king_from) [
-    | inl e ↦ both_at new mid q row.king_from None e moved.king_left first.left
-    | inr g ↦ elim (same_or_not q row.king_to) [
-      | inl e ↦ both_at new mid q row.king_to (Some (king_of row.colour)) e moved.king first.arrived
-      | inr u ↦ moved.others q g f u t ∙ sym (first.others q g u)
-    ]
-  ];
-}
+-- the other two changes carry twice
+pub past_twice : (old mid new : Board) (from to gone : ℕ) (p : Piece) → gone ≢ from → Differs old new ((from, None) ∷ (to, Some p) ∷ (gone, None) ∷ [])
+    → Differs old mid ((from, None) ∷ (gone, Some p) ∷ []) → Differs mid new ((gone, None) ∷ (to, Some p) ∷ [])
+past_twice old mid new from to gone p apart moved first =
+    let a : ℕ × Place = (from, None) in
+    let b : ℕ × Place = (to, Some p) in
+    let c : ℕ × Place = (gone, None) in
+    let N : ℕ × Place → Type 0 = λ c. at new c.0 ≡ c.1 in
+    record {
+      squares = moved.squares;
+      named = All-two N c b [] (moved.named 2 c (omega arith)) (moved.named 1 c (omega arith)) (All-nil N);
+      others = λ q off. elim (same_or_not q from) [
+        | inl e ↦ both_at new mid q from None e (moved.named 0 c (omega arith)) (first.named 0 c (omega arith))
+        | inr f ↦
+            (let O : ℕ × Place → Type 0 = λ c. q ≢ c.0 in
+            let g : q ≢ gone = off 0 c (omega arith) in
+            moved.others q (All-two O a b (c ∷ []) f (off 1 c (omega arith)) (off_one q c g)) ∙ sym (first.others q (off_two q a (gone, Some p) f g)))
+      ];
+    }
+
+pub castle_twice : (old mid new : Board) (from to rook_from rook_to : ℕ) (king rook : Piece)
+    → Differs old new ((from, None) ∷ (to, Some king) ∷ (rook_from, None) ∷ (rook_to, Some rook) ∷ []) → Differs old mid ((from, None) ∷ (to, Some king) ∷ [])
+    → Differs mid new ((rook_from, None) ∷ (rook_to, Some rook) ∷ [])
+castle_twice old mid new from to rook_from rook_to king rook moved first =
+    let a : ℕ × Place = (from, None) in
+    let b : ℕ × Place = (to, Some king) in
+    let c : ℕ × Place = (rook_from, None) in
+    let d : ℕ × Place = (rook_to, Some rook) in
+    let N : ℕ × Place → Type 0 = λ c. at new c.0 ≡ c.1 in
+    record {
+      squares = moved.squares;
+      named = All-two N c d [] (moved.named 2 c (omega arith)) (moved.named 3 c (omega arith)) (All-nil N);
+      others = λ q off. elim (same_or_not q from) [
+        | inl e ↦ both_at new mid q from None e (moved.named 0 c (omega arith)) (first.named 0 c (omega arith))
+        | inr f ↦ elim (same_or_not q to) [
+          | inl e ↦ both_at new mid q to (Some king) e (moved.named 1 c (omega arith)) (first.named 1 c (omega arith))
+          | inr t ↦
+              (let O : ℕ × Place → Type 0 = λ c. q ≢ c.0 in
+              moved.others q (All-two O a b (c ∷ d ∷ []) f t off) ∙ sym (first.others q (off_two q a b f t)))
+        ]
+      ];
+    }
 
 pub own_differs : (side enemy colour : Colour) → enemy ≡ opponent side → colour ≡ side → colour ≢ enemy
 own_differs side enemy colour e c same =
@@ -77,11 +107,11 @@ own_differs side enemy colour e c same =
 
 -- what is seen of the enemy's attackers before and after the side to move has carried a piece
 abbrev pub Follows : Position → Sight → ℕ → ℕ → Sight → Type 0
-Follows s seen from to after = (old new : Board) (piece own : Piece) → Sees old (opponent s.turn) seen → Carried old new from to piece
+Follows s seen from to after = (old new : Board) (piece own : Piece) → Sees old (opponent s.turn) seen → Differs old new ((from, None) ∷ (to, Some piece) ∷ [])
     → piece.colour ≡ s.turn → Holds old from own → own.colour ≡ s.turn → Sees new (opponent s.turn) after
 
 pub follows : (s : Position) (seen : Sight) (from to : ℕ) (after : Sight)
-    → ((old new : Board) (by : Colour) (piece own : Piece) → Sees old by seen → Carried old new from to piece → piece.colour ≢ by → Holds old from own → own.colour ≢ by → Sees new by after)
+    → ((old new : Board) (by : Colour) (piece own : Piece) → Sees old by seen → Differs old new ((from, None) ∷ (to, Some piece) ∷ []) → piece.colour ≢ by → Holds old from own → own.colour ≢ by → Sees new by after)
     → Follows s seen from to after
 follows s seen from to after carries old new piece own sees moved arrives stands leaves =
     let other = λ (p : Piece) (e : p.colour ≡ s.turn). own_differs s.turn (opponent s.turn) p.colour refl e in
@@ -91,16 +121,17 @@ follows s seen from to after carries old new piece own sees moved arrives stands
 pub sees_carry : (s : Position) (m : Moved) (piece p : Piece) (seen after : Sight) → HoldsOwn s m.from piece → LeadsTo (CaseOf s m piece) s.board m (Carry p)
     → Sees s.board (opponent s.turn) seen → Follows s seen m.from m.to after → (b : Board) → Changes (Carry p) m s.board b → Sees b (opponent s.turn) after
 sees_carry s m piece p seen after own leads sees carries b moved =
-    carries s.board b p piece sees moved (arrives_own s m piece p b own.own moved.arrived (leads.1 b moved)) own.stands own.own
+    carries s.board b p piece sees moved (arrives_own s m piece p b (arrived s.board b m.from m.to p [] moved) (leads.1 b moved)) own.stands own.own
 
 pub sees_past : (s : Position) (m : Moved) (piece p : Piece) (gone : ℕ) (seen one two : Sight) → IsSetup s → IsMove m → HoldsOwn s m.from piece
     → LeadsTo (CaseOf s m piece) s.board m (CarryPast p gone) → Sees s.board (opponent s.turn) seen → Follows s seen m.from gone one → Follows s one gone m.to two
     → (b : Board) → Changes (CarryPast p gone) m s.board b → Sees b (opponent s.turn) two
 sees_past s m piece p gone seen one two ok is own leads sees there on b moved =
-    let arrives = arrives_own s m piece p b own.own moved.arrived (leads.1 b moved) in
+    let arrives = arrives_own s m piece p b (moved.named 1 (0, None) (omega arith)) (leads.1 b moved) in
     let mid = carried_board s.board m.from gone p in
     let first = carried_put s.board m.from gone p ok.places is.from_on_board leads.0.0 (λ e. leads.0.1 (sym e)) in
-    on mid b p p (there s.board mid p piece sees first arrives own.stands own.own) (past_twice s.board mid b m.from m.to gone p moved first) arrives first.arrived arrives
+    on mid b p p (there s.board mid p piece sees first arrives own.stands own.own) (past_twice s.board mid b m.from m.to gone p leads.0.1 moved first)
+    arrives (arrived s.board mid m.from gone p [] first) arrives
 
 pub sees_castle : (s : Position) (m : Moved) (piece : Piece) (c : Castling) (seen one two : Sight) → IsSetup s → IsMove m → HoldsOwn s m.from piece
     → LeadsTo (CaseOf s m piece) s.board m (Castle c) → Sees s.board (opponent s.turn) seen → Follows s seen m.from m.to one
@@ -109,16 +140,15 @@ sees_castle s m piece c seen one two ok is own leads sees king_goes rook_goes b 
     let row = castling_row c in
     let squares = rows c in
     let king = king_of row.colour in
+    let rook = rook_of row.colour in
     let fits = leads.0 in
-    let side : row.colour ≡ s.turn = arrives_own s m piece king b own.own (holds_at b row.king_to m.to king (sym fits.1) moved.king) (leads.1 b moved) in
-    let mid = carried_board s.board row.king_from row.king_to king in
-    let first = carried_put s.board row.king_from row.king_to king ok.places squares.king_from squares.king_to squares.king_moves in
-    let F : ℕ → Type 0 = λ x. Follows s seen x m.to one in
-    let T : ℕ → Type 0 = λ x. Follows s seen row.king_from x one in
-    let goes = subst T fits.1 (subst F fits.0 king_goes) in
-    let after_king = goes s.board mid king piece sees first side (holds_at s.board m.from row.king_from piece fits.0 own.stands) own.own in
-    let waits = first.others row.rook_from (λ e. squares.from_rook (sym e)) (λ e. squares.to_rook (sym e)) ∙ fits.2 in
-    rook_goes mid b (rook_of row.colour) (rook_of row.colour) after_king (castled_twice row s.board mid b moved first) side waits side
+    let side : row.colour ≡ s.turn = arrives_own s m piece king b (moved.named 1 (0, None) (omega arith)) (leads.1 b moved) in
+    let mid = carried_board s.board m.from m.to king in
+    let first = carried_put s.board m.from m.to king ok.places is.from_on_board is.to_on_board is.moves in
+    let after_king = king_goes s.board mid king piece sees first side own.stands own.own in
+    let off = off_two row.rook_from (m.from, None) (m.to, Some king) (λ e. squares.from_rook (sym (e ∙ fits.0))) (λ e. squares.to_rook (sym (e ∙ fits.1))) in
+    let waits = first.others row.rook_from off ∙ fits.2 in
+    rook_goes mid b rook rook after_king (castle_twice s.board mid b m.from m.to row.rook_from row.rook_to king rook moved first) side waits side
 
 -- the king's square is attacked just where the side is in check
 pub check_by_attack : (new : Board) (side enemy : Colour) (king : ℕ) → enemy ≡ opponent side → IsOnlyKing new side king → IsAttacked new enemy king → InCheck new side

@@ -8,7 +8,7 @@ use Rattle.pb_moves.specs.declared.ways.Lines.{Lines}
 use Rattle.pb_moves.proofs.Between.{far, inside, lies, outside}
 use Rattle.pb_moves.proofs.Rising.{low_bit, without, without_other, without_same}
 use Rattle.pb_moves.proofs.Sets.{in_and, in_both, in_none, in_some}
-use Rattle.pb_moves.proofs.Unique.{same_or_not}
+use Rattle.pb_moves.proofs.Differing.{same_or_not}
 
 -- what the code finds between two squares
 pub line_open : (lines : Lines) (occ a b x y z : ℕ) → Along lines a b → ((q : ℕ) → q < 64 → (In x q ↔ Along lines a q)) → ((q : ℕ) → q < 64 → (In y q ↔ Along lines b q)) → ((q : ℕ) → (In z q ↔ Between a b q))

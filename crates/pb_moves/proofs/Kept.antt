@@ -1,86 +1,47 @@
 -- A move of a setup leads to a setup: one king of each colour, no pawn on the first or last rank, and a fitting en
 -- passant square.
-use Rattle.std.proofs.Common.{◌≡◌, ◌≢◌, ℕ, ◌<◌, refl, arith, inl, inr, sym, ap, subst, ◌∙◌, Option, length}
+use Rattle.std.proofs.Common.{◌≡◌, ◌≢◌, ℕ, ◌<◌, refl, arith, inl, inr, sym, ap, subst, ◌∙◌, Option, Some, None, List, [], ◌∷◌, length}
+use Rattle.std.specs.Prelude.{All}
+use Rattle.std.proofs.lemmas.List.Elements.{All-nil, All-cons}
 use Rattle.pb_board.specs.declared.piece.Colour.{Colour}
 use Rattle.pb_board.specs.declared.piece.Colour.TheVariants.{White, Black}
 use Rattle.pb_board.specs.declared.piece.Kind.{Kind}
 use Rattle.pb_board.specs.declared.piece.Kind.TheVariants.{Pawn}
 use Rattle.pb_board.specs.declared.piece.Piece.{Piece}
 use Rattle.pb_board.specs.declared.setup.Rights.{Rights}
-use Rattle.pb_board.specs.Piece.{opponent, pawn_of}
-use Rattle.pb_board.specs.Board.{Board, file, rank, Holds, IsForward}
+use Rattle.pb_board.specs.Piece.{opponent, pawn_of, rook_of}
+use Rattle.pb_board.specs.Board.{Board, Place, file, rank, Holds, IsForward}
 use Rattle.pb_board.specs.Position.{Position, position_of, IsSetup, HasNoEdgePawn, EnPassantHolds, OnPassedRank, beyond}
 use Rattle.pb_moves.specs.Moved.{Moved}
-use Rattle.pb_moves.specs.Castling.{CastlingRow, Castled}
-use Rattle.pb_moves.specs.Cases.{Carried, CarriedPast, Becomes, pawn_rank, CaseOf, piece_move, pawn_step, pawn_double, pawn_capture, en_passant, castles}
+use Rattle.pb_moves.specs.Castling.{castling_row, rook_goes}
+use Rattle.pb_moves.specs.Cases.{Differs, Becomes, Goes, pawn_rank, CaseOf, piece_move, pawn_step, pawn_double, pawn_capture, en_passant, castles}
 use Rattle.pb_moves.specs.After.{passed_over}
-use Rattle.pb_moves.proofs.Unique.{piece_is, same_or_not, passed_at}
-use Rattle.pb_moves.proofs.Kings.{holds_one, holds_at, empty_holds, pawn_reach, kings_after, white_and_black}
+use Rattle.pb_moves.proofs.Differing.{All-two, arrived, each_place, off_two}
+use Rattle.pb_moves.proofs.Unique.{piece_is, passed_at}
+use Rattle.pb_moves.proofs.Kings.{becomes_king, holds_at, pawn_reach, kings_after, some_one, white_and_black}
 
--- pawns stay off the first and last rank where the carried piece does
-pub pawns_carried : (old new : Board) (from to : ℕ) (q : Piece) → Carried old new from to q
-    → HasNoEdgePawn old
-    → (q.kind ≡ Pawn → (0 < rank to) × (rank to < 7))
-    → HasNoEdgePawn new
-pawns_carried old new from to q moved before arrives r c h =
-    elim (same_or_not r from) [
-      | inl e ↦ absurd (empty_holds new r from (pawn_of c) moved.left e h)
-      | inr f ↦ elim (same_or_not r to) [
-        | inl e ↦
-            (let is_pawn : q ≡ pawn_of c = holds_one new to q (pawn_of c) moved.arrived (holds_at new r to (pawn_of c) e h) in
-            let F : Piece → Kind = λ x. x.kind in
-            let bound = arrives (ap F is_pawn) in
-            (omega arith, omega arith))
-        | inr t ↦ before r c (sym (moved.others r f t) ∙ h)
-      ]
-    ]
+-- pawns stay off the first and last rank where what arrives does
+pub pawns_kept : (old new : Board) (now : List (ℕ × Place)) → Differs old new now → HasNoEdgePawn old
+    → All (λ c. (side : Colour) → c.1 ≡ Some (pawn_of side) → (0 < rank c.0) × (rank c.0 < 7)) now → HasNoEdgePawn new
+pawns_kept old new now moved before arrives =
+    each_place old new now (λ q place. (side : Colour) → place ≡ Some (pawn_of side) → (0 < rank q) × (rank q < 7)) moved arrives (λ q off. before q)
 
 -- what is still a pawn after one step forward is not on the last rank
-pub becomes_rank : (side : Colour) (m : Moved) (k : Kind) → IsForward side 1 m.from m.to → (0 < rank m.from) × (rank m.from < 7)
-    → Becomes side m k → k ≡ Pawn → (0 < rank m.to) × (rank m.to < 7)
-becomes_rank White m k forward from (inl x) e = absurd (x.2.0 e)
-becomes_rank White m k forward from (inr x) e = let ne = x.0 in (omega arith, omega arith)
-becomes_rank Black m k forward from (inl x) e = absurd (x.2.0 e)
-becomes_rank Black m k forward from (inr x) e = let ne = x.0 in (omega arith, omega arith)
+pub becomes_rank : (side : Colour) (m : Moved) (before k : Kind) → IsForward side 1 m.from m.to → (0 < rank m.from) × (rank m.from < 7)
+    → Becomes side m before k → k ≡ Pawn → (0 < rank m.to) × (rank m.to < 7)
+becomes_rank White m before k forward from (inl x) e = absurd (x.3.0 e)
+becomes_rank White m before k forward from (inr x) e = let ne = x.0 (sym x.2 ∙ e) in (omega arith, omega arith)
+becomes_rank Black m before k forward from (inl x) e = absurd (x.3.0 e)
+becomes_rank Black m before k forward from (inr x) e = let ne = x.0 (sym x.2 ∙ e) in (omega arith, omega arith)
 
 pub double_rank : (side : Colour) (a b : ℕ) → rank a ≡ pawn_rank side → IsForward side 2 a b → (0 < rank b) × (rank b < 7)
 double_rank White a b home forward = (omega arith, omega arith)
 double_rank Black a b home forward = (omega arith, omega arith)
 
-pub pawns_past : (old new : Board) (from to gone : ℕ) (p : Piece) → CarriedPast old new from to gone p
-    → HasNoEdgePawn old
-    → (0 < rank to) × (rank to < 7)
-    → HasNoEdgePawn new
-pawns_past old new from to gone p moved before bound r c h =
-    elim (same_or_not r from) [
-      | inl e ↦ absurd (empty_holds new r from (pawn_of c) moved.left e h)
-      | inr f ↦ elim (same_or_not r to) [
-        | inl e ↦ (omega arith, omega arith)
-        | inr t ↦ elim (same_or_not r gone) [
-          | inl e ↦ absurd (empty_holds new r gone (pawn_of c) moved.taken e h)
-          | inr g ↦ before r c (sym (moved.others r f t g) ∙ h)
-        ]
-      ]
-    ]
-
-pub pawns_castled : (row : CastlingRow) (old new : Board) → Castled row old new
-    → HasNoEdgePawn old
-    → HasNoEdgePawn new
-pawns_castled row old new moved before r c h =
-    let F : Piece → Kind = λ x. x.kind in
-    elim (same_or_not r row.king_from) [
-      | inl e ↦ absurd (empty_holds new r row.king_from (pawn_of c) moved.king_left e h)
-      | inr f ↦ elim (same_or_not r row.rook_from) [
-        | inl e ↦ absurd (empty_holds new r row.rook_from (pawn_of c) moved.rook_left e h)
-        | inr g ↦ elim (same_or_not r row.king_to) [
-          | inl e ↦ absurd (let same = ap F (holds_one new row.king_to _ _ moved.king (holds_at new r row.king_to (pawn_of c) e h)) in cc)
-          | inr t ↦ elim (same_or_not r row.rook_to) [
-            | inl e ↦ absurd (let same = ap F (holds_one new row.rook_to _ _ moved.rook (holds_at new r row.rook_to (pawn_of c) e h)) in cc)
-            | inr u ↦ before r c (sym (moved.others r f g t u) ∙ h)
-          ]
-        ]
-      ]
-    ]
+-- what a piece that is no pawn becomes is none
+pub becomes_no_pawn : (side : Colour) (m : Moved) (before k : Kind) → before ≢ Pawn → Becomes side m before k → k ≢ Pawn
+becomes_no_pawn side m before k other (inl x) = x.3.0
+becomes_no_pawn side m before k other (inr x) = λ e. other (sym x.2 ∙ e)
 
 -- a double step passes a square of the rank for it, next before its target
 pub passed_fits : (side : Colour) (from to passed : ℕ) → rank from ≡ pawn_rank side → file to ≡ file from → file passed ≡ file from
@@ -88,6 +49,12 @@ pub passed_fits : (side : Colour) (from to passed : ℕ) → rank from ≡ pawn_
     → OnPassedRank (opponent side) passed × (to ≡ beyond (opponent side) passed) × (passed ≢ from) × (passed ≢ to)
 passed_fits White from to passed home to_file passed_file two one = (omega arith, omega arith, (λ same. omega arith), λ same. omega arith)
 passed_fits Black from to passed home to_file passed_file two one = (omega arith, omega arith, (λ same. omega arith), λ same. omega arith)
+
+-- a pawn that isn't on the last rank stays a pawn
+pub double_becomes : (side : Colour) (m : Moved) (before k : Kind) → before ≡ Pawn → (0 < rank m.to) × (rank m.to < 7) → Becomes side m before k → k ≡ Pawn
+double_becomes White m before k pawn inside (inl x) = absurd (let last = x.1 in omega arith)
+double_becomes Black m before k pawn inside (inl x) = absurd (let last = x.1 in omega arith)
+double_becomes side m before k pawn inside (inr x) = x.2 ∙ pawn
 
 pub opponent_opponent : (c : Colour) → opponent (opponent c) ≡ c
 opponent_opponent White = refl
@@ -109,56 +76,82 @@ pub record Keeps (s : Position) (new : Board) (ep : Option ℕ) : Type 0 where
   pub pawns : HasNoEdgePawn new
   pub en_passant_holds : EnPassantHolds new (opponent s.turn) ep
 
+-- pawns after a piece has gone, where the squares besides get none
+pub pawns_going : (s : Position) (m : Moved) (p : Piece) (new : Board) (besides : List (ℕ × Place)) → IsSetup s → (x : Goes s m p besides new)
+    → (x.kind ≡ Pawn → (0 < rank m.to) × (rank m.to < 7)) → All (λ c. (side : Colour) → c.1 ≢ Some (pawn_of side)) besides → HasNoEdgePawn new
+pawns_going s m p new besides ok x arrives none =
+    let q : Piece = record { colour = s.turn; kind = x.kind } in
+    let K : Piece → Kind = λ z. z.kind in
+    let F : ℕ × Place → Type 0 = λ c. (side : Colour) → c.1 ≡ Some (pawn_of side) → (0 < rank c.0) × (rank c.0 < 7) in
+    pawns_kept s.board new ((m.from, None) ∷ (m.to, Some q) ∷ besides) x.board ok.pawns
+    (All-two F (m.from, None) (m.to, Some q) besides
+    (λ side e. absurd cc)
+    (λ side e. arrives (ap K (some_one q (pawn_of side) e)))
+    (λ i d lt side e. absurd (none i d lt side e)))
+
+no_pawns : All (λ (c : ℕ × Place). (side : Colour) → c.1 ≢ Some (pawn_of side)) []
+no_pawns = let F : ℕ × Place → Type 0 = λ c. (side : Colour) → c.1 ≢ Some (pawn_of side) in All-nil F
+
 pub keeps : (s : Position) (m : Moved) (p : Piece) (new : Board) → IsSetup s → Holds s.board m.from p → p.colour ≡ s.turn
     → (x : CaseOf s m p new) → Keeps s new (passed_over s m p new x)
 keeps s m p new ok stands own (piece_move x) = record {
-  places = x.after.squares;
-  pawns = pawns_carried s.board new m.from m.to p x.after ok.pawns (λ pawn. absurd (x.no_pawn pawn));
+  places = x.after.board.squares;
+  pawns = pawns_going s m p new [] ok x.after (λ pawn. absurd (becomes_no_pawn s.turn m p.kind x.after.kind x.no_pawn x.after.becomes pawn)) no_pawns;
   en_passant_holds = tt;
 }
 keeps s m p new ok stands own (pawn_step x) =
-    let q : Piece = record { colour = s.turn; kind = x.kind } in
     let from = pawn_place s m.from p ok stands x.pawn in
     record {
-      places = x.after.squares;
-      pawns = pawns_carried s.board new m.from m.to q x.after ok.pawns (becomes_rank s.turn m x.kind x.forward from x.becomes);
+      places = x.after.board.squares;
+      pawns = pawns_going s m p new [] ok x.after (becomes_rank s.turn m p.kind x.after.kind x.forward from x.after.becomes) no_pawns;
       en_passant_holds = tt;
     }
 keeps s m p new ok stands own (pawn_double x) =
     let fits = passed_fits s.turn m.from m.to x.passed x.begins x.same_file x.passed_file x.forward x.passed_forward in
+    let inside = double_rank s.turn m.from m.to x.begins x.forward in
+    let q : Piece = record { colour = s.turn; kind = x.after.kind } in
     let P : Piece → Type 0 = λ z. Holds new m.to z in
-    let pawn = subst P (piece_is p (opponent (opponent s.turn)) Pawn (own ∙ sym (opponent_opponent s.turn)) x.pawn) x.after.arrived in
+    let kind = double_becomes s.turn m p.kind x.after.kind x.pawn inside x.after.becomes in
+    let pawn = subst P (piece_is q (opponent (opponent s.turn)) Pawn (sym (opponent_opponent s.turn)) kind) (arrived s.board new m.from m.to q [] x.after.board) in
     record {
-      places = x.after.squares;
-      pawns = pawns_carried s.board new m.from m.to p x.after ok.pawns (λ is_pawn. double_rank s.turn m.from m.to x.begins x.forward);
+      places = x.after.board.squares;
+      pawns = pawns_going s m p new [] ok x.after (λ is_pawn. inside) no_pawns;
       en_passant_holds = (
         fits.0,
         record {
-          empty = x.after.others x.passed fits.2 fits.3 ∙ x.passed_empty;
+          empty = x.after.board.others x.passed (off_two x.passed (m.from, None) (m.to, Some q) fits.2 fits.3) ∙ x.passed_empty;
           pawn = holds_at new m.to (beyond (opponent s.turn) x.passed) _ fits.1 pawn;
         },
       );
     }
 keeps s m p new ok stands own (pawn_capture x) =
-    let q : Piece = record { colour = s.turn; kind = x.kind } in
     let from = pawn_place s m.from p ok stands x.pawn in
     let P : Colour → Type 0 = λ z. IsForward z 1 m.from m.to in
     let forward = subst P own (pawn_reach p.colour p.kind s.board m.from m.to x.reaches x.pawn) in
     record {
-      places = x.after.squares;
-      pawns = pawns_carried s.board new m.from m.to q x.after ok.pawns (becomes_rank s.turn m x.kind forward from x.becomes);
+      places = x.after.board.squares;
+      pawns = pawns_going s m p new [] ok x.after (becomes_rank s.turn m p.kind x.after.kind forward from x.after.becomes) no_pawns;
       en_passant_holds = tt;
     }
-keeps s m p new ok stands own (en_passant x) = record {
-  places = x.after.squares;
-  pawns = pawns_past s.board new m.from m.to x.gone p x.after ok.pawns (passed_rank_inside s.turn m.to (passed_at s m.to ok x.passed).0);
-  en_passant_holds = tt;
-}
-keeps s m p new ok stands own (castles k x) = record {
-  places = x.after.squares;
-  pawns = pawns_castled _ s.board new x.after ok.pawns;
-  en_passant_holds = tt;
-}
+keeps s m p new ok stands own (en_passant x) =
+    let F : ℕ × Place → Type 0 = λ c. (side : Colour) → c.1 ≢ Some (pawn_of side) in
+    record {
+      places = x.after.board.squares;
+      pawns = pawns_going s m p new ((beyond s.turn m.to, None) ∷ []) ok x.after (λ is_pawn. passed_rank_inside s.turn m.to (passed_at s m.to ok x.passed).0)
+          (All-cons F (beyond s.turn m.to, None) [] (λ side e. cc) (All-nil F));
+      en_passant_holds = tt;
+    }
+keeps s m p new ok stands own (castles k x) =
+    let row = castling_row k in
+    let rook : Piece = rook_of row.colour in
+    let K : Piece → Kind = λ z. z.kind in
+    let F : ℕ × Place → Type 0 = λ c. (side : Colour) → c.1 ≢ Some (pawn_of side) in
+    record {
+      places = x.after.board.squares;
+      pawns = pawns_going s m p new (rook_goes row) ok x.after (λ pawn. absurd (let king = becomes_king s.turn m p.kind x.after.kind x.king x.after.becomes in cc))
+          (All-two F (row.rook_from, None) (row.rook_to, Some rook) [] (λ side e. cc) (λ side e. let same = ap K (some_one rook (pawn_of side) e) in cc) (All-nil F));
+      en_passant_holds = tt;
+    }
 
 -- the parts after a move make a setup
 pub setup_by_parts : (s : Position) (m : Moved) (p : Piece) (new : Board) (rights : Rights) (ep : Option ℕ)

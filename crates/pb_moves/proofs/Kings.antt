@@ -1,20 +1,23 @@
 -- Where the kings stand after a move.
-use Rattle.std.proofs.Common.{◌≡◌, ◌≢◌, ℕ, ◌⊎◌, refl, arith, inl, inr, sym, ap, subst, ◌∙◌}
+use Rattle.std.proofs.Common.{◌≡◌, ◌≢◌, ℕ, ◌⊎◌, refl, arith, inl, inr, sym, ap, subst, ◌∙◌, Some, None, List, [], ◌∷◌}
+use Rattle.std.specs.Prelude.{All}
+use Rattle.std.proofs.lemmas.List.Elements.{All-nil, All-cons}
 use Rattle.pb_board.specs.declared.piece.Colour.{Colour}
 use Rattle.pb_board.specs.declared.piece.Colour.TheVariants.{White, Black}
 use Rattle.pb_board.specs.declared.piece.Kind.{Kind}
 use Rattle.pb_board.specs.declared.piece.Kind.TheVariants.{Pawn, Knight, King}
 use Rattle.pb_board.specs.declared.piece.Piece.{Piece}
 use Rattle.pb_board.specs.Piece.{opponent, king_of, rook_of}
-use Rattle.pb_board.specs.Board.{Board, file, rank, Holds, IsEmpty, IsForward}
+use Rattle.pb_board.specs.Board.{Board, Place, file, rank, Holds, IsEmpty, IsForward}
 use Rattle.pb_board.specs.Position.{Position, IsSetup, IsOnlyKing, HasOneKing, beyond}
 use Rattle.pb_moves.specs.declared.castling.Castling.{Castling}
 use Rattle.pb_moves.specs.declared.castling.Castling.TheVariants.{WhiteShort, WhiteLong, BlackShort, BlackLong}
 use Rattle.pb_moves.specs.Attack.{ReachesBy}
 use Rattle.pb_moves.specs.Moved.{Moved}
-use Rattle.pb_moves.specs.Castling.{CastlingRow, castling_row, Castled, MayCastle}
-use Rattle.pb_moves.specs.Cases.{Carried, CarriedPast, Becomes, CaseOf, piece_move, pawn_step, pawn_double, pawn_capture, en_passant, castles, IsPrey}
-use Rattle.pb_moves.proofs.Unique.{piece_is, same_or_not, passed_at}
+use Rattle.pb_moves.specs.Castling.{CastlingRow, castling_row, rook_goes, MayCastle}
+use Rattle.pb_moves.specs.Cases.{Differs, Becomes, Goes, CaseOf, piece_move, pawn_step, pawn_double, pawn_capture, en_passant, castles, IsPrey}
+use Rattle.pb_moves.proofs.Differing.{All-two, arrived, each_place}
+use Rattle.pb_moves.proofs.Unique.{piece_is, passed_at}
 
 -- two pieces do not stand on one square
 pub holds_one : (board : Board) (q : ℕ) (p r : Piece) → Holds board q p → Holds board q r → p ≡ r
@@ -27,104 +30,32 @@ holds_at board q r p e h = let P : ℕ → Type 0 = λ k. Holds board k p in sub
 pub empty_holds : (board : Board) (q r : ℕ) (p : Piece) → IsEmpty board r → q ≡ r → Holds board q p → ⊥
 empty_holds board q r p e same h = let here = holds_at board q r p same h in cc
 
--- what stands on r is elsewhere than q, which holds something else
-pub elsewhere : (board : Board) (q r : ℕ) (p king : Piece) → Holds board q p → p ≢ king → Holds board r king → r ≢ q
-elsewhere board q r p king there other here same = other (holds_one board q p king there (holds_at board r q king same here))
+-- a king stays where it is while what changes is neither its square nor a king that arrives
+pub king_stays_differs : (old new : Board) (now : List (ℕ × Place)) (k : ℕ) (side : Colour) → Differs old new now
+    → All (λ c. (c.1 ≢ Some (king_of side)) × ¬ Holds old c.0 (king_of side)) now → IsOnlyKing old side k → IsOnlyKing new side k
+king_stays_differs old new now k side moved safe only =
+    let H : ℕ → Type 0 = λ q. Holds old q (king_of side) in
+    record {
+      here = moved.others k (λ i d lt same. (safe i d lt).1 (subst H same only.here)) ∙ only.here;
+      nowhere_else = each_place old new now (λ q place. place ≡ Some (king_of side) → q ≡ k) moved (λ i d lt e. absurd ((safe i d lt).0 e)) (λ q off. only.nowhere_else q);
+    }
 
--- a king stays where it is while another piece is carried
-pub king_stays_carried : (old new : Board) (from to k : ℕ) (p q : Piece) (side : Colour) → Carried old new from to q → Holds old from p
-    → p ≢ king_of side → q ≢ king_of side → ¬ Holds old to (king_of side) → IsOnlyKing old side k → IsOnlyKing new side k
-king_stays_carried old new from to k p q side moved stands other arrives target only = record {
-  here = moved.others k (elsewhere old from k p (king_of side) stands other only.here) (λ same. target (holds_at old k to (king_of side) same only.here)) ∙ only.here;
-  nowhere_else = λ r h. elim (same_or_not r from) [
-    | inl e ↦ absurd (empty_holds new r from (king_of side) moved.left e h)
-    | inr f ↦ elim (same_or_not r to) [
-      | inl e ↦ absurd (arrives (holds_one new to q (king_of side) moved.arrived (holds_at new r to (king_of side) e h)))
-      | inr t ↦ only.nowhere_else r (sym (moved.others r f t) ∙ h)
-    ]
-  ];
-}
-
--- a king that is carried stands where it arrives
-pub king_goes_carried : (old new : Board) (from to k : ℕ) (side : Colour) → Carried old new from to (king_of side) → Holds old from (king_of side)
+-- a king that goes stands where it arrives
+pub king_goes_differs : (old new : Board) (from to k : ℕ) (side : Colour) (besides : List (ℕ × Place))
+    → Differs old new ((from, None) ∷ (to, Some (king_of side)) ∷ besides) → All (λ c. c.1 ≢ Some (king_of side)) besides → Holds old from (king_of side)
     → IsOnlyKing old side k → IsOnlyKing new side to
-king_goes_carried old new from to k side moved stands only = record {
-  here = moved.arrived;
-  nowhere_else = λ r h. elim (same_or_not r from) [
-    | inl e ↦ absurd (empty_holds new r from (king_of side) moved.left e h)
-    | inr f ↦ elim (same_or_not r to) [
-      | inl e ↦ e
-      | inr t ↦ absurd (f (only.nowhere_else r (sym (moved.others r f t) ∙ h) ∙ sym (only.nowhere_else from stands)))
-    ]
-  ];
-}
-
--- a king stays where it is while a pawn takes another in passing
-pub king_stays_past : (old new : Board) (from to gone k : ℕ) (p : Piece) (side : Colour) → CarriedPast old new from to gone p → Holds old from p
-    → p ≢ king_of side → ¬ Holds old to (king_of side) → ¬ Holds old gone (king_of side) → IsOnlyKing old side k → IsOnlyKing new side k
-king_stays_past old new from to gone k p side moved stands other target safe only = record {
-  here =
-      moved.others k (elsewhere old from k p (king_of side) stands other only.here) (λ same. target (holds_at old k to (king_of side) same only.here))
-      (λ same. safe (holds_at old k gone (king_of side) same only.here)) ∙ only.here;
-  nowhere_else = λ r h. elim (same_or_not r from) [
-    | inl e ↦ absurd (empty_holds new r from (king_of side) moved.left e h)
-    | inr f ↦ elim (same_or_not r to) [
-      | inl e ↦ absurd (other (holds_one new to p (king_of side) moved.arrived (holds_at new r to (king_of side) e h)))
-      | inr t ↦ elim (same_or_not r gone) [
-        | inl e ↦ absurd (empty_holds new r gone (king_of side) moved.taken e h)
-        | inr g ↦ only.nowhere_else r (sym (moved.others r f t g) ∙ h)
-      ]
-    ]
-  ];
-}
+king_goes_differs old new from to k side besides moved safe stands only =
+    let now : List (ℕ × Place) = (from, None) ∷ (to, Some (king_of side)) ∷ besides in
+    let F : ℕ × Place → Type 0 = λ c. c.1 ≡ Some (king_of side) → c.0 ≡ to in
+    record {
+      here = arrived old new from to (king_of side) besides moved;
+      nowhere_else = each_place old new now (λ q place. place ≡ Some (king_of side) → q ≡ to) moved
+          (All-two F (from, None) (to, Some (king_of side)) besides (λ e. absurd cc) (λ e. refl) (λ i d lt e. absurd (safe i d lt e)))
+          (λ q off e. absurd (off 0 (0, None) (omega arith) (only.nowhere_else q e ∙ sym (only.nowhere_else from stands))));
+    }
 
 pub rook_no_king : (colour side : Colour) → rook_of colour ≢ king_of side
 rook_no_king colour side same = let F : Piece → Kind = λ x. x.kind in let e = ap F same in cc
-
--- the enemy's king stays where it is in castling
-pub king_stays_castled : (row : CastlingRow) (old new : Board) (k : ℕ) (side : Colour) → Castled row old new
-    → Holds old row.king_from (king_of row.colour) → Holds old row.rook_from (rook_of row.colour) → IsEmpty old row.king_to → IsEmpty old row.rook_to
-    → king_of row.colour ≢ king_of side → IsOnlyKing old side k → IsOnlyKing new side k
-king_stays_castled row old new k side moved king rook to_free rook_free other only = record {
-  here =
-      moved.others k (elsewhere old row.king_from k _ (king_of side) king other only.here)
-      (elsewhere old row.rook_from k _ (king_of side) rook (rook_no_king row.colour side) only.here)
-      (λ same. empty_holds old k row.king_to (king_of side) to_free same only.here) (λ same. empty_holds old k row.rook_to (king_of side) rook_free same only.here)
-      ∙ only.here;
-  nowhere_else = λ r h. elim (same_or_not r row.king_from) [
-    | inl e ↦ absurd (empty_holds new r row.king_from (king_of side) moved.king_left e h)
-    | inr f ↦ elim (same_or_not r row.rook_from) [
-      | inl e ↦ absurd (empty_holds new r row.rook_from (king_of side) moved.rook_left e h)
-      | inr g ↦ elim (same_or_not r row.king_to) [
-        | inl e ↦ absurd (other (holds_one new row.king_to _ _ moved.king (holds_at new r row.king_to (king_of side) e h)))
-        | inr t ↦ elim (same_or_not r row.rook_to) [
-          | inl e ↦ absurd (rook_no_king row.colour side (holds_one new row.rook_to _ _ moved.rook (holds_at new r row.rook_to (king_of side) e h)))
-          | inr u ↦ only.nowhere_else r (sym (moved.others r f g t u) ∙ h)
-        ]
-      ]
-    ]
-  ];
-}
-
--- the king that castles stands on its new square
-pub king_goes_castled : (row : CastlingRow) (old new : Board) (k : ℕ) → Castled row old new → Holds old row.king_from (king_of row.colour)
-    → IsOnlyKing old row.colour k → IsOnlyKing new row.colour row.king_to
-king_goes_castled row old new k moved king only = record {
-  here = moved.king;
-  nowhere_else = λ r h. elim (same_or_not r row.king_from) [
-    | inl e ↦ absurd (empty_holds new r row.king_from (king_of row.colour) moved.king_left e h)
-    | inr f ↦ elim (same_or_not r row.rook_from) [
-      | inl e ↦ absurd (empty_holds new r row.rook_from (king_of row.colour) moved.rook_left e h)
-      | inr g ↦ elim (same_or_not r row.king_to) [
-        | inl e ↦ e
-        | inr t ↦ elim (same_or_not r row.rook_to) [
-          | inl e ↦ absurd (rook_no_king row.colour row.colour (holds_one new row.rook_to _ _ moved.rook (holds_at new r row.rook_to (king_of row.colour) e h)))
-          | inr u ↦ absurd (f (only.nowhere_else r (sym (moved.others r f g t u) ∙ h) ∙ sym (only.nowhere_else row.king_from king)))
-        ]
-      ]
-    ]
-  ];
-}
 
 -- the target of a piece or a capture holds no king
 pub open_no_king : (board : Board) (side : Colour) (to : ℕ) (c : Colour) → (IsEmpty board to ⊎ IsPrey board side to) → ¬ Holds board to (king_of c)
@@ -137,10 +68,14 @@ open_no_king board side to c (inr p) h =
 pub no_king : (p : Piece) (c : Colour) → p.kind ≢ King → p ≢ king_of c
 no_king p c ne same = let F : Piece → Kind = λ x. x.kind in ne (ap F same)
 
--- what a pawn becomes is no king
-pub becomes_no_king : (side : Colour) (m : Moved) (k : Kind) → Becomes side m k → k ≢ King
-becomes_no_king side m k (inl x) e = x.2.1 e
-becomes_no_king side m k (inr x) e = let pawn = x.2 in cc
+-- what a piece that is no king becomes is none
+pub becomes_no_king : (side : Colour) (m : Moved) (before k : Kind) → before ≢ King → Becomes side m before k → k ≢ King
+becomes_no_king side m before k other (inl x) e = x.3.1 e
+becomes_no_king side m before k other (inr x) e = other (sym x.2 ∙ e)
+
+pub becomes_king : (side : Colour) (m : Moved) (before k : Kind) → before ≡ King → Becomes side m before k → k ≡ King
+becomes_king side m before k king (inl x) = absurd (let pawn = x.0 in cc)
+becomes_king side m before k king (inr x) = x.2 ∙ king
 
 -- a piece of the other colour is not this side's king
 pub enemy_no_king : (p : Piece) (side : Colour) → p.colour ≡ side → p ≢ king_of (opponent side)
@@ -151,6 +86,23 @@ pub king_or_not : (k : Kind) → (k ≡ King) ⊎ (k ≢ King)
 king_or_not King = inl refl
 king_or_not Knight = inr (λ e. cc)
 king_or_not k = inr (λ e. cc)
+
+-- what becomes this side's king was it
+pub becomes_same : (s : Position) (m : Moved) (p : Piece) (side : Colour) (k : Kind) → p.colour ≡ s.turn → Becomes s.turn m p.kind k
+    → (let q : Piece = record { colour = s.turn; kind = k } in q ≡ king_of side) → p ≡ king_of side
+becomes_same s m p side k own x same =
+    let C : Piece → Colour = λ z. z.colour in
+    let K : Piece → Kind = λ z. z.kind in
+    elim (king_or_not p.kind) [
+      | inl king ↦ piece_is p side King (own ∙ ap C same) king
+      | inr other ↦ absurd (becomes_no_king s.turn m p.kind k other x (ap K same))
+    ]
+
+pub some_one : (p q : Piece) → Some p ≡ Some q → p ≡ q
+some_one p q e = cc
+
+pub empty_at : (board : Board) (q r : ℕ) → q ≡ r → IsEmpty board q → IsEmpty board r
+empty_at board q r e empty = let P : ℕ → Type 0 = λ k. IsEmpty board k in subst P e empty
 
 pub pawn_reach : (colour : Colour) (kind : Kind) (board : Board) (a b : ℕ) → ReachesBy colour kind board a b → kind ≡ Pawn → IsForward colour 1 a b
 pawn_reach colour Pawn board a b r e = r.1
@@ -178,49 +130,63 @@ castling_king s m p row stands own king home may =
     (is_king, holds_at s.board m.from row.king_from (king_of row.colour) home (subst P is_king stands))
 
 -- a king that isn't moved stays where it is
+pub king_stays_going : (s : Position) (m : Moved) (p : Piece) (new : Board) (side : Colour) (k : ℕ) (besides : List (ℕ × Place)) → Holds s.board m.from p → p.colour ≡ s.turn
+    → p ≢ king_of side → ¬ Holds s.board m.to (king_of side) → All (λ c. (c.1 ≢ Some (king_of side)) × ¬ Holds s.board c.0 (king_of side)) besides
+    → IsOnlyKing s.board side k → Goes s m p besides new → IsOnlyKing new side k
+king_stays_going s m p new side k besides stands own other target safe only x =
+    let q : Piece = record { colour = s.turn; kind = x.kind } in
+    let Safe : ℕ × Place → Type 0 = λ c. (c.1 ≢ Some (king_of side)) × ¬ Holds s.board c.0 (king_of side) in
+    king_stays_differs s.board new ((m.from, None) ∷ (m.to, Some q) ∷ besides) k side x.board
+    (All-two Safe (m.from, None) (m.to, Some q) besides
+    ((λ e. absurd cc), (λ h. other (holds_one s.board m.from p (king_of side) stands h)))
+    ((λ e. other (becomes_same s m p side x.kind own x.becomes (some_one q (king_of side) e))), target)
+    safe) only
+
 pub king_stays : (s : Position) (m : Moved) (p : Piece) (new : Board) (side : Colour) (k : ℕ) → IsSetup s → Holds s.board m.from p → p.colour ≡ s.turn
     → p ≢ king_of side → IsOnlyKing s.board side k → CaseOf s m p new → IsOnlyKing new side k
 king_stays s m p new side k ok stands own other only (piece_move x) =
-    king_stays_carried s.board new m.from m.to k p p side x.after stands other other (open_no_king s.board s.turn m.to side x.target) only
+    king_stays_going s m p new side k [] stands own other (open_no_king s.board s.turn m.to side x.target) (All-nil (λ c. (c.1 ≢ Some (king_of side)) × ¬ Holds s.board c.0 (king_of side))) only x.after
 king_stays s m p new side k ok stands own other only (pawn_step x) =
-    let q : Piece = record { colour = s.turn; kind = x.kind } in
-    king_stays_carried s.board new m.from m.to k p q side x.after stands other (no_king q side (becomes_no_king s.turn m x.kind x.becomes))
-    (open_no_king s.board s.turn m.to side (inl x.empty)) only
+    king_stays_going s m p new side k [] stands own other (open_no_king s.board s.turn m.to side (inl x.empty)) (All-nil (λ c. (c.1 ≢ Some (king_of side)) × ¬ Holds s.board c.0 (king_of side))) only x.after
 king_stays s m p new side k ok stands own other only (pawn_double x) =
-    king_stays_carried s.board new m.from m.to k p p side x.after stands other other (open_no_king s.board s.turn m.to side (inl x.empty)) only
+    king_stays_going s m p new side k [] stands own other (open_no_king s.board s.turn m.to side (inl x.empty)) (All-nil (λ c. (c.1 ≢ Some (king_of side)) × ¬ Holds s.board c.0 (king_of side))) only x.after
 king_stays s m p new side k ok stands own other only (pawn_capture x) =
-    let q : Piece = record { colour = s.turn; kind = x.kind } in
-    king_stays_carried s.board new m.from m.to k p q side x.after stands other (no_king q side (becomes_no_king s.turn m x.kind x.becomes))
-    (open_no_king s.board s.turn m.to side (inr x.target)) only
+    king_stays_going s m p new side k [] stands own other (open_no_king s.board s.turn m.to side (inr x.target)) (All-nil (λ c. (c.1 ≢ Some (king_of side)) × ¬ Holds s.board c.0 (king_of side))) only x.after
 king_stays s m p new side k ok stands own other only (en_passant x) =
+    let Safe : ℕ × Place → Type 0 = λ c. (c.1 ≢ Some (king_of side)) × ¬ Holds s.board c.0 (king_of side) in
     let passed = passed_at s m.to ok x.passed in
-    let P : Colour → Type 0 = λ z. IsForward z 1 m.from m.to in
-    let forward = subst P own (pawn_reach p.colour p.kind s.board m.from m.to x.reaches x.pawn) in
-    let gone = gone_is_beyond s.turn m.from m.to x.gone forward x.gone_file x.gone_rank in
     let F : Piece → Kind = λ z. z.kind in
-    king_stays_past s.board new m.from m.to x.gone k p side x.after stands other (open_no_king s.board s.turn m.to side (inl passed.1.empty))
-    (λ h. let same = ap F (holds_one s.board (beyond s.turn m.to) _ _ passed.1.pawn (holds_at s.board x.gone (beyond s.turn m.to) (king_of side) gone h)) in cc) only
+    king_stays_going s m p new side k ((beyond s.turn m.to, None) ∷ []) stands own other (open_no_king s.board s.turn m.to side (inl passed.1.empty))
+    (All-cons Safe (beyond s.turn m.to, None) [] ((λ e. absurd cc), λ h. let same = ap F (holds_one s.board (beyond s.turn m.to) _ _ passed.1.pawn h) in cc) (All-nil Safe)) only x.after
 king_stays s m p new side k ok stands own other only (castles c x) =
     let row = castling_row c in
+    let Safe : ℕ × Place → Type 0 = λ c. (c.1 ≢ Some (king_of side)) × ¬ Holds s.board c.0 (king_of side) in
     let free = castling_free c s x.allowed in
-    let king = castling_king s m p row stands own x.king x.from_home x.allowed in
-    king_stays_castled row s.board new k side x.after king.1 x.allowed.rook free.0 free.1 (λ same. other (king.0 ∙ same)) only
+    let rook : Piece = rook_of row.colour in
+    king_stays_going s m p new side k (rook_goes row) stands own other (open_no_king s.board s.turn m.to side (inl (empty_at s.board row.king_to m.to (sym x.to_table) free.0)))
+    (All-two Safe (row.rook_from, None) (row.rook_to, Some rook) []
+    ((λ e. absurd cc), λ h. rook_no_king row.colour side (holds_one s.board row.rook_from rook (king_of side) x.allowed.rook h))
+    ((λ e. rook_no_king row.colour side (some_one rook (king_of side) e)), λ h. empty_holds s.board row.rook_to row.rook_to (king_of side) free.1 refl h)
+    (All-nil Safe)) only x.after
 
 -- a king that is moved stands where it arrives
+pub king_goes_going : (s : Position) (m : Moved) (p : Piece) (new : Board) (k : ℕ) (besides : List (ℕ × Place)) → Holds s.board m.from p → p.colour ≡ s.turn → p.kind ≡ King
+    → All (λ c. c.1 ≢ Some (king_of s.turn)) besides → IsOnlyKing s.board s.turn k → Goes s m p besides new → IsOnlyKing new s.turn m.to
+king_goes_going s m p new k besides stands own king safe only x =
+    let P : Piece → Type 0 = λ z. Holds s.board m.from z in
+    let K : Kind → Type 0 = λ z. let q : Piece = record { colour = s.turn; kind = z } in Differs s.board new ((m.from, None) ∷ (m.to, Some q) ∷ besides) in
+    king_goes_differs s.board new m.from m.to k s.turn besides (subst K (becomes_king s.turn m p.kind x.kind king x.becomes) x.board) safe
+    (subst P (piece_is p s.turn King own king) stands) only
+
 pub king_goes : (s : Position) (m : Moved) (p : Piece) (new : Board) (k : ℕ) → Holds s.board m.from p → p.colour ≡ s.turn → p.kind ≡ King
     → IsOnlyKing s.board s.turn k → CaseOf s m p new → IsOnlyKing new s.turn m.to
-king_goes s m p new k stands own king only (piece_move x) =
-    let is_king = piece_is p s.turn King own king in
-    let P : Piece → Type 0 = λ z. Carried s.board new m.from m.to z × Holds s.board m.from z in
-    let both = subst P is_king (x.after, stands) in
-    king_goes_carried s.board new m.from m.to k s.turn both.0 both.1 only
+king_goes s m p new k stands own king only (piece_move x) = king_goes_going s m p new k [] stands own king (All-nil (λ c. c.1 ≢ Some (king_of s.turn))) only x.after
 king_goes s m p new k stands own king only (castles c x) =
     let row = castling_row c in
-    let home = castling_king s m p row stands own x.king x.from_home x.allowed in
-    let P : Colour → Type 0 = λ z. IsOnlyKing s.board z k in
-    let Q : Colour → Type 0 = λ z. IsOnlyKing new z m.to in
-    let R : ℕ → Type 0 = λ z. IsOnlyKing new row.colour z in
-    subst Q (sym x.allowed.side) (subst R (sym x.to_table) (king_goes_castled row s.board new k x.after home.1 (subst P x.allowed.side only)))
+    let rook : Piece = rook_of row.colour in
+    let Safe : ℕ × Place → Type 0 = λ c. c.1 ≢ Some (king_of s.turn) in
+    king_goes_going s m p new k (rook_goes row) stands own king
+    (All-two Safe (row.rook_from, None) (row.rook_to, Some rook) [] (λ e. absurd cc) (λ e. rook_no_king row.colour s.turn (some_one rook (king_of s.turn) e)) (All-nil Safe)) only x.after
 king_goes s m p new k stands own king only (pawn_step x) = absurd (let pawn = x.pawn in cc)
 king_goes s m p new k stands own king only (pawn_double x) = absurd (let pawn = x.pawn in cc)
 king_goes s m p new k stands own king only (pawn_capture x) = absurd (let pawn = x.pawn in cc)

@@ -1,8 +1,10 @@
 -- From the cases of a move to whether it is legal.
-use Rattle.std.proofs.Common.{◌≡◌, subst, Option, Some, None}
+use Rattle.std.proofs.Common.{◌≡◌, ◌≢◌, ℕ, List, subst, sym, Option, Some, None}
+use Rattle.pb_board.specs.declared.piece.Colour.{Colour}
+use Rattle.pb_board.specs.declared.piece.Kind.{Kind}
 use Rattle.pb_board.specs.declared.piece.Kind.TheVariants.{Pawn, King}
 use Rattle.pb_board.specs.declared.piece.Piece.{Piece}
-use Rattle.pb_board.specs.Board.{Board, Holds}
+use Rattle.pb_board.specs.Board.{Board, Place, Holds}
 use Rattle.pb_board.specs.Position.{Position, IsSetup}
 use Rattle.pb_moves.specs.Attack.{InCheck}
 use Rattle.pb_moves.specs.declared.castling.Castling.{Castling}
@@ -10,9 +12,17 @@ use Rattle.pb_moves.specs.declared.change.Change.{Change}
 use Rattle.pb_moves.specs.Moved.{Moved}
 use Rattle.pb_moves.specs.Candidate.{HoldsOwn}
 use Rattle.pb_moves.specs.Castling.{castling_row}
-use Rattle.pb_moves.specs.Cases.{PieceMove, PawnStep, PawnDouble, PawnCapture, EnPassant, Castles, CaseOf, piece_move, pawn_step, pawn_double, pawn_capture, en_passant, castles, Case, Legal}
+use Rattle.pb_moves.specs.Cases.{Becomes, Goes, PieceMove, PawnStep, PawnDouble, PawnCapture, EnPassant, Castles, CaseOf, piece_move, pawn_step, pawn_double, pawn_capture, en_passant, castles, Case, Legal}
 use Rattle.pb_moves.specs.Change.{Finds}
 use Rattle.pb_moves.proofs.Unique.{case_one}
+
+-- a pawn that becomes nothing doesn't go
+pub no_becoming : (s : Position) (m : Moved) (pawn : Piece) (besides : List (ℕ × Place)) (new : Board) → pawn.colour ≡ s.turn → pawn.kind ≡ Pawn
+    → ((kind : Kind) → ¬ Becomes pawn.colour m Pawn kind) → ¬ Goes s m pawn besides new
+no_becoming s m pawn besides new own is_pawn none x =
+    let C : Colour → Type 0 = λ side. Becomes side m Pawn x.kind in
+    let K : Kind → Type 0 = λ kind. Becomes s.turn m kind x.kind in
+    none x.kind (subst C (sym own) (subst K is_pawn x.becomes))
 
 -- a pawn's last case
 pub pawn_cases : (s : Position) (m : Moved) (piece : Piece) → piece.kind ≡ Pawn
@@ -27,6 +37,20 @@ pawn_cases s m piece pawn step double capture None h = λ b x.
       | pawn_capture y ↦ capture b y
       | en_passant y ↦ h b y
       | castles c y ↦ (let king = y.king in cc)
+    ]
+
+-- the case of a piece that is neither
+pub piece_cases : (s : Position) (m : Moved) (piece : Piece) → piece.kind ≢ Pawn → piece.kind ≢ King
+    → (o : Option Change) → Finds (PieceMove s m piece) s.board m o → Finds (CaseOf s m piece) s.board m o
+piece_cases s m piece no_pawn no_king (Some x) h = (h.0, λ b c. piece_move (h.1 b c))
+piece_cases s m piece no_pawn no_king None h = λ b x.
+    elim x [
+      | piece_move y ↦ h b y
+      | pawn_step y ↦ no_pawn y.pawn
+      | pawn_double y ↦ no_pawn y.pawn
+      | pawn_capture y ↦ no_pawn y.pawn
+      | en_passant y ↦ no_pawn y.pawn
+      | castles c y ↦ no_king y.king
     ]
 
 -- a king's last case

@@ -7,6 +7,7 @@ pub mod Sets
 pub mod ClearWays
 pub mod Seen
 pub mod NearTargets
+pub mod Differing
 pub mod Unique
 pub mod Kings
 pub mod Kept

@@ -8,7 +8,7 @@ use Rattle.pb_board.specs.declared.piece.Kind.TheVariants.{Pawn, Knight, Bishop,
 use Rattle.pb_board.specs.declared.piece.Colour.{Colour}
 use Rattle.pb_board.specs.declared.piece.Colour.TheVariants.{White, Black}
 use Rattle.pb_board.specs.declared.piece.Piece.{Piece}
-use Rattle.pb_board.specs.Board.{Board, Holds, IsEmpty, IsForward, rank}
+use Rattle.pb_board.specs.Board.{Board, Holds, IsEmpty, IsForward}
 use Rattle.pb_board.specs.Piece.{opponent}
 use Rattle.pb_board.specs.Position.{EnPassantHolds, IsSetup, Position}
 use Rattle.pb_moves.specs.declared.castling.Castling.{Castling}
@@ -18,6 +18,7 @@ use Rattle.std.specs.Int.{bit_at, trailing_zeros}
 use Rattle.pb_moves.proofs.Pins.{differ}
 use Rattle.pb_moves.proofs.Kings.{holds_one}
 use Rattle.pb_moves.proofs.Legality.{case_at}
+use Rattle.pb_moves.proofs.Unique.{goes_of}
 use Rattle.pb_moves.proofs.Rising.{low_bits, zeros_bound, zeros_rise, without, without_other, without_small}
 use Rattle.pb_moves.specs.Moved.{Moved, IsMove, IsPromotion, promotion_number}
 use Rattle.pb_moves.specs.Castling.{MayCastle, castling_row}
@@ -147,19 +148,14 @@ case_goes s m p b own (pawn_capture x) = reach_goes p.colour p.kind s.board m.fr
 case_goes s m p b own (en_passant x) = reach_goes p.colour p.kind s.board m.from m.to x.reaches
 case_goes s m p b own (castles c x) = castling_goes c p.colour m.from m.to p.kind x.king x.from_home x.to_table
 
-pub becomes_promotes : (side : Colour) (m : Moved) (k l : Kind) → Becomes side m k → m.promo ≡ Some l → (rank m.to ≡ 0) ⊎ (rank m.to ≡ 7)
-becomes_promotes White m k l (inl x) e = inr x.0
-becomes_promotes Black m k l (inl x) e = inl x.0
-becomes_promotes side m k l (inr x) e = absurd (let n = x.1 in cc)
+pub becomes_promotes : (side : Colour) (m : Moved) (before k l : Kind) → Becomes side m before k → m.promo ≡ Some l → MayPromote before m.to
+becomes_promotes White m before k l (inl x) e = (x.0, inr x.1)
+becomes_promotes Black m before k l (inl x) e = (x.0, inl x.1)
+becomes_promotes side m before k l (inr x) e = absurd (let n = x.1 in cc)
 
 -- only a pawn on the first or last rank is promoted
 pub case_promotes : (s : Position) (m : Moved) (p : Piece) (b : Board) (k : Kind) → CaseOf s m p b → m.promo ≡ Some k → MayPromote p.kind m.to
-case_promotes s m p b k (pawn_step x) e = (x.pawn, becomes_promotes s.turn m x.kind k x.becomes e)
-case_promotes s m p b k (pawn_capture x) e = (x.pawn, becomes_promotes s.turn m x.kind k x.becomes e)
-case_promotes s m p b k (piece_move x) e = absurd (let n = x.no_promotion in cc)
-case_promotes s m p b k (pawn_double x) e = absurd (let n = x.no_promotion in cc)
-case_promotes s m p b k (en_passant x) e = absurd (let n = x.no_promotion in cc)
-case_promotes s m p b k (castles c x) e = absurd (let n = x.no_promotion in cc)
+case_promotes s m p b k case e = let x = goes_of s m p b case in becomes_promotes s.turn m p.kind x.kind k x.becomes e
 
 pub promotion_some : (o : Option Kind) → 0 < promotion_number o → (k : Kind) × (o ≡ Some k)
 promotion_some None h = absurd (omega arith)

@@ -1,5 +1,5 @@
 -- A piece whose king wouldn't be attacked without it can go anywhere.
-use Rattle.std.proofs.Common.{◌≡◌, ◌≢◌, ℕ, ◌<◌, inl, inr, None, length, sym, ap, subst, ◌∙◌}
+use Rattle.std.proofs.Common.{◌≡◌, ◌≢◌, ℕ, ◌<◌, arith, inl, inr, Some, None, [], ◌∷◌, sym, ap, subst, ◌∙◌}
 use Rattle.pb_board.specs.declared.piece.Colour.{Colour}
 use Rattle.pb_board.specs.declared.piece.Colour.TheVariants.{White, Black}
 use Rattle.pb_board.specs.declared.piece.Kind.{Kind}
@@ -11,26 +11,18 @@ use Rattle.pb_board.specs.Position.{Position}
 use Rattle.pb_moves.specs.Attack.{Clear, ReachesBy, IsAttacked}
 use Rattle.pb_moves.specs.Moved.{Moved}
 use Rattle.pb_moves.specs.Candidate.{HoldsOwn}
-use Rattle.pb_moves.specs.Free.{IsFree, Lifted}
-use Rattle.pb_moves.specs.Cases.{Carried, CaseOf, piece_move, pawn_step, pawn_double, pawn_capture, en_passant, castles, Legal}
+use Rattle.pb_moves.specs.Free.{IsFree}
+use Rattle.pb_moves.specs.Cases.{Differs, CaseOf, Legal}
 use Rattle.pb_moves.specs.Change.{LeadsTo}
 use Rattle.pb_moves.specs.Successor.{put}
 use Rattle.pb_moves.specs.declared.change.Change.TheVariants.{Carry}
-use Rattle.pb_moves.proofs.Unique.{same_or_not}
+use Rattle.pb_moves.proofs.Differing.{arrived, carried_put, left, lifted_put, moved_board, off_one, off_two, same_or_not}
+use Rattle.pb_moves.proofs.Unique.{besides_of, goes_of}
 use Rattle.pb_moves.proofs.Kings.{holds_one, holds_at, empty_holds, king_stays, no_king}
 use Rattle.pb_moves.proofs.Legality.{legal_out_of_check}
-use Rattle.pb_moves.proofs.Successors.{at_put_other, at_put_same, length_put, moved_board, carried_put}
-
--- the board from which a piece has gone
-pub lifted_put : (old : Board) (from : ℕ) → length old ≡ 64 → from < 64 → Lifted old (put old from None) from
-lifted_put old from full on = record {
-  squares = length_put old from None full;
-  left = at_put_same old from None full on;
-  others = λ q off. at_put_other old from q None off;
-}
 
 -- what is clear after a piece has gone elsewhere is clear where the piece is gone for good
-pub clear_lifted : (old new lifted : Board) (from to a b : ℕ) (p : Piece) → Carried old new from to p → Lifted old lifted from → Clear new a b → Clear lifted a b
+pub clear_lifted : (old new lifted : Board) (from to a b : ℕ) (p : Piece) → Differs old new ((from, None) ∷ (to, Some p) ∷ []) → Differs old lifted ((from, None) ∷ []) → Clear new a b → Clear lifted a b
 clear_lifted old new lifted from to a b p moved gone clear = record {
   direction = clear.direction;
   steps = clear.steps;
@@ -39,12 +31,14 @@ clear_lifted old new lifted from to a b p moved gone clear = record {
       (let empty = clear.empty k c lo hi on at_c in
       let E : ℕ → Type 0 = λ q. IsEmpty lifted q in
       elim (same_or_not c from) [
-        | inl same ↦ subst E (sym same) gone.left
-        | inr off ↦ gone.others c off ∙ (sym (moved.others c off (λ same. empty_holds new to c p empty (sym same) moved.arrived)) ∙ empty)
+        | inl same ↦ subst E (sym same) (gone.named 0 (0, None) (omega arith))
+        | inr off ↦
+            (let off_to : c ≢ to = λ same. empty_holds new to c p empty (sym same) (arrived old new from to p [] moved) in
+            gone.others c (off_one c (from, None) off) ∙ (sym (moved.others c (off_two c (from, None) (to, Some p) off off_to)) ∙ empty))
       ]);
 }
 
-pub reaches_lifted : (colour : Colour) (kind : Kind) (old new lifted : Board) (from to a b : ℕ) (p : Piece) → Carried old new from to p → Lifted old lifted from
+pub reaches_lifted : (colour : Colour) (kind : Kind) (old new lifted : Board) (from to a b : ℕ) (p : Piece) → Differs old new ((from, None) ∷ (to, Some p) ∷ []) → Differs old lifted ((from, None) ∷ [])
     → ReachesBy colour kind new a b → ReachesBy colour kind lifted a b
 reaches_lifted colour Pawn old new lifted from to a b p moved gone r = r
 reaches_lifted colour Knight old new lifted from to a b p moved gone r = r
@@ -58,35 +52,32 @@ differ White same = cc
 differ Black same = cc
 
 -- an attack on the king after the move is there where the piece is gone for good
-pub attacked_lifted : (old new lifted : Board) (side : Colour) (from to king : ℕ) (p : Piece) → Carried old new from to p → Lifted old lifted from → p.colour ≡ side
+pub attacked_lifted : (old new lifted : Board) (side : Colour) (from to king : ℕ) (p : Piece) → Differs old new ((from, None) ∷ (to, Some p) ∷ []) → Differs old lifted ((from, None) ∷ []) → p.colour ≡ side
     → IsAttacked new (opponent side) king → IsAttacked lifted (opponent side) king
 attacked_lifted old new lifted side from to king p moved gone own attack =
     let a = attack.0 in
     let q = attack.1.piece in
-    let off_from : a ≢ from = λ same. empty_holds new a from q moved.left same attack.1.stands in
+    let off_from : a ≢ from = λ same. empty_holds new a from q (left old new from to p [] moved) same attack.1.stands in
     let off_to : a ≢ to = λ same. (
-    let here : q ≡ p = holds_one new to q p (holds_at new a to q same attack.1.stands) moved.arrived in
+    let here : q ≡ p = holds_one new to q p (holds_at new a to q same attack.1.stands) (arrived old new from to p [] moved) in
     let F : Piece → Colour = λ x. x.colour in
     differ side (sym attack.1.of_side ∙ (ap F here ∙ own))) in (
       a,
       record {
         piece = q;
-        stands = gone.others a off_from ∙ (sym (moved.others a off_from off_to) ∙ attack.1.stands);
+        stands = gone.others a (off_one a (from, None) off_from) ∙ (sym (moved.others a (off_two a (from, None) (to, Some p) off_from off_to)) ∙ attack.1.stands);
         of_side = attack.1.of_side;
         reaches = reaches_lifted q.colour q.kind old new lifted from to a king p moved gone attack.1.reaches;
       },
     )
 
 -- what arrives is of the side that moves
-pub arrives_own : (s : Position) (m : Moved) (p q : Piece) (new : Board) → p.colour ≡ s.turn → Holds new m.to q → CaseOf s m p new → q.colour ≡ s.turn
-arrives_own s m p q new own here (piece_move x) = let F : Piece → Colour = λ z. z.colour in ap F (holds_one new m.to q p here x.after.arrived) ∙ own
-arrives_own s m p q new own here (pawn_step x) = let F : Piece → Colour = λ z. z.colour in ap F (holds_one new m.to q _ here x.after.arrived)
-arrives_own s m p q new own here (pawn_double x) = let F : Piece → Colour = λ z. z.colour in ap F (holds_one new m.to q p here x.after.arrived) ∙ own
-arrives_own s m p q new own here (pawn_capture x) = let F : Piece → Colour = λ z. z.colour in ap F (holds_one new m.to q _ here x.after.arrived)
-arrives_own s m p q new own here (en_passant x) = let F : Piece → Colour = λ z. z.colour in ap F (holds_one new m.to q p here x.after.arrived) ∙ own
-arrives_own s m p q new own here (castles c x) =
+pub arrives_own : (s : Position) (m : Moved) (p q : Piece) (new : Board) → Holds new m.to q → CaseOf s m p new → q.colour ≡ s.turn
+arrives_own s m p q new here case =
+    let x = goes_of s m p new case in
+    let r : Piece = record { colour = s.turn; kind = x.kind } in
     let F : Piece → Colour = λ z. z.colour in
-    ap F (holds_one new m.to q _ here (holds_at new _ m.to _ (sym x.to_table) x.after.king)) ∙ sym x.allowed.side
+    ap F (holds_one new m.to q r here (arrived s.board new m.from m.to r (besides_of s m p new case) x.board))
 
 -- so the move of a piece that its king doesn't need is legal
 pub legal_free : (s : Position) (m : Moved) (p arriving : Piece) → m.from < 64 → m.to < 64 → m.from ≢ m.to → HoldsOwn s m.from p
@@ -98,7 +89,7 @@ legal_free s m p arriving on_from on_to moves own leads free =
     let gone = lifted_put s.board m.from free.rules.places on_from in
     let case = leads.1 new moved in
     let stays = king_stays s m p new s.turn free.king free.rules own.stands own.own (no_king p s.turn free.no_king) free.only case in
-    let arrives = arrives_own s m p arriving new own.own moved.arrived case in
+    let arrives = arrives_own s m p arriving new (arrived s.board new m.from m.to arriving [] moved) case in
     legal_out_of_check s m new p own case (λ check.
     let here : check.0 ≡ free.king = stays.nowhere_else check.0 check.1.stands in
     let P : ℕ → Type 0 = λ k. IsAttacked new (opponent s.turn) k in

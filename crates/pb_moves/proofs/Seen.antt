@@ -1,20 +1,21 @@
 -- Attacks, told by sets of squares.
-use Rattle.std.proofs.Common.{◌≡◌, ◌≢◌, ℕ, ◌*◌, ◌%◌, ◌^◌, w64, ◌<◌, ◌⊎◌, ◌↔◌, max, arith, refl, sym, subst, ◌∙◌, inl, inr, bit_and, bit_or, Option, Some, None}
+use Rattle.std.proofs.Common.{◌≡◌, ◌≢◌, ℕ, ◌*◌, ◌%◌, ◌^◌, w64, ◌<◌, ◌⊎◌, ◌↔◌, max, arith, refl, sym, subst, ◌∙◌, inl, inr, bit_and, bit_or, Option, Some, None, [], ◌∷◌}
+use Rattle.std.proofs.lemmas.List.Elements.{All-nil, All-cons}
 use Rattle.pb_board.specs.declared.piece.Colour.{Colour}
 use Rattle.pb_board.specs.declared.piece.Kind.{Kind}
 use Rattle.pb_board.specs.declared.piece.Kind.TheVariants.{Pawn, Knight, Bishop, Rook, Queen, King}
 use Rattle.pb_board.specs.declared.piece.Piece.{Piece}
-use Rattle.pb_board.specs.Board.{Board, at, Holds, IsEmpty}
+use Rattle.pb_board.specs.Board.{Board, at, Holds}
 use Rattle.pb_moves.specs.declared.sight.Sight.{Sight}
 use Rattle.pb_moves.specs.Attack.{StepsFrom, Clear, ReachesBy, IsAttacked, IsKnightsMove, files_apart, ranks_apart}
 use mir.Val.{bits}
 use Rattle.std.proofs.lemmas.Bool.{cases_lt}
 use Rattle.std.proofs.lemmas.Nat.{and_le_l, or_lt}
 use Rattle.std.proofs.lemmas.Nat.Bits.{bit_at_set_same, bit_at_set_other}
-use Rattle.pb_moves.specs.Cases.{Carried}
-use Rattle.pb_moves.specs.Free.{Lifted}
+use Rattle.pb_moves.specs.Cases.{Differs}
 use Rattle.pb_moves.proofs.Rising.{without, without_other, without_same}
-use Rattle.pb_moves.proofs.Unique.{piece_is, same_or_not}
+use Rattle.pb_moves.proofs.Differing.{All-two, each_place}
+use Rattle.pb_moves.proofs.Unique.{piece_is}
 use Rattle.pb_moves.specs.Sight.{Along, AreOf, AreOfEither, IsTaken, In, Open, Sees, Slides, StrikesFrom, piece_of}
 use Rattle.pb_moves.specs.declared.ways.Lines.{Lines}
 use Rattle.pb_moves.specs.declared.ways.Lines.TheVariants.{Straight, Diagonal}
@@ -169,58 +170,52 @@ Tells mask board F = (q : ℕ) → q < 64 → (In mask q → F (at board q)) × 
 
 -- after a piece of the other side was carried, the sets without the square that it reaches
 pub tells_carried : (mask : ℕ) (old new : Board) (F : Option Piece → Type 0) (by : Colour) (from to : ℕ) (piece own : Piece)
-    → (F None → ⊥) → ((p : Piece) → F (Some p) → p.colour ≡ by) → Tells mask old F → Carried old new from to piece → piece.colour ≢ by → Holds old from own → own.colour ≢ by → to < 64
-    → Tells (without mask to) new F
-tells_carried mask old new F by from to piece own none side tells moved other stands enemy on q in_q =
-    elim (same_or_not q to) [
-      | inl e ↦
-          (let P : ℕ → Type 0 = λ x. (In (without mask to) x → F (at new x)) × (F (at new x) → In (without mask to) x) in
-          subst P (sym e) (
-            λ h. absurd (let gone = without_same mask to on in omega arith),
-            λ h. absurd (other (side piece (subst F moved.arrived h))),
-          ))
-      | inr t ↦
-          (let kept = without_other mask to q on in_q t in
-          elim (same_or_not q from) [
-            | inl e ↦
-                (let P : ℕ → Type 0 = λ x. F (at old x) in
-                let N : ℕ → Type 0 = λ x. F (at new x) in (
-                  λ h. absurd (enemy (side own (subst F stands (subst P e ((tells q in_q).0 (sym kept ∙ h)))))),
-                  λ h. absurd (none (subst F moved.left (subst N e h))),
-                ))
-            | inr f ↦
-                (let same = moved.others q f t in (
-                  λ h. subst F (sym same) ((tells q in_q).0 (sym kept ∙ h)),
-                  λ h. kept ∙ (tells q in_q).1 (subst F same h),
-                ))
-          ])
-    ]
+    → (F None → ⊥) → ((p : Piece) → F (Some p) → p.colour ≡ by) → Tells mask old F → Differs old new ((from, None) ∷ (to, Some piece) ∷ [])
+    → piece.colour ≢ by → Holds old from own → own.colour ≢ by → from ≢ to → to < 64 → Tells (without mask to) new F
+tells_carried mask old new F by from to piece own none side tells moved other stands enemy ne on =
+    let T : ℕ → Option Piece → Type 0 = λ q place. q < 64 → (In (without mask to) q → F place) × (F place → In (without mask to) q) in
+    let C : ℕ × Option Piece → Type 0 = λ c. T c.0 c.1 in
+    each_place old new ((from, None) ∷ (to, Some piece) ∷ []) T moved
+    (All-two C (from, None) (to, Some piece) []
+    (λ in_q.
+    let kept = without_other mask to from on in_q ne in (
+      λ h. absurd (enemy (side own (subst F stands ((tells from in_q).0 (sym kept ∙ h))))),
+      λ h. absurd (none h),
+    ))
+    (λ in_q. (
+      λ h. absurd (let gone = without_same mask to on in omega arith),
+      λ h. absurd (other (side piece h)),
+    ))
+    (All-nil C))
+    (λ q off in_q.
+    let kept = without_other mask to q on in_q (off 1 (0, None) (omega arith)) in (
+      λ h. (tells q in_q).0 (sym kept ∙ h),
+      λ h. kept ∙ (tells q in_q).1 h,
+    ))
 
 -- the same of what is taken
-pub taken_carried : (mask : ℕ) (old new : Board) (from to : ℕ) (piece : Piece) → IsTaken mask old → Carried old new from to piece → from < 64 → to < 64 → from ≢ to
-    → IsTaken (bit_or (without mask from) (1 * 2 ^ to % 2 ^ bits w64)) new
-taken_carried mask old new from to piece taken moved on_from on ne q in_q =
-    elim (same_or_not q to) [
-      | inl e ↦
-          (let P : ℕ → Type 0 = λ x. (In (bit_or (without mask from) (1 * 2 ^ to % 2 ^ bits w64)) x → ¬ IsEmpty new x) × (¬ IsEmpty new x → In (bit_or (without mask from) (1 * 2 ^ to % 2 ^ bits w64)) x) in
-          subst P (sym e) ((λ h empty. absurd (cc (moved.arrived, empty))), (λ h. bit_at_set_same w64 (without mask from) to on)))
-      | inr t ↦
-          (let set = bit_at_set_other w64 (without mask from) to on q t in
-          elim (same_or_not q from) [
-            | inl e ↦
-                (let P : ℕ → Type 0 = λ x. (In (without mask from) x → ⊥) × IsEmpty new x in
-                let gone = without_same mask from on_from in
-                let shut : (In (without mask from) from → ⊥) × IsEmpty new from = ((λ h. omega arith), moved.left) in
-                let both = subst P (sym e) shut in
-                ((λ h. absurd (both.0 (sym set ∙ h))), (λ h. absurd (h both.1))))
-            | inr f ↦
-                (let kept = without_other mask from q on_from in_q f in
-                let same = moved.others q f t in (
-                  λ h empty. (taken q in_q).0 (sym kept ∙ (sym set ∙ h)) (sym same ∙ empty),
-                  λ h. set ∙ (kept ∙ (taken q in_q).1 (λ empty. h (same ∙ empty))),
-                ))
-          ])
-    ]
+pub taken_carried : (mask : ℕ) (old new : Board) (from to : ℕ) (piece : Piece) → IsTaken mask old → Differs old new ((from, None) ∷ (to, Some piece) ∷ [])
+    → from < 64 → to < 64 → from ≢ to → IsTaken (bit_or (without mask from) (1 * 2 ^ to % 2 ^ bits w64)) new
+taken_carried mask old new from to piece taken moved on_from on ne =
+    let set = bit_or (without mask from) (1 * 2 ^ to % 2 ^ bits w64) in
+    let T : ℕ → Option Piece → Type 0 = λ q place. q < 64 → (In set q → ¬ (place ≡ None)) × (¬ (place ≡ None) → In set q) in
+    let C : ℕ × Option Piece → Type 0 = λ c. T c.0 c.1 in
+    each_place old new ((from, None) ∷ (to, Some piece) ∷ []) T moved
+    (All-two C (from, None) (to, Some piece) []
+    (λ in_q.
+    let same = bit_at_set_other w64 (without mask from) to on from ne in
+    let gone = without_same mask from on_from in (
+      λ h. absurd (let here = sym same ∙ h in omega arith),
+      λ h. absurd (h refl),
+    ))
+    (λ in_q. ((λ h empty. cc), (λ h. bit_at_set_same w64 (without mask from) to on)))
+    (All-nil C))
+    (λ q off in_q.
+    let same = bit_at_set_other w64 (without mask from) to on q (off 1 (0, None) (omega arith)) in
+    let kept = without_other mask from q on_from in_q (off 0 (0, None) (omega arith)) in (
+      λ h. (taken q in_q).0 (sym kept ∙ (sym same ∙ h)),
+      λ h. same ∙ (kept ∙ (taken q in_q).1 h),
+    ))
 
 -- what is seen after the move, as the code computes it
 abbrev pub carried_sight : Sight → ℕ → ℕ → Sight
@@ -236,14 +231,14 @@ carried_sight s from to = record {
 some_side : (p : Piece) (side : Colour) (kind : Kind) → Some p ≡ Some (piece_of side kind) → p.colour ≡ side
 some_side p side k e = cc
 
-pub sees_carried : (old new : Board) (by : Colour) (sight : Sight) (from to : ℕ) (piece own : Piece) → Sees old by sight → Carried old new from to piece
+pub sees_carried : (old new : Board) (by : Colour) (sight : Sight) (from to : ℕ) (piece own : Piece) → Sees old by sight → Differs old new ((from, None) ∷ (to, Some piece) ∷ [])
     → piece.colour ≢ by → Holds old from own → own.colour ≢ by → from < 64 → to < 64 → from ≢ to → Sees new by (carried_sight sight from to)
 sees_carried old new by sight from to piece own sees moved other stands enemy on_from on ne =
     let one = λ (mask : ℕ) (kind : Kind) (tells : AreOf mask old by kind).
-    tells_carried mask old new (λ x. x ≡ Some (piece_of by kind)) by from to piece own (λ e. absurd cc) (λ p e. some_side p by kind e) tells moved other stands enemy on in
+    tells_carried mask old new (λ x. x ≡ Some (piece_of by kind)) by from to piece own (λ e. absurd cc) (λ p e. some_side p by kind e) tells moved other stands enemy ne on in
     let either = λ (mask : ℕ) (kind second : Kind) (tells : AreOfEither mask old by kind second).
     tells_carried mask old new (λ x. (x ≡ Some (piece_of by kind)) ⊎ (x ≡ Some (piece_of by second))) by from to piece own (λ e. elim e [ inl a ↦ absurd cc | inr a ↦ absurd cc ])
-    (λ p e. elim e [ inl a ↦ some_side p by kind a | inr a ↦ some_side p by second a ]) tells moved other stands enemy on in
+    (λ p e. elim e [ inl a ↦ some_side p by kind a | inr a ↦ some_side p by second a ]) tells moved other stands enemy ne on in
     record {
       full = moved.squares;
       occupied = taken_carried sight.occupied old new from to piece sees.occupied moved on_from on ne;
@@ -256,37 +251,32 @@ sees_carried old new by sight from to piece own sees moved other stands enemy on
 
 -- after a piece of the other side has gone, the sets are the same
 tells_lifted : (mask : ℕ) (old new : Board) (F : Option Piece → Type 0) (by : Colour) (from : ℕ) (own : Piece)
-    → (F None → ⊥) → ((p : Piece) → F (Some p) → p.colour ≡ by) → Tells mask old F → Lifted old new from → Holds old from own → own.colour ≢ by → Tells mask new F
-tells_lifted mask old new F by from own none side tells gone stands enemy q on =
-    elim (same_or_not q from) [
-      | inl e ↦
-          (let P : ℕ → Type 0 = λ x. F (at old x) in
-          let N : ℕ → Type 0 = λ x. F (at new x) in (
-            λ h. absurd (enemy (side own (subst F stands (subst P e ((tells q on).0 h))))),
-            λ h. absurd (none (subst F gone.left (subst N e h))),
-          ))
-      | inr f ↦ (let same = gone.others q f in ((λ h. subst F (sym same) ((tells q on).0 h)), (λ h. (tells q on).1 (subst F same h))))
-    ]
+    → (F None → ⊥) → ((p : Piece) → F (Some p) → p.colour ≡ by) → Tells mask old F → Differs old new ((from, None) ∷ []) → Holds old from own → own.colour ≢ by → Tells mask new F
+tells_lifted mask old new F by from own none side tells gone stands enemy =
+    let T : ℕ → Option Piece → Type 0 = λ q place. q < 64 → (In mask q → F place) × (F place → In mask q) in
+    let C : ℕ × Option Piece → Type 0 = λ c. T c.0 c.1 in
+    each_place old new ((from, None) ∷ []) T gone
+    (All-cons C (from, None) []
+    (λ on. ((λ h. absurd (enemy (side own (subst F stands ((tells from on).0 h))))), (λ h. absurd (none h))))
+    (All-nil C))
+    (λ q off. tells q)
 
 -- the same of what is taken, without the square
-taken_lifted : (mask : ℕ) (old new : Board) (from : ℕ) → IsTaken mask old → Lifted old new from → from < 64 → IsTaken (without mask from) new
-taken_lifted mask old new from taken gone on_from q on =
-    elim (same_or_not q from) [
-      | inl e ↦
-          (let P : ℕ → Type 0 = λ x. (In (without mask from) x → ⊥) × IsEmpty new x in
-          let cleared = without_same mask from on_from in
-          let shut : (In (without mask from) from → ⊥) × IsEmpty new from = ((λ h. omega arith), gone.left) in
-          let both = subst P (sym e) shut in
-          ((λ h. absurd (both.0 h)), (λ h. absurd (h both.1))))
-      | inr f ↦
-          (let kept = without_other mask from q on_from on f in
-          let same = gone.others q f in (
-            λ h empty. (taken q on).0 (sym kept ∙ h) (sym same ∙ empty),
-            λ h. kept ∙ (taken q on).1 (λ empty. h (same ∙ empty)),
-          ))
-    ]
+taken_lifted : (mask : ℕ) (old new : Board) (from : ℕ) → IsTaken mask old → Differs old new ((from, None) ∷ []) → from < 64 → IsTaken (without mask from) new
+taken_lifted mask old new from taken gone on_from =
+    let T : ℕ → Option Piece → Type 0 = λ q place. q < 64 → (In (without mask from) q → ¬ (place ≡ None)) × (¬ (place ≡ None) → In (without mask from) q) in
+    let C : ℕ × Option Piece → Type 0 = λ c. T c.0 c.1 in
+    each_place old new ((from, None) ∷ []) T gone
+    (All-cons C (from, None) []
+    (λ on. let cleared = without_same mask from on_from in ((λ h. absurd (omega arith)), (λ h. absurd (h refl))))
+    (All-nil C))
+    (λ q off on.
+    let kept = without_other mask from q on_from on (off 0 (0, None) (omega arith)) in (
+      λ h. (taken q on).0 (sym kept ∙ h),
+      λ h. kept ∙ (taken q on).1 h,
+    ))
 
-pub sees_lifted : (old new : Board) (by : Colour) (sight : Sight) (from : ℕ) (own : Piece) → Sees old by sight → Lifted old new from
+pub sees_lifted : (old new : Board) (by : Colour) (sight : Sight) (from : ℕ) (own : Piece) → Sees old by sight → Differs old new ((from, None) ∷ [])
     → Holds old from own → own.colour ≢ by → from < 64 → Sees new by (record sight { occupied = without sight.occupied from })
 sees_lifted old new by sight from own sees gone stands enemy on =
     let one = λ (mask : ℕ) (kind : Kind) (tells : AreOf mask old by kind).

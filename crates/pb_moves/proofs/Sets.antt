@@ -7,7 +7,7 @@ use Rattle.std.proofs.lemmas.Nat.{one_shl}
 use Rattle.std.proofs.lemmas.Nat.Bits.{bit_at-zero, bit_at-lt, bit_at_and, bit_at_not, bit_at_or, bit_at_mask_inside, bit_at_mask_below, bit_at_mask_above}
 use Rattle.pb_moves.specs.Sight.{In}
 use Rattle.pb_moves.proofs.Rising.{zeros_some, low_bit}
-use Rattle.pb_moves.proofs.Unique.{same_or_not}
+use Rattle.pb_moves.proofs.Differing.{same_or_not}
 
 pub in_and : (x y q : ℕ) → In (bit_and x y) q → In x q × In y q
 in_and x y q h =

@@ -1,5 +1,6 @@
 -- The total function `after` is the setup of `After`, and its only one.
-use Rattle.std.proofs.Common.{◌≡◌, ◌≢◌, ℕ, ◌+◌, ◌*◌, ◌/◌, ◌<◌, ◌≤◌, ◌↔◌, refl, arith, inl, inr, sym, ap, subst, ◌∙◌, Option, Some, None, length, Bool, true, false, not, ◌&&◌, ◌||◌, eqb, IsTrue, length-set, get_or-set_other, get_or-set_same}
+use Rattle.std.proofs.Common.{◌≡◌, ◌≢◌, ℕ, ◌+◌, ◌*◌, ◌/◌, ◌<◌, ◌≤◌, ◌↔◌, refl, arith, inl, inr, sym, ap, subst, ◌∙◌, Option, Some, None, [], ◌∷◌, length, Bool, true, false, not, ◌&&◌, ◌||◌, eqb, IsTrue}
+use Rattle.std.proofs.lemmas.List.Elements.{All-nil, All-cons}
 use Rattle.std.proofs.lemmas.Bool.{eq-eqb}
 use Rattle.std.proofs.lemmas.Bool.Decides.{eqb_tells}
 use Rattle.pb_board.specs.declared.piece.Colour.{Colour}
@@ -9,59 +10,22 @@ use Rattle.pb_board.specs.declared.piece.Kind.TheVariants.{Pawn, Knight, Bishop,
 use Rattle.pb_board.specs.declared.piece.Piece.{Piece}
 use Rattle.pb_board.specs.declared.setup.Rights.{Rights}
 use Rattle.pb_board.specs.Piece.{king_of, rook_of}
-use Rattle.pb_board.specs.Board.{Board, file, rank, at, Holds, IsForward}
-use Rattle.pb_board.specs.Position.{Position, position_of, IsSetup}
+use Rattle.pb_board.specs.Board.{Board, Place, file, rank, at, Holds, IsForward}
+use Rattle.pb_board.specs.Position.{Position, position_of, IsSetup, beyond}
 use Rattle.pb_moves.specs.declared.castling.Castling.{Castling}
 use Rattle.pb_moves.specs.declared.castling.Castling.TheVariants.{WhiteShort, WhiteLong, BlackShort, BlackLong}
 use Rattle.pb_moves.specs.Attack.{files_apart, ranks_apart}
 use Rattle.pb_moves.specs.Moved.{Moved, moved_of, IsMove}
-use Rattle.pb_moves.specs.Castling.{CastlingRow, castling_row, Castled}
-use Rattle.pb_moves.specs.Cases.{Carried, CarriedPast, Becomes, CaseOf, piece_move, pawn_step, pawn_double, pawn_capture, en_passant, castles, Case, Legal}
+use Rattle.pb_moves.specs.Castling.{CastlingRow, castling_row, rook_goes}
+use Rattle.pb_moves.specs.Cases.{Differs, Becomes, Goes, Castles, CaseOf, piece_move, pawn_step, pawn_double, pawn_capture, en_passant, castles, Case, Legal}
 use Rattle.pb_moves.specs.After.{passed_over, Touches, KeepsFlag, After}
 use Rattle.pb_moves.specs.Successor.{put, arriving, beside, board_of, carried, keeps, ep_of_kind, ep_of, after}
 use Rattle.pb_moves.specs.MoveLaws.{AfterIs, OneAfter, AfterIsSetup}
-use Rattle.pb_moves.proofs.Unique.{piece_is, carried_one, carried_past_one, castled_one, case_one, king_near, pawn_files, step_ranks, passed_at}
-use Rattle.pb_moves.proofs.Kings.{pawn_reach, castling_king}
+use Rattle.pb_moves.proofs.Differing.{All-two, carried_past_put, carried_put, differs_one, differs_put, moved_board, off_two}
+use Rattle.pb_moves.proofs.Unique.{piece_is, case_one, king_near, pawn_files, step_ranks, passed_at}
+use Rattle.pb_moves.proofs.Kings.{becomes_king, castling_king, gone_is_beyond, pawn_reach}
 use Rattle.pb_moves.proofs.Kept.{setup_by_parts}
 use Rattle.pb_moves.proofs.LegalMoves.{legal_is_move}
-
--- what stands on the squares of a board after one is filled
-pub at_put_other : (b : Board) (q r : ℕ) (x : Option Piece) → r ≢ q → at (put b q x) r ≡ at b r
-at_put_other b q r x ne = get_or-set_other b q r x None ne
-
-pub at_put_same : (b : Board) (q : ℕ) (x : Option Piece) → length b ≡ 64 → q < 64 → at (put b q x) q ≡ x
-at_put_same b q x full lt = get_or-set_same b q x None (omega arith)
-
-pub length_put : (b : Board) (q : ℕ) (x : Option Piece) → length b ≡ 64 → length (put b q x) ≡ 64
-length_put b q x full = length-set b q x ∙ full
-
--- the board on which a piece was carried
-abbrev pub moved_board : Board → ℕ → ℕ → Piece → Board
-moved_board old from to p = put (put old from None) to (Some p)
-
-pub carried_put : (old : Board) (from to : ℕ) (p : Piece) → length old ≡ 64 → from < 64 → to < 64 → from ≢ to → Carried old (moved_board old from to p) from to p
-carried_put old from to p full on_from on_to ne =
-    let without = put old from None in
-    let full_without = length_put old from None full in
-    record {
-      squares = length_put without to (Some p) full_without;
-      left = at_put_other without to from (Some p) ne ∙ at_put_same old from None full on_from;
-      arrived = at_put_same without to (Some p) full_without on_to;
-      others = λ q f t. at_put_other without to q (Some p) t ∙ at_put_other old from q None f;
-    }
-
-pub carried_past_put : (old : Board) (from to gone : ℕ) (p : Piece) → length old ≡ 64 → from < 64 → to < 64 → gone < 64 → from ≢ to → from ≢ gone → to ≢ gone
-    → CarriedPast old (put (moved_board old from to p) gone None) from to gone p
-carried_past_put old from to gone p full on_from on_to on_gone ne apart_from apart_to =
-    let new = moved_board old from to p in
-    let x = carried_put old from to p full on_from on_to ne in
-    record {
-      squares = length_put new gone None x.squares;
-      left = at_put_other new gone from None apart_from ∙ x.left;
-      taken = at_put_same new gone None x.squares on_gone;
-      arrived = at_put_other new gone to None apart_to ∙ x.arrived;
-      others = λ q f t g. at_put_other new gone q None g ∙ x.others q f t;
-    }
 
 -- the board on which a king was carried, and then a rook
 abbrev pub castled_board : CastlingRow → Board → Board
@@ -80,21 +44,29 @@ pub record IsRow (row : CastlingRow) : Type 0 where
   pub to_rook_to : row.king_to ≢ row.rook_to
   pub rook_moves : row.rook_from ≢ row.rook_to
 
-pub castled_put : (row : CastlingRow) (old : Board) → IsRow row → length old ≡ 64 → Holds old row.rook_from (rook_of row.colour) → Castled row old (castled_board row old)
+pub castled_writes : (row : CastlingRow) (old : Board) → IsRow row → length old ≡ 64
+    → Differs old (put (put (moved_board old row.king_from row.king_to (king_of row.colour)) row.rook_from None) row.rook_to (Some (rook_of row.colour)))
+    ((row.king_from, None) ∷ (row.king_to, Some (king_of row.colour)) ∷ rook_goes row)
+castled_writes row old is full =
+    let king : Piece = king_of row.colour in
+    let rook : Piece = rook_of row.colour in
+    let a : ℕ × Place = (row.king_from, None) in
+    let b : ℕ × Place = (row.king_to, Some king) in
+    let c : ℕ × Place = (row.rook_from, None) in
+    let moved = moved_board old row.king_from row.king_to king in
+    let x = carried_put old row.king_from row.king_to king full is.king_from is.king_to is.king_moves in
+    let y = differs_put old moved (a ∷ b ∷ []) row.rook_from None x is.rook_from (off_two row.rook_from a b (λ e. is.from_rook (sym e)) (λ e. is.to_rook (sym e))) in
+    let O : ℕ × Place → Type 0 = λ q. row.rook_to ≢ q.0 in
+    let off = All-two O a b (c ∷ []) (λ e. is.from_rook_to (sym e)) (λ e. is.to_rook_to (sym e)) (All-cons O c [] (λ e. is.rook_moves (sym e)) (All-nil O)) in
+    differs_put old (put moved row.rook_from None) (a ∷ b ∷ c ∷ []) row.rook_to (Some rook) y is.rook_to off
+
+pub castled_put : (row : CastlingRow) (old : Board) → IsRow row → length old ≡ 64 → Holds old row.rook_from (rook_of row.colour)
+    → Differs old (castled_board row old) ((row.king_from, None) ∷ (row.king_to, Some (king_of row.colour)) ∷ rook_goes row)
 castled_put row old is full rook =
-    let king = moved_board old row.king_from row.king_to (king_of row.colour) in
-    let x = carried_put old row.king_from row.king_to (king_of row.colour) full is.king_from is.king_to is.king_moves in
-    let without = put king row.rook_from None in
-    let place = at old row.rook_from in
-    let full_without = length_put king row.rook_from None x.squares in
-    record {
-      squares = length_put without row.rook_to place full_without;
-      king_left = at_put_other without row.rook_to row.king_from place is.from_rook_to ∙ (at_put_other king row.rook_from row.king_from None is.from_rook ∙ x.left);
-      rook_left = at_put_other without row.rook_to row.rook_from place is.rook_moves ∙ at_put_same king row.rook_from None x.squares is.rook_from;
-      king = at_put_other without row.rook_to row.king_to place is.to_rook_to ∙ (at_put_other king row.rook_from row.king_to None is.to_rook ∙ x.arrived);
-      rook = at_put_same without row.rook_to place full_without is.rook_to ∙ rook;
-      others = λ q f g t u. at_put_other without row.rook_to q place u ∙ (at_put_other king row.rook_from q None g ∙ x.others q f t);
-    }
+    let moved = moved_board old row.king_from row.king_to (king_of row.colour) in
+    let P : Place → Type 0 = λ place.
+    Differs old (put (put moved row.rook_from None) row.rook_to place) ((row.king_from, None) ∷ (row.king_to, Some (king_of row.colour)) ∷ rook_goes row) in
+    subst P (sym rook) (castled_writes row old is full)
 
 pub rows : (c : Castling) → IsRow (castling_row c)
 rows WhiteShort = record { king_from = omega arith; king_to = omega arith; rook_from = omega arith; rook_to = omega arith; king_moves = λ e. omega arith; from_rook = λ e. omega arith; from_rook_to = λ e. omega arith; to_rook = λ e. omega arith; to_rook_to = λ e. omega arith; rook_moves = λ e. omega arith }
@@ -134,12 +106,12 @@ beside_passing Pawn old new m pawn other free =
     ]
 beside_passing k old new m pawn other free = absurd (cc)
 
--- what arrives is what the pawn becomes
-pub arriving_becomes : (side : Colour) (m : Moved) (k : Kind) (p : Piece) → p.colour ≡ side → p.kind ≡ Pawn → Becomes side m k
+-- what arrives is what the piece becomes
+pub arriving_becomes : (side : Colour) (m : Moved) (k : Kind) (p : Piece) → p.colour ≡ side → Becomes side m p.kind k
     → arriving p m.promo ≡ record { colour = side; kind = k }
-arriving_becomes side m k p own pawn (inl x) =
-    ap (arriving p) x.1 ∙ ap (λ (c : Colour). let q : Piece = record { colour = c; kind = k } in q) own
-arriving_becomes side m k p own pawn (inr x) = ap (arriving p) x.1 ∙ piece_is p side k own (pawn ∙ sym x.2)
+arriving_becomes side m k p own (inl x) =
+    ap (arriving p) x.2 ∙ ap (λ (c : Colour). let q : Piece = record { colour = c; kind = k } in q) own
+arriving_becomes side m k p own (inr x) = ap (arriving p) x.1 ∙ piece_is p side k own (sym x.2)
 
 pub castle_at : (c : Castling) (old : Board) → carried old (moved_of (castling_row c).king_from (castling_row c).king_to None) (king_of (castling_row c).colour) ≡ castled_board (castling_row c) old
 castle_at WhiteShort old = refl
@@ -158,46 +130,70 @@ castle_is c old m p from to promo king =
     let I : Piece → Board = λ q. carried old (moved_of row.king_from row.king_to None) q in
     ap F from ∙ (ap G to ∙ (ap H promo ∙ (ap I king ∙ castle_at c old)))
 
+-- the board on which the piece has gone, where nothing changes besides
+pub going_is : (s : Position) (m : Moved) (p : Piece) (new : Board) → IsSetup s → IsMove m → p.colour ≡ s.turn → Goes s m p [] new
+    → moved_board s.board m.from m.to (arriving p m.promo) ≡ new
+going_is s m p new ok is own x =
+    let q : Piece = record { colour = s.turn; kind = x.kind } in
+    let B : Piece → Board = λ z. moved_board s.board m.from m.to z in
+    ap B (arriving_becomes s.turn m x.kind p own x.becomes)
+    ∙ differs_one s.board _ new ((m.from, None) ∷ (m.to, Some q) ∷ []) (carried_put s.board m.from m.to q ok.places is.from_on_board is.to_on_board is.moves) x.board
+
+pub king_no_pawn : (k : Kind) → k ≡ King → k ≢ Pawn
+king_no_pawn k king pawn = cc
+
+pub no_promotion : (side : Colour) (m : Moved) (before k : Kind) → before ≢ Pawn → Becomes side m before k → m.promo ≡ None
+no_promotion side m before k other (inl x) = absurd (other x.0)
+no_promotion side m before k other (inr x) = x.1
+
+-- a king that castles is the row's king
+pub castles_differs : (row : CastlingRow) (s : Position) (m : Moved) (p : Piece) (new : Board) → Castles row s m p new
+    → Differs s.board new ((row.king_from, None) ∷ (row.king_to, Some (king_of row.colour)) ∷ rook_goes row)
+castles_differs row s m p new x =
+    let q : Piece = record { colour = s.turn; kind = x.after.kind } in
+    let K : Piece → Type 0 = λ z. Differs s.board new ((m.from, None) ∷ (m.to, Some z) ∷ rook_goes row) in
+    let F : ℕ → Type 0 = λ z. Differs s.board new ((z, None) ∷ (m.to, Some (king_of row.colour)) ∷ rook_goes row) in
+    let T : ℕ → Type 0 = λ z. Differs s.board new ((row.king_from, None) ∷ (z, Some (king_of row.colour)) ∷ rook_goes row) in
+    subst T x.to_table (subst F x.from_home
+    (subst K (piece_is q row.colour King x.allowed.side (becomes_king s.turn m p.kind x.after.kind x.king x.after.becomes)) x.after.board))
+
+pub castles_promo : (row : CastlingRow) (s : Position) (m : Moved) (p : Piece) (new : Board) → Castles row s m p new → m.promo ≡ None
+castles_promo row s m p new x = no_promotion s.turn m p.kind x.after.kind (king_no_pawn p.kind x.king) x.after.becomes
+
 -- the board after a case is the one that the function gives
 pub board_is : (s : Position) (m : Moved) (p : Piece) (new : Board) → IsSetup s → IsMove m → Holds s.board m.from p → p.colour ≡ s.turn
     → CaseOf s m p new → carried s.board m p ≡ new
 board_is s m p new ok is stands own (piece_move x) =
-    let first : arriving p m.promo ≡ p = ap (arriving p) x.no_promotion in
-    let after_carrying = carried_put s.board m.from m.to (arriving p m.promo) ok.places is.from_on_board is.to_on_board is.moves in
     beside_piece p.kind s.board (moved_board s.board m.from m.to (arriving p m.promo)) m x.no_pawn (king_near p.colour p.kind s.board m.from m.to x.reaches)
-    ∙ carried_one s.board _ new m.from m.to _ p first after_carrying x.after
+    ∙ going_is s m p new ok is own x.after
 board_is s m p new ok is stands own (pawn_step x) =
-    let after_carrying = carried_put s.board m.from m.to (arriving p m.promo) ok.places is.from_on_board is.to_on_board is.moves in
-    beside_straight p.kind s.board (moved_board s.board m.from m.to (arriving p m.promo)) m x.pawn x.same_file
-    ∙ carried_one s.board _ new m.from m.to _ _ (arriving_becomes s.turn m x.kind p own x.pawn x.becomes) after_carrying x.after
+    beside_straight p.kind s.board (moved_board s.board m.from m.to (arriving p m.promo)) m x.pawn x.same_file ∙ going_is s m p new ok is own x.after
 board_is s m p new ok is stands own (pawn_double x) =
-    let first : arriving p m.promo ≡ p = ap (arriving p) x.no_promotion in
-    let after_carrying = carried_put s.board m.from m.to (arriving p m.promo) ok.places is.from_on_board is.to_on_board is.moves in
-    beside_straight p.kind s.board (moved_board s.board m.from m.to (arriving p m.promo)) m x.pawn x.same_file
-    ∙ carried_one s.board _ new m.from m.to _ p first after_carrying x.after
+    beside_straight p.kind s.board (moved_board s.board m.from m.to (arriving p m.promo)) m x.pawn x.same_file ∙ going_is s m p new ok is own x.after
 board_is s m p new ok is stands own (pawn_capture x) =
-    let after_carrying = carried_put s.board m.from m.to (arriving p m.promo) ok.places is.from_on_board is.to_on_board is.moves in
-    beside_taking p.kind s.board (moved_board s.board m.from m.to (arriving p m.promo)) m _ x.pawn x.target.stands
-    ∙ carried_one s.board _ new m.from m.to _ _ (arriving_becomes s.turn m x.kind p own x.pawn x.becomes) after_carrying x.after
+    beside_taking p.kind s.board (moved_board s.board m.from m.to (arriving p m.promo)) m _ x.pawn x.target.stands ∙ going_is s m p new ok is own x.after
 board_is s m p new ok is stands own (en_passant x) =
-    let first : arriving p m.promo ≡ p = ap (arriving p) x.no_promotion in
+    let q : Piece = record { colour = s.turn; kind = x.after.kind } in
     let gone = 8 * rank m.from + file m.to in
-    let same : x.gone ≡ 8 * rank m.from + file m.to = let f = x.gone_file in let r = x.gone_rank in omega arith in
     let files : files_apart m.from m.to ≡ 1 = pawn_files p.colour p.kind s.board m.from m.to x.reaches x.pawn in
     let P : Colour → Type 0 = λ z. IsForward z 1 m.from m.to in
-    let ranks : ranks_apart m.from m.to ≡ 1 = step_ranks p.colour 1 m.from m.to (pawn_reach p.colour p.kind s.board m.from m.to x.reaches x.pawn) in
+    let forward = subst P own (pawn_reach p.colour p.kind s.board m.from m.to x.reaches x.pawn) in
+    let ranks : ranks_apart m.from m.to ≡ 1 = step_ranks s.turn 1 m.from m.to forward in
+    let same : 8 * rank m.from + file m.to ≡ beyond s.turn m.to = gone_is_beyond s.turn m.from m.to gone forward (omega arith) (omega arith) in
     let on_from = is.from_on_board in
-    let after_carrying =
-    carried_past_put s.board m.from m.to gone p ok.places on_from is.to_on_board (omega arith) is.moves (λ e. omega arith) (λ e. omega arith) in
-    let Q : ℕ → Type 0 = λ g. CarriedPast s.board new m.from m.to g p in
+    let D : ℕ → Type 0 = λ g. Differs s.board new ((m.from, None) ∷ (m.to, Some q) ∷ (g, None) ∷ []) in
+    let B : Piece → Board = λ z. put (moved_board s.board m.from m.to z) gone None in
     beside_passing p.kind s.board (moved_board s.board m.from m.to (arriving p m.promo)) m x.pawn (λ e. omega arith) (passed_at s m.to ok x.passed).1.empty
-    ∙ ap (λ (q : Piece). put (moved_board s.board m.from m.to q) gone None) first
-    ∙ carried_past_one s.board _ new m.from m.to gone p after_carrying (subst Q same x.after)
+    ∙ ap B (arriving_becomes s.turn m x.after.kind p own x.after.becomes)
+    ∙ differs_one s.board _ new ((m.from, None) ∷ (m.to, Some q) ∷ (gone, None) ∷ [])
+    (carried_past_put s.board m.from m.to gone q ok.places on_from is.to_on_board (omega arith) is.moves (λ e. omega arith) (λ e. omega arith))
+    (subst D (sym same) x.after.board)
 board_is s m p new ok is stands own (castles c x) =
     let row = castling_row c in
     let king = castling_king s m p row stands own x.king x.from_home x.allowed in
-    castle_is c s.board m p x.from_home x.to_table x.no_promotion king.0
-    ∙ castled_one row s.board _ new (castled_put row s.board (rows c) ok.places x.allowed.rook) x.after
+    castle_is c s.board m p x.from_home x.to_table (castles_promo row s m p new x) king.0
+    ∙ differs_one s.board _ new ((row.king_from, None) ∷ (row.king_to, Some (king_of row.colour)) ∷ rook_goes row)
+    (castled_put row s.board (rows c) ok.places x.allowed.rook) (castles_differs row s m p new x)
 
 -- the square passed over is the one that the function gives
 pub ep_other : (k : Kind) (m : Moved) → k ≢ Pawn → ep_of_kind k m ≡ None
@@ -224,9 +220,6 @@ pub halfway : (side : Colour) (from to passed : ℕ) → file to ≡ file from �
     → (from + to) / 2 ≡ passed
 halfway White from to passed same_file passed_file two one = omega arith
 halfway Black from to passed same_file passed_file two one = omega arith
-
-pub king_no_pawn : (k : Kind) → k ≡ King → k ≢ Pawn
-king_no_pawn k king pawn = cc
 
 pub ep_is : (s : Position) (m : Moved) (p : Piece) (new : Board) (x : CaseOf s m p new) → ep_of_kind p.kind m ≡ passed_over s m p new x
 ep_is s m p new (piece_move x) = ep_other p.kind m x.no_pawn

@@ -13,7 +13,7 @@ use Rattle.pb_board.specs.declared.piece.Kind.TheVariants.{Pawn, Knight, Bishop,
 use Rattle.pb_moves.specs.Candidate.{MayGo}
 use Rattle.pb_moves.specs.Attack.{files_apart, ranks_apart, IsKnightsMove, IsDiagonal, IsStraight}
 use Rattle.pb_moves.proofs.Below.{all_below, all_below_at}
-use Rattle.pb_moves.proofs.Unique.{same_or_not}
+use Rattle.pb_moves.proofs.Differing.{same_or_not}
 
 pub both : (x y : Bool) → x ≡ true → y ≡ true → (x && y) ≡ true
 both x y p q = cc

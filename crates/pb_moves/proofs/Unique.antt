@@ -1,36 +1,20 @@
 -- A move leads to one board at most: the cases exclude one another, and each names all that changes.
-use Rattle.std.proofs.Common.{◌≡◌, ◌≢◌, ℕ, ◌≤◌, ◌⊎◌, refl, arith, inl, inr, sym, ap, subst, ◌∙◌, Option, Some, None, List, [], ◌∷◌, length, get_or, zero, suc, Bool, true, false, is_some}
-use Rattle.std.proofs.lemmas.Bool.{cases_order}
+use Rattle.std.proofs.Common.{◌≡◌, ◌≢◌, ℕ, ◌≤◌, refl, arith, inl, inr, sym, ap, subst, ◌∙◌, Option, Some, None, List, [], ◌∷◌, zero, suc, Bool, true, false, is_some}
 use Rattle.pb_board.specs.declared.piece.Colour.{Colour}
 use Rattle.pb_board.specs.declared.piece.Colour.TheVariants.{White, Black}
 use Rattle.pb_board.specs.declared.piece.Kind.{Kind}
 use Rattle.pb_board.specs.declared.piece.Kind.TheVariants.{Pawn, Knight, Bishop, Rook, Queen, King}
 use Rattle.pb_board.specs.declared.piece.Piece.{Piece}
-use Rattle.pb_board.specs.Piece.{opponent, king_of, rook_of}
-use Rattle.pb_board.specs.Board.{Board, at, IsForward}
-use Rattle.pb_board.specs.Position.{Position, IsSetup, EnPassantHolds, OnPassedRank, IsPassed}
+use Rattle.pb_board.specs.Piece.{opponent}
+use Rattle.pb_board.specs.Board.{Board, Place, at, IsForward}
+use Rattle.pb_board.specs.Position.{Position, IsSetup, EnPassantHolds, OnPassedRank, IsPassed, beyond}
 use Rattle.pb_moves.specs.Attack.{files_apart, ranks_apart, ReachesBy}
 use Rattle.pb_moves.specs.declared.castling.Castling.{Castling}
 use Rattle.pb_moves.specs.declared.castling.Castling.TheVariants.{WhiteShort, WhiteLong, BlackShort, BlackLong}
 use Rattle.pb_moves.specs.Moved.{Moved}
-use Rattle.pb_moves.specs.Castling.{Castled, CastlingRow, castling_row}
-use Rattle.pb_moves.specs.Cases.{Carried, CarriedPast, Becomes, CaseOf, piece_move, pawn_step, pawn_double, pawn_capture, en_passant, castles, Case}
-
--- lists of one length with the same element at each index are equal
-pub same_lists : {X : Type 0} (xs ys : List X) (d : X) → length xs ≡ length ys → ((q : ℕ) → get_or xs q d ≡ get_or ys q d) → xs ≡ ys
-same_lists [] [] d n e = refl
-same_lists [] (y ∷ ys) d n e = absurd (omega arith)
-same_lists (x ∷ xs) [] d n e = absurd (omega arith)
-same_lists (x ∷ xs) (y ∷ ys) d n e =
-    let head : x ≡ y = e 0 in
-    let tail = same_lists xs ys d (omega arith) (λ q. e (suc q)) in
-    cc
-
-pub same_boards : (b c : Board) → length b ≡ 64 → length c ≡ 64 → ((q : ℕ) → at b q ≡ at c q) → b ≡ c
-same_boards b c m n e = same_lists b c None (m ∙ sym n) e
-
-pub same_or_not : (a b : ℕ) → (a ≡ b) ⊎ (a ≢ b)
-same_or_not a b = elim (cases_order a b) [ inl e ↦ inl e | inr o ↦ inr (λ same. elim o [ inl l ↦ omega arith | inr g ↦ omega arith ]) ]
+use Rattle.pb_moves.specs.Castling.{castling_row, rook_goes}
+use Rattle.pb_moves.specs.Cases.{Differs, Becomes, Goes, CaseOf, piece_move, pawn_step, pawn_double, pawn_capture, en_passant, castles, Case}
+use Rattle.pb_moves.proofs.Differing.{differs_one}
 
 -- a piece is its colour and its kind
 pub piece_is : (p : Piece) (colour : Colour) (kind : Kind) → p.colour ≡ colour → p.kind ≡ kind → p ≡ record { colour = colour; kind = kind }
@@ -39,58 +23,36 @@ piece_is p colour kind c k =
     let G : Colour → Piece = λ x. record { colour = x; kind = kind } in
     ap F k ∙ ap G c
 
--- what two boards hold at a square that is known on both
-pub both_at : (b c : Board) (q r : ℕ) (x : Option Piece) → q ≡ r → at b r ≡ x → at c r ≡ x → at b q ≡ at c q
-both_at b c q r x same left right = let P : ℕ → Type 0 = λ k. at b k ≡ at c k in subst P (sym same) (left ∙ sym right)
+-- what becomes of the piece is settled by the move
+pub becomes_one : (side : Colour) (m : Moved) (before k l : Kind) → Becomes side m before k → Becomes side m before l → k ≡ l
+becomes_one side m before k l (inl x) (inl y) = cc
+becomes_one side m before k l (inr x) (inr y) = cc
+becomes_one side m before k l (inl x) (inr y) = absurd (y.0 x.0 x.1)
+becomes_one side m before k l (inr x) (inl y) = absurd (x.0 y.0 y.1)
 
-pub carried_one : (old b c : Board) (from to : ℕ) (p q : Piece) → p ≡ q → Carried old b from to p → Carried old c from to q → b ≡ c
-carried_one old b c from to p q same x y =
-    same_boards b c x.squares y.squares (λ k.
-    elim (same_or_not k from) [
-      | inl e ↦ both_at b c k from None e x.left y.left
-      | inr f ↦ elim (same_or_not k to) [
-        | inl e ↦ both_at b c k to (Some p) e x.arrived (y.arrived ∙ ap (λ (z : Piece). Some z) (sym same))
-        | inr t ↦ x.others k f t ∙ sym (y.others k f t)
-      ]
-    ])
+pub goes_one : (s : Position) (m : Moved) (p : Piece) (besides : List (ℕ × Place)) (b c : Board) → Goes s m p besides b → Goes s m p besides c → b ≡ c
+goes_one s m p besides b c x y =
+    let arriving : Kind → Piece = λ k. record { colour = s.turn; kind = k } in
+    let D : Kind → Type 0 = λ k. Differs s.board c ((m.from, None) ∷ (m.to, Some (arriving k)) ∷ besides) in
+    differs_one s.board b c ((m.from, None) ∷ (m.to, Some (arriving x.kind)) ∷ besides) x.board
+    (subst D (becomes_one s.turn m p.kind y.kind x.kind y.becomes x.becomes) y.board)
 
-pub carried_past_one : (old b c : Board) (from to gone : ℕ) (p : Piece) → CarriedPast old b from to gone p → CarriedPast old c from to gone p → b ≡ c
-carried_past_one old b c from to gone p x y =
-    same_boards b c x.squares y.squares (λ k.
-    elim (same_or_not k from) [
-      | inl e ↦ both_at b c k from None e x.left y.left
-      | inr f ↦ elim (same_or_not k to) [
-        | inl e ↦ both_at b c k to (Some p) e x.arrived y.arrived
-        | inr t ↦ elim (same_or_not k gone) [
-          | inl e ↦ both_at b c k gone None e x.taken y.taken
-          | inr g ↦ x.others k f t g ∙ sym (y.others k f t g)
-        ]
-      ]
-    ])
+-- the squares that change besides the two of the move
+abbrev pub besides_of : (s : Position) (m : Moved) (piece : Piece) (new : Board) → CaseOf s m piece new → List (ℕ × Place)
+besides_of s m piece new (piece_move x) = []
+besides_of s m piece new (pawn_step x) = []
+besides_of s m piece new (pawn_double x) = []
+besides_of s m piece new (pawn_capture x) = []
+besides_of s m piece new (en_passant x) = (beyond s.turn m.to, None) ∷ []
+besides_of s m piece new (castles c x) = rook_goes (castling_row c)
 
-pub castled_one : (row : CastlingRow) (old b c : Board) → Castled row old b → Castled row old c → b ≡ c
-castled_one row old b c x y =
-    same_boards b c x.squares y.squares (λ k.
-    elim (same_or_not k row.king_from) [
-      | inl e ↦ both_at b c k row.king_from None e x.king_left y.king_left
-      | inr f ↦ elim (same_or_not k row.rook_from) [
-        | inl e ↦ both_at b c k row.rook_from None e x.rook_left y.rook_left
-        | inr g ↦ elim (same_or_not k row.king_to) [
-          | inl e ↦ both_at b c k row.king_to (Some (king_of row.colour)) e x.king y.king
-          | inr t ↦ elim (same_or_not k row.rook_to) [
-            | inl e ↦ both_at b c k row.rook_to (Some (rook_of row.colour)) e x.rook y.rook
-            | inr u ↦ x.others k f g t u ∙ sym (y.others k f g t u)
-          ]
-        ]
-      ]
-    ])
-
--- what a pawn becomes is settled by the move
-pub becomes_one : (side : Colour) (m : Moved) (k l : Kind) → Becomes side m k → Becomes side m l → k ≡ l
-becomes_one side m k l (inl x) (inl y) = cc
-becomes_one side m k l (inr x) (inr y) = cc
-becomes_one side m k l (inl x) (inr y) = absurd (y.0 x.0)
-becomes_one side m k l (inr x) (inl y) = absurd (x.0 y.0)
+pub goes_of : (s : Position) (m : Moved) (piece : Piece) (new : Board) (x : CaseOf s m piece new) → Goes s m piece (besides_of s m piece new x) new
+goes_of s m piece new (piece_move x) = x.after
+goes_of s m piece new (pawn_step x) = x.after
+goes_of s m piece new (pawn_double x) = x.after
+goes_of s m piece new (pawn_capture x) = x.after
+goes_of s m piece new (en_passant x) = x.after
+goes_of s m piece new (castles c x) = x.after
 
 -- the en passant square of a setup is empty, and the pawn that passed it stands beyond
 pub passed_at : (s : Position) (q : ℕ) → IsSetup s → s.ep ≡ Some q → OnPassedRank s.turn q × IsPassed s.board s.turn q
@@ -179,20 +141,15 @@ castling_one BlackLong BlackLong e = refl
 castling_one c d e = absurd (omega arith)
 
 pub case_of_one : (s : Position) (m : Moved) (piece : Piece) (b c : Board) → IsSetup s → CaseOf s m piece b → CaseOf s m piece c → b ≡ c
-case_of_one s m piece b c ok (piece_move x) (piece_move y) = carried_one s.board b c m.from m.to piece piece refl x.after y.after
-case_of_one s m piece b c ok (pawn_step x) (pawn_step y) =
-    carried_one s.board b c m.from m.to _ _ (ap (λ (k : Kind). let p : Piece = record { colour = s.turn; kind = k } in p) (becomes_one s.turn m x.kind y.kind x.becomes y.becomes)) x.after y.after
-case_of_one s m piece b c ok (pawn_double x) (pawn_double y) = carried_one s.board b c m.from m.to piece piece refl x.after y.after
-case_of_one s m piece b c ok (pawn_capture x) (pawn_capture y) =
-    carried_one s.board b c m.from m.to _ _ (ap (λ (k : Kind). let p : Piece = record { colour = s.turn; kind = k } in p) (becomes_one s.turn m x.kind y.kind x.becomes y.becomes)) x.after y.after
-case_of_one s m piece b c ok (en_passant x) (en_passant y) =
-    let same : y.gone ≡ x.gone = omega arith in
-    let P : ℕ → Type 0 = λ g. CarriedPast s.board c m.from m.to g piece in
-    carried_past_one s.board b c m.from m.to x.gone piece x.after (subst P same y.after)
+case_of_one s m piece b c ok (piece_move x) (piece_move y) = goes_one s m piece [] b c x.after y.after
+case_of_one s m piece b c ok (pawn_step x) (pawn_step y) = goes_one s m piece [] b c x.after y.after
+case_of_one s m piece b c ok (pawn_double x) (pawn_double y) = goes_one s m piece [] b c x.after y.after
+case_of_one s m piece b c ok (pawn_capture x) (pawn_capture y) = goes_one s m piece [] b c x.after y.after
+case_of_one s m piece b c ok (en_passant x) (en_passant y) = goes_one s m piece ((beyond s.turn m.to, None) ∷ []) b c x.after y.after
 case_of_one s m piece b c ok (castles k x) (castles l y) =
     let same : l ≡ k = castling_one l k (sym y.to_table ∙ x.to_table) in
-    let P : Castling → Type 0 = λ z. Castled (castling_row z) s.board c in
-    castled_one (castling_row k) s.board b c x.after (subst P same y.after)
+    let P : Castling → Type 0 = λ z. Goes s m piece (rook_goes (castling_row z)) c in
+    goes_one s m piece (rook_goes (castling_row k)) b c x.after (subst P same y.after)
 case_of_one s m piece b c ok x y = absurd (omega (arith, classes s m piece b ok x, classes s m piece c ok y))
 
 -- a move leads to one board at most

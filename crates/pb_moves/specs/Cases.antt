@@ -9,34 +9,25 @@
 --   castles       the king         a row of the castling table           see Castling
 --
 -- A pawn that reaches the last rank becomes a knight, bishop, rook or queen, and no other move names a promotion.
-use Rattle.std.specs.Prelude.{◌≡◌, ◌≢◌, ℕ, ◌⊎◌, length, Some, None}
+use Rattle.std.specs.Prelude.{◌≡◌, ◌≢◌, ℕ, ◌⊎◌, List, [], ◌∷◌, length, Some, None, All}
 use Rattle.pb_board.specs.declared.piece.Colour.{Colour}
 use Rattle.pb_board.specs.declared.piece.Colour.TheVariants.{White, Black}
 use Rattle.pb_board.specs.declared.piece.Kind.{Kind}
 use Rattle.pb_board.specs.declared.piece.Kind.TheVariants.{Pawn, King}
 use Rattle.pb_board.specs.declared.piece.Piece.{Piece}
-use Rattle.pb_board.specs.Position.{Position}
+use Rattle.pb_board.specs.Position.{Position, beyond}
 use Rattle.pb_board.specs.Piece.{opponent}
-use Rattle.pb_board.specs.Board.{Board, file, rank, at, Holds, IsEmpty, IsForward}
+use Rattle.pb_board.specs.Board.{Board, Place, file, rank, at, Holds, IsEmpty, IsForward}
 use Rattle.pb_moves.specs.declared.castling.Castling.{Castling}
 use Rattle.pb_moves.specs.Attack.{Reaches, InCheck}
-use Rattle.pb_moves.specs.Castling.{CastlingRow, castling_row, Castled, MayCastle}
+use Rattle.pb_moves.specs.Castling.{CastlingRow, castling_row, rook_goes, MayCastle}
 use Rattle.pb_moves.specs.Moved.{Moved, IsPromotion}
 
--- on the new board `from` is empty and this piece stands on `to`; the other squares are as they were
-pub record Carried (old new : Board) (from to : ℕ) (piece : Piece) : Type 0 where
+-- the new board has 64 places, on each named square it holds what is named, and every other square is as it was
+pub record Differs (old new : Board) (now : List (ℕ × Place)) : Type 0 where
   pub squares : length new ≡ 64
-  pub left : IsEmpty new from
-  pub arrived : Holds new to piece
-  pub others : (q : ℕ) → q ≢ from → q ≢ to → at new q ≡ at old q
-
--- the same, and a third square is emptied
-pub record CarriedPast (old new : Board) (from to gone : ℕ) (piece : Piece) : Type 0 where
-  pub squares : length new ≡ 64
-  pub left : IsEmpty new from
-  pub taken : IsEmpty new gone
-  pub arrived : Holds new to piece
-  pub others : (q : ℕ) → q ≢ from → q ≢ to → q ≢ gone → at new q ≡ at old q
+  pub named : All (λ c. at new c.0 ≡ c.1) now
+  pub others : (q : ℕ) → All (λ c. q ≢ c.0) now → at new q ≡ at old q
 
 -- an enemy piece other than the king stands there
 pub record IsPrey (board : Board) (side : Colour) (square : ℕ) : Type 0 where
@@ -53,19 +44,24 @@ abbrev pub pawn_rank : Colour → ℕ
 pawn_rank White = 1
 pawn_rank Black = 6
 
--- what the pawn is after the move: a promotion exactly if `to` is on the last rank
-abbrev pub Becomes : Colour → Moved → Kind → Type 0
-Becomes side m kind =
-    ((rank m.to ≡ last_rank side) × (m.promo ≡ Some kind) × IsPromotion kind)
-    ⊎ ((rank m.to ≢ last_rank side) × (m.promo ≡ None) × (kind ≡ Pawn))
+-- what a piece of this kind is after the move: a pawn on the last rank what the move names, anything else what it was
+abbrev pub Becomes : Colour → Moved → Kind → Kind → Type 0
+Becomes side m before kind =
+    ((before ≡ Pawn) × (rank m.to ≡ last_rank side) × (m.promo ≡ Some kind) × IsPromotion kind)
+    ⊎ ((before ≡ Pawn → rank m.to ≢ last_rank side) × (m.promo ≡ None) × (kind ≡ before))
+
+-- the piece goes from `from` to `to`, and besides these two squares the named ones change
+pub record Goes (s : Position) (m : Moved) (piece : Piece) (besides : List (ℕ × Place)) (new : Board) : Type 0 where
+  pub kind : Kind
+  pub becomes : Becomes s.turn m piece.kind kind
+  pub board : Differs s.board new ((m.from, None) ∷ (m.to, Some (record { colour = s.turn; kind = kind })) ∷ besides)
 
 -- a knight, bishop, rook, queen or king goes where it attacks
 pub record PieceMove (s : Position) (m : Moved) (piece : Piece) (new : Board) : Type 0 where
   pub no_pawn : piece.kind ≢ Pawn
   pub reaches : Reaches piece s.board m.from m.to
   pub target : IsEmpty s.board m.to ⊎ IsPrey s.board s.turn m.to
-  pub no_promotion : m.promo ≡ None
-  pub after : Carried s.board new m.from m.to piece
+  pub after : Goes s m piece [] new
 
 -- a pawn goes one step forward
 pub record PawnStep (s : Position) (m : Moved) (piece : Piece) (new : Board) : Type 0 where
@@ -73,9 +69,7 @@ pub record PawnStep (s : Position) (m : Moved) (piece : Piece) (new : Board) : T
   pub same_file : file m.to ≡ file m.from
   pub forward : IsForward s.turn 1 m.from m.to
   pub empty : IsEmpty s.board m.to
-  pub kind : Kind
-  pub becomes : Becomes s.turn m kind
-  pub after : Carried s.board new m.from m.to (record { colour = s.turn; kind = kind })
+  pub after : Goes s m piece [] new
 
 -- a pawn goes two steps forward from where it began, over this square
 pub record PawnDouble (s : Position) (m : Moved) (piece : Piece) (new : Board) : Type 0 where
@@ -88,37 +82,29 @@ pub record PawnDouble (s : Position) (m : Moved) (piece : Piece) (new : Board) :
   pub passed_forward : IsForward s.turn 1 m.from passed
   pub passed_empty : IsEmpty s.board passed
   pub empty : IsEmpty s.board m.to
-  pub no_promotion : m.promo ≡ None
-  pub after : Carried s.board new m.from m.to piece
+  pub after : Goes s m piece [] new
 
 -- a pawn takes what it attacks
 pub record PawnCapture (s : Position) (m : Moved) (piece : Piece) (new : Board) : Type 0 where
   pub pawn : piece.kind ≡ Pawn
   pub reaches : Reaches piece s.board m.from m.to
   pub target : IsPrey s.board s.turn m.to
-  pub kind : Kind
-  pub becomes : Becomes s.turn m kind
-  pub after : Carried s.board new m.from m.to (record { colour = s.turn; kind = kind })
+  pub after : Goes s m piece [] new
 
 -- a pawn goes to the en passant square that it attacks, and takes the pawn beyond it
 pub record EnPassant (s : Position) (m : Moved) (piece : Piece) (new : Board) : Type 0 where
   pub pawn : piece.kind ≡ Pawn
   pub reaches : Reaches piece s.board m.from m.to
   pub passed : s.ep ≡ Some m.to
-  pub no_promotion : m.promo ≡ None
-  pub gone : ℕ
-  pub gone_file : file gone ≡ file m.to
-  pub gone_rank : rank gone ≡ rank m.from
-  pub after : CarriedPast s.board new m.from m.to gone piece
+  pub after : Goes s m piece ((beyond s.turn m.to, None) ∷ []) new
 
 -- castling by a row of the table
 pub record Castles (row : CastlingRow) (s : Position) (m : Moved) (piece : Piece) (new : Board) : Type 0 where
   pub king : piece.kind ≡ King
   pub from_home : m.from ≡ row.king_from
   pub to_table : m.to ≡ row.king_to
-  pub no_promotion : m.promo ≡ None
   pub allowed : MayCastle row s
-  pub after : Castled row s.board new
+  pub after : Goes s m piece (rook_goes row) new
 
 -- one of the cases relates the two boards
 pub data CaseOf (s : Position) (m : Moved) (piece : Piece) (new : Board) : Type 0 where

@@ -1,10 +1,10 @@
 -- Castling: the table of its four forms, when each is allowed, and what it does to the board.
-use Rattle.std.specs.Prelude.{◌≡◌, ◌≢◌, ℕ, List, [], ◌∷◌, length, IsTrue, All, Bool}
+use Rattle.std.specs.Prelude.{◌≡◌, ℕ, List, [], ◌∷◌, Some, None, IsTrue, All, Bool}
 use Rattle.pb_board.specs.declared.piece.Colour.{Colour}
 use Rattle.pb_board.specs.declared.piece.Colour.TheVariants.{White, Black}
 use Rattle.pb_board.specs.declared.setup.Rights.{Rights}
-use Rattle.pb_board.specs.Piece.{opponent, king_of, rook_of}
-use Rattle.pb_board.specs.Board.{Board, at, Holds, IsEmpty}
+use Rattle.pb_board.specs.Piece.{opponent, rook_of}
+use Rattle.pb_board.specs.Board.{Place, Holds, IsEmpty}
 use Rattle.pb_board.specs.Position.{Position}
 use Rattle.pb_moves.specs.declared.castling.Castling.{Castling}
 use Rattle.pb_moves.specs.declared.castling.Castling.TheVariants.{WhiteShort, WhiteLong, BlackShort, BlackLong}
@@ -29,14 +29,9 @@ castling_row WhiteLong = record { colour = White; right = λ r. r.white_long; ki
 castling_row BlackShort = record { colour = Black; right = λ r. r.black_short; king_from = 60; king_to = 62; rook_from = 63; rook_to = 61; empty = 61 ∷ 62 ∷ []; unattacked = 60 ∷ 61 ∷ [] }
 castling_row BlackLong = record { colour = Black; right = λ r. r.black_long; king_from = 60; king_to = 58; rook_from = 56; rook_to = 59; empty = 57 ∷ 58 ∷ 59 ∷ []; unattacked = 60 ∷ 59 ∷ [] }
 
--- king and rook have moved; the other squares are as they were
-pub record Castled (row : CastlingRow) (old new : Board) : Type 0 where
-  pub squares : length new ≡ 64
-  pub king_left : IsEmpty new row.king_from
-  pub rook_left : IsEmpty new row.rook_from
-  pub king : Holds new row.king_to (king_of row.colour)
-  pub rook : Holds new row.rook_to (rook_of row.colour)
-  pub others : (q : ℕ) → q ≢ row.king_from → q ≢ row.rook_from → q ≢ row.king_to → q ≢ row.rook_to → at new q ≡ at old q
+-- what castling changes besides the king's two squares: the rook goes too
+abbrev pub rook_goes : CastlingRow → List (ℕ × Place)
+rook_goes row = (row.rook_from, None) ∷ (row.rook_to, Some (rook_of row.colour)) ∷ []
 
 -- the side to move may castle by a row: it has the flag, its rook stands there, the squares named are
 -- empty, and the enemy attacks none of the others named

@@ -1,18 +1,20 @@
 -- What a move does to the board, as a value.
-use Rattle.std.specs.Prelude.{◌≡◌, ◌≢◌, ◌<◌, Option, MatchOption}
-use Rattle.pb_board.specs.Piece.{rook_of}
+use Rattle.std.specs.Prelude.{◌≡◌, ◌≢◌, ◌<◌, [], ◌∷◌, Option, Some, None, MatchOption}
+use Rattle.pb_board.specs.Piece.{king_of, rook_of}
 use Rattle.pb_board.specs.Board.{Board, Holds}
 use Rattle.pb_moves.specs.declared.change.Change.{Change}
 use Rattle.pb_moves.specs.declared.change.Change.TheVariants.{Carry, CarryPast, Castle}
-use Rattle.pb_moves.specs.Castling.{castling_row, Castled}
-use Rattle.pb_moves.specs.Cases.{Carried, CarriedPast}
+use Rattle.pb_moves.specs.Castling.{castling_row, rook_goes}
+use Rattle.pb_moves.specs.Cases.{Differs}
 use Rattle.pb_moves.specs.Moved.{Moved}
 
 -- the change leads from the old board to the new
 abbrev pub Changes : Change → Moved → Board → Board → Type 0
-Changes (Carry piece) m old new = Carried old new m.from m.to piece
-Changes (CarryPast piece gone) m old new = CarriedPast old new m.from m.to gone piece
-Changes (Castle castling) m old new = Castled (castling_row castling) old new
+Changes (Carry piece) m old new = Differs old new ((m.from, None) ∷ (m.to, Some piece) ∷ [])
+Changes (CarryPast piece gone) m old new = Differs old new ((m.from, None) ∷ (m.to, Some piece) ∷ (gone, None) ∷ [])
+Changes (Castle castling) m old new =
+    let row = castling_row castling in
+    Differs old new ((m.from, None) ∷ (m.to, Some (king_of row.colour)) ∷ rook_goes row)
 
 -- the change is one of this move: a pawn that is taken elsewhere stands on neither of its two squares; a king that castles goes from the
 -- one to the other, and its rook stands where it leaves

@@ -35,7 +35,7 @@ pub(crate) fn piece_move(setup: &Setup, m: Move, piece: Piece) -> Option<Change>
 /// What the pawn of this move is afterwards, if the move promotes just where it has to.
 #[inline]
 fn becomes(side: Colour, m: Move) -> Option<Kind>
-    ensures { MatchOption result ((k : Kind) → ¬ Becomes side m k) (Becomes side m) }
+    ensures { MatchOption result ((k : Kind) → ¬ Becomes side m Pawn k) (Becomes side m Pawn) }
 {
     let last_rank = match side {
         Colour::White => 7,
@@ -89,16 +89,17 @@ pub(crate) fn pawn_double(setup: &Setup, m: Move, pawn: Piece) -> Option<Change>
     requires pawn { pawn.kind ≡ Pawn }
     ensures { Finds (PawnDouble setup.now m pawn) setup.now.board m result }
 {
+    let colour = pawn.colour;
     let board = setup.board();
     let (from, to) = (m.from(), m.to());
-    if m.promo().is_none()
-        && to.file() == from.file()
-        && from.rank() == pawn_rank(pawn.colour)
-        && is_forward(pawn.colour, 2, from, to)
+    let kind = becomes(colour, m)?;
+    if to.file() == from.file()
+        && from.rank() == pawn_rank(colour)
+        && is_forward(colour, 2, from, to)
         && is_empty(board, to)
         && is_empty(board, passed(from, to))
     {
-        Some(Change::Carry(pawn))
+        Some(Change::Carry(Piece { colour, kind }))
     } else {
         None
     }
@@ -131,14 +132,14 @@ pub(crate) fn en_passant(setup: &Setup, m: Move, pawn: Piece) -> Option<Change>
     requires pawn { pawn.kind ≡ Pawn }
     ensures { Finds (EnPassant setup.now m pawn) setup.now.board m result }
 {
+    let colour = pawn.colour;
     let (from, to) = (m.from(), m.to());
+    let kind = becomes(colour, m)?;
     match setup.ep() {
-        Some(ep)
-            if ep.index() == to.index() && m.promo().is_none() && reaches(pawn, setup, from, to) =>
-            {
-                let gone = square_at(8 * from.rank() + to.file());
-                Some(Change::CarryPast(pawn, gone))
-            }
+        Some(ep) if ep.index() == to.index() && reaches(pawn, setup, from, to) => {
+            let gone = square_at(8 * from.rank() + to.file());
+            Some(Change::CarryPast(Piece { colour, kind }, gone))
+        }
         _ => None,
     }
 }

@@ -1,13 +1,13 @@
 //! Castling.
 
-ghost use Rattle.std.specs.Prelude.{◌≡◌, ◌≢◌, ◌<◌, ◌↔◌, IsTrue, All, MatchOption};
+ghost use Rattle.std.specs.Prelude.{◌≡◌, ◌≢◌, ◌<◌, ◌↔◌, ◌∷◌, Some, None, IsTrue, All, MatchOption};
 ghost use Rattle.pb_board.specs.declared.piece.Kind.TheVariants.{King};
 ghost use Rattle.pb_board.specs.Board.{IsEmpty};
-ghost use Rattle.pb_board.specs.Piece.{opponent};
+ghost use Rattle.pb_board.specs.Piece.{opponent, king_of};
 ghost use Rattle.pb_moves.specs.declared.castling.Castling.{Castling};
 ghost use Rattle.pb_moves.specs.Attack.{IsAttacked};
-ghost use Rattle.pb_moves.specs.Castling.{castling_row, Castled, MayCastle};
-ghost use Rattle.pb_moves.specs.Cases.{Castles};
+ghost use Rattle.pb_moves.specs.Castling.{castling_row, rook_goes, MayCastle};
+ghost use Rattle.pb_moves.specs.Cases.{Castles, Differs};
 ghost use Rattle.pb_moves.specs.Change.{Finds};
 
 use crate::board::{Board, holds, is_empty, opponent_of, square_at};
@@ -163,16 +163,17 @@ impl Castling {
 
     /// Moves king and rook.
     pub(crate) fn apply(self, board: &mut Board)
-        ensures { Castled (castling_row self) board.old board.new }
+        ensures { let row = castling_row self in
+            Differs board.old board.new ((row.king_from, None) ∷ (row.king_to, Some (king_of row.colour)) ∷ rook_goes row) }
     {
         let squares = self.squares();
         let colour = self.colour();
         board[squares.king_from as usize] = None;
-        board[squares.rook_from as usize] = None;
         board[squares.king_to as usize] = Some(Piece {
             colour,
             kind: Kind::King,
         });
+        board[squares.rook_from as usize] = None;
         board[squares.rook_to as usize] = Some(Piece {
             colour,
             kind: Kind::Rook,

@@ -35,8 +35,8 @@ impl Change {
             }
             Change::CarryPast(pawn, gone) => {
                 board[m.from().index() as usize] = None;
-                board[gone.index() as usize] = None;
                 board[m.to().index() as usize] = Some(pawn);
+                board[gone.index() as usize] = None;
             }
             Change::Castle(castling) => castling.apply(board),
         }

@@ -1,12 +1,11 @@
 //! What is seen of a board in sets of squares.
 
-ghost use Rattle.std.specs.Prelude.{◌≡◌, ◌≢◌, ℕ, ◌<◌, ◌↔◌, IsTrue, max};
+ghost use Rattle.std.specs.Prelude.{◌≡◌, ◌≢◌, ℕ, ◌<◌, ◌↔◌, [], ◌∷◌, Some, None, IsTrue, max};
 ghost use Rattle.pb_board.specs.Board.{Board, Holds};
 ghost use Rattle.pb_board.specs.declared.piece.Colour.{Colour};
 ghost use Rattle.pb_board.specs.declared.piece.Piece.{Piece};
-ghost use Rattle.pb_moves.specs.Cases.{Carried};
+ghost use Rattle.pb_moves.specs.Cases.{Differs};
 ghost use Rattle.pb_moves.specs.Attack.{IsAttacked, IsKnightsMove, files_apart, ranks_apart};
-ghost use Rattle.pb_moves.specs.Free.{Lifted};
 ghost use Rattle.pb_moves.specs.Sight.{In, Sees, StrikesFrom};
 
 use crate::pawn_targets::{BLACK_PAWN, WHITE_PAWN};
@@ -119,8 +118,8 @@ pub(crate) fn is_attacked_out_of_line(sight: &Sight, square: Square, by: Colour)
 #[inline(always)]
 pub(crate) fn carried_sight(sight: Sight, from: Square, to: Square) -> Sight
     requires { ¬ (from ≡ to) }
-    ensures { (old new : Board) (by : Colour) (piece own : Piece) → Sees old by sight → Carried old new from to piece
-        → piece.colour ≢ by → Holds old from own → own.colour ≢ by → Sees new by result }
+    ensures { (old new : Board) (by : Colour) (piece own : Piece) → Sees old by sight
+        → Differs old new ((from, None) ∷ (to, Some piece) ∷ []) → piece.colour ≢ by → Holds old from own → own.colour ≢ by → Sees new by result }
 {
     let left = !(1u64 << from.index());
     let reached = 1u64 << to.index();
@@ -137,7 +136,7 @@ pub(crate) fn carried_sight(sight: Sight, from: Square, to: Square) -> Sight
 /// What is seen after a piece of the other side has gone from its square.
 #[inline(always)]
 pub(crate) fn lifted_sight(sight: Sight, from: Square) -> Sight
-    ensures { (old new : Board) (by : Colour) (own : Piece) → Sees old by sight → Lifted old new from
+    ensures { (old new : Board) (by : Colour) (own : Piece) → Sees old by sight → Differs old new ((from, None) ∷ [])
         → Holds old from own → own.colour ≢ by → Sees new by result }
 {
     Sight {

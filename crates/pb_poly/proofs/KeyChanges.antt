@@ -8,18 +8,18 @@ use Rattle.pb_board.specs.declared.piece.Colour.TheVariants.{White, Black}
 use Rattle.pb_board.specs.declared.piece.Kind.{Kind}
 use Rattle.pb_board.specs.declared.piece.Kind.TheVariants.{Pawn, Knight, Bishop, Rook, Queen, King}
 use Rattle.pb_board.specs.declared.piece.Piece.{Piece}
-use Rattle.pb_board.specs.Piece.{king_of}
 use Rattle.pb_board.specs.Board.{Board, Place, at, file, rank, Holds, IsForward}
 use Rattle.pb_board.specs.Position.{Position, IsSetup}
 use Rattle.pb_moves.specs.Attack.{files_apart, ranks_apart}
 use Rattle.pb_moves.specs.Moved.{Moved, IsMove}
-use Rattle.pb_moves.specs.Castling.{castling_row}
-use Rattle.pb_moves.specs.Cases.{CaseOf, piece_move, pawn_step, pawn_double, pawn_capture, en_passant, castles}
+use Rattle.pb_moves.specs.Castling.{castling_row, rook_goes}
+use Rattle.pb_moves.specs.Cases.{Goes, CaseOf, piece_move, pawn_step, pawn_double, pawn_capture, en_passant, castles}
 use Rattle.pb_moves.specs.Successor.{arriving, beside, put, with_rook}
-use Rattle.pb_moves.proofs.Kings.{pawn_reach}
+use Rattle.pb_moves.proofs.Differing.{All-two, arrived, at_put_other, at_put_same, length_put, off_one, off_two, same_boards, same_lists, same_or_not}
+use Rattle.pb_moves.proofs.Kings.{gone_is_beyond, pawn_reach}
 use Rattle.pb_moves.proofs.Listed.{castling_goes}
-use Rattle.pb_moves.proofs.Successors.{at_put_other, at_put_same, board_is, length_put}
-use Rattle.pb_moves.proofs.Unique.{class_of_castling, king_near, pawn_files, same_boards, same_lists, same_or_not}
+use Rattle.pb_moves.proofs.Successors.{board_is}
+use Rattle.pb_moves.proofs.Unique.{class_of_castling, king_near, pawn_files}
 use Rattle.pb_poly.specs.Key.{piece_places}
 use Rattle.pb_poly.specs.KeyChange.{beside_kind, changed_places, rook_squares, square_places}
 use Rattle.pb_poly.proofs.Among.{Among, Distinct, total}
@@ -229,41 +229,57 @@ slant : (side : Colour) (from to : ℕ) → files_apart from to ≡ 1 → IsForw
 slant White from to files forward = ((λ e. omega arith), (λ e. omega arith), λ e. omega arith)
 slant Black from to files forward = ((λ e. omega arith), (λ e. omega arith), λ e. omega arith)
 
+-- what a piece leaves as it was
+others_two : (s : Position) (m : Moved) (p : Piece) (new : Board) → Goes s m p [] new → (q : ℕ) → q ≢ m.from → q ≢ m.to → at new q ≡ at s.board q
+others_two s m p new x q f t =
+    let arriving : Piece = record { colour = s.turn; kind = x.kind } in
+    x.board.others q (off_two q (m.from, None) (m.to, Some arriving) f t)
+
+others_three : (s : Position) (m : Moved) (p : Piece) (new : Board) (gone : ℕ) → Goes s m p ((gone, None) ∷ []) new
+    → (q : ℕ) → q ≢ m.from → q ≢ m.to → q ≢ gone → at new q ≡ at s.board q
+others_three s m p new gone x q f t g =
+    let arriving : Piece = record { colour = s.turn; kind = x.kind } in
+    let O : ℕ × Place → Type 0 = λ c. q ≢ c.0 in
+    x.board.others q (All-two O (m.from, None) (m.to, Some arriving) ((gone, None) ∷ []) f t (off_one q (gone, None) g))
+
 -- a move changes nothing but on its own two squares and those beside
 pub covers : (s : Position) (m : Moved) (p : Piece) (new : Board) → IsSetup s → IsMove m → Holds s.board m.from p → p.colour ≡ s.turn → CaseOf s m p new
     → Covers s.board new (m.from ∷ m.to ∷ beside_kind p.kind m)
 covers s m p new ok is stands own (piece_move x) =
     let P : List ℕ → Type 0 = λ beside. Covers s.board new (m.from ∷ m.to ∷ beside) in
     subst P (sym (beside_piece p.kind m x.no_pawn (king_near p.colour p.kind s.board m.from m.to x.reaches)))
-    (covers_two s.board new m.from m.to is.moves x.after.others)
+    (covers_two s.board new m.from m.to is.moves (others_two s m p new x.after))
 covers s m p new ok is stands own (pawn_step x) =
     let P : List ℕ → Type 0 = λ beside. Covers s.board new (m.from ∷ m.to ∷ beside) in
     subst P (sym (beside_straight p.kind m x.pawn x.same_file))
-    (covers_two s.board new m.from m.to is.moves x.after.others)
+    (covers_two s.board new m.from m.to is.moves (others_two s m p new x.after))
 covers s m p new ok is stands own (pawn_double x) =
     let P : List ℕ → Type 0 = λ beside. Covers s.board new (m.from ∷ m.to ∷ beside) in
     subst P (sym (beside_straight p.kind m x.pawn x.same_file))
-    (covers_two s.board new m.from m.to is.moves x.after.others)
+    (covers_two s.board new m.from m.to is.moves (others_two s m p new x.after))
 covers s m p new ok is stands own (pawn_capture x) =
     let P : List ℕ → Type 0 = λ beside. Covers s.board new (m.from ∷ m.to ∷ beside) in
     let apart = slant p.colour m.from m.to (pawn_files p.colour p.kind s.board m.from m.to x.reaches x.pawn) (pawn_reach p.colour p.kind s.board m.from m.to x.reaches x.pawn) in
     subst P (sym (beside_slant p.kind m x.pawn apart.0))
-    (covers_three s.board new m.from m.to (8 * rank m.from + file m.to) is.moves apart.1 apart.2 (λ q f t g. x.after.others q f t))
+    (covers_three s.board new m.from m.to (8 * rank m.from + file m.to) is.moves apart.1 apart.2 (λ q f t g. others_two s m p new x.after q f t))
 covers s m p new ok is stands own (en_passant x) =
     let P : List ℕ → Type 0 = λ beside. Covers s.board new (m.from ∷ m.to ∷ beside) in
     let apart = slant p.colour m.from m.to (pawn_files p.colour p.kind s.board m.from m.to x.reaches x.pawn) (pawn_reach p.colour p.kind s.board m.from m.to x.reaches x.pawn) in
-    let gone : x.gone ≡ 8 * rank m.from + file m.to = let f = x.gone_file in let r = x.gone_rank in omega arith in
+    let F : Colour → Type 0 = λ side. IsForward side 1 m.from m.to in
+    let forward = subst F own (pawn_reach p.colour p.kind s.board m.from m.to x.reaches x.pawn) in
+    let gone = gone_is_beyond s.turn m.from m.to (8 * rank m.from + file m.to) forward (omega arith) (omega arith) in
+    let G : ℕ → Type 0 = λ q. Goes s m p ((q, None) ∷ []) new in
     subst P (sym (beside_slant p.kind m x.pawn apart.0))
     (covers_three s.board new m.from m.to (8 * rank m.from + file m.to) is.moves apart.1 apart.2
-    (λ q f t g. x.after.others q f t (λ e. g (e ∙ gone))))
+    (others_three s m p new (8 * rank m.from + file m.to) (subst G (sym gone) x.after)))
 covers s m p new ok is stands own (castles c x) =
     let moved = put (put s.board m.from None) m.to (Some (arriving p m.promo)) in
     let row = castling_row c in
     let board : with_rook s.board moved m ≡ new = sym (beside_king p.kind s.board moved m x.king) ∙ board_is s m p new ok is stands own (castles c x) in
     let goes = castling_goes c p.colour m.from m.to King refl x.from_home x.to_table in
     let ranks : ranks_apart m.from m.to ≡ 0 = elim goes [ inl near ↦ absurd (let two = class_of_castling c m.from m.to x.from_home x.to_table in omega arith) | inr far ↦ far.1 ] in
-    let P : ℕ → Type 0 = λ q. at new q ≡ Some (king_of row.colour) in
-    let arrives : at new m.to ≡ Some (king_of row.colour) = subst P (sym x.to_table) x.after.king in
+    let king : Piece = record { colour = s.turn; kind = x.after.kind } in
+    let arrives : at new m.to ≡ Some king = arrived s.board new m.from m.to king (rook_goes row) x.after.board in
     let Q : Board → Type 0 = λ b. Covers s.board b (m.from ∷ m.to ∷ rook_squares m.from m.to) in
     let R : List ℕ → Type 0 = λ beside. Covers s.board new (m.from ∷ m.to ∷ beside) in
     subst R (sym (beside_castling p.kind m x.king))

@@ -1,9 +1,6 @@
-use Rattle.std.proofs.Common.{sym, subst}
-use Rattle.pb_board.specs.declared.piece.Colour.{Colour}
-use Rattle.pb_moves.specs.Cases.{Becomes}
+use Rattle.std.proofs.Common.{[]}
+use Rattle.pb_moves.proofs.Legality.{no_becoming}
 use Rattle.pb_moves.proofs.cases.pawn_step.Goals as goal
 
 pub returns-in_err-kind : goal.returns-in_err-kind
-returns-in_err-kind c = rw c.from_residual.ensures (λ b x.
-    let P : Colour → Type 0 = λ side. Becomes side c.args.m x.kind in
-    c.in_err-kind.ensures x.kind (subst P (sym c.requires.own) x.becomes))
+returns-in_err-kind c = rw c.from_residual.ensures (λ b x. no_becoming c.args.setup.now c.args.m c.args.pawn [] b c.requires.own c.requires.pawn c.in_err-kind.ensures x.after)

@@ -13,3 +13,6 @@ returns-in-Some-Carry c =
 
 pub returns-in-None : goal.returns-in-None
 returns-in-None c = (λ h. cc, λ legal. absurd (not_legal_without_case c.args.setup.now c.args.m c.args.piece c.requires.own c.in-None.ensures legal))
+
+pub is_safe-requires-clause-leads : goal.is_safe-requires-clause-leads
+is_safe-requires-clause-leads c = rw c.in-Some-Carry.field-0-is at c.in-Some-Carry.ensures

@@ -13,3 +13,6 @@ pub returns-in-None-clause-legal : goal.returns-in-None-clause-legal
 returns-in-None-clause-legal c =
     let P : ℕ → Type 0 = λ q. HoldsOwn c.args.setup.now q c.in-Some.piece in
     (λ h. absurd cc, λ legal. absurd (not_legal_without_case c.args.setup.now c.args.m c.in-Some.piece (subst P c.from.ensures.value c.in-Some.ensures) c.in-None.ensures legal))
+
+pub carry-requires-clause-leads : goal.carry-requires-clause-leads
+carry-requires-clause-leads c = rw c.in-Some-Carry.field-0-is at c.in-Some-Carry.ensures
