@@ -1,160 +1,85 @@
 -- What lies between two squares of one line, told from the two ends.
-use Rattle.std.proofs.Common.{ℕ, ◌<◌, max, arith, inl, inr}
+use Rattle.std.proofs.Common.{ℕ, arith, inl, inr}
 use Rattle.std.proofs.lemmas.Bool.{cases_order}
-use Rattle.pb_board.specs.Board.{file, rank}
 use Rattle.pb_moves.specs.Sight.{Along, Between}
 use Rattle.pb_moves.specs.declared.ways.Lines.{Lines}
 use Rattle.pb_moves.specs.declared.ways.Lines.TheVariants.{Straight, Diagonal}
-use Rattle.pb_moves.specs.Attack.{Direction, North, NorthEast, East, SouthEast, South, SouthWest, West, NorthWest, StepsFrom, IsDiagonal, IsStraight, files_apart, ranks_apart}
+use Rattle.pb_moves.specs.Attack.{IsBetween, IsDiagonal, IsStraight}
 
--- a king's moves from a to b along a line
-abbrev pub far : ℕ → ℕ → ℕ
-far a b = max (files_apart a b) (ranks_apart a b)
+-- what lies between two squares lies between them from the other end
+pub between_back : (a q b : ℕ) → IsBetween a q b → IsBetween b q a
+between_back a q b h =
+    let files = h.files in
+    let ranks = h.ranks in
+    record {
+      not_first = h.not_last;
+      not_last = h.not_first;
+      files = omega arith;
+      ranks = omega arith;
+      on_diagonal = λ d. (let line : IsDiagonal a q = h.on_diagonal (omega arith, omega arith) in
+          let other = h.not_last in
+          (omega arith, omega arith));
+    }
 
--- what is straight from both ends and between them is on the line
-pub straight_inside : (d : Direction) (n a b q : ℕ) → IsStraight a b → IsStraight a q → IsStraight b q → Between a b q → StepsFrom d n a b → 0 < n
-    → (0 < far a q) × (far a q < n) × StepsFrom d (far a q) a q
-straight_inside North n a b q s (inl u) (inl v) (inl w) p lo = (omega arith, omega arith, (omega arith, omega arith))
-straight_inside North n a b q s (inl u) (inl v) (inr w) p lo = (omega arith, omega arith, (omega arith, omega arith))
-straight_inside North n a b q s (inl u) (inr v) (inl w) p lo = (omega arith, omega arith, (omega arith, omega arith))
-straight_inside North n a b q s (inl u) (inr v) (inr w) p lo = (omega arith, omega arith, (omega arith, omega arith))
-straight_inside North n a b q s (inr u) (inl v) (inl w) p lo = (omega arith, omega arith, (omega arith, omega arith))
-straight_inside North n a b q s (inr u) (inl v) (inr w) p lo = (omega arith, omega arith, (omega arith, omega arith))
-straight_inside North n a b q s (inr u) (inr v) (inl w) p lo = (omega arith, omega arith, (omega arith, omega arith))
-straight_inside North n a b q s (inr u) (inr v) (inr w) p lo = (omega arith, omega arith, (omega arith, omega arith))
-straight_inside East n a b q s (inl u) (inl v) (inl w) p lo = (omega arith, omega arith, (omega arith, omega arith))
-straight_inside East n a b q s (inl u) (inl v) (inr w) p lo = (omega arith, omega arith, (omega arith, omega arith))
-straight_inside East n a b q s (inl u) (inr v) (inl w) p lo = (omega arith, omega arith, (omega arith, omega arith))
-straight_inside East n a b q s (inl u) (inr v) (inr w) p lo = (omega arith, omega arith, (omega arith, omega arith))
-straight_inside East n a b q s (inr u) (inl v) (inl w) p lo = (omega arith, omega arith, (omega arith, omega arith))
-straight_inside East n a b q s (inr u) (inl v) (inr w) p lo = (omega arith, omega arith, (omega arith, omega arith))
-straight_inside East n a b q s (inr u) (inr v) (inl w) p lo = (omega arith, omega arith, (omega arith, omega arith))
-straight_inside East n a b q s (inr u) (inr v) (inr w) p lo = (omega arith, omega arith, (omega arith, omega arith))
-straight_inside South n a b q s (inl u) (inl v) (inl w) p lo = (omega arith, omega arith, (omega arith, omega arith))
-straight_inside South n a b q s (inl u) (inl v) (inr w) p lo = (omega arith, omega arith, (omega arith, omega arith))
-straight_inside South n a b q s (inl u) (inr v) (inl w) p lo = (omega arith, omega arith, (omega arith, omega arith))
-straight_inside South n a b q s (inl u) (inr v) (inr w) p lo = (omega arith, omega arith, (omega arith, omega arith))
-straight_inside South n a b q s (inr u) (inl v) (inl w) p lo = (omega arith, omega arith, (omega arith, omega arith))
-straight_inside South n a b q s (inr u) (inl v) (inr w) p lo = (omega arith, omega arith, (omega arith, omega arith))
-straight_inside South n a b q s (inr u) (inr v) (inl w) p lo = (omega arith, omega arith, (omega arith, omega arith))
-straight_inside South n a b q s (inr u) (inr v) (inr w) p lo = (omega arith, omega arith, (omega arith, omega arith))
-straight_inside West n a b q s (inl u) (inl v) (inl w) p lo = (omega arith, omega arith, (omega arith, omega arith))
-straight_inside West n a b q s (inl u) (inl v) (inr w) p lo = (omega arith, omega arith, (omega arith, omega arith))
-straight_inside West n a b q s (inl u) (inr v) (inl w) p lo = (omega arith, omega arith, (omega arith, omega arith))
-straight_inside West n a b q s (inl u) (inr v) (inr w) p lo = (omega arith, omega arith, (omega arith, omega arith))
-straight_inside West n a b q s (inr u) (inl v) (inl w) p lo = (omega arith, omega arith, (omega arith, omega arith))
-straight_inside West n a b q s (inr u) (inl v) (inr w) p lo = (omega arith, omega arith, (omega arith, omega arith))
-straight_inside West n a b q s (inr u) (inr v) (inl w) p lo = (omega arith, omega arith, (omega arith, omega arith))
-straight_inside West n a b q s (inr u) (inr v) (inr w) p lo = (omega arith, omega arith, (omega arith, omega arith))
-straight_inside NorthEast n a b q (inl s) u v w p lo = absurd (omega arith)
-straight_inside NorthEast n a b q (inr s) u v w p lo = absurd (omega arith)
-straight_inside SouthEast n a b q (inl s) u v w p lo = absurd (omega arith)
-straight_inside SouthEast n a b q (inr s) u v w p lo = absurd (omega arith)
-straight_inside SouthWest n a b q (inl s) u v w p lo = absurd (omega arith)
-straight_inside SouthWest n a b q (inr s) u v w p lo = absurd (omega arith)
-straight_inside NorthWest n a b q (inl s) u v w p lo = absurd (omega arith)
-straight_inside NorthWest n a b q (inr s) u v w p lo = absurd (omega arith)
+-- what is straight from both ends and between them lies between
+straight_inside : (a b q : ℕ) → IsStraight a b → IsStraight a q → IsStraight b q → Between a b q → IsBetween a q b
+straight_inside a b q (inl s) (inl u) (inl v) w = record { not_first = λ e. omega arith; not_last = λ e. omega arith; files = omega arith; ranks = omega arith; on_diagonal = λ d. absurd (omega arith) }
+straight_inside a b q (inl s) (inl u) (inr v) w = absurd (omega arith)
+straight_inside a b q (inl s) (inr u) v w = absurd (omega arith)
+straight_inside a b q (inr s) (inr u) (inr v) w = record { not_first = λ e. omega arith; not_last = λ e. omega arith; files = omega arith; ranks = omega arith; on_diagonal = λ d. absurd (omega arith) }
+straight_inside a b q (inr s) (inr u) (inl v) w = absurd (omega arith)
+straight_inside a b q (inr s) (inl u) v w = absurd (omega arith)
 
-pub diagonal_inside : (d : Direction) (n a b q : ℕ) → IsDiagonal a b → IsDiagonal a q → IsDiagonal b q → Between a b q → StepsFrom d n a b → 0 < n
-    → (0 < far a q) × (far a q < n) × StepsFrom d (far a q) a q
-diagonal_inside NorthEast n a b q s u v (inl w) p lo = (omega arith, omega arith, (omega arith, omega arith))
-diagonal_inside NorthEast n a b q s u v (inr w) p lo = (omega arith, omega arith, (omega arith, omega arith))
-diagonal_inside SouthEast n a b q s u v (inl w) p lo = (omega arith, omega arith, (omega arith, omega arith))
-diagonal_inside SouthEast n a b q s u v (inr w) p lo = (omega arith, omega arith, (omega arith, omega arith))
-diagonal_inside SouthWest n a b q s u v (inl w) p lo = (omega arith, omega arith, (omega arith, omega arith))
-diagonal_inside SouthWest n a b q s u v (inr w) p lo = (omega arith, omega arith, (omega arith, omega arith))
-diagonal_inside NorthWest n a b q s u v (inl w) p lo = (omega arith, omega arith, (omega arith, omega arith))
-diagonal_inside NorthWest n a b q s u v (inr w) p lo = (omega arith, omega arith, (omega arith, omega arith))
-diagonal_inside North n a b q s u v w p lo = absurd (omega arith)
-diagonal_inside East n a b q s u v w p lo = absurd (omega arith)
-diagonal_inside South n a b q s u v w p lo = absurd (omega arith)
-diagonal_inside West n a b q s u v w p lo = absurd (omega arith)
+diagonal_inside : (a b q : ℕ) → IsDiagonal a b → IsDiagonal a q → IsDiagonal b q → Between a b q → IsBetween a q b
+diagonal_inside a b q s u v (inl w) = record { not_first = λ e. omega arith; not_last = λ e. omega arith; files = omega arith; ranks = omega arith; on_diagonal = λ d. u }
+diagonal_inside a b q s u v (inr w) = record { not_first = λ e. omega arith; not_last = λ e. omega arith; files = omega arith; ranks = omega arith; on_diagonal = λ d. u }
 
--- and what is on the line is straight from both ends, and between them
-pub straight_outside : (d : Direction) (n k a b q : ℕ) → IsStraight a b → StepsFrom d n a b → 0 < k → k < n → StepsFrom d k a q
-    → IsStraight a q × IsStraight b q × Between a b q
-straight_outside North n k a b q s p lo hi r = (inl (omega arith, omega arith), inl (omega arith, omega arith), inl (omega arith, omega arith))
-straight_outside South n k a b q s p lo hi r = (inl (omega arith, omega arith), inl (omega arith, omega arith), inr (omega arith, omega arith))
-straight_outside East n k a b q s p lo hi r = (inr (omega arith, omega arith), inr (omega arith, omega arith), inl (omega arith, omega arith))
-straight_outside West n k a b q s p lo hi r = (inr (omega arith, omega arith), inr (omega arith, omega arith), inr (omega arith, omega arith))
-straight_outside NorthEast n k a b q (inl s) p lo hi r = absurd (omega arith)
-straight_outside NorthEast n k a b q (inr s) p lo hi r = absurd (omega arith)
-straight_outside SouthEast n k a b q (inl s) p lo hi r = absurd (omega arith)
-straight_outside SouthEast n k a b q (inr s) p lo hi r = absurd (omega arith)
-straight_outside SouthWest n k a b q (inl s) p lo hi r = absurd (omega arith)
-straight_outside SouthWest n k a b q (inr s) p lo hi r = absurd (omega arith)
-straight_outside NorthWest n k a b q (inl s) p lo hi r = absurd (omega arith)
-straight_outside NorthWest n k a b q (inr s) p lo hi r = absurd (omega arith)
-
-pub diagonal_outside : (d : Direction) (n k a b q : ℕ) → IsDiagonal a b → StepsFrom d n a b → 0 < k → k < n → StepsFrom d k a q
-    → IsDiagonal a q × IsDiagonal b q × Between a b q
-diagonal_outside NorthEast n k a b q s p lo hi r = ((omega arith, omega arith), (omega arith, omega arith), inl (omega arith, omega arith))
-diagonal_outside NorthWest n k a b q s p lo hi r = ((omega arith, omega arith), (omega arith, omega arith), inl (omega arith, omega arith))
-diagonal_outside SouthEast n k a b q s p lo hi r = ((omega arith, omega arith), (omega arith, omega arith), inr (omega arith, omega arith))
-diagonal_outside SouthWest n k a b q s p lo hi r = ((omega arith, omega arith), (omega arith, omega arith), inr (omega arith, omega arith))
-diagonal_outside North n k a b q s p lo hi r = absurd (omega arith)
-diagonal_outside East n k a b q s p lo hi r = absurd (omega arith)
-diagonal_outside South n k a b q s p lo hi r = absurd (omega arith)
-diagonal_outside West n k a b q s p lo hi r = absurd (omega arith)
-
--- the line between two squares of a file or a rank, and of a diagonal
-pub record LinedUp (a b : ℕ) : Type 0 where
-  pub direction : Direction
-  pub steps : ℕ
-  pub some : 0 < steps
-  pub reaches : StepsFrom direction steps a b
-
-pub straight_lies : (a b : ℕ) → IsStraight a b → LinedUp a b
-straight_lies a b (inl s) =
-    elim (cases_order (rank a) (rank b)) [
+-- and what lies between is on the line with both ends, and its index between theirs
+straight_outside : (a b q : ℕ) → IsStraight a b → IsBetween a q b → IsStraight a q × IsStraight b q × Between a b q
+straight_outside a b q (inl s) h =
+    let f = h.files in
+    let r = h.ranks in
+    let na = h.not_first in
+    let nb = h.not_last in
+    elim (cases_order a b) [
       | inl e ↦ absurd (omega arith)
       | inr o ↦ elim o [
-        | inl l ↦ record { direction = North; steps = far a b; some = omega arith; reaches = (omega arith, omega arith) }
-        | inr g ↦ record { direction = South; steps = far a b; some = omega arith; reaches = (omega arith, omega arith) }
+        | inl l ↦ (inl (omega arith, omega arith), inl (omega arith, omega arith), inl (omega arith, omega arith))
+        | inr g ↦ (inl (omega arith, omega arith), inl (omega arith, omega arith), inr (omega arith, omega arith))
       ]
     ]
-straight_lies a b (inr s) =
-    elim (cases_order (file a) (file b)) [
+straight_outside a b q (inr s) h =
+    let f = h.files in
+    let r = h.ranks in
+    let na = h.not_first in
+    let nb = h.not_last in
+    elim (cases_order a b) [
       | inl e ↦ absurd (omega arith)
       | inr o ↦ elim o [
-        | inl l ↦ record { direction = East; steps = far a b; some = omega arith; reaches = (omega arith, omega arith) }
-        | inr g ↦ record { direction = West; steps = far a b; some = omega arith; reaches = (omega arith, omega arith) }
+        | inl l ↦ (inr (omega arith, omega arith), inr (omega arith, omega arith), inl (omega arith, omega arith))
+        | inr g ↦ (inr (omega arith, omega arith), inr (omega arith, omega arith), inr (omega arith, omega arith))
       ]
     ]
 
-pub diagonal_lies : (a b : ℕ) → IsDiagonal a b → LinedUp a b
-diagonal_lies a b s =
-    elim (cases_order (file a) (file b)) [
+diagonal_outside : (a b q : ℕ) → IsDiagonal a b → IsBetween a q b → IsDiagonal a q × IsDiagonal b q × Between a b q
+diagonal_outside a b q s h =
+    let f = h.files in
+    let r = h.ranks in
+    let nb = h.not_last in
+    let line = h.on_diagonal s in
+    elim (cases_order a b) [
       | inl e ↦ absurd (omega arith)
       | inr o ↦ elim o [
-        | inl l ↦ elim (cases_order (rank a) (rank b)) [
-          | inl e ↦ absurd (omega arith)
-          | inr p ↦ elim p [
-            | inl m ↦ record { direction = NorthEast; steps = far a b; some = omega arith; reaches = (omega arith, omega arith) }
-            | inr h ↦ record { direction = SouthEast; steps = far a b; some = omega arith; reaches = (omega arith, omega arith) }
-          ]
-        ]
-        | inr g ↦ elim (cases_order (rank a) (rank b)) [
-          | inl e ↦ absurd (omega arith)
-          | inr p ↦ elim p [
-            | inl m ↦ record { direction = NorthWest; steps = far a b; some = omega arith; reaches = (omega arith, omega arith) }
-            | inr h ↦ record { direction = SouthWest; steps = far a b; some = omega arith; reaches = (omega arith, omega arith) }
-          ]
-        ]
+        | inl l ↦ (line, (omega arith, omega arith), inl (omega arith, omega arith))
+        | inr g ↦ (line, (omega arith, omega arith), inr (omega arith, omega arith))
       ]
     ]
 
 -- the same for lines of either kind
-pub inside : (lines : Lines) (d : Direction) (n a b q : ℕ) → Along lines a b → Along lines a q → Along lines b q → Between a b q → StepsFrom d n a b → 0 < n
-    → (0 < far a q) × (far a q < n) × StepsFrom d (far a q) a q
-inside Straight d n a b q s u v w p lo = straight_inside d n a b q s u v w p lo
-inside Diagonal d n a b q s u v w p lo = diagonal_inside d n a b q s u v w p lo
+pub inside : (lines : Lines) (a b q : ℕ) → Along lines a b → Along lines a q → Along lines b q → Between a b q → IsBetween a q b
+inside Straight a b q s u v w = straight_inside a b q s u v w
+inside Diagonal a b q s u v w = diagonal_inside a b q s u v w
 
-pub outside : (lines : Lines) (d : Direction) (n k a b q : ℕ) → Along lines a b → StepsFrom d n a b → 0 < k → k < n → StepsFrom d k a q
-    → Along lines a q × Along lines b q × Between a b q
-outside Straight d n k a b q s p lo hi r = straight_outside d n k a b q s p lo hi r
-outside Diagonal d n k a b q s p lo hi r = diagonal_outside d n k a b q s p lo hi r
-
-pub lies : (lines : Lines) (a b : ℕ) → Along lines a b → LinedUp a b
-lies Straight a b s = straight_lies a b s
-lies Diagonal a b s = diagonal_lies a b s
+pub outside : (lines : Lines) (a b q : ℕ) → Along lines a b → IsBetween a q b → Along lines a q × Along lines b q × Between a b q
+outside Straight a b q s h = straight_outside a b q s h
+outside Diagonal a b q s h = diagonal_outside a b q s h

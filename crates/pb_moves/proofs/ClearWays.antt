@@ -5,7 +5,7 @@ use Rattle.std.proofs.lemmas.Bool.{cases_lt}
 use Rattle.std.proofs.lemmas.Nat.{and_le_r}
 use Rattle.pb_moves.specs.Sight.{Along, Between, In, Open, Slides}
 use Rattle.pb_moves.specs.declared.ways.Lines.{Lines}
-use Rattle.pb_moves.proofs.Between.{far, inside, lies, outside}
+use Rattle.pb_moves.proofs.Between.{inside, outside}
 use Rattle.pb_moves.proofs.Rising.{low_bit, without, without_other, without_same}
 use Rattle.pb_moves.proofs.Sets.{in_and, in_both, in_none, in_some}
 use Rattle.pb_moves.proofs.Differing.{same_or_not}
@@ -13,19 +13,11 @@ use Rattle.pb_moves.proofs.Differing.{same_or_not}
 -- what the code finds between two squares
 pub line_open : (lines : Lines) (occ a b x y z : ℕ) → Along lines a b → ((q : ℕ) → q < 64 → (In x q ↔ Along lines a q)) → ((q : ℕ) → q < 64 → (In y q ↔ Along lines b q)) → ((q : ℕ) → (In z q ↔ Between a b q))
     → bit_and (bit_and (bit_and x y) z) occ ≡ 0 → Open occ a b
-line_open lines occ a b x y z s fx fy fz e =
-    let l = lies lines a b s in
-    record {
-      direction = l.direction;
-      steps = l.steps;
-      some = l.some;
-      reaches = l.reaches;
-      free = λ k c lo hi on to inside.
-          (let o = outside lines l.direction l.steps k a b c s l.reaches lo hi to in
-          let line = in_both x y c ((fx c on).1 o.0) ((fy c on).1 o.1) in
-          let between = in_both (bit_and x y) z c line ((fz c).1 o.2) in
-          in_none (bit_and (bit_and (bit_and x y) z) occ) c e (in_both (bit_and (bit_and x y) z) occ c between inside));
-    }
+line_open lines occ a b x y z s fx fy fz e q on between stands =
+    let o = outside lines a b q s between in
+    let line = in_both x y q ((fx q on).1 o.0) ((fy q on).1 o.1) in
+    let inner = in_both (bit_and x y) z q line ((fz q).1 o.2) in
+    in_none (bit_and (bit_and (bit_and x y) z) occ) q e (in_both (bit_and (bit_and x y) z) occ q inner stands)
 
 pub open_line : (lines : Lines) (occ a b x y z : ℕ) → Along lines a b → ((q : ℕ) → q < 64 → (In x q ↔ Along lines a q)) → ((q : ℕ) → q < 64 → (In y q ↔ Along lines b q)) → ((q : ℕ) → (In z q ↔ Between a b q))
     → occ < 2 ^ 64 → Open occ a b → bit_and (bit_and (bit_and x y) z) occ ≡ 0
@@ -40,8 +32,7 @@ open_line lines occ a b x y z s fx fy fz small way =
           let in_occ = in_and (bit_and (bit_and x y) z) occ q w.2 in
           let in_z = in_and (bit_and x y) z q in_occ.0 in
           let in_xy = in_and x y q in_z.0 in
-          let steps = inside lines way.direction way.steps a b q s ((fx q w.1).0 in_xy.0) ((fy q w.1).0 in_xy.1) ((fz q).0 in_z.1) way.reaches way.some in
-          absurd (way.free (far a q) q steps.0 steps.1 w.1 steps.2 in_occ.1))
+          absurd (way q w.1 (inside lines a b q s ((fx q w.1).0 in_xy.0) ((fy q w.1).0 in_xy.1) ((fz q).0 in_z.1)) in_occ.1))
       | inr none ↦ omega arith
     ]
 

@@ -1,7 +1,8 @@
 -- Boards that differ on named squares: what holds on each square, and the board that is made by putting.
-use Rattle.std.proofs.Common.{◌≡◌, ◌≢◌, ℕ, ◌<◌, ◌⊎◌, arith, inl, inr, sym, subst, ◌∙◌, Option, Some, None, List, [], ◌∷◌, ◌++◌, length, length-set, get_or-set_other, get_or-set_same, get_or, refl, suc}
+use Rattle.std.proofs.Common.{◌≡◌, ◌≢◌, ℕ, ◌<◌, ◌≤◌, ◌⊎◌, arith, inl, inr, sym, subst, ◌∙◌, Option, Some, None, List, [], ◌∷◌, ◌++◌, length, length-set, get_or-set_other, get_or-set_same, get_or, refl, suc}
 use Rattle.std.specs.Prelude.{All}
-use Rattle.std.proofs.lemmas.Bool.{cases_order}
+use Rattle.std.proofs.lemmas.Bool.{cases_lt, cases_order}
+use Rattle.std.proofs.lemmas.List.{get_or_past}
 use Rattle.std.proofs.lemmas.List.Elements.{All-nil, All-cons, All-head, All-push, All-tail}
 use Rattle.pb_board.specs.declared.piece.Piece.{Piece}
 use Rattle.pb_board.specs.Board.{Board, Place, at, Holds, IsEmpty}
@@ -23,6 +24,14 @@ same_lists (x ∷ xs) (y ∷ ys) d n e =
 
 pub same_boards : (b c : Board) → length b ≡ 64 → length c ≡ 64 → ((q : ℕ) → at b q ≡ at c q) → b ≡ c
 same_boards b c m n e = same_lists b c None (m ∙ sym n) e
+
+-- what holds a piece is on the board
+pub holds_on_board : (board : Board) (q : ℕ) (p : Piece) → length board ≡ 64 → Holds board q p → q < 64
+holds_on_board board q p full here =
+    elim (cases_lt q 64) [
+      | inl l ↦ l
+      | inr g ↦ (let past : length board ≤ q = omega arith in let none : get_or board q None ≡ None = get_or_past board q None past in absurd (cc))
+    ]
 
 -- each of a list, where the list begins with two
 pub All-two : {X : Type 0} (P : X → Type 0) (a b : X) (rest : List X) → P a → P b → All P rest → All P (a ∷ b ∷ rest)

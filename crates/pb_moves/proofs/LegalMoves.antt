@@ -6,8 +6,7 @@ use Rattle.pb_board.specs.declared.piece.Piece.{Piece}
 use Rattle.pb_moves.specs.Moved.{Moved, IsPromotion}
 use Rattle.pb_moves.specs.Cases.{Becomes}
 use Rattle.pb_moves.specs.MoveLaws.{LegalIsMove}
-use Rattle.pb_moves.proofs.Rays.{holds_on_board}
-use Rattle.pb_moves.proofs.Differing.{arrived, left}
+use Rattle.pb_moves.proofs.Differing.{arrived, holds_on_board, left}
 use Rattle.pb_moves.proofs.Unique.{besides_of, goes_of}
 use Rattle.pb_moves.proofs.Kings.{empty_holds}
 

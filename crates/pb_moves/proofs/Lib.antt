@@ -1,4 +1,3 @@
-pub mod Rays
 pub mod Below
 pub mod Targets
 pub mod Rising

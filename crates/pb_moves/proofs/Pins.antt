@@ -23,20 +23,15 @@ use Rattle.pb_moves.proofs.Legality.{legal_out_of_check}
 
 -- what is clear after a piece has gone elsewhere is clear where the piece is gone for good
 pub clear_lifted : (old new lifted : Board) (from to a b : ℕ) (p : Piece) → Differs old new ((from, None) ∷ (to, Some p) ∷ []) → Differs old lifted ((from, None) ∷ []) → Clear new a b → Clear lifted a b
-clear_lifted old new lifted from to a b p moved gone clear = record {
-  direction = clear.direction;
-  steps = clear.steps;
-  reaches = clear.reaches;
-  empty = λ k c lo hi on at_c.
-      (let empty = clear.empty k c lo hi on at_c in
-      let E : ℕ → Type 0 = λ q. IsEmpty lifted q in
-      elim (same_or_not c from) [
-        | inl same ↦ subst E (sym same) (gone.named 0 (0, None) (omega arith))
-        | inr off ↦
-            (let off_to : c ≢ to = λ same. empty_holds new to c p empty (sym same) (arrived old new from to p [] moved) in
-            gone.others c (off_one c (from, None) off) ∙ (sym (moved.others c (off_two c (from, None) (to, Some p) off off_to)) ∙ empty))
-      ]);
-}
+clear_lifted old new lifted from to a b p moved gone clear q on between =
+    let empty = clear q on between in
+    let E : ℕ → Type 0 = λ r. IsEmpty lifted r in
+    elim (same_or_not q from) [
+      | inl same ↦ subst E (sym same) (gone.named 0 (0, None) (omega arith))
+      | inr off ↦
+          (let off_to : q ≢ to = λ same. empty_holds new to q p empty (sym same) (arrived old new from to p [] moved) in
+          gone.others q (off_one q (from, None) off) ∙ (sym (moved.others q (off_two q (from, None) (to, Some p) off off_to)) ∙ empty))
+    ]
 
 pub reaches_lifted : (colour : Colour) (kind : Kind) (old new lifted : Board) (from to a b : ℕ) (p : Piece) → Differs old new ((from, None) ∷ (to, Some p) ∷ []) → Differs old lifted ((from, None) ∷ [])
     → ReachesBy colour kind new a b → ReachesBy colour kind lifted a b

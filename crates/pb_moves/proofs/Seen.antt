@@ -7,9 +7,8 @@ use Rattle.pb_board.specs.declared.piece.Kind.TheVariants.{Pawn, Knight, Bishop,
 use Rattle.pb_board.specs.declared.piece.Piece.{Piece}
 use Rattle.pb_board.specs.Board.{Board, at, Holds}
 use Rattle.pb_moves.specs.declared.sight.Sight.{Sight}
-use Rattle.pb_moves.specs.Attack.{StepsFrom, Clear, ReachesBy, IsAttacked, IsKnightsMove, files_apart, ranks_apart}
+use Rattle.pb_moves.specs.Attack.{Clear, ReachesBy, IsAttacked, IsKnightsMove, files_apart, ranks_apart}
 use mir.Val.{bits}
-use Rattle.std.proofs.lemmas.Bool.{cases_lt}
 use Rattle.std.proofs.lemmas.Nat.{and_le_l, or_lt}
 use Rattle.std.proofs.lemmas.Nat.Bits.{bit_at_set_same, bit_at_set_other}
 use Rattle.pb_moves.specs.Cases.{Differs}
@@ -19,7 +18,8 @@ use Rattle.pb_moves.proofs.Unique.{piece_is}
 use Rattle.pb_moves.specs.Sight.{Along, AreOf, AreOfEither, IsTaken, In, Open, Sees, Slides, StrikesFrom, piece_of}
 use Rattle.pb_moves.specs.declared.ways.Lines.{Lines}
 use Rattle.pb_moves.specs.declared.ways.Lines.TheVariants.{Straight, Diagonal}
-use Rattle.pb_moves.proofs.Rays.{back, back_from, clear_back, empty_back, holds_on_board, steps_none}
+use Rattle.pb_moves.proofs.Between.{between_back}
+use Rattle.pb_moves.proofs.Differing.{holds_on_board}
 use Rattle.pb_moves.proofs.Sets.{in_and, in_both, in_or, in_first, in_second}
 
 pub empty_or_not : (x : Option Piece) → (x ≡ None) ⊎ ¬ (x ≡ None)
@@ -33,34 +33,20 @@ along_sym Diagonal a b s = (omega arith, omega arith)
 
 -- where nothing of the set stands between, the squares between are empty
 pub clear_if_open : (b : Board) (occ to from : ℕ) → IsTaken occ b → Open occ to from → Clear b from to
-clear_if_open b occ to from taken way =
-    clear_back b way.direction way.steps to from way.reaches (λ k c lo hi on at_c.
-    elim (empty_or_not (at b c)) [
+clear_if_open b occ to from taken way q on between =
+    elim (empty_or_not (at b q)) [
       | inl e ↦ e
-      | inr stands ↦ absurd (way.free k c lo hi on at_c ((taken c on).1 stands))
-    ])
-
-pub open_if_clear : (b : Board) (occ to from : ℕ) → IsTaken occ b → from ≢ to → Clear b from to → Open occ to from
-open_if_clear b occ to from taken ne clear =
-    elim (cases_lt 0 clear.steps) [
-      | inl l ↦ record {
-        direction = back clear.direction;
-        steps = clear.steps;
-        some = l;
-        reaches = back_from clear.direction clear.steps from to clear.reaches;
-        free = λ k c lo hi on at_c inside. (taken c on).0 inside (empty_back b clear.direction clear.steps from to clear.reaches clear.empty k c lo hi on at_c);
-      }
-      | inr g ↦
-          (let none : clear.steps ≡ 0 = omega arith in
-          let P : ℕ → Type 0 = λ x. StepsFrom clear.direction x from to in
-          absurd (ne (sym (steps_none clear.direction from to (subst P none clear.reaches)))))
+      | inr stands ↦ absurd (way q on (between_back from q to between) ((taken q on).1 stands))
     ]
+
+pub open_if_clear : (b : Board) (occ to from : ℕ) → IsTaken occ b → Clear b from to → Open occ to from
+open_if_clear b occ to from taken clear q on between inside = (taken q on).0 inside (clear q on (between_back to q from between))
 
 clear_by_open : (b : Board) (side : Colour) (sight : Sight) (to from : ℕ) → Sees b side sight → Open sight.occupied to from → Clear b from to
 clear_by_open b side sight to from sees way = clear_if_open b sight.occupied to from sees.occupied way
 
-open_by_clear : (b : Board) (side : Colour) (sight : Sight) (to from : ℕ) → Sees b side sight → from ≢ to → Clear b from to → Open sight.occupied to from
-open_by_clear b side sight to from sees ne clear = open_if_clear b sight.occupied to from sees.occupied ne clear
+open_by_clear : (b : Board) (side : Colour) (sight : Sight) (to from : ℕ) → Sees b side sight → Clear b from to → Open sight.occupied to from
+open_by_clear b side sight to from sees clear = open_if_clear b sight.occupied to from sees.occupied clear
 
 -- what the code looks at: the attackers next to the square, and those along its lines
 abbrev pub AnySees : ℕ → Sight → ℕ → Type 0
@@ -104,11 +90,6 @@ diagonal_attacks b side sight square sees s =
       | inr queen ↦ attack_by b side Queen s.from square queen (inl line, clear)
     ]
 
-pub along_differ : (lines : Lines) (a b : ℕ) → Along lines a b → a ≢ b
-along_differ Straight a b (inl s) e = omega arith
-along_differ Straight a b (inr s) e = omega arith
-along_differ Diagonal a b s e = omega arith
-
 slides_by : (lines : Lines) (b : Board) (side : Colour) (sight : Sight) (sliders square a : ℕ) → Sees b side sight → a < 64 → In sliders a → Along lines a square → Clear b a square
     → Slides lines sight.occupied sliders square
 slides_by lines b side sight sliders square a sees on inside line clear = record {
@@ -116,7 +97,7 @@ slides_by lines b side sight sliders square a sees on inside line clear = record
   on_board = on;
   stands = inside;
   line = along_sym lines a square line;
-  way = open_by_clear b side sight square a sees (along_differ lines a square line) clear;
+  way = open_by_clear b side sight square a sees clear;
 }
 
 -- each attacker is seen

@@ -1,5 +1,5 @@
 -- Which squares a piece attacks, and when a side is in check.
-use Rattle.std.specs.Prelude.{◌≡◌, ℕ, ◌+◌, ◌-◌, ◌<◌, ◌⊎◌, max}
+use Rattle.std.specs.Prelude.{◌≡◌, ◌≢◌, ℕ, ◌+◌, ◌-◌, ◌<◌, ◌⊎◌, max}
 use Rattle.pb_board.specs.declared.piece.Colour.{Colour}
 use Rattle.pb_board.specs.declared.piece.Kind.{Kind}
 use Rattle.pb_board.specs.declared.piece.Kind.TheVariants.{Pawn, Knight, Bishop, Rook, Queen, King}
@@ -7,40 +7,6 @@ use Rattle.pb_board.specs.declared.piece.Piece.{Piece}
 use Rattle.pb_board.specs.Position.{Position}
 use Rattle.pb_board.specs.Piece.{opponent, king_of}
 use Rattle.pb_board.specs.Board.{Board, file, rank, Holds, IsEmpty, IsForward}
-
--- a king's moves, seen from White's side of the board
-pub data Direction : Type 0 where
-  North : Direction
-  NorthEast : Direction
-  East : Direction
-  SouthEast : Direction
-  South : Direction
-  SouthWest : Direction
-  West : Direction
-  NorthWest : Direction
-
--- b is n of a king's moves in this one direction from a
-abbrev pub StepsFrom : Direction → ℕ → ℕ → ℕ → Type 0
-StepsFrom North n a b = (file b ≡ file a) × (rank b ≡ rank a + n)
-StepsFrom NorthEast n a b = (file b ≡ file a + n) × (rank b ≡ rank a + n)
-StepsFrom East n a b = (file b ≡ file a + n) × (rank b ≡ rank a)
-StepsFrom SouthEast n a b = (file b ≡ file a + n) × (rank b + n ≡ rank a)
-StepsFrom South n a b = (file b ≡ file a) × (rank b + n ≡ rank a)
-StepsFrom SouthWest n a b = (file b + n ≡ file a) × (rank b + n ≡ rank a)
-StepsFrom West n a b = (file b + n ≡ file a) × (rank b ≡ rank a)
-StepsFrom NorthWest n a b = (file b + n ≡ file a) × (rank b ≡ rank a + n)
-
--- each square k steps from a, with 0 < k < n, is empty
-abbrev pub EmptyBelow : Board → Direction → ℕ → ℕ → Type 0
-EmptyBelow board direction n a =
-    (k c : ℕ) → 0 < k → k < n → c < 64 → StepsFrom direction k a c → IsEmpty board c
-
--- the way from a to b is clear: b is n equal steps of one king's move from a, and each square between is empty
-pub record Clear (board : Board) (a b : ℕ) : Type 0 where
-  pub direction : Direction
-  pub steps : ℕ
-  pub reaches : StepsFrom direction steps a b
-  pub empty : EmptyBelow board direction steps a
 
 -- how far apart two numbers are
 abbrev pub apart : ℕ → ℕ → ℕ
@@ -60,6 +26,18 @@ IsDiagonal a b = (files_apart a b ≡ ranks_apart a b) × (0 < files_apart a b)
 abbrev pub IsStraight : ℕ → ℕ → Type 0
 IsStraight a b =
     ((files_apart a b ≡ 0) × (0 < ranks_apart a b)) ⊎ ((0 < files_apart a b) × (ranks_apart a b ≡ 0))
+
+-- q lies strictly between a and b, which are on one file, rank or diagonal
+pub record IsBetween (a q b : ℕ) : Type 0 where
+  pub not_first : q ≢ a
+  pub not_last : q ≢ b
+  pub files : files_apart a q + files_apart q b ≡ files_apart a b
+  pub ranks : ranks_apart a q + ranks_apart q b ≡ ranks_apart a b
+  pub on_diagonal : IsDiagonal a b → IsDiagonal a q
+
+-- the way from a to b is clear: each square between them is empty
+abbrev pub Clear : Board → ℕ → ℕ → Type 0
+Clear board a b = (q : ℕ) → q < 64 → IsBetween a q b → IsEmpty board q
 
 -- the absolute differences are 1 and 2
 abbrev pub IsKnightsMove : ℕ → ℕ → Type 0

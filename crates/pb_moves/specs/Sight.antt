@@ -9,7 +9,7 @@ use Rattle.pb_board.specs.Board.{Board, IsEmpty, Holds, IsForward}
 use Rattle.pb_moves.specs.declared.sight.Sight.{Sight}
 use Rattle.pb_moves.specs.declared.ways.Lines.{Lines}
 use Rattle.pb_moves.specs.declared.ways.Lines.TheVariants.{Straight, Diagonal}
-use Rattle.pb_moves.specs.Attack.{Direction, StepsFrom, IsDiagonal, IsStraight, files_apart}
+use Rattle.pb_moves.specs.Attack.{IsBetween, IsDiagonal, IsStraight, files_apart}
 
 -- the square is among those that the number stands for
 abbrev pub In : ℕ → ℕ → Type 0
@@ -47,12 +47,8 @@ pub record Sees (board : Board) (side : Colour) (sight : Sight) : Type 0 where
   pub diagonal : AreOfEither sight.diagonal board side Bishop Queen
 
 -- the way from a to b is clear where nothing of the set stands between
-pub record Open (occupied a b : ℕ) : Type 0 where
-  pub direction : Direction
-  pub steps : ℕ
-  pub some : 0 < steps
-  pub reaches : StepsFrom direction steps a b
-  pub free : (k c : ℕ) → 0 < k → k < steps → c < 64 → StepsFrom direction k a c → ¬ In occupied c
+abbrev pub Open : ℕ → ℕ → ℕ → Type 0
+Open occupied a b = (q : ℕ) → q < 64 → IsBetween a q b → ¬ In occupied q
 
 -- the two squares lie on one line of this kind
 abbrev pub Along : Lines → ℕ → ℕ → Type 0

@@ -1,5 +1,5 @@
 use Rattle.pb_moves.specs.Sight.{IsTaken}
-use Rattle.pb_moves.proofs.Seen.{clear_if_open, open_if_clear, along_differ}
+use Rattle.pb_moves.proofs.Seen.{clear_if_open, open_if_clear}
 use Rattle.pb_moves.proofs.attack.slider_reaches.Goals as goal
 
 pub returns-then-has : goal.returns-then-has
@@ -8,5 +8,5 @@ returns-then-has c =
     let taken : IsTaken c.occupied.result c.args.setup.now.board = λ q on. c.occupied.ensures q in
     let line = (c.through.ensures.lines c.args.to c.has.ensures.on_board).0 (c.has.ensures.inside.0 c.if-has.true) in (
       λ h. (line, clear_if_open b c.occupied.result c.args.to c.args.from taken (c.is_open.ensures.0 h)),
-      λ reaches. c.is_open.ensures.1 (open_if_clear b c.occupied.result c.args.to c.args.from taken (along_differ c.args.lines c.args.from c.args.to line) reaches.1),
+      λ reaches. c.is_open.ensures.1 (open_if_clear b c.occupied.result c.args.to c.args.from taken reaches.1),
     )
