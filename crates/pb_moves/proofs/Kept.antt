@@ -1,6 +1,6 @@
 -- A move of a setup leads to a setup: one king of each colour, no pawn on the first or last rank, and a fitting en
 -- passant square.
-use Rattle.std.proofs.Common.{◌≡◌, ◌≢◌, ℕ, ◌<◌, refl, arith, inl, inr, sym, ap, subst, ◌∙◌, Option, Some, None, List, [], ◌∷◌, length}
+use Rattle.std.proofs.Common.{◌≡◌, ◌≢◌, ℕ, ◌+◌, ◌/◌, ◌<◌, refl, arith, inl, inr, sym, ap, subst, ◌∙◌, Option, Some, None, List, [], ◌∷◌, length}
 use Rattle.std.specs.Prelude.{All}
 use Rattle.std.proofs.lemmas.List.Elements.{All-nil, All-cons}
 use Rattle.pb_board.specs.declared.piece.Colour.{Colour}
@@ -15,8 +15,8 @@ use Rattle.pb_board.specs.Position.{Position, position_of, IsSetup, HasNoEdgePaw
 use Rattle.pb_moves.specs.Moved.{Moved}
 use Rattle.pb_moves.specs.Castling.{castling_row, rook_goes}
 use Rattle.pb_moves.specs.Cases.{Differs, Becomes, Goes, pawn_rank, CaseOf, piece_move, pawn_step, pawn_double, pawn_capture, en_passant, castles}
-use Rattle.pb_moves.specs.After.{passed_over}
-use Rattle.pb_moves.proofs.Differing.{All-two, arrived, each_place, off_two}
+use Rattle.pb_moves.proofs.Differing.{All-two, arrived, each_place, holds_on_board, off_two}
+use Rattle.pb_moves.proofs.Passing.{halfway_between, passed_empty, passed_over}
 use Rattle.pb_moves.proofs.Unique.{piece_is, passed_at}
 use Rattle.pb_moves.proofs.Kings.{becomes_king, holds_at, pawn_reach, kings_after, some_one, white_and_black}
 
@@ -107,20 +107,25 @@ keeps s m p new ok stands own (pawn_step x) =
       en_passant_holds = tt;
     }
 keeps s m p new ok stands own (pawn_double x) =
-    let fits = passed_fits s.turn m.from m.to x.passed x.begins x.same_file x.passed_file x.forward x.passed_forward in
+    let passed = (m.from + m.to) / 2 in
+    let half = halfway_between s.turn m.from m.to x.same_file x.forward in
+    let fits = passed_fits s.turn m.from m.to passed x.begins x.same_file half.1 x.forward half.2 in
     let inside = double_rank s.turn m.from m.to x.begins x.forward in
     let q : Piece = record { colour = s.turn; kind = x.after.kind } in
     let P : Piece → Type 0 = λ z. Holds new m.to z in
     let kind = double_becomes s.turn m p.kind x.after.kind x.pawn inside x.after.becomes in
-    let pawn = subst P (piece_is q (opponent (opponent s.turn)) Pawn (sym (opponent_opponent s.turn)) kind) (arrived s.board new m.from m.to q [] x.after.board) in
+    let there = arrived s.board new m.from m.to q [] x.after.board in
+    let pawn = subst P (piece_is q (opponent (opponent s.turn)) Pawn (sym (opponent_opponent s.turn)) kind) there in
+    let on_from = holds_on_board s.board m.from p ok.places stands in
+    let on_to = holds_on_board new m.to q x.after.board.squares there in
     record {
       places = x.after.board.squares;
       pawns = pawns_going s m p new [] ok x.after (λ is_pawn. inside) no_pawns;
       en_passant_holds = (
         fits.0,
         record {
-          empty = x.after.board.others x.passed (off_two x.passed (m.from, None) (m.to, Some q) fits.2 fits.3) ∙ x.passed_empty;
-          pawn = holds_at new m.to (beyond (opponent s.turn) x.passed) _ fits.1 pawn;
+          empty = x.after.board.others passed (off_two passed (m.from, None) (m.to, Some q) fits.2 fits.3) ∙ passed_empty s m.from m.to on_from on_to half.0 x.way;
+          pawn = holds_at new m.to (beyond (opponent s.turn) passed) _ fits.1 pawn;
         },
       );
     }

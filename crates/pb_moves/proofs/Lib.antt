@@ -9,6 +9,7 @@ pub mod NearTargets
 pub mod Differing
 pub mod Unique
 pub mod Kings
+pub mod Passing
 pub mod Kept
 pub mod Legality
 pub mod LegalMoves

@@ -1,10 +1,10 @@
 -- The total function `after` is the setup of `After`, and its only one.
 use Rattle.std.proofs.Common.{◌≡◌, ◌≢◌, ℕ, ◌+◌, ◌*◌, ◌/◌, ◌<◌, ◌≤◌, ◌↔◌, refl, arith, inl, inr, sym, ap, subst, ◌∙◌, Option, Some, None, [], ◌∷◌, length, Bool, true, false, not, ◌&&◌, ◌||◌, eqb, IsTrue}
+use Rattle.std.specs.Prelude.{MatchOption}
 use Rattle.std.proofs.lemmas.List.Elements.{All-nil, All-cons}
 use Rattle.std.proofs.lemmas.Bool.{eq-eqb}
 use Rattle.std.proofs.lemmas.Bool.Decides.{eqb_tells}
 use Rattle.pb_board.specs.declared.piece.Colour.{Colour}
-use Rattle.pb_board.specs.declared.piece.Colour.TheVariants.{White, Black}
 use Rattle.pb_board.specs.declared.piece.Kind.{Kind}
 use Rattle.pb_board.specs.declared.piece.Kind.TheVariants.{Pawn, Knight, Bishop, Rook, Queen, King}
 use Rattle.pb_board.specs.declared.piece.Piece.{Piece}
@@ -18,12 +18,13 @@ use Rattle.pb_moves.specs.Attack.{files_apart, ranks_apart}
 use Rattle.pb_moves.specs.Moved.{Moved, moved_of, IsMove}
 use Rattle.pb_moves.specs.Castling.{CastlingRow, castling_row, rook_goes}
 use Rattle.pb_moves.specs.Cases.{Differs, Becomes, Goes, Castles, CaseOf, piece_move, pawn_step, pawn_double, pawn_capture, en_passant, castles, Case, Legal}
-use Rattle.pb_moves.specs.After.{passed_over, Touches, KeepsFlag, After}
-use Rattle.pb_moves.specs.Successor.{put, arriving, beside, board_of, carried, keeps, ep_of_kind, ep_of, after}
+use Rattle.pb_moves.specs.After.{PassesOver, Touches, KeepsFlag, After}
+use Rattle.pb_moves.specs.Successor.{put, arriving, beside, board_of, carried, keeps, rights_of, ep_of_kind, ep_of, after}
 use Rattle.pb_moves.specs.MoveLaws.{AfterIs, OneAfter, AfterIsSetup}
 use Rattle.pb_moves.proofs.Differing.{All-two, carried_past_put, carried_put, differs_one, differs_put, moved_board, off_two}
 use Rattle.pb_moves.proofs.Unique.{piece_is, case_one, king_near, pawn_files, step_ranks, passed_at}
 use Rattle.pb_moves.proofs.Kings.{becomes_king, castling_king, gone_is_beyond, pawn_reach}
+use Rattle.pb_moves.proofs.Passing.{passed_over, passes, passes_is}
 use Rattle.pb_moves.proofs.Kept.{setup_by_parts}
 use Rattle.pb_moves.proofs.LegalMoves.{legal_is_move}
 
@@ -216,17 +217,10 @@ pub ep_double : (k : Kind) (m : Moved) → k ≡ Pawn → ranks_apart m.from m.t
 ep_double Pawn m pawn two = let e = eq-eqb (ranks_apart m.from m.to) 2 two in rw e refl
 ep_double k m pawn two = absurd (cc)
 
-pub halfway : (side : Colour) (from to passed : ℕ) → file to ≡ file from → file passed ≡ file from → IsForward side 2 from to → IsForward side 1 from passed
-    → (from + to) / 2 ≡ passed
-halfway White from to passed same_file passed_file two one = omega arith
-halfway Black from to passed same_file passed_file two one = omega arith
-
 pub ep_is : (s : Position) (m : Moved) (p : Piece) (new : Board) (x : CaseOf s m p new) → ep_of_kind p.kind m ≡ passed_over s m p new x
 ep_is s m p new (piece_move x) = ep_other p.kind m x.no_pawn
 ep_is s m p new (pawn_step x) = ep_single p.kind m x.pawn (step_ranks s.turn 1 m.from m.to x.forward)
-ep_is s m p new (pawn_double x) =
-    ep_double p.kind m x.pawn (step_ranks s.turn 2 m.from m.to x.forward)
-    ∙ ap (λ (q : ℕ). Some q) (halfway s.turn m.from m.to x.passed x.same_file x.passed_file x.forward x.passed_forward)
+ep_is s m p new (pawn_double x) = ep_double p.kind m x.pawn (step_ranks s.turn 2 m.from m.to x.forward)
 ep_is s m p new (pawn_capture x) = ep_single p.kind m x.pawn (step_ranks p.colour 1 m.from m.to (pawn_reach p.colour p.kind s.board m.from m.to x.reaches x.pawn))
 ep_is s m p new (en_passant x) = ep_single p.kind m x.pawn (step_ranks p.colour 1 m.from m.to (pawn_reach p.colour p.kind s.board m.from m.to x.reaches x.pawn))
 ep_is s m p new (castles c x) = ep_other p.kind m (king_no_pawn p.kind x.king)
@@ -250,13 +244,37 @@ pub test_fails : (a b : ℕ) → a ≢ b → eqb a b ≡ false
 test_fails a b ne = elim (eqb_tells a b) [ inl e ↦ absurd (ne e.1) | inr e ↦ e.0 ]
 
 -- a flag is kept as the function says
-pub keeps_is : (flag : Bool) (m : Moved) (king rook : ℕ) → KeepsFlag flag (keeps flag m king rook) m king rook
-keeps_is flag m king rook = (
-  λ h. let x = all_parts flag (eqb m.from king) (eqb m.to king) (eqb m.from rook) (eqb m.to rook) h in
-      (x.0, untouched m king x.1 x.2, untouched m rook x.3 x.4),
-  λ h. from_parts flag (eqb m.from king) (eqb m.to king) (eqb m.from rook) (eqb m.to rook) h.0 (test_fails m.from king (λ e. h.1 (inl e)))
-      (test_fails m.to king (λ e. h.1 (inr e))) (test_fails m.from rook (λ e. h.2 (inl e))) (test_fails m.to rook (λ e. h.2 (inr e))),
-)
+pub keeps_is : (r : Rights) (m : Moved) (c : Castling) → KeepsFlag ((castling_row c).right r) (keeps r m c) m (castling_row c)
+keeps_is r m c =
+    let row = castling_row c in
+    let flag = row.right r in (
+      λ h. let x = all_parts flag (eqb m.from row.king_from) (eqb m.to row.king_from) (eqb m.from row.rook_from) (eqb m.to row.rook_from) h in
+          (x.0, untouched m row.king_from x.1 x.2, untouched m row.rook_from x.3 x.4),
+      λ h. from_parts flag (eqb m.from row.king_from) (eqb m.to row.king_from) (eqb m.from row.rook_from) (eqb m.to row.rook_from) h.0 (test_fails m.from row.king_from (λ e. h.1 (inl e)))
+          (test_fails m.to row.king_from (λ e. h.1 (inr e))) (test_fails m.from row.rook_from (λ e. h.2 (inl e))) (test_fails m.to row.rook_from (λ e. h.2 (inr e))),
+    )
+
+-- where nothing is touched each flag is kept as it is
+abbrev pub IsElsewhere : ℕ → Type 0
+IsElsewhere q = (q ≢ 0) × (q ≢ 4) × (q ≢ 7) × (q ≢ 56) × (q ≢ 60) × (q ≢ 63)
+
+pub kept_elsewhere : (m : Moved) (c : Castling) (flag : Bool) → IsElsewhere m.from → IsElsewhere m.to → KeepsFlag flag flag m (castling_row c)
+kept_elsewhere m WhiteShort flag f t = ((λ h. (h, (λ at. elim at [ inl e ↦ f.1 e | inr e ↦ t.1 e ]), (λ at. elim at [ inl e ↦ f.2 e | inr e ↦ t.2 e ]))), (λ h. h.0))
+kept_elsewhere m WhiteLong flag f t = ((λ h. (h, (λ at. elim at [ inl e ↦ f.1 e | inr e ↦ t.1 e ]), (λ at. elim at [ inl e ↦ f.0 e | inr e ↦ t.0 e ]))), (λ h. h.0))
+kept_elsewhere m BlackShort flag f t = ((λ h. (h, (λ at. elim at [ inl e ↦ f.4 e | inr e ↦ t.4 e ]), (λ at. elim at [ inl e ↦ f.5 e | inr e ↦ t.5 e ]))), (λ h. h.0))
+kept_elsewhere m BlackLong flag f t = ((λ h. (h, (λ at. elim at [ inl e ↦ f.4 e | inr e ↦ t.4 e ]), (λ at. elim at [ inl e ↦ f.3 e | inr e ↦ t.3 e ]))), (λ h. h.0))
+
+-- what holds of the four castlings holds of each
+pub each_castling : (P : Castling → Type 0) → P WhiteShort → P WhiteLong → P BlackShort → P BlackLong → (c : Castling) → P c
+each_castling P a b x y WhiteShort = a
+each_castling P a b x y WhiteLong = b
+each_castling P a b x y BlackShort = x
+each_castling P a b x y BlackLong = y
+
+pub rights_is : (r : Rights) (m : Moved) (c : Castling) → KeepsFlag ((castling_row c).right r) ((castling_row c).right (rights_of r m)) m (castling_row c)
+rights_is r m c =
+    each_castling (λ k. KeepsFlag ((castling_row k).right r) ((castling_row k).right (rights_of r m)) m (castling_row k))
+    (keeps_is r m WhiteShort) (keeps_is r m WhiteLong) (keeps_is r m BlackShort) (keeps_is r m BlackLong) c
 
 -- two flags that are set in the same case are equal
 pub same_flag : (a b : Bool) (P : Type 0) → (IsTrue a ↔ P) → (IsTrue b ↔ P) → a ≡ b
@@ -273,15 +291,18 @@ after_is s m ok legal =
     ap (board_of s.board m) case.stands ∙ board_is s m case.piece legal.new ok (legal_is_move s m ok legal) case.stands case.own case.by_case in
     let P : Board → Type 0 = λ b. Case s m b in
     let moves = subst P (sym same) case in
+    let new = board_of s.board m (at s.board m.from) in
+    let E : Option ℕ → Type 0 = λ o. MatchOption o ((q : ℕ) → ¬ PassesOver s m q) (PassesOver s m) in
     record {
       moves = moves;
       turn = refl;
-      white_short = keeps_is s.rights.white_short m 4 7;
-      white_long = keeps_is s.rights.white_long m 4 0;
-      black_short = keeps_is s.rights.black_short m 60 63;
-      black_long = keeps_is s.rights.black_long m 60 56;
-      ep = ep_of_case s m (board_of s.board m (at s.board m.from)) moves;
+      rights = rights_is s.rights m;
+      ep = subst E (sym (ep_of_case s m new moves)) (passes s m moves.piece new moves.stands moves.own moves.by_case);
     }
+
+-- the en passant square after a move is the one that the function gives
+ep_after : (s : Position) (m : Moved) (t : Position) → After s m t → t.ep ≡ ep_of m (at s.board m.from)
+ep_after s m t x = passes_is s m x.moves.piece t.board t.ep x.moves.stands x.moves.own x.moves.by_case x.ep ∙ sym (ep_of_case s m t.board x.moves)
 
 pub one_after : OneAfter
 one_after s m t u ok x y =
@@ -294,17 +315,18 @@ one_after s m t u ok x y =
     let D : Bool → Rights = λ f. record { white_short = u.rights.white_short; white_long = u.rights.white_long; black_short = f; black_long = t.rights.black_long } in
     let F : Bool → Rights = λ f. record { white_short = u.rights.white_short; white_long = u.rights.white_long; black_short = u.rights.black_short; black_long = f } in
     let rights : t.rights ≡ u.rights =
-    ap A (same_flag _ _ _ x.white_short y.white_short)
-    ∙ (ap C (same_flag _ _ _ x.white_long y.white_long)
-    ∙ (ap D (same_flag _ _ _ x.black_short y.black_short) ∙ ap F (same_flag _ _ _ x.black_long y.black_long))) in
-    let ep : t.ep ≡ u.ep = x.ep ∙ (sym (ep_of_case s m t.board x.moves) ∙ (ep_of_case s m u.board y.moves ∙ sym y.ep)) in
+    ap A (same_flag _ _ _ (x.rights WhiteShort) (y.rights WhiteShort))
+    ∙ (ap C (same_flag _ _ _ (x.rights WhiteLong) (y.rights WhiteLong))
+    ∙ (ap D (same_flag _ _ _ (x.rights BlackShort) (y.rights BlackShort)) ∙ ap F (same_flag _ _ _ (x.rights BlackLong) (y.rights BlackLong)))) in
+    let ep : t.ep ≡ u.ep = ep_after s m t x ∙ sym (ep_after s m u y) in
     ap B (case_one s m t.board u.board ok x.moves y.moves) ∙ (ap T (x.turn ∙ sym y.turn) ∙ (ap R rights ∙ ap E ep))
 
 pub after_is_setup : AfterIsSetup
 unfolding after
 after_is_setup s m ok legal =
     let x = after_is s m ok legal in
-    setup_by_parts s m x.moves.piece (after s m).board (after s m).rights (after s m).ep ok x.moves.stands x.moves.own x.moves.by_case x.ep
+    setup_by_parts s m x.moves.piece (after s m).board (after s m).rights (after s m).ep ok x.moves.stands x.moves.own x.moves.by_case
+    (ep_after s m (after s m) x ∙ ep_of_case s m (after s m).board x.moves)
 
 -- the setup after a legal move is the one that the function gives
 pub after_one : (s : Position) (m : Moved) (t : Position) → IsSetup s → Legal s m → After s m t → t ≡ after s m

@@ -19,7 +19,7 @@ use Rattle.pb_board.specs.Position.{Position, beyond}
 use Rattle.pb_board.specs.Piece.{opponent}
 use Rattle.pb_board.specs.Board.{Board, Place, file, rank, at, Holds, IsEmpty, IsForward}
 use Rattle.pb_moves.specs.declared.castling.Castling.{Castling}
-use Rattle.pb_moves.specs.Attack.{Reaches, InCheck}
+use Rattle.pb_moves.specs.Attack.{Clear, Reaches, InCheck}
 use Rattle.pb_moves.specs.Castling.{CastlingRow, castling_row, rook_goes, MayCastle}
 use Rattle.pb_moves.specs.Moved.{Moved, IsPromotion}
 
@@ -71,16 +71,13 @@ pub record PawnStep (s : Position) (m : Moved) (piece : Piece) (new : Board) : T
   pub empty : IsEmpty s.board m.to
   pub after : Goes s m piece [] new
 
--- a pawn goes two steps forward from where it began, over this square
+-- a pawn goes two steps forward from where it began, over an empty square
 pub record PawnDouble (s : Position) (m : Moved) (piece : Piece) (new : Board) : Type 0 where
   pub pawn : piece.kind ≡ Pawn
   pub begins : rank m.from ≡ pawn_rank s.turn
   pub same_file : file m.to ≡ file m.from
   pub forward : IsForward s.turn 2 m.from m.to
-  pub passed : ℕ
-  pub passed_file : file passed ≡ file m.from
-  pub passed_forward : IsForward s.turn 1 m.from passed
-  pub passed_empty : IsEmpty s.board passed
+  pub way : Clear s.board m.from m.to
   pub empty : IsEmpty s.board m.to
   pub after : Goes s m piece [] new
 

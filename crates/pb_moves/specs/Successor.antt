@@ -8,7 +8,10 @@ use Rattle.pb_board.specs.declared.setup.Rights.{Rights}
 use Rattle.pb_board.specs.Position.{Position}
 use Rattle.pb_board.specs.Piece.{opponent}
 use Rattle.pb_board.specs.Board.{Board, file, rank, at}
+use Rattle.pb_moves.specs.declared.castling.Castling.{Castling}
+use Rattle.pb_moves.specs.declared.castling.Castling.TheVariants.{WhiteShort, WhiteLong, BlackShort, BlackLong}
 use Rattle.pb_moves.specs.Attack.{files_apart, ranks_apart}
+use Rattle.pb_moves.specs.Castling.{castling_row}
 use Rattle.pb_moves.specs.Moved.{Moved}
 
 abbrev pub put : Board → ℕ → Option Piece → Board
@@ -47,16 +50,14 @@ abbrev pub board_of : Board → Moved → Option Piece → Board
 board_of board m None = board
 board_of board m (Some piece) = carried board m piece
 
-abbrev pub keeps : Bool → Moved → ℕ → ℕ → Bool
-keeps flag m king rook = flag && not (m.from == king || m.to == king || (m.from == rook || m.to == rook))
+-- a flag is kept where the move touches neither of its two squares
+abbrev pub keeps : Rights → Moved → Castling → Bool
+keeps r m castling =
+    let row = castling_row castling in
+    row.right r && not (m.from == row.king_from || m.to == row.king_from || (m.from == row.rook_from || m.to == row.rook_from))
 
 abbrev pub rights_of : Rights → Moved → Rights
-rights_of r m = record {
-  white_short = keeps r.white_short m 4 7;
-  white_long = keeps r.white_long m 4 0;
-  black_short = keeps r.black_short m 60 63;
-  black_long = keeps r.black_long m 60 56;
-}
+rights_of r m = record { white_short = keeps r m WhiteShort; white_long = keeps r m WhiteLong; black_short = keeps r m BlackShort; black_long = keeps r m BlackLong }
 
 abbrev pub ep_of_kind : Kind → Moved → Option ℕ
 ep_of_kind Pawn m = if ranks_apart m.from m.to == 2 then Some ((m.from + m.to) / 2) else None

@@ -1,12 +1,14 @@
 //! Playing a move.
 
-ghost use Rattle.std.specs.Prelude.{◌≡◌, ◌≢◌, ◌↔◌, IsTrue, IfSome, MatchOption};
+ghost use Rattle.std.specs.Prelude.{◌≡◌, ◌≢◌, ℕ, ◌↔◌, IsTrue, IfSome, MatchOption};
 ghost use Rattle.pb_board.specs.declared.piece.Colour.TheVariants.{White, Black};
 ghost use Rattle.pb_board.specs.Piece.{opponent};
 ghost use Rattle.pb_board.specs.Board.{Board};
 ghost use Rattle.pb_board.specs.Position.{IsOnlyKing, IsSetup};
+ghost use Rattle.pb_moves.specs.declared.castling.Castling.{Castling};
+ghost use Rattle.pb_moves.specs.Castling.{castling_row};
 ghost use Rattle.pb_moves.specs.Cases.{CaseOf, Legal};
-ghost use Rattle.pb_moves.specs.After.{passed_over, Touches, KeepsFlag, After};
+ghost use Rattle.pb_moves.specs.After.{PassesOver, Touches, KeepsFlag, After};
 ghost use Rattle.pb_moves.specs.Successor.{after};
 ghost use Rattle.pb_moves.specs.Candidate.{HoldsOwn};
 ghost use Rattle.pb_moves.specs.Change.{LeadsTo};
@@ -30,7 +32,7 @@ fn touches(m: Move, index: u8) -> bool
 /// Whether a flag with these two squares is kept.
 #[inline(always)]
 fn keeps(flag: bool, m: Move, king: u8, rook: u8) -> bool
-    ensures { KeepsFlag flag result m king rook }
+    ensures { IsTrue result ↔ (IsTrue flag × ¬ Touches m king × ¬ Touches m rook) }
 {
     flag && !touches(m, king) && !touches(m, rook)
 }
@@ -45,10 +47,7 @@ fn is_home(square: Square) -> bool
 
 /// The castling rights after the move.
 fn rights_after(setup: &Setup, m: Move) -> Rights
-    ensures white_short { KeepsFlag setup.now.rights.white_short result.white_short m 4 7 }
-    ensures white_long { KeepsFlag setup.now.rights.white_long result.white_long m 4 0 }
-    ensures black_short { KeepsFlag setup.now.rights.black_short result.black_short m 60 63 }
-    ensures black_long { KeepsFlag setup.now.rights.black_long result.black_long m 60 56 }
+    ensures { (c : Castling) → let row = castling_row c in KeepsFlag (row.right setup.now.rights) (row.right result) m row }
 {
     let rights = setup.rights();
     // Most moves touch none of these squares.
@@ -65,7 +64,8 @@ fn rights_after(setup: &Setup, m: Move) -> Rights
 
 /// The square that the move of this piece passes over, if it is a pawn's double step.
 fn passed_by(setup: &Setup, m: Move, piece: Piece) -> Option<Square>
-    ensures { (b : Board) (x : CaseOf setup.now m piece b) → result ≡ passed_over setup.now m piece b x }
+    requires { HoldsOwn setup.now m.from piece }
+    ensures { (b : Board) → CaseOf setup.now m piece b → MatchOption result ((q : ℕ) → ¬ PassesOver setup.now m q) (PassesOver setup.now m) }
 {
     let (from, to) = (m.from(), m.to());
     // The reader tells that the setup meets its rules.

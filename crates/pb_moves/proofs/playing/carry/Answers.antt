@@ -4,6 +4,7 @@ use Rattle.pb_board.specs.Position.{Position, IsOnlyKing, carried_board}
 use Rattle.pb_moves.specs.After.{After}
 use Rattle.pb_moves.proofs.Changing.{carry_case}
 use Rattle.pb_moves.proofs.Kept.{setup_by_parts}
+use Rattle.pb_moves.proofs.Passing.{passes_is}
 use Rattle.pb_moves.proofs.Kings.{enemy_king_stays}
 use Rattle.pb_moves.proofs.Successors.{after_one}
 use Rattle.pb_moves.proofs.playing.carry.Goals as goal
@@ -16,7 +17,7 @@ carry-requires-clause-rules c =
     let case = carry_case s m c.args.piece c.args.arriving c.from-from.result c.to-to.result c.from-from.ensures.value c.to-to.ensures.value
     c.turn-side.ensures.rules c.from-from.ensures.rules c.requires.leads in
     setup_by_parts s m c.args.piece new c.rights_after-rights.result c.passed_by-ep.result c.turn-side.ensures.rules c.requires.own.stands c.requires.own.own
-    case (c.passed_by-ep.ensures new case)
+    case (passes_is s m c.args.piece new c.passed_by-ep.result c.requires.own.stands c.requires.own.own case (c.passed_by-ep.ensures new case))
 
 pub carry-requires-clause-white : goal.carry-requires-clause-white
 carry-requires-clause-white c =
@@ -49,15 +50,11 @@ returns-clause-played c = λ _.
     let new = carried_board s.board c.from-from.result c.to-to.result c.args.arriving in
     let case = carry_case s m c.args.piece c.args.arriving c.from-from.result c.to-to.result c.from-from.ensures.value c.to-to.ensures.value
     c.turn-side.ensures.rules c.from-from.ensures.rules c.requires.leads in
-    let rights = c.rights_after-rights.ensures in
     let A : Position → Type 0 = λ t. After s m t in
     let parts = subst A (sym c.carry.ensures) (record {
       moves = record { piece = c.args.piece; stands = c.requires.own.stands; own = c.requires.own.own; by_case = case };
       turn = refl;
-      white_short = rights.white_short;
-      white_long = rights.white_long;
-      black_short = rights.black_short;
-      black_long = rights.black_long;
+      rights = c.rights_after-rights.ensures;
       ep = c.passed_by-ep.ensures new case;
     }) in
     after_one s m c.carry.new.self c.turn-side.ensures.rules (c.is_safe.ensures.0 (search rules)) parts

@@ -8,6 +8,7 @@ use Rattle.pb_board.specs.declared.piece.Piece.{Piece}
 use Rattle.pb_moves.specs.Candidate.{HoldsOwn}
 use Rattle.pb_moves.specs.Change.{Changes}
 use Rattle.pb_moves.proofs.Kept.{setup_by_parts}
+use Rattle.pb_moves.proofs.Passing.{passes_is}
 use Rattle.pb_moves.proofs.Kings.{enemy_king_stays}
 use Rattle.pb_moves.proofs.Legality.{not_legal_without_case, not_legal_without_piece}
 use Rattle.pb_moves.proofs.Successors.{after_one}
@@ -26,7 +27,7 @@ of_parts-next-requires-clause-rules c =
     let Q : Colour → Type 0 = λ side. IsSetup (position_of board side c.rights_after-rights.result c.passed_by-ep.result) in
     subst Q (sym enemy)
     (setup_by_parts s c.args.m piece board c.rights_after-rights.result c.passed_by-ep.result
-    c.turn-side.ensures.rules own.stands own.own case (c.passed_by-ep.ensures board case))
+    c.turn-side.ensures.rules own.stands own.own case (passes_is s c.args.m piece board c.passed_by-ep.result own.stands own.own case (c.passed_by-ep.ensures board case)))
 
 pub of_parts-next-requires-clause-white : goal.of_parts-next-requires-clause-white
 of_parts-next-requires-clause-white c =
@@ -65,15 +66,11 @@ returns-clause-played c = λ _.
     let board = c.apply.new.board in
     let C : Board → Type 0 = λ b. Changes c.in-Some-change_of.change c.args.m b board in
     let case = c.in-Some-change_of.ensures.1 board (subst C c.board.ensures.value c.apply.ensures) in
-    let rights = c.rights_after-rights.ensures in
     let A : Position → Type 0 = λ t. After s c.args.m t in
     let parts = subst A (sym c.of_parts-next.ensures) (record {
       moves = record { piece = piece; stands = own.stands; own = own.own; by_case = case };
       turn = c.opponent_of-enemy.ensures ∙ ap opponent c.turn-side.ensures.value;
-      white_short = rights.white_short;
-      white_long = rights.white_long;
-      black_short = rights.black_short;
-      black_long = rights.black_long;
+      rights = c.rights_after-rights.ensures;
       ep = c.passed_by-ep.ensures board case;
     }) in
     after_one s c.args.m c.of_parts-next.result c.turn-side.ensures.rules (c.is_safe_after.ensures.0 (search rules)) parts

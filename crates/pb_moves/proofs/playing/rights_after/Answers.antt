@@ -1,0 +1,24 @@
+use Rattle.std.proofs.Common.{subst}
+use Rattle.pb_board.specs.declared.setup.Rights.{Rights}
+use Rattle.pb_moves.specs.declared.castling.Castling.{Castling}
+use Rattle.pb_moves.specs.Castling.{castling_row}
+use Rattle.pb_moves.specs.After.{KeepsFlag}
+use Rattle.pb_moves.proofs.Successors.{IsElsewhere, each_castling, kept_elsewhere}
+use Rattle.pb_moves.proofs.playing.rights_after.Goals as goal
+
+pub returns-then-not-is_home-2 : goal.returns-then-not-is_home-2
+returns-then-not-is_home-2 c = λ castling.
+    let m = c.args.m in
+    let R : Rights → Type 0 = λ r. KeepsFlag ((castling_row castling).right r) ((castling_row castling).right c.rights-rights.result) m (castling_row castling) in
+    let from = subst IsElsewhere c.from.ensures.value (c.is_home.ensures (λ h. let no = c.if-not-is_home.true in cc)) in
+    let to = subst IsElsewhere c.to.ensures.value (c.is_home-then-not-is_home.ensures (λ h. let no = c.if-not-is_home-2.true in cc)) in
+    subst R c.rights-rights.ensures (kept_elsewhere m castling ((castling_row castling).right c.rights-rights.result) from to)
+
+pub returns : goal.returns
+returns c =
+    let m = c.args.m in
+    let new : Rights = record { white_short = c.keeps.result; white_long = c.keeps-2.result; black_short = c.keeps-3.result; black_long = c.keeps-4.result } in
+    let R : Rights → Type 0 = λ r. (castling : Castling) → KeepsFlag ((castling_row castling).right r) ((castling_row castling).right new) m (castling_row castling) in
+    subst R c.rights-rights.ensures
+    (each_castling (λ k. KeepsFlag ((castling_row k).right c.rights-rights.result) ((castling_row k).right new) m (castling_row k))
+    c.keeps.ensures c.keeps-2.ensures c.keeps-3.ensures c.keeps-4.ensures)
