@@ -13,3 +13,4 @@ pub mod Sight
 pub mod Change
 pub mod Free
 pub mod Candidate
+pub mod Beside

@@ -2,6 +2,7 @@
 #![tactic(auto)]
 
 mod attack;
+mod beside;
 mod board;
 mod candidates;
 mod cases;

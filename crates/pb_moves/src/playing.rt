@@ -1,96 +1,20 @@
 //! Playing a move.
 
-ghost use Rattle.std.specs.Prelude.{◌≡◌, ◌≢◌, ℕ, ◌↔◌, IsTrue, IfSome, MatchOption};
-ghost use Rattle.pb_board.specs.declared.piece.Colour.TheVariants.{White, Black};
-ghost use Rattle.pb_board.specs.Piece.{opponent};
-ghost use Rattle.pb_board.specs.Board.{Board};
-ghost use Rattle.pb_board.specs.Position.{IsOnlyKing, IsSetup};
-ghost use Rattle.pb_moves.specs.declared.castling.Castling.{Castling};
-ghost use Rattle.pb_moves.specs.Castling.{castling_row};
+ghost use Rattle.std.specs.Prelude.{◌≡◌, ◌↔◌, IsTrue, IfSome, MatchOption};
+ghost use Rattle.pb_board.specs.Position.{IsSetup};
 ghost use Rattle.pb_moves.specs.Cases.{CaseOf, Legal};
-ghost use Rattle.pb_moves.specs.After.{PassesOver, Touches, KeepsFlag, After};
+ghost use Rattle.pb_moves.specs.After.{After};
 ghost use Rattle.pb_moves.specs.Successor.{after};
 ghost use Rattle.pb_moves.specs.Candidate.{HoldsOwn};
 ghost use Rattle.pb_moves.specs.Change.{LeadsTo};
 ghost use Rattle.pb_moves.specs.declared.change.Change.TheVariants.{Carry};
 
+use crate::beside::beside_after;
 use crate::board::opponent_of;
-use crate::cases::passed;
 use crate::change::Change;
-use crate::legal::{change_of, is_safe, is_safe_after, king_after, own_piece};
+use crate::legal::{change_of, is_safe, is_safe_after, own_piece};
 use crate::moves::Move;
-use pb_board::{Colour, Kind, Piece, Rights, Setup, Square};
-
-/// Whether the move leaves or reaches the square of this index.
-#[inline(always)]
-fn touches(m: Move, index: u8) -> bool
-    ensures { IsTrue result ↔ Touches m index }
-{
-    m.from().index() == index || m.to().index() == index
-}
-
-/// Whether a flag with these two squares is kept.
-#[inline(always)]
-fn keeps(flag: bool, m: Move, king: u8, rook: u8) -> bool
-    ensures { IsTrue result ↔ (IsTrue flag × ¬ Touches m king × ¬ Touches m rook) }
-{
-    flag && !touches(m, king) && !touches(m, rook)
-}
-
-/// Whether a king or a rook that may castle begins there.
-#[inline(always)]
-fn is_home(square: Square) -> bool
-    ensures { ¬ IsTrue result → ((square ≢ 0) × (square ≢ 4) × (square ≢ 7) × (square ≢ 56) × (square ≢ 60) × (square ≢ 63)) }
-{
-    matches!(square.index(), 0 | 4 | 7 | 56 | 60 | 63)
-}
-
-/// The castling rights after the move.
-fn rights_after(setup: &Setup, m: Move) -> Rights
-    ensures { (c : Castling) → let row = castling_row c in KeepsFlag (row.right setup.now.rights) (row.right result) m row }
-{
-    let rights = setup.rights();
-    // Most moves touch none of these squares.
-    if !is_home(m.from()) && !is_home(m.to()) {
-        return rights;
-    }
-    Rights {
-        white_short: keeps(rights.white_short, m, 4, 7),
-        white_long: keeps(rights.white_long, m, 4, 0),
-        black_short: keeps(rights.black_short, m, 60, 63),
-        black_long: keeps(rights.black_long, m, 60, 56),
-    }
-}
-
-/// The square that the move of this piece passes over, if it is a pawn's double step.
-fn passed_by(setup: &Setup, m: Move, piece: Piece) -> Option<Square>
-    requires { HoldsOwn setup.now m.from piece }
-    ensures { (b : Board) → CaseOf setup.now m piece b → MatchOption result ((q : ℕ) → ¬ PassesOver setup.now m q) (PassesOver setup.now m) }
-{
-    let (from, to) = (m.from(), m.to());
-    // The reader tells that the setup meets its rules.
-    let _turn = setup.turn();
-    if piece.kind == Kind::Pawn
-        && from.file() == to.file()
-        && from.rank().abs_diff(to.rank()) == 2
-    {
-        Some(passed(from, to))
-    } else {
-        None
-    }
-}
-
-/// The white and the black king, of this side's and its enemy's.
-#[inline(always)]
-fn by_colour(side: Colour, own: Square, enemy: Square) -> (Square, Square)
-    ensures { (b : Board) → IsOnlyKing b side own → IsOnlyKing b (opponent side) enemy →
-        IsOnlyKing b White result.0 × IsOnlyKing b Black result.1 }
-{
-    match side {
-        Colour::White => (own, enemy),
-        Colour::Black => (enemy, own),
-    }
-}
+use pb_board::{Piece, Setup};
 
 /// Plays the move in place, where it is legal, and tells whether it is. Where it isn't, the setup stays as it is.
 pub fn play_on(setup: &mut Setup, m: Move) -> bool
@@ -121,14 +45,16 @@ fn carry(setup: &mut Setup, m: Move, piece: Piece, arriving: Piece) -> bool
         return false;
     }
     let (from, to) = (m.from(), m.to());
-    let side = setup.turn();
-    let enemy = opponent_of(side);
-    let king = king_after(setup, m, piece);
-    let enemy_king = setup.king(enemy);
-    let (white_king, black_king) = by_colour(side, king, enemy_king);
-    let rights = rights_after(setup, m);
-    let ep = passed_by(setup, m, piece);
-    setup.carry(from, to, arriving, rights, ep, white_king, black_king);
+    let beside = beside_after(setup, m, piece);
+    setup.carry(
+        from,
+        to,
+        arriving,
+        beside.rights,
+        beside.ep,
+        beside.white_king,
+        beside.black_king,
+    );
     true
 }
 
@@ -150,14 +76,17 @@ fn replace(setup: &mut Setup, m: Move) -> bool
     }
     let side = setup.turn();
     let enemy = opponent_of(side);
-    let king = king_after(setup, m, piece);
-    let enemy_king = setup.king(enemy);
-    let (white_king, black_king) = by_colour(side, king, enemy_king);
-    let rights = rights_after(setup, m);
-    let ep = passed_by(setup, m, piece);
+    let beside = beside_after(setup, m, piece);
     let mut board = *setup.board();
     change.apply(&mut board, m);
-    let next = Setup::of_parts(board, enemy, rights, ep, white_king, black_king);
+    let next = Setup::of_parts(
+        board,
+        enemy,
+        beside.rights,
+        beside.ep,
+        beside.white_king,
+        beside.black_king,
+    );
     *setup = next;
     true
 }

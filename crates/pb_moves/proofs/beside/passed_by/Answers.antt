@@ -3,8 +3,8 @@ use Rattle.pb_board.specs.declared.piece.Kind.TheVariants.{Pawn}
 use Rattle.pb_board.specs.Board.{file}
 use Rattle.pb_moves.specs.Attack.{ranks_apart}
 use Rattle.pb_moves.proofs.Passing.{test_passes, test_fails}
-use Rattle.pb_moves.proofs.playing.passed_by.Goals.{else-eq-via-then-eq+then-file+else-abs_diff-eq2, else-eq-via-then-eq+else-file, else-eq-via-else-eq}
-use Rattle.pb_moves.proofs.playing.passed_by.Goals as goal
+use Rattle.pb_moves.proofs.beside.passed_by.Goals.{else-eq-via-then-eq+then-file+else-abs_diff-eq2, else-eq-via-then-eq+else-file, else-eq-via-else-eq}
+use Rattle.pb_moves.proofs.beside.passed_by.Goals as goal
 
 pub returns-then-abs_diff-eq2 : goal.returns-then-abs_diff-eq2
 returns-then-abs_diff-eq2 c = λ b x.

@@ -4,7 +4,7 @@ use Rattle.pb_moves.specs.declared.castling.Castling.{Castling}
 use Rattle.pb_moves.specs.Castling.{castling_row}
 use Rattle.pb_moves.specs.After.{KeepsFlag}
 use Rattle.pb_moves.proofs.Successors.{IsElsewhere, each_castling, kept_elsewhere}
-use Rattle.pb_moves.proofs.playing.rights_after.Goals as goal
+use Rattle.pb_moves.proofs.beside.rights_after.Goals as goal
 
 pub returns-then-not-is_home-2 : goal.returns-then-not-is_home-2
 returns-then-not-is_home-2 c = λ castling.
