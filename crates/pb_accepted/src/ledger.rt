@@ -148,7 +148,7 @@ impl<T: Tally> Ledger<T> {
         self.games.len() as u32
     }
 
-    /// The game with this number, from 1, and its id.
+    /// The game with this number, from 1, and its id. None exactly where no game has it: for 0, and above `len()`.
     pub fn get(&self, number: u32) -> Option<(&Id, &Game)>
         ensures { MatchOption result
             ((s : Submission) → ¬ IsNumber self.now.accepted number s)

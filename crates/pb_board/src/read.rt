@@ -83,7 +83,12 @@ fn refusal_of(error: SetupError) -> FenError
     }
 }
 
-/// The setup that the first four fields of a record spell.
+/// The setup that the first four fields of a record spell (PGN Standard 16.1.3.1 to 16.1.3.4).
+///
+/// # Errors
+///
+/// The first that is due of `Placement`, `Turn`, `Castling` and `EnPassantText`, each where a field isn't spelled so, and then of `Kings`,
+/// `Pawns` and `EnPassantPawn`, where the parts are no setup.
 pub fn read_setup(four: [&[u8]; 4]) -> Result<Setup, FenError>
     // What is read is a setup, and the texts spell it.
     ensures found { IfOk result (λ s. IsSetup s × AreFields s (map (λ t. t.now) four.entry)) }
@@ -104,7 +109,11 @@ fn judge_setup(four: &[&[u8]; 4]) -> Result<Setup, FenError>
     build(parts.board, parts.turn, parts.rights, parts.ep)
 }
 
-/// The record that the text spells.
+/// The record that the text spells: six fields with single spaces between (PGN Standard 16.1).
+///
+/// # Errors
+///
+/// The first that is due, in the order of `FenError`'s variants.
 pub fn read_fen(text: &[u8]) -> Result<Fen, FenError>
     // What is read is a record, and the text spells it.
     ensures found { IfOk result (λ f. IsRecord f × FenText f text.now) }

@@ -29,7 +29,7 @@ impl Square {
     /// The square of the black king in the initial array.
     pub(crate) const E8: Square = Square { index: 60 };
 
-    /// The square on a file and a rank, both counted from 0.
+    /// The square on a file and a rank, both counted from 0. None exactly where one of them is above 7.
     pub fn new(file: u8, rank: u8) -> Option<Square>
         ensures { SomeIff result ((file < 8) × (rank < 8)) (8 * rank + file) }
     {
@@ -42,7 +42,7 @@ impl Square {
         }
     }
 
-    /// The square of this number.
+    /// The square of this number, `8 * rank + file`. None exactly where it is above 63.
     pub fn from_index(index: u8) -> Option<Square>
         ensures { SomeIff result (index < 64) index }
     {

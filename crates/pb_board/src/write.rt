@@ -157,14 +157,22 @@ pub(crate) fn put_setup(out: &mut FenBytes, setup: &Setup)
     put_passed(out, setup.ep());
 }
 
-/// The text of a record, in memory of its own.
+/// The text of a record, in memory of its own; `Fen::text` gives it without taking any.
+///
+/// # Errors
+///
+/// There was no memory for the text.
 pub fn write_fen(alloc: Global, fen: &Fen) -> Result<Vec<u8>, AllocError>
     ensures { IfOk result (λ v. FenText fen.now v.items) }
 {
     fen.text().as_bytes().to_vec(alloc)
 }
 
-/// The first four fields of a record's text.
+/// The first four fields of a record's text, with single spaces between.
+///
+/// # Errors
+///
+/// There was no memory for the text.
 pub fn write_setup(alloc: Global, setup: &Setup) -> Result<Vec<u8>, AllocError>
     ensures { IfOk result (λ v. FourFields setup.now v.items) }
 {

@@ -68,7 +68,7 @@ impl Epd {
         self.operations.len()
     }
 
-    /// The operands of an opcode.
+    /// The operands of an opcode. None exactly where the record has no operation with it.
     pub fn get(&self, opcode: &[u8]) -> Option<&[Operand]>
         ensures { MatchOption result
             ((operands : List Operand) → ¬ Contains self.now.operations (opcode.now, operands))

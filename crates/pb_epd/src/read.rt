@@ -265,6 +265,8 @@ fn judge(alloc: Global, text: &[u8]) -> Result<Epd, EpdError>
 
 /// The record that the text spells (PGN Standard 16.2): four words that spell a setup, and operations in any order.
 ///
+/// # Errors
+///
 /// The first refusal that is due is answered, in the order of `EpdError`'s variants; only want of memory may come before the
 /// refusals of the setup and of the operations.
 pub fn read_epd(alloc: Global, text: &[u8]) -> Result<Epd, EpdError>

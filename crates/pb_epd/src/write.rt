@@ -41,6 +41,10 @@ fn put_operation(out: &mut Vec<u8>, opcode: &[u8], operands: &[Operand]) -> Resu
 
 /// The one ordered text of the record (PGN Standard 16.2.1 and 16.2.2): the four fields, and then the operations in byte
 /// order of their opcodes, with single spaces, no space before an end and none after the last.
+///
+/// # Errors
+///
+/// There was no memory for the text.
 pub fn write_epd(alloc: Global, epd: &Epd) -> Result<Vec<u8>, AllocError>
     ensures { IfOk result (λ v. EpdForm epd.now v.items) }
 {
