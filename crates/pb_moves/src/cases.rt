@@ -92,13 +92,13 @@ pub(crate) fn pawn_double(setup: &Setup, m: Move, pawn: Piece) -> Option<Change>
     let colour = pawn.colour;
     let board = setup.board();
     let (from, to) = (m.from(), m.to());
-    let kind = becomes(colour, m)?;
     if to.file() == from.file()
         && from.rank() == pawn_rank(colour)
         && is_forward(colour, 2, from, to)
         && is_empty(board, to)
         && is_empty(board, passed(from, to))
     {
+        let kind = becomes(colour, m)?;
         Some(Change::Carry(Piece { colour, kind }))
     } else {
         None
@@ -134,9 +134,9 @@ pub(crate) fn en_passant(setup: &Setup, m: Move, pawn: Piece) -> Option<Change>
 {
     let colour = pawn.colour;
     let (from, to) = (m.from(), m.to());
-    let kind = becomes(colour, m)?;
     match setup.ep() {
         Some(ep) if ep.index() == to.index() && reaches(pawn, setup, from, to) => {
+            let kind = becomes(colour, m)?;
             let gone = square_at(8 * from.rank() + to.file());
             Some(Change::CarryPast(Piece { colour, kind }, gone))
         }
