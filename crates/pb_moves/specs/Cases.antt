@@ -35,6 +35,7 @@ pub record IsPrey (board : Board) (side : Colour) (square : ℕ) : Type 0 where
   pub no_king : kind ≢ King
   pub stands : Holds board square (record { colour = opponent side; kind = kind })
 
+-- the rank on which the pawns of a side promote
 abbrev pub last_rank : Colour → ℕ
 last_rank White = 7
 last_rank Black = 0
