@@ -102,7 +102,7 @@ spaced_token : (before t : Token) (ts : List Token) (rest : List ℕ) → IsToke
 spaced_token before t ts rest is h = (1, rest, is, λ _ _. omega arith, refl, h)
 
 operands_stand : (before : Token) (operands : List Operand) (ts : List Token) (rest : List ℕ) → All IsOperand operands → TokensAfter end_mark ts rest → TokensAfter before (map operand_token operands ++ end_mark ∷ ts) (flat_map spaced operands ++ 59 ∷ rest)
-operands_stand before [] ts rest lawful h = (0, rest, tt, λ _ no. absurd no, refl, h)
+operands_stand before [] ts rest lawful h = (0, rest, tt, λ _ no. absurd (no refl), refl, h)
 operands_stand before (o ∷ operands) ts rest lawful h =
     let more = map operand_token operands ++ end_mark ∷ ts in
     let left = flat_map spaced operands ++ 59 ∷ rest in
@@ -158,7 +158,7 @@ form_is_text e bytes lawful form =
       lawful = lawful.lawful;
       distinct = distinct_in_order e.operations lawful.ordered;
       same = λ o. (λ k. k, λ k. k);
-      tokens = (0, 32 ∷ (turn ++ 32 ∷ (castling ++ 32 ∷ (passed ++ rest))), word_token placement (All-head IsWord placement (turn ∷ castling ∷ passed ∷ []) words), λ no. absurd no, whole, two);
+      tokens = (0, 32 ∷ (turn ++ 32 ∷ (castling ++ 32 ∷ (passed ++ rest))), word_token placement (All-head IsWord placement (turn ∷ castling ∷ passed ∷ []) words), λ no. absurd (no refl), whole, two);
     }
 
 pub form_is_one : (e : EpdRecord) (b c : List ℕ) → EpdForm e b → EpdForm e c → b ≡ c

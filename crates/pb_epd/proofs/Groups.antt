@@ -1,6 +1,6 @@
 -- The tokens of operations, cut at their ends.
 use Rattle.std.proofs.Common.{◌≡◌, ◌≢◌, ℕ, ◌+◌, ◌<◌, ◌≤◌, ◌↔◌, ◌⊎◌, false, List, [], ◌∷◌, ◌++◌, length, get_or, Option, Some, None, refl, sym, ap, subst, ◌∙◌, inl, inr, arith}
-use Rattle.std.specs.Prelude.{All, AllPairs, Contains, MatchOption, map, flat_map}
+use Rattle.std.specs.Prelude.{All, AllPairs, Contains, map, flat_map}
 use Rattle.std.specs.List.{slice_split}
 use Rattle.std.specs.Option.{option_or}
 use Rattle.std.proofs.lemmas.List.{append_assoc, append-nil, map-append, length-map, length_push}
@@ -9,7 +9,8 @@ use Rattle.std.proofs.lemmas.List.Concat.{flat_map-append}
 use Rattle.std.proofs.lemmas.List.Elements.{All-push, All-map, All-weaker, All-cons, Contains-push, Contains-push_cases, Contains-append_left, Contains-get_or}
 use Rattle.std.proofs.lemmas.List.Quantifiers.{all_pairs_push}
 use Rattle.pb_epd.specs.declared.operand.Operand.{Operand}
-use Rattle.pb_epd.specs.Token.{Token, word, text, end_mark, IsOperandToken, TokensAfter}
+use Rattle.pb_epd.specs.Token.{Token, word, text, end_mark, TokensAfter}
+use Rattle.pb_epd.specs.Lexeme.{IsOperandToken}
 use Rattle.pb_epd.specs.Operation.{Operation, IsOperation, operand_token, operation_tokens}
 use Rattle.pb_epd.specs.Refusal.{is_end, BeginOtherwise, BreaksAt, IsNamed}
 use Rattle.pb_epd.specs.Reading.{HasTokens, AreOperands, BeginsUnnamed, BeginsWithOperation, AreOperations, AreDistinct, AreHeld, AreNamed, IsUnnamedAt, RepeatsAt, Standing}
@@ -25,7 +26,7 @@ group_of o = word o.0 ∷ map operand_token o.1
 no_end : (t : Token) → IsOperandToken t → is_end t ≡ false
 no_end (word bytes) h = refl
 no_end (text bytes) h = refl
-no_end end_mark h = absurd h
+no_end end_mark h = absurd (h refl)
 
 no_ends : (ts : List Token) → AreOperands ts → All (λ t. is_end t ≡ false) ts
 no_ends ts h = All-weaker IsOperandToken (λ t. is_end t ≡ false) no_end ts h
@@ -39,7 +40,7 @@ cut_alone ts h = slice_split_none is_end ts (no_ends ts h)
 operation_cut : (o : Operation) (others : List Token) → slice_split is_end (operation_tokens o ++ others) ≡ group_of o ∷ slice_split is_end others
 operation_cut o others =
     ap (slice_split is_end) (ap (λ w. word o.0 ∷ w) (append_assoc (map operand_token o.1) (end_mark ∷ []) others))
-    ∙ cut_group (group_of o) others (All-cons IsOperandToken (word o.0) (map operand_token o.1) tt (operands_are o.1))
+    ∙ cut_group (group_of o) others (All-cons IsOperandToken (word o.0) (map operand_token o.1) (λ e. cc (e)) (operands_are o.1))
 
 pub operations_cut : (operations : List Operation) (others : List Token) → slice_split is_end (flat_map operation_tokens operations ++ others) ≡ map group_of operations ++ slice_split is_end others
 operations_cut [] others = refl

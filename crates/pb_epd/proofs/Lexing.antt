@@ -4,8 +4,8 @@ use Rattle.std.specs.Prelude.{All}
 use Rattle.std.proofs.lemmas.List.{take-append-drop, append_assoc, append-nil, drop_all, drop_more, length-drop, length-replicate}
 use Rattle.std.proofs.lemmas.List.Elements.{All-head, All-tail, All-replicate}
 use Rattle.pb_epd.specs.Run.{IsRun}
-use Rattle.pb_epd.specs.Token.{Token, word, text, end_mark, IsToken, IsWordByte, IsTextByte, IsOperandToken, MayFollow}
-use Rattle.pb_epd.specs.Lexeme.{IsWholeBefore, BeginsWith, BeginsWithWordByte, BeginsUnspaced, Begins, Steps, IsStuck}
+use Rattle.pb_epd.specs.Token.{Token, word, text, end_mark, IsToken, IsWordByte, IsTextByte}
+use Rattle.pb_epd.specs.Lexeme.{IsOperandToken, MayFollow, IsWholeBefore, BeginsWith, BeginsWithWordByte, BeginsUnspaced, Begins, Steps, IsStuck}
 use Rattle.pb_epd.proofs.Runs.{Stops, same_run, run_inside, run_stops, run_only, run_length}
 
 pub whole_from_stops : (bytes : List ℕ) → Stops IsWordByte bytes → ¬ BeginsWithWordByte bytes

@@ -10,8 +10,8 @@ use Rattle.pb_epd.specs.declared.token.Lexeme.{Lexeme}
 use Rattle.pb_epd.specs.declared.token.Lexeme.TheVariants as lexeme
 use Rattle.pb_epd.specs.declared.token.Step.{Step}
 use Rattle.pb_epd.specs.declared.token.Step.TheVariants as step
-use Rattle.pb_epd.specs.Token.{Token, word, text, end_mark, IsToken, IsOperandToken, Tokens, TokensAfter}
-use Rattle.pb_epd.specs.Lexeme.{token_of, Steps, IsStep}
+use Rattle.pb_epd.specs.Token.{Token, word, text, end_mark, IsToken, Tokens, TokensAfter}
+use Rattle.pb_epd.specs.Lexeme.{IsOperandToken, token_of, Steps, IsStep}
 use Rattle.pb_epd.specs.Operation.{IsOperand, operand_token}
 use Rattle.pb_epd.specs.Refusal.{IsNamed}
 use Rattle.pb_epd.specs.Reading.{HasTokens, EndsSoundly, Follow, AreOperands, EndsWithOperands, BeginsUnnamed, BeginsWithOperation}
@@ -90,8 +90,8 @@ module _ (bytes : List ℕ) where
 -- ---- operands
 
 pub operand_is : (o : Operand) → IsOperandToken (operand_token o)
-operand_is (operand.Word bytes) = tt
-operand_is (operand.Text bytes) = tt
+operand_is (operand.Word bytes) = λ e. cc (e)
+operand_is (operand.Text bytes) = λ e. cc (e)
 
 pub operands_are : (operands : List Operand) → AreOperands (map operand_token operands)
 operands_are [] = All-nil IsOperandToken
@@ -146,8 +146,8 @@ operands_alone start bytes operands before rest h none ts tokens =
 -- ---- an operation
 
 pub no_operand : (t : Token) → (IsOperandToken t → ⊥) → t ≡ end_mark
-no_operand (word bytes) h = absurd (h tt)
-no_operand (text bytes) h = absurd (h tt)
+no_operand (word bytes) h = absurd (h (λ e. cc (e)))
+no_operand (text bytes) h = absurd (h (λ e. cc (e)))
 no_operand end_mark h = refl
 
 module _ (before : Token) (bytes : List ℕ) (t : Token) (rest : List ℕ) (first : Steps before bytes t rest) where

@@ -1,8 +1,8 @@
 -- Lists of tokens that stand in bytes: no bytes have two.
 use Rattle.std.proofs.Common.{◌≡◌, ◌≢◌, ℕ, zero, suc, ◌+◌, ◌≤◌, List, [], ◌∷◌, ◌++◌, replicate, refl, sym, ap, subst, ◌∙◌, arith, add-one}
 use Rattle.std.proofs.lemmas.List.{append_assoc, append-nil, replicate-append-replicate, replicate_more}
-use Rattle.pb_epd.specs.Token.{Token, word, text, end_mark, IsToken, IsWordByte, MayFollow, TokensAfter, token_text}
-use Rattle.pb_epd.specs.Lexeme.{IsWholeBefore, BeginsWithWordByte, last_token, Steps, IsStuck}
+use Rattle.pb_epd.specs.Token.{Token, word, text, end_mark, IsToken, IsWordByte, TokensAfter, token_text}
+use Rattle.pb_epd.specs.Lexeme.{MayFollow, IsWholeBefore, BeginsWithWordByte, last_token, Steps, IsStuck}
 use Rattle.pb_epd.specs.Reading.{Follow}
 use Rattle.pb_epd.proofs.Lexing.{spaces_alone, steps_one, stuck_steps, begins_unspaced, no_word_end}
 
@@ -26,8 +26,8 @@ after_spaces end_mark n bytes some = tt
 
 word_whole : (w : List ℕ) (ts : List Token) (rest : List ℕ) → TokensAfter (word w) ts rest → ¬ BeginsWithWordByte rest
 word_whole w [] rest h = λ k. only_spaces_begin h.0 (subst BeginsWithWordByte h.1 k)
-word_whole w (word u ∷ ts) rest h = λ k. spaces_begin h.0 (u ++ h.1) (h.3 tt tt) (subst BeginsWithWordByte h.4 k)
-word_whole w (text u ∷ ts) rest h = λ k. spaces_begin h.0 ((34 ∷ (u ++ 34 ∷ [])) ++ h.1) (h.3 tt tt) (subst BeginsWithWordByte h.4 k)
+word_whole w (word u ∷ ts) rest h = λ k. spaces_begin h.0 (u ++ h.1) (h.3 (λ e. cc (e)) (λ e. cc (e))) (subst BeginsWithWordByte h.4 k)
+word_whole w (text u ∷ ts) rest h = λ k. spaces_begin h.0 ((34 ∷ (u ++ 34 ∷ [])) ++ h.1) (h.3 (λ e. cc (e)) (λ e. cc (e))) (subst BeginsWithWordByte h.4 k)
 word_whole w (end_mark ∷ ts) rest h = λ k. before_end h.0 h.1 (subst BeginsWithWordByte h.4 k)
   where
     before_end : (n : ℕ) (r : List ℕ) → BeginsWithWordByte (replicate n 32 ++ 59 ∷ r) → ⊥

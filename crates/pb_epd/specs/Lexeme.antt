@@ -1,10 +1,18 @@
 -- What the tokenizer tells of the front of a text.
-use Rattle.std.specs.Prelude.{◌≡◌, ◌≢◌, ℕ, List, [], ◌∷◌, ◌++◌, replicate}
+use Rattle.std.specs.Prelude.{◌≡◌, ◌≢◌, ℕ, ◌≤◌, List, [], ◌∷◌, ◌++◌, replicate}
 use Rattle.pb_epd.specs.declared.token.Lexeme.{Lexeme}
 use Rattle.pb_epd.specs.declared.token.Lexeme.TheVariants as lexeme
 use Rattle.pb_epd.specs.declared.token.Step.{Step}
 use Rattle.pb_epd.specs.declared.token.Step.TheVariants as step
-use Rattle.pb_epd.specs.Token.{Token, word, text, end_mark, IsToken, IsWordByte, token_text, MayFollow}
+use Rattle.pb_epd.specs.Token.{Token, word, text, end_mark, IsToken, IsWordByte, token_text}
+
+-- a word or a text
+abbrev pub IsOperandToken : Token → Type 0
+IsOperandToken t = t ≢ end_mark
+
+-- two neighbours have a space between them, of which there are n, where both are words or texts
+abbrev pub MayFollow : Token → ℕ → Token → Type 0
+MayFollow before n after = IsOperandToken before → IsOperandToken after → 1 ≤ n
 
 -- the last of the tokens, where there is one, and else an end
 abbrev pub last_token : Token → List Token → Token

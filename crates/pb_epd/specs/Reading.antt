@@ -7,7 +7,8 @@ use Rattle.pb_epd.specs.declared.read.Taken.{Taken}
 use Rattle.pb_epd.specs.declared.read.Taken.TheVariants as taken
 use Rattle.pb_epd.specs.declared.refusal.EpdError.{EpdError}
 use Rattle.pb_epd.specs.declared.refusal.EpdError.TheVariants as epd
-use Rattle.pb_epd.specs.Token.{Token, word, end_mark, TokensAfter, IsOperandToken}
+use Rattle.pb_epd.specs.Token.{Token, word, end_mark, TokensAfter}
+use Rattle.pb_epd.specs.Lexeme.{IsOperandToken}
 use Rattle.pb_epd.specs.Operation.{Operation, IsOperand, IsOperation, operand_token, operation_tokens}
 use Rattle.pb_epd.specs.Refusal.{is_end, BeginOtherwise, BreaksAt, IsNamed}
 

@@ -1,8 +1,8 @@
 //! Reading an EPD record.
 
 ghost use Rattle.std.specs.Prelude.{◌≡◌, ◌∷◌, ◌++◌, ◌+◌, ◌^◌, ◌<◌, ◌≤◌, [], ℕ, List, All, length, map, IfOk, IfErr, IfSome, MatchOption, MatchResult, OnOk};
-ghost use Rattle.pb_epd.specs.Token.{Token, word, end_mark, Tokens, TokensAfter, IsOperandToken};
-ghost use Rattle.pb_epd.specs.Lexeme.{token_of};
+ghost use Rattle.pb_epd.specs.Token.{Token, word, end_mark, Tokens, TokensAfter};
+ghost use Rattle.pb_epd.specs.Lexeme.{IsOperandToken, token_of};
 ghost use Rattle.pb_epd.specs.Epd.{EpdRecord, IsEpd, EpdText};
 ghost use Rattle.pb_epd.specs.Operation.{IsOpcode, IsOperand, IsOperation, operand_token};
 ghost use Rattle.pb_epd.specs.Refusal.{IsNamed, IsFirstDueEpd};

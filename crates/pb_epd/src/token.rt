@@ -1,8 +1,8 @@
 //! The tokens of an EPD line: words, quoted texts and ends, with spaces around them.
 
 ghost use Rattle.std.specs.Prelude.{◌≡◌, ◌≢◌, ◌↔◌, ◌++◌, ◌∷◌, List, ℕ, IsTrue, MatchOption};
-ghost use Rattle.pb_epd.specs.Token.{Token, text as text_token, word, Tokens, IsToken, IsOperandToken, IsBadAt};
-ghost use Rattle.pb_epd.specs.Lexeme.{BeginsWith, token_of, Begins, IsStep};
+ghost use Rattle.pb_epd.specs.Token.{Token, text as text_token, word, Tokens, IsToken, IsBadAt};
+ghost use Rattle.pb_epd.specs.Lexeme.{IsOperandToken, BeginsWith, token_of, Begins, IsStep};
 
 use crate::run::{space_run, text_run, word_run};
 

@@ -1,4 +1,4 @@
-use Rattle.std.proofs.Common.{◌∙◌, ◌+◌, arith}
+use Rattle.std.proofs.Common.{◌∙◌}
 use Rattle.pb_epd.specs.Operation.{Operation}
 use Rattle.pb_epd.proofs.Groups.{operations_more, read_all, read_repeated, read_unended, read_unnamed}
 use Rattle.pb_epd.proofs.read.read_operations.Goals as goal

@@ -1,8 +1,8 @@
 use Rattle.std.proofs.Common.{◌<◌, drop, length, sym, subst, refl, arith}
 use Rattle.std.proofs.lemmas.Bool.{false≢true}
 use Rattle.std.proofs.lemmas.List.{take_rest}
-use Rattle.pb_epd.specs.Token.{Token, MayFollow}
-use Rattle.pb_epd.specs.Lexeme.{BeginsWith, token_of, Begins}
+use Rattle.pb_epd.specs.Token.{Token}
+use Rattle.pb_epd.specs.Lexeme.{MayFollow, BeginsWith, token_of, Begins}
 use Rattle.pb_epd.proofs.Lexing.{stuck_at, steps_at, joined_bad, done_at}
 use Rattle.pb_epd.proofs.token.next_token.Goals.{else-spaces-eq0-via-then-spaces-eq0+then-is_operand+else-is_operand-2, else-spaces-eq0-via-then-spaces-eq0+else-is_operand, else-spaces-eq0-via-else-spaces-eq0}
 use Rattle.pb_epd.proofs.token.next_token.Goals as goal
