@@ -1,5 +1,5 @@
 -- Entries out of bytes that come in pieces.
-use Rattle.std.proofs.Common.{Ok, take-append-drop, ◌≡◌, ℕ, ◌-◌, ◌<◌, ◌≤◌, List, [], ◌∷◌, ◌++◌, length, take, drop, sym, ap, inr, ◌∙◌, subst, append_assoc, arith}
+use Rattle.std.proofs.Common.{Ok, take-append-drop, ◌≡◌, ℕ, ◌-◌, ◌<◌, ◌≤◌, List, [], ◌∷◌, ◌++◌, length, take, drop, refl, sym, ap, inr, ◌∙◌, subst, append_assoc, arith}
 use Rattle.std.proofs.lemmas.List.{append-nil, nil_from_length, take_rest}
 use Rattle.pb_io.specs.Source.{Fill, SourceState}
 use Rattle.pb_io.specs.Reads.{ReadsFront, ReadsOn, ReadsSome, chunk_len}
@@ -114,12 +114,12 @@ module _ {F : Type 0} (n fills : ℕ) (old mid new : SourceState) (came slice : 
   finds_no_book (Unsorted k) f = record {
     came = came ++ f.2.front;
     reads = reads_front f.0 f.1 f.2;
-    due = (f.0, f.1, record { bytes = f.2.bytes; ordered = f.2.ordered }, f.3.0, f.3.1);
+    due = (f.0 ++ f.1 ∷ [], f.2.bytes, record { before = f.0; entry = f.1; after = []; cut = refl; ordered = f.2.ordered; falls = f.3.0; number_is = f.3.1 });
   }
   finds_no_book Memory f = inr (record {
     came = came ++ f.2.front;
     reads = reads_front f.0 f.1 f.2;
-    due = (f.0, f.1, record { bytes = f.2.bytes; ordered = f.2.ordered });
+    due = (f.0, f.1, f.2.bytes, f.2.ordered);
   })
   finds_no_book (Cut k) f = absurd f.3
   finds_no_book Read f = absurd f.3

@@ -35,11 +35,13 @@ module _ (fills : ℕ) (old new : SourceState) (entries : List Entry) (bytes : L
   refused : (e : BookError) → FindsNoBook fills old new e → e ≡ Memory
   refused (Unsorted number) h =
       let c = consumed old.to_come new.to_come bytes (h.came ++ h.reads.0) tells.told h.reads.1.reads.bytes in
-      let front : List Entry = h.due.0 ++ h.due.1 ∷ [] in
-      let is : book_bytes entries ≡ book_bytes front ++ (h.reads.0 ++ c.0) =
-      sym are.are ∙ c.2 ∙ append_assoc h.came h.reads.0 c.0 ∙ ap (λ xs. xs ++ (h.reads.0 ++ c.0)) h.due.2.bytes.are in
-      let cut = begins entries front (h.reads.0 ++ c.0) are.bounds h.due.2.bytes.bounds is in
-      absurd (h.due.3 (NeverFall-front front cut.0 (subst (λ (es : List Entry). NeverFall es) cut.1 ordered)))
+      let fall = h.due.2 in
+      let is : book_bytes entries ≡ book_bytes h.due.0 ++ (h.reads.0 ++ c.0) =
+      sym are.are ∙ c.2 ∙ append_assoc h.came h.reads.0 c.0 ∙ ap (λ xs. xs ++ (h.reads.0 ++ c.0)) h.due.1.are in
+      let cut = begins entries h.due.0 (h.reads.0 ++ c.0) are.bounds h.due.1.bounds is in
+      let front : NeverFall h.due.0 = NeverFall-front h.due.0 cut.0 (subst (λ (es : List Entry). NeverFall es) cut.1 ordered) in
+      let same : h.due.0 ≡ (fall.before ++ fall.entry ∷ []) ++ fall.after = fall.cut ∙ sym (append_assoc fall.before (fall.entry ∷ []) fall.after) in
+      absurd (fall.falls (NeverFall-front (fall.before ++ fall.entry ∷ []) fall.after (subst (λ (es : List Entry). NeverFall es) same front)))
   refused (Cut extra) h =
       let all : bytes ≡ h.came = all_came old.to_come new.to_come bytes h.came tells.told h.reads.some.reads.bytes h.reads.ended in
       let splits = h.due.2 in

@@ -1,12 +1,12 @@
 -- What reading a book gives.
-use Rattle.std.specs.Prelude.{◌≡◌, ℕ, ◌+◌, ◌<◌, ◌⊎◌, List, [], ◌∷◌, ◌++◌, All, length, Some, false}
+use Rattle.std.specs.Prelude.{◌≡◌, ℕ, ◌<◌, ◌⊎◌, List, [], ◌∷◌, ◌++◌, All, length, Some, false}
 use Rattle.pb_io.specs.Source.{SourceState}
 use Rattle.pb_io.specs.Reads.{ReadsAll, ReadsFront, ReadsOn, ReadsToFault, chunk_len}
 use Rattle.pb_poly.specs.declared.entry.Entry.{Entry}
 use Rattle.pb_poly.specs.declared.reading.BookError.{BookError}
 use Rattle.pb_poly.specs.declared.reading.BookError.TheVariants.{Unsorted, Cut, Read, Endless, Memory}
 use Rattle.pb_poly.specs.Entry.{IsEntry}
-use Rattle.pb_poly.specs.Book.{BookBytes, NeverFall, book_bytes}
+use Rattle.pb_poly.specs.Book.{BookBytes, IsFirstFall, NeverFall, book_bytes}
 
 -- the bytes are those of these entries, whose keys never fall, and less than a whole entry
 pub record Splits (came : List ℕ) (entries : List Entry) (part : List ℕ) : Type 0 where
@@ -22,11 +22,6 @@ pub record ReadsBook (fills : ℕ) (old new : SourceState) (entries : List Entry
   pub bytes : BookBytes entries came
   pub ordered : NeverFall entries
 
--- the bytes are those of entries whose keys never fall, and of one entry more
-pub record BringsEntry (came : List ℕ) (before : List Entry) (entry : Entry) : Type 0 where
-  pub bytes : BookBytes (before ++ entry ∷ []) came
-  pub ordered : NeverFall before
-
 -- how far a stream was read that gave no book for this reason
 abbrev pub BookRead : BookError → ℕ → ℕ → SourceState → SourceState → List ℕ → Type 0
 BookRead (Unsorted number) = ReadsFront
@@ -35,12 +30,11 @@ BookRead Read = ReadsToFault
 BookRead Endless = ReadsOn
 BookRead Memory = ReadsFront
 
--- what is so of the bytes that came: an entry has a key below the key before it, with its number from 1; or less than an entry is left
+-- what is so of the bytes that came: the key of an entry falls, less than an entry is left, or an entry came for which memory was wanting
 abbrev pub BookDue : BookError → List ℕ → Type 0
-BookDue (Unsorted number) came =
-    (before : List Entry) × (entry : Entry) × BringsEntry came before entry × (¬ NeverFall (before ++ entry ∷ [])) × (number ≡ length before + 1)
+BookDue (Unsorted number) came = (entries : List Entry) × BookBytes entries came × IsFirstFall entries number
 BookDue (Cut extra) came = (entries : List Entry) × (part : List ℕ) × Splits came entries part × (0 < extra) × (extra ≡ length part)
-BookDue Memory came = (before : List Entry) × (entry : Entry) × BringsEntry came before entry
+BookDue Memory came = (before : List Entry) × (entry : Entry) × BookBytes (before ++ entry ∷ []) came × NeverFall before
 BookDue fault came = (entries : List Entry) × (part : List ℕ) × Splits came entries part
 
 -- bytes came that give no book for this reason
