@@ -29,22 +29,21 @@ module _ (fills : ℕ) (old new : SourceState) (bytes : List ℕ) (told : old.to
   -- what is put then is the same of the bytes
   pub told_no_book : (e : BookError) (x : Bool × List ℕ) → Ok x ≡ book_verdict e → FindsNoBook fills old new e → AsBook bytes (Err e)
   told_no_book (book.Unsorted number) x is h =
-      let m = h.meets in
-      let c = came_first _ fills old new bytes told (m.came ++ m.rest) m.reads.reads in record {
-        front = m.came;
-        rest = m.rest ++ c.0;
-        cut = c.1 ∙ append_assoc m.came m.rest c.0;
-        entries = _;
-        are = m.bytes;
-        falls = record { before = h.before; entry = h.entry; after = []; cut = refl; ordered = m.ordered; falls = h.falls; number_is = h.number_is };
+      let c = came_first _ fills old new bytes told (h.came ++ h.reads.0) h.reads.1.reads in record {
+        front = h.came;
+        rest = h.reads.0 ++ c.0;
+        cut = c.1 ∙ append_assoc h.came h.reads.0 c.0;
+        entries = h.due.0;
+        are = h.due.1;
+        falls = h.due.2;
       }
   told_no_book (book.Cut extra) x is h =
       let all = all_came _ fills old new bytes told h.came h.reads in record {
-        entries = h.entries;
-        part = h.part;
-        splits = subst (λ (xs : List ℕ). Splits xs h.entries h.part) (sym all) h.splits;
-        some = h.some;
-        extra_is = h.extra_is;
+        entries = h.due.0;
+        part = h.due.1;
+        splits = subst (λ (xs : List ℕ). Splits xs h.due.0 h.due.1) (sym all) h.due.2;
+        some = omega (arith, h.due.3, h.due.4);
+        extra_is = h.due.4;
       }
   told_no_book book.Read x is h = absurd (cc is)
   told_no_book book.Endless x is h = absurd (cc is)
@@ -59,16 +58,16 @@ module _ (fills : ℕ) (old new : SourceState) (bytes : List ℕ) (told : old.to
   pub told_no_table : (e : TableFault) (x : Bool × List ℕ) → Ok x ≡ table_verdict e → FindsNoTable fills old new e → AsTable bytes (Err e)
   told_no_table table.Long x is h =
       let c = came_first _ fills old new bytes told h.came h.reads.reads in
-      omega (arith, h.long, ap length c.1, length-append h.came c.0)
+      omega (arith, h.due, ap length c.1, length-append h.came c.0)
   told_no_table (table.Line number) x is h =
       let all = all_came _ fills old new bytes told h.came h.reads in (
-        subst (λ (xs : List ℕ). length xs ≤ table_limit) (sym all) h.few,
-        subst (λ (xs : List ℕ). IsDueTable (poly.Line number) xs) (sym all) h.due,
+        subst (λ (xs : List ℕ). length xs ≤ table_limit) (sym all) h.due.0,
+        subst (λ (xs : List ℕ). IsDueTable (poly.Line number) xs) (sym all) h.due.1,
       )
   told_no_table (table.Count count) x is h =
       let all = all_came _ fills old new bytes told h.came h.reads in (
-        subst (λ (xs : List ℕ). length xs ≤ table_limit) (sym all) h.few,
-        subst (λ (xs : List ℕ). IsDueTable (poly.Count count) xs) (sym all) h.due,
+        subst (λ (xs : List ℕ). length xs ≤ table_limit) (sym all) h.due.0,
+        subst (λ (xs : List ℕ). IsDueTable (poly.Count count) xs) (sym all) h.due.1,
       )
   told_no_table table.Read x is h = absurd (cc is)
   told_no_table table.Endless x is h = absurd (cc is)
