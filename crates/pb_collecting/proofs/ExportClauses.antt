@@ -10,10 +10,10 @@ use Rattle.pb_ledger.specs.declared.collecting.CollectFault.{CollectFault}
 use Rattle.pb_ledger.specs.declared.collecting.CollectFault.TheVariants as collect
 use Rattle.pb_export.specs.declared.exporting.ExportFault.{ExportFault}
 use Rattle.pb_export.specs.declared.exporting.ExportFault.TheVariants as export
-use Rattle.pb_commands.specs.Judged.{PutsText, PutsUntil}
+use Rattle.pb_commands.specs.Judged.{PutsText, PutsUntil, Verdict}
 use Rattle.pb_commands.specs.declared.fault.Fault.{Fault}
 use Rattle.pb_commands.specs.declared.fault.Fault.TheVariants.{Read, Write, Endless, Memory}
-use Rattle.pb_collecting.specs.CollectRun.{JudgesTable, StopsTable}
+use Rattle.pb_collecting.specs.CollectRun.{JudgesTable}
 use Rattle.pb_collecting.specs.ExportRun.{BlamesSink, EndsExport, ExportsGames, ExportsOrStops, StopsExport, TellsExport, at_export, at_submissions, at_table, fault_of_export}
 use Rattle.pb_collecting.specs.Taking.{fault_of, new_ledger}
 use Rattle.pb_collecting.proofs.CollectRuns.{tells_refused}
@@ -28,11 +28,11 @@ no_blame sink sink' fault other same = record {
   always = λ works fails. absurd (cc (sym fails ∙ ap (λ (x : SinkState). x.failed) same ∙ works));
 }
 
-blame_until : (judges : Bool → List ℕ → Type 0) (stops : Fault → Type 0) (sink sink' : SinkState) (fault : Fault) → PutsUntil judges stops sink sink' fault → BlamesSink sink sink' fault
-blame_until judges stops sink sink' Write h = record { only = λ is. h.fails; always = λ works fails. refl }
-blame_until judges stops sink sink' Read h = no_blame sink sink' Read (λ is. cc is) h.1
-blame_until judges stops sink sink' Endless h = no_blame sink sink' Endless (λ is. cc is) h.1
-blame_until judges stops sink sink' Memory h = no_blame sink sink' Memory (λ is. cc is) h.1
+blame_until : (judges : Verdict → Type 0) (sink sink' : SinkState) (fault : Fault) → PutsUntil judges sink sink' fault → BlamesSink sink sink' fault
+blame_until judges sink sink' Write h = record { only = λ is. h.fails; always = λ works fails. refl }
+blame_until judges sink sink' Read h = no_blame sink sink' Read (λ is. cc is) h.1
+blame_until judges sink sink' Endless h = no_blame sink sink' Endless (λ is. cc is) h.1
+blame_until judges sink sink' Memory h = no_blame sink sink' Memory (λ is. cc is) h.1
 
 -- a sink that has not failed is no reason to end
 not_written : (fills : ℕ) (s s' : SourceState) (dropped dropped' : SinkState) (l l' : LedgerState) (e : CollectFault) → dropped'.failed ≡ false
@@ -91,7 +91,7 @@ module _ (fills : ℕ) (t t' s s' : SourceState) (d d' sink sink' : SinkState) w
     ends (Err fault) h = record { dropped = d; dropped' = d'; stops = h; works = works }
 
     blame_stop : (fault : Fault) → StopsExport fills t t' s s' d d' sink sink' fault → BlamesSink sink sink' fault
-    blame_stop fault (at_table h no_reply) = blame_until (JudgesTable fills t t' s s') (StopsTable fills t t' s s') sink sink' fault h
+    blame_stop fault (at_table h no_reply) = blame_until (JudgesTable fills t t' s s') sink sink' fault h
     blame_stop fault (at_submissions e h is same) =
         no_blame sink sink' fault (λ write. not_written fills s s' d d' (new_ledger h.words) h.ledger e works h.until (sym is ∙ write)) same
     blame_stop fault (at_export words held e games h is) = blame_export _ sink sink' fault e h is

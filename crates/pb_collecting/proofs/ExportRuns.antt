@@ -5,7 +5,8 @@ use Rattle.pb_io.specs.Sink.{SinkState}
 use Rattle.pb_accepted.specs.Ledger.{LedgerState}
 use Rattle.pb_export.specs.Exporting.{Exports, ExportsUntil}
 use Rattle.pb_export.specs.declared.exporting.ExportFault.{ExportFault}
-use Rattle.pb_commands.specs.ShowsRefusal.{RefusesForTable}
+use Rattle.pb_commands.specs.Judged.{PutsOrEnds}
+use Rattle.pb_commands.specs.TableJudged.{table_verdict}
 use Rattle.pb_poly.specs.TableReading.{FindsNoTable}
 use Rattle.pb_commands.specs.declared.fault.Fault.{Fault}
 use Rattle.pb_poly.specs.declared.table_file.TableFault.{TableFault}
@@ -13,13 +14,14 @@ use Rattle.pb_collecting.specs.ExportRun.{ExportsAnswered, ExportsOrStops, Stops
 use Rattle.pb_collecting.specs.Taking.{FillsLedger, RefusesGames, TakesOrStops}
 use Rattle.pb_collecting.specs.declared.taking.NoGames.{NoGames}
 use Rattle.pb_collecting.specs.declared.taking.NoGames.TheVariants.{Table, Submissions}
-use Rattle.pb_collecting.proofs.CollectRuns.{refused, table_ends}
+use Rattle.pb_collecting.proofs.CollectRuns.{refused, refused_no, table_ends}
 
 module _ (fills : ℕ) (t t' s s' : SourceState) (d d' sink sink' : SinkState) where
   -- the table is refused, or a fault ended its reading
   module _ (same : s' ≡ s) (no_reply : d' ≡ d) (e : TableFault) (h : FindsNoTable fills t t' e) where
-    no_table : (result : Result Bool Fault) → RefusesForTable sink sink' result e → ExportsOrStops fills t t' s s' d d' sink sink' result
-    no_table (Ok true) r = absurd (cc (table_ends fills t t' s s' sink sink' same (Ok true) e h r).0.judged.answered)
+    no_table : (result : Result Bool Fault) → PutsOrEnds (λ verdict. verdict ≡ table_verdict e) sink sink' result → ExportsOrStops fills t t' s s' d d' sink sink' result
+    no_table (Ok true) r =
+        let text = r.0 in absurd (cc (refused_no e true text.out text.judged))
     no_table (Ok false) r =
         let on = refused fills t t' s s' sink sink' same false e h r in
         record { refused = on.0; no_reply = no_reply; works = on.1; flushed = on.2 }
@@ -29,8 +31,8 @@ module _ (fills : ℕ) (t t' s s' : SourceState) (d d' sink sink' : SinkState) w
   pub no_games : (why : NoGames) → TakesOrStops fills t t' s s' d d' (Err why) → (result : Result Bool Fault) → RefusesGames sink sink' result why
       → ExportsOrStops fills t t' s s' d d' sink sink' result
   no_games (Table e) h result r = no_table h.1 h.2 e h.0 result r
-  no_games (Submissions e) h (Ok done) r = absurd (cc r.answered)
-  no_games (Submissions e) h (Err fault) r = at_submissions e h (cc r.answered) r.same
+  no_games (Submissions e) h (Ok done) r = absurd (cc r.0)
+  no_games (Submissions e) h (Err fault) r = at_submissions e h (cc r.0) r.1
 
   -- the games are held
   module _ (ledger : LedgerState) (h : FillsLedger fills t t' s s' d d' ledger) where

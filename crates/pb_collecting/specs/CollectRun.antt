@@ -1,6 +1,6 @@
 -- How a run of the command `collect` ends, over the states of its two sources and its sink before and after. Below, `t` and `t'`
 -- are the states of the table's source, `s` and `s'` those of the submissions'.
-use Rattle.std.specs.Prelude.{◌≡◌, ℕ, All, Bool, true, false, List, [], Option, Some, None, Result, Ok, Err, IfSome}
+use Rattle.std.specs.Prelude.{◌≡◌, ℕ, All, true, false, List, [], Option, Some, None, Result, Ok, Err, IfSome}
 use Rattle.std.specs.Io.KnownBytes.{Appends}
 use Rattle.pb_io.specs.Source.{SourceState}
 use Rattle.pb_io.specs.Sink.{SinkState}
@@ -15,13 +15,12 @@ use Rattle.pb_accepted.specs.Replies.{replies}
 use Rattle.pb_ledger.specs.declared.collecting.CollectFault.{CollectFault}
 use Rattle.pb_accepted.specs.Holding.{most_games}
 use Rattle.pb_commands.specs.declared.fault.Fault.{Fault}
-use Rattle.pb_commands.specs.declared.fault.Fault.TheVariants.{Read, Write, Endless, Memory}
-use Rattle.pb_poly.specs.declared.table_file.TableFault.TheVariants as table
-use Rattle.pb_commands.specs.Judged.{PutsText, PutsUntil}
+use Rattle.pb_commands.specs.declared.fault.Fault.TheVariants.{Memory}
+use Rattle.pb_poly.specs.declared.table_file.TableFault.{TableFault}
+use Rattle.pb_commands.specs.Judged.{PutsText, PutsUntil, Verdict}
 use Rattle.pb_poly.specs.TableReading.{FindsNoTable}
-use Rattle.pb_commands.specs.TableRun.{RefusesTable}
 use Rattle.pb_poly.specs.Table.{IsTableFile}
-use Rattle.pb_commands.specs.TableShown.{TableRefused}
+use Rattle.pb_commands.specs.TableJudged.{TableRefused, table_verdict}
 use Rattle.pb_collecting.specs.Taking.{CollectsGames, StopsTaking, fault_of}
 
 -- all submissions were taken and answered, and the entries are the book of the games that are held
@@ -57,23 +56,17 @@ abbrev pub TellsCollect : Option (List ℕ) → Option (List ℕ) → SinkState 
 TellsCollect file bytes sink sink' None = IfSome file (λ f. RefusesTold f sink sink')
 TellsCollect file bytes sink sink' (Some entries) = IfSome file (λ f. IfSome bytes (λ b. CollectsBytes f b sink sink' entries))
 
--- the table is refused by this line, and no submission was read
-pub record JudgesTable (fills : ℕ) (t t' s s' : SourceState) (answer : Bool) (out : List ℕ) : Type 0 where
-  pub refused : RefusesTable fills t t' out
+-- there is no table, this comes of it, and no submission was read
+pub record JudgesTable (fills : ℕ) (t t' s s' : SourceState) (verdict : Verdict) : Type 0 where
+  pub cause : TableFault
+  pub found : FindsNoTable fills t t' cause
+  pub is : verdict ≡ table_verdict cause
   pub unread : s' ≡ s
-  pub answered : answer ≡ false
-
--- what is so where a fault ends the reading of the table
-abbrev pub StopsTable : ℕ → SourceState → SourceState → SourceState → SourceState → Fault → Type 0
-StopsTable fills t t' s s' Read = FindsNoTable fills t t' table.Read × (s' ≡ s)
-StopsTable fills t t' s s' Endless = FindsNoTable fills t t' table.Endless × (s' ≡ s)
-StopsTable fills t t' s s' Memory = FindsNoTable fills t t' table.Memory × (s' ≡ s)
-StopsTable fills t t' s s' Write = ⊥
 
 -- how a run ends with a fault
 pub data EndsCollect (fills : ℕ) (t t' s s' : SourceState) (sink sink' : SinkState) (fault : Fault) : Type 0 where
   -- at the table, or at the line that refuses it: no submission was read
-  at_table : PutsUntil (JudgesTable fills t t' s s') (StopsTable fills t t' s s') sink sink' fault → EndsCollect fills t t' s s' sink sink' fault
+  at_table : PutsUntil (JudgesTable fills t t' s s') sink sink' fault → EndsCollect fills t t' s s' sink sink' fault
   -- while the submissions were collected into a new ledger, or for want of memory for it
   at_submissions : (e : CollectFault) → StopsTaking fills t t' s s' sink sink' e → fault ≡ fault_of e → EndsCollect fills t t' s s' sink sink' fault
   -- for want of memory for the book: all submissions were taken and answered

@@ -12,7 +12,7 @@ use Rattle.pb_export.specs.declared.exporting.ExportFault.TheVariants as export
 use Rattle.pb_commands.specs.declared.fault.Fault.{Fault}
 use Rattle.pb_commands.specs.declared.fault.Fault.TheVariants.{Write, Memory}
 use Rattle.pb_commands.specs.Judged.{PutsText, PutsUntil}
-use Rattle.pb_collecting.specs.CollectRun.{JudgesTable, RefusesTold, StopsTable, TakesTold}
+use Rattle.pb_collecting.specs.CollectRun.{JudgesTable, RefusesTold, TakesTold}
 use Rattle.pb_collecting.specs.Taking.{CollectsGames, StopsTaking, TakesGames, fault_of, ledger_of}
 
 -- the lines of the export of these games, under the table of these words, were put
@@ -65,7 +65,7 @@ pub record RefusesExport (fills : ℕ) (t t' s s' : SourceState) (d d' sink sink
 -- how a run ends with a fault
 pub data StopsExport (fills : ℕ) (t t' s s' : SourceState) (d d' sink sink' : SinkState) (fault : Fault) : Type 0 where
   -- at the table, or at the line that refuses it: no submission was read, and no reply was put
-  at_table : PutsUntil (JudgesTable fills t t' s s') (StopsTable fills t t' s s') sink sink' fault → d' ≡ d
+  at_table : PutsUntil (JudgesTable fills t t' s s') sink sink' fault → d' ≡ d
       → StopsExport fills t t' s s' d d' sink sink' fault
   -- while the submissions were taken into a new ledger, or for want of memory for it: nothing was exported
   at_submissions : (e : CollectFault) → StopsTaking fills t t' s s' d d' e → fault ≡ fault_of e → sink' ≡ sink

@@ -5,7 +5,7 @@ use Rattle.pb_poly.specs.declared.entry.Entry.{Entry}
 use Rattle.pb_games.specs.Submissions.{Submission}
 use Rattle.pb_accepted.specs.Basis.{Basis}
 use Rattle.pb_accepted.specs.Counting.{IsBook}
-use Rattle.pb_commands.specs.BookShown.{IsBookFile}
+use Rattle.pb_commands.specs.BookJudged.{IsBookFile}
 
 -- the entries have one text, which decodes to them and to no others, and neither the entries nor the text of a book of these
 -- submissions could be others

@@ -14,7 +14,8 @@ use Rattle.pb_accepted.specs.Replies.{replies}
 use Rattle.pb_ledger.specs.declared.collecting.CollectFault.{CollectFault}
 use Rattle.pb_ledger.specs.declared.collecting.CollectFault.TheVariants as collect
 use Rattle.pb_accepted.specs.Holding.{most_games}
-use Rattle.pb_commands.specs.ShowsRefusal.{FaultsAlone, RefusesForTable}
+use Rattle.pb_commands.specs.Judged.{PutsOrEnds}
+use Rattle.pb_commands.specs.TableJudged.{table_verdict}
 use Rattle.pb_commands.specs.declared.fault.Fault.{Fault}
 use Rattle.pb_commands.specs.declared.fault.Fault.TheVariants.{Read, Write, Endless, Memory}
 use Rattle.pb_poly.specs.TableReading.{FindsNoTable, ReadsTable}
@@ -75,5 +76,5 @@ fault_of collect.Memory = Memory
 
 -- what is done where no games were taken
 abbrev pub RefusesGames : SinkState → SinkState → Result Bool Fault → NoGames → Type 0
-RefusesGames old new answer (Table e) = RefusesForTable old new answer e
-RefusesGames old new answer (Submissions e) = FaultsAlone old new answer (fault_of e)
+RefusesGames old new answer (Table e) = PutsOrEnds (λ verdict. verdict ≡ table_verdict e) old new answer
+RefusesGames old new answer (Submissions e) = (answer ≡ Err (fault_of e)) × (new ≡ old)
