@@ -1,5 +1,5 @@
 -- The distinct submissions, and what is held where no id names two games.
-use Rattle.std.proofs.Common.{zero, suc, ◌≡◌, ◌≢◌, ℕ, ◌+◌, ◌<◌, ◌≤◌, ◌⊎◌, List, [], ◌∷◌, ◌++◌, length, take, Some, None, slice_get, get_or, Ok, Err, All, Contains, refl, sym, ap, subst, ◌∙◌, inl, inr, arith}
+use Rattle.std.proofs.Common.{zero, suc, ◌≡◌, ◌≢◌, ℕ, ◌+◌, ◌<◌, ◌≤◌, ◌⊎◌, List, [], ◌∷◌, length, take, Some, None, slice_get, get_or, Ok, Err, All, Contains, refl, sym, ap, subst, ◌∙◌, inl, inr, arith}
 use Rattle.std.specs.List.{AllByRecursion}
 use Rattle.std.proofs.lemmas.List.{get_or_default}
 use Rattle.std.proofs.lemmas.List.Elements.{All-from_recursion, Contains-get_or, Contains-append_right, Contains-push_cases}
@@ -12,21 +12,17 @@ use Rattle.pb_games.specs.Refusing.{Refuses}
 use Rattle.pb_games.proofs.Refused as refused
 use Rattle.pb_accepted.specs.Accepting.{Answer, IsNumber, IsNewId, Answers, Allowed, Takes, Accepted, Run, Adds, Taken, OneGame}
 use Rattle.pb_accepted.specs.Laws.{NoRepeats}
-use Rattle.pb_accepted.proofs.Replies.{Answered, answered, held, new, other, full, id_of, game_of, one_submission, Takes-unique, room-Takes}
+use Rattle.pb_accepted.proofs.Replies.{Answered, answered, held, new, other, full, id_of, game_of, one_submission, Adds-unique, Takes-unique, room-Takes}
+use Rattle.pb_accepted.proofs.Runs.{Along-keeps, Along-unique}
 
 -- ---- the distinct submissions
 
-Adds-unique : (A : List Submission) (line : List ℕ) (r : Answer) (M N : List Submission) → Adds A line r M → Adds A line r N → M ≡ N
-Adds-unique A line r M N (inl h) (inl k) = h.4 ∙ ap (λ s. A ++ s ∷ []) (one_submission line h.0 k.0 h.1 k.1) ∙ sym k.4
-Adds-unique A line r M N (inl h) (inr k) = absurd (k.0 h.0 h.1 h.2 h.3)
-Adds-unique A line r M N (inr h) (inl k) = absurd (h.0 k.0 k.1 k.2 k.3)
-Adds-unique A line r M N (inr h) (inr k) = h.1 ∙ sym k.1
+-- a submission is new where the list doesn't have it
+abbrev AddsAbsent : List Submission → List ℕ → Answer → List Submission → Type 0
+AddsAbsent = Adds (λ A s. ¬ Contains A s)
 
 pub Taken-unique : (A : List Submission) (L : List (List ℕ)) (R : List Answer) (B C : List Submission) → Taken A L R B → Taken A L R C → B ≡ C
-Taken-unique A [] [] B C h k = h ∙ sym k
-Taken-unique A (line ∷ L) (r ∷ R) B C h k = Taken-unique h.0 L R B C h.2 (subst (λ M. Taken M L R C) (sym (Adds-unique A line r h.0 k.0 h.1 k.1)) k.2)
-Taken-unique A [] (r ∷ R) B C h k = absurd h
-Taken-unique A (line ∷ L) [] B C h k = absurd h
+Taken-unique = Along-unique AddsAbsent (Adds-unique (λ A s. ¬ Contains A s))
 
 -- one that isn't in the list differs from each that is
 absent_differs : (A : List Submission) (s : Submission) → (Contains A s → ⊥) → All (λ t. t ≢ s) A
@@ -35,21 +31,15 @@ absent_differs A s absent k d lt e = absent (k, lt, within e)
     within : get_or A k d ≡ s → get_or A k s ≡ s
     within h = get_or_default A k s d lt ∙ h
 
-NoRepeats-Adds : (A : List Submission) (line : List ℕ) (r : Answer) (M : List Submission) → Adds A line r M → NoRepeats A → NoRepeats M
+NoRepeats-Adds : (A : List Submission) (line : List ℕ) (r : Answer) (M : List Submission) → AddsAbsent A line r M → NoRepeats A → NoRepeats M
 NoRepeats-Adds A line r M (inl h) once = subst NoRepeats (sym h.4) (all_pairs_push (λ s t. s ≢ t) A h.0 once (absent_differs A h.0 h.2))
 NoRepeats-Adds A line r M (inr h) once = subst NoRepeats (sym h.1) once
-
-NoRepeats-Taken : (A : List Submission) (L : List (List ℕ)) (R : List Answer) (B : List Submission) → Taken A L R B → NoRepeats A → NoRepeats B
-NoRepeats-Taken A [] [] B h once = subst NoRepeats (sym h) once
-NoRepeats-Taken A (line ∷ L) (r ∷ R) B h once = NoRepeats-Taken h.0 L R B h.2 (NoRepeats-Adds A line r h.0 h.1 once)
-NoRepeats-Taken A [] (r ∷ R) B h once = absurd h
-NoRepeats-Taken A (line ∷ L) [] B h once = absurd h
 
 NoRepeats-nil : NoRepeats []
 NoRepeats-nil i j d lt within = absurd (omega (arith, within))
 
 pub no_repeats : (L : List (List ℕ)) (R : List Answer) (S : List Submission) → Taken [] L R S → NoRepeats S
-no_repeats L R S h = NoRepeats-Taken [] L R S h NoRepeats-nil
+no_repeats L R S h = Along-keeps AddsAbsent NoRepeats NoRepeats-Adds [] L R S h NoRepeats-nil
 
 -- ---- where no id names two games
 
@@ -81,7 +71,7 @@ new_id A line L t agree law absent k d lt e =
     let here = Contains-get_or A k d lt in
     absent (subst (Contains A) (agree (get_or A k d) t line here (Contains-head line L) law e) here)
 
-Adds-Takes : (A : List Submission) (line : List ℕ) (L : List (List ℕ)) (r : Answer) (M : List Submission) → Agree A (line ∷ L) → Takes A line r M → Adds A line r M
+Adds-Takes : (A : List Submission) (line : List ℕ) (L : List (List ℕ)) (r : Answer) (M : List Submission) → Agree A (line ∷ L) → Takes A line r M → AddsAbsent A line r M
 Adds-Takes A line L r M agree (inl h) = inl (h.0, h.1, (λ had. h.2 had.0 h.0 had.1 (ap id_of had.2)), h.3, h.4)
 Adds-Takes A line L r M agree (inr h) = inr ((λ t law absent room. h.0 t law (new_id A line L t agree law absent) room), h.1)
 

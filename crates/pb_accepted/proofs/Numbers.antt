@@ -6,7 +6,7 @@ use Rattle.pb_games.proofs.Refused as refused
 use Rattle.pb_accepted.specs.Accepting.{Answer, IsNumber, Answers, Allowed, Takes, Accepted, Run}
 use Rattle.pb_accepted.specs.Holding.{HaveOwnIds}
 use Rattle.pb_accepted.proofs.Replies.{one_submission, one_number, allowed_held, new_is_next, HaveOwnIds-Takes, Takes-unique}
-use Rattle.pb_accepted.proofs.Runs.{own_ids, HaveOwnIds-nil}
+use Rattle.pb_accepted.proofs.Runs.{Along-keeps, own_ids, HaveOwnIds-nil}
 
 -- ---- lists
 
@@ -37,10 +37,7 @@ IsNumber-Takes A line r M n s (inl h) at = (at.0, at.1, subst (λ X. slice_get X
 IsNumber-Takes A line r M n s (inr h) at = subst (λ X. IsNumber X n s) (sym h.1) at
 
 pub IsNumber-Accepted : (A : List Submission) (L : List (List ℕ)) (R : List Answer) (B : List Submission) (n : ℕ) (s : Submission) → Accepted A L R B → IsNumber A n s → IsNumber B n s
-IsNumber-Accepted A [] [] B n s h at = subst (λ X. IsNumber X n s) (sym h) at
-IsNumber-Accepted A (line ∷ L) (r ∷ R) B n s h at = IsNumber-Accepted h.0 L R B n s h.2 (IsNumber-Takes A line r h.0 n s h.1 at)
-IsNumber-Accepted A [] (r ∷ R) B n s h at = absurd h
-IsNumber-Accepted A (line ∷ L) [] B n s h at = absurd h
+IsNumber-Accepted A L R B n s h at = Along-keeps Takes (λ X. IsNumber X n s) (λ X line r M taken here. IsNumber-Takes X line r M n s taken here) A L R B h at
 
 -- a submission that was just answered with a number has it
 number_after : (cap : ℕ) (A : List Submission) (line : List ℕ) (s : Submission) (n : ℕ) (M : List Submission) → IsLawful line s → Answers cap A s (Ok n) → Takes A line (Ok n) M → IsNumber M n s

@@ -13,7 +13,7 @@ use Rattle.pb_games.specs.Refusing.{Refuses}
 use Rattle.pb_games.proofs.OneLine as line
 use Rattle.pb_games.proofs.OneRefused as refusals
 use Rattle.pb_games.proofs.Refused as refused
-use Rattle.pb_accepted.specs.Accepting.{Answer, IsNumber, IsNewId, Answers, Reply, Allowed, HasRoom, Takes}
+use Rattle.pb_accepted.specs.Accepting.{Answer, IsNumber, IsNewId, Answers, Reply, Allowed, HasRoom, Adds, Takes}
 use Rattle.pb_accepted.specs.Holding.{HaveOwnIds}
 
 -- the id, and the game, of a submission
@@ -129,11 +129,14 @@ Takes-memory A line = inr (λ t law fresh room. room.1 refl, refl)
 -- ---- what a line does
 
 -- what a line makes of the list is determined
+pub Adds-unique : (IsNew : List Submission → Submission → Type 0) (A : List Submission) (line : List ℕ) (r : Answer) (M N : List Submission) → Adds IsNew A line r M → Adds IsNew A line r N → M ≡ N
+Adds-unique IsNew A line r M N (inl h) (inl k) = h.4 ∙ ap (λ s. A ++ s ∷ []) (one_submission line h.0 k.0 h.1 k.1) ∙ sym k.4
+Adds-unique IsNew A line r M N (inl h) (inr k) = absurd (k.0 h.0 h.1 h.2 h.3)
+Adds-unique IsNew A line r M N (inr h) (inl k) = absurd (h.0 k.0 k.1 k.2 k.3)
+Adds-unique IsNew A line r M N (inr h) (inr k) = h.1 ∙ sym k.1
+
 pub Takes-unique : (A : List Submission) (line : List ℕ) (r : Answer) (M N : List Submission) → Takes A line r M → Takes A line r N → M ≡ N
-Takes-unique A line r M N (inl h) (inl k) = h.4 ∙ ap (λ s. A ++ s ∷ []) (one_submission line h.0 k.0 h.1 k.1) ∙ sym k.4
-Takes-unique A line r M N (inl h) (inr k) = absurd (k.0 h.0 h.1 h.2 h.3)
-Takes-unique A line r M N (inr h) (inl k) = absurd (h.0 k.0 k.1 k.2 k.3)
-Takes-unique A line r M N (inr h) (inr k) = h.1 ∙ sym k.1
+Takes-unique = Adds-unique (λ A s. IsNewId s.0 A)
 
 -- an allowed answer leaves some list
 takes_answered : (cap : ℕ) (A : List Submission) (line : List ℕ) (s : Submission) (r : Answer) → IsLawful line s → Answered cap A s r → (M : List Submission) × Takes A line r M

@@ -1,30 +1,41 @@
 -- Whole runs, line by line.
 use Rattle.std.proofs.Common.{◌≡◌, ℕ, List, [], ◌∷◌, ◌++◌, refl, sym, subst, ◌∙◌, arith}
 use Rattle.pb_games.specs.Submissions.{Submission}
-use Rattle.pb_accepted.specs.Accepting.{Answer, Allowed, Takes, Accepted, Run}
+use Rattle.pb_accepted.specs.Accepting.{Answer, Allowed, Along, Takes, Accepted, Run}
 use Rattle.pb_accepted.specs.Holding.{HaveOwnIds}
 use Rattle.pb_accepted.proofs.Replies.{Takes-unique, takes_allowed, HaveOwnIds-Takes}
+
+-- ---- steps
+
+-- what each step keeps is kept
+pub Along-keeps : (Step : List Submission → List ℕ → Answer → List Submission → Type 0) (P : List Submission → Type 0)
+    → ((A : List Submission) (line : List ℕ) (r : Answer) (B : List Submission) → Step A line r B → P A → P B)
+    → (A : List Submission) (L : List (List ℕ)) (R : List Answer) (B : List Submission) → Along Step A L R B → P A → P B
+Along-keeps Step P keeps A [] [] B h p = subst P (sym h) p
+Along-keeps Step P keeps A (line ∷ L) (r ∷ R) B h p = Along-keeps Step P keeps h.0 L R B h.2 (keeps A line r h.0 h.1 p)
+Along-keeps Step P keeps A [] (r ∷ R) B h p = absurd h
+Along-keeps Step P keeps A (line ∷ L) [] B h p = absurd h
+
+-- where each step leaves one list, so do all
+pub Along-unique : (Step : List Submission → List ℕ → Answer → List Submission → Type 0)
+    → ((A : List Submission) (line : List ℕ) (r : Answer) (B C : List Submission) → Step A line r B → Step A line r C → B ≡ C)
+    → (A : List Submission) (L : List (List ℕ)) (R : List Answer) (B C : List Submission) → Along Step A L R B → Along Step A L R C → B ≡ C
+Along-unique Step one A [] [] B C h k = h ∙ sym k
+Along-unique Step one A (line ∷ L) (r ∷ R) B C h k =
+    Along-unique Step one h.0 L R B C h.2 (subst (λ M. Along Step M L R C) (sym (one A line r h.0 k.0 h.1 k.1)) k.2)
+Along-unique Step one A [] (r ∷ R) B C h k = absurd h
+Along-unique Step one A (line ∷ L) [] B C h k = absurd h
 
 -- ---- what is accepted
 
 pub HaveOwnIds-nil : HaveOwnIds []
 HaveOwnIds-nil i j d lt within = absurd (omega (arith, within))
 
-pub HaveOwnIds-Accepted : (A : List Submission) (L : List (List ℕ)) (R : List Answer) (B : List Submission) → Accepted A L R B → HaveOwnIds A → HaveOwnIds B
-HaveOwnIds-Accepted A [] [] B h own = subst HaveOwnIds (sym h) own
-HaveOwnIds-Accepted A (line ∷ L) (r ∷ R) B h own = HaveOwnIds-Accepted h.0 L R B h.2 (HaveOwnIds-Takes A line r h.0 h.1 own)
-HaveOwnIds-Accepted A [] (r ∷ R) B h own = absurd h
-HaveOwnIds-Accepted A (line ∷ L) [] B h own = absurd h
-
 pub own_ids : (L : List (List ℕ)) (R : List Answer) (A : List Submission) → Accepted [] L R A → HaveOwnIds A
-own_ids L R A h = HaveOwnIds-Accepted [] L R A h HaveOwnIds-nil
+own_ids L R A h = Along-keeps Takes HaveOwnIds HaveOwnIds-Takes [] L R A h HaveOwnIds-nil
 
 pub Accepted-unique : (A : List Submission) (L : List (List ℕ)) (R : List Answer) (B C : List Submission) → Accepted A L R B → Accepted A L R C → B ≡ C
-Accepted-unique A [] [] B C h k = h ∙ sym k
-Accepted-unique A (line ∷ L) (r ∷ R) B C h k =
-    Accepted-unique h.0 L R B C h.2 (subst (λ M. Accepted M L R C) (sym (Takes-unique A line r h.0 k.0 h.1 k.1)) k.2)
-Accepted-unique A [] (r ∷ R) B C h k = absurd h
-Accepted-unique A (line ∷ L) [] B C h k = absurd h
+Accepted-unique = Along-unique Takes Takes-unique
 
 -- each run leaves some list
 pub accepted_of : (cap : ℕ) (A : List Submission) (L : List (List ℕ)) (R : List Answer) → Run cap A L R → (B : List Submission) × Accepted A L R B
@@ -57,7 +68,3 @@ pub Run-push : (cap : ℕ) (A : List Submission) (L : List (List ℕ)) (R : List
 Run-push cap A L R B line r run accepted allowed =
     let taken = takes_allowed cap B line r allowed in
     Run-append cap A B L (line ∷ []) R (r ∷ []) run accepted (taken.0, allowed, taken.1, tt)
-
-pub Accepted-push : (A : List Submission) (L : List (List ℕ)) (R : List Answer) (B C : List Submission) (line : List ℕ) (r : Answer)
-    → Accepted A L R B → Takes B line r C → Accepted A (L ++ line ∷ []) (R ++ r ∷ []) C
-Accepted-push A L R B C line r accepted taken = Accepted-append A B C L (line ∷ []) R (r ∷ []) accepted (C, taken, refl)

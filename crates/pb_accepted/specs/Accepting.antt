@@ -38,40 +38,37 @@ Allowed cap A line r = Reply cap A line r ⊎ ((r ≡ Err Memory) × Reply cap A
 abbrev pub HasRoom : Answer → Type 0
 HasRoom r = (r ≢ Err Full) × (r ≢ Err Memory)
 
--- what a line that was answered r makes of the list: a lawful submission under a new id is added, and nothing else is
+-- B is what these steps make of A, one for each line with its answer
+abbrev pub Along : (List Submission → List ℕ → Answer → List Submission → Type 0) → List Submission → List (List ℕ) → List Answer → List Submission → Type 0
+Along Step A [] [] B = B ≡ A
+Along Step A (line ∷ L) (r ∷ R) B = (M : List Submission) × Step A line r M × Along Step M L R B
+Along Step A L R B = ⊥
+
+-- what a line that was answered r makes of the list: a lawful submission that is new to it is added, and nothing else is
+abbrev pub Adds : (List Submission → Submission → Type 0) → List Submission → List ℕ → Answer → List Submission → Type 0
+Adds IsNew A line r B =
+    ((s : Submission) × IsLawful line s × IsNew A s × HasRoom r × (B ≡ A ++ s ∷ []))
+    ⊎ (((s : Submission) → IsLawful line s → IsNew A s → HasRoom r → ⊥) × (B ≡ A))
+
+-- a ledger takes what has a new id
 abbrev pub Takes : List Submission → List ℕ → Answer → List Submission → Type 0
-Takes A line r B =
-    ((s : Submission) × IsLawful line s × IsNewId s.0 A × HasRoom r × (B ≡ A ++ s ∷ []))
-    ⊎ (((s : Submission) → IsLawful line s → IsNewId s.0 A → HasRoom r → ⊥) × (B ≡ A))
+Takes = Adds (λ A s. IsNewId s.0 A)
 
 -- B is what lines with their answers make of A, one after another
 abbrev pub Accepted : List Submission → List (List ℕ) → List Answer → List Submission → Type 0
-Accepted A [] [] B = B ≡ A
-Accepted A (line ∷ L) (r ∷ R) B = (M : List Submission) × Takes A line r M × Accepted M L R B
-Accepted A [] (r ∷ R) B = ⊥
-Accepted A (line ∷ L) [] B = ⊥
+Accepted = Along Takes
 
 -- each answer is allowed at the list as it then is
 abbrev pub Run : ℕ → List Submission → List (List ℕ) → List Answer → Type 0
 Run cap A [] [] = Unit {0}
 Run cap A (line ∷ L) (r ∷ R) = (M : List Submission) × Allowed cap A line r × Takes A line r M × Run cap M L R
-Run cap A [] (r ∷ R) = ⊥
-Run cap A (line ∷ L) [] = ⊥
+Run cap A L R = ⊥
 
 -- ---- the distinct submissions, which look at no id
 
--- a lawful submission that isn't in the list yet is added, and nothing else is
-abbrev pub Adds : List Submission → List ℕ → Answer → List Submission → Type 0
-Adds A line r B =
-    ((s : Submission) × IsLawful line s × (Contains A s → ⊥) × HasRoom r × (B ≡ A ++ s ∷ []))
-    ⊎ (((s : Submission) → IsLawful line s → (Contains A s → ⊥) → HasRoom r → ⊥) × (B ≡ A))
-
 -- B is A with the distinct submissions that these lines brought, in order of their first arrival with room and memory
 abbrev pub Taken : List Submission → List (List ℕ) → List Answer → List Submission → Type 0
-Taken A [] [] B = B ≡ A
-Taken A (line ∷ L) (r ∷ R) B = (M : List Submission) × Adds A line r M × Taken M L R B
-Taken A [] (r ∷ R) B = ⊥
-Taken A (line ∷ L) [] B = ⊥
+Taken = Along (Adds (λ A s. ¬ Contains A s))
 
 -- no two of the lines submit legal games that differ under one id
 abbrev pub OneGame : List (List ℕ) → Type 0

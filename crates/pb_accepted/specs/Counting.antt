@@ -24,17 +24,13 @@ credit Black side.White = 0
 credit Black side.Black = 2
 credit Draw _ = 1
 
--- the plies of a game that count
-abbrev pub counted : Basis → Game → List Ply
-counted T g = plies g
-
 -- a ply's key, code and points
 abbrev pub gift_of : Basis → Outcome → Ply → Gift
 gift_of T o p = record { key = key T.words p.0; code = code p.0 p.1; points = credit o p.0.turn }
 
 -- what the plies of a game give, and those of all games, one after another
 abbrev pub gifts_of : Basis → Game → List Gift
-gifts_of T g = map (gift_of T g.outcome) (counted T g)
+gifts_of T g = map (gift_of T g.outcome) (plies g)
 
 abbrev pub all_gifts : Basis → List Submission → List Gift
 all_gifts T S = flat_map (λ s. gifts_of T s.1) S

@@ -49,10 +49,6 @@ abbrev pub RunsGoOn : Type 0
 RunsGoOn = (cap : ℕ) (A : List Submission) (L : List (List ℕ)) (R : List Answer) (B : List Submission) (line : List ℕ) (r : Answer)
     → Run cap A L R → Accepted A L R B → Allowed cap B line r → Run cap A (L ++ line ∷ []) (R ++ r ∷ [])
 
-abbrev pub AcceptingGoesOn : Type 0
-AcceptingGoesOn = (A : List Submission) (L : List (List ℕ)) (R : List Answer) (B C : List Submission) (line : List ℕ) (r : Answer)
-    → Accepted A L R B → Takes B line r C → Accepted A (L ++ line ∷ []) (R ++ r ∷ []) C
-
 -- two runs, the second from what the first left, are one
 abbrev pub RunsJoin : Type 0
 RunsJoin = (cap : ℕ) (A B : List Submission) (K L : List (List ℕ)) (Q R : List Answer)

@@ -39,6 +39,5 @@ reply_line line r = with_end (reply_text (named line r) r)
 
 -- the reply lines to these lines with these answers
 abbrev pub replies : List (List ℕ) → List Answer → List ℕ
-replies [] R = []
-replies (line ∷ L) [] = []
 replies (line ∷ L) (r ∷ R) = reply_line line r ++ replies L R
+replies L R = []

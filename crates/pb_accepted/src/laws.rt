@@ -1,6 +1,6 @@
 //! Laws of ledgers. Each is the contract of a function that does nothing, over the definitions alone.
 
-ghost use Rattle.pb_accepted.specs.Laws.{AcceptedIsOne, AcceptedJoin, AcceptingGoesOn, AcceptsTheTaken, BookByMembers, CountsByMembers, HeldIsAnswered, IdsAreDistinct, LawfulArrives, NoConflict, NumbersAreDistinct, NumbersAreGiven, OneBook, OneReply, OneBookText, RefusalsChangeNothing, RepeatsKeepTheirNumber, RunsAccept, RunsGoOn, RunsJoin, SameBytes, TakenHasNoRepeats, TakenIsOne};
+ghost use Rattle.pb_accepted.specs.Laws.{AcceptedIsOne, AcceptedJoin, AcceptsTheTaken, BookByMembers, CountsByMembers, HeldIsAnswered, IdsAreDistinct, LawfulArrives, NoConflict, NumbersAreDistinct, NumbersAreGiven, OneBook, OneReply, OneBookText, RefusalsChangeNothing, RepeatsKeepTheirNumber, RunsAccept, RunsGoOn, RunsJoin, SameBytes, TakenHasNoRepeats, TakenIsOne};
 
 /// What one line is answered and does, where no id stands twice: one reply and no other, to a submission that is held its
 /// number, and a refused line changes nothing.
@@ -20,7 +20,6 @@ pub fn accepted()
 pub fn runs()
     ensures accept { RunsAccept }
     ensures go_on { RunsGoOn }
-    ensures accepting_goes_on { AcceptingGoesOn }
     ensures join { RunsJoin }
     ensures accepted_join { AcceptedJoin }
 {}
