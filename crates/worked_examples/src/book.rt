@@ -6,7 +6,7 @@ use crate::page::{Done, Page, Trouble};
 use crate::record::setup_of;
 use crate::runs::Runs;
 use crate::table::table_of;
-use crate::text::{bytes_of, count_of, fills_of};
+use crate::text::{count_of, fills_of};
 use pb_poly::{Book, Entry, MemSink, Sink, Source, probe, read_book, write_book, write_entry};
 use std::alloc::Global;
 
@@ -23,28 +23,14 @@ pub(crate) fn answer(page: &mut Page, call: &[&str]) -> Done {
     }
 }
 
-/// The number that a word writes in hexadecimal.
-fn hexadecimal(word: &str) -> Result<u64, Trouble> {
-    match u64::from_str_radix(word, 16) {
-        Ok(number) => Ok(number),
-        Err(_) => Err(Trouble::Row),
-    }
+/// The number that a word writes in hexadecimal, or 0.
+fn hexadecimal(word: &str) -> u64 {
+    u64::from_str_radix(word, 16).unwrap_or(0)
 }
 
-/// The number of 16 bits that a word writes in hexadecimal.
-fn short_hexadecimal(word: &str) -> Result<u16, Trouble> {
-    match u16::try_from(hexadecimal(word)?) {
-        Ok(number) => Ok(number),
-        Err(_) => Err(Trouble::Row),
-    }
-}
-
-/// The number of 32 bits that a word writes in hexadecimal.
-fn long_hexadecimal(word: &str) -> Result<u32, Trouble> {
-    match u32::try_from(hexadecimal(word)?) {
-        Ok(number) => Ok(number),
-        Err(_) => Err(Trouble::Row),
-    }
+/// The same in 16 bits at most.
+fn short_hexadecimal(word: &str) -> u16 {
+    hexadecimal(word).min(0xffff) as u16
 }
 
 /// The entry of a key, a code, a weight and a learn value.
@@ -54,10 +40,10 @@ fn entry_of(alloc: Global, text: &str) -> Result<Entry, Trouble> {
         return Err(Trouble::Row);
     };
     Ok(Entry {
-        key: hexadecimal(key)?,
-        code: short_hexadecimal(code)?,
-        weight: short_hexadecimal(weight)?,
-        learn: long_hexadecimal(learn)?,
+        key: hexadecimal(key),
+        code: short_hexadecimal(code),
+        weight: short_hexadecimal(weight),
+        learn: hexadecimal(learn).min(0xffff_ffff) as u32,
     })
 }
 
@@ -68,69 +54,71 @@ pub(crate) fn file_of(alloc: Global, entries: &[&str]) -> Result<MemSink, Troubl
         if text.contains(' ') {
             write_entry(&mut file, &entry_of(alloc, text)?)?;
         } else {
-            file.put(bytes_of(alloc, text)?.as_slice())?;
+            file.put(text.as_bytes())?;
         }
     }
     Ok(file)
 }
 
 /// The entries, a line each.
-pub(crate) fn tell(page: &mut Page, book: &Book) -> Done {
+pub(crate) fn tell(page: &mut Page, book: &Book) {
     for entry in book.entries() {
-        page.put_digits(entry.key.to_be_bytes().as_slice())?;
-        page.put(" ")?;
-        page.put_digits(entry.code.to_be_bytes().as_slice())?;
-        page.put(" ")?;
-        page.put_digits(entry.weight.to_be_bytes().as_slice())?;
-        page.put(" ")?;
-        page.put_digits(entry.learn.to_be_bytes().as_slice())?;
-        page.put("\n")?;
+        page.put_digits(entry.key.to_be_bytes().as_slice());
+        page.put(" ");
+        page.put_digits(entry.code.to_be_bytes().as_slice());
+        page.put(" ");
+        page.put_digits(entry.weight.to_be_bytes().as_slice());
+        page.put(" ");
+        page.put_digits(entry.learn.to_be_bytes().as_slice());
+        page.put("\n");
     }
-    Ok(())
 }
 
 /// The entries of a file, and whether they are written as they were read.
 fn tell_read(page: &mut Page, file: &[u8], piece: usize, fills: u32) -> Done {
     match read_book(page.alloc, &mut source_of(file, piece), fills) {
-        Ok(book) => tell_again(page, file, &book),
+        Ok(book) => tell_again(page, file, &book)?,
         Err(refusal) => page.put_refusal(&refusal),
     }
+    Ok(())
 }
 
 /// The entries of a book, and whether they are written as this file.
 fn tell_again(page: &mut Page, file: &[u8], book: &Book) -> Done {
-    tell(page, book)?;
+    tell(page, book);
     let mut again = MemSink::new(page.alloc);
     write_book(&mut again, book)?;
-    page.put_count("written the same ", &(again.as_bytes() == file))
+    page.put_count("written the same ", &(again.as_bytes() == file));
+    Ok(())
 }
 
 /// The file, read in pieces of this size and so many fills.
 fn read(page: &mut Page, piece: &str, fills: &str, entries: &[&str]) -> Done {
     let file = file_of(page.alloc, entries)?;
-    tell_read(page, file.as_bytes(), count_of(piece)?, fills_of(fills)?)
+    tell_read(page, file.as_bytes(), count_of(piece), fills_of(fills))
 }
 
 /// The file, read in pieces of each size up to this.
 fn pieces(page: &mut Page, most: &str, entries: &[&str]) -> Done {
     let file = file_of(page.alloc, entries)?;
     let mut runs = Runs::new();
-    for piece in 1..=count_of(most)? {
+    for piece in 1..=count_of(most) {
         let mut answer = Page::new(page.alloc);
         tell_read(&mut answer, file.as_bytes(), piece, u32::MAX)?;
-        runs.add(page, piece, answer)?;
+        runs.add(page, piece, answer);
     }
-    runs.end(page)
+    runs.end(page);
+    Ok(())
 }
 
 /// How many entries a source gives, or why it gives no book.
-fn count_entries<S: Source>(alloc: Global, source: &mut S) -> Result<Page, Trouble> {
+fn count_entries<S: Source>(alloc: Global, source: &mut S) -> Page {
     let mut page = Page::new(alloc);
     match read_book(alloc, source, u32::MAX) {
-        Ok(book) => page.put_count("entries: ", &book.entries().len())?,
-        Err(refusal) => page.put_refusal(&refusal)?,
+        Ok(book) => page.put_count("entries: ", &book.entries().len()),
+        Err(refusal) => page.put_refusal(&refusal),
     }
-    Ok(page)
+    page
 }
 
 /// Each front of the file, read.
@@ -139,10 +127,11 @@ fn cut(page: &mut Page, entries: &[&str]) -> Done {
     let bytes = file.as_bytes();
     let mut runs = Runs::new();
     for count in 0..=bytes.len() {
-        let answer = count_entries(page.alloc, &mut source_of(&bytes[..count], 1))?;
-        runs.add(page, count, answer)?;
+        let answer = count_entries(page.alloc, &mut source_of(&bytes[..count], 1));
+        runs.add(page, count, answer);
     }
-    runs.end(page)
+    runs.end(page);
+    Ok(())
 }
 
 /// The file from a reader that fails once after each front of it.
@@ -151,10 +140,11 @@ fn cut_off(page: &mut Page, entries: &[&str]) -> Done {
     let bytes = file.as_bytes();
     let mut runs = Runs::new();
     for count in 0..=bytes.len() {
-        let answer = count_entries(page.alloc, &mut failing_source(bytes, 2, count))?;
-        runs.add(page, count, answer)?;
+        let answer = count_entries(page.alloc, &mut failing_source(bytes, 2, count));
+        runs.add(page, count, answer);
     }
-    runs.end(page)
+    runs.end(page);
+    Ok(())
 }
 
 /// These entries.
@@ -170,15 +160,16 @@ fn entries_of(alloc: Global, texts: &[&str]) -> Result<Vec<Entry>, Trouble> {
 fn of(page: &mut Page, texts: &[&str]) -> Done {
     match Book::of(entries_of(page.alloc, texts)?) {
         Ok(book) => {
-            page.put("a book\n")?;
-            tell(page, &book)
+            page.put("a book\n");
+            tell(page, &book);
         }
         Err((number, back)) => {
-            page.put_count("refused entry ", &number)?;
-            page.put_count(", ", &back.len())?;
-            page.put(" handed back")
+            page.put_count("refused entry ", &number);
+            page.put_count(", ", &back.len());
+            page.put(" handed back");
         }
     }
+    Ok(())
 }
 
 /// The moves that the book of these entries has for a record, with their weights.
@@ -187,11 +178,11 @@ fn found(page: &mut Page, table: &str, record: &str, texts: &[&str]) -> Done {
         return Err(Trouble::Row);
     };
     let table = table_of(page.alloc, table)?;
-    let setup = setup_of(page.alloc, record)?;
+    let setup = setup_of(record)?;
     for (m, weight) in &probe(page.alloc, &book, &table, &setup)? {
-        tell_move(page, Some(*m))?;
-        page.put_count(" ", weight)?;
-        page.put("\n")?;
+        tell_move(page, Some(*m));
+        page.put_count(" ", weight);
+        page.put("\n");
     }
     Ok(())
 }

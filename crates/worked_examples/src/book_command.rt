@@ -6,7 +6,7 @@ use crate::ends::{Ends, Giver, Taker, ends_of, failing_source};
 use crate::game::stream_of;
 use crate::page::{Done, Page, Trouble};
 use crate::runs::Runs;
-use crate::text::{bytes_of, count_of};
+use crate::text::count_of;
 use pb_cli::{Fault, MemPlace, collect_into, run_collect, run_export, run_probe, run_show};
 use pb_poly::{Book, FromRead, MemSink, Source, ToWrite, write_book};
 
@@ -29,7 +29,7 @@ pub(crate) fn answer(page: &mut Page, call: &[&str]) -> Done {
 }
 
 /// The command `show` over a file in pieces of this size.
-fn show_over(page: &mut Page, file: &[u8], piece: usize, ends: Ends) -> Done {
+fn show_over(page: &mut Page, file: &[u8], piece: usize, ends: Ends) {
     let mut source = failing_source(file, piece, ends.input);
     let mut taker = Taker::new(page.alloc, ends.output, true);
     let answer = run_show(
@@ -38,45 +38,46 @@ fn show_over(page: &mut Page, file: &[u8], piece: usize, ends: Ends) -> Done {
         &mut ToWrite::new(&mut taker),
         ends.fills,
     );
-    told(page, answer, taker.taken.as_slice())
+    told(page, answer, taker.taken.as_slice());
 }
 
 /// The command `show` over a file.
 fn show(page: &mut Page, ends: &str, entries: &[&str]) -> Done {
     let file = file_of(page.alloc, entries)?;
-    show_over(page, file.as_bytes(), 1, ends_of(ends)?)
+    show_over(page, file.as_bytes(), 1, ends_of(ends));
+    Ok(())
 }
 
 /// The command `show` over a file in pieces of each size up to this.
 fn show_pieces(page: &mut Page, most: &str, entries: &[&str]) -> Done {
     let file = file_of(page.alloc, entries)?;
     let mut runs = Runs::new();
-    for piece in 1..=count_of(most)? {
+    for piece in 1..=count_of(most) {
         let mut answer = Page::new(page.alloc);
-        show_over(&mut answer, file.as_bytes(), piece, ends_of("all")?)?;
-        runs.add(page, piece, answer)?;
+        show_over(&mut answer, file.as_bytes(), piece, ends_of("all"));
+        runs.add(page, piece, answer);
     }
-    runs.end(page)
+    runs.end(page);
+    Ok(())
 }
 
 /// The command `probe` over a table and a book.
 fn probe(page: &mut Page, table: &str, ends: &str, record: &str, entries: &[&str]) -> Done {
-    let ends = ends_of(ends)?;
-    let table = bytes_of(page.alloc, table)?;
+    let ends = ends_of(ends);
     let file = file_of(page.alloc, entries)?;
-    let record = bytes_of(page.alloc, record)?;
-    let mut table = failing_source(table.as_slice(), TABLE_PIECE, ends.table);
+    let mut table = failing_source(table.as_bytes(), TABLE_PIECE, ends.table);
     let mut book = failing_source(file.as_bytes(), 3, ends.input);
     let mut taker = Taker::new(page.alloc, ends.output, true);
     let answer = run_probe(
         page.alloc,
         &mut table,
         &mut book,
-        record.as_slice(),
+        record.as_bytes(),
         &mut ToWrite::new(&mut taker),
         ends.fills,
     );
-    told(page, answer, taker.taken.as_slice())
+    told(page, answer, taker.taken.as_slice());
+    Ok(())
 }
 
 /// The command `collect` over a source: the replies, and the book as bytes of a file.
@@ -86,12 +87,11 @@ fn collect_over(
     source: &mut FromRead<Giver<'_>>,
     ends: Ends,
 ) -> Done {
-    let table = bytes_of(page.alloc, table)?;
-    let mut table = failing_source(table.as_slice(), TABLE_PIECE, ends.table);
+    let mut table = failing_source(table.as_bytes(), TABLE_PIECE, ends.table);
     let mut taker = Taker::new(page.alloc, ends.output, true);
     let mut replies = ToWrite::new(&mut taker);
     let answer = run_collect(page.alloc, &mut table, source, &mut replies, ends.fills);
-    page.put_bytes(taker.taken.as_slice())?;
+    page.put_bytes(taker.taken.as_slice());
     tell_book(page, answer)
 }
 
@@ -101,31 +101,31 @@ fn tell_book(page: &mut Page, answer: Result<Option<Book>, Fault>) -> Done {
         Ok(Some(book)) => {
             let mut file = MemSink::new(page.alloc);
             write_book(&mut file, &book)?;
-            page.put("a book\n")?;
-            tell_digits(page, file.as_bytes())
+            page.put("a book\n");
+            tell_digits(page, file.as_bytes());
         }
         Ok(None) => page.put("no book"),
         Err(fault) => {
-            page.put("fault ")?;
-            page.put_debug(&fault)
+            page.put("fault ");
+            page.put_debug(&fault);
         }
-    }
-}
-
-/// The bytes in hexadecimal, sixteen a line.
-fn tell_digits(page: &mut Page, bytes: &[u8]) -> Done {
-    for (place, byte) in bytes.iter().enumerate() {
-        if place % 16 == 0 {
-            page.put("\n")?;
-        }
-        page.put_digits(&[*byte])?;
     }
     Ok(())
 }
 
+/// The bytes in hexadecimal, sixteen a line.
+fn tell_digits(page: &mut Page, bytes: &[u8]) {
+    for (place, byte) in bytes.iter().enumerate() {
+        if place % 16 == 0 {
+            page.put("\n");
+        }
+        page.put_digits(&[*byte]);
+    }
+}
+
 /// The command `collect` over lines.
 fn collect(page: &mut Page, table: &str, ends: &str, lines: &[&str]) -> Done {
-    let ends = ends_of(ends)?;
+    let ends = ends_of(ends);
     let stream = stream_of(page.alloc, lines)?;
     let mut source = failing_source(stream.as_slice(), 100, ends.input);
     collect_over(page, table, &mut source, ends)
@@ -133,10 +133,9 @@ fn collect(page: &mut Page, table: &str, ends: &str, lines: &[&str]) -> Done {
 
 /// The command `collect` with a place in memory for its book: the replies, the answer and what is kept then.
 fn collect_into_memory(page: &mut Page, table: &str, ends: &str, lines: &[&str]) -> Done {
-    let ends = ends_of(ends)?;
-    let table = bytes_of(page.alloc, table)?;
+    let ends = ends_of(ends);
     let stream = stream_of(page.alloc, lines)?;
-    let mut table = failing_source(table.as_slice(), TABLE_PIECE, ends.table);
+    let mut table = failing_source(table.as_bytes(), TABLE_PIECE, ends.table);
     let mut source = failing_source(stream.as_slice(), 100, ends.input);
     let mut replies = MemSink::new(page.alloc);
     let mut place = MemPlace::new(page.alloc);
@@ -148,56 +147,59 @@ fn collect_into_memory(page: &mut Page, table: &str, ends: &str, lines: &[&str])
         &mut place,
         ends.fills,
     );
-    page.put_bytes(replies.as_bytes())?;
-    page.put_debug(&answer)?;
+    page.put_bytes(replies.as_bytes());
+    page.put_debug(&answer);
     match place.kept() {
         Some(bytes) => tell_digits(page, bytes),
         None => page.put("\nnothing is kept"),
     }
+    Ok(())
 }
 
 /// The command `export` over a source.
-fn export_over(page: &mut Page, table: &str, source: &mut FromRead<Giver<'_>>, ends: Ends) -> Done {
-    let table = bytes_of(page.alloc, table)?;
-    let mut table = failing_source(table.as_slice(), TABLE_PIECE, ends.table);
+fn export_over(page: &mut Page, table: &str, source: &mut FromRead<Giver<'_>>, ends: Ends) {
+    let mut table = failing_source(table.as_bytes(), TABLE_PIECE, ends.table);
     let mut taker = Taker::new(page.alloc, ends.output, true);
     let mut sink = ToWrite::new(&mut taker);
     let answer = run_export(page.alloc, &mut table, source, &mut sink, ends.fills);
-    told(page, answer, taker.taken.as_slice())
+    told(page, answer, taker.taken.as_slice());
 }
 
 /// The command `export` over lines.
 fn export(page: &mut Page, table: &str, ends: &str, lines: &[&str]) -> Done {
-    let ends = ends_of(ends)?;
+    let ends = ends_of(ends);
     let stream = stream_of(page.alloc, lines)?;
     let mut source = failing_source(stream.as_slice(), 7, ends.input);
-    export_over(page, table, &mut source, ends)
+    export_over(page, table, &mut source, ends);
+    Ok(())
 }
 
 /// The command `collect` over lines, and what the source gives after it.
 fn collect_leaves(page: &mut Page, table: &str, lines: &[&str]) -> Done {
-    let ends = ends_of("all")?;
+    let ends = ends_of("all");
     let stream = stream_of(page.alloc, lines)?;
     let mut source = failing_source(stream.as_slice(), 100, ends.input);
     collect_over(page, table, &mut source, ends)?;
-    tell_next(page, &mut source)
+    tell_next(page, &mut source);
+    Ok(())
 }
 
 /// The command `export` over lines, and what the source gives after it.
 fn export_leaves(page: &mut Page, table: &str, lines: &[&str]) -> Done {
-    let ends = ends_of("all")?;
+    let ends = ends_of("all");
     let stream = stream_of(page.alloc, lines)?;
     let mut source = failing_source(stream.as_slice(), 7, ends.input);
-    export_over(page, table, &mut source, ends)?;
-    tell_next(page, &mut source)
+    export_over(page, table, &mut source, ends);
+    tell_next(page, &mut source);
+    Ok(())
 }
 
 /// The next three bytes of a source.
-fn tell_next(page: &mut Page, source: &mut FromRead<Giver<'_>>) -> Done {
+fn tell_next(page: &mut Page, source: &mut FromRead<Giver<'_>>) {
     let mut next = [0; 3];
     let filled = source.fill(&mut next);
-    page.put("\n")?;
-    page.put_debug(&filled)?;
-    page.put(" ")?;
-    page.put_bytes(next.as_slice())
+    page.put("\n");
+    page.put_debug(&filled);
+    page.put(" ");
+    page.put_bytes(next.as_slice());
 }

@@ -1,6 +1,5 @@
 //! Readers and writers that fail once and then go on, so that a call that asks again after a failure is seen.
 
-use crate::page::Trouble;
 use crate::text::{count_of, fills_of};
 use pb_poly::FromRead;
 use std::alloc::Global;
@@ -130,7 +129,7 @@ pub(crate) struct Ends {
 
 /// The ends that a word of a row names: `all` where nothing fails, a number of fills, or `table-5`, `input-5` or `output-5` for the
 /// end that fails and its bytes before that.
-pub(crate) fn ends_of(word: &str) -> Result<Ends, Trouble> {
+pub(crate) fn ends_of(word: &str) -> Ends {
     let mut ends = Ends {
         fills: u32::MAX,
         table: NEVER,
@@ -138,10 +137,10 @@ pub(crate) fn ends_of(word: &str) -> Result<Ends, Trouble> {
         output: NEVER,
     };
     match word.split_once('-') {
-        Some(("table", count)) => ends.table = count_of(count)?,
-        Some(("input", count)) => ends.input = count_of(count)?,
-        Some(("output", count)) => ends.output = count_of(count)?,
-        _ => ends.fills = fills_of(word)?,
+        Some(("table", count)) => ends.table = count_of(count),
+        Some(("input", count)) => ends.input = count_of(count),
+        Some(("output", count)) => ends.output = count_of(count),
+        _ => ends.fills = fills_of(word),
     }
-    Ok(ends)
+    ends
 }

@@ -2,7 +2,6 @@
 
 use crate::page::{Done, Page, Trouble};
 use crate::record::setup_of;
-use crate::text::bytes_of;
 use pb_board::write_setup;
 use pb_epd::{Epd, Operand, OperandBytes, read_epd, write_epd};
 use std::alloc::{AllocError, Global};
@@ -19,46 +18,49 @@ pub(crate) fn answer(page: &mut Page, call: &[&str]) -> Done {
 
 /// The line's one form after the number of its operations, or why it is refused.
 fn read(page: &mut Page, line: &str) -> Done {
-    match read_epd(page.alloc, bytes_of(page.alloc, line)?.as_slice()) {
-        Ok(record) => tell(page, &record),
+    match read_epd(page.alloc, line.as_bytes()) {
+        Ok(record) => tell(page, &record)?,
         Err(refusal) => page.put_refusal(&refusal),
     }
+    Ok(())
 }
 
 /// How many operations a record has, and its text.
 fn tell(page: &mut Page, record: &Epd) -> Done {
-    page.put_count("operations: ", &record.len())?;
-    page.put("\n")?;
-    page.put_bytes(write_epd(page.alloc, record)?.as_slice())
+    page.put_count("operations: ", &record.len());
+    page.put("\n");
+    page.put_bytes(write_epd(page.alloc, record)?.as_slice());
+    Ok(())
 }
 
 /// The operands of an operation.
 fn operands(page: &mut Page, line: &str, opcode: &str) -> Done {
-    let Ok(record) = read_epd(page.alloc, bytes_of(page.alloc, line)?.as_slice()) else {
+    let Ok(record) = read_epd(page.alloc, line.as_bytes()) else {
         return Err(Trouble::Row);
     };
     let Some(operands) = record.get(opcode.as_bytes()) else {
-        return page.put("none");
+        page.put("none");
+        return Ok(());
     };
     for operand in operands {
-        tell_operand(page, operand)?;
+        tell_operand(page, operand);
     }
     Ok(())
 }
 
 /// An operand, and whether it is a word or a quoted text.
-fn tell_operand(page: &mut Page, operand: &Operand) -> Done {
+fn tell_operand(page: &mut Page, operand: &Operand) {
     match operand {
         Operand::Word(word) => {
-            page.put("word ")?;
-            page.put_bytes(word.as_bytes())?;
+            page.put("word ");
+            page.put_bytes(word.as_bytes());
         }
         Operand::Text(quoted) => {
-            page.put("text ")?;
-            page.put_bytes(quoted.as_bytes())?;
+            page.put("text ");
+            page.put_bytes(quoted.as_bytes());
         }
     }
-    page.put("\n")
+    page.put("\n");
 }
 
 /// The words of these texts, as operands.
@@ -73,13 +75,14 @@ fn words_of(alloc: Global, texts: &[&str]) -> Result<Vec<Operand>, AllocError> {
 
 /// The record to which these operations are put in turn: the answer to each, and the record after it.
 fn put_all(page: &mut Page, record: &str, operations: &[&str]) -> Done {
-    let setup = setup_of(page.alloc, record)?;
+    let setup = setup_of(record)?;
     let mut record = Epd::new(page.alloc, setup);
     for operation in operations {
         put(page, &mut record, operation)?;
     }
-    page.put("setup ")?;
-    page.put_bytes(write_setup(page.alloc, &record.setup())?.as_slice())
+    page.put("setup ");
+    page.put_bytes(write_setup(page.alloc, &record.setup())?.as_slice());
+    Ok(())
 }
 
 /// Puts an operation, an opcode and words with a comma before each.
@@ -89,8 +92,9 @@ fn put(page: &mut Page, record: &mut Epd, operation: &str) -> Done {
         return Err(Trouble::Row);
     };
     let answer = record.put(opcode.as_bytes(), words_of(page.alloc, words)?);
-    page.put_debug(&answer)?;
-    page.put("\n")?;
+    page.put_debug(&answer);
+    page.put("\n");
     tell(page, record)?;
-    page.put("\n")
+    page.put("\n");
+    Ok(())
 }

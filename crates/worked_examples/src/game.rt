@@ -3,7 +3,7 @@
 
 use crate::moves::tell_moves;
 use crate::page::{Done, Page, Trouble};
-use crate::text::{bytes_of, small_of};
+use crate::text::{START, number_of, small_of};
 use pb_ledger::{Id, Line, MoveList, check_line};
 use pb_moves::Move;
 use std::alloc::Global;
@@ -21,18 +21,18 @@ pub(crate) fn answer(page: &mut Page, call: &[&str]) -> Done {
 /// The line that an argument writes.
 fn line_of(alloc: Global, text: &str) -> Result<Vec<u8>, Trouble> {
     let mut line = Vec::new(alloc);
-    push_line(alloc, &mut line, text)?;
+    push_line(&mut line, text)?;
     Ok(line)
 }
 
 /// Adds the line that an argument writes.
-fn push_line(alloc: Global, line: &mut Vec<u8>, text: &str) -> Done {
+fn push_line(line: &mut Vec<u8>, text: &str) -> Done {
     for (number, field) in text.split('|').enumerate() {
         if number > 0 {
             line.push(b'\t')?;
         }
-        let field = if field == "S" { "{start}" } else { field };
-        line.extend_from_slice(bytes_of(alloc, field)?.as_slice())?;
+        let field = if field == "S" { START } else { field };
+        line.extend_from_slice(field.as_bytes())?;
     }
     Ok(())
 }
@@ -43,19 +43,16 @@ fn numbered(alloc: Global, text: &str, number: u32) -> Result<Vec<u8>, Trouble> 
         return line_of(alloc, text);
     };
     let mut page = Page::new(alloc);
-    page.put_count(front, &number)?;
-    page.put(back)?;
+    page.put_count(front, &number);
+    page.put(back);
     line_of(alloc, page.as_str())
 }
 
 /// How many lines an argument stands for, and how they are written.
 fn times_of(text: &str) -> (u32, &str) {
     match text.split_once('*') {
-        Some((count, rest)) => match small_of(count) {
-            Ok(count) => (count, rest),
-            Err(_) => (1, text),
-        },
-        None => (1, text),
+        Some((count, rest)) if number_of(count) > 0 => (small_of(count), rest),
+        _ => (1, text),
     }
 }
 
@@ -82,9 +79,9 @@ pub(crate) fn stream_of(alloc: Global, texts: &[&str]) -> Result<Vec<u8>, Troubl
     let mut stream = Vec::new(alloc);
     for text in texts {
         match text.split_once("{end}") {
-            Some((text, _)) => push_line(alloc, &mut stream, text)?,
+            Some((text, _)) => push_line(&mut stream, text)?,
             None => {
-                push_line(alloc, &mut stream, text)?;
+                push_line(&mut stream, text)?;
                 stream.push(b'\n')?;
             }
         }
@@ -98,35 +95,39 @@ fn check(page: &mut Page, text: &str) -> Done {
         Ok(line) => page.put_count("moves: ", &line.plies()),
         Err(refusal) => page.put_refusal(&refusal),
     }
+    Ok(())
 }
 
 /// The line, judged: its parts.
 fn parts(page: &mut Page, text: &str) -> Done {
     match check_line(line_of(page.alloc, text)?.as_slice()) {
-        Ok(line) => tell_parts(page, &line),
+        Ok(line) => tell_parts(page, &line)?,
         Err(refusal) => page.put_refusal(&refusal),
     }
+    Ok(())
 }
 
 /// The parts of a line.
 fn tell_parts(page: &mut Page, line: &Line) -> Done {
-    page.put_bytes(line.id().as_bytes())?;
-    page.put(" ")?;
-    page.put_bytes(line.id_bytes())?;
-    page.put(" ")?;
-    page.put_debug(&line.outcome())?;
-    page.put("\n")?;
-    page.put_bytes(line.start().text().as_bytes())?;
-    page.put_count("\nmoves: ", &line.plies())?;
-    page.put(" ")?;
+    page.put_bytes(line.id().as_bytes());
+    page.put(" ");
+    page.put_bytes(line.id_bytes());
+    page.put(" ");
+    page.put_debug(&line.outcome());
+    page.put("\n");
+    page.put_bytes(line.start().text().as_bytes());
+    page.put_count("\nmoves: ", &line.plies());
+    page.put(" ");
     let moves: Vec<Move> = line.moves().collect(page.alloc)?;
-    tell_moves(page, MoveList::of(moves).as_slice())
+    tell_moves(page, MoveList::of(moves).as_slice());
+    Ok(())
 }
 
 /// The bytes as an id.
 fn id(page: &mut Page, text: &str) -> Done {
-    match Id::new(bytes_of(page.alloc, text)?.as_slice()) {
+    match Id::new(text.as_bytes()) {
         Some(id) => page.put_bytes(id.as_bytes()),
         None => page.put("none"),
     }
+    Ok(())
 }

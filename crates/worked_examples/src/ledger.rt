@@ -7,10 +7,10 @@ use crate::moves::tell_moves;
 use crate::page::{Done, Page, Trouble};
 use crate::runs::Runs;
 use crate::table::table_of;
-use crate::text::{count_of, fills_of, small_of};
+use crate::text::{count_of, fills_of, small_of, text_of};
 use pb_ledger::{Ledger, ListTally, MapTally, Tally, collect, export};
 use pb_poly::{MemSink, ToWrite};
-use std::alloc::Global;
+use std::alloc::{AllocError, Global};
 
 /// How many games a ledger holds where a row names no number.
 const CAP: u32 = 1000;
@@ -22,11 +22,12 @@ pub(crate) fn answer(page: &mut Page, call: &[&str]) -> Done {
     let mut by_list = Page::new(page.alloc);
     answer_by::<ListTally>(&mut by_list, call)?;
     if by_map.as_str() != by_list.as_str() {
-        page.put("another by list\n")?;
-        page.put(by_list.as_str())?;
-        page.put("\nby map\n")?;
+        page.put("another by list\n");
+        page.put(by_list.as_str());
+        page.put("\nby map\n");
     }
-    page.put(by_map.as_str())
+    page.put(by_map.as_str());
+    Ok(())
 }
 
 /// The answer to a call, over one tally.
@@ -51,6 +52,16 @@ fn ledger_of<T: Tally>(alloc: Global, table: &str, cap: u32) -> Result<Ledger<T>
     Ok(Ledger::new(alloc, &table, cap.clamp(1, CAP))?)
 }
 
+/// An empty ledger over the table of powers.
+fn ledger_over_powers<T: Tally>(alloc: Global, cap: u32) -> Result<Ledger<T>, Trouble> {
+    ledger_of(alloc, powers(alloc)?.as_str(), cap)
+}
+
+/// The file of the table of powers.
+fn powers(alloc: Global) -> Result<String, AllocError> {
+    text_of(alloc, "{powers}")
+}
+
 /// A ledger with the games of these lines, where the answer to each line is told.
 fn ledger_with<T: Tally>(
     page: &mut Page,
@@ -61,10 +72,10 @@ fn ledger_with<T: Tally>(
     let mut ledger = ledger_of(page.alloc, table, cap)?;
     for line in &lines_of(page.alloc, lines)? {
         match ledger.submit(line.as_slice()) {
-            Ok(number) => page.put_count("ok ", &number)?,
-            Err(refusal) => page.put_refusal(&refusal)?,
+            Ok(number) => page.put_count("ok ", &number),
+            Err(refusal) => page.put_refusal(&refusal),
         }
-        page.put("\n")?;
+        page.put("\n");
     }
     Ok(ledger)
 }
@@ -80,32 +91,36 @@ pub(crate) fn quiet_ledger<T: Tally>(
 
 /// The answers to these lines, and how many games are held then.
 fn submit<T: Tally>(page: &mut Page, cap: &str, lines: &[&str]) -> Done {
-    let ledger = ledger_with::<T>(page, "{powers}", small_of(cap)?, lines)?;
-    page.put_count("held: ", &ledger.len())
+    let powers = powers(page.alloc)?;
+    let ledger = ledger_with::<T>(page, powers.as_str(), small_of(cap), lines)?;
+    page.put_count("held: ", &ledger.len());
+    Ok(())
 }
 
 /// The game of a number.
-fn tell_game<T: Tally>(page: &mut Page, ledger: &Ledger<T>, number: u32) -> Done {
-    page.put_display(&number)?;
+fn tell_game<T: Tally>(page: &mut Page, ledger: &Ledger<T>, number: u32) {
+    page.put_display(&number);
     let Some((id, game)) = ledger.get(number) else {
-        return page.put(" none\n");
+        page.put(" none\n");
+        return;
     };
-    page.put(" ")?;
-    page.put_bytes(id.as_bytes())?;
-    page.put(" ")?;
-    page.put_debug(&game.outcome)?;
-    page.put(" ")?;
-    page.put_bytes(game.start.text().as_bytes())?;
-    page.put(" ")?;
-    tell_moves(page, game.moves.as_slice())?;
-    page.put("\n")
+    page.put(" ");
+    page.put_bytes(id.as_bytes());
+    page.put(" ");
+    page.put_debug(&game.outcome);
+    page.put(" ");
+    page.put_bytes(game.start.text().as_bytes());
+    page.put(" ");
+    tell_moves(page, game.moves.as_slice());
+    page.put("\n");
 }
 
 /// The games that are held after these lines, by their numbers from 0 to the first that isn't there.
 fn games<T: Tally>(page: &mut Page, lines: &[&str]) -> Done {
-    let ledger = quiet_ledger::<T>(page.alloc, "{powers}", lines)?;
+    let powers = powers(page.alloc)?;
+    let ledger = quiet_ledger::<T>(page.alloc, powers.as_str(), lines)?;
     for number in 0..=ledger.len().saturating_add(1) {
-        tell_game(page, &ledger, number)?;
+        tell_game(page, &ledger, number);
     }
     Ok(())
 }
@@ -118,9 +133,10 @@ fn book<T: Tally>(page: &mut Page, table: &str, lines: &[&str]) -> Done {
 
 /// How many games a ledger holds, and their book.
 fn tell_held<T: Tally>(page: &mut Page, ledger: &Ledger<T>) -> Done {
-    page.put_count("held: ", &ledger.len())?;
-    page.put("\n")?;
-    tell(page, &ledger.make_book(page.alloc)?)
+    page.put_count("held: ", &ledger.len());
+    page.put("\n");
+    tell(page, &ledger.make_book(page.alloc)?);
+    Ok(())
 }
 
 /// The number of EPD lines and the lines after these submissions.
@@ -130,27 +146,28 @@ fn exported<T: Tally>(page: &mut Page, table: &str, lines: &[&str]) -> Done {
     let Ok(count) = export(page.alloc, &ledger, &mut sink) else {
         return Err(Trouble::Memory);
     };
-    page.put_count("lines: ", &count)?;
-    page.put("\n")?;
-    page.put_bytes(sink.as_bytes())
+    page.put_count("lines: ", &count);
+    page.put("\n");
+    page.put_bytes(sink.as_bytes());
+    Ok(())
 }
 
 /// The replies to a stream, what became of its lines, how many games are held, and their book.
 fn collected<T: Tally>(page: &mut Page, [cap, piece, fills]: [&str; 3], lines: &[&str]) -> Done {
     let stream = stream_of(page.alloc, lines)?;
-    let mut ledger = ledger_of::<T>(page.alloc, "{powers}", small_of(cap)?)?;
-    let mut source = source_of(stream.as_slice(), count_of(piece)?);
+    let mut ledger = ledger_over_powers::<T>(page.alloc, small_of(cap))?;
+    let mut source = source_of(stream.as_slice(), count_of(piece));
     let mut sink = MemSink::new(page.alloc);
     let answer = collect(
         page.alloc,
         &mut source,
         &mut sink,
         &mut ledger,
-        fills_of(fills)?,
+        fills_of(fills),
     );
-    page.put_bytes(sink.as_bytes())?;
-    page.put_debug(&answer)?;
-    page.put("\n")?;
+    page.put_bytes(sink.as_bytes());
+    page.put_debug(&answer);
+    page.put("\n");
     tell_held(page, &ledger)
 }
 
@@ -161,24 +178,26 @@ fn cut_off<T: Tally>(page: &mut Page, lines: &[&str]) -> Done {
     for count in 0..=stream.len() {
         let mut answer = Page::new(page.alloc);
         cut_off_at::<T>(&mut answer, stream.as_slice(), count)?;
-        runs.add(page, count, answer)?;
+        runs.add(page, count, answer);
     }
-    runs.end(page)
+    runs.end(page);
+    Ok(())
 }
 
 /// The answer where the reader of a stream fails once after so many bytes, and how many games are held.
 fn cut_off_at<T: Tally>(page: &mut Page, stream: &[u8], count: usize) -> Done {
-    let mut ledger = ledger_of::<T>(page.alloc, "{powers}", CAP)?;
+    let mut ledger = ledger_over_powers::<T>(page.alloc, CAP)?;
     let mut source = failing_source(stream, 2, count);
     let mut sink = MemSink::new(page.alloc);
     let answer = collect(page.alloc, &mut source, &mut sink, &mut ledger, u32::MAX);
-    page.put_debug(&answer)?;
-    page.put_count(", held: ", &ledger.len())
+    page.put_debug(&answer);
+    page.put_count(", held: ", &ledger.len());
+    Ok(())
 }
 
 /// The answer where the writer of the replies fails once after so many bytes, and then to the same stream with room for all.
 fn cramped<T: Tally>(page: &mut Page, stream: &[u8], room: usize) -> Done {
-    let mut ledger = ledger_of::<T>(page.alloc, "{powers}", CAP)?;
+    let mut ledger = ledger_over_powers::<T>(page.alloc, CAP)?;
     let mut taker = Taker::new(page.alloc, room, false);
     let mut source = source_of(stream, 64);
     let first = collect(
@@ -188,8 +207,8 @@ fn cramped<T: Tally>(page: &mut Page, stream: &[u8], room: usize) -> Done {
         &mut ledger,
         u32::MAX,
     );
-    page.put_debug(&first.err())?;
-    page.put("\n")?;
+    page.put_debug(&first.err());
+    page.put("\n");
     let mut sink = MemSink::new(page.alloc);
     let _ = collect(
         page.alloc,
@@ -198,7 +217,7 @@ fn cramped<T: Tally>(page: &mut Page, stream: &[u8], room: usize) -> Done {
         &mut ledger,
         u32::MAX,
     );
-    page.put_bytes(sink.as_bytes())?;
+    page.put_bytes(sink.as_bytes());
     tell_held(page, &ledger)
 }
 
@@ -206,10 +225,11 @@ fn cramped<T: Tally>(page: &mut Page, stream: &[u8], room: usize) -> Done {
 fn cramped_up_to<T: Tally>(page: &mut Page, most: &str, lines: &[&str]) -> Done {
     let stream = stream_of(page.alloc, lines)?;
     let mut runs = Runs::new();
-    for room in 0..=count_of(most)? {
+    for room in 0..=count_of(most) {
         let mut answer = Page::new(page.alloc);
         cramped::<T>(&mut answer, stream.as_slice(), room)?;
-        runs.add(page, room, answer)?;
+        runs.add(page, room, answer);
     }
-    runs.end(page)
+    runs.end(page);
+    Ok(())
 }

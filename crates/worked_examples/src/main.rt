@@ -18,7 +18,6 @@ mod ledger;
 mod moves;
 mod page;
 mod points;
-mod program;
 mod record;
 mod runs;
 mod stream;
@@ -26,6 +25,8 @@ mod table;
 mod text;
 
 use crate::page::{Done, Page, Trouble};
+use crate::text::text_of;
+use pb_program::run;
 use std::fs::File;
 use std::io::{self, BufRead, BufReader};
 
@@ -48,18 +49,24 @@ fn answer(page: &mut Page, topic: &str, call: &[&str]) -> Done {
 
 /// Prints the answer to a row.
 fn print_row(rt: &HostRuntime, row: &str) -> io::Result<()> {
-    let words: Vec<&str> = row.split('\t').collect(rt.alloc())?;
-    let [name, topic, call @ ..] = words.as_slice() else {
-        return println!(rt; "no row: {row}");
+    let mut texts = Vec::new(rt.alloc());
+    for word in row.split('\t') {
+        texts.push(text_of(rt.alloc(), word)?)?;
+    }
+    let words: Vec<&str> = texts.iter().map(|text| text.as_str()).collect(rt.alloc())?;
+    print_words(rt, words.as_slice())
+}
+
+/// Prints the answer to the words of a row.
+fn print_words(rt: &HostRuntime, words: &[&str]) -> io::Result<()> {
+    let [name, topic, call @ ..] = words else {
+        return println!(rt; "a row of one word");
     };
     let mut page = Page::new(rt.alloc());
-    let done = if *topic == "run" {
+    if *topic == "run" {
         println!(rt; "{name}: run")?;
-        program::answer(rt, &mut page, call)
-    } else {
-        answer(&mut page, topic, call)
-    };
-    if let Err(trouble) = done {
+        page.put_count("status ", &run(rt, call));
+    } else if let Err(trouble) = answer(&mut page, topic, call) {
         return println!(rt; "{name}: failed {trouble:?}");
     }
     print_answer(rt, name, page.as_str())

@@ -2,7 +2,7 @@
 
 use crate::page::{Done, Page, Trouble};
 use crate::record::{record_of, setup_of};
-use crate::text::{bytes_of, small_of};
+use crate::text::small_of;
 use pb_board::Setup;
 use pb_moves::{Move, advance, is_legal, legal_moves, play, play_on, read_move};
 use std::alloc::{AllocError, Global};
@@ -28,7 +28,7 @@ pub(crate) fn spelled(text: &str) -> Result<Move, Trouble> {
 }
 
 /// The text of a move, if there is one.
-pub(crate) fn tell_move(page: &mut Page, m: Option<Move>) -> Done {
+pub(crate) fn tell_move(page: &mut Page, m: Option<Move>) {
     match m {
         Some(m) => page.put_bytes(m.text().as_bytes()),
         None => page.put("none"),
@@ -37,33 +37,33 @@ pub(crate) fn tell_move(page: &mut Page, m: Option<Move>) -> Done {
 
 /// The text, read as a move and spelled again.
 fn read(page: &mut Page, text: &str) -> Done {
-    let bytes = bytes_of(page.alloc, text)?;
-    tell_move(page, read_move(bytes.as_slice()))
+    tell_move(page, read_move(text.as_bytes()));
+    Ok(())
 }
 
 /// The texts of moves, with a space between each two.
-pub(crate) fn tell_moves(page: &mut Page, moves: &[Move]) -> Done {
+pub(crate) fn tell_moves(page: &mut Page, moves: &[Move]) {
     let mut is_first = true;
     for m in moves {
         if !is_first {
-            page.put(" ")?;
+            page.put(" ");
         }
-        page.put_bytes(m.text().as_bytes())?;
+        page.put_bytes(m.text().as_bytes());
         is_first = false;
     }
-    Ok(())
 }
 
 /// The legal moves in their order, each of which is legal by itself.
 fn list(page: &mut Page, record: &str) -> Done {
-    let setup = setup_of(page.alloc, record)?;
+    let setup = setup_of(record)?;
     let moves = legal_moves(page.alloc, &setup)?;
     for m in &moves {
         if !is_legal(&setup, *m) {
             return Err(Trouble::Row);
         }
     }
-    tell_moves(page, moves.as_slice())
+    tell_moves(page, moves.as_slice());
+    Ok(())
 }
 
 /// The setups after each legal move of each of these.
@@ -97,38 +97,42 @@ fn count_moves(alloc: Global, setups: &[Setup]) -> Result<usize, AllocError> {
 /// The numbers of sequences of one legal move, of two, and so on, from a record.
 fn count(page: &mut Page, depth: &str, record: &str) -> Done {
     let mut setups = Vec::new(page.alloc);
-    setups.push(setup_of(page.alloc, record)?)?;
-    for _ in 1..small_of(depth)? {
-        page.put_display(&count_moves(page.alloc, setups.as_slice())?)?;
-        page.put(" ")?;
+    setups.push(setup_of(record)?)?;
+    for _ in 1..small_of(depth) {
+        page.put_display(&count_moves(page.alloc, setups.as_slice())?);
+        page.put(" ");
         setups = after_all(page.alloc, setups.as_slice())?;
     }
-    page.put_display(&count_moves(page.alloc, setups.as_slice())?)
+    page.put_display(&count_moves(page.alloc, setups.as_slice())?);
+    Ok(())
 }
 
 /// Whether a move is legal, and whether it is played, on a setup of its own and in place.
 fn legal(page: &mut Page, record: &str, text: &str) -> Done {
-    let setup = setup_of(page.alloc, record)?;
+    let setup = setup_of(record)?;
     let m = spelled(text)?;
     let after = play(&setup, m);
     let mut board = setup;
     let is_played = play_on(&mut board, m);
     let is_same = board == after.unwrap_or(setup);
-    page.put_count("legal ", &is_legal(&setup, m))?;
-    page.put_count(", played ", &after.is_some())?;
-    page.put_count(", in place ", &is_played)?;
-    page.put_count(", the same ", &is_same)
+    page.put_count("legal ", &is_legal(&setup, m));
+    page.put_count(", played ", &after.is_some());
+    page.put_count(", in place ", &is_played);
+    page.put_count(", the same ", &is_same);
+    Ok(())
 }
 
 /// The record after these moves.
 fn play_all(page: &mut Page, record: &str, moves: &[&str]) -> Done {
-    let mut fen = record_of(page.alloc, record)?;
+    let mut fen = record_of(record)?;
     for text in moves {
         let Some(next) = advance(&fen, spelled(text)?) else {
-            page.put(text)?;
-            return page.put(" isn't legal");
+            page.put(text);
+            page.put(" isn't legal");
+            return Ok(());
         };
         fen = next;
     }
-    page.put_bytes(fen.text().as_bytes())
+    page.put_bytes(fen.text().as_bytes());
+    Ok(())
 }

@@ -37,7 +37,7 @@ impl From<Failed> for Trouble {
 /// What a call answers once its answer is written down.
 pub(crate) type Done = Result<(), Trouble>;
 
-/// What has been written down so far.
+/// What has been written down so far. What finds no memory is left out, so that the answer is another one.
 #[derive(Drop)]
 pub(crate) struct Page {
     pub(crate) alloc: Global,
@@ -59,94 +59,86 @@ impl Page {
     }
 
     /// Adds a text.
-    pub(crate) fn put(&mut self, text: &str) -> Done {
-        self.text.push_str(text)?;
-        Ok(())
+    pub(crate) fn put(&mut self, text: &str) {
+        let _ = self.text.push_str(text);
     }
 
     /// Adds a value as it is told to a user.
-    pub(crate) fn put_display<T: Display>(&mut self, value: &T) -> Done {
-        match write!(self.text, "{value}") {
-            Ok(()) => Ok(()),
-            Err(_) => Err(Trouble::Memory),
-        }
+    pub(crate) fn put_display<T: Display>(&mut self, value: &T) {
+        let _ = write!(self.text, "{value}");
     }
 
     /// Adds a value as it is told to a programmer.
-    pub(crate) fn put_debug<T: Debug>(&mut self, value: &T) -> Done {
-        match write!(self.text, "{value:?}") {
-            Ok(()) => Ok(()),
-            Err(_) => Err(Trouble::Memory),
-        }
+    pub(crate) fn put_debug<T: Debug>(&mut self, value: &T) {
+        let _ = write!(self.text, "{value:?}");
     }
 
     /// Adds a name and a number after it.
-    pub(crate) fn put_count<T: Display>(&mut self, name: &str, count: &T) -> Done {
-        self.put(name)?;
-        self.put_display(count)
+    pub(crate) fn put_count<T: Display>(&mut self, name: &str, count: &T) {
+        self.put(name);
+        self.put_display(count);
     }
 
     /// Adds a refusal.
-    pub(crate) fn put_refusal<T: Debug>(&mut self, refusal: &T) -> Done {
-        self.put("refused ")?;
-        self.put_debug(refusal)
+    pub(crate) fn put_refusal<T: Debug>(&mut self, refusal: &T) {
+        self.put("refused ");
+        self.put_debug(refusal);
     }
 
     /// Adds the bytes as two hexadecimal digits each.
-    pub(crate) fn put_digits(&mut self, bytes: &[u8]) -> Done {
+    pub(crate) fn put_digits(&mut self, bytes: &[u8]) {
         for byte in bytes {
-            self.put_digit(*byte / 16)?;
-            self.put_digit(*byte % 16)?;
+            self.put_digit(*byte / 16);
+            self.put_digit(*byte % 16);
         }
-        Ok(())
     }
 
     /// Adds a hexadecimal digit.
-    fn put_digit(&mut self, digit: u8) -> Done {
-        let byte = b"0123456789abcdef"[(digit % 16) as usize];
-        self.text.push(char::from(byte))?;
-        Ok(())
+    fn put_digit(&mut self, digit: u8) {
+        self.put_char(char::from(b"0123456789abcdef"[(digit % 16) as usize]));
+    }
+
+    /// Adds a character.
+    fn put_char(&mut self, c: char) {
+        let _ = self.text.push(c);
     }
 
     /// Adds the bytes as a row would write them, but for LFs, which end lines of the answer.
-    pub(crate) fn put_bytes(&mut self, bytes: &[u8]) -> Done {
+    pub(crate) fn put_bytes(&mut self, bytes: &[u8]) {
         let mut byte = 0;
         let mut count: u64 = 0;
         for next in bytes {
             if *next != byte {
-                self.put_run(byte, count)?;
+                self.put_run(byte, count);
                 byte = *next;
                 count = 0;
             }
             count = count.wrapping_add(1);
         }
-        self.put_run(byte, count)
+        self.put_run(byte, count);
     }
 
     /// Adds a byte so many times.
-    fn put_run(&mut self, byte: u8, count: u64) -> Done {
+    fn put_run(&mut self, byte: u8, count: u64) {
         if count > LONGEST_RUN {
-            self.put_count("{", &count)?;
-            self.put("*")?;
-            self.put_byte(byte)?;
-            return self.put("}");
+            self.put_count("{", &count);
+            self.put("*");
+            self.put_byte(byte);
+            self.put("}");
+            return;
         }
         for _ in 0..count {
-            self.put_byte(byte)?;
+            self.put_byte(byte);
         }
-        Ok(())
     }
 
     /// Adds a byte.
-    fn put_byte(&mut self, byte: u8) -> Done {
+    fn put_byte(&mut self, byte: u8) {
         match byte {
             b'\r' => self.put("{cr}"),
             b'\t' => self.put("{tab}"),
             0 => self.put("{nul}"),
-            _ => {
-                self.text.push(char::from(byte))?;
-                Ok(())
-            }
+            _ => self.put_char(char::from(byte)),
         }
     }
 }

@@ -20,18 +20,19 @@ pub(crate) fn answer(page: &mut Page, call: &[&str]) -> Done {
 
 /// Whether each tally has the points of the games that are held after these lines, and no others.
 fn tell_recount(page: &mut Page, table: &str, lines: &[&str]) -> Done {
-    page.put_count("by map ", &recount::<MapTally>(page.alloc, table, lines)?)?;
+    page.put_count("by map ", &recount::<MapTally>(page.alloc, table, lines)?);
     page.put_count(
         ", by list ",
         &recount::<ListTally>(page.alloc, table, lines)?,
-    )
+    );
+    Ok(())
 }
 
 /// The weight of so many points beside the most that a move of its key has.
 fn tell_scale(page: &mut Page, count: &str, greatest: &str) -> Done {
-    let count = number_of(count)?;
-    let greatest = number_of(greatest)?.max(count);
-    page.put_display(&scale(count, greatest))
+    let count = number_of(count);
+    page.put_display(&scale(count, number_of(greatest).max(count)));
+    Ok(())
 }
 
 /// Adds what each ply of a game gives.

@@ -1,6 +1,6 @@
 //! Answers for each number of a range, of which equal ones in a row are told once.
 
-use crate::page::{Done, Page};
+use crate::page::Page;
 
 /// The answer for the last numbers.
 #[derive(Drop)]
@@ -21,14 +21,13 @@ impl Runs {
     }
 
     /// Adds the answer for a number.
-    pub(crate) fn add(&mut self, page: &mut Page, number: usize, answer: Page) -> Done {
+    pub(crate) fn add(&mut self, page: &mut Page, number: usize, answer: Page) {
         if !self.ends_with(answer.as_str()) {
-            self.end(page)?;
+            self.end(page);
             self.first = number;
             self.answer = Some(answer);
         }
         self.last = number;
-        Ok(())
     }
 
     /// Whether this was the answer for the last number.
@@ -40,14 +39,14 @@ impl Runs {
     }
 
     /// Tells the answer for the last numbers.
-    pub(crate) fn end(&self, page: &mut Page) -> Done {
+    pub(crate) fn end(&self, page: &mut Page) {
         let Some(answer) = &self.answer else {
-            return Ok(());
+            return;
         };
-        page.put_count("from ", &self.first)?;
-        page.put_count(" to ", &self.last)?;
-        page.put("\n")?;
-        page.put(answer.as_str())?;
-        page.put("\n")
+        page.put_count("from ", &self.first);
+        page.put_count(" to ", &self.last);
+        page.put("\n");
+        page.put(answer.as_str());
+        page.put("\n");
     }
 }

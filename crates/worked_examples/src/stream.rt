@@ -5,7 +5,7 @@ ghost use Rattle.std.specs.Prelude.{⊤};
 use crate::ends::{Giver, Taker, source_of};
 use crate::page::{Done, Page, Trouble};
 use crate::runs::Runs;
-use crate::text::{bytes_of, count_of, fills_of};
+use crate::text::{count_of, fills_of};
 use pb_poly::{FromRead, LineTask, MemSink, MemSource, Sink, Source, ToWrite, take_lines};
 use std::alloc::AllocError;
 use std::io::{Cursor, ErrorKind};
@@ -52,43 +52,43 @@ impl LineTask for Barred {
 }
 
 /// What became of a source's lines, and what was written down of them.
-fn take_all<S: Source>(page: &mut Page, source: &mut S, fills: u32) -> Done {
+fn take_all<S: Source>(page: &mut Page, source: &mut S, fills: u32) {
     let mut task = Barred {
         text: Vec::new(page.alloc),
     };
     let answer = take_lines(page.alloc, source, &mut task, fills);
-    page.put_debug(&answer)?;
-    page.put("\n")?;
-    page.put_bytes(task.text.as_slice())
+    page.put_debug(&answer);
+    page.put("\n");
+    page.put_bytes(task.text.as_slice());
 }
 
 /// The lines of a text in pieces of this size and so many fills.
 fn lines(page: &mut Page, piece: &str, fills: &str, text: &str) -> Done {
-    let bytes = bytes_of(page.alloc, text)?;
-    let mut source = source_of(bytes.as_slice(), count_of(piece)?);
-    take_all(page, &mut source, fills_of(fills)?)
+    let mut source = source_of(text.as_bytes(), count_of(piece));
+    take_all(page, &mut source, fills_of(fills));
+    Ok(())
 }
 
 /// The lines of a text that comes in pieces of each size up to this.
 fn pieces(page: &mut Page, most: &str, text: &str) -> Done {
-    let bytes = bytes_of(page.alloc, text)?;
     let mut runs = Runs::new();
-    for piece in 1..=count_of(most)? {
+    for piece in 1..=count_of(most) {
         let mut answer = Page::new(page.alloc);
         take_all(
             &mut answer,
-            &mut source_of(bytes.as_slice(), piece),
+            &mut source_of(text.as_bytes(), piece),
             u32::MAX,
-        )?;
-        runs.add(page, piece, answer)?;
+        );
+        runs.add(page, piece, answer);
     }
-    runs.end(page)
+    runs.end(page);
+    Ok(())
 }
 
 /// The lines of a reader of std.
 fn reader(page: &mut Page, text: &str) -> Done {
-    let bytes = bytes_of(page.alloc, text)?;
-    take_all(page, &mut FromRead::new(bytes.as_slice()), u32::MAX)
+    take_all(page, &mut FromRead::new(text.as_bytes()), u32::MAX);
+    Ok(())
 }
 
 /// The lines of a reader that fails once after a text, and what the source answers after that.
@@ -97,72 +97,69 @@ fn failing_reader(page: &mut Page, kind: &str, text: &str) -> Done {
         "interrupted" => ErrorKind::Interrupted,
         _ => ErrorKind::UnexpectedEof,
     };
-    let bytes = bytes_of(page.alloc, text)?;
-    let mut source = FromRead::new(Giver::new(bytes.as_slice(), 2, bytes.len(), kind));
-    take_all(page, &mut source, u32::MAX)?;
-    page.put_count("\nfailed ", &source.failed())?;
-    page.put(", then ")?;
-    page.put_debug(&source.fill(&mut [0; 4]))
+    let mut source = FromRead::new(Giver::new(text.as_bytes(), 2, text.len(), kind));
+    take_all(page, &mut source, u32::MAX);
+    page.put_count("\nfailed ", &source.failed());
+    page.put(", then ");
+    page.put_debug(&source.fill(&mut [0; 4]));
+    Ok(())
 }
 
 /// The lines of a reader with one interrupted read, what the source answers after that, and how often the reader was asked
 /// after its failure.
 fn reader_fails_once(page: &mut Page, until: &str, text: &str) -> Done {
-    let bytes = bytes_of(page.alloc, text)?;
-    let mut giver = Giver::new(
-        bytes.as_slice(),
-        2,
-        count_of(until)?,
-        ErrorKind::Interrupted,
-    );
+    let mut giver = Giver::new(text.as_bytes(), 2, count_of(until), ErrorKind::Interrupted);
     let next = {
         let mut source = FromRead::new(&mut giver);
-        take_all(page, &mut source, u32::MAX)?;
+        take_all(page, &mut source, u32::MAX);
         source.fill(&mut [0; 4])
     };
-    page.put("\nthen ")?;
-    page.put_debug(&next)?;
-    page.put_count("\nreads after the failure: ", &giver.later)
+    page.put("\nthen ");
+    page.put_debug(&next);
+    page.put_count("\nreads after the failure: ", &giver.later);
+    Ok(())
 }
 
 /// How many bytes each of these fills of a source in memory gives, and whether it has failed.
 fn fill_all(page: &mut Page, piece: &str, text: &str, rooms: &[&str]) -> Done {
-    let bytes = bytes_of(page.alloc, text)?;
-    let mut source = MemSource::new(bytes.as_slice(), count_of(piece)?.max(1));
+    let mut source = MemSource::new(text.as_bytes(), count_of(piece).max(1));
     for room in rooms {
-        let mut slice = vec![in page.alloc; 0; count_of(room)?]?;
-        page.put_debug(&source.fill(slice.as_mut_slice()))?;
-        page.put(" ")?;
+        let mut slice = vec![in page.alloc; 0; count_of(room)]?;
+        page.put_debug(&source.fill(slice.as_mut_slice()));
+        page.put(" ");
     }
-    page.put_count("failed ", &source.failed())
+    page.put_count("failed ", &source.failed());
+    Ok(())
 }
 
 /// What a sink answers to these texts in turn, where the text `flush` flushes it, and whether it has failed then.
-fn put_all<K: Sink>(page: &mut Page, sink: &mut K, texts: &[&str]) -> Done {
+fn put_all<K: Sink>(page: &mut Page, sink: &mut K, texts: &[&str]) {
     for text in texts {
         let answer = match *text {
             "flush" => sink.flush(),
-            text => sink.put(bytes_of(page.alloc, text)?.as_slice()),
+            text => sink.put(text.as_bytes()),
         };
-        page.put_debug(&answer)?;
-        page.put(" ")?;
+        page.put_debug(&answer);
+        page.put(" ");
     }
-    page.put_count("failed ", &sink.failed())?;
-    page.put("\n")
+    page.put_count("failed ", &sink.failed());
+    page.put("\n");
 }
 
 /// A sink in memory.
 fn memory_sink(page: &mut Page, texts: &[&str]) -> Done {
     let mut sink = MemSink::new(page.alloc);
-    put_all(page, &mut sink, texts)?;
-    page.put_bytes(sink.as_bytes())
+    put_all(page, &mut sink, texts);
+    page.put_bytes(sink.as_bytes());
+    Ok(())
 }
 
 /// A sink into a vector.
 fn vec_sink(page: &mut Page, texts: &[&str]) -> Done {
     let mut bytes = Vec::new(page.alloc);
-    put_all(page, &mut ToWrite::new(&mut bytes), texts)?;
-    page.put_bytes(bytes.as_slice())
+    put_all(page, &mut ToWrite::new(&mut bytes), texts);
+    page.put_bytes(bytes.as_slice());
+    Ok(())
 }
 
 /// A sink into an array of four bytes.
@@ -172,15 +169,17 @@ fn array_sink(page: &mut Page, texts: &[&str]) -> Done {
         page,
         &mut ToWrite::new(Cursor::new(array.as_mut_slice())),
         texts,
-    )?;
-    page.put_bytes(array.as_slice())
+    );
+    page.put_bytes(array.as_slice());
+    Ok(())
 }
 
 /// A sink into a writer that fails once.
 fn narrow_sink(page: &mut Page, room: &str, kind: &str, texts: &[&str]) -> Done {
-    let mut taker = Taker::new(page.alloc, count_of(room)?, kind == "broken");
+    let mut taker = Taker::new(page.alloc, count_of(room), kind == "broken");
     taker.fails_at_flush = kind == "broken";
-    put_all(page, &mut ToWrite::new(&mut taker), texts)?;
-    page.put_bytes(taker.taken.as_slice())?;
-    page.put_count("\nflushes: ", &taker.flushes)
+    put_all(page, &mut ToWrite::new(&mut taker), texts);
+    page.put_bytes(taker.taken.as_slice());
+    page.put_count("\nflushes: ", &taker.flushes);
+    Ok(())
 }
