@@ -6,7 +6,7 @@ use Rattle.pb_poly.specs.declared.entry.Entry.{Entry}
 use Rattle.pb_games.specs.Submissions.{Submission}
 use Rattle.pb_points.specs.declared.row.Row.{Row}
 use Rattle.pb_points.specs.Rows.{IsTop, Gives, IsBookOfRows}
-use Rattle.pb_points.specs.Tally.{Content, Held, held_of, is_pair}
+use Rattle.pb_points.specs.Tally.{Content, Held, held_of, is_pair, nothing}
 use Rattle.pb_points.specs.Weight.{scaled}
 use Rattle.pb_accepted.specs.declared.gift.Gift.{Gift}
 use Rattle.pb_accepted.specs.Basis.{Basis}
@@ -61,7 +61,7 @@ module _ (T : Basis) (S : List Submission) (f : Content) (D : List Row)
     (counts : Tallies f T S)
     (each : (r : Row) → Contains D r ↔ (f r.key r.code ≡ Some (held_of r))) where
   row_counts : (r : Row) → Contains D r → r.points ≡ count T S r.key r.code
-  row_counts r h = sym (ap (λ (x : Held). x.points) (sym (counts r.key r.code) ∙ ap (λ o. unwrap_or o (record { points = 0 })) ((each r).0 h)))
+  row_counts r h = sym (ap (λ (x : Held). x.points) (sym (counts r.key r.code) ∙ ap (λ o. unwrap_or o nothing) ((each r).0 h)))
 
   -- a pair with points has a row
   row_of_count : (k c : ℕ) → 0 < count T S k c → (r : Row) × Contains D r × (r.key ≡ k) × (r.code ≡ c)
@@ -69,9 +69,9 @@ module _ (T : Basis) (S : List Submission) (f : Content) (D : List Row)
     where
       by : (o : Option Held) → f k c ≡ o → (r : Row) × Contains D r × (r.key ≡ k) × (r.code ≡ c)
       by None e =
-          let none : count T S k c ≡ 0 = ap (λ (x : Held). x.points) (sym (counts k c) ∙ ap (λ o. unwrap_or o (record { points = 0 })) e) in
+          let none : count T S k c ≡ 0 = ap (λ (x : Held). x.points) (sym (counts k c) ∙ ap (λ o. unwrap_or o nothing) e) in
           absurd (omega (arith, h, none))
-      by (Some x) e = let r : Row = record { key = k; code = c; points = x.points } in (r, (each r).1 e, refl, refl)
+      by (Some x) e = let r : Row = record { key = k; code = c; points = x.points; times = x.times } in (r, (each r).1 e, refl, refl)
 
   greatest_from_top : (k M : ℕ) → 0 < M → IsTop D k M → IsGreatest T S k M
   greatest_from_top k M some top = record { above = above; met = met }

@@ -1,5 +1,5 @@
 -- What the plies of a game give, and what gifts do to a tally, one after another.
-use Rattle.std.proofs.Common.{suc, ◌≡◌, ℕ, ◌+◌, ◌*◌, ◌<◌, ◌≤◌, ◌^◌, Bool, true, false, if◌then◌else◌, Option, Some, IsSome, unwrap_or, List, [], ◌∷◌, map, take, length, get_or, All, refl, sym, ap, subst, ◌∙◌, inl, inr, arith}
+use Rattle.std.proofs.Common.{suc, ◌≡◌, ℕ, ◌+◌, ◌*◌, ◌<◌, ◌≤◌, ◌^◌, Bool, true, false, cond, if◌then◌else◌, Option, Some, IsSome, unwrap_or, List, [], ◌∷◌, map, take, length, get_or, All, refl, sym, ap, subst, ◌∙◌, inl, inr, arith}
 use Rattle.std.proofs.lemmas.Bool.{cases_lt}
 use Rattle.std.proofs.lemmas.List.{get_or_default, length-map, take_all}
 use Rattle.std.proofs.lemmas.List.Elements.{All-map, All-weaker}
@@ -16,10 +16,10 @@ use Rattle.pb_games.specs.declared.outcome.Outcome.{Outcome}
 use Rattle.pb_games.specs.declared.outcome.Outcome.TheVariants.{White, Black, Draw}
 use Rattle.pb_games.specs.Submissions.{plies}
 use Rattle.pb_points.proofs.Pairs.{is_pair_itself}
-use Rattle.pb_points.specs.Tally.{Content, Held, MakesRow, AddsPoints, held, is_pair, more}
+use Rattle.pb_points.specs.Tally.{Content, HasRoomFor, Held, MakesRow, AddsPly, held, is_pair, more, nothing}
 use Rattle.pb_accepted.specs.declared.gift.Gift.{Gift}
 use Rattle.pb_accepted.specs.Basis.{Basis}
-use Rattle.pb_accepted.specs.Counting.{credit, gained, gift_of, gifts_of, share}
+use Rattle.pb_accepted.specs.Counting.{credit, gained, gift_of, gifts_of, occurring, share, with_gifts}
 
 -- ---- the gifts of a game
 
@@ -65,9 +65,9 @@ abbrev pub IsThere : Content → Gift → Type 0
 IsThere f r = IsSome (f r.key r.code)
 
 same_made : (f g : Content) (key code : ℕ) → MakesRow f g key code → (k c : ℕ) → held g k c ≡ held f k c
-same_made f g key code made k c = ap (λ o. unwrap_or o (record { points = 0 })) (made k c) ∙ by (f k c) (is_pair key code k c)
+same_made f g key code made k c = ap (λ o. unwrap_or o nothing) (made k c) ∙ by (f k c) (is_pair key code k c)
   where
-    by : (o : Option Held) (b : Bool) → unwrap_or (if b then Some (unwrap_or o (record { points = 0 })) else o) (record { points = 0 }) ≡ unwrap_or o (record { points = 0 })
+    by : (o : Option Held) (b : Bool) → unwrap_or (if b then Some (unwrap_or o nothing) else o) nothing ≡ unwrap_or o nothing
     by o true = refl
     by o false = refl
 
@@ -110,30 +110,44 @@ Ensured-more f g h gifts i e made = record { same = λ k c. same_made g h r.key 
 pub Ensured-all : (f g : Content) (gifts : List Gift) (i : ℕ) → length gifts ≤ i → Ensured f g gifts i → All (IsThere g) gifts
 Ensured-all f g gifts i far e j d lt = e.there j d (omega (arith, lt, far)) lt
 
--- ---- points that are added
+-- ---- gifts that are added
 
--- from f to g the points of the first `done` gifts were added, and the rows of all are there
+-- whether a gift is of this key and this code, as a number
+abbrev pub one : ℕ → ℕ → Gift → ℕ
+one k c r = cond (is_pair r.key r.code k c) 1 0
+
+one-le : (k c : ℕ) (r : Gift) → one k c r ≤ 1
+one-le k c r = by (is_pair r.key r.code k c)
+  where
+    by : (b : Bool) → cond b 1 0 ≤ 1
+    by true = omega arith
+    by false = omega arith
+
+pub occurring-le : (gifts : List Gift) (k c : ℕ) → occurring gifts k c ≤ length gifts
+occurring-le gifts k c = let most = sum_by-le (one k c) 1 gifts (λ j d lt. one-le k c (get_or gifts j d)) in omega (arith, most)
+
+-- from f to g the first `done` gifts were added, and the rows of all are there
 pub record Added (f g : Content) (gifts : List Gift) (done : ℕ) : Type 0 where
-  pub sums : (k c : ℕ) → held g k c ≡ more (gained (take done gifts) k c) (held f k c)
+  pub sums : (k c : ℕ) → held g k c ≡ with_gifts (take done gifts) k c (held f k c)
   pub there : All (IsThere g) gifts
 
-more-zero : (h : Held) → h ≡ more 0 h
-more-zero h i = let none : h.points ≡ h.points + 0 = omega arith in record { points = none i }
-
-more-more : (m n p : ℕ) (h : Held) → p ≡ m + n → more n (more m h) ≡ more p h
-more-more m n p h e i = let sum : h.points + m + n ≡ h.points + p = omega (arith, e) in record { points = sum i }
+with_none : (k c : ℕ) (h : Held) → h ≡ with_gifts [] k c h
+with_none k c h i =
+    let points : h.points ≡ h.points + 0 = omega arith in
+    let times : h.times ≡ h.times + 0 = omega arith in
+    record { points = points i; times = times i }
 
 pub Added-none : (f : Content) (gifts : List Gift) → All (IsThere f) gifts → Added f f gifts 0
-Added-none f gifts there = record { sums = λ k c. more-zero (held f k c); there = there }
+Added-none f gifts there = record { sums = λ k c. with_none k c (held f k c); there = there }
 
-held_added : (g h : Content) (key code n : ℕ) → AddsPoints g h key code n → (k c : ℕ) → held h k c ≡ more (if is_pair key code k c then n else 0) (held g k c)
-held_added g h key code n adds k c = ap (λ o. unwrap_or o (record { points = 0 })) (adds k c) ∙ by (is_pair key code k c)
+held_added : (g h : Content) (key code n : ℕ) → AddsPly g h key code n → (k c : ℕ) → held h k c ≡ (if is_pair key code k c then more n (held g k c) else held g k c)
+held_added g h key code n adds k c = ap (λ o. unwrap_or o nothing) (adds k c) ∙ by (is_pair key code k c)
   where
-    by : (b : Bool) → unwrap_or (if b then Some (more n (held g k c)) else g k c) (record { points = 0 }) ≡ more (if b then n else 0) (held g k c)
+    by : (b : Bool) → unwrap_or (if b then Some (more n (held g k c)) else g k c) nothing ≡ (if b then more n (held g k c) else held g k c)
     by true = refl
-    by false = more-zero (held g k c)
+    by false = refl
 
-pub Added-more : (f g h : Content) (gifts : List Gift) (i : ℕ) → i < length gifts → Added f g gifts i → AddsPoints g h (gift_at gifts i).key (gift_at gifts i).code (gift_at gifts i).points → Added f h gifts (i + 1)
+pub Added-more : (f g h : Content) (gifts : List Gift) (i : ℕ) → i < length gifts → Added f g gifts i → AddsPly g h (gift_at gifts i).key (gift_at gifts i).code (gift_at gifts i).points → Added f h gifts (i + 1)
 Added-more f g h gifts i lt e adds = record { sums = sums; there = All-weaker (IsThere g) (IsThere h) kept gifts e.there }
   where
     r : Gift
@@ -142,31 +156,59 @@ Added-more f g h gifts i lt e adds = record { sums = sums; there = All-weaker (I
     kept : (q : Gift) → IsThere g q → IsThere h q
     kept q had = subst IsSome (sym (adds q.key q.code)) (stays (g q.key q.code) (is_pair r.key r.code q.key q.code) (more r.points (held g q.key q.code)) had)
 
-    sums : (k c : ℕ) → held h k c ≡ more (gained (take (i + 1) gifts) k c) (held f k c)
-    sums k c =
-        held_added g h r.key r.code r.points adds k c ∙ ap (more (share k c r)) (e.sums k c)
-        ∙ more-more (gained (take i gifts) k c) (share k c r) (gained (take (i + 1) gifts) k c) (held f k c) (sum_by_more (share k c) gifts i (record { key = 0; code = 0; points = 0 }) lt)
+    gained_more : (k c : ℕ) → gained (take (i + 1) gifts) k c ≡ gained (take i gifts) k c + share k c r
+    gained_more k c = sum_by_more (share k c) gifts i (record { key = 0; code = 0; points = 0 }) lt
 
-pub Added-all : (f g : Content) (gifts : List Gift) (i : ℕ) → length gifts ≤ i → Added f g gifts i → (k c : ℕ) → held g k c ≡ more (gained gifts k c) (held f k c)
-Added-all f g gifts i far e k c = e.sums k c ∙ ap (λ gs. more (gained gs k c) (held f k c)) (take_all i gifts far)
+    one_more : (k c : ℕ) → occurring (take (i + 1) gifts) k c ≡ occurring (take i gifts) k c + one k c r
+    one_more k c = sum_by_more (one k c) gifts i (record { key = 0; code = 0; points = 0 }) lt
 
--- the next row is there, and its points fit
+    by : (k c : ℕ) (b : Bool) → is_pair r.key r.code k c ≡ b → (if b then more r.points (held g k c) else held g k c) ≡ with_gifts (take (i + 1) gifts) k c (held f k c)
+    by k c true is =
+        let points : (held f k c).points + gained (take i gifts) k c + r.points ≡ (held f k c).points + gained (take (i + 1) gifts) k c = omega (arith, gained_more k c, ap (λ b. cond b r.points 0) is) in
+        let times : (held f k c).times + occurring (take i gifts) k c + 1 ≡ (held f k c).times + occurring (take (i + 1) gifts) k c = omega (arith, one_more k c, ap {B = ℕ} (λ b. cond b 1 0) is) in
+        ap (more r.points) (e.sums k c) ∙ (λ j. record { points = points j; times = times j })
+    by k c false is =
+        let points : (held f k c).points + gained (take i gifts) k c ≡ (held f k c).points + gained (take (i + 1) gifts) k c = omega (arith, gained_more k c, ap (λ b. cond b r.points 0) is) in
+        let times : (held f k c).times + occurring (take i gifts) k c ≡ (held f k c).times + occurring (take (i + 1) gifts) k c = omega (arith, one_more k c, ap {B = ℕ} (λ b. cond b 1 0) is) in
+        e.sums k c ∙ (λ j. record { points = points j; times = times j })
+
+    sums : (k c : ℕ) → held h k c ≡ with_gifts (take (i + 1) gifts) k c (held f k c)
+    sums k c = held_added g h r.key r.code r.points adds k c ∙ by k c (is_pair r.key r.code k c) refl
+
+pub Added-all : (f g : Content) (gifts : List Gift) (i : ℕ) → length gifts ≤ i → Added f g gifts i → (k c : ℕ) → held g k c ≡ with_gifts gifts k c (held f k c)
+Added-all f g gifts i far e k c = e.sums k c ∙ ap (λ gs. with_gifts gs k c (held f k c)) (take_all i gifts far)
+
+-- the next row is there, and one ply more fits
 pub Added-there : (f g : Content) (gifts : List Gift) (i : ℕ) → i < length gifts → Added f g gifts i → IsThere g (gift_at gifts i)
 Added-there f g gifts i lt e = e.there i (record { key = 0; code = 0; points = 0 }) lt
 
 own_share : (r : Gift) → share r.key r.code r ≡ r.points
 own_share r = ap (λ b. if b then r.points else 0) (is_pair_itself r.key r.code)
 
-pub Added-fits : (f g : Content) (gifts : List Gift) (i : ℕ) → i < length gifts → All (λ r. r.points ≤ 2) gifts → ((k c : ℕ) → (held f k c).points + 2 * length gifts ≤ 2 ^ 63) → Added f g gifts i
-    → (held g (gift_at gifts i).key (gift_at gifts i).code).points + (gift_at gifts i).points ≤ 2 ^ 63
-Added-fits f g gifts i lt small fits e =
+own_one : (r : Gift) → one r.key r.code r ≡ 1
+own_one r = ap (λ b. cond b 1 0) (is_pair_itself r.key r.code)
+
+pub Added-fits : (f g : Content) (gifts : List Gift) (i : ℕ) → i < length gifts → All (λ r. r.points ≤ 2) gifts
+    → ((k c : ℕ) → (held f k c).points + 2 * length gifts ≤ 2 ^ 63) → ((k c : ℕ) → (held f k c).times + length gifts ≤ 2 ^ 63) → Added f g gifts i
+    → HasRoomFor (held g (gift_at gifts i).key (gift_at gifts i).code) (gift_at gifts i).points
+Added-fits f g gifts i lt small points_fit times_fit e =
     let r = gift_at gifts i in
     let now : (held g r.key r.code).points ≡ (held f r.key r.code).points + gained (take i gifts) r.key r.code = ap (λ (h : Held). h.points) (e.sums r.key r.code) in
-    omega (
+    let so_often : (held g r.key r.code).times ≡ (held f r.key r.code).times + occurring (take i gifts) r.key r.code = ap (λ (h : Held). h.times) (e.sums r.key r.code) in
+    let points : (held g r.key r.code).points + r.points ≤ 2 ^ 63 = omega (
       arith,
       now,
-      fits r.key r.code,
+      points_fit r.key r.code,
       sum_by_more_le (share r.key r.code) gifts i (record { key = 0; code = 0; points = 0 }) lt,
       own_share r,
       gained-le gifts r.key r.code small,
-    )
+    ) in
+    let times : (held g r.key r.code).times + 1 ≤ 2 ^ 63 = omega (
+      arith,
+      so_often,
+      times_fit r.key r.code,
+      sum_by_more_le (one r.key r.code) gifts i (record { key = 0; code = 0; points = 0 }) lt,
+      own_one r,
+      occurring-le gifts r.key r.code,
+    ) in
+    record { points = points; times = times }

@@ -1,5 +1,5 @@
 -- Points, counts, weights and the book of a list of games. T is the basis, S the list of submissions.
-use Rattle.std.specs.Prelude.{◌≡◌, ℕ, ◌≤◌, ◌↔◌, List, map, sum_by, count_by, AllPairs, Contains, if◌then◌else◌}
+use Rattle.std.specs.Prelude.{◌≡◌, ℕ, ◌≤◌, ◌↔◌, ◌+◌, List, map, sum_by, count_by, AllPairs, Contains, if◌then◌else◌}
 use Rattle.std.specs.List.{flat_map}
 use Rattle.pb_board.specs.declared.piece.Colour.{Colour}
 use Rattle.pb_board.specs.declared.piece.Colour.TheVariants as side
@@ -11,7 +11,7 @@ use Rattle.pb_games.specs.declared.game.Game.{Game}
 use Rattle.pb_games.specs.declared.outcome.Outcome.{Outcome}
 use Rattle.pb_games.specs.declared.outcome.Outcome.TheVariants.{White, Black, Draw}
 use Rattle.pb_games.specs.Submissions.{Submission, plies}
-use Rattle.pb_points.specs.Tally.{is_pair}
+use Rattle.pb_points.specs.Tally.{Held, is_pair}
 use Rattle.pb_points.specs.Weight.{scaled, Before}
 use Rattle.pb_accepted.specs.declared.gift.Gift.{Gift}
 use Rattle.pb_accepted.specs.Basis.{Basis}
@@ -43,6 +43,14 @@ share k c r = if is_pair r.key r.code k c then r.points else 0
 abbrev pub gained : List Gift → ℕ → ℕ → ℕ
 gained gifts k c = sum_by (share k c) gifts
 
+-- how many of the gifts are of a key and a code
+abbrev pub occurring : List Gift → ℕ → ℕ → ℕ
+occurring gifts k c = count_by (λ r. is_pair r.key r.code k c) gifts
+
+-- what is held of a key and a code, with these gifts more
+abbrev pub with_gifts : List Gift → ℕ → ℕ → Held → Held
+with_gifts gifts k c h = record { points = h.points + gained gifts k c; times = h.times + occurring gifts k c }
+
 -- the points that a game gives to a key and a code
 abbrev pub points : Basis → Game → ℕ → ℕ → ℕ
 points T g k c = gained (gifts_of T g) k c
@@ -53,7 +61,7 @@ count T S k c = sum_by (λ s. points T s.1 k c) S
 
 -- how many plies have this key and code
 abbrev pub times : Basis → List Submission → ℕ → ℕ → ℕ
-times T S k c = count_by (λ r. is_pair r.key r.code k c) (all_gifts T S)
+times T S k c = occurring (all_gifts T S) k c
 
 -- some ply has this key and code
 abbrev pub Occurs : Basis → List Submission → ℕ → ℕ → Type 0

@@ -4,7 +4,7 @@ use Rattle.pb_poly.specs.Table.{IsTable}
 use Rattle.pb_games.specs.Submissions.{Submission, IsSubmission}
 use Rattle.pb_points.specs.Tally.{Content, held}
 use Rattle.pb_accepted.specs.Basis.{Basis}
-use Rattle.pb_accepted.specs.Counting.{count}
+use Rattle.pb_accepted.specs.Counting.{count, times}
 use Rattle.pb_accepted.specs.Ledger.{LedgerState}
 
 -- no id stands twice
@@ -23,9 +23,9 @@ pub record IsLedger (l : LedgerState) : Type 0 where
   pub games : All IsSubmission l.accepted
   pub ids : HaveOwnIds l.accepted
 
--- the tally holds the counts of the games, and a row that isn't there counts 0
+-- the tally holds the counts of the games and how often each move occurs, and a row that isn't there counts 0
 abbrev pub Tallies : Content → Basis → List Submission → Type 0
-Tallies content T A = (k c : ℕ) → held content k c ≡ record { points = count T A k c }
+Tallies content T A = (k c : ℕ) → held content k c ≡ record { points = count T A k c; times = times T A k c }
 
 -- the ledger meets its rules, and its tally holds the counts of its games
 pub record HoldsCounts (content : Content) (l : LedgerState) : Type 0 where

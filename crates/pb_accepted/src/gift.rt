@@ -1,8 +1,8 @@
 //! What the plies of a game give to the points of moves.
 
 ghost use Rattle.std.specs.Prelude.{◌≡◌, ◌≤◌, ◌+◌, ◌*◌, ◌^◌, ℕ, IsSome, OnOk, All, length};
-ghost use Rattle.pb_points.specs.Tally.{held, more};
-ghost use Rattle.pb_accepted.specs.Counting.{credit as credit_by, gained};
+ghost use Rattle.pb_points.specs.Tally.{held};
+ghost use Rattle.pb_accepted.specs.Counting.{credit as credit_by, with_gifts};
 
 use pb_board::Colour;
 use pb_games::Outcome;
@@ -42,12 +42,13 @@ pub(crate) fn ensure_rows<T: Tally>(tally: &mut T, gifts: &[Gift]) -> Result<(),
     Ok(())
 }
 
-/// Adds the points of each gift.
-pub(crate) fn add_points<T: Tally>(tally: &mut T, gifts: &[Gift])
+/// Adds each gift, as a ply with its points.
+pub(crate) fn add_gifts<T: Tally>(tally: &mut T, gifts: &[Gift])
     requires rows { All (λ r. IsSome (T.content tally.old r.key r.code)) gifts.now }
     requires small { All (λ r. r.points ≤ 2) gifts.now }
-    requires fits { (k c : ℕ) → (held (T.content tally.old) k c).points + 2 * length gifts.now ≤ 2 ^ 63 }
-    ensures { (k c : ℕ) → held (T.content tally.new) k c ≡ more (gained gifts.now k c) (held (T.content tally.old) k c) }
+    requires points_fit { (k c : ℕ) → (held (T.content tally.old) k c).points + 2 * length gifts.now ≤ 2 ^ 63 }
+    requires times_fit { (k c : ℕ) → (held (T.content tally.old) k c).times + length gifts.now ≤ 2 ^ 63 }
+    ensures { (k c : ℕ) → held (T.content tally.new) k c ≡ with_gifts gifts.now k c (held (T.content tally.old) k c) }
 {
     for gift in gifts {
         tally.add(gift.key, gift.code, u64::from(gift.points));

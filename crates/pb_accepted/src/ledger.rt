@@ -2,15 +2,15 @@
 
 ghost use Rattle.std.specs.Prelude.{◌≡◌, ◌≤◌, ◌+◌, ◌*◌, ◌^◌, ◌++◌, ◌∷◌, [], ℕ, IfOk, MatchOption, OnErr, OnOk, Ok, length};
 ghost use Rattle.pb_games.specs.Submissions.{IsLawful, IsSubmission, Submission};
-ghost use Rattle.pb_points.specs.Tally.{held, more};
+ghost use Rattle.pb_points.specs.Tally.{held};
 ghost use Rattle.pb_accepted.specs.Accepting.{Allowed, IsNewId, IsNumber, Takes};
 ghost use Rattle.pb_accepted.specs.Arriving.{IsArrival};
-ghost use Rattle.pb_accepted.specs.Counting.{IsBook, points};
+ghost use Rattle.pb_accepted.specs.Counting.{IsBook, gifts_of, with_gifts};
 ghost use Rattle.pb_accepted.specs.Holding.{IsLedger, Tallies, most_games};
 ghost use Rattle.pb_accepted.specs.Noting.{HasNoted};
 
 use crate::arrival::Arrival;
-use crate::gift::{add_points, ensure_rows};
+use crate::gift::{add_gifts, ensure_rows};
 use crate::recorder::Recorder;
 use crate::reply::first_field;
 use indexmap::IndexMap;
@@ -164,7 +164,7 @@ impl<T: Tally> Ledger<T> {
         self.recorder.table()
     }
 
-    /// The points of the moves: those of the games that are held.
+    /// The points of the moves and how often each occurs, of the games that are held.
     pub fn tally(&self) -> &T
         ensures { Tallies (T.content result.now) self.now.basis self.now.accepted }
     {
@@ -185,7 +185,7 @@ impl<T: Tally> Ledger<T> {
 }
 
 /// Adds the game of the line that was judged last, under its new id. The insert is the last step that may fail, and only then
-/// points are added.
+/// plies are added to the tally.
 fn accept<T: Tally>(
     alloc: Global,
     games: &mut IndexMap<Id, Game>,
@@ -195,15 +195,16 @@ fn accept<T: Tally>(
 ) -> Result<(), AllocError>
     requires noted { HasNoted (record { words = recorder.now.table }) recorder.now.notes read.now.1 }
     requires new { IsNewId read.now.0 games.old.entries }
-    requires fits { (k c : ℕ) → (held (T.content tally.old) k c).points + 2 * length read.now.1.moves ≤ 2 ^ 63 }
+    requires points_fit { (k c : ℕ) → (held (T.content tally.old) k c).points + 2 * length read.now.1.moves ≤ 2 ^ 63 }
+    requires times_fit { (k c : ℕ) → (held (T.content tally.old) k c).times + length read.now.1.moves ≤ 2 ^ 63 }
     ensures game { OnOk result (games.new.entries ≡ games.old.entries ++ read.now ∷ []) }
-    ensures added { OnOk result ((k c : ℕ) → held (T.content tally.new) k c ≡ more (points (record { words = recorder.now.table }) read.now.1 k c) (held (T.content tally.old) k c)) }
+    ensures added { OnOk result ((k c : ℕ) → held (T.content tally.new) k c ≡ with_gifts (gifts_of (record { words = recorder.now.table }) read.now.1) k c (held (T.content tally.old) k c)) }
     ensures same_games { OnErr result (games.new.entries ≡ games.old.entries) }
     ensures same_points { OnErr result ((k c : ℕ) → held (T.content tally.new) k c ≡ held (T.content tally.old) k c) }
 {
     let game = recorder.game(alloc, read)?;
     ensure_rows(tally, recorder.gifts())?;
     games.insert(read.id(), game)?;
-    add_points(tally, recorder.gifts());
+    add_gifts(tally, recorder.gifts());
     Ok(())
 }

@@ -1,3 +1,4 @@
+pub mod AddedRows
 pub mod BagRows
 pub mod Groups
 pub mod ListRows

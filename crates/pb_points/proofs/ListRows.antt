@@ -14,11 +14,11 @@ use Rattle.std.proofs.lemmas.Map.Keys.{apart_from_distinct, IsDistinct-from_apar
 use Rattle.pb_points.specs.declared.row.Row.{Row}
 use Rattle.pb_points.specs.ListTally.{list_content, with_more}
 use Rattle.pb_points.specs.Rows.{is_row, row_at, same_pair}
-use Rattle.pb_points.specs.Tally.{MakesRow, AddsPoints, held, held_of, is_pair}
+use Rattle.pb_points.specs.Tally.{MakesRow, AddsPly, held, held_of, is_pair, more}
 use Rattle.pb_points.proofs.Pairs.{is_pair_same, is_pair_itself, same_equiv}
 
 abbrev pub new_row : ℕ → ℕ → Row
-new_row key code = record { key = key; code = code; points = 0 }
+new_row key code = record { key = key; code = code; points = 0; times = 0 }
 
 abbrev row_0 : Row
 row_0 = new_row 0 0
@@ -92,7 +92,7 @@ IsDistinct-pushed rows key code old none = IsDistinct-push same_equiv rows (new_
 
 -- ---- points added
 
-pub adds_set : (rows : List Row) (key code i n : ℕ) → IsPlace rows key code i → AddsPoints (list_content rows) (list_content (set rows i (with_more n (row_at rows i)))) key code n
+pub adds_set : (rows : List Row) (key code i n : ℕ) → IsPlace rows key code i → AddsPly (list_content rows) (list_content (set rows i (with_more n (row_at rows i)))) key code n
 adds_set rows key code i n h k c = by (is_pair key code k c) refl
   where
     r : Row
@@ -101,12 +101,12 @@ adds_set rows key code i n h k c = by (is_pair key code k c) refl
     place : i ≡ position_or_len (is_row key code) rows
     place = sym (position_or_len_is (is_row key code) rows i row_0 (omega (arith, h.within)) h.before (λ _. h.here))
 
-    by : (b : Bool) → is_pair key code k c ≡ b → list_content (set rows i (with_more n r)) k c ≡ (if b then Some (record { points = (held (list_content rows) k c).points + n }) else list_content rows k c)
+    by : (b : Bool) → is_pair key code k c ≡ b → list_content (set rows i (with_more n r)) k c ≡ (if b then Some (more n (held (list_content rows) k c)) else list_content rows k c)
     by true e =
         sym (at_same (list_content (set rows i (with_more n r))) key code k c e)
         ∙ ap (option_map held_of) (find-set (is_row key code) rows i (with_more n r) place h.within h.here)
-        ∙ ap (λ o. Some (record { points = (unwrap_or (option_map held_of o) (held_of (new_row key code))).points + n })) (sym h.found)
-        ∙ ap (λ m. Some (record { points = m.points + n })) (at_same (held (list_content rows)) key code k c e)
+        ∙ ap (λ o. Some (more n (unwrap_or (option_map held_of o) (held_of (new_row key code))))) (sym h.found)
+        ∙ ap (λ m. Some (more n m)) (at_same (held (list_content rows)) key code k c e)
     by false e =
         let own = is_pair_same r.key r.code key code h.here in
         let other : is_row k c r ≡ false = (λ j. is_pair (own.0 j) (own.1 j) k c) ∙ e in
@@ -144,7 +144,8 @@ content_row (x ∷ rows) r e = by (is_row r.key r.code x) refl (content_row rows
         let p = is_pair_same x.key x.code r.key r.code t in
         let some : Some (held_of x) ≡ Some (held_of r) = sym (ap (λ b. option_map held_of (cond b (Some x) (find (is_row r.key r.code) rows))) t) ∙ e in
         let points : x.points ≡ r.points = ap (λ o. (unwrap_or o (held_of x)).points) some in
-        (0, omega arith, λ i. record { key = p.0 i; code = p.1 i; points = points i })
+        let times : x.times ≡ r.times = ap (λ o. (unwrap_or o (held_of x)).times) some in
+        (0, omega arith, λ i. record { key = p.0 i; code = p.1 i; points = points i; times = times i })
     by false t rest =
         let later = rest (sym (ap (λ b. option_map held_of (cond b (Some x) (find (is_row r.key r.code) rows))) t) ∙ e) in
         (suc later.0, omega (arith, later.1), later.2)

@@ -6,7 +6,7 @@ use Rattle.pb_points.specs.declared.row.Row.{Row}
 use Rattle.pb_points.specs.Rows.{IsTop, row_at}
 
 abbrev row_0 : Row
-row_0 = record { key = 0; code = 0; points = 0 }
+row_0 = record { key = 0; code = 0; points = 0; times = 0 }
 
 -- a row of the list has a place
 pub place_of_row : (rows : List Row) (r : Row) → Contains rows r → (i : ℕ) × (i < length rows) × (row_at rows i ≡ r)

@@ -38,9 +38,9 @@ module _ (rows : List Row) (group : IsGroup rows) where
     where
       by_place : (i j : ℕ) → i < length rows → j < length rows → (row_at rows i).key ≡ (row_at rows j).key
       by_place i j lt within = elim (cases_lt i j) [
-        | inl up ↦ group.one i j (record { key = 0; code = 0; points = 0 }) up within
+        | inl up ↦ group.one i j (record { key = 0; code = 0; points = 0; times = 0 }) up within
         | inr le ↦ elim (cases_lt j i) [
-          | inl down ↦ sym (group.one j i (record { key = 0; code = 0; points = 0 }) down lt)
+          | inl down ↦ sym (group.one j i (record { key = 0; code = 0; points = 0; times = 0 }) down lt)
           | inr ge ↦ let e : i ≡ j = omega arith in ap (λ m. (row_at rows m).key) e
         ]
       ]
@@ -54,7 +54,7 @@ module _ (rows : List Row) (group : IsGroup rows) where
 
   module _ (i : ℕ) (lt : i < length rows) (entries : List Entry) (h : AreWeighed rows i entries) where
     more : take (i + 1) rows ≡ take i rows ++ row_at rows i ∷ []
-    more = take_more rows i (record { key = 0; code = 0; points = 0 }) lt
+    more = take_more rows i (record { key = 0; code = 0; points = 0; times = 0 }) lt
 
     -- an entry before comes from a row of the same key and a lower code
     earlier : (e f : Entry) → Contains entries f → Gives rows (row_at rows i) e → (f.key ≡ e.key) × (f.code < e.code)
@@ -62,10 +62,10 @@ module _ (rows : List Row) (group : IsGroup rows) where
         let w = (h.members f).0 there in
         let p = place_of_row (take i rows) w.0 w.1 in
         let within : p.0 < i = omega (arith, p.1, length-take-le i rows (omega arith)) in
-        let is : row_at rows p.0 ≡ w.0 = sym (get_or-take i rows p.0 (record { key = 0; code = 0; points = 0 }) within) ∙ p.2 in
-        let key : w.0.key ≡ (row_at rows i).key = ap (λ (x : Row). x.key) (sym is) ∙ group.one p.0 i (record { key = 0; code = 0; points = 0 }) within lt in
+        let is : row_at rows p.0 ≡ w.0 = sym (get_or-take i rows p.0 (record { key = 0; code = 0; points = 0; times = 0 }) within) ∙ p.2 in
+        let key : w.0.key ≡ (row_at rows i).key = ap (λ (x : Row). x.key) (sym is) ∙ group.one p.0 i (record { key = 0; code = 0; points = 0; times = 0 }) within lt in
         let code : w.0.code < (row_at rows i).code = subst (λ (x : Row). x.code < (row_at rows i).code) is
-        (elim (group.rise p.0 i (record { key = 0; code = 0; points = 0 }) within lt) [ inl up ↦ absurd (omega (arith, group.one p.0 i (record { key = 0; code = 0; points = 0 }) within lt)) | inr low ↦ low.1 ]) in
+        (elim (group.rise p.0 i (record { key = 0; code = 0; points = 0; times = 0 }) within lt) [ inl up ↦ absurd (omega (arith, group.one p.0 i (record { key = 0; code = 0; points = 0; times = 0 }) within lt)) | inr low ↦ low.1 ]) in
         (w.2.key ∙ key ∙ sym g.key, omega (arith, code, w.2.code, g.code))
 
     weighed_push : (e : Entry) → Gives rows (row_at rows i) e → AreWeighed rows (i + 1) (entries ++ e ∷ [])

@@ -8,21 +8,28 @@ use Rattle.pb_points.specs.Tally.{Held}
 abbrev pub count_of : List Row → ℕ → ℕ → ℕ
 count_of rows k c = count_by (is_row k c) rows
 
--- the points of a row, where it is of this key and this code
-abbrev pub gain : ℕ → ℕ → Row → ℕ
-gain k c r = if is_row k c r then r.points else 0
+-- a part of a row, where it is of this key and this code
+abbrev pub gain : (Row → ℕ) → ℕ → ℕ → Row → ℕ
+gain part k c r = if is_row k c r then part r else 0
 
--- the points of all rows of a key and a code
+-- the sum of a part of all rows of a key and a code
+abbrev pub total : (Row → ℕ) → List Row → ℕ → ℕ → ℕ
+total part rows k c = sum_by (gain part k c) rows
+
 abbrev pub points_of : List Row → ℕ → ℕ → ℕ
-points_of rows k c = sum_by (gain k c) rows
+points_of = total (λ r. r.points)
+
+abbrev pub times_of : List Row → ℕ → ℕ → ℕ
+times_of = total (λ r. r.times)
 
 -- what the rows of a key and a code hold together
 abbrev pub bag_content : List Row → ℕ → ℕ → Option Held
-bag_content rows k c = if nat_lt 0 (count_of rows k c) then Some (record { points = points_of rows k c }) else None
+bag_content rows k c = if nat_lt 0 (count_of rows k c) then Some (record { points = points_of rows k c; times = times_of rows k c }) else None
 
--- no sum of points is greater than 2^63
-abbrev pub SumsFit : List Row → Type 0
-SumsFit rows = (k c : ℕ) → points_of rows k c ≤ 2 ^ 63
+-- no sum of points or of plies is greater than 2^63
+pub record SumsFit (rows : List Row) : Type 0 where
+  pub points : (k c : ℕ) → points_of rows k c ≤ 2 ^ 63
+  pub times : (k c : ℕ) → times_of rows k c ≤ 2 ^ 63
 
 -- the same is held of each key and code
 abbrev pub HoldsSame : List Row → List Row → Type 0
@@ -30,7 +37,7 @@ HoldsSame old new = (k c : ℕ) → bag_content new k c ≡ bag_content old k c
 
 -- at the place is a row of this key and this code
 abbrev pub IsRowAt : List Row → ℕ → ℕ → ℕ → Type 0
-IsRowAt rows place k c = (place < length rows) × IsTrue (is_row k c (slice_index_or rows place (record { key = 0; code = 0; points = 0 })))
+IsRowAt rows place k c = (place < length rows) × IsTrue (is_row k c (slice_index_or rows place (record { key = 0; code = 0; points = 0; times = 0 })))
 
 -- one row for each key and code of the rows, in order, with what they hold together
 pub record IsAddedUp (rows sums : List Row) : Type 0 where

@@ -10,6 +10,6 @@ use Rattle.pb_points.specs.Tally.{Held, held_of}
 abbrev pub list_content : List Row → ℕ → ℕ → Option Held
 list_content rows k c = option_map held_of (find (is_row k c) rows)
 
--- the row with n points more
+-- the row with one ply more, of n points
 abbrev pub with_more : ℕ → Row → Row
-with_more n r = record r { points = r.points + n }
+with_more n r = record r { points = r.points + n; times = r.times + 1 }

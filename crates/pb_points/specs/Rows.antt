@@ -23,7 +23,7 @@ IsUpTo r s = IsBelow r s ⊎ ((r.key ≡ s.key) × (r.code ≡ s.code))
 
 -- the row at a place
 abbrev pub row_at : List Row → ℕ → Row
-row_at rows i = slice_index_or rows i (record { key = 0; code = 0; points = 0 })
+row_at rows i = slice_index_or rows i (record { key = 0; code = 0; points = 0; times = 0 })
 
 -- M is the greatest number of points of the rows with this key
 pub record IsTop (rows : List Row) (k M : ℕ) : Type 0 where

@@ -11,7 +11,7 @@ use std::alloc::{AllocError, Global};
 /// The rows from which on a full list is added up before it grows.
 const MANY: usize = 4096;
 
-/// Points in a list of rows, where a key and a code may have several rows. `ensure` puts a row at the end and looks for none;
+/// Points and plies in a list of rows, where a key and a code may have several rows. `ensure` puts a row at the end and looks for none;
 /// `add` looks from the end, so that it soon finds what was ensured last. A full list is added up before it grows: so it takes
 /// memory for its keys and codes, and not for each `ensure`.
 #[derive(Drop)]
@@ -35,6 +35,7 @@ fn added_up(alloc: Global, rows: &[Row]) -> Result<Vec<Row>, AllocError>
     for row in rest {
         if row.key == sum.key && row.code == sum.code {
             sum.points += row.points;
+            sum.times += row.times;
         } else {
             all.push(sum)?;
             sum = *row;
@@ -90,13 +91,16 @@ impl Tally for BagTally {
             key,
             code,
             points: 0,
+            times: 0,
         })?;
         Ok(())
     }
 
     fn add(&mut self, key: u64, code: u16, points: u64) {
         if let Some(place) = place_of(&self.rows, key, code) {
-            self.rows[place].points += points;
+            let row = &mut self.rows[place];
+            row.points += points;
+            row.times += 1;
         }
     }
 
@@ -105,6 +109,16 @@ impl Tally for BagTally {
         for row in &self.rows {
             if row.key == key && row.code == code {
                 sum += row.points;
+            }
+        }
+        sum
+    }
+
+    fn times(&self, key: u64, code: u16) -> u64 {
+        let mut sum = 0;
+        for row in &self.rows {
+            if row.key == key && row.code == code {
+                sum += row.times;
             }
         }
         sum

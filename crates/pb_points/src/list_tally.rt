@@ -1,15 +1,16 @@
 //! A tally over a plain list of rows.
 
-ghost use Rattle.std.specs.Prelude.{◌≡◌, ◌+◌, ◌<◌, ◌≤◌, ◌^◌, length, position, slice_set};
+ghost use Rattle.std.specs.Prelude.{◌≡◌, ◌<◌, length, position, slice_set};
 ghost use Rattle.pb_points.specs.ListTally.{list_content, with_more};
 ghost use Rattle.pb_points.specs.Rows.{is_row, row_at};
+ghost use Rattle.pb_points.specs.Tally.{HasRoomFor, held_of};
 
 use crate::row::{Row, sort_rows};
 use crate::tally::Tally;
 use std::alloc::{AllocError, Global};
 use std::marker::Model;
 
-/// Points in a plain list of rows, in the order in which they were first made: each call goes along the list.
+/// Points and plies in a plain list of rows, in the order in which they were first made: each call goes along the list.
 #[derive(Drop)]
 pub struct ListTally {
     rows: Vec<Row>,
@@ -36,13 +37,15 @@ fn place_of(rows: &[Row], key: u64, code: u16) -> Option<usize>
         .position(|row| row.key == key && row.code == code)
 }
 
-/// Adds points to the row at a place.
+/// Adds a ply with its points to the row at a place.
 fn add_at(rows: &mut Vec<Row>, place: usize, points: u64)
     requires within { place < length rows.old.items }
-    requires fits { (row_at rows.old.items place).points + points ≤ 2 ^ 63 }
+    requires fits { HasRoomFor (held_of (row_at rows.old.items place)) points }
     ensures { rows.new.items ≡ slice_set rows.old.items place (with_more points (row_at rows.old.items place)) }
 {
-    rows[place].points += points;
+    let row = &mut rows[place];
+    row.points += points;
+    row.times += 1;
 }
 
 impl Tally for ListTally {
@@ -62,6 +65,7 @@ impl Tally for ListTally {
             key,
             code,
             points: 0,
+            times: 0,
         })?;
         Ok(())
     }
@@ -75,6 +79,13 @@ impl Tally for ListTally {
     fn points(&self, key: u64, code: u16) -> u64 {
         match place_of(&self.rows, key, code) {
             Some(place) => self.rows[place].points,
+            None => 0,
+        }
+    }
+
+    fn times(&self, key: u64, code: u16) -> u64 {
+        match place_of(&self.rows, key, code) {
+            Some(place) => self.rows[place].times,
             None => 0,
         }
     }

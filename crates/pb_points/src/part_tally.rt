@@ -10,7 +10,7 @@ use std::alloc::{AllocError, Global};
 /// How many parts there are, one for each value of the upper nine bits of a key.
 const PARTS: usize = 512;
 
-/// Points in parts by the upper bits of the key, each part a tally of its own, so that what is worked on is small and near. The
+/// Points and plies in parts by the upper bits of the key, each part a tally of its own, so that what is worked on is small and near. The
 /// parts are made when the first row is.
 #[derive(Drop)]
 pub struct PartTally<T: Tally> {
@@ -65,6 +65,13 @@ impl<T: Tally> Tally for PartTally<T> {
     fn points(&self, key: u64, code: u16) -> u64 {
         match self.parts.get(part_of(key)) {
             Some(part) => part.points(key, code),
+            None => 0,
+        }
+    }
+
+    fn times(&self, key: u64, code: u16) -> u64 {
+        match self.parts.get(part_of(key)) {
+            Some(part) => part.times(key, code),
             None => 0,
         }
     }

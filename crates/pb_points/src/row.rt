@@ -3,7 +3,7 @@
 ghost use Rattle.std.specs.Prelude.{AllPairs, IsPermutation};
 ghost use Rattle.pb_points.specs.Rows.{IsUpTo};
 
-/// The points of one move under one key.
+/// The points of one move under one key, and how often it was played.
 #[derive(Clone, Copy, Debug, PartialEq, Eq)]
 pub struct Row {
     /// The key of the setup before the move.
@@ -12,6 +12,8 @@ pub struct Row {
     pub code: u16,
     /// Two points for each win of the side that made the move, one for each draw.
     pub points: u64,
+    /// How many plies gave them.
+    pub times: u64,
 }
 
 /// Puts the rows in order of key and then code.

@@ -1,15 +1,15 @@
 //! Points by key and code, kept one way or another.
 
-ghost use Rattle.std.specs.Prelude.{◌≡◌, ℕ, ◌+◌, ◌≤◌, ◌^◌, ◌↔◌, Option, None, Some, IsSome, IfOk, OnOk, OnErr, AllPairs, Contains};
+ghost use Rattle.std.specs.Prelude.{◌≡◌, ℕ, ◌↔◌, Option, None, Some, IsSome, IfOk, OnOk, OnErr, AllPairs, Contains};
 
 use crate::row::Row;
 use std::alloc::{AllocError, Global};
 
-/// The points of moves under keys: a finite map from key and code to points, in which an absent row means no points.
+/// The points of moves under keys, and the plies that gave them: a finite map from key and code to both, in which an absent row means none.
 pub trait Tally: Drop {
     ghost use Rattle.pb_points.specs.declared.row.Row.{Row};
     ghost use Rattle.pb_points.specs.Rows.{IsBelow};
-    ghost use Rattle.pb_points.specs.Tally.{Held, MakesRow, AddsPoints, held, held_of};
+    ghost use Rattle.pb_points.specs.Tally.{Held, HasRoomFor, MakesRow, AddsPly, held, held_of};
 
     /// What is held of each key and code, where there is a row.
     ghost content: { Self → ℕ → ℕ → Option Held };
@@ -18,7 +18,7 @@ pub trait Tally: Drop {
     fn new(alloc: Global) -> Self
         ensures { (k c : ℕ) → content result k c ≡ None };
 
-    /// Makes a row without points where there is none, so that points can be added to it.
+    /// Makes a row without plies where there is none, so that plies can be added to it.
     ///
     /// # Errors
     ///
@@ -27,15 +27,19 @@ pub trait Tally: Drop {
         ensures ok { OnOk result (MakesRow (content self.old) (content self.new) key code) }
         ensures err { OnErr result ((k c : ℕ) → content self.new k c ≡ content self.old k c) };
 
-    /// Adds points to a row that is there, up to 2^63 in all. It takes no memory.
+    /// Adds a ply with its points to a row that is there, up to 2^63 points and plies in all. It takes no memory.
     fn add(&mut self, key: u64, code: u16, points: u64)
         requires row { IsSome (content self.old key code) }
-        requires fits { (held (content self.old) key code).points + points ≤ 2 ^ 63 }
-        ensures { AddsPoints (content self.old) (content self.new) key code points };
+        requires fits { HasRoomFor (held (content self.old) key code) points }
+        ensures { AddsPly (content self.old) (content self.new) key code points };
 
     /// The points of a key and a code, 0 where there is no row. It takes no memory.
     fn points(&self, key: u64, code: u16) -> u64
         ensures { result ≡ (held (content self.now) key code).points };
+
+    /// How many plies were added to a key and a code, 0 where there is no row. It takes no memory.
+    fn times(&self, key: u64, code: u16) -> u64
+        ensures { result ≡ (held (content self.now) key code).times };
 
     /// Each row once, by key and then code rising.
     ///

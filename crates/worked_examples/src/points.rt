@@ -1,4 +1,4 @@
-//! The points that a ledger keeps, beside those counted again from its games, and weights.
+//! The points and plies that a ledger keeps, beside those counted again from its games, and weights.
 
 use crate::ledger::quiet_ledger;
 use crate::page::{Done, Page, Trouble};
@@ -18,7 +18,7 @@ pub(crate) fn answer(page: &mut Page, call: &[&str]) -> Done {
     }
 }
 
-/// Whether each tally has the points of the games that are held after these lines, and no others.
+/// Whether each tally has the points and the plies of the games that are held after these lines, and no others.
 fn tell_recount(page: &mut Page, table: &str, lines: &[&str]) -> Done {
     page.put_count("by map ", &recount::<MapTally>(page.alloc, table, lines)?);
     page.put_count(
@@ -48,6 +48,7 @@ fn add_game(rows: &mut Vec<Row>, table: &Table, game: &Game) -> Done {
             key: key_of(table, &setup),
             code: code_of(&setup, *m),
             points,
+            times: 1,
         })?;
         let Some(next) = play(&setup, *m) else {
             return Err(Trouble::Row);
@@ -69,29 +70,39 @@ fn rows_of<T: Tally>(alloc: Global, ledger: &Ledger<T>) -> Result<Vec<Row>, Trou
     Ok(rows)
 }
 
-/// The points of a key and a code.
-fn points_of(rows: &[Row], key: u64, code: u16) -> u64 {
-    let mut points: u64 = 0;
+/// What all plies of a key and a code give.
+fn total_of(rows: &[Row], key: u64, code: u16) -> Row {
+    let mut total = Row {
+        key,
+        code,
+        points: 0,
+        times: 0,
+    };
     for row in rows {
         if row.key == key && row.code == code {
-            points = points.wrapping_add(row.points);
+            total.points = total.points.wrapping_add(row.points);
+            total.times = total.times.wrapping_add(row.times);
         }
     }
-    points
+    total
 }
 
-/// Whether the tally has the points of the games that are held after these lines, and no others.
+/// Whether the tally has the points and the plies of the games that are held after these lines, and no others.
 fn recount<T: Tally>(alloc: Global, table: &str, lines: &[&str]) -> Result<bool, Trouble> {
     let ledger = quiet_ledger::<T>(alloc, table, lines)?;
     let rows = rows_of(alloc, &ledger)?;
     for row in &rows {
-        let points = points_of(rows.as_slice(), row.key, row.code);
-        if ledger.tally().points(row.key, row.code) != points {
+        let total = total_of(rows.as_slice(), row.key, row.code);
+        let tally = ledger.tally();
+        if tally.points(row.key, row.code) != total.points {
+            return Ok(false);
+        }
+        if tally.times(row.key, row.code) != total.times {
             return Ok(false);
         }
     }
     for row in &ledger.tally().rows(alloc)? {
-        if row.points != points_of(rows.as_slice(), row.key, row.code) {
+        if *row != total_of(rows.as_slice(), row.key, row.code) {
             return Ok(false);
         }
     }

@@ -7,18 +7,25 @@ use Rattle.pb_accepted.proofs.Gifts.{length-gifts_of, small_gifts}
 use Rattle.pb_accepted.proofs.Places.{absent_from_new, inserted}
 use Rattle.pb_accepted.proofs.ledger.accept.Goals as goal
 
-pub add_points-requires-clause-small : goal.add_points-requires-clause-small
-add_points-requires-clause-small g c =
+pub add_gifts-requires-clause-small : goal.add_gifts-requires-clause-small
+add_gifts-requires-clause-small g c =
     let T : Basis = record { words = c.args.recorder.now.table } in
     let gifts = c.gifts-2.ensures ∙ c.requires.noted.gifts in
     subst (All (λ r. r.points ≤ 2)) (sym gifts) (small_gifts T c.args.read.now.1)
 
-pub add_points-requires-clause-fits : goal.add_points-requires-clause-fits
-add_points-requires-clause-fits g c =
+pub add_gifts-requires-clause-points_fit : goal.add_gifts-requires-clause-points_fit
+add_gifts-requires-clause-points_fit g c =
     let T : Basis = record { words = c.args.recorder.now.table } in
     let gifts = c.gifts-2.ensures ∙ c.requires.noted.gifts in
     let many : length c.gifts-2.result.now ≡ length c.args.read.now.1.moves = ap length gifts ∙ length-gifts_of T c.args.read.now.1 in
-    λ k d. omega (arith, ap (λ (h : Held). h.points) (c.in_ok-ensure_rows.ensures.same k d), c.requires.fits k d, many)
+    λ k d. omega (arith, ap (λ (h : Held). h.points) (c.in_ok-ensure_rows.ensures.same k d), c.requires.points_fit k d, many)
+
+pub add_gifts-requires-clause-times_fit : goal.add_gifts-requires-clause-times_fit
+add_gifts-requires-clause-times_fit g c =
+    let T : Basis = record { words = c.args.recorder.now.table } in
+    let gifts = c.gifts-2.ensures ∙ c.requires.noted.gifts in
+    let many : length c.gifts-2.result.now ≡ length c.args.read.now.1.moves = ap length gifts ∙ length-gifts_of T c.args.read.now.1 in
+    λ k d. omega (arith, ap (λ (h : Held). h.times) (c.in_ok-ensure_rows.ensures.same k d), c.requires.times_fit k d, many)
 
 pub returns-clause-game : goal.returns-clause-game
 returns-clause-game g c =

@@ -1,6 +1,6 @@
 use Rattle.std.proofs.Common.{sym, subst, arith}
 use Rattle.pb_points.specs.BagTally.{IsAddedUp}
-use Rattle.pb_points.proofs.BagRows.{adding_starts, adding_joins, adding_pushes, adding_fits, added_rise, added_same}
+use Rattle.pb_points.proofs.AddedRows.{adding_starts, adding_joins, adding_pushes, adding_fits, added_rise, added_same}
 use Rattle.pb_points.proofs.bag_tally.added_up.Goals as goal
 use Rattle.pb_points.proofs.bag_tally.added_up.Goals.{then-row-sum+then-row-sum-2, else-row-sum+in_ok-push, else-row-sum-via-then-row-sum+else-row-sum-2, else-row-sum-via-else-row-sum}
 
@@ -9,7 +9,11 @@ loop-row-init c = rw c.in_ok-all.ensures.items (adding_starts c.args.rows.now c.
 
 pub overflow_add-sum : goal.overflow_add-sum
 overflow_add-sum c =
-    omega (arith, adding_fits c.args.rows.now c.loop-row.all.items c.in-Some.rest.now c.loop-row.sum c.loop-row.row-index c.requires.fit c.loop-row.invariant c.loop-row-test.true c.if-row-sum.true c.if-row-sum-2.true)
+    omega (arith, (adding_fits c.args.rows.now c.loop-row.all.items c.in-Some.rest.now c.loop-row.sum c.loop-row.row-index c.requires.fit c.loop-row.invariant c.loop-row-test.true c.if-row-sum.true c.if-row-sum-2.true).0)
+
+pub overflow_add-sum-then-row-sum-2 : goal.overflow_add-sum-then-row-sum-2
+overflow_add-sum-then-row-sum-2 c =
+    omega (arith, (adding_fits c.args.rows.now c.loop-row.all.items c.in-Some.rest.now c.loop-row.sum c.loop-row.row-index c.requires.fit c.loop-row.invariant c.loop-row-test.true c.if-row-sum.true c.if-row-sum-2.true).1)
 
 pub loop-row-preserved : goal.loop-row-preserved
 loop-row-preserved c = elim c.if-row-sum.branch [

@@ -1,4 +1,4 @@
-use Rattle.pb_points.proofs.BagRows.{Adding}
+use Rattle.pb_points.proofs.AddedRows.{Adding}
 use Rattle.pb_points.proofs.bag_tally.added_up.Given as goal
 
 abbrev pub invariant-loop-row : goal.invariant-loop-row

@@ -1,12 +1,12 @@
 use Rattle.std.proofs.Common.{◌≡◌, ℕ, ◌+◌, ◌<◌, ◌≤◌, ◌++◌, ◌∷◌, [], Ok, length, sym, ap, subst, ◌∙◌, arith}
 use Rattle.std.proofs.lemmas.List.{length_push}
-use Rattle.pb_points.specs.Tally.{held, more}
+use Rattle.pb_points.specs.Tally.{held}
 use Rattle.pb_accepted.specs.Accepting.{Allowed, IsNewId, Takes}
-use Rattle.pb_accepted.specs.Counting.{points}
+use Rattle.pb_accepted.specs.Counting.{gifts_of, with_gifts}
 use Rattle.pb_accepted.specs.Holding.{HoldsCounts}
 use Rattle.pb_accepted.specs.Ledger.{LedgerState}
 use Rattle.pb_accepted.proofs.Arrivals.{submitted}
-use Rattle.pb_accepted.proofs.Counts.{Holds-push, points_fit}
+use Rattle.pb_accepted.proofs.Counts.{Holds-push, points_fit, times_fit}
 use Rattle.pb_accepted.proofs.Replies.{Allowed-full, Allowed-memory, Allowed-new, Takes-new}
 use Rattle.pb_accepted.proofs.ledger.Ledger.take.Goals as goal
 
@@ -26,12 +26,19 @@ accept-requires-clause-new g c =
     let read = c.in_ok-read.read in
     subst (IsNewId read.0) (sym (ap (λ (l : LedgerState). l.accepted) c.self.view_is)) (c.requires read c.in_ok-read.ensures.found)
 
-pub accept-requires-clause-fits : goal.accept-requires-clause-fits
-accept-requires-clause-fits g c =
+pub accept-requires-clause-points_fit : goal.accept-requires-clause-points_fit
+accept-requires-clause-points_fit g c =
     let inside = c.self.inside in
     let l : LedgerState = record { basis = record { words = inside.recorder.table }; cap = inside.cap; accepted = inside.games.entries } in
     let read = c.in_ok-read.read in
     points_fit (g.T.Tally.content inside.tally) l read c.self.invariant (submitted c.args.line.now read c.in_ok-read.ensures.found)
+
+pub accept-requires-clause-times_fit : goal.accept-requires-clause-times_fit
+accept-requires-clause-times_fit g c =
+    let inside = c.self.inside in
+    let l : LedgerState = record { basis = record { words = inside.recorder.table }; cap = inside.cap; accepted = inside.games.entries } in
+    let read = c.in_ok-read.read in
+    times_fit (g.T.Tally.content inside.tally) l read c.self.invariant (submitted c.args.line.now read c.in_ok-read.ensures.found)
 
 pub invariant_of-self-in-Ok : goal.invariant_of-self-in-Ok
 invariant_of-self-in-Ok g c =
@@ -46,7 +53,7 @@ invariant_of-self-in-Ok g c =
     let fresh = subst (IsNewId read.0) (sym holds) (c.requires read lawful) in
     let room : length A < inside.cap = omega (arith, c.if-len-self.false, c.len.ensures.len, c.self.invariant.rules.room) in
     let table = c.in_ok-read.ensures.table in
-    let added = subst (λ w. (k d : ℕ) → held h k d ≡ more (points (record { words = w }) read.1 k d) (held f k d)) table c.in-Ok.ensures.added in
+    let added = subst (λ w. (k d : ℕ) → held h k d ≡ with_gifts (gifts_of (record { words = w }) read.1) k d (held f k d)) table c.in-Ok.ensures.added in
     let pushed = Holds-push f h l read c.self.invariant (submitted c.args.line.now read lawful) fresh room added in
     subst (λ w. HoldsCounts h (record { basis = record { words = w }; cap = inside.cap; accepted = c.accept.new.games.entries })) (sym table)
     (subst (λ X. HoldsCounts h (record { basis = l.basis; cap = inside.cap; accepted = X })) (sym c.in-Ok.ensures.game) pushed)

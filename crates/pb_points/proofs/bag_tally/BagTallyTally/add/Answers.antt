@@ -11,5 +11,5 @@ returns-in_default c = search rules
 pub invariant_of-self : goal.invariant_of-self
 invariant_of-self c = grind (arith, common_steps)
 
-pub overflow_add-index_mut : goal.overflow_add-index_mut
-overflow_add-index_mut c = grind (arith, common_steps)
+pub overflow_add-row : goal.overflow_add-row
+overflow_add-row c = grind (arith, common_steps)

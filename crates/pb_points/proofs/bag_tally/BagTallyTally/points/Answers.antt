@@ -1,6 +1,6 @@
 use Rattle.std.proofs.Common.{◌≡◌, ap, arith, get_or, take}
 use Rattle.pb_points.specs.BagTally.{points_of, gain}
-use Rattle.pb_points.proofs.BagRows.{held_points, points_more, new_row, of_pair, of_other}
+use Rattle.pb_points.proofs.BagRows.{held_points, total_more, new_row, of_pair, of_other}
 use Rattle.std.proofs.lemmas.List.{take_all}
 use Rattle.std.proofs.lemmas.List.Sums.{sum_by_more_le}
 use Rattle.pb_points.proofs.bag_tally.BagTallyTally.points.Goals as goal
@@ -13,22 +13,22 @@ overflow_add-sum c =
     omega (
       arith,
       c.loop-row.invariant,
-      sum_by_more_le (gain c.args.key c.args.code) rows c.loop-row.row-index (new_row 0 0) c.loop-row-test.true,
-      of_pair c.args.key c.args.code (get_or rows c.loop-row.row-index (new_row 0 0)) c.if-row-key.true c.if-row-code.true,
+      sum_by_more_le (gain (λ r. r.points) c.args.key c.args.code) rows c.loop-row.row-index (new_row 0 0) c.loop-row-test.true,
+      of_pair (λ r. r.points) c.args.key c.args.code (get_or rows c.loop-row.row-index (new_row 0 0)) c.if-row-key.true c.if-row-code.true,
       most,
-      c.args.self.now.fit c.args.key c.args.code,
+      c.args.self.now.fit.points c.args.key c.args.code,
     )
 
 pub loop-row-preserved : goal.loop-row-preserved
 loop-row-preserved c =
     let rows = c.deref-row-items.result.now in
     let row = get_or rows c.loop-row.row-index (new_row 0 0) in
-    let next = points_more rows c.loop-row.row-index c.args.key c.args.code c.loop-row-test.true in
+    let next = total_more (λ r. r.points) rows c.loop-row.row-index c.args.key c.args.code c.loop-row-test.true in
     elim c.if-row-key.branch [
-      | then-row-key+then-row-code w ↦ omega (arith, w.sum-is, c.loop-row.invariant, next, of_pair c.args.key c.args.code row w.if-row-key.true w.if-row-code.true)
+      | then-row-key+then-row-code w ↦ omega (arith, w.sum-is, c.loop-row.invariant, next, of_pair (λ r. r.points) c.args.key c.args.code row w.if-row-key.true w.if-row-code.true)
       | else-row-key w ↦ elim w.else-row-key.branch [
-        | else-row-key-via-then-row-key+else-row-code v ↦ omega (arith, w.sum-is, c.loop-row.invariant, next, of_other c.args.key c.args.code row (λ key code. v.if-row-code.false code))
-        | else-row-key-via-else-row-key v ↦ omega (arith, w.sum-is, c.loop-row.invariant, next, of_other c.args.key c.args.code row (λ key code. v.if-row-key.false key))
+        | else-row-key-via-then-row-key+else-row-code v ↦ omega (arith, w.sum-is, c.loop-row.invariant, next, of_other (λ r. r.points) c.args.key c.args.code row (λ key code. v.if-row-code.false code))
+        | else-row-key-via-else-row-key v ↦ omega (arith, w.sum-is, c.loop-row.invariant, next, of_other (λ r. r.points) c.args.key c.args.code row (λ key code. v.if-row-key.false key))
       ]
     ]
 

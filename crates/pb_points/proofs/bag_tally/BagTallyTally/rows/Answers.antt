@@ -3,7 +3,8 @@ use Rattle.std.proofs.lemmas.Result.{IfOk-weaker}
 use Rattle.pb_points.specs.declared.row.Row.{Row}
 use Rattle.pb_points.specs.BagTally.{IsAddedUp, SumsFit, HoldsSame, bag_content}
 use Rattle.pb_points.specs.Tally.{held_of}
-use Rattle.pb_points.proofs.BagRows.{added_each, fit_same, same_permuted}
+use Rattle.pb_points.proofs.AddedRows.{added_each}
+use Rattle.pb_points.proofs.BagRows.{fit_same, same_permuted}
 use Rattle.pb_points.proofs.bag_tally.BagTallyTally.rows.Goals as goal
 
 pub added_up-requires-clause-fit : goal.added_up-requires-clause-fit

@@ -3,7 +3,7 @@ use Rattle.std.specs.List.{IsDistinct}
 use Rattle.std.proofs.lemmas.Bool.{false≢true}
 use Rattle.pb_points.specs.ListTally.{list_content}
 use Rattle.pb_points.specs.Rows.{is_row, same_pair}
-use Rattle.pb_points.specs.Tally.{held, held_of, nothing}
+use Rattle.pb_points.specs.Tally.{HasRoomFor, held, held_of, nothing}
 use Rattle.pb_points.proofs.ListRows.{IsDistinct-more, absent_found, adds_set, is_place}
 use Rattle.pb_points.proofs.list_tally.ListTallyTally.add.Goals as goal
 
@@ -11,9 +11,9 @@ pub add_at-requires-clause-fits : goal.add_at-requires-clause-fits
 add_at-requires-clause-fits c =
     let rows = c.self.inside.rows.items in
     let place = is_place rows c.args.key c.args.code c.in-Some.place (sym (c.in-Some.ensures ∙ ap (position (is_row c.args.key c.args.code)) c.deref.ensures.value)) in
-    let seen = ap (λ l. (held (list_content l) c.args.key c.args.code).points) c.self.view_is in
-    let here = ap (λ o. (unwrap_or (option_map held_of o) nothing).points) place.found in
-    omega (arith, c.requires.fits, seen, here)
+    let seen = ap (λ l. held (list_content l) c.args.key c.args.code) c.self.view_is in
+    let here = ap (λ o. unwrap_or (option_map held_of o) nothing) place.found in
+    subst (λ h. HasRoomFor h c.args.points) (sym seen ∙ here) c.requires.fits
 
 pub invariant_of-self : goal.invariant_of-self
 invariant_of-self c =

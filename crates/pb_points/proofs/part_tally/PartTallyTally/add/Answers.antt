@@ -3,7 +3,7 @@ use Rattle.std.specs.Prelude.{slice_get}
 use Rattle.std.proofs.Math.ListN.{length-set}
 use Rattle.std.proofs.lemmas.Option.{slice_get_read}
 use Rattle.pb_points.specs.PartTally.{HoldsOwn, part_of, parts_content}
-use Rattle.pb_points.specs.Tally.{AddsPoints, more}
+use Rattle.pb_points.specs.Tally.{AddsPly, more}
 use Rattle.pb_points.proofs.PartRows.{own_changed, part_changed}
 use Rattle.pb_points.proofs.part_tally.PartTallyTally.add.Goals as goal
 
@@ -25,5 +25,5 @@ returns-in-Some g c =
     let lt : c.part_of.result < length parts = c.in-Some.ensures.item.3.0 in
     let here : slice_get parts (part_of c.args.key) ≡ Some c.in-Some.part.now =
     ap (slice_get parts) (sym c.part_of.ensures) ∙ slice_get_read parts (length parts) c.part_of.result c.in-Some.part.now refl lt c.in-Some.ensures.value in
-    subst (λ n. AddsPoints (parts_content g.T.Tally.content parts) (parts_content g.T.Tally.content (set parts n c.add.new.self)) c.args.key c.args.code c.args.points) (sym c.part_of.ensures)
+    subst (λ n. AddsPly (parts_content g.T.Tally.content parts) (parts_content g.T.Tally.content (set parts n c.add.new.self)) c.args.key c.args.code c.args.points) (sym c.part_of.ensures)
     (part_changed g.T.Tally.content (more c.args.points) parts c.args.key c.args.code c.in-Some.part.now c.add.new.self here c.add.ensures)

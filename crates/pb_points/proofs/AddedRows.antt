@@ -1,0 +1,250 @@
+-- Ordered rows added up, one for each key and code, and listed.
+use Rattle.std.proofs.Common.{◌≡◌, ℕ, ◌+◌, ◌<◌, ◌≤◌, ◌^◌, zero, suc, Bool, true, false, cond, if◌then◌else◌, Option, Some, None, unwrap_or, List, [], ◌∷◌, ◌++◌, length, get_or, set, drop, take, All, AllPairs, Contains, ◌↔◌, IsPermutation, refl, sym, ap, ◌∙◌, inl, inr, arith, subst, add-one}
+use Rattle.std.specs.Prelude.{nat_lt, sum_by}
+use Rattle.std.proofs.lemmas.Bool.{cases_lt}
+use Rattle.std.proofs.lemmas.Bool.Decides.{nat_tests}
+use Rattle.std.proofs.lemmas.List.Sums.{sum_by-cons, sum_by-drop_more, sum_by_push, sum_by-set, get_or-le-sum_by, sum_by_more}
+use Rattle.std.proofs.lemmas.List.Sorted.{sum_by-IsPermutation}
+use Rattle.std.proofs.lemmas.List.Elements.{All-push, All-weaker}
+use Rattle.std.proofs.lemmas.List.{drop_all, get_or_default}
+use Rattle.std.proofs.lemmas.List.Quantifiers.{all_pairs_push}
+use Rattle.pb_points.specs.declared.row.Row.{Row}
+use Rattle.pb_points.specs.BagTally.{HoldsSame, IsAddedUp, SumsFit, bag_content, count_of, gain, points_of, times_of, total}
+use Rattle.pb_points.specs.Rows.{IsBelow, IsUpTo, is_row}
+use Rattle.pb_points.specs.Tally.{Held, MakesRow, AddsPly, held, held_of, is_pair, more, nothing}
+use Rattle.pb_points.proofs.Pairs.{is_pair_same, is_pair_itself}
+use Rattle.pb_points.proofs.BagRows.{gain_more, new_row, of_other, of_pair, of_sums, one, one_of, makes_pushed, points_held, row_at, times_held, with_more}
+
+-- rows are a first one and the rest; of the rest, i are added up into `all` and the last one, `sum`
+pub record Adding (rows all rest : List Row) (sum : Row) (i : ℕ) : Type 0 where
+  pub first : Row
+  pub cut : rows ≡ first ∷ rest
+  pub rise : AllPairs IsBelow all
+  pub below : All (λ r. IsBelow r sum) all
+  pub key : (row_at rows i).key ≡ sum.key
+  pub code : (row_at rows i).code ≡ sum.code
+  pub points : (k c : ℕ) → points_of all k c + gain (λ r. r.points) k c sum + points_of (drop i rest) k c ≡ points_of rows k c
+  pub times : (k c : ℕ) → times_of all k c + gain (λ r. r.times) k c sum + times_of (drop i rest) k c ≡ times_of rows k c
+  pub some : (k c : ℕ) → nat_lt 0 (count_of all k c + one k c sum + count_of (drop i rest) k c) ≡ nat_lt 0 (count_of rows k c)
+
+pub adding_starts : (rows rest : List Row) (first : Row) → rows ≡ first ∷ rest → Adding rows [] rest first 0
+adding_starts rows rest first cut = record {
+  first = first;
+  cut = cut;
+  rise = λ i j d lt within. absurd (omega arith);
+  below = λ j d lt. absurd (omega arith);
+  key = ap (λ l. (row_at l 0).key) cut;
+  code = ap (λ l. (row_at l 0).code) cut;
+  points = λ k c. let e = ap (λ l. points_of l k c) cut in omega (arith, e, sum_by-cons (gain (λ r. r.points) k c) first rest);
+  times = λ k c. let e = ap (λ l. times_of l k c) cut in omega (arith, e, sum_by-cons (gain (λ r. r.times) k c) first rest);
+  some = λ k c. let e = ap (λ l. count_of l k c) cut in ap (nat_lt 0) (sums (one k c first) (count_of rest k c) (count_of rows k c) (sym (e ∙ sum_by-cons (one k c) first rest)));
+}
+  where
+    sums : (a b n : ℕ) → a + b ≡ n → 0 + a + b ≡ n
+    sums a b n e = omega arith
+
+-- the row that stands at i in the rest stands after i in the rows
+next_row : (rows all rest : List Row) (sum : Row) (i : ℕ) → Adding rows all rest sum i → row_at rows (i + 1) ≡ row_at rest i
+next_row rows all rest sum i a = ap (λ l. row_at l (i + 1)) a.cut ∙ ap (row_at (a.first ∷ rest)) (add-one i)
+
+-- a row of the same key and code goes into the sum
+gain_joined : (part : Row → ℕ) (k c : ℕ) (s r : Row) → r.key ≡ s.key → r.code ≡ s.code → part (with_more r.points r.times s) ≡ part s + part r
+    → gain part k c (with_more r.points r.times s) ≡ gain part k c s + gain part k c r
+gain_joined part k c s r key code is =
+    let test : is_row k c r ≡ is_row k c s = λ i. is_pair (key i) (code i) k c in
+    omega (arith, gain_more part k c (part r) s (with_more r.points r.times s) refl is, ap (λ b. cond b (part r) 0) test)
+
+one_joined : (k c : ℕ) (s r : Row) → r.key ≡ s.key → r.code ≡ s.code → one k c r ≡ one k c s
+one_joined k c s r key code = λ i. cond (is_pair (key i) (code i) k c) 1 0
+
+some_joined : (a n m : ℕ) → nat_lt 0 (a + n + m) ≡ nat_lt 0 (a + n + (n + m))
+some_joined a n m = grind (arith, nat_tests)
+
+pub adding_joins : (rows all rest : List Row) (sum : Row) (i : ℕ) → Adding rows all rest sum i → i < length rest
+    → (row_at rest i).key ≡ sum.key → (row_at rest i).code ≡ sum.code → Adding rows all rest (with_more (row_at rest i).points (row_at rest i).times sum) (i + 1)
+adding_joins rows all rest sum i a lt key code =
+    let next = next_row rows all rest sum i a in
+    record {
+      first = a.first;
+      cut = a.cut;
+      rise = a.rise;
+      below = a.below;
+      key = ap (λ (r : Row). r.key) next ∙ key;
+      code = ap (λ (r : Row). r.code) next ∙ code;
+      points = λ k c. omega (arith, a.points k c, sum_by-drop_more (gain (λ r. r.points) k c) rest i (new_row 0 0) lt, gain_joined (λ r. r.points) k c sum (row_at rest i) key code refl);
+      times = λ k c. omega (arith, a.times k c, sum_by-drop_more (gain (λ r. r.times) k c) rest i (new_row 0 0) lt, gain_joined (λ r. r.times) k c sum (row_at rest i) key code refl);
+      some = λ k c.
+          let more : count_of (drop i rest) k c ≡ one k c sum + count_of (drop (i + 1) rest) k c =
+          sum_by-drop_more (one k c) rest i (new_row 0 0) lt ∙ ap (λ n. n + count_of (drop (i + 1) rest) k c) (one_joined k c sum (row_at rest i) key code) in
+          some_joined (count_of all k c) (one k c sum) (count_of (drop (i + 1) rest) k c)
+          ∙ ap (λ n. nat_lt 0 (count_of all k c + one k c sum + n)) (sym more) ∙ a.some k c;
+    }
+
+-- a row of another key or code ends the sum
+below_next : (r s : Row) → IsUpTo r s → (s.key ≡ r.key → s.code ≡ r.code → ⊥) → IsBelow r s
+below_next r s up other = elim up [ inl below ↦ below | inr same ↦ absurd (other (sym same.0) (sym same.1)) ]
+
+below_trans : (r s t : Row) → IsBelow r s → IsBelow s t → IsBelow r t
+below_trans r s t p q = elim p [
+  | inl a ↦ elim q [ inl b ↦ inl (omega arith) | inr b ↦ inl (omega (arith, b.0)) ]
+  | inr a ↦ elim q [ inl b ↦ inl (omega (arith, a.0)) | inr b ↦ inr (a.0 ∙ b.0, omega (arith, a.1, b.1)) ]
+]
+
+below_same : (r s t : Row) → r.key ≡ s.key → r.code ≡ s.code → IsBelow r t → IsBelow s t
+below_same r s t key code p = elim p [ inl a ↦ inl (omega (arith, key)) | inr a ↦ inr (sym key ∙ a.0, omega (arith, a.1, code)) ]
+
+pub adding_pushes : (rows all rest : List Row) (sum : Row) (i : ℕ) → AllPairs IsUpTo rows → Adding rows all rest sum i → i < length rest
+    → ((row_at rest i).key ≡ sum.key → (row_at rest i).code ≡ sum.code → ⊥) → Adding rows (all ++ sum ∷ []) rest (row_at rest i) (i + 1)
+adding_pushes rows all rest sum i ordered a lt other =
+    let next = next_row rows all rest sum i a in
+    let within : i + 1 < length rows = omega (arith, ap length a.cut) in
+    let up : IsUpTo (row_at rows i) (row_at rest i) = subst (IsUpTo (row_at rows i)) next (ordered i (i + 1) (new_row 0 0) (omega arith) within) in
+    let far : IsBelow sum (row_at rest i) = below_same (row_at rows i) sum (row_at rest i) a.key a.code
+    (below_next (row_at rows i) (row_at rest i) up (λ key code. other (key ∙ a.key) (code ∙ a.code))) in
+    record {
+      first = a.first;
+      cut = a.cut;
+      rise = all_pairs_push IsBelow all sum a.rise a.below;
+      below = All-push (λ r. IsBelow r (row_at rest i)) all sum (All-weaker (λ r. IsBelow r sum) (λ r. IsBelow r (row_at rest i)) (λ r b. below_trans r sum (row_at rest i) b far) all a.below) far;
+      key = ap (λ (r : Row). r.key) next;
+      code = ap (λ (r : Row). r.code) next;
+      points = λ k c. omega (arith, a.points k c, sum_by-drop_more (gain (λ r. r.points) k c) rest i (new_row 0 0) lt, sum_by_push (gain (λ r. r.points) k c) all sum);
+      times = λ k c. omega (arith, a.times k c, sum_by-drop_more (gain (λ r. r.times) k c) rest i (new_row 0 0) lt, sum_by_push (gain (λ r. r.times) k c) all sum);
+      some = λ k c.
+          let more : count_of (all ++ sum ∷ []) k c + one k c (row_at rest i) + count_of (drop (i + 1) rest) k c ≡ count_of all k c + one k c sum + count_of (drop i rest) k c =
+          omega (arith, sum_by-drop_more (one k c) rest i (new_row 0 0) lt, sum_by_push (one k c) all sum) in
+          ap (nat_lt 0) more ∙ a.some k c;
+    }
+
+-- the sum of a part at its own key and code
+own_gain : (part : Row → ℕ) (s : Row) → gain part s.key s.code s ≡ part s
+own_gain part s = of_pair part s.key s.code s refl refl
+
+-- the sums are within bounds
+pub adding_fits : (rows all rest : List Row) (sum : Row) (i : ℕ) → SumsFit rows → Adding rows all rest sum i → i < length rest
+    → (row_at rest i).key ≡ sum.key → (row_at rest i).code ≡ sum.code
+    → (sum.points + (row_at rest i).points ≤ 2 ^ 63) × (sum.times + (row_at rest i).times ≤ 2 ^ 63)
+adding_fits rows all rest sum i fit a lt key code =
+    let joins = adding_joins rows all rest sum i a lt key code in
+    let more : Row = with_more (row_at rest i).points (row_at rest i).times sum in
+    (omega (arith, joins.points sum.key sum.code, own_gain (λ r. r.points) more, fit.points sum.key sum.code),
+    omega (arith, joins.times sum.key sum.code, own_gain (λ r. r.times) more, fit.times sum.key sum.code))
+
+-- all rows are added up
+pub added_rise : (rows all rest : List Row) (sum : Row) (i : ℕ) → Adding rows all rest sum i → AllPairs IsBelow (all ++ sum ∷ [])
+added_rise rows all rest sum i a = all_pairs_push IsBelow all sum a.rise a.below
+
+pub added_same : (rows all rest : List Row) (sum : Row) (i : ℕ) → Adding rows all rest sum i → length rest ≤ i → HoldsSame rows (all ++ sum ∷ [])
+added_same rows all rest sum i a end k c =
+    let none : drop i rest ≡ [] = drop_all i rest end in
+    let points : points_of (all ++ sum ∷ []) k c ≡ points_of rows k c = omega (arith, a.points k c, sum_by_push (gain (λ r. r.points) k c) all sum, ap (λ l. points_of l k c) none) in
+    let times : times_of (all ++ sum ∷ []) k c ≡ times_of rows k c = omega (arith, a.times k c, sum_by_push (gain (λ r. r.times) k c) all sum, ap (λ l. times_of l k c) none) in
+    let count : count_of (all ++ sum ∷ []) k c ≡ count_of all k c + one k c sum + count_of (drop i rest) k c = omega (arith, sum_by_push (one k c) all sum, ap (λ l. count_of l k c) none) in
+    (λ i. of_sums (count_of (all ++ sum ∷ []) k c) (points i) (times i))
+    ∙ ap (λ b. if b then Some (record { points = points_of rows k c; times = times_of rows k c }) else None) (ap (nat_lt 0) count ∙ a.some k c)
+
+-- ---- the rows listed
+
+-- where something is held there is a row
+some_counted : (rows : List Row) (k c : ℕ) (h : Held) → bag_content rows k c ≡ Some h → 0 < count_of rows k c
+some_counted rows k c h e = by (nat_lt 0 (count_of rows k c)) refl
+  where
+    by : (b : Bool) → nat_lt 0 (count_of rows k c) ≡ b → 0 < count_of rows k c
+    by true t = grind (arith, nat_tests)
+    by false t =
+        let none : bag_content rows k c ≡ None = ap (λ b. cond b (Some (record { points = points_of rows k c; times = times_of rows k c })) None) t in
+        let other : Some h ≡ None = sym e ∙ none in
+        cc
+
+sum_none : (f : Row → ℕ) (rows : List Row) → ((j : ℕ) → j < length rows → f (row_at rows j) ≡ 0) → sum_by f rows ≡ 0
+sum_none f [] others = refl
+sum_none f (r ∷ rows) others = omega (arith, sum_by-cons f r rows, others 0 (omega arith), sum_none f rows (λ j lt. others (suc j) (omega arith)))
+
+-- a sum to which one place gives
+sum_at : (f : Row → ℕ) (rows : List Row) (i : ℕ) → i < length rows → ((j : ℕ) → j < length rows → (j ≡ i → ⊥) → f (row_at rows j) ≡ 0) → sum_by f rows ≡ f (row_at rows i)
+sum_at f [] i lt others = absurd (omega arith)
+sum_at f (r ∷ rows) zero lt others =
+    omega (arith, sum_by-cons f r rows, sum_none f rows (λ j lt. others (suc j) (omega arith) (λ e. omega (arith, e))))
+sum_at f (r ∷ rows) (suc i) lt others =
+    omega (
+      arith,
+      sum_by-cons f r rows,
+      others 0 (omega arith) (λ e. omega (arith, e)),
+      sum_at f rows i (omega arith) (λ j lt other. others (suc j) (omega arith) (λ e. other (omega (arith, e)))),
+    )
+
+-- in rows that rise, only one is of a key and a code
+other_row : (rows : List Row) (i j : ℕ) → AllPairs IsBelow rows → i < length rows → j < length rows → (j ≡ i → ⊥)
+    → (row_at rows j).key ≡ (row_at rows i).key → (row_at rows j).code ≡ (row_at rows i).code → ⊥
+other_row rows i j rise lt within other key code = elim (cases_lt i j) [
+  | inl up ↦ apart (row_at rows i) (row_at rows j) (rise i j (new_row 0 0) up within) (sym key) (sym code)
+  | inr le ↦ elim (cases_lt j i) [
+    | inl down ↦ apart (row_at rows j) (row_at rows i) (rise j i (new_row 0 0) down lt) key code
+    | inr ge ↦ other (omega arith)
+  ]
+]
+  where
+    apart : (r s : Row) → IsBelow r s → r.key ≡ s.key → r.code ≡ s.code → ⊥
+    apart r s p key code = elim p [ inl a ↦ omega (arith, a, key) | inr a ↦ omega (arith, a.1, code) ]
+
+one_other : (k c : ℕ) (r : Row) → (r.key ≡ k → r.code ≡ c → ⊥) → one k c r ≡ 0
+one_other k c r other = by (is_row k c r) refl
+  where
+    by : (b : Bool) → is_row k c r ≡ b → one k c r ≡ 0
+    by true e = let p = is_pair_same r.key r.code k c e in absurd (other p.0 p.1)
+    by false e = ap (λ b. cond b 1 0) e
+
+-- what rising rows hold at a row's key and code is that row
+listed : (rows : List Row) (i : ℕ) → AllPairs IsBelow rows → i < length rows → bag_content rows (row_at rows i).key (row_at rows i).code ≡ Some (held_of (row_at rows i))
+listed rows i rise lt =
+    let r = row_at rows i in
+    let count : count_of rows r.key r.code ≡ 1 =
+    sum_at (one r.key r.code) rows i lt (λ j within other. one_other r.key r.code (row_at rows j) (other_row rows i j rise lt within other))
+    ∙ one_of r.key r.code r (is_pair_itself r.key r.code) in
+    let points = only (λ r. r.points) in
+    let times = only (λ r. r.times) in
+    ap (λ n. of_sums n (points_of rows r.key r.code) (times_of rows r.key r.code)) count ∙ (λ i. Some (record { points = points i; times = times i }))
+  where
+    only : (part : Row → ℕ) → total part rows (row_at rows i).key (row_at rows i).code ≡ part (row_at rows i)
+    only part =
+        let r = row_at rows i in
+        sum_at (gain part r.key r.code) rows i lt (λ j within other. of_other part r.key r.code (row_at rows j) (other_row rows i j rise lt within other))
+        ∙ of_pair part r.key r.code r refl refl
+
+-- a row that is counted is found
+found : (rows : List Row) (k c : ℕ) → 0 < count_of rows k c → (i : ℕ) × (i < length rows) × (is_row k c (row_at rows i) ≡ true)
+found [] k c some = absurd (omega arith)
+found (r ∷ rows) k c some = by (found rows k c) (is_row k c r) refl
+  where
+    by : (0 < count_of rows k c → (i : ℕ) × (i < length rows) × (is_row k c (row_at rows i) ≡ true)) → (b : Bool) → is_row k c r ≡ b
+        → (i : ℕ) × (i < length (r ∷ rows)) × (is_row k c (row_at (r ∷ rows) i) ≡ true)
+    by rest true e = (0, omega arith, e)
+    by rest false e =
+        let none : one k c r ≡ 0 = ap (λ b. cond b 1 0) e in
+        let next = rest (omega (arith, sum_by-cons (one k c) r rows, none)) in
+        (suc next.0, omega (arith, next.1), next.2)
+
+pub added_each : (rows sums : List Row) → IsAddedUp rows sums → (r : Row) → Contains sums r ↔ (bag_content rows r.key r.code ≡ Some (held_of r))
+added_each rows sums added r = (to, from)
+  where
+    to : Contains sums r → bag_content rows r.key r.code ≡ Some (held_of r)
+    to there =
+        let is : row_at sums there.0 ≡ r = get_or_default sums there.0 (new_row 0 0) r there.1 ∙ there.2 in
+        sym (added.same r.key r.code) ∙ subst (λ (s : Row). bag_content sums s.key s.code ≡ Some (held_of s)) is (listed sums there.0 added.rise there.1)
+
+    from : bag_content rows r.key r.code ≡ Some (held_of r) → Contains sums r
+    from e =
+        let here : bag_content sums r.key r.code ≡ Some (held_of r) = added.same r.key r.code ∙ e in
+        let place = found sums r.key r.code (some_counted sums r.key r.code (held_of r) here) in
+        let s = row_at sums place.0 in
+        let p = is_pair_same s.key s.code r.key r.code place.2 in
+        let same : Some (held_of s) ≡ Some (held_of r) = sym (listed sums place.0 added.rise place.1) ∙ (λ i. bag_content sums (p.0 i) (p.1 i)) ∙ here in
+        let points : s.points ≡ r.points = ap points_held same in
+        let times : s.times ≡ r.times = ap times_held same in
+        (place.0, place.1, get_or_default sums place.0 r (new_row 0 0) place.1 ∙ (λ i. record { key = p.0 i; code = p.1 i; points = points i; times = times i }))
+
+-- a row made after the rows were added up
+pub makes_same : (old rows new : List Row) (key code : ℕ) → HoldsSame old rows → new ≡ rows ++ new_row key code ∷ [] → MakesRow (bag_content old) (bag_content new) key code
+makes_same old rows new key code same is k c =
+    ap (λ l. bag_content l k c) is ∙ makes_pushed rows key code k c
+    ∙ ap (λ o. if is_pair key code k c then Some (unwrap_or o nothing) else o) (same k c)
