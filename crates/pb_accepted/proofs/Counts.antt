@@ -16,7 +16,7 @@ use Rattle.pb_accepted.proofs.BookLaws.{sum_by-flat_map}
 use Rattle.pb_accepted.proofs.Gifts.{gained-le, length-gifts_of, occurring-le, one, small_gifts}
 
 points-le : (T : Basis) (g : Game) (k c : ℕ) → points T g k c ≤ length g.moves * 2
-points-le T g k c = subst (λ n. points T g k c ≤ n * 2) (length-gifts_of T g) (gained-le (gifts_of T g) k c (small_gifts T g))
+points-le T g k c = omega (arith, gained-le (gifts_of T g) k c (small_gifts T g), length-gifts_of T g)
 
 -- each game gives at most two points for each of its 1,024 moves
 count-le : (T : Basis) (A : List Submission) (k c : ℕ) → All IsSubmission A → count T A k c ≤ length A * 2048
@@ -62,6 +62,7 @@ pub Holds-push : (f g : Content) (l : LedgerState) (s : Submission) → HoldsCou
 Holds-push f g l s old legal fresh room added = record {
   rules = record {
     table = old.rules.table;
+    counting = old.rules.counting;
     few = old.rules.few;
     room = omega (arith, room, length_push l.accepted s);
     games = All-push IsSubmission l.accepted s old.rules.games legal;

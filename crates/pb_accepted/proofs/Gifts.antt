@@ -1,7 +1,7 @@
 -- What the plies of a game give, and what gifts do to a tally, one after another.
 use Rattle.std.proofs.Common.{suc, ◌≡◌, ℕ, ◌+◌, ◌*◌, ◌<◌, ◌≤◌, ◌^◌, Bool, true, false, cond, if◌then◌else◌, Option, Some, IsSome, unwrap_or, List, [], ◌∷◌, map, take, length, get_or, All, refl, sym, ap, subst, ◌∙◌, inl, inr, arith}
 use Rattle.std.proofs.lemmas.Bool.{cases_lt}
-use Rattle.std.proofs.lemmas.List.{get_or_default, length-map, take_all}
+use Rattle.std.proofs.lemmas.List.{get_or_default, length-map, length-take, take-map, take_all}
 use Rattle.std.proofs.lemmas.List.Elements.{All-map, All-weaker}
 use Rattle.std.proofs.lemmas.List.Sums.{sum_by_more, sum_by_more_le, sum_by-le}
 use Rattle.pb_board.specs.declared.piece.Colour.{Colour}
@@ -19,7 +19,7 @@ use Rattle.pb_points.proofs.Pairs.{is_pair_itself}
 use Rattle.pb_points.specs.Tally.{Content, HasRoomFor, Held, MakesRow, AddsPly, held, is_pair, more, nothing}
 use Rattle.pb_accepted.specs.declared.gift.Gift.{Gift}
 use Rattle.pb_accepted.specs.Basis.{Basis}
-use Rattle.pb_accepted.specs.Counting.{credit, gained, gift_of, gifts_of, occurring, share, with_gifts}
+use Rattle.pb_accepted.specs.Counting.{counted, credit, gained, gift_of, gifts_of, occurring, share, with_gifts}
 
 -- ---- the gifts of a game
 
@@ -32,9 +32,15 @@ pub moves_back : (s : Position) (ms : List Moved) → map (λ p. p.1) (plies_fro
 moves_back s [] = refl
 moves_back s (m ∷ ms) = ap (λ rest. m ∷ rest) (moves_back (after s m) ms)
 
--- as many gifts as moves
-pub length-gifts_of : (T : Basis) (g : Game) → length (gifts_of T g) ≡ length g.moves
-length-gifts_of T g = length-map (plies g) (gift_of T g.outcome) ∙ length-plies_from g.start.setup g.moves
+-- no more gifts than moves
+pub length-gifts_of : (T : Basis) (g : Game) → length (gifts_of T g) ≤ length g.moves
+length-gifts_of T g =
+    let many = length-map (counted T g) (gift_of T.words g.outcome) in
+    omega (arith, many, length-take T.rules.plies (plies g), length-plies_from g.start.setup g.moves)
+
+-- the first gifts of all plies are those of the plies that count
+pub counted_gifts : (T : Basis) (g : Game) (all first : List Gift) → first ≡ take T.rules.plies all → all ≡ map (gift_of T.words g.outcome) (plies g) → first ≡ gifts_of T g
+counted_gifts T g all first cut are = cut ∙ ap (take T.rules.plies) are ∙ take-map (gift_of T.words g.outcome) T.rules.plies (plies g)
 
 credit-le : (o : Outcome) (side : Colour) → credit o side ≤ 2
 credit-le White side.White = omega arith
@@ -45,7 +51,7 @@ credit-le Draw side = omega arith
 
 -- no gift has more than two points
 pub small_gifts : (T : Basis) (g : Game) → All (λ r. r.points ≤ 2) (gifts_of T g)
-small_gifts T g = All-map (λ (r : Gift). r.points ≤ 2) (gift_of T g.outcome) (plies g) (λ j p lt. credit-le g.outcome (get_or (plies g) j p).0.turn)
+small_gifts T g = All-map (λ (r : Gift). r.points ≤ 2) (gift_of T.words g.outcome) (counted T g) (λ j p lt. credit-le g.outcome (get_or (counted T g) j p).0.turn)
 
 share-le : (k c : ℕ) (r : Gift) → share k c r ≤ r.points
 share-le k c r = by (is_pair r.key r.code k c)

@@ -3,6 +3,7 @@ pub mod BookLaws
 pub mod Books
 pub mod Counts
 pub mod Distinct
+pub mod Frequent
 pub mod Gifts
 pub mod Members
 pub mod Numbers

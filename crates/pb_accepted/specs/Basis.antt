@@ -1,6 +1,8 @@
 -- What points and weights rest on beside the games.
 use Rattle.std.specs.Prelude.{ℕ, List}
+use Rattle.pb_accepted.specs.Rules.{CountingRules}
 
--- the table's words, of which keys are made
+-- the table's words, of which keys are made, and what of the games counts
 pub record Basis : Type 0 where
   pub words : List ℕ
+  pub rules : CountingRules

@@ -1,5 +1,5 @@
 -- Points, counts, weights and the book of a list of games. T is the basis, S the list of submissions.
-use Rattle.std.specs.Prelude.{◌≡◌, ℕ, ◌≤◌, ◌↔◌, ◌+◌, List, map, sum_by, count_by, AllPairs, Contains, if◌then◌else◌}
+use Rattle.std.specs.Prelude.{◌≡◌, ℕ, ◌≤◌, ◌↔◌, ◌+◌, List, map, take, sum_by, count_by, AllPairs, Contains, if◌then◌else◌}
 use Rattle.std.specs.List.{flat_map}
 use Rattle.pb_board.specs.declared.piece.Colour.{Colour}
 use Rattle.pb_board.specs.declared.piece.Colour.TheVariants as side
@@ -25,12 +25,16 @@ credit Black side.Black = 2
 credit Draw _ = 1
 
 -- a ply's key, code and points
-abbrev pub gift_of : Basis → Outcome → Ply → Gift
-gift_of T o p = record { key = key T.words p.0; code = code p.0 p.1; points = credit o p.0.turn }
+abbrev pub gift_of : List ℕ → Outcome → Ply → Gift
+gift_of words o p = record { key = key words p.0; code = code p.0 p.1; points = credit o p.0.turn }
 
--- what the plies of a game give, and those of all games, one after another
+-- the plies of a game that count
+abbrev pub counted : Basis → Game → List Ply
+counted T g = take T.rules.plies (plies g)
+
+-- what they give, and those of all games, one after another
 abbrev pub gifts_of : Basis → Game → List Gift
-gifts_of T g = map (gift_of T g.outcome) (plies g)
+gifts_of T g = map (gift_of T.words g.outcome) (counted T g)
 
 abbrev pub all_gifts : Basis → List Submission → List Gift
 all_gifts T S = flat_map (λ s. gifts_of T s.1) S
@@ -59,15 +63,15 @@ points T g k c = gained (gifts_of T g) k c
 abbrev pub count : Basis → List Submission → ℕ → ℕ → ℕ
 count T S k c = sum_by (λ s. points T s.1 k c) S
 
--- how many plies have this key and code
+-- how many of the plies that count have this key and code
 abbrev pub times : Basis → List Submission → ℕ → ℕ → ℕ
 times T S k c = occurring (all_gifts T S) k c
 
--- some ply has this key and code
+-- so many have that they are in the book
 abbrev pub Occurs : Basis → List Submission → ℕ → ℕ → Type 0
-Occurs T S k c = 1 ≤ times T S k c
+Occurs T S k c = T.rules.least ≤ times T S k c
 
--- M is the greatest count under the key, over the codes that occur under it
+-- M is the greatest count under the key, over the codes that occur often enough under it
 pub record IsGreatest (T : Basis) (S : List Submission) (k M : ℕ) : Type 0 where
   pub above : (c : ℕ) → Occurs T S k c → count T S k c ≤ M
   pub met : (c : ℕ) × Occurs T S k c × (count T S k c ≡ M)
@@ -76,7 +80,7 @@ pub record IsGreatest (T : Basis) (S : List Submission) (k M : ℕ) : Type 0 whe
 abbrev pub IsWeight : Basis → List Submission → ℕ → ℕ → ℕ → Type 0
 IsWeight T S k c w = (M : ℕ) × IsGreatest T S k M × (w ≡ scaled (count T S k c) M)
 
--- the entries are the book of the games: for each key and code that occur, an entry with its weight, unless that is 0
+-- the entries are the book of the games: for each key and code that occur often enough, an entry with its weight, unless that is 0
 pub record IsBook (T : Basis) (S : List Submission) (E : List Entry) : Type 0 where
   pub ordered : AllPairs Before E
   pub members : (e : Entry) → Contains E e ↔ (Occurs T S e.key e.code × IsWeight T S e.key e.code e.weight × (1 ≤ e.weight) × (e.learn ≡ 0))

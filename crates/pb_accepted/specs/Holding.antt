@@ -6,6 +6,7 @@ use Rattle.pb_points.specs.Tally.{Content, held}
 use Rattle.pb_accepted.specs.Basis.{Basis}
 use Rattle.pb_accepted.specs.Counting.{count, times}
 use Rattle.pb_accepted.specs.Ledger.{LedgerState}
+use Rattle.pb_accepted.specs.Rules.{AreRules}
 
 -- no id stands twice
 abbrev pub HaveOwnIds : List Submission → Type 0
@@ -18,6 +19,7 @@ most_games = 1000000
 -- the rules that every ledger meets
 pub record IsLedger (l : LedgerState) : Type 0 where
   pub table : IsTable l.basis.words
+  pub counting : AreRules l.basis.rules
   pub few : l.cap ≤ most_games
   pub room : length l.accepted ≤ l.cap
   pub games : All IsSubmission l.accepted

@@ -7,6 +7,7 @@ pub mod Laws
 pub mod Ledger
 pub mod Noting
 pub mod Replies
+pub mod Rules
 pub use Rattle.pb_games.specs.Ids
 pub use Rattle.pb_games.specs.Laws as LineLaws
 pub use Rattle.pb_games.specs.Refusing

@@ -5,18 +5,18 @@ use Rattle.pb_moves.specs.Played.{Ply}
 use Rattle.pb_poly.specs.Key.{key}
 use Rattle.pb_games.specs.declared.game.Game.{Game}
 use Rattle.pb_games.specs.declared.outcome.Outcome.{Outcome}
+use Rattle.pb_games.specs.Submissions.{plies}
 use Rattle.pb_accepted.specs.declared.notes.Notes.{Notes}
-use Rattle.pb_accepted.specs.Basis.{Basis}
-use Rattle.pb_accepted.specs.Counting.{gift_of, gifts_of}
+use Rattle.pb_accepted.specs.Counting.{gift_of}
 
 -- these plies of a game with this outcome were noted, and the key is that of the setup
-pub record Holds (T : Basis) (o : Outcome) (k : ℕ) (notes : Notes) (outcome : Outcome) (ps : List Ply) (t : Position) : Type 0 where
+pub record Holds (words : List ℕ) (o : Outcome) (k : ℕ) (notes : Notes) (outcome : Outcome) (ps : List Ply) (t : Position) : Type 0 where
   pub outcome_is : o ≡ outcome
-  pub key_is : k ≡ key T.words t
-  pub gifts : notes.gifts.items ≡ map (gift_of T outcome) ps
+  pub key_is : k ≡ key words t
+  pub gifts : notes.gifts.items ≡ map (gift_of words outcome) ps
   pub moves : notes.moves.items ≡ map (λ p. p.1) ps
 
 -- all of the game was noted
-pub record HasNoted (T : Basis) (notes : Notes) (g : Game) : Type 0 where
-  pub gifts : notes.gifts.items ≡ gifts_of T g
+pub record HasNoted (words : List ℕ) (notes : Notes) (g : Game) : Type 0 where
+  pub gifts : notes.gifts.items ≡ map (gift_of words g.outcome) (plies g)
   pub moves : notes.moves.items ≡ g.moves

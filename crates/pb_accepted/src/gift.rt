@@ -1,9 +1,10 @@
 //! What the plies of a game give to the points of moves.
 
-ghost use Rattle.std.specs.Prelude.{◌≡◌, ◌≤◌, ◌+◌, ◌*◌, ◌^◌, ℕ, IsSome, OnOk, All, length};
+ghost use Rattle.std.specs.Prelude.{◌≡◌, ◌≤◌, ◌+◌, ◌*◌, ◌^◌, ℕ, IsSome, OnOk, All, length, take};
 ghost use Rattle.pb_points.specs.Tally.{held};
 ghost use Rattle.pb_accepted.specs.Counting.{credit as credit_by, with_gifts};
 
+use crate::rules::Rules;
 use pb_board::Colour;
 use pb_games::Outcome;
 use pb_points::Tally;
@@ -29,6 +30,13 @@ pub(crate) fn credit(outcome: Outcome, side: Colour) -> u8
         (Outcome::White, Colour::White) | (Outcome::Black, Colour::Black) => 2,
         (Outcome::White, Colour::Black) | (Outcome::Black, Colour::White) => 0,
     }
+}
+
+/// The gifts of the plies that count, of those of all plies of a game.
+pub(crate) fn counted(gifts: &[Gift], rules: Rules) -> &[Gift]
+    ensures { result.now ≡ take rules.plies gifts.now }
+{
+    &gifts[..gifts.len().min(rules.plies() as usize)]
 }
 
 /// Makes a row for each gift. No points change.

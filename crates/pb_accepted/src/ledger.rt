@@ -8,14 +8,16 @@ ghost use Rattle.pb_accepted.specs.Arriving.{IsArrival};
 ghost use Rattle.pb_accepted.specs.Counting.{IsBook, gifts_of, with_gifts};
 ghost use Rattle.pb_accepted.specs.Holding.{IsLedger, Tallies, most_games};
 ghost use Rattle.pb_accepted.specs.Noting.{HasNoted};
+ghost use Rattle.pb_accepted.specs.Rules.{all_plies};
 
 use crate::arrival::Arrival;
-use crate::gift::{add_gifts, ensure_rows};
+use crate::gift::{add_gifts, counted, ensure_rows};
 use crate::recorder::Recorder;
 use crate::reply::first_field;
+use crate::rules::Rules;
 use indexmap::IndexMap;
 use pb_games::{Game, Id, Line, Refusal, check_line, repeats};
-use pb_points::{Tally, book_of};
+use pb_points::{Tally, book_of, keep_frequent};
 use pb_poly::{Book, Table};
 use std::alloc::{AllocError, Global};
 use std::marker::Model;
@@ -32,6 +34,7 @@ pub struct Ledger<T: Tally> {
     tally: T,
     // It has the table.
     recorder: Recorder,
+    rules: Rules,
 }
 
 impl<T: Tally> Model for Ledger<T> {
@@ -40,13 +43,13 @@ impl<T: Tally> Model for Ledger<T> {
 
     ghost Value = { LedgerState };
 
-    ghost view = { λ a. record { basis = record { words = a.recorder.table }; cap = a.cap; accepted = a.games.entries } };
+    ghost view = { λ a. record { basis = record { words = a.recorder.table; rules = a.rules }; cap = a.cap; accepted = a.games.entries } };
 
-    ghost invariant = { λ a. HoldsCounts (T.content a.tally) (record { basis = record { words = a.recorder.table }; cap = a.cap; accepted = a.games.entries }) };
+    ghost invariant = { λ a. HoldsCounts (T.content a.tally) (record { basis = record { words = a.recorder.table; rules = a.rules }; cap = a.cap; accepted = a.games.entries }) };
 }
 
 impl<T: Tally> Ledger<T> {
-    /// A ledger without games, for at most `cap` of them, 1 to 1,000,000. It keeps a copy of the table.
+    /// A ledger without games, for at most `cap` of them, 1 to 1,000,000, of which all plies count. It keeps a copy of the table.
     ///
     /// # Errors
     ///
@@ -54,14 +57,35 @@ impl<T: Tally> Ledger<T> {
     pub fn new(alloc: Global, table: &Table, cap: u32) -> Result<Ledger<T>, AllocError>
         requires some { 1 ≤ cap }
         requires few { cap ≤ most_games }
-        ensures { IfOk result (λ l. l ≡ record { basis = record { words = table.now }; cap = cap; accepted = [] }) }
+        ensures { IfOk result (λ l. l ≡ record { basis = record { words = table.now; rules = all_plies }; cap = cap; accepted = [] }) }
     {
+        Ledger::with_rules(alloc, table, cap, Rules::all_plies())
+    }
+
+    /// The same, of which counts what the rules say.
+    ///
+    /// # Errors
+    ///
+    /// As for `new`.
+    pub fn with_rules(
+        alloc: Global,
+        table: &Table,
+        cap: u32,
+        rules: Rules,
+    ) -> Result<Ledger<T>, AllocError>
+        requires some { 1 ≤ cap }
+        requires few { cap ≤ most_games }
+        ensures { IfOk result (λ l. l ≡ record { basis = record { words = table.now; rules = rules }; cap = cap; accepted = [] }) }
+    {
+        // The reader tells that the numbers lie in their ranges.
+        let _plies = rules.plies();
         Ok(Ledger {
             alloc,
             cap,
             games: IndexMap::new(alloc),
             tally: T::new(alloc),
             recorder: Recorder::new(alloc, table)?,
+            rules,
         })
     }
 
@@ -128,11 +152,13 @@ impl<T: Tally> Ledger<T> {
         if self.games.len() == self.cap as usize {
             return Err(Refusal::Full);
         }
+        let rules = self.rules;
         match accept(
             self.alloc,
             &mut self.games,
             &mut self.tally,
             &self.recorder,
+            rules,
             &read,
         ) {
             Ok(()) => Ok(self.len()),
@@ -164,7 +190,14 @@ impl<T: Tally> Ledger<T> {
         self.recorder.table()
     }
 
-    /// The points of the moves and how often each occurs, of the games that are held.
+    /// What of the games counts.
+    pub fn rules(&self) -> Rules
+        ensures { result ≡ self.now.basis.rules }
+    {
+        self.rules
+    }
+
+    /// The points of the moves and how often each occurs, of the plies that count.
     pub fn tally(&self) -> &T
         ensures { Tallies (T.content result.now) self.now.basis self.now.accepted }
     {
@@ -179,32 +212,35 @@ impl<T: Tally> Ledger<T> {
     pub fn make_book(&self, alloc: Global) -> Result<Book, AllocError>
         ensures { IfOk result (λ book. IsBook self.now.basis self.now.accepted book) }
     {
-        let rows = self.tally.rows(alloc)?;
+        let mut rows = self.tally.rows(alloc)?;
+        keep_frequent(&mut rows, u64::from(self.rules.least()));
         book_of(alloc, &rows)
     }
 }
 
 /// Adds the game of the line that was judged last, under its new id. The insert is the last step that may fail, and only then
-/// plies are added to the tally.
+/// its plies that count are added to the tally.
 fn accept<T: Tally>(
     alloc: Global,
     games: &mut IndexMap<Id, Game>,
     tally: &mut T,
     recorder: &Recorder,
+    rules: Rules,
     read: &Line<'_>,
 ) -> Result<(), AllocError>
-    requires noted { HasNoted (record { words = recorder.now.table }) recorder.now.notes read.now.1 }
+    requires noted { HasNoted recorder.now.table recorder.now.notes read.now.1 }
     requires new { IsNewId read.now.0 games.old.entries }
     requires points_fit { (k c : ℕ) → (held (T.content tally.old) k c).points + 2 * length read.now.1.moves ≤ 2 ^ 63 }
     requires times_fit { (k c : ℕ) → (held (T.content tally.old) k c).times + length read.now.1.moves ≤ 2 ^ 63 }
     ensures game { OnOk result (games.new.entries ≡ games.old.entries ++ read.now ∷ []) }
-    ensures added { OnOk result ((k c : ℕ) → held (T.content tally.new) k c ≡ with_gifts (gifts_of (record { words = recorder.now.table }) read.now.1) k c (held (T.content tally.old) k c)) }
+    ensures added { OnOk result ((k c : ℕ) → held (T.content tally.new) k c ≡ with_gifts (gifts_of (record { words = recorder.now.table; rules = rules }) read.now.1) k c (held (T.content tally.old) k c)) }
     ensures same_games { OnErr result (games.new.entries ≡ games.old.entries) }
     ensures same_points { OnErr result ((k c : ℕ) → held (T.content tally.new) k c ≡ held (T.content tally.old) k c) }
 {
     let game = recorder.game(alloc, read)?;
-    ensure_rows(tally, recorder.gifts())?;
+    let gifts = counted(recorder.gifts(), rules);
+    ensure_rows(tally, gifts)?;
     games.insert(read.id(), game)?;
-    add_gifts(tally, recorder.gifts());
+    add_gifts(tally, gifts);
     Ok(())
 }

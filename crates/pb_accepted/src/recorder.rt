@@ -47,7 +47,7 @@ impl Recorder {
         ensures found { IfOk result (λ s. IsLawful line.now s) }
         ensures only { (s : Submission) → IsLawful line.now s → result ≡ Ok s }
         ensures refused { IfErr result (λ e. Refuses line.now e) }
-        ensures noted { IfOk result (λ s. HasNoted (record { words = self.new.table }) self.new.notes s.1) }
+        ensures noted { IfOk result (λ s. HasNoted self.new.table self.new.notes s.1) }
         ensures table { self.new.table ≡ self.old.table }
     {
         judge_line(line, self)
@@ -55,7 +55,7 @@ impl Recorder {
 
     /// The game of the line that was judged last, for which memory is taken once.
     pub(crate) fn game(&self, alloc: Global, line: &Line<'_>) -> Result<Game, AllocError>
-        requires { HasNoted (record { words = self.now.table }) self.now.notes line.now.1 }
+        requires { HasNoted self.now.table self.now.notes line.now.1 }
         ensures { IfOk result (λ g. g ≡ line.now.1) }
     {
         Ok(Game {
@@ -76,7 +76,7 @@ impl Recorder {
 impl Player for Recorder {
     ghost use Rattle.pb_accepted.specs.Noting.{Holds};
 
-    ghost holds = { λ r outcome ps t. Holds (record { words = r.table }) r.outcome r.key r.notes outcome ps t };
+    ghost holds = { λ r outcome ps t. Holds r.table r.outcome r.key r.notes outcome ps t };
 
     ghost fixed = { λ r. r.table };
 

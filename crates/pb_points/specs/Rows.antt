@@ -1,5 +1,6 @@
 -- Rows of points, at most one for each key and code, and the book that is made of them.
-use Rattle.std.specs.Prelude.{◌≡◌, ℕ, ◌<◌, ◌≤◌, ◌⊎◌, ◌↔◌, Bool, List, AllPairs, Contains, slice_index_or}
+use Rattle.std.specs.Prelude.{◌≡◌, ℕ, ◌<◌, ◌≤◌, ◌⊎◌, ◌↔◌, Bool, List, AllPairs, Contains, nat_le, slice_index_or}
+use Rattle.std.specs.List.{filter}
 use Rattle.pb_poly.specs.declared.entry.Entry.{Entry}
 use Rattle.pb_points.specs.declared.row.Row.{Row}
 use Rattle.pb_points.specs.Tally.{is_pair}
@@ -44,3 +45,7 @@ pub record Gives (rows : List Row) (r : Row) (e : Entry) : Type 0 where
 pub record IsBookOfRows (rows : List Row) (entries : List Entry) : Type 0 where
   pub ordered : AllPairs Before entries
   pub members : (e : Entry) → Contains entries e ↔ ((r : Row) × Contains rows r × Gives rows r e)
+
+-- the rows of what occurs so often
+abbrev pub frequent : ℕ → List Row → List Row
+frequent least rows = filter (λ r. nat_le least r.times) rows

@@ -15,6 +15,6 @@ pub use book::book_of;
 pub use list_tally::ListTally;
 pub use map_tally::MapTally;
 pub use part_tally::PartTally;
-pub use row::Row;
+pub use row::{Row, keep_frequent};
 pub use tally::Tally;
 pub use weight::scale;

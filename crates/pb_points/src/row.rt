@@ -1,7 +1,7 @@
 //! Rows of points, and their order.
 
-ghost use Rattle.std.specs.Prelude.{AllPairs, IsPermutation};
-ghost use Rattle.pb_points.specs.Rows.{IsUpTo};
+ghost use Rattle.std.specs.Prelude.{◌≡◌, AllPairs, IsPermutation};
+ghost use Rattle.pb_points.specs.Rows.{IsUpTo, frequent};
 
 /// The points of one move under one key, and how often it was played.
 #[derive(Clone, Copy, Debug, PartialEq, Eq)]
@@ -22,4 +22,11 @@ pub(crate) fn sort_rows(rows: &mut Vec<Row>)
     ensures permutation { IsPermutation rows.old.items rows.new.items }
 {
     rows.sort_unstable_by_key(|row| (row.key, row.code));
+}
+
+/// Drops the rows of moves that were played fewer times than this.
+pub fn keep_frequent(rows: &mut Vec<Row>, least: u64)
+    ensures { rows.new.items ≡ frequent least rows.old.items }
+{
+    rows.retain(|row| row.times >= least);
 }

@@ -3,29 +3,34 @@ use Rattle.std.specs.Str.{bytes_eq}
 use Rattle.indexmap.proofs.CallerLemmas.{insert_entry-new}
 use Rattle.pb_points.specs.Tally.{Held}
 use Rattle.pb_accepted.specs.Basis.{Basis}
-use Rattle.pb_accepted.proofs.Gifts.{length-gifts_of, small_gifts}
+use Rattle.pb_accepted.specs.Counting.{with_gifts}
+use Rattle.pb_accepted.proofs.Gifts.{counted_gifts, length-gifts_of, small_gifts}
 use Rattle.pb_accepted.proofs.Places.{absent_from_new, inserted}
 use Rattle.pb_accepted.proofs.ledger.accept.Goals as goal
 
 pub add_gifts-requires-clause-small : goal.add_gifts-requires-clause-small
 add_gifts-requires-clause-small g c =
-    let T : Basis = record { words = c.args.recorder.now.table } in
-    let gifts = c.gifts-2.ensures ∙ c.requires.noted.gifts in
+    let T : Basis = record { words = c.args.recorder.now.table; rules = c.args.rules } in
+    let gifts = counted_gifts T c.args.read.now.1 c.gifts.result.now c.counted-gifts.result.now c.counted-gifts.ensures (c.gifts.ensures ∙ c.requires.noted.gifts) in
     subst (All (λ r. r.points ≤ 2)) (sym gifts) (small_gifts T c.args.read.now.1)
 
 pub add_gifts-requires-clause-points_fit : goal.add_gifts-requires-clause-points_fit
 add_gifts-requires-clause-points_fit g c =
-    let T : Basis = record { words = c.args.recorder.now.table } in
-    let gifts = c.gifts-2.ensures ∙ c.requires.noted.gifts in
-    let many : length c.gifts-2.result.now ≡ length c.args.read.now.1.moves = ap length gifts ∙ length-gifts_of T c.args.read.now.1 in
-    λ k d. omega (arith, ap (λ (h : Held). h.points) (c.in_ok-ensure_rows.ensures.same k d), c.requires.points_fit k d, many)
+    let T : Basis = record { words = c.args.recorder.now.table; rules = c.args.rules } in
+    let gifts = counted_gifts T c.args.read.now.1 c.gifts.result.now c.counted-gifts.result.now c.counted-gifts.ensures (c.gifts.ensures ∙ c.requires.noted.gifts) in
+    λ k d. omega (arith, ap (λ (h : Held). h.points) (c.in_ok-ensure_rows.ensures.same k d), c.requires.points_fit k d, ap length gifts, length-gifts_of T c.args.read.now.1)
 
 pub add_gifts-requires-clause-times_fit : goal.add_gifts-requires-clause-times_fit
 add_gifts-requires-clause-times_fit g c =
-    let T : Basis = record { words = c.args.recorder.now.table } in
-    let gifts = c.gifts-2.ensures ∙ c.requires.noted.gifts in
-    let many : length c.gifts-2.result.now ≡ length c.args.read.now.1.moves = ap length gifts ∙ length-gifts_of T c.args.read.now.1 in
-    λ k d. omega (arith, ap (λ (h : Held). h.times) (c.in_ok-ensure_rows.ensures.same k d), c.requires.times_fit k d, many)
+    let T : Basis = record { words = c.args.recorder.now.table; rules = c.args.rules } in
+    let gifts = counted_gifts T c.args.read.now.1 c.gifts.result.now c.counted-gifts.result.now c.counted-gifts.ensures (c.gifts.ensures ∙ c.requires.noted.gifts) in
+    λ k d. omega (arith, ap (λ (h : Held). h.times) (c.in_ok-ensure_rows.ensures.same k d), c.requires.times_fit k d, ap length gifts, length-gifts_of T c.args.read.now.1)
+
+pub returns-clause-added : goal.returns-clause-added
+returns-clause-added g c =
+    let T : Basis = record { words = c.args.recorder.now.table; rules = c.args.rules } in
+    let gifts = counted_gifts T c.args.read.now.1 c.gifts.result.now c.counted-gifts.result.now c.counted-gifts.ensures (c.gifts.ensures ∙ c.requires.noted.gifts) in
+    λ k d. c.add_gifts.ensures k d ∙ (λ i. with_gifts (gifts i) k d (c.in_ok-ensure_rows.ensures.same k d i))
 
 pub returns-clause-game : goal.returns-clause-game
 returns-clause-game g c =

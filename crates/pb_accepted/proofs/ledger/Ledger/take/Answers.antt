@@ -29,14 +29,14 @@ accept-requires-clause-new g c =
 pub accept-requires-clause-points_fit : goal.accept-requires-clause-points_fit
 accept-requires-clause-points_fit g c =
     let inside = c.self.inside in
-    let l : LedgerState = record { basis = record { words = inside.recorder.table }; cap = inside.cap; accepted = inside.games.entries } in
+    let l : LedgerState = record { basis = record { words = inside.recorder.table; rules = inside.rules }; cap = inside.cap; accepted = inside.games.entries } in
     let read = c.in_ok-read.read in
     points_fit (g.T.Tally.content inside.tally) l read c.self.invariant (submitted c.args.line.now read c.in_ok-read.ensures.found)
 
 pub accept-requires-clause-times_fit : goal.accept-requires-clause-times_fit
 accept-requires-clause-times_fit g c =
     let inside = c.self.inside in
-    let l : LedgerState = record { basis = record { words = inside.recorder.table }; cap = inside.cap; accepted = inside.games.entries } in
+    let l : LedgerState = record { basis = record { words = inside.recorder.table; rules = inside.rules }; cap = inside.cap; accepted = inside.games.entries } in
     let read = c.in_ok-read.read in
     times_fit (g.T.Tally.content inside.tally) l read c.self.invariant (submitted c.args.line.now read c.in_ok-read.ensures.found)
 
@@ -44,7 +44,7 @@ pub invariant_of-self-in-Ok : goal.invariant_of-self-in-Ok
 invariant_of-self-in-Ok g c =
     let inside = c.self.inside in
     let A = inside.games.entries in
-    let l : LedgerState = record { basis = record { words = inside.recorder.table }; cap = inside.cap; accepted = A } in
+    let l : LedgerState = record { basis = record { words = inside.recorder.table; rules = inside.rules }; cap = inside.cap; accepted = A } in
     let f = g.T.Tally.content inside.tally in
     let h = g.T.Tally.content c.accept.new.tally in
     let read = c.in_ok-read.read in
@@ -53,9 +53,9 @@ invariant_of-self-in-Ok g c =
     let fresh = subst (IsNewId read.0) (sym holds) (c.requires read lawful) in
     let room : length A < inside.cap = omega (arith, c.if-len-self.false, c.len.ensures.len, c.self.invariant.rules.room) in
     let table = c.in_ok-read.ensures.table in
-    let added = subst (λ w. (k d : ℕ) → held h k d ≡ with_gifts (gifts_of (record { words = w }) read.1) k d (held f k d)) table c.in-Ok.ensures.added in
+    let added = subst (λ w. (k d : ℕ) → held h k d ≡ with_gifts (gifts_of (record { words = w; rules = inside.rules }) read.1) k d (held f k d)) table c.in-Ok.ensures.added in
     let pushed = Holds-push f h l read c.self.invariant (submitted c.args.line.now read lawful) fresh room added in
-    subst (λ w. HoldsCounts h (record { basis = record { words = w }; cap = inside.cap; accepted = c.accept.new.games.entries })) (sym table)
+    subst (λ w. HoldsCounts h (record { basis = record { words = w; rules = inside.rules }; cap = inside.cap; accepted = c.accept.new.games.entries })) (sym table)
     (subst (λ X. HoldsCounts h (record { basis = l.basis; cap = inside.cap; accepted = X })) (sym c.in-Ok.ensures.game) pushed)
 
 pub returns-in-Ok-clause-reply : goal.returns-in-Ok-clause-reply

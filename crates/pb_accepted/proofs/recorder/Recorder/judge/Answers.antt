@@ -1,20 +1,19 @@
-use Rattle.std.proofs.Common.{ℕ, Result, Ok, Err, ◌∙◌}
+use Rattle.std.proofs.Common.{ℕ, List, Result, Ok, Err, ◌∙◌}
 use Rattle.std.specs.Prelude.{IfOk}
 use Rattle.pb_games.specs.declared.outcome.Outcome.{Outcome}
 use Rattle.pb_games.specs.declared.refusal.Refusal.{Refusal}
 use Rattle.pb_games.specs.Reading.{IsToldAll}
 use Rattle.pb_games.specs.Submissions.{Submission, plies}
 use Rattle.pb_accepted.specs.declared.notes.Notes.{Notes}
-use Rattle.pb_accepted.specs.Basis.{Basis}
 use Rattle.pb_accepted.specs.Noting.{HasNoted, Holds}
 use Rattle.pb_accepted.proofs.Gifts.{moves_back}
 use Rattle.pb_accepted.proofs.recorder.Recorder.judge.Goals as goal
 
-noted : (T : Basis) (o : Outcome) (k : ℕ) (notes : Notes) (r : Result Submission Refusal) → IfOk r (λ s. IsToldAll (Holds T o k notes) s.1.outcome (plies s.1)) → IfOk r (λ s. HasNoted T notes s.1)
-noted T o k notes (Ok s) told = record { gifts = told.1.gifts; moves = told.1.moves ∙ moves_back s.1.start.setup s.1.moves }
-noted T o k notes (Err e) told = _
+noted : (words : List ℕ) (o : Outcome) (k : ℕ) (notes : Notes) (r : Result Submission Refusal) → IfOk r (λ s. IsToldAll (Holds words o k notes) s.1.outcome (plies s.1)) → IfOk r (λ s. HasNoted words notes s.1)
+noted words o k notes (Ok s) told = record { gifts = told.1.gifts; moves = told.1.moves ∙ moves_back s.1.start.setup s.1.moves }
+noted words o k notes (Err e) told = _
 
 pub returns-clause-noted : goal.returns-clause-noted
 returns-clause-noted c =
     let player = c.judge_line.new.player in
-    noted (record { words = player.table }) player.outcome player.key player.notes c.judge_line.result c.judge_line.ensures.told
+    noted player.table player.outcome player.key player.notes c.judge_line.result c.judge_line.ensures.told

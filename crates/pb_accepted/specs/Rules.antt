@@ -1,0 +1,20 @@
+-- What of the games counts.
+use Rattle.std.specs.Prelude.{ℕ, ◌≤◌}
+use Rattle.pb_games.specs.declared.check.TheConstants.{MAX_PLIES}
+use Rattle.pb_accepted.specs.declared.rules.TheConstants.{MAX_LEAST}
+
+-- so many first plies of each game count, and a move is in the book where it occurs so often in them
+pub record CountingRules : Type 0 where
+  pub plies : ℕ
+  pub least : ℕ
+
+-- the numbers lie in their ranges
+pub record AreRules (rules : CountingRules) : Type 0 where
+  pub some : 1 ≤ rules.plies
+  pub within_a_game : rules.plies ≤ MAX_PLIES
+  pub once : 1 ≤ rules.least
+  pub not_above : rules.least ≤ MAX_LEAST
+
+-- all plies of each game count, and a move that occurs is in the book
+abbrev pub all_plies : CountingRules
+all_plies = record { plies = MAX_PLIES; least = 1 }
