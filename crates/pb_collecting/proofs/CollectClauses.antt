@@ -9,13 +9,14 @@ use Rattle.pb_commands.specs.declared.fault.Fault.{Fault}
 use Rattle.pb_collecting.specs.CollectRun.{CollectsBook, CollectsOrEnds, EndsCollect, JudgesTable, TellsCollect}
 use Rattle.pb_collecting.specs.Headline.{HasHeadline}
 use Rattle.pb_collecting.proofs.CollectRuns.{tells_book, tells_refused}
+use Rattle.pb_accepted.specs.Rules.{CountingRules}
 use Rattle.pb_collecting.proofs.Headlines.{has_headline}
 
-module _ (fills : ℕ) (t t' s s' : SourceState) (sink sink' : SinkState) where
+module _ (rules : CountingRules) (fills : ℕ) (t t' s s' : SourceState) (sink sink' : SinkState) where
   abbrev Ends : Result (Option (List Entry)) Fault → Type 0
-  Ends = CollectsOrEnds fills t t' s s' sink sink'
+  Ends = CollectsOrEnds rules fills t t' s s' sink sink'
 
-  pub book : (result : Result (Option (List Entry)) Fault) → Ends result → IfOk result (λ answer. IfSome answer (CollectsBook fills t t' s s' sink sink'))
+  pub book : (result : Result (Option (List Entry)) Fault) → Ends result → IfOk result (λ answer. IfSome answer (CollectsBook rules fills t t' s s' sink sink'))
   book (Ok (Some entries)) h = h.0
   book (Ok None) h = tt
   book (Err fault) h = tt
@@ -25,13 +26,13 @@ module _ (fills : ℕ) (t t' s s' : SourceState) (sink sink' : SinkState) where
   refused (Ok None) h = h.0
   refused (Err fault) h = tt
 
-  pub told : (result : Result (Option (List Entry)) Fault) → Ends result → IfOk result (TellsCollect t.to_come s.to_come sink sink')
-  told (Ok (Some entries)) h = tells_book fills t t' s s' sink sink' entries h.0
-  told (Ok None) h = tells_refused fills t t' s s' sink sink' h.0
+  pub told : (result : Result (Option (List Entry)) Fault) → Ends result → IfOk result (TellsCollect rules t.to_come s.to_come sink sink')
+  told (Ok (Some entries)) h = tells_book rules fills t t' s s' sink sink' entries h.0
+  told (Ok None) h = tells_refused rules fills t t' s s' sink sink' h.0
   told (Err fault) h = tt
 
-  pub headline : (result : Result (Option (List Entry)) Fault) → Ends result → IfOk result (λ answer. IfSome answer (HasHeadline t.to_come s.to_come sink sink'))
-  headline (Ok (Some entries)) h = has_headline fills t t' s s' sink sink' entries h.1 h.2 h.0
+  pub headline : (result : Result (Option (List Entry)) Fault) → Ends result → IfOk result (λ answer. IfSome answer (HasHeadline rules t.to_come s.to_come sink sink'))
+  headline (Ok (Some entries)) h = has_headline rules fills t t' s s' sink sink' entries h.1 h.2 h.0
   headline (Ok None) h = tt
   headline (Err fault) h = tt
 
@@ -40,6 +41,6 @@ module _ (fills : ℕ) (t t' s s' : SourceState) (sink sink' : SinkState) where
   handed_on (Ok None) h = (h.1, h.2)
   handed_on (Err fault) h = tt
 
-  pub ends : (result : Result (Option (List Entry)) Fault) → Ends result → IfErr result (EndsCollect fills t t' s s' sink sink')
+  pub ends : (result : Result (Option (List Entry)) Fault) → Ends result → IfErr result (EndsCollect rules fills t t' s s' sink sink')
   ends (Ok answer) h = tt
   ends (Err fault) h = h

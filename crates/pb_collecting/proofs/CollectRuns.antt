@@ -5,6 +5,7 @@ use Rattle.pb_io.specs.Sink.{SinkState}
 use Rattle.pb_poly.specs.declared.entry.Entry.{Entry}
 use Rattle.pb_accepted.specs.Counting.{IsBook}
 use Rattle.pb_accepted.specs.Ledger.{LedgerState}
+use Rattle.pb_accepted.specs.Rules.{CountingRules}
 use Rattle.pb_commands.specs.Judged.{PutsOrEnds, PutsText, Verdict}
 use Rattle.pb_commands.specs.TableJudged.{table_verdict}
 use Rattle.pb_poly.specs.TableReading.{FindsNoTable}
@@ -34,7 +35,7 @@ refused_no table.Read answer out is = absurd (cc is)
 refused_no table.Endless answer out is = absurd (cc is)
 refused_no table.Memory answer out is = absurd (cc is)
 
-module _ (fills : ℕ) (t t' s s' : SourceState) (sink sink' : SinkState) where
+module _ (rules : CountingRules) (fills : ℕ) (t t' s s' : SourceState) (sink sink' : SinkState) where
   -- ---- no table
 
   abbrev judges : Verdict → Type 0
@@ -48,7 +49,7 @@ module _ (fills : ℕ) (t t' s s' : SourceState) (sink sink' : SinkState) where
   put_refused : (answer : Bool) → PutsText judges sink sink' answer → PutsText judges sink sink' false
   put_refused answer h = let j = h.judged in subst (λ a. PutsText judges sink sink' a) (refused_no j.cause answer h.out j.is) h
 
-  refused_told : (file bytes : Option (List ℕ)) → t.to_come ≡ file → PutsText judges sink sink' false → TellsCollect file bytes sink sink' None
+  refused_told : (file bytes : Option (List ℕ)) → t.to_come ≡ file → PutsText judges sink sink' false → TellsCollect rules file bytes sink sink' None
   refused_told None bytes is h = tt
   refused_told (Some file) bytes is h =
       let j = h.judged in record {
@@ -57,7 +58,7 @@ module _ (fills : ℕ) (t t' s s' : SourceState) (sink sink' : SinkState) where
         put = h.put;
       }
 
-  pub tells_refused : PutsText judges sink sink' false → TellsCollect t.to_come s.to_come sink sink' None
+  pub tells_refused : PutsText judges sink sink' false → TellsCollect rules t.to_come s.to_come sink sink' None
   tells_refused h = refused_told t.to_come s.to_come refl h
 
   -- the line that refuses the table was put and handed on
@@ -67,22 +68,22 @@ module _ (fills : ℕ) (t t' s s' : SourceState) (sink sink' : SinkState) where
 
   -- no games were taken: `mid` is the state of the sink before that is told
   module _ (mid : SinkState) where
-    pub no_games_put : (why : NoGames) (answer : Bool) → TakesOrStops fills t t' s s' sink mid (Err why) → RefusesGames mid sink' (Ok answer) why
+    pub no_games_put : (why : NoGames) (answer : Bool) → TakesOrStops rules fills t t' s s' sink mid (Err why) → RefusesGames mid sink' (Ok answer) why
         → PutsText judges sink sink' false × (sink'.failed ≡ false) × (sink'.flushed ≡ true)
     no_games_put (Table e) answer h r = refused h.1 answer e h.0 (subst (λ (m : SinkState). PutsOrEnds (λ verdict. verdict ≡ table_verdict e) m sink' (Ok answer)) h.2 r)
     no_games_put (Submissions e) answer h r = absurd (cc r.0)
 
-    pub no_games_fails : (why : NoGames) (fault : Fault) → TakesOrStops fills t t' s s' sink mid (Err why) → RefusesGames mid sink' (Err fault) why
-        → EndsCollect fills t t' s s' sink sink' fault
+    pub no_games_fails : (why : NoGames) (fault : Fault) → TakesOrStops rules fills t t' s s' sink mid (Err why) → RefusesGames mid sink' (Err fault) why
+        → EndsCollect rules fills t t' s s' sink sink' fault
     no_games_fails (Table e) fault h r =
         at_table (table_ends h.1 (Err fault) e h.0 (subst (λ (m : SinkState). PutsOrEnds (λ verdict. verdict ≡ table_verdict e) m sink' (Err fault)) h.2 r))
     no_games_fails (Submissions e) fault h r =
-        at_submissions e (subst (λ (m : SinkState). StopsTaking fills t t' s s' sink m e) (sym r.1) h) (cc r.0)
+        at_submissions e (subst (λ (m : SinkState). StopsTaking rules fills t t' s s' sink m e) (sym r.1) h) (cc r.0)
 
   -- ---- books
 
-  pub made_book : (ledger : LedgerState) (entries : List Entry) → FillsLedger fills t t' s s' sink sink' ledger → IsBook ledger.basis ledger.accepted entries
-      → CollectsBook fills t t' s s' sink sink' entries
+  pub made_book : (ledger : LedgerState) (entries : List Entry) → FillsLedger rules fills t t' s s' sink sink' ledger → IsBook ledger.basis ledger.accepted entries
+      → CollectsBook rules fills t t' s s' sink sink' entries
   made_book ledger entries h book = record {
     words = h.words;
     held = h.held;
@@ -90,11 +91,11 @@ module _ (fills : ℕ) (t t' s s' : SourceState) (sink sink' : SinkState) where
     book = subst (λ (m : LedgerState). IsBook m.basis m.accepted entries) h.is book;
   }
 
-  book_told : (entries : List Entry) (file bytes : Option (List ℕ)) → t.to_come ≡ file → s.to_come ≡ bytes → CollectsBook fills t t' s s' sink sink' entries
-      → TellsCollect file bytes sink sink' (Some entries)
+  book_told : (entries : List Entry) (file bytes : Option (List ℕ)) → t.to_come ≡ file → s.to_come ≡ bytes → CollectsBook rules fills t t' s s' sink sink' entries
+      → TellsCollect rules file bytes sink sink' (Some entries)
   book_told entries None bytes is_t is_s h = tt
   book_told entries (Some file) None is_t is_s h = tt
-  book_told entries (Some file) (Some bytes) is_t is_s h = told_book fills t t' s s' file bytes is_t is_s sink sink' entries h
+  book_told entries (Some file) (Some bytes) is_t is_s h = told_book rules fills t t' s s' file bytes is_t is_s sink sink' entries h
 
-  pub tells_book : (entries : List Entry) → CollectsBook fills t t' s s' sink sink' entries → TellsCollect t.to_come s.to_come sink sink' (Some entries)
+  pub tells_book : (entries : List Entry) → CollectsBook rules fills t t' s s' sink sink' entries → TellsCollect rules t.to_come s.to_come sink sink' (Some entries)
   tells_book entries h = book_told entries t.to_come s.to_come refl refl h

@@ -8,6 +8,7 @@ use Rattle.pb_games.specs.declared.refusal.Refusal.{Refusal}
 use Rattle.pb_accepted.specs.Accepting.{Accepted, Allowed, Answer, OneGame, Run, Takes}
 use Rattle.pb_accepted.specs.Holding.{most_games}
 use Rattle.pb_accepted.specs.Laws.{RepeatsAreAnsweredAlike, SameMembers}
+use Rattle.pb_accepted.specs.Rules.{CountingRules}
 use Rattle.pb_accepted.proofs.BookLaws.{same_book}
 use Rattle.pb_accepted.proofs.Distinct.{accepts_the_taken, lawful_arrives, no_conflict, no_repeats}
 use Rattle.pb_accepted.proofs.Numbers.{repeats_keep}
@@ -42,7 +43,7 @@ refusals_leave cap L R run i e A B told h k =
 
 -- ---- what is so of every run, and where no id names two games
 
-module _ (file bytes : List ℕ) (sink sink' : SinkState) (entries : List Entry) (h : Headline file bytes sink sink' entries) (run : Run most_games [] (lines bytes) h.answers) where
+module _ (rules : CountingRules) (file bytes : List ℕ) (sink sink' : SinkState) (entries : List Entry) (h : Headline rules file bytes sink sink' entries) (run : Run most_games [] (lines bytes) h.answers) where
   pub repeats_alike : RepeatsAreAnsweredAlike (lines bytes) h.answers
   repeats_alike = repeats_keep most_games (lines bytes) h.answers run
 
@@ -56,21 +57,21 @@ module _ (file bytes : List ℕ) (sink sink' : SinkState) (entries : List Entry)
     (λ here. let m = numbered held s here in contained h.games m.0 s ((h.are m.0 s).1 (number_to (lines bytes) h.answers held run accepted m.0 s m.1))),
   )
 
-  effect : OneGame (lines bytes) → (held : List Submission) → Accepted [] (lines bytes) h.answers held → OneEffect bytes h.words h.answers h.games entries
+  effect : OneGame (lines bytes) → (held : List Submission) → Accepted [] (lines bytes) h.answers held → OneEffect rules bytes h.words h.answers h.games entries
   effect one held accepted =
       let taken = accepts_the_taken (lines bytes) h.answers held one accepted in
       let once = no_repeats (lines bytes) h.answers held taken in
       let same = same_games held accepted in
-      let book = same_book (record { words = h.words }) h.games held h.once once same entries h.book in record {
+      let book = same_book (record { words = h.words; rules = rules }) h.games held h.once once same entries h.book in record {
         taken = held;
         are_taken = taken;
         once = once;
         same = same;
         book = book;
-        text = has_one_text (record { words = h.words }) held entries h.text.is_file.ordered h.text.is_file.are.bounds book;
+        text = has_one_text (record { words = h.words; rules = rules }) held entries h.text.is_file.ordered h.text.is_file.are.bounds book;
         arrivals = lawful_arrives most_games (lines bytes) h.answers one run;
         no_conflict = no_conflict most_games (lines bytes) h.answers one run;
       }
 
-  pub one_effect : OneGame (lines bytes) → OneEffect bytes h.words h.answers h.games entries
+  pub one_effect : OneGame (lines bytes) → OneEffect rules bytes h.words h.answers h.games entries
   one_effect one = let held = accepted_of most_games [] (lines bytes) h.answers run in effect one held.0 held.1

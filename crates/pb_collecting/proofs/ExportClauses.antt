@@ -4,6 +4,7 @@ use Rattle.std.specs.Prelude.{IfErr, IfOk, OnOk}
 use Rattle.pb_io.specs.Source.{SourceState}
 use Rattle.pb_io.specs.Sink.{SinkState}
 use Rattle.pb_accepted.specs.Ledger.{LedgerState}
+use Rattle.pb_accepted.specs.Rules.{CountingRules}
 use Rattle.pb_ledger.specs.Collecting.{CollectsUntil}
 use Rattle.pb_export.specs.Exporting.{ExportsUntil}
 use Rattle.pb_ledger.specs.declared.collecting.CollectFault.{CollectFault}
@@ -50,11 +51,11 @@ blame_export l sink sink' fault export.Memory h is = record {
   always = λ works fails. absurd (cc (sym fails ∙ h.cause works));
 }
 
-module _ (fills : ℕ) (t t' s s' : SourceState) (d d' sink sink' : SinkState) where
+module _ (rules : CountingRules) (fills : ℕ) (t t' s s' : SourceState) (d d' sink sink' : SinkState) where
   abbrev Ends : Result Bool Fault → Type 0
-  Ends = ExportsOrStops fills t t' s s' d d' sink sink'
+  Ends = ExportsOrStops rules fills t t' s s' d d' sink sink'
 
-  pub lines : (result : Result Bool Fault) → Ends result → IfOk result (λ done. done ≡ true → ExportsGames fills t t' s s' sink sink')
+  pub lines : (result : Result Bool Fault) → Ends result → IfOk result (λ done. done ≡ true → ExportsGames rules fills t t' s s' sink sink')
   lines (Ok true) h = λ is. record { words = h.words; held = h.held; takes = h.games.takes; puts = h.puts }
   lines (Ok false) h = λ is. absurd (cc is)
   lines (Err fault) h = tt
@@ -64,19 +65,19 @@ module _ (fills : ℕ) (t t' s s' : SourceState) (d d' sink sink' : SinkState) w
   refused (Ok false) h = λ is. h.refused
   refused (Err fault) h = tt
 
-  games_told : (file bytes : Option (List ℕ)) → t.to_come ≡ file → s.to_come ≡ bytes → ExportsGames fills t t' s s' sink sink' → TellsExport file bytes sink sink' true
+  games_told : (file bytes : Option (List ℕ)) → t.to_come ≡ file → s.to_come ≡ bytes → ExportsGames rules fills t t' s s' sink sink' → TellsExport rules file bytes sink sink' true
   games_told None bytes is_t is_s h = tt
   games_told (Some file) None is_t is_s h = tt
   games_told (Some file) (Some bytes) is_t is_s h = record {
     words = h.words;
     held = h.held;
-    takes = told_games fills t t' s s' file bytes is_t is_s h.words h.held h.takes;
+    takes = told_games rules fills t t' s s' file bytes is_t is_s h.words h.held h.takes;
     puts = h.puts;
   }
 
-  pub told : (result : Result Bool Fault) → Ends result → IfOk result (TellsExport t.to_come s.to_come sink sink')
+  pub told : (result : Result Bool Fault) → Ends result → IfOk result (TellsExport rules t.to_come s.to_come sink sink')
   told (Ok true) h = games_told t.to_come s.to_come refl refl (record { words = h.words; held = h.held; takes = h.games.takes; puts = h.puts })
-  told (Ok false) h = tells_refused fills t t' s s' sink sink' h.refused
+  told (Ok false) h = tells_refused rules fills t t' s s' sink sink' h.refused
   told (Err fault) h = tt
 
   pub handed_on : (result : Result Bool Fault) → Ends result → OnOk result ((sink'.failed ≡ false) × (sink'.flushed ≡ true))
@@ -86,14 +87,14 @@ module _ (fills : ℕ) (t t' s s' : SourceState) (d d' sink sink' : SinkState) w
 
   -- the sink for the replies hasn't failed
   module _ (works : d'.failed ≡ false) where
-    pub ends : (result : Result Bool Fault) → Ends result → IfErr result (EndsExport fills t t' s s' sink sink')
+    pub ends : (result : Result Bool Fault) → Ends result → IfErr result (EndsExport rules fills t t' s s' sink sink')
     ends (Ok done) h = tt
     ends (Err fault) h = record { dropped = d; dropped' = d'; stops = h; works = works }
 
-    blame_stop : (fault : Fault) → StopsExport fills t t' s s' d d' sink sink' fault → BlamesSink sink sink' fault
+    blame_stop : (fault : Fault) → StopsExport rules fills t t' s s' d d' sink sink' fault → BlamesSink sink sink' fault
     blame_stop fault (at_table h no_reply) = blame_until (JudgesTable fills t t' s s') sink sink' fault h
     blame_stop fault (at_submissions e h is same) =
-        no_blame sink sink' fault (λ write. not_written fills s s' d d' (new_ledger h.words) h.ledger e works h.until (sym is ∙ write)) same
+        no_blame sink sink' fault (λ write. not_written fills s s' d d' (new_ledger rules h.words) h.ledger e works h.until (sym is ∙ write)) same
     blame_stop fault (at_export words held e games h is) = blame_export _ sink sink' fault e h is
 
     pub blame : (result : Result Bool Fault) → Ends result → IfErr result (BlamesSink sink sink')

@@ -13,6 +13,7 @@ use Rattle.pb_games.proofs.Refused as refused
 use Rattle.pb_accepted.specs.Accepting.{Accepted, Allowed, Answer, Answers, IsNewId, IsNumber, Run}
 use Rattle.pb_accepted.specs.Holding.{most_games}
 use Rattle.pb_accepted.specs.Laws.{NoRepeats}
+use Rattle.pb_accepted.specs.Rules.{CountingRules}
 use Rattle.pb_accepted.proofs.Numbers.{numbers_given, repeats_keep}
 use Rattle.pb_accepted.proofs.Replies.{Answered, answered, held, new, other, full as no_room, game_of, id_of, one_submission}
 use Rattle.pb_accepted.proofs.Runs.{own_ids}
@@ -187,9 +188,9 @@ module _ (L : List (List ℕ)) (R : List Answer) (A : List Submission) (run : Ru
 
 -- ---- sources that tell their bytes
 
-headline : (file bytes : List ℕ) (sink sink' : SinkState) (entries : List Entry) → NeverFall entries → All IsEntry entries
-    → CollectsBytes file bytes sink sink' entries → (h : Headline file bytes sink sink' entries) × Run most_games [] (lines bytes) h.answers
-headline file bytes sink sink' entries ordered bounds h =
+headline : (rules : CountingRules) (file bytes : List ℕ) (sink sink' : SinkState) (entries : List Entry) → NeverFall entries → All IsEntry entries
+    → CollectsBytes rules file bytes sink sink' entries → (h : Headline rules file bytes sink sink' entries) × Run most_games [] (lines bytes) h.answers
+headline rules file bytes sink sink' entries ordered bounds h =
     let g = h.takes in
     let L = lines bytes in (
       record {
@@ -206,17 +207,17 @@ headline file bytes sink sink' entries ordered bounds h =
         once = once L g.answers h.held g.run g.accepted;
         are = λ n s. (number_to L g.answers h.held g.run g.accepted n s, number_from L g.answers h.held g.run g.accepted n s);
         book = h.book;
-        text = has_one_text (record { words = h.words }) h.held entries ordered bounds h.book;
+        text = has_one_text (record { words = h.words; rules = rules }) h.held entries ordered bounds h.book;
       },
       g.run,
     )
 
-module _ (fills : ℕ) (t t' s s' : SourceState) (sink sink' : SinkState) (entries : List Entry) (ordered : NeverFall entries) (bounds : All IsEntry entries) where
-  both : (file bytes : Option (List ℕ)) → t.to_come ≡ file → s.to_come ≡ bytes → CollectsBook fills t t' s s' sink sink' entries → HasHeadline file bytes sink sink' entries
+module _ (rules : CountingRules) (fills : ℕ) (t t' s s' : SourceState) (sink sink' : SinkState) (entries : List Entry) (ordered : NeverFall entries) (bounds : All IsEntry entries) where
+  both : (file bytes : Option (List ℕ)) → t.to_come ≡ file → s.to_come ≡ bytes → CollectsBook rules fills t t' s s' sink sink' entries → HasHeadline rules file bytes sink sink' entries
   both None bytes is_t is_s h = tt
   both (Some file) None is_t is_s h = tt
   both (Some file) (Some bytes) is_t is_s h =
-      headline file bytes sink sink' entries ordered bounds (told_book fills t t' s s' file bytes is_t is_s sink sink' entries h)
+      headline rules file bytes sink sink' entries ordered bounds (told_book rules fills t t' s s' file bytes is_t is_s sink sink' entries h)
 
-  pub has_headline : CollectsBook fills t t' s s' sink sink' entries → HasHeadline t.to_come s.to_come sink sink' entries
+  pub has_headline : CollectsBook rules fills t t' s s' sink sink' entries → HasHeadline rules t.to_come s.to_come sink sink' entries
   has_headline h = both t.to_come s.to_come refl refl h

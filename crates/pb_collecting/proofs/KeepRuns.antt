@@ -8,25 +8,25 @@ use Rattle.pb_collecting.specs.CollectRun.{CollectsOrEnds}
 use Rattle.pb_collecting.specs.Keeping.{KeepsBook, RefusesBook}
 use Rattle.pb_collecting.specs.Place.{Keeps, PlaceState}
 use Rattle.pb_collecting.specs.declared.place.NotKept.{NotKept}
+use Rattle.pb_accepted.specs.Rules.{CountingRules}
 use Rattle.pb_collecting.proofs.CollectClauses.{handed_on, headline, told}
 
-module _ (fills : ℕ) (t t' s s' : SourceState) (sink sink' : SinkState) where
-  pub no_book : (place : PlaceState) (made : Option (List Entry)) → made ≡ None → CollectsOrEnds fills t t' s s' sink sink' (Ok made)
-      → RefusesBook fills t t' s s' sink sink' place place × (sink'.failed ≡ false) × (sink'.flushed ≡ true)
-  no_book place None is h = (record { refused = h.0; told = told fills t t' s s' sink sink' (Ok None) h; same = refl }, h.1, h.2)
+module _ (rules : CountingRules) (fills : ℕ) (t t' s s' : SourceState) (sink sink' : SinkState) where
+  pub no_book : (place : PlaceState) (made : Option (List Entry)) → made ≡ None → CollectsOrEnds rules fills t t' s s' sink sink' (Ok made)
+      → RefusesBook rules fills t t' s s' sink sink' place place × (sink'.failed ≡ false) × (sink'.flushed ≡ true)
+  no_book place None is h = (record { refused = h.0; told = told rules fills t t' s s' sink sink' (Ok None) h; same = refl }, h.1, h.2)
   no_book place (Some entries) is h = absurd (cc is)
 
-  pub made_book : (place place' : PlaceState) (entries : List Entry) (made : Option (List Entry)) → made ≡ Some entries → CollectsOrEnds fills t t' s s' sink sink' (Ok made)
+  pub made_book : (place place' : PlaceState) (entries : List Entry) (made : Option (List Entry)) → made ≡ Some entries → CollectsOrEnds rules fills t t' s s' sink sink' (Ok made)
       → (answer : Result (Unit {0}) NotKept) → Keeps place place' answer (book_bytes entries)
-      → KeepsBook fills t t' s s' sink sink' place place' answer × (sink'.failed ≡ false) × (sink'.flushed ≡ true)
+      → KeepsBook rules fills t t' s s' sink sink' place place' answer × (sink'.failed ≡ false) × (sink'.flushed ≡ true)
   made_book place place' entries made is h answer keeps =
-      let run : CollectsOrEnds fills t t' s s' sink sink' (Ok (Some entries)) = subst (λ (m : Option (List Entry)). CollectsOrEnds fills t t' s s' sink sink' (Ok m)) is h in
-      let ends = handed_on fills t t' s s' sink sink' (Ok (Some entries)) run in (
+      let run : CollectsOrEnds rules fills t t' s s' sink sink' (Ok (Some entries)) = subst (λ (m : Option (List Entry)). CollectsOrEnds rules fills t t' s s' sink sink' (Ok m)) is h in
+      let ends = handed_on rules fills t t' s s' sink sink' (Ok (Some entries)) run in (
         record {
           entries = entries;
           book = run.0;
-          told = told fills t t' s s' sink sink' (Ok (Some entries)) run;
-          headline = headline fills t t' s s' sink sink' (Ok (Some entries)) run;
+          headline = headline rules fills t t' s s' sink sink' (Ok (Some entries)) run;
           keeps = keeps;
         },
         ends.0,

@@ -14,6 +14,7 @@ use Rattle.pb_accepted.specs.Counting.{IsBook}
 use Rattle.pb_accepted.specs.Replies.{replies}
 use Rattle.pb_ledger.specs.declared.collecting.CollectFault.{CollectFault}
 use Rattle.pb_accepted.specs.Holding.{most_games}
+use Rattle.pb_accepted.specs.Rules.{CountingRules}
 use Rattle.pb_commands.specs.declared.fault.Fault.{Fault}
 use Rattle.pb_commands.specs.declared.fault.Fault.TheVariants.{Memory}
 use Rattle.pb_poly.specs.declared.table_file.TableFault.{TableFault}
@@ -24,11 +25,11 @@ use Rattle.pb_commands.specs.TableJudged.{TableRefused, table_verdict}
 use Rattle.pb_collecting.specs.Taking.{CollectsGames, StopsTaking, fault_of}
 
 -- all submissions were taken and answered, and the entries are the book of the games that are held
-pub record CollectsBook (fills : ℕ) (t t' s s' : SourceState) (sink sink' : SinkState) (entries : List Entry) : Type 0 where
+pub record CollectsBook (rules : CountingRules) (fills : ℕ) (t t' s s' : SourceState) (sink sink' : SinkState) (entries : List Entry) : Type 0 where
   pub words : List ℕ
   pub held : List Submission
   pub games : CollectsGames fills t t' s s' sink sink' words held
-  pub book : IsBook (record { words = words }) held entries
+  pub book : IsBook (record { words = words; rules = rules }) held entries
 
 -- the games that are held of a table file and of submissions that are told
 pub record TakesTold (file bytes words : List ℕ) (held : List Submission) : Type 0 where
@@ -38,12 +39,12 @@ pub record TakesTold (file bytes words : List ℕ) (held : List Submission) : Ty
   pub accepted : Accepted [] (lines bytes) answers held
 
 -- the replies to submissions that are told, and the book of the games that are held
-pub record CollectsBytes (file bytes : List ℕ) (sink sink' : SinkState) (entries : List Entry) : Type 0 where
+pub record CollectsBytes (rules : CountingRules) (file bytes : List ℕ) (sink sink' : SinkState) (entries : List Entry) : Type 0 where
   pub words : List ℕ
   pub held : List Submission
   pub takes : TakesTold file bytes words held
   pub put : Appends sink.bytes sink'.bytes (replies (lines bytes) takes.answers)
-  pub book : IsBook (record { words = words }) held entries
+  pub book : IsBook (record { words = words; rules = rules }) held entries
 
 -- the line was put that refuses a table file that is told
 pub record RefusesTold (file : List ℕ) (sink sink' : SinkState) : Type 0 where
@@ -52,9 +53,9 @@ pub record RefusesTold (file : List ℕ) (sink sink' : SinkState) : Type 0 where
   pub put : Appends sink.bytes sink'.bytes out
 
 -- what the answer says of sources that tell their bytes
-abbrev pub TellsCollect : Option (List ℕ) → Option (List ℕ) → SinkState → SinkState → Option (List Entry) → Type 0
-TellsCollect file bytes sink sink' None = IfSome file (λ f. RefusesTold f sink sink')
-TellsCollect file bytes sink sink' (Some entries) = IfSome file (λ f. IfSome bytes (λ b. CollectsBytes f b sink sink' entries))
+abbrev pub TellsCollect : CountingRules → Option (List ℕ) → Option (List ℕ) → SinkState → SinkState → Option (List Entry) → Type 0
+TellsCollect rules file bytes sink sink' None = IfSome file (λ f. RefusesTold f sink sink')
+TellsCollect rules file bytes sink sink' (Some entries) = IfSome file (λ f. IfSome bytes (λ b. CollectsBytes rules f b sink sink' entries))
 
 -- there is no table, this comes of it, and no submission was read
 pub record JudgesTable (fills : ℕ) (t t' s s' : SourceState) (verdict : Verdict) : Type 0 where
@@ -64,19 +65,19 @@ pub record JudgesTable (fills : ℕ) (t t' s s' : SourceState) (verdict : Verdic
   pub unread : s' ≡ s
 
 -- how a run ends with a fault
-pub data EndsCollect (fills : ℕ) (t t' s s' : SourceState) (sink sink' : SinkState) (fault : Fault) : Type 0 where
+pub data EndsCollect (rules : CountingRules) (fills : ℕ) (t t' s s' : SourceState) (sink sink' : SinkState) (fault : Fault) : Type 0 where
   -- at the table, or at the line that refuses it: no submission was read
-  at_table : PutsUntil (JudgesTable fills t t' s s') sink sink' fault → EndsCollect fills t t' s s' sink sink' fault
+  at_table : PutsUntil (JudgesTable fills t t' s s') sink sink' fault → EndsCollect rules fills t t' s s' sink sink' fault
   -- while the submissions were collected into a new ledger, or for want of memory for it
-  at_submissions : (e : CollectFault) → StopsTaking fills t t' s s' sink sink' e → fault ≡ fault_of e → EndsCollect fills t t' s s' sink sink' fault
+  at_submissions : (e : CollectFault) → StopsTaking rules fills t t' s s' sink sink' e → fault ≡ fault_of e → EndsCollect rules fills t t' s s' sink sink' fault
   -- for want of memory for the book: all submissions were taken and answered
-  at_book : (words : List ℕ) (held : List Submission) → CollectsGames fills t t' s s' sink sink' words held → fault ≡ Memory → EndsCollect fills t t' s s' sink sink' fault
+  at_book : (words : List ℕ) (held : List Submission) → CollectsGames fills t t' s s' sink sink' words held → fault ≡ Memory → EndsCollect rules fills t t' s s' sink sink' fault
 
 -- how a run ends: with a book, whose keys never fall and whose parts are in their ranges, with the line that refuses the table, or
 -- with a fault
-abbrev pub CollectsOrEnds : ℕ → SourceState → SourceState → SourceState → SourceState → SinkState → SinkState → Result (Option (List Entry)) Fault → Type 0
-CollectsOrEnds fills t t' s s' sink sink' (Ok (Some entries)) =
-    CollectsBook fills t t' s s' sink sink' entries × NeverFall entries × All IsEntry entries
-CollectsOrEnds fills t t' s s' sink sink' (Ok None) =
+abbrev pub CollectsOrEnds : CountingRules → ℕ → SourceState → SourceState → SourceState → SourceState → SinkState → SinkState → Result (Option (List Entry)) Fault → Type 0
+CollectsOrEnds rules fills t t' s s' sink sink' (Ok (Some entries)) =
+    CollectsBook rules fills t t' s s' sink sink' entries × NeverFall entries × All IsEntry entries
+CollectsOrEnds rules fills t t' s s' sink sink' (Ok None) =
     PutsText (JudgesTable fills t t' s s') sink sink' false × (sink'.failed ≡ false) × (sink'.flushed ≡ true)
-CollectsOrEnds fills t t' s s' sink sink' (Err fault) = EndsCollect fills t t' s s' sink sink' fault
+CollectsOrEnds rules fills t t' s s' sink sink' (Err fault) = EndsCollect rules fills t t' s s' sink sink' fault

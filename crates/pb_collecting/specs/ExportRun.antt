@@ -13,32 +13,33 @@ use Rattle.pb_commands.specs.declared.fault.Fault.{Fault}
 use Rattle.pb_commands.specs.declared.fault.Fault.TheVariants.{Write, Memory}
 use Rattle.pb_commands.specs.Judged.{PutsText, PutsUntil}
 use Rattle.pb_collecting.specs.CollectRun.{JudgesTable, RefusesTold, TakesTold}
+use Rattle.pb_accepted.specs.Rules.{CountingRules}
 use Rattle.pb_collecting.specs.Taking.{CollectsGames, StopsTaking, TakesGames, fault_of, ledger_of}
 
 -- the lines of the export of these games, under the table of these words, were put
-pub record PutsExport (sink sink' : SinkState) (words : List ℕ) (held : List Submission) : Type 0 where
+pub record PutsExport (rules : CountingRules) (sink sink' : SinkState) (words : List ℕ) (held : List Submission) : Type 0 where
   pub lines : List (List ℕ)
-  pub are : ExportLines (record { words = words }) held lines
+  pub are : ExportLines (record { words = words; rules = rules }) held lines
   pub put : Appends sink.bytes sink'.bytes (text_of_lines lines)
 
 -- the table was read and all submissions were taken, and the export of the games that are held was put
-pub record ExportsGames (fills : ℕ) (t t' s s' : SourceState) (sink sink' : SinkState) : Type 0 where
+pub record ExportsGames (rules : CountingRules) (fills : ℕ) (t t' s s' : SourceState) (sink sink' : SinkState) : Type 0 where
   pub words : List ℕ
   pub held : List Submission
   pub takes : TakesGames fills t t' s s' words held
-  pub puts : PutsExport sink sink' words held
+  pub puts : PutsExport rules sink sink' words held
 
 -- the same of a table file and of submissions that are told
-pub record ExportsTold (file bytes : List ℕ) (sink sink' : SinkState) : Type 0 where
+pub record ExportsTold (rules : CountingRules) (file bytes : List ℕ) (sink sink' : SinkState) : Type 0 where
   pub words : List ℕ
   pub held : List Submission
   pub takes : TakesTold file bytes words held
-  pub puts : PutsExport sink sink' words held
+  pub puts : PutsExport rules sink sink' words held
 
 -- what the answer says of sources that tell their bytes
-abbrev pub TellsExport : Option (List ℕ) → Option (List ℕ) → SinkState → SinkState → Bool → Type 0
-TellsExport file bytes sink sink' false = IfSome file (λ f. RefusesTold f sink sink')
-TellsExport file bytes sink sink' true = IfSome file (λ f. IfSome bytes (λ b. ExportsTold f b sink sink'))
+abbrev pub TellsExport : CountingRules → Option (List ℕ) → Option (List ℕ) → SinkState → SinkState → Bool → Type 0
+TellsExport rules file bytes sink sink' false = IfSome file (λ f. RefusesTold f sink sink')
+TellsExport rules file bytes sink sink' true = IfSome file (λ f. IfSome bytes (λ b. ExportsTold rules f b sink sink'))
 
 -- what a fault of exporting is to the run
 abbrev pub fault_of_export : ExportFault → Fault
@@ -47,11 +48,11 @@ fault_of_export export.Memory = Memory
 
 -- all submissions were taken and answered, the replies were put on the one sink, and then the export of the games that are held on the
 -- other; both were handed on
-pub record ExportsAnswered (fills : ℕ) (t t' s s' : SourceState) (d d' sink sink' : SinkState) : Type 0 where
+pub record ExportsAnswered (rules : CountingRules) (fills : ℕ) (t t' s s' : SourceState) (d d' sink sink' : SinkState) : Type 0 where
   pub words : List ℕ
   pub held : List Submission
   pub games : CollectsGames fills t t' s s' d d' words held
-  pub puts : PutsExport sink sink' words held
+  pub puts : PutsExport rules sink sink' words held
   pub works : sink'.failed ≡ false
   pub flushed : sink'.flushed ≡ true
 
@@ -63,28 +64,28 @@ pub record RefusesExport (fills : ℕ) (t t' s s' : SourceState) (d d' sink sink
   pub flushed : sink'.flushed ≡ true
 
 -- how a run ends with a fault
-pub data StopsExport (fills : ℕ) (t t' s s' : SourceState) (d d' sink sink' : SinkState) (fault : Fault) : Type 0 where
+pub data StopsExport (rules : CountingRules) (fills : ℕ) (t t' s s' : SourceState) (d d' sink sink' : SinkState) (fault : Fault) : Type 0 where
   -- at the table, or at the line that refuses it: no submission was read, and no reply was put
   at_table : PutsUntil (JudgesTable fills t t' s s') sink sink' fault → d' ≡ d
-      → StopsExport fills t t' s s' d d' sink sink' fault
+      → StopsExport rules fills t t' s s' d d' sink sink' fault
   -- while the submissions were taken into a new ledger, or for want of memory for it: nothing was exported
-  at_submissions : (e : CollectFault) → StopsTaking fills t t' s s' d d' e → fault ≡ fault_of e → sink' ≡ sink
-      → StopsExport fills t t' s s' d d' sink sink' fault
+  at_submissions : (e : CollectFault) → StopsTaking rules fills t t' s s' d d' e → fault ≡ fault_of e → sink' ≡ sink
+      → StopsExport rules fills t t' s s' d d' sink sink' fault
   -- at the export: all submissions were taken and answered
   at_export : (words : List ℕ) (held : List Submission) (e : ExportFault) → CollectsGames fills t t' s s' d d' words held
-      → ExportsUntil (ledger_of words held) sink sink' e → fault ≡ fault_of_export e → StopsExport fills t t' s s' d d' sink sink' fault
+      → ExportsUntil (ledger_of rules words held) sink sink' e → fault ≡ fault_of_export e → StopsExport rules fills t t' s s' d d' sink sink' fault
 
 -- how a run ends whose replies come on a sink of their own, of which `d` and `d'` are the states
-abbrev pub ExportsOrStops : ℕ → SourceState → SourceState → SourceState → SourceState → SinkState → SinkState → SinkState → SinkState → Result Bool Fault → Type 0
-ExportsOrStops fills t t' s s' d d' sink sink' (Ok true) = ExportsAnswered fills t t' s s' d d' sink sink'
-ExportsOrStops fills t t' s s' d d' sink sink' (Ok false) = RefusesExport fills t t' s s' d d' sink sink'
-ExportsOrStops fills t t' s s' d d' sink sink' (Err fault) = StopsExport fills t t' s s' d d' sink sink' fault
+abbrev pub ExportsOrStops : CountingRules → ℕ → SourceState → SourceState → SourceState → SourceState → SinkState → SinkState → SinkState → SinkState → Result Bool Fault → Type 0
+ExportsOrStops rules fills t t' s s' d d' sink sink' (Ok true) = ExportsAnswered rules fills t t' s s' d d' sink sink'
+ExportsOrStops rules fills t t' s s' d d' sink sink' (Ok false) = RefusesExport fills t t' s s' d d' sink sink'
+ExportsOrStops rules fills t t' s s' d d' sink sink' (Err fault) = StopsExport rules fills t t' s s' d d' sink sink' fault
 
 -- how a run ends with a fault whose replies are dropped, by a sink that doesn't fail
-pub record EndsExport (fills : ℕ) (t t' s s' : SourceState) (sink sink' : SinkState) (fault : Fault) : Type 0 where
+pub record EndsExport (rules : CountingRules) (fills : ℕ) (t t' s s' : SourceState) (sink sink' : SinkState) (fault : Fault) : Type 0 where
   pub dropped : SinkState
   pub dropped' : SinkState
-  pub stops : StopsExport fills t t' s s' dropped dropped' sink sink' fault
+  pub stops : StopsExport rules fills t t' s s' dropped dropped' sink sink' fault
   pub works : dropped'.failed ≡ false
 
 -- a write fault comes only from a sink that has failed, and where the sink has failed since, no other fault does

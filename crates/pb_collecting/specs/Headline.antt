@@ -12,6 +12,7 @@ use Rattle.pb_accepted.specs.Counting.{IsBook}
 use Rattle.pb_accepted.specs.Holding.{most_games}
 use Rattle.pb_accepted.specs.Laws.{NoRepeats}
 use Rattle.pb_accepted.specs.Replies.{replies}
+use Rattle.pb_accepted.specs.Rules.{CountingRules}
 use Rattle.pb_poly.specs.Table.{IsTableFile}
 use Rattle.pb_collecting.specs.OneText.{HasOneText}
 
@@ -41,7 +42,7 @@ pub data MayBeAnswered (L : List (List ℕ)) (R : List Answer) (i : ℕ) (s : Su
   memory : IsNewBefore L R i s.0 → r ≡ Err Memory → MayBeAnswered L R i s r
 
 -- What a run makes of the table file and of the submissions' bytes.
-pub record Headline (file bytes : List ℕ) (sink sink' : SinkState) (entries : List Entry) : Type 0 where
+pub record Headline (rules : CountingRules) (file bytes : List ℕ) (sink sink' : SinkState) (entries : List Entry) : Type 0 where
   pub words : List ℕ
   pub table : IsTableFile words file
   -- each line is answered, and the replies were put in order
@@ -59,11 +60,11 @@ pub record Headline (file bytes : List ℕ) (sink sink' : SinkState) (entries : 
   pub games : List Submission
   pub once : NoRepeats games
   pub are : (n : ℕ) (s : Submission) → IsNumber games n s ↔ ((i : ℕ) × IsAccepted (lines bytes) answers i s n)
-  pub book : IsBook (record { words = words }) games entries
+  pub book : IsBook (record { words = words; rules = rules }) games entries
   -- its text decodes to its entries and to no others
-  pub text : HasOneText (record { words = words }) games entries
+  pub text : HasOneText (record { words = words; rules = rules }) games entries
 
 -- Where the two sources tell their bytes, it is so, and the answers are those of a ledger, line by line. `Laws` says what follows.
-abbrev pub HasHeadline : Option (List ℕ) → Option (List ℕ) → SinkState → SinkState → List Entry → Type 0
-HasHeadline file bytes sink sink' entries =
-    IfSome file (λ f. IfSome bytes (λ b. (h : Headline f b sink sink' entries) × Run most_games [] (lines b) h.answers))
+abbrev pub HasHeadline : CountingRules → Option (List ℕ) → Option (List ℕ) → SinkState → SinkState → List Entry → Type 0
+HasHeadline rules file bytes sink sink' entries =
+    IfSome file (λ f. IfSome bytes (λ b. (h : Headline rules f b sink sink' entries) × Run most_games [] (lines b) h.answers))

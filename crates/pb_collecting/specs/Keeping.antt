@@ -11,32 +11,32 @@ use Rattle.pb_collecting.specs.Headline.{HasHeadline}
 use Rattle.pb_collecting.specs.Place.{Keeps, PlaceState}
 use Rattle.pb_collecting.specs.declared.place.NotKept.{NotKept}
 use Rattle.pb_collecting.specs.declared.keeping.NoBook.{NoBook}
+use Rattle.pb_accepted.specs.Rules.{CountingRules}
 use Rattle.pb_collecting.specs.declared.keeping.NoBook.TheVariants.{Run, Keep}
 
 -- The entries are the book of the run, for sources that tell their bytes with all that the theorem says, and their bytes were kept
 -- with this answer.
-pub record KeepsBook (fills : ℕ) (t t' s s' : SourceState) (sink sink' : SinkState) (place place' : PlaceState) (answer : Result (Unit {0}) NotKept) : Type 0 where
+pub record KeepsBook (rules : CountingRules) (fills : ℕ) (t t' s s' : SourceState) (sink sink' : SinkState) (place place' : PlaceState) (answer : Result (Unit {0}) NotKept) : Type 0 where
   pub entries : List Entry
-  pub book : CollectsBook fills t t' s s' sink sink' entries
-  pub told : TellsCollect t.to_come s.to_come sink sink' (Some entries)
-  pub headline : HasHeadline t.to_come s.to_come sink sink' entries
+  pub book : CollectsBook rules fills t t' s s' sink sink' entries
+  pub headline : HasHeadline rules t.to_come s.to_come sink sink' entries
   pub keeps : Keeps place place' answer (book_bytes entries)
 
 -- the line that refuses the table was put, and the place is as it was
-pub record RefusesBook (fills : ℕ) (t t' s s' : SourceState) (sink sink' : SinkState) (place place' : PlaceState) : Type 0 where
+pub record RefusesBook (rules : CountingRules) (fills : ℕ) (t t' s s' : SourceState) (sink sink' : SinkState) (place place' : PlaceState) : Type 0 where
   pub refused : PutsText (JudgesTable fills t t' s s') sink sink' false
-  pub told : TellsCollect t.to_come s.to_come sink sink' None
+  pub told : TellsCollect rules t.to_come s.to_come sink sink' None
   pub same : place' ≡ place
 
 -- how a run ends without a book at the place: before there was one, and then the place is as it was, or in keeping it
-abbrev pub EndsKeeping : ℕ → SourceState → SourceState → SourceState → SourceState → SinkState → SinkState → PlaceState → PlaceState → NoBook → Type 0
-EndsKeeping fills t t' s s' sink sink' place place' (Run fault) = EndsCollect fills t t' s s' sink sink' fault × (place' ≡ place)
-EndsKeeping fills t t' s s' sink sink' place place' (Keep why) = KeepsBook fills t t' s s' sink sink' place place' (Err why)
+abbrev pub EndsKeeping : CountingRules → ℕ → SourceState → SourceState → SourceState → SourceState → SinkState → SinkState → PlaceState → PlaceState → NoBook → Type 0
+EndsKeeping rules fills t t' s s' sink sink' place place' (Run fault) = EndsCollect rules fills t t' s s' sink sink' fault × (place' ≡ place)
+EndsKeeping rules fills t t' s s' sink sink' place place' (Keep why) = KeepsBook rules fills t t' s s' sink sink' place place' (Err why)
 
 -- how a run ends: with its book at the place, with the line that refuses the table, or without a book
-abbrev pub KeepsOrEnds : ℕ → SourceState → SourceState → SourceState → SourceState → SinkState → SinkState → PlaceState → PlaceState → Result Bool NoBook → Type 0
-KeepsOrEnds fills t t' s s' sink sink' place place' (Ok true) =
-    KeepsBook fills t t' s s' sink sink' place place' (Ok tt) × (sink'.failed ≡ false) × (sink'.flushed ≡ true)
-KeepsOrEnds fills t t' s s' sink sink' place place' (Ok false) =
-    RefusesBook fills t t' s s' sink sink' place place' × (sink'.failed ≡ false) × (sink'.flushed ≡ true)
-KeepsOrEnds fills t t' s s' sink sink' place place' (Err why) = EndsKeeping fills t t' s s' sink sink' place place' why
+abbrev pub KeepsOrEnds : CountingRules → ℕ → SourceState → SourceState → SourceState → SourceState → SinkState → SinkState → PlaceState → PlaceState → Result Bool NoBook → Type 0
+KeepsOrEnds rules fills t t' s s' sink sink' place place' (Ok true) =
+    KeepsBook rules fills t t' s s' sink sink' place place' (Ok tt) × (sink'.failed ≡ false) × (sink'.flushed ≡ true)
+KeepsOrEnds rules fills t t' s s' sink sink' place place' (Ok false) =
+    RefusesBook rules fills t t' s s' sink sink' place place' × (sink'.failed ≡ false) × (sink'.flushed ≡ true)
+KeepsOrEnds rules fills t t' s s' sink sink' place place' (Err why) = EndsKeeping rules fills t t' s s' sink sink' place place' why

@@ -14,6 +14,7 @@ use Rattle.pb_accepted.specs.Replies.{replies}
 use Rattle.pb_ledger.specs.declared.collecting.CollectFault.{CollectFault}
 use Rattle.pb_ledger.specs.declared.collecting.CollectFault.TheVariants as collect
 use Rattle.pb_accepted.specs.Holding.{most_games}
+use Rattle.pb_accepted.specs.Rules.{CountingRules}
 use Rattle.pb_commands.specs.Judged.{PutsOrEnds}
 use Rattle.pb_commands.specs.TableJudged.{table_verdict}
 use Rattle.pb_commands.specs.declared.fault.Fault.{Fault}
@@ -23,12 +24,12 @@ use Rattle.pb_collecting.specs.declared.taking.NoGames.{NoGames}
 use Rattle.pb_collecting.specs.declared.taking.NoGames.TheVariants.{Table, Submissions}
 
 -- a ledger of a table with these words, and with these games
-abbrev pub ledger_of : List ℕ → List Submission → LedgerState
-ledger_of words held = record { basis = record { words = words }; cap = most_games; accepted = held }
+abbrev pub ledger_of : CountingRules → List ℕ → List Submission → LedgerState
+ledger_of rules words held = record { basis = record { words = words; rules = rules }; cap = most_games; accepted = held }
 
 -- the same without games
-abbrev pub new_ledger : List ℕ → LedgerState
-new_ledger words = ledger_of words []
+abbrev pub new_ledger : CountingRules → List ℕ → LedgerState
+new_ledger rules words = ledger_of rules words []
 
 -- the table of these words was read, and all lines of the stream were submitted, from no games on, and answered; these games are
 -- held
@@ -48,24 +49,24 @@ pub record CollectsGames (fills : ℕ) (t t' s s' : SourceState) (sink sink' : S
   pub flushed : sink'.flushed ≡ true
 
 -- the same, and this ledger holds the games
-pub record FillsLedger (fills : ℕ) (t t' s s' : SourceState) (sink sink' : SinkState) (ledger : LedgerState) : Type 0 where
+pub record FillsLedger (rules : CountingRules) (fills : ℕ) (t t' s s' : SourceState) (sink sink' : SinkState) (ledger : LedgerState) : Type 0 where
   pub words : List ℕ
   pub held : List Submission
   pub games : CollectsGames fills t t' s s' sink sink' words held
-  pub is : ledger ≡ ledger_of words held
+  pub is : ledger ≡ ledger_of rules words held
 
 -- the table was read, and then not all submissions were taken and answered
-pub record StopsTaking (fills : ℕ) (t t' s s' : SourceState) (sink sink' : SinkState) (e : CollectFault) : Type 0 where
+pub record StopsTaking (rules : CountingRules) (fills : ℕ) (t t' s s' : SourceState) (sink sink' : SinkState) (e : CollectFault) : Type 0 where
   pub words : List ℕ
   pub table : ReadsTable fills t t' words
   pub ledger : LedgerState
-  pub until : CollectsUntil fills s s' sink sink' (new_ledger words) ledger e
+  pub until : CollectsUntil fills s s' sink sink' (new_ledger rules words) ledger e
 
 -- how taking ends; without a table no submission is read, and no reply is put
-abbrev pub TakesOrStops : ℕ → SourceState → SourceState → SourceState → SourceState → SinkState → SinkState → Result LedgerState NoGames → Type 0
-TakesOrStops fills t t' s s' sink sink' (Ok ledger) = FillsLedger fills t t' s s' sink sink' ledger
-TakesOrStops fills t t' s s' sink sink' (Err (Table e)) = FindsNoTable fills t t' e × (s' ≡ s) × (sink' ≡ sink)
-TakesOrStops fills t t' s s' sink sink' (Err (Submissions e)) = StopsTaking fills t t' s s' sink sink' e
+abbrev pub TakesOrStops : CountingRules → ℕ → SourceState → SourceState → SourceState → SourceState → SinkState → SinkState → Result LedgerState NoGames → Type 0
+TakesOrStops rules fills t t' s s' sink sink' (Ok ledger) = FillsLedger rules fills t t' s s' sink sink' ledger
+TakesOrStops rules fills t t' s s' sink sink' (Err (Table e)) = FindsNoTable fills t t' e × (s' ≡ s) × (sink' ≡ sink)
+TakesOrStops rules fills t t' s s' sink sink' (Err (Submissions e)) = StopsTaking rules fills t t' s s' sink sink' e
 
 -- what a fault of collecting is to the run
 abbrev pub fault_of : CollectFault → Fault

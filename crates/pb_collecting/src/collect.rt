@@ -6,11 +6,13 @@ ghost use Rattle.pb_collecting.specs.Headline.{HasHeadline};
 
 use crate::taking::{refuse_games, take_games};
 use pb_commands::Fault;
+use pb_ledger::Rules;
 use pb_poly::{Book, Sink, Source};
 use std::alloc::Global;
 
 /// Takes submission lines, puts the reply to each, and makes the opening book of the games that are held at the end: at most
-/// 1,000,000, each counted once however often it comes. The table of words that keys are made of is read first. Where it is
+/// 1,000,000, each counted once however often it comes, by its plies that count by the rules, and of the moves that occur often enough
+/// in them. The table of words that keys are made of is read first. Where it is
 /// refused, `refused table` and `long`, `line` or `count` is put, no submission is read, and there is no book.
 ///
 /// Where no id names two games, the book is that of the distinct legal submissions that were accepted (`laws::one_game`).
@@ -21,45 +23,47 @@ use std::alloc::Global;
 /// in its reply. At a fault no book is made; the replies to the lines that were taken before have been put.
 pub fn run_collect<T: Source, S: Source, K: Sink>(
     alloc: Global,
+    rules: Rules,
     table_source: &mut T,
     source: &mut S,
     sink: &mut K,
     fills: u32,
 ) -> Result<Option<Book>, Fault>
     // The table was read, all submissions were taken and answered, and this is the book of the games that are held.
-    ensures book { IfOk result (λ answer. IfSome answer (CollectsBook fills (T.state table_source.old) (T.state table_source.new)
+    ensures book { IfOk result (λ answer. IfSome answer (CollectsBook rules fills (T.state table_source.old) (T.state table_source.new)
         (S.state source.old) (S.state source.new) (K.state sink.old) (K.state sink.new))) }
     // The line that says why the table is refused was put.
     ensures refused { IfOk result (λ answer. IfNone answer (PutsText
         (JudgesTable fills (T.state table_source.old) (T.state table_source.new) (S.state source.old) (S.state source.new))
         (K.state sink.old) (K.state sink.new) false)) }
     // Of sources that tell their bytes, it is the table and the submissions of all bytes that were to come.
-    ensures told { IfOk result (TellsCollect (T.state table_source.old).to_come (S.state source.old).to_come
+    ensures told { IfOk result (TellsCollect rules (T.state table_source.old).to_come (S.state source.old).to_come
         (K.state sink.old) (K.state sink.new)) }
     // All that is promised of them: which lines are accepted, that each game counts once, and that the book has one text.
-    ensures headline { IfOk result (λ answer. IfSome answer (HasHeadline (T.state table_source.old).to_come (S.state source.old).to_come
+    ensures headline { IfOk result (λ answer. IfSome answer (HasHeadline rules (T.state table_source.old).to_come (S.state source.old).to_come
         (K.state sink.old) (K.state sink.new))) }
     ensures handed_on { OnOk result (((K.state sink.new).failed ≡ false)
         × ((K.state sink.new).flushed ≡ true)) }
     // What was done before a fault, and where the fault lies.
-    ensures fault { IfErr result (EndsCollect fills (T.state table_source.old) (T.state table_source.new)
+    ensures fault { IfErr result (EndsCollect rules fills (T.state table_source.old) (T.state table_source.new)
         (S.state source.old) (S.state source.new) (K.state sink.old) (K.state sink.new)) }
 {
-    collect_submissions(alloc, table_source, source, sink, fills)
+    collect_submissions(alloc, rules, table_source, source, sink, fills)
 }
 
 /// The same, told in one clause.
 pub(crate) fn collect_submissions<T: Source, S: Source, K: Sink>(
     alloc: Global,
+    rules: Rules,
     table_source: &mut T,
     source: &mut S,
     sink: &mut K,
     fills: u32,
 ) -> Result<Option<Book>, Fault>
-    ensures { CollectsOrEnds fills (T.state table_source.old) (T.state table_source.new) (S.state source.old) (S.state source.new)
+    ensures { CollectsOrEnds rules fills (T.state table_source.old) (T.state table_source.new) (S.state source.old) (S.state source.new)
         (K.state sink.old) (K.state sink.new) result }
 {
-    let ledger = match take_games(alloc, table_source, source, sink, fills) {
+    let ledger = match take_games(alloc, rules, table_source, source, sink, fills) {
         Ok(ledger) => ledger,
         Err(why) => {
             refuse_games(sink, why)?;

@@ -6,7 +6,7 @@ ghost use Rattle.pb_collecting.specs.ExportRun.{BlamesSink, EndsExport, ExportsO
 
 use crate::taking::{refuse_games, take_games};
 use pb_commands::Fault;
-use pb_ledger::{ExportFault, export};
+use pb_ledger::{ExportFault, Rules, export};
 use pb_poly::{Failed, Sink, Source};
 use std::alloc::Global;
 
@@ -45,7 +45,8 @@ fn export_fault(fault: ExportFault) -> Fault
 }
 
 /// Takes submission lines and puts the opening book of the games that are held at the end, at most 1,000,000, as EPD lines: for
-/// each setup before a move of a game the moves that the book has for it, each with its weight. Replies are dropped. The table of
+/// each setup before a move of a game, also past the plies that count by the rules, the moves that the book has for it, each with its
+/// weight. Replies are dropped. The table of
 /// words that keys are made of is read first. Where it is refused, `refused table` and `long`, `line` or `count` is put, no
 /// submission is read, and the answer is false.
 ///
@@ -55,32 +56,33 @@ fn export_fault(fault: ExportFault) -> Fault
 /// Nothing is put before all submissions were taken, so a fault of theirs leaves the sink alone.
 pub fn run_export<T: Source, S: Source, K: Sink>(
     alloc: Global,
+    rules: Rules,
     table_source: &mut T,
     source: &mut S,
     sink: &mut K,
     fills: u32,
 ) -> Result<bool, Fault>
     // Where the answer is true, the table was read, all submissions were taken, and the export of the games that are held was put.
-    ensures lines { IfOk result (λ done. done ≡ true → ExportsGames fills (T.state table_source.old) (T.state table_source.new)
+    ensures lines { IfOk result (λ done. done ≡ true → ExportsGames rules fills (T.state table_source.old) (T.state table_source.new)
         (S.state source.old) (S.state source.new) (K.state sink.old) (K.state sink.new)) }
     // Where it is false, the line that says why the table is refused was put.
     ensures refused { IfOk result (λ done. done ≡ false → PutsText
         (JudgesTable fills (T.state table_source.old) (T.state table_source.new) (S.state source.old) (S.state source.new))
         (K.state sink.old) (K.state sink.new) false) }
     // Of sources that tell their bytes, it is the table and the submissions of all bytes that were to come.
-    ensures told { IfOk result (TellsExport (T.state table_source.old).to_come (S.state source.old).to_come
+    ensures told { IfOk result (TellsExport rules (T.state table_source.old).to_come (S.state source.old).to_come
         (K.state sink.old) (K.state sink.new)) }
     // What was put was handed on.
     ensures handed_on { OnOk result (((K.state sink.new).failed ≡ false)
         × ((K.state sink.new).flushed ≡ true)) }
     // What was done before a fault, and where the fault lies.
-    ensures fault { IfErr result (EndsExport fills (T.state table_source.old) (T.state table_source.new)
+    ensures fault { IfErr result (EndsExport rules fills (T.state table_source.old) (T.state table_source.new)
         (S.state source.old) (S.state source.new) (K.state sink.old) (K.state sink.new)) }
     // The sink is blamed only where it has failed, and always where it has failed since.
     ensures blame { IfErr result (BlamesSink (K.state sink.old) (K.state sink.new)) }
 {
     let mut replies = Dropped::default();
-    export_submissions(alloc, table_source, source, &mut replies, sink, fills)
+    export_submissions(alloc, rules, table_source, source, &mut replies, sink, fills)
 }
 
 /// The same with a sink for the replies, which are put and handed on before the export. One list of answers is that of the replies and
@@ -91,16 +93,17 @@ pub fn run_export<T: Source, S: Source, K: Sink>(
 /// As for `run_export`; `Write` comes where either sink has failed.
 pub fn export_submissions<T: Source, S: Source, D: Sink, K: Sink>(
     alloc: Global,
+    rules: Rules,
     table_source: &mut T,
     source: &mut S,
     replies: &mut D,
     sink: &mut K,
     fills: u32,
 ) -> Result<bool, Fault>
-    ensures { ExportsOrStops fills (T.state table_source.old) (T.state table_source.new) (S.state source.old) (S.state source.new)
+    ensures { ExportsOrStops rules fills (T.state table_source.old) (T.state table_source.new) (S.state source.old) (S.state source.new)
         (D.state replies.old) (D.state replies.new) (K.state sink.old) (K.state sink.new) result }
 {
-    let ledger = match take_games(alloc, table_source, source, replies, fills) {
+    let ledger = match take_games(alloc, rules, table_source, source, replies, fills) {
         Ok(ledger) => ledger,
         Err(why) => return refuse_games(sink, why),
     };

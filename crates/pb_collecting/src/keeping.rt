@@ -6,6 +6,7 @@ ghost use Rattle.pb_collecting.specs.Keeping.{EndsKeeping, KeepsBook, KeepsOrEnd
 use crate::collect::collect_submissions;
 use crate::place::{NotKept, Place};
 use pb_commands::Fault;
+use pb_ledger::Rules;
 use pb_poly::{Sink, Source};
 use std::alloc::Global;
 
@@ -19,7 +20,7 @@ pub enum NoBook {
 }
 
 /// Takes submission lines, puts the reply to each, and keeps the opening book of the games that are held at the end: at most
-/// 1,000,000, each counted once however often it comes. The table of words that keys are made of is read first. Where it is refused,
+/// 1,000,000, each counted once however often it comes, by the rules as in `run_collect`. The table of words that keys are made of is read first. Where it is refused,
 /// `refused table` and `long`, `line` or `count` is put, no submission is read, nothing is kept, and the answer is false.
 ///
 /// # Errors
@@ -28,6 +29,7 @@ pub enum NoBook {
 /// book of this run.
 pub fn collect_into<T: Source, S: Source, K: Sink, P: Place>(
     alloc: Global,
+    rules: Rules,
     table_source: &mut T,
     source: &mut S,
     sink: &mut K,
@@ -35,34 +37,35 @@ pub fn collect_into<T: Source, S: Source, K: Sink, P: Place>(
     fills: u32,
 ) -> Result<bool, NoBook>
     // Where the answer is true, the place holds the bytes of the book of the games that are held, and all that is promised of it is so.
-    ensures kept { IfOk result (λ kept. kept ≡ true → KeepsBook fills (T.state table_source.old) (T.state table_source.new)
+    ensures kept { IfOk result (λ kept. kept ≡ true → KeepsBook rules fills (T.state table_source.old) (T.state table_source.new)
         (S.state source.old) (S.state source.new) (K.state sink.old) (K.state sink.new) (P.state place.old) (P.state place.new) (Ok tt)) }
     // Where it is false, the line that says why the table is refused was put.
-    ensures refused { IfOk result (λ kept. kept ≡ false → RefusesBook fills (T.state table_source.old) (T.state table_source.new)
+    ensures refused { IfOk result (λ kept. kept ≡ false → RefusesBook rules fills (T.state table_source.old) (T.state table_source.new)
         (S.state source.old) (S.state source.new) (K.state sink.old) (K.state sink.new) (P.state place.old) (P.state place.new)) }
     // What was put was handed on.
     ensures handed_on { OnOk result (((K.state sink.new).failed ≡ false)
         × ((K.state sink.new).flushed ≡ true)) }
     // What was done before a fault, where the fault lies, and what it leaves at the place.
-    ensures fault { IfErr result (EndsKeeping fills (T.state table_source.old) (T.state table_source.new)
+    ensures fault { IfErr result (EndsKeeping rules fills (T.state table_source.old) (T.state table_source.new)
         (S.state source.old) (S.state source.new) (K.state sink.old) (K.state sink.new) (P.state place.old) (P.state place.new)) }
 {
-    collect_and_keep(alloc, table_source, source, sink, place, fills)
+    collect_and_keep(alloc, rules, table_source, source, sink, place, fills)
 }
 
 /// The same, told in one clause.
 fn collect_and_keep<T: Source, S: Source, K: Sink, P: Place>(
     alloc: Global,
+    rules: Rules,
     table_source: &mut T,
     source: &mut S,
     sink: &mut K,
     place: &mut P,
     fills: u32,
 ) -> Result<bool, NoBook>
-    ensures { KeepsOrEnds fills (T.state table_source.old) (T.state table_source.new) (S.state source.old) (S.state source.new)
+    ensures { KeepsOrEnds rules fills (T.state table_source.old) (T.state table_source.new) (S.state source.old) (S.state source.new)
         (K.state sink.old) (K.state sink.new) (P.state place.old) (P.state place.new) result }
 {
-    let book = match collect_submissions(alloc, table_source, source, sink, fills) {
+    let book = match collect_submissions(alloc, rules, table_source, source, sink, fills) {
         Ok(Some(book)) => book,
         Ok(None) => return Ok(false),
         Err(fault) => return Err(NoBook::Run(fault)),

@@ -3,7 +3,7 @@ ghost use Rattle.std.specs.Prelude.{◌≡◌};
 ghost use Rattle.pb_collecting.specs.Taking.{RefusesGames, TakesOrStops, fault_of};
 
 use pb_commands::{Fault, TableFault, refuse_table, take_table};
-use pb_ledger::{CollectFault, Ledger, MAX_CAP, MapTally, collect};
+use pb_ledger::{CollectFault, Ledger, MAX_CAP, MapTally, Rules, collect};
 use pb_poly::{Sink, Source};
 use std::alloc::Global;
 
@@ -16,22 +16,23 @@ pub(crate) enum NoGames {
     Submissions(CollectFault),
 }
 
-/// Reads the table, then takes the submissions into a new ledger and puts the reply to each.
+/// Reads the table, then takes the submissions into a new ledger of these rules and puts the reply to each.
 pub(crate) fn take_games<T: Source, S: Source, K: Sink>(
     alloc: Global,
+    rules: Rules,
     table_source: &mut T,
     source: &mut S,
     replies: &mut K,
     fills: u32,
 ) -> Result<Ledger<MapTally>, NoGames>
-    ensures { TakesOrStops fills (T.state table_source.old) (T.state table_source.new) (S.state source.old) (S.state source.new)
+    ensures { TakesOrStops rules fills (T.state table_source.old) (T.state table_source.new) (S.state source.old) (S.state source.new)
         (K.state replies.old) (K.state replies.new) result }
 {
     let table = match take_table(alloc, table_source, fills) {
         Ok(table) => table,
         Err(error) => return Err(NoGames::Table(error)),
     };
-    let Ok(mut ledger) = Ledger::<MapTally>::new(alloc, &table, MAX_CAP) else {
+    let Ok(mut ledger) = Ledger::<MapTally>::with_rules(alloc, &table, MAX_CAP, rules) else {
         return Err(NoGames::Submissions(CollectFault::Memory));
     };
     match collect(alloc, source, replies, &mut ledger, fills) {

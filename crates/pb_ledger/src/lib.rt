@@ -8,8 +8,8 @@ mod totals;
 
 pub use collecting::{CollectFault, collect};
 pub use pb_accepted::{
-    Game, Id, Ledger, Line, ListTally, MAX_CAP, MapTally, MoveList, Outcome, Plies, Refusal, Reply,
-    Row, Tally, check_line, scale,
+    Game, Id, Ledger, Line, ListTally, MAX_CAP, MAX_LEAST, MAX_PLIES, MapTally, MoveList, Outcome,
+    Plies, Refusal, Reply, Row, Rules, Tally, check_line, scale,
 };
 pub use pb_export::{ExportFault, export};
 pub use totals::Totals;
