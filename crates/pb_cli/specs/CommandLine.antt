@@ -1,5 +1,5 @@
 -- The command line of `pbook`: one level of commands, each with its words.
-use Rattle.std.specs.Prelude.{Some, codes, true}
+use Rattle.std.specs.Prelude.{Some, [], ◌∷◌, codes, true}
 use Rattle.clap.specs.Words.{App, Rule, Text, new_app, new_rule, with_rule, with_subcommand}
 use Rattle.clap.specs.Simple.{on_top}
 use Rattle.clap.specs.Lexer.{usize_max}
@@ -16,6 +16,14 @@ further_words id = record (new_rule id) {
   range = Some (record { start_inclusive = 0; end_inclusive = usize_max });
 }
 
+-- an option with a value, and the value where it isn't given
+abbrev pub option_with : Text → Text → Rule
+option_with id value = record (new_rule id) { long = Some id; action = Some Set; value_names = 1; defaults = value ∷ [] }
+
+-- a command with the two options that say what of the games counts
+abbrev pub with_counting : App → App
+with_counting app = with_rule (with_rule app (option_with (codes "plies") (codes "1024"))) (option_with (codes "least") (codes "1"))
+
 abbrev pub fen_command : App
 fen_command = with_rule (with_rule (new_app (codes "fen")) (required_word (codes "FEN")))
     (further_words (codes "MOVES"))
@@ -31,10 +39,10 @@ probe_command = with_rule (with_rule (with_rule (new_app (codes "probe")) (requi
     (required_word (codes "FEN"))
 
 abbrev pub collect_command : App
-collect_command = with_rule (with_rule (new_app (codes "collect")) (required_word (codes "TABLE"))) (required_word (codes "BOOK"))
+collect_command = with_rule (with_rule (with_counting (new_app (codes "collect"))) (required_word (codes "TABLE"))) (required_word (codes "BOOK"))
 
 abbrev pub export_command : App
-export_command = with_rule (new_app (codes "export")) (required_word (codes "TABLE"))
+export_command = with_rule (with_counting (new_app (codes "export"))) (required_word (codes "TABLE"))
 
 -- the program, before its commands
 abbrev pub program_alone : App

@@ -1,8 +1,10 @@
 -- What an order has of the words of the command line.
-use Rattle.std.specs.Prelude.{◌≡◌, List, [], Option, Some, codes, unwrap_or}
+use Rattle.std.specs.Prelude.{◌≡◌, ℕ, List, [], Option, Some, codes, unwrap_or}
 use Rattle.std.specs.Borrow.{Bor}
+use Rattle.std.specs.Str.Parse.{IsNumeral, digits_value}
 use Rattle.clap.specs.Words.{Row, Text, all_of, first_of}
 use Rattle.clap.specs.Walk.{texts}
+use Rattle.pb_accepted.specs.Rules.{AreRules, CountingRules}
 use Rattle.pb_cli.specs.declared.order.Order.{Order}
 use Rattle.pb_cli.specs.declared.order.ParseFault.{ParseFault}
 use Rattle.pb_cli.specs.declared.order.ParseFault.TheVariants.{Memory}
@@ -14,12 +16,22 @@ name_of (order.Fen _ _) = codes "fen"
 name_of order.Epd = codes "epd"
 name_of (order.Show _) = codes "show"
 name_of (order.Probe _ _ _) = codes "probe"
-name_of (order.Collect _ _) = codes "collect"
-name_of (order.Export _) = codes "export"
+name_of (order.Collect _ _ _) = codes "collect"
+name_of (order.Export _ _) = codes "export"
 
 -- the argument of this name was given this word
 abbrev pub HasWord : Text → Bor Text → List Row → Type 0
 HasWord id word rows = first_of id rows ≡ Some word.now
+
+-- the argument of this name was given a word that writes this number in digits
+abbrev pub HasNumber : Text → ℕ → List Row → Type 0
+HasNumber id number rows = (word : Text) × (first_of id rows ≡ Some word) × IsNumeral 10 word × (digits_value 10 word ≡ number)
+
+-- the options say these rules
+pub record HasRules (rules : CountingRules) (rows : List Row) : Type 0 where
+  pub are : AreRules rules
+  pub plies : HasNumber (codes "plies") rules.plies rows
+  pub least : HasNumber (codes "least") rules.least rows
 
 -- the order has the words of these matches
 abbrev pub HasWords : Order → List Row → Type 0
@@ -27,8 +39,8 @@ HasWords (order.Fen fen moves) rows = HasWord (codes "FEN") fen rows × (texts m
 HasWords order.Epd rows = Unit {0}
 HasWords (order.Show book) rows = HasWord (codes "BOOK") book rows
 HasWords (order.Probe table book fen) rows = HasWord (codes "TABLE") table rows × HasWord (codes "BOOK") book rows × HasWord (codes "FEN") fen rows
-HasWords (order.Collect table book) rows = HasWord (codes "TABLE") table rows × HasWord (codes "BOOK") book rows
-HasWords (order.Export table) rows = HasWord (codes "TABLE") table rows
+HasWords (order.Collect rules table book) rows = HasRules rules rows × HasWord (codes "TABLE") table rows × HasWord (codes "BOOK") book rows
+HasWords (order.Export rules table) rows = HasRules rules rows × HasWord (codes "TABLE") table rows
 
 -- the order is that of the command that was found, with its words as the matches give them
 abbrev pub IsOrderOf : Order → Option (Text × List Row) → Type 0

@@ -1,8 +1,8 @@
 //! The command line of `pbook`, by clap's builder: one function for each command.
 ghost use Rattle.std.specs.Prelude.{◌≡◌, IfOk, codes, false};
-ghost use Rattle.clap.specs.Words.{rule_of};
+ghost use Rattle.clap.specs.Words.{App, new_app, rule_of};
 ghost use Rattle.pb_cli.specs.Built.{IsCommand};
-ghost use Rattle.pb_cli.specs.CommandLine.{collect_command, epd_command, export_command, fen_command, further_words, pbook, probe_command, program_alone, required_word, show_command};
+ghost use Rattle.pb_cli.specs.CommandLine.{collect_command, epd_command, export_command, fen_command, further_words, option_with, pbook, probe_command, program_alone, required_word, show_command, with_counting};
 
 use clap::{Arg, ArgAction, Command};
 use std::alloc::{AllocError, Global};
@@ -24,6 +24,13 @@ const TABLE_HELP: &str =
 
 /// What a file of a book that is made is.
 const MADE_HELP: &str = "The file that the book is written to, in place of what it held";
+
+/// What the number of plies is.
+const PLIES_HELP: &str = "How many first plies of each game count, 1 to 1024";
+
+/// What the number of occurrences is.
+const LEAST_HELP: &str =
+    "How often a move must occur in the plies that count to be in the book, 1 to 1000000";
 
 /// The whole command line.
 pub(crate) fn command_line<'a>(alloc: Global) -> Result<Command<'a>, AllocError>
@@ -68,7 +75,9 @@ fn fen<'a>(alloc: Global) -> Result<Command<'a>, AllocError>
 fn epd<'a>(alloc: Global) -> Command<'a>
     ensures { IsCommand epd_command result }
 {
-    Command::new(alloc, "epd").about(
+    without_words(
+        alloc,
+        "epd",
         "Rewrites EPD lines from standard input, each in its one ordered form",
     )
 }
@@ -97,27 +106,68 @@ fn probe<'a>(alloc: Global) -> Result<Command<'a>, AllocError>
     Ok(whole)
 }
 
-/// `collect TABLE BOOK`
+/// `collect TABLE BOOK`, with the options `--plies N` and `--least G`
 fn collect<'a>(alloc: Global) -> Result<Command<'a>, AllocError>
     ensures { IfOk result (IsCommand collect_command) }
 {
-    let unfinished = Command::new(alloc, "collect").about(
+    let bare = without_words(
+        alloc,
+        "collect",
         "Takes games from standard input, prints the reply to each, and makes the book of those that are held",
     );
-    let tabled = unfinished.arg(required(alloc, "TABLE", TABLE_HELP))?;
+    let counting = with_counting(alloc, bare)?;
+    let tabled = counting.arg(required(alloc, "TABLE", TABLE_HELP))?;
     let whole = tabled.arg(required(alloc, "BOOK", MADE_HELP))?;
     Ok(whole)
 }
 
-/// `export TABLE`
+/// `export TABLE`, with the same options
 fn export<'a>(alloc: Global) -> Result<Command<'a>, AllocError>
     ensures { IfOk result (IsCommand export_command) }
 {
-    let bare = Command::new(alloc, "export").about(
+    let bare = without_words(
+        alloc,
+        "export",
         "Takes games from standard input and prints the book of those that are held as EPD lines",
     );
-    let whole = bare.arg(required(alloc, "TABLE", TABLE_HELP))?;
+    let counting = with_counting(alloc, bare)?;
+    let whole = counting.arg(required(alloc, "TABLE", TABLE_HELP))?;
     Ok(whole)
+}
+
+/// A command that takes no words so far.
+fn without_words<'a>(alloc: Global, name: &'a str, about: &'a str) -> Command<'a>
+    ensures { IsCommand (new_app name.now) result }
+{
+    Command::new(alloc, name).about(about)
+}
+
+/// The command with the options that say what of the games counts.
+fn with_counting<'a>(alloc: Global, command: Command<'a>) -> Result<Command<'a>, AllocError>
+    ensures { IfOk result (λ counting. (app : App) → IsCommand app command.entry → IsCommand (with_counting app) counting) }
+{
+    let some_plies = command.arg(option(alloc, "plies", "N", "1024", PLIES_HELP))?;
+    let counting = some_plies.arg(option(alloc, "least", "G", "1", LEAST_HELP))?;
+    Ok(counting)
+}
+
+/// An option with a value, which help calls `letter`.
+fn option<'a>(
+    alloc: Global,
+    name: &'a str,
+    letter: &'a str,
+    value: &'a str,
+    help: &'a str,
+) -> Arg<'a>
+    ensures rule { rule_of result ≡ option_with name.now value.now }
+    ensures local { result.global ≡ false }
+{
+    Arg::new(alloc, name)
+        .long(name)
+        .value_name(letter)
+        .default_value(value)
+        .action(ArgAction::Set)
+        .help(help)
 }
 
 /// A word that has to be given.

@@ -1,15 +1,18 @@
 //! The words of the command line as an order to one command.
-ghost use Rattle.std.specs.Prelude.{◌≡◌, Ok, Some, IfErr, IfOk, OnErr, OnOk, None, [], codes, unwrap_or};
+ghost use Rattle.std.specs.Prelude.{◌≡◌, ◌≤◌, ◌^◌, ℕ, Ok, Some, IfErr, IfOk, MatchOption, OnErr, OnOk, None, [], codes, unwrap_or};
+ghost use Rattle.std.specs.Str.Parse.{IsNumeral, digits_value};
 ghost use Rattle.clap.specs.Walk.{texts};
 ghost use Rattle.clap.specs.Words.{all_of, fault_of, first_of, found_of, kind_of, rows_of, subcommand_of, subcommand_rows_of};
 ghost use Rattle.clap.specs.declared.error.ErrorKind.TheVariants.{OutOfMemory};
 ghost use Rattle.pb_cli.specs.CommandLine.{pbook};
-ghost use Rattle.pb_cli.specs.Orders.{HasWords, IsOrderOf, RefusesFor, RefusesRightly, name_of};
+ghost use Rattle.pb_accepted.specs.Rules.{CountingRules};
+ghost use Rattle.pb_cli.specs.Orders.{HasNumber, HasRules, HasWords, IsOrderOf, RefusesFor, RefusesRightly, name_of};
 ghost use Rattle.pb_cli.specs.declared.order.ParseFault.TheVariants.{Memory};
 
 use crate::grammar::command_line;
 use clap::ArgMatches;
 use clap::error::ErrorKind;
+use pb_collecting::{MAX_LEAST, MAX_PLIES, Rules};
 use std::alloc::{AllocError, Global};
 
 /// What the command line asks for, with its words as they were given.
@@ -40,6 +43,8 @@ pub enum Order<'a> {
     },
     /// Makes a book of the submissions on standard input.
     Collect {
+        /// What of the games counts.
+        rules: Rules,
         /// The path of the table.
         table: &'a str,
         /// The path of the book that is made.
@@ -47,6 +52,8 @@ pub enum Order<'a> {
     },
     /// Writes the book of the submissions on standard input as EPD lines.
     Export {
+        /// What of the games counts.
+        rules: Rules,
         /// The path of the table.
         table: &'a str,
     },
@@ -153,9 +160,10 @@ fn collect<'a>(alloc: Global, given: &ArgMatches<'a>) -> Result<Order<'a>, Parse
         × HasWords order (rows_of (found_of given.now))) }
     ensures refused { IfErr result (RefusesFor (codes "collect") (rows_of (found_of given.now))) }
 {
+    let rules = rules(alloc, given)?;
     let table = word(alloc, given, "TABLE")?;
     let book = word(alloc, given, "BOOK")?;
-    Ok(Order::Collect { table, book })
+    Ok(Order::Collect { rules, table, book })
 }
 
 /// The order of `export`.
@@ -165,8 +173,51 @@ fn export<'a>(alloc: Global, given: &ArgMatches<'a>) -> Result<Order<'a>, ParseF
     ensures refused { IfErr result (RefusesFor (codes "export") (rows_of (found_of given.now))) }
 {
     Ok(Order::Export {
+        rules: rules(alloc, given)?,
         table: word(alloc, given, "TABLE")?,
     })
+}
+
+/// The rules that the options say.
+fn rules<'a>(alloc: Global, given: &ArgMatches<'a>) -> Result<Rules, ParseFault>
+    ensures said { IfOk result (λ rules. HasRules rules (rows_of (found_of given.now))) }
+    ensures refused { IfErr result (λ fault. (rules : CountingRules) → HasRules rules (rows_of (found_of given.now)) → fault ≡ Memory) }
+{
+    let plies = number(alloc, given, "plies", MAX_PLIES)?;
+    let least = number(alloc, given, "least", MAX_LEAST)?;
+    Ok(Rules::new(plies, least).unwrap())
+}
+
+/// The number of an option, 1 to `most`.
+fn number<'a>(
+    alloc: Global,
+    given: &ArgMatches<'a>,
+    option: &str,
+    most: u32,
+) -> Result<u32, ParseFault>
+    ensures given { IfOk result (λ n. HasNumber option.now n (rows_of (found_of given.now)) × (1 ≤ n) × (n ≤ most)) }
+    ensures refused { IfErr result (λ fault. (n : ℕ) → HasNumber option.now n (rows_of (found_of given.now)) → 1 ≤ n → n ≤ most → fault ≡ Memory) }
+{
+    let text = word(alloc, given, option)?;
+    match number_of(text) {
+        Some(number) if (1..=most).contains(&number) => Ok(number),
+        _ => Err(ParseFault::Usage(format!(
+            in alloc;
+            "error: invalid value '{text}' for '--{option}': a number from 1 to {most} is wanted\n\nFor more information, try '--help'.\n"
+        )?)),
+    }
+}
+
+/// The number that a word writes in digits alone, without a sign.
+fn number_of(word: &str) -> Option<u32>
+    ensures { MatchOption result
+        (IsNumeral 10 word.now → 2 ^ 32 ≤ digits_value 10 word.now)
+        (λ n. IsNumeral 10 word.now × (digits_value 10 word.now ≡ n)) }
+{
+    if word.starts_with('+') {
+        return None;
+    }
+    word.parse().ok()
 }
 
 /// A required word, which clap has where it gives matches.

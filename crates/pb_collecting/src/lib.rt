@@ -12,4 +12,5 @@ mod taking;
 pub use collect::run_collect;
 pub use export::{export_submissions, run_export};
 pub use keeping::{NoBook, collect_into};
+pub use pb_ledger::{MAX_LEAST, MAX_PLIES, Rules};
 pub use place::{MemPlace, NotKept, Place};

@@ -1,0 +1,7 @@
+use Rattle.pb_cli.proofs.Commands.{IsCommand-arg}
+use Rattle.pb_cli.proofs.grammar.export.Goals as goal
+
+pub returns : goal.returns
+returns c =
+    let counting = c.in_ok-counting.ensures _ c.without_words-bare.ensures in
+    IsCommand-arg _ _ _ _ _ counting c.in_ok-whole.ensures c.required.ensures.rule c.required.ensures.local

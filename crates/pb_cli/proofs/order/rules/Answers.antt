@@ -1,0 +1,12 @@
+use Rattle.std.proofs.lemmas.Result.{err_from_is_err_and}
+use Rattle.pb_cli.proofs.order.rules.Goals as goal
+
+pub returns-in_err-plies-clause-refused : goal.returns-in_err-plies-clause-refused
+returns-in_err-plies-clause-refused c =
+    let p = err_from_is_err_and c.from_residual.result c.from_residual.ensures.1 in
+    rw (p.1, p.2) (λ rules h. c.in_err-plies.ensures.refused rules.plies h.plies h.are.some h.are.within_a_game)
+
+pub returns-in_err-least-clause-refused : goal.returns-in_err-least-clause-refused
+returns-in_err-least-clause-refused c =
+    let p = err_from_is_err_and c.from_residual-in_err-least.result c.from_residual-in_err-least.ensures.1 in
+    rw (p.1, p.2) (λ rules h. c.in_err-least.ensures.refused rules.least h.least h.are.once h.are.not_above)
