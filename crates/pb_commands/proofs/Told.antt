@@ -1,5 +1,5 @@
 -- What is read from a source that tells its bytes.
-use Rattle.std.proofs.Common.{◌≡◌, ◌∙◌, ℕ, ◌≤◌, Bool, List, [], ◌++◌, Ok, Err, Some, ap, append_assoc, arith, length, length-append, refl, subst, sym}
+use Rattle.std.proofs.Common.{◌≡◌, ◌∙◌, ℕ, ◌≤◌, Bool, List, ◌++◌, Ok, Err, Some, ap, append_assoc, arith, length, length-append, subst, sym}
 use Rattle.pb_poly.proofs.ToldReads.{all_came, came_first}
 use Rattle.pb_io.specs.Source.{SourceState}
 use Rattle.pb_poly.specs.Book.{BookBytes}

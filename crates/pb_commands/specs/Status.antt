@@ -1,9 +1,8 @@
 -- The exit statuses of the program.
 use Rattle.std.specs.Prelude.{ℕ, Bool, true, false, Result, Ok, Err}
-use Rattle.pb_commands.specs.declared.fault.Fault.{Fault}
 
--- 0 where the input was taken, 1 where it was refused, 3 where the command met a fault
-abbrev pub status_of : Result Bool Fault → ℕ
+-- 0 where the input was taken, 1 where it was refused, 3 where the command stopped before its end
+abbrev pub status_of : {E : Type 0} → Result Bool E → ℕ
 status_of (Ok true) = 0
 status_of (Ok false) = 1
 status_of (Err _) = 3

@@ -23,7 +23,7 @@ pub enum Fault {
 
 /// The exit status for what a command answers: 0 where the input was taken, 1 where it was
 /// refused, 3 where the command met a fault.
-pub fn status(answer: Result<bool, Fault>) -> u8
+pub fn status<E: Drop>(answer: Result<bool, E>) -> u8
     ensures { result ≡ status_of answer }
 {
     match answer {

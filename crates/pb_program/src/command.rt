@@ -1,32 +1,32 @@
 //! Each command over the files that it names and the standard streams.
 
-use crate::file::{BookFile, NotOpened, open};
-use pb_cli::{
-    Fault, NoBook, NotKept, Order, collect_into, run_epd, run_export, run_fen, run_probe, run_show,
-};
+use crate::file::{BookFile, open};
+use crate::stop::Stop;
+use pb_cli::{Order, collect_into, run_epd, run_export, run_fen, run_probe, run_show};
 use pb_poly::{FromRead, Sink, ToWrite};
 use std::io;
 
 /// How many fills a command may make of a source: as many as can be counted, so that only a source without an end meets the limit.
 pub const FILLS: u32 = u32::MAX;
 
-/// What a command answers; the error is that a file can't be opened or made.
-type Answer = Result<Result<bool, Fault>, NotOpened>;
-
-/// What the order's command answers. The files that it reads are opened before anything is read.
-pub(crate) fn answer<K: Sink>(rt: &HostRuntime, order: &Order<'_>, output: &mut K) -> Answer {
+/// Runs the order's command, and answers whether all was taken. The files that it reads are opened before anything is read.
+pub(crate) fn answer<K: Sink>(
+    rt: &HostRuntime,
+    order: &Order<'_>,
+    output: &mut K,
+) -> Result<bool, Stop> {
     match order {
         Order::Fen { record, moves } => {
             let record = record.as_bytes();
-            Ok(run_fen(rt.alloc(), record, moves.as_slice(), output))
+            Ok(run_fen(rt.alloc(), record, moves.as_slice(), output)?)
         }
         Order::Epd => {
             let mut input = FromRead::new(rt.reader());
-            Ok(run_epd(rt.alloc(), &mut input, output, FILLS))
+            Ok(run_epd(rt.alloc(), &mut input, output, FILLS)?)
         }
         Order::Show { book } => {
             let mut book = open(rt, book)?;
-            Ok(run_show(rt.alloc(), &mut book, output, FILLS))
+            Ok(run_show(rt.alloc(), &mut book, output, FILLS)?)
         }
         Order::Probe {
             table,
@@ -37,7 +37,7 @@ pub(crate) fn answer<K: Sink>(rt: &HostRuntime, order: &Order<'_>, output: &mut 
         Order::Export { table } => {
             let mut table = open(rt, table)?;
             let mut input = FromRead::new(rt.reader());
-            Ok(run_export(rt.alloc(), &mut table, &mut input, output, FILLS))
+            Ok(run_export(rt.alloc(), &mut table, &mut input, output, FILLS)?)
         }
     }
 }
@@ -49,32 +49,26 @@ fn probe<K: Sink>(
     book: &str,
     record: &str,
     output: &mut K,
-) -> Answer {
+) -> Result<bool, Stop> {
     let mut table = open(rt, table)?;
     let mut book = open(rt, book)?;
     let record = record.as_bytes();
-    Ok(run_probe(rt.alloc(), &mut table, &mut book, record, output, FILLS))
+    Ok(run_probe(rt.alloc(), &mut table, &mut book, record, output, FILLS)?)
 }
 
 /// Makes the file of the book once there is one, so that a fault or a refused table leaves the old file.
-fn collect(rt: &HostRuntime, table: &str, book: &str) -> Answer {
+fn collect(rt: &HostRuntime, table: &str, book: &str) -> Result<bool, Stop> {
     let mut table = open(rt, table)?;
     let mut input = FromRead::new(rt.reader());
     // Each reply is written at once, so that it can be waited for before the next line is sent.
     let mut replies = ToWrite::new(io::writer(rt));
     let mut file = BookFile::new(rt, book);
-    match collect_into(
+    Ok(collect_into(
         rt.alloc(),
         &mut table,
         &mut input,
         &mut replies,
         &mut file,
         FILLS,
-    ) {
-        Ok(kept) => Ok(Ok(kept)),
-        Err(NoBook::Run(fault)) => Ok(Err(fault)),
-        Err(NoBook::Keep(NotKept::Open)) => Err(NotOpened),
-        Err(NoBook::Keep(NotKept::Write)) => Ok(Err(Fault::Write)),
-        Err(NoBook::Keep(NotKept::Memory)) => Ok(Err(Fault::Memory)),
-    }
+    )?)
 }

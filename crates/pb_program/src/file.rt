@@ -2,6 +2,7 @@
 
 ghost use Rattle.std.specs.Prelude.{None};
 
+use crate::stop::Stop;
 use pb_cli::{NotKept, Place};
 use pb_poly::{Book, FromRead, ToWrite, write_book};
 use std::fs::File;
@@ -10,15 +11,11 @@ use std::io::BufWriter;
 /// How many bytes go to standard output or into a book's file at once.
 pub(crate) const PIECE: usize = 65_536;
 
-/// That a file can't be opened.
-#[derive(Drop)]
-pub(crate) struct NotOpened;
-
 /// The file as a source of bytes.
-pub(crate) fn open(rt: &HostRuntime, path: &str) -> Result<FromRead<File>, NotOpened> {
+pub(crate) fn open(rt: &HostRuntime, path: &str) -> Result<FromRead<File>, Stop> {
     match File::open(rt, path) {
         Ok(file) => Ok(FromRead::new(file)),
-        Err(_) => Err(NotOpened),
+        Err(_) => Err(Stop::NotOpened),
     }
 }
 

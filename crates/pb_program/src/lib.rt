@@ -3,9 +3,9 @@
 #![tactic(auto)]
 
 mod command;
-mod fault;
 mod file;
 mod program;
+mod stop;
 
 pub use command::FILLS;
 pub use program::{USAGE, run, want_of_memory};

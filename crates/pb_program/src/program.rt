@@ -3,8 +3,8 @@
 ghost use Rattle.std.specs.Prelude.{◌≡◌, ◌≤◌};
 
 use crate::command::answer;
-use crate::fault::{no_file, tell_fault};
 use crate::file::PIECE;
+use crate::stop::{Stop, tell_stop};
 use pb_cli::{Fault, Order, ParseFault, parse, status};
 use pb_poly::ToWrite;
 use std::io;
@@ -37,19 +37,16 @@ fn perform(rt: &HostRuntime, order: &Order<'_>) -> u8
         return want_of_memory(rt);
     };
     let mut output = ToWrite::new(writer);
-    let Ok(answer) = answer(rt, order, &mut output) else {
-        return no_file(rt);
-    };
-    if let Err(fault) = answer {
-        tell_fault(rt, &mut output, fault);
+    match answer(rt, order, &mut output) {
+        Ok(taken) => status::<Stop>(Ok(taken)),
+        Err(stop) => tell_stop(rt, &mut output, stop),
     }
-    status(answer)
 }
 
 /// Tells that there was no memory to begin with, and answers the status of a fault.
 pub fn want_of_memory(rt: &HostRuntime) -> u8
     ensures { result ≡ 3 }
 {
-    let _ = println!(rt; "fault {}", Fault::Memory);
-    status(Err(Fault::Memory))
+    let mut output = ToWrite::new(io::writer(rt));
+    tell_stop(rt, &mut output, Stop::Fault(Fault::Memory))
 }
