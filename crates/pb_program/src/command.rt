@@ -2,7 +2,7 @@
 
 use crate::file::{BookFile, open};
 use crate::stop::Stop;
-use pb_cli::{Order, collect_into, run_epd, run_export, run_fen, run_probe, run_show};
+use pb_cli::{Order, Rules, collect_into, run_epd, run_export, run_fen, run_probe, run_show};
 use pb_poly::{FromRead, Sink, ToWrite};
 use std::io;
 
@@ -33,11 +33,11 @@ pub(crate) fn answer<K: Sink>(
             book,
             record,
         } => probe(rt, table, book, record, output),
-        Order::Collect { table, book } => collect(rt, table, book),
-        Order::Export { table } => {
+        Order::Collect { rules, table, book } => collect(rt, *rules, table, book),
+        Order::Export { rules, table } => {
             let mut table = open(rt, table)?;
             let mut input = FromRead::new(rt.reader());
-            Ok(run_export(rt.alloc(), &mut table, &mut input, output, FILLS)?)
+            Ok(run_export(rt.alloc(), *rules, &mut table, &mut input, output, FILLS)?)
         }
     }
 }
@@ -57,7 +57,7 @@ fn probe<K: Sink>(
 }
 
 /// Makes the file of the book once there is one, so that a fault or a refused table leaves the old file.
-fn collect(rt: &HostRuntime, table: &str, book: &str) -> Result<bool, Stop> {
+fn collect(rt: &HostRuntime, rules: Rules, table: &str, book: &str) -> Result<bool, Stop> {
     let mut table = open(rt, table)?;
     let mut input = FromRead::new(rt.reader());
     // Each reply is written at once, so that it can be waited for before the next line is sent.
@@ -65,6 +65,7 @@ fn collect(rt: &HostRuntime, table: &str, book: &str) -> Result<bool, Stop> {
     let mut file = BookFile::new(rt, book);
     Ok(collect_into(
         rt.alloc(),
+        rules,
         &mut table,
         &mut input,
         &mut replies,
