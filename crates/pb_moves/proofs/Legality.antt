@@ -1,11 +1,11 @@
 -- From the cases of a move to whether it is legal.
-use Rattle.std.proofs.Common.{◌≡◌, ◌≢◌, ℕ, List, subst, sym, Option, Some, None}
+use Rattle.std.proofs.Common.{◌≡◌, ◌≢◌, ℕ, List, [], ◌∷◌, subst, sym, Option, Some, None}
 use Rattle.pb_board.specs.declared.piece.Colour.{Colour}
 use Rattle.pb_board.specs.declared.piece.Kind.{Kind}
 use Rattle.pb_board.specs.declared.piece.Kind.TheVariants.{Pawn, King}
 use Rattle.pb_board.specs.declared.piece.Piece.{Piece}
 use Rattle.pb_board.specs.Board.{Board, Place, Holds}
-use Rattle.pb_board.specs.Position.{Position, IsSetup}
+use Rattle.pb_board.specs.Position.{Position, IsSetup, beyond}
 use Rattle.pb_moves.specs.Attack.{InCheck}
 use Rattle.pb_moves.specs.declared.castling.Castling.{Castling}
 use Rattle.pb_moves.specs.declared.change.Change.{Change}
@@ -17,12 +17,24 @@ use Rattle.pb_moves.specs.Change.{Finds}
 use Rattle.pb_moves.proofs.Unique.{case_one}
 
 -- a pawn that becomes nothing doesn't go
-pub no_becoming : (s : Position) (m : Moved) (pawn : Piece) (besides : List (ℕ × Place)) (new : Board) → pawn.colour ≡ s.turn → pawn.kind ≡ Pawn
+no_becoming : (s : Position) (m : Moved) (pawn : Piece) (besides : List (ℕ × Place)) (new : Board) → pawn.colour ≡ s.turn → pawn.kind ≡ Pawn
     → ((kind : Kind) → ¬ Becomes pawn.colour m Pawn kind) → ¬ Goes s m pawn besides new
 no_becoming s m pawn besides new own is_pawn none x =
     let C : Colour → Type 0 = λ side. Becomes side m Pawn x.kind in
     let K : Kind → Type 0 = λ kind. Becomes s.turn m kind x.kind in
     none x.kind (subst C (sym own) (subst K is_pawn x.becomes))
+
+pub no_pawn_case : (s : Position) (m : Moved) (pawn : Piece) → pawn.colour ≡ s.turn → pawn.kind ≡ Pawn
+    → ((kind : Kind) → ¬ Becomes pawn.colour m Pawn kind) → (new : Board) → ¬ CaseOf s m pawn new
+no_pawn_case s m pawn own is_pawn none new case =
+    elim case [
+      | piece_move x ↦ x.no_pawn is_pawn
+      | pawn_step x ↦ no_becoming s m pawn [] new own is_pawn none x.after
+      | pawn_double x ↦ no_becoming s m pawn [] new own is_pawn none x.after
+      | pawn_capture x ↦ no_becoming s m pawn [] new own is_pawn none x.after
+      | en_passant x ↦ no_becoming s m pawn ((beyond s.turn m.to, None) ∷ []) new own is_pawn none x.after
+      | castles c x ↦ (let king = x.king in absurd (cc))
+    ]
 
 -- a pawn's last case
 pub pawn_cases : (s : Position) (m : Moved) (piece : Piece) → piece.kind ≡ Pawn

@@ -33,8 +33,8 @@ pub(crate) fn piece_move(setup: &Setup, m: Move, piece: Piece) -> Option<Change>
 }
 
 /// What the pawn of this move is afterwards, if the move promotes just where it has to.
-#[inline]
-fn becomes(side: Colour, m: Move) -> Option<Kind>
+#[inline(always)]
+pub(crate) fn becomes(side: Colour, m: Move) -> Option<Kind>
     ensures { MatchOption result ((k : Kind) → ¬ Becomes side m Pawn k) (Becomes side m Pawn) }
 {
     let last_rank = match side {
@@ -49,14 +49,14 @@ fn becomes(side: Colour, m: Move) -> Option<Kind>
 
 /// A pawn's step forward.
 #[inline]
-pub(crate) fn pawn_step(setup: &Setup, m: Move, pawn: Piece) -> Option<Change>
+pub(crate) fn pawn_step(setup: &Setup, m: Move, pawn: Piece, kind: Kind) -> Option<Change>
     requires own { pawn.colour ≡ setup.now.turn }
     requires pawn { pawn.kind ≡ Pawn }
+    requires becomes { Becomes pawn.colour m Pawn kind }
     ensures { Finds (PawnStep setup.now m pawn) setup.now.board m result }
 {
     let colour = pawn.colour;
     let (from, to) = (m.from(), m.to());
-    let kind = becomes(colour, m)?;
     if to.file() == from.file() && is_forward(colour, 1, from, to) && is_empty(setup.board(), to) {
         Some(Change::Carry(Piece { colour, kind }))
     } else {
@@ -66,15 +66,15 @@ pub(crate) fn pawn_step(setup: &Setup, m: Move, pawn: Piece) -> Option<Change>
 
 /// A pawn's capture of what it attacks.
 #[inline]
-pub(crate) fn pawn_capture(setup: &Setup, m: Move, pawn: Piece) -> Option<Change>
+pub(crate) fn pawn_capture(setup: &Setup, m: Move, pawn: Piece, kind: Kind) -> Option<Change>
     requires own { pawn.colour ≡ setup.now.turn }
     requires pawn { pawn.kind ≡ Pawn }
+    requires becomes { Becomes pawn.colour m Pawn kind }
     ensures { Finds (PawnCapture setup.now m pawn) setup.now.board m result }
 {
     let colour = pawn.colour;
     let board = setup.board();
     let (from, to) = (m.from(), m.to());
-    let kind = becomes(colour, m)?;
     if is_prey(board, colour, to) && reaches(pawn, setup, from, to) {
         Some(Change::Carry(Piece { colour, kind }))
     } else {
@@ -84,9 +84,10 @@ pub(crate) fn pawn_capture(setup: &Setup, m: Move, pawn: Piece) -> Option<Change
 
 /// A pawn's double step.
 #[inline]
-pub(crate) fn pawn_double(setup: &Setup, m: Move, pawn: Piece) -> Option<Change>
+pub(crate) fn pawn_double(setup: &Setup, m: Move, pawn: Piece, kind: Kind) -> Option<Change>
     requires own { pawn.colour ≡ setup.now.turn }
     requires pawn { pawn.kind ≡ Pawn }
+    requires becomes { Becomes pawn.colour m Pawn kind }
     ensures { Finds (PawnDouble setup.now m pawn) setup.now.board m result }
 {
     let colour = pawn.colour;
@@ -98,7 +99,6 @@ pub(crate) fn pawn_double(setup: &Setup, m: Move, pawn: Piece) -> Option<Change>
         && is_empty(board, to)
         && is_empty(board, passed(from, to))
     {
-        let kind = becomes(colour, m)?;
         Some(Change::Carry(Piece { colour, kind }))
     } else {
         None
@@ -127,16 +127,16 @@ pub(crate) fn passed(from: Square, to: Square) -> Square
 
 /// A pawn's capture of the pawn that has just passed it.
 #[inline]
-pub(crate) fn en_passant(setup: &Setup, m: Move, pawn: Piece) -> Option<Change>
+pub(crate) fn en_passant(setup: &Setup, m: Move, pawn: Piece, kind: Kind) -> Option<Change>
     requires own { pawn.colour ≡ setup.now.turn }
     requires pawn { pawn.kind ≡ Pawn }
+    requires becomes { Becomes pawn.colour m Pawn kind }
     ensures { Finds (EnPassant setup.now m pawn) setup.now.board m result }
 {
     let colour = pawn.colour;
     let (from, to) = (m.from(), m.to());
     match setup.ep() {
         Some(ep) if ep.index() == to.index() && reaches(pawn, setup, from, to) => {
-            let kind = becomes(colour, m)?;
             let gone = square_at(8 * from.rank() + to.file());
             Some(Change::CarryPast(Piece { colour, kind }, gone))
         }

@@ -15,7 +15,7 @@ ghost use Rattle.pb_moves.specs.Sight.{Sees};
 ghost use Rattle.pb_moves.specs.Free.{IsFree};
 
 use crate::board::{is_empty, opponent_of};
-use crate::cases::{en_passant, pawn_capture, pawn_double, pawn_step, piece_move};
+use crate::cases::{becomes, en_passant, pawn_capture, pawn_double, pawn_step, piece_move};
 use crate::castling::castles;
 use crate::change::Change;
 use crate::moves::Move;
@@ -42,16 +42,17 @@ fn pawn_change(setup: &Setup, m: Move, pawn: Piece) -> Option<Change>
     requires pawn { pawn.kind ≡ Pawn }
     ensures { Finds (CaseOf setup.now m pawn) setup.now.board m result }
 {
-    if let Some(change) = pawn_step(setup, m, pawn) {
+    let kind = becomes(pawn.colour, m)?;
+    if let Some(change) = pawn_step(setup, m, pawn, kind) {
         return Some(change);
     }
-    if let Some(change) = pawn_double(setup, m, pawn) {
+    if let Some(change) = pawn_double(setup, m, pawn, kind) {
         return Some(change);
     }
-    if let Some(change) = pawn_capture(setup, m, pawn) {
+    if let Some(change) = pawn_capture(setup, m, pawn, kind) {
         return Some(change);
     }
-    en_passant(setup, m, pawn)
+    en_passant(setup, m, pawn, kind)
 }
 
 /// What the move of this king does.
