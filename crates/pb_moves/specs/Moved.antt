@@ -24,10 +24,8 @@ pub record IsMove (m : Moved) : Type 0 where
 
 -- promotions in their order: none is 0, and a pawn becomes nothing else than these four
 abbrev pub promotion_number : Option Kind → ℕ
-promotion_number None = 0
 promotion_number (Some Knight) = 1
 promotion_number (Some Bishop) = 2
 promotion_number (Some Rook) = 3
 promotion_number (Some Queen) = 4
-promotion_number (Some Pawn) = 0
-promotion_number (Some King) = 0
+promotion_number _ = 0

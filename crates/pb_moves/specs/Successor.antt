@@ -2,7 +2,7 @@
 -- means nothing elsewhere.
 use Rattle.std.specs.Prelude.{ℕ, ◌+◌, ◌-◌, ◌*◌, ◌/◌, Bool, not, ◌&&◌, ◌||◌, ◌==◌, Option, Some, None, is_none, if◌then◌else◌, slice_set}
 use Rattle.pb_board.specs.declared.piece.Kind.{Kind}
-use Rattle.pb_board.specs.declared.piece.Kind.TheVariants.{Pawn, Knight, Bishop, Rook, Queen, King}
+use Rattle.pb_board.specs.declared.piece.Kind.TheVariants.{Pawn, King}
 use Rattle.pb_board.specs.declared.piece.Piece.{Piece}
 use Rattle.pb_board.specs.declared.setup.Rights.{Rights}
 use Rattle.pb_board.specs.Position.{Position}
@@ -37,11 +37,8 @@ with_rook old new m =
 
 abbrev pub beside : Kind → Board → Board → Moved → Board
 beside Pawn old new m = without_passed old new m
-beside Knight old new m = new
-beside Bishop old new m = new
-beside Rook old new m = new
-beside Queen old new m = new
 beside King old new m = with_rook old new m
+beside _ old new m = new
 
 abbrev pub carried : Board → Moved → Piece → Board
 carried board m piece = beside piece.kind board (put (put board m.from None) m.to (Some (arriving piece m.promo))) m
@@ -61,11 +58,7 @@ rights_of r m = record { white_short = keeps r m WhiteShort; white_long = keeps 
 
 abbrev pub ep_of_kind : Kind → Moved → Option ℕ
 ep_of_kind Pawn m = if ranks_apart m.from m.to == 2 then Some ((m.from + m.to) / 2) else None
-ep_of_kind Knight m = None
-ep_of_kind Bishop m = None
-ep_of_kind Rook m = None
-ep_of_kind Queen m = None
-ep_of_kind King m = None
+ep_of_kind _ m = None
 
 abbrev pub ep_of : Moved → Option Piece → Option ℕ
 ep_of m None = None

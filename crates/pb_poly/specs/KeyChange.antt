@@ -2,7 +2,7 @@
 use Rattle.std.specs.Prelude.{ℕ, ◌+◌, ◌-◌, ◌*◌, ◌==◌, not, Some, None, List, [], ◌∷◌, ◌++◌, if◌then◌else◌}
 use Rattle.std.specs.Bool.{beq}
 use Rattle.pb_board.specs.declared.piece.Kind.{Kind}
-use Rattle.pb_board.specs.declared.piece.Kind.TheVariants.{Pawn, Knight, Bishop, Rook, Queen, King}
+use Rattle.pb_board.specs.declared.piece.Kind.TheVariants.{Pawn, King}
 use Rattle.pb_board.specs.declared.setup.Rights.{Rights}
 use Rattle.pb_board.specs.Board.{Board, Place, file, rank, at}
 use Rattle.pb_moves.specs.Attack.{files_apart}
@@ -27,11 +27,8 @@ rook_squares from to =
 -- the squares besides its own two that the move of such a piece may change: that of a pawn taken in passing, and the rook's
 abbrev pub beside_kind : Kind → Moved → List ℕ
 beside_kind Pawn m = if file m.to == file m.from then [] else (8 * rank m.from + file m.to) ∷ []
-beside_kind Knight m = []
-beside_kind Bishop m = []
-beside_kind Rook m = []
-beside_kind Queen m = []
 beside_kind King m = rook_squares m.from m.to
+beside_kind _ m = []
 
 abbrev pub squares_beside : Place → Moved → List ℕ
 squares_beside None m = []
