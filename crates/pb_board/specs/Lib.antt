@@ -1,4 +1,5 @@
 pub mod Piece
+pub mod Castling
 pub mod Board
 pub mod Position
 pub mod King

@@ -1,6 +1,7 @@
 //! Chess positions: squares, pieces, setups, and the FEN records that spell them (PGN Standard 16.1).
 #![tactic(auto)]
 
+mod castling;
 mod cut;
 mod fen;
 mod fields;
@@ -20,6 +21,7 @@ mod small_fields;
 mod square;
 mod write;
 
+pub use castling::{Castling, CastlingSquares};
 pub use cut::cut_once;
 pub use fen::{Fen, FenBytes};
 pub use line_end::without_return;

@@ -23,11 +23,34 @@ impl Model for Square {
 }
 
 impl Square {
-    /// The square of the white king in the initial array.
+    // The squares between which kings and rooks castle.
+    pub(crate) const A1: Square = Square { index: 0 };
+
+    pub(crate) const C1: Square = Square { index: 2 };
+
+    pub(crate) const D1: Square = Square { index: 3 };
+
     pub(crate) const E1: Square = Square { index: 4 };
 
-    /// The square of the black king in the initial array.
+    pub(crate) const F1: Square = Square { index: 5 };
+
+    pub(crate) const G1: Square = Square { index: 6 };
+
+    pub(crate) const H1: Square = Square { index: 7 };
+
+    pub(crate) const A8: Square = Square { index: 56 };
+
+    pub(crate) const C8: Square = Square { index: 58 };
+
+    pub(crate) const D8: Square = Square { index: 59 };
+
     pub(crate) const E8: Square = Square { index: 60 };
+
+    pub(crate) const F8: Square = Square { index: 61 };
+
+    pub(crate) const G8: Square = Square { index: 62 };
+
+    pub(crate) const H8: Square = Square { index: 63 };
 
     /// The square on a file and a rank, both counted from 0. None exactly where one of them is above 7.
     pub fn new(file: u8, rank: u8) -> Option<Square>

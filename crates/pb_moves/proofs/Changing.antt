@@ -7,14 +7,15 @@ use Rattle.pb_board.specs.declared.piece.Piece.{Piece}
 use Rattle.pb_board.specs.Piece.{opponent, king_of, rook_of}
 use Rattle.pb_board.specs.Board.{Board, Place, at, Holds}
 use Rattle.pb_board.specs.Position.{Position, IsSetup, IsOnlyKing, carried_board}
-use Rattle.pb_moves.specs.declared.castling.Castling.{Castling}
+use Rattle.pb_board.specs.declared.castling.Castling.{Castling}
 use Rattle.pb_moves.specs.declared.change.Change.{Change}
 use Rattle.pb_moves.specs.declared.change.Change.TheVariants.{Carry, CarryPast, Castle}
 use Rattle.pb_moves.specs.declared.sight.Sight.{Sight}
 use Rattle.pb_moves.specs.Moved.{Moved, IsMove}
 use Rattle.pb_moves.specs.Attack.{IsAttacked, InCheck}
 use Rattle.pb_moves.specs.Candidate.{HoldsOwn}
-use Rattle.pb_moves.specs.Castling.{castling_row, rook_goes}
+use Rattle.pb_board.specs.Castling.{castling_row}
+use Rattle.pb_moves.specs.Castling.{rook_goes}
 use Rattle.pb_moves.specs.Cases.{Differs, CaseOf, Legal}
 use Rattle.pb_moves.specs.Change.{Changes, Fits, LeadsTo}
 use Rattle.pb_moves.specs.Sight.{Sees}
@@ -22,7 +23,8 @@ use Rattle.pb_moves.specs.Successor.{put}
 use Rattle.pb_moves.proofs.Differing.{All-two, arrived, carried_past_put, carried_put, off_one, off_two, same_or_not}
 use Rattle.pb_moves.proofs.Legality.{not_legal_in_check, legal_out_of_check}
 use Rattle.pb_moves.proofs.Pins.{arrives_own, differ}
-use Rattle.pb_moves.proofs.Successors.{castled_board, castled_put, rows}
+use Rattle.pb_moves.proofs.Castlings.{rows}
+use Rattle.pb_moves.proofs.Successors.{castled_board, castled_put}
 
 -- a castling's squares are those of the move
 pub castle_changes : (castling : Castling) (m : Moved) (old new : Board) → Fits (Castle castling) m old

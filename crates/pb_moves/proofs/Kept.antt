@@ -13,7 +13,8 @@ use Rattle.pb_board.specs.Piece.{opponent, pawn_of, rook_of}
 use Rattle.pb_board.specs.Board.{Board, Place, file, rank, Holds, IsForward}
 use Rattle.pb_board.specs.Position.{Position, position_of, IsSetup, HasNoEdgePawn, EnPassantHolds, OnPassedRank, beyond}
 use Rattle.pb_moves.specs.Moved.{Moved}
-use Rattle.pb_moves.specs.Castling.{castling_row, rook_goes}
+use Rattle.pb_board.specs.Castling.{castling_row}
+use Rattle.pb_moves.specs.Castling.{rook_goes}
 use Rattle.pb_moves.specs.Cases.{Differs, Becomes, Goes, pawn_rank, CaseOf, piece_move, pawn_step, pawn_double, pawn_capture, en_passant, castles}
 use Rattle.pb_moves.proofs.Differing.{All-two, arrived, each_place, holds_on_board, off_two}
 use Rattle.pb_moves.proofs.Passing.{halfway_between, passed_empty, passed_over}

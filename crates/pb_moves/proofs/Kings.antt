@@ -10,12 +10,13 @@ use Rattle.pb_board.specs.declared.piece.Piece.{Piece}
 use Rattle.pb_board.specs.Piece.{opponent, king_of, rook_of}
 use Rattle.pb_board.specs.Board.{Board, Place, file, rank, Holds, IsEmpty, IsForward}
 use Rattle.pb_board.specs.Position.{Position, IsSetup, IsOnlyKing, HasOneKing, beyond}
-use Rattle.pb_moves.specs.declared.castling.Castling.{Castling}
-use Rattle.pb_moves.specs.declared.castling.Castling.TheVariants.{WhiteShort, WhiteLong, BlackShort, BlackLong}
+use Rattle.pb_board.specs.declared.castling.Castling.{Castling}
 use Rattle.pb_moves.specs.Attack.{ReachesBy}
 use Rattle.pb_moves.specs.Moved.{Moved}
-use Rattle.pb_moves.specs.Castling.{CastlingRow, castling_row, rook_goes, MayCastle}
+use Rattle.pb_board.specs.Castling.{CastlingRow, castling_row}
+use Rattle.pb_moves.specs.Castling.{rook_goes, MayCastle}
 use Rattle.pb_moves.specs.Cases.{Differs, Becomes, Goes, CaseOf, piece_move, pawn_step, pawn_double, pawn_capture, en_passant, castles, IsPrey}
+use Rattle.pb_moves.proofs.Castlings.{rows}
 use Rattle.pb_moves.proofs.Differing.{All-two, arrived, each_place}
 use Rattle.pb_moves.proofs.Unique.{piece_is, passed_at}
 
@@ -116,10 +117,10 @@ gone_is_beyond Black from to gone forward gone_file gone_rank = omega arith
 -- where king and rook go nothing stood
 pub castling_free : (c : Castling) (s : Position) → MayCastle (castling_row c) s
     → IsEmpty s.board (castling_row c).king_to × IsEmpty s.board (castling_row c).rook_to
-castling_free WhiteShort s may = (may.empty 1 0 (omega arith), may.empty 0 0 (omega arith))
-castling_free WhiteLong s may = (may.empty 1 0 (omega arith), may.empty 2 0 (omega arith))
-castling_free BlackShort s may = (may.empty 1 0 (omega arith), may.empty 0 0 (omega arith))
-castling_free BlackLong s may = (may.empty 1 0 (omega arith), may.empty 2 0 (omega arith))
+castling_free c s may =
+    let row = castling_row c in
+    let squares = rows c in
+    (may.way row.king_to squares.king_to squares.king_crosses, may.way row.rook_to squares.rook_to squares.rook_crosses)
 
 -- the king that castles stands at home
 pub castling_king : (s : Position) (m : Moved) (p : Piece) (row : CastlingRow) → Holds s.board m.from p → p.colour ≡ s.turn → p.kind ≡ King

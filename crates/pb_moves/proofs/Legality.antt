@@ -7,11 +7,11 @@ use Rattle.pb_board.specs.declared.piece.Piece.{Piece}
 use Rattle.pb_board.specs.Board.{Board, Place, Holds}
 use Rattle.pb_board.specs.Position.{Position, IsSetup, beyond}
 use Rattle.pb_moves.specs.Attack.{InCheck}
-use Rattle.pb_moves.specs.declared.castling.Castling.{Castling}
+use Rattle.pb_board.specs.declared.castling.Castling.{Castling}
 use Rattle.pb_moves.specs.declared.change.Change.{Change}
 use Rattle.pb_moves.specs.Moved.{Moved}
 use Rattle.pb_moves.specs.Candidate.{HoldsOwn}
-use Rattle.pb_moves.specs.Castling.{castling_row}
+use Rattle.pb_board.specs.Castling.{castling_row}
 use Rattle.pb_moves.specs.Cases.{Becomes, Goes, PieceMove, PawnStep, PawnDouble, PawnCapture, EnPassant, Castles, CaseOf, piece_move, pawn_step, pawn_double, pawn_capture, en_passant, castles, Case, Legal}
 use Rattle.pb_moves.specs.Change.{Finds}
 use Rattle.pb_moves.proofs.Unique.{case_one}

@@ -18,3 +18,4 @@ pub mod Plies
 pub mod Pins
 pub mod Changing
 pub mod Listed
+pub mod Castlings

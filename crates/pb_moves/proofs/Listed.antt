@@ -11,17 +11,17 @@ use Rattle.pb_board.specs.declared.piece.Piece.{Piece}
 use Rattle.pb_board.specs.Board.{Board, Holds, IsEmpty, IsForward}
 use Rattle.pb_board.specs.Piece.{opponent}
 use Rattle.pb_board.specs.Position.{EnPassantHolds, IsSetup, Position}
-use Rattle.pb_moves.specs.declared.castling.Castling.{Castling}
-use Rattle.pb_moves.specs.declared.castling.Castling.TheVariants.{WhiteShort, WhiteLong, BlackShort, BlackLong}
+use Rattle.pb_board.specs.declared.castling.Castling.{Castling}
+use Rattle.pb_board.specs.declared.castling.Castling.TheVariants.{WhiteShort}
 use Rattle.pb_moves.specs.Attack.{files_apart, ReachesBy}
 use Rattle.std.specs.Int.{bit_at, trailing_zeros}
 use Rattle.pb_moves.proofs.Pins.{differ}
-use Rattle.pb_moves.proofs.Kings.{holds_one}
+use Rattle.pb_moves.proofs.Kings.{castling_free, holds_one}
 use Rattle.pb_moves.proofs.Legality.{case_at}
 use Rattle.pb_moves.proofs.Unique.{goes_of}
 use Rattle.pb_moves.proofs.Rising.{low_bits, zeros_bound, zeros_rise, without, without_other, without_small}
 use Rattle.pb_moves.specs.Moved.{Moved, IsMove, IsPromotion, promotion_number}
-use Rattle.pb_moves.specs.Castling.{MayCastle, castling_row}
+use Rattle.pb_board.specs.Castling.{castling_row}
 use Rattle.pb_moves.specs.Cases.{Legal, CaseOf, piece_move, pawn_step, pawn_double, pawn_capture, en_passant, castles, Becomes, IsPrey}
 use Rattle.pb_moves.specs.Listing.{place, ListsLegal}
 use Rattle.pb_moves.specs.Candidate.{HoldsOwn, MayGo, MayPromote, ListsBelow}
@@ -170,12 +170,6 @@ no_prey s q r prey own =
 not_empty : (s : Position) (q : ℕ) (r : Piece) → IsEmpty s.board q → HoldsOwn s q r → ⊥
 not_empty s q r empty own = let no : None ≡ Some r = sym empty ∙ own.stands in cc
 
-castling_free : (c : Castling) (s : Position) → MayCastle (castling_row c) s → IsEmpty s.board (castling_row c).king_to
-castling_free WhiteShort s may = may.empty 1 0 (omega arith)
-castling_free WhiteLong s may = may.empty 1 0 (omega arith)
-castling_free BlackShort s may = may.empty 1 0 (omega arith)
-castling_free BlackLong s may = may.empty 1 0 (omega arith)
-
 -- no piece goes to where a piece of its own side stands
 pub free_of_own : (s : Position) (m : Moved) (p : Piece) (b : Board) (r : Piece) → IsSetup s → CaseOf s m p b → HoldsOwn s m.to r → ⊥
 free_of_own s m p b r ok (piece_move x) own = elim x.target [ inl empty ↦ not_empty s m.to r empty own | inr prey ↦ no_prey s m.to r prey own ]
@@ -185,7 +179,7 @@ free_of_own s m p b r ok (pawn_capture x) own = no_prey s m.to r x.target own
 free_of_own s m p b r ok (en_passant x) own =
     let passed = subst (EnPassantHolds s.board s.turn) x.passed ok.en_passant in
     not_empty s m.to r passed.1.empty own
-free_of_own s m p b r ok (castles c x) own = not_empty s m.to r (subst (λ q. IsEmpty s.board q) (sym x.to_table) (castling_free c s x.allowed)) own
+free_of_own s m p b r ok (castles c x) own = not_empty s m.to r (subst (λ q. IsEmpty s.board q) (sym x.to_table) (castling_free c s x.allowed).0) own
 
 -- the bits of the squares from one on, to which a piece may go and on which no piece of its own side stands
 pub record HasTargets (s : Position) (p : Piece) (from k bits : ℕ) : Type 0 where

@@ -1,5 +1,5 @@
 -- The total function `after` is the setup of `After`, and its only one.
-use Rattle.std.proofs.Common.{◌≡◌, ◌≢◌, ℕ, ◌+◌, ◌*◌, ◌/◌, ◌<◌, ◌≤◌, ◌↔◌, refl, arith, inl, inr, sym, ap, subst, ◌∙◌, Option, Some, None, [], ◌∷◌, length, Bool, true, false, not, ◌&&◌, ◌||◌, eqb, IsTrue}
+use Rattle.std.proofs.Common.{◌≡◌, ◌≢◌, ℕ, ◌+◌, ◌*◌, ◌/◌, ◌≤◌, ◌↔◌, refl, arith, inl, inr, sym, ap, subst, ◌∙◌, Option, Some, None, [], ◌∷◌, length, Bool, true, false, not, ◌&&◌, ◌||◌, eqb, IsTrue}
 use Rattle.std.specs.Prelude.{MatchOption}
 use Rattle.std.proofs.lemmas.List.Elements.{All-nil, All-cons}
 use Rattle.std.proofs.lemmas.Bool.{eq-eqb}
@@ -12,15 +12,17 @@ use Rattle.pb_board.specs.declared.setup.Rights.{Rights}
 use Rattle.pb_board.specs.Piece.{king_of, rook_of}
 use Rattle.pb_board.specs.Board.{Board, Place, file, rank, at, Holds, IsForward}
 use Rattle.pb_board.specs.Position.{Position, position_of, IsSetup, beyond}
-use Rattle.pb_moves.specs.declared.castling.Castling.{Castling}
-use Rattle.pb_moves.specs.declared.castling.Castling.TheVariants.{WhiteShort, WhiteLong, BlackShort, BlackLong}
+use Rattle.pb_board.specs.declared.castling.Castling.{Castling}
+use Rattle.pb_board.specs.declared.castling.Castling.TheVariants.{WhiteShort, WhiteLong, BlackShort, BlackLong}
 use Rattle.pb_moves.specs.Attack.{files_apart, ranks_apart}
 use Rattle.pb_moves.specs.Moved.{Moved, moved_of, IsMove}
-use Rattle.pb_moves.specs.Castling.{CastlingRow, castling_row, rook_goes}
+use Rattle.pb_board.specs.Castling.{CastlingRow, castling_row, IsHome}
+use Rattle.pb_moves.specs.Castling.{rook_goes}
 use Rattle.pb_moves.specs.Cases.{Differs, Becomes, Goes, Castles, CaseOf, piece_move, pawn_step, pawn_double, pawn_capture, en_passant, castles, Case, Legal}
 use Rattle.pb_moves.specs.After.{PassesOver, Touches, KeepsFlag, After}
 use Rattle.pb_moves.specs.Successor.{put, arriving, beside, board_of, carried, keeps, rights_of, ep_of_kind, ep_of, after}
 use Rattle.pb_moves.specs.MoveLaws.{AfterIs, OneAfter, AfterIsSetup}
+use Rattle.pb_moves.proofs.Castlings.{IsRow, rows}
 use Rattle.pb_moves.proofs.Differing.{All-two, carried_past_put, carried_put, differs_one, differs_put, moved_board, off_two}
 use Rattle.pb_moves.proofs.Unique.{piece_is, case_one, king_near, pawn_files, step_ranks, passed_at}
 use Rattle.pb_moves.proofs.Kings.{becomes_king, castling_king, gone_is_beyond, pawn_reach}
@@ -31,19 +33,6 @@ use Rattle.pb_moves.proofs.LegalMoves.{legal_is_move}
 -- the board on which a king was carried, and then a rook
 abbrev pub castled_board : CastlingRow → Board → Board
 castled_board row old = put (put (moved_board old row.king_from row.king_to (king_of row.colour)) row.rook_from None) row.rook_to (at old row.rook_from)
-
--- the four squares of a row lie on the board and differ
-pub record IsRow (row : CastlingRow) : Type 0 where
-  pub king_from : row.king_from < 64
-  pub king_to : row.king_to < 64
-  pub rook_from : row.rook_from < 64
-  pub rook_to : row.rook_to < 64
-  pub king_moves : row.king_from ≢ row.king_to
-  pub from_rook : row.king_from ≢ row.rook_from
-  pub from_rook_to : row.king_from ≢ row.rook_to
-  pub to_rook : row.king_to ≢ row.rook_from
-  pub to_rook_to : row.king_to ≢ row.rook_to
-  pub rook_moves : row.rook_from ≢ row.rook_to
 
 pub castled_writes : (row : CastlingRow) (old : Board) → IsRow row → length old ≡ 64
     → Differs old (put (put (moved_board old row.king_from row.king_to (king_of row.colour)) row.rook_from None) row.rook_to (Some (rook_of row.colour)))
@@ -68,10 +57,6 @@ castled_put row old is full rook =
     let P : Place → Type 0 = λ place.
     Differs old (put (put moved row.rook_from None) row.rook_to place) ((row.king_from, None) ∷ (row.king_to, Some (king_of row.colour)) ∷ rook_goes row) in
     subst P (sym rook) (castled_writes row old is full)
-
-pub rows : (c : Castling) → IsRow (castling_row c)
-rows WhiteShort = record { king_from = omega arith; king_to = omega arith; rook_from = omega arith; rook_to = omega arith; king_moves = λ e. omega arith; from_rook = λ e. omega arith; from_rook_to = λ e. omega arith; to_rook = λ e. omega arith; to_rook_to = λ e. omega arith; rook_moves = λ e. omega arith }
-rows c = record { king_from = omega arith; king_to = omega arith; rook_from = omega arith; rook_to = omega arith; king_moves = λ e. omega arith; from_rook = λ e. omega arith; from_rook_to = λ e. omega arith; to_rook = λ e. omega arith; to_rook_to = λ e. omega arith; rook_moves = λ e. omega arith }
 
 -- besides the piece's own two squares nothing changes
 pub beside_piece : (k : Kind) (old new : Board) (m : Moved) → k ≢ Pawn → (k ≡ King → files_apart m.from m.to ≤ 1) → beside k old new m ≡ new
@@ -254,15 +239,12 @@ keeps_is r m c =
           (test_fails m.to row.king_from (λ e. h.1 (inr e))) (test_fails m.from row.rook_from (λ e. h.2 (inl e))) (test_fails m.to row.rook_from (λ e. h.2 (inr e))),
     )
 
--- where nothing is touched each flag is kept as it is
-abbrev pub IsElsewhere : ℕ → Type 0
-IsElsewhere q = (q ≢ 0) × (q ≢ 4) × (q ≢ 7) × (q ≢ 56) × (q ≢ 60) × (q ≢ 63)
-
-pub kept_elsewhere : (m : Moved) (c : Castling) (flag : Bool) → IsElsewhere m.from → IsElsewhere m.to → KeepsFlag flag flag m (castling_row c)
-kept_elsewhere m WhiteShort flag f t = ((λ h. (h, (λ at. elim at [ inl e ↦ f.1 e | inr e ↦ t.1 e ]), (λ at. elim at [ inl e ↦ f.2 e | inr e ↦ t.2 e ]))), (λ h. h.0))
-kept_elsewhere m WhiteLong flag f t = ((λ h. (h, (λ at. elim at [ inl e ↦ f.1 e | inr e ↦ t.1 e ]), (λ at. elim at [ inl e ↦ f.0 e | inr e ↦ t.0 e ]))), (λ h. h.0))
-kept_elsewhere m BlackShort flag f t = ((λ h. (h, (λ at. elim at [ inl e ↦ f.4 e | inr e ↦ t.4 e ]), (λ at. elim at [ inl e ↦ f.5 e | inr e ↦ t.5 e ]))), (λ h. h.0))
-kept_elsewhere m BlackLong flag f t = ((λ h. (h, (λ at. elim at [ inl e ↦ f.4 e | inr e ↦ t.4 e ]), (λ at. elim at [ inl e ↦ f.3 e | inr e ↦ t.3 e ]))), (λ h. h.0))
+-- where no home is touched each flag is kept as it is
+pub kept_elsewhere : (m : Moved) (c : Castling) (flag : Bool) → ¬ IsHome m.from → ¬ IsHome m.to → KeepsFlag flag flag m (castling_row c)
+kept_elsewhere m c flag f t = (
+  λ h. (h, (λ at. elim at [ inl e ↦ f (c, inl e) | inr e ↦ t (c, inl e) ]), λ at. elim at [ inl e ↦ f (c, inr e) | inr e ↦ t (c, inr e) ]),
+  λ h. h.0,
+)
 
 -- what holds of the four castlings holds of each
 pub each_castling : (P : Castling → Type 0) → P WhiteShort → P WhiteLong → P BlackShort → P BlackLong → (c : Castling) → P c

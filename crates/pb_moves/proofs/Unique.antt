@@ -9,11 +9,12 @@ use Rattle.pb_board.specs.Piece.{opponent}
 use Rattle.pb_board.specs.Board.{Board, Place, at, IsForward}
 use Rattle.pb_board.specs.Position.{Position, IsSetup, EnPassantHolds, OnPassedRank, IsPassed, beyond}
 use Rattle.pb_moves.specs.Attack.{files_apart, ranks_apart, ReachesBy}
-use Rattle.pb_moves.specs.declared.castling.Castling.{Castling}
-use Rattle.pb_moves.specs.declared.castling.Castling.TheVariants.{WhiteShort, WhiteLong, BlackShort, BlackLong}
+use Rattle.pb_board.specs.declared.castling.Castling.{Castling}
 use Rattle.pb_moves.specs.Moved.{Moved}
-use Rattle.pb_moves.specs.Castling.{castling_row, rook_goes}
+use Rattle.pb_board.specs.Castling.{castling_row}
+use Rattle.pb_moves.specs.Castling.{rook_goes}
 use Rattle.pb_moves.specs.Cases.{Differs, Becomes, Goes, CaseOf, piece_move, pawn_step, pawn_double, pawn_capture, en_passant, castles, Case}
+use Rattle.pb_moves.proofs.Castlings.{castling_one, class_of_castling}
 use Rattle.pb_moves.proofs.Differing.{differs_one}
 
 -- a piece is its colour and its kind
@@ -98,10 +99,6 @@ tag s m piece new (pawn_capture x) = 3
 tag s m piece new (en_passant x) = 4
 tag s m piece new (castles c x) = 5
 
-pub class_of_castling : (c : Castling) (f t : ℕ) → f ≡ (castling_row c).king_from → t ≡ (castling_row c).king_to → files_apart f t ≡ 2
-class_of_castling WhiteShort f t a b = omega arith
-class_of_castling c f t a b = omega arith
-
 pub step_ranks : (colour : Colour) (n a b : ℕ) → IsForward colour n a b → ranks_apart a b ≡ n
 step_ranks White n a b h = omega arith
 step_ranks Black n a b h = omega arith
@@ -132,13 +129,6 @@ classes s m piece new ok (castles c x) =
     let kind = x.king in
     let files : files_apart m.from m.to ≡ 2 = class_of_castling c m.from m.to x.from_home x.to_table in
     cc
-
-pub castling_one : (c d : Castling) → (castling_row c).king_to ≡ (castling_row d).king_to → c ≡ d
-castling_one WhiteShort WhiteShort e = refl
-castling_one WhiteLong WhiteLong e = refl
-castling_one BlackShort BlackShort e = refl
-castling_one BlackLong BlackLong e = refl
-castling_one c d e = absurd (omega arith)
 
 pub case_of_one : (s : Position) (m : Moved) (piece : Piece) (b c : Board) → IsSetup s → CaseOf s m piece b → CaseOf s m piece c → b ≡ c
 case_of_one s m piece b c ok (piece_move x) (piece_move y) = goes_one s m piece [] b c x.after y.after

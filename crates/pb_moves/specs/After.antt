@@ -3,9 +3,9 @@ use Rattle.std.specs.Prelude.{◌≡◌, ℕ, ◌⊎◌, ◌↔◌, MatchOption,
 use Rattle.pb_board.specs.Position.{Position}
 use Rattle.pb_board.specs.Piece.{opponent, pawn_of}
 use Rattle.pb_board.specs.Board.{Holds, IsForward}
-use Rattle.pb_moves.specs.declared.castling.Castling.{Castling}
+use Rattle.pb_board.specs.declared.castling.Castling.{Castling}
 use Rattle.pb_moves.specs.Attack.{IsBetween}
-use Rattle.pb_moves.specs.Castling.{CastlingRow, castling_row}
+use Rattle.pb_board.specs.Castling.{CastlingRow, castling_row}
 use Rattle.pb_moves.specs.Moved.{Moved}
 use Rattle.pb_moves.specs.Cases.{Case}
 

@@ -18,9 +18,10 @@ use Rattle.pb_board.specs.declared.piece.Piece.{Piece}
 use Rattle.pb_board.specs.Position.{Position, beyond}
 use Rattle.pb_board.specs.Piece.{opponent}
 use Rattle.pb_board.specs.Board.{Board, Place, file, rank, at, Holds, IsEmpty, IsForward}
-use Rattle.pb_moves.specs.declared.castling.Castling.{Castling}
+use Rattle.pb_board.specs.declared.castling.Castling.{Castling}
 use Rattle.pb_moves.specs.Attack.{Clear, Reaches, InCheck}
-use Rattle.pb_moves.specs.Castling.{CastlingRow, castling_row, rook_goes, MayCastle}
+use Rattle.pb_board.specs.Castling.{CastlingRow, castling_row}
+use Rattle.pb_moves.specs.Castling.{rook_goes, MayCastle}
 use Rattle.pb_moves.specs.Moved.{Moved, IsPromotion}
 
 -- the new board has 64 places, on each named square it holds what is named, and every other square is as it was

@@ -4,7 +4,8 @@ use Rattle.pb_board.specs.Piece.{king_of, rook_of}
 use Rattle.pb_board.specs.Board.{Board, Holds}
 use Rattle.pb_moves.specs.declared.change.Change.{Change}
 use Rattle.pb_moves.specs.declared.change.Change.TheVariants.{Carry, CarryPast, Castle}
-use Rattle.pb_moves.specs.Castling.{castling_row, rook_goes}
+use Rattle.pb_board.specs.Castling.{castling_row}
+use Rattle.pb_moves.specs.Castling.{rook_goes}
 use Rattle.pb_moves.specs.Cases.{Differs}
 use Rattle.pb_moves.specs.Moved.{Moved}
 

@@ -8,10 +8,10 @@ use Rattle.pb_board.specs.declared.setup.Rights.{Rights}
 use Rattle.pb_board.specs.Position.{Position}
 use Rattle.pb_board.specs.Piece.{opponent}
 use Rattle.pb_board.specs.Board.{Board, file, rank, at}
-use Rattle.pb_moves.specs.declared.castling.Castling.{Castling}
-use Rattle.pb_moves.specs.declared.castling.Castling.TheVariants.{WhiteShort, WhiteLong, BlackShort, BlackLong}
+use Rattle.pb_board.specs.declared.castling.Castling.{Castling}
+use Rattle.pb_board.specs.declared.castling.Castling.TheVariants.{WhiteShort, WhiteLong, BlackShort, BlackLong}
 use Rattle.pb_moves.specs.Attack.{files_apart, ranks_apart}
-use Rattle.pb_moves.specs.Castling.{castling_row}
+use Rattle.pb_board.specs.Castling.{castling_row}
 use Rattle.pb_moves.specs.Moved.{Moved}
 
 abbrev pub put : Board → ℕ → Option Piece → Board

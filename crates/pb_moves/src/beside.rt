@@ -5,8 +5,8 @@ ghost use Rattle.pb_board.specs.declared.piece.Colour.TheVariants.{White, Black}
 ghost use Rattle.pb_board.specs.Piece.{opponent};
 ghost use Rattle.pb_board.specs.Board.{Board};
 ghost use Rattle.pb_board.specs.Position.{IsOnlyKing, IsSetup};
-ghost use Rattle.pb_moves.specs.declared.castling.Castling.{Castling};
-ghost use Rattle.pb_moves.specs.Castling.{castling_row};
+ghost use Rattle.pb_board.specs.declared.castling.Castling.{Castling};
+ghost use Rattle.pb_board.specs.Castling.{castling_row};
 ghost use Rattle.pb_moves.specs.Cases.{CaseOf};
 ghost use Rattle.pb_moves.specs.After.{PassesOver, Touches, KeepsFlag};
 ghost use Rattle.pb_moves.specs.Candidate.{HoldsOwn};
@@ -16,7 +16,7 @@ use crate::board::opponent_of;
 use crate::cases::passed;
 use crate::legal::king_after;
 use crate::moves::Move;
-use pb_board::{Colour, Kind, Piece, Rights, Setup, Square};
+use pb_board::{Castling, Colour, Kind, Piece, Rights, Setup, Square};
 
 /// What stands beside the board after a move.
 #[derive(Clone, Copy)]
@@ -27,28 +27,21 @@ pub(crate) struct Beside {
     pub(crate) black_king: Square,
 }
 
-/// Whether the move leaves or reaches the square of this index.
+/// Whether the move leaves or reaches the square.
 #[inline(always)]
-fn touches(m: Move, index: u8) -> bool
-    ensures { IsTrue result ↔ Touches m index }
+fn touches(m: Move, square: Square) -> bool
+    ensures { IsTrue result ↔ Touches m square }
 {
-    m.from().index() == index || m.to().index() == index
+    m.from() == square || m.to() == square
 }
 
-/// Whether a flag with these two squares is kept.
+/// Whether a castling that the rights have is kept.
 #[inline(always)]
-fn keeps(flag: bool, m: Move, king: u8, rook: u8) -> bool
-    ensures { IsTrue result ↔ (IsTrue flag × ¬ Touches m king × ¬ Touches m rook) }
+fn keeps(castling: Castling, rights: Rights, m: Move) -> bool
+    ensures { let row = castling_row castling in KeepsFlag (row.right rights) result m row }
 {
-    flag && !touches(m, king) && !touches(m, rook)
-}
-
-/// Whether a king or a rook that may castle begins there.
-#[inline(always)]
-fn is_home(square: Square) -> bool
-    ensures { ¬ IsTrue result → ((square ≢ 0) × (square ≢ 4) × (square ≢ 7) × (square ≢ 56) × (square ≢ 60) × (square ≢ 63)) }
-{
-    matches!(square.index(), 0 | 4 | 7 | 56 | 60 | 63)
+    let squares = castling.squares();
+    castling.is_allowed(rights) && !touches(m, squares.king_from) && !touches(m, squares.rook_from)
 }
 
 /// The castling rights after the move.
@@ -57,14 +50,14 @@ fn rights_after(setup: &Setup, m: Move) -> Rights
 {
     let rights = setup.rights();
     // Most moves touch none of these squares.
-    if !is_home(m.from()) && !is_home(m.to()) {
+    if !Castling::is_home(m.from()) && !Castling::is_home(m.to()) {
         return rights;
     }
     Rights {
-        white_short: keeps(rights.white_short, m, 4, 7),
-        white_long: keeps(rights.white_long, m, 4, 0),
-        black_short: keeps(rights.black_short, m, 60, 63),
-        black_long: keeps(rights.black_long, m, 60, 56),
+        white_short: keeps(Castling::WhiteShort, rights, m),
+        white_long: keeps(Castling::WhiteLong, rights, m),
+        black_short: keeps(Castling::BlackShort, rights, m),
+        black_long: keeps(Castling::BlackLong, rights, m),
     }
 }
 

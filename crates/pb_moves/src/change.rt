@@ -3,9 +3,9 @@
 ghost use Rattle.std.specs.Prelude.{◌≡◌};
 
 use crate::board::Board;
-use crate::castling::Castling;
+use crate::castling::castle;
 use crate::moves::Move;
-use pb_board::{Kind, Piece, Square};
+use pb_board::{Castling, Kind, Piece, Square};
 
 /// What a move does to the board. A few bytes, so that a move can be judged before a board is copied.
 #[derive(Clone, Copy)]
@@ -38,7 +38,7 @@ impl Change {
                 board[m.to().index() as usize] = Some(pawn);
                 board[gone.index() as usize] = None;
             }
-            Change::Castle(castling) => castling.apply(board),
+            Change::Castle(castling) => castle(castling, board),
         }
     }
 }

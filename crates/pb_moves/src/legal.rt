@@ -126,8 +126,12 @@ fn sight_after(setup: &Setup, m: Move, piece: Piece, change: &Change) -> Sight
         Change::Carry(_) => carried_sight(seen, from, to),
         Change::CarryPast(_, gone) => carried_sight(carried_sight(seen, from, *gone), *gone, to),
         Change::Castle(castling) => {
-            let (rook_from, rook_to) = castling.rook_squares();
-            carried_sight(carried_sight(seen, from, to), rook_from, rook_to)
+            let squares = castling.squares();
+            carried_sight(
+                carried_sight(seen, from, to),
+                squares.rook_from,
+                squares.rook_to,
+            )
         }
     }
 }

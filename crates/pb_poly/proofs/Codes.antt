@@ -14,7 +14,8 @@ use Rattle.pb_board.specs.Piece.{king_of}
 use Rattle.pb_moves.specs.Attack.{files_apart}
 use Rattle.pb_moves.specs.Moved.{Moved, IsPromotion, moved_of, promotion_number}
 use Rattle.pb_moves.specs.Cases.{CaseOf, piece_move, pawn_step, pawn_double, pawn_capture, en_passant, castles, Legal}
-use Rattle.pb_moves.proofs.Unique.{class_of_castling, king_near}
+use Rattle.pb_moves.proofs.Castlings.{class_of_castling}
+use Rattle.pb_moves.proofs.Unique.{king_near}
 use Rattle.pb_poly.specs.Code.{HasCode, castling_to, coded_to, CodeIsOne}
 use Rattle.pb_poly.specs.Decoding.{castling_from, promotion_of, reached}
 

@@ -12,14 +12,16 @@ use Rattle.pb_board.specs.Board.{Board, Place, at, file, rank, Holds, IsForward}
 use Rattle.pb_board.specs.Position.{Position, IsSetup}
 use Rattle.pb_moves.specs.Attack.{files_apart, ranks_apart}
 use Rattle.pb_moves.specs.Moved.{Moved, IsMove}
-use Rattle.pb_moves.specs.Castling.{castling_row, rook_goes}
+use Rattle.pb_board.specs.Castling.{castling_row}
+use Rattle.pb_moves.specs.Castling.{rook_goes}
 use Rattle.pb_moves.specs.Cases.{Goes, CaseOf, piece_move, pawn_step, pawn_double, pawn_capture, en_passant, castles}
 use Rattle.pb_moves.specs.Successor.{arriving, beside, put, with_rook}
 use Rattle.pb_moves.proofs.Differing.{All-two, arrived, at_put_other, at_put_same, length_put, off_one, off_two, same_boards, same_lists, same_or_not}
 use Rattle.pb_moves.proofs.Kings.{gone_is_beyond, pawn_reach}
 use Rattle.pb_moves.proofs.Listed.{castling_goes}
 use Rattle.pb_moves.proofs.Successors.{board_is}
-use Rattle.pb_moves.proofs.Unique.{class_of_castling, king_near, pawn_files}
+use Rattle.pb_moves.proofs.Castlings.{class_of_castling}
+use Rattle.pb_moves.proofs.Unique.{king_near, pawn_files}
 use Rattle.pb_poly.specs.Key.{piece_places}
 use Rattle.pb_poly.specs.KeyChange.{beside_kind, changed_places, rook_squares, square_places}
 use Rattle.pb_poly.proofs.Among.{Among, Distinct, total}

@@ -1,7 +1,7 @@
 use Rattle.std.proofs.Common.{ℕ, ap, subst, ◌∙◌}
 use Rattle.pb_board.specs.declared.piece.Colour.{Colour}
 use Rattle.pb_board.specs.Piece.{opponent}
-use Rattle.pb_moves.specs.Castling.{castling_row}
+use Rattle.pb_board.specs.Castling.{castling_row}
 use Rattle.pb_moves.specs.Sight.{Sees}
 use Rattle.pb_moves.proofs.Changing.{Follows, follows, sees_carry, sees_castle, sees_past}
 use Rattle.pb_moves.proofs.legal.sight_after.Goals as goal
@@ -46,15 +46,15 @@ returns-in-Castle c = λ b changes.
     let one = c.carried_sight-in-Castle.result in
     let two = c.carried_sight-in-Castle-2.result in
     let row = castling_row c.in-Castle.castling in
-    let rook = c.rook_squares-rook_from.result in
+    let squares = c.squares-squares.result in
     let E : Colour → Type 0 = λ x. Sees s.board x seen in
     let F : ℕ → Type 0 = λ x. Follows s seen x c.to-to.result one in
     let T : ℕ → Type 0 = λ x. Follows s seen m.from x one in
-    let G : ℕ → Type 0 = λ x. Follows s one x rook.1 two in
+    let G : ℕ → Type 0 = λ x. Follows s one x squares.rook_to two in
     let U : ℕ → Type 0 = λ x. Follows s one row.rook_from x two in
     sees_castle s m c.args.piece c.in-Castle.castling seen one two c.turn.ensures.rules c.from-from.ensures.rules c.requires.own
     (rw c.in-Castle.is at c.requires.leads)
     (subst E (c.opponent_of.ensures ∙ ap opponent c.turn.ensures.value) c.sight_of-seen.ensures)
     (subst T c.to-to.ensures.value (subst F c.from-from.ensures.value (follows s seen c.from-from.result c.to-to.result one c.carried_sight-in-Castle.ensures)))
-    (subst U c.rook_squares-rook_from.ensures.1 (subst G c.rook_squares-rook_from.ensures.0 (follows s one rook.0 rook.1 two c.carried_sight-in-Castle-2.ensures)))
+    (subst U c.squares-squares.ensures.rook_to (subst G c.squares-squares.ensures.rook_from (follows s one squares.rook_from squares.rook_to two c.carried_sight-in-Castle-2.ensures)))
     b (rw c.in-Castle.is at changes)

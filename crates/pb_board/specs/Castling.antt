@@ -1,0 +1,40 @@
+-- The four castlings: who castles by which right, and between which squares king and rook go.
+use Rattle.std.specs.Prelude.{◌≡◌, ℕ, ◌⊎◌, Bool, ◌&&◌, ◌==◌, Option, List, [], ◌∷◌}
+use Rattle.std.specs.List.{find}
+use Rattle.pb_board.specs.declared.piece.Colour.{Colour}
+use Rattle.pb_board.specs.declared.piece.Colour.TheVariants.{White, Black}
+use Rattle.pb_board.specs.declared.setup.Rights.{Rights}
+use Rattle.pb_board.specs.declared.castling.Castling.{Castling}
+use Rattle.pb_board.specs.declared.castling.Castling.TheVariants.{WhiteShort, WhiteLong, BlackShort, BlackLong}
+
+-- a row of the table
+pub record CastlingRow : Type 0 where
+  pub colour : Colour
+  pub right : Rights → Bool
+  pub king_from : ℕ
+  pub king_to : ℕ
+  pub rook_from : ℕ
+  pub rook_to : ℕ
+
+-- the table, by the squares' indices: a1 is 0, e1 is 4, h1 is 7, a8 is 56, e8 is 60, h8 is 63
+abbrev pub castling_row : Castling → CastlingRow
+castling_row WhiteShort = record { colour = White; right = λ r. r.white_short; king_from = 4; king_to = 6; rook_from = 7; rook_to = 5 }
+castling_row WhiteLong = record { colour = White; right = λ r. r.white_long; king_from = 4; king_to = 2; rook_from = 0; rook_to = 3 }
+castling_row BlackShort = record { colour = Black; right = λ r. r.black_short; king_from = 60; king_to = 62; rook_from = 63; rook_to = 61 }
+castling_row BlackLong = record { colour = Black; right = λ r. r.black_long; king_from = 60; king_to = 58; rook_from = 56; rook_to = 59 }
+
+-- the four in their order
+abbrev pub castlings : List Castling
+castlings = WhiteShort ∷ WhiteLong ∷ BlackShort ∷ BlackLong ∷ []
+
+-- the castling whose king goes between these squares
+abbrev pub castling_of : ℕ → ℕ → Option Castling
+castling_of from to = find (λ c. (castling_row c).king_from == from && (castling_row c).king_to == to) castlings
+
+-- the castling whose king and rook begin on these squares
+abbrev pub castling_from_home : ℕ → ℕ → Option Castling
+castling_from_home king rook = find (λ c. (castling_row c).king_from == king && (castling_row c).rook_from == rook) castlings
+
+-- a king or a rook that may castle begins on the square
+abbrev pub IsHome : ℕ → Type 0
+IsHome square = (c : Castling) × ((square ≡ (castling_row c).king_from) ⊎ (square ≡ (castling_row c).rook_from))

@@ -1,0 +1,135 @@
+//! The four castlings.
+
+ghost use Rattle.std.specs.Prelude.{◌≡◌, ◌<◌, ◌↔◌, IsTrue};
+ghost use Rattle.pb_board.specs.Castling.{IsHome, castling_from_home, castling_of, castling_row};
+
+use crate::piece::Colour;
+use crate::setup::Rights;
+use crate::square::Square;
+
+/// A castling: whose it is, and to which side of the board the king goes.
+#[derive(Clone, Copy, Debug, PartialEq, Eq)]
+pub enum Castling {
+    /// White's on the king's side, e1g1.
+    WhiteShort,
+    /// White's on the queen's side, e1c1.
+    WhiteLong,
+    /// Black's on the king's side, e8g8.
+    BlackShort,
+    /// Black's on the queen's side, e8c8.
+    BlackLong,
+}
+
+/// The squares between which king and rook go.
+#[derive(Clone, Copy, Debug, PartialEq, Eq)]
+pub struct CastlingSquares {
+    /// Where the king begins.
+    pub king_from: Square,
+    /// Where the king arrives.
+    pub king_to: Square,
+    /// Where the rook begins.
+    pub rook_from: Square,
+    /// Where the rook arrives: the square that the king crosses.
+    pub rook_to: Square,
+}
+
+impl Castling {
+    /// The castling whose king goes between these squares.
+    #[inline(always)]
+    pub fn of(from: Square, to: Square) -> Option<Castling>
+        ensures { result ≡ castling_of from to }
+    {
+        match (from, to) {
+            (Square::E1, Square::G1) => Some(Castling::WhiteShort),
+            (Square::E1, Square::C1) => Some(Castling::WhiteLong),
+            (Square::E8, Square::G8) => Some(Castling::BlackShort),
+            (Square::E8, Square::C8) => Some(Castling::BlackLong),
+            _ => None,
+        }
+    }
+
+    /// The castling whose king and rook begin on these squares.
+    #[inline(always)]
+    pub fn from_home(king: Square, rook: Square) -> Option<Castling>
+        ensures { result ≡ castling_from_home king rook }
+    {
+        match (king, rook) {
+            (Square::E1, Square::H1) => Some(Castling::WhiteShort),
+            (Square::E1, Square::A1) => Some(Castling::WhiteLong),
+            (Square::E8, Square::H8) => Some(Castling::BlackShort),
+            (Square::E8, Square::A8) => Some(Castling::BlackLong),
+            _ => None,
+        }
+    }
+
+    /// Whether a king or a rook that may castle begins on the square.
+    #[inline(always)]
+    pub fn is_home(square: Square) -> bool
+        ensures { IsTrue result ↔ IsHome square }
+    {
+        matches!(
+            square,
+            Square::A1 | Square::E1 | Square::H1 | Square::A8 | Square::E8 | Square::H8
+        )
+    }
+
+    /// The side that castles so.
+    #[inline(always)]
+    pub fn colour(self) -> Colour
+        ensures { result ≡ (castling_row self).colour }
+    {
+        match self {
+            Castling::WhiteShort | Castling::WhiteLong => Colour::White,
+            Castling::BlackShort | Castling::BlackLong => Colour::Black,
+        }
+    }
+
+    /// Whether the rights have this castling.
+    #[inline(always)]
+    pub fn is_allowed(self, rights: Rights) -> bool
+        ensures { result ≡ (castling_row self).right rights }
+    {
+        match self {
+            Castling::WhiteShort => rights.white_short,
+            Castling::WhiteLong => rights.white_long,
+            Castling::BlackShort => rights.black_short,
+            Castling::BlackLong => rights.black_long,
+        }
+    }
+
+    /// The squares between which king and rook go.
+    #[inline(always)]
+    pub fn squares(self) -> CastlingSquares
+        ensures king_from { result.king_from ≡ (castling_row self).king_from }
+        ensures king_to { result.king_to ≡ (castling_row self).king_to }
+        ensures rook_from { result.rook_from ≡ (castling_row self).rook_from }
+        ensures rook_to { result.rook_to ≡ (castling_row self).rook_to }
+    {
+        match self {
+            Castling::WhiteShort => CastlingSquares {
+                king_from: Square::E1,
+                king_to: Square::G1,
+                rook_from: Square::H1,
+                rook_to: Square::F1,
+            },
+            Castling::WhiteLong => CastlingSquares {
+                king_from: Square::E1,
+                king_to: Square::C1,
+                rook_from: Square::A1,
+                rook_to: Square::D1,
+            },
+            Castling::BlackShort => CastlingSquares {
+                king_from: Square::E8,
+                king_to: Square::G8,
+                rook_from: Square::H8,
+                rook_to: Square::F8,
+            },
+            Castling::BlackLong => CastlingSquares {
+                king_from: Square::E8,
+                king_to: Square::C8,
+                rook_from: Square::A8,
+                rook_to: Square::D8,
+            },
+        }
+    }
+}

@@ -1,0 +1,26 @@
+use Rattle.std.proofs.Common.{ℕ, rules, subst}
+use Rattle.pb_board.specs.Board.{Board, Holds}
+use Rattle.pb_board.specs.declared.piece.Colour.{Colour}
+use Rattle.pb_board.specs.declared.piece.Kind.TheVariants.{Rook}
+use Rattle.pb_board.specs.Castling.{castling_row}
+use Rattle.pb_moves.proofs.castling.may_castle.Goals as goal
+
+pub returns-then-way_is_clear : goal.returns-then-way_is_clear
+returns-then-way_is_clear c =
+    let row = castling_row c.args.castling in
+    let board = c.board.ensures.value in
+    let HasRook : Colour → ℕ → Board → Type 0 = λ colour q b. Holds b q (record { colour = colour; kind = Rook }) in
+    let square = c.squares.ensures.rook_from in (
+      λ safe. record {
+        side = search rules;
+        flag = cc;
+        rook =
+            subst (λ (x : Board). HasRook row.colour row.rook_from x) board
+            (subst (λ (x : ℕ). HasRook row.colour x c.board.result.now) square
+            (subst (λ (x : Colour). HasRook x c.squares.result.rook_from c.board.result.now) c.colour-colour.ensures (c.holds.ensures.0 c.if-not-holds.false)));
+        way = c.way_is_clear.ensures.0 c.if-way_is_clear.true;
+        unchecked = (c.way_is_safe.ensures.0 safe).0;
+        crosses = (c.way_is_safe.ensures.0 safe).1;
+      },
+      λ m. c.way_is_safe.ensures.1 (m.unchecked, m.crosses),
+    )
