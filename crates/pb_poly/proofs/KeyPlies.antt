@@ -3,16 +3,19 @@ use Rattle.std.proofs.Common.{◌≡◌, ℕ, ◌+◌, ◌%◌, ◌^◌, ◌<◌
 use Rattle.std.specs.Prelude.{slice_index}
 use Rattle.std.specs.Bool.{beq}
 use Rattle.std.specs.Int.{bit_at}
+use Rattle.std.specs.List.{flat_map}
 use Rattle.std.proofs.lemmas.Nat.Bits.{bit_at-zero, same_from_bits_below}
+use Rattle.pb_board.specs.declared.castling.Castling.{Castling}
 use Rattle.pb_board.specs.declared.piece.Colour.{Colour}
 use Rattle.pb_board.specs.declared.piece.Colour.TheVariants.{White, Black}
 use Rattle.pb_board.specs.declared.piece.Piece.{Piece}
 use Rattle.pb_board.specs.declared.setup.Rights.{Rights}
 use Rattle.pb_board.specs.Piece.{opponent}
+use Rattle.pb_board.specs.Castling.{castling_row, castlings}
 use Rattle.pb_board.specs.Board.{Board, Place, at}
 use Rattle.pb_board.specs.Position.{Position}
 use Rattle.pb_moves.specs.Moved.{Moved}
-use Rattle.pb_poly.specs.Key.{joined, key, passed_places, piece_places, place_if, places, rights_places, turn_places}
+use Rattle.pb_poly.specs.Key.{castling_place, joined, key, passed_places, piece_places, place_if, places, rights_places, turn_places}
 use Rattle.pb_poly.specs.KeyChange.{beside_kind, changed_places, lost_places, squares_beside}
 use Rattle.pb_poly.specs.Table.{IsTable}
 use Rattle.pb_poly.proofs.Among.{total}
@@ -35,17 +38,24 @@ four_lists f a b c d =
     let third = total-append f c d in
     omega (arith, first, second, third)
 
+-- some of the castlings of which this is so
+abbrev some_places : (Castling → Bool) → List Castling → List ℕ
+some_places has cs = flat_map (λ c. place_if (has c) (castling_place c)) cs
+
+castlings_change : (f : ℕ → ℕ) (old new : Castling → Bool) (cs : List Castling)
+    → (total f (some_places old cs) + total f (some_places (λ c. not (beq (old c) (new c))) cs)) % 2 ≡ total f (some_places new cs) % 2
+castlings_change f old new [] = refl
+castlings_change f old new (c ∷ cs) =
+    let Lost : Castling → Bool = λ d. not (beq (old d) (new d)) in
+    let had = total-append f (place_if (old c) (castling_place c)) (some_places old cs) in
+    let has = total-append f (place_if (new c) (castling_place c)) (some_places new cs) in
+    let lost = total-append f (place_if (Lost c) (castling_place c)) (some_places Lost cs) in
+    let first = flag_changes f (old c) (new c) (castling_place c) in
+    let more = castlings_change f old new cs in
+    omega (arith, had, has, lost, first, more)
+
 rights_change : (f : ℕ → ℕ) (old new : Rights) → (total f (rights_places old) + total f (lost_places old new)) % 2 ≡ total f (rights_places new) % 2
-rights_change f old new =
-    let had = four_lists f (place_if old.white_short 768) (place_if old.white_long 769) (place_if old.black_short 770) (place_if old.black_long 771) in
-    let has = four_lists f (place_if new.white_short 768) (place_if new.white_long 769) (place_if new.black_short 770) (place_if new.black_long 771) in
-    let lost = four_lists f (place_if (not (beq old.white_short new.white_short)) 768) (place_if (not (beq old.white_long new.white_long)) 769)
-    (place_if (not (beq old.black_short new.black_short)) 770) (place_if (not (beq old.black_long new.black_long)) 771) in
-    let a = flag_changes f old.white_short new.white_short 768 in
-    let b = flag_changes f old.white_long new.white_long 769 in
-    let c = flag_changes f old.black_short new.black_short 770 in
-    let d = flag_changes f old.black_long new.black_long 771 in
-    omega (arith, had, has, lost, a, b, c, d)
+rights_change f old new = castlings_change f (λ c. (castling_row c).right old) (λ c. (castling_row c).right new) castlings
 
 board_change : (f : ℕ → ℕ) (old new : Board) (squares : List ℕ) → length old ≡ 64 → length new ≡ 64 → Covers old new squares
     → (total f (piece_places old 0) + total f (changed_places old new squares)) % 2 ≡ total f (piece_places new 0) % 2

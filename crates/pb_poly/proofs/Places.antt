@@ -3,18 +3,21 @@ use Rattle.std.proofs.Common.{◌≡◌, ◌≢◌, ℕ, zero, suc, ◌+◌, ◌
 use Rattle.std.specs.Prelude.{IsTrue}
 use Rattle.std.proofs.lemmas.Bool.{and_parts, cases_lt}
 use Rattle.std.proofs.lemmas.Bool.Decides.{nat_tests}
+use Rattle.std.specs.List.{flat_map}
+use Rattle.pb_board.specs.declared.castling.Castling.{Castling}
+use Rattle.pb_board.specs.declared.castling.Castling.TheVariants.{WhiteShort, WhiteLong, BlackShort, BlackLong}
+use Rattle.pb_board.specs.Castling.{castling_row, castlings}
 use Rattle.pb_board.specs.declared.piece.Colour.{Colour}
 use Rattle.pb_board.specs.declared.piece.Colour.TheVariants.{White, Black}
 use Rattle.pb_board.specs.declared.piece.Kind.{Kind}
 use Rattle.pb_board.specs.declared.piece.Kind.TheVariants.{Pawn, Knight, Bishop, Rook, Queen, King}
 use Rattle.pb_board.specs.declared.piece.Piece.{Piece}
-use Rattle.pb_board.specs.declared.setup.Rights.{Rights}
 use Rattle.pb_board.specs.Piece.{pawn_of}
 use Rattle.pb_board.specs.Board.{Board, Place, at, file, rank, is_piece}
 use Rattle.pb_board.specs.Position.{Position, IsSetup, beyond}
 use Rattle.pb_board.specs.King.{is_piece-is, is_piece-passes}
 use Rattle.pb_moves.specs.Attack.{files_apart}
-use Rattle.pb_poly.specs.Key.{ArePlaces, HasPlace, of_piece, white_short, white_long, black_short, black_long, en_passant, white_to_move, HasTaker, has_taker, number_of, passed_places, piece_place, piece_places, place_if, places, rights_places, turn_places}
+use Rattle.pb_poly.specs.Key.{ArePlaces, HasPlace, of_piece, of_right, en_passant, white_to_move, HasTaker, castling_place, castling_places, has_taker, number_of, passed_places, piece_place, piece_places, place_if, places, rights_places, turn_places}
 use Rattle.pb_poly.proofs.Among.{Among, Distinct, among_contained, among_either, among_left, among_right, contains_among, distinct_append, distinct_pairs}
 
 -- ---- the pieces
@@ -205,46 +208,65 @@ distinct_after_flag : (flag : Bool) (place : ℕ) (xs : List ℕ) → Distinct x
 distinct_after_flag true place xs once above = (λ again. let higher = above place again in omega (arith, higher), once)
 distinct_after_flag false place xs once above = once
 
--- the castling right of a place
-abbrev IsRight : Rights → ℕ → Type 0
-IsRight r n =
-    (IsTrue r.white_short × (n ≡ 768)) ⊎ ((IsTrue r.white_long × (n ≡ 769)) ⊎ ((IsTrue r.black_short × (n ≡ 770)) ⊎ (IsTrue r.black_long × (n ≡ 771))))
+-- some of the castlings of which this is so
+abbrev some_places : (Castling → Bool) → List Castling → List ℕ
+some_places has cs = flat_map (λ c. place_if (has c) (castling_place c)) cs
 
-among_rights : (r : Rights) (n : ℕ) → Among (rights_places r) n → IsRight r n
-among_rights r n h =
-    let third = place_if r.black_short 770 ++ place_if r.black_long 771 in
-    elim (flag_or_later r.white_short 768 (place_if r.white_long 769 ++ third) n h) [
-      | inl a ↦ inl a
-      | inr h2 ↦ elim (flag_or_later r.white_long 769 third n h2) [
-        | inl b ↦ inr (inl b)
-        | inr h3 ↦ elim (flag_or_later r.black_short 770 (place_if r.black_long 771) n h3) [
-          | inl d ↦ inr (inr (inl d))
-          | inr h4 ↦ inr (inr (inr (among_flag r.black_long 771 n h4)))
-        ]
-      ]
-    ]
+-- the place of a castling of which this is so
+abbrev IsPlaceOf : (Castling → Bool) → ℕ → Type 0
+IsPlaceOf has n = (c : Castling) × IsTrue (has c) × (n ≡ castling_place c)
 
-right_place : (r : Rights) (n : ℕ) → IsRight r n → (768 ≤ n) × (n < 772)
-right_place r n (inl a) = let is = a.1 in (omega arith, omega arith)
-right_place r n (inr (inl b)) = let is = b.1 in (omega arith, omega arith)
-right_place r n (inr (inr (inl d))) = let is = d.1 in (omega arith, omega arith)
-right_place r n (inr (inr (inr e))) = let is = e.1 in (omega arith, omega arith)
+among_castlings : (has : Castling → Bool) (cs : List Castling) (n : ℕ) → Among (some_places has cs) n → IsPlaceOf has n
+among_castlings has [] n h = absurd h
+among_castlings has (c ∷ cs) n h = elim (flag_or_later (has c) (castling_place c) (some_places has cs) n h) [ inl here ↦ (c, here.0, here.1) | inr later ↦ among_castlings has cs n later ]
 
-distinct_rights : (r : Rights) → Distinct (rights_places r)
-distinct_rights r =
-    let third = place_if r.black_short 770 ++ place_if r.black_long 771 in
-    let last : (n : ℕ) → Among (place_if r.black_long 771) n → n ≡ 771 = λ n h. (among_flag r.black_long 771 n h).1 in
-    let above3 : (n : ℕ) → Among third n → 769 < n = λ n h. elim (flag_or_later r.black_short 770 (place_if r.black_long 771) n h) [
-      | inl a ↦ let is = a.1 in omega arith
-      | inr b ↦ let is = last n b in omega arith
-    ] in
-    let above2 : (n : ℕ) → Among (place_if r.white_long 769 ++ third) n → 768 < n = λ n h. elim (flag_or_later r.white_long 769 third n h) [
-      | inl a ↦ let is = a.1 in omega arith
-      | inr b ↦ let is = above3 n b in omega arith
-    ] in
-    distinct_after_flag r.white_short 768 (place_if r.white_long 769 ++ third)
-    (distinct_after_flag r.white_long 769 third
-    (distinct_after_flag r.black_short 770 (place_if r.black_long 771) (distinct_flag r.black_long 771) (λ n h. let is = last n h in omega arith)) above3) above2
+castling_among : (has : Castling → Bool) (c : Castling) (n : ℕ) → IsTrue (has c) → n ≡ castling_place c → Among (castling_places has) n
+castling_among has WhiteShort n set is = among_left (place_if (has WhiteShort) 768) _ n (flag_among (has WhiteShort) 768 n set is)
+castling_among has WhiteLong n set is = among_right (place_if (has WhiteShort) 768) _ n (among_left (place_if (has WhiteLong) 769) _ n (flag_among (has WhiteLong) 769 n set is))
+castling_among has BlackShort n set is =
+    among_right (place_if (has WhiteShort) 768) _ n (among_right (place_if (has WhiteLong) 769) _ n (among_left (place_if (has BlackShort) 770) _ n (flag_among (has BlackShort) 770 n set is)))
+castling_among has BlackLong n set is =
+    among_right (place_if (has WhiteShort) 768) _ n (among_right (place_if (has WhiteLong) 769) _ n
+    (among_right (place_if (has BlackShort) 770) _ n (among_left (place_if (has BlackLong) 771) _ n (flag_among (has BlackLong) 771 n set is))))
+
+-- each castling's place is above this one
+abbrev Above : ℕ → List Castling → Type 0
+Above place [] = Unit {0}
+Above place (c ∷ cs) = (place < castling_place c) × Above place cs
+
+-- the places of these castlings rise
+abbrev Rise : List Castling → Type 0
+Rise [] = Unit {0}
+Rise (c ∷ cs) = Above (castling_place c) cs × Rise cs
+
+above_among : (has : Castling → Bool) (place : ℕ) (cs : List Castling) → Above place cs → (n : ℕ) → Among (some_places has cs) n → place < n
+above_among has place [] above n h = absurd h
+above_among has place (c ∷ cs) above n h = elim (flag_or_later (has c) (castling_place c) (some_places has cs) n h) [
+  | inl here ↦ omega (arith, above.0, here.1)
+  | inr later ↦ above_among has place cs above.1 n later
+]
+
+distinct_castlings : (has : Castling → Bool) (cs : List Castling) → Rise cs → Distinct (some_places has cs)
+distinct_castlings has [] rise = tt
+distinct_castlings has (c ∷ cs) rise =
+    distinct_after_flag (has c) (castling_place c) (some_places has cs) (distinct_castlings has cs rise.1) (above_among has (castling_place c) cs rise.0)
+
+castlings_rise : Rise castlings
+castlings_rise = ((omega arith, (omega arith, (omega arith, tt))), ((omega arith, (omega arith, tt)), ((omega arith, tt), (tt, tt))))
+
+castling_places_low : (c : Castling) → (768 ≤ castling_place c) × (castling_place c < 772)
+castling_places_low WhiteShort = (omega arith, omega arith)
+castling_places_low c = (omega arith, omega arith)
+
+-- the rights of a setup
+abbrev rights_of : Position → Castling → Bool
+rights_of s c = (castling_row c).right s.rights
+
+right_place : (s : Position) (n : ℕ) → Among (rights_places s.rights) n → (768 ≤ n) × (n < 772)
+right_place s n h =
+    let is = among_castlings (rights_of s) castlings n h in
+    let low = castling_places_low is.0 in
+    (omega (arith, is.2, low.0), omega (arith, is.2, low.1))
 
 passed_place : (s : Position) (ep : Option ℕ) (n : ℕ) → Among (passed_places s ep) n → (772 ≤ n) × (n < 780)
 passed_place s ep n h = let p = among_passed s ep n h in let is = p.3 in (omega (arith, is), omega (arith, is))
@@ -254,8 +276,8 @@ distinct_rest s =
     let es = passed_places s s.ep in
     let ts = turn_places s.turn in
     let tail = distinct_append es ts (distinct_passed s s.ep) (distinct_turn s.turn) (λ n x y. let a = passed_place s s.ep n x in let b = (among_turn s.turn n y).1 in omega (arith, a.1)) in
-    distinct_append (rights_places s.rights) (es ++ ts) (distinct_rights s.rights) tail (λ n x y.
-    let a = right_place s.rights n (among_rights s.rights n x) in
+    distinct_append (rights_places s.rights) (es ++ ts) (distinct_castlings (rights_of s) castlings castlings_rise) tail (λ n x y.
+    let a = right_place s n x in
     elim (among_either es ts n y) [
       | inl e ↦ let b = passed_place s s.ep n e in omega (arith, a.1, b.0)
       | inr t ↦ let b = (among_turn s.turn n t).1 in omega (arith, a.1)
@@ -263,7 +285,7 @@ distinct_rest s =
 
 rest_high : (s : Position) (n : ℕ) → Among (rights_places s.rights ++ (passed_places s s.ep ++ turn_places s.turn)) n → 768 ≤ n
 rest_high s n h = elim (among_either (rights_places s.rights) (passed_places s s.ep ++ turn_places s.turn) n h) [
-  | inl a ↦ (right_place s.rights n (among_rights s.rights n a)).0
+  | inl a ↦ (right_place s n a).0
   | inr b ↦ elim (among_either (passed_places s s.ep) (turn_places s.turn) n b) [
     | inl e ↦ let p = passed_place s s.ep n e in omega (arith, p.0)
     | inr t ↦ let is = (among_turn s.turn n t).1 in omega arith
@@ -277,19 +299,13 @@ distinct_places s full =
     let high = rest_high s n y in
     omega (arith, low.1))
 
-right_of : (s : Position) (n : ℕ) → IsRight s.rights n → HasPlace s n
-right_of s n (inl a) = white_short a.0 a.1
-right_of s n (inr (inl b)) = white_long b.0 b.1
-right_of s n (inr (inr (inl d))) = black_short d.0 d.1
-right_of s n (inr (inr (inr e))) = black_long e.0 e.1
-
 has_place : (s : Position) (n : ℕ) → Among (places s) n → HasPlace s n
 has_place s n h =
     let rest = rights_places s.rights ++ (passed_places s s.ep ++ turn_places s.turn) in
     elim (among_either (piece_places s.board 0) rest n h) [
       | inl p ↦ let at_board = place_on s.board 0 n p in of_piece at_board.offset at_board.piece at_board.stands (at_board.is ∙ ap (λ q. piece_place at_board.piece q) (omega arith))
       | inr r ↦ elim (among_either (rights_places s.rights) (passed_places s s.ep ++ turn_places s.turn) n r) [
-        | inl a ↦ right_of s n (among_rights s.rights n a)
+        | inl a ↦ (let is = among_castlings (rights_of s) castlings n a in of_right is.0 is.1 is.2)
         | inr b ↦ elim (among_either (passed_places s s.ep) (turn_places s.turn) n b) [
           | inl e ↦ let p = among_passed s s.ep n e in en_passant p.0 p.1 p.2 p.3
           | inr t ↦ let p = among_turn s.turn n t in white_to_move p.0 p.1
@@ -297,25 +313,14 @@ has_place s n h =
       ]
     ]
 
-among_from_right : (s : Position) (n : ℕ) → Among (rights_places s.rights) n → Among (places s) n
-among_from_right s n h =
-    let rest = rights_places s.rights ++ (passed_places s s.ep ++ turn_places s.turn) in
-    among_right (piece_places s.board 0) rest n (among_left (rights_places s.rights) (passed_places s s.ep ++ turn_places s.turn) n h)
-
 among_places : (s : Position) (n : ℕ) → HasPlace s n → Among (places s) n
 among_places s n (of_piece square p stands is) =
     let rest = rights_places s.rights ++ (passed_places s s.ep ++ turn_places s.turn) in
     let P : ℕ → Type 0 = λ m. Among (piece_places s.board 0) m in
     let e : piece_place p (0 + square) ≡ n = ap (λ q. piece_place p q) (omega arith) ∙ sym is in
     among_left (piece_places s.board 0) rest n (subst P e (among_pieces s.board 0 square p stands))
-among_places s n (white_short set is) =
-    among_from_right s n (among_left (place_if s.rights.white_short 768) _ n (flag_among s.rights.white_short 768 n set is))
-among_places s n (white_long set is) =
-    among_from_right s n (among_right (place_if s.rights.white_short 768) _ n (among_left (place_if s.rights.white_long 769) _ n (flag_among s.rights.white_long 769 n set is)))
-among_places s n (black_short set is) =
-    among_from_right s n (among_right (place_if s.rights.white_short 768) _ n (among_right (place_if s.rights.white_long 769) _ n (among_left (place_if s.rights.black_short 770) _ n (flag_among s.rights.black_short 770 n set is))))
-among_places s n (black_long set is) =
-    among_from_right s n (among_right (place_if s.rights.white_short 768) _ n (among_right (place_if s.rights.white_long 769) _ n (among_right (place_if s.rights.black_short 770) _ n (flag_among s.rights.black_long 771 n set is))))
+among_places s n (of_right c set is) =
+    among_right (piece_places s.board 0) _ n (among_left (rights_places s.rights) _ n (castling_among (rights_of s) c n set is))
 among_places s n (en_passant passed here taker is) =
     among_right (piece_places s.board 0) _ n (among_right (rights_places s.rights) _ n (among_left (passed_places s s.ep) _ n (passed_among s s.ep passed n here taker is)))
 among_places s n (white_to_move white is) =

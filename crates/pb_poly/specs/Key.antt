@@ -1,6 +1,9 @@
 -- Keys of setups: the places of the table that a setup has, and the parity of the words there.
 use Rattle.std.specs.Prelude.{◌≡◌, ◌≢◌, ◌↔◌, ℕ, ◌+◌, ◌-◌, ◌*◌, ◌%◌, ◌^◌, ◌<◌, Bool, not, ◌&&◌, ◌||◌, ◌==◌, Option, Some, None, List, [], ◌∷◌, ◌++◌, if◌then◌else◌, IsTrue, AllPairs, Contains, fold, sum_by, slice_index, bit_xor}
 use Rattle.std.specs.Int.{bit_at}
+use Rattle.std.specs.List.{flat_map}
+use Rattle.pb_board.specs.declared.castling.Castling.{Castling}
+use Rattle.pb_board.specs.declared.castling.Castling.TheVariants.{WhiteShort, WhiteLong, BlackShort, BlackLong}
 use Rattle.pb_board.specs.declared.piece.Colour.{Colour}
 use Rattle.pb_board.specs.declared.piece.Colour.TheVariants.{White, Black}
 use Rattle.pb_board.specs.declared.piece.Kind.{Kind}
@@ -8,6 +11,7 @@ use Rattle.pb_board.specs.declared.piece.Piece.{Piece}
 use Rattle.pb_board.specs.declared.setup.Rights.{Rights}
 use Rattle.pb_board.specs.Piece.{kind_number, pawn_of}
 use Rattle.pb_board.specs.Position.{Position, IsSetup, beyond}
+use Rattle.pb_board.specs.Castling.{castling_row, castlings}
 use Rattle.pb_board.specs.Board.{Board, file, rank, at, Holds, is_piece}
 use Rattle.pb_moves.specs.Attack.{files_apart}
 use Rattle.pb_poly.specs.Table.{IsTable}
@@ -20,6 +24,12 @@ number_of Black kind = 2 * kind_number kind
 abbrev pub piece_place : Piece → ℕ → ℕ
 piece_place piece square = 64 * number_of piece.colour piece.kind + square
 
+abbrev pub castling_place : Castling → ℕ
+castling_place WhiteShort = 768
+castling_place WhiteLong = 769
+castling_place BlackShort = 770
+castling_place BlackLong = 771
+
 -- a pawn of the side to move stands directly beside the pawn that passed the square
 pub record HasTaker (s : Position) (passed : ℕ) : Type 0 where
   pub taker : ℕ
@@ -30,10 +40,7 @@ pub record HasTaker (s : Position) (passed : ℕ) : Type 0 where
 -- the setup has this place of the table
 pub data HasPlace (s : Position) (place : ℕ) : Type 0 where
   of_piece : (square : ℕ) (p : Piece) → Holds s.board square p → place ≡ piece_place p square → HasPlace s place
-  white_short : IsTrue s.rights.white_short → place ≡ 768 → HasPlace s place
-  white_long : IsTrue s.rights.white_long → place ≡ 769 → HasPlace s place
-  black_short : IsTrue s.rights.black_short → place ≡ 770 → HasPlace s place
-  black_long : IsTrue s.rights.black_long → place ≡ 771 → HasPlace s place
+  of_right : (c : Castling) → IsTrue ((castling_row c).right s.rights) → place ≡ castling_place c → HasPlace s place
   en_passant : (passed : ℕ) → s.ep ≡ Some passed → HasTaker s passed → place ≡ 772 + file passed → HasPlace s place
   white_to_move : s.turn ≡ White → place ≡ 780 → HasPlace s place
 
@@ -64,8 +71,12 @@ piece_places (Some p ∷ board) square = piece_place p square ∷ piece_places b
 abbrev pub place_if : Bool → ℕ → List ℕ
 place_if flag place = if flag then place ∷ [] else []
 
+-- the places of the castlings of which this is so
+abbrev pub castling_places : (Castling → Bool) → List ℕ
+castling_places has = flat_map (λ c. place_if (has c) (castling_place c)) castlings
+
 abbrev pub rights_places : Rights → List ℕ
-rights_places r = place_if r.white_short 768 ++ (place_if r.white_long 769 ++ (place_if r.black_short 770 ++ place_if r.black_long 771))
+rights_places r = castling_places (λ c. (castling_row c).right r)
 
 -- a pawn of the side to move stands on the square one file lower or higher
 abbrev pub has_taker : Board → Colour → ℕ → Bool

@@ -4,10 +4,11 @@ use Rattle.std.specs.Bool.{beq}
 use Rattle.pb_board.specs.declared.piece.Kind.{Kind}
 use Rattle.pb_board.specs.declared.piece.Kind.TheVariants.{Pawn, King}
 use Rattle.pb_board.specs.declared.setup.Rights.{Rights}
+use Rattle.pb_board.specs.Castling.{castling_row}
 use Rattle.pb_board.specs.Board.{Board, Place, file, rank, at}
 use Rattle.pb_moves.specs.Attack.{files_apart}
 use Rattle.pb_moves.specs.Moved.{Moved}
-use Rattle.pb_poly.specs.Key.{piece_place, place_if}
+use Rattle.pb_poly.specs.Key.{castling_places, piece_place}
 
 -- the place of what stands on the square
 abbrev pub square_places : Place → ℕ → List ℕ
@@ -36,6 +37,4 @@ squares_beside (Some piece) m = beside_kind piece.kind m
 
 -- the places of the rights that one of the two has
 abbrev pub lost_places : Rights → Rights → List ℕ
-lost_places old new =
-    place_if (not (beq old.white_short new.white_short)) 768 ++ (place_if (not (beq old.white_long new.white_long)) 769
-    ++ (place_if (not (beq old.black_short new.black_short)) 770 ++ place_if (not (beq old.black_long new.black_long)) 771))
+lost_places old new = castling_places (λ c. let row = castling_row c in not (beq (row.right old) (row.right new)))

@@ -3,12 +3,13 @@
 ghost use Rattle.std.specs.Prelude.{◌≡◌, ◌<◌, ◌+◌};
 ghost use Rattle.pb_board.specs.declared.piece.Colour.TheVariants.{Black};
 ghost use Rattle.pb_board.specs.Piece.{pawn_of};
+ghost use Rattle.pb_board.specs.Castling.{castling_row};
 ghost use Rattle.pb_board.specs.Board.{at, file, is_piece};
 ghost use Rattle.pb_board.specs.Position.{OnPassedRank, beyond as beyond_by};
-ghost use Rattle.pb_poly.specs.Key.{IsKey, has_taker as has_taker_by, joined, key as key_by, number_of as number_of_by, passed_places, piece_place as piece_place_by, piece_places, place_if, rights_places, turn_places};
+ghost use Rattle.pb_poly.specs.Key.{IsKey, castling_place as castling_place_by, has_taker as has_taker_by, joined, key as key_by, number_of as number_of_by, passed_places, piece_place as piece_place_by, piece_places, place_if, rights_places, turn_places};
 
 use crate::table::Table;
-use pb_board::{Colour, Kind, Piece, Rights, Setup, Square};
+use pb_board::{Castling, Colour, Kind, Piece, Rights, Setup, Square};
 
 /// The place of the word for White to move.
 pub(crate) const WHITE_TO_MOVE: usize = 780;
@@ -55,21 +56,43 @@ fn pieces_key(table: &Table, board: &[Option<Piece>; 64]) -> u64
 }
 
 /// The key, joined by the word at the place where the flag is set.
-pub(crate) fn with_flag(table: &Table, key: u64, flag: bool, place: usize) -> u64
+fn with_flag(table: &Table, key: u64, flag: bool, place: usize) -> u64
     requires { place < 781 }
     ensures { result ≡ joined table.now key (place_if flag place) }
 {
     if flag { key ^ table.word(place) } else { key }
 }
 
+/// The place of a castling right.
+#[inline(always)]
+fn castling_place(castling: Castling) -> usize
+    ensures value { result ≡ castling_place_by castling }
+    ensures few { result < 772 }
+{
+    768 + castling as usize
+}
+
+/// The key, joined by the word of a castling right that is there.
+#[inline(always)]
+fn with_right(table: &Table, key: u64, rights: Rights, castling: Castling) -> u64
+    ensures { result ≡ joined table.now key (place_if ((castling_row castling).right rights) (castling_place_by castling)) }
+{
+    with_flag(
+        table,
+        key,
+        castling.is_allowed(rights),
+        castling_place(castling),
+    )
+}
+
 /// The key, joined by the words of the castling rights.
-fn with_rights(table: &Table, key: u64, rights: Rights) -> u64
+pub(crate) fn with_rights(table: &Table, key: u64, rights: Rights) -> u64
     ensures { result ≡ joined table.now key (rights_places rights) }
 {
-    let short = with_flag(table, key, rights.white_short, 768);
-    let white = with_flag(table, short, rights.white_long, 769);
-    let long = with_flag(table, white, rights.black_short, 770);
-    with_flag(table, long, rights.black_long, 771)
+    let short = with_right(table, key, rights, Castling::WhiteShort);
+    let white = with_right(table, short, rights, Castling::WhiteLong);
+    let long = with_right(table, white, rights, Castling::BlackShort);
+    with_right(table, long, rights, Castling::BlackLong)
 }
 
 /// Whether a pawn of the side to move stands on the square of this index.

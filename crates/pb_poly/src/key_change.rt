@@ -6,7 +6,7 @@ ghost use Rattle.pb_moves.specs.After.{After};
 ghost use Rattle.pb_poly.specs.Key.{IsKey, joined, key as key_by};
 ghost use Rattle.pb_poly.specs.KeyChange.{changed_places, lost_places, rook_squares as rook_squares_by, square_places, squares_beside};
 
-use crate::key::{WHITE_TO_MOVE, piece_place, with_flag, with_passed};
+use crate::key::{WHITE_TO_MOVE, piece_place, with_passed, with_rights};
 use crate::table::Table;
 use pb_board::{Kind, Piece, Rights, Setup, Square};
 use pb_moves::Move;
@@ -89,10 +89,13 @@ fn with_lost(table: &Table, key: u64, old: Rights, new: Rights) -> u64
     if old == new {
         return key;
     }
-    let short = with_flag(table, key, old.white_short != new.white_short, 768);
-    let white = with_flag(table, short, old.white_long != new.white_long, 769);
-    let long = with_flag(table, white, old.black_short != new.black_short, 770);
-    with_flag(table, long, old.black_long != new.black_long, 771)
+    let lost = Rights {
+        white_short: old.white_short != new.white_short,
+        white_long: old.white_long != new.white_long,
+        black_short: old.black_short != new.black_short,
+        black_long: old.black_long != new.black_long,
+    };
+    with_rights(table, key, lost)
 }
 
 /// The key of the setup after a move, made of the key of the setup before it, as `play` gives the one after the other.
