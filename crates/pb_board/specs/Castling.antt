@@ -7,8 +7,9 @@ use Rattle.pb_board.specs.declared.setup.Rights.{Rights}
 use Rattle.pb_board.specs.declared.castling.Castling.{Castling}
 use Rattle.pb_board.specs.declared.castling.Castling.TheVariants.{WhiteShort, WhiteLong, BlackShort, BlackLong}
 
--- a row of the table
+-- a row of the table, and its number in the order of the rights
 pub record CastlingRow : Type 0 where
+  pub number : ℕ
   pub colour : Colour
   pub right : Rights → Bool
   pub king_from : ℕ
@@ -18,10 +19,10 @@ pub record CastlingRow : Type 0 where
 
 -- the table, by the squares' indices: a1 is 0, e1 is 4, h1 is 7, a8 is 56, e8 is 60, h8 is 63
 abbrev pub castling_row : Castling → CastlingRow
-castling_row WhiteShort = record { colour = White; right = λ r. r.white_short; king_from = 4; king_to = 6; rook_from = 7; rook_to = 5 }
-castling_row WhiteLong = record { colour = White; right = λ r. r.white_long; king_from = 4; king_to = 2; rook_from = 0; rook_to = 3 }
-castling_row BlackShort = record { colour = Black; right = λ r. r.black_short; king_from = 60; king_to = 62; rook_from = 63; rook_to = 61 }
-castling_row BlackLong = record { colour = Black; right = λ r. r.black_long; king_from = 60; king_to = 58; rook_from = 56; rook_to = 59 }
+castling_row WhiteShort = record { number = 0; colour = White; right = λ r. r.white_short; king_from = 4; king_to = 6; rook_from = 7; rook_to = 5 }
+castling_row WhiteLong = record { number = 1; colour = White; right = λ r. r.white_long; king_from = 4; king_to = 2; rook_from = 0; rook_to = 3 }
+castling_row BlackShort = record { number = 2; colour = Black; right = λ r. r.black_short; king_from = 60; king_to = 62; rook_from = 63; rook_to = 61 }
+castling_row BlackLong = record { number = 3; colour = Black; right = λ r. r.black_long; king_from = 60; king_to = 58; rook_from = 56; rook_to = 59 }
 
 -- the four in their order
 abbrev pub castlings : List Castling

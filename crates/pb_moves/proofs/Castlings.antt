@@ -1,8 +1,10 @@
 -- The rows of the castling table.
-use Rattle.std.proofs.Common.{◌≡◌, ◌≢◌, ℕ, ◌<◌, inr, refl, arith}
+use Rattle.std.proofs.Common.{◌≡◌, ◌≢◌, ℕ, ◌<◌, ◌≤◌, inr, refl, sym, arith, Bool, true, false, ◌&&◌, ◌==◌, Option, Some, None, List, [], ◌∷◌, cond}
+use Rattle.std.specs.List.{find}
+use Rattle.std.proofs.lemmas.Bool.{and_parts, eqb-true}
 use Rattle.pb_board.specs.declared.castling.Castling.{Castling}
 use Rattle.pb_board.specs.declared.castling.Castling.TheVariants.{WhiteShort, WhiteLong, BlackShort, BlackLong}
-use Rattle.pb_board.specs.Castling.{CastlingRow, castling_row}
+use Rattle.pb_board.specs.Castling.{CastlingRow, castling_of, castling_row, castlings}
 use Rattle.pb_moves.specs.Attack.{files_apart, IsBetween, IsStraight}
 
 -- the four squares of a row lie on the board and differ, and king and rook go between where they began
@@ -63,3 +65,36 @@ castling_one WhiteLong WhiteLong e = refl
 castling_one BlackShort BlackShort e = refl
 castling_one BlackLong BlackLong e = refl
 castling_one c d e = absurd (omega arith)
+
+-- what is found passes the test
+passes_either : {X : Type 0} (test : X → Bool) (y x : X) (later : Option X) (first : Bool) → test y ≡ first → (later ≡ Some x → test x ≡ true) → cond first (Some y) later ≡ Some x → test x ≡ true
+passes_either test y x later true passes more e = let same : y ≡ x = cc in cc
+passes_either test y x later false fails more e = more e
+
+found_passes : {X : Type 0} (test : X → Bool) (xs : List X) (x : X) → find test xs ≡ Some x → test x ≡ true
+found_passes test [] x e = absurd (cc)
+found_passes test (y ∷ xs) x e = passes_either test y x (find test xs) (test y) refl (found_passes test xs x) e
+
+-- the castling that is found by its king's squares has them
+pub castling_found : (from to : ℕ) (c : Castling) → castling_of from to ≡ Some c → (from ≡ (castling_row c).king_from) × (to ≡ (castling_row c).king_to)
+castling_found from to c e =
+    let row = castling_row c in
+    let both = and_parts (row.king_from == from) (row.king_to == to) (found_passes (λ d. (castling_row d).king_from == from && (castling_row d).king_to == to) castlings c e) in
+    (sym (eqb-true row.king_from from both.0), sym (eqb-true row.king_to to both.1))
+
+-- and every castling is found by them
+pub castling_is : (c : Castling) (from to : ℕ) → from ≡ (castling_row c).king_from → to ≡ (castling_row c).king_to → castling_of from to ≡ Some c
+castling_is WhiteShort from to f t = rw (f, t) refl
+castling_is WhiteLong from to f t = rw (f, t) refl
+castling_is BlackShort from to f t = rw (f, t) refl
+castling_is BlackLong from to f t = rw (f, t) refl
+
+-- a move to a near square is no castling
+none_near : (from to : ℕ) (found : Option Castling) → castling_of from to ≡ found → files_apart from to ≤ 1 → found ≡ None
+none_near from to None is near = refl
+none_near from to (Some c) is near =
+    let squares = castling_found from to c is in
+    absurd (let two = class_of_castling c from to squares.0 squares.1 in omega arith)
+
+pub near_is_none : (from to : ℕ) → files_apart from to ≤ 1 → castling_of from to ≡ None
+near_is_none from to near = none_near from to (castling_of from to) refl near

@@ -20,9 +20,9 @@ use Rattle.pb_board.specs.Castling.{CastlingRow, castling_row, IsHome}
 use Rattle.pb_moves.specs.Castling.{rook_goes}
 use Rattle.pb_moves.specs.Cases.{Differs, Becomes, Goes, Castles, CaseOf, piece_move, pawn_step, pawn_double, pawn_capture, en_passant, castles, Case, Legal}
 use Rattle.pb_moves.specs.After.{PassesOver, Touches, KeepsFlag, After}
-use Rattle.pb_moves.specs.Successor.{put, arriving, beside, board_of, carried, keeps, rights_of, ep_of_kind, ep_of, after}
+use Rattle.pb_moves.specs.Successor.{put, with_rook, arriving, beside, board_of, carried, keeps, rights_of, ep_of_kind, ep_of, after}
 use Rattle.pb_moves.specs.MoveLaws.{AfterIs, OneAfter, AfterIsSetup}
-use Rattle.pb_moves.proofs.Castlings.{IsRow, rows}
+use Rattle.pb_moves.proofs.Castlings.{IsRow, near_is_none, rows}
 use Rattle.pb_moves.proofs.Differing.{All-two, carried_past_put, carried_put, differs_one, differs_put, moved_board, off_two}
 use Rattle.pb_moves.proofs.Unique.{piece_is, case_one, king_near, pawn_files, step_ranks, passed_at}
 use Rattle.pb_moves.proofs.Kings.{becomes_king, castling_king, gone_is_beyond, pawn_reach}
@@ -65,11 +65,7 @@ beside_piece Knight old new m no_pawn near = refl
 beside_piece Bishop old new m no_pawn near = refl
 beside_piece Rook old new m no_pawn near = refl
 beside_piece Queen old new m no_pawn near = refl
-beside_piece King old new m no_pawn near =
-    elim (eqb_tells (files_apart m.from m.to) 2) [
-      | inl two ↦ absurd (let n = near refl in let e = two.1 in omega arith)
-      | inr other ↦ rw other.0 refl
-    ]
+beside_piece King old new m no_pawn near = ap (with_rook old new) (near_is_none m.from m.to (near refl))
 
 pub beside_straight : (k : Kind) (old new : Board) (m : Moved) → k ≡ Pawn → file m.to ≡ file m.from → beside k old new m ≡ new
 beside_straight Pawn old new m pawn same = let e = eq-eqb (file m.to) (file m.from) same in rw e refl

@@ -1,6 +1,6 @@
 -- The setup after a move as a function of the two. It is the setup of `After` wherever the move is legal, and
 -- means nothing elsewhere.
-use Rattle.std.specs.Prelude.{ℕ, ◌+◌, ◌-◌, ◌*◌, ◌/◌, Bool, not, ◌&&◌, ◌||◌, ◌==◌, Option, Some, None, is_none, if◌then◌else◌, slice_set}
+use Rattle.std.specs.Prelude.{ℕ, ◌+◌, ◌*◌, ◌/◌, Bool, not, ◌&&◌, ◌||◌, ◌==◌, Option, Some, None, is_none, if◌then◌else◌, slice_set}
 use Rattle.pb_board.specs.declared.piece.Kind.{Kind}
 use Rattle.pb_board.specs.declared.piece.Kind.TheVariants.{Pawn, King}
 use Rattle.pb_board.specs.declared.piece.Piece.{Piece}
@@ -10,8 +10,8 @@ use Rattle.pb_board.specs.Piece.{opponent}
 use Rattle.pb_board.specs.Board.{Board, file, rank, at}
 use Rattle.pb_board.specs.declared.castling.Castling.{Castling}
 use Rattle.pb_board.specs.declared.castling.Castling.TheVariants.{WhiteShort, WhiteLong, BlackShort, BlackLong}
-use Rattle.pb_moves.specs.Attack.{files_apart, ranks_apart}
-use Rattle.pb_board.specs.Castling.{castling_row}
+use Rattle.pb_moves.specs.Attack.{ranks_apart}
+use Rattle.pb_board.specs.Castling.{castling_of, castling_row}
 use Rattle.pb_moves.specs.Moved.{Moved}
 
 abbrev pub put : Board → ℕ → Option Piece → Board
@@ -27,17 +27,14 @@ abbrev pub without_passed : Board → Board → Moved → Board
 without_passed old new m =
     if not (file m.to == file m.from) && is_none (at old m.to) then put new (8 * rank m.from + file m.to) None else new
 
--- castling: a king goes two files, and the rook from beyond its square comes to its other side
-abbrev pub with_rook : Board → Board → Moved → Board
-with_rook old new m =
-    if files_apart m.from m.to == 2
-    then (if m.to == m.from + 2 then put (put new (m.to + 1) None) (m.to - 1) (at old (m.to + 1))
-    else put (put new (m.to - 2) None) (m.to + 1) (at old (m.to - 2)))
-    else new
+-- castling: the rook goes too
+abbrev pub with_rook : Board → Board → Option Castling → Board
+with_rook old new None = new
+with_rook old new (Some c) = let row = castling_row c in put (put new row.rook_from None) row.rook_to (at old row.rook_from)
 
 abbrev pub beside : Kind → Board → Board → Moved → Board
 beside Pawn old new m = without_passed old new m
-beside King old new m = with_rook old new m
+beside King old new m = with_rook old new (castling_of m.from m.to)
 beside _ old new m = new
 
 abbrev pub carried : Board → Moved → Piece → Board

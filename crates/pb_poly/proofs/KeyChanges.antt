@@ -1,6 +1,6 @@
 -- The words that a move joins to a key make it the key of the setup after the move.
-use Rattle.std.proofs.Common.{◌≡◌, ◌≢◌, ℕ, zero, suc, ◌+◌, ◌-◌, ◌*◌, ◌<◌, ◌≤◌, inl, inr, Bool, true, false, ◌==◌, cond, Some, None, List, [], ◌∷◌, ◌++◌, length, refl, sym, ap, ◌∙◌, subst, arith}
-use Rattle.std.proofs.lemmas.Bool.{cases_lt, eq-eqb, eqb-false, eqb-true}
+use Rattle.std.proofs.Common.{◌≡◌, ◌≢◌, ℕ, zero, suc, ◌+◌, ◌*◌, ◌≤◌, inl, inr, Some, None, List, [], ◌∷◌, ◌++◌, length, refl, sym, ap, ◌∙◌, subst, arith}
+use Rattle.std.proofs.lemmas.Bool.{cases_lt, eq-eqb}
 use Rattle.std.proofs.lemmas.Bool.Decides.{eqb_tells}
 use Rattle.std.proofs.lemmas.List.{get_or_past}
 use Rattle.pb_board.specs.declared.piece.Colour.{Colour}
@@ -10,17 +10,15 @@ use Rattle.pb_board.specs.declared.piece.Kind.TheVariants.{Pawn, Knight, Bishop,
 use Rattle.pb_board.specs.declared.piece.Piece.{Piece}
 use Rattle.pb_board.specs.Board.{Board, Place, at, file, rank, Holds, IsForward}
 use Rattle.pb_board.specs.Position.{Position, IsSetup}
-use Rattle.pb_moves.specs.Attack.{files_apart, ranks_apart}
+use Rattle.pb_moves.specs.Attack.{files_apart}
 use Rattle.pb_moves.specs.Moved.{Moved, IsMove}
-use Rattle.pb_board.specs.Castling.{castling_row}
-use Rattle.pb_moves.specs.Castling.{rook_goes}
+use Rattle.pb_board.specs.Castling.{castling_of, castling_row}
 use Rattle.pb_moves.specs.Cases.{Goes, CaseOf, piece_move, pawn_step, pawn_double, pawn_capture, en_passant, castles}
 use Rattle.pb_moves.specs.Successor.{arriving, beside, put, with_rook}
-use Rattle.pb_moves.proofs.Differing.{All-two, arrived, at_put_other, at_put_same, length_put, off_one, off_two, same_boards, same_lists, same_or_not}
+use Rattle.pb_moves.proofs.Differing.{All-two, at_put_other, at_put_same, length_put, off_one, off_two, same_boards, same_lists, same_or_not}
 use Rattle.pb_moves.proofs.Kings.{gone_is_beyond, pawn_reach}
-use Rattle.pb_moves.proofs.Listed.{castling_goes}
 use Rattle.pb_moves.proofs.Successors.{board_is}
-use Rattle.pb_moves.proofs.Castlings.{class_of_castling}
+use Rattle.pb_moves.proofs.Castlings.{castling_is, near_is_none, rows}
 use Rattle.pb_moves.proofs.Unique.{king_near, pawn_files}
 use Rattle.pb_poly.specs.Key.{piece_places}
 use Rattle.pb_poly.specs.KeyChange.{beside_kind, changed_places, rook_squares, square_places}
@@ -125,11 +123,6 @@ pub record Covers (old new : Board) (squares : List ℕ) : Type 0 where
   pub once : Distinct squares
   pub others : (q : ℕ) → ¬ Among squares q → at old q ≡ at new q
 
--- beyond the board nothing stands
-pub off_board : (old new : Board) (q : ℕ) → length old ≡ 64 → length new ≡ 64 → 64 ≤ q → changed_places old new (q ∷ []) ≡ []
-off_board old new q full full_new past =
-    rw (get_or_past old q None (omega arith), get_or_past new q None (omega arith)) refl
-
 -- a number that differs from the first and stands not among the others
 new_to : (a x : ℕ) (xs : List ℕ) → a ≢ x → ¬ Among xs a → ¬ Among (x ∷ xs) a
 new_to a x xs other none among = elim among [ inl e ↦ other e | inr later ↦ none later ]
@@ -176,55 +169,21 @@ beside_slant Pawn m pawn other =
     ]
 beside_slant k m pawn other = absurd (cc)
 
-near_rook : (from to : ℕ) → files_apart from to ≤ 1 → rook_squares from to ≡ []
-near_rook from to near = elim (eqb_tells (files_apart from to) 2) [
-  | inl two ↦ absurd (let is = two.1 in omega arith)
-  | inr other ↦ rw other.0 refl
-]
-
 beside_piece : (k : Kind) (m : Moved) → k ≢ Pawn → (k ≡ King → files_apart m.from m.to ≤ 1) → beside_kind k m ≡ []
 beside_piece Pawn m no_pawn near = absurd (no_pawn refl)
 beside_piece Knight m no_pawn near = refl
 beside_piece Bishop m no_pawn near = refl
 beside_piece Rook m no_pawn near = refl
 beside_piece Queen m no_pawn near = refl
-beside_piece King m no_pawn near = near_rook m.from m.to (near refl)
+beside_piece King m no_pawn near = ap rook_squares (near_is_none m.from m.to (near refl))
 
-beside_castling : (k : Kind) (m : Moved) → k ≡ King → beside_kind k m ≡ rook_squares m.from m.to
+beside_castling : (k : Kind) (m : Moved) → k ≡ King → beside_kind k m ≡ rook_squares (castling_of m.from m.to)
 beside_castling King m king = refl
 beside_castling k m king = absurd (cc)
 
-beside_king : (k : Kind) (old moved : Board) (m : Moved) → k ≡ King → beside k old moved m ≡ with_rook old moved m
+beside_king : (k : Kind) (old moved : Board) (m : Moved) → k ≡ King → beside k old moved m ≡ with_rook old moved (castling_of m.from m.to)
 beside_king King old moved m king = refl
 beside_king k old moved m king = absurd (cc)
-
--- the board after a king and its rook have castled
-abbrev castled_by : Bool → Board → Board → ℕ → Board
-castled_by short old moved to = cond short (put (put moved (to + 1) None) (to - 1) (at old (to + 1))) (put (put moved (to - 2) None) (to + 1) (at old (to - 2)))
-
-abbrev rook_by : Bool → ℕ → List ℕ
-rook_by short to = cond short ((to + 1) ∷ (to - 1) ∷ []) ((to - 2) ∷ (to + 1) ∷ [])
-
-covers_either : (old moved : Board) (from to : ℕ) (short : Bool) → (short ≡ true → to ≡ from + 2) → (short ≡ false → to + 2 ≡ from) → length moved ≡ 64 → to < 64
-    → ((q : ℕ) → q ≢ from → q ≢ to → at moved q ≡ at old q) → at (castled_by short old moved to) to ≢ None → Covers old (castled_by short old moved to) (from ∷ to ∷ rook_by short to)
-covers_either old moved from to true right left full on_to others stands =
-    let is = right refl in
-    covers_four old moved from to (to + 1) (to - 1) None (at old (to + 1)) (λ e. omega arith) (λ e. omega arith) (λ e. omega arith) (λ e. omega arith) (λ e. omega arith) (λ e. omega arith) others
-covers_either old moved from to false right left full on_to others stands =
-    let is = left refl in
-    -- the king stands where it has gone, so its rook doesn't leave that square
-    let apart : to ≢ to - 2 = λ e. stands (
-    at_put_other (put moved (to - 2) None) (to + 1) to (at old (to - 2)) (λ same. omega arith)
-    ∙ ap (λ q. at (put moved q None) to) (sym e) ∙ at_put_same moved to None full on_to) in
-    covers_four old moved from to (to - 2) (to + 1) None (at old (to - 2)) (λ e. omega arith) (λ e. omega arith) (λ e. omega arith) apart (λ e. omega arith) (λ e. omega arith) others
-
-covers_rook : (old moved : Board) (m : Moved) → length moved ≡ 64 → m.to < 64 → files_apart m.from m.to ≡ 2 → ranks_apart m.from m.to ≡ 0
-    → ((q : ℕ) → q ≢ m.from → q ≢ m.to → at moved q ≡ at old q) → at (with_rook old moved m) m.to ≢ None → Covers old (with_rook old moved m) (m.from ∷ m.to ∷ rook_squares m.from m.to)
-covers_rook old moved m full on_to files ranks others =
-    let short : Bool = m.to == m.from + 2 in
-    let P : Bool → Type 0 = λ two. at (cond two (castled_by short old moved m.to) moved) m.to ≢ None → Covers old (cond two (castled_by short old moved m.to) moved) (m.from ∷ m.to ∷ cond two (rook_by short m.to) []) in
-    subst P (sym (eq-eqb (files_apart m.from m.to) 2 files)) (covers_either old moved m.from m.to short (eqb-true m.to (m.from + 2))
-    (λ no. let other = eqb-false m.to (m.from + 2) no in omega arith) full on_to others)
 
 -- a pawn that attacks a square goes one file aside and one rank on
 slant : (side : Colour) (from to : ℕ) → files_apart from to ≡ 1 → IsForward side 1 from to → (file to ≢ file from) × (from ≢ 8 * rank from + file to) × (to ≢ 8 * rank from + file to)
@@ -275,16 +234,15 @@ covers s m p new ok is stands own (en_passant x) =
     (covers_three s.board new m.from m.to (8 * rank m.from + file m.to) is.moves apart.1 apart.2
     (others_three s m p new (8 * rank m.from + file m.to) (subst G (sym gone) x.after)))
 covers s m p new ok is stands own (castles c x) =
-    let moved = put (put s.board m.from None) m.to (Some (arriving p m.promo)) in
     let row = castling_row c in
-    let board : with_rook s.board moved m ≡ new = sym (beside_king p.kind s.board moved m x.king) ∙ board_is s m p new ok is stands own (castles c x) in
-    let goes = castling_goes c p.colour m.from m.to King refl x.from_home x.to_table in
-    let ranks : ranks_apart m.from m.to ≡ 0 = elim goes [ inl near ↦ absurd (let two = class_of_castling c m.from m.to x.from_home x.to_table in omega arith) | inr far ↦ far.1 ] in
-    let king : Piece = record { colour = s.turn; kind = x.after.kind } in
-    let arrives : at new m.to ≡ Some king = arrived s.board new m.from m.to king (rook_goes row) x.after.board in
-    let Q : Board → Type 0 = λ b. Covers s.board b (m.from ∷ m.to ∷ rook_squares m.from m.to) in
+    let squares = rows c in
+    let moved = put (put s.board m.from None) m.to (Some (arriving p m.promo)) in
+    let found : castling_of m.from m.to ≡ Some c = castling_is c m.from m.to x.from_home x.to_table in
+    let board : with_rook s.board moved (Some c) ≡ new =
+    sym (beside_king p.kind s.board moved m x.king ∙ ap (with_rook s.board moved) found) ∙ board_is s m p new ok is stands own (castles c x) in
+    let Q : Board → Type 0 = λ b. Covers s.board b (m.from ∷ m.to ∷ rook_squares (Some c)) in
     let R : List ℕ → Type 0 = λ beside. Covers s.board new (m.from ∷ m.to ∷ beside) in
-    subst R (sym (beside_castling p.kind m x.king))
-    (subst Q board (covers_rook s.board moved m (length_put _ m.to _ (length_put s.board m.from None ok.places)) is.to_on_board (class_of_castling c m.from m.to x.from_home x.to_table) ranks
-    (λ q f t. at_put_other (put s.board m.from None) m.to q (Some (arriving p m.promo)) t ∙ at_put_other s.board m.from q None f)
-    (λ none. let e = sym arrives ∙ ap (λ (b : Board). at b m.to) (sym board) ∙ none in cc)))
+    subst R (sym (beside_castling p.kind m x.king ∙ ap rook_squares found))
+    (subst Q board (covers_four s.board moved m.from m.to row.rook_from row.rook_to None (at s.board row.rook_from) is.moves
+    (λ e. squares.from_rook (sym x.from_home ∙ e)) (λ e. squares.from_rook_to (sym x.from_home ∙ e)) (λ e. squares.to_rook (sym x.to_table ∙ e)) (λ e. squares.to_rook_to (sym x.to_table ∙ e)) squares.rook_moves
+    (λ q f t. at_put_other (put s.board m.from None) m.to q (Some (arriving p m.promo)) t ∙ at_put_other s.board m.from q None f)))

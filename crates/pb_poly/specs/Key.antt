@@ -3,7 +3,6 @@ use Rattle.std.specs.Prelude.{◌≡◌, ◌≢◌, ◌↔◌, ℕ, ◌+◌, ◌
 use Rattle.std.specs.Int.{bit_at}
 use Rattle.std.specs.List.{flat_map}
 use Rattle.pb_board.specs.declared.castling.Castling.{Castling}
-use Rattle.pb_board.specs.declared.castling.Castling.TheVariants.{WhiteShort, WhiteLong, BlackShort, BlackLong}
 use Rattle.pb_board.specs.declared.piece.Colour.{Colour}
 use Rattle.pb_board.specs.declared.piece.Colour.TheVariants.{White, Black}
 use Rattle.pb_board.specs.declared.piece.Kind.{Kind}
@@ -25,10 +24,7 @@ abbrev pub piece_place : Piece → ℕ → ℕ
 piece_place piece square = 64 * number_of piece.colour piece.kind + square
 
 abbrev pub castling_place : Castling → ℕ
-castling_place WhiteShort = 768
-castling_place WhiteLong = 769
-castling_place BlackShort = 770
-castling_place BlackLong = 771
+castling_place c = 768 + (castling_row c).number
 
 -- a pawn of the side to move stands directly beside the pawn that passed the square
 pub record HasTaker (s : Position) (passed : ℕ) : Type 0 where

@@ -1,12 +1,12 @@
 -- The places of the table whose words a move joins to a key.
-use Rattle.std.specs.Prelude.{ℕ, ◌+◌, ◌-◌, ◌*◌, ◌==◌, not, Some, None, List, [], ◌∷◌, ◌++◌, if◌then◌else◌}
+use Rattle.std.specs.Prelude.{ℕ, ◌+◌, ◌*◌, ◌==◌, not, Option, Some, None, List, [], ◌∷◌, ◌++◌, if◌then◌else◌}
 use Rattle.std.specs.Bool.{beq}
+use Rattle.pb_board.specs.declared.castling.Castling.{Castling}
 use Rattle.pb_board.specs.declared.piece.Kind.{Kind}
 use Rattle.pb_board.specs.declared.piece.Kind.TheVariants.{Pawn, King}
 use Rattle.pb_board.specs.declared.setup.Rights.{Rights}
-use Rattle.pb_board.specs.Castling.{castling_row}
+use Rattle.pb_board.specs.Castling.{castling_of, castling_row}
 use Rattle.pb_board.specs.Board.{Board, Place, file, rank, at}
-use Rattle.pb_moves.specs.Attack.{files_apart}
 use Rattle.pb_moves.specs.Moved.{Moved}
 use Rattle.pb_poly.specs.Key.{castling_places, piece_place}
 
@@ -20,15 +20,15 @@ abbrev pub changed_places : Board → Board → List ℕ → List ℕ
 changed_places old new [] = []
 changed_places old new (q ∷ squares) = square_places (at old q) q ++ (square_places (at new q) q ++ changed_places old new squares)
 
--- the rook's squares, where a king castles between these: it goes two files, and the rook from beyond it comes to its other side
-abbrev pub rook_squares : ℕ → ℕ → List ℕ
-rook_squares from to =
-    if files_apart from to == 2 then (if to == from + 2 then (to + 1) ∷ (to - 1) ∷ [] else (to - 2) ∷ (to + 1) ∷ []) else []
+-- the rook's squares, where a king castles
+abbrev pub rook_squares : Option Castling → List ℕ
+rook_squares None = []
+rook_squares (Some c) = let row = castling_row c in row.rook_from ∷ row.rook_to ∷ []
 
 -- the squares besides its own two that the move of such a piece may change: that of a pawn taken in passing, and the rook's
 abbrev pub beside_kind : Kind → Moved → List ℕ
 beside_kind Pawn m = if file m.to == file m.from then [] else (8 * rank m.from + file m.to) ∷ []
-beside_kind King m = rook_squares m.from m.to
+beside_kind King m = rook_squares (castling_of m.from m.to)
 beside_kind _ m = []
 
 abbrev pub squares_beside : Place → Moved → List ℕ

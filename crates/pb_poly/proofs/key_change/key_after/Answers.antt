@@ -26,8 +26,8 @@ returns c =
       rights = c.with_lost-rights.result;
       unpassed = c.with_passed-unpassed.result;
       passed = c.with_passed-passed.result;
-      pieces_is = all_squares words s.board t.board m moves.piece c.args.key c.with_square-left.result c.with_square-reached.result c.with_beside-pieces.result c.index.result c.index-2.result
-          moves.stands (c.index.ensures.value ∙ c.from.ensures.value) (c.index-2.ensures.value ∙ c.to.ensures.value) c.with_square-left.ensures c.with_square-reached.ensures c.with_beside-pieces.ensures;
+      pieces_is = all_squares words s.board t.board m moves.piece c.args.key c.with_square-left.result c.with_square-reached.result c.with_beside-pieces.result c.from.result c.to.result
+          moves.stands c.from.ensures.value c.to.ensures.value c.with_square-left.ensures c.with_square-reached.ensures c.with_beside-pieces.ensures;
       rights_is = c.with_lost-rights.ensures ∙ ap (λ (r : Rights). joined words c.with_beside-pieces.result (lost_places r c.rights-2.result)) c.rights.ensures
           ∙ ap (λ (r : Rights). joined words c.with_beside-pieces.result (lost_places s.rights r)) c.rights-2.ensures;
       unpassed_is = c.with_passed-unpassed.ensures;
