@@ -4,7 +4,7 @@ use Rattle.std.specs.List.{find}
 use Rattle.std.proofs.lemmas.Bool.{and_parts, eqb-true}
 use Rattle.pb_board.specs.declared.castling.Castling.{Castling}
 use Rattle.pb_board.specs.declared.castling.Castling.TheVariants.{WhiteShort, WhiteLong, BlackShort, BlackLong}
-use Rattle.pb_board.specs.Castling.{CastlingRow, castling_of, castling_row, castlings}
+use Rattle.pb_board.specs.Castling.{CastlingRow, castling_from_home, castling_of, castling_row, castlings}
 use Rattle.pb_moves.specs.Attack.{files_apart, IsBetween, IsStraight}
 
 -- the four squares of a row lie on the board and differ, and king and rook go between where they began
@@ -88,6 +88,23 @@ castling_is WhiteShort from to f t = rw (f, t) refl
 castling_is WhiteLong from to f t = rw (f, t) refl
 castling_is BlackShort from to f t = rw (f, t) refl
 castling_is BlackLong from to f t = rw (f, t) refl
+
+-- the same of those that are found by where king and rook begin
+pub home_found : (king rook : ℕ) (c : Castling) → castling_from_home king rook ≡ Some c → (king ≡ (castling_row c).king_from) × (rook ≡ (castling_row c).rook_from)
+home_found king rook c e =
+    let row = castling_row c in
+    let both = and_parts (row.king_from == king) (row.rook_from == rook) (found_passes (λ d. (castling_row d).king_from == king && (castling_row d).rook_from == rook) castlings c e) in
+    (sym (eqb-true row.king_from king both.0), sym (eqb-true row.rook_from rook both.1))
+
+pub home_is : (c : Castling) (king : ℕ) → king ≡ (castling_row c).king_from → castling_from_home king (castling_row c).rook_from ≡ Some c
+home_is WhiteShort king e = rw e refl
+home_is WhiteLong king e = rw e refl
+home_is BlackShort king e = rw e refl
+home_is BlackLong king e = rw e refl
+
+pub home_is_far : (c : Castling) (king rook : ℕ) → king ≡ (castling_row c).king_from → rook ≡ (castling_row c).rook_from → 2 < files_apart king rook
+home_is_far WhiteShort king rook a b = omega arith
+home_is_far c king rook a b = omega arith
 
 -- a move to a near square is no castling
 none_near : (from to : ℕ) (found : Option Castling) → castling_of from to ≡ found → files_apart from to ≤ 1 → found ≡ None

@@ -1,23 +1,23 @@
 -- Move codes can be taken apart again.
-use Rattle.std.proofs.Common.{◌≡◌, ◌≢◌, ◌≤◌, ◌<◌, ◌+◌, ◌*◌, ◌/◌, ◌%◌, ℕ, Bool, true, false, Option, Some, None, refl, sym, ◌∙◌, ap, arith, cond}
-use Rattle.std.proofs.lemmas.Bool.Decides.{nat_tests}
+use Rattle.std.proofs.Common.{◌≡◌, ◌≢◌, ◌≤◌, ◌<◌, ◌+◌, ◌*◌, ◌/◌, ◌%◌, ℕ, Bool, true, false, Option, Some, None, refl, sym, ◌∙◌, ap, arith, cond, ◌==◌}
 use Rattle.std.specs.Option.{SomeIff, ForSome}
 use Rattle.pb_board.specs.declared.piece.Colour.{Colour}
-use Rattle.pb_board.specs.declared.piece.Colour.TheVariants.{White, Black}
 use Rattle.pb_board.specs.declared.piece.Kind.{Kind}
 use Rattle.pb_board.specs.declared.piece.Kind.TheVariants.{Pawn, Knight, Bishop, Rook, Queen, King}
 use Rattle.pb_board.specs.declared.piece.Piece.{Piece}
 use Rattle.pb_board.specs.Position.{Position}
 use Rattle.pb_board.specs.Board.{Board, Place, at, is_piece}
 use Rattle.pb_board.specs.King.{is_piece-is}
-use Rattle.pb_board.specs.Piece.{king_of}
+use Rattle.pb_board.specs.Piece.{colour_number, king_of}
+use Rattle.pb_board.specs.declared.castling.Castling.{Castling}
+use Rattle.pb_board.specs.Castling.{castling_from_home, castling_of, castling_row}
 use Rattle.pb_moves.specs.Attack.{files_apart}
 use Rattle.pb_moves.specs.Moved.{Moved, IsPromotion, moved_of, promotion_number}
 use Rattle.pb_moves.specs.Cases.{CaseOf, piece_move, pawn_step, pawn_double, pawn_capture, en_passant, castles, Legal}
-use Rattle.pb_moves.proofs.Castlings.{class_of_castling}
+use Rattle.pb_moves.proofs.Castlings.{castling_found, class_of_castling, home_found, home_is, home_is_far, rows}
 use Rattle.pb_moves.proofs.Unique.{king_near}
-use Rattle.pb_poly.specs.Code.{HasCode, castling_to, coded_to, CodeIsOne}
-use Rattle.pb_poly.specs.Decoding.{castling_from, promotion_of, reached}
+use Rattle.pb_poly.specs.Code.{HasCode, coded_to, rook_or, CodeIsOne}
+use Rattle.pb_poly.specs.Decoding.{king_or, promotion_of, reached}
 
 promotion_back : (promo : Option Kind) → ((kind : Kind) → promo ≡ Some kind → IsPromotion kind) → promotion_of (promotion_number promo) ≡ promo
 promotion_back None lawful = refl
@@ -37,13 +37,35 @@ king_files s m piece new (pawn_double x) king = let pawn = x.pawn in absurd (cc)
 king_files s m piece new (pawn_capture x) king = let pawn = x.pawn in absurd (cc)
 king_files s m piece new (en_passant x) king = let pawn = x.pawn in absurd (cc)
 
-castling_back : (side : Colour) (from to : ℕ) → files_apart from to ≤ 2 → castling_from side from (castling_to side from to) ≡ to
-castling_back White from to near = grind (arith, nat_tests)
-castling_back Black from to near = grind (arith, nat_tests)
+-- a king that goes two files at most doesn't go to where a rook begins
+no_rook_square : (side : Colour) (from to : ℕ) (found : Option Castling) → castling_from_home from to ≡ found → files_apart from to ≤ 2 → king_or side to found ≡ to
+no_rook_square side from to None is near = refl
+no_rook_square side from to (Some c) is near =
+    let home = home_found from to c is in
+    absurd (let far = home_is_far c from to home.0 home.1 in omega arith)
+
+back_by_side : (side : Colour) (c : Castling) (from to : ℕ) (own : Bool) → own ≡ (colour_number (castling_row c).colour == colour_number side) → from ≡ (castling_row c).king_from → to ≡ (castling_row c).king_to
+    → king_or side (cond own (castling_row c).rook_from to) (castling_from_home from (cond own (castling_row c).rook_from to)) ≡ to
+back_by_side side c from to true own home reaches =
+    let row = castling_row c in
+    ap (king_or side row.rook_from) (home_is c from home) ∙ ap (λ o. cond o row.king_to row.rook_from) (sym own) ∙ sym reaches
+back_by_side side c from to false own home reaches =
+    no_rook_square side from to (castling_from_home from to) refl (let two = class_of_castling c from to home reaches in omega arith)
+
+back_by : (side : Colour) (from to : ℕ) (found : Option Castling) → castling_of from to ≡ found → files_apart from to ≤ 2
+    → king_or side (rook_or side to found) (castling_from_home from (rook_or side to found)) ≡ to
+back_by side from to None is near = no_rook_square side from to (castling_from_home from to) refl near
+back_by side from to (Some c) is near =
+    let squares = castling_found from to c is in
+    back_by_side side c from to (colour_number (castling_row c).colour == colour_number side) refl squares.0 squares.1
+
+castling_back : (side : Colour) (from to : ℕ) → files_apart from to ≤ 2
+    → king_or side (rook_or side to (castling_of from to)) (castling_from_home from (rook_or side to (castling_of from to))) ≡ to
+castling_back side from to near = back_by side from to (castling_of from to) refl near
 
 -- the king castles by its own move alone, so the code's square gives back the one that the move reaches
 back_if : (s : Position) (m : Moved) (king : Bool) → (king ≡ true → files_apart m.from m.to ≤ 2)
-    → cond king (castling_from s.turn m.from (cond king (castling_to s.turn m.from m.to) m.to)) (cond king (castling_to s.turn m.from m.to) m.to) ≡ m.to
+    → (let named = cond king (rook_or s.turn m.to (castling_of m.from m.to)) m.to in cond king (king_or s.turn named (castling_from_home m.from named)) named) ≡ m.to
 back_if s m true near = castling_back s.turn m.from m.to (near refl)
 back_if s m false near = refl
 
@@ -59,12 +81,16 @@ reached_back s m legal =
     let case = legal.moves in
     back_if s m (is_piece (king_of s.turn) (at s.board m.from)) (king_goes_near s m case.piece legal.new (at s.board m.from) case.stands case.by_case)
 
-castling_on_board : (side : Colour) (from to : ℕ) → to < 64 → castling_to side from to < 64
-castling_on_board White from to near = grind (arith, nat_tests)
-castling_on_board Black from to near = grind (arith, nat_tests)
+rook_on_board : (own : Bool) (c : Castling) (to : ℕ) → to < 64 → cond own (castling_row c).rook_from to < 64
+rook_on_board true c to near = (rows c).rook_from
+rook_on_board false c to near = near
 
-on_board_if : (king : Bool) (side : Colour) (from to : ℕ) → to < 64 → cond king (castling_to side from to) to < 64
-on_board_if true side from to near = castling_on_board side from to near
+castling_on_board : (side : Colour) (to : ℕ) (found : Option Castling) → to < 64 → rook_or side to found < 64
+castling_on_board side to None near = near
+castling_on_board side to (Some c) near = rook_on_board (colour_number (castling_row c).colour == colour_number side) c to near
+
+on_board_if : (king : Bool) (side : Colour) (from to : ℕ) → to < 64 → cond king (rook_or side to (castling_of from to)) to < 64
+on_board_if true side from to near = castling_on_board side to (castling_of from to) near
 on_board_if false side from to near = near
 
 coded_on_board : (s : Position) (m : Moved) → m.to < 64 → coded_to s m < 64

@@ -1,22 +1,23 @@
 -- Move codes of PolyGlot books: 15 bits, by three from the lowest: the file and the rank of the square that the move reaches,
 -- the file and the rank of the square that it leaves, and the promotion. Castling is coded as the king's move to its rook.
-use Rattle.std.specs.Prelude.{◌≡◌, ℕ, ◌+◌, ◌*◌, ◌&&◌, ◌==◌, if◌then◌else◌}
+use Rattle.std.specs.Prelude.{◌≡◌, ℕ, ◌+◌, ◌*◌, ◌==◌, Option, Some, None, if◌then◌else◌}
 use Rattle.pb_board.specs.declared.piece.Colour.{Colour}
-use Rattle.pb_board.specs.declared.piece.Colour.TheVariants.{White, Black}
-use Rattle.pb_board.specs.Piece.{king_of}
+use Rattle.pb_board.specs.declared.castling.Castling.{Castling}
+use Rattle.pb_board.specs.Piece.{colour_number, king_of}
+use Rattle.pb_board.specs.Castling.{castling_of, castling_row}
 use Rattle.pb_board.specs.Position.{Position, IsSetup}
 use Rattle.pb_board.specs.Board.{file, rank, at, is_piece}
 use Rattle.pb_moves.specs.Moved.{Moved, IsMove, promotion_number}
 use Rattle.pb_moves.specs.Cases.{Legal}
 
--- where a king castles from e1 or e8, its rook's square, and else the square that it reaches
-abbrev pub castling_to : Colour → ℕ → ℕ → ℕ
-castling_to White from to = if from == 4 && to == 6 then 7 else (if from == 4 && to == 2 then 0 else to)
-castling_to Black from to = if from == 60 && to == 62 then 63 else (if from == 60 && to == 58 then 56 else to)
+-- the square of the rook with which this side castles, and else the one that its king reaches
+abbrev pub rook_or : Colour → ℕ → Option Castling → ℕ
+rook_or side to None = to
+rook_or side to (Some c) = let row = castling_row c in if colour_number row.colour == colour_number side then row.rook_from else to
 
 -- the square that the code names as the one that the move reaches
 abbrev pub coded_to : Position → Moved → ℕ
-coded_to s m = if is_piece (king_of s.turn) (at s.board m.from) then castling_to s.turn m.from m.to else m.to
+coded_to s m = if is_piece (king_of s.turn) (at s.board m.from) then rook_or s.turn m.to (castling_of m.from m.to) else m.to
 
 abbrev pub code : Position → Moved → ℕ
 code s m = file (coded_to s m) + 8 * rank (coded_to s m) + 64 * file m.from + 512 * rank m.from + 4096 * promotion_number m.promo

@@ -4,10 +4,10 @@ ghost use Rattle.std.specs.Prelude.{◌≡◌, ◌<◌, ◌≤◌, MatchOption, 
 ghost use Rattle.pb_board.specs.Piece.{king_of};
 ghost use Rattle.pb_board.specs.Board.{at, is_piece};
 ghost use Rattle.pb_moves.specs.Moved.{Moved, promotion_number as promotion_number_by};
-ghost use Rattle.pb_poly.specs.Decoding.{castling_from as castling_from_by, promotion_of as promotion_by, reached as reached_by};
-ghost use Rattle.pb_poly.specs.Code.{HasCode, castling_to as castling_to_by, code as code_by, coded_to as coded_to_by};
+ghost use Rattle.pb_poly.specs.Decoding.{promotion_of as promotion_by, reached as reached_by};
+ghost use Rattle.pb_poly.specs.Code.{HasCode, code as code_by, coded_to as coded_to_by};
 
-use pb_board::{Colour, Kind, Setup, Square};
+use pb_board::{Castling, Kind, Setup, Square};
 use pb_moves::{Move, is_legal};
 
 /// The number of a promotion.
@@ -34,31 +34,15 @@ fn has_own_king(setup: &Setup, square: Square) -> bool
     }
 }
 
-/// The square of the rook with which the king castles from e1 or e8, and else the square that it reaches, by index.
-fn castling_to(side: Colour, from: u8, to: u8) -> u8
-    requires { to < 64 }
-    ensures value { result ≡ castling_to_by side from to }
-    ensures on_board { result < 64 }
+/// The square that the code names as the one that the move reaches.
+fn coded_to(setup: &Setup, m: Move) -> Square
+    ensures { result ≡ coded_to_by setup.now m }
 {
-    match (side, from, to) {
-        (Colour::White, 4, 6) => 7,
-        (Colour::White, 4, 2) => 0,
-        (Colour::Black, 60, 62) => 63,
-        (Colour::Black, 60, 58) => 56,
-        _ => to,
-    }
-}
-
-/// The square that the code names as the one that the move reaches, by index.
-fn coded_to(setup: &Setup, m: Move) -> u8
-    ensures value { result ≡ coded_to_by setup.now m }
-    ensures on_board { result < 64 }
-{
-    let to = m.to().index();
-    if has_own_king(setup, m.from()) {
-        castling_to(setup.turn(), m.from().index(), to)
-    } else {
-        to
+    match Castling::of(m.from(), m.to()) {
+        Some(castling) if castling.colour() == setup.turn() && has_own_king(setup, m.from()) => {
+            castling.squares().rook_from
+        }
+        _ => m.to(),
     }
 }
 
@@ -68,7 +52,7 @@ fn coded_to(setup: &Setup, m: Move) -> u8
 pub fn code_of(setup: &Setup, m: Move) -> u16
     ensures { result ≡ code_by setup.now m }
 {
-    let to = u16::from(coded_to(setup, m));
+    let to = u16::from(coded_to(setup, m).index());
     let from = u16::from(m.from().index());
     to + 64 * from + 4096 * promotion_number(m.promo())
 }
@@ -86,27 +70,15 @@ fn promotion_of(number: u16) -> Option<Kind>
     }
 }
 
-/// The square that a king reaches from e1 or e8 where the code names its rook's, and else the one that it names, by index.
-fn castling_from(side: Colour, from: u8, named: u8) -> u8
-    ensures { result ≡ castling_from_by side from named }
-{
-    match (side, from, named) {
-        (Colour::White, 4, 7) => 6,
-        (Colour::White, 4, 0) => 2,
-        (Colour::Black, 60, 63) => 62,
-        (Colour::Black, 60, 56) => 58,
-        _ => named,
-    }
-}
-
-/// The square that a move from this square reaches where its code names that one, by index.
-fn reached(setup: &Setup, from: Square, named: u8) -> u8
+/// The square that a move from this square reaches where its code names that one.
+fn reached(setup: &Setup, from: Square, named: Square) -> Square
     ensures { result ≡ reached_by setup.now from named }
 {
-    if has_own_king(setup, from) {
-        castling_from(setup.turn(), from.index(), named)
-    } else {
-        named
+    match Castling::from_home(from, named) {
+        Some(castling) if castling.colour() == setup.turn() && has_own_king(setup, from) => {
+            castling.squares().king_to
+        }
+        _ => named,
     }
 }
 
@@ -115,8 +87,8 @@ fn decoded(setup: &Setup, code: u16) -> Option<Move>
     ensures { (m : Moved) → HasCode setup.now m code → result ≡ Some m }
 {
     let from = Square::from_index((code / 64 % 64) as u8)?;
-    let to = Square::from_index(reached(setup, from, (code % 64) as u8))?;
-    Move::new(from, to, promotion_of(code / 4096))
+    let named = Square::from_index((code % 64) as u8)?;
+    Move::new(from, reached(setup, from, named), promotion_of(code / 4096))
 }
 
 /// The one legal move with this code. None exactly where no legal move has it, and so where bit 15 isn't 0.
