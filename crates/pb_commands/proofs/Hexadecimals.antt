@@ -1,5 +1,5 @@
 -- Bytes written in hexadecimal digits.
-use Rattle.std.proofs.Common.{◌≡◌, ◌∙◌, ℕ, zero, suc, ◌/◌, ◌%◌, ◌^◌, ◌<◌, ◌&&◌, Bool, List, [], ◌∷◌, ◌++◌, ap, arith, eqb, inl, inr, refl, slice_index, sym, true}
+use Rattle.std.proofs.Common.{◌≡◌, ◌∙◌, ℕ, zero, suc, ◌*◌, ◌/◌, ◌%◌, ◌^◌, ◌<◌, ◌&&◌, Bool, List, [], ◌∷◌, ◌++◌, ap, arith, eqb, inl, inr, refl, slice_index, sym, true}
 use Rattle.std.proofs.Math.Nat.{div-div-eq-div-mul, pow-succ'}
 use Rattle.std.proofs.lemmas.Bool.{and_parts, cases_lt, eqb-true}
 use Rattle.std.proofs.lemmas.List.{append_assoc}
@@ -56,17 +56,24 @@ abbrev twice : ℕ → ℕ
 twice zero = zero
 twice (suc k) = suc (suc (twice k))
 
--- the bytes of a number of this many, in the order of their worth
-pub digits_of_bytes : (k n : ℕ) → encode_lower (bytes_high_first k n) ≡ hexadecimal (twice k) n
+digits_of_twice : (k n : ℕ) → encode_lower (bytes_high_first k n) ≡ hexadecimal (twice k) n
 unfolding encode_with hexadecimal
-digits_of_bytes zero n = refl
-digits_of_bytes (suc k) n =
+digits_of_twice zero n = refl
+digits_of_twice (suc k) n =
     let high : n % 256 / 16 ≡ n / 16 % 16 = omega arith in
     let low : n % 256 % 16 ≡ n % 16 = omega arith in
     let rest : n / 256 ≡ n / 16 / 16 = omega arith in
     ap encode_lower (bytes_by_last k n) ∙ encoded-push (bytes_high_first k (n / 256)) (n % 256) (omega arith)
-    ∙ ap (λ ds. ds ++ digit (n % 256 / 16) ∷ digit (n % 256 % 16) ∷ []) (digits_of_bytes k (n / 256))
+    ∙ ap (λ ds. ds ++ digit (n % 256 / 16) ∷ digit (n % 256 % 16) ∷ []) (digits_of_twice k (n / 256))
     ∙ ap (λ m. hexadecimal (twice k) m ++ digit (n % 256 / 16) ∷ digit (n % 256 % 16) ∷ []) rest
     ∙ ap (λ v. hexadecimal (twice k) (n / 16 / 16) ++ digit v ∷ digit (n % 256 % 16) ∷ []) high
     ∙ ap (λ v. hexadecimal (twice k) (n / 16 / 16) ++ digit (n / 16 % 16) ∷ digit v ∷ []) low
     ∙ sym (append_assoc (hexadecimal (twice k) (n / 16 / 16)) (digit (n / 16 % 16) ∷ []) (digit (n % 16) ∷ []))
+
+twice_is : (k : ℕ) → twice k ≡ 2 * k
+twice_is zero = refl
+twice_is (suc k) = let before = twice_is k in omega arith
+
+-- the bytes of a number of this many, in the order of their worth
+pub digits_of_bytes : (k n : ℕ) → encode_lower (bytes_high_first k n) ≡ hexadecimal (2 * k) n
+digits_of_bytes k n = digits_of_twice k n ∙ ap (λ width. hexadecimal width n) (twice_is k)

@@ -10,7 +10,7 @@ ghost use Rattle.pb_commands.specs.Shows.{Shows};
 ghost use Rattle.pb_commands.specs.declared.fault.Fault.TheVariants.{Memory};
 
 use crate::fault::Fault;
-use crate::hexadecimal::{digits_of_u16, digits_of_u32, digits_of_u64};
+use crate::hexadecimal::digits_of;
 use crate::output::put_line;
 use crate::refusal::refuse_book;
 use pb_poly::{Entry, Failed, Sink, Source, read_book};
@@ -81,9 +81,9 @@ fn show_entries<K: Sink>(sink: &mut K, entries: &[Entry]) -> Result<(), Fault>
 fn put_entry<K: Sink>(sink: &mut K, entry: &Entry) -> Result<(), Failed>
     ensures { Put (K.state sink.old) (K.state sink.new) result (entry_line entry.now) }
 {
-    let key = digits_of_u64(entry.key);
-    let code = digits_of_u16(entry.code);
-    let weight = digits_of_u16(entry.weight);
-    let learn = digits_of_u32(entry.learn);
+    let key: [u8; 16] = digits_of(&entry.key.to_be_bytes());
+    let code: [u8; 4] = digits_of(&entry.code.to_be_bytes());
+    let weight: [u8; 4] = digits_of(&entry.weight.to_be_bytes());
+    let learn: [u8; 8] = digits_of(&entry.learn.to_be_bytes());
     put_line(sink, &[&key, b" ", &code, b" ", &weight, b" ", &learn])
 }
