@@ -146,8 +146,6 @@ pub fn collect<T: Tally, S: Source, K: Sink>(
     // The proof reads what the references hold from these uses.
     let _ = &*ledger;
     let _ = &*sink;
-    match ended {
-        Ok(()) => Ok(totals),
-        Err(fault) => Err(fault),
-    }
+    ended?;
+    Ok(totals)
 }
