@@ -11,9 +11,12 @@ use std::alloc::AllocError;
 use std::hash::{Hash, Hasher};
 use std::marker::Model;
 
+/// The most bytes of an id.
+const MAX_LEN: usize = 64;
+
 /// The id of a submission: 1 to 64 bytes of 33 to 126. It takes no memory of its own.
 pub struct Id {
-    bytes: [u8; 64],
+    bytes: [u8; MAX_LEN],
     len: u8,
 }
 
@@ -21,16 +24,17 @@ impl Model for Id {
     ghost use Rattle.std.specs.Prelude.{List, ℕ, take, length};
     ghost use Rattle.pb_board.specs.Padded.{padded, IsPadded, padded-back};
     ghost use Rattle.pb_games.specs.Ids.{IsId};
+    ghost use Rattle.pb_games.specs.declared.id.TheConstants.{MAX_LEN};
 
     ghost Value = { List ℕ };
 
     ghost view = { λ a. take a.len a.bytes };
 
-    ghost invariant = { λ a. IsId (take a.len a.bytes) × IsPadded 64 a.bytes a.len };
+    ghost invariant = { λ a. IsId (take a.len a.bytes) × IsPadded MAX_LEN a.bytes a.len };
 
-    ghost inverse = { λ id. record { bytes = padded 64 id; len = length id } };
+    ghost inverse = { λ id. record { bytes = padded MAX_LEN id; len = length id } };
 
-    ghost inverse_ok = { λ a h. padded-back 64 (λ bytes len. record { bytes = bytes; len = len }) a.bytes a.len h.1 };
+    ghost inverse_ok = { λ a h. padded-back MAX_LEN (λ bytes len. record { bytes = bytes; len = len }) a.bytes a.len h.1 };
 }
 
 impl Clone for Id {
@@ -77,7 +81,7 @@ impl Id {
 pub(crate) fn is_id(bytes: &[u8]) -> bool
     ensures { IsTrue result ↔ IsId bytes.now }
 {
-    !bytes.is_empty() && bytes.len() <= 64 && are_printable(bytes)
+    !bytes.is_empty() && bytes.len() <= MAX_LEN && are_printable(bytes)
 }
 
 /// Whether each byte is in 33 to 126.
@@ -88,9 +92,9 @@ fn are_printable(bytes: &[u8]) -> bool
 }
 
 /// The bytes, and zeros after them.
-fn padded(bytes: &[u8]) -> [u8; 64]
-    requires { length bytes.now ≤ 64 }
-    ensures { result ≡ padded_text 64 bytes.now }
+fn padded(bytes: &[u8]) -> [u8; MAX_LEN]
+    requires { length bytes.now ≤ MAX_LEN }
+    ensures { result ≡ padded_text MAX_LEN bytes.now }
 {
     let mut kept = [0; 64];
     for (i, byte) in bytes.iter().enumerate() {
