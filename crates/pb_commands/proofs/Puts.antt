@@ -1,6 +1,6 @@
 -- Bytes that are put part by part.
 use Rattle.std.proofs.Common.{◌≡◌, ◌∙◌, ℕ, ◌+◌, ◌<◌, ◌≤◌, List, [], ◌∷◌, ◌++◌, Option, Result, Ok, Err, Bor, ap, append-nil, append_assoc, drop, false, get_or, length, refl, subst, sym, take, take-append-drop, true}
-use Rattle.std.proofs.KnownBytes.{Appends-kept, Appends-trans}
+use Rattle.std.proofs.KnownBytes.{Appends-kept, Appends-nil, Appends-trans}
 use Rattle.std.proofs.Math.ListN.{drop_of_length-le}
 use Rattle.std.proofs.Math.Seq.{take-append_seam, take-length}
 use Rattle.std.proofs.lemmas.List.{drop_more}
@@ -60,6 +60,18 @@ put_last old mid new (Ok v) done part whole written is stays put = record {
 put_last old mid new (Err e) done part whole written is stays put =
     let no_more : done ++ (part ++ []) ≡ whole = ap (λ xs. done ++ xs) (append-nil part) ∙ is in
     put_failed old new (Err e) whole refl (front_more _ _ _ done part [] whole written no_more put.front.0 put.front.1) put.failed put.flushed
+
+-- a put, and another
+pub put_then : {E : Type 0} (old mid new : SinkState) (v : Unit {0}) (answer : Result (Unit {0}) E) (a b : List ℕ)
+    → Put {E = E} old mid (Ok v) a → Put mid new answer b → Put old new answer (a ++ b)
+put_then old mid new v answer a b before put =
+    put_last old mid new answer a b (a ++ b) before.all refl (λ failed. let bad : false ≡ true = before.stays_failed failed in cc) put
+
+-- a put that failed is a front of a longer one
+pub put_cut : {E : Type 0} (old new : SinkState) (e : E) (answer : Result (Unit {0}) E) (a b : List ℕ) → IsErr answer
+    → Put old new (Err e) a → Put old new answer (a ++ b)
+put_cut old new e answer a b failing put =
+    put_failed old new answer (a ++ b) failing (front_more old.bytes old.bytes new.bytes [] a b (a ++ b) (Appends-nil old.bytes) refl put.front.0 put.front.1) put.failed put.flushed
 
 -- the line from a part on
 pub line_from : (parts : List (Bor (List ℕ))) (i : ℕ) (d : Bor (List ℕ)) → i < length parts

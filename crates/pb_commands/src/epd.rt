@@ -1,8 +1,9 @@
 //! The command `epd`: each EPD line is written in its one ordered form, or named as refused.
-ghost use Rattle.std.specs.Prelude.{◌≡◌, ◌≤◌, ◌↔◌, ◌++◌, IfErr, IfOk, IsTrue, OnOk, decimal, false, length, true};
+ghost use Rattle.std.specs.Prelude.{◌≡◌, ◌≤◌, ◌↔◌, ◌∷◌, ◌++◌, IfErr, IfOk, IsTrue, OnOk, codes, decimal, false, length, true};
 ghost use Rattle.pb_board.specs.LineEnd.{with_end};
 ghost use Rattle.pb_io.specs.Lines.{line_limit};
 ghost use Rattle.pb_io.specs.LineTask.{AtEnd, IfTold};
+ghost use Rattle.pb_io.specs.Sink.{Put};
 ghost use Rattle.pb_commands.specs.EpdRun.{RewritesOrEnds, RewritesStream, RewritesUntil};
 ghost use Rattle.pb_commands.specs.EpdShown.{EpdShown, IsBlank, LineShown, epd_verdict, refused_line};
 ghost use Rattle.pb_commands.specs.Judged.{PutsText};
@@ -14,7 +15,7 @@ use crate::output::put_line;
 use itoa::Buffer;
 use pb_board::without_return;
 use pb_epd::{EpdError, read_epd, write_epd};
-use pb_poly::{LineTask, LinesFault, Sink, Source, take_lines};
+use pb_poly::{Failed, LineTask, LinesFault, Sink, Source, take_lines};
 use std::alloc::Global;
 
 /// Rewrites lines one after the other.
@@ -44,7 +45,7 @@ impl<K: Sink> LineTask for Rewriter<'_, K> {
 
     fn take_long(&mut self) -> Result<(), Fault> {
         self.lines = self.lines.saturating_add(1);
-        refuse(self.sink, self.lines, b"long", b"")?;
+        refuse_line(self.sink, self.lines, &[b"long"])?;
         self.all_taken = false;
         Ok(())
     }
@@ -160,10 +161,14 @@ fn put_refusal<K: Sink>(sink: &mut K, number: u64, error: EpdError) -> Result<bo
 {
     match error {
         EpdError::Token(at) => refuse_at(sink, number, b"token ", at),
-        EpdError::Fields => refuse(sink, number, b"fields", b""),
-        EpdError::Setup(refusal) => refuse(sink, number, b"setup ", refusal.word().as_bytes()),
+        EpdError::Fields => refuse_line(sink, number, &[b"fields"]),
+        EpdError::Setup(refusal) => refuse_line(
+            sink,
+            number,
+            &[b"setup ", refusal.word().as_bytes()],
+        ),
         EpdError::Opcode(place) => refuse_at(sink, number, b"opcode ", place),
-        EpdError::Unended => refuse(sink, number, b"unended", b""),
+        EpdError::Unended => refuse_line(sink, number, &[b"unended"]),
         EpdError::Repeated(place) => refuse_at(sink, number, b"repeated ", place),
         EpdError::Memory => Err(Fault::Memory),
     }
@@ -174,17 +179,28 @@ fn refuse_at<K: Sink>(sink: &mut K, number: u64, word: &[u8], place: usize) -> R
     ensures { PutsOrStops (λ verdict. verdict ≡ refused_line number (word.now ++ decimal place)) (K.state sink.old) (K.state sink.new) result }
 {
     let mut buffer = Buffer::new();
-    refuse(sink, number, word, buffer.format(place).as_bytes())
+    refuse_line(sink, number, &[word, buffer.format(place).as_bytes()])
 }
 
-/// Puts that the line of this number is refused, with a reason in two parts, and answers that it was.
-fn refuse<K: Sink>(sink: &mut K, number: u64, word: &[u8], detail: &[u8]) -> Result<bool, Fault>
-    ensures { PutsOrStops (λ verdict. verdict ≡ refused_line number (word.now ++ detail.now)) (K.state sink.old) (K.state sink.new) result }
+/// Puts that the line of this number is refused, with a reason in parts, and answers that it was.
+fn refuse_line<K: Sink>(sink: &mut K, number: u64, why: &[&[u8]]) -> Result<bool, Fault>
+    ensures { PutsOrStops (λ verdict. verdict ≡ refused_line number (parts_joined why.now)) (K.state sink.old) (K.state sink.new) result }
+{
+    match put_refused(sink, number, why) {
+        Ok(()) => Ok(false),
+        Err(_) => Err(Fault::Write),
+    }
+}
+
+/// Puts the line that refuses the line of this number.
+fn put_refused<K: Sink>(sink: &mut K, number: u64, why: &[&[u8]]) -> Result<(), Failed>
+    ensures { Put (K.state sink.old) (K.state sink.new) result (with_end (codes "refused " ++ (decimal number ++ (32 ∷ parts_joined why.now)))) }
 {
     let mut buffer = Buffer::new();
-    let digits = buffer.format(number);
-    put(sink, &[b"refused ", digits.as_bytes(), b" ", word, detail])?;
-    Ok(false)
+    sink.put(b"refused ")?;
+    sink.put(buffer.format(number).as_bytes())?;
+    sink.put(b" ")?;
+    put_line(sink, why)
 }
 
 /// Puts the parts of a line in turn, and its end.
