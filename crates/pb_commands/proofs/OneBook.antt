@@ -5,12 +5,12 @@ use Rattle.std.proofs.lemmas.List.Elements.{All-head, All-tail, All-cons, All-ni
 use Rattle.pb_poly.specs.declared.entry.Entry.{Entry}
 use Rattle.pb_poly.specs.Entry.{IsEntry, entry_bytes}
 use Rattle.pb_poly.specs.Book.{NeverFall, book_bytes}
-use Rattle.pb_poly.specs.Reading.{Splits}
+use Rattle.pb_poly.specs.Reading.{BookDue, Splits}
 use Rattle.pb_poly.proofs.Entries.{book_bytes-append, book_bytes-push}
 use Rattle.pb_poly.proofs.EntryBytes.{NeverFall-front, begins, book_is_one, length-book_bytes}
 use Rattle.pb_poly.specs.declared.reading.BookError.{BookError}
 use Rattle.pb_poly.specs.declared.reading.BookError.TheVariants as book
-use Rattle.pb_commands.specs.BookJudged.{AsBook, FallsAt, IsBookFile, IsCutAt, book_verdict}
+use Rattle.pb_commands.specs.BookJudged.{AsBook, FallsAt, IsBookFile, book_verdict}
 use Rattle.pb_commands.specs.BookShown.{BookShown, show_text}
 use Rattle.pb_commands.specs.Judged.{Verdict}
 
@@ -51,13 +51,13 @@ module _ (bytes : List ℕ) where
 
   falls_of : (n : ℕ) → FallsAt n bytes → Falls n
   falls_of n h =
-      let f = h.falls in
+      let f = h.due.2 in
       let front : List Entry = f.before ++ f.entry ∷ [] in
-      let whole : h.entries ≡ front ++ f.after = f.cut ∙ sym (append_assoc f.before (f.entry ∷ []) f.after) in
-      let front_is : h.front ≡ book_bytes front ++ book_bytes f.after = h.are.are ∙ ap book_bytes whole ∙ book_bytes-append front f.after in record {
+      let whole : h.due.0 ≡ front ++ f.after = f.cut ∙ sym (append_assoc f.before (f.entry ∷ []) f.after) in
+      let front_is : h.front ≡ book_bytes front ++ book_bytes f.after = h.due.1.are ∙ ap book_bytes whole ∙ book_bytes-append front f.after in record {
         before = f.before;
         entry = f.entry;
-        bounds = bounds_front front f.after (subst (λ (es : List Entry). All IsEntry es) whole h.are.bounds);
+        bounds = bounds_front front f.after (subst (λ (es : List Entry). All IsEntry es) whole h.due.1.bounds);
         rest = book_bytes f.after ++ h.rest;
         cut = h.cut ∙ ap (λ bs. bs ++ h.rest) front_is ∙ append_assoc (book_bytes front) (book_bytes f.after) h.rest;
         ordered = f.ordered;
@@ -102,11 +102,11 @@ module _ (bytes : List ℕ) where
             ]
       ]
 
-  cut_length : (n : ℕ) (h : IsCutAt n bytes) → length bytes ≡ 16 * length h.entries + n
-  cut_length n h = omega (arith, ap length h.splits.bytes, length-append (book_bytes h.entries) h.part, length-book_bytes h.entries, h.extra_is)
+  cut_length : (n : ℕ) (h : BookDue (book.Cut n) bytes) → length bytes ≡ 16 * length h.0 + n
+  cut_length n h = omega (arith, ap length h.2.bytes, length-append (book_bytes h.0) h.1, length-book_bytes h.0, h.4)
 
-  one_cut : (n m : ℕ) → IsCutAt n bytes → IsCutAt m bytes → n ≡ m
-  one_cut n m h k = omega (arith, cut_length n h, cut_length m k, h.splits.partial, k.splits.partial, h.extra_is, k.extra_is)
+  one_cut : (n m : ℕ) → BookDue (book.Cut n) bytes → BookDue (book.Cut m) bytes → n ≡ m
+  one_cut n m h k = omega (arith, cut_length n h, cut_length m k, h.2.partial, k.2.partial, h.4, k.4)
 
   whole : (entries : List Entry) → IsBookFile entries bytes → Splits bytes entries []
   whole entries h = record {
@@ -116,8 +116,8 @@ module _ (bytes : List ℕ) where
     ordered = h.ordered;
   }
 
-  not_cut : (entries : List Entry) (n : ℕ) → IsBookFile entries bytes → IsCutAt n bytes → ⊥
-  not_cut entries n h k = omega (arith, ap length h.are.are, length-book_bytes entries, cut_length n k, k.some, k.splits.partial, k.extra_is)
+  not_cut : (entries : List Entry) (n : ℕ) → IsBookFile entries bytes → BookDue (book.Cut n) bytes → ⊥
+  not_cut entries n h k = omega (arith, ap length h.are.are, length-book_bytes entries, cut_length n k, k.3, k.2.partial, k.4)
 
   -- bytes are one book, or no book for one reason
   pub one_book : (r x : Result (List Entry) BookError) → AsBook bytes r → AsBook bytes x → r ≡ x
@@ -126,9 +126,9 @@ module _ (bytes : List ℕ) where
   one_book (Ok entries) (Err (book.Cut m)) h k = absurd (not_cut entries m h k)
   one_book (Err (book.Unsorted n)) (Ok others) h k = absurd (no_fall n h others [] (whole others k))
   one_book (Err (book.Unsorted n)) (Err (book.Unsorted m)) h k = ap (λ number. Err (book.Unsorted number)) (one_fall n m h k)
-  one_book (Err (book.Unsorted n)) (Err (book.Cut m)) h k = absurd (no_fall n h k.entries k.part k.splits)
+  one_book (Err (book.Unsorted n)) (Err (book.Cut m)) h k = absurd (no_fall n h k.0 k.1 k.2)
   one_book (Err (book.Cut n)) (Ok others) h k = absurd (not_cut others n k h)
-  one_book (Err (book.Cut n)) (Err (book.Unsorted m)) h k = absurd (no_fall m k h.entries h.part h.splits)
+  one_book (Err (book.Cut n)) (Err (book.Unsorted m)) h k = absurd (no_fall m k h.0 h.1 h.2)
   one_book (Err (book.Cut n)) (Err (book.Cut m)) h k = ap (λ extra. Err (book.Cut extra)) (one_cut n m h k)
   one_book (Err book.Read) x h k = absurd h
   one_book (Err book.Endless) x h k = absurd h

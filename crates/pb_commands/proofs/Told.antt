@@ -1,15 +1,14 @@
 -- What is read from a source that tells its bytes.
-use Rattle.std.proofs.Common.{◌≡◌, ◌∙◌, ℕ, ◌≤◌, Bool, List, ◌++◌, Ok, Err, Some, ap, append_assoc, arith, length, length-append, subst, sym}
+use Rattle.std.proofs.Common.{◌≡◌, ◌∙◌, ℕ, Bool, List, ◌++◌, Ok, Err, Some, ap, append_assoc, arith, length, length-append, subst, sym}
 use Rattle.pb_poly.proofs.ToldReads.{all_came, came_first}
 use Rattle.pb_io.specs.Source.{SourceState}
 use Rattle.pb_poly.specs.Book.{BookBytes}
-use Rattle.pb_poly.specs.Reading.{FindsNoBook, ReadsBook, Splits}
-use Rattle.pb_poly.specs.Table.{IsDueTable, IsTableFile, table_limit}
-use Rattle.pb_poly.specs.TableReading.{FindsNoTable, ReadsTable}
+use Rattle.pb_poly.specs.Reading.{BookDue, FindsNoBook, ReadsBook}
+use Rattle.pb_poly.specs.Table.{IsTableFile}
+use Rattle.pb_poly.specs.TableReading.{FindsNoTable, ReadsTable, TableDue}
 use Rattle.pb_poly.specs.declared.entry.Entry.{Entry}
 use Rattle.pb_poly.specs.declared.reading.BookError.{BookError}
 use Rattle.pb_poly.specs.declared.reading.BookError.TheVariants as book
-use Rattle.pb_poly.specs.declared.table.TableError.TheVariants as poly
 use Rattle.pb_poly.specs.declared.table_file.TableFault.{TableFault}
 use Rattle.pb_poly.specs.declared.table_file.TableFault.TheVariants as table
 use Rattle.pb_commands.specs.BookJudged.{AsBook, IsBookFile, ReadAsBook, book_verdict}
@@ -33,18 +32,10 @@ module _ (fills : ℕ) (old new : SourceState) (bytes : List ℕ) (told : old.to
         front = h.came;
         rest = h.reads.0 ++ c.0;
         cut = c.1 ∙ append_assoc h.came h.reads.0 c.0;
-        entries = h.due.0;
-        are = h.due.1;
-        falls = h.due.2;
+        due = h.due;
       }
   told_no_book (book.Cut extra) x is h =
-      let all = all_came _ fills old new bytes told h.came h.reads in record {
-        entries = h.due.0;
-        part = h.due.1;
-        splits = subst (λ (xs : List ℕ). Splits xs h.due.0 h.due.1) (sym all) h.due.2;
-        some = omega (arith, h.due.3, h.due.4);
-        extra_is = h.due.4;
-      }
+      let all = all_came _ fills old new bytes told h.came h.reads in subst (λ (xs : List ℕ). BookDue (book.Cut extra) xs) (sym all) h.due
   told_no_book book.Read x is h = absurd (cc is)
   told_no_book book.Endless x is h = absurd (cc is)
   told_no_book book.Memory x is h = absurd (cc is)
@@ -60,15 +51,9 @@ module _ (fills : ℕ) (old new : SourceState) (bytes : List ℕ) (told : old.to
       let c = came_first _ fills old new bytes told h.came h.reads.reads in
       omega (arith, h.due, ap length c.1, length-append h.came c.0)
   told_no_table (table.Line number) x is h =
-      let all = all_came _ fills old new bytes told h.came h.reads in (
-        subst (λ (xs : List ℕ). length xs ≤ table_limit) (sym all) h.due.0,
-        subst (λ (xs : List ℕ). IsDueTable (poly.Line number) xs) (sym all) h.due.1,
-      )
+      let all = all_came _ fills old new bytes told h.came h.reads in subst (λ (xs : List ℕ). TableDue (table.Line number) xs) (sym all) h.due
   told_no_table (table.Count count) x is h =
-      let all = all_came _ fills old new bytes told h.came h.reads in (
-        subst (λ (xs : List ℕ). length xs ≤ table_limit) (sym all) h.due.0,
-        subst (λ (xs : List ℕ). IsDueTable (poly.Count count) xs) (sym all) h.due.1,
-      )
+      let all = all_came _ fills old new bytes told h.came h.reads in subst (λ (xs : List ℕ). TableDue (table.Count count) xs) (sym all) h.due
   told_no_table table.Read x is h = absurd (cc is)
   told_no_table table.Endless x is h = absurd (cc is)
   told_no_table table.Memory x is h = absurd (cc is)

@@ -1,8 +1,8 @@
 -- What is a book and what is none, and what is put of it then.
-use Rattle.std.specs.Prelude.{◌≡◌, ℕ, ◌<◌, List, ◌++◌, Result, Ok, Err, codes, decimal, length}
+use Rattle.std.specs.Prelude.{◌≡◌, ℕ, List, ◌++◌, Result, Ok, Err, codes, decimal}
 use Rattle.pb_io.specs.Source.{SourceState}
-use Rattle.pb_poly.specs.Book.{BookBytes, IsFirstFall, NeverFall}
-use Rattle.pb_poly.specs.Reading.{FindsNoBook, ReadsBook, Splits}
+use Rattle.pb_poly.specs.Book.{BookBytes, NeverFall}
+use Rattle.pb_poly.specs.Reading.{BookDue, FindsNoBook, ReadsBook}
 use Rattle.pb_poly.specs.declared.entry.Entry.{Entry}
 use Rattle.pb_poly.specs.declared.reading.BookError.{BookError}
 use Rattle.pb_poly.specs.declared.reading.BookError.TheVariants as book
@@ -22,28 +22,18 @@ pub record IsBookFile (entries : List Entry) (bytes : List ℕ) : Type 0 where
   pub are : BookBytes entries bytes
   pub ordered : NeverFall entries
 
--- the bytes begin with whole entries, and that of this number, from 1, is the first whose key is below the key before it
+-- the bytes begin with whole entries of which the key of this one, counted from 1, is the first that falls
 pub record FallsAt (number : ℕ) (bytes : List ℕ) : Type 0 where
   pub front : List ℕ
   pub rest : List ℕ
   pub cut : bytes ≡ front ++ rest
-  pub entries : List Entry
-  pub are : BookBytes entries front
-  pub falls : IsFirstFall entries number
-
--- after entries whose keys never fall, this many bytes are left, less than an entry has
-pub record IsCutAt (extra : ℕ) (bytes : List ℕ) : Type 0 where
-  pub entries : List Entry
-  pub part : List ℕ
-  pub splits : Splits bytes entries part
-  pub some : 0 < length part
-  pub extra_is : extra ≡ length part
+  pub due : BookDue (book.Unsorted number) front
 
 -- the bytes are the book of these entries, or no book for this reason
 abbrev pub AsBook : List ℕ → Result (List Entry) BookError → Type 0
 AsBook bytes (Ok entries) = IsBookFile entries bytes
 AsBook bytes (Err (book.Unsorted number)) = FallsAt number bytes
-AsBook bytes (Err (book.Cut extra)) = IsCutAt extra bytes
+AsBook bytes (Err (book.Cut extra)) = BookDue (book.Cut extra) bytes
 AsBook bytes (Err fault) = ⊥
 
 -- the same of a stream, between these states of its source
