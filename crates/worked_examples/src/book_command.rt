@@ -6,8 +6,8 @@ use crate::ends::{Ends, Giver, Taker, ends_of, failing_source};
 use crate::game::stream_of;
 use crate::page::{Done, Page, Trouble};
 use crate::runs::Runs;
-use crate::text::count_of;
-use pb_cli::{Fault, MemPlace, collect_into, run_collect, run_export, run_probe, run_show};
+use crate::text::{count_of, small_of};
+use pb_cli::{Fault, MemPlace, Rules, collect_into, run_collect, run_export, run_probe, run_show};
 use pb_poly::{Book, FromRead, MemSink, Source, ToWrite, write_book};
 
 /// How large the pieces of tables are.
@@ -19,13 +19,26 @@ pub(crate) fn answer(page: &mut Page, call: &[&str]) -> Done {
         ["show", ends, entries @ ..] => show(page, ends, entries),
         ["show-pieces", most, entries @ ..] => show_pieces(page, most, entries),
         ["probe", table, ends, record, entries @ ..] => probe(page, table, ends, record, entries),
-        ["collect", table, ends, lines @ ..] => collect(page, table, ends, lines),
-        ["export", table, ends, lines @ ..] => export(page, table, ends, lines),
+        ["collect", table, ends, lines @ ..] => {
+            collect(page, Rules::all_plies(), table, ends, lines)
+        }
+        ["collect-by-rules", plies, least, table, lines @ ..] => {
+            collect(page, rules_of(plies, least), table, "all", lines)
+        }
+        ["export", table, ends, lines @ ..] => export(page, Rules::all_plies(), table, ends, lines),
+        ["export-by-rules", plies, least, table, lines @ ..] => {
+            export(page, rules_of(plies, least), table, "all", lines)
+        }
         ["collect-into", table, ends, lines @ ..] => collect_into_memory(page, table, ends, lines),
         ["collect-leaves", table, lines @ ..] => collect_leaves(page, table, lines),
         ["export-leaves", table, lines @ ..] => export_leaves(page, table, lines),
         _ => Err(Trouble::Row),
     }
+}
+
+/// What of the games counts, all of them where no rules have these numbers.
+fn rules_of(plies: &str, least: &str) -> Rules {
+    Rules::new(small_of(plies), small_of(least)).unwrap_or(Rules::all_plies())
 }
 
 /// The command `show` over a file in pieces of this size.
@@ -83,6 +96,7 @@ fn probe(page: &mut Page, table: &str, ends: &str, record: &str, entries: &[&str
 /// The command `collect` over a source: the replies, and the book as bytes of a file.
 fn collect_over(
     page: &mut Page,
+    rules: Rules,
     table: &str,
     source: &mut FromRead<Giver<'_>>,
     ends: Ends,
@@ -90,7 +104,14 @@ fn collect_over(
     let mut table = failing_source(table.as_bytes(), TABLE_PIECE, ends.table);
     let mut taker = Taker::new(page.alloc, ends.output, true);
     let mut replies = ToWrite::new(&mut taker);
-    let answer = run_collect(page.alloc, &mut table, source, &mut replies, ends.fills);
+    let answer = run_collect(
+        page.alloc,
+        rules,
+        &mut table,
+        source,
+        &mut replies,
+        ends.fills,
+    );
     page.put_bytes(taker.taken.as_slice());
     tell_book(page, answer)
 }
@@ -124,11 +145,11 @@ fn tell_digits(page: &mut Page, bytes: &[u8]) {
 }
 
 /// The command `collect` over lines.
-fn collect(page: &mut Page, table: &str, ends: &str, lines: &[&str]) -> Done {
+fn collect(page: &mut Page, rules: Rules, table: &str, ends: &str, lines: &[&str]) -> Done {
     let ends = ends_of(ends);
     let stream = stream_of(page.alloc, lines)?;
     let mut source = failing_source(stream.as_slice(), 100, ends.input);
-    collect_over(page, table, &mut source, ends)
+    collect_over(page, rules, table, &mut source, ends)
 }
 
 /// The command `collect` with a place in memory for its book: the replies, the answer and what is kept then.
@@ -141,6 +162,7 @@ fn collect_into_memory(page: &mut Page, table: &str, ends: &str, lines: &[&str])
     let mut place = MemPlace::new(page.alloc);
     let answer = collect_into(
         page.alloc,
+        Rules::all_plies(),
         &mut table,
         &mut source,
         &mut replies,
@@ -157,20 +179,26 @@ fn collect_into_memory(page: &mut Page, table: &str, ends: &str, lines: &[&str])
 }
 
 /// The command `export` over a source.
-fn export_over(page: &mut Page, table: &str, source: &mut FromRead<Giver<'_>>, ends: Ends) {
+fn export_over(
+    page: &mut Page,
+    rules: Rules,
+    table: &str,
+    source: &mut FromRead<Giver<'_>>,
+    ends: Ends,
+) {
     let mut table = failing_source(table.as_bytes(), TABLE_PIECE, ends.table);
     let mut taker = Taker::new(page.alloc, ends.output, true);
     let mut sink = ToWrite::new(&mut taker);
-    let answer = run_export(page.alloc, &mut table, source, &mut sink, ends.fills);
+    let answer = run_export(page.alloc, rules, &mut table, source, &mut sink, ends.fills);
     told(page, answer, taker.taken.as_slice());
 }
 
 /// The command `export` over lines.
-fn export(page: &mut Page, table: &str, ends: &str, lines: &[&str]) -> Done {
+fn export(page: &mut Page, rules: Rules, table: &str, ends: &str, lines: &[&str]) -> Done {
     let ends = ends_of(ends);
     let stream = stream_of(page.alloc, lines)?;
     let mut source = failing_source(stream.as_slice(), 7, ends.input);
-    export_over(page, table, &mut source, ends);
+    export_over(page, rules, table, &mut source, ends);
     Ok(())
 }
 
@@ -179,7 +207,7 @@ fn collect_leaves(page: &mut Page, table: &str, lines: &[&str]) -> Done {
     let ends = ends_of("all");
     let stream = stream_of(page.alloc, lines)?;
     let mut source = failing_source(stream.as_slice(), 100, ends.input);
-    collect_over(page, table, &mut source, ends)?;
+    collect_over(page, Rules::all_plies(), table, &mut source, ends)?;
     tell_next(page, &mut source);
     Ok(())
 }
@@ -189,7 +217,7 @@ fn export_leaves(page: &mut Page, table: &str, lines: &[&str]) -> Done {
     let ends = ends_of("all");
     let stream = stream_of(page.alloc, lines)?;
     let mut source = failing_source(stream.as_slice(), 7, ends.input);
-    export_over(page, table, &mut source, ends);
+    export_over(page, Rules::all_plies(), table, &mut source, ends);
     tell_next(page, &mut source);
     Ok(())
 }

@@ -8,7 +8,7 @@ use crate::page::{Done, Page, Trouble};
 use crate::runs::Runs;
 use crate::table::table_of;
 use crate::text::{count_of, fills_of, small_of, text_of};
-use pb_ledger::{Ledger, ListTally, MapTally, Tally, collect, export};
+use pb_ledger::{Ledger, ListTally, MapTally, Rules, Tally, collect, export};
 use pb_poly::{MemSink, ToWrite};
 use std::alloc::{AllocError, Global};
 
@@ -30,13 +30,31 @@ pub(crate) fn answer(page: &mut Page, call: &[&str]) -> Done {
     Ok(())
 }
 
-/// The answer to a call, over one tally.
+/// The answer to a call, over one tally. What of the games counts stands before the call, where it isn't all of them.
 fn answer_by<T: Tally>(page: &mut Page, call: &[&str]) -> Done {
     match call {
-        ["submit", cap, lines @ ..] => submit::<T>(page, cap, lines),
+        ["by-rules", plies, least, call @ ..] => match Rules::new(
+            small_of(plies),
+            small_of(least),
+        ) {
+            Some(rules) => answer_with::<T>(page, rules, call),
+            None => {
+                page.put("no rules");
+                Ok(())
+            }
+        },
+        _ => answer_with::<T>(page, Rules::all_plies(), call),
+    }
+}
+
+/// The answer to a call by these rules.
+fn answer_with<T: Tally>(page: &mut Page, rules: Rules, call: &[&str]) -> Done {
+    match call {
+        ["rules"] => tell_rules::<T>(page, rules),
+        ["submit", cap, lines @ ..] => submit::<T>(page, rules, cap, lines),
         ["games", lines @ ..] => games::<T>(page, lines),
-        ["book", table, lines @ ..] => book::<T>(page, table, lines),
-        ["export", table, lines @ ..] => exported::<T>(page, table, lines),
+        ["book", table, lines @ ..] => book::<T>(page, rules, table, lines),
+        ["export", table, lines @ ..] => exported::<T>(page, rules, table, lines),
         ["collect", cap, piece, fills, lines @ ..] => {
             collected::<T>(page, [cap, piece, fills], lines)
         }
@@ -46,15 +64,19 @@ fn answer_by<T: Tally>(page: &mut Page, call: &[&str]) -> Done {
     }
 }
 
-/// An empty ledger for at most so many games, 1 to 1,000.
-fn ledger_of<T: Tally>(alloc: Global, table: &str, cap: u32) -> Result<Ledger<T>, Trouble> {
-    let table = table_of(alloc, table)?;
+/// An empty ledger over the table of powers, for at most so many games, 1 to 1,000, of which all plies count.
+fn ledger_over_powers<T: Tally>(alloc: Global, cap: u32) -> Result<Ledger<T>, Trouble> {
+    let table = table_of(alloc, powers(alloc)?.as_str())?;
     Ok(Ledger::new(alloc, &table, cap.clamp(1, CAP))?)
 }
 
-/// An empty ledger over the table of powers.
-fn ledger_over_powers<T: Tally>(alloc: Global, cap: u32) -> Result<Ledger<T>, Trouble> {
-    ledger_of(alloc, powers(alloc)?.as_str(), cap)
+/// The rules of a ledger of these.
+fn tell_rules<T: Tally>(page: &mut Page, rules: Rules) -> Done {
+    let table = table_of(page.alloc, powers(page.alloc)?.as_str())?;
+    let ledger = Ledger::<T>::with_rules(page.alloc, &table, CAP, rules)?;
+    page.put_count("plies: ", &ledger.rules().plies());
+    page.put_count(", least: ", &ledger.rules().least());
+    Ok(())
 }
 
 /// The file of the table of powers.
@@ -65,11 +87,13 @@ fn powers(alloc: Global) -> Result<String, AllocError> {
 /// A ledger with the games of these lines, where the answer to each line is told.
 fn ledger_with<T: Tally>(
     page: &mut Page,
+    rules: Rules,
     table: &str,
     cap: u32,
     lines: &[&str],
 ) -> Result<Ledger<T>, Trouble> {
-    let mut ledger = ledger_of(page.alloc, table, cap)?;
+    let table = table_of(page.alloc, table)?;
+    let mut ledger = Ledger::with_rules(page.alloc, &table, cap.clamp(1, CAP), rules)?;
     for line in &lines_of(page.alloc, lines)? {
         match ledger.submit(line.as_slice()) {
             Ok(number) => page.put_count("ok ", &number),
@@ -83,16 +107,17 @@ fn ledger_with<T: Tally>(
 /// A ledger with the games of these lines.
 pub(crate) fn quiet_ledger<T: Tally>(
     alloc: Global,
+    rules: Rules,
     table: &str,
     lines: &[&str],
 ) -> Result<Ledger<T>, Trouble> {
-    ledger_with(&mut Page::new(alloc), table, CAP, lines)
+    ledger_with(&mut Page::new(alloc), rules, table, CAP, lines)
 }
 
 /// The answers to these lines, and how many games are held then.
-fn submit<T: Tally>(page: &mut Page, cap: &str, lines: &[&str]) -> Done {
+fn submit<T: Tally>(page: &mut Page, rules: Rules, cap: &str, lines: &[&str]) -> Done {
     let powers = powers(page.alloc)?;
-    let ledger = ledger_with::<T>(page, powers.as_str(), small_of(cap), lines)?;
+    let ledger = ledger_with::<T>(page, rules, powers.as_str(), small_of(cap), lines)?;
     page.put_count("held: ", &ledger.len());
     Ok(())
 }
@@ -118,7 +143,7 @@ fn tell_game<T: Tally>(page: &mut Page, ledger: &Ledger<T>, number: u32) {
 /// The games that are held after these lines, by their numbers from 0 to the first that isn't there.
 fn games<T: Tally>(page: &mut Page, lines: &[&str]) -> Done {
     let powers = powers(page.alloc)?;
-    let ledger = quiet_ledger::<T>(page.alloc, powers.as_str(), lines)?;
+    let ledger = quiet_ledger::<T>(page.alloc, Rules::all_plies(), powers.as_str(), lines)?;
     for number in 0..=ledger.len().saturating_add(1) {
         tell_game(page, &ledger, number);
     }
@@ -126,8 +151,8 @@ fn games<T: Tally>(page: &mut Page, lines: &[&str]) -> Done {
 }
 
 /// The book after these lines.
-fn book<T: Tally>(page: &mut Page, table: &str, lines: &[&str]) -> Done {
-    let ledger = quiet_ledger::<T>(page.alloc, table, lines)?;
+fn book<T: Tally>(page: &mut Page, rules: Rules, table: &str, lines: &[&str]) -> Done {
+    let ledger = quiet_ledger::<T>(page.alloc, rules, table, lines)?;
     tell_held(page, &ledger)
 }
 
@@ -140,8 +165,8 @@ fn tell_held<T: Tally>(page: &mut Page, ledger: &Ledger<T>) -> Done {
 }
 
 /// The number of EPD lines and the lines after these submissions.
-fn exported<T: Tally>(page: &mut Page, table: &str, lines: &[&str]) -> Done {
-    let ledger = quiet_ledger::<T>(page.alloc, table, lines)?;
+fn exported<T: Tally>(page: &mut Page, rules: Rules, table: &str, lines: &[&str]) -> Done {
+    let ledger = quiet_ledger::<T>(page.alloc, rules, table, lines)?;
     let mut sink = MemSink::new(page.alloc);
     let Ok(count) = export(page.alloc, &ledger, &mut sink) else {
         return Err(Trouble::Memory);

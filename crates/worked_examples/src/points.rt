@@ -4,7 +4,7 @@ use crate::ledger::quiet_ledger;
 use crate::page::{Done, Page, Trouble};
 use crate::text::number_of;
 use pb_board::Colour;
-use pb_ledger::{Game, Ledger, ListTally, MapTally, Outcome, Row, Tally, scale};
+use pb_ledger::{Game, Ledger, ListTally, MapTally, Outcome, Row, Rules, Tally, scale};
 use pb_moves::play;
 use pb_poly::{Table, code_of, key_of};
 use std::alloc::Global;
@@ -89,7 +89,7 @@ fn total_of(rows: &[Row], key: u64, code: u16) -> Row {
 
 /// Whether the tally has the points and the plies of the games that are held after these lines, and no others.
 fn recount<T: Tally>(alloc: Global, table: &str, lines: &[&str]) -> Result<bool, Trouble> {
-    let ledger = quiet_ledger::<T>(alloc, table, lines)?;
+    let ledger = quiet_ledger::<T>(alloc, Rules::all_plies(), table, lines)?;
     let rows = rows_of(alloc, &ledger)?;
     for row in &rows {
         let total = total_of(rows.as_slice(), row.key, row.code);
