@@ -21,16 +21,38 @@ use std::alloc::{AllocError, Global};
 /// Room for the moves of most setups, so that the list seldom grows.
 const USUAL_MOVES: usize = 64;
 
+/// What is known of a setup while its moves are listed.
+#[derive(Drop)]
+struct Lister<'a> {
+    setup: &'a Setup,
+    // The squares on which the side to move has a piece.
+    own: u64,
+    // What is seen of the enemy's attackers.
+    enemy: Sight,
+}
+
+/// A piece of the side to move on its square.
+#[derive(Drop)]
+struct Mover {
+    piece: Piece,
+    from: Square,
+    // Whether most of its moves need no test of check.
+    free: bool,
+}
+
 /// All legal moves of the setup, each once, by the square that they leave, then the square that they reach, both
 /// from a1 to h8 by index, then the promotion: knight, bishop, rook, queen.
 pub fn legal_moves(alloc: Global, setup: &Setup) -> Result<Vec<Move>, AllocError>
     ensures { IfOk result (λ v. ListsLegal setup.now v.items) }
 {
-    let own = own_squares(setup);
-    let enemy = sight_of(setup, opponent_of(setup.turn()));
+    let lister = Lister {
+        setup,
+        own: own_squares(setup),
+        enemy: sight_of(setup, opponent_of(setup.turn())),
+    };
     let mut moves = Vec::with_capacity(alloc, USUAL_MOVES)?;
     for index in 0..64u8 {
-        push_from(setup, &enemy, own, square_at(index), &mut moves)?;
+        lister.push_from(square_at(index), &mut moves)?;
     }
     Ok(moves)
 }
@@ -43,38 +65,6 @@ fn own_squares(setup: &Setup) -> u64
     own.pawns | own.knights | own.kings | own.straight | own.diagonal
 }
 
-/// Adds the legal moves from one square.
-fn push_from(
-    setup: &Setup,
-    enemy: &Sight,
-    own: u64,
-    from: Square,
-    moves: &mut Vec<Move>,
-) -> Result<(), AllocError>
-    requires seen { Sees setup.now.board (opponent setup.now.turn) enemy.now }
-    requires own { AreOwn own setup.now }
-    requires before { ListsBelow setup.now moves.old.items (320 * from) }
-    ensures { OnOk result (ListsBelow setup.now moves.new.items (320 * from + 320)) }
-{
-    if !has(own, from) {
-        return Ok(());
-    }
-    let Some(piece) = own_piece(setup, from) else {
-        return Ok(());
-    };
-    // The reader tells that the setup meets its rules.
-    let _turn = setup.turn();
-    let free = is_free(setup, enemy, from, piece);
-    let mut rest = candidates(piece, from) & !own;
-    while rest != 0 {
-        let index = rest.trailing_zeros();
-        let to = square_at(index as u8);
-        push_to(setup, free, piece, from, to, moves)?;
-        rest &= !(1 << index);
-    }
-    Ok(())
-}
-
 /// Whether a pawn goes to the first or last rank.
 fn may_promote(kind: Kind, to: Square) -> bool
     ensures on_board { to < 64 }
@@ -83,59 +73,78 @@ fn may_promote(kind: Kind, to: Square) -> bool
     kind == Kind::Pawn && (to.rank() == 0 || to.rank() == 7)
 }
 
-/// Adds the legal moves of this piece from one square to another.
-#[inline(always)]
-fn push_to(
-    setup: &Setup,
-    free: bool,
-    piece: Piece,
-    from: Square,
-    to: Square,
-    moves: &mut Vec<Move>,
-) -> Result<(), AllocError>
-    requires free { IsTrue free → IsFree setup.now from piece }
-    requires own { HoldsOwn setup.now from piece }
-    requires before { ListsBelow setup.now moves.old.items (320 * from + 5 * to) }
-    ensures { OnOk result (ListsBelow setup.now moves.new.items (320 * from + 5 * to + 5)) }
-{
-    let promotes = may_promote(piece.kind, to);
-    if !has_way(setup, piece, from, to) {
-        return Ok(());
+impl<'a> Lister<'a> {
+    /// Adds the legal moves from one square.
+    fn push_from(&self, from: Square, moves: &mut Vec<Move>) -> Result<(), AllocError>
+        requires seen { Sees self.now.setup.now.board (opponent self.now.setup.now.turn) self.now.enemy }
+        requires own { AreOwn self.now.own self.now.setup.now }
+        requires before { ListsBelow self.now.setup.now moves.old.items (320 * from) }
+        ensures { OnOk result (ListsBelow self.now.setup.now moves.new.items (320 * from + 320)) }
+    {
+        if !has(self.own, from) {
+            return Ok(());
+        }
+        let Some(piece) = own_piece(self.setup, from) else {
+            return Ok(());
+        };
+        // The reader tells that the setup meets its rules.
+        let _turn = self.setup.turn();
+        let free = is_free(self.setup, &self.enemy, from, piece);
+        let mover = Mover { piece, from, free };
+        let mut rest = candidates(piece, from) & !self.own;
+        while rest != 0 {
+            let index = rest.trailing_zeros();
+            self.push_to(&mover, square_at(index as u8), moves)?;
+            rest &= !(1 << index);
+        }
+        Ok(())
     }
-    push_legal(setup, free, piece, from, to, None, moves)?;
-    if !promotes {
-        return Ok(());
-    }
-    push_legal(setup, free, piece, from, to, Some(Kind::Knight), moves)?;
-    push_legal(setup, free, piece, from, to, Some(Kind::Bishop), moves)?;
-    push_legal(setup, free, piece, from, to, Some(Kind::Rook), moves)?;
-    push_legal(setup, free, piece, from, to, Some(Kind::Queen), moves)?;
-    Ok(())
-}
 
-/// Adds the move between these squares with this promotion, if it is legal.
-#[inline(always)]
-fn push_legal(
-    setup: &Setup,
-    free: bool,
-    piece: Piece,
-    from: Square,
-    to: Square,
-    promotion: Option<Kind>,
-    moves: &mut Vec<Move>,
-) -> Result<(), AllocError>
-    requires free { IsTrue free → IsFree setup.now from piece }
-    requires own { HoldsOwn setup.now from piece }
-    requires promotion { ForSome promotion IsPromotion }
-    requires before { ListsBelow setup.now moves.old.items (320 * from + 5 * to + promotion_number promotion) }
-    ensures { OnOk result (ListsBelow setup.now moves.new.items (320 * from + 5 * to + promotion_number promotion + 1)) }
-{
-    let Some(m) = Move::new(from, to, promotion) else {
-        return Ok(());
-    };
-    if !is_legal_for(setup, m, piece, free) {
-        return Ok(());
+    /// Adds the legal moves of this piece to one square.
+    #[inline(always)]
+    fn push_to(&self, mover: &Mover, to: Square, moves: &mut Vec<Move>) -> Result<(), AllocError>
+        requires free { IsTrue mover.now.free → IsFree self.now.setup.now mover.now.from mover.now.piece }
+        requires own { HoldsOwn self.now.setup.now mover.now.from mover.now.piece }
+        requires before { ListsBelow self.now.setup.now moves.old.items (320 * mover.now.from + 5 * to) }
+        ensures { OnOk result (ListsBelow self.now.setup.now moves.new.items (320 * mover.now.from + 5 * to + 5)) }
+    {
+        let promotes = may_promote(mover.piece.kind, to);
+        if !has_way(self.setup, mover.piece, mover.from, to) {
+            return Ok(());
+        }
+        self.push_legal(mover, to, None, moves)?;
+        if !promotes {
+            return Ok(());
+        }
+        self.push_legal(mover, to, Some(Kind::Knight), moves)?;
+        self.push_legal(mover, to, Some(Kind::Bishop), moves)?;
+        self.push_legal(mover, to, Some(Kind::Rook), moves)?;
+        self.push_legal(mover, to, Some(Kind::Queen), moves)?;
+        Ok(())
     }
-    moves.push(m)?;
-    Ok(())
+
+    /// Adds the move of this piece to this square with this promotion, if it is legal.
+    #[inline(always)]
+    fn push_legal(
+        &self,
+        mover: &Mover,
+        to: Square,
+        promotion: Option<Kind>,
+        moves: &mut Vec<Move>,
+    ) -> Result<(), AllocError>
+        requires free { IsTrue mover.now.free → IsFree self.now.setup.now mover.now.from mover.now.piece }
+        requires own { HoldsOwn self.now.setup.now mover.now.from mover.now.piece }
+        requires promotion { ForSome promotion IsPromotion }
+        requires before { ListsBelow self.now.setup.now moves.old.items (320 * mover.now.from + 5 * to + promotion_number promotion) }
+        ensures { OnOk result (ListsBelow self.now.setup.now moves.new.items (320 * mover.now.from + 5 * to + promotion_number promotion + 1)) }
+    {
+        let Some(m) = Move::new(mover.from, to, promotion) else {
+            return Ok(());
+        };
+        if !is_legal_for(self.setup, m, mover.piece, mover.free) {
+            return Ok(());
+        }
+        moves.push(m)?;
+        Ok(())
+    }
 }
