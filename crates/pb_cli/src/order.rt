@@ -201,8 +201,7 @@ fn number<'a>(
     let text = word(alloc, given, option)?;
     match number_of(text) {
         Some(number) if (1..=most).contains(&number) => Ok(number),
-        _ => Err(ParseFault::Usage(format!(
-            in alloc;
+        _ => Err(ParseFault::Usage(format!(in alloc;
             "error: invalid value '{text}' for '--{option}': a number from 1 to {most} is wanted\n\nFor more information, try '--help'.\n"
         )?)),
     }

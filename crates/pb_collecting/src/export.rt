@@ -82,7 +82,15 @@ pub fn run_export<T: Source, S: Source, K: Sink>(
     ensures blame { IfErr result (BlamesSink (K.state sink.old) (K.state sink.new)) }
 {
     let mut replies = Dropped::default();
-    export_submissions(alloc, rules, table_source, source, &mut replies, sink, fills)
+    export_submissions(
+        alloc,
+        rules,
+        table_source,
+        source,
+        &mut replies,
+        sink,
+        fills,
+    )
 }
 
 /// The same with a sink for the replies, which are put and handed on before the export. One list of answers is that of the replies and

@@ -126,9 +126,10 @@ pub adding_fits : (rows all rest : List Row) (sum : Row) (i : ℕ) → SumsFit r
     → (sum.points + (row_at rest i).points ≤ 2 ^ 63) × (sum.times + (row_at rest i).times ≤ 2 ^ 63)
 adding_fits rows all rest sum i fit a lt key code =
     let joins = adding_joins rows all rest sum i a lt key code in
-    let more : Row = with_more (row_at rest i).points (row_at rest i).times sum in
-    (omega (arith, joins.points sum.key sum.code, own_gain (λ r. r.points) more, fit.points sum.key sum.code),
-    omega (arith, joins.times sum.key sum.code, own_gain (λ r. r.times) more, fit.times sum.key sum.code))
+    let more : Row = with_more (row_at rest i).points (row_at rest i).times sum in (
+      omega (arith, joins.points sum.key sum.code, own_gain (λ r. r.points) more, fit.points sum.key sum.code),
+      omega (arith, joins.times sum.key sum.code, own_gain (λ r. r.times) more, fit.times sum.key sum.code),
+    )
 
 -- all rows are added up
 pub added_rise : (rows all rest : List Row) (sum : Row) (i : ℕ) → Adding rows all rest sum i → AllPairs IsBelow (all ++ sum ∷ [])
