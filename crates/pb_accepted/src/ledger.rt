@@ -17,7 +17,7 @@ use crate::reply::first_field;
 use crate::rules::Rules;
 use indexmap::IndexMap;
 use pb_games::{Game, Id, Line, Refusal, check_line, repeats};
-use pb_points::{Tally, book_of, keep_frequent};
+use pb_points::Tally;
 use pb_poly::{Book, Table};
 use std::alloc::{AllocError, Global};
 use std::marker::Model;
@@ -212,9 +212,10 @@ impl<T: Tally> Ledger<T> {
     pub fn make_book(&self, alloc: Global) -> Result<Book, AllocError>
         ensures { IfOk result (λ book. IsBook self.now.basis self.now.accepted book) }
     {
-        let mut rows = self.tally.rows(alloc)?;
-        keep_frequent(&mut rows, u64::from(self.rules.least()));
-        book_of(alloc, &rows)
+        let mut entries = Vec::new(alloc);
+        let least = u64::from(self.rules.least());
+        self.tally.add_book(alloc, least, &mut entries)?;
+        Ok(Book::of(entries).unwrap())
     }
 }
 

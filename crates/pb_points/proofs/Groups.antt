@@ -70,7 +70,7 @@ module _ (rows others : List Row) (below : KeysBelow rows others) where
     (λ k. elim (Contains-append_cases rows others x k) [ inl left ↦ absurd (omega (arith, below x r left h, e)) | inr right ↦ right ]),
   )
 
-  IsBookOfRows-append : (E F : List Entry) → IsBookOfRows rows E → IsBookOfRows others F → IsBookOfRows (rows ++ others) (E ++ F)
+  pub IsBookOfRows-append : (E F : List Entry) → IsBookOfRows rows E → IsBookOfRows others F → IsBookOfRows (rows ++ others) (E ++ F)
   IsBookOfRows-append E F g h = record { ordered = AllPairs-append Before E F g.ordered h.ordered across; members = λ e. (to e, from e) }
     where
       across : (e f : Entry) → Contains E e → Contains F f → Before e f

@@ -4,6 +4,7 @@ pub mod Groups
 pub mod ListRows
 pub mod Ordering
 pub mod Pairs
+pub mod PartBooks
 pub mod PartRows
 pub mod Tops
 pub mod Weighing

@@ -120,7 +120,7 @@ all_pairs_append R xs ys a b across i j d lt within = elim (cases_lt j (length x
 ]
 
 -- a lower part has lower keys
-lower_part : (j k : ℕ) → part_of j < part_of k → j < k
+pub lower_part : (j k : ℕ) → part_of j < part_of k → j < k
 lower_part j k lt = elim (cases_lt j k) [
   | inl below ↦ below
   | inr le ↦ absurd (omega arith)

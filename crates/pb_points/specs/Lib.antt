@@ -4,4 +4,5 @@ pub mod ListTally
 pub mod PartTally
 pub mod Rows
 pub mod Tally
+pub mod TallyBook
 pub mod Weight

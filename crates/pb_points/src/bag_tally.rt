@@ -4,8 +4,10 @@ ghost use Rattle.std.specs.Prelude.{◌≡◌, ◌<◌, AllPairs, IfOk, IsTrue, 
 ghost use Rattle.pb_points.specs.BagTally.{HoldsSame, IsAddedUp, IsRowAt, SumsFit, bag_content};
 ghost use Rattle.pb_points.specs.Rows.{IsUpTo};
 
+use crate::book::add_frequent;
 use crate::row::{Row, sort_rows};
 use crate::tally::Tally;
+use pb_poly::Entry;
 use std::alloc::{AllocError, Global};
 
 /// The rows from which on a full list is added up before it grows.
@@ -128,5 +130,14 @@ impl Tally for BagTally {
         let mut rows = Vec::from_slice(alloc, &self.rows)?;
         sort_rows(&mut rows);
         added_up(alloc, &rows)
+    }
+
+    fn add_book(
+        &self,
+        alloc: Global,
+        least: u64,
+        entries: &mut Vec<Entry>,
+    ) -> Result<(), AllocError> {
+        add_frequent(alloc, self.rows(alloc)?, least, entries)
     }
 }

@@ -2,10 +2,10 @@
 
 ghost use Rattle.std.specs.Prelude.{◌≡◌, ◌<◌, ◌≤◌, All, AllPairs, Any, IfOk, MatchOption, OnOk, drop, length, take};
 ghost use Rattle.pb_points.specs.Group.{AddsBook, IsEntryGroup, IsGroup, Orders, entry_with};
-ghost use Rattle.pb_points.specs.Rows.{IsBelow, IsBookOfRows};
+ghost use Rattle.pb_points.specs.Rows.{IsBelow, IsBookOfRows, frequent};
 ghost use Rattle.pb_points.specs.Weight.{Before, scaled};
 
-use crate::row::Row;
+use crate::row::{Row, keep_frequent};
 use crate::weight::scale;
 use pb_poly::{Book, Entry};
 use std::alloc::{AllocError, Global};
@@ -17,7 +17,7 @@ use std::cmp::Reverse;
 /// # Errors
 ///
 /// The entries needed memory that wasn't there.
-pub fn book_of(alloc: Global, rows: &[Row]) -> Result<Book, AllocError>
+pub(crate) fn book_of(alloc: Global, rows: &[Row]) -> Result<Book, AllocError>
     requires { AllPairs IsBelow rows.now }
     ensures { IfOk result (λ b. IsBookOfRows rows.now b) }
 {
@@ -26,6 +26,21 @@ pub fn book_of(alloc: Global, rows: &[Row]) -> Result<Book, AllocError>
         push_group(&mut entries, group)?;
     }
     Ok(Book::of(entries).unwrap())
+}
+
+/// Adds the book of the rows to the entries, of the moves that were played at least so many times.
+pub(crate) fn add_frequent(
+    alloc: Global,
+    mut rows: Vec<Row>,
+    least: u64,
+    entries: &mut Vec<Entry>,
+) -> Result<(), AllocError>
+    requires { AllPairs IsBelow rows.items }
+    ensures { OnOk result (AddsBook (frequent least rows.items) entries.old.items entries.new.items) }
+{
+    keep_frequent(&mut rows, least);
+    let book = book_of(alloc, &rows)?;
+    entries.extend_from_slice(book.entries())
 }
 
 /// Adds the book of the rows of one key.

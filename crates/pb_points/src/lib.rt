@@ -11,10 +11,9 @@ mod tally;
 mod weight;
 
 pub use bag_tally::BagTally;
-pub use book::book_of;
 pub use list_tally::ListTally;
 pub use map_tally::MapTally;
 pub use part_tally::PartTally;
-pub use row::{Row, keep_frequent};
+pub use row::Row;
 pub use tally::Tally;
 pub use weight::scale;

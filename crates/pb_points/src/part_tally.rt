@@ -5,6 +5,7 @@ ghost use Rattle.pb_points.specs.PartTally.{HoldsOwn, HoldNothing, parts_content
 
 use crate::row::Row;
 use crate::tally::Tally;
+use pb_poly::Entry;
 use std::alloc::{AllocError, Global};
 
 /// How many parts there are, one for each value of the upper ten bits of a key.
@@ -83,5 +84,17 @@ impl<T: Tally> Tally for PartTally<T> {
             rows.extend_from_slice(&more)?;
         }
         Ok(rows)
+    }
+
+    fn add_book(
+        &self,
+        alloc: Global,
+        least: u64,
+        entries: &mut Vec<Entry>,
+    ) -> Result<(), AllocError> {
+        for part in &self.parts {
+            part.add_book(alloc, least, entries)?;
+        }
+        Ok(())
     }
 }

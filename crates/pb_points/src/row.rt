@@ -25,7 +25,7 @@ pub(crate) fn sort_rows(rows: &mut Vec<Row>)
 }
 
 /// Drops the rows of moves that were played fewer times than this.
-pub fn keep_frequent(rows: &mut Vec<Row>, least: u64)
+pub(crate) fn keep_frequent(rows: &mut Vec<Row>, least: u64)
     ensures { rows.new.items ≡ frequent least rows.old.items }
 {
     rows.retain(|row| row.times >= least);

@@ -3,6 +3,7 @@
 ghost use Rattle.std.specs.Prelude.{◌≡◌, ℕ, ◌↔◌, Option, None, Some, IsSome, IfOk, OnOk, OnErr, AllPairs, Contains};
 
 use crate::row::Row;
+use pb_poly::Entry;
 use std::alloc::{AllocError, Global};
 
 /// The points of moves under keys, and the plies that gave them: a finite map from key and code to both, in which an absent row means none.
@@ -10,6 +11,7 @@ pub trait Tally: Drop {
     ghost use Rattle.pb_points.specs.declared.row.Row.{Row};
     ghost use Rattle.pb_points.specs.Rows.{IsBelow};
     ghost use Rattle.pb_points.specs.Tally.{Held, HasRoomFor, MakesRow, AddsPly, held, held_of};
+    ghost use Rattle.pb_points.specs.TallyBook.{AddsBookOf};
 
     /// What is held of each key and code, where there is a row.
     ghost content: { Self → ℕ → ℕ → Option Held };
@@ -49,4 +51,17 @@ pub trait Tally: Drop {
     fn rows(&self, alloc: Global) -> Result<Vec<Row>, AllocError>
         ensures order { IfOk result (λ v. AllPairs IsBelow v.items) }
         ensures each { IfOk result (λ v. (r : Row) → Contains v.items r ↔ (content self.now r.key r.code ≡ Some (held_of r))) };
+
+    /// Adds the book of the rows to the entries, of the moves that were played at least so many times.
+    ///
+    /// # Errors
+    ///
+    /// The rows or the entries needed memory that wasn't there.
+    fn add_book(
+        &self,
+        alloc: Global,
+        least: u64,
+        entries: &mut Vec<Entry>,
+    ) -> Result<(), AllocError>
+        ensures { OnOk result (AddsBookOf (content self.now) least entries.old.items entries.new.items) };
 }

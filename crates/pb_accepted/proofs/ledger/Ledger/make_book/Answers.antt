@@ -1,33 +1,38 @@
-use Rattle.std.proofs.Common.{◌≡◌, List, ap, sym, ◌∙◌, subst, AllPairs, nat_le}
-use Rattle.std.proofs.lemmas.List.Kept.{AllPairs-filter}
-use Rattle.std.proofs.lemmas.Result.{IfOk-weaker}
+use Rattle.std.proofs.Common.{rules, ◌≡◌, ◌++◌, List, ap, sym, ◌∙◌, subst, AllPairs}
+use Rattle.pb_poly.specs.declared.entry.Entry.{Entry}
 use Rattle.pb_points.specs.declared.row.Row.{Row}
-use Rattle.pb_points.specs.Rows.{IsBelow, IsBookOfRows, frequent}
+use Rattle.pb_points.specs.Rows.{IsBookOfRows, frequent}
+use Rattle.pb_points.specs.Weight.{Before}
+use Rattle.pb_points.proofs.Groups.{none_falls, ok_unless}
 use Rattle.pb_accepted.specs.Basis.{Basis}
 use Rattle.pb_accepted.specs.Counting.{IsBook}
 use Rattle.pb_accepted.proofs.Books.{IsBook-rows}
 use Rattle.pb_accepted.proofs.Frequent.{frequent_rows}
 use Rattle.pb_accepted.proofs.ledger.Ledger.make_book.Goals as goal
 
-pub book_of-requires : goal.book_of-requires
-book_of-requires g c =
-    let rows = c.in_ok-rows.rows.items in
-    let kept : c.deref.result.now ≡ frequent c.from.result rows = c.deref.ensures.value ∙ c.keep_frequent.ensures in
-    subst (AllPairs IsBelow) (sym kept) (AllPairs-filter IsBelow (λ r. nat_le c.from.result r.times) rows c.in_ok-rows.ensures.order)
+pub unwrap-requires : goal.unwrap-requires
+unwrap-requires g c =
+    let adds = c.in_ok-add_book.ensures in
+    let entries = c.add_book.new.entries.items in
+    let are : entries ≡ adds.book = adds.added ∙ ap (λ l. l ++ adds.book) c.new-entries.ensures.items in
+    let ordered : AllPairs Before entries = subst (AllPairs Before) (sym are) adds.is.ordered in
+    ok_unless _ _ c.of.result c.of.ensures (λ p f. none_falls entries p.0 ordered f.1)
 
 pub returns : goal.returns
 returns g c =
     let inside = c.self.inside in
     let games = inside.games.entries in
     let T : Basis = record { words = inside.recorder.table; rules = inside.rules } in
-    let rows = c.in_ok-rows.rows.items in
-    let least : c.from.result ≡ inside.rules.least = c.from.ensures ∙ c.least.ensures.value in
-    let kept : c.deref.result.now ≡ frequent inside.rules.least rows = c.deref.ensures.value ∙ c.keep_frequent.ensures ∙ ap (λ n. frequent n rows) least in
+    let adds = c.in_ok-add_book.ensures in
+    let entries = c.add_book.new.entries.items in
+    let are : entries ≡ adds.book = adds.added ∙ ap (λ l. l ++ adds.book) c.new-entries.ensures.items in
+    let made : c.unwrap.result ≡ entries = search rules in
+    let least = c.from-least.ensures ∙ c.least.ensures.value in
+    let book : IsBookOfRows (frequent inside.rules.least adds.rows) adds.book = subst (λ n. IsBookOfRows (frequent n adds.rows) adds.book) least adds.is in
     let each : (r : Row) → _ = λ r. (
-      (λ h. let k = (frequent_rows inside.rules.least rows r).0 h in ((c.in_ok-rows.ensures.each r).0 k.0, k.1)),
-      (λ h. (frequent_rows inside.rules.least rows r).1 ((c.in_ok-rows.ensures.each r).1 h.0, h.1)),
+      (λ h. let k = (frequent_rows inside.rules.least adds.rows r).0 h in ((adds.are.each r).0 k.0, k.1)),
+      (λ h. (frequent_rows inside.rules.least adds.rows r).1 ((adds.are.each r).1 h.0, h.1)),
     ) in
     rw (← c.self.view_is)
-    (IfOk-weaker c.book_of.result (λ b. IsBookOfRows c.deref.result.now b) (λ b. IsBook T games b)
-    (λ b h. IsBook-rows T games (g.T.Tally.content inside.tally) (frequent inside.rules.least rows) c.self.invariant.rules.counting.once c.self.invariant.counts each b (subst (λ D. IsBookOfRows D b) kept h))
-    c.book_of.ensures)
+    (subst (IsBook T games) (sym (made ∙ are))
+    (IsBook-rows T games (g.T.Tally.content inside.tally) (frequent inside.rules.least adds.rows) c.self.invariant.rules.counting.once c.self.invariant.counts each adds.book book))

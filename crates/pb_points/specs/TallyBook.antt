@@ -1,0 +1,19 @@
+-- The book of a tally.
+use Rattle.std.specs.Prelude.{◌≡◌, ℕ, ◌↔◌, Some, List, ◌++◌, AllPairs, Contains}
+use Rattle.pb_poly.specs.declared.entry.Entry.{Entry}
+use Rattle.pb_points.specs.declared.row.Row.{Row}
+use Rattle.pb_points.specs.Rows.{IsBelow, IsBookOfRows, frequent}
+use Rattle.pb_points.specs.Tally.{Content, held_of}
+
+-- these are the rows of a tally, each once, in order
+pub record AreRows (content : Content) (rows : List Row) : Type 0 where
+  pub rise : AllPairs IsBelow rows
+  pub each : (r : Row) → Contains rows r ↔ (content r.key r.code ≡ Some (held_of r))
+
+-- the book of the rows of what occurs so often was added to the entries
+pub record AddsBookOf (content : Content) (least : ℕ) (old new : List Entry) : Type 0 where
+  pub rows : List Row
+  pub are : AreRows content rows
+  pub book : List Entry
+  pub is : IsBookOfRows (frequent least rows) book
+  pub added : new ≡ old ++ book
