@@ -21,14 +21,17 @@ pub enum Fault {
     Memory,
 }
 
+/// The status of a command that stopped before its end.
+pub const STOPPED: u8 = 3;
+
 /// The exit status for what a command answers: 0 where the input was taken, 1 where it was
 /// refused, 3 where the command met a fault.
-pub fn status<E: Drop>(answer: Result<bool, E>) -> u8
+pub fn status(answer: Result<bool, Fault>) -> u8
     ensures { result ≡ status_of answer }
 {
     match answer {
         Ok(true) => 0,
         Ok(false) => 1,
-        Err(_) => 3,
+        Err(_) => STOPPED,
     }
 }

@@ -12,7 +12,7 @@ mod refusal;
 mod show;
 
 pub use epd::run_epd;
-pub use fault::{Fault, status};
+pub use fault::{Fault, STOPPED, status};
 pub use fen::run_fen;
 pub use pb_poly::{TableFault, take_table};
 pub use probe::run_probe;

@@ -38,7 +38,7 @@ fn perform(rt: &HostRuntime, order: &Order<'_>) -> u8
     };
     let mut output = ToWrite::new(writer);
     match answer(rt, order, &mut output) {
-        Ok(taken) => status::<Stop>(Ok(taken)),
+        Ok(taken) => status(Ok(taken)),
         Err(stop) => tell_stop(rt, &mut output, stop),
     }
 }

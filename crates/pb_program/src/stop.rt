@@ -2,7 +2,7 @@
 
 ghost use Rattle.std.specs.Prelude.{◌≡◌};
 
-use pb_cli::{Fault, NoBook, NotKept, status};
+use pb_cli::{Fault, NoBook, NotKept, STOPPED};
 use pb_poly::{Sink, ToWrite};
 use std::io::Write;
 use thiserror::Error;
@@ -42,5 +42,5 @@ pub(crate) fn tell_stop<W: Write>(rt: &HostRuntime, output: &mut ToWrite<W>, sto
     if stop != Stop::Fault(Fault::Write) && output.flush().is_ok() {
         let _ = println!(rt; "fault {stop}");
     }
-    status(Err(stop))
+    STOPPED
 }
