@@ -67,7 +67,7 @@ count T S k c = sum_by (λ s. points T s.1 k c) S
 abbrev pub times : Basis → List Submission → ℕ → ℕ → ℕ
 times T S k c = occurring (all_gifts T S) k c
 
--- so many have that they are in the book
+-- so many have that the rules don't leave them out
 abbrev pub Occurs : Basis → List Submission → ℕ → ℕ → Type 0
 Occurs T S k c = T.rules.least ≤ times T S k c
 

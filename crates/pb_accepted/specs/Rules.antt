@@ -3,7 +3,7 @@ use Rattle.std.specs.Prelude.{ℕ, ◌≤◌}
 use Rattle.pb_games.specs.declared.check.TheConstants.{MAX_PLIES}
 use Rattle.pb_accepted.specs.declared.rules.TheConstants.{MAX_LEAST}
 
--- so many first plies of each game count, and a move is in the book where it occurs so often in them
+-- so many first plies of each game count, and a move that occurs less often in them is left out
 pub record CountingRules : Type 0 where
   pub plies : ℕ
   pub least : ℕ
@@ -15,6 +15,6 @@ pub record AreRules (rules : CountingRules) : Type 0 where
   pub once : 1 ≤ rules.least
   pub not_above : rules.least ≤ MAX_LEAST
 
--- all plies of each game count, and a move that occurs is in the book
+-- all plies of each game count, and no move that occurs is left out for that
 abbrev pub all_plies : CountingRules
 all_plies = record { plies = MAX_PLIES; least = 1 }

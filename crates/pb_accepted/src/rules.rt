@@ -40,7 +40,7 @@ impl Rules {
         }
     }
 
-    /// All plies of each game count, and a move that occurs once is in the book.
+    /// All plies of each game count, and no move is left out since it occurs too seldom.
     pub fn all_plies() -> Rules
         ensures { result ≡ all_plies }
     {
