@@ -6,7 +6,6 @@ mod Moves
 mod OneBook
 mod OneProbe
 mod Probing
-mod Puts
 mod Rewriting
 mod Showing
 mod Shown

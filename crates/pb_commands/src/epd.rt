@@ -7,7 +7,7 @@ ghost use Rattle.pb_io.specs.Sink.{Put};
 ghost use Rattle.pb_commands.specs.EpdRun.{RewritesOrEnds, RewritesStream, RewritesUntil};
 ghost use Rattle.pb_commands.specs.EpdShown.{EpdShown, IsBlank, LineShown, epd_verdict, refused_line};
 ghost use Rattle.pb_commands.specs.Judged.{PutsText};
-ghost use Rattle.pb_commands.specs.Line.{parts_joined};
+ghost use Rattle.pb_io.specs.Parts.{parts_joined};
 ghost use Rattle.pb_commands.specs.Rewriter.{Puts, PutsOrStops, fault_of};
 
 use crate::fault::Fault;

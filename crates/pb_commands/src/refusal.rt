@@ -1,7 +1,7 @@
 //! Lines that say why an input is refused.
 ghost use Rattle.std.specs.Prelude.{◌≡◌, ◌++◌, Ok, decimal, false};
 ghost use Rattle.pb_board.specs.LineEnd.{with_end};
-ghost use Rattle.pb_commands.specs.Line.{parts_joined};
+ghost use Rattle.pb_io.specs.Parts.{parts_joined};
 ghost use Rattle.pb_commands.specs.BookJudged.{book_verdict};
 ghost use Rattle.pb_commands.specs.Judged.{PutsOrEnds};
 ghost use Rattle.pb_commands.specs.TableJudged.{table_verdict};

@@ -14,14 +14,16 @@ pub enum Outcome {
     Draw,
 }
 
-/// The text of a result.
-pub(crate) fn result_text(outcome: Outcome) -> &'static [u8]
-    ensures { result.now ≡ outcome_text outcome }
-{
-    match outcome {
-        Outcome::White => b"1-0",
-        Outcome::Black => b"0-1",
-        Outcome::Draw => b"1/2-1/2",
+impl Outcome {
+    /// The text of the result (PGN Standard 1994, section 8.1.1.7).
+    pub fn text(self) -> &'static [u8]
+        ensures { result.now ≡ outcome_text self }
+    {
+        match self {
+            Outcome::White => b"1-0",
+            Outcome::Black => b"0-1",
+            Outcome::Draw => b"1/2-1/2",
+        }
     }
 }
 

@@ -10,7 +10,6 @@ ghost use Rattle.pb_games.specs.Words.{words_of};
 use crate::fields::{LineFields, cut_fields};
 use crate::game::Game;
 use crate::id::Id;
-use crate::outcome::result_text;
 use crate::words::Words;
 use pb_board::Fen;
 use pb_moves::Move;
@@ -33,7 +32,7 @@ fn are_fields_of(fields: &LineFields<'_>, id: &Id, game: &Game) -> bool
         IsTrue result ↔ AreFieldsOf (id.now, game.now) f.id.now f.outcome.now f.start.now f.moves.now }
 {
     fields.id == id.as_bytes()
-        && fields.outcome == result_text(game.outcome)
+        && fields.outcome == game.outcome.text()
         && is_text_of(fields.start, &game.start)
         && spell(fields.moves, game.moves.as_slice())
 }

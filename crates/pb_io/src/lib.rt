@@ -5,9 +5,11 @@
 pub mod laws;
 mod line_buffer;
 mod lines;
+mod parts;
 mod sink;
 mod source;
 
 pub use lines::{LINE_LIMIT, LineTask, LinesFault, take_lines};
+pub use parts::put_parts;
 pub use sink::{MemSink, Sink, ToWrite};
 pub use source::{CHUNK_LEN, Failed, FromRead, MemSource, Source};

@@ -1,8 +1,8 @@
 use Rattle.std.proofs.Common.{◌≡◌, ◌∙◌, ℕ, List, [], ◌∷◌, ◌++◌, ap, append_assoc, codes, decimal, subst, sym}
 use Rattle.pb_board.specs.LineEnd.{with_end}
 use Rattle.pb_io.specs.Sink.{Put}
-use Rattle.pb_commands.specs.Line.{parts_joined}
-use Rattle.pb_commands.proofs.Puts.{put_cut, put_then}
+use Rattle.pb_io.specs.Parts.{parts_joined}
+use Rattle.pb_io.proofs.PutLemmas.{put_cut, put_then}
 use Rattle.pb_commands.proofs.epd.put_refused.Goals as goal
 
 -- the line, part by part

@@ -1,5 +1,5 @@
 use Rattle.std.proofs.Common.{refl}
-use Rattle.pb_commands.proofs.Puts.{front_all}
+use Rattle.pb_io.proofs.PutLemmas.{front_all}
 use Rattle.pb_commands.proofs.output.show_line.Goals as goal
 
 pub returns-in_default-flush : goal.returns-in_default-flush

@@ -6,9 +6,8 @@ use Rattle.std.proofs.Math.Seq.{take-append_seam, take-length}
 use Rattle.std.proofs.lemmas.List.{drop_more}
 use Rattle.std.specs.Io.KnownBytes.{Appends, Keeps}
 use Rattle.std.specs.Result.{IsErr}
-use Rattle.pb_board.specs.LineEnd.{with_end}
 use Rattle.pb_io.specs.Sink.{Put, SinkState}
-use Rattle.pb_commands.specs.Line.{parts_joined}
+use Rattle.pb_io.specs.Parts.{parts_joined}
 
 module _ (old mid new : Option (List ℕ)) (done part rest whole : List ℕ) (written : Appends old mid done) (is : done ++ (part ++ rest) ≡ whole) where
   -- what was put, and one part more
@@ -73,13 +72,13 @@ pub put_cut : {E : Type 0} (old new : SinkState) (e : E) (answer : Result (Unit 
 put_cut old new e answer a b failing put =
     put_failed old new answer (a ++ b) failing (front_more old.bytes old.bytes new.bytes [] a b (a ++ b) (Appends-nil old.bytes) refl put.front.0 put.front.1) put.failed put.flushed
 
--- the line from a part on
-pub line_from : (parts : List (Bor (List ℕ))) (i : ℕ) (d : Bor (List ℕ)) → i < length parts
-    → with_end (parts_joined (drop i parts)) ≡ (get_or parts i d).now ++ with_end (parts_joined (drop (i + 1) parts))
-line_from parts i d below =
-    ap (λ ps. with_end (parts_joined ps)) (drop_more parts i d below)
-    ∙ append_assoc (get_or parts i d).now (parts_joined (drop (i + 1) parts)) (10 ∷ [])
+-- the bytes from a part on
+pub parts_from : (parts : List (Bor (List ℕ))) (end : List ℕ) (i : ℕ) (d : Bor (List ℕ)) → i < length parts
+    → parts_joined (drop i parts) ++ end ≡ (get_or parts i d).now ++ (parts_joined (drop (i + 1) parts) ++ end)
+parts_from parts end i d below =
+    ap (λ ps. parts_joined ps ++ end) (drop_more parts i d below)
+    ∙ append_assoc (get_or parts i d).now (parts_joined (drop (i + 1) parts)) end
 
--- the line's end
-pub line_end : (parts : List (Bor (List ℕ))) (i : ℕ) → length parts ≤ i → with_end (parts_joined (drop i parts)) ≡ 10 ∷ []
-line_end parts i past = ap (λ ps. with_end (parts_joined ps)) (drop_of_length-le parts past)
+-- after the last part
+pub parts_end : (parts : List (Bor (List ℕ))) (end : List ℕ) (i : ℕ) → length parts ≤ i → parts_joined (drop i parts) ++ end ≡ end
+parts_end parts end i past = ap (λ ps. parts_joined ps ++ end) (drop_of_length-le parts past)

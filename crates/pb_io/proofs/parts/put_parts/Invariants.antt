@@ -1,8 +1,7 @@
 use Rattle.std.proofs.Common.{◌≡◌, ℕ, List, ◌++◌, true, drop}
 use Rattle.std.specs.Io.KnownBytes.{Appends}
-use Rattle.pb_board.specs.LineEnd.{with_end}
-use Rattle.pb_commands.specs.Line.{parts_joined}
-use Rattle.pb_commands.proofs.output.put_line.Given as goal
+use Rattle.pb_io.specs.Parts.{parts_joined}
+use Rattle.pb_io.proofs.parts.put_parts.Given as goal
 
 -- the parts before this one have been put, and a sink that had failed still has
 abbrev pub invariant-loop-part : goal.invariant-loop-part
@@ -10,6 +9,6 @@ invariant-loop-part g l =
     let state = g.K.Sink.state in
     record {
       written : (done : List ℕ) × Appends (state l.initial.sink).bytes (state l.sink).bytes done
-          × (done ++ with_end (parts_joined (drop l.part-index l.parts)) ≡ with_end (parts_joined l.parts));
+          × (done ++ (parts_joined (drop l.part-index l.parts) ++ l.end) ≡ parts_joined l.parts ++ l.end);
       failed : (state l.initial.sink).failed ≡ true → (state l.sink).failed ≡ true;
     }

@@ -1,0 +1,7 @@
+-- Bytes in parts.
+use Rattle.std.specs.Prelude.{ℕ, List, flat_map}
+use Rattle.std.specs.Borrow.{Bor}
+
+-- the bytes behind references, one after the other
+abbrev pub parts_joined : List (Bor (List ℕ)) → List ℕ
+parts_joined = flat_map (λ part. part.now)

@@ -1,0 +1,4 @@
+pub mod Laws
+pub mod Loader
+pub mod Loading
+pub mod Saving

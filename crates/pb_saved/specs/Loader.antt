@@ -1,0 +1,51 @@
+-- What the loader does with a line.
+use Rattle.std.specs.Prelude.{◌≡◌, ◌≢◌, ℕ, ◌+◌, ◌⊎◌, Bool, true, false, List, length, IsErr, IsTrue, Result, Ok, Err}
+use Rattle.pb_io.specs.Count.{next_count}
+use Rattle.pb_io.specs.declared.lines.LinesFault.{LinesFault}
+use Rattle.pb_io.specs.declared.lines.LinesFault.TheVariants as lines
+use Rattle.pb_games.specs.Submissions.{Submission}
+use Rattle.pb_games.specs.declared.refusal.Refusal.TheVariants as refusal
+use Rattle.pb_accepted.specs.Accepting.{Allowed, Answer, Takes}
+use Rattle.pb_saved.specs.declared.loading.Loader.{Loader}
+use Rattle.pb_saved.specs.declared.loading.LoadError.{LoadError}
+use Rattle.pb_saved.specs.declared.loading.LoadError.TheVariants.{Line, Read, Endless, Memory}
+use Rattle.pb_saved.specs.Loading.{is_header}
+
+-- the same ledger is lent, with its basis and cap
+pub record KeepsLedger {T : Type 0} (s t : Loader T) : Type 0 where
+  pub lent : t.ledger.ghost_name ≡ s.ledger.ghost_name
+  pub basis : t.ledger.now.basis ≡ s.ledger.now.basis
+  pub cap : t.ledger.now.cap ≡ s.ledger.now.cap
+
+-- what comes of the answer to line n, where A became B: after a header the line has to bring a new game
+abbrev pub Judged : Bool → ℕ → List Submission → List Submission → Answer → Result (Unit {0}) LoadError → Type 0
+Judged is_saved n A B answer (Ok x) = (answer ≢ Err refusal.Memory) × (IsErr answer → ⊥) × (IsTrue is_saved → length B ≡ length A + 1)
+Judged is_saved n A B answer (Err Memory) = answer ≡ Err refusal.Memory
+Judged is_saved n A B answer (Err (Line m)) = (m ≡ n) × (answer ≢ Err refusal.Memory) × (B ≡ A) × (IsErr answer ⊎ IsTrue is_saved)
+Judged is_saved n A B answer (Err _) = ⊥
+
+-- the line was submitted
+pub record Submits {T : Type 0} (s : Loader T) (line : List ℕ) (result : Result (Unit {0}) LoadError) (t : Loader T) : Type 0 where
+  pub answer : Answer
+  pub allowed : Allowed s.ledger.now.cap s.ledger.now.accepted line answer
+  pub takes : Takes s.ledger.now.accepted line answer t.ledger.now.accepted
+  pub judged : Judged s.is_saved s.lines s.ledger.now.accepted t.ledger.now.accepted answer result
+  pub lines : t.lines ≡ s.lines
+  pub saved : t.is_saved ≡ s.is_saved
+  pub keeps : KeepsLedger s t
+
+-- the loader has counted one line more
+abbrev pub one_more : {T : Type 0} → Loader T → Loader T
+one_more s = record s { lines = next_count s.lines }
+
+-- a line was taken: the first one as the header, where it is that, and any other was submitted
+pub data TakesLine {T : Type 0} (s : Loader T) (line : List ℕ) (result : Result (Unit {0}) LoadError) (t : Loader T) : Type 0 where
+  header : s.lines ≡ 0 → is_header line ≡ true → result ≡ Ok tt → t ≡ record s { lines = 1; is_saved = true } → TakesLine s line result t
+  submission : (s.lines ≡ 0 → is_header line ≡ false) → Submits (one_more s) line result t → TakesLine s line result t
+
+-- what a fault of taking the lines is to the loading
+abbrev pub load_error : LinesFault LoadError → LoadError
+load_error lines.Memory = Memory
+load_error lines.Read = Read
+load_error lines.Endless = Endless
+load_error (lines.Stop e) = e

@@ -1,0 +1,146 @@
+//! A ledger from the lines of a file.
+
+ghost use Rattle.std.specs.Prelude.{◌≡◌, [], false, IfErr, IfOk, OnOk};
+ghost use Rattle.pb_saved.specs.Loader.{KeepsLedger, Submits, load_error};
+ghost use Rattle.pb_saved.specs.Loading.{LoadsAll, LoadsSaved, LoadsStream, LoadsUntil};
+
+use crate::saving::HEADER;
+use pb_accepted::Ledger;
+use pb_board::without_return;
+use pb_games::Refusal;
+use pb_io::{LineTask, LinesFault, Source, take_lines};
+use pb_points::Tally;
+use std::alloc::Global;
+use thiserror::Error;
+
+/// Why not all lines of a saved ledger were loaded.
+#[derive(Clone, Copy, Debug, PartialEq, Eq, Error)]
+pub enum LoadError {
+    /// The line with this number, from 1 with the header counted, is the first that a ledger refuses, or that brings no new game
+    /// after a header. The ledger holds the games of the lines before it.
+    #[error("line {0} brings no game that can be held")]
+    Line(u64),
+    /// The source has failed. The ledger holds the games of the lines that an LF ended before that.
+    #[error("the saved ledger can't be read")]
+    Read,
+    /// The fills were used up, and none was the end or a fault. The ledger holds the games of the lines that an LF ended.
+    #[error("the saved ledger doesn't end")]
+    Endless,
+    /// No memory for the buffers, and then nothing was read; or for a new game, and then the ledger holds those before it.
+    #[error("no memory is left")]
+    Memory,
+}
+
+/// Submits the lines of a file and counts them.
+#[derive(Drop)]
+struct Loader<'l, T: Tally> {
+    ledger: &'l mut Ledger<T>,
+    lines: u64,
+    // The first line was the header.
+    is_saved: bool,
+}
+
+impl<T: Tally> Loader<'_, T> {
+    /// Submits a line. After a header it has to bring a new game.
+    fn submit(&mut self, line: &[u8]) -> Result<(), LoadError>
+        ensures { Submits self.old line.now result self.new }
+    {
+        let held = self.ledger.len();
+        match self.ledger.submit(line) {
+            Ok(_) if self.is_saved && self.ledger.len() == held => Err(LoadError::Line(self.lines)),
+            Ok(_) => Ok(()),
+            Err(Refusal::Memory) => Err(LoadError::Memory),
+            Err(_) => Err(LoadError::Line(self.lines)),
+        }
+    }
+}
+
+impl<T: Tally> LineTask for Loader<'_, T> {
+    type Stop = LoadError;
+
+    ghost use Rattle.pb_saved.specs.Loader.{TakesLine};
+
+    ghost takes = { TakesLine };
+
+    fn take(&mut self, line: &[u8]) -> Result<(), LoadError> {
+        let is_first = self.lines == 0;
+        self.lines = self.lines.saturating_add(1);
+        if is_first && without_return(line) == HEADER {
+            self.is_saved = true;
+            return Ok(());
+        }
+        self.submit(line)
+    }
+
+    fn take_long(&mut self) -> Result<(), LoadError> {
+        self.lines = self.lines.saturating_add(1);
+        Err(LoadError::Line(self.lines))
+    }
+}
+
+impl<T: Tally> Loader<'_, T> {
+    /// Takes the lines of the source.
+    fn take_all<S: Source>(
+        &mut self,
+        alloc: Global,
+        source: &mut S,
+        fills: u32,
+    ) -> Result<(), LoadError>
+        requires first { self.old.lines ≡ 0 }
+        requires unsaved { self.old.is_saved ≡ false }
+        requires empty { self.old.ledger.now.accepted ≡ [] }
+        ensures ok { OnOk result (LoadsAll fills (S.state source.old) (S.state source.new) self.old.ledger.now self.new.ledger.now) }
+        ensures err { IfErr result (LoadsUntil fills (S.state source.old) (S.state source.new) self.old.ledger.now self.new.ledger.now) }
+        ensures same { KeepsLedger self.old self.new }
+    {
+        take_lines(alloc, source, self, fills).map_err(error_of)
+    }
+}
+
+/// What a fault of taking the lines is to the loading.
+fn error_of(fault: LinesFault<LoadError>) -> LoadError
+    ensures { result ≡ load_error fault }
+{
+    match fault {
+        LinesFault::Memory => LoadError::Memory,
+        LinesFault::Read => LoadError::Read,
+        LinesFault::Endless => LoadError::Endless,
+        LinesFault::Stop(error) => error,
+    }
+}
+
+/// Takes the games of a saved ledger, or of an old list of submission lines without a header, into a ledger that holds none. The answer
+/// is how many are held then.
+///
+/// Lines are cut as by `collect`. After the header each line has to bring a new game; in an old list a game may come again, which changes
+/// nothing. No bytes at all are an old list of no lines.
+///
+/// # Errors
+///
+/// `Memory` comes before the first fill, or where a new game finds none. After an error the ledger holds the games of the lines before.
+pub fn load<T: Tally, S: Source>(
+    alloc: Global,
+    source: &mut S,
+    ledger: &mut Ledger<T>,
+    fills: u32,
+) -> Result<u32, LoadError>
+    requires { ledger.old.accepted ≡ [] }
+    // The games of all lines were taken.
+    ensures ok { IfOk result (LoadsStream fills (S.state source.old) (S.state source.new) ledger.old ledger.new) }
+    // The games of the lines before the fault were taken, and where the fault lies.
+    ensures fault { IfErr result (LoadsUntil fills (S.state source.old) (S.state source.new) ledger.old ledger.new) }
+    // What was saved is loaded, where it fits.
+    ensures saved { LoadsSaved fills (S.state source.old) (S.state source.new) ledger.old ledger.new result }
+    ensures basis { ledger.new.basis ≡ ledger.old.basis }
+    ensures cap { ledger.new.cap ≡ ledger.old.cap }
+{
+    let mut loader = Loader {
+        ledger,
+        lines: 0,
+        is_saved: false,
+    };
+    let ended = loader.take_all(alloc, source, fills);
+    let Loader { ledger, .. } = loader;
+    ended?;
+    Ok(ledger.len())
+}
