@@ -1,5 +1,5 @@
 -- The games of a ledger by id.
-use Rattle.std.proofs.Common.{◌≡◌, ◌≢◌, ℕ, List, [], ◌∷◌, ◌++◌, Bool, true, false, Some, None, sym, ◌∙◌, true≢false}
+use Rattle.std.proofs.Common.{◌≡◌, ◌≢◌, ℕ, ◌+◌, ◌<◌, List, [], ◌∷◌, ◌++◌, length, Bool, true, false, Option, Some, None, IsSome, MatchOption, inl, inr, arith, refl, sym, ◌∙◌, true≢false}
 use Rattle.std.specs.Bool.{Decides}
 use Rattle.std.specs.List.{AllByRecursion}
 use Rattle.std.specs.Map.{lookup, lookup_key}
@@ -7,10 +7,11 @@ use Rattle.std.specs.Str.{bytes_eq}
 use Rattle.std.proofs.lemmas.List.Elements.{All-from_recursion, recursion_from_All}
 use Rattle.std.proofs.lemmas.Map.{lookup-none, none_passes_from_lookup}
 use Rattle.std.proofs.lemmas.Map.Made.{lookup_key_same}
+use Rattle.std.proofs.lemmas.Option.{slice_get_cases}
 use Rattle.std.proofs.lemmas.Slice.Eq.{bytes_eq-Decides}
 use Rattle.pb_games.specs.declared.game.Game.{Game}
 use Rattle.pb_games.specs.Submissions.{Submission}
-use Rattle.pb_accepted.specs.Accepting.{IsNewId}
+use Rattle.pb_accepted.specs.Accepting.{IsNewId, IsNumber}
 
 bytes_same : (a b : List ℕ) → Decides (bytes_eq a b) (a ≡ b)
 bytes_same = bytes_eq-Decides
@@ -45,3 +46,11 @@ absent_from_new A id own e fresh = lookup-none (bytes_eq own) A (by A (recursion
 -- what an insert of a new pair leaves
 pub inserted : (A B : List Submission) (own : List ℕ) (g : Game) (s : Submission) → own ≡ s.0 → g ≡ s.1 → B ≡ A ++ (own, g) ∷ [] → B ≡ A ++ s ∷ []
 inserted A B own g s f h b = b ∙ (λ i. A ++ (f i, h i) ∷ [])
+
+-- below the length each place has a game
+pub game_there : {X : Type 0} (A : List Submission) (i : ℕ) (r : Option X) (P : X → Type 0) → i < length A → MatchOption r ((s : Submission) → ¬ IsNumber A (i + 1) s) P → IsSome r
+game_there A i None P lt none = elim (slice_get_cases A i).1 [
+  | inl at ↦ absurd (none at.0 (i, refl, at.2))
+  | inr past ↦ absurd (omega (arith, lt, past.0))
+]
+game_there A i (Some x) P lt h = refl

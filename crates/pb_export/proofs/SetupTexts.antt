@@ -3,7 +3,7 @@ use Rattle.std.proofs.Common.{suc, ◌≡◌, ℕ, ◌+◌, ◌*◌, ◌^◌, �
 use Rattle.std.specs.Prelude.{All, Contains, IsSome, MatchOption, map, ◌↔◌}
 use Rattle.std.proofs.Math.ListN.{drop_of_length-le}
 use Rattle.std.proofs.lemmas.List.{drop_more, flat_map_more, length-append, length-map, length_push, take_more}
-use Rattle.std.proofs.lemmas.Option.{get_or_from_slice_get, slice_get_cases, slice_get_within}
+use Rattle.std.proofs.lemmas.Option.{get_or_from_slice_get, slice_get_within}
 use Rattle.std.proofs.lemmas.List.Elements.{All-contains, All-nil, All-push, Contains-append_left, Contains-push, Contains-push_cases}
 use Rattle.arrayvec.specs.ArrayString.{ArrayString}
 use Rattle.pb_board.specs.Fen.{FourFields}
@@ -116,13 +116,6 @@ module _ (g : Game) (old mid new : List (List ℕ)) (s : Position) (ms : List Mo
 -- ---- the setups of all games
 
 -- a game stands under each number up to how many there are
-pub game_there : {X : Type 0} (A : List Submission) (i : ℕ) (r : Option X) (P : X → Type 0) → i < length A → MatchOption r ((s : Submission) → ¬ IsNumber A (i + 1) s) P → IsSome r
-game_there A i None P lt none = elim (slice_get_cases A i).1 [
-  | inl at ↦ absurd (none at.0 (i, refl, at.2))
-  | inr past ↦ absurd (omega (arith, lt, past.0))
-]
-game_there A i (Some x) P lt h = refl
-
 pub numbered_game : (A : List Submission) (n : ℕ) (s : Submission) → All IsSubmission A → IsNumber A n s → IsLegalGame s.1
 numbered_game A n s games h = (All-contains IsSubmission A s games (h.0, slice_get_within A h.0 s h.2, get_or_from_slice_get A h.0 s s h.2)).legal
 

@@ -1,10 +1,11 @@
 //! A ledger's games as the lines of a file.
 
-ghost use Rattle.std.specs.Prelude.{◌≡◌, ℕ, List};
+ghost use Rattle.std.specs.Prelude.{◌≡◌, [], ◌∷◌, ◌++◌, ℕ, List};
 ghost use Rattle.pb_board.specs.LineEnd.{with_end};
 ghost use Rattle.pb_games.specs.Submissions.{SubmissionText, moves_text};
 ghost use Rattle.pb_io.specs.Sink.{Put};
 ghost use Rattle.pb_io.specs.Writes.{Writes};
+ghost use Rattle.pb_moves.specs.Spelling.{spelling};
 ghost use Rattle.pb_saved.specs.Saving.{Saved};
 
 use pb_accepted::Ledger;
@@ -42,15 +43,17 @@ pub fn put_game<K: Sink>(sink: &mut K, id: &Id, game: &Game) -> Result<(), Faile
     ensures { (text : List ℕ) × SubmissionText (id.now, game.now) text × Put (K.state sink.old) (K.state sink.new) result (with_end text) }
 {
     let start = game.start.text();
-    let parts = [
-        id.as_bytes(),
-        b"\t",
-        game.outcome.text(),
-        b"\t",
-        start.as_bytes(),
-    ];
-    put_parts(sink, &parts, b"\t")?;
+    put_field(sink, id.as_bytes())?;
+    put_field(sink, game.outcome.text())?;
+    put_field(sink, start.as_bytes())?;
     put_moves(sink, game.moves.as_slice())
+}
+
+/// Puts a field and the TAB after it.
+fn put_field<K: Sink>(sink: &mut K, field: &[u8]) -> Result<(), Failed>
+    ensures { Put (K.state sink.old) (K.state sink.new) result (field.now ++ 9 ∷ []) }
+{
+    put_parts(sink, &[field], b"\t")
 }
 
 /// Puts the spellings of moves with a space between each two, and an LF.
@@ -62,7 +65,14 @@ fn put_moves<K: Sink>(sink: &mut K, moves: &[Move]) -> Result<(), Failed>
     };
     sink.put(first.text().as_bytes())?;
     for later in further {
-        put_parts(sink, &[b" "], later.text().as_bytes())?;
+        put_later(sink, later)?;
     }
     sink.put(b"\n")
+}
+
+/// Puts a space and the spelling of a move.
+fn put_later<K: Sink>(sink: &mut K, later: &Move) -> Result<(), Failed>
+    ensures { Put (K.state sink.old) (K.state sink.new) result (32 ∷ spelling later.now) }
+{
+    put_parts(sink, &[b" "], later.text().as_bytes())
 }

@@ -4,8 +4,9 @@ use Rattle.arrayvec.specs.ArrayString.{ArrayString}
 use Rattle.pb_board.specs.Position.{Position}
 use Rattle.pb_games.specs.Submissions.{Submission}
 use Rattle.pb_accepted.specs.Accepting.{IsNumber}
+use Rattle.pb_accepted.proofs.Places.{game_there}
 use Rattle.pb_export.specs.Setups.{HoldsTexts, all_setups, texts_of}
-use Rattle.pb_export.proofs.SetupTexts.{HoldsTexts-kept, all_setups-more, game_there, numbered_game, setups_fit, texts_few}
+use Rattle.pb_export.proofs.SetupTexts.{HoldsTexts-kept, all_setups-more, numbered_game, setups_fit, texts_few}
 use Rattle.pb_export.proofs.setups.setups_of.Goals as goal
 
 pub unwrap-requires : goal.unwrap-requires

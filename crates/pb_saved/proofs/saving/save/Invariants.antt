@@ -1,0 +1,18 @@
+use Rattle.std.proofs.Common.{◌≡◌, ℕ, List, ◌∷◌, true, take}
+use Rattle.std.specs.Io.KnownBytes.{Appends}
+use Rattle.std.specs.List.{AllZip, flat_map}
+use Rattle.pb_board.specs.LineEnd.{with_end}
+use Rattle.pb_games.specs.Submissions.{SubmissionText}
+use Rattle.pb_saved.specs.Saving.{header}
+use Rattle.pb_saved.proofs.saving.save.Given as goal
+
+-- of the texts of all games those before this one have been put after the header, and a sink that had failed still has
+abbrev pub invariant-loop-index : goal.invariant-loop-index
+invariant-loop-index g l =
+    let state = g.K.Sink.state in
+    record {
+      texts : List (List ℕ);
+      are : AllZip SubmissionText l.ledger.accepted texts;
+      written : Appends (state l.fn.sink).bytes (state l.sink).bytes (flat_map with_end (header ∷ take l.index texts));
+      failed : (state l.fn.sink).failed ≡ true → (state l.sink).failed ≡ true;
+    }
