@@ -1,22 +1,31 @@
 -- From the lines that the loader took to what was loaded.
-use Rattle.std.proofs.Common.{◌≡◌, ◌≢◌, ℕ, ◌+◌, ◌^◌, ◌<◌, ◌≤◌, Bool, true, false, List, [], ◌∷◌, ◌++◌, length, Result, Ok, Err, All, IsOk, IsErr, IsTrue, OnOk, IfErr, refl, sym, ap, subst, ◌∙◌, inl, inr, arith}
+use Rattle.std.proofs.Common.{if◌then◌else◌, ◌≡◌, ◌≢◌, ℕ, ◌+◌, ◌*◌, ◌^◌, ◌<◌, ◌≤◌, Bool, true, false, List, [], ◌∷◌, ◌++◌, length, Result, Ok, Err, All, IsOk, IsErr, IsTrue, OnOk, IfErr, refl, sym, ap, subst, ◌∙◌, inl, inr, arith}
+use Rattle.std.specs.Prelude.{IsErrAnd, MatchResult}
 use Rattle.std.proofs.lemmas.List.Elements.{All-cons, All-nil}
 use Rattle.std.proofs.lemmas.List.{length_push}
 use Rattle.std.proofs.lemmas.Option.{slice_get_within}
+use Rattle.std.proofs.lemmas.Bool.{false_from_ne_true}
+use Rattle.std.proofs.lemmas.Slice.Eq.{bytes_eq-Decides}
+use Rattle.pb_board.specs.LineEnd.{without_return}
+use Rattle.pb_board.proofs.LineEnds.{cases_return}
 use Rattle.pb_io.specs.Source.{SourceState}
-use Rattle.pb_io.specs.Lines.{lines, ended_lines}
-use Rattle.pb_io.specs.LineTask.{StopsAtLast, TakesAll, TakesStream, TakesUntil}
+use Rattle.pb_io.specs.Lines.{ended_lines, line_limit, lines}
+use Rattle.pb_io.specs.Reads.{chunk_len}
+use Rattle.pb_io.specs.LineTask.{AtLine, StopsAtLast, TakesAll, TakesStream, TakesUntil}
 use Rattle.pb_io.specs.declared.lines.LinesFault.{LinesFault}
 use Rattle.pb_io.specs.declared.lines.LinesFault.TheVariants as fault
 use Rattle.pb_io.proofs.EndLemmas.{AtEnd-weaker, AtFault-weaker, AtLine-weaker, AtNoEnd-weaker}
 use Rattle.pb_games.specs.Submissions.{Submission}
+use Rattle.pb_games.specs.declared.refusal.Refusal.{Refusal}
 use Rattle.pb_games.specs.declared.refusal.Refusal.TheVariants as refusal
-use Rattle.pb_accepted.specs.Accepting.{Accepted, Allowed, Answer, Reply, Run, Takes}
+use Rattle.pb_accepted.specs.Accepting.{Accepted, Allowed, Answer, Answers, Reply, Run, Takes}
+use Rattle.pb_games.specs.Refusing.{Refuses}
 use Rattle.pb_accepted.proofs.Replies.{Takes-refusal}
 use Rattle.pb_saved.specs.declared.loading.Loader.{Loader}
 use Rattle.pb_saved.specs.declared.loading.LoadError.{LoadError}
 use Rattle.pb_saved.specs.declared.loading.LoadError.TheVariants as error
-use Rattle.pb_saved.specs.Loader.{Judged, KeepsLedger, Submits, TakesLine, header, load_error, one_more, submission}
+use Rattle.pb_saved.specs.Loader.{Judged, KeepsLedger, Submits, TakesLine, header, load_error, error_at, one_more, submission}
+use Rattle.pb_saved.specs.Saving as saving
 use Rattle.pb_saved.specs.Loading.{BreaksAt, Loads, LoadsAll, LoadsButOne, LoadsUntil, WantsMemory, has_header, is_header, submission_lines}
 
 -- ---- one line
@@ -42,17 +51,48 @@ wanted cap A line (inl (inl h)) = absurd h.2
 wanted cap A line (inl (inr h)) = let is : h.0 ≡ refusal.Memory = cc (h.1) in absurd (subst (λ e. Refuses line e) is h.2).due
 wanted cap A line (inr h) = h.1
 
+-- a long line is no header
+pub long_line : (line : List ℕ) → line_limit < length line → is_header line ≡ false
+long_line line long = false_from_ne_true _ (λ is. short ((bytes_eq-Decides (without_return line) saving.header).0 is))
+  where
+    short : without_return line ≡ saving.header → ⊥
+    short same =
+        elim (cases_return line) [
+          | inl whole ↦ omega (arith, long, ap length (whole ∙ same))
+          | inr more ↦ omega (arith, long, ap length (more ∙ ap (λ xs. xs ++ 13 ∷ []) same))
+        ]
+
+-- what comes of a line that is refused
+pub judged_refused : (is_saved : Bool) (n : ℕ) (A B : List Submission) (e : Refusal) → B ≡ A → Judged is_saved n A B (Err e) (Err (error_at n e))
+judged_refused is_saved n A B refusal.Memory same = refl
+judged_refused is_saved n A B refusal.Long same = (refl, λ q. (cc), same, inl refl)
+judged_refused is_saved n A B refusal.Shape same = (refl, λ q. (cc), same, inl refl)
+judged_refused is_saved n A B refusal.Id same = (refl, λ q. (cc), same, inl refl)
+judged_refused is_saved n A B refusal.Result same = (refl, λ q. (cc), same, inl refl)
+judged_refused is_saved n A B (refusal.Fen f) same = (refl, λ q. (cc), same, inl refl)
+judged_refused is_saved n A B refusal.Start same = (refl, λ q. (cc), same, inl refl)
+judged_refused is_saved n A B (refusal.Spelling m) same = (refl, λ q. (cc), same, inl refl)
+judged_refused is_saved n A B refusal.Plies same = (refl, λ q. (cc), same, inl refl)
+judged_refused is_saved n A B (refusal.Illegal m) same = (refl, λ q. (cc), same, inl refl)
+judged_refused is_saved n A B (refusal.Conflict m) same = (refl, λ q. (cc), same, inl refl)
+judged_refused is_saved n A B refusal.Full same = (refl, λ q. (cc), same, inl refl)
+
+-- what is so at a line whatever the lines are
+done_at : {P : Type 0} {fills : ℕ} {old new : SourceState} → AtLine fills old new (λ _. P) → P
+done_at (inl h) = h.done
+done_at (inr h) = h.done
+
 module _ {T : Type 0} where
   -- lines that were taken as submissions
-  record Taken (s t : Loader T) (ls : List (List ℕ)) : Type 0 where
-    answers : List Answer
-    run : Run s.ledger.now.cap s.ledger.now.accepted ls answers
-    accepted : Accepted s.ledger.now.accepted ls answers t.ledger.now.accepted
-    taken : All IsOk answers
-    new : IsTrue s.is_saved → length t.ledger.now.accepted ≡ length s.ledger.now.accepted + length ls
-    saved : t.is_saved ≡ s.is_saved
-    lines : s.lines + length ls < 2 ^ 64 → t.lines ≡ s.lines + length ls
-    keeps : KeepsLedger s t
+  pub record Taken (s t : Loader T) (ls : List (List ℕ)) : Type 0 where
+    pub answers : List Answer
+    pub run : Run s.ledger.now.cap s.ledger.now.accepted ls answers
+    pub accepted : Accepted s.ledger.now.accepted ls answers t.ledger.now.accepted
+    pub taken : All IsOk answers
+    pub new : IsTrue s.is_saved → length t.ledger.now.accepted ≡ length s.ledger.now.accepted + length ls
+    pub saved : t.is_saved ≡ s.is_saved
+    pub lines : s.lines + length ls < 2 ^ 64 → t.lines ≡ s.lines + length ls
+    pub keeps : KeepsLedger s t
 
   KeepsLedger-same : (s : Loader T) → KeepsLedger s s
   KeepsLedger-same s = record { lent = refl; basis = refl; cap = refl }
@@ -76,22 +116,23 @@ module _ {T : Type 0} where
   }
 
   -- no line after the first is a header
+  submitted : (s t : Loader T) (line : List ℕ) (answer : Result (Unit {0}) LoadError) → 1 ≤ s.lines → TakesLine s line answer t → Submits (one_more s) line answer t
+  submitted s t line answer some (header zero is _ same) = absurd (omega (arith, zero, some))
+  submitted s t line answer some (submission other one) = one
+
   later : (s t : Loader T) (ls : List (List ℕ)) → 1 ≤ s.lines → TakesAll TakesLine s ls t → Taken s t ls
   later s t [] some h = subst (λ (x : Loader T). Taken s x []) (sym h) (Taken-none s)
-  later s t (line ∷ ls) some h = by h.1
-    where
-      by : TakesLine s line (Ok tt) h.0 → Taken s t (line ∷ ls)
-      by (header zero is answer same) = absurd (omega (arith, zero, some))
-      by (submission other one) = Taken-more s h.0 t line ls one (later h.0 t ls (omega (arith, one.lines, some)) h.2)
+  later s t (line ∷ ls) some h =
+      let one = submitted s h.0 line (Ok tt) some h.1 in Taken-more s h.0 t line ls one (later h.0 t ls (omega (arith, one.lines, some)) h.2)
 
   -- lines that were taken from the first on
-  record Whole (s t : Loader T) (ls : List (List ℕ)) : Type 0 where
-    loads : Loads s.ledger.now.cap ls t.ledger.now.accepted
-    saved : t.is_saved ≡ has_header ls
-    lines : length ls < 2 ^ 64 → t.lines ≡ length ls
-    keeps : KeepsLedger s t
+  pub record Whole (s t : Loader T) (ls : List (List ℕ)) : Type 0 where
+    pub loads : Loads s.ledger.now.cap ls t.ledger.now.accepted
+    pub saved : t.is_saved ≡ has_header ls
+    pub lines : length ls < 2 ^ 64 → t.lines ≡ length ls
+    pub keeps : KeepsLedger s t
 
-  abbrev IsFresh : Loader T → Type 0
+  abbrev pub IsFresh : Loader T → Type 0
   IsFresh s = (s.lines ≡ 0) × (s.is_saved ≡ false) × (s.ledger.now.accepted ≡ [])
 
   module _ (s : Loader T) (fresh : IsFresh s) where
@@ -108,15 +149,15 @@ module _ {T : Type 0} where
     Whole-saved t line ls is h =
         let start : s.ledger.now.accepted ≡ [] = fresh.2 in
         let same : submission_lines (line ∷ ls) ≡ ls = ap (λ b. if b then ls else line ∷ ls) is in record {
-          loads = rw same (record {
+          loads = record {
             answers = h.answers;
-            run = subst (λ A. Run s.ledger.now.cap A ls h.answers) start h.run;
-            accepted = subst (λ A. Accepted A ls h.answers t.ledger.now.accepted) start h.accepted;
+            run = subst (λ L. Run s.ledger.now.cap [] L h.answers) (sym same) (subst (λ A. Run s.ledger.now.cap A ls h.answers) start h.run);
+            accepted = subst (λ L. Accepted [] L h.answers t.ledger.now.accepted) (sym same) (subst (λ A. Accepted A ls h.answers t.ledger.now.accepted) start h.accepted);
             taken = h.taken;
-            new = λ _. h.new (tt) ∙ ap (λ (A : List Submission). length A + length ls) start;
-          });
+            new = λ _. omega (arith, h.new refl, ap length start, ap length same);
+          };
           saved = h.saved ∙ sym is;
-          lines = λ few. h.lines (omega (arith, few));
+          lines = λ few. omega (arith, h.lines (omega (arith, few)));
           keeps = record { lent = h.keeps.lent; basis = h.keeps.basis; cap = h.keeps.cap };
         }
 
@@ -125,15 +166,15 @@ module _ {T : Type 0} where
     Whole-old t line ls is h =
         let start : s.ledger.now.accepted ≡ [] = fresh.2 in
         let same : submission_lines (line ∷ ls) ≡ line ∷ ls = ap (λ b. if b then ls else line ∷ ls) is in record {
-          loads = rw same (record {
+          loads = record {
             answers = h.answers;
-            run = subst (λ A. Run s.ledger.now.cap A (line ∷ ls) h.answers) start h.run;
-            accepted = subst (λ A. Accepted A (line ∷ ls) h.answers t.ledger.now.accepted) start h.accepted;
+            run = subst (λ L. Run s.ledger.now.cap [] L h.answers) (sym same) (subst (λ A. Run s.ledger.now.cap A (line ∷ ls) h.answers) start h.run);
+            accepted = subst (λ L. Accepted [] L h.answers t.ledger.now.accepted) (sym same) (subst (λ A. Accepted A (line ∷ ls) h.answers t.ledger.now.accepted) start h.accepted);
             taken = h.taken;
-            new = λ (k : IsTrue (is_header line)). absurd (cc (sym is ∙ k));
-          });
+            new = λ (k : is_header line ≡ true). let no : false ≡ true = sym is ∙ k in cc;
+          };
           saved = h.saved ∙ fresh.1 ∙ sym is;
-          lines = λ few. let zero = fresh.0 in h.lines (omega (arith, few, zero)) ∙ ap (λ n. n + length (line ∷ ls)) zero;
+          lines = λ few. let zero = fresh.0 in omega (arith, zero, h.lines (omega (arith, few, zero)));
           keeps = h.keeps;
         }
 
@@ -144,3 +185,113 @@ module _ {T : Type 0} where
         by : TakesLine s line (Ok tt) h.0 → Whole s t (line ∷ ls)
         by (header zero is answer same) = Whole-saved t line ls is (subst (λ (m : Loader T). Taken m t ls) same (later h.0 t ls (omega (arith, ap (λ (m : Loader T). m.lines) same)) h.2))
         by (submission other one) = Whole-old t line ls (other fresh.0) (Taken-more s h.0 t line ls one (later h.0 t ls (omega (arith, one.lines)) h.2))
+
+  -- lines that were taken, and one more that stopped the loader
+  module _ (s t : Loader T) (ls : List (List ℕ)) (fresh : IsFresh s) (few : length ls < 2 ^ 64) where
+    abbrev pub Stopped : LoadError → Type 0
+    Stopped error.Memory = WantsMemory s.ledger.now.cap t.ledger.now.accepted ls
+    Stopped (error.Line n) = BreaksAt s.ledger.now.cap n t.ledger.now.accepted ls
+    Stopped error.Read = ⊥
+    Stopped error.Endless = ⊥
+
+    module _ (before : List (List ℕ)) (line : List ℕ) (m : Loader T) (are : ls ≡ before ++ line ∷ []) (w : Whole s m before)
+      (other : m.lines ≡ 0 → is_header line ≡ false) where
+      short : length before < 2 ^ 64
+      short = omega (arith, few, ap length are ∙ length_push before line)
+
+      but_one : t.ledger.now.accepted ≡ m.ledger.now.accepted → LoadsButOne s.ledger.now.cap ls t.ledger.now.accepted
+      but_one same = record {
+        before = before;
+        line = line;
+        are = are;
+        loads = subst (λ B. Loads s.ledger.now.cap before B) (sym same) w.loads;
+        no_header = λ none. other (w.lines short ∙ ap length none);
+      }
+
+      -- the same answer is allowed at the list as it is afterwards
+      allowed_after : (answer : Answer) → Allowed m.ledger.now.cap m.ledger.now.accepted line answer → t.ledger.now.accepted ≡ m.ledger.now.accepted
+          → Allowed s.ledger.now.cap t.ledger.now.accepted line answer
+      allowed_after answer h same =
+          subst (λ B. Allowed s.ledger.now.cap B line answer) (sym same) (subst (λ cap. Allowed cap m.ledger.now.accepted line answer) w.keeps.cap h)
+
+      stopped_so : (e : LoadError) → Submits (one_more m) line (Err e) t → Stopped e
+      unfolding but_one
+      stopped_so error.Read sub = absurd sub.judged
+      stopped_so error.Endless sub = absurd sub.judged
+      stopped_so error.Memory sub =
+          let answer : sub.answer ≡ Err refusal.Memory = sub.judged in
+          let allowed = subst (λ r. Allowed m.ledger.now.cap m.ledger.now.accepted line r) answer sub.allowed in
+          let takes = subst (λ r. Takes m.ledger.now.accepted line r t.ledger.now.accepted) answer sub.takes in
+          let same = Takes-refusal m.ledger.now.cap m.ledger.now.accepted line refusal.Memory t.ledger.now.accepted allowed takes in record {
+            but_one = but_one same;
+            reply = wanted s.ledger.now.cap t.ledger.now.accepted line (allowed_after (Err refusal.Memory) allowed same);
+          }
+      stopped_so (error.Line n) sub =
+          let judged = sub.judged in
+          let same : t.ledger.now.accepted ≡ m.ledger.now.accepted = judged.2 in
+          let reply = replied s.ledger.now.cap t.ledger.now.accepted line sub.answer (allowed_after sub.answer sub.allowed same) judged.1 in
+          let takes : Takes t.ledger.now.accepted line sub.answer t.ledger.now.accepted = subst (λ A. Takes A line sub.answer t.ledger.now.accepted) (sym same) sub.takes in record {
+            but_one = but_one same;
+            number = omega (arith, judged.0, w.lines short, short, ap length are ∙ length_push before line);
+            answer = sub.answer;
+            reply = reply;
+            breaks = elim judged.3 [
+              | inl refused ↦ inl refused
+              | inr saved ↦ inr (subst IsTrue w.saved saved, not_next s.ledger.now.cap t.ledger.now.accepted line sub.answer reply takes)
+            ];
+          }
+
+    stopped_by : (e : LoadError) (before : List (List ℕ)) (line : List ℕ) (m : Loader T) → ls ≡ before ++ line ∷ [] → Whole s m before → TakesLine m line (Err e) t → Stopped e × KeepsLedger s t
+    stopped_by e before line m are w (header zero is answer same) = let no : Err e ≡ Ok tt = answer in cc
+    stopped_by e before line m are w (submission other sub) =
+        (stopped_so before line m are w other e sub, KeepsLedger-then s m t w.keeps (record { lent = sub.keeps.lent; basis = sub.keeps.basis; cap = sub.keeps.cap }))
+
+    pub stopped : (e : LoadError) → StopsAtLast TakesLine s ls e t → Stopped e × KeepsLedger s t
+    stopped e h = stopped_by e h.0 h.1 h.2 h.3 (whole s fresh h.2 h.0 h.4) h.5
+
+  -- ---- the whole of a stream
+
+  module _ (fills : ℕ) (old new : SourceState) (s t : Loader T) (fresh : IsFresh s) (small : fills < 2 ^ 32) where
+    pub all_loaded : TakesStream TakesLine fills old new s t → LoadsAll fills old new s.ledger.now t.ledger.now
+    all_loaded = AtEnd-weaker fills old new _ _ (λ ls few taken. (whole s fresh t ls taken).loads)
+
+    few_of : (ls : List (List ℕ)) → length ls ≤ fills * chunk_len → length ls < 2 ^ 64
+    few_of ls few = omega (arith, small, few)
+
+    pub loaded_until : (fault : LinesFault LoadError) → TakesUntil TakesLine fills old new s t fault → LoadsUntil fills old new s.ledger.now t.ledger.now (load_error fault)
+    loaded_until fault.Memory h = inl (h.0, ap (λ (x : Loader T). x.ledger.now) h.1)
+    loaded_until fault.Read h = AtFault-weaker fills old new _ _ (λ ls few taken. (whole s fresh t ls taken).loads) h
+    loaded_until fault.Endless h = AtNoEnd-weaker fills old new _ _ (λ ls few taken. (whole s fresh t ls taken).loads) h
+    loaded_until (fault.Stop error.Memory) h = inr (AtLine-weaker fills old new _ _ (λ ls few stops. (stopped s t ls fresh (few_of ls few) error.Memory stops).0) h)
+    loaded_until (fault.Stop (error.Line n)) h = AtLine-weaker fills old new _ _ (λ ls few stops. (stopped s t ls fresh (few_of ls few) (error.Line n) stops).0) h
+    loaded_until (fault.Stop error.Read) h = absurd (done_at (AtLine-weaker fills old new _ (λ _. ⊥) (λ ls few stops. (stopped s t ls fresh (few_of ls few) error.Read stops).0) h))
+    loaded_until (fault.Stop error.Endless) h = absurd (done_at (AtLine-weaker fills old new _ (λ _. ⊥) (λ ls few stops. (stopped s t ls fresh (few_of ls few) error.Endless stops).0) h))
+
+    pub keeps_all : TakesStream TakesLine fills old new s t → KeepsLedger s t
+    keeps_all h = (whole s fresh t (lines h.came) h.done).keeps
+
+    pub keeps_until : (fault : LinesFault LoadError) → TakesUntil TakesLine fills old new s t fault → KeepsLedger s t
+    keeps_until fault.Memory h = subst (λ (x : Loader T). KeepsLedger s x) (sym h.1) (KeepsLedger-same s)
+    keeps_until fault.Read h = (whole s fresh t (ended_lines h.came) h.done).keeps
+    keeps_until fault.Endless h = (whole s fresh t (ended_lines h.came) h.done).keeps
+    keeps_until (fault.Stop e) h = done_at (AtLine-weaker fills old new _ (λ _. KeepsLedger s t) (λ ls few stops. (stopped s t ls fresh (few_of ls few) e stops).1) h)
+
+    -- ---- the answer
+
+    pub loaded_of : (answer : Result (Unit {0}) (LinesFault LoadError)) (result : Result (Unit {0}) LoadError) → OnOk answer (TakesStream TakesLine fills old new s t)
+        → MatchResult answer (λ x. result ≡ Ok x) (λ e. IsErrAnd result (λ f. f ≡ load_error e)) → OnOk result (LoadsAll fills old new s.ledger.now t.ledger.now)
+    loaded_of (Ok x) (Ok y) h is = all_loaded h
+    loaded_of (Ok x) (Err f) h is = cc
+    loaded_of (Err e) (Ok y) h is = absurd is
+    loaded_of (Err e) (Err f) h is = tt
+
+    pub unloaded_of : (answer : Result (Unit {0}) (LinesFault LoadError)) (result : Result (Unit {0}) LoadError) → IfErr answer (TakesUntil TakesLine fills old new s t)
+        → MatchResult answer (λ x. result ≡ Ok x) (λ e. IsErrAnd result (λ f. f ≡ load_error e)) → IfErr result (LoadsUntil fills old new s.ledger.now t.ledger.now)
+    unloaded_of (Ok x) (Ok y) h is = tt
+    unloaded_of (Ok x) (Err f) h is = cc
+    unloaded_of (Err e) (Ok y) h is = absurd is
+    unloaded_of (Err e) (Err f) h is = subst (LoadsUntil fills old new s.ledger.now t.ledger.now) (sym is) (loaded_until e h)
+
+    pub keeps_of : (answer : Result (Unit {0}) (LinesFault LoadError)) → OnOk answer (TakesStream TakesLine fills old new s t) → IfErr answer (TakesUntil TakesLine fills old new s t) → KeepsLedger s t
+    keeps_of (Ok x) h k = keeps_all h
+    keeps_of (Err e) h k = keeps_until e k

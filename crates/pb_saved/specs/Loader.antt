@@ -1,9 +1,10 @@
 -- What the loader does with a line.
-use Rattle.std.specs.Prelude.{◌≡◌, ◌≢◌, ℕ, ◌+◌, ◌⊎◌, Bool, true, false, List, length, IsErr, IsTrue, Result, Ok, Err}
+use Rattle.std.specs.Prelude.{◌≡◌, ◌≢◌, ℕ, ◌+◌, ◌⊎◌, Bool, true, false, List, length, IsErr, IsOk, IsTrue, Result, Ok, Err}
 use Rattle.pb_io.specs.Count.{next_count}
 use Rattle.pb_io.specs.declared.lines.LinesFault.{LinesFault}
 use Rattle.pb_io.specs.declared.lines.LinesFault.TheVariants as lines
 use Rattle.pb_games.specs.Submissions.{Submission}
+use Rattle.pb_games.specs.declared.refusal.Refusal.{Refusal}
 use Rattle.pb_games.specs.declared.refusal.Refusal.TheVariants as refusal
 use Rattle.pb_accepted.specs.Accepting.{Allowed, Answer, Takes}
 use Rattle.pb_saved.specs.declared.loading.Loader.{Loader}
@@ -19,7 +20,7 @@ pub record KeepsLedger {T : Type 0} (s t : Loader T) : Type 0 where
 
 -- what comes of the answer to line n, where A became B: after a header the line has to bring a new game
 abbrev pub Judged : Bool → ℕ → List Submission → List Submission → Answer → Result (Unit {0}) LoadError → Type 0
-Judged is_saved n A B answer (Ok x) = (answer ≢ Err refusal.Memory) × (IsErr answer → ⊥) × (IsTrue is_saved → length B ≡ length A + 1)
+Judged is_saved n A B answer (Ok x) = IsOk answer × (IsTrue is_saved → length B ≡ length A + 1)
 Judged is_saved n A B answer (Err Memory) = answer ≡ Err refusal.Memory
 Judged is_saved n A B answer (Err (Line m)) = (m ≡ n) × (answer ≢ Err refusal.Memory) × (B ≡ A) × (IsErr answer ⊎ IsTrue is_saved)
 Judged is_saved n A B answer (Err _) = ⊥
@@ -42,6 +43,11 @@ one_more s = record s { lines = next_count s.lines }
 pub data TakesLine {T : Type 0} (s : Loader T) (line : List ℕ) (result : Result (Unit {0}) LoadError) (t : Loader T) : Type 0 where
   header : s.lines ≡ 0 → is_header line ≡ true → result ≡ Ok tt → t ≡ record s { lines = 1; is_saved = true } → TakesLine s line result t
   submission : (s.lines ≡ 0 → is_header line ≡ false) → Submits (one_more s) line result t → TakesLine s line result t
+
+-- what a refusal of the line with this number is to the loading
+abbrev pub error_at : ℕ → Refusal → LoadError
+error_at n refusal.Memory = Memory
+error_at n e = Line n
 
 -- what a fault of taking the lines is to the loading
 abbrev pub load_error : LinesFault LoadError → LoadError

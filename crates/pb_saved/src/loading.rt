@@ -1,7 +1,7 @@
 //! A ledger from the lines of a file.
 
 ghost use Rattle.std.specs.Prelude.{◌≡◌, [], false, IfErr, IfOk, OnOk};
-ghost use Rattle.pb_saved.specs.Loader.{KeepsLedger, Submits, load_error};
+ghost use Rattle.pb_saved.specs.Loader.{KeepsLedger, Submits, error_at, load_error};
 ghost use Rattle.pb_saved.specs.Loading.{LoadsAll, LoadsSaved, LoadsStream, LoadsUntil};
 
 use crate::saving::HEADER;
@@ -49,8 +49,7 @@ impl<T: Tally> Loader<'_, T> {
         match self.ledger.submit(line) {
             Ok(_) if self.is_saved && self.ledger.len() == held => Err(LoadError::Line(self.lines)),
             Ok(_) => Ok(()),
-            Err(Refusal::Memory) => Err(LoadError::Memory),
-            Err(_) => Err(LoadError::Line(self.lines)),
+            Err(refusal) => Err(refused_at(self.lines, refusal)),
         }
     }
 }
@@ -94,6 +93,16 @@ impl<T: Tally> Loader<'_, T> {
         ensures same { KeepsLedger self.old self.new }
     {
         take_lines(alloc, source, self, fills).map_err(error_of)
+    }
+}
+
+/// What a refusal of the line with this number is to the loading.
+fn refused_at(number: u64, refusal: Refusal) -> LoadError
+    ensures { result ≡ error_at number refusal }
+{
+    match refusal {
+        Refusal::Memory => LoadError::Memory,
+        _ => LoadError::Line(number),
     }
 }
 

@@ -1,16 +1,14 @@
-use Rattle.std.proofs.Common.{rules, ◌≡◌, [], false, IfErr, IfOk, OnOk, ℕ, ◌+◌, ◌-◌, ◌*◌, ◌<◌, ◌≤◌, length, ◌/◌, ◌%◌, Bool, true, nat_eq, nat_lt, List, ◌∷◌, ◌++◌, slice_index_or, slice_set, bit_and, bit_or, Fits, w8, w32, w64, Bor, MutBor}
-use Rattle.pb_saved.specs.Loader.{KeepsLedger, Submits, load_error}
-use Rattle.pb_saved.specs.Loading.{LoadsAll, LoadsSaved, LoadsStream, LoadsUntil}
+use Rattle.pb_saved.proofs.Loaded.{keeps_of, loaded_of, unloaded_of}
 use Rattle.pb_saved.proofs.loading.Loader.take_all.Goals as goal
 
--- src/loading.rt:83:5
 pub returns-clause-ok : goal.returns-clause-ok
-returns-clause-ok g c = ?
+returns-clause-ok g c =
+    loaded_of c.args.fills (g.S.Source.state c.args.source.now) (g.S.Source.state c.take_lines.new.source) c.args.self.now c.take_lines.new.task (c.requires.first, c.requires.unsaved, c.requires.empty) c.ranges.fills.fits c.take_lines.result c.map_err.result c.take_lines.ensures.ok c.map_err.ensures.cases
 
--- src/loading.rt:83:5
 pub returns-clause-err : goal.returns-clause-err
-returns-clause-err g c = ?
+returns-clause-err g c =
+    unloaded_of c.args.fills (g.S.Source.state c.args.source.now) (g.S.Source.state c.take_lines.new.source) c.args.self.now c.take_lines.new.task (c.requires.first, c.requires.unsaved, c.requires.empty) c.ranges.fills.fits c.take_lines.result c.map_err.result c.take_lines.ensures.err c.map_err.ensures.cases
 
--- src/loading.rt:83:5
 pub returns-clause-same : goal.returns-clause-same
-returns-clause-same g c = ?
+returns-clause-same g c =
+    keeps_of c.args.fills (g.S.Source.state c.args.source.now) (g.S.Source.state c.take_lines.new.source) c.args.self.now c.take_lines.new.task (c.requires.first, c.requires.unsaved, c.requires.empty) c.ranges.fills.fits c.take_lines.result c.take_lines.ensures.ok c.take_lines.ensures.err
