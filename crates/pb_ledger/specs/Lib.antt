@@ -23,3 +23,6 @@ pub use Rattle.pb_points.specs.ListTally
 pub use Rattle.pb_points.specs.Rows
 pub use Rattle.pb_points.specs.Tally
 pub use Rattle.pb_points.specs.Weight
+pub use Rattle.pb_saved.specs.Laws as SavedLaws
+pub use Rattle.pb_saved.specs.Loading
+pub use Rattle.pb_saved.specs.Saving

@@ -1,5 +1,5 @@
 //! A stream of submissions to a ledger: each line is submitted, counted and answered by its reply line. It hands on the accepted
-//! games and the export of their book, knows no chess itself, and names no file.
+//! games, the export of their book and the saved form of a ledger, knows no chess itself, and names no file.
 #![tactic(auto)]
 
 mod collecting;
@@ -12,4 +12,5 @@ pub use pb_accepted::{
     Plies, Refusal, Reply, Row, Rules, Tally, check_line, scale,
 };
 pub use pb_export::{ExportFault, export};
+pub use pb_saved::{LoadError, load, save};
 pub use totals::Totals;

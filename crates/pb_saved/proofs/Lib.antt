@@ -1,3 +1,4 @@
+pub mod Continued
 pub mod Loaded
 pub mod SavedForms
 pub mod SavedLoading

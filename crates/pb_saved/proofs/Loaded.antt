@@ -1,5 +1,5 @@
 -- From the lines that the loader took to what was loaded.
-use Rattle.std.proofs.Common.{if◌then◌else◌, ◌≡◌, ◌≢◌, ℕ, ◌+◌, ◌*◌, ◌^◌, ◌<◌, ◌≤◌, Bool, true, false, List, [], ◌∷◌, ◌++◌, length, Result, Ok, Err, All, IsOk, IsErr, IsTrue, OnOk, IfErr, refl, sym, ap, subst, ◌∙◌, inl, inr, arith}
+use Rattle.std.proofs.Common.{if◌then◌else◌, ◌≡◌, ◌≢◌, ℕ, ◌+◌, ◌*◌, ◌^◌, ◌<◌, ◌≤◌, Bool, true, false, List, [], ◌∷◌, ◌++◌, length, Result, Ok, Err, All, IsOk, IsTrue, OnOk, IfErr, refl, sym, ap, subst, ◌∙◌, inl, inr, arith}
 use Rattle.std.specs.Prelude.{IsErrAnd, MatchResult}
 use Rattle.std.proofs.lemmas.List.Elements.{All-cons, All-nil}
 use Rattle.std.proofs.lemmas.List.{length_push}
@@ -195,7 +195,7 @@ module _ {T : Type 0} where
     Stopped error.Endless = ⊥
 
     module _ (before : List (List ℕ)) (line : List ℕ) (m : Loader T) (are : ls ≡ before ++ line ∷ []) (w : Whole s m before)
-      (other : m.lines ≡ 0 → is_header line ≡ false) where
+        (other : m.lines ≡ 0 → is_header line ≡ false) where
       short : length before < 2 ^ 64
       short = omega (arith, few, ap length are ∙ length_push before line)
 

@@ -1,16 +1,15 @@
 -- The saved form of a ledger, as it is put part by part.
-use Rattle.std.proofs.Common.{zero, suc, ◌≡◌, ◌∙◌, ℕ, ◌+◌, ◌<◌, ◌≤◌, List, [], ◌∷◌, ◌++◌, Some, None, All, length, map, drop, take, get_or, slice_get, refl, sym, ap, subst, arith, append-nil, append_assoc}
+use Rattle.std.proofs.Common.{zero, suc, ◌≡◌, ◌∙◌, ℕ, ◌+◌, ◌<◌, ◌≤◌, List, [], ◌∷◌, ◌++◌, Some, None, length, drop, take, get_or, slice_get, refl, sym, ap, subst, arith, append-nil, append_assoc}
 use Rattle.std.specs.List.{AllZip, flat_map, join_with_byte}
 use Rattle.std.proofs.Math.ListN.{drop_of_length-le}
 use Rattle.std.proofs.lemmas.Grind.{flat_map-append}
 use Rattle.std.proofs.lemmas.List.{drop_more, take-append-drop, take_more}
-use Rattle.std.proofs.lemmas.List.Elements.{All-tail}
 use Rattle.pb_board.specs.LineEnd.{with_end}
 use Rattle.pb_board.proofs.Spelled.{fen_spelled}
 use Rattle.pb_moves.specs.Moved.{Moved}
 use Rattle.pb_moves.specs.Spelling.{spelling}
 use Rattle.pb_games.specs.Results.{outcome_text}
-use Rattle.pb_games.specs.Submissions.{IsSubmission, Submission, SubmissionText, moves_text}
+use Rattle.pb_games.specs.Submissions.{Submission, SubmissionText, moves_text}
 use Rattle.pb_accepted.specs.Accepting.{IsNumber}
 use Rattle.pb_saved.specs.Saving.{header}
 
@@ -51,7 +50,7 @@ pub four_fields : (a b c d : List ℕ) → (a ++ 9 ∷ []) ++ ((b ++ 9 ∷ []) +
 four_fields a b c d =
     append_assoc a (9 ∷ []) ((b ++ 9 ∷ []) ++ ((c ++ 9 ∷ []) ++ with_end d))
     ∙ ap (λ xs. a ++ 9 ∷ xs) (append_assoc b (9 ∷ []) ((c ++ 9 ∷ []) ++ with_end d) ∙ ap (λ xs. b ++ 9 ∷ xs) (append_assoc c (9 ∷ []) (with_end d) ∙ sym (append_assoc c (9 ∷ d) (10 ∷ [])))
-        ∙ sym (append_assoc b (9 ∷ (c ++ 9 ∷ d)) (10 ∷ [])))
+    ∙ sym (append_assoc b (9 ∷ (c ++ 9 ∷ d)) (10 ∷ [])))
     ∙ sym (append_assoc a (9 ∷ (b ++ 9 ∷ (c ++ 9 ∷ d))) (10 ∷ []))
 
 -- the same of fields that are put as they are given
@@ -90,15 +89,15 @@ module _ (texts : List (List ℕ)) (i : ℕ) (text : List ℕ) (is : text ≡ ge
   lines_at =
       append_assoc (with_end header) (flat_map with_end (take i texts)) (with_end text ++ flat_map with_end (drop (i + 1) texts))
       ∙ ap (λ xs. with_end header ++ xs)
-          (sym (flat_map-append with_end (take i texts) (text ∷ drop (i + 1) texts))
-          ∙ ap (λ t. flat_map with_end (take i texts ++ t ∷ drop (i + 1) texts)) is
-          ∙ ap (λ xs. flat_map with_end (take i texts ++ xs)) (sym (drop_more texts i [] below)) ∙ ap (flat_map with_end) (take-append-drop i texts))
+      (sym (flat_map-append with_end (take i texts) (text ∷ drop (i + 1) texts))
+      ∙ ap (λ t. flat_map with_end (take i texts ++ t ∷ drop (i + 1) texts)) is
+      ∙ ap (λ xs. flat_map with_end (take i texts ++ xs)) (sym (drop_more texts i [] below)) ∙ ap (flat_map with_end) (take-append-drop i texts))
 
   -- one line more
   pub lines_more : flat_map with_end (header ∷ take i texts) ++ with_end text ≡ flat_map with_end (header ∷ take (i + 1) texts)
   lines_more =
       append_assoc (with_end header) (flat_map with_end (take i texts)) (with_end text)
       ∙ ap (λ xs. with_end header ++ xs)
-          (ap (λ xs. flat_map with_end (take i texts) ++ xs) (sym (append-nil (with_end text)))
-          ∙ sym (flat_map-append with_end (take i texts) (text ∷ []))
-          ∙ ap (λ t. flat_map with_end (take i texts ++ t ∷ [])) is ∙ ap (flat_map with_end) (sym (take_more texts i [] below)))
+      (ap (λ xs. flat_map with_end (take i texts) ++ xs) (sym (append-nil (with_end text)))
+      ∙ sym (flat_map-append with_end (take i texts) (text ∷ []))
+      ∙ ap (λ t. flat_map with_end (take i texts ++ t ∷ [])) is ∙ ap (flat_map with_end) (sym (take_more texts i [] below)))

@@ -1,1 +1,222 @@
--- Lemmas
+-- A saved ledger loads as what was saved.
+use Rattle.std.proofs.Common.{◌≡◌, ◌≢◌, ◌∙◌, ℕ, ◌+◌, ◌≤◌, true, false, List, [], ◌∷◌, ◌++◌, Result, Ok, Err, All, IsOk, IsErr, length, get_or, refl, sym, ap, subst, inl, inr, arith, append-nil, append_assoc}
+use Rattle.std.specs.Prelude.{IfErr, IfOk}
+use Rattle.std.specs.List.{AllZip, flat_map}
+use Rattle.std.proofs.Math.Seq.{get_or-append_seam}
+use Rattle.std.proofs.lemmas.Bool.{eqb-true, false_from_ne_true}
+use Rattle.std.proofs.lemmas.List.{get_or_append_left, get_or_default, length-append, length_push}
+use Rattle.std.proofs.lemmas.List.Elements.{All-cons, All-from_recursion, All-head, All-nil, All-tail}
+use Rattle.std.proofs.lemmas.Slice.Zip.{AllZip-long}
+use Rattle.pb_board.specs.LineEnd.{with_end}
+use Rattle.pb_io.specs.Source.{SourceState}
+use Rattle.pb_io.specs.Lines.{ended_lines, is_line_feed, lines}
+use Rattle.pb_io.specs.Reads.{chunk_len}
+use Rattle.pb_io.proofs.LineLemmas.{IsQuiet, lines-begin, lines-ended}
+use Rattle.pb_poly.specs.Reading.{Tells}
+use Rattle.pb_poly.proofs.ToldReads.{all_came, came_first, no_endless, no_fault}
+use Rattle.pb_games.specs.Submissions.{IsLawful, IsSubmission, Submission, SubmissionText}
+use Rattle.pb_games.proofs.OneLine.{one_text}
+use Rattle.pb_games.proofs.Texts.{one_line}
+use Rattle.pb_accepted.specs.Accepting.{Accepted, Answer, IsNewId, Reply, Run, Takes}
+use Rattle.pb_accepted.specs.Holding.{HaveOwnIds}
+use Rattle.pb_accepted.specs.Ledger.{LedgerState}
+use Rattle.pb_accepted.proofs.Replies.{Allowed-new, Takes-new, id_of, one_reply, one_submission}
+use Rattle.pb_saved.specs.Saving.{Saved, header}
+use Rattle.pb_saved.specs.Loading.{BreaksAt, Loads, LoadsSaved, LoadsStream, LoadsUntil, is_header}
+use Rattle.pb_saved.specs.declared.loading.LoadError.{LoadError}
+use Rattle.pb_saved.specs.declared.loading.LoadError.TheVariants.{Line, Read, Endless, Memory}
+
+-- ---- no submission has two saved forms
+
+one_zip : (A : List Submission) (ts us : List (List ℕ)) → AllZip SubmissionText A ts → AllZip SubmissionText A us → ts ≡ us
+one_zip [] [] [] h k = refl
+one_zip [] [] (u ∷ us) h k = absurd k
+one_zip [] (t ∷ ts) us h k = absurd h
+one_zip (s ∷ A) [] us h k = absurd h
+one_zip (s ∷ A) (t ∷ ts) [] h k = absurd k
+one_zip (s ∷ A) (t ∷ ts) (u ∷ us) h k = ap (λ x. x ∷ ts) (one_text s t u h.0 k.0) ∙ ap (λ xs. u ∷ xs) (one_zip A ts us h.1 k.1)
+
+pub saved_is_one : (A : List Submission) (a b : List ℕ) → Saved A a → Saved A b → a ≡ b
+saved_is_one A a b h k = h.2 ∙ ap (λ ts. flat_map with_end (header ∷ ts)) (one_zip A h.0 k.0 h.1 k.1) ∙ sym k.2
+
+-- ---- the lines of a saved form
+
+quiet_text : (s : Submission) (text : List ℕ) → IsSubmission s → SubmissionText s text → IsQuiet text
+quiet_text s text lawful h k d lt = false_from_ne_true _ (λ is. (one_line s text lawful.id lawful.game h k d lt).0 (eqb-true _ 10 is))
+
+lines_of_texts : (A : List Submission) (texts : List (List ℕ)) → All IsSubmission A → AllZip SubmissionText A texts → lines (flat_map with_end texts) ≡ texts
+lines_of_texts [] [] games h = refl
+lines_of_texts [] (t ∷ texts) games h = absurd h
+lines_of_texts (s ∷ A) [] games h = absurd h
+lines_of_texts (s ∷ A) (t ∷ texts) games h =
+    ap lines (append_assoc t (10 ∷ []) (flat_map with_end texts)) ∙ lines-ended t (flat_map with_end texts) (quiet_text s t (All-head IsSubmission s A games) h.0)
+    ∙ ap (λ ts. t ∷ ts) (lines_of_texts A texts (All-tail IsSubmission s A games) h.1)
+
+header_quiet : IsQuiet header
+header_quiet = All-from_recursion (λ b. is_line_feed b ≡ false) header (refl, (refl, (refl, (refl, (refl, (refl, (refl, (refl, (refl, (refl, (refl, (refl, (refl, (refl, tt))))))))))))))
+
+header_is : is_header header ≡ true
+header_is = refl
+
+pub lines_of_saved : (A : List Submission) (bytes : List ℕ) → All IsSubmission A → (h : Saved A bytes) → lines bytes ≡ header ∷ h.0
+lines_of_saved A bytes games h =
+    ap lines h.2 ∙ ap lines (append_assoc header (10 ∷ []) (flat_map with_end h.0)) ∙ lines-ended header (flat_map with_end h.0) header_quiet
+    ∙ ap (λ ts. header ∷ ts) (lines_of_texts A h.0 games h.1)
+
+-- ---- texts as lines that are submitted
+
+lawful_text : (s : Submission) (text : List ℕ) → IsSubmission s → SubmissionText s text → IsLawful text s
+lawful_text s text h spells = record { submits = record { id = h.id; game = h.game; text = text; spells = spells; is = inl refl }; legal = h.legal }
+
+module _ (A B : List Submission) (s : Submission) (own : HaveOwnIds (A ++ s ∷ B)) where
+  -- one that comes after others has another id
+  new_after : IsNewId s.0 A
+  new_after k d lt same =
+      own k (length A) s lt (omega (arith, length-append A (s ∷ B)))
+      (ap id_of (get_or_append_left A (s ∷ B) s k lt ∙ get_or_default A k s d lt) ∙ same ∙ sym (ap id_of (get_or-append_seam A s B s)))
+
+HaveOwnIds-front : (A B : List Submission) → HaveOwnIds (A ++ B) → HaveOwnIds A
+HaveOwnIds-front A B own i j d lt within =
+    subst (λ (s : Submission). s.0 ≢ (get_or A j d).0) (get_or_append_left A B d i (omega (arith, lt, within)))
+    (subst (λ (s : Submission). (get_or (A ++ B) i d).0 ≢ s.0) (get_or_append_left A B d j within) (own i j d lt (omega (arith, within, length-append A B))))
+
+-- a lawful line under a new id is added, where it isn't refused
+added : (A : List Submission) (line : List ℕ) (s : Submission) (r : Answer) (M : List Submission) → IsLawful line s → IsNewId s.0 A → IsOk r → Takes A line r M → M ≡ A ++ s ∷ []
+added A line s (Err e) M law fresh ok takes = cc
+added A line s (Ok n) M law fresh ok (inl adds) = adds.4 ∙ ap (λ (t : Submission). A ++ t ∷ []) (one_submission line adds.0 s adds.1 law)
+added A line s (Ok n) M law fresh ok (inr keeps) = absurd (keeps.0 s law fresh (λ q. (cc), λ q. (cc)))
+
+-- they are answered with the next numbers
+record Given (cap : ℕ) (A S : List Submission) (texts : List (List ℕ)) : Type 0 where
+  answers : List Answer
+  run : Run cap A texts answers
+  accepted : Accepted A texts answers (A ++ S)
+  taken : All IsOk answers
+
+given : (cap : ℕ) (A S : List Submission) (texts : List (List ℕ)) → AllZip SubmissionText S texts → All IsSubmission S → HaveOwnIds (A ++ S) → length A + length S ≤ cap → Given cap A S texts
+given cap A [] [] zip games own room = record { answers = []; run = tt; accepted = append-nil A; taken = All-nil IsOk }
+given cap A [] (t ∷ texts) zip games own room = absurd zip
+given cap A (s ∷ S) [] zip games own room = absurd zip
+given cap A (s ∷ S) (t ∷ texts) zip games own room =
+    let law = lawful_text s t (All-head IsSubmission s S games) zip.0 in
+    let fresh = new_after A S s own in
+    let after : List Submission = A ++ s ∷ [] in
+    let joined : after ++ S ≡ A ++ s ∷ S = append_assoc A (s ∷ []) S in
+    let rest = given cap after S texts zip.1 (All-tail IsSubmission s S games) (subst HaveOwnIds (sym joined) own) (omega (arith, room, length_push A s)) in record {
+      answers = Ok (length A + 1) ∷ rest.answers;
+      run = (after, Allowed-new cap A t s law fresh (omega (arith, room)), Takes-new cap A t s law (length A + 1) fresh, rest.run);
+      accepted = (after, Takes-new cap A t s law (length A + 1) fresh, subst (λ B. Accepted after texts rest.answers B) joined rest.accepted);
+      taken = All-cons IsOk (Ok (length A + 1)) rest.answers refl rest.taken;
+    }
+
+-- and nothing else is added where none is refused
+only : (A S B : List Submission) (texts : List (List ℕ)) (R : List Answer) → AllZip SubmissionText S texts → All IsSubmission S → HaveOwnIds (A ++ S) → All IsOk R → Accepted A texts R B → B ≡ A ++ S
+only A [] B [] [] zip games own taken h = h ∙ sym (append-nil A)
+only A [] B [] (r ∷ R) zip games own taken h = absurd h
+only A [] B (t ∷ texts) R zip games own taken h = absurd zip
+only A (s ∷ S) B [] R zip games own taken h = absurd zip
+only A (s ∷ S) B (t ∷ texts) [] zip games own taken h = absurd h
+only A (s ∷ S) B (t ∷ texts) (r ∷ R) zip games own taken h =
+    let law = lawful_text s t (All-head IsSubmission s S games) zip.0 in
+    let joined : (A ++ s ∷ []) ++ S ≡ A ++ s ∷ S = append_assoc A (s ∷ []) S in
+    let next : h.0 ≡ A ++ s ∷ [] = added A t s r h.0 law (new_after A S s own) (All-head IsOk r R taken) h.1 in
+    only (A ++ s ∷ []) S B texts R zip.1 (All-tail IsSubmission s S games) (subst HaveOwnIds (sym joined) own) (All-tail IsOk r R taken) (subst (λ M. Accepted M texts R B) next h.2) ∙ joined
+
+-- the submission whose text stands after these texts, and those before it
+record Cut (S : List Submission) (xs : List (List ℕ)) (y : List ℕ) : Type 0 where
+  front : List Submission
+  this : Submission
+  back : List Submission
+  are : S ≡ front ++ this ∷ back
+  games : All IsSubmission front
+  lawful : IsSubmission this
+  before : AllZip SubmissionText front xs
+  here : SubmissionText this y
+
+cut_at : (S : List Submission) (xs ys : List (List ℕ)) (y : List ℕ) → All IsSubmission S → AllZip SubmissionText S (xs ++ y ∷ ys) → Cut S xs y
+cut_at [] [] ys y games zip = absurd zip
+cut_at [] (x ∷ xs) ys y games zip = absurd zip
+cut_at (s ∷ S) [] ys y games zip = record { front = []; this = s; back = S; are = refl; games = All-nil IsSubmission; lawful = All-head IsSubmission s S games; before = tt; here = zip.0 }
+cut_at (s ∷ S) (x ∷ xs) ys y games zip =
+    let rest = cut_at S xs ys y (All-tail IsSubmission s S games) zip.1 in record {
+      front = s ∷ rest.front;
+      this = rest.this;
+      back = rest.back;
+      are = ap (λ (X : List Submission). s ∷ X) rest.are;
+      games = All-cons IsSubmission s rest.front (All-head IsSubmission s S games) rest.games;
+      lawful = rest.lawful;
+      before = (zip.0, rest.before);
+      here = rest.here;
+    }
+
+-- ---- what is loaded of a saved form
+
+ok_is_no_error : (r : Answer) (n : ℕ) → r ≡ Ok n → IsErr r → ⊥
+ok_is_no_error (Ok m) n is h = let no : false ≡ true = h in cc
+ok_is_no_error (Err e) n is h = cc
+
+module _ (cap : ℕ) (A : List Submission) (bytes : List ℕ) (games : All IsSubmission A) (own : HaveOwnIds A) (room : length A ≤ cap) (saved : Saved A bytes) where
+  pub loads_saved : Loads cap (lines bytes) A
+  loads_saved = subst (λ (xs : List (List ℕ)). Loads cap xs A) (sym (lines_of_saved A bytes games saved)) (by (given cap [] A saved.0 saved.1 games own (omega (arith, room))))
+    where
+      by : Given cap [] A saved.0 → Loads cap (header ∷ saved.0) A
+      by h = record { answers = h.answers; run = h.run; accepted = h.accepted; taken = h.taken; new = λ _. sym (AllZip-long SubmissionText A saved.0 saved.1) }
+
+  pub loads_only : (B : List Submission) → Loads cap (lines bytes) B → B ≡ A
+  loads_only B h = by (subst (λ (xs : List (List ℕ)). Loads cap xs B) (lines_of_saved A bytes games saved) h)
+    where
+      by : Loads cap (header ∷ saved.0) B → B ≡ A
+      by k = only [] A B saved.0 k.answers saved.1 games own k.taken k.accepted
+
+  -- ---- no line of it breaks the loading
+
+  no_break : (n : ℕ) (B : List Submission) (ls later : List (List ℕ)) → BreaksAt cap n B ls → lines bytes ≡ ls ++ later → ⊥
+  no_break n B ls later h is = by h.but_one.before refl (sym (lines_of_saved A bytes games saved) ∙ is ∙ ap (λ (xs : List (List ℕ)). xs ++ later) h.but_one.are ∙ append_assoc h.but_one.before (h.but_one.line ∷ []) later)
+    where
+      next : (before : List (List ℕ)) → h.but_one.before ≡ header ∷ before → Cut A before h.but_one.line → ⊥
+      next before is cut =
+          let own_front : HaveOwnIds (cut.front ++ cut.this ∷ cut.back) = subst HaveOwnIds cut.are own in
+          let own_first = HaveOwnIds-front cut.front (cut.this ∷ cut.back) own_front in
+          let long : length A ≡ length (cut.front ++ cut.this ∷ cut.back) = ap length cut.are in
+          let loads : Loads cap (header ∷ before) B = subst (λ (xs : List (List ℕ)). Loads cap xs B) is h.but_one.loads in
+          let same : B ≡ cut.front = only [] cut.front B before loads.answers cut.before cut.games own_first loads.taken loads.accepted in
+          let law = lawful_text cut.this h.but_one.line cut.lawful cut.here in
+          let fresh = new_after cut.front cut.back cut.this own_front in
+          let due : Reply cap cut.front h.but_one.line (Ok (length cut.front + 1)) = inl (cut.this, law, inr (fresh, omega (arith, room, long, length-append cut.front (cut.this ∷ cut.back)), refl)) in
+          let answer : h.answer ≡ Ok (length cut.front + 1) = one_reply cap cut.front h.but_one.line h.answer (Ok (length cut.front + 1)) own_first (subst (λ S. Reply cap S h.but_one.line h.answer) same h.reply) due in
+          elim h.breaks [
+            | inl refused ↦ absurd (ok_is_no_error h.answer (length cut.front + 1) answer refused)
+            | inr repeated ↦ repeated.1 (answer ∙ ap (λ (S : List Submission). Ok (length S + 1)) (sym same))
+          ]
+
+      by : (before : List (List ℕ)) → h.but_one.before ≡ before → header ∷ saved.0 ≡ before ++ h.but_one.line ∷ later → ⊥
+      by [] none are = let line : header ≡ h.but_one.line = cc in let no : false ≡ true = sym (h.but_one.no_header none) ∙ sym (ap is_header line) ∙ header_is in cc
+      by (x ∷ before) is are =
+          let head : x ≡ header = cc in
+          let tail : saved.0 ≡ before ++ h.but_one.line ∷ later = cc in
+          next before (is ∙ ap (λ (y : List ℕ). y ∷ before) head) (cut_at A before later h.but_one.line games (subst (AllZip SubmissionText A) tail saved.1))
+
+  module _ (fills : ℕ) (source source' : SourceState) (tells : Tells fills source source' bytes) (old new : LedgerState) (fits : old.cap ≡ cap) where
+    only_memory : (e : LoadError) → LoadsUntil fills source source' old new e → e ≡ Memory
+    only_memory Memory h = refl
+    only_memory Read h = absurd (no_fault chunk_len fills source source' bytes tells h.came h.reads)
+    only_memory Endless h = absurd (no_endless chunk_len fills source source' bytes tells h.came h.reads)
+    only_memory (Line n) (inl h) =
+        let told = came_first chunk_len fills source source' bytes tells.told (h.came ++ h.reads.0) h.reads.1.reads in
+        let begins = lines-begin h.came (h.reads.0 ++ told.0) in
+        absurd (no_break n new.accepted (ended_lines h.came) begins.0 (subst (λ c. BreaksAt c n new.accepted (ended_lines h.came)) fits h.done)
+        (ap lines (told.1 ∙ append_assoc h.came h.reads.0 told.0) ∙ begins.1))
+    only_memory (Line n) (inr h) =
+        let told = all_came chunk_len fills source source' bytes tells.told h.came h.reads in
+        absurd (no_break n new.accepted (lines h.came) [] (subst (λ c. BreaksAt c n new.accepted (lines h.came)) fits h.done) (ap lines told ∙ sym (append-nil (lines h.came))))
+
+    loaded_whole : (n : ℕ) → LoadsStream fills source source' old new n → (n ≡ length A) × (new.accepted ≡ A)
+    loaded_whole n h =
+        let told = all_came chunk_len fills source source' bytes tells.told h.0.came h.0.reads in
+        let same = loads_only new.accepted (subst (λ (xs : List (List ℕ)). Loads cap xs new.accepted) (ap lines (sym told)) (subst (λ c. Loads c (lines h.0.came) new.accepted) fits h.0.done)) in
+        (h.1 ∙ ap length same, same)
+
+pub loads_the_saved : (fills : ℕ) (source source' : SourceState) (old new : LedgerState) (result : Result ℕ LoadError) → IfOk result (LoadsStream fills source source' old new)
+    → IfErr result (LoadsUntil fills source source' old new) → LoadsSaved fills source source' old new result
+loads_the_saved fills source source' old new (Ok n) h k A bytes games own room saved tells = loaded_whole old.cap A bytes games own room saved fills source source' tells old new refl n h
+loads_the_saved fills source source' old new (Err e) h k A bytes games own room saved tells = only_memory old.cap A bytes games own room saved fills source source' tells old new refl e k

@@ -143,13 +143,32 @@ pub fn load<T: Tally, S: Source>(
     ensures basis { ledger.new.basis ≡ ledger.old.basis }
     ensures cap { ledger.new.cap ≡ ledger.old.cap }
 {
+    load_lines(alloc, source, ledger, fills)
+}
+
+/// The same, told of the lines alone.
+fn load_lines<T: Tally, S: Source>(
+    alloc: Global,
+    source: &mut S,
+    ledger: &mut Ledger<T>,
+    fills: u32,
+) -> Result<u32, LoadError>
+    requires { ledger.old.accepted ≡ [] }
+    ensures ok { IfOk result (LoadsStream fills (S.state source.old) (S.state source.new) ledger.old ledger.new) }
+    ensures fault { IfErr result (LoadsUntil fills (S.state source.old) (S.state source.new) ledger.old ledger.new) }
+    ensures basis { ledger.new.basis ≡ ledger.old.basis }
+    ensures cap { ledger.new.cap ≡ ledger.old.cap }
+{
     let mut loader = Loader {
         ledger,
         lines: 0,
         is_saved: false,
     };
     let ended = loader.take_all(alloc, source, fills);
+    let held = loader.ledger.len();
     let Loader { ledger, .. } = loader;
+    // The proof reads what the reference holds from this use.
+    let _ = &*ledger;
     ended?;
-    Ok(ledger.len())
+    Ok(held)
 }

@@ -1,11 +1,8 @@
-use Rattle.std.proofs.Common.{rules, ◌≡◌, ℕ, ◌+◌, ◌-◌, ◌*◌, ◌<◌, ◌≤◌, length, ◌/◌, ◌%◌, Bool, true, false, nat_eq, nat_lt, List, [], ◌∷◌, ◌++◌, slice_index_or, slice_set, bit_and, bit_or, Fits, w8, w32, w64, Bor, MutBor}
-use Rattle.pb_saved.specs.Laws.{ContinuedIsOneRun, SavedIsOne, SavedLoads}
+use Rattle.pb_saved.proofs.SavedLoading.{loads_only, loads_saved, saved_is_one}
 use Rattle.pb_saved.proofs.laws.saved.Goals as goal
 
--- src/laws.rt:6:1
-pub returns-clause-one : goal.returns-clause-one
-returns-clause-one c = ?
-
--- src/laws.rt:6:1
-pub returns-clause-loads : goal.returns-clause-loads
-returns-clause-loads c = ?
+pub returns : goal.returns
+returns c = record {
+  one = saved_is_one;
+  loads = λ cap A bytes games own room saved. (loads_saved cap A bytes games own room saved, loads_only cap A bytes games own room saved);
+}

@@ -1,4 +1,4 @@
-use Rattle.std.proofs.Common.{ℕ, List, ◌∷◌, [], ◌++◌, ◌∙◌, refl, subst, sym}
+use Rattle.std.proofs.Common.{ℕ, List, ◌∷◌, [], ◌++◌, refl, subst}
 use Rattle.pb_board.specs.LineEnd.{with_end}
 use Rattle.pb_games.specs.Results.{outcome_text}
 use Rattle.pb_games.specs.Submissions.{moves_text}

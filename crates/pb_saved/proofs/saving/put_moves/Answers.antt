@@ -1,6 +1,5 @@
-use Rattle.std.proofs.Common.{◌∙◌, ◌≡◌, ◌++◌, ap, subst, sym}
+use Rattle.std.proofs.Common.{◌∙◌, ◌++◌, ap, subst, sym}
 use Rattle.pb_board.specs.LineEnd.{with_end}
-use Rattle.pb_games.specs.Submissions.{moves_text}
 use Rattle.pb_io.specs.Sink.{Put}
 use Rattle.pb_io.proofs.PutLemmas.{front_more, put_cut, put_failed, put_last, put_more}
 use Rattle.pb_saved.proofs.SavedForms.{further, further_end, further_from, line_from_first}

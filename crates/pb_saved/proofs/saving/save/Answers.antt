@@ -1,11 +1,10 @@
-use Rattle.std.proofs.Common.{◌≡◌, ◌∙◌, ℕ, ◌+◌, List, [], ◌∷◌, ◌++◌, ap, append_assoc, arith, drop, get_or, length, refl, slice_get, Some, subst, sym, take}
+use Rattle.std.proofs.Common.{◌≡◌, ℕ, ◌+◌, List, ◌∷◌, arith, drop, refl, subst, take}
 use Rattle.std.specs.Io.KnownBytes.{Appends}
-use Rattle.std.specs.List.{AllZip, flat_map}
+use Rattle.std.specs.List.{flat_map}
 use Rattle.std.proofs.KnownBytes.{Appends-trans}
-use Rattle.std.proofs.lemmas.List.{take_all, take_more}
+use Rattle.std.proofs.lemmas.List.{take_all}
 use Rattle.std.proofs.lemmas.Slice.Zip.{AllZip-long}
 use Rattle.pb_board.specs.LineEnd.{with_end}
-use Rattle.pb_io.specs.Sink.{Put}
 use Rattle.pb_io.proofs.PutLemmas.{front_more, put_cut, put_failed}
 use Rattle.pb_io.proofs.WritesLemmas.{Writes-flushed, Writes-stopped}
 use Rattle.pb_games.specs.Submissions.{SubmissionText}

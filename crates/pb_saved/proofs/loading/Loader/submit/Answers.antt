@@ -1,5 +1,4 @@
-use Rattle.std.proofs.Common.{Err, refl, subst, sym, ap}
-use Rattle.pb_accepted.specs.Accepting.{Allowed, Takes}
+use Rattle.std.proofs.Common.{Err, refl, subst, sym}
 use Rattle.pb_accepted.proofs.Replies.{Takes-refusal}
 use Rattle.pb_saved.specs.Loader.{Judged}
 use Rattle.pb_saved.proofs.Loaded.{judged_refused}
