@@ -3,9 +3,12 @@
 #![tactic(auto)]
 
 mod command;
+mod content;
+mod draft;
 mod file;
 mod program;
 mod stop;
+mod whole_file;
 
 pub use command::FILLS;
 pub use program::{USAGE, run, want_of_memory};
