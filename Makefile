@@ -5,7 +5,7 @@ START := rnbqkbnr/pppppppp/8/8/8/8/PPPPPPPP/RNBQKBNR w KQkq - 0 1
 
 PREFIX := /usr/local
 
-.PHONY: build try install demo test bench clean
+.PHONY: build try install demo test test-hostile bench clean
 
 build: build/pbook
 
@@ -50,6 +50,10 @@ demo: build
 
 test:
 	rt ci
+
+# Tries what is left of a book's file by full disks, links, missing permissions and runs that are killed.
+test-hostile: build
+	@sh scripts/test_hostile.sh
 
 # Times the program that plays moves, and the commands, and compares a book with PolyGlot's own.
 bench: build
