@@ -251,11 +251,15 @@ killed() {
 }
 
 checks='new_book here old_book full_device null_device pipe standard_output symlink dangling_symlink hard_link folder missing_folder no_name
-    long_name no_permission folder_without_drafts limit draft_left draft_is_a_link side_by_side'
+    long_name limit draft_left draft_is_a_link side_by_side'
 if command -v flock > /dev/null; then checks="$checks draft_in_use"; fi
 if command -v strace > /dev/null; then checks="$checks device_faults"; fi
+if ! $root; then
+    checks="$checks no_permission folder_without_drafts"
+elif command -v setpriv > /dev/null; then
+    checks="$checks no_permission folder_without_drafts other_owner"
+fi
 if $root; then
-    checks="$checks other_owner"
     mkdir "$work/probe"
     if mount -t tmpfs tmpfs "$work/probe" 2> /dev/null; then
         umount "$work/probe"
