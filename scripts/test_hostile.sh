@@ -137,6 +137,12 @@ folder_without_drafts() {
         [ "$(node "$work/sealed/book.bin")" = "$before" ] && chmod 755 "$work/sealed"
 }
 
+# A folder that may be written and not read can't be synced, and takes a draft all the same.
+unread_folder() {
+    mkdir "$work/unread" && chmod 333 "$work/unread" && user=as_other && ends 0 "$work/unread/book.bin" && user= &&
+        chmod 755 "$work/unread" && is_new "$work/unread/book.bin" && no_draft "$work/unread"
+}
+
 other_owner() {
     old_in other && chmod 666 "$work/other/book.bin" && chmod 777 "$work/other" && before=$(node "$work/other/book.bin") &&
         user=as_other && ends 0 "$work/other/book.bin" && user= && is_new "$work/other/book.bin" && no_draft "$work/other" &&
@@ -146,7 +152,7 @@ other_owner() {
 limit() {
     old_in limited && (
         trap '' XFSZ
-        ulimit -f 8
+        ulimit -f 4
         "$work/pbook" collect "$work/table" "$work/limited/book.bin" < "$work/games" > /dev/null
         [ $? -eq 3 ]
     ) && is_old "$work/limited/book.bin" && no_draft "$work/limited"
@@ -255,9 +261,9 @@ checks='new_book here old_book full_device null_device pipe standard_output syml
 if command -v flock > /dev/null; then checks="$checks draft_in_use"; fi
 if command -v strace > /dev/null; then checks="$checks device_faults"; fi
 if ! $root; then
-    checks="$checks no_permission folder_without_drafts"
+    checks="$checks no_permission folder_without_drafts unread_folder"
 elif command -v setpriv > /dev/null; then
-    checks="$checks no_permission folder_without_drafts other_owner"
+    checks="$checks no_permission folder_without_drafts unread_folder other_owner"
 fi
 if $root; then
     mkdir "$work/probe"
