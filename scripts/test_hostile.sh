@@ -224,29 +224,32 @@ side_by_side() {
     done
 }
 
-# Runs are killed at moments between two fifths of what a whole run takes and a little more than all of it, and each leaves the old
-# BOOK or the new one.
+# A hundred runs are killed, and each leaves the old BOOK or the new one. The moments are random, about the one at which BOOK gets to be
+# the new one: after a kill that came too early for it they come later, and after one that came too late earlier.
 killed() {
     old_in killed && book=$work/killed/book.bin && long_games 4000 > "$work/lines" || return 1
     begin=$(date +%s%N)
     ends 0 "$work/long" "$work/lines" || return 1
-    time=$(($(date +%s%N) - begin))
+    about=$((($(date +%s%N) - begin) / 1000))
     kept=0
     made=0
     drafts=0
-    for moment in $(awk -v time="$time" 'BEGIN { srand(1); for (i = 0; i < 100; i++) printf "%.4f\n", time / 1e9 * (0.4 + 0.65 * rand()) }'); do
+    for thousandths in $(awk 'BEGIN { srand(1); for (i = 0; i < 100; i++) print int(800 + 400 * rand()) }'); do
         cp "$work/old" "$book"
+        moment=$((about * thousandths / 1000))
         "$work/pbook" collect "$work/table" "$book" < "$work/lines" > /dev/null &
         run=$!
-        sleep "$moment"
+        sleep "$(printf '%d.%06d' $((moment / 1000000)) $((moment % 1000000)))"
         kill -9 "$run" 2> /dev/null || true
         wait "$run" 2> /dev/null || true
         if is_old "$book"; then
             kept=$((kept + 1))
+            about=$((about + about / 40))
         elif cmp -s "$book" "$work/long"; then
             made=$((made + 1))
+            about=$((about - about / 40))
         else
-            echo "killed after $moment s: BOOK has $(stat -c %s "$book") bytes, the old one $(stat -c %s "$work/old"), the new one $(stat -c %s "$work/long")"
+            echo "killed after $moment us: BOOK has $(stat -c %s "$book") bytes, the new one $(stat -c %s "$work/long")"
             return 1
         fi
         if ! no_draft "$work/killed"; then drafts=$((drafts + 1)); fi
