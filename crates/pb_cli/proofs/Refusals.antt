@@ -2,11 +2,10 @@
 use Rattle.std.proofs.Common.{◌≡◌, List, codes}
 use Rattle.clap.specs.Words.{Row}
 use Rattle.pb_accepted.specs.Rules.{CountingRules}
-use Rattle.pb_cli.specs.declared.order.Order.{Order}
 use Rattle.pb_cli.specs.declared.order.Order.TheVariants as order
 use Rattle.pb_cli.specs.declared.order.ParseFault.{ParseFault}
 use Rattle.pb_cli.specs.declared.order.ParseFault.TheVariants.{Memory}
-use Rattle.pb_cli.specs.Orders.{HasRules, HasWords, RefusesFor, name_of}
+use Rattle.pb_cli.specs.Orders.{HasRules, RefusesFor}
 
 module _ (rows : List Row) (fault : ParseFault) (none : (rules : CountingRules) → HasRules rules rows → fault ≡ Memory) where
   -- without rules the two commands that take games have no order
@@ -15,7 +14,7 @@ module _ (rows : List Row) (fault : ParseFault) (none : (rules : CountingRules) 
   refuses_collect order.Epd named has = absurd (cc named)
   refuses_collect (order.Show book) named has = absurd (cc named)
   refuses_collect (order.Probe table book fen) named has = absurd (cc named)
-  refuses_collect (order.Collect rules table book) named has = none rules has.0
+  refuses_collect (order.Collect rules ledger table book) named has = none rules has.0
   refuses_collect (order.Export rules table) named has = absurd (cc named)
 
   pub refuses_export : RefusesFor (codes "export") rows fault
@@ -23,5 +22,5 @@ module _ (rows : List Row) (fault : ParseFault) (none : (rules : CountingRules) 
   refuses_export order.Epd named has = absurd (cc named)
   refuses_export (order.Show book) named has = absurd (cc named)
   refuses_export (order.Probe table book fen) named has = absurd (cc named)
-  refuses_export (order.Collect rules table book) named has = absurd (cc named)
+  refuses_export (order.Collect rules ledger table book) named has = absurd (cc named)
   refuses_export (order.Export rules table) named has = none rules has.0

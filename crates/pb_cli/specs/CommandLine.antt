@@ -16,9 +16,13 @@ further_words id = record (new_rule id) {
   range = Some (record { start_inclusive = 0; end_inclusive = usize_max });
 }
 
+-- an option with a value, which has none where it isn't given
+abbrev pub option_if_given : Text → Rule
+option_if_given id = record (new_rule id) { long = Some id; action = Some Set; value_names = 1 }
+
 -- an option with a value, and the value where it isn't given
 abbrev pub option_with : Text → Text → Rule
-option_with id value = record (new_rule id) { long = Some id; action = Some Set; value_names = 1; defaults = value ∷ [] }
+option_with id value = record (option_if_given id) { defaults = value ∷ [] }
 
 -- a command with the two options that say what of the games counts
 abbrev pub with_counting : App → App
@@ -39,7 +43,8 @@ probe_command = with_rule (with_rule (with_rule (new_app (codes "probe")) (requi
     (required_word (codes "FEN"))
 
 abbrev pub collect_command : App
-collect_command = with_rule (with_rule (with_counting (new_app (codes "collect"))) (required_word (codes "TABLE"))) (required_word (codes "BOOK"))
+collect_command = with_rule (with_rule (with_counting (with_rule (new_app (codes "collect")) (option_if_given (codes "ledger"))))
+    (required_word (codes "TABLE"))) (required_word (codes "BOOK"))
 
 abbrev pub export_command : App
 export_command = with_rule (with_counting (new_app (codes "export"))) (required_word (codes "TABLE"))

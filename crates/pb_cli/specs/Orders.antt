@@ -1,5 +1,5 @@
 -- What an order has of the words of the command line.
-use Rattle.std.specs.Prelude.{◌≡◌, ℕ, List, [], Option, Some, codes, unwrap_or}
+use Rattle.std.specs.Prelude.{◌≡◌, ℕ, List, [], Option, Some, codes, option_map, unwrap_or}
 use Rattle.std.specs.Borrow.{Bor}
 use Rattle.std.specs.Str.Parse.{IsNumeral, digits_value}
 use Rattle.clap.specs.Words.{Row, Text, all_of, first_of}
@@ -16,12 +16,16 @@ name_of (order.Fen _ _) = codes "fen"
 name_of order.Epd = codes "epd"
 name_of (order.Show _) = codes "show"
 name_of (order.Probe _ _ _) = codes "probe"
-name_of (order.Collect _ _ _) = codes "collect"
+name_of (order.Collect _ _ _ _) = codes "collect"
 name_of (order.Export _ _) = codes "export"
 
 -- the argument of this name was given this word
 abbrev pub HasWord : Text → Bor Text → List Row → Type 0
 HasWord id word rows = first_of id rows ≡ Some word.now
+
+-- the argument of this name was given this word, or it wasn't given and there is none
+abbrev pub HasWordIfGiven : Text → Option (Bor Text) → List Row → Type 0
+HasWordIfGiven id word rows = first_of id rows ≡ option_map (λ w. w.now) word
 
 -- the argument of this name was given a word that writes this number in digits
 abbrev pub HasNumber : Text → ℕ → List Row → Type 0
@@ -39,7 +43,8 @@ HasWords (order.Fen fen moves) rows = HasWord (codes "FEN") fen rows × (texts m
 HasWords order.Epd rows = Unit {0}
 HasWords (order.Show book) rows = HasWord (codes "BOOK") book rows
 HasWords (order.Probe table book fen) rows = HasWord (codes "TABLE") table rows × HasWord (codes "BOOK") book rows × HasWord (codes "FEN") fen rows
-HasWords (order.Collect rules table book) rows = HasRules rules rows × HasWord (codes "TABLE") table rows × HasWord (codes "BOOK") book rows
+HasWords (order.Collect rules ledger table book) rows = HasRules rules rows × HasWordIfGiven (codes "ledger") ledger rows × HasWord (codes "TABLE") table rows
+    × HasWord (codes "BOOK") book rows
 HasWords (order.Export rules table) rows = HasRules rules rows × HasWord (codes "TABLE") table rows
 
 -- the order is that of the command that was found, with its words as the matches give them

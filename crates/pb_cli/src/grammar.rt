@@ -2,7 +2,7 @@
 ghost use Rattle.std.specs.Prelude.{◌≡◌, IfOk, codes, false};
 ghost use Rattle.clap.specs.Words.{App, new_app, rule_of};
 ghost use Rattle.pb_cli.specs.Built.{IsCommand};
-ghost use Rattle.pb_cli.specs.CommandLine.{collect_command, epd_command, export_command, fen_command, further_words, option_with, pbook, probe_command, program_alone, required_word, show_command, with_counting};
+ghost use Rattle.pb_cli.specs.CommandLine.{collect_command, epd_command, export_command, fen_command, further_words, option_if_given, option_with, pbook, probe_command, program_alone, required_word, show_command, with_counting};
 
 use clap::{Arg, ArgAction, Command};
 use std::alloc::{AllocError, Global};
@@ -24,6 +24,10 @@ const TABLE_HELP: &str =
 
 /// What a file of a book that is made is.
 const MADE_HELP: &str = "The file that the book is written to, in place of what it held";
+
+/// What a saved ledger is.
+const LEDGER_HELP: &str =
+    "A saved ledger: its games are held from the start, and it is made anew with those of this run";
 
 /// What the number of plies is.
 const PLIES_HELP: &str = "How many first plies of each game count, 1 to 1024";
@@ -106,7 +110,7 @@ fn probe<'a>(alloc: Global) -> Result<Command<'a>, AllocError>
     Ok(whole)
 }
 
-/// `collect TABLE BOOK`, with the options `--plies N` and `--least G`
+/// `collect TABLE BOOK`, with the options `--ledger FILE`, `--plies N` and `--least G`
 fn collect<'a>(alloc: Global) -> Result<Command<'a>, AllocError>
     ensures { IfOk result (IsCommand collect_command) }
 {
@@ -115,13 +119,14 @@ fn collect<'a>(alloc: Global) -> Result<Command<'a>, AllocError>
         "collect",
         "Takes games from standard input, prints the reply to each, and makes the book of those that are held",
     );
-    let counting = with_counting(alloc, bare)?;
+    let saved = bare.arg(option_if_given(alloc, "ledger", "FILE", LEDGER_HELP))?;
+    let counting = with_counting(alloc, saved)?;
     let tabled = counting.arg(required(alloc, "TABLE", TABLE_HELP))?;
     let whole = tabled.arg(required(alloc, "BOOK", MADE_HELP))?;
     Ok(whole)
 }
 
-/// `export TABLE`, with the same options
+/// `export TABLE`, with the options `--plies N` and `--least G`
 fn export<'a>(alloc: Global) -> Result<Command<'a>, AllocError>
     ensures { IfOk result (IsCommand export_command) }
 {
@@ -151,7 +156,7 @@ fn with_counting<'a>(alloc: Global, command: Command<'a>) -> Result<Command<'a>,
     Ok(counting)
 }
 
-/// An option with a value, which help calls `letter`.
+/// An option with a value, which help calls `letter`, and the value where it isn't given.
 fn option<'a>(
     alloc: Global,
     name: &'a str,
@@ -162,10 +167,17 @@ fn option<'a>(
     ensures rule { rule_of result ≡ option_with name.now value.now }
     ensures local { result.global ≡ false }
 {
+    option_if_given(alloc, name, letter, help).default_value(value)
+}
+
+/// An option with a value, which help calls `letter`, and none where it isn't given.
+fn option_if_given<'a>(alloc: Global, name: &'a str, letter: &'a str, help: &'a str) -> Arg<'a>
+    ensures rule { rule_of result ≡ option_if_given name.now }
+    ensures local { result.global ≡ false }
+{
     Arg::new(alloc, name)
         .long(name)
         .value_name(letter)
-        .default_value(value)
         .action(ArgAction::Set)
         .help(help)
 }

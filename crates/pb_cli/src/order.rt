@@ -6,7 +6,7 @@ ghost use Rattle.clap.specs.Words.{all_of, fault_of, first_of, found_of, kind_of
 ghost use Rattle.clap.specs.declared.error.ErrorKind.TheVariants.{OutOfMemory};
 ghost use Rattle.pb_cli.specs.CommandLine.{pbook};
 ghost use Rattle.pb_accepted.specs.Rules.{CountingRules};
-ghost use Rattle.pb_cli.specs.Orders.{HasNumber, HasRules, HasWords, IsOrderOf, RefusesFor, RefusesRightly, name_of};
+ghost use Rattle.pb_cli.specs.Orders.{HasNumber, HasRules, HasWordIfGiven, HasWords, IsOrderOf, RefusesFor, RefusesRightly, name_of};
 ghost use Rattle.pb_cli.specs.declared.order.ParseFault.TheVariants.{Memory};
 
 use crate::grammar::command_line;
@@ -45,6 +45,8 @@ pub enum Order<'a> {
     Collect {
         /// What of the games counts.
         rules: Rules,
+        /// The path of the saved ledger that the run goes on from, if there is one.
+        ledger: Option<&'a str>,
         /// The path of the table.
         table: &'a str,
         /// The path of the book that is made.
@@ -161,9 +163,15 @@ fn collect<'a>(alloc: Global, given: &ArgMatches<'a>) -> Result<Order<'a>, Parse
     ensures refused { IfErr result (RefusesFor (codes "collect") (rows_of (found_of given.now))) }
 {
     let rules = rules(alloc, given)?;
+    let ledger = word_if_given(given, "ledger");
     let table = word(alloc, given, "TABLE")?;
     let book = word(alloc, given, "BOOK")?;
-    Ok(Order::Collect { rules, table, book })
+    Ok(Order::Collect {
+        rules,
+        ledger,
+        table,
+        book,
+    })
 }
 
 /// The order of `export`.
@@ -224,10 +232,17 @@ fn word<'a>(alloc: Global, given: &ArgMatches<'a>, id: &str) -> Result<&'a str, 
     ensures found { IfOk result (λ w. first_of id.now (rows_of (found_of given.now)) ≡ Some w.now) }
     ensures absent { OnErr result (first_of id.now (rows_of (found_of given.now)) ≡ None) }
 {
-    match given.get_str(id) {
+    match word_if_given(given, id) {
         Some(text) => Ok(text),
         None => Err(ParseFault::Usage(String::new(alloc))),
     }
+}
+
+/// The word of an argument, if it was given one.
+fn word_if_given<'a>(given: &ArgMatches<'a>, id: &str) -> Option<&'a str>
+    ensures { HasWordIfGiven id.now result (rows_of (found_of given.now)) }
+{
+    given.get_str(id)
 }
 
 /// The words of an argument that takes any number.

@@ -33,7 +33,12 @@ pub(crate) fn answer<K: Sink>(
             book,
             record,
         } => probe(rt, table, book, record, output),
-        Order::Collect { rules, table, book } => collect(rt, *rules, table, book),
+        Order::Collect {
+            rules,
+            table,
+            book,
+            ..
+        } => collect(rt, *rules, table, book),
         Order::Export { rules, table } => {
             let mut table = open(rt, table)?;
             let mut input = FromRead::new(rt.reader());
