@@ -1,28 +1,44 @@
 # Completions of pbook for bash: its commands, then files where a command takes one.
 
+# The files whose names begin with this.
+_pbook_files() {
+    compopt -o filenames 2> /dev/null
+    mapfile -t COMPREPLY < <(compgen -f -- "$1")
+}
+
 _pbook() {
-    local word=${COMP_WORDS[COMP_CWORD]}
+    local word=${COMP_WORDS[COMP_CWORD]} last=${COMP_WORDS[COMP_CWORD - 1]}
     COMPREPLY=()
     if [ "$COMP_CWORD" -eq 1 ]; then
         COMPREPLY=($(compgen -W 'fen epd show probe collect export help --help --version' -- "$word"))
         return
     fi
+    # Bash has the `=` of `--ledger=FILE` as a word of its own.
+    if [ "$word" = = ]; then
+        word=
+    elif [ "$last" = = ]; then
+        last=${COMP_WORDS[COMP_CWORD - 2]}
+    fi
+    # A file follows the first of these, and a number the others, for which there is nothing to complete.
+    case $last in
+        --ledger) _pbook_files "$word"; return ;;
+        --plies | --least) return ;;
+    esac
     if [[ $word == -* ]]; then
         case ${COMP_WORDS[1]} in
-            collect | export) COMPREPLY=($(compgen -W '--plies --least --help' -- "$word")) ;;
+            collect) COMPREPLY=($(compgen -W '--ledger --plies --least --help' -- "$word")) ;;
+            export) COMPREPLY=($(compgen -W '--plies --least --help' -- "$word")) ;;
             *) COMPREPLY=($(compgen -W '--help' -- "$word")) ;;
         esac
         return
     fi
-    # A number follows these, for which there is nothing to complete.
-    case ${COMP_WORDS[COMP_CWORD - 1]} in
-        --plies | --least) return ;;
-    esac
-    # How many files stand first among the command's words, and how many words stand before this one without options and their numbers.
+    # How many files stand first among the command's words, and how many words stand before this one without options and their values.
     local files=0 before=0 at
     for ((at = 2; at < COMP_CWORD; at++)); do
         case ${COMP_WORDS[at]} in
-            --plies | --least) at=$((at + 1)) ;;
+            --ledger | --plies | --least)
+                at=$((at + 1))
+                if [ "${COMP_WORDS[at]}" = = ]; then at=$((at + 1)); fi ;;
             -*) ;;
             *) before=$((before + 1)) ;;
         esac
@@ -33,8 +49,7 @@ _pbook() {
         help) COMPREPLY=($(compgen -W 'fen epd show probe collect export' -- "$word")) ;;
     esac
     if [ "$before" -lt "$files" ]; then
-        compopt -o filenames 2> /dev/null
-        mapfile -t COMPREPLY < <(compgen -f -- "$word")
+        _pbook_files "$word"
     fi
 }
 
