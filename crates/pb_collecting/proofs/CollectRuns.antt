@@ -20,10 +20,10 @@ use Rattle.pb_collecting.specs.declared.taking.NoGames.{NoGames}
 use Rattle.pb_collecting.specs.declared.taking.NoGames.TheVariants.{Table, Submissions}
 use Rattle.pb_collecting.proofs.ToldRuns.{told_book}
 
-abbrev puts : Bool → List ℕ → Verdict
+abbrev pub puts : Bool → List ℕ → Verdict
 puts answer out = Ok (answer, out)
 
-answer_of : (a b : Bool) (x y : List ℕ) → puts a x ≡ puts b y → a ≡ b
+pub answer_of : (a b : Bool) (x y : List ℕ) → puts a x ≡ puts b y → a ≡ b
 answer_of a b x y is = let pair : (a, x) ≡ (b, y) = cc is in ap (λ (p : Bool × List ℕ). p.0) pair
 
 -- without a table the answer is false

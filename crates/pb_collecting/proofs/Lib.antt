@@ -1,5 +1,6 @@
 mod CollectClauses
 mod CollectRuns
+mod ContinueRuns
 mod EffectLaws
 mod ExportClauses
 mod ExportRuns

@@ -1,4 +1,5 @@
 pub mod CollectRun
+pub mod Continuing
 pub mod ExportRun
 pub mod Headline
 pub mod Keeping

@@ -3,6 +3,7 @@
 #![tactic(auto)]
 
 mod collect;
+mod continuing;
 mod export;
 mod keeping;
 pub mod laws;
@@ -10,6 +11,7 @@ mod place;
 mod taking;
 
 pub use collect::run_collect;
+pub use continuing::{Continued, run_continue};
 pub use export::{export_submissions, run_export};
 pub use keeping::{NoBook, collect_into};
 pub use pb_ledger::{MAX_LEAST, MAX_PLIES, Rules};

@@ -52,7 +52,7 @@ pub(crate) fn refuse_games<K: Sink>(sink: &mut K, why: NoGames) -> Result<bool, 
 }
 
 /// What a fault of collecting is to the run.
-fn collect_fault(fault: CollectFault) -> Fault
+pub(crate) fn collect_fault(fault: CollectFault) -> Fault
     ensures { result ≡ fault_of fault }
 {
     match fault {

@@ -16,5 +16,5 @@ pub use fault::{Fault, STOPPED, status};
 pub use fen::run_fen;
 pub use pb_poly::{TableFault, take_table};
 pub use probe::run_probe;
-pub use refusal::refuse_table;
+pub use refusal::{refuse_table, refuse_with};
 pub use show::run_show;

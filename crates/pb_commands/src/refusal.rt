@@ -19,8 +19,8 @@ pub(crate) fn refuse<K: Sink>(sink: &mut K, parts: &[&[u8]]) -> Result<bool, Fau
     Ok(false)
 }
 
-/// The same of a line that ends with a number.
-pub(crate) fn refuse_with<K: Sink>(sink: &mut K, words: &[u8], number: usize) -> Result<bool, Fault>
+/// Shows the line of these words and this number and answers that the input was refused.
+pub fn refuse_with<K: Sink>(sink: &mut K, words: &[u8], number: usize) -> Result<bool, Fault>
     ensures { PutsOrEnds (λ verdict. verdict ≡ Ok (false, with_end (words.now ++ decimal number))) (K.state sink.old) (K.state sink.new) result }
 {
     let mut buffer = Buffer::new();
