@@ -1,20 +1,17 @@
 -- What follows from the theorem of `pbook collect`.
 use Rattle.std.proofs.Common.{◌≡◌, ◌∙◌, ℕ, List, [], ◌∷◌, Some, None, Err, add-one, slice_get, subst, suc, sym, take, zero}
-use Rattle.pb_io.specs.Sink.{SinkState}
-use Rattle.pb_io.specs.Lines.{lines}
 use Rattle.pb_poly.specs.declared.entry.Entry.{Entry}
 use Rattle.pb_games.specs.Submissions.{Submission}
 use Rattle.pb_games.specs.declared.refusal.Refusal.{Refusal}
 use Rattle.pb_accepted.specs.Accepting.{Accepted, Allowed, Answer, OneGame, Run, Takes}
+use Rattle.pb_accepted.specs.Basis.{Basis}
 use Rattle.pb_accepted.specs.Holding.{most_games}
-use Rattle.pb_accepted.specs.Laws.{RepeatsAreAnsweredAlike, SameMembers}
-use Rattle.pb_accepted.specs.Rules.{CountingRules}
+use Rattle.pb_accepted.specs.Laws.{SameMembers}
 use Rattle.pb_accepted.proofs.BookLaws.{same_book}
 use Rattle.pb_accepted.proofs.Distinct.{accepts_the_taken, lawful_arrives, no_conflict, no_repeats}
-use Rattle.pb_accepted.proofs.Numbers.{repeats_keep}
 use Rattle.pb_accepted.proofs.Replies.{Takes-refusal, Takes-unique}
 use Rattle.pb_accepted.proofs.Runs.{accepted_of}
-use Rattle.pb_collecting.specs.Headline.{Headline}
+use Rattle.pb_collecting.specs.Headline.{Effect}
 use Rattle.pb_collecting.specs.Laws.{OneEffect, RefusalsLeaveTheGames}
 use Rattle.pb_collecting.proofs.Headlines.{contained, number_from, number_to, numbered}
 use Rattle.pb_collecting.proofs.OneTexts.{has_one_text}
@@ -37,41 +34,35 @@ refusal_leaves cap A (line ∷ L) (r ∷ R) run (suc i) e B C told h k =
 refusal_leaves cap A [] (r ∷ R) run i e B C told h k = absurd run
 refusal_leaves cap A (line ∷ L) [] run i e B C told h k = absurd run
 
-refusals_leave : (cap : ℕ) (L : List (List ℕ)) (R : List Answer) → Run cap [] L R → RefusalsLeaveTheGames L R
+pub refusals_leave : (cap : ℕ) (L : List (List ℕ)) (R : List Answer) → Run cap [] L R → RefusalsLeaveTheGames L R
 refusals_leave cap L R run i e A B told h k =
     refusal_leaves cap [] L R run i e A B told h (subst (λ n. Accepted [] (take n L) (take n R) B) (add-one i) k)
 
--- ---- what is so of every run, and where no id names two games
+-- ---- where no id names two games
 
-module _ (rules : CountingRules) (file bytes : List ℕ) (sink sink' : SinkState) (entries : List Entry) (h : Headline rules file bytes sink sink' entries) (run : Run most_games [] (lines bytes) h.answers) where
-  pub repeats_alike : RepeatsAreAnsweredAlike (lines bytes) h.answers
-  repeats_alike = repeats_keep most_games (lines bytes) h.answers run
-
-  pub games_at_refusals : RefusalsLeaveTheGames (lines bytes) h.answers
-  games_at_refusals = refusals_leave most_games (lines bytes) h.answers run
-
+module _ (T : Basis) (L : List (List ℕ)) (R : List Answer) (entries : List Entry) (e : Effect T L R entries) (run : Run most_games [] L R) where
   -- what a run leaves are its games
-  same_games : (held : List Submission) → Accepted [] (lines bytes) h.answers held → SameMembers h.games held
+  same_games : (held : List Submission) → Accepted [] L R held → SameMembers e.games held
   same_games held accepted s = (
-    (λ here. let m = numbered h.games s here in contained held m.0 s (number_from (lines bytes) h.answers held run accepted m.0 s ((h.are m.0 s).0 m.1))),
-    (λ here. let m = numbered held s here in contained h.games m.0 s ((h.are m.0 s).1 (number_to (lines bytes) h.answers held run accepted m.0 s m.1))),
+    (λ here. let m = numbered e.games s here in contained held m.0 s (number_from L R held run accepted m.0 s ((e.are m.0 s).0 m.1))),
+    (λ here. let m = numbered held s here in contained e.games m.0 s ((e.are m.0 s).1 (number_to L R held run accepted m.0 s m.1))),
   )
 
-  effect : OneGame (lines bytes) → (held : List Submission) → Accepted [] (lines bytes) h.answers held → OneEffect rules bytes h.words h.answers h.games entries
-  effect one held accepted =
-      let taken = accepts_the_taken (lines bytes) h.answers held one accepted in
-      let once = no_repeats (lines bytes) h.answers held taken in
+  one_effect_of : OneGame L → (held : List Submission) → Accepted [] L R held → OneEffect T L R e.games entries
+  one_effect_of one held accepted =
+      let taken = accepts_the_taken L R held one accepted in
+      let once = no_repeats L R held taken in
       let same = same_games held accepted in
-      let book = same_book (record { words = h.words; rules = rules }) h.games held h.once once same entries h.book in record {
+      let book = same_book T e.games held e.once once same entries e.book in record {
         taken = held;
         are_taken = taken;
         once = once;
         same = same;
         book = book;
-        text = has_one_text (record { words = h.words; rules = rules }) held entries h.text.is_file.ordered h.text.is_file.are.bounds book;
-        arrivals = lawful_arrives most_games (lines bytes) h.answers one run;
-        no_conflict = no_conflict most_games (lines bytes) h.answers one run;
+        text = has_one_text T held entries e.text.is_file.ordered e.text.is_file.are.bounds book;
+        arrivals = lawful_arrives most_games L R one run;
+        no_conflict = no_conflict most_games L R one run;
       }
 
-  pub one_effect : OneGame (lines bytes) → OneEffect rules bytes h.words h.answers h.games entries
-  one_effect one = let held = accepted_of most_games [] (lines bytes) h.answers run in effect one held.0 held.1
+  pub one_effect : OneGame L → OneEffect T L R e.games entries
+  one_effect one = let held = accepted_of most_games [] L R run in one_effect_of one held.0 held.1

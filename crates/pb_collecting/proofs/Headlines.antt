@@ -11,6 +11,8 @@ use Rattle.pb_games.specs.declared.refusal.Refusal.TheVariants.{Memory}
 use Rattle.pb_games.specs.Submissions.{Submission, IsLawful}
 use Rattle.pb_games.proofs.Refused as refused
 use Rattle.pb_accepted.specs.Accepting.{Accepted, Allowed, Answer, Answers, IsNewId, IsNumber, Run}
+use Rattle.pb_accepted.specs.Basis.{Basis}
+use Rattle.pb_accepted.specs.Counting.{IsBook}
 use Rattle.pb_accepted.specs.Holding.{most_games}
 use Rattle.pb_accepted.specs.Laws.{NoRepeats}
 use Rattle.pb_accepted.specs.Rules.{CountingRules}
@@ -18,7 +20,7 @@ use Rattle.pb_accepted.proofs.Numbers.{numbers_given, repeats_keep}
 use Rattle.pb_accepted.proofs.Replies.{Answered, answered, held, new, other, full as no_room, game_of, id_of, one_submission}
 use Rattle.pb_accepted.proofs.Runs.{own_ids}
 use Rattle.pb_collecting.specs.CollectRun.{CollectsBook, CollectsBytes}
-use Rattle.pb_collecting.specs.Headline.{Arrives, HasHeadline, Headline, IsAccepted, IsNewBefore, MayBeAnswered, WasAccepted, accepted, conflict, full, memory}
+use Rattle.pb_collecting.specs.Headline.{Arrives, Effect, HasHeadline, Headline, IsAccepted, IsNewBefore, MayBeAnswered, WasAccepted, accepted, conflict, full, memory}
 use Rattle.pb_collecting.proofs.ToldRuns.{told_book}
 use Rattle.pb_collecting.proofs.OneTexts.{has_one_text}
 
@@ -186,28 +188,33 @@ module _ (L : List (List ℕ)) (R : List Answer) (A : List Submission) (run : Ru
   pub number_from : (n : ℕ) (s : Submission) → ((i : ℕ) × IsAccepted L R i s n) → IsNumber A n s
   number_from n s h = (numbers_given most_games L R A run taken n s).1 (h.0, h.1.0.0, h.1.0.1, h.1.0.2, h.1.1)
 
+  -- the effect of lines that were answered as a ledger answers them, wherever they came from
+  pub effect : (T : Basis) (entries : List Entry) → NeverFall entries → All IsEntry entries → IsBook T A entries → Effect T L R entries
+  effect T entries ordered bounds book = record {
+    each = run_length most_games [] L R run;
+    only_legal = only_legal;
+    arrivals = arrivals;
+    repeats = repeats;
+    in_turn = in_turn;
+    games = A;
+    once = once;
+    are = λ n s. (number_to n s, number_from n s);
+    book = book;
+    text = has_one_text T A entries ordered bounds book;
+  }
+
 -- ---- sources that tell their bytes
 
 headline : (rules : CountingRules) (file bytes : List ℕ) (sink sink' : SinkState) (entries : List Entry) → NeverFall entries → All IsEntry entries
     → CollectsBytes rules file bytes sink sink' entries → (h : Headline rules file bytes sink sink' entries) × Run most_games [] (lines bytes) h.answers
 headline rules file bytes sink sink' entries ordered bounds h =
-    let g = h.takes in
-    let L = lines bytes in (
+    let g = h.takes in (
       record {
         words = h.words;
         table = g.table;
         answers = g.answers;
-        each = run_length most_games [] L g.answers g.run;
         put = h.put;
-        only_legal = only_legal L g.answers h.held g.run g.accepted;
-        arrivals = arrivals L g.answers h.held g.run g.accepted;
-        repeats = repeats L g.answers h.held g.run g.accepted;
-        games = h.held;
-        in_turn = in_turn L g.answers h.held g.run g.accepted;
-        once = once L g.answers h.held g.run g.accepted;
-        are = λ n s. (number_to L g.answers h.held g.run g.accepted n s, number_from L g.answers h.held g.run g.accepted n s);
-        book = h.book;
-        text = has_one_text (record { words = h.words; rules = rules }) h.held entries ordered bounds h.book;
+        effect = effect (lines bytes) g.answers h.held g.run g.accepted (record { words = h.words; rules = rules }) entries ordered bounds h.book;
       },
       g.run,
     )

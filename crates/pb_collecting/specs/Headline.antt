@@ -8,6 +8,7 @@ use Rattle.pb_poly.specs.declared.entry.Entry.{Entry}
 use Rattle.pb_games.specs.Submissions.{Submission, IsLawful}
 use Rattle.pb_games.specs.declared.refusal.Refusal.TheVariants.{Conflict, Full, Memory}
 use Rattle.pb_accepted.specs.Accepting.{Answer, IsNumber, Run}
+use Rattle.pb_accepted.specs.Basis.{Basis}
 use Rattle.pb_accepted.specs.Counting.{IsBook}
 use Rattle.pb_accepted.specs.Holding.{most_games}
 use Rattle.pb_accepted.specs.Laws.{NoRepeats}
@@ -41,28 +42,33 @@ pub data MayBeAnswered (L : List (List ℕ)) (R : List Answer) (i : ℕ) (s : Su
   full : (t : Submission) → WasAccepted L R i t most_games → IsNewBefore L R i s.0 → r ≡ Err Full → MayBeAnswered L R i s r
   memory : IsNewBefore L R i s.0 → r ≡ Err Memory → MayBeAnswered L R i s r
 
+-- What is so of lines and of their answers, wherever the lines came from, and of the book that is made after them.
+pub record Effect (T : Basis) (L : List (List ℕ)) (R : List Answer) (entries : List Entry) : Type 0 where
+  -- each line is answered
+  pub each : length R ≡ length L
+  -- nothing but legal submissions is accepted, and each of them is unless this is why not
+  pub only_legal : (i n : ℕ) → slice_get R i ≡ Some (Ok n) → (s : Submission) × Arrives L i s
+  pub arrivals : (i : ℕ) (s : Submission) (r : Answer) → Arrives L i s → slice_get R i ≡ Some r → MayBeAnswered L R i s r
+  -- one that comes again gets its number again
+  pub repeats : (i n : ℕ) (s : Submission) → WasAccepted L R i s n → Arrives L i s → slice_get R i ≡ Some (Ok n)
+  -- no number is given before the one below it
+  pub in_turn : (i n : ℕ) (s : Submission) → IsAccepted L R i s (n + 2) → (t : Submission) × WasAccepted L R i t (n + 1)
+  -- the book is that of the accepted submissions, each of them once, in order of their numbers
+  pub games : List Submission
+  pub once : NoRepeats games
+  pub are : (n : ℕ) (s : Submission) → IsNumber games n s ↔ ((i : ℕ) × IsAccepted L R i s n)
+  pub book : IsBook T games entries
+  -- its text decodes to its entries and to no others
+  pub text : HasOneText T games entries
+
 -- What a run makes of the table file and of the submissions' bytes.
 pub record Headline (rules : CountingRules) (file bytes : List ℕ) (sink sink' : SinkState) (entries : List Entry) : Type 0 where
   pub words : List ℕ
   pub table : IsTableFile words file
-  -- each line is answered, and the replies were put in order
+  -- the lines are answered, the replies were put in order, and this is the effect
   pub answers : List Answer
-  pub each : length answers ≡ length (lines bytes)
   pub put : Appends sink.bytes sink'.bytes (replies (lines bytes) answers)
-  -- nothing but legal submissions is accepted, and each of them is unless this is why not
-  pub only_legal : (i n : ℕ) → slice_get answers i ≡ Some (Ok n) → (s : Submission) × Arrives (lines bytes) i s
-  pub arrivals : (i : ℕ) (s : Submission) (r : Answer) → Arrives (lines bytes) i s → slice_get answers i ≡ Some r → MayBeAnswered (lines bytes) answers i s r
-  -- one that comes again gets its number again
-  pub repeats : (i n : ℕ) (s : Submission) → WasAccepted (lines bytes) answers i s n → Arrives (lines bytes) i s → slice_get answers i ≡ Some (Ok n)
-  -- no number is given before the one below it
-  pub in_turn : (i n : ℕ) (s : Submission) → IsAccepted (lines bytes) answers i s (n + 2) → (t : Submission) × WasAccepted (lines bytes) answers i t (n + 1)
-  -- the book is that of the accepted submissions, each of them once, in order of their numbers
-  pub games : List Submission
-  pub once : NoRepeats games
-  pub are : (n : ℕ) (s : Submission) → IsNumber games n s ↔ ((i : ℕ) × IsAccepted (lines bytes) answers i s n)
-  pub book : IsBook (record { words = words; rules = rules }) games entries
-  -- its text decodes to its entries and to no others
-  pub text : HasOneText (record { words = words; rules = rules }) games entries
+  pub effect : Effect (record { words = words; rules = rules }) (lines bytes) answers entries
 
 -- Where the two sources tell their bytes, it is so, and the answers are those of a ledger, line by line. `Laws` says what follows.
 abbrev pub HasHeadline : CountingRules → Option (List ℕ) → Option (List ℕ) → SinkState → SinkState → List Entry → Type 0
