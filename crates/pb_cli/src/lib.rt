@@ -7,7 +7,7 @@ mod order;
 
 pub use order::{Order, ParseFault, parse};
 pub use pb_collecting::{
-    MAX_LEAST, MAX_PLIES, MemPlace, NoBook, NotKept, Place, Rules, collect_into, run_collect,
+    MAX_LEAST, MAX_PLIES, MemPlace, NoBook, NotKept, Place, Rules, Text, collect_into, run_collect,
     run_export,
 };
 pub use pb_commands::{Fault, STOPPED, run_epd, run_fen, run_probe, run_show, status};

@@ -18,7 +18,7 @@ module _ (rules : CountingRules) (fills : ℕ) (t t' s s' : SourceState) (sink s
   no_book place (Some entries) is h = absurd (cc is)
 
   pub made_book : (place place' : PlaceState) (entries : List Entry) (made : Option (List Entry)) → made ≡ Some entries → CollectsOrEnds rules fills t t' s s' sink sink' (Ok made)
-      → (answer : Result (Unit {0}) NotKept) → Keeps place place' answer (book_bytes entries)
+      → (answer : Result (Unit {0}) NotKept) → (bytes : List ℕ) × (bytes ≡ book_bytes entries) × Keeps place place' answer bytes
       → KeepsBook rules fills t t' s s' sink sink' place place' answer × (sink'.failed ≡ false) × (sink'.flushed ≡ true)
   made_book place place' entries made is h answer keeps =
       let run : CollectsOrEnds rules fills t t' s s' sink sink' (Ok (Some entries)) = subst (λ (m : Option (List Entry)). CollectsOrEnds rules fills t t' s s' sink sink' (Ok m)) is h in
@@ -27,7 +27,7 @@ module _ (rules : CountingRules) (fills : ℕ) (t t' s s' : SourceState) (sink s
           entries = entries;
           book = run.0;
           headline = headline rules fills t t' s s' sink sink' (Ok (Some entries)) run;
-          keeps = keeps;
+          keeps = subst (λ (bytes : List ℕ). Keeps place place' answer bytes) keeps.1 keeps.2;
         },
         ends.0,
         ends.1,

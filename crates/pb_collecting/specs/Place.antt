@@ -1,10 +1,10 @@
--- A place where a book is kept, as a file is, and what keeping one does there.
+-- A place where a text is kept, such as that of a book, as a file is, and what keeping one does there.
 use Rattle.std.specs.Prelude.{◌≡◌, ◌⊎◌, ℕ, List, [], Option, Some, Result, IfErr, IfSome, OnOk, take}
 use Rattle.std.specs.Result.{result_err}
 use Rattle.pb_collecting.specs.declared.place.NotKept.{NotKept}
 use Rattle.pb_collecting.specs.declared.place.NotKept.TheVariants.{Open, Write, Memory}
 
--- What is known of a place: what a reader finds there, bytes or nothing, where the place tells it; and why the last book that came
+-- What is known of a place: what a reader finds there, bytes or nothing, where the place tells it; and why the last text that came
 -- wasn't kept, if it wasn't.
 pub record PlaceState : Type 0 where
   pub found : Option (Option (List ℕ))

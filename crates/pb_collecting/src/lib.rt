@@ -9,6 +9,7 @@ mod keeping;
 pub mod laws;
 mod place;
 mod taking;
+mod text;
 
 pub use collect::run_collect;
 pub use continuing::{Continued, run_continue};
@@ -16,3 +17,4 @@ pub use export::{export_submissions, run_export};
 pub use keeping::{NoBook, collect_into};
 pub use pb_ledger::{MAX_LEAST, MAX_PLIES, Rules};
 pub use place::{MemPlace, NotKept, Place};
+pub use text::Text;

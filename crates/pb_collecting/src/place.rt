@@ -1,32 +1,33 @@
-//! Where a book is kept.
+//! Where a text is kept, such as that of a book.
 
-ghost use Rattle.std.specs.Prelude.{◌≡◌, None, Some, option_and_then};
+ghost use Rattle.std.specs.Prelude.{◌≡◌, ℕ, List, None, Some, option_and_then};
 ghost use Rattle.std.specs.Option.{option_copied};
-ghost use Rattle.pb_poly.specs.Book.{book_bytes};
 ghost use Rattle.pb_collecting.specs.Place.{Keeps, PlaceState};
 
-use pb_poly::{Book, MemSink, Sink, write_book};
+use crate::text::Text;
+use pb_poly::{MemSink, Sink};
 use std::alloc::Global;
 
-/// Why a book was not kept.
+/// Why a text was not kept.
 #[derive(Clone, Copy, Debug, PartialEq, Eq)]
 pub enum NotKept {
     /// The place can't be opened. What it held is still there.
     Open,
-    /// A write failed. A front of the book may be all that is left.
+    /// A write failed. A front of the text may be all that is left.
     Write,
     /// There was no memory to write with. The place may be empty.
     Memory,
 }
 
-/// A place for one book.
+/// A place for one text.
 pub trait Place {
     /// What is known of the place.
     ghost state: { Self → PlaceState };
 
-    /// Puts the bytes of the book in the place of what was there.
-    fn keep(&mut self, book: &Book) -> Result<(), NotKept>
-        ensures { Keeps (state self.old) (state self.new) result (book_bytes book.now) };
+    /// Puts the text in the place of what was there.
+    fn keep<X: Text>(&mut self, text: &X) -> Result<(), NotKept>
+        requires { (bytes : List ℕ) × X.is_text text.now bytes }
+        ensures { (bytes : List ℕ) × X.is_text text.now bytes × Keeps (state self.old) (state self.new) result bytes };
 }
 
 /// A place in memory. It fails only for want of memory, and then it keeps what it had.
@@ -63,9 +64,9 @@ impl MemPlace {
 impl Place for MemPlace {
     ghost state = { λ p. record { found = Some (option_and_then (λ s. (⟦<MemSink as Sink>⟧.state s).bytes) p.kept); fault = p.fault } };
 
-    fn keep(&mut self, book: &Book) -> Result<(), NotKept> {
+    fn keep<X: Text>(&mut self, text: &X) -> Result<(), NotKept> {
         let mut draft = MemSink::new(self.alloc);
-        if write_book(&mut draft, book).is_err() {
+        if text.write(&mut draft).is_err() {
             self.fault = Some(NotKept::Memory);
             return Err(NotKept::Memory);
         }

@@ -1,6 +1,6 @@
 //! Each command over the files that it names and the standard streams.
 
-use crate::file::{BookFile, open};
+use crate::file::{FilePlace, open};
 use crate::stop::Stop;
 use pb_cli::{Order, Rules, collect_into, run_epd, run_export, run_fen, run_probe, run_show};
 use pb_poly::{FromRead, Sink, ToWrite};
@@ -67,7 +67,7 @@ fn collect(rt: &HostRuntime, rules: Rules, table: &str, book: &str) -> Result<bo
     let mut input = FromRead::new(rt.reader());
     // Each reply is written at once, so that it can be waited for before the next line is sent.
     let mut replies = ToWrite::new(io::writer(rt));
-    let mut file = BookFile::new(rt, book);
+    let mut file = FilePlace::new(rt, book);
     Ok(collect_into(
         rt.alloc(),
         rules,

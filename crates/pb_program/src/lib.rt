@@ -3,7 +3,6 @@
 #![tactic(auto)]
 
 mod command;
-mod content;
 mod draft;
 mod file;
 mod program;

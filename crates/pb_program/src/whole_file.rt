@@ -1,9 +1,8 @@
 //! Files that are made anew whole, or left as they were.
 
-use crate::content::Content;
 use crate::draft::{Draft, leads_to};
 use crate::file::PIECE;
-use pb_cli::NotKept;
+use pb_cli::{NotKept, Text};
 use pb_poly::ToWrite;
 use std::fs::{self, File, OpenOptions};
 use std::io::{BufWriter, ErrorKind};
@@ -27,23 +26,23 @@ impl<'a> WholeFile<'a> {
         WholeFile { rt, path }
     }
 
-    /// Makes the file anew of this content.
+    /// Makes the file anew of this text.
     ///
     /// # Errors
     ///
     /// `Open` where the file or its draft can't be opened or made, and `Memory` where there is none to write with: an old file of one name
     /// is then as it was, as it is after `Write`, unless the folder is all that couldn't be put on the disk. A file that is written in
-    /// place may be left empty, or with a front of the content.
-    pub(crate) fn keep<C: Content>(&self, content: &C) -> Result<(), NotKept> {
+    /// place may be left empty, or with a front of the text.
+    pub(crate) fn keep<X: Text>(&self, text: &X) -> Result<(), NotKept> {
         match OpenOptions::new().write(true).open(self.rt, self.path) {
-            Ok(old) => self.keep_over(&old, content),
+            Ok(old) => self.keep_over(&old, text),
             Err(error) if error.kind() == ErrorKind::NotFound && self.is_free() => {
                 match Draft::beside(self.rt, self.path)? {
-                    Some(draft) => self.replace(draft, content),
-                    None => self.make(content),
+                    Some(draft) => self.replace(draft, text),
+                    None => self.make(text),
                 }
             }
-            Err(_) => self.make(content),
+            Err(_) => self.make(text),
         }
     }
 
@@ -53,14 +52,14 @@ impl<'a> WholeFile<'a> {
     }
 
     /// Makes the file anew over the open one.
-    fn keep_over<C: Content>(&self, old: &File, content: &C) -> Result<(), NotKept> {
+    fn keep_over<X: Text>(&self, old: &File, text: &X) -> Result<(), NotKept> {
         let Ok(told) = old.metadata() else {
             return Err(NotKept::Open);
         };
         if told.nlink() == 1 && leads_to(self.rt, Path::new(self.path), &told) {
             if let Some(draft) = Draft::beside(self.rt, self.path)? {
                 if draft.take_after(&told) {
-                    return self.replace(draft, content);
+                    return self.replace(draft, text);
                 }
                 draft.remove(self.rt);
             }
@@ -68,13 +67,13 @@ impl<'a> WholeFile<'a> {
         if told.is_file() && old.set_len(0).is_err() {
             return Err(NotKept::Open);
         }
-        put(self.rt, old, content)
+        put(self.rt, old, text)
     }
 
-    /// Writes the content into the draft and puts it on the disk, and gives the draft the path's name. Where that fails there is no
+    /// Writes the text into the draft and puts it on the disk, and gives the draft the path's name. Where that fails there is no
     /// draft any more.
-    fn replace<C: Content>(&self, draft: Draft, content: &C) -> Result<(), NotKept> {
-        if let Err(why) = put_on_disk(self.rt, draft.file(), content) {
+    fn replace<X: Text>(&self, draft: Draft, text: &X) -> Result<(), NotKept> {
+        if let Err(why) = put_on_disk(self.rt, draft.file(), text) {
             draft.remove(self.rt);
             return Err(why);
         }
@@ -83,7 +82,7 @@ impl<'a> WholeFile<'a> {
             Err(error) => {
                 draft.remove(self.rt);
                 if error.kind() == ErrorKind::ResourceBusy {
-                    self.make(content)
+                    self.make(text)
                 } else {
                     Err(NotKept::Write)
                 }
@@ -109,29 +108,29 @@ impl<'a> WholeFile<'a> {
     }
 
     /// Makes the file in place: what it held is dropped first.
-    fn make<C: Content>(&self, content: &C) -> Result<(), NotKept> {
+    fn make<X: Text>(&self, text: &X) -> Result<(), NotKept> {
         match File::create(self.rt, self.path) {
-            Ok(file) => put(self.rt, &file, content),
+            Ok(file) => put(self.rt, &file, text),
             Err(_) => Err(NotKept::Open),
         }
     }
 }
 
-/// Writes the content into the file, and puts it on the disk.
-fn put_on_disk<C: Content>(rt: &HostRuntime, file: &File, content: &C) -> Result<(), NotKept> {
-    put(rt, file, content)?;
+/// Writes the text into the file, and puts it on the disk.
+fn put_on_disk<X: Text>(rt: &HostRuntime, file: &File, text: &X) -> Result<(), NotKept> {
+    put(rt, file, text)?;
     match file.sync_all() {
         Ok(()) => Ok(()),
         Err(_) => Err(NotKept::Write),
     }
 }
 
-/// Writes the content into the file.
-fn put<C: Content>(rt: &HostRuntime, file: &File, content: &C) -> Result<(), NotKept> {
+/// Writes the text into the file.
+fn put<X: Text>(rt: &HostRuntime, file: &File, text: &X) -> Result<(), NotKept> {
     let Ok(writer) = BufWriter::with_capacity(rt.alloc(), PIECE, file) else {
         return Err(NotKept::Memory);
     };
-    match content.write(&mut ToWrite::new(writer)) {
+    match text.write(&mut ToWrite::new(writer)) {
         Ok(()) => Ok(()),
         Err(_) => Err(NotKept::Write),
     }
