@@ -3,10 +3,12 @@
 ghost use Rattle.std.specs.Prelude.{◌≡◌, ℕ, List};
 ghost use Rattle.pb_io.specs.Writes.{Writes};
 ghost use Rattle.pb_poly.specs.Book.{book_bytes};
+ghost use Rattle.pb_saved.specs.Saving.{Saved};
 
+use pb_ledger::{Ledger, Tally, save};
 use pb_poly::{Book, Failed, Sink, write_book};
 
-/// What has a text, such as a book.
+/// What has a text, as a book and a ledger have.
 pub trait Text {
     /// Which bytes its text is.
     ghost is_text: { Self → List ℕ → Type 0 };
@@ -25,5 +27,13 @@ impl Text for Book {
 
     fn write<K: Sink>(&self, sink: &mut K) -> Result<(), Failed> {
         write_book(sink, self)
+    }
+}
+
+impl<T: Tally> Text for Ledger<T> {
+    ghost is_text = { λ ledger bytes. Saved ledger.accepted bytes };
+
+    fn write<K: Sink>(&self, sink: &mut K) -> Result<(), Failed> {
+        save(self, sink)
     }
 }
