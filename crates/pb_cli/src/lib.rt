@@ -1,5 +1,5 @@
 //! The command line of `pbook` as an order, and, handed on from the crates below, a function for each command that it may name, with the
-//! place where a book is kept. Nothing here knows what a command does.
+//! places where a ledger and its book are kept. Nothing here knows what a command does.
 #![tactic(auto)]
 
 mod grammar;
@@ -7,7 +7,7 @@ mod order;
 
 pub use order::{Order, ParseFault, parse};
 pub use pb_collecting::{
-    MAX_LEAST, MAX_PLIES, MemPlace, NoBook, NotKept, Place, Rules, Text, collect_into, run_collect,
-    run_export,
+    Continued, MAX_LEAST, MAX_PLIES, MemPlace, NoBook, NotContinued, NotKept, Place, Rules, Text,
+    collect_into, continue_into, run_collect, run_continue, run_export,
 };
 pub use pb_commands::{Fault, STOPPED, run_epd, run_fen, run_probe, run_show, status};

@@ -1,5 +1,6 @@
 pub mod CollectRun
 pub mod Continuing
+pub mod ContinuingInto
 pub mod ExportRun
 pub mod Headline
 pub mod Keeping

@@ -1,9 +1,10 @@
-//! The commands of `pbook` that take games, `collect` and `export`, as functions over the ends that they are handed and over the place
-//! where the book is kept. Nothing here knows the command line or a file.
+//! The commands of `pbook` that take games, `collect` and `export`, as functions over the ends that they are handed and over the places
+//! where a ledger and its book are kept. Nothing here knows the command line or a file.
 #![tactic(auto)]
 
 mod collect;
 mod continuing;
+mod continuing_into;
 mod export;
 mod keeping;
 pub mod laws;
@@ -13,6 +14,7 @@ mod text;
 
 pub use collect::run_collect;
 pub use continuing::{Continued, run_continue};
+pub use continuing_into::{NotContinued, continue_into};
 pub use export::{export_submissions, run_export};
 pub use keeping::{NoBook, collect_into};
 pub use pb_ledger::{MAX_LEAST, MAX_PLIES, Rules};

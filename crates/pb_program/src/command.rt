@@ -2,7 +2,9 @@
 
 use crate::file::{FilePlace, open};
 use crate::stop::Stop;
-use pb_cli::{Order, Rules, collect_into, run_epd, run_export, run_fen, run_probe, run_show};
+use pb_cli::{
+    Order, Rules, collect_into, continue_into, run_epd, run_export, run_fen, run_probe, run_show,
+};
 use pb_poly::{FromRead, Sink, ToWrite};
 use std::io;
 
@@ -35,10 +37,16 @@ pub(crate) fn answer<K: Sink>(
         } => probe(rt, table, book, record, output),
         Order::Collect {
             rules,
+            ledger: None,
             table,
             book,
-            ..
         } => collect(rt, *rules, table, book),
+        Order::Collect {
+            rules,
+            ledger: Some(ledger),
+            table,
+            book,
+        } => collect_on(rt, *rules, ledger, table, book),
         Order::Export { rules, table } => {
             let mut table = open(rt, table)?;
             let mut input = FromRead::new(rt.reader());
@@ -75,6 +83,33 @@ fn collect(rt: &HostRuntime, rules: Rules, table: &str, book: &str) -> Result<bo
         &mut input,
         &mut replies,
         &mut file,
+        FILLS,
+    )?)
+}
+
+/// Goes on from the file of a saved ledger, which is made anew after the run and before the book.
+fn collect_on(
+    rt: &HostRuntime,
+    rules: Rules,
+    ledger: &str,
+    table: &str,
+    book: &str,
+) -> Result<bool, Stop> {
+    let mut table = open(rt, table)?;
+    let mut saved = open(rt, ledger)?;
+    let mut input = FromRead::new(rt.reader());
+    let mut replies = ToWrite::new(io::writer(rt));
+    let mut ledger_file = FilePlace::new(rt, ledger);
+    let mut book_file = FilePlace::new(rt, book);
+    Ok(continue_into(
+        rt.alloc(),
+        rules,
+        &mut table,
+        &mut saved,
+        &mut input,
+        &mut replies,
+        &mut ledger_file,
+        &mut book_file,
         FILLS,
     )?)
 }

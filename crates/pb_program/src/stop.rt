@@ -2,7 +2,7 @@
 
 ghost use Rattle.std.specs.Prelude.{◌≡◌};
 
-use pb_cli::{Fault, NoBook, NotKept, STOPPED};
+use pb_cli::{Fault, NoBook, NotContinued, NotKept, STOPPED};
 use pb_poly::{Sink, ToWrite};
 use std::io::Write;
 use thiserror::Error;
@@ -24,13 +24,30 @@ impl From<Fault> for Stop {
     }
 }
 
+impl From<NotKept> for Stop {
+    fn from(why: NotKept) -> Stop {
+        match why {
+            NotKept::Open => Stop::NotOpened,
+            NotKept::Write => Stop::Fault(Fault::Write),
+            NotKept::Memory => Stop::Fault(Fault::Memory),
+        }
+    }
+}
+
 impl From<NoBook> for Stop {
     fn from(why: NoBook) -> Stop {
         match why {
             NoBook::Run(fault) => Stop::Fault(fault),
-            NoBook::Keep(NotKept::Open) => Stop::NotOpened,
-            NoBook::Keep(NotKept::Write) => Stop::Fault(Fault::Write),
-            NoBook::Keep(NotKept::Memory) => Stop::Fault(Fault::Memory),
+            NoBook::Keep(why) => Stop::from(why),
+        }
+    }
+}
+
+impl From<NotContinued> for Stop {
+    fn from(why: NotContinued) -> Stop {
+        match why {
+            NotContinued::Run(fault) => Stop::Fault(fault),
+            NotContinued::Ledger(why) | NotContinued::Book(why) => Stop::from(why),
         }
     }
 }

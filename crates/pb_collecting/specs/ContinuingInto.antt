@@ -1,0 +1,41 @@
+-- What a run that goes on from a saved ledger leaves at the places of its ledger and of its book, over the states of its ends before and
+-- after. Below, `t`, `v` and `s` are the states of the sources of the table, of the saved ledger and of the submissions, `p` that of the
+-- ledger's place and `q` that of the book's.
+use Rattle.std.specs.Prelude.{◌≡◌, ℕ, ◌⊎◌, Bool, true, false, List, Result, Ok, Err}
+use Rattle.pb_io.specs.Source.{SourceState}
+use Rattle.pb_io.specs.Sink.{SinkState}
+use Rattle.pb_poly.specs.Book.{book_bytes}
+use Rattle.pb_poly.specs.declared.entry.Entry.{Entry}
+use Rattle.pb_accepted.specs.Ledger.{LedgerState}
+use Rattle.pb_accepted.specs.Rules.{CountingRules}
+use Rattle.pb_saved.specs.Saving.{Saved}
+use Rattle.pb_commands.specs.Judged.{PutsText, PutsUntil}
+use Rattle.pb_commands.specs.declared.fault.Fault.{Fault}
+use Rattle.pb_collecting.specs.Continuing.{JudgesSaved, RunsOn}
+use Rattle.pb_collecting.specs.Place.{Keeps, PlaceState}
+use Rattle.pb_collecting.specs.declared.place.NotKept.{NotKept}
+use Rattle.pb_collecting.specs.declared.continuing_into.NotContinued.{NotContinued}
+use Rattle.pb_collecting.specs.declared.continuing_into.NotContinued.TheVariants.{Run, Ledger, Book}
+
+-- the run went on to this book or fault, and its ledger was kept with this answer
+pub record KeepsLedger (rules : CountingRules) (fills : ℕ) (t t' v v' s s' : SourceState) (sink sink' : SinkState) (p p' : PlaceState) (book : Result (List Entry) Fault) (answer : Result (Unit {0}) NotKept) : Type 0 where
+  pub left : LedgerState
+  pub run : RunsOn rules fills t t' v v' s s' sink sink' left book
+  pub bytes : List ℕ
+  pub saved : Saved left.accepted bytes
+  pub keeps : Keeps p p' answer bytes
+
+-- how a run ends: both were kept; the line that refuses the table or the saved ledger was put; before a submission was read, or later,
+-- and then the ledger was kept if its place took it; without the ledger at its place; or with it there and without the book
+abbrev pub KeepsOrStops : CountingRules → ℕ → SourceState → SourceState → SourceState → SourceState → SourceState → SourceState → SinkState → SinkState → PlaceState → PlaceState → PlaceState → PlaceState → Result Bool NotContinued → Type 0
+KeepsOrStops rules fills t t' v v' s s' sink sink' p p' q q' (Ok true) =
+    (entries : List Entry) × KeepsLedger rules fills t t' v v' s s' sink sink' p p' (Ok entries) (Ok tt) × Keeps q q' (Ok tt) (book_bytes entries)
+KeepsOrStops rules fills t t' v v' s s' sink sink' p p' q q' (Ok false) =
+    PutsText (JudgesSaved rules fills t t' v v' s s') sink sink' false × (sink'.failed ≡ false) × (sink'.flushed ≡ true) × (p' ≡ p) × (q' ≡ q)
+KeepsOrStops rules fills t t' v v' s s' sink sink' p p' q q' (Err (Run fault)) =
+    (PutsUntil (JudgesSaved rules fills t t' v v' s s') sink sink' fault × (p' ≡ p) × (q' ≡ q))
+    ⊎ ((answer : Result (Unit {0}) NotKept) × KeepsLedger rules fills t t' v v' s s' sink sink' p p' (Err fault) answer × (q' ≡ q))
+KeepsOrStops rules fills t t' v v' s s' sink sink' p p' q q' (Err (Ledger why)) =
+    (entries : List Entry) × KeepsLedger rules fills t t' v v' s s' sink sink' p p' (Ok entries) (Err why) × (q' ≡ q)
+KeepsOrStops rules fills t t' v v' s s' sink sink' p p' q q' (Err (Book why)) =
+    (entries : List Entry) × KeepsLedger rules fills t t' v v' s s' sink sink' p p' (Ok entries) (Ok tt) × Keeps q q' (Err why) (book_bytes entries)

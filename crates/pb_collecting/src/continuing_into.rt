@@ -1,0 +1,72 @@
+//! The command `collect` that goes on from a saved ledger, up to the places where the ledger and its book are kept.
+
+ghost use Rattle.pb_collecting.specs.ContinuingInto.{KeepsOrStops};
+
+use crate::continuing::{Continued, continue_from};
+use crate::place::{NotKept, Place};
+use pb_commands::Fault;
+use pb_ledger::Rules;
+use pb_poly::{Sink, Source};
+use std::alloc::Global;
+
+/// Why not both the ledger and its book are kept.
+#[derive(Clone, Copy, Debug, PartialEq, Eq)]
+pub enum NotContinued {
+    /// The run met a fault. Before a submission was read both places were left alone; later the games that were taken are kept at the
+    /// ledger's place, if that took them, and the book's was left alone.
+    Run(Fault),
+    /// The ledger was not kept, and the book's place was left alone.
+    Ledger(NotKept),
+    /// The ledger was kept, and the book was not.
+    Book(NotKept),
+}
+
+/// Goes on from a saved ledger as `run_continue` does, keeps the ledger at the one place, also where the run met a fault after a
+/// submission was read, and then its book at the other. Where the table or the saved ledger is refused, the line that says so is put,
+/// nothing is kept, and the answer is false.
+///
+/// # Errors
+///
+/// The run's fault comes before that of the ledger's place, and that before the fault of the book's.
+pub fn continue_into<T: Source, V: Source, S: Source, K: Sink, P: Place, Q: Place>(
+    alloc: Global,
+    rules: Rules,
+    table_source: &mut T,
+    saved: &mut V,
+    source: &mut S,
+    sink: &mut K,
+    ledger_place: &mut P,
+    book_place: &mut Q,
+    fills: u32,
+) -> Result<bool, NotContinued>
+    ensures { KeepsOrStops rules fills (T.state table_source.old) (T.state table_source.new) (V.state saved.old) (V.state saved.new)
+        (S.state source.old) (S.state source.new) (K.state sink.old) (K.state sink.new)
+        (P.state ledger_place.old) (P.state ledger_place.new) (Q.state book_place.old) (Q.state book_place.new) result }
+{
+    let Continued { ledger, book } = match continue_from(
+        alloc,
+        rules,
+        table_source,
+        saved,
+        source,
+        sink,
+        fills,
+    ) {
+        Ok(Some(run)) => run,
+        Ok(None) => return Ok(false),
+        Err(fault) => return Err(NotContinued::Run(fault)),
+    };
+    // The ledger is kept first: what was answered `ok` is in it.
+    let kept = ledger_place.keep(&ledger);
+    let book = match book {
+        Ok(book) => book,
+        Err(fault) => return Err(NotContinued::Run(fault)),
+    };
+    if let Err(why) = kept {
+        return Err(NotContinued::Ledger(why));
+    }
+    match book_place.keep(&book) {
+        Ok(()) => Ok(true),
+        Err(why) => Err(NotContinued::Book(why)),
+    }
+}
