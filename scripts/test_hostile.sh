@@ -1,5 +1,6 @@
 #!/bin/sh
-# Tries what `pbook collect` leaves of BOOK in a hostile world: devices, links, folders, missing permissions, full disks, a killed run.
+# Tries what `pbook collect` leaves of BOOK, and of the FILE of `--ledger`, in a hostile world: devices, links, folders, missing
+# permissions, full disks, a killed run.
 # It prints a line for each check and stops at the first that doesn't hold. As root it tries more, on file systems that it mounts, and
 # where strace is installed it has calls of the system fail.
 # Usage: scripts/test_hostile.sh [PROGRAM [CHECK..]] (at the top of the repository; build/pbook and all checks where they aren't given).
@@ -259,25 +260,120 @@ killed() {
     ends 0 "$book" "$work/lines" && cmp -s "$book" "$work/long" && no_draft "$work/killed"
 }
 
+# goes_on STATUS FILE BOOK INPUT: whether a run that goes on from FILE ends with this status
+goes_on() {
+    answer=0
+    "$work/pbook" collect --ledger "$2" "$work/table" "$3" < "$4" 2> "$work/errors" > "$work/replies" || answer=$?
+    tail -n 1 "$work/replies" > "$work/last"
+    [ "$answer" -eq "$1" ] && [ ! -s "$work/errors" ]
+}
+
+# ledger_in FOLDER: a new folder with an old BOOK and with the FILE of a run over the first games
+ledger_in() {
+    old_in "$1" && : > "$work/$1/games.ledger" && head -n 100 "$work/games" > "$work/first" &&
+        goes_on 0 "$work/$1/games.ledger" "$work/first.bin" "$work/first"
+}
+
+# A run that is cut in three leaves the replies, the book and the games of one run, and FILE keeps its mode.
+cut_in_three() {
+    mkdir "$work/cut" && cd "$work/cut" && : > whole && : > parts && chmod 640 parts && "$work/pbook" collect --ledger whole "$work/table" \
+        whole.bin < "$work/games" > whole.replies && for part in 1,90 91,200 '201,$'; do
+        sed -n "${part}p" "$work/games" | "$work/pbook" collect --ledger parts "$work/table" parts.bin || return 1
+    done > parts.replies && cmp whole.replies parts.replies && cmp whole.bin parts.bin && cmp whole parts && is_new parts.bin &&
+        [ "$(mode parts)" = 640 ] && no_draft . && cd "$OLDPWD"
+}
+
+# An input of an earlier run is taken as it is, where no line of it was refused, and games come again in it.
+old_list() {
+    mkdir "$work/list" && ledger_in listed && sed 1d "$work/listed/games.ledger" > "$work/list/games" && cat "$work/list/games" >> "$work/list/games.ledger" &&
+        cat "$work/list/games" >> "$work/list/games.ledger" && goes_on 0 "$work/list/games.ledger" "$work/list/book.bin" /dev/null &&
+        cmp -s "$work/list/games.ledger" "$work/listed/games.ledger"
+}
+
+broken_ledger() {
+    ledger_in broken && sed -i '5s/.*/no game/' "$work/broken/games.ledger" && cp "$work/broken/games.ledger" "$work/before" &&
+        goes_on 1 "$work/broken/games.ledger" "$work/broken/book.bin" "$work/games" &&
+        [ "$(cat "$work/replies")" = 'refused ledger line 5' ] && cmp -s "$work/before" "$work/broken/games.ledger" &&
+        is_old "$work/broken/book.bin" && no_draft "$work/broken"
+}
+
+missing_ledger() {
+    old_in without && goes_on 3 "$work/without/games.ledger" "$work/without/book.bin" "$work/games" && says_open &&
+        [ ! -e "$work/without/games.ledger" ] && is_old "$work/without/book.bin"
+}
+
+closed_ledger() {
+    ledger_in shut && chmod 000 "$work/shut/games.ledger" && as_other "$work/pbook" collect --ledger "$work/shut/games.ledger" "$work/table" \
+        "$work/shut/book.bin" < "$work/games" > "$work/last" || [ $? -eq 3 ] && says_open && is_old "$work/shut/book.bin"
+}
+
+# The ledger is kept though the book can't be, and replies that can't be written leave what they were to tell in it.
+ledger_without_book() {
+    ledger_in bookless && cp "$work/bookless/games.ledger" "$work/before" && goes_on 3 "$work/bookless/games.ledger" /dev/full "$work/games" &&
+        [ "$(wc -l < "$work/bookless/games.ledger")" -gt "$(wc -l < "$work/before")" ]
+}
+
+full_disk_of_ledger() {
+    mkdir "$work/brim" && mount -t tmpfs -o size=48k tmpfs "$work/brim" && mounted="$mounted $work/brim" && ledger_in brimful &&
+        cp "$work/old" "$work/brim/book.bin" && cp "$work/brimful/games.ledger" "$work/brim/games.ledger" &&
+        goes_on 3 "$work/brim/games.ledger" "$work/brim/book.bin" "$work/games" && ! says_open &&
+        cmp -s "$work/brimful/games.ledger" "$work/brim/games.ledger" && is_old "$work/brim/book.bin" && no_draft "$work/brim"
+}
+
+# Sixty runs that go on are killed: FILE is the old or the new one, and so is BOOK, which is new only where FILE is.
+killed_while_saving() {
+    ledger_in hunted && file=$work/hunted/games.ledger && book=$work/hunted/book.bin && cp "$file" "$work/before" && cp "$file" "$work/after" &&
+        long_games 4000 > "$work/lines" || return 1
+    begin=$(date +%s%N)
+    goes_on 0 "$work/after" "$work/made" "$work/lines" || return 1
+    about=$((($(date +%s%N) - begin) / 1000))
+    kept=0
+    saved=0
+    for thousandths in $(awk 'BEGIN { srand(2); for (i = 0; i < 60; i++) print int(800 + 400 * rand()) }'); do
+        cp "$work/before" "$file"
+        cp "$work/old" "$book"
+        moment=$((about * thousandths / 1000))
+        "$work/pbook" collect --ledger "$file" "$work/table" "$book" < "$work/lines" > /dev/null &
+        run=$!
+        sleep "$(printf '%d.%06d' $((moment / 1000000)) $((moment % 1000000)))"
+        kill -9 "$run" 2> /dev/null || true
+        wait "$run" 2> /dev/null || true
+        if cmp -s "$file" "$work/before"; then
+            kept=$((kept + 1))
+            about=$((about + about / 40))
+            is_old "$book" || return 1
+        elif cmp -s "$file" "$work/after"; then
+            saved=$((saved + 1))
+            about=$((about - about / 40))
+            is_old "$book" || cmp -s "$book" "$work/made" || return 1
+        else
+            echo "killed after $moment us: FILE has $(stat -c %s "$file") bytes, the new one $(stat -c %s "$work/after")"
+            return 1
+        fi
+    done 2> /dev/null
+    echo "    $kept times the old FILE, $saved times the new one"
+    [ "$saved" -gt 0 ] && goes_on 0 "$file" "$book" "$work/lines" && cmp -s "$file" "$work/after" && cmp -s "$book" "$work/made" && no_draft "$work/hunted"
+}
+
 checks='new_book here old_book full_device null_device pipe standard_output symlink dangling_symlink hard_link folder missing_folder no_name
-    long_name limit draft_left draft_is_a_link side_by_side'
+    long_name limit draft_left draft_is_a_link side_by_side cut_in_three old_list broken_ledger missing_ledger ledger_without_book'
 if command -v flock > /dev/null; then checks="$checks draft_in_use"; fi
 if command -v strace > /dev/null; then checks="$checks device_faults"; fi
 if ! $root; then
-    checks="$checks no_permission folder_without_drafts unread_folder"
+    checks="$checks no_permission folder_without_drafts unread_folder closed_ledger"
 elif command -v setpriv > /dev/null; then
-    checks="$checks no_permission folder_without_drafts unread_folder other_owner"
+    checks="$checks no_permission folder_without_drafts unread_folder other_owner closed_ledger"
 fi
 if $root; then
     mkdir "$work/probe"
     if mount -t tmpfs tmpfs "$work/probe" 2> /dev/null; then
         umount "$work/probe"
-        checks="$checks full_disk full_of_names mount_point"
+        checks="$checks full_disk full_of_names mount_point full_disk_of_ledger"
     else
-        echo 'not tried, since nothing can be mounted: full_disk full_of_names mount_point'
+        echo 'not tried, since nothing can be mounted: full_disk full_of_names mount_point full_disk_of_ledger'
     fi
 fi
-for check in ${*:-$checks killed}; do
+for check in ${*:-$checks killed killed_while_saving}; do
     if "$check"; then
         echo "ok: $check"
     else
