@@ -6,6 +6,7 @@ use crate::game::{lines_of, stream_of};
 use crate::moves::tell_moves;
 use crate::page::{Done, Page, Trouble};
 use crate::runs::Runs;
+use crate::saved;
 use crate::table::table_of;
 use crate::text::{count_of, fills_of, small_of, text_of};
 use pb_ledger::{Ledger, ListTally, MapTally, Rules, Tally, collect, export};
@@ -13,7 +14,7 @@ use pb_poly::{MemSink, ToWrite};
 use std::alloc::{AllocError, Global};
 
 /// How many games a ledger holds where a row names no number.
-const CAP: u32 = 1000;
+pub(crate) const CAP: u32 = 1000;
 
 /// The answer to a call.
 pub(crate) fn answer(page: &mut Page, call: &[&str]) -> Done {
@@ -60,7 +61,7 @@ fn answer_with<T: Tally>(page: &mut Page, rules: Rules, call: &[&str]) -> Done {
         }
         ["collect-cut-off", lines @ ..] => cut_off::<T>(page, lines),
         ["collect-cramped", most, lines @ ..] => cramped_up_to::<T>(page, most, lines),
-        _ => Err(Trouble::Row),
+        _ => saved::answer::<T>(page, call),
     }
 }
 
@@ -80,7 +81,7 @@ fn tell_rules<T: Tally>(page: &mut Page, rules: Rules) -> Done {
 }
 
 /// The file of the table of powers.
-fn powers(alloc: Global) -> Result<String, AllocError> {
+pub(crate) fn powers(alloc: Global) -> Result<String, AllocError> {
     text_of(alloc, "{powers}")
 }
 
@@ -157,7 +158,7 @@ fn book<T: Tally>(page: &mut Page, rules: Rules, table: &str, lines: &[&str]) ->
 }
 
 /// How many games a ledger holds, and their book.
-fn tell_held<T: Tally>(page: &mut Page, ledger: &Ledger<T>) -> Done {
+pub(crate) fn tell_held<T: Tally>(page: &mut Page, ledger: &Ledger<T>) -> Done {
     page.put_count("held: ", &ledger.len());
     page.put("\n");
     tell(page, &ledger.make_book(page.alloc)?);

@@ -20,6 +20,7 @@ mod page;
 mod points;
 mod record;
 mod runs;
+mod saved;
 mod stream;
 mod table;
 mod text;
