@@ -1,5 +1,5 @@
 -- How a run that goes on from a saved ledger ends, from what its parts do.
-use Rattle.std.proofs.Common.{◌≡◌, ◌∙◌, ℕ, Bool, List, Result, Ok, Err, ap, false, refl, subst, true}
+use Rattle.std.proofs.Common.{◌≡◌, ◌∙◌, ℕ, Bool, List, Ok, Err, ap, false, refl, subst, true}
 use Rattle.pb_io.specs.Source.{SourceState}
 use Rattle.pb_io.specs.Sink.{SinkState}
 use Rattle.pb_poly.specs.TableReading.{ReadsTable}

@@ -1,6 +1,8 @@
 mod CollectClauses
 mod CollectRuns
+mod ContinueClauses
 mod ContinueRuns
+mod ContinueTold
 mod EffectLaws
 mod ExportClauses
 mod ExportRuns

@@ -1,5 +1,7 @@
 -- Laws of the theorem of `pbook collect`: what follows from `Effect`, where the answers are those of a ledger.
-use Rattle.std.specs.Prelude.{◌≡◌, ◌≢◌, ℕ, ◌+◌, List, [], Some, Err, All, slice_get, take}
+use Rattle.std.specs.Prelude.{◌≡◌, ◌≢◌, ℕ, ◌+◌, ◌++◌, List, [], Some, Err, All, slice_get, take}
+use Rattle.pb_io.specs.Lines.{lines}
+use Rattle.pb_io.specs.Sink.{SinkState}
 use Rattle.pb_poly.specs.declared.entry.Entry.{Entry}
 use Rattle.pb_games.specs.Submissions.{Submission}
 use Rattle.pb_games.specs.declared.refusal.Refusal.{Refusal}
@@ -9,6 +11,11 @@ use Rattle.pb_accepted.specs.Basis.{Basis}
 use Rattle.pb_accepted.specs.Counting.{IsBook}
 use Rattle.pb_accepted.specs.Holding.{most_games}
 use Rattle.pb_accepted.specs.Laws.{ArrivalsAreNumbered, NoRepeats, RepeatsAreAnsweredAlike, SameMembers}
+use Rattle.pb_accepted.specs.Ledger.{LedgerState}
+use Rattle.pb_accepted.specs.Replies.{replies}
+use Rattle.pb_accepted.specs.Rules.{CountingRules}
+use Rattle.pb_saved.specs.Saving.{Saved}
+use Rattle.pb_collecting.specs.ContinuingTold.{ContinuesBytes, EffectOfBoth}
 use Rattle.pb_collecting.specs.Headline.{Effect}
 use Rattle.pb_collecting.specs.OneText.{HasOneText}
 
@@ -30,6 +37,18 @@ pub record OneEffect (T : Basis) (L : List (List ℕ)) (R : List Answer) (games 
   pub arrivals : ArrivalsAreNumbered most_games L R
   pub no_conflict : All (λ r. (n : ℕ) → r ≢ Err (Conflict n)) R
 
+-- What more is so where a run held these games first, went on with lines L and answers R to the games `left`, and an earlier run, of
+-- lines K with answers Q, saved these.
+pub record OneLongRun (T : Basis) (K L : List (List ℕ)) (Q R : List Answer) (saved held left : List Submission) (entries : List Entry) : Type 0 where
+  -- what was saved is what was held
+  pub held_is_saved : held ≡ saved
+  -- the lines of both runs and their answers are those of one run, which leaves the same games
+  pub run : Run most_games [] (K ++ L) (Q ++ R)
+  pub accepted : Accepted [] (K ++ L) (Q ++ R) left
+  -- so are the replies, and the book
+  pub replied : replies (K ++ L) (Q ++ R) ≡ replies K Q ++ replies L R
+  pub effect : Effect T (K ++ L) (Q ++ R) entries
+
 -- ---- the laws
 
 -- where no id names two games, each submission has its one effect
@@ -44,3 +63,11 @@ AnswersRepeatsAlike = (L : List (List ℕ)) (R : List Answer) → Run most_games
 -- and a refused submission changes nothing
 abbrev pub KeepsGamesAtRefusals : Type 0
 KeepsGamesAtRefusals = (L : List (List ℕ)) (R : List Answer) → Run most_games [] L R → RefusalsLeaveTheGames L R
+
+-- a run that goes on from what an earlier one saved makes of both what one long run makes
+abbrev pub GoesOnAsOneRun : Type 0
+GoesOnAsOneRun =
+    (rules : CountingRules) (file saved bytes : List ℕ) (sink sink' : SinkState) (left : LedgerState) (entries : List Entry)
+    (h : ContinuesBytes rules file saved bytes sink sink' left entries) → EffectOfBoth (record { words = h.words; rules = rules }) h.held (lines bytes) h.answers entries
+    → (K : List (List ℕ)) (Q : List Answer) (A : List Submission) → Run most_games [] K Q → Accepted [] K Q A → Saved A saved
+    → OneLongRun (record { words = h.words; rules = rules }) K (lines bytes) Q h.answers A h.held left.accepted entries

@@ -1,6 +1,7 @@
 pub mod CollectRun
 pub mod Continuing
 pub mod ContinuingInto
+pub mod ContinuingTold
 pub mod ExportRun
 pub mod Headline
 pub mod Keeping
