@@ -2,7 +2,7 @@
 
 ghost use Rattle.pb_collecting.specs.ContinuingInto.{KeepsOrStops};
 
-use crate::continuing::{Continued, continue_from};
+use crate::continuing::{Continued, run_continue};
 use crate::place::{NotKept, Place};
 use pb_commands::Fault;
 use pb_ledger::Rules;
@@ -43,7 +43,7 @@ pub fn continue_into<T: Source, V: Source, S: Source, K: Sink, P: Place, Q: Plac
         (S.state source.old) (S.state source.new) (K.state sink.old) (K.state sink.new)
         (P.state ledger_place.old) (P.state ledger_place.new) (Q.state book_place.old) (Q.state book_place.new) result }
 {
-    let Continued { ledger, book } = match continue_from(
+    let Continued { ledger, book } = match run_continue(
         alloc,
         rules,
         table_source,
