@@ -72,7 +72,7 @@ pub fn run_continue<T: Source, V: Source, S: Source, K: Sink>(
 }
 
 /// The same, told in one clause.
-pub(crate) fn continue_from<T: Source, V: Source, S: Source, K: Sink>(
+fn continue_from<T: Source, V: Source, S: Source, K: Sink>(
     alloc: Global,
     rules: Rules,
     table_source: &mut T,
