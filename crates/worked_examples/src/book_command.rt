@@ -2,16 +2,17 @@
 
 use crate::book::file_of;
 use crate::command::told;
+use crate::continuing;
 use crate::ends::{Ends, Giver, Taker, ends_of, failing_source};
 use crate::game::stream_of;
-use crate::page::{Done, Page, Trouble};
+use crate::page::{Done, Page};
 use crate::runs::Runs;
 use crate::text::{count_of, small_of};
 use pb_cli::{Fault, MemPlace, Rules, collect_into, run_collect, run_export, run_probe, run_show};
 use pb_poly::{Book, FromRead, MemSink, Source, ToWrite, write_book};
 
 /// How large the pieces of tables are.
-const TABLE_PIECE: usize = 1000;
+pub(crate) const TABLE_PIECE: usize = 1000;
 
 /// The answer to a call.
 pub(crate) fn answer(page: &mut Page, call: &[&str]) -> Done {
@@ -32,7 +33,7 @@ pub(crate) fn answer(page: &mut Page, call: &[&str]) -> Done {
         ["collect-into", table, ends, lines @ ..] => collect_into_memory(page, table, ends, lines),
         ["collect-leaves", table, lines @ ..] => collect_leaves(page, table, lines),
         ["export-leaves", table, lines @ ..] => export_leaves(page, table, lines),
-        _ => Err(Trouble::Row),
+        _ => continuing::answer(page, call),
     }
 }
 
@@ -223,7 +224,7 @@ fn export_leaves(page: &mut Page, table: &str, lines: &[&str]) -> Done {
 }
 
 /// The next three bytes of a source.
-fn tell_next(page: &mut Page, source: &mut FromRead<Giver<'_>>) {
+pub(crate) fn tell_next(page: &mut Page, source: &mut FromRead<Giver<'_>>) {
     let mut next = [0; 3];
     let filled = source.fill(&mut next);
     page.put("\n");

@@ -4,13 +4,14 @@
 //! tables and from other programs, never from a run. Empty lines and lines that begin with `#` are passed over.
 //!
 //! The topic `run` runs the program `pbook` over the words that follow. What it prints comes after the row's name in a line of its
-//! own. Standard input has its submissions, and the folder of the run a table, one of 780 lines, and an older file in the place of
-//! the book.
+//! own. Standard input has its submissions, and the folder of the run a table, one of 780 lines, an older file in the place of the
+//! book, and the files of three saved ledgers.
 #![tactic(auto)]
 
 mod book;
 mod book_command;
 mod command;
+mod continuing;
 mod ends;
 mod epd;
 mod game;
