@@ -2,6 +2,7 @@
 //! of a file and of no file's name.
 #![tactic(auto)]
 
+mod fuse;
 pub mod laws;
 mod line_buffer;
 mod lines;
@@ -9,6 +10,7 @@ mod parts;
 mod sink;
 mod source;
 
+pub use fuse::{FuseSink, FuseSource, NeverSource};
 pub use lines::{LINE_LIMIT, LineTask, LinesFault, take_lines};
 pub use parts::put_parts;
 pub use sink::{MemSink, Sink, ToWrite};
