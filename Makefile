@@ -5,7 +5,7 @@ START := rnbqkbnr/pppppppp/8/8/8/8/PPPPPPPP/RNBQKBNR w KQkq - 0 1
 
 PREFIX := /usr/local
 
-.PHONY: build try install demo test test-hostile bench clean
+.PHONY: build try install demo test test-hostile test-journal bench clean
 
 build: build/pbook
 
@@ -55,6 +55,10 @@ test:
 test-hostile: build
 	@sh scripts/test_hostile.sh
 
+# Kills collectors at random moments, starts them again on their journal, and compares what they answered.
+test-journal: build
+	@sh scripts/test_journal.sh
+
 # Times the program that plays moves, and the commands, and compares a book with PolyGlot's own.
 bench: build
 	@cd crates/bench_moves && rt run -- perft '$(START)' 1 > /dev/null
@@ -62,6 +66,7 @@ bench: build
 	@sh bench/epd.sh
 	@sh bench/books.sh
 	@sh bench/collect.sh
+	@sh bench/journal.sh
 	@sh bench/same_entries.sh
 	@sh bench/export.sh
 

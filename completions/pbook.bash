@@ -19,14 +19,14 @@ _pbook() {
     elif [ "$last" = = ]; then
         last=${COMP_WORDS[COMP_CWORD - 2]}
     fi
-    # A file follows the first of these, and a number the others, for which there is nothing to complete.
+    # A file follows the first two of these, and a number the others, for which there is nothing to complete.
     case $last in
-        --ledger) _pbook_files "$word"; return ;;
+        --ledger | --journal) _pbook_files "$word"; return ;;
         --plies | --least) return ;;
     esac
     if [[ $word == -* ]]; then
         case ${COMP_WORDS[1]} in
-            collect) COMPREPLY=($(compgen -W '--ledger --plies --least --help' -- "$word")) ;;
+            collect) COMPREPLY=($(compgen -W '--ledger --journal --sync --plies --least --help' -- "$word")) ;;
             export) COMPREPLY=($(compgen -W '--plies --least --help' -- "$word")) ;;
             *) COMPREPLY=($(compgen -W '--help' -- "$word")) ;;
         esac
@@ -36,7 +36,7 @@ _pbook() {
     local files=0 before=0 at
     for ((at = 2; at < COMP_CWORD; at++)); do
         case ${COMP_WORDS[at]} in
-            --ledger | --plies | --least)
+            --ledger | --journal | --plies | --least)
                 at=$((at + 1))
                 if [ "${COMP_WORDS[at]}" = = ]; then at=$((at + 1)); fi ;;
             -*) ;;

@@ -3,7 +3,7 @@ use Rattle.std.specs.Prelude.{Some, [], ◌∷◌, codes, true}
 use Rattle.clap.specs.Words.{App, Rule, Text, new_app, new_rule, with_rule, with_subcommand}
 use Rattle.clap.specs.Simple.{on_top}
 use Rattle.clap.specs.Lexer.{usize_max}
-use Rattle.clap.specs.declared.builder.action.ArgAction.TheVariants.{Set, Append}
+use Rattle.clap.specs.declared.builder.action.ArgAction.TheVariants.{Append, Set, SetTrue}
 
 -- a word that has to be given
 abbrev pub required_word : Text → Rule
@@ -24,6 +24,14 @@ option_if_given id = record (new_rule id) { long = Some id; action = Some Set; v
 abbrev pub option_with : Text → Text → Rule
 option_with id value = record (option_if_given id) { defaults = value ∷ [] }
 
+-- an option without a value, which is given or isn't
+abbrev pub flag : Text → Rule
+flag id = record (new_rule id) { long = Some id; action = Some SetTrue }
+
+-- a command with the three options that say what is kept beside the book
+abbrev pub with_keeping : App → App
+with_keeping app = with_rule (with_rule (with_rule app (option_if_given (codes "ledger"))) (option_if_given (codes "journal"))) (flag (codes "sync"))
+
 -- a command with the two options that say what of the games counts
 abbrev pub with_counting : App → App
 with_counting app = with_rule (with_rule app (option_with (codes "plies") (codes "1024"))) (option_with (codes "least") (codes "1"))
@@ -43,7 +51,7 @@ probe_command = with_rule (with_rule (with_rule (new_app (codes "probe")) (requi
     (required_word (codes "FEN"))
 
 abbrev pub collect_command : App
-collect_command = with_rule (with_rule (with_counting (with_rule (new_app (codes "collect")) (option_if_given (codes "ledger"))))
+collect_command = with_rule (with_rule (with_counting (with_keeping (new_app (codes "collect"))))
     (required_word (codes "TABLE"))) (required_word (codes "BOOK"))
 
 abbrev pub export_command : App

@@ -1,10 +1,12 @@
 -- What an order has of the words of the command line.
-use Rattle.std.specs.Prelude.{◌≡◌, ℕ, List, [], Option, Some, codes, option_map, unwrap_or}
+use Rattle.std.specs.Prelude.{◌≡◌, ◌↔◌, ℕ, Bool, false, IsTrue, List, [], Option, Some, None, codes, option_map, unwrap_or}
 use Rattle.std.specs.Borrow.{Bor}
 use Rattle.std.specs.Str.Parse.{IsNumeral, digits_value}
 use Rattle.clap.specs.Words.{Row, Text, all_of, first_of}
 use Rattle.clap.specs.Walk.{texts}
 use Rattle.pb_accepted.specs.Rules.{AreRules, CountingRules}
+use Rattle.pb_cli.specs.declared.order.Keeping.{Keeping}
+use Rattle.pb_cli.specs.declared.order.Keeping.TheVariants as keeping
 use Rattle.pb_cli.specs.declared.order.Order.{Order}
 use Rattle.pb_cli.specs.declared.order.ParseFault.{ParseFault}
 use Rattle.pb_cli.specs.declared.order.ParseFault.TheVariants.{Memory}
@@ -27,6 +29,16 @@ HasWord id word rows = first_of id rows ≡ Some word.now
 abbrev pub HasWordIfGiven : Text → Option (Bor Text) → List Row → Type 0
 HasWordIfGiven id word rows = first_of id rows ≡ option_map (λ w. w.now) word
 
+-- whether the option of this name, which has no value, was given
+abbrev pub HasFlag : Text → Bool → List Row → Type 0
+HasFlag id flag rows = IsTrue flag ↔ (first_of id rows ≡ Some (codes "true"))
+
+-- the options say what is kept beside the book; a saved ledger and a journal aren't kept at once, and a journal alone is synced
+abbrev pub HasKeeping : Keeping → List Row → Type 0
+HasKeeping keeping.Book rows = (first_of (codes "ledger") rows ≡ None) × (first_of (codes "journal") rows ≡ None) × HasFlag (codes "sync") false rows
+HasKeeping (keeping.Ledger path) rows = HasWord (codes "ledger") path rows × (first_of (codes "journal") rows ≡ None) × HasFlag (codes "sync") false rows
+HasKeeping (keeping.Journal path sync) rows = (first_of (codes "ledger") rows ≡ None) × HasWord (codes "journal") path rows × HasFlag (codes "sync") sync rows
+
 -- the argument of this name was given a word that writes this number in digits
 abbrev pub HasNumber : Text → ℕ → List Row → Type 0
 HasNumber id number rows = (word : Text) × (first_of id rows ≡ Some word) × IsNumeral 10 word × (digits_value 10 word ≡ number)
@@ -43,7 +55,7 @@ HasWords (order.Fen fen moves) rows = HasWord (codes "FEN") fen rows × (texts m
 HasWords order.Epd rows = Unit {0}
 HasWords (order.Show book) rows = HasWord (codes "BOOK") book rows
 HasWords (order.Probe table book fen) rows = HasWord (codes "TABLE") table rows × HasWord (codes "BOOK") book rows × HasWord (codes "FEN") fen rows
-HasWords (order.Collect rules ledger table book) rows = HasRules rules rows × HasWordIfGiven (codes "ledger") ledger rows × HasWord (codes "TABLE") table rows
+HasWords (order.Collect rules kept table book) rows = HasRules rules rows × HasKeeping kept rows × HasWord (codes "TABLE") table rows
     × HasWord (codes "BOOK") book rows
 HasWords (order.Export rules table) rows = HasRules rules rows × HasWord (codes "TABLE") table rows
 

@@ -2,7 +2,7 @@
 ghost use Rattle.std.specs.Prelude.{◌≡◌, IfOk, codes, false};
 ghost use Rattle.clap.specs.Words.{App, new_app, rule_of};
 ghost use Rattle.pb_cli.specs.Built.{IsCommand};
-ghost use Rattle.pb_cli.specs.CommandLine.{collect_command, epd_command, export_command, fen_command, further_words, option_if_given, option_with, pbook, probe_command, program_alone, required_word, show_command, with_counting};
+ghost use Rattle.pb_cli.specs.CommandLine.{collect_command, epd_command, export_command, fen_command, flag, further_words, option_if_given, option_with, pbook, probe_command, program_alone, required_word, show_command, with_counting, with_keeping};
 
 use clap::{Arg, ArgAction, Command};
 use std::alloc::{AllocError, Global};
@@ -28,6 +28,13 @@ const MADE_HELP: &str = "The file that the book is written to, in place of what 
 /// What a saved ledger is.
 const LEDGER_HELP: &str =
     "A saved ledger: its games are held from the start, and it is made anew with those of this run";
+
+/// What a journal is.
+const JOURNAL_HELP: &str =
+    "A journal: its games are held from the start, and each new game is added to it before its reply is printed";
+
+/// What syncing a journal is.
+const SYNC_HELP: &str = "Have each game of the journal reach the disk before its reply is printed";
 
 /// What the number of plies is.
 const PLIES_HELP: &str = "How many first plies of each game count, 1 to 1024";
@@ -110,7 +117,7 @@ fn probe<'a>(alloc: Global) -> Result<Command<'a>, AllocError>
     Ok(whole)
 }
 
-/// `collect TABLE BOOK`, with the options `--ledger FILE`, `--plies N` and `--least G`
+/// `collect TABLE BOOK`, with the options `--ledger FILE`, `--journal FILE`, `--sync`, `--plies N` and `--least G`
 fn collect<'a>(alloc: Global) -> Result<Command<'a>, AllocError>
     ensures { IfOk result (IsCommand collect_command) }
 {
@@ -119,8 +126,8 @@ fn collect<'a>(alloc: Global) -> Result<Command<'a>, AllocError>
         "collect",
         "Takes games from standard input, prints the reply to each, and makes the book of those that are held",
     );
-    let saved = bare.arg(option_if_given(alloc, "ledger", "FILE", LEDGER_HELP))?;
-    let counting = with_counting(alloc, saved)?;
+    let keeping = with_keeping(alloc, bare)?;
+    let counting = with_counting(alloc, keeping)?;
     let tabled = counting.arg(required(alloc, "TABLE", TABLE_HELP))?;
     let whole = tabled.arg(required(alloc, "BOOK", MADE_HELP))?;
     Ok(whole)
@@ -145,6 +152,16 @@ fn without_words<'a>(alloc: Global, name: &'a str, about: &'a str) -> Command<'a
     ensures { IsCommand (new_app name.now) result }
 {
     Command::new(alloc, name).about(about)
+}
+
+/// The command with the options that say what is kept beside the book.
+fn with_keeping<'a>(alloc: Global, command: Command<'a>) -> Result<Command<'a>, AllocError>
+    ensures { IfOk result (λ keeping. (app : App) → IsCommand app command.entry → IsCommand (with_keeping app) keeping) }
+{
+    let saved = command.arg(option_if_given(alloc, "ledger", "FILE", LEDGER_HELP))?;
+    let journaled = saved.arg(option_if_given(alloc, "journal", "FILE", JOURNAL_HELP))?;
+    let keeping = journaled.arg(flag(alloc, "sync", SYNC_HELP))?;
+    Ok(keeping)
 }
 
 /// The command with the options that say what of the games counts.
@@ -179,6 +196,17 @@ fn option_if_given<'a>(alloc: Global, name: &'a str, letter: &'a str, help: &'a 
         .long(name)
         .value_name(letter)
         .action(ArgAction::Set)
+        .help(help)
+}
+
+/// An option without a value.
+fn flag<'a>(alloc: Global, name: &'a str, help: &'a str) -> Arg<'a>
+    ensures rule { rule_of result ≡ flag name.now }
+    ensures local { result.global ≡ false }
+{
+    Arg::new(alloc, name)
+        .long(name)
+        .action(ArgAction::SetTrue)
         .help(help)
 }
 

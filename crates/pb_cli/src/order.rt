@@ -6,7 +6,8 @@ ghost use Rattle.clap.specs.Words.{all_of, fault_of, first_of, found_of, kind_of
 ghost use Rattle.clap.specs.declared.error.ErrorKind.TheVariants.{OutOfMemory};
 ghost use Rattle.pb_cli.specs.CommandLine.{pbook};
 ghost use Rattle.pb_accepted.specs.Rules.{CountingRules};
-ghost use Rattle.pb_cli.specs.Orders.{HasNumber, HasRules, HasWordIfGiven, HasWords, IsOrderOf, RefusesFor, RefusesRightly, name_of};
+ghost use Rattle.pb_cli.specs.Orders.{HasFlag, HasKeeping, HasNumber, HasRules, HasWordIfGiven, HasWords, IsOrderOf, RefusesFor, RefusesRightly, name_of};
+ghost use Rattle.pb_cli.specs.declared.order.Keeping.{Keeping};
 ghost use Rattle.pb_cli.specs.declared.order.ParseFault.TheVariants.{Memory};
 
 use crate::grammar::command_line;
@@ -14,6 +15,22 @@ use clap::ArgMatches;
 use clap::error::ErrorKind;
 use pb_collecting::{MAX_LEAST, MAX_PLIES, Rules};
 use std::alloc::{AllocError, Global};
+
+/// What a run that takes games keeps of them beside their book, by the path of its file.
+#[derive(Clone, Copy, Debug, PartialEq, Eq)]
+pub enum Keeping<'a> {
+    /// Nothing.
+    Book,
+    /// A saved ledger, which the run goes on from and makes anew at its end.
+    Ledger(&'a str),
+    /// A journal, which the run goes on from and adds each new game to before its reply is put; with `sync` the game has reached the disk then.
+    Journal {
+        /// The path of the journal.
+        path: &'a str,
+        /// Whether each game has to reach the disk.
+        sync: bool,
+    },
+}
 
 /// What the command line asks for, with its words as they were given.
 #[derive(Debug, Drop)]
@@ -45,8 +62,8 @@ pub enum Order<'a> {
     Collect {
         /// What of the games counts.
         rules: Rules,
-        /// The path of the saved ledger that the run goes on from, if there is one.
-        ledger: Option<&'a str>,
+        /// What is kept beside the book.
+        kept: Keeping<'a>,
         /// The path of the table.
         table: &'a str,
         /// The path of the book that is made.
@@ -163,12 +180,12 @@ fn collect<'a>(alloc: Global, given: &ArgMatches<'a>) -> Result<Order<'a>, Parse
     ensures refused { IfErr result (RefusesFor (codes "collect") (rows_of (found_of given.now))) }
 {
     let rules = rules(alloc, given)?;
-    let ledger = word_if_given(given, "ledger");
+    let kept = kept_beside(alloc, given)?;
     let table = word(alloc, given, "TABLE")?;
     let book = word(alloc, given, "BOOK")?;
     Ok(Order::Collect {
         rules,
-        ledger,
+        kept,
         table,
         book,
     })
@@ -184,6 +201,40 @@ fn export<'a>(alloc: Global, given: &ArgMatches<'a>) -> Result<Order<'a>, ParseF
         rules: rules(alloc, given)?,
         table: word(alloc, given, "TABLE")?,
     })
+}
+
+/// What the options say is kept beside the book.
+fn kept_beside<'a>(alloc: Global, given: &ArgMatches<'a>) -> Result<Keeping<'a>, ParseFault>
+    ensures said { IfOk result (λ kept. HasKeeping kept (rows_of (found_of given.now))) }
+    ensures refused { IfErr result (λ fault. (kept : Keeping) → HasKeeping kept (rows_of (found_of given.now)) → fault ≡ Memory) }
+{
+    let ledger = word_if_given(given, "ledger");
+    let journal = word_if_given(given, "journal");
+    let sync = flag(given, "sync");
+    match (ledger, journal) {
+        (None, Some(path)) => Ok(Keeping::Journal { path, sync }),
+        (Some(_), Some(_)) => Err(misused(
+            alloc,
+            "'--ledger <FILE>' cannot be used with '--journal <FILE>'",
+        )?),
+        _ if sync => Err(misused(alloc, "'--sync' needs '--journal <FILE>'")?),
+        (Some(path), None) => Ok(Keeping::Ledger(path)),
+        (None, None) => Ok(Keeping::Book),
+    }
+}
+
+/// The usage error of an argument that can't be given so.
+fn misused(alloc: Global, why: &str) -> Result<ParseFault, AllocError> {
+    Ok(ParseFault::Usage(format!(in alloc;
+        "error: the argument {why}\n\nFor more information, try '--help'.\n"
+    )?))
+}
+
+/// Whether an option without a value was given.
+fn flag(given: &ArgMatches<'_>, id: &str) -> bool
+    ensures { HasFlag id.now result (rows_of (found_of given.now)) }
+{
+    word_if_given(given, id).is_some_and(|word| word == "true")
 }
 
 /// The rules that the options say.

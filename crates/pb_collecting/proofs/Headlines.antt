@@ -140,7 +140,7 @@ module _ (cap : ℕ) (L : List (List ℕ)) (R : List Answer) (i : ℕ) (B : List
       memory (wanting s (subst (λ u. Answers cap B u (Ok (length B + 1))) (one_submission line h.0 s h.1 law) h.2)) e
   arrival c is top line s r law (inr (e, inr h)) = absurd (refused.unlawful line h.0 s h.2 law)
 
-legal_of : (cap : ℕ) (B : List Submission) (line : List ℕ) (n : ℕ) → Allowed cap B line (Ok n) → (s : Submission) × IsLawful line s
+pub legal_of : (cap : ℕ) (B : List Submission) (line : List ℕ) (n : ℕ) → Allowed cap B line (Ok n) → (s : Submission) × IsLawful line s
 legal_of cap B line n (inl (inl h)) = (h.0, h.1)
 legal_of cap B line n (inl (inr h)) = let no : Ok n ≡ Err h.0 = h.1 in absurd (cc)
 legal_of cap B line n (inr h) = let no : Ok n ≡ Err Memory = h.0 in absurd (cc)

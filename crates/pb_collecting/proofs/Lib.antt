@@ -7,6 +7,11 @@ mod EffectLaws
 mod ExportClauses
 mod ExportRuns
 mod Headlines
+mod JournalClauses
+mod JournalGains
+mod JournalHeadlines
+mod JournalRuns
+mod JournalSurvives
 mod KeepClauses
 mod KeepRuns
 mod OneTexts

@@ -4,6 +4,9 @@ pub mod ContinuingInto
 pub mod ContinuingTold
 pub mod ExportRun
 pub mod Headline
+pub mod JournalInto
+pub mod JournalRun
+pub mod JournalTold
 pub mod Keeping
 pub mod Laws
 pub mod OneText

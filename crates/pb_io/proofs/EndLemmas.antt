@@ -4,7 +4,7 @@ use Rattle.std.proofs.lemmas.List.{append-nil}
 use Rattle.std.specs.Io.KnownBytes.{Consumes, IsAtEnd}
 use Rattle.pb_io.specs.Source.{SourceState}
 use Rattle.pb_io.specs.Lines.{lines}
-use Rattle.pb_io.specs.LineTask.{AtEnd, AtFault, AtLine, AtNoEnd, IfTold, chunk_len}
+use Rattle.pb_io.specs.LineTask.{AtEnd, AtEndedLine, AtFault, AtLine, AtNoEnd, IfTold, chunk_len}
 use Rattle.pb_io.proofs.LineLemmas.{length-ended_lines, length-lines}
 
 -- What follows of so few lines as may have come follows of those that came.
@@ -30,12 +30,15 @@ module _ (fills : ℕ) (old new : SourceState) (P Q : List (List ℕ) → Type 0
     done = follows _ (omega (arith, h.reads.reads.few, length-ended_lines h.came)) h.done;
   }
 
-  pub AtLine-weaker : AtLine fills old new P → AtLine fills old new Q
-  AtLine-weaker (inl h) = inl (record {
+  pub AtEndedLine-weaker : AtEndedLine fills old new P → AtEndedLine fills old new Q
+  AtEndedLine-weaker h = record {
     came = h.came;
     reads = h.reads;
     done = follows _ (omega (arith, h.reads.1.reads.few, length-append h.came h.reads.0, length-ended_lines h.came)) h.done;
-  })
+  }
+
+  pub AtLine-weaker : AtLine fills old new P → AtLine fills old new Q
+  AtLine-weaker (inl h) = inl (AtEndedLine-weaker h)
   AtLine-weaker (inr h) = inr (AtEnd-weaker h)
 
 -- A source that tells its bytes and is at its end gave all of them.

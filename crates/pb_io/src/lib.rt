@@ -11,7 +11,7 @@ mod sink;
 mod source;
 
 pub use fuse::{FuseSink, FuseSource, NeverSource};
-pub use lines::{LINE_LIMIT, LineTask, LinesFault, take_lines};
+pub use lines::{LINE_LIMIT, LineTask, LinesFault, take_ended_lines, take_lines};
 pub use parts::put_parts;
 pub use sink::{MemSink, Sink, ToWrite};
 pub use source::{CHUNK_LEN, Failed, FromRead, MemSource, Source};

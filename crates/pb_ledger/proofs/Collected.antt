@@ -15,6 +15,7 @@ use Rattle.pb_io.specs.declared.source.Failed.{Failed}
 use Rattle.pb_io.proofs.EndLemmas.{AtEnd-weaker, AtFault-weaker, AtLine-weaker, AtNoEnd-weaker}
 use Rattle.pb_accepted.specs.Accepting.{Answer, Run}
 use Rattle.pb_accepted.specs.Ledger.{LedgerState}
+use Rattle.pb_accepted.proofs.Runs.{Accepted-append, Run-append}
 use Rattle.pb_ledger.specs.declared.totals.Totals.{Totals}
 use Rattle.pb_ledger.specs.declared.collecting.Collector.{Collector}
 use Rattle.pb_ledger.specs.declared.collecting.CollectFault.TheVariants as collect
@@ -25,15 +26,15 @@ use Rattle.pb_accepted.specs.Replies.{replies, reply_line}
 
 -- ---- counts
 
-abbrev AddsUp : Totals → Type 0
+abbrev pub AddsUp : Totals → Type 0
 AddsUp t = t.lines ≡ t.new + t.repeats + t.refused
 
 -- totals that grew by so many lines and so many refusals, and a list that grew by the new games
-record Grows (games games' : ℕ) (s t : Totals) (more refusals : ℕ) : Type 0 where
-  all : t.lines ≡ s.lines + more
-  refused : t.refused ≡ s.refused + refusals
-  new_games : games' + s.new ≡ games + t.new
-  adds_up : AddsUp t
+pub record Grows (games games' : ℕ) (s t : Totals) (more refusals : ℕ) : Type 0 where
+  pub all : t.lines ≡ s.lines + more
+  pub refused : t.refused ≡ s.refused + refusals
+  pub new_games : games' + s.new ≡ games + t.new
+  pub adds_up : AddsUp t
 
 one_more : (games games' : ℕ) (s t : Totals) (answer : Answer) (is_new : Bool) → t ≡ with_answer s answer is_new → games' ≡ games + added answer is_new
     → AddsUp s → s.lines + 1 < 2 ^ 64 → Grows games games' s t 1 (cond (is_err answer) 1 0)
@@ -68,25 +69,33 @@ Leads-more a b c line answer L R one rest =
       cap = rest.cap ∙ one.cap;
     }
 
+pub Leads-then : (a b c : LedgerState) (K L : List (List ℕ)) (Q R : List Answer) → Leads a b K Q → Leads b c L R → Leads a c (K ++ L) (Q ++ R)
+Leads-then a b c K L Q R first next = record {
+  run = Run-append a.cap a.accepted b.accepted K L Q R first.run first.accepted (subst (λ cap. Run cap b.accepted L R) first.cap next.run);
+  accepted = Accepted-append a.accepted b.accepted c.accepted K L Q R first.accepted next.accepted;
+  basis = next.basis ∙ first.basis;
+  cap = next.cap ∙ first.cap;
+}
+
 module _ {T K : Type 0} (state : K → SinkState) where
-  abbrev Sink : Collector T K → SinkState
+  abbrev pub Sink : Collector T K → SinkState
   Sink s = state s.sink.now
 
   -- the references are the same
-  record Same (s t : Collector T K) : Type 0 where
-    ledger : t.ledger.ghost_name ≡ s.ledger.ghost_name
-    sink : t.sink.ghost_name ≡ s.sink.ghost_name
+  pub record Same (s t : Collector T K) : Type 0 where
+    pub ledger : t.ledger.ghost_name ≡ s.ledger.ghost_name
+    pub sink : t.sink.ghost_name ≡ s.sink.ghost_name
 
   -- lines that were taken gave these answers
-  record Taken (s t : Collector T K) (ls : List (List ℕ)) : Type 0 where
-    collects : Collects (Sink s) (Sink t) s.ledger.now t.ledger.now ls
-    number : length collects.answers ≡ length ls
-    counts : AddsUp s.totals → s.totals.lines + length ls < 2 ^ 64
+  pub record Taken (s t : Collector T K) (ls : List (List ℕ)) : Type 0 where
+    pub collects : Collects (Sink s) (Sink t) s.ledger.now t.ledger.now ls
+    pub number : length collects.answers ≡ length ls
+    pub counts : AddsUp s.totals → s.totals.lines + length ls < 2 ^ 64
         → Grows (length s.ledger.now.accepted) (length t.ledger.now.accepted) s.totals t.totals (length ls) (count_by is_err collects.answers)
-    works : StillWorks (Sink s).failed (Sink t).failed
-    same : Same s t
+    pub works : StillWorks (Sink s).failed (Sink t).failed
+    pub same : Same s t
 
-  taken_of : (s t : Collector T K) (ls : List (List ℕ)) → TakesAll (TakesLine state) s ls t → Taken s t ls
+  pub taken_of : (s t : Collector T K) (ls : List (List ℕ)) → TakesAll (TakesLine state) s ls t → Taken s t ls
   taken_of s t [] h = let P : Collector T K → Type 0 = λ x. Taken s x [] in subst P (sym h) (record {
     collects = record { answers = []; leads = Leads-none s.ledger.now; put = Appends-nil (Sink s).bytes };
     number = refl;
@@ -150,12 +159,12 @@ module _ {T K : Type 0} (state : K → SinkState) where
         same = record { ledger = rest.same.ledger ∙ one.same_ledger; sink = rest.same.sink ∙ one.same_sink };
       }
 
-  record StoppedAt (s t : Collector T K) (ls : List (List ℕ)) : Type 0 where
-    collects : CollectsButOne (Sink s) (Sink t) s.ledger.now t.ledger.now ls
-    fails : (Sink t).failed ≡ true
-    same : Same s t
+  pub record StoppedAt (s t : Collector T K) (ls : List (List ℕ)) : Type 0 where
+    pub collects : CollectsButOne (Sink s) (Sink t) s.ledger.now t.ledger.now ls
+    pub fails : (Sink t).failed ≡ true
+    pub same : Same s t
 
-  stopped_at : (s t : Collector T K) (ls : List (List ℕ)) (e : Failed) → StopsAtLast (TakesLine state) s ls e t → StoppedAt s t ls
+  pub stopped_at : (s t : Collector T K) (ls : List (List ℕ)) (e : Failed) → StopsAtLast (TakesLine state) s ls e t → StoppedAt s t ls
   stopped_at s t ls e h =
       let stopped = stopped_of s h.2 t h.0 h.1 e h.4 h.5 in record {
         collects = record {

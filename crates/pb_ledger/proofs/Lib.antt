@@ -1,2 +1,5 @@
 mod Collected
+mod Gaining
+mod Journaled
+mod JournaledLine
 mod Submitting

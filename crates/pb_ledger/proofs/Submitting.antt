@@ -1,19 +1,25 @@
--- A line and its answer: the id that its reply names, and how many games it adds.
-use Rattle.std.proofs.Common.{◌≡◌, ℕ, ◌+◌, ◌<◌, ◌≤◌, Bool, true, false, nat_lt, List, [], ◌∷◌, length, Ok, Err, refl, sym, ap, subst, ◌∙◌, arith, inl, inr}
+-- A line and its answer: the id that its reply names, how many games it adds, and how it is taken.
+use Rattle.std.proofs.Common.{◌≡◌, ℕ, ◌+◌, ◌<◌, ◌≤◌, Bool, true, false, nat_lt, List, [], ◌∷◌, length, MutBor, Result, Ok, Err, refl, sym, ap, subst, ◌∙◌, arith, inl, inr}
 use Rattle.std.specs.Prelude.{slice_index_or}
 use Rattle.std.proofs.lemmas.Bool.{cases_lt, lt-ltb, le-ltb}
 use Rattle.std.proofs.lemmas.List.{length-append}
+use Rattle.pb_io.specs.Lines.{line_limit}
+use Rattle.pb_io.specs.Sink.{Put, SinkState}
+use Rattle.pb_io.specs.declared.source.Failed.{Failed}
 use Rattle.pb_games.specs.declared.refusal.Refusal.{Refusal}
 use Rattle.pb_games.specs.declared.refusal.Refusal.TheVariants as refusal
 use Rattle.pb_games.specs.Refusing.{Refuses, field_of}
 use Rattle.pb_games.specs.Submissions.{IsLawful, Submission}
-use Rattle.pb_games.proofs.Dues.{none_before, order}
+use Rattle.pb_games.proofs.Dues.{first_due, none_at_first, none_before, order}
 use Rattle.pb_games.proofs.Texts.{fields_back}
 use Rattle.pb_accepted.specs.Accepting.{Allowed, Answer, Takes}
-use Rattle.pb_accepted.proofs.Replies.{Takes-refusal}
+use Rattle.pb_accepted.proofs.Replies.{Allowed-refused, Takes-refusal, Takes-refused}
 use Rattle.pb_accepted.specs.Ledger.{LedgerState}
+use Rattle.pb_ledger.specs.declared.collecting.Collector.{Collector}
+use Rattle.pb_ledger.specs.declared.totals.Totals.{Totals}
 use Rattle.pb_ledger.specs.Collecting.{Leads}
-use Rattle.pb_accepted.specs.Replies.{named}
+use Rattle.pb_ledger.specs.Collector.{TakesLine, with_answer}
+use Rattle.pb_accepted.specs.Replies.{named, reply_line}
 
 -- ---- the id that is named
 
@@ -65,6 +71,13 @@ Leads-one ledger ledger' line answer allowed takes basis cap = record {
   cap = cap;
 }
 
+-- a line too long to be kept is refused, which changes nothing
+pub Leads-long : (ledger ledger' : LedgerState) (line : List ℕ) → line_limit < length line → ledger' ≡ ledger → Leads ledger ledger' (line ∷ []) (Err refusal.Long ∷ [])
+Leads-long ledger ledger' line long same =
+    let refuses : Refuses line refusal.Long = first_due refusal.Long line (none_at_first line) long in
+    let one = Leads-one ledger ledger line (Err refusal.Long) (Allowed-refused ledger.cap ledger.accepted line refusal.Long refuses) (Takes-refused ledger.accepted line refusal.Long refuses) refl refl in
+    subst (λ (x : LedgerState). Leads ledger x (line ∷ []) (Err refusal.Long ∷ [])) (sym same) one
+
 pub took : (ledger ledger' : LedgerState) (line : List ℕ) (answer : Answer) → Leads ledger ledger' (line ∷ []) (answer ∷ []) → Takes ledger.accepted line answer ledger'.accepted
 took ledger ledger' line answer one = subst (λ (M : List Submission). Takes ledger.accepted line answer M) (sym one.accepted.2) one.accepted.1
 
@@ -85,3 +98,33 @@ grows cap A line (Ok n) B allowed (inr keeps) =
     let same : length B ≡ length A = ap length keeps.1 in
     rw (le-ltb (length A) (length B) (omega (arith, same))) (omega (arith, same))
 grows cap A line (Err e) B allowed takes = omega (arith, ap length (Takes-refusal cap A line e B allowed takes))
+
+-- ---- a line that is submitted and answered
+
+-- what submitting leaves to be counted and answered
+pub record Submitted {T K : Type 0} (s m : Collector T K) (line : List ℕ) (answer : Answer) (is_new : Bool) : Type 0 where
+  pub leads : Leads s.ledger.now m.ledger.now (line ∷ []) (answer ∷ [])
+  pub grown : is_new ≡ nat_lt (length s.ledger.now.accepted) (length m.ledger.now.accepted)
+  pub same_totals : m.totals ≡ s.totals
+  pub same_ledger : m.ledger.ghost_name ≡ s.ledger.ghost_name
+  pub same_sink : m.sink ≡ s.sink
+
+-- what counting and answering does
+pub record Replied {T K : Type 0} (state : K → SinkState) (m t : Collector T K) (line : List ℕ) (answer : Answer) (is_new : Bool) (result : Result (Unit {0}) Failed) : Type 0 where
+  pub counted : t.totals ≡ with_answer m.totals answer is_new
+  pub put : Put (state m.sink.now) (state t.sink.now) result (reply_line line answer)
+  pub same : t.ledger.now ≡ m.ledger.now
+  pub same_ledger : t.ledger.ghost_name ≡ m.ledger.ghost_name
+  pub same_sink : t.sink.ghost_name ≡ m.sink.ghost_name
+
+pub taken_so : {T K : Type 0} (state : K → SinkState) (s m t : Collector T K) (line : List ℕ) (answer : Answer) (is_new : Bool) (result : Result (Unit {0}) Failed)
+    → Submitted s m line answer is_new → Replied state m t line answer is_new result → TakesLine state s line result t
+taken_so {T} {K} state s m t line answer is_new result submitted replied = record {
+  answer = answer;
+  leads = subst (λ (x : LedgerState). Leads s.ledger.now x (line ∷ []) (answer ∷ [])) (sym replied.same) submitted.leads;
+  counted = replied.counted ∙ ap (λ (x : Totals). with_answer x answer is_new) submitted.same_totals
+      ∙ ap (λ b. with_answer s.totals answer b) (submitted.grown ∙ ap (λ (x : LedgerState). nat_lt (length s.ledger.now.accepted) (length x.accepted)) (sym replied.same));
+  put = subst (λ (x : MutBor K). Put (state x.now) (state t.sink.now) result (reply_line line answer)) submitted.same_sink replied.put;
+  same_ledger = replied.same_ledger ∙ submitted.same_ledger;
+  same_sink = replied.same_sink ∙ ap (λ (x : MutBor K). x.ghost_name) submitted.same_sink;
+}

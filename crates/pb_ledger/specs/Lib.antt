@@ -1,5 +1,7 @@
 pub mod Collecting
 pub mod Collector
+pub mod Journaler
+pub mod Journaling
 pub use Rattle.pb_accepted.specs.Accepting
 pub use Rattle.pb_accepted.specs.Arriving
 pub use Rattle.pb_accepted.specs.Basis
@@ -23,6 +25,9 @@ pub use Rattle.pb_points.specs.ListTally
 pub use Rattle.pb_points.specs.Rows
 pub use Rattle.pb_points.specs.Tally
 pub use Rattle.pb_points.specs.Weight
+pub use Rattle.pb_saved.specs.Journal
+pub use Rattle.pb_saved.specs.JournalLaws
 pub use Rattle.pb_saved.specs.Laws as SavedLaws
 pub use Rattle.pb_saved.specs.Loading
+pub use Rattle.pb_saved.specs.Replaying
 pub use Rattle.pb_saved.specs.Saving

@@ -1,8 +1,8 @@
 //! Submissions in, replies out.
 
-ghost use Rattle.std.specs.Prelude.{◌≡◌, ◌≤◌, IfErr, IfOk, OnOk, length};
+ghost use Rattle.std.specs.Prelude.{◌≡◌, ◌≤◌, ◌∷◌, [], IfErr, IfOk, OnOk, length, nat_lt};
 ghost use Rattle.pb_io.specs.Sink.{Put};
-ghost use Rattle.pb_ledger.specs.Collecting.{CollectsStream, CollectsTold, CollectsUntil};
+ghost use Rattle.pb_ledger.specs.Collecting.{CollectsStream, CollectsTold, CollectsUntil, Leads};
 ghost use Rattle.pb_ledger.specs.Collector.{with_answer};
 ghost use Rattle.pb_accepted.specs.Replies.{named, reply_line};
 
@@ -34,15 +34,29 @@ pub enum CollectFault {
 
 /// Submits lines, counts them and puts their replies.
 #[derive(Drop)]
-struct Collector<'l, 's, T: Tally, K> {
-    ledger: &'l mut Ledger<T>,
-    sink: &'s mut K,
-    totals: Totals,
+pub(crate) struct Collector<'l, 's, T: Tally, K> {
+    pub(crate) ledger: &'l mut Ledger<T>,
+    pub(crate) sink: &'s mut K,
+    pub(crate) totals: Totals,
 }
 
 impl<T: Tally, K: Sink> Collector<'_, '_, T, K> {
+    /// Submits a line. The answer to it, and whether it brought a new game.
+    pub(crate) fn submit(&mut self, line: &[u8]) -> (Result<u32, Refusal>, bool)
+        ensures leads { Leads self.old.ledger.now self.new.ledger.now (line.now ∷ []) (result.0 ∷ []) }
+        ensures new { result.1 ≡ nat_lt (length self.old.ledger.now.accepted) (length self.new.ledger.now.accepted) }
+        ensures short { length (named line.now result.0) ≤ 64 }
+        ensures same_totals { self.new.totals ≡ self.old.totals }
+        ensures same_ledger { self.new.ledger.ghost_name ≡ self.old.ledger.ghost_name }
+        ensures same_sink { self.new.sink ≡ self.old.sink }
+    {
+        let held = self.ledger.len();
+        let answer = self.ledger.submit(line);
+        (answer, self.ledger.len() > held)
+    }
+
     /// Counts a line and puts its reply, at once.
-    fn reply(
+    pub(crate) fn reply(
         &mut self,
         line: &[u8],
         answer: Result<u32, Refusal>,
@@ -68,9 +82,7 @@ impl<T: Tally, K: Sink> LineTask for Collector<'_, '_, T, K> {
     ghost takes = { TakesLine K.state };
 
     fn take(&mut self, line: &[u8]) -> Result<(), Failed> {
-        let held = self.ledger.len();
-        let answer = self.ledger.submit(line);
-        let is_new = self.ledger.len() > held;
+        let (answer, is_new) = self.submit(line);
         self.reply(line, answer, is_new)
     }
 

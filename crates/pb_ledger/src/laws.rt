@@ -2,4 +2,4 @@
 
 pub use pb_accepted::laws::{accepted, books, distinct, numbers, one_game, one_line, runs};
 pub use pb_export::laws::exports;
-pub use pb_saved::laws::{continued, saved};
+pub use pb_saved::laws::{continued, journaled, saved};

@@ -1,9 +1,11 @@
 //! Each command over the files that it names and the standard streams.
 
 use crate::file::{FilePlace, open};
+use crate::journal::{JournalFile, open_to_append};
 use crate::stop::Stop;
 use pb_cli::{
-    Order, Rules, collect_into, continue_into, run_epd, run_export, run_fen, run_probe, run_show,
+    Keeping, Order, Rules, collect_into, continue_into, journal_into, run_epd, run_export, run_fen,
+    run_probe, run_show,
 };
 use pb_poly::{FromRead, Sink, ToWrite};
 use std::io;
@@ -37,16 +39,14 @@ pub(crate) fn answer<K: Sink>(
         } => probe(rt, table, book, record, output),
         Order::Collect {
             rules,
-            ledger: None,
+            kept,
             table,
             book,
-        } => collect(rt, *rules, table, book),
-        Order::Collect {
-            rules,
-            ledger: Some(ledger),
-            table,
-            book,
-        } => collect_on(rt, *rules, ledger, table, book),
+        } => match kept {
+            Keeping::Book => collect(rt, *rules, table, book),
+            Keeping::Ledger(ledger) => collect_on(rt, *rules, ledger, table, book),
+            Keeping::Journal { path, sync } => collect_to(rt, *rules, path, *sync, table, book),
+        },
         Order::Export { rules, table } => {
             let mut table = open(rt, table)?;
             let mut input = FromRead::new(rt.reader());
@@ -109,6 +109,35 @@ fn collect_on(
         &mut input,
         &mut replies,
         &mut ledger_file,
+        &mut book_file,
+        FILLS,
+    )?)
+}
+
+/// Goes on from the file of a journal, which each new game is added to before its reply is written.
+fn collect_to(
+    rt: &HostRuntime,
+    rules: Rules,
+    journal: &str,
+    sync: bool,
+    table: &str,
+    book: &str,
+) -> Result<bool, Stop> {
+    let mut table = open(rt, table)?;
+    let file = open_to_append(rt, journal)?;
+    let mut kept = open(rt, journal)?;
+    let mut lines = JournalFile::new(rt, &file, sync)?;
+    let mut input = FromRead::new(rt.reader());
+    let mut replies = ToWrite::new(io::writer(rt));
+    let mut book_file = FilePlace::new(rt, book);
+    Ok(journal_into(
+        rt.alloc(),
+        rules,
+        &mut table,
+        &mut kept,
+        &mut lines,
+        &mut input,
+        &mut replies,
         &mut book_file,
         FILLS,
     )?)

@@ -5,6 +5,7 @@
 mod command;
 mod draft;
 mod file;
+mod journal;
 mod program;
 mod stop;
 mod whole_file;

@@ -1,6 +1,7 @@
 -- From the lines that the loader took to what was loaded.
 use Rattle.std.proofs.Common.{if◌then◌else◌, ◌≡◌, ◌≢◌, ℕ, ◌+◌, ◌*◌, ◌^◌, ◌<◌, ◌≤◌, Bool, true, false, List, [], ◌∷◌, ◌++◌, length, Result, Ok, Err, All, IsOk, IsTrue, OnOk, IfErr, refl, sym, ap, subst, ◌∙◌, inl, inr, arith}
 use Rattle.std.specs.Prelude.{IsErrAnd, MatchResult}
+use Rattle.std.specs.Borrow.{MutBor}
 use Rattle.std.proofs.lemmas.List.Elements.{All-cons, All-nil}
 use Rattle.std.proofs.lemmas.List.{length_push}
 use Rattle.std.proofs.lemmas.Option.{slice_get_within}
@@ -19,12 +20,14 @@ use Rattle.pb_games.specs.Submissions.{Submission}
 use Rattle.pb_games.specs.declared.refusal.Refusal.{Refusal}
 use Rattle.pb_games.specs.declared.refusal.Refusal.TheVariants as refusal
 use Rattle.pb_accepted.specs.Accepting.{Accepted, Allowed, Answer, Answers, Reply, Run, Takes}
+use Rattle.pb_accepted.specs.Ledger.{LedgerState}
 use Rattle.pb_games.specs.Refusing.{Refuses}
 use Rattle.pb_accepted.proofs.Replies.{Takes-refusal}
 use Rattle.pb_saved.specs.declared.loading.Loader.{Loader}
 use Rattle.pb_saved.specs.declared.loading.LoadError.{LoadError}
 use Rattle.pb_saved.specs.declared.loading.LoadError.TheVariants as error
-use Rattle.pb_saved.specs.Loader.{Judged, KeepsLedger, Submits, TakesLine, header, load_error, error_at, one_more, submission}
+use Rattle.pb_saved.specs.Lending.{KeepsLedger}
+use Rattle.pb_saved.specs.Loader.{Judged, Submits, TakesLine, header, load_error, error_at, one_more, submission}
 use Rattle.pb_saved.specs.Saving as saving
 use Rattle.pb_saved.specs.Loading.{BreaksAt, Loads, LoadsAll, LoadsButOne, LoadsUntil, WantsMemory, has_header, is_header, submission_lines}
 
@@ -46,7 +49,7 @@ replied cap A line r (inl h) other = h
 replied cap A line r (inr h) other = absurd (other h.0)
 
 -- want of memory is answered where the reply is the next number
-wanted : (cap : ℕ) (A : List Submission) (line : List ℕ) → Allowed cap A line (Err refusal.Memory) → Reply cap A line (Ok (length A + 1))
+pub wanted : (cap : ℕ) (A : List Submission) (line : List ℕ) → Allowed cap A line (Err refusal.Memory) → Reply cap A line (Ok (length A + 1))
 wanted cap A line (inl (inl h)) = absurd h.2
 wanted cap A line (inl (inr h)) = let is : h.0 ≡ refusal.Memory = cc (h.1) in absurd (subst (λ e. Refuses line e) is h.2).due
 wanted cap A line (inr h) = h.1
@@ -77,6 +80,13 @@ judged_refused is_saved n A B (refusal.Illegal m) same = (refl, λ q. (cc), same
 judged_refused is_saved n A B (refusal.Conflict m) same = (refl, λ q. (cc), same, inl refl)
 judged_refused is_saved n A B refusal.Full same = (refl, λ q. (cc), same, inl refl)
 
+-- the ledger that is lent
+pub KeepsLedger-same : (s : MutBor LedgerState) → KeepsLedger s s
+KeepsLedger-same s = record { lent = refl; basis = refl; cap = refl }
+
+pub KeepsLedger-then : (s m t : MutBor LedgerState) → KeepsLedger s m → KeepsLedger m t → KeepsLedger s t
+KeepsLedger-then s m t h k = record { lent = k.lent ∙ h.lent; basis = k.basis ∙ h.basis; cap = k.cap ∙ h.cap }
+
 -- what is so at a line whatever the lines are
 done_at : {P : Type 0} {fills : ℕ} {old new : SourceState} → AtLine fills old new (λ _. P) → P
 done_at (inl h) = h.done
@@ -92,16 +102,10 @@ module _ {T : Type 0} where
     pub new : IsTrue s.is_saved → length t.ledger.now.accepted ≡ length s.ledger.now.accepted + length ls
     pub saved : t.is_saved ≡ s.is_saved
     pub lines : s.lines + length ls < 2 ^ 64 → t.lines ≡ s.lines + length ls
-    pub keeps : KeepsLedger s t
-
-  KeepsLedger-same : (s : Loader T) → KeepsLedger s s
-  KeepsLedger-same s = record { lent = refl; basis = refl; cap = refl }
-
-  KeepsLedger-then : (s m t : Loader T) → KeepsLedger s m → KeepsLedger m t → KeepsLedger s t
-  KeepsLedger-then s m t h k = record { lent = k.lent ∙ h.lent; basis = k.basis ∙ h.basis; cap = k.cap ∙ h.cap }
+    pub keeps : KeepsLedger s.ledger t.ledger
 
   Taken-none : (s : Loader T) → Taken s s []
-  Taken-none s = record { answers = []; run = tt; accepted = refl; taken = All-nil IsOk; new = λ h. omega arith; saved = refl; lines = λ h. omega arith; keeps = KeepsLedger-same s }
+  Taken-none s = record { answers = []; run = tt; accepted = refl; taken = All-nil IsOk; new = λ h. omega arith; saved = refl; lines = λ h. omega arith; keeps = KeepsLedger-same s.ledger }
 
   Taken-more : (s m t : Loader T) (line : List ℕ) (ls : List (List ℕ)) → Submits (one_more s) line (Ok tt) m → Taken m t ls → Taken s t (line ∷ ls)
   Taken-more s m t line ls one rest = record {
@@ -112,7 +116,7 @@ module _ {T : Type 0} where
     new = λ h. let first = one.judged.1 h in let others = rest.new (subst IsTrue (sym one.saved) h) in omega (arith, first, others);
     saved = rest.saved ∙ one.saved;
     lines = λ few. let counted = one.lines in let others = rest.lines (omega (arith, few, counted)) in omega (arith, few, counted, others);
-    keeps = KeepsLedger-then s m t (record { lent = one.keeps.lent; basis = one.keeps.basis; cap = one.keeps.cap }) rest.keeps;
+    keeps = KeepsLedger-then s.ledger m.ledger t.ledger one.keeps rest.keeps;
   }
 
   -- no line after the first is a header
@@ -130,7 +134,7 @@ module _ {T : Type 0} where
     pub loads : Loads s.ledger.now.cap ls t.ledger.now.accepted
     pub saved : t.is_saved ≡ has_header ls
     pub lines : length ls < 2 ^ 64 → t.lines ≡ length ls
-    pub keeps : KeepsLedger s t
+    pub keeps : KeepsLedger s.ledger t.ledger
 
   abbrev pub IsFresh : Loader T → Type 0
   IsFresh s = (s.lines ≡ 0) × (s.is_saved ≡ false) × (s.ledger.now.accepted ≡ [])
@@ -141,7 +145,7 @@ module _ {T : Type 0} where
       loads = record { answers = []; run = tt; accepted = fresh.2; taken = All-nil IsOk; new = λ h. ap length fresh.2 };
       saved = fresh.1;
       lines = λ few. fresh.0;
-      keeps = KeepsLedger-same s;
+      keeps = KeepsLedger-same s.ledger;
     }
 
     -- where the first line is the header
@@ -158,7 +162,7 @@ module _ {T : Type 0} where
           };
           saved = h.saved ∙ sym is;
           lines = λ few. omega (arith, h.lines (omega (arith, few)));
-          keeps = record { lent = h.keeps.lent; basis = h.keeps.basis; cap = h.keeps.cap };
+          keeps = h.keeps;
         }
 
     -- where it isn't
@@ -241,12 +245,12 @@ module _ {T : Type 0} where
             ];
           }
 
-    stopped_by : (e : LoadError) (before : List (List ℕ)) (line : List ℕ) (m : Loader T) → ls ≡ before ++ line ∷ [] → Whole s m before → TakesLine m line (Err e) t → Stopped e × KeepsLedger s t
+    stopped_by : (e : LoadError) (before : List (List ℕ)) (line : List ℕ) (m : Loader T) → ls ≡ before ++ line ∷ [] → Whole s m before → TakesLine m line (Err e) t → Stopped e × KeepsLedger s.ledger t.ledger
     stopped_by e before line m are w (header zero is answer same) = let no : Err e ≡ Ok tt = answer in cc
     stopped_by e before line m are w (submission other sub) =
-        (stopped_so before line m are w other e sub, KeepsLedger-then s m t w.keeps (record { lent = sub.keeps.lent; basis = sub.keeps.basis; cap = sub.keeps.cap }))
+        (stopped_so before line m are w other e sub, KeepsLedger-then s.ledger m.ledger t.ledger w.keeps sub.keeps)
 
-    pub stopped : (e : LoadError) → StopsAtLast TakesLine s ls e t → Stopped e × KeepsLedger s t
+    pub stopped : (e : LoadError) → StopsAtLast TakesLine s ls e t → Stopped e × KeepsLedger s.ledger t.ledger
     stopped e h = stopped_by e h.0 h.1 h.2 h.3 (whole s fresh h.2 h.0 h.4) h.5
 
   -- ---- the whole of a stream
@@ -267,14 +271,14 @@ module _ {T : Type 0} where
     loaded_until (fault.Stop error.Read) h = absurd (done_at (AtLine-weaker fills old new _ (λ _. ⊥) (λ ls few stops. (stopped s t ls fresh (few_of ls few) error.Read stops).0) h))
     loaded_until (fault.Stop error.Endless) h = absurd (done_at (AtLine-weaker fills old new _ (λ _. ⊥) (λ ls few stops. (stopped s t ls fresh (few_of ls few) error.Endless stops).0) h))
 
-    pub keeps_all : TakesStream TakesLine fills old new s t → KeepsLedger s t
+    pub keeps_all : TakesStream TakesLine fills old new s t → KeepsLedger s.ledger t.ledger
     keeps_all h = (whole s fresh t (lines h.came) h.done).keeps
 
-    pub keeps_until : (fault : LinesFault LoadError) → TakesUntil TakesLine fills old new s t fault → KeepsLedger s t
-    keeps_until fault.Memory h = subst (λ (x : Loader T). KeepsLedger s x) (sym h.1) (KeepsLedger-same s)
+    pub keeps_until : (fault : LinesFault LoadError) → TakesUntil TakesLine fills old new s t fault → KeepsLedger s.ledger t.ledger
+    keeps_until fault.Memory h = subst (λ (x : Loader T). KeepsLedger s.ledger x.ledger) (sym h.1) (KeepsLedger-same s.ledger)
     keeps_until fault.Read h = (whole s fresh t (ended_lines h.came) h.done).keeps
     keeps_until fault.Endless h = (whole s fresh t (ended_lines h.came) h.done).keeps
-    keeps_until (fault.Stop e) h = done_at (AtLine-weaker fills old new _ (λ _. KeepsLedger s t) (λ ls few stops. (stopped s t ls fresh (few_of ls few) e stops).1) h)
+    keeps_until (fault.Stop e) h = done_at (AtLine-weaker fills old new _ (λ _. KeepsLedger s.ledger t.ledger) (λ ls few stops. (stopped s t ls fresh (few_of ls few) e stops).1) h)
 
     -- ---- the answer
 
@@ -292,6 +296,6 @@ module _ {T : Type 0} where
     unloaded_of (Err e) (Ok y) h is = absurd is
     unloaded_of (Err e) (Err f) h is = subst (LoadsUntil fills old new s.ledger.now t.ledger.now) (sym is) (loaded_until e h)
 
-    pub keeps_of : (answer : Result (Unit {0}) (LinesFault LoadError)) → OnOk answer (TakesStream TakesLine fills old new s t) → IfErr answer (TakesUntil TakesLine fills old new s t) → KeepsLedger s t
+    pub keeps_of : (answer : Result (Unit {0}) (LinesFault LoadError)) → OnOk answer (TakesStream TakesLine fills old new s t) → IfErr answer (TakesUntil TakesLine fills old new s t) → KeepsLedger s.ledger t.ledger
     keeps_of (Ok x) h k = keeps_all h
     keeps_of (Err e) h k = keeps_until e k

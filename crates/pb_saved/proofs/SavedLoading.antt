@@ -41,7 +41,7 @@ saved_is_one A a b h k = h.2 ∙ ap (λ ts. flat_map with_end (header ∷ ts)) (
 
 -- ---- the lines of a saved form
 
-quiet_text : (s : Submission) (text : List ℕ) → IsSubmission s → SubmissionText s text → IsQuiet text
+pub quiet_text : (s : Submission) (text : List ℕ) → IsSubmission s → SubmissionText s text → IsQuiet text
 quiet_text s text lawful h k d lt = false_from_ne_true _ (λ is. (one_line s text lawful.id lawful.game h k d lt).0 (eqb-true _ 10 is))
 
 lines_of_texts : (A : List Submission) (texts : List (List ℕ)) → All IsSubmission A → AllZip SubmissionText A texts → lines (flat_map with_end texts) ≡ texts
@@ -75,7 +75,7 @@ module _ (A B : List Submission) (s : Submission) (own : HaveOwnIds (A ++ s ∷ 
       own k (length A) s lt (omega (arith, length-append A (s ∷ B)))
       (ap id_of (get_or_append_left A (s ∷ B) s k lt ∙ get_or_default A k s d lt) ∙ same ∙ sym (ap id_of (get_or-append_seam A s B s)))
 
-HaveOwnIds-front : (A B : List Submission) → HaveOwnIds (A ++ B) → HaveOwnIds A
+pub HaveOwnIds-front : (A B : List Submission) → HaveOwnIds (A ++ B) → HaveOwnIds A
 HaveOwnIds-front A B own i j d lt within =
     subst (λ (s : Submission). s.0 ≢ (get_or A j d).0) (get_or_append_left A B d i (omega (arith, lt, within)))
     (subst (λ (s : Submission). (get_or (A ++ B) i d).0 ≢ s.0) (get_or_append_left A B d j within) (own i j d lt (omega (arith, within, length-append A B))))
@@ -87,13 +87,13 @@ added A line s (Ok n) M law fresh ok (inl adds) = adds.4 ∙ ap (λ (t : Submiss
 added A line s (Ok n) M law fresh ok (inr keeps) = absurd (keeps.0 s law fresh (λ q. (cc), λ q. (cc)))
 
 -- they are answered with the next numbers
-record Given (cap : ℕ) (A S : List Submission) (texts : List (List ℕ)) : Type 0 where
-  answers : List Answer
-  run : Run cap A texts answers
-  accepted : Accepted A texts answers (A ++ S)
-  taken : All IsOk answers
+pub record Given (cap : ℕ) (A S : List Submission) (texts : List (List ℕ)) : Type 0 where
+  pub answers : List Answer
+  pub run : Run cap A texts answers
+  pub accepted : Accepted A texts answers (A ++ S)
+  pub taken : All IsOk answers
 
-given : (cap : ℕ) (A S : List Submission) (texts : List (List ℕ)) → AllZip SubmissionText S texts → All IsSubmission S → HaveOwnIds (A ++ S) → length A + length S ≤ cap → Given cap A S texts
+pub given : (cap : ℕ) (A S : List Submission) (texts : List (List ℕ)) → AllZip SubmissionText S texts → All IsSubmission S → HaveOwnIds (A ++ S) → length A + length S ≤ cap → Given cap A S texts
 given cap A [] [] zip games own room = record { answers = []; run = tt; accepted = append-nil A; taken = All-nil IsOk }
 given cap A [] (t ∷ texts) zip games own room = absurd zip
 given cap A (s ∷ S) [] zip games own room = absurd zip

@@ -10,13 +10,8 @@ use Rattle.pb_accepted.specs.Accepting.{Allowed, Answer, Takes}
 use Rattle.pb_saved.specs.declared.loading.Loader.{Loader}
 use Rattle.pb_saved.specs.declared.loading.LoadError.{LoadError}
 use Rattle.pb_saved.specs.declared.loading.LoadError.TheVariants.{Line, Read, Endless, Memory}
+use Rattle.pb_saved.specs.Lending.{KeepsLedger}
 use Rattle.pb_saved.specs.Loading.{is_header}
-
--- the same ledger is lent, with its basis and cap
-pub record KeepsLedger {T : Type 0} (s t : Loader T) : Type 0 where
-  pub lent : t.ledger.ghost_name ≡ s.ledger.ghost_name
-  pub basis : t.ledger.now.basis ≡ s.ledger.now.basis
-  pub cap : t.ledger.now.cap ≡ s.ledger.now.cap
 
 -- what comes of the answer to line n, where A became B: after a header the line has to bring a new game
 abbrev pub Judged : Bool → ℕ → List Submission → List Submission → Answer → Result (Unit {0}) LoadError → Type 0
@@ -33,7 +28,7 @@ pub record Submits {T : Type 0} (s : Loader T) (line : List ℕ) (result : Resul
   pub judged : Judged s.is_saved s.lines s.ledger.now.accepted t.ledger.now.accepted answer result
   pub lines : t.lines ≡ s.lines
   pub saved : t.is_saved ≡ s.is_saved
-  pub keeps : KeepsLedger s t
+  pub keeps : KeepsLedger s.ledger t.ledger
 
 -- the loader has counted one line more
 abbrev pub one_more : {T : Type 0} → Loader T → Loader T

@@ -1,7 +1,8 @@
 //! A ledger from the lines of a file.
 
 ghost use Rattle.std.specs.Prelude.{◌≡◌, [], false, IfErr, IfOk, OnOk};
-ghost use Rattle.pb_saved.specs.Loader.{KeepsLedger, Submits, error_at, load_error};
+ghost use Rattle.pb_saved.specs.Lending.{KeepsLedger};
+ghost use Rattle.pb_saved.specs.Loader.{Submits, error_at, load_error};
 ghost use Rattle.pb_saved.specs.Loading.{LoadsAll, LoadsSaved, LoadsStream, LoadsUntil};
 
 use crate::saving::HEADER;
@@ -90,7 +91,7 @@ impl<T: Tally> Loader<'_, T> {
         requires empty { self.old.ledger.now.accepted ≡ [] }
         ensures ok { OnOk result (LoadsAll fills (S.state source.old) (S.state source.new) self.old.ledger.now self.new.ledger.now) }
         ensures err { IfErr result (LoadsUntil fills (S.state source.old) (S.state source.new) self.old.ledger.now self.new.ledger.now) }
-        ensures same { KeepsLedger self.old self.new }
+        ensures same { KeepsLedger self.old.ledger self.new.ledger }
     {
         take_lines(alloc, source, self, fills).map_err(error_of)
     }

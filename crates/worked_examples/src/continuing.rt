@@ -4,7 +4,8 @@ use crate::book::tell;
 use crate::book_command::{TABLE_PIECE, tell_next};
 use crate::ends::{Ends, Giver, ends_of, failing_source};
 use crate::game::stream_of;
-use crate::page::{Done, Page, Trouble};
+use crate::journaling;
+use crate::page::{Done, Page};
 use crate::text::count_of;
 use pb_cli::{Continued, Fault, Rules, run_continue};
 use pb_ledger::save;
@@ -17,7 +18,7 @@ const SAVED_PIECE: usize = 7;
 pub(crate) fn answer(page: &mut Page, call: &[&str]) -> Done {
     match call {
         ["continue", table, ends, count, lines @ ..] => go_on(page, table, ends, count, lines),
-        _ => Err(Trouble::Row),
+        _ => journaling::answer(page, call),
     }
 }
 
@@ -62,7 +63,7 @@ fn go_on_over(
 }
 
 /// A fault.
-fn tell_fault(page: &mut Page, fault: Fault) {
+pub(crate) fn tell_fault(page: &mut Page, fault: Fault) {
     page.put("fault ");
     page.put_debug(&fault);
 }

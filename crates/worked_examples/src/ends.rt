@@ -118,31 +118,34 @@ impl Write for Taker {
     }
 }
 
-/// How a command's ends are: how many fills it may make, and after how many bytes its table, its saved ledger, its other input and its
-/// output fail.
+/// How a command's ends are: how many fills it may make, and after how many bytes its table, its saved ledger or the reading of its
+/// journal, its other input, the writing of its journal and its output fail.
 #[derive(Clone, Copy)]
 pub(crate) struct Ends {
     pub(crate) fills: u32,
     pub(crate) table: usize,
     pub(crate) saved: usize,
     pub(crate) input: usize,
+    pub(crate) journal: usize,
     pub(crate) output: usize,
 }
 
-/// The ends that a word of a row names: `all` where nothing fails, a number of fills, or `table-5`, `saved-5`, `input-5` or `output-5` for
-/// the end that fails and its bytes before that.
+/// The ends that a word of a row names: `all` where nothing fails, a number of fills, or `table-5`, `saved-5`, `input-5`, `journal-5` or
+/// `output-5` for the end that fails and its bytes before that.
 pub(crate) fn ends_of(word: &str) -> Ends {
     let mut ends = Ends {
         fills: u32::MAX,
         table: NEVER,
         saved: NEVER,
         input: NEVER,
+        journal: NEVER,
         output: NEVER,
     };
     match word.split_once('-') {
         Some(("table", count)) => ends.table = count_of(count),
         Some(("saved", count)) => ends.saved = count_of(count),
         Some(("input", count)) => ends.input = count_of(count),
+        Some(("journal", count)) => ends.journal = count_of(count),
         Some(("output", count)) => ends.output = count_of(count),
         _ => ends.fills = fills_of(word),
     }

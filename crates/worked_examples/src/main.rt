@@ -5,7 +5,7 @@
 //!
 //! The topic `run` runs the program `pbook` over the words that follow. What it prints comes after the row's name in a line of its
 //! own. Standard input has its submissions, and the folder of the run a table, one of 780 lines, an older file in the place of the
-//! book, and the files of three saved ledgers.
+//! book, and the files of three saved ledgers and two journals.
 #![tactic(auto)]
 
 mod book;
@@ -15,6 +15,7 @@ mod continuing;
 mod ends;
 mod epd;
 mod game;
+mod journaling;
 mod ledger;
 mod moves;
 mod page;

@@ -1,0 +1,69 @@
+-- What the clauses of the command `collect` with a journal say, from how its run ends.
+use Rattle.std.proofs.Common.{◌≡◌, ℕ, ◌⊎◌, List, Option, Some, None, Result, Ok, Err, false, inl, inr, refl, true}
+use Rattle.std.specs.Prelude.{IfOk, IfSome, OnOk}
+use Rattle.pb_io.specs.Source.{SourceState}
+use Rattle.pb_io.specs.Sink.{SinkState}
+use Rattle.pb_poly.specs.declared.entry.Entry.{Entry}
+use Rattle.pb_accepted.specs.Rules.{CountingRules}
+use Rattle.pb_commands.specs.Judged.{PutsUntil}
+use Rattle.pb_commands.specs.declared.fault.Fault.{Fault}
+use Rattle.pb_commands.specs.declared.fault.Fault.TheVariants as fault
+use Rattle.pb_collecting.specs.CollectRun.{JudgesTable}
+use Rattle.pb_collecting.specs.JournalRun.{EndsJournaled, JournalsOrEnds, at_book, at_journal, at_submissions, at_table}
+use Rattle.pb_collecting.specs.JournalTold.{HasHeadlineOfJournal, Survives, TellsJournaled}
+use Rattle.pb_collecting.proofs.CollectRuns.{tells_refused}
+use Rattle.pb_collecting.proofs.JournalHeadlines.{has_headline}
+use Rattle.pb_collecting.proofs.JournalSurvives.{stream_survives, until_survives}
+
+module _ (rules : CountingRules) (fills : ℕ) (t t' v v' s s' : SourceState) (j j' sink sink' : SinkState) where
+  -- ---- no game is lost
+
+  -- the table was refused, or not read: so no submission was
+  unread : (fault : Fault) → PutsUntil (JudgesTable fills t t' s s') sink sink' fault → s' ≡ s
+  unread fault.Write h = h.judged.unread
+  unread fault.Read h = h.0.unread
+  unread fault.Endless h = h.0.unread
+  unread fault.Memory h = h.0.unread
+
+  abbrev Safe : Option (List ℕ) → Type 0
+  Safe kept = (s' ≡ s) ⊎ IfSome kept (λ bytes. Survives bytes s.to_come j j' sink sink')
+
+  safe : (kept : Option (List ℕ)) → v.to_come ≡ kept → ((bytes : List ℕ) → v.to_come ≡ Some bytes → (s' ≡ s) ⊎ Survives bytes s.to_come j j' sink sink') → Safe kept
+  safe None is told = inr tt
+  safe (Some bytes) is told = told bytes is
+
+  ends_safe : (fault : Fault) → EndsJournaled rules fills t t' v v' s s' j j' sink sink' fault → Safe v.to_come
+  ends_safe fault (at_table puts unread_journal untouched) = inl (unread fault puts)
+  ends_safe fault (at_journal e not is unsubmitted nothing) = inl unsubmitted
+  ends_safe fault (at_submissions e held left mended first until is) =
+      safe v.to_come refl (λ bytes told. until_survives rules fills t t' v v' s j mended j' sink sink' held first bytes told s' left e until)
+  ends_safe fault (at_book held left mended totals first stream is) =
+      safe v.to_come refl (λ bytes told. stream_survives rules fills t t' v v' s j mended j' sink sink' held first bytes told s' left totals stream)
+
+  -- ---- of the whole run
+
+  abbrev Ends : Result (Option (List Entry)) Fault → Type 0
+  Ends = JournalsOrEnds rules fills t t' v v' s s' j j' sink sink'
+
+  pub told : (result : Result (Option (List Entry)) Fault) → Ends result → IfOk result (TellsJournaled t.to_come sink sink')
+  told (Ok (Some entries)) h = tt
+  told (Ok None) h = tells_refused rules fills t t' s s' sink sink' h.0.refused
+  told (Err fault) h = tt
+
+  pub headline : (result : Result (Option (List Entry)) Fault) → Ends result
+      → IfOk result (λ answer. IfSome answer (HasHeadlineOfJournal rules t.to_come v.to_come s.to_come j j' sink sink'))
+  headline (Ok (Some entries)) h = has_headline rules fills t t' v v' s s' j j' sink sink' entries h.1 h.2 h.0
+  headline (Ok None) h = tt
+  headline (Err fault) h = tt
+
+  pub survives : (result : Result (Option (List Entry)) Fault) → Ends result → Safe v.to_come
+  survives (Ok (Some entries)) h =
+      let b = h.0 in
+      safe v.to_come refl (λ bytes told. stream_survives rules fills t t' v v' s j b.mended j' sink sink' b.held b.first bytes told s' b.left b.totals b.collects)
+  survives (Ok None) h = inl h.0.refused.judged.unread
+  survives (Err fault) h = ends_safe fault h
+
+  pub handed_on : (result : Result (Option (List Entry)) Fault) → Ends result → OnOk result ((sink'.failed ≡ false) × (sink'.flushed ≡ true))
+  handed_on (Ok (Some entries)) h = (h.0.collects.0.1, h.0.collects.0.2)
+  handed_on (Ok None) h = (h.1, h.2)
+  handed_on (Err fault) h = tt

@@ -1,0 +1,172 @@
+-- However a run with a journal ends, no acknowledged game is lost.
+use Rattle.std.proofs.Common.{◌≡◌, ◌∙◌, ℕ, ◌+◌, ◌⊎◌, List, ◌∷◌, [], ◌++◌, Some, Ok, append_assoc, ap, inl, inr, length, slice_get, subst, sym, take, Option, None, append-nil, refl}
+use Rattle.std.specs.Io.KnownBytes.{Appends}
+use Rattle.std.proofs.KnownBytes.{Appends-trans}
+use Rattle.std.proofs.Math.Seq.{take-append-add, take-length}
+use Rattle.pb_board.specs.LineEnd.{with_end}
+use Rattle.pb_io.specs.Source.{SourceState}
+use Rattle.pb_io.specs.Sink.{SinkState}
+use Rattle.pb_io.specs.LineTask.{AtLine}
+use Rattle.pb_io.specs.Lines.{ended_lines, lines}
+use Rattle.pb_io.specs.Reads.{Reads, ReadsAll, ReadsFront, chunk_len}
+use Rattle.pb_io.proofs.LineLemmas.{lines-begin}
+use Rattle.pb_poly.proofs.ToldReads.{all_came, came_first}
+use Rattle.pb_games.specs.Submissions.{Submission}
+use Rattle.pb_accepted.specs.Accepting.{Accepted, Answer, IsNumber}
+use Rattle.pb_accepted.specs.Holding.{most_games}
+use Rattle.pb_accepted.specs.Ledger.{LedgerState}
+use Rattle.pb_accepted.specs.Replies.{replies, reply_line}
+use Rattle.pb_accepted.specs.Rules.{CountingRules}
+use Rattle.pb_saved.specs.Journal.{Journals, mending}
+use Rattle.pb_ledger.specs.Collecting.{Collects, CollectsButOne, Leads}
+use Rattle.pb_ledger.specs.Journaling.{CollectsUnkept, Gains, JournalsStream, JournalsUntil}
+use Rattle.pb_ledger.specs.declared.collecting.CollectFault.TheVariants as collect
+use Rattle.pb_ledger.specs.declared.journaling.JournalFault.{JournalFault}
+use Rattle.pb_ledger.specs.declared.journaling.JournalFault.TheVariants as journal
+use Rattle.pb_ledger.specs.declared.totals.Totals.{Totals}
+use Rattle.pb_collecting.specs.Headline.{Arrives}
+use Rattle.pb_collecting.specs.JournalRun.{ReplaysFirst}
+use Rattle.pb_collecting.specs.JournalTold.{AreFirst, Survives}
+use Rattle.pb_collecting.proofs.JournalGains.{IsNumber-front, gains_all, gains_torn, has_numbers, replies-push}
+use Rattle.pb_collecting.proofs.JournalHeadlines.{held_told, mended_told}
+
+-- ---- the first lines of the submissions
+
+module _ (fills : ℕ) (s s' : SourceState) where
+  -- those that an LF ended in the bytes that came first
+  ended_first : (came : List ℕ) → ((bytes : List ℕ) → s.to_come ≡ Some bytes → (more : List ℕ) × (bytes ≡ came ++ more)) → AreFirst (ended_lines came) s.to_come
+  ended_first came begins = by s.to_come refl
+    where
+      by : (submitted : Option (List ℕ)) → s.to_come ≡ submitted → AreFirst (ended_lines came) submitted
+      by None is = tt
+      by (Some bytes) is = let b = begins bytes is in let later = lines-begin came b.0 in (later.0, ap lines b.1 ∙ later.1)
+
+  first_read : (came : List ℕ) → Reads chunk_len fills s s' came → AreFirst (ended_lines came) s.to_come
+  first_read came h = ended_first came (λ bytes told. came_first chunk_len fills s s' bytes told came h)
+
+  front_read : (came : List ℕ) → ReadsFront chunk_len fills s s' came → AreFirst (ended_lines came) s.to_come
+  front_read came h =
+      ended_first came (λ bytes told. let c = came_first chunk_len fills s s' bytes told (came ++ h.0) h.1.reads in (h.0 ++ c.0, c.1 ∙ append_assoc came h.0 c.0))
+
+  -- all of them
+  all_read : (came : List ℕ) → ReadsAll chunk_len fills s s' came → AreFirst (lines came) s.to_come
+  all_read came h = by s.to_come refl
+    where
+      by : (submitted : Option (List ℕ)) → s.to_come ≡ submitted → AreFirst (lines came) submitted
+      by None is = tt
+      by (Some bytes) is = ([], ap lines (all_came chunk_len fills s s' bytes is came h) ∙ sym (append-nil (lines came)))
+
+first_but_one : (submitted : Option (List ℕ)) (before : List (List ℕ)) (line : List ℕ) → AreFirst (before ++ line ∷ []) submitted → AreFirst before submitted
+first_but_one None before line h = tt
+first_but_one (Some bytes) before line h = (line ∷ h.0, h.1 ∙ append_assoc before (line ∷ []) h.0)
+
+-- ---- from the journal that was replayed on
+
+module _ (rules : CountingRules) (fills : ℕ) (t t' v v' s : SourceState) (j mended j' sink sink' : SinkState) (held : LedgerState) (first : ReplaysFirst rules fills t t' v v' j mended held)
+    (kept : List ℕ) (told : v.to_come ≡ Some kept) where
+  -- the new games are on the journal as far as they were acknowledged
+  abbrev Safe : Type 0
+  Safe = Survives kept s.to_come j j' sink sink'
+
+  holds : Journals most_games kept held.accepted
+  holds = held_told rules fills t t' v v' j mended held first kept told
+
+  leads_on : (left : LedgerState) (L : List (List ℕ)) (R : List Answer) → Leads held left L R
+      → Leads (record { basis = record { words = first.words; rules = rules }; cap = most_games; accepted = held.accepted }) left L R
+  leads_on left L R h = subst (λ (m : LedgerState). Leads m left L R) first.is h
+
+  gained : (text : List ℕ) → Appends mended.bytes j'.bytes text → Appends j.bytes j'.bytes (mending kept ++ text)
+  gained text put = Appends-trans _ _ _ _ _ (mended_told rules fills t t' v v' j mended held first kept told) put
+
+  -- a front of the replies was put, and the new games are on the journal
+  survives : (left : LedgerState) (L : List (List ℕ)) (R : List Answer) (n : ℕ) → AreFirst L s.to_come → Leads held left L R → Gains mended j' held.accepted left.accepted
+      → Appends sink.bytes sink'.bytes (take n (replies L R)) → Safe
+  survives left L R n front leads gains replied =
+      let on = leads_on left L R leads in record {
+        lines = L;
+        first = front;
+        answers = R;
+        count = n;
+        replied = replied;
+        gained = mending kept ++ gains.text;
+        put = gained gains.text gains.put;
+        games = held.accepted ++ gains.new;
+        holds = subst (λ (bytes : List ℕ). Journals most_games bytes (held.accepted ++ gains.new)) (append_assoc kept (mending kept) gains.text)
+            (gains_all most_games kept held.accepted left.accepted L R holds on.run on.accepted gains.new gains.text gains.are gains.lines);
+        has = has_numbers most_games held.accepted L R (held.accepted ++ gains.new) on.run (subst (λ (X : List Submission). Accepted held.accepted L R X) gains.are on.accepted);
+      }
+
+  -- all replies were put
+  collected : (left : LedgerState) (L : List (List ℕ)) → AreFirst L s.to_come → Collects sink sink' held left L → Gains mended j' held.accepted left.accepted → Safe
+  collected left L front h gains =
+      survives left L h.answers (length (replies L h.answers)) front h.leads gains (subst (Appends sink.bytes sink'.bytes) (sym (take-length (replies L h.answers))) h.put)
+
+  -- of the last reply a front was put
+  collected_but_one : (left : LedgerState) (L : List (List ℕ)) → AreFirst L s.to_come → CollectsButOne sink sink' held left L → Gains mended j' held.accepted left.accepted → Safe
+  collected_but_one left L front h gains =
+      let R : List Answer = h.answers ++ h.answer ∷ [] in
+      let leads : Leads held left (h.before ++ h.line ∷ []) R = subst (λ (X : List (List ℕ)). Leads held left X R) h.are h.leads in
+      let all = replies-push held.cap held.accepted h.before h.line h.answers h.answer leads.run in
+      let cut : take (length (replies h.before h.answers) + h.count) (replies (h.before ++ h.line ∷ []) R) ≡ replies h.before h.answers ++ take h.count (reply_line h.line h.answer) =
+      ap (take (length (replies h.before h.answers) + h.count)) all ∙ take-append-add (replies h.before h.answers) (reply_line h.line h.answer) h.count in
+      survives left (h.before ++ h.line ∷ []) R (length (replies h.before h.answers) + h.count)
+      (subst (λ (X : List (List ℕ)). AreFirst X s.to_come) h.are front) leads gains (subst (Appends sink.bytes sink'.bytes) (sym cut) h.put)
+
+  -- the last line's game is on the journal as a whole or not at all, and wasn't answered
+  unkept : (left : LedgerState) (L : List (List ℕ)) → AreFirst L s.to_come → CollectsUnkept sink sink' mended j' held left L → Safe
+  unkept left L front h =
+      elim (gains_torn most_games kept held.accepted left.accepted L (h.answers ++ Ok h.number ∷ []) holds on.run on.accepted h.new h.game h.text h.last h.count h.games h.lines h.spells) [
+        | inl torn ↦ answered (held.accepted ++ h.new) torn before
+        | inr whole ↦ answered (held.accepted ++ h.new ++ h.game ∷ []) whole after
+      ]
+    where
+      on : Leads (record { basis = record { words = first.words; rules = rules }; cap = most_games; accepted = held.accepted }) left L (h.answers ++ Ok h.number ∷ [])
+      on = leads_on left L (h.answers ++ Ok h.number ∷ []) h.leads
+
+      Has : List Submission → Type 0
+      Has games = (i n : ℕ) → slice_get h.answers i ≡ Some (Ok n) → (s : Submission) × Arrives h.before i s × IsNumber games n s
+
+      before : Has (held.accepted ++ h.new)
+      before =
+          let led = leads_on h.middle h.before h.answers h.leads_before in
+          has_numbers most_games held.accepted h.before h.answers (held.accepted ++ h.new) led.run (subst (λ (X : List Submission). Accepted held.accepted h.before h.answers X) h.held_before led.accepted)
+
+      after : Has (held.accepted ++ h.new ++ h.game ∷ [])
+      after i n told_ok = let has = before i n told_ok in (has.0, has.1, IsNumber-front (held.accepted ++ h.new) (h.game ∷ []) n has.0 has.2)
+
+      line : List ℕ
+      line = take h.count (with_end h.last)
+
+      answered : (games : List Submission) → Journals most_games (kept ++ mending kept ++ h.text ++ line) games → Has games → Safe
+      answered games journals has = record {
+        lines = h.before;
+        first = first_but_one s.to_come h.before h.line (subst (λ (X : List (List ℕ)). AreFirst X s.to_come) h.are front);
+        answers = h.answers;
+        count = length (replies h.before h.answers);
+        replied = subst (Appends sink.bytes sink'.bytes) (sym (take-length (replies h.before h.answers))) h.put;
+        gained = mending kept ++ (h.text ++ line);
+        put = gained (h.text ++ line) h.kept;
+        games = games;
+        holds = subst (λ (bytes : List ℕ). Journals most_games bytes games) (append_assoc (kept ++ mending kept) h.text line ∙ append_assoc kept (mending kept) (h.text ++ line)) journals;
+        has = has;
+      }
+
+  -- ---- how the lines ended
+
+  module _ (s' : SourceState) (left : LedgerState) where
+    at_line : (P : List (List ℕ) → Type 0) → ((L : List (List ℕ)) → AreFirst L s.to_come → P L → Safe) → AtLine fills s s' P → Safe
+    at_line P follows (inl h) = follows (ended_lines h.came) (front_read fills s s' h.came h.reads) h.done
+    at_line P follows (inr h) = follows (lines h.came) (all_read fills s s' h.came h.reads) h.done
+
+    pub stream_survives : (totals : Totals) → JournalsStream fills s s' sink sink' mended j' held left totals → (s' ≡ s) ⊎ Safe
+    stream_survives totals h = inr (collected left (lines h.0.0.came) (all_read fills s s' h.0.0.came h.0.0.reads) h.0.0.done.0 h.1)
+
+    pub until_survives : (e : JournalFault) → JournalsUntil fills s s' sink sink' mended j' held left e → (s' ≡ s) ⊎ Safe
+    until_survives (journal.Lines collect.Read) h = inr (collected left (ended_lines h.0.0.came) (first_read fills s s' h.0.0.came h.0.0.reads.reads) h.0.0.done h.1)
+    until_survives (journal.Lines collect.Endless) h = inr (collected left (ended_lines h.0.0.came) (first_read fills s s' h.0.0.came h.0.0.reads.reads) h.0.0.done h.1)
+    until_survives (journal.Lines collect.Memory) h = inl h.0.0
+    until_survives (journal.Lines collect.Write) h = elim h.0.0 [
+      | inl at ↦ inr (at_line (CollectsButOne sink sink' held left) (λ L front but_one. collected_but_one left L front but_one h.1) at)
+      | inr at ↦ inr (collected left (lines at.came) (all_read fills s s' at.came at.reads) at.done h.1)
+    ]
+    until_survives journal.Journal h = inr (at_line (CollectsUnkept sink sink' mended j' held left) (unkept left) h.0)

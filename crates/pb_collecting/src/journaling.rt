@@ -1,0 +1,156 @@
+//! The command `collect` with a journal.
+
+ghost use Rattle.std.specs.Prelude.{◌≡◌, ◌⊎◌, IfErr, IfNone, IfOk, IfSome, OnOk, false, true};
+ghost use Rattle.pb_collecting.specs.JournalRun.{EndsJournaled, JournalsBook, JournalsOrEnds, RefusesJournaled, ReplaysOrStops, fault_of_journal, fault_of_replay};
+ghost use Rattle.pb_collecting.specs.JournalTold.{HasHeadlineOfJournal, Survives, TellsJournaled};
+
+use crate::taking::collect_fault;
+use pb_commands::{Fault, TableFault, refuse_table, take_table};
+use pb_ledger::{JournalFault, Ledger, MAX_CAP, MapTally, Rules, collect_journaled};
+use pb_poly::{Book, Sink, Source};
+use pb_saved::{ReplayError, replay};
+use std::alloc::Global;
+
+/// Why no submission was read.
+#[derive(Clone, Copy)]
+enum NoJournal {
+    /// There is no table.
+    Table(TableFault),
+    /// The journal was not replayed, or there was no memory for a ledger.
+    Replay(ReplayError),
+}
+
+/// Takes submission lines as `run_collect` does, from the games of a journal on, and puts the line of each game that is new on the journal, and
+/// hands it on, before its reply is put: so no game that was answered `ok` is lost, whatever ends the run. The journal is an end that is read
+/// first and one that is written then, as a file opened twice is. Its lines that an LF ended are submitted, and their replies dropped; bytes
+/// after them are a torn line, which is sealed by four TABs and an LF, and is no submission. The book is that of all games that are held at
+/// the end, at most 1,000,000, by the rules as in `run_collect`. The table of words that keys are made of is read before the journal. Where it
+/// is refused, `refused table` and `long`, `line` or `count` is put, nothing else is read or written, and there is no book.
+///
+/// # Errors
+///
+/// `Read` and `Endless` come of the table, the journal or the submissions, `Write` of the sink or the journal. A game whose line the journal
+/// didn't take isn't answered. `Memory` comes where a growth of the ledger's or the book's own found no memory, or a game of the journal; a
+/// submission that wants memory is refused in its reply.
+pub fn run_journaled<T: Source, V: Source, J: Sink, S: Source, K: Sink>(
+    alloc: Global,
+    rules: Rules,
+    table_source: &mut T,
+    kept: &mut V,
+    journal: &mut J,
+    source: &mut S,
+    sink: &mut K,
+    fills: u32,
+) -> Result<Option<Book>, Fault>
+    // The journal was replayed, all submissions were taken from there, and this is the book of the games that are held.
+    ensures book { IfOk result (λ answer. IfSome answer (JournalsBook rules fills (T.state table_source.old) (T.state table_source.new)
+        (V.state kept.old) (V.state kept.new) (S.state source.old) (S.state source.new)
+        (J.state journal.old) (J.state journal.new) (K.state sink.old) (K.state sink.new))) }
+    // The line that says why the table is refused was put.
+    ensures refused { IfOk result (λ answer. IfNone answer (RefusesJournaled fills (T.state table_source.old) (T.state table_source.new)
+        (V.state kept.old) (V.state kept.new) (S.state source.old) (S.state source.new)
+        (J.state journal.old) (J.state journal.new) (K.state sink.old) (K.state sink.new))) }
+    ensures told { IfOk result (TellsJournaled (T.state table_source.old).to_come (K.state sink.old) (K.state sink.new)) }
+    // Of sources that tell their bytes: the lines of the journal and of the submissions are those of one run, and this is its effect.
+    ensures headline { IfOk result (λ answer. IfSome answer (HasHeadlineOfJournal rules (T.state table_source.old).to_come
+        (V.state kept.old).to_come (S.state source.old).to_come (J.state journal.old) (J.state journal.new) (K.state sink.old) (K.state sink.new))) }
+    // No acknowledged game is lost: no submission was read, or the journal holds each game that a reply calls `ok`.
+    ensures survives { (S.state source.new ≡ S.state source.old) ⊎ IfSome (V.state kept.old).to_come (λ bytes.
+        Survives bytes (S.state source.old).to_come (J.state journal.old) (J.state journal.new) (K.state sink.old) (K.state sink.new)) }
+    ensures handed_on { OnOk result (((K.state sink.new).failed ≡ false) × ((K.state sink.new).flushed ≡ true)) }
+    // What was done before a fault, and where the fault lies.
+    ensures fault { IfErr result (EndsJournaled rules fills (T.state table_source.old) (T.state table_source.new)
+        (V.state kept.old) (V.state kept.new) (S.state source.old) (S.state source.new)
+        (J.state journal.old) (J.state journal.new) (K.state sink.old) (K.state sink.new)) }
+{
+    journal_submissions(
+        alloc,
+        rules,
+        table_source,
+        kept,
+        journal,
+        source,
+        sink,
+        fills,
+    )
+}
+
+/// The same, told in one clause.
+fn journal_submissions<T: Source, V: Source, J: Sink, S: Source, K: Sink>(
+    alloc: Global,
+    rules: Rules,
+    table_source: &mut T,
+    kept: &mut V,
+    journal: &mut J,
+    source: &mut S,
+    sink: &mut K,
+    fills: u32,
+) -> Result<Option<Book>, Fault>
+    ensures { JournalsOrEnds rules fills (T.state table_source.old) (T.state table_source.new) (V.state kept.old) (V.state kept.new)
+        (S.state source.old) (S.state source.new) (J.state journal.old) (J.state journal.new) (K.state sink.old) (K.state sink.new) result }
+{
+    let mut ledger = match replay_games(alloc, rules, table_source, kept, journal, fills) {
+        Ok(ledger) => ledger,
+        Err(NoJournal::Table(error)) => {
+            refuse_table(sink, error)?;
+            return Ok(None);
+        }
+        Err(NoJournal::Replay(error)) => return Err(replay_fault(error)),
+    };
+    if let Err(fault) = collect_journaled(alloc, source, sink, journal, &mut ledger, fills) {
+        return Err(journal_fault(fault));
+    }
+    let Ok(book) = ledger.make_book(alloc) else {
+        return Err(Fault::Memory);
+    };
+    // The proof reads from this use that the keys never fall.
+    let _ = book.entries();
+    Ok(Some(book))
+}
+
+/// Reads the table, then replays the journal into a new ledger of these rules.
+fn replay_games<T: Source, V: Source, J: Sink>(
+    alloc: Global,
+    rules: Rules,
+    table_source: &mut T,
+    kept: &mut V,
+    journal: &mut J,
+    fills: u32,
+) -> Result<Ledger<MapTally>, NoJournal>
+    ensures { ReplaysOrStops rules fills (T.state table_source.old) (T.state table_source.new) (V.state kept.old) (V.state kept.new)
+        (J.state journal.old) (J.state journal.new) result }
+{
+    let table = match take_table(alloc, table_source, fills) {
+        Ok(table) => table,
+        Err(error) => return Err(NoJournal::Table(error)),
+    };
+    let Ok(mut ledger) = Ledger::<MapTally>::with_rules(alloc, &table, MAX_CAP, rules) else {
+        return Err(NoJournal::Replay(ReplayError::Memory));
+    };
+    match replay(alloc, kept, journal, &mut ledger, fills) {
+        Ok(()) => Ok(ledger),
+        Err(error) => Err(NoJournal::Replay(error)),
+    }
+}
+
+/// What a fault of the replay is to the run.
+fn replay_fault(error: ReplayError) -> Fault
+    ensures { result ≡ fault_of_replay error }
+{
+    match error {
+        ReplayError::Read => Fault::Read,
+        ReplayError::Write => Fault::Write,
+        ReplayError::Endless => Fault::Endless,
+        ReplayError::Memory => Fault::Memory,
+    }
+}
+
+/// What a fault of taking the submissions is to the run.
+fn journal_fault(fault: JournalFault) -> Fault
+    ensures { result ≡ fault_of_journal fault }
+{
+    match fault {
+        JournalFault::Lines(fault) => collect_fault(fault),
+        JournalFault::Journal => Fault::Write,
+    }
+}

@@ -1,0 +1,57 @@
+//! The command `collect` with a journal, up to the place where its book is kept.
+
+ghost use Rattle.std.specs.Prelude.{◌≡◌, ◌⊎◌, IfSome};
+ghost use Rattle.pb_collecting.specs.JournalInto.{JournalsInto};
+ghost use Rattle.pb_collecting.specs.JournalTold.{Survives};
+
+use crate::journaling::run_journaled;
+use crate::keeping::NoBook;
+use crate::place::Place;
+use pb_ledger::Rules;
+use pb_poly::{Sink, Source};
+use std::alloc::Global;
+
+/// Takes submission lines as `run_journaled` does, and keeps the book of the games that are held at the end. Where the table is refused, the
+/// line that says so is put, nothing is kept, and the answer is false.
+///
+/// # Errors
+///
+/// `Run` is the fault of `run_journaled`, and then the place is as it was; `Keep` is the fault that the place met when it was to keep the
+/// book of this run. The journal has each game that was answered `ok` in both.
+pub fn journal_into<T: Source, V: Source, J: Sink, S: Source, K: Sink, P: Place>(
+    alloc: Global,
+    rules: Rules,
+    table_source: &mut T,
+    kept: &mut V,
+    journal: &mut J,
+    source: &mut S,
+    sink: &mut K,
+    place: &mut P,
+    fills: u32,
+) -> Result<bool, NoBook>
+    ensures ends { JournalsInto rules fills (T.state table_source.old) (T.state table_source.new) (V.state kept.old) (V.state kept.new)
+        (S.state source.old) (S.state source.new) (J.state journal.old) (J.state journal.new) (K.state sink.old) (K.state sink.new)
+        (P.state place.old) (P.state place.new) result }
+    // No acknowledged game is lost, whatever becomes of the book.
+    ensures survives { (S.state source.new ≡ S.state source.old) ⊎ IfSome (V.state kept.old).to_come (λ bytes.
+        Survives bytes (S.state source.old).to_come (J.state journal.old) (J.state journal.new) (K.state sink.old) (K.state sink.new)) }
+{
+    let book = match run_journaled(
+        alloc,
+        rules,
+        table_source,
+        kept,
+        journal,
+        source,
+        sink,
+        fills,
+    ) {
+        Ok(Some(book)) => book,
+        Ok(None) => return Ok(false),
+        Err(fault) => return Err(NoBook::Run(fault)),
+    };
+    match place.keep(&book) {
+        Ok(()) => Ok(true),
+        Err(why) => Err(NoBook::Keep(why)),
+    }
+}

@@ -1,0 +1,112 @@
+-- How a journal gains the lines of new games.
+use Rattle.std.proofs.Common.{◌≡◌, ◌≢◌, ℕ, ◌<◌, true, false, List, [], ◌∷◌, ◌++◌, length, Ok, Err, refl, sym, ap, subst, ◌∙◌, append_assoc, arith, inl, inr}
+use Rattle.std.specs.List.{AllZip, flat_map}
+use Rattle.std.proofs.KnownBytes.{Appends-nil, Appends-trans}
+use Rattle.std.proofs.lemmas.Grind.{flat_map-append}
+use Rattle.std.proofs.lemmas.List.{append-nil, length_push}
+use Rattle.pb_board.specs.LineEnd.{with_end, without_return}
+use Rattle.pb_io.specs.Sink.{SinkState}
+use Rattle.pb_io.specs.Writes.{Writes}
+use Rattle.pb_io.specs.declared.source.Failed.{Failed}
+use Rattle.pb_games.specs.Submissions.{Submission, SubmissionText}
+use Rattle.pb_games.proofs.Texts.{text_back}
+use Rattle.pb_accepted.specs.Accepting.{Allowed, Answer, Takes}
+use Rattle.pb_accepted.proofs.Replies.{Takes-refusal}
+use Rattle.pb_saved.specs.Journal.{GameLines}
+use Rattle.pb_ledger.specs.Journaling.{Gains}
+
+-- ---- the lines of games
+
+texts_append : (F G : List Submission) (ts us : List (List ℕ)) → AllZip SubmissionText F ts → AllZip SubmissionText G us → AllZip SubmissionText (F ++ G) (ts ++ us)
+texts_append [] G [] us h k = k
+texts_append [] G (t ∷ ts) us h k = absurd h
+texts_append (g ∷ F) G [] us h k = absurd h
+texts_append (g ∷ F) G (t ∷ ts) us h k = (h.0, texts_append F G ts us h.1 k)
+
+GameLines-append : (F G : List Submission) (a b : List ℕ) → GameLines F a → GameLines G b → GameLines (F ++ G) (a ++ b)
+GameLines-append F G a b h k = (
+  h.0 ++ k.0,
+  texts_append F G h.0 k.0 h.1 k.1,
+  ap (λ xs. xs ++ b) h.2 ∙ ap (λ xs. flat_map with_end h.0 ++ xs) k.2 ∙ sym (flat_map-append with_end h.0 k.0),
+)
+
+-- ---- the game that a line brings
+
+-- a line that made the list longer was answered with a number, and is the text of the game that it brought, a final CR aside
+pub record Brings (A : List Submission) (line : List ℕ) (r : Answer) (B : List Submission) : Type 0 where
+  pub number : ℕ
+  pub answered : r ≡ Ok number
+  pub game : Submission
+  pub games : B ≡ A ++ game ∷ []
+  pub spells : SubmissionText game (without_return line)
+
+pub brought : (cap : ℕ) (A : List Submission) (line : List ℕ) (r : Answer) (B : List Submission) → Allowed cap A line r → Takes A line r B → length A < length B → Brings A line r B
+brought cap A line (Ok n) B allowed (inl adds) more =
+    let submits = adds.1.submits in record {
+      number = n;
+      answered = refl;
+      game = adds.0;
+      games = adds.4;
+      spells = subst (SubmissionText adds.0) (sym (text_back line adds.0 submits)) submits.spells;
+    }
+brought cap A line (Ok n) B allowed (inr keeps) more = absurd (omega (arith, more, ap length keeps.1))
+brought cap A line (Err e) B allowed takes more = absurd (omega (arith, more, ap length (Takes-refusal cap A line e B allowed takes)))
+
+-- a line that didn't make it longer left it as it was
+pub unchanged : (A : List Submission) (line : List ℕ) (r : Answer) (B : List Submission) → Takes A line r B → (length A < length B → ⊥) → B ≡ A
+unchanged A line r B (inl adds) no_more = absurd (no_more (omega (arith, ap length adds.4 ∙ length_push A adds.0)))
+unchanged A line r B (inr keeps) no_more = keeps.1
+
+-- ---- gains
+
+abbrev HandedOn : SinkState → Type 0
+HandedOn journal = (journal.failed ≡ false) × (journal.flushed ≡ true)
+
+pub Gains-none : (journal : SinkState) (A : List Submission) → Gains journal journal A A
+Gains-none journal A = record {
+  new = [];
+  are = sym (append-nil A);
+  text = [];
+  lines = ([], tt, refl);
+  put = Appends-nil journal.bytes;
+  untouched = λ none. refl;
+  handed_on = λ some. absurd (some refl);
+}
+
+-- no game has come
+pub Gains-kept : (journal : SinkState) (A B : List Submission) → B ≡ A → Gains journal journal A B
+Gains-kept journal A B same = subst (λ (G : List Submission). Gains journal journal A G) (sym same) (Gains-none journal A)
+
+-- the line of a game was written
+pub Gains-one : (journal journal' : SinkState) (A B : List Submission) (game : Submission) (text : List ℕ) (u : Unit {0}) → B ≡ A ++ game ∷ [] → SubmissionText game text
+    → Writes {E = Failed} journal journal' (Ok u) (with_end text) → Gains journal journal' A B
+Gains-one journal journal' A B game text u are spells writes = record {
+  new = game ∷ [];
+  are = are;
+  text = with_end text;
+  lines = (text ∷ [], (spells, tt), sym (append-nil (with_end text)));
+  put = writes.all;
+  untouched = λ none. cc;
+  handed_on = λ some. (writes.failed, writes.flushed);
+}
+
+both_none : (F G : List Submission) → F ++ G ≡ [] → (F ≡ []) × (G ≡ [])
+both_none [] G none = (refl, none)
+both_none (g ∷ F) G none = cc
+
+handed_on_last : (journal journal' : SinkState) (F G : List Submission) → F ++ G ≢ [] → (F ≢ [] → HandedOn journal) → (G ≡ [] → journal' ≡ journal)
+    → (G ≢ [] → HandedOn journal') → HandedOn journal'
+handed_on_last journal journal' F [] some before untouched after =
+    subst HandedOn (sym (untouched refl)) (before (λ none. some (append-nil F ∙ none)))
+handed_on_last journal journal' F (g ∷ G) some before untouched after = after (λ none. (cc))
+
+pub Gains-trans : (a b c : SinkState) (A B C : List Submission) → Gains a b A B → Gains b c B C → Gains a c A C
+Gains-trans a b c A B C first next = record {
+  new = first.new ++ next.new;
+  are = next.are ∙ ap (λ (G : List Submission). G ++ next.new) first.are ∙ append_assoc A first.new next.new;
+  text = first.text ++ next.text;
+  lines = GameLines-append first.new next.new first.text next.text first.lines next.lines;
+  put = Appends-trans _ _ _ _ _ first.put next.put;
+  untouched = λ none. let each = both_none first.new next.new none in next.untouched each.1 ∙ first.untouched each.0;
+  handed_on = λ some. handed_on_last b c first.new next.new some first.handed_on next.untouched next.handed_on;
+}

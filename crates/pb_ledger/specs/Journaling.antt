@@ -1,0 +1,62 @@
+-- What taking the lines of a stream does to a ledger, a sink and a journal, and how it ends. The line of each new game is on the journal
+-- before its reply is put.
+use Rattle.std.specs.Prelude.{◌≡◌, ◌≢◌, ℕ, false, true, List, [], ◌∷◌, ◌++◌, take, Ok}
+use Rattle.std.specs.Io.KnownBytes.{Appends}
+use Rattle.pb_board.specs.LineEnd.{with_end}
+use Rattle.pb_io.specs.LineTask.{AtLine}
+use Rattle.pb_io.specs.Sink.{SinkState, StillWorks}
+use Rattle.pb_io.specs.Source.{SourceState}
+use Rattle.pb_games.specs.Submissions.{Submission, SubmissionText}
+use Rattle.pb_accepted.specs.Accepting.{Answer}
+use Rattle.pb_accepted.specs.Ledger.{LedgerState}
+use Rattle.pb_accepted.specs.Replies.{replies}
+use Rattle.pb_saved.specs.Journal.{GameLines}
+use Rattle.pb_ledger.specs.Collecting.{CollectsStream, CollectsUntil, Leads}
+use Rattle.pb_ledger.specs.declared.journaling.JournalFault.{JournalFault}
+use Rattle.pb_ledger.specs.declared.journaling.JournalFault.TheVariants.{Journal, Lines}
+use Rattle.pb_ledger.specs.declared.totals.Totals.{Totals}
+
+-- the games that B has after those of A are on the journal, their lines handed on; where there are none it is as it was
+pub record Gains (journal journal' : SinkState) (A B : List Submission) : Type 0 where
+  pub new : List Submission
+  pub are : B ≡ A ++ new
+  pub text : List ℕ
+  pub lines : GameLines new text
+  pub put : Appends journal.bytes journal'.bytes text
+  pub untouched : new ≡ [] → journal' ≡ journal
+  pub handed_on : new ≢ [] → (journal'.failed ≡ false) × (journal'.flushed ≡ true)
+
+-- each line was taken, and all but the last answered; the last one brought a game whose line the journal didn't take, or a front of it
+pub record CollectsUnkept (sink sink' journal journal' : SinkState) (ledger ledger' : LedgerState) (L : List (List ℕ)) : Type 0 where
+  pub before : List (List ℕ)
+  pub line : List ℕ
+  pub are : L ≡ before ++ line ∷ []
+  pub answers : List Answer
+  pub number : ℕ
+  pub leads : Leads ledger ledger' L (answers ++ Ok number ∷ [])
+  pub put : Appends sink.bytes sink'.bytes (replies before answers)
+  pub new : List Submission
+  pub game : Submission
+  pub games : ledger'.accepted ≡ ledger.accepted ++ new ++ game ∷ []
+  -- the lines before the last one brought the games before its own
+  pub middle : LedgerState
+  pub leads_before : Leads ledger middle before answers
+  pub held_before : middle.accepted ≡ ledger.accepted ++ new
+  pub text : List ℕ
+  pub lines : GameLines new text
+  pub last : List ℕ
+  pub spells : SubmissionText game last
+  pub count : ℕ
+  pub kept : Appends journal.bytes journal'.bytes (text ++ take count (with_end last))
+
+-- all lines of the stream were taken, counted and answered, and the new games are on the journal
+abbrev pub JournalsStream : ℕ → SourceState → SourceState → SinkState → SinkState → SinkState → SinkState → LedgerState → LedgerState → Totals → Type 0
+JournalsStream fills source source' sink sink' journal journal' ledger ledger' totals =
+    CollectsStream fills source source' sink sink' ledger ledger' totals × Gains journal journal' ledger.accepted ledger'.accepted
+
+-- how it ends with each fault: as without a journal, and then the new games are on it; or the journal fails at a new game
+abbrev pub JournalsUntil : ℕ → SourceState → SourceState → SinkState → SinkState → SinkState → SinkState → LedgerState → LedgerState → JournalFault → Type 0
+JournalsUntil fills source source' sink sink' journal journal' ledger ledger' (Lines e) =
+    CollectsUntil fills source source' sink sink' ledger ledger' e × Gains journal journal' ledger.accepted ledger'.accepted
+JournalsUntil fills source source' sink sink' journal journal' ledger ledger' Journal =
+    AtLine fills source source' (CollectsUnkept sink sink' journal journal' ledger ledger') × StillWorks sink.failed sink'.failed × (journal'.failed ≡ true)

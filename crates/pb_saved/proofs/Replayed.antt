@@ -1,0 +1,122 @@
+-- From the lines that the replayer took to what was replayed.
+use Rattle.std.proofs.Common.{◌≡◌, ◌≢◌, ℕ, Bool, List, [], ◌∷◌, Result, Ok, Err, All, IfErr, IfOk, ap, inl, inr, refl, subst, sym}
+use Rattle.std.specs.Prelude.{IsErrAnd, MatchResult}
+use Rattle.std.specs.declared.alloc.AllocError.{AllocError}
+use Rattle.std.proofs.lemmas.List.Elements.{All-cons, All-nil}
+use Rattle.pb_io.specs.Sink.{SinkState}
+use Rattle.pb_io.specs.Source.{SourceState}
+use Rattle.pb_io.specs.Lines.{ended_lines}
+use Rattle.pb_io.specs.LineTask.{StopsAtLast, TakesAll, TakesEnded, TakesEndedUntil}
+use Rattle.pb_io.specs.declared.lines.LinesFault.{LinesFault}
+use Rattle.pb_io.specs.declared.lines.LinesFault.TheVariants as fault
+use Rattle.pb_io.proofs.EndLemmas.{AtEndedLine-weaker, AtFault-weaker, AtNoEnd-weaker}
+use Rattle.pb_games.specs.declared.refusal.Refusal.TheVariants as refusal
+use Rattle.pb_accepted.specs.Accepting.{Accepted, Allowed, Answer, Run, Takes}
+use Rattle.pb_accepted.proofs.Replies.{Takes-refusal}
+use Rattle.pb_saved.specs.Journal.{Replays}
+use Rattle.pb_saved.specs.Lending.{KeepsLedger}
+use Rattle.pb_saved.specs.declared.replaying.Replayer.{Replayer}
+use Rattle.pb_saved.specs.declared.replaying.ReplayError.{ReplayError}
+use Rattle.pb_saved.specs.Replayer.{HoldsGames, TakesLine, replay_error}
+use Rattle.pb_saved.specs.Replaying.{ReplaysUntil, WantsMemoryFor}
+use Rattle.pb_saved.proofs.Loaded.{KeepsLedger-same, KeepsLedger-then, wanted}
+
+module _ {T : Type 0} where
+  -- lines that were submitted, none of them refused for want of memory
+  pub record Taken (s t : Replayer T) (ls : List (List ℕ)) : Type 0 where
+    pub answers : List Answer
+    pub run : Run s.ledger.now.cap s.ledger.now.accepted ls answers
+    pub accepted : Accepted s.ledger.now.accepted ls answers t.ledger.now.accepted
+    pub remembered : All (λ r. r ≢ Err refusal.Memory) answers
+    pub keeps : KeepsLedger s.ledger t.ledger
+
+  Taken-none : (s : Replayer T) → Taken s s []
+  Taken-none s = record { answers = []; run = tt; accepted = refl; remembered = All-nil (λ r. r ≢ Err refusal.Memory); keeps = KeepsLedger-same s.ledger }
+
+  Taken-more : (s m t : Replayer T) (line : List ℕ) (ls : List (List ℕ)) → TakesLine s line (Ok tt) m → Taken m t ls → Taken s t (line ∷ ls)
+  Taken-more s m t line ls one rest = record {
+    answers = one.answer ∷ rest.answers;
+    run = (m.ledger.now.accepted, one.allowed, one.takes, subst (λ cap. Run cap m.ledger.now.accepted ls rest.answers) one.keeps.cap rest.run);
+    accepted = (m.ledger.now.accepted, one.takes, rest.accepted);
+    remembered = All-cons (λ r. r ≢ Err refusal.Memory) one.answer rest.answers one.stops rest.remembered;
+    keeps = KeepsLedger-then s.ledger m.ledger t.ledger one.keeps rest.keeps;
+  }
+
+  taken : (s t : Replayer T) (ls : List (List ℕ)) → TakesAll TakesLine s ls t → Taken s t ls
+  taken s t [] h = subst (λ (x : Replayer T). Taken s x []) (sym h) (Taken-none s)
+  taken s t (line ∷ ls) h = Taken-more s h.0 t line ls h.1 (taken h.0 t ls h.2)
+
+  -- ---- from no games on
+
+  module _ (s t : Replayer T) (fresh : s.ledger.now.accepted ≡ []) where
+    replayed : (ls : List (List ℕ)) → TakesAll TakesLine s ls t → Replays s.ledger.now.cap ls t.ledger.now.accepted
+    replayed ls h =
+        let all = taken s t ls h in record {
+          answers = all.answers;
+          run = subst (λ A. Run s.ledger.now.cap A ls all.answers) fresh all.run;
+          accepted = subst (λ A. Accepted A ls all.answers t.ledger.now.accepted) fresh all.accepted;
+          remembered = all.remembered;
+        }
+
+  -- the line that stopped the replayer brings a new game, and no memory was left for it
+  module _ (s t : Replayer T) (fresh : s.ledger.now.accepted ≡ []) (ls : List (List ℕ)) (e : AllocError) (h : StopsAtLast TakesLine s ls e t) where
+    stopped : WantsMemoryFor s.ledger.now.cap t.ledger.now.accepted ls
+    stopped =
+        let m = h.2 in
+        let line = h.1 in
+        let one = h.5 in
+        let keeps = (taken s m h.0 h.4).keeps in
+        let allowed : Allowed m.ledger.now.cap m.ledger.now.accepted line (Err refusal.Memory) = subst (λ r. Allowed m.ledger.now.cap m.ledger.now.accepted line r) one.stops one.allowed in
+        let takes : Takes m.ledger.now.accepted line (Err refusal.Memory) t.ledger.now.accepted = subst (λ r. Takes m.ledger.now.accepted line r t.ledger.now.accepted) one.stops one.takes in
+        let same : t.ledger.now.accepted ≡ m.ledger.now.accepted = Takes-refusal m.ledger.now.cap m.ledger.now.accepted line refusal.Memory t.ledger.now.accepted allowed takes in
+        let here : Allowed s.ledger.now.cap m.ledger.now.accepted line (Err refusal.Memory) = subst (λ cap. Allowed cap m.ledger.now.accepted line (Err refusal.Memory)) keeps.cap allowed in record {
+          before = h.0;
+          line = line;
+          are = h.3;
+          replays = subst (λ B. Replays s.ledger.now.cap h.0 B) (sym same) (replayed s m fresh h.0 h.4);
+          reply = wanted s.ledger.now.cap t.ledger.now.accepted line (subst (λ B. Allowed s.ledger.now.cap B line (Err refusal.Memory)) (sym same) here);
+        }
+
+    stopped_keeps : KeepsLedger s.ledger t.ledger
+    stopped_keeps = KeepsLedger-then s.ledger h.2.ledger t.ledger (taken s h.2 h.0 h.4).keeps h.5.keeps
+
+  -- ---- the whole of a stream
+
+  module _ (fills : ℕ) (old new : SourceState) (s t : Replayer T) (fresh : s.ledger.now.accepted ≡ []) where
+    all_held : (torn : Bool) → TakesEnded TakesLine fills old new s t torn → HoldsGames fills old new s.ledger.now t.ledger.now torn
+    all_held torn h = record { came = h.came; reads = h.reads; holds = replayed s t fresh (ended_lines h.came) h.taken; left = h.left }
+
+    replayed_until : (fault : LinesFault AllocError) → TakesEndedUntil TakesLine fills old new s t fault
+        → (j : SinkState) → ReplaysUntil fills old new j j s.ledger.now t.ledger.now (replay_error fault)
+    replayed_until fault.Memory h j = (inl (h.0, ap (λ (x : Replayer T). x.ledger.now) h.1), refl)
+    replayed_until fault.Read h j = (AtFault-weaker fills old new _ _ (λ ls few all. replayed s t fresh ls all) h, refl)
+    replayed_until fault.Endless h j = (AtNoEnd-weaker fills old new _ _ (λ ls few all. replayed s t fresh ls all) h, refl)
+    replayed_until (fault.Stop e) h j = (inr (AtEndedLine-weaker fills old new _ _ (λ ls few stops. stopped s t fresh ls e stops) h), refl)
+
+    keeps_until : (fault : LinesFault AllocError) → TakesEndedUntil TakesLine fills old new s t fault → KeepsLedger s.ledger t.ledger
+    keeps_until fault.Memory h = subst (λ (x : Replayer T). KeepsLedger s.ledger x.ledger) (sym h.1) (KeepsLedger-same s.ledger)
+    keeps_until fault.Read h = (taken s t (ended_lines h.came) h.done).keeps
+    keeps_until fault.Endless h = (taken s t (ended_lines h.came) h.done).keeps
+    keeps_until (fault.Stop e) h = (AtEndedLine-weaker fills old new _ (λ _. KeepsLedger s.ledger t.ledger) (λ ls few stops. stopped_keeps s t fresh ls e stops) h).done
+
+    -- ---- the answer
+
+    pub held_of : (answer : Result Bool (LinesFault AllocError)) (result : Result Bool ReplayError) → IfOk answer (TakesEnded TakesLine fills old new s t)
+        → MatchResult answer (λ x. result ≡ Ok x) (λ e. IsErrAnd result (λ f. f ≡ replay_error e)) → IfOk result (HoldsGames fills old new s.ledger.now t.ledger.now)
+    held_of (Ok x) (Ok y) h is = let same : y ≡ x = cc in subst (HoldsGames fills old new s.ledger.now t.ledger.now) (sym same) (all_held x h)
+    held_of (Ok x) (Err f) h is = cc
+    held_of (Err e) (Ok y) h is = absurd is
+    held_of (Err e) (Err f) h is = tt
+
+    pub unheld_of : (answer : Result Bool (LinesFault AllocError)) (result : Result Bool ReplayError) → IfErr answer (TakesEndedUntil TakesLine fills old new s t)
+        → MatchResult answer (λ x. result ≡ Ok x) (λ e. IsErrAnd result (λ f. f ≡ replay_error e))
+        → IfErr result (λ e. (j : SinkState) → ReplaysUntil fills old new j j s.ledger.now t.ledger.now e)
+    unheld_of (Ok x) (Ok y) h is = tt
+    unheld_of (Ok x) (Err f) h is = cc
+    unheld_of (Err e) (Ok y) h is = absurd is
+    unheld_of (Err e) (Err f) h is = subst (λ q. (j : SinkState) → ReplaysUntil fills old new j j s.ledger.now t.ledger.now q) (sym is) (replayed_until e h)
+
+    pub keeps_of : (answer : Result Bool (LinesFault AllocError)) → IfOk answer (TakesEnded TakesLine fills old new s t) → IfErr answer (TakesEndedUntil TakesLine fills old new s t)
+        → KeepsLedger s.ledger t.ledger
+    keeps_of (Ok x) h k = (taken s t (ended_lines h.came) h.taken).keeps
+    keeps_of (Err e) h k = keeps_until e k

@@ -1,0 +1,7 @@
+use Rattle.std.proofs.lemmas.Result.{err_from_is_err_and}
+use Rattle.pb_saved.proofs.replaying.replay.Goals as goal
+
+pub returns-in_err-is_torn-clause-fault : goal.returns-in_err-is_torn-clause-fault
+returns-in_err-is_torn-clause-fault g c =
+    let is = err_from_is_err_and c.from_residual.result c.from_residual.ensures.1 in
+    rw (is.1, is.2) (c.in_err-is_torn.ensures.fault (g.J.Sink.state c.args.journal.now))

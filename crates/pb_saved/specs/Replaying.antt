@@ -1,0 +1,53 @@
+-- How the replay of a journal into a ledger without games ends, over the states of the journal as a source and as a sink.
+use Rattle.std.specs.Prelude.{◌≡◌, ℕ, ◌+◌, ◌⊎◌, false, true, List, [], ◌∷◌, ◌++◌, length, take, Ok}
+use Rattle.std.specs.Io.KnownBytes.{Appends}
+use Rattle.pb_io.specs.LineTask.{AtEndedLine, AtFault, AtNoEnd}
+use Rattle.pb_io.specs.Lines.{is_torn}
+use Rattle.pb_io.specs.Reads.{ReadsAll, chunk_len}
+use Rattle.pb_io.specs.Sink.{SinkState}
+use Rattle.pb_io.specs.Source.{SourceState}
+use Rattle.pb_games.specs.Submissions.{Submission}
+use Rattle.pb_accepted.specs.Accepting.{Reply}
+use Rattle.pb_accepted.specs.Ledger.{LedgerState}
+use Rattle.pb_saved.specs.Journal.{Journals, Replays, mending, seal}
+use Rattle.pb_saved.specs.declared.replaying.ReplayError.{ReplayError}
+use Rattle.pb_saved.specs.declared.replaying.ReplayError.TheVariants.{Read, Write, Endless, Memory}
+
+-- a torn end was sealed, and that was handed on; where the end isn't torn the journal is as it was
+pub record Mends (came : List ℕ) (journal journal' : SinkState) : Type 0 where
+  pub put : Appends journal.bytes journal'.bytes (mending came)
+  pub whole : is_torn came ≡ false → journal' ≡ journal
+  pub handed_on : is_torn came ≡ true → (journal'.failed ≡ false) × (journal'.flushed ≡ true)
+
+-- all bytes of the journal came, the ledger holds its games, and its end was mended
+pub record ReplaysAll (fills : ℕ) (source source' : SourceState) (journal journal' : SinkState) (old new : LedgerState) : Type 0 where
+  pub came : List ℕ
+  pub reads : ReadsAll chunk_len fills source source' came
+  pub holds : Journals old.cap came new.accepted
+  pub mends : Mends came journal journal'
+
+-- all bytes came and the ledger holds the games, but the torn end couldn't be sealed
+pub record MendsNot (fills : ℕ) (source source' : SourceState) (journal journal' : SinkState) (old new : LedgerState) : Type 0 where
+  pub came : List ℕ
+  pub reads : ReadsAll chunk_len fills source source' came
+  pub holds : Journals old.cap came new.accepted
+  pub torn : is_torn came ≡ true
+  pub count : ℕ
+  pub put : Appends journal.bytes journal'.bytes (take count seal)
+  pub fails : journal'.failed ≡ true
+
+-- the lines but the last one leave B, and the last one brings a new game, for which memory was wanting
+pub record WantsMemoryFor (cap : ℕ) (B : List Submission) (ls : List (List ℕ)) : Type 0 where
+  pub before : List (List ℕ)
+  pub line : List ℕ
+  pub are : ls ≡ before ++ line ∷ []
+  pub replays : Replays cap before B
+  pub reply : Reply cap B line (Ok (length B + 1))
+
+-- how the replay ends with each error; the journal gains nothing but what mends it
+abbrev pub ReplaysUntil : ℕ → SourceState → SourceState → SinkState → SinkState → LedgerState → LedgerState → ReplayError → Type 0
+ReplaysUntil fills source source' journal journal' old new Read = AtFault fills source source' (λ ls. Replays old.cap ls new.accepted) × (journal' ≡ journal)
+ReplaysUntil fills source source' journal journal' old new Endless = AtNoEnd fills source source' (λ ls. Replays old.cap ls new.accepted) × (journal' ≡ journal)
+ReplaysUntil fills source source' journal journal' old new Write = MendsNot fills source source' journal journal' old new
+ReplaysUntil fills source source' journal journal' old new Memory =
+    (((source' ≡ source) × (new ≡ old)) ⊎ AtEndedLine fills source source' (WantsMemoryFor old.cap new.accepted)) × (journal' ≡ journal)
