@@ -5,7 +5,7 @@ START := rnbqkbnr/pppppppp/8/8/8/8/PPPPPPPP/RNBQKBNR w KQkq - 0 1
 
 PREFIX := /usr/local
 
-.PHONY: build try install demo test test-hostile test-journal bench clean
+.PHONY: build try install demo test test-hostile test-journal test-memory bench clean
 
 build: build/pbook
 
@@ -58,6 +58,10 @@ test-hostile: build
 # Kills collectors at random moments, starts them again on their journal, and compares what they answered.
 test-journal: build
 	@sh scripts/test_journal.sh
+
+# Refuses each growth of memory of each command in turn, and looks at what is put and what is left of the files.
+test-memory: build
+	@sh scripts/test_memory.sh
 
 # Times the program that plays moves, and the commands, and compares a book with PolyGlot's own.
 bench: build
