@@ -1,13 +1,16 @@
 //! Books of entries.
 
-use crate::ends::{failing_source, source_of};
+use crate::ends::{failing_source, fuses_of, source_of};
 use crate::moves::tell_move;
 use crate::page::{Done, Page, Trouble};
 use crate::record::setup_of;
 use crate::runs::Runs;
 use crate::table::table_of;
 use crate::text::{count_of, fills_of};
-use pb_poly::{Book, Entry, MemSink, Sink, Source, probe, read_book, write_book, write_entry};
+use pb_poly::{
+    Book, Entry, FuseSource, MemSink, MemSource, Sink, Source, probe, read_book, write_book,
+    write_entry,
+};
 use std::alloc::Global;
 
 /// The answer to a call.
@@ -16,7 +19,9 @@ pub(crate) fn answer(page: &mut Page, call: &[&str]) -> Done {
         ["read", piece, fills, entries @ ..] => read(page, piece, fills, entries),
         ["pieces", most, entries @ ..] => pieces(page, most, entries),
         ["cut", entries @ ..] => cut(page, entries),
+        ["cut-in-memory", entries @ ..] => cut_in_memory(page, entries),
         ["cut-off", entries @ ..] => cut_off(page, entries),
+        ["fused", entries @ ..] => fused(page, entries),
         ["of", entries @ ..] => of(page, entries),
         ["probe", table, record, entries @ ..] => found(page, table, record, entries),
         _ => Err(Trouble::Row),
@@ -129,6 +134,32 @@ fn cut(page: &mut Page, entries: &[&str]) -> Done {
     for count in 0..=bytes.len() {
         let answer = count_entries(page.alloc, &mut source_of(&bytes[..count], 1));
         runs.add(page, count, answer);
+    }
+    runs.end(page);
+    Ok(())
+}
+
+/// Each front of the file, read from memory.
+fn cut_in_memory(page: &mut Page, entries: &[&str]) -> Done {
+    let file = file_of(page.alloc, entries)?;
+    let bytes = file.as_bytes();
+    let mut runs = Runs::new();
+    for count in 0..=bytes.len() {
+        let answer = count_entries(page.alloc, &mut MemSource::new(&bytes[..count], 1));
+        runs.add(page, count, answer);
+    }
+    runs.end(page);
+    Ok(())
+}
+
+/// The file from a source in memory that fails after each number of fills, up to one that it doesn't reach.
+fn fused(page: &mut Page, entries: &[&str]) -> Done {
+    let file = file_of(page.alloc, entries)?;
+    let bytes = file.as_bytes();
+    let mut runs = Runs::new();
+    for good in fuses_of(bytes) {
+        let answer = count_entries(page.alloc, &mut FuseSource::new(bytes, 1, good));
+        runs.add(page, good as usize, answer);
     }
     runs.end(page);
     Ok(())

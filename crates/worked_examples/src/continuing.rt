@@ -69,7 +69,7 @@ pub(crate) fn tell_fault(page: &mut Page, fault: Fault) {
 }
 
 /// The book of a run or its fault, how many games are held, and their saved form.
-fn tell_run(page: &mut Page, run: &Continued) -> Done {
+pub(crate) fn tell_run(page: &mut Page, run: &Continued) -> Done {
     match &run.book {
         Ok(book) => tell(page, book),
         Err(fault) => tell_fault(page, *fault),

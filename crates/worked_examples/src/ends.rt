@@ -4,9 +4,13 @@ use crate::text::{count_of, fills_of};
 use pb_poly::FromRead;
 use std::alloc::Global;
 use std::io::{self, ErrorKind, Read, Write};
+use std::ops::RangeInclusive;
 
 /// The place of an error that never comes.
 const NEVER: usize = usize::MAX;
+
+/// More puts and flushes than any row makes.
+pub(crate) const MOST_CALLS: u32 = 1000;
 
 /// Gives bytes in pieces, with an error after so many of them, and then the others. A read into no room is an error too.
 #[derive(Drop)]
@@ -66,6 +70,14 @@ pub(crate) fn source_of(bytes: &[u8], piece: usize) -> FromRead<Giver<'_>> {
 /// These bytes, with an interrupted read after so many of them.
 pub(crate) fn failing_source(bytes: &[u8], piece: usize, until: usize) -> FromRead<Giver<'_>> {
     FromRead::new(Giver::new(bytes, piece, until, ErrorKind::Interrupted))
+}
+
+/// The numbers of fills that may pass before a source of these bytes, one a fill, fails: from none to one for each byte and one for
+/// the end.
+pub(crate) fn fuses_of(bytes: &[u8]) -> RangeInclusive<u32> {
+    0..=u32::try_from(bytes.len())
+        .unwrap_or(u32::MAX)
+        .saturating_add(1)
 }
 
 /// Takes bytes one at a time. Where so many have been taken, one write takes none, or is an error of a broken writer; then it goes

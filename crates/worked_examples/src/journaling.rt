@@ -4,8 +4,9 @@ use crate::book::tell;
 use crate::book_command::{TABLE_PIECE, tell_next};
 use crate::continuing::tell_fault;
 use crate::ends::{Ends, Giver, Taker, ends_of, failing_source};
+use crate::fused_command;
 use crate::game::stream_of;
-use crate::page::{Done, Page, Trouble};
+use crate::page::{Done, Page};
 use crate::text::count_of;
 use pb_cli::{Rules, run_journaled};
 use pb_poly::{FromRead, Source, ToWrite};
@@ -17,7 +18,7 @@ const JOURNAL_PIECE: usize = 7;
 pub(crate) fn answer(page: &mut Page, call: &[&str]) -> Done {
     match call {
         ["journal", table, ends, count, lines @ ..] => journal(page, table, ends, count, lines),
-        _ => Err(Trouble::Row),
+        _ => fused_command::answer(page, call),
     }
 }
 

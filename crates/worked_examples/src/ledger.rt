@@ -66,7 +66,7 @@ fn answer_with<T: Tally>(page: &mut Page, rules: Rules, call: &[&str]) -> Done {
 }
 
 /// An empty ledger over the table of powers, for at most so many games, 1 to 1,000, of which all plies count.
-fn ledger_over_powers<T: Tally>(alloc: Global, cap: u32) -> Result<Ledger<T>, Trouble> {
+pub(crate) fn ledger_over_powers<T: Tally>(alloc: Global, cap: u32) -> Result<Ledger<T>, Trouble> {
     let table = table_of(alloc, powers(alloc)?.as_str())?;
     Ok(Ledger::new(alloc, &table, cap.clamp(1, CAP))?)
 }

@@ -14,6 +14,8 @@ mod command;
 mod continuing;
 mod ends;
 mod epd;
+mod fused_command;
+mod fused_ledger;
 mod game;
 mod journaling;
 mod ledger;

@@ -50,3 +50,15 @@ impl Runs {
         page.put("\n");
     }
 }
+
+/// Tells an answer where it isn't the one that was told last.
+pub(crate) fn tell_another(page: &mut Page, last: &mut Option<Page>, answer: Page) {
+    if let Some(told) = last
+        && told.as_str() == answer.as_str()
+    {
+        return;
+    }
+    page.put(answer.as_str());
+    page.put("\n");
+    *last = Some(answer);
+}

@@ -1,6 +1,7 @@
 //! Saved ledgers, over one tally: how games are saved, and what is loaded of the lines of a file.
 
 use crate::ends::{Taker, failing_source, source_of};
+use crate::fused_ledger;
 use crate::game::stream_of;
 use crate::ledger::{CAP, powers, quiet_ledger, tell_held};
 use crate::page::{Done, Page, Trouble};
@@ -19,12 +20,12 @@ pub(crate) fn answer<T: Tally>(page: &mut Page, call: &[&str]) -> Done {
         ["load", cap, piece, fills, lines @ ..] => loaded::<T>(page, [cap, piece, fills], lines),
         ["load-cut-off", lines @ ..] => cut_off::<T>(page, lines),
         ["load-saved", lines @ ..] => load_saved::<T>(page, lines),
-        _ => Err(Trouble::Row),
+        _ => fused_ledger::answer::<T>(page, call),
     }
 }
 
 /// A ledger over the table of powers with the games of these lines.
-fn ledger_of<T: Tally>(alloc: Global, lines: &[&str]) -> Result<Ledger<T>, Trouble> {
+pub(crate) fn ledger_of<T: Tally>(alloc: Global, lines: &[&str]) -> Result<Ledger<T>, Trouble> {
     quiet_ledger(alloc, Rules::all_plies(), powers(alloc)?.as_str(), lines)
 }
 
@@ -58,7 +59,7 @@ fn saved_into<T: Tally>(page: &mut Page, room: &str, kind: &str, lines: &[&str])
 }
 
 /// A new ledger over the table of powers, for at most so many games, 1 to 1,000, into which a source was loaded. The answer is told.
-fn load_new<T: Tally, S: Source>(
+pub(crate) fn load_new<T: Tally, S: Source>(
     page: &mut Page,
     cap: u32,
     source: &mut S,

@@ -5,8 +5,11 @@ ghost use Rattle.std.specs.Prelude.{⊤};
 use crate::ends::{Giver, Taker, source_of};
 use crate::page::{Done, Page, Trouble};
 use crate::runs::Runs;
-use crate::text::{count_of, fills_of};
-use pb_poly::{FromRead, LineTask, MemSink, MemSource, Sink, Source, ToWrite, take_lines};
+use crate::text::{byte_of, count_of, fills_of, small_of};
+use pb_poly::{
+    FromRead, FuseSink, FuseSource, LineTask, MemSink, MemSource, NeverSource, Sink, Source,
+    ToWrite, take_lines,
+};
 use std::alloc::AllocError;
 use std::io::{Cursor, ErrorKind};
 
@@ -19,7 +22,10 @@ pub(crate) fn answer(page: &mut Page, call: &[&str]) -> Done {
         ["failing-reader", kind, text] => failing_reader(page, kind, text),
         ["reader-fails-once", until, text] => reader_fails_once(page, until, text),
         ["fill", piece, text, rooms @ ..] => fill_all(page, piece, text, rooms),
+        ["fill-fused", piece, good, text, rooms @ ..] => fill_fused(page, piece, good, text, rooms),
+        ["fill-endless", byte, rooms @ ..] => fill_endless(page, byte, rooms),
         ["memory-sink", texts @ ..] => memory_sink(page, texts),
+        ["fused-sink", good, texts @ ..] => fused_sink(page, good, texts),
         ["vec-sink", texts @ ..] => vec_sink(page, texts),
         ["array-sink", texts @ ..] => array_sink(page, texts),
         ["narrow-sink", room, kind, texts @ ..] => narrow_sink(page, room, kind, texts),
@@ -120,16 +126,35 @@ fn reader_fails_once(page: &mut Page, until: &str, text: &str) -> Done {
     Ok(())
 }
 
-/// How many bytes each of these fills of a source in memory gives, and whether it has failed.
-fn fill_all(page: &mut Page, piece: &str, text: &str, rooms: &[&str]) -> Done {
-    let mut source = MemSource::new(text.as_bytes(), count_of(piece).max(1));
+/// The bytes of each fill of a slice of these sizes with a bar after them and the answer, and whether the source has failed then.
+fn fill_rooms<S: Source>(page: &mut Page, source: &mut S, rooms: &[&str]) -> Done {
     for room in rooms {
         let mut slice = vec![in page.alloc; 0; count_of(room)]?;
-        page.put_debug(&source.fill(slice.as_mut_slice()));
-        page.put(" ");
+        let filled = source.fill(slice.as_mut_slice());
+        page.put_bytes(&slice[..filled.unwrap_or(0)]);
+        page.put("|");
+        page.put_debug(&filled);
+        page.put("\n");
     }
     page.put_count("failed ", &source.failed());
     Ok(())
+}
+
+/// The fills of a source in memory.
+fn fill_all(page: &mut Page, piece: &str, text: &str, rooms: &[&str]) -> Done {
+    let mut source = MemSource::new(text.as_bytes(), count_of(piece).max(1));
+    fill_rooms(page, &mut source, rooms)
+}
+
+/// The fills of a source of which so many pass.
+fn fill_fused(page: &mut Page, piece: &str, good: &str, text: &str, rooms: &[&str]) -> Done {
+    let mut source = FuseSource::new(text.as_bytes(), count_of(piece).max(1), small_of(good));
+    fill_rooms(page, &mut source, rooms)
+}
+
+/// The fills of a source that never ends.
+fn fill_endless(page: &mut Page, byte: &str, rooms: &[&str]) -> Done {
+    fill_rooms(page, &mut NeverSource::new(byte_of(byte)), rooms)
 }
 
 /// What a sink answers to these texts in turn, where the text `flush` flushes it, and whether it has failed then.
@@ -149,6 +174,14 @@ fn put_all<K: Sink>(page: &mut Page, sink: &mut K, texts: &[&str]) {
 /// A sink in memory.
 fn memory_sink(page: &mut Page, texts: &[&str]) -> Done {
     let mut sink = MemSink::new(page.alloc);
+    put_all(page, &mut sink, texts);
+    page.put_bytes(sink.as_bytes());
+    Ok(())
+}
+
+/// A sink of which so many puts and flushes pass.
+fn fused_sink(page: &mut Page, good: &str, texts: &[&str]) -> Done {
+    let mut sink = FuseSink::new(page.alloc, small_of(good));
     put_all(page, &mut sink, texts);
     page.put_bytes(sink.as_bytes());
     Ok(())

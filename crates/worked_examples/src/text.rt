@@ -97,3 +97,8 @@ pub(crate) fn fills_of(word: &str) -> u32 {
         small_of(word)
     }
 }
+
+/// The first byte of a word, or an LF where it has none.
+pub(crate) fn byte_of(word: &str) -> u8 {
+    word.as_bytes().first().copied().unwrap_or(b'\n')
+}
