@@ -5,7 +5,7 @@ START := rnbqkbnr/pppppppp/8/8/8/8/PPPPPPPP/RNBQKBNR w KQkq - 0 1
 
 PREFIX := /usr/local
 
-.PHONY: build try install demo test test-hostile test-journal test-memory bench clean
+.PHONY: build try install demo test test-hostile test-files test-memory test-io test-journal bench clean
 
 build: build/pbook
 
@@ -51,17 +51,24 @@ demo: build
 test:
 	rt ci
 
-# Tries what is left of a book's file by full disks, links, missing permissions and runs that are killed.
-test-hostile: build
-	@sh scripts/test_hostile.sh
+# All that is tried of the program in a hostile world, but for collectors that are killed on their journal.
+test-hostile: test-files test-memory test-io
 
-# Kills collectors at random moments, starts them again on their journal, and compares what they answered.
-test-journal: build
-	@sh scripts/test_journal.sh
+# Tries what is left of a book's file by full disks, links, missing permissions and runs that are killed.
+test-files: build
+	@sh scripts/test_files.sh
 
 # Refuses each growth of memory of each command in turn, and looks at what is put and what is left of the files.
 test-memory: build
 	@sh scripts/test_memory.sh
+
+# Fails each read, write and sync of each command in turn, or has it move one byte alone, and looks at the same.
+test-io: build
+	@sh scripts/test_io.sh
+
+# Kills collectors at random moments, starts them again on their journal, and compares what they answered.
+test-journal: build
+	@sh scripts/test_journal.sh
 
 # Times the program that plays moves, and the commands, and compares a book with PolyGlot's own.
 bench: build

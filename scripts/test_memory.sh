@@ -10,47 +10,12 @@
 # A line is printed for each command. The first run that may not be ends all; what was found is shown, and the folder with it stays.
 # Usage: scripts/test_memory.sh [PROGRAM] (at the top of the repository; build/pbook where it isn't given; cc has to be there).
 set -eu
-work=$(mktemp -d)
-leave() { rm -rf "$work"; }
-trap leave EXIT
-trap 'exit 1' HUP INT TERM
-umask 022
-cp "${1:-build/pbook}" "$work/pbook"
-cp examples/table.txt "$work/table"
-cp examples/lines.epd "$work/epd"
-cp examples/book.bin "$work/book"
-cc -std=c11 -O1 -Wall -Wextra -shared -fPIC -o "$work/refuse.so" tests/refuse_memory.c
-start='rnbqkbnr/pppppppp/8/8/8/8/PPPPPPPP/RNBQKBNR w KQkq - 0 1'
+program=${1:-build/pbook}
+shim=tests/refuse_memory.c
+# shellcheck source=scripts/small_runs.sh
+. scripts/small_runs.sh
+not_called 'mmap|mmap64|mremap|brk|sbrk|valloc|pvalloc'
 
-# Memory that is asked for past the calls that count would never be refused.
-if nm -D --undefined-only "$work/pbook" | grep -wE '(mmap|mmap64|mremap|brk|sbrk|valloc|pvalloc)(@.*)?'; then
-    echo 'FAILED: memory is asked for by a call that is not counted'
-    exit 1
-fi
-
-# The submissions: two of the first games come again, one of them with a CR; then one is illegal, twice; one has the id of another game, whose
-# own line comes after it again; others are refused for their form; and one starts elsewhere, in a line that no LF ends.
-submissions() {
-    sed -n "$1p" examples/games.txt
-    grep '^worker9-001' examples/games.txt
-    sed -n 202p examples/games.txt
-    sed -n 6p examples/games.txt
-    printf 'no game\n\n'
-    sed -n 121p examples/games.txt
-    printf 'form-1\t1-1\t%s\te2e4\nform-2\t1-0\t%s\te2e9\n' "$start" "$start"
-    printf 'form-3\t1-0\t%09000d\te2e4\n' 0
-    sed -n 3p examples/games.txt | awk '{ printf "%s\r\n", $0 }'
-    printf 'other-1\t0-1\t4k3/7P/8/8/8/8/8/4K3 w - - 0 1\th7h8q e8d7 h8a8'
-}
-submissions 1,26 > "$work/games"
-submissions 4,20 > "$work/later"
-submissions 1,4 > "$work/few"
-head -n 9 examples/games.txt > "$work/first"
-head -n 400 "$work/table" > "$work/half_table"
-head -c 1000 "$work/book" > "$work/cut_book"
-
-# The files that a run finds, and those that one with ample memory leaves, are in folders of their own, and so are those of other runs.
-mkdir "$work/old"
 commands=0
 all_growths=0
 all_runs=0
@@ -66,19 +31,6 @@ fails() {
     exit 1
 }
 
-# run_in FOLDER INPUT WORD..: runs the program in this folder on this input, and nothing is refused
-run_in() (
-    cd "$1"
-    exec < "$2"
-    shift 2
-    exec "$work/pbook" "$@"
-)
-
-# is_of FOLDER NAME: whether the run left the file of this name as it is in the folder, or none where none is there
-is_of() {
-    if [ -e "$work/$1/$2" ]; then cmp -s "$work/$1/$2" "$work/run/$2"; else [ ! -e "$work/run/$2" ]; fi
-}
-
 # run_refused WORD..: runs the program in a new folder with the old files, and the calls from $from to $to are refused
 run_refused() {
     if [ "$untouched" = false ]; then
@@ -92,7 +44,7 @@ run_refused() {
         cd "$work/run"
         # shellcheck disable=SC3045 # a run that doesn't end is to be ended; dash, bash and busybox have this limit
         ulimit -t 20
-        export LD_PRELOAD="$work/refuse.so" REFUSE_FROM="$from" REFUSE_TO="$to" REFUSE_TOLD="$work/told" MALLOC_PERTURB_=165
+        export LD_PRELOAD="$work/shim.so" REFUSE_FROM="$from" REFUSE_TO="$to" REFUSE_TOLD="$work/told" MALLOC_PERTURB_=165
         exec "$work/pbook" "$@"
     ) < "$input" > "$work/put" 2> "$work/errors" || status=$?
     runs=$((runs + 1))

@@ -3,7 +3,7 @@
 # permissions, full disks, a killed run.
 # It prints a line for each check and stops at the first that doesn't hold. As root it tries more, on file systems that it mounts, and
 # where strace is installed it has calls of the system fail.
-# Usage: scripts/test_hostile.sh [PROGRAM [CHECK..]] (at the top of the repository; build/pbook and all checks where they aren't given).
+# Usage: scripts/test_files.sh [PROGRAM [CHECK..]] (at the top of the repository; build/pbook and all checks where they aren't given).
 set -eu
 work=$(mktemp -d)
 mounted=

@@ -1,0 +1,121 @@
+// Fails a read, a write or a sync of the program that it is loaded before (LD_PRELOAD), or has it move one byte alone.
+//
+// FAIL_AT is the number, from 1, of the call that fails with EIO and moves nothing. SHORT_AT is that of the call that moves at most one byte; a
+// sync that it hits does what it would do else. Calls of read, pread, readv, write, pwrite, writev, fsync and fdatasync count together, in their
+// order, from the start of this object, which comes after the loader's work and before any function of the program, to its end, which comes after
+// `main`.
+//
+// IO_TOLD is a file that is made at the end. It has one line: the number of calls, what the call was that FAIL_AT or SHORT_AT hit (`read`, `write`
+// or `sync`, or `none`), and the number of its file.
+
+#define _GNU_SOURCE
+#include <errno.h>
+#include <fcntl.h>
+#include <stdbool.h>
+#include <stdio.h>
+#include <stdlib.h>
+#include <sys/syscall.h>
+#include <sys/types.h>
+#include <sys/uio.h>
+#include <unistd.h>
+
+enum kind { READ, WRITE, SYNC };
+
+enum fate { PASSES, FAILS, IS_SHORT };
+
+static bool counting;
+static unsigned long calls;
+static unsigned long failing;
+static unsigned long shortened;
+static const char *hit = "none";
+static int hit_file = -1;
+
+static unsigned long number_in(const char *variable) {
+    const char *text = getenv(variable);
+    return text ? strtoul(text, NULL, 10) : 0;
+}
+
+__attribute__((constructor)) static void start(void) {
+    failing = number_in("FAIL_AT");
+    shortened = number_in("SHORT_AT");
+    counting = true;
+}
+
+__attribute__((destructor)) static void tell(void) {
+    counting = false;
+    const char *told = getenv("IO_TOLD");
+    if (!told) return;
+    FILE *file = fopen(told, "w");
+    if (!file || fprintf(file, "%lu %s %d\n", calls, hit, hit_file) < 0 || fclose(file)) _exit(99);
+}
+
+// Counts a call, and says what becomes of it.
+static enum fate fate_of(enum kind kind, int file) {
+    static const char *const names[] = {"read", "write", "sync"};
+    if (!counting) return PASSES;
+    calls++;
+    if (calls != failing && calls != shortened) return PASSES;
+    hit = names[kind];
+    hit_file = file;
+    if (calls == shortened) return IS_SHORT;
+    errno = EIO;
+    return FAILS;
+}
+
+// The bytes that are moved of so many.
+static size_t moved(enum fate fate, size_t count) {
+    return fate == IS_SHORT && count > 1 ? 1 : count;
+}
+
+ssize_t read(int file, void *bytes, size_t count) {
+    const enum fate fate = fate_of(READ, file);
+    return fate == FAILS ? -1 : syscall(SYS_read, file, bytes, moved(fate, count));
+}
+
+ssize_t pread(int file, void *bytes, size_t count, off_t at) {
+    const enum fate fate = fate_of(READ, file);
+    return fate == FAILS ? -1 : syscall(SYS_pread64, file, bytes, moved(fate, count), at);
+}
+
+ssize_t write(int file, const void *bytes, size_t count) {
+    const enum fate fate = fate_of(WRITE, file);
+    return fate == FAILS ? -1 : syscall(SYS_write, file, bytes, moved(fate, count));
+}
+
+ssize_t pwrite(int file, const void *bytes, size_t count, off_t at) {
+    const enum fate fate = fate_of(WRITE, file);
+    return fate == FAILS ? -1 : syscall(SYS_pwrite64, file, bytes, moved(fate, count), at);
+}
+
+// The first of some parts that has bytes, where one byte alone is moved.
+static const struct iovec *first_of(const struct iovec *parts, int count) {
+    while (count > 1 && parts->iov_len == 0) {
+        parts++;
+        count--;
+    }
+    return parts;
+}
+
+ssize_t readv(int file, const struct iovec *parts, int count) {
+    const enum fate fate = fate_of(READ, file);
+    if (fate == FAILS) return -1;
+    if (fate == PASSES || count < 1) return syscall(SYS_readv, file, parts, count);
+    const struct iovec *part = first_of(parts, count);
+    return syscall(SYS_read, file, part->iov_base, moved(fate, part->iov_len));
+}
+
+ssize_t writev(int file, const struct iovec *parts, int count) {
+    const enum fate fate = fate_of(WRITE, file);
+    if (fate == FAILS) return -1;
+    if (fate == PASSES || count < 1) return syscall(SYS_writev, file, parts, count);
+    const struct iovec *part = first_of(parts, count);
+    return syscall(SYS_write, file, part->iov_base, moved(fate, part->iov_len));
+}
+
+int fsync(int file) {
+    return fate_of(SYNC, file) == FAILS ? -1 : (int)syscall(SYS_fsync, file);
+}
+
+int fdatasync(int file) {
+    return fate_of(SYNC, file) == FAILS ? -1 : (int)syscall(SYS_fdatasync, file);
+}
