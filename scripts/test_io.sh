@@ -3,6 +3,7 @@
 # until a run has no n-th call; then so with the n-th call moving one byte alone. tests/fail_io.c says which calls count.
 # - Where a call moves one byte, output, status and files are as if it had moved all.
 # - Where a call fails, the status is 3. What is put is a front of what is put else; where a read failed, it is whole lines and then `fault read`.
+#   Only where a text is put because the words gave no order does the status stay.
 # - BOOK is the old one, or none where there was none; it is the new one only where a sync failed, that of the folder. Through a link, where it is made
 #   in place, it may be empty or a front of the new one too.
 # - The FILE of `--ledger` is the one that is made of the first lines of the submissions, at least of all that were answered; or it is the old one, where
@@ -18,8 +19,8 @@ shim=tests/fail_io.c
 not_called 'preadv|preadv2|pwritev|pwritev2|sendfile|splice|copy_file_range|recv|send|sync|syncfs|msync|sync_file_range|fread|fwrite|mmap|mmap64'
 
 commands=0
-all_calls=0
-all_runs=0
+all_failed=0
+all_short=0
 
 # fails WHY [DUE FOUND]: shows the run that may not be, with the lines in which what was due and what was found differ
 fails() {
@@ -49,7 +50,6 @@ run_hit() {
         export LD_PRELOAD="$work/shim.so" IO_TOLD="$work/told"
         exec "$work/pbook" "$@"
     ) < "$input" > "$work/put" 2> "$work/errors" || status=$?
-    runs=$((runs + 1))
     [ "$status" -le 3 ] || fails 'it was ended by a signal, or with a status that is none'
     [ ! -s "$work/errors" ] || fails 'something is on standard error' /dev/null "$work/errors"
     read -r calls kind file < "$work/told" || fails 'it is not told what was called'
@@ -89,6 +89,12 @@ judge_book() {
     [ -L "$work/run/book" ] && [ "$kind" != read ] && is_front "$work/run/book" "$work/ample/book" || fails 'BOOK is not the old one'
 }
 
+# helped: what a run may leave that prints a text and has no order, whose status stays
+helped() {
+    [ "$status" -eq "$ample_status" ] || fails "the status due is $ample_status"
+    is_front "$work/put" "$work/ample.put" || fails 'the output is no front of what is due' "$work/ample.put" "$work/put"
+}
+
 # shown: what a command may leave that makes no file
 shown() {
     judge_output
@@ -111,7 +117,6 @@ collected() {
     judge_book
     [ -e "$work/old/file" ] || return 0
     if is_of old file && { [ "$answered" -eq 0 ] || [ "$kind" = sync ] || { [ "$kind" = write ] && [ "$file" -ne 1 ]; }; }; then
-        unsaved=$((unsaved + 1))
         return
     fi
     count=$answered
@@ -137,12 +142,13 @@ journaled() {
 hit_each() {
     at=1
     while run_hit "$variable" "$@" && [ "$at" -le "$calls" ]; do
-        if [ "$fate" = 'moved one byte' ] || [ "$kind" = none ]; then
+        if [ "$fate" = 'moved one byte' ]; then
             is_same || fails 'output, status or files are not as if all had been moved' "$work/ample.put" "$work/put"
         else
             "$judge" "$@"
             eval "${kind}s=\$((${kind}s + 1))"
         fi
+        hits=$((hits + 1))
         at=$((at + 1))
     done
     is_same || fails 'no call was hit, and the output is another' "$work/ample.put" "$work/put"
@@ -161,20 +167,21 @@ try() {
     run_in "$work/ample" "$input" "$@" > "$work/ample.put" || status=$?
     ample_status=$status
     lines=$(awk 'END { print NR }' "$input")
-    runs=0 reads=0 writes=0 syncs=0 unsaved=0
+    hits=0 reads=0 writes=0 syncs=0
     variable=FAIL_AT fate=failed
     hit_each "$@"
     variable=SHORT_AT fate='moved one byte'
     hit_each "$@"
-    echo "ok: $name: $reads reads, $writes writes and $syncs syncs failed, and each moved one byte: $runs runs"
+    failed=$((reads + writes + syncs))
+    echo "ok: $name: $reads reads, $writes writes and $syncs syncs failed; $((hits - failed)) calls moved one byte alone"
     commands=$((commands + 1))
-    all_calls=$((all_calls + reads + writes + syncs))
-    all_runs=$((all_runs + runs))
+    all_failed=$((all_failed + failed))
+    all_short=$((all_short + hits - failed))
 }
 
 : > "$work/nothing"
-try 'help' shown nothing --help
-try 'a misspelt command' shown nothing colect table book
+try 'help' helped nothing --help
+try 'a misspelt command' helped nothing colect table book
 try 'fen' shown nothing fen "$start" e2e4 c7c5 g1f3 d7d6
 try 'fen, refused' shown nothing fen "$start" e2e4 e7e5 e4e5
 try 'epd' shown epd epd
@@ -201,4 +208,4 @@ printf 'torn\t1-0\t%s\te2' "$start" >> "$work/old/file"
 try 'collect on a torn journal' journaled later collect --journal file ../table book
 echo 'no game' >> "$work/old/file"
 try 'collect, FILE refused' shown games collect --ledger file ../table book
-echo "$commands commands: $all_calls calls failed, $all_runs runs"
+echo "$commands commands: $all_failed calls failed, $all_short moved one byte alone"
