@@ -1,0 +1,164 @@
+//! Five submissions, and what is due where some of them are held: the replies, the book, its export and the lines. The games are short
+//! enough that the points of their moves can be counted by hand.
+
+use crate::text::{Text, digit};
+use pb_ledger::{Ledger, Tally};
+
+/// The record of the start position.
+pub(crate) const START: &[u8] = b"rnbqkbnr/pppppppp/8/8/8/8/PPPPPPPP/RNBQKBNR w KQkq - 0 1";
+
+/// The first line of a saved ledger.
+pub(crate) const HEADER: &[u8] = b"pbook-ledger 1\n";
+
+/// How many submissions there are.
+pub(crate) const COUNT: usize = 5;
+
+/// The ids, results and moves, all from the start position.
+const GAMES: [[&[u8]; 3]; COUNT] = [
+    [b"g1", b"1-0", b"e2e4 e7e5"],
+    [b"g2", b"1/2-1/2", b"e2e4 e7e5"],
+    [b"g3", b"0-1", b"d2d4"],
+    [b"g4", b"1-0", b"d2d4"],
+    [b"g5", b"1/2-1/2", b"e2e4"],
+];
+
+/// The points of e2e4, of d2d4 and of e7e5 after e2e4 that each game gives.
+const POINTS: [[u16; 3]; COUNT] = [[2, 0, 0], [1, 0, 1], [0, 0, 0], [0, 2, 0], [1, 0, 0]];
+
+/// The keys of the start position and of that after e2e4, over a table of which word i is 2^(i mod 64).
+pub(crate) const KEYS: [u64; 2] = [0xffff_0000_0000_eff0, 0xffff_0000_1000_eff0];
+
+/// The codes of e2e4, d2d4 and e7e5.
+pub(crate) const CODES: [u16; 3] = [0x031c, 0x02db, 0x0d24];
+
+/// The book of all five.
+pub(crate) const BOOK: &[u8] = b"\xff\xff\x00\x00\x00\x00\xef\xf0\x03\x1c\x00\x04\x00\x00\x00\x00\
+    \xff\xff\x00\x00\x00\x00\xef\xf0\x02\xdb\x00\x02\x00\x00\x00\x00\
+    \xff\xff\x00\x00\x10\x00\xef\xf0\x0d\x24\x00\x01\x00\x00\x00\x00";
+
+/// The export of all five.
+pub(crate) const EXPORT: &[u8] =
+    b"rnbqkbnr/pppppppp/8/8/4P3/8/PPPP1PPP/RNBQKBNR b KQkq e3 bkm e7e5 1;\n\
+    rnbqkbnr/pppppppp/8/8/8/8/PPPPPPPP/RNBQKBNR w KQkq - bkm e2e4 4 d2d4 2;\n";
+
+/// The line of a submission from the start position, without its LF.
+pub(crate) fn line_of([id, outcome, moves]: [&[u8]; 3]) -> Text {
+    Text::of(&[id, b"\t", outcome, b"\t", START, b"\t", moves])
+}
+
+/// The line of a game, by its place from 0.
+pub(crate) fn line(place: usize) -> Text {
+    line_of(GAMES[place % COUNT])
+}
+
+/// The lines of games, each with its LF.
+pub(crate) fn lines(places: &[usize]) -> Text {
+    let mut text = Text::new();
+    for place in places {
+        text.put(line(*place).as_bytes());
+        text.put(b"\n");
+    }
+    text
+}
+
+/// The number under which each of the five games is held; 0 stands for one that isn't.
+#[derive(Clone, Copy, PartialEq, Eq)]
+pub(crate) struct Held {
+    pub(crate) numbers: [u32; COUNT],
+}
+
+impl Held {
+    /// All five in order.
+    pub(crate) fn all() -> Held {
+        Held {
+            numbers: [1, 2, 3, 4, 5],
+        }
+    }
+
+    /// The games of a ledger.
+    pub(crate) fn of<T: Tally>(ledger: &Ledger<T>) -> Held {
+        let mut held = Held {
+            numbers: [0; COUNT],
+        };
+        for number in 1..=ledger.len() {
+            if let Some((id, _)) = ledger.get(number) {
+                held.number(id.as_bytes(), number);
+            }
+        }
+        held
+    }
+
+    /// Notes the number of the game with an id.
+    fn number(&mut self, id: &[u8], number: u32) {
+        for (place, game) in GAMES.iter().enumerate() {
+            if game[0] == id {
+                self.numbers[place] = number;
+            }
+        }
+    }
+
+    /// The games that these replies call `ok`, where the first so many were held before, and the lines of the others came in order.
+    pub(crate) fn told(first: usize, replies: &[u8]) -> Held {
+        let mut held = Held {
+            numbers: [0; COUNT],
+        };
+        let mut number = 0;
+        for place in 0..first.min(COUNT) {
+            number += 1;
+            held.numbers[place] = number;
+        }
+        for (place, reply) in (first..COUNT).zip(replies.split(|byte| *byte == b'\n')) {
+            if reply.starts_with(b"ok ") {
+                number += 1;
+                held.numbers[place] = number;
+            }
+        }
+        held
+    }
+
+    /// How many games aren't held.
+    pub(crate) fn missing(&self) -> u32 {
+        let mut missing: u32 = 0;
+        for number in self.numbers {
+            missing = missing.saturating_add(u32::from(number == 0));
+        }
+        missing
+    }
+
+    /// The points of the three moves.
+    pub(crate) fn points(&self) -> [u16; 3] {
+        let mut sums: [u16; 3] = [0; 3];
+        for (number, points) in self.numbers.iter().zip(&POINTS) {
+            if *number > 0 {
+                for (sum, more) in sums.iter_mut().zip(points) {
+                    *sum = sum.saturating_add(*more);
+                }
+            }
+        }
+        sums
+    }
+
+    /// The replies to the lines of games in this order, where each that isn't held found no memory.
+    pub(crate) fn replies(&self, places: &[usize]) -> Text {
+        let mut text = Text::new();
+        for place in places {
+            let id = GAMES[place % COUNT][0];
+            match self.numbers[place % COUNT] {
+                0 => text.put(Text::of(&[b"refused ", id, b" memory\n"]).as_bytes()),
+                number => text.put(Text::of(&[b"ok ", id, b" ", &digit(number), b"\n"]).as_bytes()),
+            }
+        }
+        text
+    }
+
+    /// The lines of the games that are held, in order.
+    pub(crate) fn lines(&self) -> Text {
+        let mut text = Text::new();
+        for (place, number) in self.numbers.iter().enumerate() {
+            if *number > 0 {
+                text.put(lines(&[place]).as_bytes());
+            }
+        }
+        text
+    }
+}
