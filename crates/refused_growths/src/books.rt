@@ -4,9 +4,7 @@ use crate::due::bytes_of;
 use crate::five::BOOK;
 use crate::kit::Kit;
 use crate::verdict::Verdict;
-use pb_poly::{
-    BookError, Failed, FuseSink, MemSink, MemSource, Sink, probe, read_book, write_book,
-};
+use pb_poly::{BookError, Failed, MemSink, MemSource, Sink, probe, read_book, write_book};
 use std::alloc::AllocError;
 
 /// Two entries of one key, with no weight and with what was learnt.
@@ -35,15 +33,6 @@ pub(crate) fn memory(kit: &Kit) -> Verdict {
     }
 }
 
-/// A put into a sink with a fuse that doesn't blow.
-pub(crate) fn fuse(kit: &Kit) -> Verdict {
-    let mut sink = FuseSink::new(kit.alloc, 1);
-    match sink.put(BOOK) {
-        Ok(()) => Verdict::answered(!sink.failed() && sink.as_bytes() == BOOK),
-        Err(Failed) => Verdict::wanted(sink.failed() && sink.as_bytes().is_empty()),
-    }
-}
-
 /// The book of a file, in pieces of one byte.
 pub(crate) fn reading(kit: &Kit) -> Verdict {
     match read_book(kit.alloc, &mut MemSource::new(LEARNT, 1), u32::MAX) {
@@ -61,7 +50,7 @@ pub(crate) fn writing(kit: &Kit) -> Verdict {
 
 /// The moves that a book has for the start position: e2e4 with weight 4, and d2d4 with weight 2.
 pub(crate) fn probing(kit: &Kit) -> Verdict {
-    let found = match probe(kit.alloc, &kit.book, &kit.table, &kit.start.setup()) {
+    let found = match probe(kit.alloc, &kit.book, &kit.table, &kit.start) {
         Ok(found) => found,
         Err(AllocError) => return Verdict::wanted(true),
     };

@@ -1,14 +1,14 @@
 //! Streams of submissions to a ledger, and what is made of it.
 
 use crate::books::put;
-use crate::five::{COUNT, EXPORT, HEADER, Held, lines};
+use crate::five::{ALL_HELD, COUNT, EXPORT, HEADER, Held, lines};
 use crate::kit::Kit;
 use crate::submitting::book;
 use crate::text::Text;
-use crate::verdict::Verdict;
+use crate::verdict::{Verdict, settled};
 use pb_ledger::{
-    CollectFault, ExportFault, JournalFault, Ledger, LoadError, ReplayError, Tally, Totals,
-    collect, collect_journaled, export, load, replay, save,
+    CollectFault, ExportFault, Ledger, LoadError, ReplayError, Tally, Totals, collect, export,
+    load, replay, save,
 };
 use pb_poly::{MemSink, MemSource, Sink};
 use std::alloc::AllocError;
@@ -28,13 +28,10 @@ pub(crate) fn collecting<T: Tally>(kit: &Kit) -> Verdict {
         Ok(ledger) => ledger,
         Err(AllocError) => return Verdict::wanted(true),
     };
-    let first = collected(kit, &mut ledger);
-    let second = collected(kit, &mut ledger);
-    let is_whole = first.wants + second.wants > 1 || Held::of(&ledger).missing() == 0;
-    first
-        .and(second)
-        .and(Verdict::answered(is_whole))
-        .and(book(kit, &ledger))
+    let both = collected(kit, &mut ledger).and(collected(kit, &mut ledger));
+    let is_whole = both.wants > 1 || Held::of(&ledger).missing() == 0;
+    both.and(Verdict::answered(is_whole))
+        .and(settled(|| book(kit, &ledger)))
 }
 
 /// The five lines to a ledger that may hold some of them.
@@ -44,72 +41,29 @@ fn collected<T: Tally>(kit: &Kit, ledger: &mut Ledger<T>) -> Verdict {
     let mut sink = MemSink::new(kit.alloc);
     let mut source = MemSource::new(stream.as_bytes(), PIECE);
     let answer = collect(kit.alloc, &mut source, &mut sink, ledger, u32::MAX);
-    judged(answer, before, ledger, &sink)
-}
-
-/// What became of the five lines, beside the replies to them and the games that are held now.
-fn judged<T: Tally>(
-    answer: Result<Totals, CollectFault>,
-    before: u32,
-    ledger: &Ledger<T>,
-    sink: &MemSink,
-) -> Verdict {
     let held = Held::of(ledger);
     let replies = held.replies(&ALL);
+    let put = sink.as_bytes();
     match answer {
         Ok(totals) => Verdict {
-            holds: totals == totals_of(before, &held) && sink.as_bytes() == replies.as_bytes(),
+            holds: totals == totals_of(before, held.missing()) && put == replies.as_bytes(),
             wants: held.missing(),
         },
-        Err(CollectFault::Memory) => {
-            Verdict::wanted(sink.as_bytes().is_empty() && ledger.len() == before)
-        }
+        Err(CollectFault::Memory) => Verdict::wanted(put.is_empty() && ledger.len() == before),
         Err(CollectFault::Write) => {
-            Verdict::wanted(sink.failed() && replies.as_bytes().starts_with(sink.as_bytes()))
+            Verdict::wanted(sink.failed() && replies.as_bytes().starts_with(put))
         }
         Err(_) => Verdict::answered(false),
     }
 }
 
-/// What became of the five lines, of whose games so many were held before.
-fn totals_of(before: u32, held: &Held) -> Totals {
-    let refused = u64::from(held.missing());
-    let repeats = u64::from(before);
+/// What became of the five lines, of whose games so many were held before, and so many found no memory.
+fn totals_of(before: u32, refused: u32) -> Totals {
     Totals {
         lines: 5,
-        new: 5_u64.saturating_sub(refused).saturating_sub(repeats),
-        repeats,
-        refused,
-    }
-}
-
-/// The five lines to a new ledger with a journal.
-pub(crate) fn journaling<T: Tally>(kit: &Kit) -> Verdict {
-    let mut ledger = match Ledger::<T>::new(kit.alloc, &kit.table, 1000) {
-        Ok(ledger) => ledger,
-        Err(AllocError) => return Verdict::wanted(true),
-    };
-    let stream = lines(&ALL);
-    let mut sink = MemSink::new(kit.alloc);
-    let mut journal = MemSink::new(kit.alloc);
-    let answer = collect_journaled(
-        kit.alloc,
-        &mut MemSource::new(stream.as_bytes(), PIECE),
-        &mut sink,
-        &mut journal,
-        &mut ledger,
-        u32::MAX,
-    );
-    let due = Held::of(&ledger).lines();
-    let is_front = due.as_bytes().starts_with(journal.as_bytes());
-    match answer {
-        Ok(totals) => judged(Ok(totals), 0, &ledger, &sink).and(Verdict::answered(
-            journal.as_bytes() == due.as_bytes(),
-        )),
-        Err(JournalFault::Lines(fault)) => judged(Err(fault), 0, &ledger, &sink).and(
-            Verdict::answered(journal.as_bytes() == due.as_bytes()),
-        ),
-        Err(JournalFault::Journal) => Verdict::wanted(journal.failed() && is_front),
+        new: u64::from(5_u32.saturating_sub(before).saturating_sub(refused)),
+        repeats: u64::from(before),
+        refused: u64::from(refused),
     }
 }
 
@@ -146,7 +100,7 @@ pub(crate) fn loading<T: Tally>(kit: &Kit) -> Verdict {
     let saved = saved();
     let mut source = MemSource::new(saved.as_bytes(), PIECE);
     match load(kit.alloc, &mut source, &mut ledger, u32::MAX) {
-        Ok(count) => Verdict::answered(count == 5 && Held::of(&ledger) == Held::all()),
+        Ok(count) => Verdict::answered(count == 5 && Held::of(&ledger) == ALL_HELD),
         Err(why) => Verdict::wanted(why == LoadError::Memory && ledger.len() < 5),
     }
 }
@@ -161,7 +115,7 @@ pub(crate) fn replaying<T: Tally>(kit: &Kit) -> Verdict {
     let mut source = MemSource::new(journal.as_bytes(), PIECE);
     let mut sink = MemSink::new(kit.alloc);
     let answer = replay(kit.alloc, &mut source, &mut sink, &mut ledger, u32::MAX);
-    let holds_all = Held::of(&ledger) == Held::all();
+    let holds_all = Held::of(&ledger) == ALL_HELD;
     match answer {
         Ok(()) => Verdict::answered(holds_all && sink.as_bytes() == SEAL),
         Err(ReplayError::Memory) => Verdict::wanted(ledger.len() < 5 && sink.as_bytes().is_empty()),

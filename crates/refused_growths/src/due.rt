@@ -17,7 +17,7 @@ fn put_entry(text: &mut Text, key: u64, code: u16, points: u16) {
 /// The bytes of the book.
 pub(crate) fn book_of(held: &Held) -> Text {
     let [king_pawn, queen_pawn, answer] = held.points();
-    let mut text = Text::new();
+    let mut text = Text::of(&[]);
     // The code of d2d4 is the lower one, so it comes first where both have as many points.
     if king_pawn > queen_pawn {
         put_entry(&mut text, KEYS[0], CODES[0], king_pawn);
@@ -41,7 +41,7 @@ fn put_move(text: &mut Text, spelled: &[u8], points: u16) {
 /// The lines of the export.
 pub(crate) fn export_of(held: &Held) -> Text {
     let [king_pawn, queen_pawn, answer] = held.points();
-    let mut text = Text::new();
+    let mut text = Text::of(&[]);
     if answer > 0 {
         text.put(b"rnbqkbnr/pppppppp/8/8/4P3/8/PPPP1PPP/RNBQKBNR b KQkq e3 bkm");
         put_move(&mut text, b" e7e5 ", answer);
@@ -63,7 +63,7 @@ pub(crate) fn export_of(held: &Held) -> Text {
 
 /// The bytes of a book's entries.
 pub(crate) fn bytes_of(book: &Book) -> Text {
-    let mut text = Text::new();
+    let mut text = Text::of(&[]);
     for entry in book.entries() {
         text.put(&entry.key.to_be_bytes());
         text.put(&entry.code.to_be_bytes());

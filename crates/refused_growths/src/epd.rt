@@ -18,8 +18,7 @@ pub(crate) fn rewriting(kit: &Kit) -> Verdict {
         Ok(record) => record,
         Err(why) => return Verdict::wanted(why == EpdError::Memory),
     };
-    let due = Text::of(&[KINGS, b" bm e1d1; id \"two kings\";"]);
-    bytes(write_epd(kit.alloc, &record), due.as_bytes())
+    written(kit, &record, b" bm e1d1; id \"two kings\";")
 }
 
 /// A line with an opcode that stands twice.
@@ -31,15 +30,13 @@ pub(crate) fn repeated(kit: &Kit) -> Verdict {
     }
 }
 
-/// A line with a text that doesn't end. It takes no memory to say so.
-pub(crate) fn unclosed(kit: &Kit) -> Verdict {
-    Verdict::answered(matches!(read(kit, b" id \"x"), Err(EpdError::Token(29))))
-}
-
-/// A line of three words. It takes no memory to refuse it.
-pub(crate) fn three_words(kit: &Kit) -> Verdict {
-    let answer = read_epd(kit.alloc, b"4k3/8/8/8/8/8/8/4K3 w -");
-    Verdict::answered(matches!(answer, Err(EpdError::Fields)))
+/// A line with a text that doesn't end, and one of three words. It takes no memory to refuse them.
+pub(crate) fn without_memory(kit: &Kit) -> Verdict {
+    let three_words = read_epd(kit.alloc, b"4k3/8/8/8/8/8/8/4K3 w -");
+    Verdict::answered(
+        matches!(read(kit, b" id \"x"), Err(EpdError::Token(29)))
+            && matches!(three_words, Err(EpdError::Fields)),
+    )
 }
 
 /// Two words as operands.
@@ -51,30 +48,27 @@ fn operands(alloc: Global) -> Result<Vec<Operand>, AllocError> {
     Ok(operands)
 }
 
-/// An operation that is put to a record without operations, and the record's text then.
+/// An operation that is put to a record, and put again where it found no memory; the record has to be as it was then.
 pub(crate) fn putting(kit: &Kit) -> Verdict {
-    let mut record = Epd::new(kit.alloc, kit.kings.setup());
-    let Ok(operands) = operands(kit.alloc) else {
-        return Verdict::wanted(true);
-    };
-    match record.put(b"bkm", operands) {
-        Ok(()) => {
-            let due = Text::of(&[KINGS, b" bkm e1d1 2;"]);
-            bytes(write_epd(kit.alloc, &record), due.as_bytes())
+    let mut record = Epd::new(kit.alloc, kit.kings);
+    let mut verdict = Verdict::answered(true);
+    for _ in 0..2 {
+        let Ok(operands) = operands(kit.alloc) else {
+            return verdict.and(Verdict::wanted(true));
+        };
+        match record.put(b"bkm", operands) {
+            Ok(()) => return verdict.and(written(kit, &record, b" bkm e1d1 2;")),
+            Err(why) => {
+                let is_due = why == PutError::Memory && record.len() == 0;
+                verdict = verdict.and(Verdict::wanted(is_due));
+            }
         }
-        Err(PutError::Memory) => put_again(kit, &mut record),
-        Err(_) => Verdict::answered(false),
     }
+    verdict
 }
 
-/// The same operation put again, to a record that is as it was after the first one found no memory.
-fn put_again(kit: &Kit, record: &mut Epd) -> Verdict {
-    let unchanged = record.len() == 0 && record.get(b"bkm").is_none();
-    let Ok(operands) = operands(kit.alloc) else {
-        return Verdict::wanted(unchanged).and(Verdict::wanted(true));
-    };
-    match record.put(b"bkm", operands) {
-        Ok(()) => Verdict::wanted(unchanged && record.len() == 1),
-        Err(why) => Verdict::wanted(unchanged).and(Verdict::wanted(why == PutError::Memory)),
-    }
+/// The text of a record of two kings, beside the operations that are due.
+fn written(kit: &Kit, record: &Epd, operations: &[u8]) -> Verdict {
+    let due = Text::of(&[KINGS, operations]);
+    bytes(write_epd(kit.alloc, record), due.as_bytes())
 }

@@ -14,7 +14,7 @@ pub(crate) const HEADER: &[u8] = b"pbook-ledger 1\n";
 pub(crate) const COUNT: usize = 5;
 
 /// The ids, results and moves, all from the start position.
-const GAMES: [[&[u8]; 3]; COUNT] = [
+pub(crate) const GAMES: [[&[u8]; 3]; COUNT] = [
     [b"g1", b"1-0", b"e2e4 e7e5"],
     [b"g2", b"1/2-1/2", b"e2e4 e7e5"],
     [b"g3", b"0-1", b"d2d4"],
@@ -46,20 +46,20 @@ pub(crate) fn line_of([id, outcome, moves]: [&[u8]; 3]) -> Text {
     Text::of(&[id, b"\t", outcome, b"\t", START, b"\t", moves])
 }
 
-/// The line of a game, by its place from 0.
-pub(crate) fn line(place: usize) -> Text {
-    line_of(GAMES[place % COUNT])
-}
-
 /// The lines of games, each with its LF.
 pub(crate) fn lines(places: &[usize]) -> Text {
-    let mut text = Text::new();
+    let mut text = Text::of(&[]);
     for place in places {
-        text.put(line(*place).as_bytes());
+        text.put(line_of(GAMES[place % COUNT]).as_bytes());
         text.put(b"\n");
     }
     text
 }
+
+/// All five, held in order.
+pub(crate) const ALL_HELD: Held = Held {
+    numbers: [1, 2, 3, 4, 5],
+};
 
 /// The number under which each of the five games is held; 0 stands for one that isn't.
 #[derive(Clone, Copy, PartialEq, Eq)]
@@ -68,33 +68,18 @@ pub(crate) struct Held {
 }
 
 impl Held {
-    /// All five in order.
-    pub(crate) fn all() -> Held {
-        Held {
-            numbers: [1, 2, 3, 4, 5],
-        }
-    }
-
     /// The games of a ledger.
     pub(crate) fn of<T: Tally>(ledger: &Ledger<T>) -> Held {
-        let mut held = Held {
-            numbers: [0; COUNT],
-        };
-        for number in 1..=ledger.len() {
-            if let Some((id, _)) = ledger.get(number) {
-                held.number(id.as_bytes(), number);
-            }
-        }
-        held
-    }
-
-    /// Notes the number of the game with an id.
-    fn number(&mut self, id: &[u8], number: u32) {
+        let mut numbers = [0; COUNT];
         for (place, game) in GAMES.iter().enumerate() {
-            if game[0] == id {
-                self.numbers[place] = number;
-            }
+            let mut all = 1..=ledger.len();
+            let found = all.find(|number| match ledger.get(*number) {
+                Some((id, _)) => id.as_bytes() == game[0],
+                None => false,
+            });
+            numbers[place] = found.unwrap_or(0);
         }
+        Held { numbers }
     }
 
     /// The games that these replies call `ok`, where the first so many were held before, and the lines of the others came in order.
@@ -140,7 +125,7 @@ impl Held {
 
     /// The replies to the lines of games in this order, where each that isn't held found no memory.
     pub(crate) fn replies(&self, places: &[usize]) -> Text {
-        let mut text = Text::new();
+        let mut text = Text::of(&[]);
         for place in places {
             let id = GAMES[place % COUNT][0];
             match self.numbers[place % COUNT] {
@@ -153,7 +138,7 @@ impl Held {
 
     /// The lines of the games that are held, in order.
     pub(crate) fn lines(&self) -> Text {
-        let mut text = Text::new();
+        let mut text = Text::of(&[]);
         for (place, number) in self.numbers.iter().enumerate() {
             if *number > 0 {
                 text.put(lines(&[place]).as_bytes());

@@ -1,22 +1,24 @@
 //! What the judged calls are made over. It is all made before the first of them.
 
-use crate::five::{COUNT, START, line};
+use crate::five::{COUNT, GAMES, line_of};
 use crate::text::{Text, table_file};
 use crate::verdict::made;
-use pb_board::{Fen, read_fen};
+use pb_board::{Setup, read_setup};
 use pb_ledger::{Ledger, MapTally, Tally};
 use pb_poly::{Book, Table, read_table};
 use std::alloc::{AllocError, Global};
 
-/// The first four fields of a record of two kings.
+/// The four fields of a setup of two kings, and the same as one text.
+const KINGS_FIELDS: [&[u8]; 4] = [b"4k3/8/8/8/8/8/8/4K3", b"w", b"-", b"-"];
+
 pub(crate) const KINGS: &[u8] = b"4k3/8/8/8/8/8/8/4K3 w - -";
 
 /// What the calls are made over.
 #[derive(Drop)]
 pub(crate) struct Kit {
     pub(crate) alloc: Global,
-    pub(crate) start: Fen,
-    pub(crate) kings: Fen,
+    pub(crate) start: Setup,
+    pub(crate) kings: Setup,
     pub(crate) table_file: Text,
     pub(crate) table: Table,
     /// A ledger of all five games, and its book.
@@ -37,13 +39,13 @@ impl Kit {
     /// All of it, each part in a second attempt where the first one found no memory.
     pub(crate) fn new(alloc: Global) -> Result<Kit, AllocError> {
         let table_file = table_file();
-        let table = made(|| table_of(alloc, table_file.as_bytes()))?;
+        let table = made(|| read_table(alloc, table_file.as_bytes()).map_err(|_| AllocError))?;
         let five = ledger_of(alloc, &table, COUNT, COUNT)?;
         let book = made(|| five.make_book(alloc))?;
         Ok(Kit {
             alloc,
-            start: record(START)?,
-            kings: record(Text::of(&[KINGS, b" 0 1"]).as_bytes())?,
+            start: Setup::start(),
+            kings: read_setup(KINGS_FIELDS).map_err(|_| AllocError)?,
             five,
             book,
             table,
@@ -62,16 +64,6 @@ impl<T: Tally> Ones<T> {
     }
 }
 
-/// The record of a text.
-fn record(text: &[u8]) -> Result<Fen, AllocError> {
-    read_fen(text).map_err(|_| AllocError)
-}
-
-/// The table of a file.
-fn table_of(alloc: Global, file: &[u8]) -> Result<Table, AllocError> {
-    read_table(alloc, file).map_err(|_| AllocError)
-}
-
 /// A ledger for at most so many games, 1 to 5, that holds the first so many of the five.
 fn ledger_of<T: Tally>(
     alloc: Global,
@@ -81,8 +73,8 @@ fn ledger_of<T: Tally>(
 ) -> Result<Ledger<T>, AllocError> {
     let cap = cap.clamp(1, COUNT) as u32;
     let mut ledger = made(|| Ledger::<T>::new(alloc, table, cap))?;
-    for place in 0..count {
-        let line = line(place);
+    for game in GAMES.iter().take(count) {
+        let line = line_of(*game);
         if ledger.submit(line.as_bytes()).is_err() {
             ledger.submit(line.as_bytes()).map_err(|_| AllocError)?;
         }

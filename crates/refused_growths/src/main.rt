@@ -26,7 +26,7 @@ mod values;
 mod verdict;
 
 use crate::due::{book_of, export_of};
-use crate::five::{BOOK, EXPORT, Held};
+use crate::five::{ALL_HELD, BOOK, EXPORT};
 use crate::kit::{Kit, Ones};
 use crate::verdict::{Verdict, settled};
 use pb_ledger::{ListTally, MapTally, Tally};
@@ -66,15 +66,13 @@ impl Report<'_> {
         self.tell("take_table", settled(|| values::table_of_source(kit)))?;
         self.tell("read_epd, write_epd", settled(|| epd::rewriting(kit)))?;
         self.tell("read_epd, an opcode twice", settled(|| epd::repeated(kit)))?;
-        self.tell("read_epd, a bad token", epd::unclosed(kit))?;
-        self.tell("read_epd, three words", epd::three_words(kit))?;
+        self.tell("read_epd without memory", epd::without_memory(kit))?;
         self.tell("Epd::put", settled(|| epd::putting(kit)))
     }
 
     /// Books and the bytes of sinks.
     fn tell_books(&mut self, kit: &Kit) -> io::Result<()> {
         self.tell("MemSink::put", settled(|| books::memory(kit)))?;
-        self.tell("FuseSink::put", settled(|| books::fuse(kit)))?;
         self.tell("read_book", settled(|| books::reading(kit)))?;
         self.tell("write_book", settled(|| books::writing(kit)))?;
         self.tell("probe", settled(|| books::probing(kit)))
@@ -89,12 +87,8 @@ fn tell_ledgers<T: Tally>(
 ) -> io::Result<()> {
     report.tell("ensure, rows", settled(|| tallies::rows::<T>(kit)))?;
     report.tell("submit", settled(|| submitting::five::<T>(kit)))?;
-    report.tell("submit, no new game", submitting::without_memory(ones))?;
+    report.tell("submit without memory", submitting::without_memory(ones))?;
     report.tell("collect", settled(|| collecting::collecting::<T>(kit)))?;
-    report.tell(
-        "collect_journaled",
-        settled(|| collecting::journaling::<T>(kit)),
-    )?;
     report.tell("load", settled(|| collecting::loading::<T>(kit)))?;
     report.tell("replay", settled(|| collecting::replaying::<T>(kit)))
 }
@@ -136,8 +130,7 @@ fn judge_all(rt: &HostRuntime) -> io::Result<u8> {
         wants: 0,
         has_failed: false,
     };
-    let counts = book_of(&Held::all()).as_bytes() == BOOK
-        && export_of(&Held::all()).as_bytes() == EXPORT;
+    let counts = book_of(&ALL_HELD).as_bytes() == BOOK && export_of(&ALL_HELD).as_bytes() == EXPORT;
     report.tell("the games as they are counted", Verdict::answered(counts))?;
     report.tell_values(&kit)?;
     report.tell_books(&kit)?;

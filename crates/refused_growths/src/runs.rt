@@ -3,7 +3,7 @@
 use crate::collecting::ALL;
 use crate::commands::is_want;
 use crate::due::{book_of, bytes_of, export_of};
-use crate::five::{COUNT, HEADER, Held, lines};
+use crate::five::{HEADER, Held, lines};
 use crate::kit::Kit;
 use crate::text::Text;
 use crate::verdict::Verdict;
@@ -26,11 +26,6 @@ fn has_replies(sink: &MemSink, held: &Held, order: &[usize], has_ended: bool) ->
     }
 }
 
-/// A book, beside the one of the games that are held.
-fn is_book(book: &Book, held: &Held) -> bool {
-    bytes_of(book).as_bytes() == book_of(held).as_bytes()
-}
-
 /// What became of submissions, beside the games that are held by the replies to them.
 fn judged(
     answer: &Result<Option<Book>, Fault>,
@@ -40,7 +35,8 @@ fn judged(
 ) -> Verdict {
     match answer {
         Ok(Some(book)) => Verdict {
-            holds: has_replies(sink, held, order, true) && is_book(book, held),
+            holds: has_replies(sink, held, order, true)
+                && bytes_of(book).as_bytes() == book_of(held).as_bytes(),
             wants: held.missing(),
         },
         Ok(None) => Verdict::answered(false),
@@ -83,7 +79,9 @@ pub(crate) fn collect_into_place(kit: &Kit) -> Verdict {
     let held = Held::told(0, sink.as_bytes());
     match answer {
         Ok(kept) => Verdict {
-            holds: kept && has_replies(&sink, &held, &ALL, true) && keeps(&place, &held),
+            holds: kept
+                && has_replies(&sink, &held, &ALL, true)
+                && place.kept() == Some(book_of(&held).as_bytes()),
             wants: held.missing(),
         },
         Err(NoBook::Run(fault)) => {
@@ -92,14 +90,6 @@ pub(crate) fn collect_into_place(kit: &Kit) -> Verdict {
         Err(NoBook::Keep(why)) => {
             Verdict::wanted(why == NotKept::Memory && place.kept().is_none())
         }
-    }
-}
-
-/// Whether a place keeps the book of the games that are held.
-fn keeps(place: &MemPlace, held: &Held) -> bool {
-    match place.kept() {
-        Some(bytes) => bytes == book_of(held).as_bytes(),
-        None => false,
     }
 }
 
@@ -168,41 +158,27 @@ pub(crate) fn export(kit: &Kit) -> Verdict {
         &mut sink,
         u32::MAX,
     );
-    match answer {
-        Ok(true) => exported(sink.as_bytes()),
-        Ok(false) => Verdict::answered(false),
-        Err(fault) => Verdict::wanted(is_want(fault, &sink) && is_front(sink.as_bytes())),
+    let is_whole = answer.is_ok();
+    let missing = fewest_missing(sink.as_bytes(), is_whole);
+    match (answer, missing) {
+        (Ok(true), Some(wants)) => Verdict { holds: true, wants },
+        (Err(fault), Some(_)) => Verdict::wanted(is_want(fault, &sink)),
+        _ => Verdict::answered(false),
     }
 }
 
-/// Some of the five games, by a number of which each game has a bit.
-fn some(bits: usize) -> Held {
-    let mut held = Held {
-        numbers: [0; COUNT],
-    };
-    for place in 0..COUNT {
-        held.numbers[place] = (bits >> place & 1) as u32;
-    }
-    held
-}
-
-/// An export: that of the five games, or of as many of them as may be.
-fn exported(text: &[u8]) -> Verdict {
-    let mut fewest = Verdict::answered(false);
-    for bits in 0..32 {
-        let held = some(bits);
-        let is_fewer = !fewest.holds || held.missing() < fewest.wants;
-        if is_fewer && export_of(&held).as_bytes() == text {
-            fewest = Verdict {
-                holds: true,
-                wants: held.missing(),
-            };
+/// How few of the five games may be missing where this is their export, or a front of it; None where it is no export.
+fn fewest_missing(text: &[u8], is_whole: bool) -> Option<u32> {
+    let mut fewest = None;
+    for bits in 0..32_u32 {
+        let held = Held {
+            numbers: [0, 1, 2, 3, 4].map(|place| bits >> place & 1),
+        };
+        let due = export_of(&held);
+        let is_due = due.as_bytes().starts_with(text);
+        if is_due && (!is_whole || due.as_bytes().len() == text.len()) {
+            fewest = Some(held.missing().min(fewest.unwrap_or(5)));
         }
     }
     fewest
-}
-
-/// Whether a text is a front of the export of some of the games.
-fn is_front(text: &[u8]) -> bool {
-    (0..32).any(|bits| export_of(&some(bits)).as_bytes().starts_with(text))
 }

@@ -21,16 +21,18 @@ pub(crate) fn rows<T: Tally>(kit: &Kit) -> Verdict {
     first.and(second).and(listed)
 }
 
-/// A row that is made, in a second attempt where the first one found no memory.
+/// A row that is made, and made again where it found no memory; nothing has changed then.
 fn ensured<T: Tally>(tally: &mut T, key: u64, code: u16) -> Verdict {
-    if tally.ensure(key, code).is_ok() {
-        return Verdict::answered(tally.points(key, code) == 0);
+    let mut verdict = Verdict::answered(true);
+    for _ in 0..2 {
+        let answer = tally.ensure(key, code);
+        let is_empty = tally.points(key, code) == 0 && tally.times(key, code) == 0;
+        match answer {
+            Ok(()) => return verdict.and(Verdict::answered(is_empty)),
+            Err(AllocError) => verdict = verdict.and(Verdict::wanted(is_empty)),
+        }
     }
-    let unchanged = tally.points(key, code) == 0 && tally.times(key, code) == 0;
-    match tally.ensure(key, code) {
-        Ok(()) => Verdict::wanted(unchanged),
-        Err(AllocError) => Verdict::wanted(unchanged).and(Verdict::wanted(true)),
-    }
+    verdict
 }
 
 /// A row without plies.

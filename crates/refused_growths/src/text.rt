@@ -12,16 +12,11 @@ pub(crate) struct Text {
 }
 
 impl Text {
-    /// No bytes.
-    pub(crate) fn new() -> Text {
-        Text {
-            bytes: ArrayVec::new(),
-        }
-    }
-
     /// The parts one after the other.
     pub(crate) fn of(parts: &[&[u8]]) -> Text {
-        let mut text = Text::new();
+        let mut text = Text {
+            bytes: ArrayVec::new(),
+        };
         for part in parts {
             text.put(part);
         }
@@ -56,22 +51,11 @@ pub(crate) fn digit(number: u32) -> [u8; 1] {
 
 /// The file of a table of which word i is 2^(i mod 64).
 pub(crate) fn table_file() -> Text {
-    let mut file = Text::new();
-    for place in 0..781_u32 {
-        put_word(&mut file, 1_u64 << (place % 64));
+    let mut file = Text::of(&[]);
+    for place in 0..781_usize {
+        let mut word = *b"0000000000000000\n";
+        word[15 - place % 64 / 4] = b"1248"[place % 4];
+        file.put(&word);
     }
     file
-}
-
-/// Adds a line of a table's file: a word as 16 hexadecimal digits.
-fn put_word(file: &mut Text, word: u64) {
-    for byte in word.to_be_bytes() {
-        file.put(&[hexadecimal(byte / 16), hexadecimal(byte % 16)]);
-    }
-    file.put(b"\n");
-}
-
-/// The hexadecimal digit of a number below 16.
-fn hexadecimal(number: u8) -> u8 {
-    b"0123456789abcdef"[(number % 16) as usize]
 }

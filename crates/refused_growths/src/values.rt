@@ -4,7 +4,7 @@ use crate::five::START;
 use crate::kit::{KINGS, Kit};
 use crate::text::Text;
 use crate::verdict::Verdict;
-use pb_board::{read_fen, write_fen, write_setup};
+use pb_board::{Fen, read_fen, write_fen, write_setup};
 use pb_moves::{Move, legal_moves};
 use pb_poly::{MemSource, Table, TableError, TableFault, read_table, take_table};
 use std::alloc::AllocError;
@@ -17,14 +17,17 @@ pub(crate) fn bytes(answer: Result<Vec<u8>, AllocError>, due: &[u8]) -> Verdict 
     }
 }
 
-/// The text of a record, as it is written.
+/// A record, as it is written.
 pub(crate) fn record(kit: &Kit) -> Verdict {
-    bytes(write_fen(kit.alloc, &kit.start), START)
+    match Fen::new(kit.start, 0, 1) {
+        Some(fen) => bytes(write_fen(kit.alloc, &fen), START),
+        None => Verdict::answered(false),
+    }
 }
 
-/// The first four fields of a record, as they are written.
+/// The four fields of a setup, as they are written.
 pub(crate) fn setup(kit: &Kit) -> Verdict {
-    bytes(write_setup(kit.alloc, &kit.kings.setup()), KINGS)
+    bytes(write_setup(kit.alloc, &kit.kings), KINGS)
 }
 
 /// The moves of a king and of a pawn before its promotion.
@@ -41,7 +44,7 @@ pub(crate) fn moves(kit: &Kit) -> Verdict {
 
 /// The spellings of moves, each with a space after it.
 fn spelled(moves: &[Move]) -> Text {
-    let mut text = Text::new();
+    let mut text = Text::of(&[]);
     for m in moves {
         text.put(m.text().as_bytes());
         text.put(b" ");
