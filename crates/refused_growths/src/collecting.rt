@@ -5,7 +5,7 @@ use crate::five::{ALL_HELD, COUNT, EXPORT, HEADER, Held, lines};
 use crate::kit::Kit;
 use crate::submitting::book;
 use crate::text::Text;
-use crate::verdict::{Verdict, settled};
+use crate::verdict::Verdict;
 use pb_ledger::{
     CollectFault, ExportFault, Ledger, LoadError, ReplayError, Tally, Totals, collect, export,
     load, replay, save,
@@ -31,7 +31,7 @@ pub(crate) fn collecting<T: Tally>(kit: &Kit) -> Verdict {
     let both = collected(kit, &mut ledger).and(collected(kit, &mut ledger));
     let is_whole = both.wants > 1 || Held::of(&ledger).missing() == 0;
     both.and(Verdict::answered(is_whole))
-        .and(settled(|| book(kit, &ledger)))
+        .and(book(kit, &ledger))
 }
 
 /// The five lines to a ledger that may hold some of them.

@@ -28,7 +28,7 @@ mod verdict;
 use crate::due::{book_of, export_of};
 use crate::five::{ALL_HELD, BOOK, EXPORT};
 use crate::kit::{Kit, Ones};
-use crate::verdict::{Verdict, settled};
+use crate::verdict::Verdict;
 use pb_ledger::{ListTally, MapTally, Tally};
 use std::alloc::{AllocError, Global};
 use std::io;
@@ -57,57 +57,62 @@ impl Report<'_> {
         println!(self.rt; "{word} {name}{}", self.over)
     }
 
-    /// The calls that take no memory, and those of values.
-    fn tell_values(&mut self, kit: &Kit) -> io::Result<()> {
-        self.tell("write_fen", settled(|| values::record(kit)))?;
-        self.tell("write_setup", settled(|| values::setup(kit)))?;
-        self.tell("legal_moves", settled(|| values::moves(kit)))?;
-        self.tell("read_table", settled(|| values::table(kit)))?;
-        self.tell("take_table", settled(|| values::table_of_source(kit)))?;
-        self.tell("read_epd, write_epd", settled(|| epd::rewriting(kit)))?;
-        self.tell("read_epd, an opcode twice", settled(|| epd::repeated(kit)))?;
+    /// Makes a call, and makes it again where memory was wanting. Prints what it answered.
+    fn judge<F: Fn(&Kit) -> Verdict>(&mut self, name: &str, kit: &Kit, call: F) -> io::Result<()>
+        requires { F.IsAlwaysCallable call }
+    {
+        let first = call(kit);
+        let verdict = if first.wants == 0 {
+            first
+        } else {
+            first.and(call(kit))
+        };
+        self.tell(name, verdict)
+    }
+
+    /// Values, books and the bytes of sinks.
+    fn judge_values(&mut self, kit: &Kit) -> io::Result<()> {
+        self.judge("write_fen", kit, values::record)?;
+        self.judge("write_setup", kit, values::setup)?;
+        self.judge("legal_moves", kit, values::moves)?;
+        self.judge("read_table", kit, values::table)?;
+        self.judge("take_table", kit, values::table_of_source)?;
+        self.judge("read_epd, write_epd", kit, epd::rewriting)?;
+        self.judge("read_epd, an opcode twice", kit, epd::repeated)?;
         self.tell("read_epd without memory", epd::without_memory(kit))?;
-        self.tell("Epd::put", settled(|| epd::putting(kit)))
+        self.judge("Epd::put", kit, epd::putting)?;
+        self.judge("MemSink::put", kit, books::memory)?;
+        self.judge("read_book", kit, books::reading)?;
+        self.judge("write_book", kit, books::writing)?;
+        self.judge("probe", kit, books::probing)
     }
 
-    /// Books and the bytes of sinks.
-    fn tell_books(&mut self, kit: &Kit) -> io::Result<()> {
-        self.tell("MemSink::put", settled(|| books::memory(kit)))?;
-        self.tell("read_book", settled(|| books::reading(kit)))?;
-        self.tell("write_book", settled(|| books::writing(kit)))?;
-        self.tell("probe", settled(|| books::probing(kit)))
+    /// Ledgers over one tally.
+    fn judge_ledgers<T: Tally>(&mut self, kit: &Kit, ones: &mut Ones<T>) -> io::Result<()> {
+        self.judge("ensure, rows", kit, tallies::rows::<T>)?;
+        self.judge("submit", kit, submitting::five::<T>)?;
+        self.tell("submit without memory", submitting::without_memory(ones))?;
+        self.judge("collect", kit, collecting::collecting::<T>)?;
+        self.judge("load", kit, collecting::loading::<T>)?;
+        self.judge("replay", kit, collecting::replaying::<T>)
     }
-}
 
-/// Ledgers over one tally.
-fn tell_ledgers<T: Tally>(
-    report: &mut Report<'_>,
-    kit: &Kit,
-    ones: &mut Ones<T>,
-) -> io::Result<()> {
-    report.tell("ensure, rows", settled(|| tallies::rows::<T>(kit)))?;
-    report.tell("submit", settled(|| submitting::five::<T>(kit)))?;
-    report.tell("submit without memory", submitting::without_memory(ones))?;
-    report.tell("collect", settled(|| collecting::collecting::<T>(kit)))?;
-    report.tell("load", settled(|| collecting::loading::<T>(kit)))?;
-    report.tell("replay", settled(|| collecting::replaying::<T>(kit)))
-}
-
-/// What is made of a ledger, and the commands.
-fn tell_commands(report: &mut Report<'_>, kit: &Kit) -> io::Result<()> {
-    report.tell("export", settled(|| collecting::exporting(kit)))?;
-    report.tell("save", settled(|| collecting::saving(kit)))?;
-    report.tell("parse", settled(|| commands::words(kit)))?;
-    report.tell("parse, no words", settled(|| commands::no_words(kit)))?;
-    report.tell("run_fen", settled(|| commands::fen(kit)))?;
-    report.tell("run_epd", settled(|| commands::epd(kit)))?;
-    report.tell("run_show", settled(|| commands::show(kit)))?;
-    report.tell("run_probe", settled(|| commands::probe(kit)))?;
-    report.tell("run_collect", settled(|| runs::collect(kit)))?;
-    report.tell("collect_into", settled(|| runs::collect_into_place(kit)))?;
-    report.tell("run_continue", settled(|| runs::go_on(kit)))?;
-    report.tell("run_journaled", settled(|| runs::journal(kit)))?;
-    report.tell("run_export", settled(|| runs::export(kit)))
+    /// What is made of a ledger, and the commands.
+    fn judge_commands(&mut self, kit: &Kit) -> io::Result<()> {
+        self.judge("export", kit, collecting::exporting)?;
+        self.judge("save", kit, collecting::saving)?;
+        self.judge("parse", kit, commands::words)?;
+        self.judge("parse, no words", kit, commands::no_words)?;
+        self.judge("run_fen", kit, commands::fen)?;
+        self.judge("run_epd", kit, commands::epd)?;
+        self.judge("run_show", kit, commands::show)?;
+        self.judge("run_probe", kit, commands::probe)?;
+        self.judge("run_collect", kit, runs::collect)?;
+        self.judge("collect_into", kit, runs::collect_into_place)?;
+        self.judge("run_continue", kit, runs::go_on)?;
+        self.judge("run_journaled", kit, runs::journal)?;
+        self.judge("run_export", kit, runs::export)
+    }
 }
 
 /// What the calls are made over.
@@ -132,19 +137,18 @@ fn judge_all(rt: &HostRuntime) -> io::Result<u8> {
     };
     let counts = book_of(&ALL_HELD).as_bytes() == BOOK && export_of(&ALL_HELD).as_bytes() == EXPORT;
     report.tell("the games as they are counted", Verdict::answered(counts))?;
-    report.tell_values(&kit)?;
-    report.tell_books(&kit)?;
+    report.judge_values(&kit)?;
     report.over = " over a map";
-    tell_ledgers::<MapTally>(&mut report, &kit, &mut by_map)?;
+    report.judge_ledgers(&kit, &mut by_map)?;
     report.over = " over a list";
-    tell_ledgers::<ListTally>(&mut report, &kit, &mut by_list)?;
+    report.judge_ledgers(&kit, &mut by_list)?;
     report.over = "";
-    tell_commands(&mut report, &kit)?;
+    report.judge_commands(&kit)?;
     let once = Verdict {
         holds: true,
         wants: report.wants,
     };
-    report.tell("want of memory, once at most", once)?;
+    report.tell("in all", once)?;
     Ok(u8::from(report.has_failed))
 }
 

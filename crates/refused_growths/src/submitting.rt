@@ -4,7 +4,7 @@ use crate::due::{book_of, bytes_of};
 use crate::five::{BOOK, CODES, GAMES, Held, KEYS, line_of};
 use crate::kit::{Kit, Ones};
 use crate::text::Text;
-use crate::verdict::{Verdict, settled};
+use crate::verdict::Verdict;
 use pb_ledger::{Ledger, Refusal, Tally};
 use std::alloc::AllocError;
 
@@ -42,7 +42,7 @@ pub(crate) fn five<T: Tally>(kit: &Kit) -> Verdict {
     for game in &GAMES {
         verdict = verdict.and(submitted(&mut ledger, line_of(*game).as_bytes()));
     }
-    verdict.and(settled(|| book(kit, &ledger)))
+    verdict.and(book(kit, &ledger))
 }
 
 /// A new game that is submitted, and submitted again where it found no memory; nothing has changed then.
@@ -72,15 +72,22 @@ fn has_its_points<T: Tally>(ledger: &Ledger<T>) -> bool {
     points.all(|((key, code), due)| ledger.tally().points(*key, *code) == u64::from(*due))
 }
 
-/// The book of a ledger: that of all five where it holds them.
+/// The book of a ledger, made again where it found no memory: that of all five games where the ledger holds them.
 pub(crate) fn book<T: Tally>(kit: &Kit, ledger: &Ledger<T>) -> Verdict {
     let held = Held::of(ledger);
     let due = book_of(&held);
     let is_whole = held.missing() > 0 || due.as_bytes() == BOOK;
-    match ledger.make_book(kit.alloc) {
-        Ok(book) => Verdict::answered(is_whole && bytes_of(&book).as_bytes() == due.as_bytes()),
-        Err(AllocError) => Verdict::wanted(true),
+    let mut verdict = Verdict::answered(is_whole);
+    for _ in 0..2 {
+        match ledger.make_book(kit.alloc) {
+            Ok(book) => {
+                let is_due = bytes_of(&book).as_bytes() == due.as_bytes();
+                return verdict.and(Verdict::answered(is_due));
+            }
+            Err(AllocError) => verdict = verdict.and(Verdict::wanted(true)),
+        }
     }
+    verdict
 }
 
 /// What ledgers that hold the first of the five games answer without memory: to lines of legal games where there is no room, and to

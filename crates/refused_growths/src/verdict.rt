@@ -37,18 +37,6 @@ impl Verdict {
     }
 }
 
-/// Makes a call and judges it, and once more where memory was wanting.
-pub(crate) fn settled<F: Fn() -> Verdict>(call: F) -> Verdict
-    requires { F.IsAlwaysCallable call }
-{
-    let first = call();
-    if first.wants == 0 {
-        first
-    } else {
-        first.and(call())
-    }
-}
-
 /// Makes a value, in a second attempt where the first one found no memory.
 pub(crate) fn made<T: Drop, F: Fn() -> Result<T, AllocError>>(make: F) -> Result<T, AllocError>
     requires { F.IsAlwaysCallable make }
