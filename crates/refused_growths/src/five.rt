@@ -71,34 +71,29 @@ impl Held {
     /// The games of a ledger.
     pub(crate) fn of<T: Tally>(ledger: &Ledger<T>) -> Held {
         let mut numbers = [0; COUNT];
-        for (place, game) in GAMES.iter().enumerate() {
+        for (held, game) in numbers.iter_mut().zip(&GAMES) {
             let mut all = 1..=ledger.len();
             let found = all.find(|number| match ledger.get(*number) {
                 Some((id, _)) => id.as_bytes() == game[0],
                 None => false,
             });
-            numbers[place] = found.unwrap_or(0);
+            *held = found.unwrap_or(0);
         }
         Held { numbers }
     }
 
-    /// The games that these replies call `ok`, where the first so many were held before, and the lines of the others came in order.
-    pub(crate) fn told(first: usize, replies: &[u8]) -> Held {
-        let mut held = Held {
-            numbers: [0; COUNT],
-        };
-        let mut number = 0;
-        for place in 0..first.min(COUNT) {
-            number += 1;
-            held.numbers[place] = number;
-        }
-        for (place, reply) in (first..COUNT).zip(replies.split(|byte| *byte == b'\n')) {
-            if reply.starts_with(b"ok ") {
-                number += 1;
-                held.numbers[place] = number;
+    /// The games that these replies call `ok`, where those before them were held before, one reply for each game that follows.
+    pub(crate) fn told(before: u32, replies: &[u8]) -> Held {
+        let mut numbers = [0; COUNT];
+        let mut last = 0;
+        let mut rest = replies.split(|byte| *byte == b'\n');
+        for number in &mut numbers {
+            if last < before || rest.next().is_some_and(|reply| reply.starts_with(b"ok ")) {
+                last = last.wrapping_add(1);
+                *number = last;
             }
         }
-        held
+        Held { numbers }
     }
 
     /// How many games aren't held.
@@ -113,11 +108,11 @@ impl Held {
     /// The points of the three moves.
     pub(crate) fn points(&self) -> [u16; 3] {
         let mut sums: [u16; 3] = [0; 3];
-        for (number, points) in self.numbers.iter().zip(&POINTS) {
+        for (number, [king_pawn, queen_pawn, answer]) in self.numbers.iter().zip(&POINTS) {
             if *number > 0 {
-                for (sum, more) in sums.iter_mut().zip(points) {
-                    *sum = sum.saturating_add(*more);
-                }
+                sums[0] = sums[0].saturating_add(*king_pawn);
+                sums[1] = sums[1].saturating_add(*queen_pawn);
+                sums[2] = sums[2].saturating_add(*answer);
             }
         }
         sums

@@ -1,8 +1,7 @@
 //! What the judged calls are made over. It is all made before the first of them.
 
-use crate::five::{COUNT, GAMES, line_of};
+use crate::five::{GAMES, line_of};
 use crate::text::{Text, table_file};
-use crate::verdict::made;
 use pb_board::{Setup, read_setup};
 use pb_ledger::{Ledger, MapTally, Tally};
 use pb_poly::{Book, Table, read_table};
@@ -39,9 +38,15 @@ impl Kit {
     /// All of it, each part in a second attempt where the first one found no memory.
     pub(crate) fn new(alloc: Global) -> Result<Kit, AllocError> {
         let table_file = table_file();
-        let table = made(|| read_table(alloc, table_file.as_bytes()).map_err(|_| AllocError))?;
-        let five = ledger_of(alloc, &table, COUNT, COUNT)?;
-        let book = made(|| five.make_book(alloc))?;
+        let table = match read_table(alloc, table_file.as_bytes()) {
+            Ok(table) => table,
+            Err(_) => read_table(alloc, table_file.as_bytes()).map_err(|_| AllocError)?,
+        };
+        let five = ledger_of(alloc, &table, 5, 5)?;
+        let book = match five.make_book(alloc) {
+            Ok(book) => book,
+            Err(AllocError) => five.make_book(alloc)?,
+        };
         Ok(Kit {
             alloc,
             start: Setup::start(),
@@ -59,7 +64,7 @@ impl<T: Tally> Ones<T> {
     pub(crate) fn new(alloc: Global, table: &Table) -> Result<Ones<T>, AllocError> {
         Ok(Ones {
             full: ledger_of(alloc, table, 1, 1)?,
-            roomy: ledger_of(alloc, table, COUNT, 1)?,
+            roomy: ledger_of(alloc, table, 5, 1)?,
         })
     }
 }
@@ -68,11 +73,14 @@ impl<T: Tally> Ones<T> {
 fn ledger_of<T: Tally>(
     alloc: Global,
     table: &Table,
-    cap: usize,
+    cap: u32,
     count: usize,
 ) -> Result<Ledger<T>, AllocError> {
-    let cap = cap.clamp(1, COUNT) as u32;
-    let mut ledger = made(|| Ledger::<T>::new(alloc, table, cap))?;
+    let cap = cap.clamp(1, 5);
+    let mut ledger = match Ledger::new(alloc, table, cap) {
+        Ok(ledger) => ledger,
+        Err(AllocError) => Ledger::new(alloc, table, cap)?,
+    };
     for game in GAMES.iter().take(count) {
         let line = line_of(*game);
         if ledger.submit(line.as_bytes()).is_err() {

@@ -5,6 +5,22 @@ use crate::verdict::Verdict;
 use pb_ledger::{Row, Tally};
 use std::alloc::AllocError;
 
+/// Two rows without plies, in order.
+const EMPTY: [Row; 2] = [
+    Row {
+        key: 5,
+        code: 6,
+        points: 0,
+        times: 0,
+    },
+    Row {
+        key: 5,
+        code: 7,
+        points: 0,
+        times: 0,
+    },
+];
+
 /// Rows that are made in a new tally, and the list of them.
 pub(crate) fn rows<T: Tally>(kit: &Kit) -> Verdict {
     let mut tally = T::new(kit.alloc);
@@ -13,9 +29,8 @@ pub(crate) fn rows<T: Tally>(kit: &Kit) -> Verdict {
     if first.wants > 1 || second.wants > 1 {
         return first.and(second);
     }
-    let due = [empty_row(5, 6), empty_row(5, 7)];
     let listed = match tally.rows(kit.alloc) {
-        Ok(rows) => Verdict::answered(rows.as_slice() == due.as_slice()),
+        Ok(rows) => Verdict::answered(rows.as_slice() == EMPTY.as_slice()),
         Err(AllocError) => Verdict::wanted(true),
     };
     first.and(second).and(listed)
@@ -33,14 +48,4 @@ fn ensured<T: Tally>(tally: &mut T, key: u64, code: u16) -> Verdict {
         }
     }
     verdict
-}
-
-/// A row without plies.
-fn empty_row(key: u64, code: u16) -> Row {
-    Row {
-        key,
-        code,
-        points: 0,
-        times: 0,
-    }
 }

@@ -54,7 +54,12 @@ fn spelled(moves: &[Move]) -> Text {
 
 /// Whether word i of a table is 2^(i mod 64).
 fn has_powers(table: &Table) -> bool {
-    (0..781_usize).all(|place| table.word(place) == 1 << (place % 64))
+    for place in 0..781_usize {
+        if table.word(place) != 1 << (place % 64) {
+            return false;
+        }
+    }
+    true
 }
 
 /// The table of a file.

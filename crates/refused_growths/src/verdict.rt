@@ -1,7 +1,5 @@
 //! What the answers of calls are beside those that are due.
 
-use std::alloc::AllocError;
-
 /// What the answers to one call, or to some that belong together, were.
 #[derive(Clone, Copy)]
 pub(crate) struct Verdict {
@@ -34,15 +32,5 @@ impl Verdict {
             holds: self.holds && next.holds,
             wants: self.wants.saturating_add(next.wants),
         }
-    }
-}
-
-/// Makes a value, in a second attempt where the first one found no memory.
-pub(crate) fn made<T: Drop, F: Fn() -> Result<T, AllocError>>(make: F) -> Result<T, AllocError>
-    requires { F.IsAlwaysCallable make }
-{
-    match make() {
-        Ok(value) => Ok(value),
-        Err(AllocError) => make(),
     }
 }
