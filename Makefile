@@ -5,7 +5,7 @@ START := rnbqkbnr/pppppppp/8/8/8/8/PPPPPPPP/RNBQKBNR w KQkq - 0 1
 
 PREFIX := /usr/local
 
-.PHONY: build try install demo test test-hostile test-files test-memory test-io test-journal bench clean
+.PHONY: build try install demo test test-hostile test-files test-memory test-growths test-io test-journal bench clean
 
 build: build/pbook
 
@@ -52,7 +52,7 @@ test:
 	rt ci
 
 # All that is tried of the program in a hostile world, but for collectors that are killed on their journal.
-test-hostile: test-files test-memory test-io
+test-hostile: test-files test-memory test-growths test-io
 
 # Tries what is left of a book's file by full disks, links, missing permissions and runs that are killed.
 test-files: build
@@ -61,6 +61,11 @@ test-files: build
 # Refuses each growth of memory of each command in turn, and looks at what is put and what is left of the files.
 test-memory: build
 	@sh scripts/test_memory.sh
+
+# Refuses each growth of memory of the library's calls in turn, and looks at what they answer.
+test-growths: build
+	@cd crates/refused_growths && rt run > /dev/null < /dev/null
+	@sh scripts/test_growths.sh
 
 # Fails each read, write and sync of each command in turn, or has it move one byte alone, and looks at the same.
 test-io: build

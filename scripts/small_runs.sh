@@ -1,24 +1,12 @@
-# Shared by the scripts that try small runs of `pbook` under a shim: the inputs of the runs and the folders that they find. It is read by `.` at the top
-# of the repository, after `program` has been set to the program and `shim` to the C source of the shim.
-work=$(mktemp -d)
-leave() { rm -rf "$work"; }
-trap leave EXIT
-trap 'exit 1' HUP INT TERM
+# Shared by the scripts that try small runs of `pbook` under a shim: the inputs of the runs and the folders that they find. It is read by `.` as
+# scripts/shim.sh is, which it reads first.
+# shellcheck source=scripts/shim.sh
+. scripts/shim.sh
 umask 022
-cp "$program" "$work/pbook"
 cp examples/table.txt "$work/table"
 cp examples/lines.epd "$work/epd"
 cp examples/book.bin "$work/book"
-cc -std=c11 -O1 -Wall -Wextra -shared -fPIC -o "$work/shim.so" "$shim"
 start='rnbqkbnr/pppppppp/8/8/8/8/PPPPPPPP/RNBQKBNR w KQkq - 0 1'
-
-# not_called NAMES: ends all where the program calls a function of these names (an extended expression), which the shim doesn't see
-not_called() {
-    if nm -D --undefined-only "$work/pbook" | grep -wE "($1)(@.*)?"; then
-        echo 'FAILED: the program calls what the shim does not see'
-        exit 1
-    fi
-}
 
 # The submissions: two of the first games come again, one of them with a CR; then one is illegal, twice; one has the id of another game, whose
 # own line comes after it again; others are refused for their form; and one starts elsewhere, in a line that no LF ends.
@@ -49,7 +37,7 @@ run_in() (
     cd "$1"
     exec < "$2"
     shift 2
-    exec "$work/pbook" "$@"
+    exec "$work/program" "$@"
 )
 
 # is_of FOLDER NAME: whether the run left the file of this name as it is in the folder, or none where none is there

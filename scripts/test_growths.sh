@@ -10,19 +10,12 @@
 # Usage: scripts/test_growths.sh [PROGRAM] (at the top of the repository; crates/refused_growths/out/refused_growths where it isn't given; cc
 # has to be there).
 set -eu
-work=$(mktemp -d)
-leave() { rm -rf "$work"; }
-trap leave EXIT
-trap 'exit 1' HUP INT TERM
-cp "${1:-crates/refused_growths/out/refused_growths}" "$work/refused_growths"
+program=${1:-crates/refused_growths/out/refused_growths}
+shim=tests/refuse_memory.c
+# shellcheck source=scripts/shim.sh
+. scripts/shim.sh
+not_called 'mmap|mmap64|mremap|brk|sbrk|valloc|pvalloc'
 cp crates/refused_growths/stdout "$work/due"
-cc -std=c11 -O1 -Wall -Wextra -shared -fPIC -o "$work/refuse.so" tests/refuse_memory.c
-
-# Memory that is asked for past the calls that count would never be refused.
-if nm -D --undefined-only "$work/refused_growths" | grep -wE '(mmap|mmap64|mremap|brk|sbrk|valloc|pvalloc)(@.*)?'; then
-    echo 'FAILED: memory is asked for by a call that is not counted'
-    exit 1
-fi
 
 # What is printed where no call that takes memory finds any.
 sed -E '/ without memory|^ok the games as they are counted$/!s/^ok /wanting /' "$work/due" > "$work/wanting"
@@ -48,8 +41,8 @@ run_refused() {
         cd "$work"
         # shellcheck disable=SC3045 # a run that doesn't end is to be ended; dash, bash and busybox have this limit
         ulimit -t 20
-        export LD_PRELOAD="$work/refuse.so" REFUSE_FROM="$from" REFUSE_TO="$to" REFUSE_TOLD="$work/told" MALLOC_PERTURB_=165
-        exec ./refused_growths
+        export LD_PRELOAD="$work/shim.so" REFUSE_FROM="$from" REFUSE_TO="$to" REFUSE_TOLD="$work/told" MALLOC_PERTURB_=165
+        exec ./program
     ) < /dev/null > "$work/put" 2> "$work/errors" || status=$?
     runs=$((runs + 1))
     calls=''

@@ -48,7 +48,7 @@ run_hit() {
         ulimit -t 20
         export "$variable=$at"
         export LD_PRELOAD="$work/shim.so" IO_TOLD="$work/told"
-        exec "$work/pbook" "$@"
+        exec "$work/program" "$@"
     ) < "$input" > "$work/put" 2> "$work/errors" || status=$?
     [ "$status" -le 3 ] || fails 'it was ended by a signal, or with a status that is none'
     [ ! -s "$work/errors" ] || fails 'something is on standard error' /dev/null "$work/errors"

@@ -45,7 +45,7 @@ run_refused() {
         # shellcheck disable=SC3045 # a run that doesn't end is to be ended; dash, bash and busybox have this limit
         ulimit -t 20
         export LD_PRELOAD="$work/shim.so" REFUSE_FROM="$from" REFUSE_TO="$to" REFUSE_TOLD="$work/told" MALLOC_PERTURB_=165
-        exec "$work/pbook" "$@"
+        exec "$work/program" "$@"
     ) < "$input" > "$work/put" 2> "$work/errors" || status=$?
     runs=$((runs + 1))
     calls=
