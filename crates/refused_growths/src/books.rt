@@ -54,11 +54,12 @@ pub(crate) fn probing(kit: &Kit) -> Verdict {
         Ok(found) => found,
         Err(AllocError) => return Verdict::wanted(true),
     };
-    let [(first, 4), (second, 2)] = found.as_slice() else {
+    let [(first, most), (second, least)] = found.as_slice() else {
         return Verdict::answered(false);
     };
     Verdict::answered(
         first.text().as_bytes() == b"e2e4".as_slice()
-            && second.text().as_bytes() == b"d2d4".as_slice(),
+            && second.text().as_bytes() == b"d2d4".as_slice()
+            && [*most, *least] == [4, 2],
     )
 }

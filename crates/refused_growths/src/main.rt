@@ -1,7 +1,7 @@
 //! Calls of the library that take memory, each judged by what it answers, so that a tool around this program may refuse any growth of
-//! memory. An answer has to be the one with ample memory, or want of memory in the place that the call has for it; a call that wanted
-//! memory is made again, and then it has to answer as if nothing had been before. So what is printed doesn't depend on which growth was
-//! refused: a line for each call, `ok` and its name.
+//! memory. An answer has to be the one with ample memory, or want of memory in the place that the call has for it. Each call is made twice,
+//! and one of the two may want memory; the other has to answer as if that had not been. So what is printed doesn't depend on which growth
+//! was refused: a line for each call, `ok` and its name.
 //!
 //! `FAILED` in the place of `ok` tells of an answer that may not be. `wanting` tells that memory was wanting more than once, where each
 //! answer was one that may be: it never comes where one growth is refused. Where there is no memory for what the calls are made over,
@@ -57,61 +57,92 @@ impl Report<'_> {
         println!(self.rt; "{word} {name}{}", self.over)
     }
 
-    /// Makes a call, and makes it again where memory was wanting. Prints what it answered.
-    fn judge<F: Fn(&Kit) -> Verdict>(&mut self, name: &str, kit: &Kit, call: F) -> io::Result<()>
-        requires { F.IsAlwaysCallable call }
-    {
-        let first = call(kit);
-        let verdict = if first.wants == 0 {
-            first
-        } else {
-            first.and(call(kit))
-        };
-        self.tell(name, verdict)
+    /// Prints what a call answered that was made twice.
+    fn judge(&mut self, name: &str, answers: [Verdict; 2]) -> io::Result<()> {
+        self.tell(name, answers[0].and(answers[1]))
     }
 
     /// Values, books and the bytes of sinks.
     fn judge_values(&mut self, kit: &Kit) -> io::Result<()> {
-        self.judge("write_fen", kit, values::record)?;
-        self.judge("write_setup", kit, values::setup)?;
-        self.judge("legal_moves", kit, values::moves)?;
-        self.judge("read_table", kit, values::table)?;
-        self.judge("take_table", kit, values::table_of_source)?;
-        self.judge("read_epd, write_epd", kit, epd::rewriting)?;
-        self.judge("read_epd, an opcode twice", kit, epd::repeated)?;
+        self.judge("write_fen", [values::record(kit), values::record(kit)])?;
+        self.judge("write_setup", [values::setup(kit), values::setup(kit)])?;
+        self.judge("legal_moves", [values::moves(kit), values::moves(kit)])?;
+        self.judge("read_table", [values::table(kit), values::table(kit)])?;
+        self.judge(
+            "take_table",
+            [values::table_of_source(kit), values::table_of_source(kit)],
+        )?;
+        self.judge(
+            "read_epd, write_epd",
+            [epd::rewriting(kit), epd::rewriting(kit)],
+        )?;
+        self.judge(
+            "read_epd, an opcode twice",
+            [epd::repeated(kit), epd::repeated(kit)],
+        )?;
         self.tell("read_epd without memory", epd::without_memory(kit))?;
-        self.judge("Epd::put", kit, epd::putting)?;
-        self.judge("MemSink::put", kit, books::memory)?;
-        self.judge("read_book", kit, books::reading)?;
-        self.judge("write_book", kit, books::writing)?;
-        self.judge("probe", kit, books::probing)
+        self.judge("Epd::put", [epd::putting(kit), epd::putting(kit)])?;
+        self.judge("MemSink::put", [books::memory(kit), books::memory(kit)])?;
+        self.judge("read_book", [books::reading(kit), books::reading(kit)])?;
+        self.judge("write_book", [books::writing(kit), books::writing(kit)])?;
+        self.judge("probe", [books::probing(kit), books::probing(kit)])
     }
 
     /// Ledgers over one tally.
     fn judge_ledgers<T: Tally>(&mut self, kit: &Kit, ones: &mut Ones<T>) -> io::Result<()> {
-        self.judge("ensure, rows", kit, tallies::rows::<T>)?;
-        self.judge("submit", kit, submitting::five::<T>)?;
+        self.judge(
+            "ensure, rows",
+            [tallies::rows::<T>(kit), tallies::rows::<T>(kit)],
+        )?;
+        self.judge(
+            "submit",
+            [submitting::five::<T>(kit), submitting::five::<T>(kit)],
+        )?;
         self.tell("submit without memory", submitting::without_memory(ones))?;
-        self.judge("collect", kit, collecting::collecting::<T>)?;
-        self.judge("load", kit, collecting::loading::<T>)?;
-        self.judge("replay", kit, collecting::replaying::<T>)
+        self.judge(
+            "collect",
+            [
+                collecting::collecting::<T>(kit),
+                collecting::collecting::<T>(kit),
+            ],
+        )?;
+        self.judge(
+            "load",
+            [collecting::loading::<T>(kit), collecting::loading::<T>(kit)],
+        )?;
+        self.judge(
+            "replay",
+            [
+                collecting::replaying::<T>(kit),
+                collecting::replaying::<T>(kit),
+            ],
+        )
     }
 
     /// What is made of a ledger, and the commands.
     fn judge_commands(&mut self, kit: &Kit) -> io::Result<()> {
-        self.judge("export", kit, collecting::exporting)?;
-        self.judge("save", kit, collecting::saving)?;
-        self.judge("parse", kit, commands::words)?;
-        self.judge("parse, no words", kit, commands::no_words)?;
-        self.judge("run_fen", kit, commands::fen)?;
-        self.judge("run_epd", kit, commands::epd)?;
-        self.judge("run_show", kit, commands::show)?;
-        self.judge("run_probe", kit, commands::probe)?;
-        self.judge("run_collect", kit, runs::collect)?;
-        self.judge("collect_into", kit, runs::collect_into_place)?;
-        self.judge("run_continue", kit, runs::go_on)?;
-        self.judge("run_journaled", kit, runs::journal)?;
-        self.judge("run_export", kit, runs::export)
+        self.judge(
+            "export",
+            [collecting::exporting(kit), collecting::exporting(kit)],
+        )?;
+        self.judge("save", [collecting::saving(kit), collecting::saving(kit)])?;
+        self.judge("parse", [commands::words(kit), commands::words(kit)])?;
+        self.judge(
+            "parse, no words",
+            [commands::no_words(kit), commands::no_words(kit)],
+        )?;
+        self.judge("run_fen", [commands::fen(kit), commands::fen(kit)])?;
+        self.judge("run_epd", [commands::epd(kit), commands::epd(kit)])?;
+        self.judge("run_show", [commands::show(kit), commands::show(kit)])?;
+        self.judge("run_probe", [commands::probe(kit), commands::probe(kit)])?;
+        self.judge("run_collect", [runs::collect(kit), runs::collect(kit)])?;
+        self.judge(
+            "collect_into",
+            [runs::collect_into_place(kit), runs::collect_into_place(kit)],
+        )?;
+        self.judge("run_continue", [runs::go_on(kit), runs::go_on(kit)])?;
+        self.judge("run_journaled", [runs::journal(kit), runs::journal(kit)])?;
+        self.judge("run_export", [runs::export(kit), runs::export(kit)])
     }
 }
 
