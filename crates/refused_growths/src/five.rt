@@ -123,9 +123,13 @@ impl Held {
         let mut text = Text::of(&[]);
         for place in places {
             let id = GAMES[place % COUNT][0];
-            match self.numbers[place % COUNT] {
-                0 => text.put(Text::of(&[b"refused ", id, b" memory\n"]).as_bytes()),
-                number => text.put(Text::of(&[b"ok ", id, b" ", &digit(number), b"\n"]).as_bytes()),
+            let number = self.numbers[place % COUNT];
+            if number == 0 {
+                text.put(Text::of(&[b"refused ", id, b" memory\n"]).as_bytes());
+            } else {
+                text.put(Text::of(&[b"ok ", id, b" "]).as_bytes());
+                text.put(digit(number).as_slice());
+                text.put(b"\n");
             }
         }
         text
