@@ -1,7 +1,8 @@
 //! The book and the export that are due, where some of the five games are held.
 
-use crate::five::{CODES, Held, KEYS};
+use crate::five::{ALL_HELD, BOOK, CODES, EXPORT, Held, KEYS};
 use crate::text::{Text, digit};
+use crate::verdict::Verdict;
 use pb_poly::Book;
 
 /// The bytes of an entry, where the move has points.
@@ -71,4 +72,11 @@ pub(crate) fn bytes_of(book: &Book) -> Text {
         text.put(&entry.learn.to_be_bytes());
     }
     text
+}
+
+/// Whether the book and the export of all five are those that are known.
+pub(crate) fn is_counted() -> Verdict {
+    Verdict::answered(
+        book_of(&ALL_HELD).as_bytes() == BOOK && export_of(&ALL_HELD).as_bytes() == EXPORT,
+    )
 }

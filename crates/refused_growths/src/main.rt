@@ -25,12 +25,10 @@ mod text;
 mod values;
 mod verdict;
 
-use crate::due::{book_of, export_of};
-use crate::five::{ALL_HELD, BOOK, EXPORT};
 use crate::kit::{Kit, Ones};
 use crate::verdict::Verdict;
 use pb_ledger::{ListTally, MapTally, Tally};
-use std::alloc::{AllocError, Global};
+use std::alloc::AllocError;
 use std::io;
 use std::process::ExitCode;
 
@@ -60,6 +58,15 @@ impl Report<'_> {
     /// Prints what a call answered that was made twice.
     fn judge(&mut self, name: &str, answers: [Verdict; 2]) -> io::Result<()> {
         self.tell(name, answers[0].and(answers[1]))
+    }
+
+    /// Prints how often memory was wanting in all calls: once at most, where one growth was refused.
+    fn tell_all(&mut self) -> io::Result<()> {
+        let all = Verdict {
+            holds: !self.has_failed,
+            wants: self.wants,
+        };
+        self.tell("in all", all)
     }
 
     /// Values, books and the bytes of sinks.
@@ -146,46 +153,48 @@ impl Report<'_> {
     }
 }
 
-/// What the calls are made over.
-fn prepared(alloc: Global) -> Result<(Kit, Ones<MapTally>, Ones<ListTally>), AllocError> {
-    let kit = Kit::new(alloc)?;
-    let by_map = Ones::new(alloc, &kit.table)?;
-    let by_list = Ones::new(alloc, &kit.table)?;
-    Ok((kit, by_map, by_list))
-}
-
-/// Judges all calls, and answers the status.
-fn judge_all(rt: &HostRuntime) -> io::Result<u8> {
-    let Ok((kit, mut by_map, mut by_list)) = prepared(rt.alloc()) else {
-        println!(rt; "want of memory in a preparation")?;
-        return Ok(3);
-    };
+/// Judges all calls, and answers whether each answer was one that may be.
+fn judge_all(
+    rt: &HostRuntime,
+    kit: &Kit,
+    by_map: &mut Ones<MapTally>,
+    by_list: &mut Ones<ListTally>,
+) -> io::Result<bool> {
     let mut report = Report {
         rt,
         over: "",
         wants: 0,
         has_failed: false,
     };
-    let counts = book_of(&ALL_HELD).as_bytes() == BOOK && export_of(&ALL_HELD).as_bytes() == EXPORT;
-    report.tell("the games as they are counted", Verdict::answered(counts))?;
-    report.judge_values(&kit)?;
+    report.tell("the games as they are counted", due::is_counted())?;
+    report.judge_values(kit)?;
     report.over = " over a map";
-    report.judge_ledgers(&kit, &mut by_map)?;
+    report.judge_ledgers(kit, by_map)?;
     report.over = " over a list";
-    report.judge_ledgers(&kit, &mut by_list)?;
+    report.judge_ledgers(kit, by_list)?;
     report.over = "";
-    report.judge_commands(&kit)?;
-    let once = Verdict {
-        holds: true,
-        wants: report.wants,
-    };
-    report.tell("in all", once)?;
-    Ok(u8::from(report.has_failed))
+    report.judge_commands(kit)?;
+    report.tell_all()?;
+    Ok(!report.has_failed)
+}
+
+/// Makes what the calls are made over, judges them all, and answers the status.
+fn run(rt: &HostRuntime) -> Result<u8, AllocError> {
+    let kit = Kit::new(rt.alloc())?;
+    let mut by_map = Ones::new(rt.alloc(), &kit.table)?;
+    let mut by_list = Ones::new(rt.alloc(), &kit.table)?;
+    match judge_all(rt, &kit, &mut by_map, &mut by_list) {
+        Ok(true) => Ok(0),
+        _ => Ok(1),
+    }
 }
 
 fn main(rt: HostRuntime) -> ExitCode {
-    match judge_all(&rt) {
+    match run(&rt) {
         Ok(status) => ExitCode::from(status),
-        Err(_) => ExitCode::from(1),
+        Err(AllocError) => {
+            let _ = println!(rt; "want of memory in a preparation");
+            ExitCode::from(3)
+        }
     }
 }
