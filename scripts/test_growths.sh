@@ -3,9 +3,8 @@
 # It is run with the n-th call that asks for memory refused, for n = 1, 2, .. until a run has no such call, and then so with all calls from the
 # n-th on refused. tests/refuse_memory.c says which calls count. What may come of a run:
 # - where one call is refused, what is printed with ample memory, and status 0;
-# - where all that follow it are refused too, the same with `wanting` in place of some `ok`, but for the calls that take no memory, and
-#   status 0; or, before the first call is judged, `want of memory in a preparation` alone and status 3;
-# - in the first of these runs that judges calls, no call finds memory: `ok` are just those that take none.
+# - where all that follow it are refused too, the same but for `wanting in all` in the last line; or, before the first call is judged, `want of memory in
+#   a preparation` alone and status 3.
 # The first run that may not be ends all; what was found is shown, and the folder with it stays.
 # Usage: scripts/test_growths.sh [PROGRAM] (at the top of the repository; crates/refused_growths/out/refused_growths where it isn't given; cc
 # has to be there).
@@ -17,8 +16,7 @@ shim=tests/refuse_memory.c
 not_called 'mmap|mmap64|mremap|brk|sbrk|valloc|pvalloc'
 cp crates/refused_growths/stdout "$work/due"
 
-# What is printed where no call that takes memory finds any.
-sed -E '/ without memory|^ok the games as they are counted$/!s/^ok /wanting /' "$work/due" > "$work/wanting"
+sed 's/^ok in all$/wanting in all/' "$work/due" > "$work/wanting"
 echo 'want of memory in a preparation' > "$work/unprepared"
 runs=0
 from=0 to=0 refused='' calls='' status=0
@@ -66,13 +64,9 @@ judged_all() {
     if [ "$prepared" = false ] && [ "$status" -eq 3 ] && cmp -s "$work/unprepared" "$work/put"; then return; fi
     if [ "$prepared" = false ]; then
         prepared=true
-        is_same wanting || fails 'with no memory, others than the calls that take none are ok'
+        is_same wanting || fails 'there was no memory, and yet it was wanting once at most'
     fi
-    [ "$status" -eq 0 ] || fails 'a call was answered as it may not be'
-    # Each line is the one that is due, or, where a call takes memory, the one that tells of want.
-    paste -d '\n' "$work/due" "$work/wanting" "$work/put" | awk '
-        NR % 3 == 1 { due = $0 } NR % 3 == 2 { want = $0 } NR % 3 == 0 && $0 != due && $0 != want { exit 1 }
-    ' || fails 'a line is neither the one that is due nor one that tells of want'
+    is_same due || is_same wanting || fails 'a call was answered as it may not be'
 }
 
 # refuse_each JUDGE: refuses each call in turn, alone or with all that come after it, and judges each run

@@ -1,11 +1,11 @@
 //! Calls of the library that take memory, each judged by what it answers, so that a tool around this program may refuse any growth of
-//! memory. An answer has to be the one with ample memory, or want of memory in the place that the call has for it. Each call is made twice,
-//! and one of the two may want memory; the other has to answer as if that had not been. So what is printed doesn't depend on which growth
-//! was refused: a line for each call, `ok` and its name.
+//! memory. An answer has to be the one with ample memory, or want of memory in the place that the call has for it. All calls are made in
+//! two rounds, and one of all may want memory; those after it have to answer as if that had not been. So what is printed doesn't depend
+//! on which growth was refused: a line for each call, `ok` and its name.
 //!
-//! `FAILED` in the place of `ok` tells of an answer that may not be. `wanting` tells that memory was wanting more than once, where each
-//! answer was one that may be: it never comes where one growth is refused. Where there is no memory for what the calls are made over,
-//! in two attempts, `want of memory in a preparation` is all that is printed.
+//! `FAILED` in the place of `ok` tells of an answer that may not be. `wanting in all` in the last line tells that memory was wanting more
+//! than once: it never comes where one growth is refused. Where there is no memory for what the calls are made over, in two attempts,
+//! `want of memory in a preparation` is all that is printed.
 //!
 //! What the answers have to be is written here, from the standards and from games that are short enough to be counted by hand, never
 //! from a run. The status is 0, 1 where a line says `FAILED`, and 3 where there was no memory for the preparation.
@@ -38,6 +38,8 @@ struct Report<'a> {
     rt: &'a HostRuntime,
     // What the calls are over, after their names.
     over: &'a str,
+    // Which round of calls it is, after that.
+    round: &'a str,
     wants: u32,
     has_failed: bool,
 }
@@ -47,113 +49,85 @@ impl Report<'_> {
     fn tell(&mut self, name: &str, verdict: Verdict) -> io::Result<()> {
         self.has_failed = self.has_failed || !verdict.holds;
         self.wants = self.wants.saturating_add(verdict.wants);
-        let word = match verdict {
-            Verdict { holds: false, .. } => "FAILED",
-            Verdict { wants: 0 | 1, .. } => "ok",
+        let word = if verdict.holds { "ok" } else { "FAILED" };
+        println!(self.rt; "{word} {name}{}{}", self.over, self.round)
+    }
+
+    /// Prints whether memory was wanting once at most in all calls.
+    fn tell_all(&self) -> io::Result<()> {
+        let word = match self {
+            Report {
+                has_failed: true,
+                ..
+            } => "FAILED",
+            Report { wants: 0 | 1, .. } => "ok",
             _ => "wanting",
         };
-        println!(self.rt; "{word} {name}{}", self.over)
+        println!(self.rt; "{word} in all")
     }
 
-    /// Prints what a call answered that was made twice.
-    fn judge(&mut self, name: &str, answers: [Verdict; 2]) -> io::Result<()> {
-        self.tell(name, answers[0].and(answers[1]))
-    }
-
-    /// Prints how often memory was wanting in all calls: once at most, where one growth was refused.
-    fn tell_all(&mut self) -> io::Result<()> {
-        let all = Verdict {
-            holds: !self.has_failed,
-            wants: self.wants,
-        };
-        self.tell("in all", all)
+    /// Makes all calls once.
+    fn judge(
+        &mut self,
+        kit: &Kit,
+        by_map: &mut Ones<MapTally>,
+        by_list: &mut Ones<ListTally>,
+    ) -> io::Result<()> {
+        self.judge_values(kit)?;
+        self.over = " over a map";
+        self.judge_ledgers(kit, by_map)?;
+        self.over = " over a list";
+        self.judge_ledgers(kit, by_list)?;
+        self.over = "";
+        self.judge_commands(kit)
     }
 
     /// Values, books and the bytes of sinks.
     fn judge_values(&mut self, kit: &Kit) -> io::Result<()> {
-        self.judge("write_fen", [values::record(kit), values::record(kit)])?;
-        self.judge("write_setup", [values::setup(kit), values::setup(kit)])?;
-        self.judge("legal_moves", [values::moves(kit), values::moves(kit)])?;
-        self.judge("read_table", [values::table(kit), values::table(kit)])?;
-        self.judge(
-            "take_table",
-            [values::table_of_source(kit), values::table_of_source(kit)],
-        )?;
-        self.judge(
-            "read_epd, write_epd",
-            [epd::rewriting(kit), epd::rewriting(kit)],
-        )?;
-        self.judge(
-            "read_epd, an opcode twice",
-            [epd::repeated(kit), epd::repeated(kit)],
-        )?;
+        self.tell("write_fen", values::record(kit))?;
+        self.tell("write_setup", values::setup(kit))?;
+        self.tell("legal_moves", values::moves(kit))?;
+        self.tell("read_table", values::table(kit))?;
+        self.tell("take_table", values::table_of_source(kit))?;
+        self.tell("read_epd, write_epd", epd::rewriting(kit))?;
+        self.tell("read_epd, an opcode twice", epd::repeated(kit))?;
         self.tell("read_epd without memory", epd::without_memory(kit))?;
-        self.judge("Epd::put", [epd::putting(kit), epd::putting(kit)])?;
-        self.judge("MemSink::put", [books::memory(kit), books::memory(kit)])?;
-        self.judge("read_book", [books::reading(kit), books::reading(kit)])?;
-        self.judge("write_book", [books::writing(kit), books::writing(kit)])?;
-        self.judge("probe", [books::probing(kit), books::probing(kit)])
+        self.tell("Epd::put", epd::putting(kit))?;
+        self.tell("MemSink::put", books::memory(kit))?;
+        self.tell("read_book", books::reading(kit))?;
+        self.tell("write_book", books::writing(kit))?;
+        self.tell("probe", books::probing(kit))
     }
 
     /// Ledgers over one tally.
     fn judge_ledgers<T: Tally>(&mut self, kit: &Kit, ones: &mut Ones<T>) -> io::Result<()> {
-        self.judge(
-            "ensure, rows",
-            [tallies::rows::<T>(kit), tallies::rows::<T>(kit)],
-        )?;
-        self.judge(
-            "submit",
-            [submitting::five::<T>(kit), submitting::five::<T>(kit)],
-        )?;
+        self.tell("ensure, rows", tallies::rows::<T>(kit))?;
+        self.tell("submit", submitting::five::<T>(kit))?;
         self.tell("submit without memory", submitting::without_memory(ones))?;
-        self.judge(
-            "collect",
-            [
-                collecting::collecting::<T>(kit),
-                collecting::collecting::<T>(kit),
-            ],
-        )?;
-        self.judge(
-            "load",
-            [collecting::loading::<T>(kit), collecting::loading::<T>(kit)],
-        )?;
-        self.judge(
-            "replay",
-            [
-                collecting::replaying::<T>(kit),
-                collecting::replaying::<T>(kit),
-            ],
-        )
+        self.tell("collect", collecting::collecting::<T>(kit))?;
+        self.tell("load", collecting::loading::<T>(kit))?;
+        self.tell("replay", collecting::replaying::<T>(kit))
     }
 
     /// What is made of a ledger, and the commands.
     fn judge_commands(&mut self, kit: &Kit) -> io::Result<()> {
-        self.judge(
-            "export",
-            [collecting::exporting(kit), collecting::exporting(kit)],
-        )?;
-        self.judge("save", [collecting::saving(kit), collecting::saving(kit)])?;
-        self.judge("parse", [commands::words(kit), commands::words(kit)])?;
-        self.judge(
-            "parse, no words",
-            [commands::no_words(kit), commands::no_words(kit)],
-        )?;
-        self.judge("run_fen", [commands::fen(kit), commands::fen(kit)])?;
-        self.judge("run_epd", [commands::epd(kit), commands::epd(kit)])?;
-        self.judge("run_show", [commands::show(kit), commands::show(kit)])?;
-        self.judge("run_probe", [commands::probe(kit), commands::probe(kit)])?;
-        self.judge("run_collect", [runs::collect(kit), runs::collect(kit)])?;
-        self.judge(
-            "collect_into",
-            [runs::collect_into_place(kit), runs::collect_into_place(kit)],
-        )?;
-        self.judge("run_continue", [runs::go_on(kit), runs::go_on(kit)])?;
-        self.judge("run_journaled", [runs::journal(kit), runs::journal(kit)])?;
-        self.judge("run_export", [runs::export(kit), runs::export(kit)])
+        self.tell("export", collecting::exporting(kit))?;
+        self.tell("save", collecting::saving(kit))?;
+        self.tell("parse", commands::words(kit))?;
+        self.tell("parse, no words", commands::no_words(kit))?;
+        self.tell("run_fen", commands::fen(kit))?;
+        self.tell("run_epd", commands::epd(kit))?;
+        self.tell("run_show", commands::show(kit))?;
+        self.tell("run_probe", commands::probe(kit))?;
+        self.tell("run_collect", runs::collect(kit))?;
+        self.tell("collect_into", runs::collect_into_place(kit))?;
+        self.tell("run_continue", runs::go_on(kit))?;
+        self.tell("run_journaled", runs::journal(kit))?;
+        self.tell("run_export", runs::export(kit))
     }
 }
 
-/// Judges all calls, and answers whether each answer was one that may be.
+/// Judges all calls in two rounds, and answers whether each answer was one that may be.
 fn judge_all(
     rt: &HostRuntime,
     kit: &Kit,
@@ -163,17 +137,14 @@ fn judge_all(
     let mut report = Report {
         rt,
         over: "",
+        round: "",
         wants: 0,
         has_failed: false,
     };
     report.tell("the games as they are counted", due::is_counted())?;
-    report.judge_values(kit)?;
-    report.over = " over a map";
-    report.judge_ledgers(kit, by_map)?;
-    report.over = " over a list";
-    report.judge_ledgers(kit, by_list)?;
-    report.over = "";
-    report.judge_commands(kit)?;
+    report.judge(kit, by_map, by_list)?;
+    report.round = ", again";
+    report.judge(kit, by_map, by_list)?;
     report.tell_all()?;
     Ok(!report.has_failed)
 }
