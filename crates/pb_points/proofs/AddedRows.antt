@@ -1,17 +1,16 @@
 -- Ordered rows added up, one for each key and code, and listed.
-use Rattle.std.proofs.Common.{◌≡◌, ℕ, ◌+◌, ◌<◌, ◌≤◌, ◌^◌, zero, suc, Bool, true, false, cond, if◌then◌else◌, Option, Some, None, unwrap_or, List, [], ◌∷◌, ◌++◌, length, get_or, set, drop, take, All, AllPairs, Contains, ◌↔◌, IsPermutation, refl, sym, ap, ◌∙◌, inl, inr, arith, subst, add-one}
+use Rattle.std.proofs.Common.{◌≡◌, ℕ, ◌+◌, ◌<◌, ◌≤◌, ◌^◌, zero, suc, Bool, true, false, cond, if◌then◌else◌, Some, None, unwrap_or, List, [], ◌∷◌, ◌++◌, length, drop, All, AllPairs, Contains, ◌↔◌, refl, sym, ap, ◌∙◌, inl, inr, arith, subst, add-one}
 use Rattle.std.specs.Prelude.{nat_lt, sum_by}
 use Rattle.std.proofs.lemmas.Bool.{cases_lt}
 use Rattle.std.proofs.lemmas.Bool.Decides.{nat_tests}
-use Rattle.std.proofs.lemmas.List.Sums.{sum_by-cons, sum_by-drop_more, sum_by_push, sum_by-set, get_or-le-sum_by, sum_by_more}
-use Rattle.std.proofs.lemmas.List.Sorted.{sum_by-IsPermutation}
+use Rattle.std.proofs.lemmas.List.Sums.{sum_by-cons, sum_by-drop_more, sum_by_push}
 use Rattle.std.proofs.lemmas.List.Elements.{All-push, All-weaker}
 use Rattle.std.proofs.lemmas.List.{drop_all, get_or_default}
 use Rattle.std.proofs.lemmas.List.Quantifiers.{all_pairs_push}
 use Rattle.pb_points.specs.declared.row.Row.{Row}
 use Rattle.pb_points.specs.BagTally.{HoldsSame, IsAddedUp, SumsFit, bag_content, count_of, gain, points_of, times_of, total}
 use Rattle.pb_points.specs.Rows.{IsBelow, IsUpTo, is_row}
-use Rattle.pb_points.specs.Tally.{Held, MakesRow, AddsPly, held, held_of, is_pair, more, nothing}
+use Rattle.pb_points.specs.Tally.{Held, MakesRow, held_of, is_pair, nothing}
 use Rattle.pb_points.proofs.Pairs.{is_pair_same, is_pair_itself}
 use Rattle.pb_points.proofs.BagRows.{gain_more, new_row, of_other, of_pair, of_sums, one, one_of, makes_pushed, points_held, row_at, times_held, with_more}
 

@@ -1,16 +1,12 @@
 -- Rows that add up.
-use Rattle.std.proofs.Common.{◌≡◌, ℕ, ◌+◌, ◌<◌, ◌≤◌, ◌^◌, zero, suc, Bool, true, false, cond, if◌then◌else◌, Option, Some, None, unwrap_or, List, [], ◌∷◌, ◌++◌, length, get_or, set, drop, take, All, AllPairs, Contains, ◌↔◌, IsPermutation, refl, sym, ap, ◌∙◌, inl, inr, arith, subst, add-one}
-use Rattle.std.specs.Prelude.{nat_lt, sum_by}
-use Rattle.std.proofs.lemmas.Bool.{cases_lt}
+use Rattle.std.proofs.Common.{◌≡◌, ℕ, ◌+◌, ◌<◌, ◌≤◌, ◌^◌, Bool, true, false, cond, if◌then◌else◌, Option, Some, None, unwrap_or, List, [], ◌∷◌, ◌++◌, length, get_or, set, take, IsPermutation, refl, sym, ap, ◌∙◌, arith, subst}
+use Rattle.std.specs.Prelude.{nat_lt}
 use Rattle.std.proofs.lemmas.Bool.Decides.{nat_tests}
-use Rattle.std.proofs.lemmas.List.Sums.{sum_by-cons, sum_by-drop_more, sum_by_push, sum_by-set, get_or-le-sum_by, sum_by_more}
+use Rattle.std.proofs.lemmas.List.Sums.{sum_by-cons, sum_by_push, sum_by-set, get_or-le-sum_by, sum_by_more}
 use Rattle.std.proofs.lemmas.List.Sorted.{sum_by-IsPermutation}
-use Rattle.std.proofs.lemmas.List.Elements.{All-push, All-weaker}
-use Rattle.std.proofs.lemmas.List.{drop_all, get_or_default}
-use Rattle.std.proofs.lemmas.List.Quantifiers.{all_pairs_push}
 use Rattle.pb_points.specs.declared.row.Row.{Row}
 use Rattle.pb_points.specs.BagTally.{HoldsSame, SumsFit, bag_content, count_of, gain, points_of, times_of, total}
-use Rattle.pb_points.specs.Rows.{IsBelow, IsUpTo, is_row}
+use Rattle.pb_points.specs.Rows.{is_row}
 use Rattle.pb_points.specs.Tally.{Held, HasRoomFor, MakesRow, AddsPly, held, is_pair, more, nothing}
 use Rattle.pb_points.proofs.Pairs.{is_pair_same, is_pair_itself}
 
@@ -69,6 +65,10 @@ same_permuted xs ys perm k c =
     let points = sum_by-IsPermutation (gain (λ r. r.points) k c) xs ys perm in
     let times = sum_by-IsPermutation (gain (λ r. r.times) k c) xs ys perm in
     λ i. of_sums (count i) (points i) (times i)
+
+-- the same of rows that were listed, and then put in another order
+pub same_sorted : {rows listed sorted now : List Row} → listed ≡ rows → IsPermutation listed sorted → now ≡ sorted → HoldsSame rows now
+same_sorted {rows} {listed} {sorted} {now} from perm to = subst (λ l. HoldsSame l now) from (subst (HoldsSame listed) (sym to) (same_permuted listed sorted perm))
 
 -- ---- a row at the end
 

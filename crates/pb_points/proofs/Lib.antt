@@ -1,5 +1,6 @@
 pub mod AddedRows
 pub mod BagRows
+pub mod BlockRows
 pub mod Groups
 pub mod ListRows
 pub mod Ordering

@@ -1,5 +1,5 @@
 -- The book of tallies by part: that of one part after another.
-use Rattle.std.proofs.Common.{◌≡◌, ℕ, ◌+◌, ◌<◌, ◌≤◌, nat_le, Some, IsSome, List, [], ◌++◌, length, AllPairs, Contains, refl, sym, ap, subst, ◌∙◌, arith, append-nil, append_assoc}
+use Rattle.std.proofs.Common.{◌≡◌, ℕ, ◌+◌, ◌≤◌, nat_le, Some, IsSome, List, [], ◌++◌, length, Contains, refl, sym, ap, subst, ◌∙◌, arith, append-nil, append_assoc}
 use Rattle.std.specs.Prelude.{slice_get}
 use Rattle.std.proofs.lemmas.List.Elements.{All-contains, All-contains_itself, All-filter, filter-append}
 use Rattle.pb_poly.specs.declared.entry.Entry.{Entry}
@@ -7,7 +7,7 @@ use Rattle.pb_points.specs.declared.row.Row.{Row}
 use Rattle.pb_points.specs.Group.{AddsBook}
 use Rattle.pb_points.specs.PartTally.{HoldsOwn, part_of, parts_content}
 use Rattle.pb_points.specs.Rows.{IsBookOfRows, frequent}
-use Rattle.pb_points.specs.Tally.{Content, held_of}
+use Rattle.pb_points.specs.Tally.{Content}
 use Rattle.pb_points.specs.TallyBook.{AddsBookOf, AreRows}
 use Rattle.pb_points.proofs.Groups.{IsBookOfRows-append, KeysBelow}
 use Rattle.pb_points.proofs.PartRows.{Listing, listing_ends, listing_goes_on, listing_starts, lower_part}

@@ -1,4 +1,5 @@
 pub mod BagTally
+pub mod Blocks
 pub mod Group
 pub mod ListTally
 pub mod PartTally

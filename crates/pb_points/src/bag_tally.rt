@@ -1,26 +1,28 @@
-//! A tally over a list of rows that grows at its end.
+//! A tally over rows in blocks, which grow at their end.
 
-ghost use Rattle.std.specs.Prelude.{◌≡◌, ◌<◌, AllPairs, IfOk, IsTrue, MatchOption, length};
-ghost use Rattle.pb_points.specs.BagTally.{HoldsSame, IsAddedUp, IsRowAt, SumsFit, bag_content};
+ghost use Rattle.std.specs.Prelude.{◌≡◌, ◌<◌, AllPairs, IfOk, length};
+ghost use Rattle.pb_points.specs.BagTally.{HoldsSame, IsAddedUp, SumsFit, bag_content};
+ghost use Rattle.pb_points.specs.Blocks.{rows_in};
 ghost use Rattle.pb_points.specs.Rows.{IsUpTo};
 
+use crate::blocks::{in_blocks, listed, place_in, points_of, push_row, times_of};
 use crate::book::add_frequent;
 use crate::row::{Row, sort_rows};
 use crate::tally::Tally;
 use pb_poly::Entry;
 use std::alloc::{AllocError, Global};
 
-/// The rows from which on a full list is added up before it grows.
-const MANY: usize = 4096;
+/// The blocks from which on a full list of them is added up before it grows.
+const MANY: usize = 64;
 
-/// Points and plies in a list of rows, where a key and a code may have several rows. `ensure` puts a row at the end and looks for none;
-/// `add` looks from the end, so that it soon finds what was ensured last. A full list is added up before it grows: so it takes
-/// memory for its keys and codes, and not for each `ensure`.
+/// Points and plies in rows, of which a key and a code may have several. `ensure` puts a row at the end and looks for none; `add` looks
+/// from the end, so that it soon finds what was ensured last. The rows stand in blocks, so that growing moves none of them. A full list
+/// of blocks is added up before it grows: so it takes memory for its keys and codes, and not for each `ensure`.
 #[derive(Drop)]
 pub struct BagTally {
     alloc: Global,
-    rows: Vec<Row>,
-    ghost fit: { SumsFit rows.items },
+    blocks: Vec<Vec<Row>>,
+    ghost fit: { SumsFit (rows_in blocks.items) },
 }
 
 /// One row for each key and code of the ordered rows.
@@ -47,60 +49,56 @@ fn added_up(alloc: Global, rows: &[Row]) -> Result<Vec<Row>, AllocError>
     Ok(all)
 }
 
-/// The place of the last row of a key and a code.
-fn place_of(rows: &[Row], key: u64, code: u16) -> Option<usize>
-    ensures { MatchOption result (bag_content rows.now key code ≡ None)
-        (λ place. IsRowAt rows.now place key code) }
+/// One row for each key and code of the blocks, in order.
+fn sums_of(alloc: Global, blocks: &[Vec<Row>]) -> Result<Vec<Row>, AllocError>
+    requires { SumsFit (rows_in blocks.now) }
+    ensures { IfOk result (λ v. IsAddedUp (rows_in blocks.now) v.items) }
 {
-    for place in (0..rows.len()).rev() {
-        let row = rows[place];
-        if row.key == key && row.code == code {
-            return Some(place);
-        }
-    }
-    None
+    let mut rows = listed(alloc, blocks)?;
+    sort_rows(&mut rows);
+    added_up(alloc, &rows)
 }
 
-/// Adds up the rows where there are many and no room for one more, and leaves room for twice what is left.
-fn make_room(alloc: Global, rows: &mut Vec<Row>) -> Result<(), AllocError>
-    requires { SumsFit rows.old.items }
-    ensures same { HoldsSame rows.old.items rows.new.items }
-    ensures fit { SumsFit rows.new.items }
+/// Adds up the rows where there are many blocks and no room for one more, and leaves room for twice what is left.
+fn make_room(alloc: Global, blocks: &mut Vec<Vec<Row>>) -> Result<(), AllocError>
+    requires { SumsFit (rows_in blocks.old.items) }
+    ensures same { HoldsSame (rows_in blocks.old.items) (rows_in blocks.new.items) }
+    ensures fit { SumsFit (rows_in blocks.new.items) }
 {
-    if rows.len() < MANY || rows.len() < rows.capacity() {
+    if blocks.len() < MANY || blocks.len() < blocks.capacity() {
         return Ok(());
     }
-    sort_rows(rows);
-    let mut all = added_up(alloc, rows)?;
+    let sums = sums_of(alloc, blocks)?;
+    let mut all = in_blocks(alloc, &sums)?;
     all.reserve(all.len())?;
-    *rows = all;
+    *blocks = all;
     Ok(())
 }
 
 impl Tally for BagTally {
-    ghost content = { λ t. bag_content t.rows.items };
+    ghost content = { λ t. bag_content (rows_in t.blocks.items) };
 
     fn new(alloc: Global) -> BagTally {
         BagTally {
             alloc,
-            rows: Vec::new(alloc),
+            blocks: Vec::new(alloc),
         }
     }
 
     fn ensure(&mut self, key: u64, code: u16) -> Result<(), AllocError> {
-        make_room(self.alloc, &mut self.rows)?;
-        self.rows.push(Row {
+        make_room(self.alloc, &mut self.blocks)?;
+        let row = Row {
             key,
             code,
             points: 0,
             times: 0,
-        })?;
-        Ok(())
+        };
+        push_row(self.alloc, &mut self.blocks, row)
     }
 
     fn add(&mut self, key: u64, code: u16, points: u64) {
-        if let Some(place) = place_of(&self.rows, key, code) {
-            let row = &mut self.rows[place];
+        if let Some((block, place)) = place_in(&self.blocks, key, code) {
+            let row = &mut self.blocks[block][place];
             row.points += points;
             row.times += 1;
         }
@@ -108,28 +106,22 @@ impl Tally for BagTally {
 
     fn points(&self, key: u64, code: u16) -> u64 {
         let mut sum = 0;
-        for row in &self.rows {
-            if row.key == key && row.code == code {
-                sum += row.points;
-            }
+        for block in &self.blocks {
+            sum += points_of(block, key, code);
         }
         sum
     }
 
     fn times(&self, key: u64, code: u16) -> u64 {
         let mut sum = 0;
-        for row in &self.rows {
-            if row.key == key && row.code == code {
-                sum += row.times;
-            }
+        for block in &self.blocks {
+            sum += times_of(block, key, code);
         }
         sum
     }
 
     fn rows(&self, alloc: Global) -> Result<Vec<Row>, AllocError> {
-        let mut rows = Vec::from_slice(alloc, &self.rows)?;
-        sort_rows(&mut rows);
-        added_up(alloc, &rows)
+        sums_of(alloc, &self.blocks)
     }
 
     fn add_book(

@@ -2,6 +2,7 @@
 #![tactic(auto)]
 
 mod bag_tally;
+mod blocks;
 mod book;
 mod list_tally;
 mod map_tally;

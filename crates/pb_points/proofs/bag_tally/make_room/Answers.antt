@@ -1,19 +1,12 @@
-use Rattle.std.proofs.Common.{sym, subst}
-use Rattle.pb_points.specs.BagTally.{SumsFit}
-use Rattle.pb_points.proofs.BagRows.{fit_same, same_permuted}
+use Rattle.std.proofs.Common.{◌≡◌, ◌∙◌, ap, sym, subst}
+use Rattle.pb_points.specs.BagTally.{IsAddedUp, SumsFit}
+use Rattle.pb_points.specs.Blocks.{rows_in}
+use Rattle.pb_points.proofs.BagRows.{fit_same}
 use Rattle.pb_points.proofs.bag_tally.make_room.Goals as goal
-
-pub added_up-requires-clause-fit : goal.added_up-requires-clause-fit
-added_up-requires-clause-fit c = subst SumsFit (sym c.deref.ensures.value) (fit_same c.args.rows.now.items c.sort_rows.new.rows.items (same_permuted c.args.rows.now.items c.sort_rows.new.rows.items c.sort_rows.ensures.permutation) c.requires)
-
-pub returns-in_err-all-clause-fit : goal.returns-in_err-all-clause-fit
-returns-in_err-all-clause-fit c = fit_same c.args.rows.now.items c.sort_rows.new.rows.items (same_permuted c.args.rows.now.items c.sort_rows.new.rows.items c.sort_rows.ensures.permutation) c.requires
-
-pub returns-in_err-reserve-clause-fit : goal.returns-in_err-reserve-clause-fit
-returns-in_err-reserve-clause-fit c = fit_same c.args.rows.now.items c.sort_rows.new.rows.items (same_permuted c.args.rows.now.items c.sort_rows.new.rows.items c.sort_rows.ensures.permutation) c.requires
 
 pub returns-clause-fit : goal.returns-clause-fit
 returns-clause-fit c =
-    subst SumsFit (sym c.in_ok-reserve.ensures.items)
-    (fit_same c.deref.result.now c.in_ok-all.all.items c.in_ok-all.ensures.same
-    (subst SumsFit (sym c.deref.ensures.value) (fit_same c.args.rows.now.items c.sort_rows.new.rows.items (same_permuted c.args.rows.now.items c.sort_rows.new.rows.items c.sort_rows.ensures.permutation) c.requires)))
+    let sums = c.in_ok-sums.sums.items in
+    let added : IsAddedUp (rows_in c.args.blocks.now.items) sums = subst (λ l. IsAddedUp (rows_in l) sums) c.deref.ensures.value c.in_ok-sums.ensures in
+    let is : rows_in c.reserve.new.self.items ≡ sums = ap rows_in c.in_ok-reserve.ensures.items ∙ c.in_ok-all.ensures ∙ c.deref-2.ensures.value in
+    subst SumsFit (sym is) (fit_same (rows_in c.args.blocks.now.items) sums added.same c.requires)

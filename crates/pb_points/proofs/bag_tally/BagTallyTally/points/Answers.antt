@@ -1,40 +1,55 @@
-use Rattle.std.proofs.Common.{◌≡◌, ap, arith, get_or, take}
-use Rattle.pb_points.specs.BagTally.{points_of, gain}
-use Rattle.pb_points.proofs.BagRows.{held_points, total_more, new_row, of_pair, of_other}
+use Rattle.std.proofs.Common.{◌+◌, ap, arith}
 use Rattle.std.proofs.lemmas.List.{take_all}
-use Rattle.std.proofs.lemmas.List.Sums.{sum_by_more_le}
+use Rattle.pb_points.specs.BagTally.{points_of}
+use Rattle.pb_points.specs.Blocks.{rows_in}
+use Rattle.pb_points.proofs.BagRows.{held_points}
+use Rattle.pb_points.proofs.BlockRows.{total_block, total_within}
 use Rattle.pb_points.proofs.bag_tally.BagTallyTally.points.Goals as goal
-use Rattle.pb_points.proofs.bag_tally.BagTallyTally.points.Goals.{then-row-key+then-row-code, else-row-key, else-row-key-via-then-row-key+else-row-code, else-row-key-via-else-row-key}
 
-pub overflow_add-sum : goal.overflow_add-sum
-overflow_add-sum c =
-    let rows = c.deref-row-items.result.now in
-    let most : points_of rows c.args.key c.args.code ≡ points_of c.args.self.now.rows.items c.args.key c.args.code = ap (λ l. points_of l c.args.key c.args.code) c.deref-row-items.ensures.value in
+pub points_of-sum-requires : goal.points_of-sum-requires
+points_of-sum-requires c =
+    let blocks = c.deref-block-items.result.now in
     omega (
       arith,
-      c.loop-row.invariant,
-      sum_by_more_le (gain (λ r. r.points) c.args.key c.args.code) rows c.loop-row.row-index (new_row 0 0) c.loop-row-test.true,
-      of_pair (λ r. r.points) c.args.key c.args.code (get_or rows c.loop-row.row-index (new_row 0 0)) c.if-row-key.true c.if-row-code.true,
-      most,
+      total_block (λ r. r.points) blocks c.loop-block.block-index c.block-item.result c.args.key c.args.code c.loop-block-test.true c.block-item.is,
+      total_within (λ r. r.points) blocks (c.loop-block.block-index + 1) c.args.key c.args.code,
+      ap (λ l. points_of (rows_in l) c.args.key c.args.code) c.deref-block-items.ensures.value,
+      ap (λ l. points_of l c.args.key c.args.code) c.deref.ensures.value,
       c.args.self.now.fit.points c.args.key c.args.code,
     )
 
-pub loop-row-preserved : goal.loop-row-preserved
-loop-row-preserved c =
-    let rows = c.deref-row-items.result.now in
-    let row = get_or rows c.loop-row.row-index (new_row 0 0) in
-    let next = total_more (λ r. r.points) rows c.loop-row.row-index c.args.key c.args.code c.loop-row-test.true in
-    elim c.if-row-key.branch [
-      | then-row-key+then-row-code w ↦ omega (arith, w.sum-is, c.loop-row.invariant, next, of_pair (λ r. r.points) c.args.key c.args.code row w.if-row-key.true w.if-row-code.true)
-      | else-row-key w ↦ elim w.else-row-key.branch [
-        | else-row-key-via-then-row-key+else-row-code v ↦ omega (arith, w.sum-is, c.loop-row.invariant, next, of_other (λ r. r.points) c.args.key c.args.code row (λ key code. v.if-row-code.false code))
-        | else-row-key-via-else-row-key v ↦ omega (arith, w.sum-is, c.loop-row.invariant, next, of_other (λ r. r.points) c.args.key c.args.code row (λ key code. v.if-row-key.false key))
-      ]
-    ]
+pub overflow_add-sum : goal.overflow_add-sum
+overflow_add-sum c =
+    let blocks = c.deref-block-items.result.now in
+    omega (
+      arith,
+      c.loop-block.invariant,
+      total_block (λ r. r.points) blocks c.loop-block.block-index c.block-item.result c.args.key c.args.code c.loop-block-test.true c.block-item.is,
+      total_within (λ r. r.points) blocks (c.loop-block.block-index + 1) c.args.key c.args.code,
+      ap (λ l. points_of (rows_in l) c.args.key c.args.code) c.deref-block-items.ensures.value,
+      c.points_of-sum.ensures,
+      ap (λ l. points_of l c.args.key c.args.code) c.deref.ensures.value,
+      c.args.self.now.fit.points c.args.key c.args.code,
+    )
+
+pub loop-block-preserved : goal.loop-block-preserved
+loop-block-preserved c =
+    let blocks = c.deref-block-items.result.now in
+    omega (
+      arith,
+      c.loop-block.invariant,
+      total_block (λ r. r.points) blocks c.loop-block.block-index c.block-item.result c.args.key c.args.code c.loop-block-test.true c.block-item.is,
+      c.points_of-sum.ensures,
+      ap (λ l. points_of l c.args.key c.args.code) c.deref.ensures.value,
+    )
 
 pub returns : goal.returns
 returns c =
-    let rows = c.deref-row-items.result.now in
-    let all : points_of rows c.args.key c.args.code ≡ points_of c.args.self.now.rows.items c.args.key c.args.code = ap (λ l. points_of l c.args.key c.args.code) c.deref-row-items.ensures.value in
-    let whole : points_of (take c.loop-row.row-index rows) c.args.key c.args.code ≡ points_of rows c.args.key c.args.code = ap (λ l. points_of l c.args.key c.args.code) (take_all c.loop-row.row-index rows c.loop-row-test.false) in
-    omega (arith, c.loop-row.invariant, whole, all, held_points c.args.self.now.rows.items c.args.key c.args.code)
+    let blocks = c.deref-block-items.result.now in
+    omega (
+      arith,
+      c.loop-block.invariant,
+      ap (λ l. points_of (rows_in l) c.args.key c.args.code) (take_all c.loop-block.block-index blocks c.loop-block-test.false),
+      ap (λ l. points_of (rows_in l) c.args.key c.args.code) c.deref-block-items.ensures.value,
+      held_points (rows_in c.args.self.now.blocks.items) c.args.key c.args.code,
+    )

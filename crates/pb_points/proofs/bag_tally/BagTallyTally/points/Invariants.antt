@@ -1,6 +1,7 @@
 use Rattle.std.proofs.Common.{◌≡◌, take}
 use Rattle.pb_points.specs.BagTally.{points_of}
+use Rattle.pb_points.specs.Blocks.{rows_in}
 use Rattle.pb_points.proofs.bag_tally.BagTallyTally.points.Given as goal
 
-abbrev pub invariant-loop-row : goal.invariant-loop-row
-invariant-loop-row l = l.sum ≡ points_of (take l.row-index l.row-items) l.key l.code
+abbrev pub invariant-loop-block : goal.invariant-loop-block
+invariant-loop-block l = l.sum ≡ points_of (rows_in (take l.block-index l.block-items)) l.key l.code

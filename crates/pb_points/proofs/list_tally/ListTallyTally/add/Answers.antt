@@ -1,4 +1,4 @@
-use Rattle.std.proofs.Common.{◌≡◌, None, IsSome, position, unwrap_or, option_map, ap, sym, subst, ◌∙◌, arith}
+use Rattle.std.proofs.Common.{◌≡◌, None, IsSome, position, unwrap_or, option_map, ap, sym, subst, ◌∙◌}
 use Rattle.std.specs.List.{IsDistinct}
 use Rattle.std.proofs.lemmas.Bool.{false≢true}
 use Rattle.pb_points.specs.ListTally.{list_content}
