@@ -103,10 +103,10 @@ module _ (blocks : List Block) (i place key code : ℕ) (was : Block) (row : Row
   fits_there : place < length was.items
   fits_there = subst (λ (b : Block). place < length b.items) (sym same_block) held_there.2.0
 
-  abbrev pub all : List Row
+  abbrev all : List Row
   all = rows_in blocks
 
-  abbrev pub at : ℕ
+  abbrev at : ℕ
   at = place_among blocks i place
 
   at_within : at < length all
