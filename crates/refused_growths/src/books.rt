@@ -3,8 +3,11 @@
 use crate::due::bytes_of;
 use crate::five::BOOK;
 use crate::kit::Kit;
+use crate::text::Text;
 use crate::verdict::Verdict;
-use pb_poly::{BookError, Failed, MemSink, MemSource, Sink, probe, read_book, write_book};
+use pb_poly::{
+    BookError, Failed, FuseSink, MemSink, MemSource, Sink, probe, read_book, write_book,
+};
 use std::alloc::AllocError;
 
 /// Two entries of one key, with no weight and with what was learnt.
@@ -30,6 +33,21 @@ pub(crate) fn memory(kit: &Kit) -> Verdict {
     match second {
         Ok(()) => Verdict::answered(sink.as_bytes().len() == BOOK.len() + 1),
         Err(Failed) => Verdict::wanted(sink.failed() && sink.as_bytes() == BOOK),
+    }
+}
+
+/// A put into a fuse that passes, and one that blows it and keeps half of its bytes where there is memory.
+pub(crate) fn fuse(kit: &Kit) -> Verdict {
+    let mut sink = FuseSink::new(kit.alloc, 1);
+    if sink.put(BOOK).is_err() {
+        return Verdict::wanted(sink.starved && sink.as_bytes().is_empty());
+    }
+    let blown = sink.put(b"half");
+    let half: &[u8] = if sink.starved { b"" } else { b"ha" };
+    let due = Text::of(&[BOOK, half]);
+    Verdict {
+        holds: blown.is_err() && sink.failed() && sink.as_bytes() == due.as_bytes(),
+        wants: u32::from(sink.starved),
     }
 }
 

@@ -7,11 +7,11 @@ use crate::verdict::Verdict;
 use pb_cli::{Fault, Order, ParseFault, parse, run_epd, run_fen, run_probe, run_show};
 use pb_poly::{MemSink, MemSource, Sink};
 
-/// Whether a fault is want of memory: of the call's own, or, as a write fault, of its sink.
-pub(crate) fn is_want(fault: Fault, sink: &MemSink) -> bool {
+/// Whether a fault is want of memory: of the call's own, or, as a write fault, of a sink, which has failed then.
+pub(crate) fn is_want(fault: Fault, has_failed: bool) -> bool {
     match fault {
-        Fault::Memory => !sink.failed(),
-        Fault::Write => sink.failed(),
+        Fault::Memory => !has_failed,
+        Fault::Write => has_failed,
         _ => false,
     }
 }
@@ -20,7 +20,9 @@ pub(crate) fn is_want(fault: Fault, sink: &MemSink) -> bool {
 fn shown(answer: Result<bool, Fault>, sink: &MemSink, taken: bool, due: &[u8]) -> Verdict {
     match answer {
         Ok(answer) => Verdict::answered(answer == taken && sink.as_bytes() == due),
-        Err(fault) => { Verdict::wanted(is_want(fault, sink) && due.starts_with(sink.as_bytes())) }
+        Err(fault) => {
+            Verdict::wanted(is_want(fault, sink.failed()) && due.starts_with(sink.as_bytes()))
+        }
     }
 }
 

@@ -56,6 +56,9 @@ pub(crate) fn lines(places: &[usize]) -> Text {
     text
 }
 
+/// The places of those that come after the first two, and of one that is held by then.
+pub(crate) const LATER: [usize; 4] = [2, 3, 4, 0];
+
 /// All five, held in order.
 pub(crate) const ALL_HELD: Held = Held {
     numbers: [1, 2, 3, 4, 5],

@@ -7,9 +7,10 @@ use pb_ledger::{Ledger, MapTally, Tally};
 use pb_poly::{Book, Table, read_table};
 use std::alloc::{AllocError, Global};
 
-/// The four fields of a setup of two kings, and the same as one text.
+/// The four fields of a setup of two kings.
 const KINGS_FIELDS: [&[u8]; 4] = [b"4k3/8/8/8/8/8/8/4K3", b"w", b"-", b"-"];
 
+/// The same as one text.
 pub(crate) const KINGS: &[u8] = b"4k3/8/8/8/8/8/8/4K3 w - -";
 
 /// What the calls are made over.

@@ -17,7 +17,10 @@ mod commands;
 mod due;
 mod epd;
 mod five;
+mod journals;
 mod kit;
+mod left;
+mod nights;
 mod runs;
 mod submitting;
 mod tallies;
@@ -94,6 +97,7 @@ impl Report<'_> {
         self.tell("read_epd without memory", epd::without_memory(kit))?;
         self.tell("Epd::put", epd::putting(kit))?;
         self.tell("MemSink::put", books::memory(kit))?;
+        self.tell("FuseSink::put", books::fuse(kit))?;
         self.tell("read_book", books::reading(kit))?;
         self.tell("write_book", books::writing(kit))?;
         self.tell("probe", books::probing(kit))
@@ -121,8 +125,10 @@ impl Report<'_> {
         self.tell("run_probe", commands::probe(kit))?;
         self.tell("run_collect", runs::collect(kit))?;
         self.tell("collect_into", runs::collect_into_place(kit))?;
-        self.tell("run_continue", runs::go_on(kit))?;
-        self.tell("run_journaled", runs::journal(kit))?;
+        self.tell("run_continue", nights::go_on(kit))?;
+        self.tell("continue_into", nights::go_on_into_places(kit))?;
+        self.tell("run_journaled", journals::journal(kit))?;
+        self.tell("journal_into", journals::journal_into_place(kit))?;
         self.tell("run_export", runs::export(kit))
     }
 }
