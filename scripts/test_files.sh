@@ -290,6 +290,23 @@ old_list() {
         cmp -s "$work/list/games.ledger" "$work/listed/games.ledger"
 }
 
+# one_file: BOOK, FILE and TABLE are different files, by whatever names they go
+one_file() {
+    ledger_in one_file && cp "$work/one_file/games.ledger" "$work/before" && cp "$work/table" "$work/one_file/table" &&
+        ln "$work/one_file/games.ledger" "$work/one_file/second" && ln -s games.ledger "$work/one_file/link" || return 1
+    for name in games.ledger ../one_file/games.ledger second link; do
+        goes_on 3 "$work/one_file/games.ledger" "$work/one_file/$name" "$work/games" && says_open || return 1
+        answer=0
+        "$work/pbook" collect --journal "$work/one_file/$name" "$work/table" "$work/one_file/games.ledger" \
+            < "$work/games" > "$work/replies" || answer=$?
+        [ "$answer" -eq 3 ] && [ "$(cat "$work/replies")" = 'fault open' ] || return 1
+    done
+    answer=0
+    "$work/pbook" collect "$work/one_file/table" "$work/one_file/table" < "$work/games" > "$work/replies" || answer=$?
+    [ "$answer" -eq 3 ] && [ "$(cat "$work/replies")" = 'fault open' ] && goes_on 0 /dev/null /dev/null "$work/games" &&
+        cmp -s "$work/before" "$work/one_file/games.ledger" && cmp -s "$work/table" "$work/one_file/table" && no_draft "$work/one_file"
+}
+
 broken_ledger() {
     ledger_in broken && sed -i '5s/.*/no game/' "$work/broken/games.ledger" && cp "$work/broken/games.ledger" "$work/before" &&
         goes_on 1 "$work/broken/games.ledger" "$work/broken/book.bin" "$work/games" &&
@@ -356,7 +373,7 @@ killed_while_saving() {
 }
 
 checks='new_book here old_book full_device null_device pipe standard_output symlink dangling_symlink hard_link folder missing_folder no_name
-    long_name limit draft_left draft_is_a_link side_by_side cut_in_three old_list broken_ledger missing_ledger ledger_without_book'
+    long_name limit draft_left draft_is_a_link side_by_side cut_in_three old_list one_file broken_ledger missing_ledger ledger_without_book'
 if command -v flock > /dev/null; then checks="$checks draft_in_use"; fi
 if command -v strace > /dev/null; then checks="$checks device_faults"; fi
 if ! $root; then

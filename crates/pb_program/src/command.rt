@@ -1,5 +1,6 @@
 //! Each command over the files that it names and the standard streams.
 
+use crate::apart::keep_apart;
 use crate::file::{FilePlace, open};
 use crate::journal::{JournalFile, open_to_append};
 use crate::stop::Stop;
@@ -71,6 +72,7 @@ fn probe<K: Sink>(
 
 /// Makes the file of the book once there is one, so that a fault or a refused table leaves the old file.
 fn collect(rt: &HostRuntime, rules: Rules, table: &str, book: &str) -> Result<bool, Stop> {
+    keep_apart(rt, &[table, book])?;
     let mut table = open(rt, table)?;
     let mut input = FromRead::new(rt.reader());
     // Each reply is written at once, so that it can be waited for before the next line is sent.
@@ -95,6 +97,7 @@ fn collect_on(
     table: &str,
     book: &str,
 ) -> Result<bool, Stop> {
+    keep_apart(rt, &[table, ledger, book])?;
     let mut table = open(rt, table)?;
     let mut saved = open(rt, ledger)?;
     let mut input = FromRead::new(rt.reader());
@@ -123,6 +126,7 @@ fn collect_to(
     table: &str,
     book: &str,
 ) -> Result<bool, Stop> {
+    keep_apart(rt, &[table, journal, book])?;
     let mut table = open(rt, table)?;
     let file = open_to_append(rt, journal)?;
     let mut kept = open(rt, journal)?;

@@ -2,6 +2,7 @@
 //! standard streams, and answers the exit status.
 #![tactic(auto)]
 
+mod apart;
 mod command;
 mod draft;
 mod file;
