@@ -1,5 +1,5 @@
--- Which refusal is answered: the first of a list whose condition holds.
-use Rattle.std.specs.Prelude.{◌≡◌, ◌≢◌, ℕ, ◌<◌, ◌^◌, ◌↔◌, List, [], ◌∷◌, ◌++◌, length, Option, ◌==◌, slice_index_or, IfSome, All}
+-- Which refusal is answered: the first of a list whose condition holds; and where a list first breaks a rule.
+use Rattle.std.specs.Prelude.{◌≡◌, ◌≢◌, ℕ, ◌-◌, ◌<◌, ◌^◌, ◌↔◌, List, [], ◌∷◌, ◌++◌, length, take, Option, ◌==◌, slice_index_or, IfSome, All}
 use Rattle.std.specs.List.{slice_split}
 use Rattle.pb_board.specs.declared.piece.Colour.{Colour}
 use Rattle.pb_board.specs.declared.piece.Colour.TheVariants.{White, Black}
@@ -19,6 +19,10 @@ pub record IsFirstOf {E : Type 0} (errors : List E) (due : E → Type 0) (e : E)
   pub are : errors ≡ before ++ e ∷ after
   pub is_due : due e
   pub none_before : All (λ d. ¬ due d) before
+
+-- the list keeps the rule up to its n-th, counted from 1, and not with it
+abbrev pub BreaksAt : {A : Type 0} → (List A → Type 0) → List A → ℕ → Type 0
+BreaksAt rule xs n = rule (take (n - 1) xs) × ¬ rule (take n xs)
 
 -- ---- a setup of parts
 

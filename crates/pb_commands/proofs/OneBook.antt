@@ -1,13 +1,13 @@
 -- Bytes show one text as a book.
-use Rattle.std.proofs.Common.{◌≡◌, ◌∙◌, ℕ, ◌+◌, ◌*◌, ◌≤◌, All, Bool, List, [], ◌∷◌, ◌++◌, Result, Ok, Err, ap, append-nil, append_assoc, arith, inl, inr, length, length-append, refl, subst, sym, true}
+use Rattle.std.proofs.Common.{◌≡◌, ◌∙◌, ℕ, ◌+◌, ◌*◌, ◌≤◌, All, Bool, List, [], ◌∷◌, ◌++◌, Result, Ok, Err, ap, append-nil, arith, inl, inr, length, length-append, refl, subst, sym, true}
 use Rattle.std.proofs.lemmas.Bool.{cases_lt}
-use Rattle.std.proofs.lemmas.List.Elements.{All-head, All-tail, All-cons, All-nil}
+use Rattle.pb_board.specs.Refusal.{BreaksAt}
+use Rattle.pb_board.proofs.Breaks.{breaks_more, one_break}
 use Rattle.pb_poly.specs.declared.entry.Entry.{Entry}
-use Rattle.pb_poly.specs.Entry.{IsEntry, entry_bytes}
+use Rattle.pb_poly.specs.Entry.{IsEntry}
 use Rattle.pb_poly.specs.Book.{NeverFall, book_bytes}
 use Rattle.pb_poly.specs.Reading.{BookDue, Splits}
-use Rattle.pb_poly.proofs.Entries.{book_bytes-append, book_bytes-push}
-use Rattle.pb_poly.proofs.EntryBytes.{NeverFall-front, begins, book_is_one, length-book_bytes}
+use Rattle.pb_poly.proofs.EntryBytes.{NeverFall-front, none_falls, begins, book_is_one, length-book_bytes}
 use Rattle.pb_poly.specs.declared.reading.BookError.{BookError}
 use Rattle.pb_poly.specs.declared.reading.BookError.TheVariants as book
 use Rattle.pb_commands.specs.BookJudged.{AsBook, FallsAt, IsBookFile, book_verdict}
@@ -32,74 +32,30 @@ fewer_begin front entries x y h k is few =
     let p = shorter_begins (book_bytes front) x (book_bytes entries) y is less in
     let c = begins entries front p.0 k h p.1 in (c.0, c.1)
 
-bounds_front : (front back : List Entry) → All IsEntry (front ++ back) → All IsEntry front
-bounds_front [] back all = All-nil IsEntry
-bounds_front (e ∷ front) back all =
-    All-cons IsEntry e front (All-head IsEntry e (front ++ back) all) (bounds_front front back (All-tail IsEntry e (front ++ back) all))
-
 module _ (bytes : List ℕ) where
-  -- the bytes begin with these entries, of which the key of the last alone falls
-  record Falls (number : ℕ) : Type 0 where
-    before : List Entry
-    entry : Entry
-    bounds : All IsEntry (before ++ entry ∷ [])
-    rest : List ℕ
-    cut : bytes ≡ book_bytes (before ++ entry ∷ []) ++ rest
-    ordered : NeverFall before
-    falls : ¬ NeverFall (before ++ entry ∷ [])
-    number_is : number ≡ length before + 1
-
-  falls_of : (n : ℕ) → FallsAt n bytes → Falls n
-  falls_of n h =
-      let f = h.due.2 in
-      let front : List Entry = f.before ++ f.entry ∷ [] in
-      let whole : h.due.0 ≡ front ++ f.after = f.cut ∙ sym (append_assoc f.before (f.entry ∷ []) f.after) in
-      let front_is : h.front ≡ book_bytes front ++ book_bytes f.after = h.due.1.are ∙ ap book_bytes whole ∙ book_bytes-append front f.after in record {
-        before = f.before;
-        entry = f.entry;
-        bounds = bounds_front front f.after (subst (λ (es : List Entry). All IsEntry es) whole h.due.1.bounds);
-        rest = book_bytes f.after ++ h.rest;
-        cut = h.cut ∙ ap (λ bs. bs ++ h.rest) front_is ∙ append_assoc (book_bytes front) (book_bytes f.after) h.rest;
-        ordered = f.ordered;
-        falls = f.falls;
-        number_is = f.number_is;
-      }
-
-  -- the key of an entry falls, so entries whose keys never fall don't begin with it and those before it
-  no_fall_within : (n : ℕ) (h : Falls n) (entries : List Entry) (rest : List ℕ) → All IsEntry entries → NeverFall entries → bytes ≡ book_bytes entries ++ rest
-      → length h.before + 1 ≤ length entries → ⊥
-  no_fall_within n h entries rest bounds ordered is few =
-      let front : List Entry = h.before ++ h.entry ∷ [] in
-      let same : book_bytes front ++ h.rest ≡ book_bytes entries ++ rest = sym h.cut ∙ is in
-      let c = fewer_begin front entries h.rest rest h.bounds bounds same (omega (arith, length-append h.before (h.entry ∷ []))) in
-      h.falls (NeverFall-front front c.0 (subst (λ (es : List Entry). NeverFall es) c.1 ordered))
-
+  -- the bytes begin with entries at one of which the keys fall, so with no more of them whose keys never do
   no_fall : (n : ℕ) → FallsAt n bytes → (entries : List Entry) (part : List ℕ) → Splits bytes entries part → ⊥
-  no_fall n x entries part s =
-      let h = falls_of n x in
-      let front : List Entry = h.before ++ h.entry ∷ [] in
-      let long = ap length h.cut ∙ length-append (book_bytes front) h.rest in
-      let split = ap length s.bytes ∙ length-append (book_bytes entries) part in
-      no_fall_within n h entries part s.bounds s.ordered s.bytes
-      (omega (arith, long, split, s.partial, length-book_bytes front, length-book_bytes entries, length-append h.before (h.entry ∷ [])))
+  no_fall n h entries part s =
+      let begun : book_bytes h.due.0 ++ h.rest ≡ book_bytes entries ++ part = ap (λ bs. bs ++ h.rest) (sym h.due.1.are) ∙ sym h.cut ∙ s.bytes in
+      let long = ap length begun ∙ length-append (book_bytes entries) part in
+      let few : length h.due.0 ≤ length entries =
+      omega (arith, long, length-append (book_bytes h.due.0) h.rest, s.partial, length-book_bytes h.due.0, length-book_bytes entries) in
+      let c = fewer_begin h.due.0 entries h.rest part h.due.1.bounds s.bounds begun few in
+      none_falls entries n s.ordered (subst (λ es. BreaksAt NeverFall es n) (sym c.1) (breaks_more NeverFall h.due.0 c.0 n h.due.2))
 
-  fall_before : (n m : ℕ) (h : Falls n) (k : Falls m) → length h.before + 1 ≤ length k.before → ⊥
-  fall_before n m h k few =
-      let is : bytes ≡ book_bytes k.before ++ (entry_bytes k.entry ++ k.rest) =
-      k.cut ∙ ap (λ bs. bs ++ k.rest) (book_bytes-push k.before k.entry) ∙ append_assoc (book_bytes k.before) (entry_bytes k.entry) k.rest in
-      no_fall_within n h k.before (entry_bytes k.entry ++ k.rest) (bounds_front k.before (k.entry ∷ []) k.bounds) k.ordered is few
+  same_fall : (n m : ℕ) (h : FallsAt n bytes) (k : FallsAt m bytes) → length h.due.0 ≤ length k.due.0 → n ≡ m
+  same_fall n m h k few =
+      let begun : book_bytes h.due.0 ++ h.rest ≡ book_bytes k.due.0 ++ k.rest =
+      ap (λ bs. bs ++ h.rest) (sym h.due.1.are) ∙ sym h.cut ∙ k.cut ∙ ap (λ bs. bs ++ k.rest) k.due.1.are in
+      let c = fewer_begin h.due.0 k.due.0 h.rest k.rest h.due.1.bounds k.due.1.bounds begun few in
+      let longer : BreaksAt NeverFall k.due.0 n = subst (λ es. BreaksAt NeverFall es n) (sym c.1) (breaks_more NeverFall h.due.0 c.0 n h.due.2) in
+      one_break NeverFall NeverFall-front k.due.0 n m longer k.due.2
 
   one_fall : (n m : ℕ) → FallsAt n bytes → FallsAt m bytes → n ≡ m
-  one_fall n m x y =
-      let h = falls_of n x in
-      let k = falls_of m y in
-      elim (cases_lt (length h.before) (length k.before)) [
-        | inl less ↦ absurd (fall_before n m h k (omega arith))
-        | inr most ↦
-            elim (cases_lt (length k.before) (length h.before)) [
-              | inl less ↦ absurd (fall_before m n k h (omega arith))
-              | inr least ↦ omega (arith, h.number_is, k.number_is)
-            ]
+  one_fall n m h k =
+      elim (cases_lt (length h.due.0) (length k.due.0)) [
+        | inl less ↦ same_fall n m h k (omega arith)
+        | inr most ↦ sym (same_fall m n k h (omega arith))
       ]
 
   cut_length : (n : ℕ) (h : BookDue (book.Cut n) bytes) → length bytes ≡ 16 * length h.0 + n

@@ -1,15 +1,15 @@
 -- Bytes show one text of a table, a book and a record.
-use Rattle.std.proofs.Common.{◌≡◌, ◌∙◌, ℕ, All, Bool, List, [], ◌∷◌, ◌++◌, Result, Ok, Err, ap, arith, length, refl, subst, sym, true}
-use Rattle.std.proofs.lemmas.List.Elements.{All-head, All-tail}
+use Rattle.std.proofs.Common.{◌≡◌, ◌∙◌, ℕ, Bool, List, Result, Ok, Err, ap, arith, refl, subst, sym, true}
 use Rattle.pb_board.specs.declared.refusal.FenError.{FenError}
 use Rattle.pb_board.specs.Position.{IsRecord, Record}
 use Rattle.pb_board.specs.Refusal.{IsDue, of_record, fields}
+use Rattle.pb_board.proofs.Breaks.{all_unbroken, one_all_break}
 use Rattle.pb_board.proofs.Dues.{one_first}
 use Rattle.pb_board.proofs.Fens.{record_never_due}
 use Rattle.pb_board.proofs.Unique.{one_record}
 use Rattle.pb_io.specs.Lines.{lines}
-use Rattle.pb_poly.proofs.Tables.{only_memory, spelled_at}
-use Rattle.pb_poly.specs.Table.{IsFirstUnspelled, IsWordLine}
+use Rattle.pb_poly.proofs.Tables.{only_memory}
+use Rattle.pb_poly.specs.Table.{IsWordLine}
 use Rattle.pb_poly.specs.declared.entry.Entry.{Entry}
 use Rattle.pb_poly.specs.declared.table.TableError.TheVariants as poly
 use Rattle.pb_poly.specs.declared.table_file.TableFault.{TableFault}
@@ -24,28 +24,6 @@ use Rattle.pb_commands.proofs.OneBook.{one_book}
 
 -- ---- tables
 
--- the first line that spells no word is one
-first_unspelled : (before others : List (List ℕ)) (line other : List ℕ) (after rest : List (List ℕ)) → before ++ line ∷ after ≡ others ++ other ∷ rest
-    → All IsWordLine before → ¬ IsWordLine line → All IsWordLine others → ¬ IsWordLine other → length before ≡ length others
-first_unspelled [] [] line other after rest is h bad k bad' = refl
-first_unspelled [] (o ∷ others) line other after rest is h bad k bad' =
-    let same : o ≡ line = cc in absurd (bad (subst IsWordLine same (All-head IsWordLine o others k)))
-first_unspelled (b ∷ before) [] line other after rest is h bad k bad' =
-    let same : b ≡ other = cc in absurd (bad' (subst IsWordLine same (All-head IsWordLine b before h)))
-first_unspelled (b ∷ before) (o ∷ others) line other after rest is h bad k bad' =
-    let tails : before ++ line ∷ after ≡ others ++ other ∷ rest = cc in
-    let more = first_unspelled before others line other after rest tails (All-tail IsWordLine b before h) bad (All-tail IsWordLine o others k) bad' in
-    omega (arith, more)
-
-one_line : (bytes : List ℕ) (n m : ℕ) → IsFirstUnspelled n bytes → IsFirstUnspelled m bytes → n ≡ m
-one_line bytes n m h k =
-    let same = first_unspelled h.before k.before h.line k.line h.after k.after (sym h.cut ∙ k.cut) h.spelled h.unspelled k.spelled k.unspelled in
-    omega (arith, same, h.number_is, k.number_is)
-
-no_line : (bytes : List ℕ) (n : ℕ) → All IsWordLine (lines bytes) → IsFirstUnspelled n bytes → ⊥
-no_line bytes n all h =
-    h.unspelled (spelled_at h.before h.line h.after (subst (λ (ls : List (List ℕ)). All IsWordLine ls) h.cut all))
-
 -- bytes are one table file, or none for one reason
 one_table : (bytes : List ℕ) (r x : Result (List ℕ) TableFault) → AsTable bytes r → AsTable bytes x → r ≡ x
 one_table bytes (Ok words) (Ok others) h k = ap (λ ws. Ok ws) (tables_are_one words others bytes h k)
@@ -58,11 +36,11 @@ one_table bytes (Err table_fault.Long) (Err (table_fault.Line m)) h k = absurd (
 one_table bytes (Err table_fault.Long) (Err (table_fault.Count m)) h k = absurd (omega (arith, h, k.0))
 one_table bytes (Err (table_fault.Line n)) (Ok others) h k = absurd (cc (only_memory others bytes (poly.Line n) k.text h.1))
 one_table bytes (Err (table_fault.Line n)) (Err table_fault.Long) h k = absurd (omega (arith, k, h.0))
-one_table bytes (Err (table_fault.Line n)) (Err (table_fault.Line m)) h k = ap (λ number. Err (table_fault.Line number)) (one_line bytes n m h.1 k.1)
-one_table bytes (Err (table_fault.Line n)) (Err (table_fault.Count m)) h k = absurd (no_line bytes n k.1.2 h.1)
+one_table bytes (Err (table_fault.Line n)) (Err (table_fault.Line m)) h k = ap (λ number. Err (table_fault.Line number)) (one_all_break IsWordLine (lines bytes) n m h.1 k.1)
+one_table bytes (Err (table_fault.Line n)) (Err (table_fault.Count m)) h k = absurd (all_unbroken IsWordLine (lines bytes) n k.1.2 h.1)
 one_table bytes (Err (table_fault.Count n)) (Ok others) h k = absurd (cc (only_memory others bytes (poly.Count n) k.text h.1))
 one_table bytes (Err (table_fault.Count n)) (Err table_fault.Long) h k = absurd (omega (arith, k, h.0))
-one_table bytes (Err (table_fault.Count n)) (Err (table_fault.Line m)) h k = absurd (no_line bytes m h.1.2 k.1)
+one_table bytes (Err (table_fault.Count n)) (Err (table_fault.Line m)) h k = absurd (all_unbroken IsWordLine (lines bytes) m h.1.2 k.1)
 one_table bytes (Err (table_fault.Count n)) (Err (table_fault.Count m)) h k = ap (λ count. Err (table_fault.Count count)) (h.1.0 ∙ sym k.1.0)
 one_table bytes (Err table_fault.Read) x h k = absurd h
 one_table bytes (Err table_fault.Endless) x h k = absurd h

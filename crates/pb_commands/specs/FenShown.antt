@@ -1,13 +1,14 @@
 -- What the command `fen` writes.
-use Rattle.std.specs.Prelude.{◌≡◌, ℕ, ◌+◌, true, List, ◌∷◌, ◌++◌, Ok, Err, codes, decimal, length}
+use Rattle.std.specs.Prelude.{◌≡◌, ℕ, ◌+◌, true, List, ◌∷◌, ◌++◌, All, Ok, Err, codes, decimal, length}
 use Rattle.std.specs.List.{AllZip}
 use Rattle.pb_board.specs.declared.refusal.FenError.{FenError}
 use Rattle.pb_board.specs.Position.{Record}
 use Rattle.pb_board.specs.Fen.{FenText}
 use Rattle.pb_board.specs.LineEnd.{with_end}
+use Rattle.pb_board.specs.Refusal.{BreaksAt}
 use Rattle.pb_moves.specs.Moved.{Moved}
 use Rattle.pb_moves.specs.Cases.{Legal}
-use Rattle.pb_moves.specs.Played.{Spells, IsFirstMisspelt, Plays}
+use Rattle.pb_moves.specs.Played.{Spells, IsSpelled, Plays}
 use Rattle.pb_commands.specs.Judged.{Verdict, refused}
 use Rattle.pb_commands.specs.Plays.{PlaysWords}
 use Rattle.pb_commands.specs.RecordJudged.{AsRecord, record_verdict}
@@ -26,7 +27,7 @@ pub record Unplayable (start : Record) (words : List (List ℕ)) (n : ℕ) : Typ
 -- the record is judged first, then the spelling of all words, then the moves in order
 pub data FenShown (fen : List ℕ) (words : List (List ℕ)) (verdict : Verdict) : Type 0 where
   no_record : (e : FenError) → AsRecord fen (Err e) → verdict ≡ record_verdict e → FenShown fen words verdict
-  misspelt : (start : Record) (n : ℕ) → AsRecord fen (Ok start) → IsFirstMisspelt words n
+  misspelt : (start : Record) (n : ℕ) → AsRecord fen (Ok start) → BreaksAt (All IsSpelled) words n
       → verdict ≡ refused (codes "spelling " ++ decimal n) → FenShown fen words verdict
   unplayable : (start : Record) (n : ℕ) → AsRecord fen (Ok start) → Unplayable start words n
       → verdict ≡ refused (codes "illegal " ++ decimal n) → FenShown fen words verdict

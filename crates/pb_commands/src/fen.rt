@@ -3,10 +3,11 @@ ghost use Rattle.std.specs.Prelude.{◌≡◌, ℕ, ◌+◌, ◌↔◌, List, Al
 ghost use Rattle.pb_board.specs.Fen.{FenText};
 ghost use Rattle.pb_board.specs.Position.{IsRecord};
 ghost use Rattle.pb_board.specs.LineEnd.{with_end};
+ghost use Rattle.pb_board.specs.Refusal.{BreaksAt};
 ghost use Rattle.pb_moves.specs.AfterRecord.{AfterRecord};
 ghost use Rattle.pb_moves.specs.Cases.{Legal};
 ghost use Rattle.pb_moves.specs.Moved.{Moved};
-ghost use Rattle.pb_moves.specs.Played.{IsFirstMisspelt, IsSpelled, Spells};
+ghost use Rattle.pb_moves.specs.Played.{IsSpelled, Spells};
 ghost use Rattle.pb_commands.specs.Line.{texts};
 ghost use Rattle.pb_commands.specs.FenShown.{FenShown, Unplayable};
 ghost use Rattle.pb_commands.specs.Judged.{PutsFront, PutsOrEnds, PutsText};
@@ -90,7 +91,7 @@ fn record_after(fen: &[u8], moves: &[&str]) -> Result<Fen, Refusal>
 
 /// The number of the first word that spells no move, from 1.
 fn misspelt(words: &[&str]) -> Option<usize>
-    ensures { MatchOption result (All IsSpelled (texts words.now)) (IsFirstMisspelt (texts words.now)) }
+    ensures { MatchOption result (All IsSpelled (texts words.now)) (BreaksAt (All IsSpelled) (texts words.now)) }
 {
     for (index, word) in words.iter().enumerate() {
         if !spells_move(word) {

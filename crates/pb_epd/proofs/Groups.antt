@@ -12,9 +12,11 @@ use Rattle.pb_epd.specs.declared.operand.Operand.{Operand}
 use Rattle.pb_epd.specs.Token.{Token, word, text, end_mark, TokensAfter}
 use Rattle.pb_epd.specs.Lexeme.{IsOperandToken}
 use Rattle.pb_epd.specs.Operation.{Operation, IsOperation, operand_token, operation_tokens}
-use Rattle.pb_epd.specs.Refusal.{is_end, BeginOtherwise, BreaksAt, IsNamed}
+use Rattle.pb_board.specs.Refusal.{BreaksAt}
+use Rattle.pb_board.proofs.Breaks.{all_breaks, breaks_from}
+use Rattle.pb_epd.specs.Refusal.{is_end, BeginOtherwise, IsNamed}
 use Rattle.pb_epd.specs.Reading.{HasTokens, AreOperands, BeginsUnnamed, BeginsWithOperation, AreOperations, AreDistinct, AreHeld, AreNamed, IsUnnamedAt, RepeatsAt, Standing}
-use Rattle.pb_epd.proofs.Lists.{all_middle, breaks_from, contains_map, pairs_cons, pairs_head, pairs_none, pairs_split, pairs_tail}
+use Rattle.pb_epd.proofs.Lists.{contains_map, pairs_cons, pairs_head, pairs_none, pairs_split, pairs_tail}
 use Rattle.pb_epd.proofs.Reader.{operands_are}
 
 -- ---- groups
@@ -210,6 +212,6 @@ module _ (start : Token) (bytes : List ℕ) (held : List Operation) (before : To
         cut =
             cut_so_far (l.group ∷ slice_split is_end l.others) cut ∙ ap (λ w. before ++ l.group ∷ w) last.2
             ∙ sym (append_assoc before (l.group ∷ last.0) (last.1 ∷ []));
-        breaks = breaks_from (All IsNamed) (before ++ l.group ∷ last.0) before l.group last.0 (count + 1) refl (omega (arith, so_far.counted, length-map so_far.operations group_of))
-            (all_named so_far.operations so_far.lawful) (λ k. l.unnamed (all_middle IsNamed before l.group [] k));
+        breaks = all_breaks IsNamed (before ++ l.group ∷ last.0) before l.group last.0 (count + 1) refl (omega (arith, so_far.counted, length-map so_far.operations group_of))
+            (all_named so_far.operations so_far.lawful) l.unnamed;
       }

@@ -1,10 +1,10 @@
 -- What a list contains, and what holds of its pairs.
-use Rattle.std.proofs.Common.{◌≡◌, ℕ, zero, suc, ◌+◌, ◌-◌, ◌<◌, ◌⊎◌, List, [], ◌∷◌, ◌++◌, length, get_or, take, refl, sym, ap, ◌∙◌, subst, inl, inr, arith}
+use Rattle.std.proofs.Common.{◌≡◌, ℕ, zero, suc, ◌<◌, ◌⊎◌, List, [], ◌∷◌, ◌++◌, length, get_or, refl, ap, ◌∙◌, subst, inl, inr, arith}
 use Rattle.std.specs.Prelude.{All, AllPairs, Contains, map}
 use Rattle.std.proofs.lemmas.List.{get_or-take, length-take}
-use Rattle.std.proofs.Math.Seq.{take-append-add, take-append_seam}
-use Rattle.std.proofs.lemmas.List.Elements.{All-take, Contains-get_or, Contains-append_right, All-contains}
-use Rattle.pb_epd.specs.Refusal.{BreaksAt}
+use Rattle.std.proofs.lemmas.List.Elements.{Contains-get_or}
+use Rattle.pb_board.specs.Refusal.{BreaksAt}
+use Rattle.pb_board.proofs.Breaks.{all_middle}
 
 module _ {A : Type 0} where
   pub contains_head : (x : A) (xs : List A) → Contains (x ∷ xs) x
@@ -26,9 +26,6 @@ module _ {A : Type 0} where
   -- what holds of each that is contained holds of all
   pub all_from_contains : (P : A → Type 0) (xs : List A) → ((x : A) → Contains xs x → P x) → All P xs
   all_from_contains P xs h k d lt = h (get_or xs k d) (Contains-get_or xs k d lt)
-
-  pub all_middle : (P : A → Type 0) (before : List A) (x : A) (after : List A) → All P (before ++ x ∷ after) → P x
-  all_middle P before x after h = All-contains P (before ++ x ∷ after) x h (Contains-append_right before (x ∷ after) x (contains_head x after))
 
   pub pairs_none : (R : A → A → Type 0) → AllPairs R []
   pairs_none R i j d lt in_range = absurd (omega (arith, in_range))
@@ -81,20 +78,8 @@ module _ {A : Type 0} (R : A → A → Type 0) where
         | inr there ↦ pairs_split front x back y (pairs_tail R w (front ++ x ∷ back) h) there
       ]
 
--- where a list breaks a rule
-module _ {A : Type 0} where
-  pub breaks_from : (rule : List A → Type 0) (xs before : List A) (x : A) (after : List A) (n : ℕ) → xs ≡ before ++ x ∷ after → n ≡ length before + 1 → rule before → ¬ rule (before ++ x ∷ []) → BreaksAt rule xs n
-  breaks_from rule xs before x after n are number kept broken =
-      let front : n - 1 ≡ length before = omega (arith, number) in
-      let up_to : take (n - 1) xs ≡ before = ap (λ m. take m xs) front ∙ ap (take (length before)) are ∙ take-append_seam before (x ∷ after) in
-      let with_it : take n xs ≡ before ++ x ∷ [] = ap (λ m. take m xs) number ∙ ap (take (length before + 1)) are ∙ take-append-add before (x ∷ after) 1 in
-      (subst rule (sym up_to) kept, λ k. broken (subst rule with_it k))
-
-  -- what each keeps is broken nowhere
-  pub all_unbroken : (P : A → Type 0) (xs : List A) (n : ℕ) → All P xs → BreaksAt (All P) xs n → ⊥
-  all_unbroken P xs n h k = k.1 (All-take P n xs h)
-
-  pub pairs_unbroken : (R : A → A → Type 0) (xs : List A) (n : ℕ) → AllPairs R xs → BreaksAt (AllPairs R) xs n → ⊥
-  pairs_unbroken R xs n h k = k.1 (λ i j d less lt.
+  -- a list that keeps the rule breaks it nowhere
+  pub pairs_unbroken : (xs : List A) (n : ℕ) → AllPairs R xs → ¬ BreaksAt (AllPairs R) xs n
+  pairs_unbroken xs n h k = k.1 (λ i j d less lt.
       let within : (j < n) × (j < length xs) = (omega (arith, lt, length-take n xs), omega (arith, lt, length-take n xs)) in
       rw (get_or-take n xs i d (omega (arith, less, within.0)), get_or-take n xs j d within.0) (h i j d less within.1))

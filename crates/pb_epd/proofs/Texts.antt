@@ -8,6 +8,7 @@ use Rattle.pb_board.specs.Text.{turn_text, castling_text, passed_text}
 use Rattle.pb_board.specs.Fen.{AreFields}
 use Rattle.pb_board.specs.Refusal.{IsFirstDue, of_setup}
 use Rattle.pb_board.specs.declared.refusal.FenError.{FenError}
+use Rattle.pb_board.proofs.Breaks.{all_unbroken}
 use Rattle.pb_board.proofs.Fens.{setup_never_due}
 use Rattle.pb_epd.specs.declared.refusal.EpdError.{EpdError}
 use Rattle.pb_epd.specs.declared.refusal.EpdError.TheVariants as epd
@@ -16,7 +17,7 @@ use Rattle.pb_epd.specs.Operation.{operation_tokens}
 use Rattle.pb_epd.specs.Epd.{EpdRecord, IsEpd, EpdText}
 use Rattle.pb_epd.specs.Refusal.{BeginOtherwise, Cut, IsDueEpd, IsFirstDueEpd, IsNamed, is_end}
 use Rattle.pb_epd.specs.Reading.{HasTokens, FourFollow, AreOperations, AreNamed, IsRefused}
-use Rattle.pb_epd.proofs.Lists.{all_unbroken, pairs_unbroken}
+use Rattle.pb_epd.proofs.Lists.{pairs_unbroken}
 use Rattle.pb_epd.proofs.Dues.{epd_place, first_epd, memory_first}
 use Rattle.pb_epd.proofs.TokenLists.{tokens_one}
 use Rattle.pb_epd.proofs.Bad.{bad_none}

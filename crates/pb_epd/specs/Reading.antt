@@ -1,6 +1,7 @@
 -- What the parts of the reader tell of the tokens of a line.
 use Rattle.std.specs.Prelude.{◌≡◌, ◌≢◌, ◌<◌, ◌↔◌, ℕ, ◌+◌, List, [], ◌∷◌, ◌++◌, length, map, flat_map, All, AllPairs, Contains, MatchOption, Option}
 use Rattle.std.specs.List.{slice_split}
+use Rattle.pb_board.specs.Refusal.{BreaksAt}
 use Rattle.pb_epd.specs.declared.operand.Operand.{Operand}
 use Rattle.pb_epd.specs.declared.read.SoFar.{SoFar}
 use Rattle.pb_epd.specs.declared.read.Taken.{Taken}
@@ -10,7 +11,7 @@ use Rattle.pb_epd.specs.declared.refusal.EpdError.TheVariants as epd
 use Rattle.pb_epd.specs.Token.{Token, word, end_mark, TokensAfter}
 use Rattle.pb_epd.specs.Lexeme.{IsOperandToken}
 use Rattle.pb_epd.specs.Operation.{Operation, IsOperand, IsOperation, operand_token, operation_tokens}
-use Rattle.pb_epd.specs.Refusal.{is_end, BeginOtherwise, BreaksAt, IsNamed}
+use Rattle.pb_epd.specs.Refusal.{is_end, BeginOtherwise, IsNamed}
 
 -- the bytes are tokens that follow this one
 abbrev pub HasTokens : Token → List ℕ → Type 0

@@ -3,7 +3,7 @@
 ghost use Rattle.std.specs.Prelude.{◌≡◌, ◌↔◌, ◌+◌, List, All, IsTrue, MatchOption};
 ghost use Rattle.pb_epd.specs.Token.{IsToken, text as text_token, word};
 ghost use Rattle.pb_epd.specs.Operation.{IsLetter, IsNameByte, IsOpcode, IsOperand};
-ghost use Rattle.pb_epd.specs.Refusal.{BreaksAt};
+ghost use Rattle.pb_board.specs.Refusal.{BreaksAt};
 
 use crate::operand::Operand;
 use crate::run::{text_run, word_run};

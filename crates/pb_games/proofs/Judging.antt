@@ -5,26 +5,27 @@ use Rattle.std.proofs.lemmas.List.{length-map}
 use Rattle.std.proofs.lemmas.List.Splits.{join_with_byte-slice_split}
 use Rattle.pb_board.specs.Fen.{FenText}
 use Rattle.pb_board.specs.Position.{Record}
-use Rattle.pb_board.specs.Refusal.{IsFirstDue, of_record, fields}
+use Rattle.pb_board.specs.Refusal.{BreaksAt, IsFirstDue, of_record, fields}
+use Rattle.pb_board.proofs.Breaks.{all_unbroken}
 use Rattle.pb_board.proofs.Fens.{record_never_due}
 use Rattle.pb_board.proofs.Unique.{one_record}
 use Rattle.pb_board.specs.LineEnd.{without_return}
 use Rattle.pb_moves.specs.Attack.{Playable}
-use Rattle.pb_moves.specs.Played.{AreLegal, IsSpelled, IsFirstMisspelt}
+use Rattle.pb_moves.specs.Played.{AreLegal, IsSpelled}
 use Rattle.pb_games.specs.declared.outcome.Outcome.{Outcome}
 use Rattle.pb_games.specs.declared.refusal.Refusal.{Refusal}
 use Rattle.pb_games.specs.declared.refusal.Refusal.TheVariants as refusal
 use Rattle.pb_games.specs.Header.{IsHeader}
 use Rattle.pb_games.specs.LineFields.{submission_of, IsChecked}
 use Rattle.pb_games.specs.Reading.{AreRead, AreRefused}
-use Rattle.pb_games.specs.Refusing.{IsFirstIllegal, Refuses, SpellsStart, field_of}
+use Rattle.pb_games.specs.Refusing.{Refuses, SpellsStart, field_of}
 use Rattle.pb_games.specs.Results.{outcome_text}
 use Rattle.pb_games.specs.Submissions.{IsLawful, IsGame, moves_text}
 use Rattle.pb_games.specs.Words.{words_of, move_named, moves_named}
 use Rattle.pb_games.proofs.Dues.{NoneBefore, none_more, first_due}
 use Rattle.pb_games.proofs.Headers.{none_before_fen}
 use Rattle.pb_board.proofs.LineEnds.{cases_return}
-use Rattle.pb_games.proofs.WordLemmas.{spellings_back, named_are_moves, words-back, none_misspelt}
+use Rattle.pb_games.proofs.WordLemmas.{spellings_back, named_are_moves, words-back}
 
 module _ (line a d : List ℕ) (o : Outcome) (f : Record) (h : IsHeader line a o f d) where
   fen_at : field_of line 2 ≡ h.fen
@@ -51,12 +52,12 @@ module _ (line a d : List ℕ) (o : Outcome) (f : Record) (h : IsHeader line a o
         let same : due.0 ≡ f = one_record due.0 f (field_of line 2) due.1.bounds h.bounds due.1.text spells_start.text in
         due.2 (subst (λ g. Playable g.setup) (sym same) playable))
 
-    pub misspelt_refused : (n : ℕ) → IsFirstMisspelt (words_of d) n → Refuses line (refusal.Spelling n)
-    misspelt_refused n bad = first_due (refusal.Spelling n) line none_before_words (subst (λ w. IsFirstMisspelt (words_of w) n) (sym moves_at) bad)
+    pub misspelt_refused : (n : ℕ) → BreaksAt (All IsSpelled) (words_of d) n → Refuses line (refusal.Spelling n)
+    misspelt_refused n bad = first_due (refusal.Spelling n) line none_before_words (subst (λ w. BreaksAt (All IsSpelled) (words_of w) n) (sym moves_at) bad)
 
     module _ (spelt : All IsSpelled (words_of d)) where
       none_before_plies : NoneBefore 8 line
-      none_before_plies = none_more 7 line none_before_words (λ due. none_misspelt (words_of d) due.0 spelt (subst (λ w. IsFirstMisspelt (words_of w) due.0) moves_at due.1))
+      none_before_plies = none_more 7 line none_before_words (λ due. all_unbroken IsSpelled (words_of d) due.0 spelt (subst (λ w. BreaksAt (All IsSpelled) (words_of w) due.0) moves_at due.1))
 
       pub many_refused : 1024 < length (words_of d) → Refuses line refusal.Plies
       many_refused many = first_due refusal.Plies line none_before_plies (subst (λ w. 1024 < length (words_of w)) (sym moves_at) many)
@@ -68,7 +69,7 @@ module _ (line a d : List ℕ) (o : Outcome) (f : Record) (h : IsHeader line a o
             let many : 1024 < length (words_of d) = subst (λ w. 1024 < length (words_of w)) moves_at due in
             omega (arith, few, many))
 
-        pub illegal_refused : (n : ℕ) → IsFirstIllegal f.setup (moves_named d) n → Refuses line (refusal.Illegal n)
+        pub illegal_refused : (n : ℕ) → BreaksAt (AreLegal f.setup) (moves_named d) n → Refuses line (refusal.Illegal n)
         illegal_refused n bad =
             first_due (refusal.Illegal n) line none_before_illegal (
               f,

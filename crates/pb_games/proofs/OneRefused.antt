@@ -1,50 +1,22 @@
 -- No line is refused by itself in two ways.
-use Rattle.std.proofs.Common.{◌≡◌, ℕ, zero, suc, ◌+◌, ◌<◌, List, [], ◌∷◌, length, get_or, inl, inr, refl, sym, ap, subst, ◌∙◌, arith}
-use Rattle.std.proofs.Math.Seq.{get_or-append_seam}
-use Rattle.std.proofs.Math.ListN.{get_or-append}
+use Rattle.std.proofs.Common.{◌≡◌, ℕ, zero, suc, List, inl, inr, refl, sym, ap, subst, ◌∙◌, arith}
 use Rattle.std.proofs.lemmas.Bool.{cases_lt}
 use Rattle.pb_board.specs.declared.refusal.FenError.{FenError}
 use Rattle.pb_board.specs.declared.refusal.FenError.TheVariants as fen
-use Rattle.pb_board.specs.Position.{Position, Record}
-use Rattle.pb_board.specs.Refusal.{of_record, fields}
+use Rattle.pb_board.specs.Position.{Record}
+use Rattle.pb_board.specs.Refusal.{BreaksAt, of_record, fields}
 use Rattle.pb_board.specs.Refusal.{IsDue as IsFenDue}
+use Rattle.pb_board.proofs.Breaks.{one_all_break, one_break}
 use Rattle.pb_board.proofs.Dues.{one_first}
 use Rattle.pb_board.proofs.Unique.{one_record}
-use Rattle.pb_moves.specs.Moved.{Moved}
-use Rattle.pb_moves.specs.Played.{IsSpelled, IsFirstMisspelt}
-use Rattle.pb_moves.specs.Successor.{after}
+use Rattle.pb_moves.specs.Played.{AreLegal, IsSpelled}
 use Rattle.pb_games.specs.declared.refusal.Refusal.{Refusal}
 use Rattle.pb_games.specs.declared.refusal.Refusal.TheVariants as refusal
-use Rattle.pb_games.specs.Refusing.{IsDue, IsFirstIllegal, Refuses, field_of}
+use Rattle.pb_games.specs.Refusing.{IsDue, Refuses, field_of}
 use Rattle.pb_games.specs.Laws.{OneRefusal}
 use Rattle.pb_games.proofs.Dues.{none_before, order}
 use Rattle.pb_games.proofs.OneLine.{spellings_injective}
-
--- ---- the causes of one place in the order
-
--- a word before the first that is misspelt spells a move
-misspelt_later : (words : List (List ℕ)) (m n : ℕ) → IsFirstMisspelt words m → IsFirstMisspelt words n → m < n → ⊥
-misspelt_later words m n h k less =
-    let at = length h.before in
-    let within : at < length k.before = omega (arith, h.number, k.number) in
-    let here : get_or words at [] ≡ h.word = ap (λ ws. get_or ws at []) h.cut ∙ get_or-append_seam h.before h.word h.after [] in
-    let there : get_or words at [] ≡ get_or k.before at [] = ap (λ ws. get_or ws at []) k.cut ∙ get_or-append k.before (k.word ∷ k.after) [] at within in
-    h.misspelt (subst IsSpelled (sym there ∙ here) (k.spelt at [] within))
-
-one_misspelt : (words : List (List ℕ)) (m n : ℕ) → IsFirstMisspelt words m → IsFirstMisspelt words n → m ≡ n
-one_misspelt words m n h k =
-    elim (cases_lt m n) [
-      | inl less ↦ absurd (misspelt_later words m n h k less)
-      | inr le ↦ elim (cases_lt n m) [ inl less ↦ absurd (misspelt_later words n m k h less) | inr ge ↦ omega arith ]
-    ]
-
-one_illegal : (s : Position) (ms : List Moved) (m n : ℕ) → IsFirstIllegal s ms m → IsFirstIllegal s ms n → m ≡ n
-one_illegal s [] m n h k = absurd h
-one_illegal s (x ∷ xs) m n h k =
-    elim h [
-      | inl a ↦ elim k [ inl b ↦ a.0 ∙ sym b.0 | inr b ↦ absurd (a.1 b.2) ]
-      | inr a ↦ elim k [ inl b ↦ absurd (b.1 a.2) | inr b ↦ a.1 ∙ ap (λ i. i + 1) (one_illegal (after s x) xs a.0 b.0 a.3 b.3) ∙ sym b.1 ]
-    ]
+use Rattle.pb_games.proofs.Played.{legal_fronts}
 
 -- ---- one place in the order
 
@@ -83,8 +55,9 @@ illegal_is : (line : List ℕ) (m n : ℕ) → IsDue (refusal.Illegal m) line �
 illegal_is line m n h k =
     let starts : h.0 ≡ k.0 = one_record h.0 k.0 (field_of line 2) h.2.bounds k.2.bounds h.2.text k.2.text in
     let moves : h.1 ≡ k.1 = spellings_injective h.1 k.1 h.3.bounds k.3.bounds (h.3.words ∙ sym k.3.words) in
-    let here : IsFirstIllegal k.0.setup k.1 m = subst (λ ms. IsFirstIllegal k.0.setup ms m) moves (subst (λ (f : Record). IsFirstIllegal f.setup h.1 m) starts h.4) in
-    one_illegal k.0.setup k.1 m n here k.4
+    let here : BreaksAt (AreLegal k.0.setup) k.1 m =
+    subst (λ ms. BreaksAt (AreLegal k.0.setup) ms m) moves (subst (λ (f : Record). BreaksAt (AreLegal f.setup) h.1 m) starts h.4) in
+    one_break (AreLegal k.0.setup) (legal_fronts k.0.setup) k.1 m n here k.4
 
 one_cause : (line : List ℕ) (k m n : ℕ) (d e : FenError) → IsDue (refusal_at k m d) line → IsDue (refusal_at k n e) line → refusal_at k m d ≡ refusal_at k n e
 one_cause line zero m n d e h j = refl
@@ -94,7 +67,7 @@ one_cause line (suc (suc (suc zero))) m n d e h j = refl
 one_cause line (suc (suc (suc (suc zero)))) m n d e h j = refl
 one_cause line (suc (suc (suc (suc (suc zero))))) m n d e h j = ap (λ x. refusal.Fen x) (one_first (λ x. IsFenDue x (fields (field_of line 2))) of_record d e h j)
 one_cause line (suc (suc (suc (suc (suc (suc zero)))))) m n d e h j = refl
-one_cause line (suc (suc (suc (suc (suc (suc (suc zero))))))) m n d e h j = ap (λ x. refusal.Spelling x) (one_misspelt _ m n h j)
+one_cause line (suc (suc (suc (suc (suc (suc (suc zero))))))) m n d e h j = ap (λ x. refusal.Spelling x) (one_all_break IsSpelled _ m n h j)
 one_cause line (suc (suc (suc (suc (suc (suc (suc (suc zero)))))))) m n d e h j = refl
 one_cause line (suc (suc (suc (suc (suc (suc (suc (suc (suc zero))))))))) m n d e h j = ap (λ x. refusal.Illegal x) (illegal_is line m n h j)
 one_cause line (suc (suc (suc (suc (suc (suc (suc (suc (suc (suc k)))))))))) m n d e h j = refl

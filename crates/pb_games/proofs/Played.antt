@@ -1,26 +1,47 @@
 -- Moves that are played while their words are read.
-use Rattle.std.proofs.Common.{Option, Some, None, true, false, true≢false, is_some, ◌≡◌, ◌+◌, ◌∷◌, ◌++◌, [], ℕ, List, length, append-nil, append_assoc, map, refl, sym, ap, subst, ◌∙◌, inr, inl, arith}
+use Rattle.std.proofs.Common.{Option, Some, None, true, false, true≢false, is_some, ◌≡◌, zero, suc, ◌+◌, ◌-◌, ◌∷◌, ◌++◌, [], ℕ, List, length, take, append-nil, append_assoc, map, refl, sym, ap, subst, ◌∙◌, arith}
 use Rattle.pb_board.specs.Position.{Position}
+use Rattle.pb_board.specs.Refusal.{BreaksAt}
+use Rattle.pb_board.proofs.Breaks.{KeepsFronts}
 use Rattle.pb_moves.specs.Cases.{Legal}
 use Rattle.pb_moves.specs.Moved.{Moved}
 use Rattle.pb_moves.specs.Played.{AreLegal, Ply, plies_from}
 use Rattle.pb_moves.specs.Successor.{after}
-use Rattle.pb_games.specs.Refusing.{IsFirstIllegal}
 use Rattle.pb_games.specs.Words.{move_named}
 use Rattle.std.proofs.lemmas.List.{length_push}
+
+-- ---- moves of which each is legal, and the first that isn't
+
+pub legal_fronts : (s : Position) → KeepsFronts (AreLegal s)
+legal_fronts s [] back h = tt
+legal_fronts s (m ∷ front) back h = (h.0, legal_fronts (after s m) front back h.1)
+
+first_illegal : (s : Position) (m : Moved) (ms : List Moved) → ¬ Legal s m → BreaksAt (AreLegal s) (m ∷ ms) 1
+first_illegal s m ms bad = (tt, λ h. bad h.0)
+
+later_illegal : (s : Position) (m : Moved) (ms : List Moved) (n : ℕ) → Legal s m → BreaksAt (AreLegal (after s m)) ms n → BreaksAt (AreLegal s) (m ∷ ms) (n + 1)
+later_illegal s m ms zero legal h = absurd (h.1 h.0)
+later_illegal s m ms (suc n) legal h =
+    let one_less : suc n - 1 ≡ n = omega arith in
+    let back : suc n ≡ (suc n + 1) - 1 = omega arith in
+    let up : suc n + 1 ≡ suc (suc n) = omega arith in
+    let before : AreLegal (after s m) (take n ms) = subst (λ i. AreLegal (after s m) (take i ms)) one_less h.0 in
+    (subst (λ i. AreLegal s (take i (m ∷ ms))) back (legal, before), λ k. h.1 (subst (λ i. AreLegal s (take i (m ∷ ms))) up k).1)
+
+-- ---- words that are left
 
 -- what the words that are left come to from this setup is what all the moves come to from the start, their numbers
 -- begin after this one, and the plies before them are held
 pub record Leads (holds : List Ply → Position → Type 0) (start : Position) (all : List Moved) (setup : Position) (left : List (List ℕ)) (count : ℕ) : Type 0 where
   pub legal : AreLegal setup (map move_named left) → AreLegal start all
-  pub illegal : (n : ℕ) → IsFirstIllegal setup (map move_named left) n → IsFirstIllegal start all (count + n)
+  pub illegal : (n : ℕ) → BreaksAt (AreLegal setup) (map move_named left) n → BreaksAt (AreLegal start) all (count + n)
   pub told : List Ply
   pub held : holds told setup
   pub number : length told ≡ count
   pub plies : told ++ plies_from setup (map move_named left) ≡ plies_from start all
 
 pub leads_all : (holds : List Ply → Position → Type 0) (start : Position) (words : List (List ℕ)) → holds [] start → Leads holds start (map move_named words) start words 0
-leads_all holds start words h = record { legal = λ h. h; illegal = λ n h. subst (λ k. IsFirstIllegal start (map move_named words) k) (omega arith) h; told = []; held = h; number = refl; plies = refl }
+leads_all holds start words h = record { legal = λ h. h; illegal = λ n h. subst (λ k. BreaksAt (AreLegal start) (map move_named words) k) (omega arith) h; told = []; held = h; number = refl; plies = refl }
 
 pub leads_same : (holds : List Ply → Position → Type 0) (start : Position) (all rest : List (List ℕ)) → all ≡ rest → holds [] start → Leads holds start (map move_named all) start rest 0
 leads_same holds start all rest same h = subst (λ ws. Leads holds start (map move_named all) start ws 0) same (leads_all holds start all h)
@@ -35,10 +56,9 @@ module _ (holds now : List Ply → Position → Type 0) (start s t : Position) (
   leads_more next legal push = record {
     legal = λ others. h.legal (subst (AreLegal s) (sym here) (legal, subst (λ u. AreLegal u (map move_named rest)) next others));
     illegal = λ n bad.
-        let first : IsFirstIllegal s (map move_named left) (n + 1) =
-        subst (λ ms. IsFirstIllegal s ms (n + 1)) (sym here)
-        (inr (n, refl, legal, subst (λ u. IsFirstIllegal u (map move_named rest) n) next bad)) in
-        subst (λ k. IsFirstIllegal start all k) (omega arith) (h.illegal (n + 1) first);
+        let later : BreaksAt (AreLegal s) (m ∷ map move_named rest) (n + 1) =
+        later_illegal s m (map move_named rest) n legal (subst (λ u. BreaksAt (AreLegal u) (map move_named rest) n) next bad) in
+        subst (λ k. BreaksAt (AreLegal start) all k) (omega arith) (h.illegal (n + 1) (subst (λ ms. BreaksAt (AreLegal s) ms (n + 1)) (sym here) later));
     told = h.told ++ (s, m) ∷ [];
     held = push h.told h.held;
     number = length_push h.told (s, m) ∙ ap (λ n. n + 1) h.number;
@@ -49,9 +69,8 @@ module _ (holds now : List Ply → Position → Type 0) (start s t : Position) (
         ∙ h.plies;
   }
 
-  pub leads_bad : ¬ Legal s m → IsFirstIllegal start all (count + 1)
-  leads_bad bad =
-      h.illegal 1 (subst (λ ms. IsFirstIllegal s ms 1) (sym here) (inl (refl, bad)))
+  pub leads_bad : ¬ Legal s m → BreaksAt (AreLegal start) all (count + 1)
+  leads_bad bad = h.illegal 1 (subst (λ ms. BreaksAt (AreLegal s) ms 1) (sym here) (first_illegal s m (map move_named rest) bad))
 
 -- no word is left
 module _ (holds : List Ply → Position → Type 0) (start s : Position) (all : List Moved) (left : List (List ℕ)) (count : ℕ)

@@ -1,30 +1,30 @@
 -- What follows where a line is refused.
-use Rattle.std.proofs.Common.{◌≡◌, ℕ, List, [], ◌∷◌, length, map, slice_index_or, inl, inr, refl, sym, ap, subst, ◌∙◌, arith}
+use Rattle.std.proofs.Common.{◌≡◌, ℕ, List, [], ◌∷◌, length, map, slice_index_or, refl, sym, ap, subst, ◌∙◌, arith}
 use Rattle.std.specs.List.{All}
 use Rattle.std.proofs.lemmas.List.{length-map}
 use Rattle.std.proofs.lemmas.List.Elements.{All-map, All-weaker}
 use Rattle.pb_board.specs.declared.refusal.FenError.TheVariants as fen
 use Rattle.pb_board.specs.Fen.{FenText}
-use Rattle.pb_board.specs.Position.{Position, Record}
-use Rattle.pb_board.specs.Refusal.{IsFirstDue, of_record, fields}
+use Rattle.pb_board.specs.Position.{Record}
+use Rattle.pb_board.specs.Refusal.{BreaksAt, IsFirstDue, of_record, fields}
+use Rattle.pb_board.proofs.Breaks.{all_unbroken, unbroken}
 use Rattle.pb_board.proofs.Fens.{record_never_due}
 use Rattle.pb_board.proofs.Unique.{one_record}
 use Rattle.pb_moves.specs.Attack.{Playable}
 use Rattle.pb_moves.specs.Moved.{Moved, IsMove}
-use Rattle.pb_moves.specs.Played.{AreLegal, IsSpelled, IsFirstMisspelt}
+use Rattle.pb_moves.specs.Played.{AreLegal, IsSpelled}
 use Rattle.pb_moves.specs.Spelling.{spelling}
-use Rattle.pb_moves.specs.Successor.{after}
 use Rattle.pb_games.specs.declared.refusal.Refusal.{Refusal}
 use Rattle.pb_games.specs.declared.refusal.Refusal.TheVariants as refusal
 use Rattle.pb_games.specs.Ids.{IsId}
-use Rattle.pb_games.specs.Refusing.{IsDue, IsOfLine, IsFirstIllegal, SpellsStart, field_of}
+use Rattle.pb_games.specs.Refusing.{IsDue, IsOfLine, SpellsStart, field_of}
 use Rattle.pb_games.specs.Results.{outcome_text}
 use Rattle.pb_games.specs.Submissions.{Submission, IsLawful, moves_text}
 use Rattle.pb_games.specs.Words.{words_of}
 use Rattle.pb_games.specs.Laws.{RefusedByItself, RefusedIsUnlawful}
 use Rattle.pb_games.proofs.OneLine.{words_of_text, spellings_injective}
 use Rattle.pb_games.proofs.Texts.{fields_back, short_line}
-use Rattle.pb_games.proofs.WordLemmas.{none_misspelt}
+use Rattle.pb_games.proofs.Played.{legal_fronts}
 
 -- ---- for a cause of its own
 
@@ -44,11 +44,6 @@ pub of_line : RefusedByItself
 of_line line e h = due_of_line line e h.due
 
 -- ---- no legal game
-
-none_illegal : (s : Position) (ms : List Moved) (n : ℕ) → AreLegal s ms → ¬ IsFirstIllegal s ms n
-none_illegal s [] n legal bad = bad
-none_illegal s (m ∷ ms) n legal bad =
-    elim bad [ inl here ↦ here.1 legal.0 | inr later ↦ none_illegal (after s m) ms later.0 legal.1 later.3 ]
 
 spelt_from_moves : (ms : List Moved) → All IsMove ms → All IsSpelled (map spelling ms)
 spelt_from_moves ms h = All-map IsSpelled spelling ms (All-weaker IsMove (λ m. IsSpelled (spelling m)) (λ m is. (m, record { is_move = is; is = refl })) ms h)
@@ -72,12 +67,13 @@ module _ (line : List ℕ) (s : Submission) (h : IsLawful line s) where
       record_never_due s.1.start h.submits.spells.0 e h.submits.game.start h.submits.spells.1 (subst (λ t. IsFirstDue of_record e (fields t)) (field_is 2) due)
   none_due refusal.Start due = due.2 (subst (λ (f : Record). Playable f.setup) (sym (start_is due.0 due.1)) h.legal.playable)
   none_due (refusal.Spelling n) due =
-      none_misspelt (map spelling s.1.moves) n (spelt_from_moves s.1.moves h.submits.game.moves) (subst (λ ws. IsFirstMisspelt ws n) words_are due)
+      all_unbroken IsSpelled (map spelling s.1.moves) n (spelt_from_moves s.1.moves h.submits.game.moves) (subst (λ ws. BreaksAt (All IsSpelled) ws n) words_are due)
   none_due refusal.Plies due = omega (arith, due, ap length words_are, length-map s.1.moves spelling, h.submits.game.few)
   none_due (refusal.Illegal n) due =
       let moves = spellings_injective due.1 s.1.moves due.3.bounds h.submits.game.moves (due.3.words ∙ words_are) in
       let start : due.0.setup ≡ s.1.start.setup = ap (λ (f : Record). f.setup) (start_is due.0 due.2) in
-      none_illegal s.1.start.setup s.1.moves n h.legal.legal (subst (λ ms. IsFirstIllegal s.1.start.setup ms n) moves (subst (λ t. IsFirstIllegal t due.1 n) start due.4))
+      unbroken (AreLegal s.1.start.setup) (legal_fronts s.1.start.setup) s.1.moves n h.legal.legal
+      (subst (λ ms. BreaksAt (AreLegal s.1.start.setup) ms n) moves (subst (λ t. BreaksAt (AreLegal t) due.1 n) start due.4))
   none_due _ due = due
 
 pub unlawful : RefusedIsUnlawful

@@ -1,7 +1,6 @@
 -- Words, and the moves that they spell.
-use Rattle.std.proofs.Common.{◌≡◌, ℕ, ◌+◌, ◌<◌, ◌≤◌, eqb, List, [], ◌∷◌, length, length-append, map, get_or, Option, Some, None, refl, sym, ap, subst, ◌∙◌, arith}
+use Rattle.std.proofs.Common.{◌≡◌, ℕ, ◌+◌, ◌≤◌, eqb, List, [], ◌∷◌, length, map, get_or, Option, Some, None, refl, sym, ap, subst, ◌∙◌, arith}
 use Rattle.std.specs.List.{All, join_with_byte}
-use Rattle.std.proofs.Math.Seq.{get_or-append_seam}
 use Rattle.std.proofs.lemmas.List.Elements.{All-head, All-tail, All-map, All-weaker}
 use Rattle.std.proofs.lemmas.List.Splits.{length-slice_split, join_with_byte-slice_split}
 use Rattle.std.proofs.lemmas.List.Sums.{count_by-le-length}
@@ -9,7 +8,7 @@ use Rattle.pb_board.specs.declared.piece.Kind.{Kind}
 use Rattle.pb_board.specs.declared.piece.Kind.TheVariants.{Pawn, Knight, Bishop, Rook, Queen, King}
 use Rattle.pb_board.specs.Board.{file, rank}
 use Rattle.pb_moves.specs.Moved.{Moved, IsMove, IsPromotion, moved_of}
-use Rattle.pb_moves.specs.Played.{Spells, IsSpelled, IsFirstMisspelt}
+use Rattle.pb_moves.specs.Played.{Spells, IsSpelled}
 use Rattle.pb_moves.specs.Spelling.{promotion_text, spelling}
 use Rattle.pb_games.specs.Words.{words_of, square_named, promotion_named, move_named}
 
@@ -74,10 +73,3 @@ named_are_moves words h = All-map IsMove move_named words (All-weaker IsSpelled 
 pub words-back : (field : List ℕ) → join_with_byte 32 (words_of field) ≡ field
 words-back [] = refl
 words-back (c ∷ cs) = join_with_byte-slice_split 32 (c ∷ cs)
-
--- where each word spells a move, none is the first that spells none
-pub none_misspelt : (words : List (List ℕ)) (n : ℕ) → All IsSpelled words → ¬ IsFirstMisspelt words n
-none_misspelt words n h m =
-    let within : length m.before < length words = omega (arith, ap length m.cut, length-append m.before (m.word ∷ m.after)) in
-    let here : get_or words (length m.before) [] ≡ m.word = ap (λ ws. get_or ws (length m.before) []) m.cut ∙ get_or-append_seam m.before m.word m.after [] in
-    m.misspelt (subst IsSpelled here (h (length m.before) [] within))

@@ -1,12 +1,12 @@
 -- What reading the words of a field and playing the moves that they spell comes to.
 use Rattle.std.specs.Prelude.{◌≡◌, ℕ, ◌≤◌, ◌<◌, List, length, All}
 use Rattle.pb_board.specs.Position.{Position}
-use Rattle.pb_moves.specs.Played.{Ply, AreLegal, IsSpelled, IsFirstMisspelt}
+use Rattle.pb_board.specs.Refusal.{BreaksAt}
+use Rattle.pb_moves.specs.Played.{Ply, AreLegal, IsSpelled}
 use Rattle.pb_games.specs.declared.outcome.Outcome.{Outcome}
 use Rattle.pb_games.specs.declared.refusal.Refusal.{Refusal}
 use Rattle.pb_games.specs.declared.refusal.Refusal.TheVariants as refusal
 use Rattle.pb_games.specs.declared.check.TheConstants.{MAX_PLIES}
-use Rattle.pb_games.specs.Refusing.{IsFirstIllegal}
 use Rattle.pb_games.specs.Words.{words_of, moves_named}
 
 -- each word spells a move, they are this many and not too many, and the moves are legal one after another
@@ -20,7 +20,7 @@ pub record AreRead (start : Position) (field : List ℕ) (plies : ℕ) : Type 0 
 pub record IsStopped (start : Position) (field : List ℕ) (n : ℕ) : Type 0 where
   pub spelt : All IsSpelled (words_of field)
   pub few : length (words_of field) ≤ MAX_PLIES
-  pub first : IsFirstIllegal start (moves_named field) n
+  pub first : BreaksAt (AreLegal start) (moves_named field) n
 
 -- the refusal that the words of the field get from this start
 abbrev pub AreRefused : Position → List ℕ → Refusal → Type 0
@@ -30,7 +30,7 @@ AreRefused start field refusal.Id = ⊥
 AreRefused start field refusal.Result = ⊥
 AreRefused start field (refusal.Fen e) = ⊥
 AreRefused start field refusal.Start = ⊥
-AreRefused start field (refusal.Spelling n) = IsFirstMisspelt (words_of field) n
+AreRefused start field (refusal.Spelling n) = BreaksAt (All IsSpelled) (words_of field) n
 AreRefused start field refusal.Plies = All IsSpelled (words_of field) × (MAX_PLIES < length (words_of field))
 AreRefused start field (refusal.Illegal n) = IsStopped start field n
 AreRefused start field (refusal.Conflict n) = ⊥

@@ -1,17 +1,15 @@
 -- Which refusal a line gets by itself: the first in the order below whose condition holds.
-use Rattle.std.specs.Prelude.{◌≡◌, ◌≢◌, ℕ, ◌+◌, ◌<◌, ◌⊎◌, List, [], ◌∷◌, ◌++◌, length, map, All, Contains, slice_index_or, ◌==◌}
+use Rattle.std.specs.Prelude.{◌≡◌, ◌≢◌, ℕ, ◌<◌, List, [], ◌∷◌, ◌++◌, length, map, All, Contains, slice_index_or, ◌==◌}
 use Rattle.std.specs.List.{slice_split}
 use Rattle.pb_board.specs.declared.refusal.FenError.{FenError}
 use Rattle.pb_board.specs.Fen.{FenText}
-use Rattle.pb_board.specs.Position.{Position, Record, IsRecord}
-use Rattle.pb_board.specs.Refusal.{IsFirstDue, of_record, fields}
+use Rattle.pb_board.specs.Position.{Record, IsRecord}
+use Rattle.pb_board.specs.Refusal.{BreaksAt, IsFirstDue, of_record, fields}
 use Rattle.pb_board.specs.LineEnd.{without_return}
 use Rattle.pb_moves.specs.Attack.{Playable}
-use Rattle.pb_moves.specs.Cases.{Legal}
 use Rattle.pb_moves.specs.Moved.{Moved, IsMove}
 use Rattle.pb_moves.specs.Spelling.{spelling}
-use Rattle.pb_moves.specs.Successor.{after}
-use Rattle.pb_moves.specs.Played.{IsFirstMisspelt}
+use Rattle.pb_moves.specs.Played.{AreLegal, IsSpelled}
 use Rattle.pb_games.specs.declared.outcome.Outcome.{Outcome}
 use Rattle.pb_games.specs.declared.refusal.Refusal.{Refusal}
 use Rattle.pb_games.specs.declared.refusal.Refusal.TheVariants as refusal
@@ -33,12 +31,6 @@ field_of line i = slice_index_or (fields_of line) i []
 abbrev pub move_words : List ℕ → List (List ℕ)
 move_words line = words_of (field_of line 3)
 
--- the n-th move, from 1, isn't legal where it is played, and each move before it is
-abbrev pub IsFirstIllegal : Position → List Moved → ℕ → Type 0
-IsFirstIllegal s [] n = ⊥
-IsFirstIllegal s (m ∷ ms) n =
-    ((n ≡ 1) × ¬ Legal s m) ⊎ ((k : ℕ) × (n ≡ k + 1) × Legal s m × IsFirstIllegal (after s m) ms k)
-
 -- the third field spells this record
 pub record SpellsStart (line : List ℕ) (f : Record) : Type 0 where
   pub bounds : IsRecord f
@@ -57,10 +49,10 @@ IsDue refusal.Id line = ¬ IsId (field_of line 0)
 IsDue refusal.Result line = (outcome : Outcome) → field_of line 1 ≢ outcome_text outcome
 IsDue (refusal.Fen e) line = IsFirstDue of_record e (fields (field_of line 2))
 IsDue refusal.Start line = (f : Record) × SpellsStart line f × ¬ Playable f.setup
-IsDue (refusal.Spelling n) line = IsFirstMisspelt (move_words line) n
+IsDue (refusal.Spelling n) line = BreaksAt (All IsSpelled) (move_words line) n
 IsDue refusal.Plies line = MAX_PLIES < length (move_words line)
 IsDue (refusal.Illegal n) line =
-    (f : Record) × (moves : List Moved) × SpellsStart line f × SpellsMoves line moves × IsFirstIllegal f.setup moves n
+    (f : Record) × (moves : List Moved) × SpellsStart line f × SpellsMoves line moves × BreaksAt (AreLegal f.setup) moves n
 IsDue _ line = ⊥
 
 -- the refusals that look at the line alone, in the order in which they are looked for: one has a cause, two have a number

@@ -1,5 +1,5 @@
 -- Moves played one after the other.
-use Rattle.std.specs.Prelude.{◌≡◌, ℕ, ◌+◌, List, [], ◌∷◌, ◌++◌, length, All}
+use Rattle.std.specs.Prelude.{◌≡◌, ℕ, List, [], ◌∷◌}
 use Rattle.pb_board.specs.Position.{Position, Record, IsSetup}
 use Rattle.pb_moves.specs.Moved.{Moved, IsMove}
 use Rattle.pb_moves.specs.Cases.{Legal}
@@ -16,16 +16,6 @@ pub record Spells (word : List ℕ) (m : Moved) : Type 0 where
 -- the word spells a move
 abbrev pub IsSpelled : List ℕ → Type 0
 IsSpelled word = (m : Moved) × Spells word m
-
--- the n-th word, from 1, spells no move, and each word before it spells one
-pub record IsFirstMisspelt (words : List (List ℕ)) (n : ℕ) : Type 0 where
-  pub before : List (List ℕ)
-  pub word : List ℕ
-  pub after : List (List ℕ)
-  pub cut : words ≡ before ++ word ∷ after
-  pub number : n ≡ length before + 1
-  pub spelt : All IsSpelled before
-  pub misspelt : ¬ IsSpelled word
 
 -- the record after these moves, each of them legal
 abbrev pub Plays : Record → List Moved → Record → Type 0

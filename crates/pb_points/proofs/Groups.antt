@@ -8,7 +8,7 @@ use Rattle.std.proofs.lemmas.List.{get_or_append_left, get_or-append-add, get_or
 use Rattle.std.proofs.lemmas.List.Elements.{All-append, Contains-append_cases, Contains-append_left, Contains-append_right, Contains-get_or}
 use Rattle.std.proofs.lemmas.List.Kept.{AllPairs-cons}
 use Rattle.pb_poly.specs.declared.entry.Entry.{Entry}
-use Rattle.pb_poly.specs.Book.{IsFirstFall, NeverFall, NeverFallsFrom, keys_of}
+use Rattle.pb_poly.specs.Book.{NeverFall, NeverFallsFrom, keys_of}
 use Rattle.pb_points.specs.declared.row.Row.{Row}
 use Rattle.pb_points.specs.Group.{AddsBook, IsGroup}
 use Rattle.pb_points.specs.Rows.{Gives, IsBelow, IsBookOfRows}
@@ -214,14 +214,9 @@ fronts_fall e (f ∷ entries) h = (rises e f (h 0 1 e (omega arith) (omega arith
     rises e f (inl up) = omega arith
     rises e f (inr same) = omega (arith, same.0)
 
-NeverFall-ordered : (entries : List Entry) → AllPairs Before entries → NeverFall entries
+pub NeverFall-ordered : (entries : List Entry) → AllPairs Before entries → NeverFall entries
 NeverFall-ordered [] h = tt
 NeverFall-ordered (e ∷ entries) h = (omega arith, fronts_fall e entries h)
-
-pub none_falls : (entries : List Entry) (number : ℕ) → AllPairs Before entries → IsFirstFall entries number → ⊥
-none_falls entries number h f =
-    f.falls (NeverFall-ordered (f.before ++ f.entry ∷ []) (AllPairs-left Before (f.before ++ f.entry ∷ []) f.after
-    (subst (AllPairs Before) (f.cut ∙ sym (append_assoc f.before (f.entry ∷ []) f.after)) h)))
 
 pub ok_unless : {A B : Type 0} (P : A → Type 0) (Q : B → Type 0) (r : Result A B) → MatchResult r P Q → ((b : B) → Q b → ⊥) → IsOk r
 ok_unless P Q (Ok a) h none = refl

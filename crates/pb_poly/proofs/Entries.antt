@@ -1,11 +1,13 @@
 -- Keys that never fall, and the bytes of entries.
-use Rattle.std.proofs.Common.{◌≡◌, ℕ, zero, suc, ◌+◌, ◌<◌, ◌≤◌, List, [], ◌∷◌, ◌++◌, length, take, drop, get_or, length-take, take-append-drop, refl, sym, ap, ◌∙◌, subst, append_assoc, arith, All}
+use Rattle.std.proofs.Common.{◌≡◌, ℕ, zero, suc, ◌+◌, ◌<◌, ◌≤◌, List, [], ◌∷◌, ◌++◌, length, take, drop, get_or, take-append-drop, refl, sym, ap, ◌∙◌, subst, append_assoc, arith, All}
 use Rattle.std.proofs.lemmas.List.{append-nil, drop_more, map-append}
 use Rattle.std.proofs.lemmas.List.Elements.{All-append, All-cons, All-nil}
+use Rattle.pb_board.specs.Refusal.{BreaksAt}
+use Rattle.pb_board.proofs.Breaks.{breaks_after}
 use Rattle.pb_poly.specs.declared.entry.Entry.{Entry}
 use Rattle.pb_poly.specs.Entry.{IsEntry, entry_bytes}
 use Rattle.pb_poly.specs.Ordered.{IsOrdered, last_from, last_key}
-use Rattle.pb_poly.specs.Book.{IsFirstFall, NeverFall, NeverFallsFrom, book_bytes, keys_of}
+use Rattle.pb_poly.specs.Book.{NeverFall, NeverFallsFrom, book_bytes, keys_of}
 
 never_falls-push : (floor : ℕ) (ns : List ℕ) (n : ℕ) → NeverFallsFrom floor ns → last_from floor ns ≤ n → NeverFallsFrom floor (ns ++ n ∷ [])
 never_falls-push floor [] n h l = (l, tt)
@@ -61,16 +63,9 @@ IsOrdered-push entries more entry last key h is one key_is l =
     subst (λ (es : List Entry). IsOrdered es key) (sym is) pushed
 
 -- an entry whose key is below the last one is the first that falls
-pub first_fall_at : (entries : List Entry) (i last key : ℕ) (d : Entry) → IsOrdered (take i entries) last → i < length entries → key ≡ (get_or entries i d).key → key < last → IsFirstFall entries (i + 1)
-first_fall_at entries i last key d h within key_is low = record {
-  before = take i entries;
-  entry = get_or entries i d;
-  after = drop (i + 1) entries;
-  cut = sym (take-append-drop i entries) ∙ ap (λ es. take i entries ++ es) (drop_more entries i d within);
-  ordered = h.ordered;
-  falls = falls (take i entries) (get_or entries i d) last h.last_is (omega (arith, key_is));
-  number_is = omega (arith, length-take i entries);
-}
+pub first_fall_at : (entries : List Entry) (i last key : ℕ) (d : Entry) → IsOrdered (take i entries) last → i < length entries → key ≡ (get_or entries i d).key → key < last → BreaksAt NeverFall entries (i + 1)
+first_fall_at entries i last key d h within key_is low =
+    breaks_after NeverFall entries i d within h.ordered (falls (take i entries) (get_or entries i d) last h.last_is (omega (arith, key_is)))
 
 -- a front of an entry's bytes is, after those of the entries before it, a front of the book's
 pub front_of_book : (entries : List Entry) (i : ℕ) (d : Entry) (count : ℕ) → i < length entries → (n : ℕ) × (take n (book_bytes entries) ≡ book_bytes (take i entries) ++ take count (entry_bytes (get_or entries i d)))

@@ -4,6 +4,8 @@ use Rattle.std.specs.Int.{w16, w32, w64, from_be_bytes, to_be_bytes}
 use Rattle.std.proofs.lemmas.List.{append-nil, map-append}
 use Rattle.std.proofs.lemmas.List.Elements.{All-head, All-tail}
 use Rattle.std.proofs.lemmas.Nat.{from_be_bytes-to_be_bytes_2, from_be_bytes-to_be_bytes_4, from_be_bytes-to_be_bytes_8}
+use Rattle.pb_board.specs.Refusal.{BreaksAt}
+use Rattle.pb_board.proofs.Breaks.{unbroken}
 use Rattle.pb_poly.specs.declared.entry.Entry.{Entry}
 use Rattle.pb_poly.specs.Entry.{IsEntry, entry_bytes}
 use Rattle.pb_poly.specs.Book.{BookIsOne, BytesAreOne, NeverFall, NeverFallsFrom, book_bytes, keys_of}
@@ -69,3 +71,7 @@ front_never_falls floor (n ∷ front) back h = (h.0, front_never_falls n front b
 pub NeverFall-front : (front back : List Entry) → NeverFall (front ++ back) → NeverFall front
 NeverFall-front front back h =
     front_never_falls 0 (keys_of front) (keys_of back) (subst (λ (ns : List ℕ). NeverFallsFrom 0 ns) (map-append (λ (e : Entry). e.key) front back) h)
+
+-- where the keys never fall, none is the first that does
+pub none_falls : (entries : List Entry) (number : ℕ) → NeverFall entries → ¬ BreaksAt NeverFall entries number
+none_falls = unbroken NeverFall NeverFall-front

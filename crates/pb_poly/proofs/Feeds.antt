@@ -1,6 +1,7 @@
 -- Entries out of bytes that come in pieces.
 use Rattle.std.proofs.Common.{Ok, take-append-drop, ◌≡◌, ℕ, ◌-◌, ◌<◌, ◌≤◌, List, [], ◌∷◌, ◌++◌, length, take, drop, refl, sym, ap, inr, ◌∙◌, subst, append_assoc, arith}
 use Rattle.std.proofs.lemmas.List.{append-nil, nil_from_length, take_rest}
+use Rattle.pb_board.proofs.Breaks.{breaks_from}
 use Rattle.pb_io.specs.Source.{Fill, SourceState}
 use Rattle.pb_io.specs.Reads.{ReadsFront, ReadsOn, ReadsSome, chunk_len}
 use Rattle.pb_io.proofs.ReadsLemmas.{ReadsSome-more}
@@ -114,7 +115,7 @@ module _ {F : Type 0} (n fills : ℕ) (old mid new : SourceState) (came slice : 
   finds_no_book (Unsorted k) f = record {
     came = came ++ f.2.front;
     reads = reads_front f.0 f.1 f.2;
-    due = (f.0 ++ f.1 ∷ [], f.2.bytes, record { before = f.0; entry = f.1; after = []; cut = refl; ordered = f.2.ordered; falls = f.3.0; number_is = f.3.1 });
+    due = (f.0 ++ f.1 ∷ [], f.2.bytes, breaks_from NeverFall (f.0 ++ f.1 ∷ []) f.0 f.1 [] k refl f.3.1 f.2.ordered f.3.0);
   }
   finds_no_book Memory f = inr (record {
     came = came ++ f.2.front;

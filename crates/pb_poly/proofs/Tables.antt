@@ -4,13 +4,14 @@ use Rattle.std.specs.List.{AllZip}
 use Rattle.std.proofs.lemmas.List.Splits.{slice_split_none, slice_split_at}
 use Rattle.std.proofs.lemmas.List.{append-nil}
 use Rattle.std.proofs.lemmas.List.Elements.{All-append, All-cons, All-head, All-nil, All-tail}
-use Rattle.std.specs.Prelude.{IsSome, MatchOption, Option, Some, None, is_none, false}
+use Rattle.std.specs.Prelude.{IsSome, MatchOption, Option, Some, None, is_none, false, true}
 use Rattle.pb_board.specs.LineEnd.{without_return}
+use Rattle.pb_board.proofs.Breaks.{all_unbroken}
 use Rattle.pb_io.specs.Lines.{is_line_feed, pieces, lines}
 use Rattle.pb_io.proofs.LineLemmas.{IsLineFeedAt, IsQuiet, length-lines, pieces-nonempty}
 use Rattle.pb_poly.specs.declared.table.TableError.{TableError}
 use Rattle.pb_poly.specs.declared.table.TableError.TheVariants.{Line, Count, Memory}
-use Rattle.pb_poly.specs.Table.{IsDueTable, IsFirstUnspelled, IsWordLine, IsTable, SpellsWord, TableText, WritesWord}
+use Rattle.pb_poly.specs.Table.{IsDueTable, IsWordLine, IsTable, SpellsWord, TableText, WritesWord}
 use Rattle.pb_poly.proofs.Digits.{word_is_one, word_small}
 
 -- an LF ends the first line
@@ -93,17 +94,6 @@ table_of_spelled bytes count all =
     let found = words_of_spelled (lines bytes) all in
     (found.0, record { all = sym (length_zip (lines bytes) found.0 found.1) ∙ count; each = found.1 })
 
-pub spelled_at : (before : List (List ℕ)) (line : List ℕ) (after : List (List ℕ)) → All IsWordLine (before ++ line ∷ after) → IsWordLine line
-spelled_at [] line after all = All-head IsWordLine line after all
-spelled_at (b ∷ before) line after all = spelled_at before line after (All-tail IsWordLine b (before ++ line ∷ after) all)
-
--- no line of a table spells no word
-pub no_first_unspelled : (words : List ℕ) (bytes : List ℕ) (number : ℕ) → TableText words bytes → ¬ IsFirstUnspelled number bytes
-no_first_unspelled words bytes number text h =
-    let all = all_spelled (lines bytes) words text.each in
-    let here : All IsWordLine (h.before ++ h.line ∷ h.after) = rw h.cut at all in
-    h.unspelled (spelled_at h.before h.line h.after here)
-
 -- what judging a line found
 abbrev pub Judged : Option ℕ → List ℕ → Type 0
 Judged o line = MatchOption o (¬ IsWordLine line) (SpellsWord line)
@@ -111,6 +101,10 @@ Judged o line = MatchOption o (¬ IsWordLine line) (SpellsWord line)
 pub spelled_found : (o : Option ℕ) (line : List ℕ) → Judged o line → is_none o ≡ false → IsWordLine line
 spelled_found None line h some = absurd (cc)
 spelled_found (Some w) line h some = (w, h)
+
+pub unspelled_found : (o : Option ℕ) (line : List ℕ) → Judged o line → is_none o ≡ true → ¬ IsWordLine line
+unspelled_found None line h none = h
+unspelled_found (Some w) line h none = absurd (cc)
 
 pub word_found : (o : Option ℕ) (line : List ℕ) → Judged o line → IsWordLine line → IsSome o
 word_found None line h spelled = absurd (h spelled)
@@ -121,7 +115,7 @@ word_judged o line word h is = let P : Option ℕ → Type 0 = λ x. Judged x li
 
 -- for the bytes of a table nothing but Memory is due
 pub only_memory : (words : List ℕ) (bytes : List ℕ) (e : TableError) → TableText words bytes → IsDueTable e bytes → e ≡ Memory
-only_memory words bytes (Line number) text due = absurd (no_first_unspelled words bytes number text due)
+only_memory words bytes (Line number) text due = absurd (all_unbroken IsWordLine (lines bytes) number (all_spelled (lines bytes) words text.each) due)
 only_memory words bytes (Count number) text due = absurd (due.1 (due.0 ∙ length_zip (lines bytes) words text.each ∙ text.all))
 only_memory words bytes Memory text due = refl
 

@@ -1,5 +1,5 @@
 -- What is read from a source that tells the bytes of a book.
-use Rattle.std.proofs.Common.{◌≡◌, ℕ, ◌*◌, ◌+◌, List, [], ◌∷◌, ◌++◌, length, length-append, Option, Some, None, Result, Ok, Err, refl, sym, ap, ◌∙◌, subst, append_assoc, arith}
+use Rattle.std.proofs.Common.{◌≡◌, ℕ, ◌*◌, ◌+◌, List, [], ◌++◌, length, length-append, Option, Some, None, Result, Ok, Err, refl, sym, ap, ◌∙◌, subst, append_assoc, arith}
 use Rattle.std.specs.Prelude.{IfErr, IfOk, MatchResult}
 use Rattle.std.specs.Io.KnownBytes.{Consumes, IsAtEnd}
 use Rattle.std.proofs.lemmas.List.{append-nil}
@@ -9,7 +9,7 @@ use Rattle.pb_poly.specs.declared.reading.BookError.{BookError}
 use Rattle.pb_poly.specs.declared.reading.BookError.TheVariants.{Unsorted, Cut, Read, Endless, Memory}
 use Rattle.pb_poly.specs.Book.{BookBytes, NeverFall, book_bytes}
 use Rattle.pb_poly.specs.Reading.{FindsNoBook, ReadsBook, Tells}
-use Rattle.pb_poly.proofs.EntryBytes.{NeverFall-front, begins, book_is_one, length-book_bytes}
+use Rattle.pb_poly.proofs.EntryBytes.{NeverFall-front, none_falls, begins, book_is_one, length-book_bytes}
 
 -- what came is a front of what was told
 pub consumed : (old new : Option (List ℕ)) (bytes came : List ℕ) → old ≡ Some bytes → Consumes old new came → (rest : List ℕ) × (new ≡ Some rest) × (bytes ≡ came ++ rest)
@@ -35,13 +35,11 @@ module _ (fills : ℕ) (old new : SourceState) (entries : List Entry) (bytes : L
   refused : (e : BookError) → FindsNoBook fills old new e → e ≡ Memory
   refused (Unsorted number) h =
       let c = consumed old.to_come new.to_come bytes (h.came ++ h.reads.0) tells.told h.reads.1.reads.bytes in
-      let fall = h.due.2 in
       let is : book_bytes entries ≡ book_bytes h.due.0 ++ (h.reads.0 ++ c.0) =
       sym are.are ∙ c.2 ∙ append_assoc h.came h.reads.0 c.0 ∙ ap (λ xs. xs ++ (h.reads.0 ++ c.0)) h.due.1.are in
       let cut = begins entries h.due.0 (h.reads.0 ++ c.0) are.bounds h.due.1.bounds is in
       let front : NeverFall h.due.0 = NeverFall-front h.due.0 cut.0 (subst (λ (es : List Entry). NeverFall es) cut.1 ordered) in
-      let same : h.due.0 ≡ (fall.before ++ fall.entry ∷ []) ++ fall.after = fall.cut ∙ sym (append_assoc fall.before (fall.entry ∷ []) fall.after) in
-      absurd (fall.falls (NeverFall-front (fall.before ++ fall.entry ∷ []) fall.after (subst (λ (es : List Entry). NeverFall es) same front)))
+      absurd (none_falls h.due.0 number front h.due.2)
   refused (Cut extra) h =
       let all : bytes ≡ h.came = all_came old.to_come new.to_come bytes h.came tells.told h.reads.some.reads.bytes h.reads.ended in
       let splits = h.due.2 in

@@ -1,5 +1,5 @@
 -- Books: entries whose keys never fall, and their bytes.
-use Rattle.std.specs.Prelude.{◌≡◌, ℕ, ◌+◌, ◌≤◌, List, [], ◌∷◌, ◌++◌, All, length, map}
+use Rattle.std.specs.Prelude.{◌≡◌, ℕ, ◌≤◌, List, [], ◌∷◌, All, map}
 use Rattle.std.specs.List.{flat_map}
 use Rattle.pb_poly.specs.declared.entry.Entry.{Entry}
 use Rattle.pb_poly.specs.Entry.{IsEntry, entry_bytes}
@@ -24,16 +24,6 @@ book_bytes entries = flat_map entry_bytes entries
 pub record BookBytes (entries : List Entry) (bytes : List ℕ) : Type 0 where
   pub bounds : All IsEntry entries
   pub are : bytes ≡ book_bytes entries
-
--- the entry of this number, from 1, is the first whose key is below the key before it
-pub record IsFirstFall (entries : List Entry) (number : ℕ) : Type 0 where
-  pub before : List Entry
-  pub entry : Entry
-  pub after : List Entry
-  pub cut : entries ≡ before ++ entry ∷ after
-  pub ordered : NeverFall before
-  pub falls : ¬ NeverFall (before ++ entry ∷ [])
-  pub number_is : number ≡ length before + 1
 
 -- ---- laws
 

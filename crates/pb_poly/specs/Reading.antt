@@ -1,12 +1,13 @@
 -- What reading a book gives.
 use Rattle.std.specs.Prelude.{◌≡◌, ℕ, ◌<◌, ◌⊎◌, List, [], ◌∷◌, ◌++◌, All, length, Some, false}
+use Rattle.pb_board.specs.Refusal.{BreaksAt}
 use Rattle.pb_io.specs.Source.{SourceState}
 use Rattle.pb_io.specs.Reads.{ReadsAll, ReadsFront, ReadsOn, ReadsToFault, chunk_len}
 use Rattle.pb_poly.specs.declared.entry.Entry.{Entry}
 use Rattle.pb_poly.specs.declared.reading.BookError.{BookError}
 use Rattle.pb_poly.specs.declared.reading.BookError.TheVariants.{Unsorted, Cut, Read, Endless, Memory}
 use Rattle.pb_poly.specs.Entry.{IsEntry}
-use Rattle.pb_poly.specs.Book.{BookBytes, IsFirstFall, NeverFall, book_bytes}
+use Rattle.pb_poly.specs.Book.{BookBytes, NeverFall, book_bytes}
 
 -- the bytes are those of these entries, whose keys never fall, and less than a whole entry
 pub record Splits (came : List ℕ) (entries : List Entry) (part : List ℕ) : Type 0 where
@@ -32,7 +33,7 @@ BookRead Memory = ReadsFront
 
 -- what is so of the bytes that came: the key of an entry falls, less than an entry is left, or an entry came for which memory was wanting
 abbrev pub BookDue : BookError → List ℕ → Type 0
-BookDue (Unsorted number) came = (entries : List Entry) × BookBytes entries came × IsFirstFall entries number
+BookDue (Unsorted number) came = (entries : List Entry) × BookBytes entries came × BreaksAt NeverFall entries number
 BookDue (Cut extra) came = (entries : List Entry) × (part : List ℕ) × Splits came entries part × (0 < extra) × (extra ≡ length part)
 BookDue Memory came = (before : List Entry) × (entry : Entry) × BookBytes (before ++ entry ∷ []) came × NeverFall before
 BookDue fault came = (entries : List Entry) × (part : List ℕ) × Splits came entries part

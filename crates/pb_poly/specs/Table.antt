@@ -1,7 +1,8 @@
 -- Table files: 781 lines of 16 hexadecimal digits, one for each word of the table.
-use Rattle.std.specs.Prelude.{◌≡◌, ◌≢◌, ℕ, ◌+◌, ◌*◌, ◌^◌, ◌<◌, ◌≤◌, ◌⊎◌, List, ◌∷◌, ◌++◌, length, fold, All}
+use Rattle.std.specs.Prelude.{◌≡◌, ◌≢◌, ℕ, ◌+◌, ◌*◌, ◌^◌, ◌<◌, ◌≤◌, ◌⊎◌, List, length, fold, All}
 use Rattle.std.specs.List.{AllZip}
 use Rattle.pb_board.specs.LineEnd.{without_return}
+use Rattle.pb_board.specs.Refusal.{BreaksAt}
 use Rattle.pb_io.specs.Lines.{lines}
 use Rattle.pb_poly.specs.declared.table.TableError.{TableError}
 use Rattle.pb_poly.specs.declared.table.TableError.TheVariants.{Line, Count, Memory}
@@ -48,18 +49,8 @@ pub record IsTableFile (words bytes : List ℕ) : Type 0 where
   pub few : length bytes ≤ table_limit
   pub text : TableText words bytes
 
--- the line of this number, from 1, spells no word, and each line before it does
-pub record IsFirstUnspelled (number : ℕ) (bytes : List ℕ) : Type 0 where
-  pub before : List (List ℕ)
-  pub line : List ℕ
-  pub after : List (List ℕ)
-  pub cut : lines bytes ≡ before ++ line ∷ after
-  pub number_is : number ≡ length before + 1
-  pub spelled : All IsWordLine before
-  pub unspelled : ¬ IsWordLine line
-
 -- when each refusal is due
 abbrev pub IsDueTable : TableError → List ℕ → Type 0
-IsDueTable (Line number) bytes = IsFirstUnspelled number bytes
+IsDueTable (Line number) bytes = BreaksAt (All IsWordLine) (lines bytes) number
 IsDueTable (Count number) bytes = (number ≡ length (lines bytes)) × (number ≢ 781) × All IsWordLine (lines bytes)
 IsDueTable Memory bytes = (words : List ℕ) × TableText words bytes

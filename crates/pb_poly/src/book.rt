@@ -1,8 +1,9 @@
 //! Books: entries in the order of their keys.
 
 ghost use Rattle.std.specs.Prelude.{◌≡◌, ◌==◌, All, MatchOption, length, take_while};
+ghost use Rattle.pb_board.specs.Refusal.{BreaksAt};
 ghost use Rattle.pb_io.specs.Writes.{Writes};
-ghost use Rattle.pb_poly.specs.Book.{IsFirstFall, NeverFall, book_bytes};
+ghost use Rattle.pb_poly.specs.Book.{NeverFall, book_bytes};
 ghost use Rattle.pb_poly.specs.Entry.{IsEntry};
 
 use crate::entry::{Entry, write_entry};
@@ -39,7 +40,7 @@ impl Book {
     pub fn of(entries: Vec<Entry>) -> Result<Book, (usize, Vec<Entry>)>
         ensures { MatchResult result
             (λ b. (b ≡ entries.items) × NeverFall b × All IsEntry b)
-            (λ p. (p.1.items ≡ entries.items) × IsFirstFall entries.items p.0) }
+            (λ p. (p.1.items ≡ entries.items) × BreaksAt NeverFall entries.items p.0) }
     {
         match first_fall(entries.as_slice()) {
             Some(number) => Err((number, entries)),
@@ -85,7 +86,7 @@ fn count_under(entries: &[Entry], key: u64) -> usize
 
 /// The number, from 1, of the first entry whose key is below the key before it.
 fn first_fall(entries: &[Entry]) -> Option<usize>
-    ensures { MatchOption result (NeverFall entries.now × All IsEntry entries.now) (IsFirstFall entries.now) }
+    ensures { MatchOption result (NeverFall entries.now × All IsEntry entries.now) (BreaksAt NeverFall entries.now) }
 {
     let mut last = 0;
     for (before, entry) in entries.iter().enumerate() {

@@ -1,7 +1,9 @@
-use Rattle.std.proofs.Common.{◌∙◌, ◌+◌, [], ◌∷◌, ◌++◌, ap, append-nil, append_assoc, refl, sym}
+use Rattle.std.proofs.Common.{◌∙◌, ◌+◌, [], ◌∷◌, ◌++◌, ap, append-nil, append_assoc, arith, refl, sym}
 use Rattle.std.proofs.lemmas.List.{length_push}
 use Rattle.std.proofs.lemmas.List.Elements.{All-push, All-same}
+use Rattle.pb_board.proofs.Breaks.{all_breaks}
 use Rattle.pb_moves.specs.Played.{IsSpelled}
+use Rattle.pb_commands.specs.Line.{texts}
 use Rattle.pb_commands.proofs.Moves.{texts_from, texts_past}
 use Rattle.pb_commands.proofs.fen.misspelt.Goals as goal
 
@@ -20,3 +22,11 @@ returns c =
     let so_far = c.loop-index.invariant in
     let past = texts_past c.args.words.now c.loop-index.index c.loop-index-test.false in
     All-same IsSpelled _ so_far.done (sym so_far.cut ∙ ap (λ ws. so_far.done ++ ws) past ∙ append-nil so_far.done) so_far.spelt
+
+pub returns-then-not-spells_move : goal.returns-then-not-spells_move
+returns-then-not-spells_move c =
+    let so_far = c.loop-index.invariant in
+    let rest_is = texts_from c.args.words.now c.loop-index.index _ c.loop-index-test.true in
+    all_breaks IsSpelled (texts c.args.words.now) so_far.done _ _ (c.loop-index.index + 1)
+    (sym so_far.cut ∙ ap (λ ws. so_far.done ++ ws) rest_is) (omega (arith, so_far.count)) so_far.spelt
+    (λ spelt. absurd (let taken = c.if-not-spells_move.ensures.1 spelt in cc))

@@ -1,9 +1,10 @@
-use Rattle.std.proofs.Common.{◌≡◌, refl, subst, ◌+◌, ◌++◌, ◌∷◌, [], length, length-append, append-nil, append_assoc, sym, ap, ◌∙◌, arith, rules}
+use Rattle.std.proofs.Common.{◌≡◌, refl, subst, ◌+◌, ◌++◌, ◌∷◌, [], length, length-append, append-nil, append_assoc, sym, ap, ◌∙◌, arith}
 use Rattle.std.proofs.lemmas.List.{length_push}
 use Rattle.std.proofs.lemmas.List.Elements.{All-push, All-same}
-use Rattle.pb_moves.specs.Played.{IsSpelled}
+use Rattle.pb_board.specs.Refusal.{BreaksAt}
+use Rattle.pb_board.proofs.Breaks.{all_breaks}
+use Rattle.pb_moves.specs.Played.{AreLegal, IsSpelled}
 use Rattle.pb_games.specs.Words.{words_of, moves_named}
-use Rattle.pb_games.specs.Refusing.{IsFirstIllegal}
 use Rattle.pb_games.proofs.Played.{Leads, leads_same, leads_more, leads_bad, legal_all, told_all, is_none, none_not_some, same_some, not_none}
 use Rattle.pb_games.proofs.WordLemmas.{few_words, named_spelt}
 use Rattle.pb_games.proofs.check.read_moves.Goals as goal
@@ -46,7 +47,7 @@ loop-word-preserved-then-not-play g c =
       spelt = All-push IsSpelled so_far.done word so_far.spelt (m, record { is_move = c.in-Some-read_move.ensures.0; is = c.in-Some-read_move.ensures.1 });
       fixed = c.if-not-play.ensures.fixed ∙ so_far.fixed;
       legal = λ none few. absurd (none_not_some (c.loop-word.count + 1) none);
-      bad = λ n some. subst (IsFirstIllegal c.args.start (moves_named c.args.field.now)) (same_some (c.loop-word.count + 1) n some)
+      bad = λ n some. subst (BreaksAt (AreLegal c.args.start) (moves_named c.args.field.now)) (same_some (c.loop-word.count + 1) n some)
           (leads_bad (g.P.Player.holds c.loop-word.player c.args.outcome) (g.P.Player.holds c.loop-word.player c.args.outcome) c.args.start c.loop-word.setup c.loop-word.setup _ m word _ c.next.new.self c.loop-word.count led c.in-Some.ensures.steps named (λ legal. absurd (let never = c.if-not-play.ensures.legal.1 legal in cc)));
     }
 
@@ -113,4 +114,8 @@ returns-in-None-illegal-clause-told g c =
     (c.loop-word.setup, told_all (g.P.Player.holds c.loop-word.player c.args.outcome) c.args.start c.loop-word.setup (moves_named c.args.field.now) _ c.loop-word.count led c.in-None.ensures.steps.0)
 
 pub returns-in_default-clause-read : goal.returns-in_default-clause-read
-returns-in_default-clause-read g c = search rules
+returns-in_default-clause-read g c =
+    let so_far = c.loop-word.invariant in
+    all_breaks IsSpelled (words_of c.args.field.now) so_far.done c.in-Some.word.now c.next.new.self (c.loop-word.count + 1)
+    (so_far.cut ∙ ap (λ ws. so_far.done ++ ws) c.in-Some.ensures.steps) (omega (arith, so_far.number)) so_far.spelt
+    (λ spelt. c.in_default.ensures spelt.0 spelt.1.is_move spelt.1.is)

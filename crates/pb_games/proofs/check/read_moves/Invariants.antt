@@ -1,6 +1,6 @@
 use Rattle.std.proofs.Common.{◌≡◌, ℕ, Some, None, ◌≤◌, List, All, ◌++◌, length}
-use Rattle.pb_moves.specs.Played.{IsSpelled}
-use Rattle.pb_games.specs.Refusing.{IsFirstIllegal}
+use Rattle.pb_board.specs.Refusal.{BreaksAt}
+use Rattle.pb_moves.specs.Played.{AreLegal, IsSpelled}
 use Rattle.pb_games.specs.Words.{words_of, moves_named}
 use Rattle.pb_games.proofs.Played.{Leads}
 use Rattle.pb_games.proofs.check.read_moves.Given as goal
@@ -14,5 +14,5 @@ invariant-loop-word g l = record {
   spelt : All IsSpelled done;
   fixed : g.P.Player.fixed l.player ≡ g.P.Player.fixed l.fn.player;
   legal : l.illegal ≡ None → l.count ≤ 1024 → Leads (g.P.Player.holds l.player l.fn.outcome) l.fn.start (moves_named l.field) l.setup l.word-iterator l.count;
-  bad : (n : ℕ) → l.illegal ≡ Some n → IsFirstIllegal l.fn.start (moves_named l.field) n;
+  bad : (n : ℕ) → l.illegal ≡ Some n → BreaksAt (AreLegal l.fn.start) (moves_named l.field) n;
 }

@@ -2,7 +2,8 @@ use Rattle.std.proofs.Common.{rules, ◌≡◌, sym, subst}
 use Rattle.std.specs.Slice.Iter.{chunk_by_rest}
 use Rattle.std.proofs.lemmas.List.Sorted.{answers_always}
 use Rattle.pb_points.specs.Rows.{IsBookOfRows}
-use Rattle.pb_points.proofs.Groups.{IsCut, ok_unless, cut_group, keys_equal, none_falls, so_far_all, so_far_more, so_far_rise}
+use Rattle.pb_poly.proofs.EntryBytes.{none_falls}
+use Rattle.pb_points.proofs.Groups.{IsCut, NeverFall-ordered, ok_unless, cut_group, keys_equal, so_far_all, so_far_more, so_far_rise}
 use Rattle.pb_points.proofs.book.book_of.Goals as goal
 
 pub push_group-requires : goal.push_group-requires
@@ -25,7 +26,7 @@ pub unwrap-requires : goal.unwrap-requires
 unwrap-requires c =
     let entries = c.loop-group.entries.items in
     let book = so_far_all c.args.rows.now (chunk_by_rest c.loop-group.group-iterator) entries c.in-None.ensures.steps.0 c.loop-group.invariant in
-    ok_unless _ _ c.of.result c.of.ensures (λ p f. none_falls entries p.0 book.ordered f.1)
+    ok_unless _ _ c.of.result c.of.ensures (λ p f. none_falls entries p.0 (NeverFall-ordered entries book.ordered) f.1)
 
 pub returns : goal.returns
 returns c =

@@ -3,7 +3,8 @@ use Rattle.pb_poly.specs.declared.entry.Entry.{Entry}
 use Rattle.pb_points.specs.declared.row.Row.{Row}
 use Rattle.pb_points.specs.Rows.{IsBookOfRows, frequent}
 use Rattle.pb_points.specs.Weight.{Before}
-use Rattle.pb_points.proofs.Groups.{none_falls, ok_unless}
+use Rattle.pb_poly.proofs.EntryBytes.{none_falls}
+use Rattle.pb_points.proofs.Groups.{NeverFall-ordered, ok_unless}
 use Rattle.pb_accepted.specs.Basis.{Basis}
 use Rattle.pb_accepted.specs.Counting.{IsBook}
 use Rattle.pb_accepted.proofs.Books.{IsBook-rows}
@@ -16,7 +17,7 @@ unwrap-requires g c =
     let entries = c.add_book.new.entries.items in
     let are : entries ≡ adds.book = adds.added ∙ ap (λ l. l ++ adds.book) c.new-entries.ensures.items in
     let ordered : AllPairs Before entries = subst (AllPairs Before) (sym are) adds.is.ordered in
-    ok_unless _ _ c.of.result c.of.ensures (λ p f. none_falls entries p.0 ordered f.1)
+    ok_unless _ _ c.of.result c.of.ensures (λ p f. none_falls entries p.0 (NeverFall-ordered entries ordered) f.1)
 
 pub returns : goal.returns
 returns g c =

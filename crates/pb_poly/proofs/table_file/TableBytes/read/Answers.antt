@@ -12,3 +12,13 @@ returns-in-Err-Count-clause-err g c = record {
     subst (λ (xs : List ℕ). IsDueTable (poly.Count c.in-Err-Count.count) xs) c.as_bytes.ensures.value (rw c.in-Err-Count.field-0-is at c.in-Err-Count.ensures.refused),
   );
 }
+
+pub returns-in-Err-Line-clause-err : goal.returns-in-Err-Line-clause-err
+returns-in-Err-Line-clause-err g c = record {
+  came = _;
+  reads = c.in_ok-drain.ensures.all;
+  due = (
+    c.as_bytes.ensures.few,
+    subst (λ (xs : List ℕ). IsDueTable (poly.Line c.in-Err-Line.number) xs) c.as_bytes.ensures.value (rw c.in-Err-Line.field-0-is at c.in-Err-Line.ensures.refused),
+  );
+}
