@@ -21,7 +21,7 @@ use Rattle.pb_accepted.specs.Ledger.{LedgerState}
 use Rattle.pb_accepted.specs.Replies.{replies}
 use Rattle.pb_accepted.specs.Rules.{CountingRules}
 use Rattle.pb_accepted.proofs.Runs.{Accepted-append, Run-append}
-use Rattle.pb_saved.specs.Loading.{BreaksAt, Loads}
+use Rattle.pb_saved.specs.Loading.{EndsAtLine, Loads}
 use Rattle.pb_saved.specs.declared.loading.LoadError.{LoadError}
 use Rattle.pb_saved.specs.declared.loading.LoadError.TheVariants as load
 use Rattle.pb_saved.proofs.Continued.{continued, loaded_back}
@@ -70,7 +70,7 @@ effect_of_both rules file saved bytes sink sink' left entries ordered bounds h K
 
 module _ (fills : ℕ) (v v' : SourceState) (saved : List ℕ) (told : v.to_come ≡ Some saved) where
   ledger_line : (number : ℕ) (held : List Submission) (out : List ℕ) → saved_verdict (load.Line number) ≡ Ok (false, out)
-      → AtLine fills v v' (BreaksAt most_games number held) → LedgerRefused out saved
+      → AtLine fills v v' (EndsAtLine most_games number held) → LedgerRefused out saved
   ledger_line number held out is (inl h) =
       let came = came_first chunk_len fills v v' saved told (h.came ++ h.reads.0) h.reads.1.reads in
       let begins = lines-begin h.came (h.reads.0 ++ came.0) in record {

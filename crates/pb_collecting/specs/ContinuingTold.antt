@@ -14,7 +14,7 @@ use Rattle.pb_accepted.specs.Holding.{most_games}
 use Rattle.pb_accepted.specs.Ledger.{LedgerState}
 use Rattle.pb_accepted.specs.Replies.{replies}
 use Rattle.pb_accepted.specs.Rules.{CountingRules}
-use Rattle.pb_saved.specs.Loading.{BreaksAt, Loads}
+use Rattle.pb_saved.specs.Loading.{EndsAtLine, Loads}
 use Rattle.pb_saved.specs.declared.loading.LoadError.TheVariants.{Line}
 use Rattle.pb_commands.specs.TableJudged.{TableRefused}
 use Rattle.pb_collecting.specs.Continuing.{saved_verdict}
@@ -59,7 +59,7 @@ pub record LedgerRefused (out saved : List ℕ) : Type 0 where
   pub front : List (List ℕ)
   pub later : List (List ℕ)
   pub are : lines saved ≡ front ++ later
-  pub breaks : BreaksAt most_games number held front
+  pub breaks : EndsAtLine most_games number held front
   pub is : saved_verdict (Line number) ≡ Ok (false, out)
 
 -- the line says why the table file is refused, or, of a table file that isn't, why the saved ledger is, where that is told

@@ -29,7 +29,7 @@ use Rattle.pb_saved.specs.declared.loading.LoadError.TheVariants as error
 use Rattle.pb_saved.specs.Lending.{KeepsLedger}
 use Rattle.pb_saved.specs.Loader.{Judged, Submits, TakesLine, header, load_error, error_at, one_more, submission}
 use Rattle.pb_saved.specs.Saving as saving
-use Rattle.pb_saved.specs.Loading.{BreaksAt, Loads, LoadsAll, LoadsButOne, LoadsUntil, WantsMemory, has_header, is_header, submission_lines}
+use Rattle.pb_saved.specs.Loading.{EndsAtLine, Loads, LoadsAll, LoadsButOne, LoadsUntil, WantsMemory, has_header, is_header, submission_lines}
 
 -- ---- one line
 
@@ -194,7 +194,7 @@ module _ {T : Type 0} where
   module _ (s t : Loader T) (ls : List (List ℕ)) (fresh : IsFresh s) (few : length ls < 2 ^ 64) where
     abbrev pub Stopped : LoadError → Type 0
     Stopped error.Memory = WantsMemory s.ledger.now.cap t.ledger.now.accepted ls
-    Stopped (error.Line n) = BreaksAt s.ledger.now.cap n t.ledger.now.accepted ls
+    Stopped (error.Line n) = EndsAtLine s.ledger.now.cap n t.ledger.now.accepted ls
     Stopped error.Read = ⊥
     Stopped error.Endless = ⊥
 

@@ -22,7 +22,7 @@ use Rattle.pb_accepted.specs.Holding.{HaveOwnIds}
 use Rattle.pb_accepted.specs.Ledger.{LedgerState}
 use Rattle.pb_accepted.proofs.Replies.{Allowed-new, Takes-new, id_of, one_reply, one_submission}
 use Rattle.pb_saved.specs.Saving.{Saved, header}
-use Rattle.pb_saved.specs.Loading.{BreaksAt, Loads, LoadsSaved, LoadsStream, LoadsUntil, is_header}
+use Rattle.pb_saved.specs.Loading.{EndsAtLine, Loads, LoadsSaved, LoadsStream, LoadsUntil, is_header}
 use Rattle.pb_saved.specs.declared.loading.LoadError.{LoadError}
 use Rattle.pb_saved.specs.declared.loading.LoadError.TheVariants.{Line, Read, Endless, Memory}
 
@@ -170,7 +170,7 @@ module _ (cap : ℕ) (A : List Submission) (bytes : List ℕ) (games : All IsSub
 
   -- ---- no line of it breaks the loading
 
-  no_break : (n : ℕ) (B : List Submission) (ls later : List (List ℕ)) → BreaksAt cap n B ls → lines bytes ≡ ls ++ later → ⊥
+  no_break : (n : ℕ) (B : List Submission) (ls later : List (List ℕ)) → EndsAtLine cap n B ls → lines bytes ≡ ls ++ later → ⊥
   no_break n B ls later h is = by h.but_one.before refl (sym (lines_of_saved A bytes games saved) ∙ is ∙ ap (λ (xs : List (List ℕ)). xs ++ later) h.but_one.are ∙ append_assoc h.but_one.before (h.but_one.line ∷ []) later)
     where
       next : (before : List (List ℕ)) → h.but_one.before ≡ header ∷ before → Cut A before h.but_one.line → ⊥
@@ -204,11 +204,11 @@ module _ (cap : ℕ) (A : List Submission) (bytes : List ℕ) (games : All IsSub
     only_memory (Line n) (inl h) =
         let told = came_first chunk_len fills source source' bytes tells.told (h.came ++ h.reads.0) h.reads.1.reads in
         let begins = lines-begin h.came (h.reads.0 ++ told.0) in
-        absurd (no_break n new.accepted (ended_lines h.came) begins.0 (subst (λ c. BreaksAt c n new.accepted (ended_lines h.came)) fits h.done)
+        absurd (no_break n new.accepted (ended_lines h.came) begins.0 (subst (λ c. EndsAtLine c n new.accepted (ended_lines h.came)) fits h.done)
         (ap lines (told.1 ∙ append_assoc h.came h.reads.0 told.0) ∙ begins.1))
     only_memory (Line n) (inr h) =
         let told = all_came chunk_len fills source source' bytes tells.told h.came h.reads in
-        absurd (no_break n new.accepted (lines h.came) [] (subst (λ c. BreaksAt c n new.accepted (lines h.came)) fits h.done) (ap lines told ∙ sym (append-nil (lines h.came))))
+        absurd (no_break n new.accepted (lines h.came) [] (subst (λ c. EndsAtLine c n new.accepted (lines h.came)) fits h.done) (ap lines told ∙ sym (append-nil (lines h.came))))
 
     loaded_whole : (n : ℕ) → LoadsStream fills source source' old new n → (n ≡ length A) × (new.accepted ≡ A)
     loaded_whole n h =

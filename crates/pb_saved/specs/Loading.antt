@@ -44,7 +44,7 @@ pub record LoadsButOne (cap : ℕ) (ls : List (List ℕ)) (B : List Submission) 
   pub no_header : before ≡ [] → is_header line ≡ false
 
 -- the last line is refused, or brings no new game after a header, and is the n-th, from 1
-pub record BreaksAt (cap n : ℕ) (B : List Submission) (ls : List (List ℕ)) : Type 0 where
+pub record EndsAtLine (cap n : ℕ) (B : List Submission) (ls : List (List ℕ)) : Type 0 where
   pub but_one : LoadsButOne cap ls B
   pub number : n ≡ length ls
   pub answer : Answer
@@ -68,7 +68,7 @@ LoadsStream fills source source' old new n = LoadsAll fills source source' old n
 
 -- how loading ends with each error
 abbrev pub LoadsUntil : ℕ → SourceState → SourceState → LedgerState → LedgerState → LoadError → Type 0
-LoadsUntil fills source source' old new (Line n) = AtLine fills source source' (BreaksAt old.cap n new.accepted)
+LoadsUntil fills source source' old new (Line n) = AtLine fills source source' (EndsAtLine old.cap n new.accepted)
 LoadsUntil fills source source' old new Read = AtFault fills source source' (λ ls. Loads old.cap ls new.accepted)
 LoadsUntil fills source source' old new Endless = AtNoEnd fills source source' (λ ls. Loads old.cap ls new.accepted)
 LoadsUntil fills source source' old new Memory = ((source' ≡ source) × (new ≡ old)) ⊎ AtLine fills source source' (WantsMemory old.cap new.accepted)
