@@ -42,11 +42,11 @@ pub(crate) fn is_passed(board: &[Option<Piece>; 64], turn: Colour, square: Squar
     ensures { IsTrue result ↔ IsPassed board.now turn square }
 {
     let square = square.index() as usize;
-    let (beyond, enemy) = match turn {
-        Colour::White => (square - 8, Colour::Black),
-        Colour::Black => (square + 8, Colour::White),
+    let beyond = match turn {
+        Colour::White => square - 8,
+        Colour::Black => square + 8,
     };
-    board[square].is_none() && is_pawn(board[beyond], enemy)
+    board[square].is_none() && is_pawn(board[beyond], turn.opponent())
 }
 
 /// Tells whether this colour's king stands there.

@@ -172,10 +172,7 @@ impl Setup {
         masks::carry(&mut next.masks, from, to, piece);
         next.board[left] = None;
         next.board[reached] = Some(piece);
-        next.turn = match next.turn {
-            Colour::White => Colour::Black,
-            Colour::Black => Colour::White,
-        };
+        next.turn = next.turn.opponent();
         next.rights = rights;
         next.ep = ep;
         next.white_king = white_king;

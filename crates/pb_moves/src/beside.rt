@@ -12,7 +12,6 @@ ghost use Rattle.pb_moves.specs.After.{PassesOver, Touches, KeepsFlag};
 ghost use Rattle.pb_moves.specs.Candidate.{HoldsOwn};
 ghost use Rattle.pb_moves.specs.Beside.{Completes};
 
-use crate::board::opponent_of;
 use crate::cases::passed;
 use crate::legal::king_after;
 use crate::moves::Move;
@@ -100,7 +99,7 @@ pub(crate) fn beside_after(setup: &Setup, m: Move, piece: Piece) -> Beside
         → Completes setup.now m b result.rights result.ep result.white_king result.black_king }
 {
     let side = setup.turn();
-    let enemy = opponent_of(side);
+    let enemy = side.opponent();
     let king = king_after(setup, m, piece);
     let enemy_king = setup.king(enemy);
     let (white_king, black_king) = by_colour(side, king, enemy_king);

@@ -1,7 +1,6 @@
 //! What stands on the squares of a board.
 
 ghost use Rattle.std.specs.Prelude.{◌≡◌, ◌<◌, ◌↔◌, IsTrue};
-ghost use Rattle.pb_board.specs.Piece.{opponent};
 ghost use Rattle.pb_board.specs.Board.{Holds, IsEmpty};
 ghost use Rattle.pb_moves.specs.Cases.{IsPrey};
 
@@ -9,17 +8,6 @@ use pb_board::{Colour, Kind, Piece, Square};
 
 /// The places of a board by square index.
 pub(crate) type Board = [Option<Piece>; 64];
-
-/// The other side.
-#[inline(always)]
-pub(crate) fn opponent_of(side: Colour) -> Colour
-    ensures { result ≡ opponent side }
-{
-    match side {
-        Colour::White => Colour::Black,
-        Colour::Black => Colour::White,
-    }
-}
 
 /// The square of an index that is known to be on the board.
 #[inline(always)]

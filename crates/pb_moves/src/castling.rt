@@ -10,7 +10,7 @@ ghost use Rattle.pb_moves.specs.Castling.{rook_goes, MayCastle};
 ghost use Rattle.pb_moves.specs.Cases.{Castles, Differs};
 ghost use Rattle.pb_moves.specs.Change.{Finds};
 
-use crate::board::{Board, holds, opponent_of};
+use crate::board::{Board, holds};
 use crate::change::Change;
 use crate::check::attacked;
 use crate::moves::Move;
@@ -31,7 +31,7 @@ fn way_is_safe(castling: Castling, setup: &Setup) -> bool
         IsTrue result ↔ (¬ IsAttacked setup.now.board enemy row.king_from × ¬ IsAttacked setup.now.board enemy row.rook_to) }
 {
     let squares = castling.squares();
-    let enemy = opponent_of(castling.colour());
+    let enemy = castling.colour().opponent();
     !attacked(setup, squares.king_from, enemy) && !attacked(setup, squares.rook_to, enemy)
 }
 

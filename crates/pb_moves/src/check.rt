@@ -4,7 +4,6 @@ ghost use Rattle.std.specs.Prelude.{◌≡◌, ◌<◌, ◌↔◌, IsTrue};
 ghost use Rattle.pb_board.specs.Piece.{opponent};
 ghost use Rattle.pb_moves.specs.Attack.{IsAttacked, InCheck, Playable};
 
-use crate::board::opponent_of;
 use crate::sight::{is_attacked, sight_of};
 use pb_board::{Colour, Setup, Square};
 
@@ -19,12 +18,12 @@ pub fn attacked(setup: &Setup, square: Square, by: Colour) -> bool
 pub fn in_check(setup: &Setup, side: Colour) -> bool
     ensures { IsTrue result ↔ InCheck setup.now.board side }
 {
-    attacked(setup, setup.king(side), opponent_of(side))
+    attacked(setup, setup.king(side), side.opponent())
 }
 
 /// Whether the side that isn't to move isn't in check: then the setup can have come about by a legal move.
 pub fn playable(setup: &Setup) -> bool
     ensures { IsTrue result ↔ Playable setup.now }
 {
-    !in_check(setup, opponent_of(setup.turn()))
+    !in_check(setup, setup.turn().opponent())
 }

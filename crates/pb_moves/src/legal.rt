@@ -14,7 +14,7 @@ ghost use Rattle.pb_moves.specs.Moved.{Moved};
 ghost use Rattle.pb_moves.specs.Sight.{Sees};
 ghost use Rattle.pb_moves.specs.Free.{IsFree};
 
-use crate::board::{is_empty, opponent_of};
+use crate::board::is_empty;
 use crate::cases::{becomes, en_passant, pawn_capture, pawn_double, pawn_step, piece_move};
 use crate::castling::castles;
 use crate::change::Change;
@@ -121,7 +121,7 @@ fn sight_after(setup: &Setup, m: Move, piece: Piece, change: &Change) -> Sight
     ensures { (b : Board) → Changes change.now m setup.now.board b → Sees b (opponent setup.now.turn) result }
 {
     let (from, to) = (m.from(), m.to());
-    let seen = sight_of(setup, opponent_of(setup.turn()));
+    let seen = sight_of(setup, setup.turn().opponent());
     match change {
         Change::Carry(_) => carried_sight(seen, from, to),
         Change::CarryPast(_, gone) => carried_sight(carried_sight(seen, from, *gone), *gone, to),
@@ -149,7 +149,7 @@ pub(crate) fn is_free(setup: &Setup, enemy: &Sight, from: Square, piece: Piece) 
     }
     let side = setup.turn();
     let seen = lifted_sight(*enemy, from);
-    !is_attacked(&seen, setup.king(side), opponent_of(side))
+    !is_attacked(&seen, setup.king(side), side.opponent())
 }
 
 /// Whether the mover's king is safe after a move that puts a piece in the place of what stood on a square.
@@ -160,7 +160,7 @@ pub(crate) fn is_safe(setup: &Setup, m: Move, piece: Piece, arriving: Piece) -> 
     ensures { IsTrue result ↔ Legal setup.now m }
 {
     let (from, to) = (m.from(), m.to());
-    let enemy = opponent_of(setup.turn());
+    let enemy = setup.turn().opponent();
     let king = king_after(setup, m, piece);
     let seen = carried_sight(sight_of(setup, enemy), from, to);
     !is_attacked(&seen, king, enemy)
@@ -175,7 +175,7 @@ pub(crate) fn is_safe_after(setup: &Setup, m: Move, piece: Piece, change: &Chang
 {
     // The reader tells that the move meets its rules.
     let _from = m.from();
-    let enemy = opponent_of(setup.turn());
+    let enemy = setup.turn().opponent();
     let king = king_after(setup, m, piece);
     let seen = sight_after(setup, m, piece, change);
     !is_attacked_out_of_line(&seen, king, enemy)

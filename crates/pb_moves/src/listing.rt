@@ -9,7 +9,7 @@ ghost use Rattle.pb_moves.specs.Free.{IsFree};
 ghost use Rattle.pb_moves.specs.Sight.{Sees};
 ghost use Rattle.pb_moves.specs.Candidate.{AreOwn, HoldsOwn, MayPromote, ListsBelow};
 
-use crate::board::{opponent_of, square_at};
+use crate::board::square_at;
 use crate::candidates::candidates;
 use crate::legal::{has_way, is_free, is_legal_for, own_piece};
 use crate::moves::Move;
@@ -48,7 +48,7 @@ pub fn legal_moves(alloc: Global, setup: &Setup) -> Result<Vec<Move>, AllocError
     let lister = Lister {
         setup,
         own: own_squares(setup),
-        enemy: sight_of(setup, opponent_of(setup.turn())),
+        enemy: sight_of(setup, setup.turn().opponent()),
     };
     let mut moves = Vec::with_capacity(alloc, USUAL_MOVES)?;
     for index in 0..64u8 {

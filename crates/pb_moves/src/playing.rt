@@ -10,7 +10,6 @@ ghost use Rattle.pb_moves.specs.Change.{LeadsTo};
 ghost use Rattle.pb_moves.specs.declared.change.Change.TheVariants.{Carry};
 
 use crate::beside::beside_after;
-use crate::board::opponent_of;
 use crate::change::Change;
 use crate::legal::{change_of, is_safe, is_safe_after, own_piece};
 use crate::moves::Move;
@@ -75,7 +74,7 @@ fn replace(setup: &mut Setup, m: Move) -> bool
         return false;
     }
     let side = setup.turn();
-    let enemy = opponent_of(side);
+    let enemy = side.opponent();
     let beside = beside_after(setup, m, piece);
     let mut board = *setup.board();
     change.apply(&mut board, m);

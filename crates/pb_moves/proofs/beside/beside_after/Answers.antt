@@ -16,8 +16,8 @@ returns-clause-completes c = λ b case.
     let ep = c.passed_by-ep.ensures b case in
     let K : Colour → Type 0 = λ side. IsOnlyKing b side c.king_after-king.result in
     let kings = c.by_colour-white_king.ensures b (subst K (sym c.turn-side.ensures.value) (c.king_after-king.ensures b case))
-    (enemy_king_stays s m p b c.turn-side.result c.opponent_of-enemy.result c.king-enemy_king.result ok own.stands own.own
-    c.turn-side.ensures.value c.opponent_of-enemy.ensures c.king-enemy_king.ensures case) in
+    (enemy_king_stays s m p b c.turn-side.result c.opponent-enemy.result c.king-enemy_king.result ok own.stands own.own
+    c.turn-side.ensures.value c.opponent-enemy.ensures c.king-enemy_king.ensures case) in
     record {
       after = record {
         moves = record { piece = p; stands = own.stands; own = own.own; by_case = case };

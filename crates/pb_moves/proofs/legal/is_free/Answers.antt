@@ -15,7 +15,7 @@ returns c = λ unseen.
     let enemy = opponent s.turn in
     let no_king : c.args.piece.kind ≢ King = search rules in
     let K : Colour → Type 0 = λ side. IsOnlyKing s.board side c.king.result in
-    let by : c.opponent_of.result ≡ enemy = c.opponent_of.ensures ∙ ap opponent c.turn-side.ensures.value in
+    let by : c.opponent.result ≡ enemy = c.opponent.ensures ∙ ap opponent c.turn-side.ensures.value in
     record {
       rules = c.turn-side.ensures.rules;
       no_king = no_king;

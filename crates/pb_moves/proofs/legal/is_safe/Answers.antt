@@ -15,9 +15,9 @@ returns c =
     let E : Colour → Type 0 = λ x. Sees s.board x seen in
     let F : ℕ → Type 0 = λ x. Follows s seen x c.to-to.result after in
     let T : ℕ → Type 0 = λ x. Follows s seen m.from x after in
-    safe_test s m c.args.piece (Carry c.args.arriving) c.turn.result c.opponent_of-enemy.result c.king_after-king.result after c.is_attacked.result
-    c.turn.ensures.rules c.from-from.ensures.rules c.requires.own c.requires.leads c.turn.ensures.value c.opponent_of-enemy.ensures c.king_after-king.ensures
+    safe_test s m c.args.piece (Carry c.args.arriving) c.turn.result c.opponent-enemy.result c.king_after-king.result after c.is_attacked.result
+    c.turn.ensures.rules c.from-from.ensures.rules c.requires.own c.requires.leads c.turn.ensures.value c.opponent-enemy.ensures c.king_after-king.ensures
     (sees_carry s m c.args.piece c.args.arriving seen after c.requires.own c.requires.leads
-    (subst E (c.opponent_of-enemy.ensures ∙ ap opponent c.turn.ensures.value) c.sight_of.ensures)
+    (subst E (c.opponent-enemy.ensures ∙ ap opponent c.turn.ensures.value) c.sight_of.ensures)
     (subst T c.to-to.ensures.value (subst F c.from-from.ensures.value (follows s seen c.from-from.result c.to-to.result after c.carried_sight-seen.ensures))))
     c.is_attacked.ensures

@@ -16,7 +16,7 @@ returns-in-Carry c = λ b changes.
     let F : ℕ → Type 0 = λ x. Follows s seen x c.to-to.result after in
     let T : ℕ → Type 0 = λ x. Follows s seen m.from x after in
     sees_carry s m c.args.piece c.in-Carry.field-0 seen after c.requires.own (rw c.in-Carry.is at c.requires.leads)
-    (subst E (c.opponent_of.ensures ∙ ap opponent c.turn.ensures.value) c.sight_of-seen.ensures)
+    (subst E (c.opponent.ensures ∙ ap opponent c.turn.ensures.value) c.sight_of-seen.ensures)
     (subst T c.to-to.ensures.value (subst F c.from-from.ensures.value (follows s seen c.from-from.result c.to-to.result after c.carried_sight.ensures)))
     b (rw c.in-Carry.is at changes)
 
@@ -33,7 +33,7 @@ returns-in-CarryPast c = λ b changes.
     let T : ℕ → Type 0 = λ x. Follows s one gone x two in
     sees_past s m c.args.piece c.in-CarryPast.field-0 gone seen one two c.turn.ensures.rules c.from-from.ensures.rules c.requires.own
     (rw c.in-CarryPast.is at c.requires.leads)
-    (subst E (c.opponent_of.ensures ∙ ap opponent c.turn.ensures.value) c.sight_of-seen.ensures)
+    (subst E (c.opponent.ensures ∙ ap opponent c.turn.ensures.value) c.sight_of-seen.ensures)
     (subst F c.from-from.ensures.value (follows s seen c.from-from.result gone one c.carried_sight-in-CarryPast.ensures))
     (subst T c.to-to.ensures.value (follows s one gone c.to-to.result two c.carried_sight-in-CarryPast-2.ensures))
     b (rw c.in-CarryPast.is at changes)
@@ -54,7 +54,7 @@ returns-in-Castle c = λ b changes.
     let U : ℕ → Type 0 = λ x. Follows s one row.rook_from x two in
     sees_castle s m c.args.piece c.in-Castle.castling seen one two c.turn.ensures.rules c.from-from.ensures.rules c.requires.own
     (rw c.in-Castle.is at c.requires.leads)
-    (subst E (c.opponent_of.ensures ∙ ap opponent c.turn.ensures.value) c.sight_of-seen.ensures)
+    (subst E (c.opponent.ensures ∙ ap opponent c.turn.ensures.value) c.sight_of-seen.ensures)
     (subst T c.to-to.ensures.value (subst F c.from-from.ensures.value (follows s seen c.from-from.result c.to-to.result one c.carried_sight-in-Castle.ensures)))
     (subst U c.squares-squares.ensures.rook_to (subst G c.squares-squares.ensures.rook_from (follows s one squares.rook_from squares.rook_to two c.carried_sight-in-Castle-2.ensures)))
     b (rw c.in-Castle.is at changes)

@@ -19,7 +19,7 @@ of_parts-next-requires c =
     let C : Board → Type 0 = λ b. Changes c.in-Some-change_of.change c.args.m b board in
     let parts = c.beside_after-beside.ensures.completes board (c.in-Some-change_of.ensures.1 board (subst C c.board.ensures.value c.apply.ensures)) in
     let Q : Colour → Type 0 = λ side. IsSetup (position_of board side beside.rights beside.ep) in
-    record { rules = subst Q (sym (c.opponent_of-enemy.ensures ∙ ap opponent c.turn-side.ensures.value)) parts.rules; white = parts.white; black = parts.black }
+    record { rules = subst Q (sym (c.opponent-enemy.ensures ∙ ap opponent c.turn-side.ensures.value)) parts.rules; white = parts.white; black = parts.black }
 
 pub returns-clause-played : goal.returns-clause-played
 returns-clause-played c = λ _.
@@ -30,7 +30,7 @@ returns-clause-played c = λ _.
     let parts = c.beside_after-beside.ensures.completes board (c.in-Some-change_of.ensures.1 board (subst C c.board.ensures.value c.apply.ensures)) in
     let A : Position → Type 0 = λ t. After s c.args.m t in
     let T : Colour → Type 0 = λ side. After s c.args.m (position_of board side beside.rights beside.ep) in
-    let same = sym (c.opponent_of-enemy.ensures ∙ ap opponent c.turn-side.ensures.value) in
+    let same = sym (c.opponent-enemy.ensures ∙ ap opponent c.turn-side.ensures.value) in
     after_one s c.args.m c.of_parts-next.result c.turn-side.ensures.rules (c.is_safe_after.ensures.0 (search rules))
     (subst A (sym c.of_parts-next.ensures) (subst T same parts.after))
 
