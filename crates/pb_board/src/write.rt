@@ -6,7 +6,7 @@ ghost use Rattle.pb_board.specs.Text.{letter as piece_letter, number_text, turn_
 ghost use Rattle.pb_board.specs.Written.{AppendsRank, AppendsPlacement, AppendsSetup};
 
 use crate::fen::{Fen, FenBytes};
-use crate::piece::{Colour, Kind, Piece};
+use crate::piece::{Colour, Piece};
 use crate::setup::{Rights, Setup};
 use crate::square::Square;
 use std::alloc::{AllocError, Global};
@@ -15,14 +15,7 @@ use std::alloc::{AllocError, Global};
 fn letter_of(piece: Piece) -> u8
     ensures { result ≡ piece_letter piece }
 {
-    let small = match piece.kind {
-        Kind::Pawn => b'p',
-        Kind::Knight => b'n',
-        Kind::Bishop => b'b',
-        Kind::Rook => b'r',
-        Kind::Queen => b'q',
-        Kind::King => b'k',
-    };
+    let small = piece.kind.letter();
     match piece.colour {
         Colour::White => small - 32,
         Colour::Black => small,

@@ -1,11 +1,9 @@
 //! The text of a move.
 
 ghost use Rattle.std.specs.Prelude.{◌≡◌, ℕ, ◌<◌, length};
-ghost use Rattle.pb_board.specs.Text.{kind_letter};
 ghost use Rattle.pb_moves.specs.Spelling.{spelling};
 
 use crate::moves::Move;
-use pb_board::Kind;
 use std::marker::Model;
 
 /// The text of a move, four or five bytes of ASCII, which takes no memory of its own.
@@ -39,20 +37,6 @@ impl MoveText {
     }
 }
 
-/// The small letter of a kind.
-fn letter_of(kind: Kind) -> u8
-    ensures { result ≡ kind_letter kind }
-{
-    match kind {
-        Kind::Pawn => b'p',
-        Kind::Knight => b'n',
-        Kind::Bishop => b'b',
-        Kind::Rook => b'r',
-        Kind::Queen => b'q',
-        Kind::King => b'k',
-    }
-}
-
 impl Move {
     /// The spelling of the move: its two squares and the small letter of a promotion, as e2e4, e1g1 or e7e8q.
     pub fn text(self) -> MoveText
@@ -68,7 +52,7 @@ impl Move {
         ];
         match self.promo() {
             Some(kind) => {
-                bytes[4] = letter_of(kind);
+                bytes[4] = kind.letter();
                 MoveText { bytes, len: 5 }
             }
             None => MoveText { bytes, len: 4 },
