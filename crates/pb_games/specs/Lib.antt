@@ -8,3 +8,4 @@ pub mod LineFields
 pub mod Laws
 pub mod Reading
 pub mod Repeat
+pub mod Starts

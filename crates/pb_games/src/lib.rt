@@ -14,6 +14,7 @@ mod player;
 mod plies;
 mod refusal;
 mod repeat;
+mod start;
 mod words;
 
 pub use check::{MAX_PLIES, check_line, judge_line};
@@ -26,3 +27,4 @@ pub use player::Player;
 pub use plies::Plies;
 pub use refusal::Refusal;
 pub use repeat::repeats;
+pub use start::Start;

@@ -1,7 +1,6 @@
 //! Whether a line repeats a game that is known to be legal.
 
 ghost use Rattle.std.specs.Prelude.{◌≡◌, ◌↔◌, IsTrue, map};
-ghost use Rattle.pb_board.specs.Fen.{FenText};
 ghost use Rattle.pb_moves.specs.Spelling.{spelling};
 ghost use Rattle.pb_games.specs.Repeat.{AreFieldsOf};
 ghost use Rattle.pb_games.specs.Submissions.{IsLawful, IsSubmission};
@@ -11,7 +10,6 @@ use crate::fields::{LineFields, cut_fields};
 use crate::game::Game;
 use crate::id::Id;
 use crate::words::Words;
-use pb_board::Fen;
 use pb_moves::Move;
 
 /// Whether the line submits this game under this id. The game is known to be legal, so its text is compared and nothing is played. It
@@ -33,15 +31,8 @@ fn are_fields_of(fields: &LineFields<'_>, id: &Id, game: &Game) -> bool
 {
     fields.id == id.as_bytes()
         && fields.outcome == game.outcome.text()
-        && is_text_of(fields.start, &game.start)
+        && game.start.is_text(fields.start)
         && spell(fields.moves, game.moves.as_slice())
-}
-
-/// Whether the text is that of the record.
-fn is_text_of(text: &[u8], fen: &Fen) -> bool
-    ensures { IsTrue result ↔ FenText fen.now text.now }
-{
-    text == fen.text().as_bytes()
 }
 
 /// Whether the words of a field are the spellings of these moves.

@@ -1,7 +1,7 @@
 use Rattle.std.proofs.Common.{rules, ◌≡◌, ◌↔◌, IsTrue, sym, subst}
 use Rattle.pb_board.specs.Fen.{FenText}
 use Rattle.pb_board.proofs.Unique.{one_text}
-use Rattle.pb_games.proofs.repeat.is_text_of.Goals as goal
+use Rattle.pb_games.proofs.start.is_text_of.Goals as goal
 
 pub returns : goal.returns
 returns c =
