@@ -1,12 +1,17 @@
--- Looking for the kings, and for pawns at the edge, square by square.
-use Rattle.std.proofs.Common.{◌≡◌, ℕ, ◌+◌, ◌-◌, ◌<◌, ◌≤◌, false, length, None, subst, inl, inr, arith, IsTrue, Option, MatchOption}
+-- Where a king stands alone, told by a number of one bit, and pawns at the edge, square by square.
+use Rattle.std.proofs.Common.{◌≡◌, ℕ, ◌+◌, ◌-◌, ◌<◌, ◌≤◌, ◌^◌, ◌↔◌, false, length, None, ap, sym, subst, ◌∙◌, inl, inr, arith, IsTrue, w64}
+use Rattle.std.proofs.Math.Pow.{pow-lt}
+use Rattle.std.specs.Int.{bit_at, trailing_zeros}
 use Rattle.std.proofs.lemmas.Bool.{cases_lt, false≢true}
 use Rattle.std.proofs.lemmas.List.{get_or_past}
+use Rattle.std.proofs.lemmas.Nat.{pow_pos}
+use Rattle.std.proofs.lemmas.Nat.Bits.{bit_at_above, bit_at-lt, bit_at-pow_other, bit_at-pow_same, bit_at-trailing_zeros, same_from_bits_below}
 use Rattle.pb_board.specs.declared.piece.Colour.{Colour}
 use Rattle.pb_board.specs.declared.piece.Piece.{Piece}
 use Rattle.pb_board.specs.Piece.{king_of, pawn_of}
 use Rattle.pb_board.specs.Board.{Board, Holds}
-use Rattle.pb_board.specs.Position.{HasNoEdgePawn}
+use Rattle.pb_board.specs.Position.{HasNoEdgePawn, HasOneKing, IsOnlyKing}
+use Rattle.pb_board.proofs.MaskBits.{same_or_not}
 
 -- what holds a piece is on the board
 pub holds_on_board : (board : Board) (q : ℕ) (piece : Piece) → Holds board q piece → q < length board
@@ -16,19 +21,42 @@ holds_on_board board q piece holds =
       | inr past ↦ absurd cc (get_or_past board q None past, holds)
     ]
 
--- among the first n squares the king stands here, and nowhere else
-pub record KingBelow (board : Board) (side : Colour) (n square : ℕ) : Type 0 where
-  pub within : square < n
-  pub here : Holds board square (king_of side)
-  pub nowhere_else : (q : ℕ) → q < n → Holds board q (king_of side) → q ≡ square
+module _ (board : Board) (side : Colour) (kings : ℕ) (told : (q : ℕ) → (bit_at kings q ≡ 1) ↔ Holds board q (king_of side)) where
+  -- a number with the one bit of a square is that of a king who stands there alone
+  pub stands_alone : (square : ℕ) → kings ≡ 2 ^ square → IsOnlyKing board side square
+  stands_alone square e = record {
+    here = (told square).0 (ap (λ n. bit_at n square) e ∙ bit_at-pow_same square);
+    nowhere_else = λ q h. elim (same_or_not q square) [
+      | inl is ↦ is
+      | inr apart ↦ absurd (omega (arith, (told q).1 h, ap (λ n. bit_at n q) e, bit_at-pow_other square q apart))
+    ];
+  }
 
--- no king of the side stands on the first n squares
-abbrev pub NoKingBelow : Board → Colour → ℕ → Type 0
-NoKingBelow board side n = (q : ℕ) → q < n → Holds board q (king_of side) → ⊥
+  -- the bit of a king who stands alone is the only one
+  alone_is_a_bit : kings < 2 ^ 64 → (square : ℕ) → IsOnlyKing board side square → (square < 64) × (kings ≡ 2 ^ square)
+  alone_is_a_bit small square only =
+      let here = (told square).1 only.here in
+      let on : square < 64 = elim (cases_lt square 64) [
+        | inl less ↦ less
+        | inr past ↦ absurd (omega (arith, here, bit_at_above kings 64 square small past))
+      ] in (
+        on,
+        same_from_bits_below 64 kings (2 ^ square) small (pow-lt on) (λ q within. elim (same_or_not q square) [
+          | inl is ↦ subst (λ k. bit_at kings k ≡ bit_at (2 ^ square) k) (sym is) (here ∙ sym (bit_at-pow_same square))
+          | inr apart ↦ elim (cases_lt (bit_at kings q) 1) [
+            | inl none ↦ omega (arith, none, bit_at-pow_other square q apart)
+            | inr one ↦ absurd (apart (only.nowhere_else q ((told q).0 (omega (arith, one, bit_at-lt kings q)))))
+          ]
+        ]),
+      )
 
--- what is found of the king among the first n squares
-abbrev pub KingFound : Board → Colour → ℕ → Option ℕ → Type 0
-KingFound board side n found = MatchOption found (NoKingBelow board side n) (KingBelow board side n)
+  -- so the lowest bit is it
+  pub one_king_bit : kings < 2 ^ 64 → HasOneKing board side → (trailing_zeros w64 kings < 64) × (kings ≡ 2 ^ trailing_zeros w64 kings)
+  one_king_bit small h =
+      let bit = alone_is_a_bit small h.0 h.1 in
+      let lowest = bit_at-trailing_zeros w64 kings (subst (λ n. 0 < n) (sym bit.1) (pow_pos h.0)) small in
+      let is : trailing_zeros w64 kings ≡ h.0 = h.1.nowhere_else (trailing_zeros w64 kings) ((told (trailing_zeros w64 kings)).0 lowest.1) in
+      (lowest.0, bit.1 ∙ ap (λ k. 2 ^ k) (sym is))
 
 -- no pawn stands on the first n files of rank 1 and of rank 8
 abbrev pub NoPawnBelow : Board → ℕ → Type 0

@@ -45,29 +45,16 @@ fn kind_number(kind: Kind) -> usize
     }
 }
 
-/// The same squares with this one, where nothing stood before.
+/// Notes what stands on the square of this index, where nothing stood before.
 #[inline(always)]
-fn placed(masks: Masks, square: Square, piece: Piece) -> Masks
-    requires { square < 64 }
-    ensures { (b : Board) → length b ≡ 64 → masks ≡ masks_of b → IsEmpty b square → result ≡ masks_of (slice_set b square (Some piece)) }
+fn set_down(masks: &mut Masks, index: u8, place: Option<Piece>)
+    requires { index < 64 }
+    ensures { (b : Board) → length b ≡ 64 → masks.old ≡ masks_of b → IsEmpty b index → masks.new ≡ masks_of (slice_set b index place) }
 {
-    let bit = 1u64 << square.index();
-    let mut sides = masks.sides;
-    let mut kinds = masks.kinds;
-    sides[colour_number(piece.colour)] |= bit;
-    kinds[kind_number(piece.kind)] |= bit;
-    Masks { sides, kinds }
-}
-
-/// The same squares with what stands on this one, where nothing stood before.
-#[inline(always)]
-fn with_place(masks: Masks, square: Square, place: Option<Piece>) -> Masks
-    requires { square < 64 }
-    ensures { (b : Board) → length b ≡ 64 → masks ≡ masks_of b → IsEmpty b square → result ≡ masks_of (slice_set b square place) }
-{
-    match place {
-        Some(piece) => placed(masks, square, piece),
-        None => masks,
+    if let Some(piece) = place {
+        let bit = 1u64 << index;
+        masks.sides[colour_number(piece.colour)] |= bit;
+        masks.kinds[kind_number(piece.kind)] |= bit;
     }
 }
 
@@ -99,9 +86,7 @@ pub(crate) fn masks_of(board: &[Option<Piece>; 64]) -> Masks
         kinds: [0; 6],
     };
     for index in 0..64u8 {
-        if let Some(square) = Square::from_index(index) {
-            masks = with_place(masks, square, board[index as usize]);
-        }
+        set_down(&mut masks, index, board[index as usize]);
     }
     masks
 }

@@ -2,26 +2,27 @@
 
 ghost use Rattle.std.specs.Prelude.{◌≡◌, ◌↔◌, IsTrue, MatchOption, Some};
 ghost use Rattle.pb_board.specs.declared.piece.Colour.{Colour};
-ghost use Rattle.pb_board.specs.Piece.{king_of, pawn_of};
+ghost use Rattle.pb_board.specs.Board.{Board};
+ghost use Rattle.pb_board.specs.Mask.{masks_of};
+ghost use Rattle.pb_board.specs.Piece.{pawn_of};
 ghost use Rattle.pb_board.specs.Position.{HasOneKing, HasNoEdgePawn, IsOnlyKing, IsPassed, OnPassedRank};
 
+use crate::masks::{self, Masks};
 use crate::piece::{Colour, Kind, Piece};
 use crate::square::Square;
 
-/// The square of this colour's king, if exactly one stands on the board.
-pub(crate) fn one_king(board: &[Option<Piece>; 64], colour: Colour) -> Option<Square>
-    ensures { MatchOption result (¬ HasOneKing board.now colour) (IsOnlyKing board.now colour) }
+/// The square of this colour's king, if exactly one stands on the board that these squares are of.
+pub(crate) fn one_king(masks: Masks, colour: Colour) -> Option<Square>
+    ensures { (b : Board) → masks ≡ masks_of b → MatchOption result (¬ HasOneKing b colour) (IsOnlyKing b colour) }
 {
-    let mut found = None;
-    for index in 0..64 {
-        if is_king(board[index as usize], colour) {
-            if found.is_some() {
-                return None;
-            }
-            found = Square::from_index(index);
-        }
+    let kind = Kind::King;
+    let kings = masks::standing(masks, Piece { colour, kind });
+    let square = Square::from_index(kings.trailing_zeros() as u8)?;
+    if kings == 1 << square.index() {
+        Some(square)
+    } else {
+        None
     }
-    found
 }
 
 /// Tells whether no pawn stands on rank 1 or 8.
@@ -47,14 +48,6 @@ pub(crate) fn is_passed(board: &[Option<Piece>; 64], turn: Colour, square: Squar
         Colour::Black => square + 8,
     };
     board[square].is_none() && is_pawn(board[beyond], turn.opponent())
-}
-
-/// Tells whether this colour's king stands there.
-fn is_king(place: Option<Piece>, colour: Colour) -> bool
-    ensures { IsTrue result ↔ (place ≡ Some (king_of colour)) }
-{
-    let kind = Kind::King;
-    place == Some(Piece { colour, kind })
 }
 
 /// Tells whether a pawn of this colour stands there.

@@ -87,6 +87,7 @@ impl Setup {
     ghost use Rattle.pb_board.specs.Board.{at, Holds, IsEmpty};
     ghost use Rattle.std.specs.Int.{bit_at};
     ghost use Rattle.pb_board.specs.Initial.{initial};
+    ghost use Rattle.pb_board.specs.Mask.{masks_of};
     ghost use Rattle.pb_board.specs.Piece.{opponent};
     ghost use Rattle.pb_board.specs.Position.{IsSetup, IsOnlyKing, position_of, carried_board};
     ghost use Rattle.pb_board.specs.Refusal.{IsFirstFault};
@@ -106,10 +107,11 @@ impl Setup {
         ensures { let p = position_of board turn rights ep in
             MatchResult result (λ s. (s ≡ p) × IsSetup p) (λ e. IsFirstFault e p) }
     {
-        let Some(white_king) = one_king(&board, Colour::White) else {
+        let masks = masks::masks_of(&board);
+        let Some(white_king) = one_king(masks, Colour::White) else {
             return Err(SetupError::Kings);
         };
-        let Some(black_king) = one_king(&board, Colour::Black) else {
+        let Some(black_king) = one_king(masks, Colour::Black) else {
             return Err(SetupError::Kings);
         };
         if !has_no_edge_pawn(&board) {
@@ -120,7 +122,7 @@ impl Setup {
         {
             return Err(SetupError::EnPassant);
         }
-        Ok(Setup::of_parts(board, turn, rights, ep, white_king, black_king))
+        Ok(Setup::with_masks(board, turn, rights, ep, white_king, black_king, masks))
     }
 
     /// The setup of parts that are known to meet the rules, with the squares of the two kings. Nothing is tested.
@@ -138,6 +140,26 @@ impl Setup {
         ensures { result ≡ position_of board turn rights ep }
     {
         let masks = masks::masks_of(&board);
+        Setup::with_masks(board, turn, rights, ep, white_king, black_king, masks)
+    }
+
+    /// The same, where the squares of the board's pieces are known too.
+    #[inline(always)]
+    fn with_masks(
+        board: [Option<Piece>; 64],
+        turn: Colour,
+        rights: Rights,
+        ep: Option<Square>,
+        white_king: Square,
+        black_king: Square,
+        masks: Masks,
+    ) -> Setup
+        requires rules { IsSetup (position_of board turn rights ep) }
+        requires white { IsOnlyKing board White white_king }
+        requires black { IsOnlyKing board Black black_king }
+        requires masks { masks ≡ masks_of board }
+        ensures { result ≡ position_of board turn rights ep }
+    {
         Setup {
             board,
             turn,

@@ -1,10 +1,11 @@
 -- The lines of an export as far as the setups have come.
-use Rattle.std.specs.Prelude.{◌≡◌, ◌≢◌, ◌↔◌, ℕ, List, [], ◌++◌, length, map, AllPairs, Contains}
+use Rattle.std.specs.Prelude.{◌≡◌, ◌≢◌, ◌↔◌, ℕ, List, [], ◌∷◌, ◌++◌, length, map, AllPairs, Contains, decimal}
 use Rattle.std.specs.Io.KnownBytes.{Appends}
 use Rattle.pb_board.specs.Position.{Position}
 use Rattle.pb_epd.specs.ByteOrder.{IsBytesBelow}
 use Rattle.pb_epd.specs.Epd.{EpdForm}
 use Rattle.pb_moves.specs.Moved.{Moved}
+use Rattle.pb_moves.specs.Spelling.{spelling}
 use Rattle.pb_poly.specs.Found.{Found}
 use Rattle.pb_io.specs.Sink.{SinkState, StillWorks}
 use Rattle.pb_poly.specs.declared.entry.Entry.{Entry}
@@ -18,6 +19,10 @@ pub record SaysMoves (words : List ℕ) (book : List Entry) (s : Position) (line
   pub found : Found book words s moves
   pub some : moves ≢ []
   pub form : EpdForm (with_book_moves s moves) line
+
+-- a move and its weight in decimal, with a space before each
+abbrev pub spaced_move : Moved × ℕ → List ℕ
+spaced_move p = 32 ∷ (spelling p.0 ++ 32 ∷ decimal p.1)
 
 -- one of these setups, for which the book has moves
 pub record IsListedOf (words : List ℕ) (book : List Entry) (named : List Named) (x : Listed) : Type 0 where

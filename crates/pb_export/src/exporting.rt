@@ -84,7 +84,7 @@ fn put_lines<K: Sink>(
     let mut count = 0;
     for text in texts {
         let setup = setup_of(text);
-        if let Some(line) = line_of(alloc, book, table, &setup)? {
+        if let Some(line) = line_of(alloc, book, table, &setup, text.as_str().as_bytes())? {
             sink.put(line.as_slice())?;
             count += 1;
         }

@@ -1,5 +1,15 @@
-use Rattle.std.proofs.Common.{rules}
+use Rattle.std.proofs.Common.{◌^◌, ◌∙◌, ap, sym}
+use Rattle.std.proofs.lemmas.Nat.{one_shl}
+use Rattle.pb_board.proofs.Kings.{one_king_bit, stands_alone}
 use Rattle.pb_board.proofs.rules.one_king.Goals as goal
 
-pub loop-index-preserved : goal.loop-index-preserved
-loop-index-preserved c = search rules
+pub returns-then-kings-index : goal.returns-then-kings-index
+returns-then-kings-index c = λ b e.
+    stands_alone b c.args.colour c.standing-kings.result (λ q. c.standing-kings.ensures b q e) c.in_ok-square.square
+    (c.if-kings-index.true ∙ one_shl c.index.result 64 c.index.ensures.below ∙ ap (λ k. 2 ^ k) c.index.ensures.value)
+
+pub returns-else-kings-index : goal.returns-else-kings-index
+returns-else-kings-index c = λ b e h.
+    let bit = one_king_bit b c.args.colour c.standing-kings.result (λ q. c.standing-kings.ensures b q e) c.standing-kings.type_inv h in
+    let lowest = c.in_ok-square.ensures.1 in
+    c.if-kings-index.false (bit.1 ∙ sym (one_shl c.index.result 64 c.index.ensures.below ∙ ap (λ k. 2 ^ k) (c.index.ensures.value ∙ lowest)))

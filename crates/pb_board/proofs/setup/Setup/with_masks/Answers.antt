@@ -1,5 +1,5 @@
 use Rattle.std.proofs.Common.{rules}
-use Rattle.pb_board.proofs.setup.Setup.of_parts.Goals as goal
+use Rattle.pb_board.proofs.setup.Setup.with_masks.Goals as goal
 
 pub returns : goal.returns
 returns c = search rules
