@@ -1,7 +1,7 @@
 //! The files of one run, which have to be different ones.
 
 use crate::stop::Stop;
-use std::fs;
+use std::fs::{self, Metadata};
 use std::os::unix::fs::MetadataExt;
 
 /// Makes sure that no two of these paths lead to one file, by whatever names: what is kept at the one would take the place of what was read at the
@@ -22,8 +22,13 @@ pub(crate) fn keep_apart(rt: &HostRuntime, paths: &[&str]) -> Result<(), Stop> {
 
 /// Whether both paths lead to one file. Where there is none yet, the two are taken for different ones.
 fn is_one_file(rt: &HostRuntime, path: &str, other: &str) -> bool {
-    let (Ok(one), Ok(two)) = (fs::metadata(rt, path), fs::metadata(rt, other)) else {
-        return false;
-    };
+    match (fs::metadata(rt, path), fs::metadata(rt, other)) {
+        (Ok(one), Ok(two)) => tell_of_one(&one, &two),
+        _ => false,
+    }
+}
+
+/// Whether the two tell of one file, and no device or pipe.
+pub(crate) fn tell_of_one(one: &Metadata, two: &Metadata) -> bool {
     one.is_file() && one.dev() == two.dev() && one.ino() == two.ino()
 }

@@ -1,5 +1,6 @@
 //! Drafts of files: a new file beside the one that it is to replace.
 
+use crate::apart::tell_of_one;
 use pb_cli::NotKept;
 use std::fs::{self, File, Metadata, OpenOptions, TryLockError};
 use std::io::{self, ErrorKind};
@@ -77,10 +78,7 @@ impl Draft {
 
 /// Whether this name itself, and no link of that name, leads to the file.
 pub(crate) fn leads_to(rt: &HostRuntime, name: Path<'_>, file: &Metadata) -> bool {
-    let Ok(named) = fs::symlink_metadata(rt, name) else {
-        return false;
-    };
-    named.is_file() && named.dev() == file.dev() && named.ino() == file.ino()
+    fs::symlink_metadata(rt, name).is_ok_and(|named| tell_of_one(&named, file))
 }
 
 /// The name of a draft beside the file of this path. None where the path doesn't end in a file's name.
