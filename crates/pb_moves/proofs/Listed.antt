@@ -21,6 +21,7 @@ use Rattle.pb_moves.proofs.Legality.{case_at}
 use Rattle.pb_moves.proofs.Unique.{goes_of}
 use Rattle.pb_moves.proofs.Rising.{low_bits, zeros_bound, zeros_rise, without, without_other, without_small}
 use Rattle.pb_moves.specs.Moved.{Moved, IsMove, IsPromotion, promotion_number}
+use Rattle.pb_moves.specs.Packed.{promotion_small}
 use Rattle.pb_board.specs.Castling.{castling_row}
 use Rattle.pb_moves.specs.Cases.{Legal, CaseOf, piece_move, pawn_step, pawn_double, pawn_capture, en_passant, castles, Becomes, IsPrey}
 use Rattle.pb_moves.specs.Listing.{place, ListsLegal}
@@ -50,11 +51,6 @@ lists_push s ms n m lists ok legal here only = record {
   ordered = all_pairs_push (λ a b. place a < place b) ms m lists.ordered
       (λ k d lt. let h = All-get_or (λ q. IsMove q × Legal s q × (place q < n)) ms k d lt lists.legal in omega (arith, h.2));
 }
-
-pub promotion_small : (o : Option Kind) → promotion_number o < 5
-promotion_small None = omega arith
-promotion_small (Some Pawn) = omega arith
-promotion_small (Some k) = omega arith
 
 pub place_below : (m : Moved) → IsMove m → place m < 20480
 place_below m ok = let a = ok.from_on_board in let b = ok.to_on_board in let c = promotion_small m.promo in omega arith

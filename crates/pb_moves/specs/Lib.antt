@@ -8,6 +8,7 @@ pub mod Successor
 pub mod Spelling
 pub mod Listing
 pub mod MoveLaws
+pub mod Packed
 pub mod Played
 pub mod Sight
 pub mod Change

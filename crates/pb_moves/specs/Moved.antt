@@ -1,5 +1,5 @@
 -- A move: the square it leaves, the square it reaches, and the piece that a pawn becomes.
-use Rattle.std.specs.Prelude.{◌≡◌, ◌≢◌, ℕ, ◌<◌, Option, Some}
+use Rattle.std.specs.Prelude.{◌≡◌, ◌≢◌, ℕ, ◌<◌, ◌==◌, Option, Some, None, if◌then◌else◌}
 use Rattle.pb_board.specs.declared.piece.Kind.{Kind}
 use Rattle.pb_board.specs.declared.piece.Kind.TheVariants.{Pawn, Knight, Bishop, Rook, Queen, King}
 
@@ -29,3 +29,7 @@ promotion_number (Some Bishop) = 2
 promotion_number (Some Rook) = 3
 promotion_number (Some Queen) = 4
 promotion_number _ = 0
+
+-- the promotion of a number
+abbrev pub promotion_of : ℕ → Option Kind
+promotion_of n = if n == 1 then Some Knight else (if n == 2 then Some Bishop else (if n == 3 then Some Rook else (if n == 4 then Some Queen else None)))

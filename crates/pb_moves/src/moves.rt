@@ -3,6 +3,7 @@
 ghost use Rattle.std.specs.Prelude.{◌≡◌, ◌≢◌, ℕ, ◌<◌};
 ghost use Rattle.std.specs.Option.{SomeIff, ForSome};
 
+use crate::promotion::{promotion_number, promotion_of};
 use pb_board::{Kind, Square};
 use std::marker::Model;
 
@@ -12,21 +13,23 @@ use std::marker::Model;
 /// a queen. Whether the move is legal depends on the setup.
 #[derive(Clone, Copy, Debug, PartialEq, Eq, Hash)]
 pub struct Move {
-    from: Square,
-    to: Square,
-    promo: Option<Kind>,
+    // The square reached, 64 times the square left, and 4,096 times the promotion: games hold moves by the million.
+    bits: u16,
 }
 
 impl Model for Move {
-    ghost use Rattle.pb_moves.specs.Moved.{Moved, IsMove, moved_of};
+    ghost use Rattle.pb_moves.specs.Moved.{Moved};
+    ghost use Rattle.pb_moves.specs.Packed.{IsPacked, packed, packed-back, unpacked};
 
     ghost Value = { Moved };
 
-    ghost view = { λ m. moved_of m.from m.to m.promo };
+    ghost view = { λ m. unpacked m.bits };
 
-    ghost inverse = { λ m. record { from = m.from; to = m.to; promo = m.promo } };
+    ghost inverse = { λ m. record { bits = packed m } };
 
-    ghost invariant = { λ m. IsMove (moved_of m.from m.to m.promo) };
+    ghost inverse_ok = { λ m h. packed-back (λ n. record { bits = n }) m.bits h };
+
+    ghost invariant = { λ m. IsPacked m.bits };
 }
 
 impl Move {
@@ -41,7 +44,9 @@ impl Move {
         if from.index() == to.index() || matches!(promo, Some(Kind::Pawn | Kind::King)) {
             None
         } else {
-            Some(Move { from, to, promo })
+            let squares = u16::from(to.index()) + 64 * u16::from(from.index());
+            let bits = squares + 4096 * promotion_number(promo);
+            Some(Move { bits })
         }
     }
 
@@ -52,7 +57,7 @@ impl Move {
         ensures on_board { result < 64 }
         ensures rules { IsMove self }
     {
-        self.from
+        Square::from_index((self.bits / 64 % 64) as u8).unwrap()
     }
 
     /// The square that the move reaches.
@@ -61,7 +66,7 @@ impl Move {
         ensures value { result ≡ self.to }
         ensures on_board { result < 64 }
     {
-        self.to
+        Square::from_index((self.bits % 64) as u8).unwrap()
     }
 
     /// What the pawn becomes, where the move promotes.
@@ -69,6 +74,6 @@ impl Move {
     pub fn promo(self) -> Option<Kind>
         ensures { result ≡ self.promo }
     {
-        self.promo
+        promotion_of(self.bits / 4096)
     }
 }

@@ -12,21 +12,13 @@ use Rattle.pb_board.specs.Piece.{colour_number, king_of}
 use Rattle.pb_board.specs.declared.castling.Castling.{Castling}
 use Rattle.pb_board.specs.Castling.{castling_from_home, castling_of, castling_row}
 use Rattle.pb_moves.specs.Attack.{files_apart}
-use Rattle.pb_moves.specs.Moved.{Moved, IsPromotion, moved_of, promotion_number}
+use Rattle.pb_moves.specs.Moved.{Moved, IsPromotion, moved_of, promotion_number, promotion_of}
+use Rattle.pb_moves.specs.Packed.{promotion_back}
 use Rattle.pb_moves.specs.Cases.{CaseOf, piece_move, pawn_step, pawn_double, pawn_capture, en_passant, castles, Legal}
 use Rattle.pb_moves.proofs.Castlings.{castling_found, class_of_castling, home_found, home_is, home_is_far, rows}
 use Rattle.pb_moves.proofs.Unique.{king_near}
 use Rattle.pb_poly.specs.Code.{HasCode, coded_to, rook_or, CodeIsOne}
-use Rattle.pb_poly.specs.Decoding.{king_or, promotion_of, reached}
-
-promotion_back : (promo : Option Kind) → ((kind : Kind) → promo ≡ Some kind → IsPromotion kind) → promotion_of (promotion_number promo) ≡ promo
-promotion_back None lawful = refl
-promotion_back (Some Pawn) lawful = absurd ((lawful Pawn refl).0 refl)
-promotion_back (Some Knight) lawful = refl
-promotion_back (Some Bishop) lawful = refl
-promotion_back (Some Rook) lawful = refl
-promotion_back (Some Queen) lawful = refl
-promotion_back (Some King) lawful = absurd ((lawful King refl).1 refl)
+use Rattle.pb_poly.specs.Decoding.{king_or, reached}
 
 -- a king goes two files at most
 king_files : (s : Position) (m : Moved) (piece : Piece) (new : Board) → CaseOf s m piece new → piece.kind ≡ King → files_apart m.from m.to ≤ 2

@@ -2,16 +2,10 @@
 use Rattle.std.specs.Prelude.{ℕ, ◌==◌, Option, Some, None, if◌then◌else◌}
 use Rattle.pb_board.specs.declared.piece.Colour.{Colour}
 use Rattle.pb_board.specs.declared.castling.Castling.{Castling}
-use Rattle.pb_board.specs.declared.piece.Kind.{Kind}
-use Rattle.pb_board.specs.declared.piece.Kind.TheVariants.{Knight, Bishop, Rook, Queen}
 use Rattle.pb_board.specs.Piece.{colour_number, king_of}
 use Rattle.pb_board.specs.Castling.{castling_from_home, castling_row}
 use Rattle.pb_board.specs.Position.{Position}
 use Rattle.pb_board.specs.Board.{at, is_piece}
-
--- the promotion of a number
-abbrev pub promotion_of : ℕ → Option Kind
-promotion_of n = if n == 1 then Some Knight else (if n == 2 then Some Bishop else (if n == 3 then Some Rook else (if n == 4 then Some Queen else None)))
 
 -- the square that the king of this side reaches where the code names the rook with which it castles, and else the one named
 abbrev pub king_or : Colour → ℕ → Option Castling → ℕ

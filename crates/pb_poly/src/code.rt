@@ -1,28 +1,14 @@
 //! Move codes of PolyGlot books.
 
-ghost use Rattle.std.specs.Prelude.{◌≡◌, ◌<◌, ◌≤◌, MatchOption, Some};
+ghost use Rattle.std.specs.Prelude.{◌≡◌, MatchOption, Some};
 ghost use Rattle.pb_board.specs.Piece.{king_of};
 ghost use Rattle.pb_board.specs.Board.{at, is_piece};
-ghost use Rattle.pb_moves.specs.Moved.{Moved, promotion_number as promotion_number_by};
-ghost use Rattle.pb_poly.specs.Decoding.{promotion_of as promotion_by, reached as reached_by};
+ghost use Rattle.pb_moves.specs.Moved.{Moved};
+ghost use Rattle.pb_poly.specs.Decoding.{reached as reached_by};
 ghost use Rattle.pb_poly.specs.Code.{HasCode, code as code_by, coded_to as coded_to_by};
 
 use pb_board::{Castling, Kind, Setup, Square};
-use pb_moves::{Move, is_legal};
-
-/// The number of a promotion.
-fn promotion_number(promo: Option<Kind>) -> u16
-    ensures value { result ≡ promotion_number_by promo }
-    ensures few { result ≤ 4 }
-{
-    match promo {
-        Some(Kind::Knight) => 1,
-        Some(Kind::Bishop) => 2,
-        Some(Kind::Rook) => 3,
-        Some(Kind::Queen) => 4,
-        _ => 0,
-    }
-}
+use pb_moves::{Move, is_legal, promotion_number, promotion_of};
 
 /// Whether the king of the side to move stands there.
 fn has_own_king(setup: &Setup, square: Square) -> bool
@@ -55,19 +41,6 @@ pub fn code_of(setup: &Setup, m: Move) -> u16
     let to = u16::from(coded_to(setup, m).index());
     let from = u16::from(m.from().index());
     to + 64 * from + 4096 * promotion_number(m.promo())
-}
-
-/// The promotion of this number.
-fn promotion_of(number: u16) -> Option<Kind>
-    ensures { result ≡ promotion_by number }
-{
-    match number {
-        1 => Some(Kind::Knight),
-        2 => Some(Kind::Bishop),
-        3 => Some(Kind::Rook),
-        4 => Some(Kind::Queen),
-        _ => None,
-    }
 }
 
 /// The square that a move from this square reaches where its code names that one.

@@ -1,0 +1,35 @@
+//! The numbers of promotions, as codes of moves have them.
+
+ghost use Rattle.std.specs.Prelude.{◌≡◌, ◌≤◌};
+ghost use Rattle.pb_moves.specs.Moved.{promotion_number as promotion_number_by, promotion_of as promotion_by};
+
+use pb_board::Kind;
+
+/// The number of a promotion: none, knight, bishop, rook, queen from 0. A pawn or a king is none.
+#[inline]
+pub fn promotion_number(promo: Option<Kind>) -> u16
+    ensures value { result ≡ promotion_number_by promo }
+    ensures few { result ≤ 4 }
+{
+    match promo {
+        Some(Kind::Knight) => 1,
+        Some(Kind::Bishop) => 2,
+        Some(Kind::Rook) => 3,
+        Some(Kind::Queen) => 4,
+        _ => 0,
+    }
+}
+
+/// The promotion of this number. None where it is 0 or above 4.
+#[inline]
+pub fn promotion_of(number: u16) -> Option<Kind>
+    ensures { result ≡ promotion_by number }
+{
+    match number {
+        1 => Some(Kind::Knight),
+        2 => Some(Kind::Bishop),
+        3 => Some(Kind::Rook),
+        4 => Some(Kind::Queen),
+        _ => None,
+    }
+}
