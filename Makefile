@@ -5,7 +5,7 @@ START := rnbqkbnr/pppppppp/8/8/8/8/PPPPPPPP/RNBQKBNR w KQkq - 0 1
 
 PREFIX := /usr/local
 
-.PHONY: build try install demo test test-hostile test-files test-memory test-growths test-io test-journal bench clean
+.PHONY: build try install demo test test-hostile test-files test-memory test-growths test-io test-journal test-words bench clean
 
 build: build/pbook
 
@@ -19,11 +19,13 @@ try:
 	@cd crates/pbook && rt try --data table.txt=../../examples/table.txt -- collect table.txt book.bin < ../../examples/games.txt | head -3
 	@cd crates/pbook && rt try --data table.txt=../../examples/table.txt -- export table.txt < ../../examples/games.txt | tail -1
 
-# Puts the program, its manual page and its completions for bash in place.
+# Puts the program, its manual page and its completions for bash, zsh and fish in place.
 install: build
 	install -D -m 755 build/pbook '$(DESTDIR)$(PREFIX)/bin/pbook'
 	install -D -m 644 man/pbook.1 '$(DESTDIR)$(PREFIX)/share/man/man1/pbook.1'
 	install -D -m 644 completions/pbook.bash '$(DESTDIR)$(PREFIX)/share/bash-completion/completions/pbook'
+	install -D -m 644 completions/_pbook '$(DESTDIR)$(PREFIX)/share/zsh/site-functions/_pbook'
+	install -D -m 644 completions/pbook.fish '$(DESTDIR)$(PREFIX)/share/fish/vendor_completions.d/pbook.fish'
 
 # The main job on the bundled examples: a book is made of 300 games and looked into; then games are played from their records,
 # and EPD lines are rewritten. examples/book.bin and examples/export.epd were made of the same games by other programs.
@@ -53,6 +55,10 @@ test:
 
 # All that is tried of the program in a hostile world, but for collectors that are killed on their journal.
 test-hostile: test-files test-memory test-growths test-io
+
+# Tries that the completions and the manual page have the commands and options of the program, and no others.
+test-words: build
+	@sh scripts/test_words.sh
 
 # Tries what is left of a book's file by full disks, links, missing permissions and runs that are killed.
 test-files: build
