@@ -5,7 +5,7 @@ START := rnbqkbnr/pppppppp/8/8/8/8/PPPPPPPP/RNBQKBNR w KQkq - 0 1
 
 PREFIX := /usr/local
 
-.PHONY: build try install demo test test-hostile test-files test-memory test-growths test-io test-journal test-words bench clean
+.PHONY: build try install dist demo test test-hostile test-files test-memory test-growths test-io test-journal test-words bench clean
 
 build: build/pbook
 
@@ -26,6 +26,10 @@ install: build
 	install -D -m 644 completions/pbook.bash '$(DESTDIR)$(PREFIX)/share/bash-completion/completions/pbook'
 	install -D -m 644 completions/_pbook '$(DESTDIR)$(PREFIX)/share/zsh/site-functions/_pbook'
 	install -D -m 644 completions/pbook.fish '$(DESTDIR)$(PREFIX)/share/fish/vendor_completions.d/pbook.fish'
+
+# Packs what `make install` puts in place, with the guide, as build/pbook-VERSION-x86_64-linux.tar.gz, beside its checksum.
+dist: build
+	@sh scripts/dist.sh
 
 # The main job on the bundled examples: a book is made of 300 games and looked into; then games are played from their records,
 # and EPD lines are rewritten. examples/book.bin and examples/export.epd were made of the same games by other programs.
