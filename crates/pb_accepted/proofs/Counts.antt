@@ -9,7 +9,7 @@ use Rattle.pb_games.specs.Submissions.{Submission, IsSubmission}
 use Rattle.pb_points.specs.Tally.{Content, Held, held}
 use Rattle.pb_accepted.specs.Accepting.{IsNewId}
 use Rattle.pb_accepted.specs.Basis.{Basis}
-use Rattle.pb_accepted.specs.Counting.{all_gifts, gifts_of, occurring, points, count, times, with_gifts}
+use Rattle.pb_accepted.specs.Counting.{gifts_of, occurring, points, count, times, with_gifts}
 use Rattle.pb_accepted.specs.Holding.{HoldsCounts}
 use Rattle.pb_accepted.specs.Ledger.{LedgerState}
 use Rattle.pb_accepted.proofs.BookLaws.{sum_by-flat_map}

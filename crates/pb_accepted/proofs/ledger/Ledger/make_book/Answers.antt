@@ -1,5 +1,4 @@
-use Rattle.std.proofs.Common.{rules, ◌≡◌, ◌++◌, List, ap, sym, ◌∙◌, subst, AllPairs}
-use Rattle.pb_poly.specs.declared.entry.Entry.{Entry}
+use Rattle.std.proofs.Common.{rules, ◌≡◌, ◌++◌, ap, sym, ◌∙◌, subst, AllPairs}
 use Rattle.pb_points.specs.declared.row.Row.{Row}
 use Rattle.pb_points.specs.Rows.{IsBookOfRows, frequent}
 use Rattle.pb_points.specs.Weight.{Before}
