@@ -1,7 +1,8 @@
 #!/bin/sh
 # Times `pbook collect` on games of 80 plies that bench_moves makes (`make bench` builds it): 20,000 games, the same games
 # sent twice, 100,000 games, and 100,000 ids of one game; and beside it `polyglot make-book` on the first 20,000 as PGN, where it
-# and pgn-extract are installed. Each time is the best of three runs.
+# and pgn-extract are installed. Each time is the best of three runs. Where MILLION is set, a million games too, once: that takes some
+# minutes and gigabytes.
 set -eu
 PATH=$PATH:/usr/games
 games=crates/bench_moves/out/bench_moves
@@ -43,6 +44,13 @@ figures "collect, 100,000 games" "$work/many" "$(best 3 collect "$work/many")" \
 awk -F'\t' -v OFS='\t' 'NR == 1 { for (n = 1; n <= 100000; n++) { $1 = "id-" n; print } exit }' "$work/lines" > "$work/one"
 figures "collect, one game under 100,000 ids" "$work/one" "$(best 3 collect "$work/one")" \
     sh -c "build/pbook collect examples/table.txt $work/book < $work/one"
+
+if [ -n "${MILLION:-}" ]; then
+    "$games" lines 1000000 > "$work/million"
+    figures "collect, a million games" "$work/million" "$(best 1 collect "$work/million")" \
+        sh -c "build/pbook collect examples/table.txt $work/book < $work/million"
+    rm "$work/million"
+fi
 
 if command -v polyglot > /dev/null && command -v pgn-extract > /dev/null; then
     awk -F'\t' '{ printf "[Event \"?\"]\n[Result \"%s\"]\n\n%s %s\n\n", $2, $4, $2 }' "$work/lines" > "$work/moves.pgn"
