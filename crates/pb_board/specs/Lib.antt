@@ -2,6 +2,7 @@ pub mod Piece
 pub mod Castling
 pub mod Board
 pub mod Position
+pub mod Carried
 pub mod King
 pub mod Padded
 pub mod Text

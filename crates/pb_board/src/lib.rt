@@ -28,6 +28,6 @@ pub use line_end::without_return;
 pub use piece::{Colour, Kind, Piece};
 pub use read::{read_fen, read_setup};
 pub use refusal::{FenError, SetupError};
-pub use setup::{Rights, Setup};
+pub use setup::{Carried, Rights, Setup};
 pub use square::Square;
 pub use write::{write_fen, write_setup};

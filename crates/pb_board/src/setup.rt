@@ -1,8 +1,10 @@
 //! Setups: what the first four fields of a FEN record say.
 
 ghost use Rattle.std.specs.Prelude.{◌≡◌, ◌↔◌, ℕ, MatchResult, length};
+ghost use Rattle.pb_board.specs.Carried.{carried_on};
+ghost use Rattle.pb_board.specs.Mask.{masks_of};
 
-use crate::initial::initial_board;
+use crate::initial::{initial_board, initial_masks};
 use crate::masks::{self, Masks};
 use crate::piece::{Colour, Piece};
 use crate::refusal::SetupError;
@@ -24,6 +26,17 @@ pub struct Rights {
     pub black_short: bool,
     /// Black may castle on the queen's side, the letter `q`.
     pub black_long: bool,
+}
+
+/// A piece that goes from one square to another, in the place of what stood there.
+#[derive(Clone, Copy, Debug, PartialEq, Eq)]
+pub struct Carried {
+    /// The square that it leaves.
+    pub from: Square,
+    /// The square that it reaches.
+    pub to: Square,
+    /// What arrives there.
+    pub piece: Piece,
 }
 
 /// A setup: the board, the side to move, the castling rights and the en passant square.
@@ -90,6 +103,7 @@ impl Setup {
     ghost use Rattle.pb_board.specs.Mask.{masks_of};
     ghost use Rattle.pb_board.specs.Piece.{opponent};
     ghost use Rattle.pb_board.specs.Position.{IsSetup, IsOnlyKing, position_of, carried_board};
+    ghost use Rattle.pb_board.specs.Carried.{carried_twice};
     ghost use Rattle.pb_board.specs.Refusal.{IsFirstFault};
 
     /// The setup of these parts, with the board by square index.
@@ -125,25 +139,7 @@ impl Setup {
         Ok(Setup::with_masks(board, turn, rights, ep, white_king, black_king, masks))
     }
 
-    /// The setup of parts that are known to meet the rules, with the squares of the two kings. Nothing is tested.
-    pub fn of_parts(
-        board: [Option<Piece>; 64],
-        turn: Colour,
-        rights: Rights,
-        ep: Option<Square>,
-        white_king: Square,
-        black_king: Square,
-    ) -> Setup
-        requires rules { IsSetup (position_of board turn rights ep) }
-        requires white { IsOnlyKing board White white_king }
-        requires black { IsOnlyKing board Black black_king }
-        ensures { result ≡ position_of board turn rights ep }
-    {
-        let masks = masks::masks_of(&board);
-        Setup::with_masks(board, turn, rights, ep, white_king, black_king, masks)
-    }
-
-    /// The same, where the squares of the board's pieces are known too.
+    /// The setup of parts that are known to meet the rules, with the squares of the two kings and of the board's pieces.
     #[inline(always)]
     fn with_masks(
         board: [Option<Piece>; 64],
@@ -201,14 +197,37 @@ impl Setup {
         next.black_king = black_king;
     }
 
+    /// Carries two pieces one after the other, in place, as when king and rook castle. The rest is as for `carry`.
+    pub fn carry_twice(
+        &mut self,
+        first: Carried,
+        second: Carried,
+        rights: Rights,
+        ep: Option<Square>,
+        white_king: Square,
+        black_king: Square,
+    )
+        requires rules { IsSetup (position_of (carried_twice self.old.board first second) (opponent self.old.turn) rights ep) }
+        requires white { IsOnlyKing (carried_twice self.old.board first second) White white_king }
+        requires black { IsOnlyKing (carried_twice self.old.board first second) Black black_king }
+        ensures { self.new ≡ position_of (carried_twice self.old.board first second) (opponent self.old.turn) rights ep }
+    {
+        let next = self;
+        put_carried(&mut next.board, &mut next.masks, first);
+        put_carried(&mut next.board, &mut next.masks, second);
+        next.turn = next.turn.opponent();
+        next.rights = rights;
+        next.ep = ep;
+        next.white_king = white_king;
+        next.black_king = black_king;
+    }
+
     /// The initial array, with White to move and every castling open.
     pub fn start() -> Setup
         ensures { result ≡ initial }
     {
-        let board = initial_board();
-        let masks = masks::masks_of(&board);
         Setup {
-            board,
+            board: initial_board(),
             turn: Colour::White,
             rights: Rights {
                 white_short: true,
@@ -219,7 +238,7 @@ impl Setup {
             ep: None,
             white_king: Square::E1,
             black_king: Square::E8,
-            masks,
+            masks: initial_masks(),
         }
     }
 
@@ -285,4 +304,14 @@ impl Setup {
             Colour::Black => self.black_king,
         }
     }
+}
+
+/// Carries a piece on a board, and in the sets of squares beside it.
+fn put_carried(board: &mut [Option<Piece>; 64], masks: &mut Masks, carried: Carried)
+    ensures board { board.new ≡ carried_on board.old carried }
+    ensures masks { masks.old ≡ masks_of board.old → masks.new ≡ masks_of (carried_on board.old carried) }
+{
+    masks::carry(masks, carried.from, carried.to, carried.piece);
+    board[carried.from.index() as usize] = None;
+    board[carried.to.index() as usize] = Some(carried.piece);
 }

@@ -17,5 +17,6 @@ pub mod Successors
 pub mod Plies
 pub mod Pins
 pub mod Changing
+pub mod Carrying
 pub mod Listed
 pub mod Castlings

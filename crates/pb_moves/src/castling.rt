@@ -53,25 +53,6 @@ fn may_castle(castling: Castling, setup: &Setup) -> bool
     way_is_clear(castling, setup) && way_is_safe(castling, setup)
 }
 
-/// Moves king and rook.
-pub(crate) fn castle(castling: Castling, board: &mut Board)
-    ensures { let row = castling_row castling in
-        Differs board.old board.new ((row.king_from, None) ∷ (row.king_to, Some (king_of row.colour)) ∷ rook_goes row) }
-{
-    let squares = castling.squares();
-    let colour = castling.colour();
-    board[squares.king_from.index() as usize] = None;
-    board[squares.king_to.index() as usize] = Some(Piece {
-        colour,
-        kind: Kind::King,
-    });
-    board[squares.rook_from.index() as usize] = None;
-    board[squares.rook_to.index() as usize] = Some(Piece {
-        colour,
-        kind: Kind::Rook,
-    });
-}
-
 /// The castling of this move, if it is one that the setup allows.
 pub(crate) fn castles(setup: &Setup, m: Move, king: Piece) -> Option<Change>
     requires king { king.kind ≡ King }

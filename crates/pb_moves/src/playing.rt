@@ -26,7 +26,7 @@ pub fn play_on(setup: &mut Setup, m: Move) -> bool
     };
     match change_of(setup, m, piece) {
         Some(Change::Carry(arriving)) => carry(setup, m, piece, arriving),
-        Some(_) => replace(setup, m),
+        Some(change) => carry_twice(setup, m, piece, change),
         None => false,
     }
 }
@@ -57,36 +57,28 @@ fn carry(setup: &mut Setup, m: Move, piece: Piece, arriving: Piece) -> bool
     true
 }
 
-/// Plays a move by way of a new setup.
+/// Plays a move that carries twice: castling, or a capture of a pawn that has passed.
 #[inline(never)]
-fn replace(setup: &mut Setup, m: Move) -> bool
+fn carry_twice(setup: &mut Setup, m: Move, piece: Piece, change: Change) -> bool
+    requires own { HoldsOwn setup.old m.from piece }
+    requires leads { LeadsTo (CaseOf setup.old m piece) setup.old.board m change }
     ensures legal { IsTrue result ↔ Legal setup.old m }
     ensures played { IsTrue result → (setup.new ≡ after setup.old m) }
     ensures refused { ¬ IsTrue result → (setup.new ≡ setup.old) }
 {
-    let Some(piece) = own_piece(setup, m.from()) else {
-        return false;
-    };
-    let Some(change) = change_of(setup, m, piece) else {
-        return false;
-    };
     if !is_safe_after(setup, m, piece, &change) {
         return false;
     }
-    let side = setup.turn();
-    let enemy = side.opponent();
     let beside = beside_after(setup, m, piece);
-    let mut board = *setup.board();
-    change.apply(&mut board, m);
-    let next = Setup::of_parts(
-        board,
-        enemy,
+    let (first, second) = change.carried(m);
+    setup.carry_twice(
+        first,
+        second,
         beside.rights,
         beside.ep,
         beside.white_king,
         beside.black_king,
     );
-    *setup = next;
     true
 }
 

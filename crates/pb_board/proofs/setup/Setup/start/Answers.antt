@@ -3,7 +3,7 @@ use Rattle.pb_board.proofs.Starts.{initial_keeps_kings}
 use Rattle.pb_board.proofs.setup.Setup.start.Goals as goal
 
 pub invariant_of-result-3 : goal.invariant_of-result-3
-invariant_of-result-3 c = rw (c.masks_of-masks.ensures, c.initial_board-board.ensures) (initial_keeps_kings _)
+invariant_of-result-3 c = rw (c.initial_masks.ensures, c.initial_board.ensures) (initial_keeps_kings _)
 
 pub returns : goal.returns
 returns c = search rules

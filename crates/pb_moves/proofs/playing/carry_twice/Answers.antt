@@ -1,0 +1,25 @@
+use Rattle.std.proofs.Common.{rules, subst, sym}
+use Rattle.pb_board.specs.Position.{Position}
+use Rattle.pb_moves.specs.After.{After}
+use Rattle.pb_moves.proofs.Carrying.{completed}
+use Rattle.pb_moves.proofs.Successors.{after_one}
+use Rattle.pb_moves.proofs.playing.carry_twice.Goals as goal
+
+pub carry_twice-requires : goal.carry_twice-requires
+carry_twice-requires c =
+    let beside = c.beside_after-beside in
+    let carried = c.carried-first in
+    let parts = completed c.args.setup.now c.args.m c.args.piece c.args.change carried.result.0 carried.result.1 beside.result.rights beside.result.ep
+    beside.result.white_king beside.result.black_king beside.ensures.rules c.requires.leads carried.ensures beside.ensures.completes in
+    record { rules = parts.rules; white = parts.white; black = parts.black }
+
+pub returns-clause-played : goal.returns-clause-played
+returns-clause-played c = λ _.
+    let s = c.args.setup.now in
+    let m = c.args.m in
+    let beside = c.beside_after-beside in
+    let carried = c.carried-first in
+    let parts = completed s m c.args.piece c.args.change carried.result.0 carried.result.1 beside.result.rights beside.result.ep
+    beside.result.white_king beside.result.black_king beside.ensures.rules c.requires.leads carried.ensures beside.ensures.completes in
+    let A : Position → Type 0 = λ t. After s m t in
+    after_one s m c.carry_twice.new.self beside.ensures.rules (c.is_safe_after.ensures.0 (search rules)) (subst A (sym c.carry_twice.ensures) parts.after)
