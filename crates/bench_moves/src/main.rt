@@ -10,7 +10,7 @@
 
 use pb_board::{Fen, Setup, read_fen};
 use pb_moves::{Move, legal_moves, play, play_on};
-use pb_poly::{Table, key_after, key_of, read_table};
+use pb_poly::{Table, key_next, key_of, read_table};
 use std::alloc::{AllocError, Global};
 use std::io::{BufWriter, Write};
 use std::{env, io};
@@ -87,11 +87,11 @@ fn key_of_game(table: &Table, game: &[Move]) -> u64 {
     let mut setup = Setup::start();
     let mut key = key_of(table, &setup);
     for m in game {
-        let Some(next) = play(&setup, *m) else {
+        let next = key_next(table, key, &setup, *m);
+        if !play_on(&mut setup, *m) {
             return key;
-        };
-        key = key_after(table, key, &setup, *m, &next);
-        setup = next;
+        }
+        key = next;
     }
     key
 }

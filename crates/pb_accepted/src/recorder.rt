@@ -10,7 +10,7 @@ use crate::notes::Notes;
 use pb_board::Setup;
 use pb_games::{Game, Line, MoveList, Outcome, Player, Refusal, Start, judge_line};
 use pb_moves::{Move, play_on};
-use pb_poly::{Table, code_of, key_after, key_of};
+use pb_poly::{Table, code_of, key_next, key_of};
 use std::alloc::{AllocError, Global};
 
 /// Plays the moves of a game, and writes down what each gives. Its buffers are made with it, so that a ply takes no memory.
@@ -87,17 +87,18 @@ impl Player for Recorder {
     }
 
     fn play(&mut self, setup: &mut Setup, m: Move) -> bool {
-        let before = *setup;
+        let gift = Gift {
+            key: self.key,
+            code: code_of(setup, m),
+            points: credit(self.outcome, setup.turn()),
+        };
+        // The key afterwards is made before the move is played, so that no setup has to be kept for it.
+        let key = key_next(&self.table, self.key, setup, m);
         if !play_on(setup, m) {
             return false;
         }
-        let gift = Gift {
-            key: self.key,
-            code: code_of(&before, m),
-            points: credit(self.outcome, before.turn()),
-        };
         self.notes.add(gift, m);
-        self.key = key_after(&self.table, self.key, &before, m, setup);
+        self.key = key;
         true
     }
 }

@@ -1,16 +1,16 @@
 //! Castling.
 
-ghost use Rattle.std.specs.Prelude.{◌≡◌, ◌∷◌, Some, None, ◌↔◌, IsTrue};
+ghost use Rattle.std.specs.Prelude.{◌≡◌, ◌↔◌, IsTrue};
 ghost use Rattle.pb_board.specs.declared.castling.Castling.{Castling};
 ghost use Rattle.pb_board.specs.declared.piece.Kind.TheVariants.{King};
-ghost use Rattle.pb_board.specs.Piece.{king_of, opponent};
+ghost use Rattle.pb_board.specs.Piece.{opponent};
 ghost use Rattle.pb_board.specs.Castling.{castling_row};
 ghost use Rattle.pb_moves.specs.Attack.{Clear, IsAttacked};
-ghost use Rattle.pb_moves.specs.Castling.{rook_goes, MayCastle};
-ghost use Rattle.pb_moves.specs.Cases.{Castles, Differs};
+ghost use Rattle.pb_moves.specs.Castling.{MayCastle};
+ghost use Rattle.pb_moves.specs.Cases.{Castles};
 ghost use Rattle.pb_moves.specs.Change.{Finds};
 
-use crate::board::{Board, holds};
+use crate::board::holds;
 use crate::change::Change;
 use crate::check::attacked;
 use crate::moves::Move;

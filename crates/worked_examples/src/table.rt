@@ -6,7 +6,7 @@ use crate::record::setup_of;
 use crate::text::count_of;
 use pb_board::Setup;
 use pb_moves::{Move, legal_moves, play};
-use pb_poly::{Table, TableError, code_of, key_after, key_of, move_of, read_table};
+use pb_poly::{Table, TableError, code_of, key_after, key_next, key_of, move_of, read_table};
 use std::alloc::{AllocError, Global};
 use std::fmt::Write;
 
@@ -186,7 +186,7 @@ fn key(page: &mut Page, table: &str, record: &str) -> Done {
     Ok(())
 }
 
-/// The key after each of these moves, made anew and of the key before it.
+/// The key after each of these moves, made anew, by what changed, and of the setup before the move alone.
 fn keys(page: &mut Page, table: &str, record: &str, moves: &[&str]) -> Done {
     let table = table_of(page.alloc, table)?;
     let mut setup = setup_of(record)?;
@@ -197,16 +197,22 @@ fn keys(page: &mut Page, table: &str, record: &str, moves: &[&str]) -> Done {
     Ok(())
 }
 
-/// The key after a move, made anew and of the key before it, and the setup after it.
+/// The key after a move, made in three ways, and the setup after it.
 fn tell_keys(page: &mut Page, table: &Table, setup: &Setup, m: Move) -> Result<Setup, Trouble> {
     let Some(after) = play(setup, m) else {
         return Err(Trouble::Row);
     };
-    let changed = key_after(table, key_of(table, setup), setup, m, &after);
+    let key = key_of(table, setup);
     page.put(" anew ");
     page.put_digits(key_of(table, &after).to_be_bytes().as_slice());
     page.put(", by change ");
-    page.put_digits(changed.to_be_bytes().as_slice());
+    page.put_digits(
+        key_after(table, key, setup, m, &after)
+            .to_be_bytes()
+            .as_slice(),
+    );
+    page.put(", of the setup before ");
+    page.put_digits(key_next(table, key, setup, m).to_be_bytes().as_slice());
     page.put("\n");
     Ok(after)
 }
