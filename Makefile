@@ -85,9 +85,11 @@ test-io: build
 test-journal: build
 	@sh scripts/test_journal.sh
 
-# Times the program that plays moves, and the commands, and compares a book with PolyGlot's own.
+# Compares counts of sequences of moves with published ones, times the program that plays moves, and the commands, and compares a book with
+# PolyGlot's own.
 bench: build
 	@cd crates/bench_moves && rt run -- perft '$(START)' 1 > /dev/null
+	@sh bench/sequences.sh
 	@sh bench/moves.sh
 	@sh bench/epd.sh
 	@sh bench/books.sh

@@ -1,23 +1,71 @@
 #!/bin/sh
 # Times the program bench_moves (`make bench` builds it): sequences of legal moves a second, and
 # nanoseconds to judge and play a ply and to make its key. Each figure is the best of five runs, so that other work on the machine
-# disturbs it least.
+# disturbs it least. Where Stockfish is installed, the longest sequences are counted in turn with its `go perft`, for scale.
+# Usage: bench/moves.sh [PROGRAM] (at the top of the repository).
 set -eu
-program=crates/bench_moves/out/bench_moves
+PATH=$PATH:/usr/games
+program=${1:-crates/bench_moves/out/bench_moves}
 . bench/best.sh
+initial='rnbqkbnr/pppppppp/8/8/8/8/PPPPPPPP/RNBQKBNR w KQkq - 0 1'
+middle='r3k2r/p1ppqpb1/bn2pnp1/3PN3/1p2P3/2N2Q1p/PPPBBPPP/R3K2R w KQkq - 0 1'
 
-# sequences NAME FEN DEPTH
-sequences() {
-    count=$("$program" perft "$2" "$3")
-    time=$(best 5 "$program" perft "$2" "$3")
-    awk -v name="$1" -v count="$count" -v time="$time" \
-        'BEGIN { printf "%s: %d sequences, %.1f million a second\n", name, count, count * 1000 / time }'
+# tell NAME COUNT TIME
+tell() {
+    awk -v name="$1" -v count="$2" -v time="$3" \
+        'BEGIN { printf "%s: %d sequences in %.1f ms, %.1f million a second\n", name, count, time / 1e6, count * 1000 / time }'
 }
 
-sequences "initial array, length 4" "rnbqkbnr/pppppppp/8/8/8/8/PPPPPPPP/RNBQKBNR w KQkq - 0 1" 4
-sequences "initial array, length 5" "rnbqkbnr/pppppppp/8/8/8/8/PPPPPPPP/RNBQKBNR w KQkq - 0 1" 5
-sequences "middle game, length 3" "r3k2r/p1ppqpb1/bn2pnp1/3PN3/1p2P3/2N2Q1p/PPPBBPPP/R3K2R w KQkq - 0 1" 3
-sequences "middle game, length 4" "r3k2r/p1ppqpb1/bn2pnp1/3PN3/1p2P3/2N2Q1p/PPPBBPPP/R3K2R w KQkq - 0 1" 4
+# sequences NAME FEN LENGTH
+sequences() {
+    count=$("$program" perft "$2" "$3")
+    tell "$1, length $3" "$count" "$(best 5 "$program" perft "$2" "$3")"
+}
+
+# ask ORDER ANSWER: hands Stockfish an order and leaves in `line` the line of its answer that begins so
+ask() {
+    printf '%s\n' "$1" >&3
+    while read -r line <&4; do
+        case $line in "$2"*) return 0 ;; esac
+    done
+    return 1
+}
+
+# beside NAME FEN LENGTH: the same in turn with Stockfish, which has to count as many. It runs already, so its start isn't timed.
+beside() {
+    count=$("$program" perft "$2" "$3")
+    printf 'position fen %s\n' "$2" >&3
+    ask "go perft $3" 'Nodes searched: '
+    [ "${line#Nodes searched: }" = "$count" ] || { echo "$1, length $3: $count sequences, Stockfish has another count: $line"; exit 1; }
+    rounds=5
+    while [ "$rounds" -gt 0 ]; do
+        once "$program" perft "$2" "$3" >> "$work/own"
+        once ask "go perft $3" 'Nodes searched: ' >> "$work/other"
+        rounds=$((rounds - 1))
+    done
+    tell "$1, length $3" "$count" "$(sort -n "$work/own" | head -1)"
+    tell "    in turn with it, Stockfish's go perft" "$count" "$(sort -n "$work/other" | head -1)"
+    rm "$work/own" "$work/other"
+}
+
+sequences 'initial array' "$initial" 4
+sequences 'middle game' "$middle" 3
+if command -v stockfish > /dev/null; then
+    work=$(mktemp -d)
+    trap 'rm -rf "$work"' EXIT
+    mkfifo "$work/orders" "$work/answers"
+    stockfish < "$work/orders" > "$work/answers" &
+    exec 3> "$work/orders" 4< "$work/answers"
+    ask isready readyok
+    beside 'initial array' "$initial" 5
+    beside 'middle game' "$middle" 4
+    echo '    Both play all plies but the last, whose legal moves are listed and counted.'
+    exec 3>&- 4<&-
+    wait
+else
+    sequences 'initial array' "$initial" 5
+    sequences 'middle game' "$middle" 4
+fi
 
 # The games are chosen by listing moves, which takes longer than playing them: the difference of two runs is the
 # playing alone.
