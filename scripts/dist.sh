@@ -6,7 +6,7 @@ version=$({ build/pbook --version || :; } | cut -d' ' -f2)
 name=pbook-$version-x86_64-linux
 rm -rf "build/$name"
 make -s install DESTDIR="$PWD/build/$name" PREFIX=
-for text in docs/GUIDE.md docs/FORMATS.md CHANGELOG.md; do
+for text in docs/GUIDE.md docs/FORMATS.md docs/GLOSSARY.md docs/PERFORMANCE.md CHANGELOG.md; do
     install -D -m 644 "$text" "build/$name/share/doc/pbook/${text##*/}"
 done
 cd build
