@@ -81,8 +81,10 @@ test-growths: build
 test-io: build
 	@sh scripts/test_io.sh
 
-# Kills collectors at random moments, starts them again on their journal, and compares what they answered.
+# Runs the example of two workers, whose collector is killed once; then kills collectors at random moments, starts them again on their
+# journal, and compares what they answered.
 test-journal: build
+	@sh examples/workers.sh
 	@sh scripts/test_journal.sh
 
 # Compares counts of sequences of moves with published ones, times the program that plays moves, and the commands, and compares a book with

@@ -28,6 +28,7 @@ ask() {
     while read -r line <&4; do
         case $line in "$2"*) return 0 ;; esac
     done
+    echo "Stockfish has ended, asked for: $1" >&2
     return 1
 }
 
