@@ -9,17 +9,17 @@ use Rattle.pb_board.specs.declared.piece.Kind.{Kind}
 use Rattle.pb_board.specs.declared.piece.Kind.TheVariants.{Pawn, Knight, Bishop, Rook, Queen, King}
 use Rattle.pb_board.specs.declared.piece.Piece.{Piece}
 use Rattle.pb_board.specs.Board.{Board, Place, at, file, rank, Holds, IsForward}
-use Rattle.pb_board.specs.Position.{Position, IsSetup}
+use Rattle.pb_board.specs.Position.{Position, IsSetup, beyond}
 use Rattle.pb_moves.specs.Attack.{files_apart}
 use Rattle.pb_moves.specs.Moved.{Moved, IsMove}
 use Rattle.pb_board.specs.Castling.{castling_of, castling_row}
-use Rattle.pb_moves.specs.Cases.{Goes, CaseOf, piece_move, pawn_step, pawn_double, pawn_capture, en_passant, castles}
+use Rattle.pb_moves.specs.Cases.{Goes, EnPassant, CaseOf, piece_move, pawn_step, pawn_double, pawn_capture, en_passant, castles}
 use Rattle.pb_moves.specs.Successor.{arriving, beside, put, with_rook}
 use Rattle.pb_moves.proofs.Differing.{All-two, at_put_other, at_put_same, length_put, off_one, off_two, same_boards, same_lists, same_or_not}
 use Rattle.pb_moves.proofs.Kings.{gone_is_beyond, pawn_reach}
 use Rattle.pb_moves.proofs.Successors.{board_is}
 use Rattle.pb_moves.proofs.Castlings.{castling_is, near_is_none, rows}
-use Rattle.pb_moves.proofs.Unique.{king_near, pawn_files}
+use Rattle.pb_moves.proofs.Unique.{king_near, passed_at, pawn_files}
 use Rattle.pb_poly.specs.Key.{piece_places}
 use Rattle.pb_poly.specs.KeyChange.{beside_kind, changed_places, rook_squares, square_places}
 use Rattle.pb_poly.proofs.Among.{Among, Distinct, total}
@@ -157,41 +157,56 @@ covers_four old moved a b c d x y ab ac ad bc bd cd others = record {
       sym (last ∙ third ∙ first);
 }
 
-beside_straight : (k : Kind) (m : Moved) → k ≡ Pawn → file m.to ≡ file m.from → beside_kind k m ≡ []
-beside_straight Pawn m pawn same = let e = eq-eqb (file m.to) (file m.from) same in rw e refl
-beside_straight k m pawn same = absurd (cc)
+pub beside_straight : (k : Kind) (old : Board) (m : Moved) → k ≡ Pawn → file m.to ≡ file m.from → beside_kind k old m ≡ []
+beside_straight Pawn old m pawn same = let e = eq-eqb (file m.to) (file m.from) same in rw e refl
+beside_straight k old m pawn same = absurd (cc)
 
-beside_slant : (k : Kind) (m : Moved) → k ≡ Pawn → file m.to ≢ file m.from → beside_kind k m ≡ (8 * rank m.from + file m.to) ∷ []
-beside_slant Pawn m pawn other =
+pub beside_taking : (k : Kind) (old : Board) (m : Moved) (p : Piece) → k ≡ Pawn → Holds old m.to p → beside_kind k old m ≡ []
+beside_taking Pawn old m p pawn taken =
+    elim (eqb_tells (file m.to) (file m.from)) [
+      | inl same ↦ rw same.0 refl
+      | inr other ↦ rw (other.0, taken) refl
+    ]
+beside_taking k old m p pawn taken = absurd (cc)
+
+pub beside_passing : (k : Kind) (old : Board) (m : Moved) → k ≡ Pawn → file m.to ≢ file m.from → at old m.to ≡ None → beside_kind k old m ≡ (8 * rank m.from + file m.to) ∷ []
+beside_passing Pawn old m pawn other free =
     elim (eqb_tells (file m.to) (file m.from)) [
       | inl same ↦ absurd (other same.1)
-      | inr e ↦ rw e.0 refl
+      | inr e ↦ rw (e.0, free) refl
     ]
-beside_slant k m pawn other = absurd (cc)
+beside_passing k old m pawn other free = absurd (cc)
 
-beside_piece : (k : Kind) (m : Moved) → k ≢ Pawn → (k ≡ King → files_apart m.from m.to ≤ 1) → beside_kind k m ≡ []
-beside_piece Pawn m no_pawn near = absurd (no_pawn refl)
-beside_piece Knight m no_pawn near = refl
-beside_piece Bishop m no_pawn near = refl
-beside_piece Rook m no_pawn near = refl
-beside_piece Queen m no_pawn near = refl
-beside_piece King m no_pawn near = ap rook_squares (near_is_none m.from m.to (near refl))
+beside_piece : (k : Kind) (old : Board) (m : Moved) → k ≢ Pawn → (k ≡ King → files_apart m.from m.to ≤ 1) → beside_kind k old m ≡ []
+beside_piece Pawn old m no_pawn near = absurd (no_pawn refl)
+beside_piece Knight old m no_pawn near = refl
+beside_piece Bishop old m no_pawn near = refl
+beside_piece Rook old m no_pawn near = refl
+beside_piece Queen old m no_pawn near = refl
+beside_piece King old m no_pawn near = ap rook_squares (near_is_none m.from m.to (near refl))
 
-beside_castling : (k : Kind) (m : Moved) → k ≡ King → beside_kind k m ≡ rook_squares (castling_of m.from m.to)
-beside_castling King m king = refl
-beside_castling k m king = absurd (cc)
+pub beside_castling : (k : Kind) (old : Board) (m : Moved) → k ≡ King → beside_kind k old m ≡ rook_squares (castling_of m.from m.to)
+beside_castling King old m king = refl
+beside_castling k old m king = absurd (cc)
 
 beside_king : (k : Kind) (old moved : Board) (m : Moved) → k ≡ King → beside k old moved m ≡ with_rook old moved (castling_of m.from m.to)
 beside_king King old moved m king = refl
 beside_king k old moved m king = absurd (cc)
 
 -- a pawn that attacks a square goes one file aside and one rank on
-slant : (side : Colour) (from to : ℕ) → files_apart from to ≡ 1 → IsForward side 1 from to → (file to ≢ file from) × (from ≢ 8 * rank from + file to) × (to ≢ 8 * rank from + file to)
+pub slant : (side : Colour) (from to : ℕ) → files_apart from to ≡ 1 → IsForward side 1 from to → (file to ≢ file from) × (from ≢ 8 * rank from + file to) × (to ≢ 8 * rank from + file to)
 slant White from to files forward = ((λ e. omega arith), (λ e. omega arith), λ e. omega arith)
 slant Black from to files forward = ((λ e. omega arith), (λ e. omega arith), λ e. omega arith)
 
+-- the pawn that is taken in passing stands beside the one that takes it
+pub gone_is : (s : Position) (m : Moved) (p : Piece) (new : Board) → p.colour ≡ s.turn → EnPassant s m p new → 8 * rank m.from + file m.to ≡ beyond s.turn m.to
+gone_is s m p new own x =
+    let F : Colour → Type 0 = λ side. IsForward side 1 m.from m.to in
+    let forward = subst F own (pawn_reach p.colour p.kind s.board m.from m.to x.reaches x.pawn) in
+    gone_is_beyond s.turn m.from m.to (8 * rank m.from + file m.to) forward (omega arith) (omega arith)
+
 -- what a piece leaves as it was
-others_two : (s : Position) (m : Moved) (p : Piece) (new : Board) → Goes s m p [] new → (q : ℕ) → q ≢ m.from → q ≢ m.to → at new q ≡ at s.board q
+pub others_two : (s : Position) (m : Moved) (p : Piece) (new : Board) → Goes s m p [] new → (q : ℕ) → q ≢ m.from → q ≢ m.to → at new q ≡ at s.board q
 others_two s m p new x q f t =
     let arriving : Piece = record { colour = s.turn; kind = x.kind } in
     x.board.others q (off_two q (m.from, None) (m.to, Some arriving) f t)
@@ -205,34 +220,30 @@ others_three s m p new gone x q f t g =
 
 -- a move changes nothing but on its own two squares and those beside
 pub covers : (s : Position) (m : Moved) (p : Piece) (new : Board) → IsSetup s → IsMove m → Holds s.board m.from p → p.colour ≡ s.turn → CaseOf s m p new
-    → Covers s.board new (m.from ∷ m.to ∷ beside_kind p.kind m)
+    → Covers s.board new (m.from ∷ m.to ∷ beside_kind p.kind s.board m)
 covers s m p new ok is stands own (piece_move x) =
     let P : List ℕ → Type 0 = λ beside. Covers s.board new (m.from ∷ m.to ∷ beside) in
-    subst P (sym (beside_piece p.kind m x.no_pawn (king_near p.colour p.kind s.board m.from m.to x.reaches)))
+    subst P (sym (beside_piece p.kind s.board m x.no_pawn (king_near p.colour p.kind s.board m.from m.to x.reaches)))
     (covers_two s.board new m.from m.to is.moves (others_two s m p new x.after))
 covers s m p new ok is stands own (pawn_step x) =
     let P : List ℕ → Type 0 = λ beside. Covers s.board new (m.from ∷ m.to ∷ beside) in
-    subst P (sym (beside_straight p.kind m x.pawn x.same_file))
+    subst P (sym (beside_straight p.kind s.board m x.pawn x.same_file))
     (covers_two s.board new m.from m.to is.moves (others_two s m p new x.after))
 covers s m p new ok is stands own (pawn_double x) =
     let P : List ℕ → Type 0 = λ beside. Covers s.board new (m.from ∷ m.to ∷ beside) in
-    subst P (sym (beside_straight p.kind m x.pawn x.same_file))
+    subst P (sym (beside_straight p.kind s.board m x.pawn x.same_file))
     (covers_two s.board new m.from m.to is.moves (others_two s m p new x.after))
 covers s m p new ok is stands own (pawn_capture x) =
     let P : List ℕ → Type 0 = λ beside. Covers s.board new (m.from ∷ m.to ∷ beside) in
-    let apart = slant p.colour m.from m.to (pawn_files p.colour p.kind s.board m.from m.to x.reaches x.pawn) (pawn_reach p.colour p.kind s.board m.from m.to x.reaches x.pawn) in
-    subst P (sym (beside_slant p.kind m x.pawn apart.0))
-    (covers_three s.board new m.from m.to (8 * rank m.from + file m.to) is.moves apart.1 apart.2 (λ q f t g. others_two s m p new x.after q f t))
+    subst P (sym (beside_taking p.kind s.board m _ x.pawn x.target.stands))
+    (covers_two s.board new m.from m.to is.moves (others_two s m p new x.after))
 covers s m p new ok is stands own (en_passant x) =
     let P : List ℕ → Type 0 = λ beside. Covers s.board new (m.from ∷ m.to ∷ beside) in
     let apart = slant p.colour m.from m.to (pawn_files p.colour p.kind s.board m.from m.to x.reaches x.pawn) (pawn_reach p.colour p.kind s.board m.from m.to x.reaches x.pawn) in
-    let F : Colour → Type 0 = λ side. IsForward side 1 m.from m.to in
-    let forward = subst F own (pawn_reach p.colour p.kind s.board m.from m.to x.reaches x.pawn) in
-    let gone = gone_is_beyond s.turn m.from m.to (8 * rank m.from + file m.to) forward (omega arith) (omega arith) in
     let G : ℕ → Type 0 = λ q. Goes s m p ((q, None) ∷ []) new in
-    subst P (sym (beside_slant p.kind m x.pawn apart.0))
+    subst P (sym (beside_passing p.kind s.board m x.pawn apart.0 (passed_at s m.to ok x.passed).1.empty))
     (covers_three s.board new m.from m.to (8 * rank m.from + file m.to) is.moves apart.1 apart.2
-    (others_three s m p new (8 * rank m.from + file m.to) (subst G (sym gone) x.after)))
+    (others_three s m p new (8 * rank m.from + file m.to) (subst G (sym (gone_is s m p new own x)) x.after)))
 covers s m p new ok is stands own (castles c x) =
     let row = castling_row c in
     let squares = rows c in
@@ -242,7 +253,7 @@ covers s m p new ok is stands own (castles c x) =
     sym (beside_king p.kind s.board moved m x.king ∙ ap (with_rook s.board moved) found) ∙ board_is s m p new ok is stands own (castles c x) in
     let Q : Board → Type 0 = λ b. Covers s.board b (m.from ∷ m.to ∷ rook_squares (Some c)) in
     let R : List ℕ → Type 0 = λ beside. Covers s.board new (m.from ∷ m.to ∷ beside) in
-    subst R (sym (beside_castling p.kind m x.king ∙ ap rook_squares found))
+    subst R (sym (beside_castling p.kind s.board m x.king ∙ ap rook_squares found))
     (subst Q board (covers_four s.board moved m.from m.to row.rook_from row.rook_to None (at s.board row.rook_from) is.moves
     (λ e. squares.from_rook (sym x.from_home ∙ e)) (λ e. squares.from_rook_to (sym x.from_home ∙ e)) (λ e. squares.to_rook (sym x.to_table ∙ e)) (λ e. squares.to_rook_to (sym x.to_table ∙ e)) squares.rook_moves
     (λ q f t. at_put_other (put s.board m.from None) m.to q (Some (arriving p m.promo)) t ∙ at_put_other s.board m.from q None f)))

@@ -1,5 +1,5 @@
 -- The key before a move, joined by what the move changes, is the key after it.
-use Rattle.std.proofs.Common.{◌≡◌, ℕ, ◌+◌, ◌%◌, ◌^◌, ◌<◌, Bool, true, false, not, List, [], ◌∷◌, ◌++◌, length, refl, sym, ap, ◌∙◌, append_assoc, Some, arith}
+use Rattle.std.proofs.Common.{◌≡◌, ℕ, ◌+◌, ◌%◌, ◌^◌, ◌<◌, Bool, true, false, not, List, [], ◌∷◌, ◌++◌, length, refl, sym, ap, ◌∙◌, append_assoc, arith}
 use Rattle.std.specs.Prelude.{slice_index}
 use Rattle.std.specs.Bool.{beq}
 use Rattle.std.specs.Int.{bit_at}
@@ -8,15 +8,14 @@ use Rattle.std.proofs.lemmas.Nat.Bits.{bit_at-zero, same_from_bits_below}
 use Rattle.pb_board.specs.declared.castling.Castling.{Castling}
 use Rattle.pb_board.specs.declared.piece.Colour.{Colour}
 use Rattle.pb_board.specs.declared.piece.Colour.TheVariants.{White, Black}
-use Rattle.pb_board.specs.declared.piece.Piece.{Piece}
 use Rattle.pb_board.specs.declared.setup.Rights.{Rights}
 use Rattle.pb_board.specs.Piece.{opponent}
 use Rattle.pb_board.specs.Castling.{castling_row, castlings}
-use Rattle.pb_board.specs.Board.{Board, Place, at}
+use Rattle.pb_board.specs.Board.{Board}
 use Rattle.pb_board.specs.Position.{Position}
 use Rattle.pb_moves.specs.Moved.{Moved}
 use Rattle.pb_poly.specs.Key.{castling_place, joined, key, passed_places, piece_places, place_if, places, rights_places, turn_places}
-use Rattle.pb_poly.specs.KeyChange.{beside_kind, changed_places, lost_places, squares_beside}
+use Rattle.pb_poly.specs.KeyChange.{changed_places, lost_places}
 use Rattle.pb_poly.specs.Table.{IsTable}
 use Rattle.pb_poly.proofs.Among.{total}
 use Rattle.pb_poly.proofs.KeyChanges.{Covers, changed_are, some_squares, total-append}
@@ -86,27 +85,16 @@ pub record IsJoined (words : List ℕ) (s t : Position) (squares : List ℕ) (k 
   pub turn : t.turn ≡ opponent s.turn
   pub is : l ≡ joined words passed (780 ∷ [])
 
-changed_first : (old new : Board) (q : ℕ) (squares : List ℕ) → changed_places old new (q ∷ []) ++ changed_places old new squares ≡ changed_places old new (q ∷ squares)
-changed_first old new q squares = simp append_assoc
+two_and_more : (old new : Board) (a b : ℕ) (squares : List ℕ) → changed_places old new (a ∷ b ∷ []) ++ changed_places old new squares ≡ changed_places old new (a ∷ b ∷ squares)
+two_and_more old new a b squares = simp append_assoc
 
--- one square, and then the others
-square_and_more : (words : List ℕ) (old new : Board) (k l r q index : ℕ) (squares : List ℕ) → index ≡ q → l ≡ joined words k (changed_places old new (index ∷ []))
-    → r ≡ joined words l (changed_places old new squares) → r ≡ joined words k (changed_places old new (q ∷ squares))
-square_and_more words old new k l r q index squares same first more =
-    more ∙ ap (λ n. joined words n (changed_places old new squares)) (first ∙ ap (λ i. joined words k (changed_places old new (i ∷ []))) same)
-    ∙ sym (joined-append words k (changed_places old new (q ∷ [])) (changed_places old new squares))
-    ∙ ap (λ ps. joined words k ps) (changed_first old new q squares)
-
--- the squares of a move, one after the other
-pub all_squares : (words : List ℕ) (old new : Board) (m : Moved) (p : Piece) (k left reached pieces from to : ℕ) → at old m.from ≡ Some p → from ≡ m.from → to ≡ m.to
-    → left ≡ joined words k (changed_places old new (from ∷ [])) → reached ≡ joined words left (changed_places old new (to ∷ []))
-    → pieces ≡ joined words reached (changed_places old new (squares_beside (at old m.from) m))
-    → pieces ≡ joined words k (changed_places old new (m.from ∷ m.to ∷ beside_kind p.kind m))
-all_squares words old new m p k left reached pieces from to stands same_from same_to left_is reached_is pieces_is =
-    let beside : pieces ≡ joined words reached (changed_places old new (beside_kind p.kind m)) =
-    pieces_is ∙ ap (λ (place : Place). joined words reached (changed_places old new (squares_beside place m))) stands in
-    square_and_more words old new k left pieces m.from from (m.to ∷ beside_kind p.kind m) same_from left_is
-    (square_and_more words old new left reached pieces m.to to (beside_kind p.kind m) same_to reached_is beside)
+-- a move's own two squares, and then those beside
+pub all_squares : (words : List ℕ) (old new : Board) (m : Moved) (squares : List ℕ) (k carried pieces : ℕ) → carried ≡ joined words k (changed_places old new (m.from ∷ m.to ∷ []))
+    → pieces ≡ joined words carried (changed_places old new squares) → pieces ≡ joined words k (changed_places old new (m.from ∷ m.to ∷ squares))
+all_squares words old new m squares k carried pieces own beside =
+    beside ∙ ap (λ n. joined words n (changed_places old new squares)) own
+    ∙ sym (joined-append words k (changed_places old new (m.from ∷ m.to ∷ [])) (changed_places old new squares))
+    ∙ ap (λ ps. joined words k ps) (two_and_more old new m.from m.to squares)
 
 next_bit : (words : List ℕ) (bit k l : ℕ) (ps : List ℕ) → l ≡ joined words k ps → bit_at l bit ≡ (bit_at k bit + total (λ place. bit_at (slice_index words place) bit) ps) % 2
 next_bit words bit k l ps is = ap (λ n. bit_at n bit) is ∙ joined_bit words bit k ps

@@ -6,6 +6,7 @@ pub mod EntryBytes
 pub mod Feeds
 pub mod Finding
 pub mod KeyChanges
+pub mod KeyMoves
 pub mod KeyPlies
 pub mod Keys
 pub mod OnlyTables

@@ -1,5 +1,5 @@
 -- The places of the table whose words a move joins to a key.
-use Rattle.std.specs.Prelude.{ℕ, ◌+◌, ◌*◌, ◌==◌, not, Option, Some, None, List, [], ◌∷◌, ◌++◌, if◌then◌else◌}
+use Rattle.std.specs.Prelude.{ℕ, ◌+◌, ◌*◌, ◌==◌, ◌&&◌, not, Option, Some, None, List, [], ◌∷◌, ◌++◌, is_none, if◌then◌else◌}
 use Rattle.std.specs.Bool.{beq}
 use Rattle.pb_board.specs.declared.castling.Castling.{Castling}
 use Rattle.pb_board.specs.declared.piece.Kind.{Kind}
@@ -26,14 +26,10 @@ rook_squares None = []
 rook_squares (Some c) = let row = castling_row c in row.rook_from ∷ row.rook_to ∷ []
 
 -- the squares besides its own two that the move of such a piece may change: that of a pawn taken in passing, and the rook's
-abbrev pub beside_kind : Kind → Moved → List ℕ
-beside_kind Pawn m = if file m.to == file m.from then [] else (8 * rank m.from + file m.to) ∷ []
-beside_kind King m = rook_squares (castling_of m.from m.to)
-beside_kind _ m = []
-
-abbrev pub squares_beside : Place → Moved → List ℕ
-squares_beside None m = []
-squares_beside (Some piece) m = beside_kind piece.kind m
+abbrev pub beside_kind : Kind → Board → Moved → List ℕ
+beside_kind Pawn old m = if not (file m.to == file m.from) && is_none (at old m.to) then (8 * rank m.from + file m.to) ∷ [] else []
+beside_kind King old m = rook_squares (castling_of m.from m.to)
+beside_kind _ old m = []
 
 -- the places of the rights that one of the two has
 abbrev pub lost_places : Rights → Rights → List ℕ

@@ -56,7 +56,8 @@ fn pieces_key(table: &Table, board: &[Option<Piece>; 64]) -> u64
 }
 
 /// The key, joined by the word at the place where the flag is set.
-fn with_flag(table: &Table, key: u64, flag: bool, place: usize) -> u64
+#[inline(always)]
+pub(crate) fn with_flag(table: &Table, key: u64, flag: bool, place: usize) -> u64
     requires { place < 781 }
     ensures { result ≡ joined table.now key (place_if flag place) }
 {
@@ -95,13 +96,13 @@ pub(crate) fn with_rights(table: &Table, key: u64, rights: Rights) -> u64
     with_right(table, long, rights, Castling::BlackLong)
 }
 
-/// Whether a pawn of the side to move stands on the square of this index.
-fn has_own_pawn(setup: &Setup, square: u8) -> bool
+/// Whether a pawn of this side stands on the square of this index.
+fn has_pawn(setup: &Setup, side: Colour, square: u8) -> bool
     requires { square < 64 }
-    ensures { result ≡ is_piece (pawn_of setup.now.turn) (at setup.now.board square) }
+    ensures { result ≡ is_piece (pawn_of side) (at setup.now.board square) }
 {
     match setup.board()[square as usize] {
-        Some(piece) => piece.kind == Kind::Pawn && piece.colour == setup.turn(),
+        Some(piece) => piece.kind == Kind::Pawn && piece.colour == side,
         None => false,
     }
 }
@@ -118,13 +119,22 @@ fn beyond(turn: Colour, passed: Square) -> u8
     }
 }
 
-/// Whether a pawn of the side to move stands directly beside the square of this index.
-fn has_taker(setup: &Setup, pawn: u8) -> bool
+/// Whether a pawn of this side stands directly beside the square of this index.
+pub(crate) fn has_taker(setup: &Setup, side: Colour, pawn: u8) -> bool
     requires { pawn < 64 }
-    ensures { result ≡ has_taker_by setup.now.board setup.now.turn pawn }
+    ensures { result ≡ has_taker_by setup.now.board side pawn }
 {
-    (pawn % 8 != 0 && has_own_pawn(setup, pawn - 1))
-        || (pawn % 8 != 7 && has_own_pawn(setup, pawn + 1))
+    (pawn % 8 != 0 && has_pawn(setup, side, pawn - 1))
+        || (pawn % 8 != 7 && has_pawn(setup, side, pawn + 1))
+}
+
+/// The place of the word of an en passant square on the file of this square.
+#[inline(always)]
+pub(crate) fn passed_place(square: Square) -> usize
+    ensures value { result ≡ 772 + file square }
+    ensures few { result < 780 }
+{
+    772 + square.file() as usize
 }
 
 /// The key, joined by the word of the en passant square where a pawn stands beside the pawn that has passed it.
@@ -134,8 +144,8 @@ pub(crate) fn with_passed(table: &Table, key: u64, setup: &Setup) -> u64
     let turn = setup.turn();
     match setup.ep() {
         Some(passed) => {
-            let flag = has_taker(setup, beyond(turn, passed));
-            with_flag(table, key, flag, 772 + passed.file() as usize)
+            let flag = has_taker(setup, turn, beyond(turn, passed));
+            with_flag(table, key, flag, passed_place(passed))
         }
         None => key,
     }

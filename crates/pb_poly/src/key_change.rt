@@ -1,80 +1,191 @@
 //! Keys by what a move changes.
 
-ghost use Rattle.std.specs.Prelude.{◌≡◌, [], ◌∷◌, Some};
-ghost use Rattle.pb_board.specs.Board.{at};
+ghost use Rattle.std.specs.Prelude.{◌≡◌, ◌||◌, ◌==◌, not, [], ◌∷◌, Some};
+ghost use Rattle.std.specs.Bool.{beq};
+ghost use Rattle.pb_board.specs.declared.piece.Kind.TheVariants.{Pawn};
+ghost use Rattle.pb_board.specs.Piece.{rook_of};
+ghost use Rattle.pb_board.specs.Castling.{castling_row};
+ghost use Rattle.pb_board.specs.Board.{Board, Holds};
+ghost use Rattle.pb_board.specs.Position.{Position};
+ghost use Rattle.pb_moves.specs.Cases.{Case, Legal};
 ghost use Rattle.pb_moves.specs.After.{After};
-ghost use Rattle.pb_poly.specs.Key.{IsKey, joined, key as key_by};
-ghost use Rattle.pb_poly.specs.KeyChange.{changed_places, lost_places, rook_squares, square_places, squares_beside};
+ghost use Rattle.pb_moves.specs.Successor.{after, arriving as arriving_by, keeps, rights_of};
+ghost use Rattle.pb_poly.specs.Key.{IsKey, joined, key as key_by, passed_places, piece_place as piece_place_by};
+ghost use Rattle.pb_poly.specs.KeyChange.{beside_kind, changed_places, lost_places, square_places};
 
-use crate::key::{WHITE_TO_MOVE, piece_place, with_passed, with_rights};
+use crate::key::{
+    WHITE_TO_MOVE, has_taker, passed_place, piece_place, with_flag, with_passed, with_rights,
+};
 use crate::table::Table;
 use pb_board::{Castling, Kind, Piece, Rights, Setup, Square};
 use pb_moves::Move;
 
+/// The key, joined by the word of the piece on the square.
+#[inline(always)]
+fn with_piece(table: &Table, key: u64, piece: Piece, square: Square) -> u64
+    ensures { result ≡ joined table.now key (piece_place_by piece square ∷ []) }
+{
+    key ^ table.word(piece_place(piece, square.index() as usize))
+}
+
 /// The key, joined by the word of what stands on the square.
+#[inline(always)]
 fn with_place(table: &Table, key: u64, place: Option<Piece>, square: Square) -> u64
     ensures { result ≡ joined table.now key (square_places place square) }
 {
     match place {
-        Some(piece) => key ^ table.word(piece_place(piece, square.index() as usize)),
+        Some(piece) => with_piece(table, key, piece, square),
         None => key,
     }
 }
 
-/// The key, joined by the words of what stood and of what stands on the square.
-fn with_square(table: &Table, key: u64, before: &Setup, after: &Setup, square: Square) -> u64
-    ensures { result ≡ joined table.now key (changed_places before.now.board after.now.board (square ∷ [])) }
+/// The piece after the move: what the move names, or what it was.
+#[inline(always)]
+fn arriving(piece: Piece, m: Move) -> Piece
+    ensures { result ≡ arriving_by piece m.promo }
 {
-    let left = with_place(table, key, before.at(square), square);
-    with_place(table, left, after.at(square), square)
+    match m.promo() {
+        Some(kind) => Piece {
+            colour: piece.colour,
+            kind,
+        },
+        None => piece,
+    }
+}
+
+/// The key, joined by the words of the move's own two squares: of the piece on the one, and on the other of what it takes
+/// and of what it is there.
+#[inline(always)]
+fn with_carried(table: &Table, key: u64, before: &Setup, m: Move, piece: Piece) -> u64
+    requires { Holds before.now.board m.from piece }
+    ensures { (new : Board) → Case before.now m new → result ≡ joined table.now key (changed_places before.now.board new (m.from ∷ m.to ∷ [])) }
+{
+    let to = m.to();
+    let left = with_piece(table, key, piece, m.from());
+    let taken = with_place(table, left, before.at(to), to);
+    with_piece(table, taken, arriving(piece, m), to)
+}
+
+/// The key, joined by the word of the pawn that a pawn takes in passing.
+#[inline(always)]
+fn with_gone(table: &Table, key: u64, before: &Setup, m: Move, pawn: Piece) -> u64
+    requires stands { Holds before.now.board m.from pawn }
+    requires pawn { pawn.kind ≡ Pawn }
+    ensures { (new : Board) → Case before.now m new → result ≡ joined table.now key (changed_places before.now.board new (beside_kind pawn.kind before.now.board m)) }
+{
+    let (from, to) = (m.from(), m.to());
+    // The reader tells that the setup meets its rules.
+    let _turn = before.turn();
+    if to.file() == from.file() || before.at(to).is_some() {
+        return key;
+    }
+    let gone = Square::new(to.file(), from.rank()).unwrap();
+    with_place(table, key, before.at(gone), gone)
 }
 
 /// The key, joined by the words of the squares of the rook that castles.
-fn with_rook(table: &Table, key: u64, before: &Setup, castling: Castling, after: &Setup) -> u64
-    ensures { result ≡ joined table.now key (changed_places before.now.board after.now.board (rook_squares (Some castling))) }
+fn with_rook(table: &Table, key: u64, castling: Castling) -> u64
+    ensures { let row = castling_row castling in
+        result ≡ joined table.now key (piece_place_by (rook_of row.colour) row.rook_from ∷ piece_place_by (rook_of row.colour) row.rook_to ∷ []) }
 {
     let squares = castling.squares();
-    let without = with_square(table, key, before, after, squares.rook_from);
-    with_square(table, without, before, after, squares.rook_to)
+    let rook = Piece {
+        colour: castling.colour(),
+        kind: Kind::Rook,
+    };
+    let left = with_piece(table, key, rook, squares.rook_from);
+    with_piece(table, left, rook, squares.rook_to)
 }
 
 /// The key, joined by the words of the squares besides the move's own two: that of a pawn taken in passing, and those of a
 /// rook that castles.
-fn with_beside(table: &Table, key: u64, before: &Setup, m: Move, after: &Setup) -> u64
-    ensures { result ≡ joined table.now key (changed_places before.now.board after.now.board (squares_beside (at before.now.board m.from) m)) }
+#[inline(always)]
+fn with_beside(table: &Table, key: u64, before: &Setup, m: Move, piece: Piece) -> u64
+    requires { Holds before.now.board m.from piece }
+    ensures { (new : Board) → Case before.now m new → result ≡ joined table.now key (changed_places before.now.board new (beside_kind piece.kind before.now.board m)) }
 {
-    let (from, to) = (m.from(), m.to());
-    let Some(piece) = before.at(from) else {
-        return key;
-    };
-    if piece.kind == Kind::Pawn && to.file() != from.file() {
-        let gone = Square::new(to.file(), from.rank()).unwrap();
-        return with_square(table, key, before, after, gone);
-    }
-    if piece.kind != Kind::King {
-        return key;
-    }
-    match Castling::of(from, to) {
-        Some(castling) => with_rook(table, key, before, castling, after),
-        None => key,
+    match piece.kind {
+        Kind::Pawn => with_gone(table, key, before, m, piece),
+        Kind::King => match Castling::of(m.from(), m.to()) {
+            Some(castling) => with_rook(table, key, castling),
+            None => key,
+        },
+        _ => key,
     }
 }
 
-/// The key, joined by the words of the castling rights that one of the two has.
-fn with_lost(table: &Table, key: u64, old: Rights, new: Rights) -> u64
-    ensures { result ≡ joined table.now key (lost_places old new) }
+/// Whether the move leaves or reaches the square.
+#[inline(always)]
+fn touches(m: Move, square: Square) -> bool
+    ensures { result ≡ (m.from == square || m.to == square) }
 {
-    // Most moves lose no right.
-    if old == new {
+    m.from() == square || m.to() == square
+}
+
+/// Whether the move loses a castling right that is there.
+#[inline(always)]
+fn is_lost(rights: Rights, m: Move, castling: Castling) -> bool
+    ensures { result ≡ not (beq ((castling_row castling).right rights) (keeps rights m castling)) }
+{
+    let squares = castling.squares();
+    castling.is_allowed(rights) && (touches(m, squares.king_from) || touches(m, squares.rook_from))
+}
+
+/// The key, joined by the words of the castling rights that the move loses.
+#[inline(always)]
+fn with_lost(table: &Table, key: u64, rights: Rights, m: Move) -> u64
+    ensures { result ≡ joined table.now key (lost_places rights (rights_of rights m)) }
+{
+    // Most moves touch none of these squares.
+    if !Castling::is_home(m.from()) && !Castling::is_home(m.to()) {
         return key;
     }
     let lost = Rights {
-        white_short: old.white_short != new.white_short,
-        white_long: old.white_long != new.white_long,
-        black_short: old.black_short != new.black_short,
-        black_long: old.black_long != new.black_long,
+        white_short: is_lost(rights, m, Castling::WhiteShort),
+        white_long: is_lost(rights, m, Castling::WhiteLong),
+        black_short: is_lost(rights, m, Castling::BlackShort),
+        black_long: is_lost(rights, m, Castling::BlackLong),
     };
     with_rights(table, key, lost)
+}
+
+/// The key, joined by the word of the en passant square after a double step, where an enemy pawn stands beside the pawn.
+#[inline(always)]
+fn with_stepped(table: &Table, key: u64, before: &Setup, m: Move, piece: Piece) -> u64
+    requires { Holds before.now.board m.from piece }
+    ensures { (t : Position) → After before.now m t → result ≡ joined table.now key (passed_places t t.ep) }
+{
+    let (from, to) = (m.from(), m.to());
+    let enemy = before.turn().opponent();
+    if piece.kind != Kind::Pawn || from.rank().abs_diff(to.rank()) != 2 {
+        return key;
+    }
+    // The move leaves the squares beside this one as they were.
+    let flag = has_taker(before, enemy, to.index());
+    with_flag(table, key, flag, passed_place(to))
+}
+
+/// The key of the setup after a legal move, made of the setup before it and its key alone.
+///
+/// It may be made before it is known whether the move is legal: where it isn't, the number means nothing. The key is joined
+/// by the words of what the move changes, on four squares at most, without going over the board.
+pub fn key_next(table: &Table, key: u64, before: &Setup, m: Move) -> u64
+    requires key { key ≡ key_by table.now before.now }
+    ensures parity { Legal before.now m → IsKey table.now (after before.now m) result }
+    ensures value { Legal before.now m → result ≡ key_by table.now (after before.now m) }
+    ensures only { (t : Position) → After before.now m t → result ≡ key_by table.now t }
+{
+    // The readers tell that the table and the setup meet their rules.
+    let (_words, _turn) = (table.words(), before.turn());
+    let Some(piece) = before.at(m.from()) else {
+        return key;
+    };
+    let carried = with_carried(table, key, before, m, piece);
+    let pieces = with_beside(table, carried, before, m, piece);
+    let rights = with_lost(table, pieces, before.rights(), m);
+    let unpassed = with_passed(table, rights, before);
+    let passed = with_stepped(table, unpassed, before, m, piece);
+    passed ^ table.word(WHITE_TO_MOVE)
 }
 
 /// The key of the setup after a move, made of the key of the setup before it, as `play` gives the one after the other.
@@ -86,13 +197,7 @@ pub fn key_after(table: &Table, key: u64, before: &Setup, m: Move, after: &Setup
     ensures parity { IsKey table.now after.now result }
     ensures value { result ≡ key_by table.now after.now }
 {
-    // The readers tell that the table and the setups meet their rules.
-    let (_words, _turn, _turned) = (table.words(), before.turn(), after.turn());
-    let left = with_square(table, key, before, after, m.from());
-    let reached = with_square(table, left, before, after, m.to());
-    let pieces = with_beside(table, reached, before, m, after);
-    let rights = with_lost(table, pieces, before.rights(), after.rights());
-    let unpassed = with_passed(table, rights, before);
-    let passed = with_passed(table, unpassed, after);
-    passed ^ table.word(WHITE_TO_MOVE)
+    // The readers tell that the table and the setup meet their rules.
+    let (_words, _turned) = (table.words(), after.turn());
+    key_next(table, key, before, m)
 }

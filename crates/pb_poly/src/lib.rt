@@ -18,7 +18,7 @@ pub use code::{code_of, move_of};
 pub use entry::{Entry, write_entry};
 pub use found::probe;
 pub use key::key_of;
-pub use key_change::key_after;
+pub use key_change::{key_after, key_next};
 pub use pb_io::{
     Failed, FromRead, FuseSink, FuseSource, LINE_LIMIT, LineTask, LinesFault, MemSink, MemSource,
     NeverSource, Sink, Source, ToWrite, take_lines,
