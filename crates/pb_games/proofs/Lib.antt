@@ -11,3 +11,4 @@ pub mod Refused
 pub mod OneRefused
 pub mod Again
 pub mod InitialText
+pub mod InitialBoard

@@ -1,7 +1,6 @@
 //! Judging a line.
 
 ghost use Rattle.std.specs.Prelude.{◌≡◌, ◌≤◌, ◌↔◌, IfErr, IfOk, IsTrue, MatchResult, Ok, length};
-ghost use Rattle.pb_moves.specs.Attack.{Playable};
 ghost use Rattle.pb_moves.specs.Played.{plies_from};
 ghost use Rattle.pb_games.specs.Reading.{AreRead, AreRefused, IsToldAll};
 ghost use Rattle.pb_games.specs.Refusing.{Refuses};
@@ -15,7 +14,7 @@ use crate::outcome::Outcome;
 use crate::player::{Plain, Player};
 use crate::refusal::Refusal;
 use crate::words::Words;
-use pb_board::{Fen, Setup};
+use pb_board::Setup;
 use pb_moves::{playable, read_move};
 
 /// The most moves that a game may have.
@@ -70,20 +69,15 @@ fn judge<'a, P: Player>(line: &'a [u8], player: &mut P) -> Result<Line<'a>, Refu
         Ok(header) => header,
         Err(refusal) => return Err(refusal),
     };
-    if !may_start(&header.start) {
+    let start = header.start.setup();
+    // The side that isn't to move may not be in check.
+    if !playable(&start) {
         return Err(Refusal::Start);
     }
-    match read_moves(player, header.start.setup(), header.outcome, header.moves) {
+    match read_moves(player, &start, header.outcome, header.moves) {
         Ok(plies) => Ok(Line::of(header, plies)),
         Err(refusal) => Err(refusal),
     }
-}
-
-/// Whether a game may start from the record: the side that isn't to move isn't in check.
-fn may_start(start: &Fen) -> bool
-    ensures { IsTrue result ↔ Playable start.now.setup }
-{
-    playable(&start.setup())
 }
 
 /// Reads the words of the field and plays the moves from this setup. The answer is their number, or the first refusal
@@ -91,17 +85,17 @@ fn may_start(start: &Fen) -> bool
 /// for their spelling alone, since a word that spells no move is refused first.
 fn read_moves<P: Player>(
     player: &mut P,
-    start: Setup,
+    start: &Setup,
     outcome: Outcome,
     field: &[u8],
 ) -> Result<u32, Refusal>
     requires { length field.now ≤ MAX_BYTES }
-    ensures read { MatchResult result (AreRead start field.now) (AreRefused start field.now) }
-    ensures told { IfOk result (λ _. IsToldAll (P.holds player.new) outcome (plies_from start (moves_named field.now))) }
+    ensures read { MatchResult result (AreRead start.now field.now) (AreRefused start.now field.now) }
+    ensures told { IfOk result (λ _. IsToldAll (P.holds player.new) outcome (plies_from start.now (moves_named field.now))) }
     ensures fixed { P.fixed player.new ≡ P.fixed player.old }
 {
-    player.begin(&start, outcome);
-    let mut setup = start;
+    player.begin(start, outcome);
+    let mut setup = *start;
     let mut illegal = None;
     let mut count = 0;
     for word in Words::of(field) {

@@ -8,7 +8,8 @@ use crate::fields::cut_fields;
 use crate::id::is_id;
 use crate::outcome::{Outcome, read_outcome};
 use crate::refusal::Refusal;
-use pb_board::{Fen, read_fen};
+use crate::start::read_start;
+use pb_board::Fen;
 
 /// The most bytes that a line may have, a final CR counted.
 const MAX_BYTES: usize = 8192;
@@ -39,7 +40,7 @@ pub(crate) fn read_header(line: &[u8]) -> Result<Header<'_>, Refusal>
     let Some(outcome) = read_outcome(fields.outcome) else {
         return Err(Refusal::Result);
     };
-    match read_fen(fields.start) {
+    match read_start(fields.start) {
         Ok(start) => Ok(Header {
             id: fields.id,
             outcome,

@@ -6,6 +6,7 @@ mod fields;
 mod game;
 mod header;
 mod id;
+mod initial;
 pub mod laws;
 mod line;
 mod move_list;

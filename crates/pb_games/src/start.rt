@@ -1,15 +1,15 @@
 //! The records that games start from.
 
-ghost use Rattle.std.specs.Prelude.{◌≡◌, ◌↔◌, IfOk, IsTrue, Ok};
+ghost use Rattle.std.specs.Prelude.{◌≡◌, ◌↔◌, IfErr, IfOk, IsTrue, Ok};
 ghost use Rattle.pb_board.specs.Fen.{FenText};
+ghost use Rattle.pb_board.specs.Position.{IsRecord};
+ghost use Rattle.pb_board.specs.Refusal.{IsFirstDue, of_record, fields};
 ghost use Rattle.pb_games.specs.Starts.{initial_record};
 
-use pb_board::{Fen, FenBytes, Setup};
+use crate::initial::{initial_record, is_initial, is_initial_text};
+use pb_board::{Fen, FenBytes, FenError, read_fen};
 use std::alloc::{AllocError, Global};
 use std::marker::Model;
-
-/// The text of the initial record.
-const INITIAL_TEXT: &[u8] = b"rnbqkbnr/pppppppp/8/8/8/8/PPPPPPPP/RNBQKBNR w KQkq - 0 1";
 
 /// The record that a game starts from. The initial record takes no memory, since nearly all games start from it: the initial array
 /// before the first move.
@@ -53,7 +53,7 @@ impl Start {
     {
         match &self.held {
             Some(fen) => **fen,
-            None => Fen::with_clocks(Setup::start(), 0, 1),
+            None => initial_record(),
         }
     }
 
@@ -82,18 +82,15 @@ fn is_text_of(text: &[u8], fen: &Fen) -> bool
     text == fen.text().as_bytes()
 }
 
-/// Whether the text is that of the initial record.
-fn is_initial_text(text: &[u8]) -> bool
-    ensures { IsTrue result ↔ FenText initial_record text.now }
+/// The record that the text spells, as `read_fen` reads it. The text of the initial record is known as a whole, since nearly all lines
+/// have it.
+pub(crate) fn read_start(text: &[u8]) -> Result<Fen, FenError>
+    ensures found { IfOk result (λ f. IsRecord f × FenText f text.now) }
+    ensures refused { IfErr result (λ e. IsFirstDue of_record e (fields text.now)) }
 {
-    text == INITIAL_TEXT
-}
-
-/// Whether the record is the initial one.
-fn is_initial(fen: &Fen) -> bool
-    ensures { IsTrue result ↔ (fen.now ≡ initial_record) }
-{
-    // The reader tells that the record meets its rules.
-    let _setup = fen.setup();
-    is_initial_text(fen.text().as_bytes())
+    if is_initial_text(text) {
+        Ok(initial_record())
+    } else {
+        read_fen(text)
+    }
 }

@@ -22,7 +22,7 @@ loop-word-init g c =
       cut = cut;
       number = refl;
       spelt = λ k d h. absurd (omega (arith, h));
-      legal = λ none few. leads_same (g.P.Player.holds c.begin.new.self c.args.outcome) c.args.start (words_of c.args.field.now) _ cut c.begin.ensures.holds;
+      legal = λ none few. leads_same (g.P.Player.holds c.begin.new.self c.args.outcome) c.args.start.now (words_of c.args.field.now) _ cut c.begin.ensures.holds;
       fixed = c.begin.ensures.fixed;
       bad = λ n some. absurd (none_not_some n (sym some));
     }
@@ -47,8 +47,8 @@ loop-word-preserved-then-not-play g c =
       spelt = All-push IsSpelled so_far.done word so_far.spelt (m, record { is_move = c.in-Some-read_move.ensures.0; is = c.in-Some-read_move.ensures.1 });
       fixed = c.if-not-play.ensures.fixed ∙ so_far.fixed;
       legal = λ none few. absurd (none_not_some (c.loop-word.count + 1) none);
-      bad = λ n some. subst (BreaksAt (AreLegal c.args.start) (moves_named c.args.field.now)) (same_some (c.loop-word.count + 1) n some)
-          (leads_bad (g.P.Player.holds c.loop-word.player c.args.outcome) (g.P.Player.holds c.loop-word.player c.args.outcome) c.args.start c.loop-word.setup c.loop-word.setup _ m word _ c.next.new.self c.loop-word.count led c.in-Some.ensures.steps named (λ legal. absurd (let never = c.if-not-play.ensures.legal.1 legal in cc)));
+      bad = λ n some. subst (BreaksAt (AreLegal c.args.start.now) (moves_named c.args.field.now)) (same_some (c.loop-word.count + 1) n some)
+          (leads_bad (g.P.Player.holds c.loop-word.player c.args.outcome) (g.P.Player.holds c.loop-word.player c.args.outcome) c.args.start.now c.loop-word.setup c.loop-word.setup _ m word _ c.next.new.self c.loop-word.count led c.in-Some.ensures.steps named (λ legal. absurd (let never = c.if-not-play.ensures.legal.1 legal in cc)));
     }
 
 pub loop-word-preserved : goal.loop-word-preserved
@@ -69,9 +69,9 @@ loop-word-preserved g c =
       ];
       legal = λ none few. elim c.else-is_none.branch [
         | else-is_none-via-then-is_none+then-count-le-MAX_PLIES+else-not-play w ↦
-            subst (λ p. Leads (g.P.Player.holds p c.args.outcome) c.args.start (moves_named c.args.field.now) c.else-is_none.setup c.next.new.self (c.loop-word.count + 1)) (sym w.player-is)
-            (subst (λ t. Leads (g.P.Player.holds w.play.new.self c.args.outcome) c.args.start (moves_named c.args.field.now) t c.next.new.self (c.loop-word.count + 1)) (sym w.setup-is)
-            (leads_more (g.P.Player.holds c.loop-word.player c.args.outcome) (g.P.Player.holds w.play.new.self c.args.outcome) c.args.start c.loop-word.setup w.play.new.setup (moves_named c.args.field.now) m word c.loop-word.word-iterator c.next.new.self c.loop-word.count
+            subst (λ p. Leads (g.P.Player.holds p c.args.outcome) c.args.start.now (moves_named c.args.field.now) c.else-is_none.setup c.next.new.self (c.loop-word.count + 1)) (sym w.player-is)
+            (subst (λ t. Leads (g.P.Player.holds w.play.new.self c.args.outcome) c.args.start.now (moves_named c.args.field.now) t c.next.new.self (c.loop-word.count + 1)) (sym w.setup-is)
+            (leads_more (g.P.Player.holds c.loop-word.player c.args.outcome) (g.P.Player.holds w.play.new.self c.args.outcome) c.args.start.now c.loop-word.setup w.play.new.setup (moves_named c.args.field.now) m word c.loop-word.word-iterator c.next.new.self c.loop-word.count
             (so_far.legal none (omega (arith, few))) c.in-Some.ensures.steps named (w.if-not-play.ensures.played refl) (w.if-not-play.ensures.legal.0 refl) (w.if-not-play.ensures.told refl c.args.outcome)))
         | else-is_none-via-then-is_none+else-count-le-MAX_PLIES w ↦ absurd (omega (arith, few, w.if-count-le-MAX_PLIES.false))
         | else-is_none-via-else-is_none w ↦ absurd (not_none c.loop-word.illegal w.if-is_none.ensures none)
@@ -104,14 +104,14 @@ returns-in-None-illegal-clause-read g c =
       spelt = All-same IsSpelled _ so_far.done all so_far.spelt;
       number = so_far.number ∙ sym (ap length all);
       few = omega (arith, c.if-count-gt-MAX_PLIES.false);
-      legal = legal_all (g.P.Player.holds c.loop-word.player c.args.outcome) c.args.start c.loop-word.setup (moves_named c.args.field.now) _ c.loop-word.count led c.in-None.ensures.steps.0;
+      legal = legal_all (g.P.Player.holds c.loop-word.player c.args.outcome) c.args.start.now c.loop-word.setup (moves_named c.args.field.now) _ c.loop-word.count led c.in-None.ensures.steps.0;
     }
 
 pub returns-in-None-illegal-clause-told : goal.returns-in-None-illegal-clause-told
 returns-in-None-illegal-clause-told g c =
     let so_far = c.loop-word.invariant in
     let led = so_far.legal c.in-None-illegal.is (omega (arith, c.if-count-gt-MAX_PLIES.false)) in
-    (c.loop-word.setup, told_all (g.P.Player.holds c.loop-word.player c.args.outcome) c.args.start c.loop-word.setup (moves_named c.args.field.now) _ c.loop-word.count led c.in-None.ensures.steps.0)
+    (c.loop-word.setup, told_all (g.P.Player.holds c.loop-word.player c.args.outcome) c.args.start.now c.loop-word.setup (moves_named c.args.field.now) _ c.loop-word.count led c.in-None.ensures.steps.0)
 
 pub returns-in_default-clause-read : goal.returns-in_default-clause-read
 returns-in_default-clause-read g c =

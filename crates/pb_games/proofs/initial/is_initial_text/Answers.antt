@@ -4,7 +4,7 @@ use Rattle.pb_board.specs.Fen.{FenText}
 use Rattle.pb_board.proofs.Unique.{one_text}
 use Rattle.pb_games.specs.Starts.{initial_record}
 use Rattle.pb_games.proofs.InitialText.{initial_text}
-use Rattle.pb_games.proofs.start.is_initial_text.Goals as goal
+use Rattle.pb_games.proofs.initial.is_initial_text.Goals as goal
 
 pub returns : goal.returns
 returns c =
