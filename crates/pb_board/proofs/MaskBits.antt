@@ -14,7 +14,7 @@ use Rattle.pb_board.specs.declared.piece.Kind.TheVariants.{Pawn, Knight, Bishop,
 use Rattle.pb_board.specs.declared.piece.Piece.{Piece}
 use Rattle.pb_board.specs.declared.masks.Masks.{Masks}
 use Rattle.pb_board.specs.Board.{Place, Board, at, Holds, IsEmpty}
-use Rattle.pb_board.specs.King.{colour_one, kind_one}
+use Rattle.pb_board.proofs.PieceTests.{colour_one, kind_one}
 use Rattle.pb_board.specs.Piece.{colour_number, kind_number}
 use Rattle.pb_board.specs.Mask.{is_side, is_kind, bit_for, mask_of, masks_of}
 

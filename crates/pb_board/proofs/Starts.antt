@@ -9,7 +9,7 @@ use Rattle.pb_board.specs.declared.piece.Piece.{Piece}
 use Rattle.pb_board.specs.declared.setup.Rights.{Rights}
 use Rattle.pb_board.specs.Piece.{king_of, pawn_of}
 use Rattle.pb_board.specs.Board.{Place, Board, at, Holds}
-use Rattle.pb_board.specs.King.{KeepsKings}
+use Rattle.pb_board.specs.Kept.{KeepsMasks}
 use Rattle.pb_board.specs.Position.{HasNoEdgePawn, IsOnlyKing, position_of}
 use Rattle.pb_board.specs.Text.{letter}
 use Rattle.pb_board.specs.Initial.{initial_board}
@@ -87,9 +87,9 @@ black_king : IsOnlyKing initial_board Black 60
 unfolding initial_board king_test is_it
 black_king = only_king initial_board Black 60 refl refl
 
-pub initial_keeps_kings : (rights : Rights) → KeepsKings (position_of initial_board White rights None) 4 60 (masks_of initial_board)
+pub initial_keeps : (rights : Rights) → KeepsMasks (position_of initial_board White rights None) (masks_of initial_board)
 unfolding initial_board
-initial_keeps_kings rights = record {
+initial_keeps rights = record {
   rules = record {
     places = refl;
     white_king = (4, white_king);
@@ -97,7 +97,5 @@ initial_keeps_kings rights = record {
     pawns = no_edge_pawn initial_board edges;
     en_passant = tt;
   };
-  white = white_king;
-  black = black_king;
   masks_are = refl;
 }

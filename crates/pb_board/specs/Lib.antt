@@ -3,7 +3,6 @@ pub mod Castling
 pub mod Board
 pub mod Position
 pub mod Carried
-pub mod King
 pub mod Padded
 pub mod Text
 pub mod First
@@ -11,6 +10,7 @@ pub mod Fen
 pub mod Numeral
 pub mod Written
 pub mod Mask
+pub mod Kept
 pub mod Initial
 pub mod Refusal
 pub mod Words

@@ -50,19 +50,13 @@ pub struct Setup {
     turn: Colour,
     rights: Rights,
     ep: Option<Square>,
-    // The kings' squares follow from the board. They are kept so that no test of check has to look for a king.
-    #[derive_where(skip)]
-    white_king: Square,
-    #[derive_where(skip)]
-    black_king: Square,
-    // So do the squares of each side's pieces and of each kind's.
+    // The squares of each side's pieces and of each kind's follow from the board.
     #[derive_where(skip)]
     masks: Masks,
 }
 
 impl Model for Setup {
-    ghost use Rattle.pb_board.specs.declared.piece.Colour.TheVariants.{White, Black};
-    ghost use Rattle.pb_board.specs.King.{KeepsKings, king_square, kings-back};
+    ghost use Rattle.pb_board.specs.Kept.{KeepsMasks, masks-back};
     ghost use Rattle.pb_board.specs.Mask.{masks_of};
     ghost use Rattle.pb_board.specs.Position.{Position, position_of};
 
@@ -70,33 +64,16 @@ impl Model for Setup {
 
     ghost view = { λ s. position_of s.board s.turn s.rights s.ep };
 
-    ghost invariant = { λ s. KeepsKings (position_of s.board s.turn s.rights s.ep) s.white_king s.black_king s.masks };
+    ghost invariant = { λ s. KeepsMasks (position_of s.board s.turn s.rights s.ep) s.masks };
 
-    ghost inverse = { λ p. record {
-      board = p.board;
-      turn = p.turn;
-      rights = p.rights;
-      ep = p.ep;
-      white_king = king_square p.board White;
-      black_king = king_square p.board Black;
-      masks = masks_of p.board;
-    } };
+    ghost inverse = { λ p. record { board = p.board; turn = p.turn; rights = p.rights; ep = p.ep; masks = masks_of p.board } };
 
-    ghost inverse_ok = { λ s h. kings-back
-        (λ white black m. record {
-          board = s.board;
-          turn = s.turn;
-          rights = s.rights;
-          ep = s.ep;
-          white_king = white;
-          black_king = black;
-          masks = m;
-        })
-        (position_of s.board s.turn s.rights s.ep) s.white_king s.black_king s.masks h };
+    ghost inverse_ok = { λ s h. masks-back
+        (λ m. record { board = s.board; turn = s.turn; rights = s.rights; ep = s.ep; masks = m })
+        (position_of s.board s.turn s.rights s.ep) s.masks h };
 }
 
 impl Setup {
-    ghost use Rattle.pb_board.specs.declared.piece.Colour.TheVariants.{White, Black};
     ghost use Rattle.pb_board.specs.Board.{at, Holds, IsEmpty};
     ghost use Rattle.std.specs.Int.{bit_at};
     ghost use Rattle.pb_board.specs.Initial.{initial};
@@ -122,10 +99,10 @@ impl Setup {
             MatchResult result (λ s. (s ≡ p) × IsSetup p) (λ e. IsFirstFault e p) }
     {
         let masks = masks::masks_of(&board);
-        let Some(white_king) = one_king(masks, Colour::White) else {
+        let Some(_white) = one_king(masks, Colour::White) else {
             return Err(SetupError::Kings);
         };
-        let Some(black_king) = one_king(masks, Colour::Black) else {
+        let Some(_black) = one_king(masks, Colour::Black) else {
             return Err(SetupError::Kings);
         };
         if !has_no_edge_pawn(&board) {
@@ -136,23 +113,19 @@ impl Setup {
         {
             return Err(SetupError::EnPassant);
         }
-        Ok(Setup::with_masks(board, turn, rights, ep, white_king, black_king, masks))
+        Ok(Setup::with_masks(board, turn, rights, ep, masks))
     }
 
-    /// The setup of parts that are known to meet the rules, with the squares of the two kings and of the board's pieces.
+    /// The setup of parts that are known to meet the rules, with the squares of the board's pieces.
     #[inline(always)]
     fn with_masks(
         board: [Option<Piece>; 64],
         turn: Colour,
         rights: Rights,
         ep: Option<Square>,
-        white_king: Square,
-        black_king: Square,
         masks: Masks,
     ) -> Setup
         requires rules { IsSetup (position_of board turn rights ep) }
-        requires white { IsOnlyKing board White white_king }
-        requires black { IsOnlyKing board Black black_king }
         requires masks { masks ≡ masks_of board }
         ensures { result ≡ position_of board turn rights ep }
     {
@@ -161,14 +134,12 @@ impl Setup {
             turn,
             rights,
             ep,
-            white_king,
-            black_king,
             masks,
         }
     }
 
-    /// Carries a piece from one square to another, in place: the other side is then to move, with these rights, this
-    /// en passant square and the kings on these squares. Nothing is tested.
+    /// Carries a piece from one square to another, in place: the other side is then to move, with these rights and
+    /// this en passant square. Nothing is tested.
     #[inline(always)]
     pub fn carry(
         &mut self,
@@ -177,12 +148,8 @@ impl Setup {
         piece: Piece,
         rights: Rights,
         ep: Option<Square>,
-        white_king: Square,
-        black_king: Square,
     )
         requires rules { IsSetup (position_of (carried_board self.old.board from to piece) (opponent self.old.turn) rights ep) }
-        requires white { IsOnlyKing (carried_board self.old.board from to piece) White white_king }
-        requires black { IsOnlyKing (carried_board self.old.board from to piece) Black black_king }
         ensures { self.new ≡ position_of (carried_board self.old.board from to piece) (opponent self.old.turn) rights ep }
     {
         let next = self;
@@ -193,8 +160,6 @@ impl Setup {
         next.turn = next.turn.opponent();
         next.rights = rights;
         next.ep = ep;
-        next.white_king = white_king;
-        next.black_king = black_king;
     }
 
     /// Carries two pieces one after the other, in place, as when king and rook castle. The rest is as for `carry`.
@@ -204,12 +169,8 @@ impl Setup {
         second: Carried,
         rights: Rights,
         ep: Option<Square>,
-        white_king: Square,
-        black_king: Square,
     )
         requires rules { IsSetup (position_of (carried_twice self.old.board first second) (opponent self.old.turn) rights ep) }
-        requires white { IsOnlyKing (carried_twice self.old.board first second) White white_king }
-        requires black { IsOnlyKing (carried_twice self.old.board first second) Black black_king }
         ensures { self.new ≡ position_of (carried_twice self.old.board first second) (opponent self.old.turn) rights ep }
     {
         let next = self;
@@ -218,8 +179,6 @@ impl Setup {
         next.turn = next.turn.opponent();
         next.rights = rights;
         next.ep = ep;
-        next.white_king = white_king;
-        next.black_king = black_king;
     }
 
     /// The initial array, with White to move and every castling open.
@@ -236,8 +195,6 @@ impl Setup {
                 black_long: true,
             },
             ep: None,
-            white_king: Square::E1,
-            black_king: Square::E8,
             masks: initial_masks(),
         }
     }
@@ -299,10 +256,7 @@ impl Setup {
     pub fn king(&self, colour: Colour) -> Square
         ensures { IsOnlyKing self.now.board colour result }
     {
-        match colour {
-            Colour::White => self.white_king,
-            Colour::Black => self.black_king,
-        }
+        one_king(self.masks, colour).unwrap()
     }
 }
 

@@ -10,7 +10,7 @@ use Rattle.pb_board.specs.declared.piece.Kind.TheVariants.{Pawn, Knight, Bishop,
 use Rattle.pb_board.specs.declared.piece.Piece.{Piece}
 use Rattle.pb_board.specs.Board.{Place, Board, at, is_piece}
 use Rattle.pb_board.specs.Initial.{initial_board}
-use Rattle.pb_board.specs.King.{is_piece-is, is_piece-passes}
+use Rattle.pb_board.proofs.PieceTests.{is_piece-is, is_piece-passes}
 use Rattle.pb_board.specs.Mask.{bit_for, mask_of}
 use Rattle.pb_board.proofs.MaskBits.{mask_bit}
 use Rattle.pb_moves.proofs.Differing.{same_boards}

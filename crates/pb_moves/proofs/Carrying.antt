@@ -72,10 +72,9 @@ carried_castling castling m old full fits =
     subst F (sym fits.0) (subst T (sym fits.1) (castle_changes castling m old new fits (castled_writes row old (rows castling) full)))
 
 -- a change that carries twice leads to what stands after the move
-pub completed : (s : Position) (m : Moved) (piece : Piece) (change : Change) (first second : Carried) (rights : Rights) (ep : Option ℕ) (white black : ℕ)
+pub completed : (s : Position) (m : Moved) (piece : Piece) (change : Change) (first second : Carried) (rights : Rights) (ep : Option ℕ)
     → IsSetup s → LeadsTo (CaseOf s m piece) s.board m change
     → ((b : Board) → length b ≡ 64 → Fits change m b → Changes change m b (carried_twice b first second))
-    → ((b : Board) → CaseOf s m piece b → Completes s m b rights ep white black)
-    → Completes s m (carried_twice s.board first second) rights ep white black
-completed s m piece change first second rights ep white black ok leads carries completes =
+    → ((b : Board) → CaseOf s m piece b → Completes s m b rights ep) → Completes s m (carried_twice s.board first second) rights ep
+completed s m piece change first second rights ep ok leads carries completes =
     let new = carried_twice s.board first second in completes new (leads.1 new (carries s.board ok.places leads.0))

@@ -193,13 +193,6 @@ king_goes s m p new k stands own king only (pawn_double x) = absurd (let pawn = 
 king_goes s m p new k stands own king only (pawn_capture x) = absurd (let pawn = x.pawn in cc)
 king_goes s m p new k stands own king only (en_passant x) = absurd (let pawn = x.pawn in cc)
 
--- the enemy's king stays where it is, with the colours as the code names them
-pub enemy_king_stays : (s : Position) (m : Moved) (p : Piece) (new : Board) (side enemy : Colour) (k : ℕ) → IsSetup s → Holds s.board m.from p → p.colour ≡ s.turn
-    → side ≡ s.turn → enemy ≡ opponent side → IsOnlyKing s.board enemy k → CaseOf s m p new → IsOnlyKing new (opponent side) k
-enemy_king_stays s m p new side enemy k ok stands own same_side same_enemy only x =
-    let P : Colour → Type 0 = λ z. IsOnlyKing s.board z k in
-    king_stays s m p new (opponent side) k ok stands own (enemy_no_king p side (own ∙ sym same_side)) (subst P same_enemy only) x
-
 pub has_king : (s : Position) (side : Colour) → IsSetup s → HasOneKing s.board side
 has_king s White ok = ok.white_king
 has_king s Black ok = ok.black_king

@@ -1,16 +1,13 @@
 -- What stands beside the board after a move.
 use Rattle.std.specs.Prelude.{ℕ, Option}
-use Rattle.pb_board.specs.declared.piece.Colour.TheVariants.{White, Black}
 use Rattle.pb_board.specs.declared.setup.Rights.{Rights}
 use Rattle.pb_board.specs.Piece.{opponent}
 use Rattle.pb_board.specs.Board.{Board}
-use Rattle.pb_board.specs.Position.{Position, position_of, IsOnlyKing, IsSetup}
+use Rattle.pb_board.specs.Position.{Position, position_of, IsSetup}
 use Rattle.pb_moves.specs.Moved.{Moved}
 use Rattle.pb_moves.specs.After.{After}
 
--- with these parts the board after a move is the setup after it, and the kings stand there
-pub record Completes (s : Position) (m : Moved) (board : Board) (rights : Rights) (ep : Option ℕ) (white_king black_king : ℕ) : Type 0 where
+-- with these parts the board after a move is the setup after it
+pub record Completes (s : Position) (m : Moved) (board : Board) (rights : Rights) (ep : Option ℕ) : Type 0 where
   pub after : After s m (position_of board (opponent s.turn) rights ep)
   pub rules : IsSetup (position_of board (opponent s.turn) rights ep)
-  pub white : IsOnlyKing board White white_king
-  pub black : IsOnlyKing board Black black_king

@@ -1,10 +1,8 @@
-//! What stands beside the board after a move: the castling rights, the en passant square and the squares of the kings.
+//! What stands beside the board after a move: the castling rights and the en passant square.
 
 ghost use Rattle.std.specs.Prelude.{◌≡◌, ◌≢◌, ℕ, ◌↔◌, IsTrue, MatchOption};
-ghost use Rattle.pb_board.specs.declared.piece.Colour.TheVariants.{White, Black};
-ghost use Rattle.pb_board.specs.Piece.{opponent};
 ghost use Rattle.pb_board.specs.Board.{Board};
-ghost use Rattle.pb_board.specs.Position.{IsOnlyKing, IsSetup};
+ghost use Rattle.pb_board.specs.Position.{IsSetup};
 ghost use Rattle.pb_board.specs.declared.castling.Castling.{Castling};
 ghost use Rattle.pb_board.specs.Castling.{castling_row};
 ghost use Rattle.pb_moves.specs.Cases.{CaseOf};
@@ -13,17 +11,14 @@ ghost use Rattle.pb_moves.specs.Candidate.{HoldsOwn};
 ghost use Rattle.pb_moves.specs.Beside.{Completes};
 
 use crate::cases::passed;
-use crate::legal::king_after;
 use crate::moves::Move;
-use pb_board::{Castling, Colour, Kind, Piece, Rights, Setup, Square};
+use pb_board::{Castling, Kind, Piece, Rights, Setup, Square};
 
 /// What stands beside the board after a move.
 #[derive(Clone, Copy)]
 pub(crate) struct Beside {
     pub(crate) rights: Rights,
     pub(crate) ep: Option<Square>,
-    pub(crate) white_king: Square,
-    pub(crate) black_king: Square,
 }
 
 /// Whether the move leaves or reaches the square.
@@ -43,7 +38,21 @@ fn keeps(castling: Castling, rights: Rights, m: Move) -> bool
     castling.is_allowed(rights) && !touches(m, squares.king_from) && !touches(m, squares.rook_from)
 }
 
+/// The castling rights that the move keeps, each by its squares. It is out of line, since few moves need it.
+#[inline(never)]
+fn kept_rights(rights: Rights, m: Move) -> Rights
+    ensures { (c : Castling) → let row = castling_row c in KeepsFlag (row.right rights) (row.right result) m row }
+{
+    Rights {
+        white_short: keeps(Castling::WhiteShort, rights, m),
+        white_long: keeps(Castling::WhiteLong, rights, m),
+        black_short: keeps(Castling::BlackShort, rights, m),
+        black_long: keeps(Castling::BlackLong, rights, m),
+    }
+}
+
 /// The castling rights after the move.
+#[inline(always)]
 fn rights_after(setup: &Setup, m: Move) -> Rights
     ensures { (c : Castling) → let row = castling_row c in KeepsFlag (row.right setup.now.rights) (row.right result) m row }
 {
@@ -52,12 +61,7 @@ fn rights_after(setup: &Setup, m: Move) -> Rights
     if !Castling::is_home(m.from()) && !Castling::is_home(m.to()) {
         return rights;
     }
-    Rights {
-        white_short: keeps(Castling::WhiteShort, rights, m),
-        white_long: keeps(Castling::WhiteLong, rights, m),
-        black_short: keeps(Castling::BlackShort, rights, m),
-        black_long: keeps(Castling::BlackLong, rights, m),
-    }
+    kept_rights(rights, m)
 }
 
 /// The square that the move of this piece passes over, if it is a pawn's double step.
@@ -78,37 +82,16 @@ fn passed_by(setup: &Setup, m: Move, piece: Piece) -> Option<Square>
     }
 }
 
-/// The white and the black king, of this side's and its enemy's.
-#[inline(always)]
-fn by_colour(side: Colour, own: Square, enemy: Square) -> (Square, Square)
-    ensures { (b : Board) → IsOnlyKing b side own → IsOnlyKing b (opponent side) enemy →
-        IsOnlyKing b White result.0 × IsOnlyKing b Black result.1 }
-{
-    match side {
-        Colour::White => (own, enemy),
-        Colour::Black => (enemy, own),
-    }
-}
-
 /// What stands beside the board after the move of this piece.
 #[inline(always)]
 pub(crate) fn beside_after(setup: &Setup, m: Move, piece: Piece) -> Beside
     requires { HoldsOwn setup.now m.from piece }
     ensures rules { IsSetup setup.now }
-    ensures completes { (b : Board) → CaseOf setup.now m piece b
-        → Completes setup.now m b result.rights result.ep result.white_king result.black_king }
+    ensures completes { (b : Board) → CaseOf setup.now m piece b → Completes setup.now m b result.rights result.ep }
 {
-    let side = setup.turn();
-    let enemy = side.opponent();
-    let king = king_after(setup, m, piece);
-    let enemy_king = setup.king(enemy);
-    let (white_king, black_king) = by_colour(side, king, enemy_king);
+    // The reader tells that the setup meets its rules.
+    let _turn = setup.turn();
     let rights = rights_after(setup, m);
     let ep = passed_by(setup, m, piece);
-    Beside {
-        rights,
-        ep,
-        white_king,
-        black_king,
-    }
+    Beside { rights, ep }
 }

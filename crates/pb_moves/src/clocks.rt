@@ -1,8 +1,8 @@
 //! Playing a move of a record, with its clocks.
 
-ghost use Rattle.std.specs.Prelude.{◌≡◌, ◌↔◌, IsTrue, IfSome, MatchOption};
+ghost use Rattle.std.specs.Prelude.{◌≡◌, ◌<◌, ◌↔◌, IsTrue, IfSome, MatchOption};
 ghost use Rattle.pb_board.specs.Position.{IsRecord};
-ghost use Rattle.pb_moves.specs.AfterRecord.{AfterRecord, Resets};
+ghost use Rattle.pb_moves.specs.AfterRecord.{AfterRecord, Resets, full_after, one_more};
 ghost use Rattle.pb_moves.specs.Cases.{Legal};
 ghost use Rattle.pb_moves.specs.Successor.{after};
 
@@ -22,6 +22,29 @@ fn resets(setup: &Setup, m: Move) -> bool
     holds(setup.board(), m.from(), pawn) || !is_empty(setup.board(), m.to())
 }
 
+/// The half-move clock after the move.
+fn half_after(fen: &Fen, m: Move) -> u16
+    ensures reset { Resets fen.now.setup m → result ≡ 0 }
+    ensures counted { ¬ Resets fen.now.setup m → result ≡ one_more fen.now.half }
+{
+    if resets(&fen.setup(), m) {
+        0
+    } else {
+        fen.half().saturating_add(1)
+    }
+}
+
+/// The full move number after a move of the side to move.
+fn full_after(fen: &Fen) -> u16
+    ensures value { result ≡ full_after fen.now.setup.turn fen.now.full }
+    ensures some { 0 < result }
+{
+    match fen.setup().turn() {
+        Colour::White => fen.full(),
+        Colour::Black => fen.full().saturating_add(1),
+    }
+}
+
 /// The record after the move. None exactly where the move isn't legal.
 ///
 /// The half-move clock is 0 after a pawn's move or a capture, and one more otherwise; the full move number is one
@@ -32,16 +55,6 @@ pub fn advance(fen: &Fen, m: Move) -> Option<Fen>
         (λ g. Legal fen.now.setup m × AfterRecord fen.now m g × IsRecord g) }
     ensures is { IfSome result (λ g. g.setup ≡ after fen.now.setup m) }
 {
-    let setup = fen.setup();
-    let next = play(&setup, m)?;
-    let half = if resets(&setup, m) {
-        0
-    } else {
-        fen.half().saturating_add(1)
-    };
-    let full = match setup.turn() {
-        Colour::White => fen.full(),
-        Colour::Black => fen.full().saturating_add(1),
-    };
-    Some(Fen::with_clocks(next, half, full))
+    let next = play(&fen.setup(), m)?;
+    Some(Fen::with_clocks(next, half_after(fen, m), full_after(fen)))
 }

@@ -45,15 +45,7 @@ fn carry(setup: &mut Setup, m: Move, piece: Piece, arriving: Piece) -> bool
     }
     let (from, to) = (m.from(), m.to());
     let beside = beside_after(setup, m, piece);
-    setup.carry(
-        from,
-        to,
-        arriving,
-        beside.rights,
-        beside.ep,
-        beside.white_king,
-        beside.black_king,
-    );
+    setup.carry(from, to, arriving, beside.rights, beside.ep);
     true
 }
 
@@ -71,14 +63,7 @@ fn carry_twice(setup: &mut Setup, m: Move, piece: Piece, change: Change) -> bool
     }
     let beside = beside_after(setup, m, piece);
     let (first, second) = change.carried(m);
-    setup.carry_twice(
-        first,
-        second,
-        beside.rights,
-        beside.ep,
-        beside.white_king,
-        beside.black_king,
-    );
+    setup.carry_twice(first, second, beside.rights, beside.ep);
     true
 }
 

@@ -7,7 +7,7 @@ use Rattle.pb_board.specs.declared.piece.Kind.TheVariants.{King}
 use Rattle.pb_board.specs.declared.piece.Piece.{Piece}
 use Rattle.pb_board.specs.Position.{Position}
 use Rattle.pb_board.specs.Board.{Board, Place, at, is_piece}
-use Rattle.pb_board.specs.King.{is_piece-is}
+use Rattle.pb_board.proofs.PieceTests.{is_piece-is}
 use Rattle.pb_board.specs.Piece.{colour_number, king_of}
 use Rattle.pb_board.specs.declared.castling.Castling.{Castling}
 use Rattle.pb_board.specs.Castling.{castling_from_home, castling_of, castling_row}

@@ -3,7 +3,7 @@ use Rattle.pb_board.specs.declared.setup.Rights.{Rights}
 use Rattle.pb_board.specs.declared.castling.Castling.{Castling}
 use Rattle.pb_board.specs.Castling.{castling_row, IsHome}
 use Rattle.pb_moves.specs.After.{KeepsFlag}
-use Rattle.pb_moves.proofs.Successors.{each_castling, kept_elsewhere}
+use Rattle.pb_moves.proofs.Successors.{kept_elsewhere}
 use Rattle.pb_moves.proofs.beside.rights_after.Goals as goal
 
 pub returns-then-not-is_home-2 : goal.returns-then-not-is_home-2
@@ -17,9 +17,5 @@ returns-then-not-is_home-2 c = λ castling.
 
 pub returns : goal.returns
 returns c =
-    let m = c.args.m in
-    let new : Rights = record { white_short = c.keeps.result; white_long = c.keeps-2.result; black_short = c.keeps-3.result; black_long = c.keeps-4.result } in
-    let R : Rights → Type 0 = λ r. (castling : Castling) → KeepsFlag ((castling_row castling).right r) ((castling_row castling).right new) m (castling_row castling) in
-    subst R c.rights-rights.ensures
-    (each_castling (λ k. KeepsFlag ((castling_row k).right c.rights-rights.result) ((castling_row k).right new) m (castling_row k))
-    c.keeps.ensures c.keeps-2.ensures c.keeps-3.ensures c.keeps-4.ensures)
+    let R : Rights → Type 0 = λ r. (castling : Castling) → KeepsFlag ((castling_row castling).right r) ((castling_row castling).right c.kept_rights.result) c.args.m (castling_row castling) in
+    subst R c.rights-rights.ensures c.kept_rights.ensures

@@ -13,7 +13,7 @@ carry-requires c =
     let case = carry_case s m c.args.piece c.args.arriving c.from-from.result c.to-to.result c.from-from.ensures.value c.to-to.ensures.value
     c.beside_after-beside.ensures.rules c.from-from.ensures.rules c.requires.leads in
     let parts = c.beside_after-beside.ensures.completes new case in
-    record { rules = parts.rules; white = parts.white; black = parts.black }
+    record { rules = parts.rules }
 
 pub returns-clause-played : goal.returns-clause-played
 returns-clause-played c = λ _.

@@ -10,8 +10,8 @@ carry_twice-requires c =
     let beside = c.beside_after-beside in
     let carried = c.carried-first in
     let parts = completed c.args.setup.now c.args.m c.args.piece c.args.change carried.result.0 carried.result.1 beside.result.rights beside.result.ep
-    beside.result.white_king beside.result.black_king beside.ensures.rules c.requires.leads carried.ensures beside.ensures.completes in
-    record { rules = parts.rules; white = parts.white; black = parts.black }
+    beside.ensures.rules c.requires.leads carried.ensures beside.ensures.completes in
+    record { rules = parts.rules }
 
 pub returns-clause-played : goal.returns-clause-played
 returns-clause-played c = λ _.
@@ -20,6 +20,6 @@ returns-clause-played c = λ _.
     let beside = c.beside_after-beside in
     let carried = c.carried-first in
     let parts = completed s m c.args.piece c.args.change carried.result.0 carried.result.1 beside.result.rights beside.result.ep
-    beside.result.white_king beside.result.black_king beside.ensures.rules c.requires.leads carried.ensures beside.ensures.completes in
+    beside.ensures.rules c.requires.leads carried.ensures beside.ensures.completes in
     let A : Position → Type 0 = λ t. After s m t in
     after_one s m c.carry_twice.new.self beside.ensures.rules (c.is_safe_after.ensures.0 (search rules)) (subst A (sym c.carry_twice.ensures) parts.after)
