@@ -83,7 +83,8 @@ fn is_text_of(text: &[u8], fen: &Fen) -> bool
 }
 
 /// The record that the text spells, as `read_fen` reads it. The text of the initial record is known as a whole, since nearly all lines
-/// have it.
+/// have it. It stands out of line, so that its caller doesn't clear room for the records of both ways.
+#[inline(never)]
 pub(crate) fn read_start(text: &[u8]) -> Result<Fen, FenError>
     ensures found { IfOk result (λ f. IsRecord f × FenText f text.now) }
     ensures refused { IfErr result (λ e. IsFirstDue of_record e (fields text.now)) }
