@@ -38,6 +38,7 @@ own_at s m p new stands case =
     let P : Piece → Type 0 = λ q. q.colour ≡ s.turn in
     subst P same case.own
 
+-- the one is left empty, and on the other the piece arrives in the place of what stood there
 pub carried_places : (s : Position) (m : Moved) (p : Piece) (new : Board) → Holds s.board m.from p → Case s m new
     → changed_places s.board new (m.from ∷ m.to ∷ []) ≡ piece_place p m.from ∷ (square_places (at s.board m.to) m.to ++ (piece_place (arriving p m.promo) m.to ∷ []))
 carried_places s m p new stands case =
@@ -106,6 +107,7 @@ gone_places s m p new gone pawn aside free is stands case =
 
 -- ---- castling rights
 
+-- a right that is kept has no place
 kept_place : (flag kept : Bool) (place : ℕ) → kept ≡ flag → place_if (not (beq flag kept)) place ≡ []
 kept_place true true place same = refl
 kept_place false false place same = refl

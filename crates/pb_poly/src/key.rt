@@ -30,6 +30,7 @@ fn number_of_black(kind: Kind) -> usize
 }
 
 /// The place of a piece on the square of this index.
+#[inline(always)]
 pub(crate) fn piece_place(piece: Piece, square: usize) -> usize
     requires { square < 64 }
     ensures value { result ≡ piece_place_by piece square }
@@ -138,6 +139,7 @@ pub(crate) fn passed_place(square: Square) -> usize
 }
 
 /// The key, joined by the word of the en passant square where a pawn stands beside the pawn that has passed it.
+#[inline(always)]
 pub(crate) fn with_passed(table: &Table, key: u64, setup: &Setup) -> u64
     ensures { result ≡ joined table.now key (passed_places setup.now setup.now.ep) }
 {
