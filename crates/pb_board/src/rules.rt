@@ -25,6 +25,17 @@ pub(crate) fn one_king(masks: Masks, colour: Colour) -> Option<Square>
     }
 }
 
+/// The square of this colour's king, where it is known that one stands there alone.
+#[inline(always)]
+pub(crate) fn only_king(masks: Masks, colour: Colour) -> Square
+    ensures { (b : Board) → masks ≡ masks_of b → HasOneKing b colour → IsOnlyKing b colour result }
+{
+    let kind = Kind::King;
+    let kings = masks::standing(masks, Piece { colour, kind });
+    // A mask that isn't 0 has less than 64 zeros, so the remainder changes nothing, and spares a test.
+    Square::from_index((kings.trailing_zeros() % 64) as u8).unwrap()
+}
+
 /// Tells whether no pawn stands on rank 1 or 8.
 pub(crate) fn has_no_edge_pawn(board: &[Option<Piece>; 64]) -> bool
     ensures { IsTrue result ↔ HasNoEdgePawn board.now }

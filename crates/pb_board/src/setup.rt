@@ -8,7 +8,7 @@ use crate::initial::{initial_board, initial_masks};
 use crate::masks::{self, Masks};
 use crate::piece::{Colour, Piece};
 use crate::refusal::SetupError;
-use crate::rules::{has_no_edge_pawn, is_passed, one_king};
+use crate::rules::{has_no_edge_pawn, is_passed, one_king, only_king};
 use crate::small_fields::passed_rank;
 use crate::square::Square;
 use std::marker::Model;
@@ -256,7 +256,7 @@ impl Setup {
     pub fn king(&self, colour: Colour) -> Square
         ensures { IsOnlyKing self.now.board colour result }
     {
-        one_king(self.masks, colour).unwrap()
+        only_king(self.masks, colour)
     }
 }
 

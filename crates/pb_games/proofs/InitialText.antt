@@ -12,7 +12,7 @@ use Rattle.pb_board.specs.Fen.{FenText}
 use Rattle.pb_board.specs.Initial.{initial_board}
 use Rattle.pb_board.specs.Position.{IsRecord}
 use Rattle.pb_board.specs.Text.{letter, RankText, PlacementText}
-use Rattle.pb_board.proofs.Starts.{initial_keeps_kings}
+use Rattle.pb_board.proofs.Starts.{initial_keeps}
 use Rattle.pb_games.specs.Starts.{initial_record}
 
 pieces_of : Colour → List Kind → List Piece
@@ -55,4 +55,4 @@ initial_text = record {
 }
 
 pub initial_bounds : IsRecord initial_record
-initial_bounds = record { setup = (initial_keeps_kings _).rules; half = omega arith; low = omega arith; full = omega arith }
+initial_bounds = record { setup = (initial_keeps _).rules; half = omega arith; low = omega arith; full = omega arith }
