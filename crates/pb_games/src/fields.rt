@@ -1,9 +1,11 @@
 //! The four fields of a line.
 
-ghost use Rattle.std.specs.Prelude.{◌≡◌, ◌≢◌, ◌≤◌, ◌∷◌, [], length, MatchOption, IfSome};
+ghost use Rattle.std.specs.Prelude.{◌≡◌, ◌≢◌, ◌≤◌, ◌∷◌, [], ◌==◌, length, MatchOption, IfSome};
+ghost use Rattle.std.specs.List.{slice_split};
 ghost use Rattle.pb_games.specs.Refusing.{fields_of};
 
-use pb_board::{cut_once, without_return};
+use memchr::memchr;
+use pb_board::without_return;
 
 /// The fields of a line that is cut at every TAB.
 #[derive(Clone, Copy)]
@@ -20,10 +22,10 @@ pub(crate) fn cut_fields(line: &[u8]) -> Option<LineFields<'_>>
         (λ f. fields_of line.now ≡ f.id.now ∷ f.outcome.now ∷ f.start.now ∷ f.moves.now ∷ []) }
     ensures short { IfSome result (λ f. length f.moves.now ≤ length line.now) }
 {
-    let (id, rest) = cut_once(without_return(line), b'\t')?;
-    let (outcome, rest) = cut_once(rest, b'\t')?;
-    let (start, moves) = cut_once(rest, b'\t')?;
-    let None = cut_once(moves, b'\t') else {
+    let (id, rest) = cut_at_tab(without_return(line))?;
+    let (outcome, rest) = cut_at_tab(rest)?;
+    let (start, moves) = cut_at_tab(rest)?;
+    let None = cut_at_tab(moves) else {
         return None;
     };
     Some(LineFields {
@@ -32,4 +34,14 @@ pub(crate) fn cut_fields(line: &[u8]) -> Option<LineFields<'_>>
         start,
         moves,
     })
+}
+
+/// Cuts a text at its first TAB, into what stands before it and what stands after it. None exactly where it has none.
+fn cut_at_tab(text: &[u8]) -> Option<(&[u8], &[u8])>
+    ensures { MatchOption result (slice_split (λ b. b == 9) text.now ≡ text.now ∷ [])
+        (λ cut. slice_split (λ b. b == 9) text.now ≡ cut.0.now ∷ slice_split (λ b. b == 9) cut.1.now) }
+{
+    // A line can be long, and `memchr` looks at many bytes at a time.
+    let at = memchr(b'\t', text)?;
+    Some((&text[..at], &text[at + 1..]))
 }
