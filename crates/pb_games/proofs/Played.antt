@@ -7,6 +7,7 @@ use Rattle.pb_moves.specs.Cases.{Legal}
 use Rattle.pb_moves.specs.Moved.{Moved}
 use Rattle.pb_moves.specs.Played.{AreLegal, Ply, plies_from}
 use Rattle.pb_moves.specs.Successor.{after}
+use Rattle.pb_games.specs.Submissions.{setup_after}
 use Rattle.pb_games.specs.Words.{move_named}
 use Rattle.std.proofs.lemmas.List.{length_push}
 
@@ -39,9 +40,10 @@ pub record Leads (holds : List Ply → Position → Type 0) (start : Position) (
   pub held : holds told setup
   pub number : length told ≡ count
   pub plies : told ++ plies_from setup (map move_named left) ≡ plies_from start all
+  pub last : setup_after setup (map move_named left) ≡ setup_after start all
 
 pub leads_all : (holds : List Ply → Position → Type 0) (start : Position) (words : List (List ℕ)) → holds [] start → Leads holds start (map move_named words) start words 0
-leads_all holds start words h = record { legal = λ h. h; illegal = λ n h. subst (λ k. BreaksAt (AreLegal start) (map move_named words) k) (omega arith) h; told = []; held = h; number = refl; plies = refl }
+leads_all holds start words h = record { legal = λ h. h; illegal = λ n h. subst (λ k. BreaksAt (AreLegal start) (map move_named words) k) (omega arith) h; told = []; held = h; number = refl; plies = refl; last = refl }
 
 pub leads_same : (holds : List Ply → Position → Type 0) (start : Position) (all rest : List (List ℕ)) → all ≡ rest → holds [] start → Leads holds start (map move_named all) start rest 0
 leads_same holds start all rest same h = subst (λ ws. Leads holds start (map move_named all) start ws 0) same (leads_all holds start all h)
@@ -67,6 +69,7 @@ module _ (holds now : List Ply → Position → Type 0) (start s t : Position) (
         ∙ ap (λ u. h.told ++ (s, m) ∷ plies_from u (map move_named rest)) next
         ∙ ap (λ ms. h.told ++ plies_from s ms) (sym here)
         ∙ h.plies;
+    last = ap (λ u. setup_after u (map move_named rest)) next ∙ ap (setup_after s) (sym here) ∙ h.last;
   }
 
   pub leads_bad : ¬ Legal s m → BreaksAt (AreLegal start) all (count + 1)
@@ -78,8 +81,11 @@ module _ (holds : List Ply → Position → Type 0) (start s : Position) (all : 
   pub legal_all : AreLegal start all
   legal_all = h.legal (subst (λ ws. AreLegal s (map move_named ws)) (sym none) _)
 
-  pub told_all : holds (plies_from start all) s
-  told_all = subst (λ ps. holds ps s) (sym (append-nil h.told) ∙ ap (λ ws. h.told ++ plies_from s (map move_named ws)) (sym none) ∙ h.plies) h.held
+  pub told_all : holds (plies_from start all) (setup_after start all)
+  told_all =
+      let plies : h.told ≡ plies_from start all = sym (append-nil h.told) ∙ ap (λ ws. h.told ++ plies_from s (map move_named ws)) (sym none) ∙ h.plies in
+      let last : s ≡ setup_after start all = ap (λ ws. setup_after s (map move_named ws)) (sym none) ∙ h.last in
+      subst (λ t. holds (plies_from start all) t) last (subst (λ ps. holds ps s) plies h.held)
 
 -- ---- options of numbers
 

@@ -40,7 +40,3 @@ AreRefused start field refusal.Memory = ⊥
 -- some plies of some game are held, which led here, and a further one isn't too many
 abbrev pub CanTake : (Outcome → List Ply → Position → Type 0) → Position → Type 0
 CanTake holds setup = (outcome : Outcome) × (told : List Ply) × holds outcome told setup × (length told < MAX_PLIES)
-
--- the plies of these moves from the start are held
-abbrev pub IsToldAll : (Outcome → List Ply → Position → Type 0) → Outcome → List Ply → Type 0
-IsToldAll holds outcome all = (last : Position) × holds outcome all last

@@ -2,11 +2,12 @@
 use Rattle.std.specs.Prelude.{◌≡◌, ℕ, ◌≤◌, ◌⊎◌, List, [], ◌∷◌, ◌++◌, length, map, All}
 use Rattle.std.specs.List.{join_with_byte}
 use Rattle.pb_board.specs.Fen.{FenText}
-use Rattle.pb_board.specs.Position.{IsRecord}
+use Rattle.pb_board.specs.Position.{IsRecord, Position}
 use Rattle.pb_moves.specs.Attack.{Playable}
 use Rattle.pb_moves.specs.Moved.{Moved, IsMove}
 use Rattle.pb_moves.specs.Played.{Ply, plies_from, AreLegal}
 use Rattle.pb_moves.specs.Spelling.{spelling}
+use Rattle.pb_moves.specs.Successor.{after}
 use Rattle.pb_games.specs.declared.game.Game.{Game}
 use Rattle.pb_games.specs.Ids.{IsId}
 use Rattle.pb_games.specs.Results.{outcome_text}
@@ -44,6 +45,15 @@ pub record Submits (line : List ℕ) (s : Submission) : Type 0 where
 -- the moves of the game, each with the setup before it
 abbrev pub plies : Game → List Ply
 plies g = plies_from g.start.setup g.moves
+
+-- the setup after these moves, which means nothing where one of them isn't legal
+abbrev pub setup_after : Position → List Moved → Position
+setup_after s [] = s
+setup_after s (m ∷ ms) = setup_after (after s m) ms
+
+-- the setup after the game's last move
+abbrev pub last_setup : Game → Position
+last_setup g = setup_after g.start.setup g.moves
 
 -- the side that isn't to move at the start isn't in check, and each move is legal where it is played
 pub record IsLegalGame (g : Game) : Type 0 where

@@ -2,9 +2,9 @@
 
 ghost use Rattle.std.specs.Prelude.{◌≡◌, ◌≤◌, ◌↔◌, IfErr, IfOk, IsTrue, MatchResult, Ok, length};
 ghost use Rattle.pb_moves.specs.Played.{plies_from};
-ghost use Rattle.pb_games.specs.Reading.{AreRead, AreRefused, IsToldAll};
+ghost use Rattle.pb_games.specs.Reading.{AreRead, AreRefused};
 ghost use Rattle.pb_games.specs.Refusing.{Refuses};
-ghost use Rattle.pb_games.specs.Submissions.{IsLawful, Submission, plies};
+ghost use Rattle.pb_games.specs.Submissions.{IsLawful, Submission, last_setup, plies, setup_after};
 ghost use Rattle.pb_games.specs.Words.{moves_named};
 ghost use Rattle.pb_games.specs.declared.header.TheConstants.{MAX_BYTES};
 
@@ -50,8 +50,8 @@ pub fn judge_line<'a, P: Player>(line: &'a [u8], player: &mut P) -> Result<Line<
     ensures found { IfOk result (λ s. IsLawful line.now s) }
     ensures only { (s : Submission) → IsLawful line.now s → result ≡ Ok s }
     ensures refused { IfErr result (λ e. Refuses line.now e) }
-    // The player holds the plies of the legal game.
-    ensures told { IfOk result (λ s. IsToldAll (P.holds player.new) s.1.outcome (plies s.1)) }
+    // The player holds the plies of the legal game, which led to the setup after its last move.
+    ensures told { IfOk result (λ s. P.holds player.new s.1.outcome (plies s.1) (last_setup s.1)) }
     ensures fixed { P.fixed player.new ≡ P.fixed player.old }
 {
     judge(line, player)
@@ -61,7 +61,7 @@ pub fn judge_line<'a, P: Player>(line: &'a [u8], player: &mut P) -> Result<Line<
 fn judge<'a, P: Player>(line: &'a [u8], player: &mut P) -> Result<Line<'a>, Refusal>
     ensures found { IfOk result (λ s. IsLawful line.now s) }
     ensures refused { IfErr result (λ e. Refuses line.now e) }
-    ensures told { IfOk result (λ s. IsToldAll (P.holds player.new) s.1.outcome (plies s.1)) }
+    ensures told { IfOk result (λ s. P.holds player.new s.1.outcome (plies s.1) (last_setup s.1)) }
     ensures fixed { P.fixed player.new ≡ P.fixed player.old }
 {
     // No `?`, since no proof is made of one at a struct that holds a reference beside a record.
@@ -91,7 +91,8 @@ fn read_moves<P: Player>(
 ) -> Result<u32, Refusal>
     requires { length field.now ≤ MAX_BYTES }
     ensures read { MatchResult result (AreRead start.now field.now) (AreRefused start.now field.now) }
-    ensures told { IfOk result (λ _. IsToldAll (P.holds player.new) outcome (plies_from start.now (moves_named field.now))) }
+    ensures told { let moves = moves_named field.now in
+        IfOk result (λ _. P.holds player.new outcome (plies_from start.now moves) (setup_after start.now moves)) }
     ensures fixed { P.fixed player.new ≡ P.fixed player.old }
 {
     player.begin(start, outcome);

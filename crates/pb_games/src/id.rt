@@ -1,6 +1,6 @@
 //! Ids of submissions.
 
-ghost use Rattle.std.specs.Prelude.{◌≡◌, ◌-◌, ◌≤◌, ◌↔◌, ◌++◌, All, IsTrue, length, replicate, SomeIff};
+ghost use Rattle.std.specs.Prelude.{◌≡◌, ◌-◌, ◌≤◌, ◌↔◌, ◌++◌, All, IsTrue, Ok, length, replicate, SomeIff};
 ghost use Rattle.std.specs.Cmp.Rules.{comparing, hashing};
 ghost use Rattle.std.specs.Str.{bytes_eq};
 ghost use Rattle.std.proofs.Common.{rules};
@@ -38,7 +38,10 @@ impl Model for Id {
 }
 
 impl Clone for Id {
-    fn clone(&self) -> Result<Id, AllocError> {
+    /// The id again, which takes no memory.
+    fn clone(&self) -> Result<Id, AllocError>
+        ensures { result ≡ Ok self.now }
+    {
         Ok(*self)
     }
 }

@@ -1,5 +1,5 @@
 -- What a fuse does to a source and to a sink, and what a source gives that never ends.
-use Rattle.std.specs.Prelude.{◌≡◌, ℕ, ◌-◌, ◌<◌, ◌/◌, min, Bool, true, ◌&&◌, ◌||◌, ◌==◌, nat_lt, if◌then◌else◌, List, [], ◌∷◌, length, take, Result, Ok, is_err}
+use Rattle.std.specs.Prelude.{◌≡◌, ℕ, ◌-◌, ◌<◌, ◌/◌, min, Bool, true, false, ◌&&◌, ◌||◌, ◌==◌, nat_lt, if◌then◌else◌, List, [], ◌∷◌, length, take, Result, Ok, is_err}
 use Rattle.std.specs.Io.KnownBytes.{Appends}
 use Rattle.pb_io.specs.Sink.{SinkState}
 use Rattle.pb_io.specs.Source.{SourceState}
@@ -21,6 +21,8 @@ pub record FusePut {E : Type 0} (old new : SinkState) (good good_after : ℕ) (s
   pub kept : Appends old.bytes new.bytes (if starved_after then [] else kept_of old.failed good bytes)
   pub one_less : good_after ≡ good - 1
   pub stays : old.failed ≡ true → starved_after ≡ starved
+  -- where nothing is to be kept, no memory is wanted
+  pub asks : old.failed ≡ false → length (kept_of old.failed good bytes) ≡ 0 → starved_after ≡ false
 
 -- A flush from old on with this answer, where so many calls were to pass before it, and so many after it.
 pub record FuseFlush {E : Type 0} (old : SinkState) (good good_after : ℕ) (answer : Result (Unit {0}) E) : Type 0 where

@@ -1,8 +1,8 @@
 use Rattle.std.proofs.Common.{refl, sym, subst}
 use Rattle.pb_moves.specs.Attack.{Playable}
 use Rattle.pb_moves.specs.Played.{plies_from}
-use Rattle.pb_games.specs.Reading.{AreRead, AreRefused, IsToldAll}
-use Rattle.pb_games.specs.Submissions.{IsLawful, plies}
+use Rattle.pb_games.specs.Reading.{AreRead, AreRefused}
+use Rattle.pb_games.specs.Submissions.{IsLawful, last_setup, plies, setup_after}
 use Rattle.pb_games.specs.Words.{moves_named}
 use Rattle.pb_games.proofs.Judging.{start_refused, moves_refused, moves_lawful, moves_checked}
 use Rattle.pb_games.proofs.check.judge.Goals as goal
@@ -26,8 +26,9 @@ returns-in-Ok-read_moves-clause-found g c =
 pub returns-in-Ok-read_moves-clause-told : goal.returns-in-Ok-read_moves-clause-told
 returns-in-Ok-read_moves-clause-told g c =
     let h = c.in-Ok.header in
-    subst (λ s. IsToldAll (g.P.Player.holds c.read_moves.new.player) s.1.outcome (plies s.1)) (sym c.of.ensures)
-    (subst (λ t. IsToldAll (g.P.Player.holds c.read_moves.new.player) h.outcome (plies_from t (moves_named h.moves.now))) c.setup-start.ensures.value c.in-Ok-read_moves.ensures.told)
+    let moves = moves_named h.moves.now in
+    subst (λ s. g.P.Player.holds c.read_moves.new.player s.1.outcome (plies s.1) (last_setup s.1)) (sym c.of.ensures)
+    (subst (λ t. g.P.Player.holds c.read_moves.new.player h.outcome (plies_from t moves) (setup_after t moves)) c.setup-start.ensures.value c.in-Ok-read_moves.ensures.told)
 
 pub returns-in-Err-read_moves-clause-refused : goal.returns-in-Err-read_moves-clause-refused
 returns-in-Err-read_moves-clause-refused g c =

@@ -111,7 +111,7 @@ pub returns-in-None-illegal-clause-told : goal.returns-in-None-illegal-clause-to
 returns-in-None-illegal-clause-told g c =
     let so_far = c.loop-word.invariant in
     let led = so_far.legal c.in-None-illegal.is (omega (arith, c.if-count-gt-MAX_PLIES.false)) in
-    (c.loop-word.setup, told_all (g.P.Player.holds c.loop-word.player c.args.outcome) c.args.start.now c.loop-word.setup (moves_named c.args.field.now) _ c.loop-word.count led c.in-None.ensures.steps.0)
+    told_all (g.P.Player.holds c.loop-word.player c.args.outcome) c.args.start.now c.loop-word.setup (moves_named c.args.field.now) _ c.loop-word.count led c.in-None.ensures.steps.0
 
 pub returns-in_default-clause-read : goal.returns-in_default-clause-read
 returns-in_default-clause-read g c =

@@ -2,15 +2,14 @@ use Rattle.std.proofs.Common.{ℕ, List, Result, Ok, Err, ◌∙◌}
 use Rattle.std.specs.Prelude.{IfOk}
 use Rattle.pb_games.specs.declared.outcome.Outcome.{Outcome}
 use Rattle.pb_games.specs.declared.refusal.Refusal.{Refusal}
-use Rattle.pb_games.specs.Reading.{IsToldAll}
-use Rattle.pb_games.specs.Submissions.{Submission, plies}
+use Rattle.pb_games.specs.Submissions.{Submission, last_setup, plies}
 use Rattle.pb_accepted.specs.declared.notes.Notes.{Notes}
 use Rattle.pb_accepted.specs.Noting.{HasNoted, Holds}
 use Rattle.pb_accepted.proofs.Gifts.{moves_back}
 use Rattle.pb_accepted.proofs.recorder.Recorder.judge.Goals as goal
 
-noted : (words : List ℕ) (o : Outcome) (k : ℕ) (notes : Notes) (r : Result Submission Refusal) → IfOk r (λ s. IsToldAll (Holds words o k notes) s.1.outcome (plies s.1)) → IfOk r (λ s. HasNoted words notes s.1)
-noted words o k notes (Ok s) told = record { gifts = told.1.gifts; moves = told.1.moves ∙ moves_back s.1.start.setup s.1.moves }
+noted : (words : List ℕ) (o : Outcome) (k : ℕ) (notes : Notes) (r : Result Submission Refusal) → IfOk r (λ s. Holds words o k notes s.1.outcome (plies s.1) (last_setup s.1)) → IfOk r (λ s. HasNoted words notes s.1)
+noted words o k notes (Ok s) told = record { gifts = told.gifts; moves = told.moves ∙ moves_back s.1.start.setup s.1.moves }
 noted words o k notes (Err e) told = _
 
 pub returns-clause-noted : goal.returns-clause-noted
