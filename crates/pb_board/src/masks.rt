@@ -11,7 +11,7 @@ use crate::piece::{Colour, Kind, Piece};
 use crate::square::Square;
 
 /// The squares of each side's pieces and of each kind's, as numbers: bit `i` stands for the square of index `i`.
-#[derive(Clone, Copy)]
+#[derive(Clone, Copy, PartialEq)]
 pub(crate) struct Masks {
     pub(crate) sides: [u64; 2],
     pub(crate) kinds: [u64; 6],

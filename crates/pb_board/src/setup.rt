@@ -1,6 +1,6 @@
 //! Setups: what the first four fields of a FEN record say.
 
-ghost use Rattle.std.specs.Prelude.{◌≡◌, ◌↔◌, ℕ, MatchResult, length};
+ghost use Rattle.std.specs.Prelude.{◌≡◌, ◌↔◌, ℕ, IsTrue, MatchResult, length};
 ghost use Rattle.pb_board.specs.Carried.{carried_on};
 ghost use Rattle.pb_board.specs.Mask.{masks_of};
 
@@ -26,6 +26,16 @@ pub struct Rights {
     pub black_short: bool,
     /// Black may castle on the queen's side, the letter `q`.
     pub black_long: bool,
+}
+
+impl Rights {
+    // Every castling is open.
+    const ALL: Rights = Rights {
+        white_short: true,
+        white_long: true,
+        black_short: true,
+        black_long: true,
+    };
 }
 
 /// A piece that goes from one square to another, in the place of what stood there.
@@ -188,15 +198,25 @@ impl Setup {
         Setup {
             board: initial_board(),
             turn: Colour::White,
-            rights: Rights {
-                white_short: true,
-                white_long: true,
-                black_short: true,
-                black_long: true,
-            },
+            rights: Rights::ALL,
             ep: None,
             masks: initial_masks(),
         }
+    }
+
+    /// Whether it is the initial array, with White to move and every castling open.
+    pub fn is_start(&self) -> bool
+        ensures { IsTrue result ↔ (self.now ≡ initial) }
+    {
+        let Setup {
+            turn,
+            rights,
+            ep,
+            masks,
+            ..
+        } = *self;
+        // Boards with the same masks are one, so no square is looked at.
+        turn == Colour::White && rights == Rights::ALL && ep.is_none() && masks == initial_masks()
     }
 
     /// The places of the board by square index, from a1 to h8.

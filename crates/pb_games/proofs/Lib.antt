@@ -11,4 +11,3 @@ pub mod Refused
 pub mod OneRefused
 pub mod Again
 pub mod InitialText
-pub mod InitialBoard
