@@ -1,7 +1,5 @@
 -- What of the games counts.
 use Rattle.std.specs.Prelude.{ℕ, ◌≤◌}
-use Rattle.pb_games.specs.declared.check.TheConstants.{MAX_PLIES}
-use Rattle.pb_accepted.specs.declared.rules.TheConstants.{MAX_LEAST}
 
 -- so many first plies of each game count, and a move that occurs less often in them is left out
 pub record CountingRules : Type 0 where
@@ -11,10 +9,10 @@ pub record CountingRules : Type 0 where
 -- the numbers lie in their ranges
 pub record AreRules (rules : CountingRules) : Type 0 where
   pub some : 1 ≤ rules.plies
-  pub within_a_game : rules.plies ≤ MAX_PLIES
+  pub within_a_game : rules.plies ≤ 1024
   pub once : 1 ≤ rules.least
-  pub not_above : rules.least ≤ MAX_LEAST
+  pub not_above : rules.least ≤ 1000000
 
 -- all plies of each game count, and no move that occurs is left out for that
 abbrev pub all_plies : CountingRules
-all_plies = record { plies = MAX_PLIES; least = 1 }
+all_plies = record { plies = 1024; least = 1 }

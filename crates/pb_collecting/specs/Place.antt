@@ -26,3 +26,7 @@ pub record Keeps (old new : PlaceState) (answer : Result (Unit {0}) NotKept) (by
   pub holds : OnOk answer (HoldsBytes old new bytes)
   pub leaves : IfErr answer (λ why. (new.found ≡ old.found) ⊎ Spoils old new why bytes)
   pub fault : new.fault ≡ result_err answer
+
+-- memory was wanting, and a reader of the place finds what was there before
+abbrev pub KeepsWhatItHad : PlaceState → PlaceState → NotKept → Type 0
+KeepsWhatItHad old new why = (why ≡ Memory) × (new.found ≡ old.found)

@@ -1,8 +1,8 @@
 //! Where a text is kept, such as that of a book.
 
-ghost use Rattle.std.specs.Prelude.{◌≡◌, ℕ, List, None, Some, option_and_then};
+ghost use Rattle.std.specs.Prelude.{◌≡◌, ℕ, IfErr, List, None, Some, option_and_then};
 ghost use Rattle.std.specs.Option.{option_copied};
-ghost use Rattle.pb_collecting.specs.Place.{Keeps, PlaceState};
+ghost use Rattle.pb_collecting.specs.Place.{Keeps, KeepsWhatItHad, PlaceState};
 
 use crate::text::Text;
 use pb_poly::{MemSink, Sink};
@@ -65,7 +65,11 @@ impl MemPlace {
 impl Place for MemPlace {
     ghost state = { λ p. record { found = Some (option_and_then (λ s. (⟦<MemSink as Sink>⟧.state s).bytes) p.kept); fault = p.fault } };
 
-    fn keep<X: Text>(&mut self, text: &X) -> Result<(), NotKept> {
+    fn keep<X: Text>(&mut self, text: &X) -> Result<(), NotKept>
+        ensures kept { (bytes : List ℕ) × X.is_text text.now bytes
+            × Keeps (⟦<MemPlace as Place>⟧.state self.old) (⟦<MemPlace as Place>⟧.state self.new) result bytes }
+        ensures fault { IfErr result (KeepsWhatItHad (⟦<MemPlace as Place>⟧.state self.old) (⟦<MemPlace as Place>⟧.state self.new)) }
+    {
         let mut draft = MemSink::new(self.alloc);
         if text.write(&mut draft).is_err() {
             self.fault = Some(NotKept::Memory);
