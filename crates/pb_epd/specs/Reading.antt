@@ -128,5 +128,5 @@ abbrev pub IsRefused : EpdError → List Token → Type 0
 IsRefused (epd.Opcode n) ts = IsUnnamedAt n ts
 IsRefused epd.Unended ts = (ended : List (List Token)) × (unended : List Token) × AreNamed ts ended unended × (unended ≢ [])
 IsRefused (epd.Repeated n) ts = (ended : List (List Token)) × AreNamed ts ended [] × BreaksAt (AllPairs BeginOtherwise) ended n
-IsRefused epd.Memory ts = Unit {0}
+IsRefused epd.Memory ts = ts ≢ []
 IsRefused _ ts = ⊥

@@ -1,11 +1,11 @@
 //! Reading an EPD record.
 
-ghost use Rattle.std.specs.Prelude.{◌≡◌, ◌∷◌, ◌++◌, ◌+◌, ◌^◌, ◌<◌, ◌≤◌, [], ℕ, List, All, length, map, IfOk, IfErr, IfSome, MatchOption, MatchResult, OnOk};
+ghost use Rattle.std.specs.Prelude.{◌≡◌, ◌≢◌, ◌∷◌, ◌++◌, ◌+◌, ◌^◌, ◌<◌, ◌≤◌, [], ℕ, List, All, length, map, IfOk, IfErr, IfSome, MatchOption, MatchResult, OnErr, OnOk};
 ghost use Rattle.pb_epd.specs.Token.{Token, word, end_mark, Tokens, TokensAfter};
 ghost use Rattle.pb_epd.specs.Lexeme.{IsOperandToken, token_of};
 ghost use Rattle.pb_epd.specs.Epd.{EpdRecord, IsEpd, EpdText};
 ghost use Rattle.pb_epd.specs.Operation.{IsOpcode, IsOperand, IsOperation, operand_token};
-ghost use Rattle.pb_epd.specs.Refusal.{IsNamed, IsFirstDueEpd};
+ghost use Rattle.pb_epd.specs.Refusal.{IsFirstDueEpd, IsFourWords, IsNamed};
 ghost use Rattle.pb_epd.specs.Reading.{HasTokens, EndsSoundly, Follow, FourFollow, EndsWithOperands, AreOperands, IsTaken, IsSound, AreOperations, IsRefused, StandsWith};
 ghost use Rattle.pb_epd.specs.declared.refusal.EpdError.TheVariants as epd;
 
@@ -145,6 +145,7 @@ fn next_operation<'a>(
 ) -> Result<Taken<'a>, AllocError>
     ensures taken { IfOk result (λ r. (ts : List Token) → TokensAfter (token_of before.entry) ts text.now → IsTaken r ts) }
     ensures sound { IfOk result (λ r. IsSound r (token_of before.entry) text.now) }
+    ensures memory { OnErr result ((ts : List Token) → TokensAfter (token_of before.entry) ts text.now → ts ≢ []) }
 {
     let (first, rest) = match next_token(before, text) {
         Step::Done => return Ok(Taken::Done),
@@ -234,6 +235,7 @@ fn read_operations(
 fn read_tokens(alloc: Global, text: &[u8]) -> Result<Epd, EpdError>
     ensures found { IfOk result (λ e. IsEpd e × EpdText e text.now) }
     ensures refused { IfErr result (λ x. (ts : List Token) → Tokens ts text.now → IsFirstDueEpd x text.now) }
+    ensures memory { IfErr result (λ x. x ≡ epd.Memory → ¬ IsFourWords text.now) }
 {
     let Some(fields) = four_words(text) else {
         return Err(EpdError::Fields);
@@ -253,6 +255,7 @@ fn read_tokens(alloc: Global, text: &[u8]) -> Result<Epd, EpdError>
 fn judge(alloc: Global, text: &[u8]) -> Result<Epd, EpdError>
     ensures found { IfOk result (λ e. IsEpd e × EpdText e text.now) }
     ensures refused { IfErr result (λ x. IsFirstDueEpd x text.now) }
+    ensures memory { IfErr result (λ x. x ≡ epd.Memory → ¬ IsFourWords text.now) }
 {
     match read_tokens(alloc, text) {
         Ok(epd) => Ok(epd),
@@ -276,6 +279,8 @@ pub fn read_epd(alloc: Global, text: &[u8]) -> Result<Epd, EpdError>
     ensures only { (e : EpdRecord) → IsEpd e → EpdText e text.now → MatchResult result (λ r. r ≡ e) (λ x. x ≡ epd.Memory) }
     // A refusal is the first whose condition holds.
     ensures refused { IfErr result (λ x. IsFirstDueEpd x text.now) }
+    // Four words alone take no memory.
+    ensures memory { IfErr result (λ x. x ≡ epd.Memory → ¬ IsFourWords text.now) }
 {
     judge(alloc, text)
 }

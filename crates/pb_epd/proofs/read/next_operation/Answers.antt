@@ -1,7 +1,9 @@
-use Rattle.std.proofs.Common.{refl, arith, rules}
+use Rattle.std.proofs.Common.{◌≢◌, [], ℕ, List, Ok, Err, OnErr, Result, ◌∙◌, sym, refl, arith, rules}
+use Rattle.pb_epd.specs.Lexeme.{Steps, token_of}
+use Rattle.pb_epd.specs.Token.{Token, TokensAfter}
 use Rattle.pb_epd.proofs.Bad.{steps_shorter}
 use Rattle.std.proofs.lemmas.Bool.{false≢true}
-use Rattle.pb_epd.proofs.TokenLists.{done_only, stuck_none}
+use Rattle.pb_epd.proofs.TokenLists.{done_only, found_first, stuck_none}
 use Rattle.pb_epd.proofs.Reader.{steps_back, no_operand, taken_end, taken_unended, taken_unnamed, taken_operation}
 use Rattle.pb_epd.proofs.read.next_operation.Goals as goal
 
@@ -36,3 +38,15 @@ returns-in-Some-opcode_of-clause-sound c =
 
 pub returns-in-Bad-clause-sound : goal.returns-in-Bad-clause-sound
 returns-in-Bad-clause-sound c = search rules
+
+on_err : {A E : Type 0} (answer : Result A E) (P : Type 0) → P → OnErr answer P
+on_err (Ok x) P h = tt
+on_err (Err e) P h = h
+
+found_some : (before t : Token) (ts : List Token) (bytes rest : List ℕ) → Steps before bytes t rest → TokensAfter before ts bytes → ts ≢ []
+found_some before t ts bytes rest found h none = let f = found_first before t ts bytes rest h found in let never = sym f.is ∙ none in cc
+
+pub returns-in_err-operands-clause-memory : goal.returns-in_err-operands-clause-memory
+returns-in_err-operands-clause-memory c =
+    let some : (ts : List Token) → TokensAfter (token_of c.args.before) ts c.args.text.now → ts ≢ [] = λ ts h. found_some _ _ ts _ _ c.in-Found.ensures h in
+    on_err c.from_residual.result _ some

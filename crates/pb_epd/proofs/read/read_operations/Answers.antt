@@ -1,4 +1,7 @@
-use Rattle.std.proofs.Common.{◌∙◌}
+use Rattle.std.proofs.Common.{◌≡◌, ◌≢◌, ◌∷◌, ◌++◌, [], List, ◌∙◌, subst, sym}
+use Rattle.std.proofs.lemmas.Result.{err_from_is_err_and}
+use Rattle.pb_epd.specs.Reading.{IsRefused}
+use Rattle.pb_epd.specs.Token.{Token}
 use Rattle.pb_epd.specs.Operation.{Operation}
 use Rattle.pb_epd.proofs.Groups.{operations_more, read_all, read_repeated, read_unended, read_unnamed}
 use Rattle.pb_epd.proofs.read.read_operations.Goals as goal
@@ -34,3 +37,21 @@ returns-in-None-clause-found c = (
   c.loop-so_far.invariant.read.back (rw c.in-Ok-Done.field-0-is at c.in-Ok-Done.ensures.sound),
   λ ts h. read_all _ _ _ _ _ _ _ c.loop-so_far.invariant.read ts h c.in-None.is (rw c.in-Ok-Done.field-0-is at c.in-Ok-Done.ensures.taken),
 )
+
+-- tokens follow those that were read
+more_tokens : (ts front others : List Token) → ts ≡ front ++ others → others ≢ [] → ts ≢ []
+more_tokens ts [] others is some none = some (sym is ∙ none)
+more_tokens ts (t ∷ front) others is some none = let never = sym is ∙ none in cc
+
+pub returns-in-Err-clause-refused : goal.returns-in-Err-clause-refused
+returns-in-Err-clause-refused c = λ ts h.
+    let so_far = c.loop-so_far.invariant.read.tokens ts h in
+    more_tokens ts _ so_far.others so_far.is (c.in-Err.ensures.memory so_far.others so_far.after)
+
+pub returns-in_err-step-in-Ok-Operation-clause-refused : goal.returns-in_err-step-in-Ok-Operation-clause-refused
+returns-in_err-step-in-Ok-Operation-clause-refused c =
+    let taken = rw c.in-Ok-Operation.field-0-is at c.in-Ok-Operation.ensures.taken in
+    let p = err_from_is_err_and c.from_residual.result c.from_residual.ensures.1 in rw (p.1, p.2) (λ ts h.
+    let so_far = c.loop-so_far.invariant.read.tokens ts h in
+    let some : so_far.others ≢ [] = λ none. let never = sym (taken so_far.others so_far.after).is ∙ none in cc in
+    subst (λ x. IsRefused x ts) (sym c.in_err-step-in-Ok-Operation.ensures.memory) (more_tokens ts _ so_far.others so_far.is some))
