@@ -6,6 +6,7 @@ pub mod Distinct
 pub mod Frequent
 pub mod Gifts
 pub mod Members
+pub mod Naming
 pub mod Numbers
 pub mod Places
 pub mod Replies

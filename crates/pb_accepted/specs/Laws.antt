@@ -1,5 +1,5 @@
 -- Laws of ledgers, over the definitions alone.
-use Rattle.std.specs.Prelude.{◌≡◌, ◌≢◌, ℕ, ◌<◌, ◌⊎◌, ◌↔◌, List, [], ◌∷◌, ◌++◌, length, take, All, AllPairs, Contains, Ok, Err, Some, slice_get}
+use Rattle.std.specs.Prelude.{◌≡◌, ◌≢◌, ℕ, ◌<◌, ◌≤◌, ◌⊎◌, ◌↔◌, List, [], ◌∷◌, ◌++◌, length, take, All, AllPairs, Contains, Ok, Err, Some, slice_get}
 use Rattle.pb_poly.specs.declared.entry.Entry.{Entry}
 use Rattle.pb_poly.specs.Book.{BookBytes}
 use Rattle.pb_games.specs.declared.refusal.Refusal.{Refusal}
@@ -9,6 +9,7 @@ use Rattle.pb_accepted.specs.Accepting.{Answer, IsNumber, IsNewId, Reply, Allowe
 use Rattle.pb_accepted.specs.Basis.{Basis}
 use Rattle.pb_accepted.specs.Counting.{count, IsBook}
 use Rattle.pb_accepted.specs.Holding.{HaveOwnIds}
+use Rattle.pb_accepted.specs.Replies.{named}
 
 -- ---- one line
 
@@ -25,6 +26,10 @@ HeldIsAnswered = (cap : ℕ) (A : List Submission) (line : List ℕ) (s : Submis
 abbrev pub RefusalsChangeNothing : Type 0
 RefusalsChangeNothing = (cap : ℕ) (A : List Submission) (line : List ℕ) (e : Refusal) (B : List Submission)
     → Allowed cap A line (Err e) → Takes A line (Err e) B → B ≡ A
+
+-- the reply to a line names at most 64 bytes
+abbrev pub NamesAreShort : Type 0
+NamesAreShort = (cap : ℕ) (A : List Submission) (line : List ℕ) (answer : Answer) → Allowed cap A line answer → length (named line answer) ≤ 64
 
 -- ---- runs
 

@@ -1,13 +1,14 @@
 //! Laws of ledgers. Each is the contract of a function that does nothing, over the definitions alone.
 
-ghost use Rattle.pb_accepted.specs.Laws.{AcceptedIsOne, AcceptedJoin, AcceptsTheTaken, BookByMembers, CountsByMembers, HeldIsAnswered, IdsAreDistinct, LawfulArrives, NoConflict, NumbersAreDistinct, NumbersAreGiven, OneBook, OneReply, OneBookText, RefusalsChangeNothing, RepeatsKeepTheirNumber, RunsAccept, RunsGoOn, RunsJoin, SameBytes, TakenHasNoRepeats, TakenIsOne};
+ghost use Rattle.pb_accepted.specs.Laws.{AcceptedIsOne, AcceptedJoin, AcceptsTheTaken, BookByMembers, CountsByMembers, HeldIsAnswered, IdsAreDistinct, LawfulArrives, NamesAreShort, NoConflict, NumbersAreDistinct, NumbersAreGiven, OneBook, OneReply, OneBookText, RefusalsChangeNothing, RepeatsKeepTheirNumber, RunsAccept, RunsGoOn, RunsJoin, SameBytes, TakenHasNoRepeats, TakenIsOne};
 
 /// What one line is answered and does, where no id stands twice: one reply and no other, to a submission that is held its
-/// number, and a refused line changes nothing.
+/// number, and a refused line changes nothing. The reply names an id that is short, as `Reply::new` asks.
 pub fn one_line()
     ensures reply { OneReply }
     ensures held { HeldIsAnswered }
     ensures refused { RefusalsChangeNothing }
+    ensures named { NamesAreShort }
 {}
 
 /// The lines with their answers fix what is accepted, and no id stands twice in it.

@@ -16,8 +16,6 @@ use Rattle.pb_games.specs.declared.refusal.Refusal.TheVariants as refusal
 use Rattle.pb_games.specs.Ids.{IsId}
 use Rattle.pb_games.specs.Results.{outcome_text}
 use Rattle.pb_games.specs.Words.{words_of}
-use Rattle.pb_games.specs.declared.check.TheConstants.{MAX_PLIES}
-use Rattle.pb_games.specs.declared.header.TheConstants.{MAX_BYTES}
 
 -- the fields of a line, which is cut at every TAB
 abbrev pub fields_of : List ℕ → List (List ℕ)
@@ -43,14 +41,14 @@ pub record SpellsMoves (line : List ℕ) (moves : List Moved) : Type 0 where
 
 -- when each refusal is due; the last three look at more than the line
 abbrev pub IsDue : Refusal → List ℕ → Type 0
-IsDue refusal.Long line = MAX_BYTES < length line
+IsDue refusal.Long line = 8192 < length line
 IsDue refusal.Shape line = length (fields_of line) ≢ 4
 IsDue refusal.Id line = ¬ IsId (field_of line 0)
 IsDue refusal.Result line = (outcome : Outcome) → field_of line 1 ≢ outcome_text outcome
 IsDue (refusal.Fen e) line = IsFirstDue of_record e (fields (field_of line 2))
 IsDue refusal.Start line = (f : Record) × SpellsStart line f × ¬ Playable f.setup
 IsDue (refusal.Spelling n) line = BreaksAt (All IsSpelled) (move_words line) n
-IsDue refusal.Plies line = MAX_PLIES < length (move_words line)
+IsDue refusal.Plies line = 1024 < length (move_words line)
 IsDue (refusal.Illegal n) line =
     (f : Record) × (moves : List Moved) × SpellsStart line f × SpellsMoves line moves × BreaksAt (AreLegal f.setup) moves n
 IsDue _ line = ⊥

@@ -11,7 +11,6 @@ use Rattle.pb_moves.specs.Successor.{after}
 use Rattle.pb_games.specs.declared.game.Game.{Game}
 use Rattle.pb_games.specs.Ids.{IsId}
 use Rattle.pb_games.specs.Results.{outcome_text}
-use Rattle.pb_games.specs.declared.check.TheConstants.{MAX_PLIES}
 
 -- an id and a game
 abbrev pub Submission : Type 0
@@ -25,7 +24,7 @@ moves_text moves = join_with_byte 32 (map spelling moves)
 pub record IsGame (g : Game) : Type 0 where
   pub start : IsRecord g.start
   pub moves : All IsMove g.moves
-  pub few : length g.moves ≤ MAX_PLIES
+  pub few : length g.moves ≤ 1024
 
 -- the text of a submission: the id, the result, the record that the game starts from and the moves, with a TAB
 -- between each two

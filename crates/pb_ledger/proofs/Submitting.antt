@@ -1,17 +1,14 @@
--- A line and its answer: the id that its reply names, how many games it adds, and how it is taken.
-use Rattle.std.proofs.Common.{◌≡◌, ℕ, ◌+◌, ◌<◌, ◌≤◌, Bool, true, false, nat_lt, List, [], ◌∷◌, length, MutBor, Result, Ok, Err, refl, sym, ap, subst, ◌∙◌, arith, inl, inr}
-use Rattle.std.specs.Prelude.{slice_index_or}
-use Rattle.std.proofs.lemmas.Bool.{cases_lt, lt-ltb, le-ltb}
+-- A line and its answer: how many games it adds, and how it is taken.
+use Rattle.std.proofs.Common.{◌≡◌, ℕ, ◌+◌, ◌<◌, Bool, true, false, nat_lt, List, [], ◌∷◌, length, MutBor, Result, Ok, Err, refl, sym, ap, subst, ◌∙◌, arith, inl, inr}
+use Rattle.std.proofs.lemmas.Bool.{lt-ltb, le-ltb}
 use Rattle.std.proofs.lemmas.List.{length-append}
 use Rattle.pb_io.specs.Lines.{line_limit}
 use Rattle.pb_io.specs.Sink.{Put, SinkState}
 use Rattle.pb_io.specs.declared.source.Failed.{Failed}
-use Rattle.pb_games.specs.declared.refusal.Refusal.{Refusal}
 use Rattle.pb_games.specs.declared.refusal.Refusal.TheVariants as refusal
-use Rattle.pb_games.specs.Refusing.{Refuses, field_of}
-use Rattle.pb_games.specs.Submissions.{IsLawful, Submission}
-use Rattle.pb_games.proofs.Dues.{first_due, none_at_first, none_before, order}
-use Rattle.pb_games.proofs.Texts.{fields_back}
+use Rattle.pb_games.specs.Refusing.{Refuses}
+use Rattle.pb_games.specs.Submissions.{Submission}
+use Rattle.pb_games.proofs.Dues.{first_due, none_at_first}
 use Rattle.pb_accepted.specs.Accepting.{Allowed, Answer, Takes}
 use Rattle.pb_accepted.proofs.Replies.{Allowed-refused, Takes-refusal, Takes-refused}
 use Rattle.pb_accepted.specs.Ledger.{LedgerState}
@@ -19,45 +16,7 @@ use Rattle.pb_ledger.specs.declared.collecting.Collector.{Collector}
 use Rattle.pb_ledger.specs.declared.totals.Totals.{Totals}
 use Rattle.pb_ledger.specs.Collecting.{Leads}
 use Rattle.pb_ledger.specs.Collector.{TakesLine, with_answer}
-use Rattle.pb_accepted.specs.Replies.{named, reply_line}
-
--- ---- the id that is named
-
-abbrev IsNamedShort : List ℕ → Answer → Type 0
-IsNamedShort line r = length (named line r) ≤ 64
-
-named_field : (line : List ℕ) (r : Answer) → length (field_of line 0) ≤ 64 → IsNamedShort line r
-named_field line (Ok n) short = short
-named_field line (Err refusal.Long) short = omega arith
-named_field line (Err refusal.Shape) short = omega arith
-named_field line (Err refusal.Id) short = omega arith
-named_field line (Err e) short = short
-
-named_lawful : (line : List ℕ) (s : Submission) (r : Answer) → IsLawful line s → IsNamedShort line r
-named_lawful line s r h =
-    let is : field_of line 0 ≡ s.0 = ap (λ (parts : List (List ℕ)). slice_index_or parts 0 []) (fields_back line s h.submits) in
-    named_field line r (omega (arith, ap length is, h.submits.id.few))
-
--- a line that is refused after its id was judged has a short id
-judged_id : (line : List ℕ) (e : Refusal) → 3 < order e → Refuses line e → length (field_of line 0) ≤ 64
-judged_id line e after refuses =
-    elim (cases_lt 64 (length (field_of line 0))) [
-      | inl long ↦ absurd (none_before line e refuses refusal.Id after (λ id. omega (arith, id.few)))
-      | inr short ↦ short
-    ]
-
-named_refused : (line : List ℕ) (e : Refusal) → Refuses line e → IsNamedShort line (Err e)
-named_refused line refusal.Long h = omega arith
-named_refused line refusal.Shape h = omega arith
-named_refused line refusal.Id h = omega arith
-named_refused line e h = judged_id line e (omega arith) h
-
--- the reply to a line names at most 64 bytes
-pub named_short : (cap : ℕ) (A : List Submission) (line : List ℕ) (r : Answer) → Allowed cap A line r → length (named line r) ≤ 64
-named_short cap A line r (inl (inl lawful)) = named_lawful line lawful.0 r lawful.1
-named_short cap A line r (inl (inr h)) = subst (λ q. IsNamedShort line q) (sym h.1) (named_refused line h.0 h.2)
-named_short cap A line r (inr (_, inl lawful)) = named_lawful line lawful.0 r lawful.1
-named_short cap A line r (inr (_, inr h)) = absurd (cc (h.1))
+use Rattle.pb_accepted.specs.Replies.{reply_line}
 
 -- ---- one line
 

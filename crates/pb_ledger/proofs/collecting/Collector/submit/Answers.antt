@@ -1,4 +1,5 @@
-use Rattle.pb_ledger.proofs.Submitting.{Leads-one, named_short}
+use Rattle.pb_accepted.proofs.Naming.{named_short}
+use Rattle.pb_ledger.proofs.Submitting.{Leads-one}
 use Rattle.pb_ledger.proofs.collecting.Collector.submit.Goals as goal
 
 pub returns-clause-leads : goal.returns-clause-leads
