@@ -4,6 +4,7 @@
 #![tactic(auto)]
 
 mod books;
+mod games;
 mod moves;
 
 use pb_poly::{FromRead, take_table};
@@ -23,5 +24,6 @@ fn main(rt: HostRuntime) -> io::Result<()> {
     let Ok(table) = take_table(rt.alloc(), &mut file, u32::MAX) else {
         return print_line(&rt, b"no table");
     };
-    books::print(&rt, &table)
+    books::print(&rt, &table)?;
+    games::print(&rt, &table)
 }
