@@ -163,10 +163,11 @@ impl Setup {
         ensures { self.new ≡ position_of (carried_board self.old.board from to piece) (opponent self.old.turn) rights ep }
     {
         let next = self;
-        let (left, reached) = (from.index() as usize, to.index() as usize);
-        masks::carry(&mut next.masks, from, to, piece);
-        next.board[left] = None;
-        next.board[reached] = Some(piece);
+        put_carried(
+            &mut next.board,
+            &mut next.masks,
+            Carried { from, to, piece },
+        );
         next.turn = next.turn.opponent();
         next.rights = rights;
         next.ep = ep;
@@ -281,6 +282,7 @@ impl Setup {
 }
 
 /// Carries a piece on a board, and in the sets of squares beside it.
+#[inline(always)]
 fn put_carried(board: &mut [Option<Piece>; 64], masks: &mut Masks, carried: Carried)
     ensures board { board.new ≡ carried_on board.old carried }
     ensures masks { masks.old ≡ masks_of board.old → masks.new ≡ masks_of (carried_on board.old carried) }
