@@ -8,7 +8,7 @@ use Rattle.pb_points.specs.Group.{AddsBook}
 use Rattle.pb_points.specs.PartTally.{HoldsOwn, part_of, parts_content}
 use Rattle.pb_points.specs.Rows.{IsBookOfRows, frequent}
 use Rattle.pb_points.specs.Tally.{Content}
-use Rattle.pb_points.specs.TallyBook.{AddsBookOf, AreRows}
+use Rattle.pb_points.specs.TallyBook.{AddsBookOf, AddsSome, AreRows}
 use Rattle.pb_points.proofs.Groups.{IsBookOfRows-append, KeysBelow}
 use Rattle.pb_points.proofs.PartRows.{Listing, listing_ends, listing_goes_on, listing_starts, lower_part}
 
@@ -59,6 +59,9 @@ module _ {T : Type 0} (content : T → Content) (parts : List T) (least : ℕ) w
           let low = ((h.listing.each r).0 (frequent_within least h.rows r a)).0 in
           let at = place s (frequent_within least x.rows s b) in
           lower_part r.key s.key (omega (arith, low, at))
+
+  pub adds_some : (i : ℕ) (old mid new : List Entry) → AddsFirst content parts least i old mid → AddsSome mid new → AddsSome old new
+  adds_some i old mid new h more = (h.book ++ more.0, more.1 ∙ ap (λ l. l ++ more.0) h.added ∙ append_assoc old h.book more.0)
 
   pub adds_all : (i : ℕ) (old new : List Entry) → AddsFirst content parts least i old new → length parts ≤ i → AddsBookOf (parts_content content parts) least old new
   adds_all i old new h end = record {

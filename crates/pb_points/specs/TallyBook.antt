@@ -10,6 +10,10 @@ pub record AreRows (content : Content) (rows : List Row) : Type 0 where
   pub rise : AllPairs IsBelow rows
   pub each : (r : Row) → Contains rows r ↔ (content r.key r.code ≡ Some (held_of r))
 
+-- the new entries are the old ones and some more
+abbrev pub AddsSome : List Entry → List Entry → Type 0
+AddsSome old new = (some : List Entry) × (new ≡ old ++ some)
+
 -- the book of the rows of what occurs so often was added to the entries
 pub record AddsBookOf (content : Content) (least : ℕ) (old new : List Entry) : Type 0 where
   pub rows : List Row

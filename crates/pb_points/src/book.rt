@@ -1,6 +1,6 @@
 //! The book of rows of points.
 
-ghost use Rattle.std.specs.Prelude.{◌≡◌, ◌<◌, ◌≤◌, All, AllPairs, Any, IfOk, MatchOption, OnOk, drop, length, take};
+ghost use Rattle.std.specs.Prelude.{◌≡◌, ◌<◌, ◌≤◌, All, AllPairs, Any, IfOk, MatchOption, OnErr, OnOk, drop, length, take};
 ghost use Rattle.pb_points.specs.Group.{AddsBook, IsEntryGroup, IsGroup, Orders, entry_with};
 ghost use Rattle.pb_points.specs.Rows.{IsBelow, IsBookOfRows, frequent};
 ghost use Rattle.pb_points.specs.Weight.{Before, scaled};
@@ -36,7 +36,8 @@ pub(crate) fn add_frequent(
     entries: &mut Vec<Entry>,
 ) -> Result<(), AllocError>
     requires { AllPairs IsBelow rows.items }
-    ensures { OnOk result (AddsBook (frequent least rows.items) entries.old.items entries.new.items) }
+    ensures ok { OnOk result (AddsBook (frequent least rows.items) entries.old.items entries.new.items) }
+    ensures err { OnErr result (entries.new.items ≡ entries.old.items) }
 {
     keep_frequent(&mut rows, least);
     let book = book_of(alloc, &rows)?;

@@ -11,7 +11,7 @@ pub trait Tally: Drop {
     ghost use Rattle.pb_points.specs.declared.row.Row.{Row};
     ghost use Rattle.pb_points.specs.Rows.{IsBelow};
     ghost use Rattle.pb_points.specs.Tally.{Held, HasRoomFor, MakesRow, AddsPly, held, held_of};
-    ghost use Rattle.pb_points.specs.TallyBook.{AddsBookOf};
+    ghost use Rattle.pb_points.specs.TallyBook.{AddsBookOf, AddsSome};
 
     /// What is held of each key and code, where there is a row.
     ghost content: { Self → ℕ → ℕ → Option Held };
@@ -56,12 +56,14 @@ pub trait Tally: Drop {
     ///
     /// # Errors
     ///
-    /// The rows or the entries needed memory that wasn't there.
+    /// The rows or the entries needed memory that wasn't there. The entries that stood in the list stand there still, and some may be
+    /// behind them.
     fn add_book(
         &self,
         alloc: Global,
         least: u64,
         entries: &mut Vec<Entry>,
     ) -> Result<(), AllocError>
-        ensures { OnOk result (AddsBookOf (content self.now) least entries.old.items entries.new.items) };
+        ensures ok { OnOk result (AddsBookOf (content self.now) least entries.old.items entries.new.items) }
+        ensures err { OnErr result (AddsSome entries.old.items entries.new.items) };
 }

@@ -12,7 +12,7 @@ use Rattle.pb_accepted.proofs.ledger.Ledger.make_book.Goals as goal
 
 pub unwrap-requires : goal.unwrap-requires
 unwrap-requires g c =
-    let adds = c.in_ok-add_book.ensures in
+    let adds = c.in_ok-add_book.ensures.ok in
     let entries = c.add_book.new.entries.items in
     let are : entries ≡ adds.book = adds.added ∙ ap (λ l. l ++ adds.book) c.new-entries.ensures.items in
     let ordered : AllPairs Before entries = subst (AllPairs Before) (sym are) adds.is.ordered in
@@ -23,7 +23,7 @@ returns g c =
     let inside = c.self.inside in
     let games = inside.games.entries in
     let T : Basis = record { words = inside.recorder.table; rules = inside.rules } in
-    let adds = c.in_ok-add_book.ensures in
+    let adds = c.in_ok-add_book.ensures.ok in
     let entries = c.add_book.new.entries.items in
     let are : entries ≡ adds.book = adds.added ∙ ap (λ l. l ++ adds.book) c.new-entries.ensures.items in
     let made : c.unwrap.result ≡ entries = search rules in
