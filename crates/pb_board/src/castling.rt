@@ -1,6 +1,6 @@
 //! The four castlings.
 
-ghost use Rattle.std.specs.Prelude.{◌≡◌, ◌<◌, ◌↔◌, IsTrue};
+ghost use Rattle.std.specs.Prelude.{◌≡◌, ◌<◌, ◌↔◌, ◌||◌, ◌==◌, IsTrue};
 ghost use Rattle.pb_board.specs.Castling.{IsHome, castling_from_home, castling_of, castling_row};
 
 use crate::piece::Colour;
@@ -95,6 +95,20 @@ impl Castling {
             Castling::BlackShort => rights.black_short,
             Castling::BlackLong => rights.black_long,
         }
+    }
+
+    /// Whether a move between these squares loses the right to castle so: it leaves or reaches the king's or the rook's first square.
+    #[inline(always)]
+    pub fn is_touched(self, from: Square, to: Square) -> bool
+        ensures { let row = castling_row self in
+            result ≡ (from == row.king_from || to == row.king_from || (from == row.rook_from || to == row.rook_from)) }
+    {
+        let CastlingSquares {
+            king_from,
+            rook_from,
+            ..
+        } = self.squares();
+        from == king_from || to == king_from || from == rook_from || to == rook_from
     }
 
     /// The squares between which king and rook go.

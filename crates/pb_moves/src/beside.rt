@@ -6,7 +6,7 @@ ghost use Rattle.pb_board.specs.Position.{IsSetup};
 ghost use Rattle.pb_board.specs.declared.castling.Castling.{Castling};
 ghost use Rattle.pb_board.specs.Castling.{castling_row};
 ghost use Rattle.pb_moves.specs.Cases.{CaseOf};
-ghost use Rattle.pb_moves.specs.After.{PassesOver, Touches, KeepsFlag};
+ghost use Rattle.pb_moves.specs.After.{PassesOver, KeepsFlag};
 ghost use Rattle.pb_moves.specs.Candidate.{HoldsOwn};
 ghost use Rattle.pb_moves.specs.Beside.{Completes};
 
@@ -21,21 +21,12 @@ pub(crate) struct Beside {
     pub(crate) ep: Option<Square>,
 }
 
-/// Whether the move leaves or reaches the square.
-#[inline(always)]
-fn touches(m: Move, square: Square) -> bool
-    ensures { IsTrue result ↔ Touches m square }
-{
-    m.from() == square || m.to() == square
-}
-
 /// Whether a castling that the rights have is kept.
 #[inline(always)]
 fn keeps(castling: Castling, rights: Rights, m: Move) -> bool
     ensures { let row = castling_row castling in KeepsFlag (row.right rights) result m row }
 {
-    let squares = castling.squares();
-    castling.is_allowed(rights) && !touches(m, squares.king_from) && !touches(m, squares.rook_from)
+    castling.is_allowed(rights) && !castling.is_touched(m.from(), m.to())
 }
 
 /// The castling rights that the move keeps, each by its squares. It is out of line, since few moves need it.

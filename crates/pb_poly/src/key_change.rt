@@ -1,6 +1,6 @@
 //! Keys by what a move changes.
 
-ghost use Rattle.std.specs.Prelude.{◌≡◌, ◌||◌, ◌==◌, not, [], ◌∷◌, Some};
+ghost use Rattle.std.specs.Prelude.{◌≡◌, not, [], ◌∷◌, Some};
 ghost use Rattle.std.specs.Bool.{beq};
 ghost use Rattle.pb_board.specs.declared.piece.Kind.TheVariants.{Pawn};
 ghost use Rattle.pb_board.specs.Piece.{rook_of};
@@ -9,7 +9,7 @@ ghost use Rattle.pb_board.specs.Board.{Board, Holds};
 ghost use Rattle.pb_board.specs.Position.{Position};
 ghost use Rattle.pb_moves.specs.Cases.{Case, Legal};
 ghost use Rattle.pb_moves.specs.After.{After};
-ghost use Rattle.pb_moves.specs.Successor.{after, arriving as arriving_by, keeps, rights_of};
+ghost use Rattle.pb_moves.specs.Successor.{after, arriving, keeps, rights_of};
 ghost use Rattle.pb_poly.specs.Key.{IsKey, joined, key as key_by, passed_places, piece_place as piece_place_by};
 ghost use Rattle.pb_poly.specs.KeyChange.{beside_kind, changed_places, lost_places, square_places};
 
@@ -39,17 +39,20 @@ fn with_place(table: &Table, key: u64, place: Option<Piece>, square: Square) -> 
     }
 }
 
-/// The piece after the move: what the move names, or what it was.
+/// The key, joined by the word of what arrives: the piece, or what the move names in its place.
 #[inline(always)]
-fn arriving(piece: Piece, m: Move) -> Piece
-    ensures { result ≡ arriving_by piece m.promo }
+fn with_arriving(table: &Table, key: u64, piece: Piece, m: Move) -> u64
+    ensures { result ≡ joined table.now key (piece_place_by (arriving piece m.promo) m.to ∷ []) }
 {
     match m.promo() {
-        Some(kind) => Piece {
-            colour: piece.colour,
-            kind,
-        },
-        None => piece,
+        Some(kind) => {
+            let promoted = Piece {
+                colour: piece.colour,
+                kind,
+            };
+            with_piece(table, key, promoted, m.to())
+        }
+        None => with_piece(table, key, piece, m.to()),
     }
 }
 
@@ -63,7 +66,7 @@ fn with_carried(table: &Table, key: u64, before: &Setup, m: Move, piece: Piece) 
     let to = m.to();
     let left = with_piece(table, key, piece, m.from());
     let taken = with_place(table, left, before.at(to), to);
-    with_piece(table, taken, arriving(piece, m), to)
+    with_arriving(table, taken, piece, m)
 }
 
 /// The key, joined by the word of the pawn that a pawn takes in passing.
@@ -114,21 +117,12 @@ fn with_beside(table: &Table, key: u64, before: &Setup, m: Move, piece: Piece) -
     }
 }
 
-/// Whether the move leaves or reaches the square.
-#[inline(always)]
-fn touches(m: Move, square: Square) -> bool
-    ensures { result ≡ (m.from == square || m.to == square) }
-{
-    m.from() == square || m.to() == square
-}
-
 /// Whether the move loses a castling right that is there.
 #[inline(always)]
 fn is_lost(rights: Rights, m: Move, castling: Castling) -> bool
     ensures { result ≡ not (beq ((castling_row castling).right rights) (keeps rights m castling)) }
 {
-    let squares = castling.squares();
-    castling.is_allowed(rights) && (touches(m, squares.king_from) || touches(m, squares.rook_from))
+    castling.is_allowed(rights) && castling.is_touched(m.from(), m.to())
 }
 
 /// The key, joined by the words of the castling rights that the move loses.

@@ -19,8 +19,5 @@ returns c = λ new case.
     let taken : between ≡ joined words first (square_places (at s.board m.to) m.to) =
     c.with_place-taken.ensures ∙ ap (λ (place : Place). joined words first (square_places place c.to-to.result)) c.at.ensures
     ∙ ap (λ q. joined words first (square_places (at s.board q) q)) c.to-to.ensures.value in
-    let reached : c.with_piece.result ≡ joined words between (piece_place (arriving p m.promo) m.to ∷ []) =
-    c.with_piece.ensures ∙ ap (λ (q : Piece). joined words between (piece_place q c.to-to.result ∷ [])) c.arriving.ensures
-    ∙ ap (λ q. joined words between (piece_place (arriving p m.promo) q ∷ [])) c.to-to.ensures.value in
-    joined_between words c.args.key first between c.with_piece.result (piece_place p m.from) (piece_place (arriving p m.promo) m.to) (square_places (at s.board m.to) m.to) left taken reached
+    joined_between words c.args.key first between c.with_arriving.result (piece_place p m.from) (piece_place (arriving p m.promo) m.to) (square_places (at s.board m.to) m.to) left taken c.with_arriving.ensures
     ∙ ap (λ places. joined words c.args.key places) (sym (carried_places s m p new c.requires case))
