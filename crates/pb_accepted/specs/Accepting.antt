@@ -48,7 +48,7 @@ Along Step A L R B = ⊥
 abbrev pub Adds : (List Submission → Submission → Type 0) → List Submission → List ℕ → Answer → List Submission → Type 0
 Adds IsNew A line r B =
     ((s : Submission) × IsLawful line s × IsNew A s × HasRoom r × (B ≡ A ++ s ∷ []))
-    ⊎ (((s : Submission) → IsLawful line s → IsNew A s → HasRoom r → ⊥) × (B ≡ A))
+    ⊎ (((s : Submission) → IsLawful line s → IsNew A s → ¬ HasRoom r) × (B ≡ A))
 
 -- a ledger takes what has a new id
 abbrev pub Takes : List Submission → List ℕ → Answer → List Submission → Type 0

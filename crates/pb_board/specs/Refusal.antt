@@ -28,9 +28,9 @@ BreaksAt rule xs n = rule (take (n - 1) xs) × ¬ rule (take n xs)
 
 -- when parts are no setup
 abbrev pub IsFault : SetupError → Position → Type 0
-IsFault fault.Kings p = HasOneKing p.board White → HasOneKing p.board Black → ⊥
-IsFault fault.Pawns p = HasNoEdgePawn p.board → ⊥
-IsFault fault.EnPassant p = EnPassantHolds p.board p.turn p.ep → ⊥
+IsFault fault.Kings p = HasOneKing p.board White → ¬ HasOneKing p.board Black
+IsFault fault.Pawns p = ¬ HasNoEdgePawn p.board
+IsFault fault.EnPassant p = ¬ EnPassantHolds p.board p.turn p.ep
 
 -- the first cause, in the order in which they are looked for
 abbrev pub IsFirstFault : SetupError → Position → Type 0
@@ -60,16 +60,16 @@ pub record SpellsPassed (pieces : List (List ℕ)) (turn : Colour) (ep : Option 
 -- when each refusal is due
 abbrev pub IsDue : FenError → List (List ℕ) → Type 0
 IsDue refusal.Fields pieces = length pieces ≢ 6
-IsDue refusal.Placement pieces = (board : Board) → SpellsBoard pieces board → ⊥
-IsDue refusal.Turn pieces = (turn : Colour) → field pieces 1 ≡ turn_text turn → ⊥
-IsDue refusal.Castling pieces = (rights : Rights) → field pieces 2 ≡ castling_text rights → ⊥
-IsDue refusal.EnPassantText pieces = (turn : Colour) (ep : Option ℕ) → SpellsPassed pieces turn ep → ⊥
-IsDue refusal.Half pieces = (n : ℕ) → n < 2 ^ 16 → field pieces 4 ≡ number_text n → ⊥
-IsDue refusal.Full pieces = (n : ℕ) → 0 < n → n < 2 ^ 16 → field pieces 5 ≡ number_text n → ⊥
-IsDue refusal.Kings pieces = (board : Board) → SpellsBoard pieces board → HasOneKing board White → HasOneKing board Black → ⊥
-IsDue refusal.Pawns pieces = (board : Board) → SpellsBoard pieces board → HasNoEdgePawn board → ⊥
+IsDue refusal.Placement pieces = (board : Board) → ¬ SpellsBoard pieces board
+IsDue refusal.Turn pieces = (turn : Colour) → field pieces 1 ≢ turn_text turn
+IsDue refusal.Castling pieces = (rights : Rights) → field pieces 2 ≢ castling_text rights
+IsDue refusal.EnPassantText pieces = (turn : Colour) (ep : Option ℕ) → ¬ SpellsPassed pieces turn ep
+IsDue refusal.Half pieces = (n : ℕ) → n < 2 ^ 16 → field pieces 4 ≢ number_text n
+IsDue refusal.Full pieces = (n : ℕ) → 0 < n → n < 2 ^ 16 → field pieces 5 ≢ number_text n
+IsDue refusal.Kings pieces = (board : Board) → SpellsBoard pieces board → HasOneKing board White → ¬ HasOneKing board Black
+IsDue refusal.Pawns pieces = (board : Board) → SpellsBoard pieces board → ¬ HasNoEdgePawn board
 IsDue refusal.EnPassantPawn pieces =
-    (board : Board) (turn : Colour) (ep : Option ℕ) → SpellsBoard pieces board → SpellsPassed pieces turn ep → IfSome ep (λ q. IsPassed board turn q) → ⊥
+    (board : Board) (turn : Colour) (ep : Option ℕ) → SpellsBoard pieces board → SpellsPassed pieces turn ep → ¬ IfSome ep (λ q. IsPassed board turn q)
 
 -- the refusals of a whole record, in order
 abbrev pub of_record : List FenError
