@@ -1,6 +1,12 @@
 //! A stream of submissions to a ledger: each line is submitted, counted and answered by its reply line; where there is a journal, the line
 //! of each new game is on it before the reply. It hands on the accepted games, the export of their book and the saved form of a ledger, knows
 //! no chess itself, and names no file.
+//!
+//! ```rust
+//! let mut ledger = Ledger::<MapTally>::new(alloc, &table, MAX_CAP)?;
+//! let totals = collect(alloc, &mut source, &mut sink, &mut ledger, u32::MAX)?;
+//! let book = ledger.make_book(alloc)?;
+//! ```
 #![tactic(auto)]
 
 mod collecting;

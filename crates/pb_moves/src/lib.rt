@@ -1,4 +1,9 @@
 //! The moves of chess: attacks and check, which moves are legal, and the setup and the record after them.
+//!
+//! ```rust
+//! let moves = legal_moves(alloc, &fen.setup())?;
+//! let next = advance(&fen, moves[0]);
+//! ```
 #![tactic(auto)]
 
 mod attack;

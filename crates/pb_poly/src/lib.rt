@@ -1,5 +1,10 @@
 //! The PolyGlot book format over any source and sink: tables, the keys of positions, the codes of moves, and books with what they
 //! hold for a setup; it knows of no games and of no file's name.
+//!
+//! ```rust
+//! let book = read_book(alloc, &mut source, u32::MAX)?;
+//! let moves = probe(alloc, &book, &table, &setup)?;
+//! ```
 #![tactic(auto)]
 
 mod book;
