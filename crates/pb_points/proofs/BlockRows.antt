@@ -1,19 +1,19 @@
 -- Rows in blocks, and what becomes of them where one block changes.
-use Rattle.std.proofs.Common.{◌≡◌, ℕ, ◌+◌, ◌-◌, ◌<◌, ◌≤◌, zero, suc, Some, unwrap_or, true, cond, if◌then◌else◌, List, [], ◌∷◌, ◌++◌, length, get_or, set, drop, take, refl, sym, ap, ◌∙◌, arith, subst}
+use Rattle.std.proofs.Common.{◌≡◌, ℕ, ◌+◌, ◌-◌, ◌<◌, ◌≤◌, ◌^◌, zero, suc, Some, unwrap_or, true, cond, if◌then◌else◌, List, [], ◌∷◌, ◌++◌, length, get_or, set, drop, take, refl, sym, ap, ◌∙◌, arith, subst}
 use Rattle.std.specs.Prelude.{slice_get, Vec, Result, Ok, Err, OnOk, OnErr, is_ok}
 use Rattle.std.specs.declared.alloc.Global.{Global}
 use Rattle.std.proofs.Math.ListN.{length-append}
-use Rattle.std.proofs.lemmas.List.{take_more, take_all, drop_all, take-append-drop, set-append_left, set-append_right, set_split, append-nil, append_assoc, get_or_default}
+use Rattle.std.proofs.lemmas.List.{take_more, take-append-drop, set-append_left, set-append_right, append-nil, get_or_default, get_or_append_left, get_or-append-add}
 use Rattle.std.proofs.lemmas.List.Concat.{flat_map-append, get_or-flat_map}
 use Rattle.std.proofs.lemmas.List.Folds.{length-flat_map-take}
 use Rattle.std.proofs.lemmas.List.Sums.{sum_by-append, get_or-le-sum_by}
 use Rattle.std.proofs.lemmas.Option.{get_or_from_slice_get, slice_get_within}
 use Rattle.pb_points.specs.declared.row.Row.{Row}
-use Rattle.pb_points.specs.BagTally.{SumsFit, bag_content, gain, points_of, times_of, total}
+use Rattle.pb_points.specs.BagTally.{IsRowAt, SumsFit, bag_content, gain, total}
 use Rattle.pb_points.specs.Blocks.{IsRowIn, rows_in}
 use Rattle.pb_points.specs.Rows.{is_row}
 use Rattle.pb_points.specs.Tally.{HasRoomFor, AddsPly, held}
-use Rattle.pb_points.proofs.BagRows.{adds_set, fit_set, new_row, row_at, with_more}
+use Rattle.pb_points.proofs.BagRows.{adds_set, fit_set, held_points, held_times, new_row, row_at, with_more}
 
 abbrev pub Block : Type 0
 Block = Vec Row Global
@@ -53,6 +53,9 @@ total_within part blocks i k c =
     ap (λ l. total part l k c) (flat_map-append rows_of (take i blocks) (drop i blocks)) ∙ sum_by-append (gain part k c) (rows_in (take i blocks)) (rows_in (drop i blocks)) in
     omega (arith, cut, ap (λ l. total part (rows_in l) k c) (take-append-drop i blocks))
 
+pub total_both : (part : Row → ℕ) (blocks : List Block) (last : List Row) (k c : ℕ) → total part (rows_in blocks ++ last) k c ≡ total part (rows_in blocks) k c + total part last k c
+total_both part blocks last k c = sum_by-append (gain part k c) (rows_in blocks) last
+
 -- ---- one row of a block
 
 -- where a row of a block stands among all rows
@@ -90,70 +93,85 @@ rows_set (b ∷ blocks) (suc i) place block new row here within is =
     ∙ ap (λ n. b.items ++ set (rows_in blocks) n row) (sym left)
     ∙ sym (set-append_right b.items (rows_in blocks) (length b.items) at row refl past)
 
--- ---- a ply added to a row of a block
+-- ---- a ply added to a row
 
-module _ (blocks : List Block) (i place key code : ℕ) (was : Block) (row : Row)
-    (held_there : IsRowIn blocks i place key code) (block_is : was ≡ get_or blocks i was) (row_is : row ≡ get_or was.items place row) where
+-- among all rows, at the place, is this row, and it is of this key and this code
+pub record IsPlace (all : List Row) (at key code : ℕ) (row : Row) : Type 0 where
+  pub within : at < length all
+  pub here : row_at all at ≡ row
+  pub test : is_row key code row ≡ true
+
+-- a row of the last block
+pub place_last : (before : List Row) (last : List Row) (place key code : ℕ) (row : Row) → IsRowAt last place key code → row ≡ get_or last place row → IsPlace (before ++ last) (length before + place) key code row
+place_last before last place key code row there row_is =
+    let here : row_at last place ≡ row = get_or_default last place (new_row 0 0) row there.0 ∙ sym row_is in
+    record {
+      within = omega (arith, length-append before last, there.0);
+      here = get_or-append-add before last place (new_row 0 0) ∙ here;
+      test = ap (λ r. is_row key code r) (sym here) ∙ there.1;
+    }
+
+pub set_last : (before last : List Row) (place : ℕ) (row : Row) → before ++ set last place row ≡ set (before ++ last) (length before + place) row
+set_last before last place row =
+    let back : length before + place - length before ≡ place = omega arith in
+    ap (λ n. before ++ set last n row) (sym back) ∙ sym (set-append_right before last (length before) (length before + place) row refl (omega arith))
+
+-- the block that was found
+module _ (blocks : List Block) (i place key code : ℕ) (was : Block) (held_there : IsRowIn blocks i place key code) (block_is : was ≡ get_or blocks i was) where
   same_block : was ≡ held_there.0
   same_block = block_is ∙ get_or_from_slice_get blocks i held_there.0 was held_there.1
 
   is_there : slice_get blocks i ≡ Some was
   is_there = held_there.1 ∙ ap (λ b. Some b) (sym same_block)
 
+  pub is_fitting : place < length was.items
+  is_fitting = subst (λ (b : Block). place < length b.items) (sym same_block) held_there.2.0
+
+-- a row of a full block
+module _ (blocks : List Block) (last : List Row) (i place key code : ℕ) (was : Block) (row : Row)
+    (held_there : IsRowIn blocks i place key code) (block_is : was ≡ get_or blocks i was) (row_is : row ≡ get_or was.items place row) where
+  there : slice_get blocks i ≡ Some was
+  there = is_there blocks i place key code was held_there block_is
+
   fits_there : place < length was.items
-  fits_there = subst (λ (b : Block). place < length b.items) (sym same_block) held_there.2.0
+  fits_there = is_fitting blocks i place key code was held_there block_is
 
-  abbrev all : List Row
-  all = rows_in blocks
+  row_there : row_at was.items place ≡ row
+  row_there = get_or_default was.items place (new_row 0 0) row fits_there ∙ sym row_is
 
-  abbrev at : ℕ
-  at = place_among blocks i place
+  in_full : place_among blocks i place < length (rows_in blocks)
+  in_full = place_within blocks i place was there fits_there
 
-  at_within : at < length all
-  at_within = place_within blocks i place was is_there fits_there
+  pub place_full : IsPlace (rows_in blocks ++ last) (place_among blocks i place) key code row
+  place_full = record {
+    within = omega (arith, in_full, length-append (rows_in blocks) last);
+    here = get_or_append_left (rows_in blocks) last (new_row 0 0) (place_among blocks i place) in_full ∙ row_among blocks i place was there fits_there ∙ row_there;
+    test = ap (λ r. is_row key code r) (sym row_there) ∙ subst (λ (b : Block). is_row key code (row_at b.items place) ≡ true) (sym (same_block blocks i place key code was held_there block_is)) held_there.2.1;
+  }
 
-  row_there : row_at all at ≡ row
-  row_there = row_among blocks i place was is_there fits_there ∙ get_or_default was.items place (new_row 0 0) row fits_there ∙ sym row_is
+  pub set_full : (new : Block) (changed : Row) → new.items ≡ set was.items place changed → rows_in (set blocks i new) ++ last ≡ set (rows_in blocks ++ last) (place_among blocks i place) changed
+  set_full new changed is = ap (λ l. l ++ last) (rows_set blocks i place was new changed there fits_there is) ∙ sym (set-append_left (rows_in blocks) last (place_among blocks i place) changed in_full)
 
-  test : is_row key code (row_at all at) ≡ true
-  test = ap (λ r. is_row key code r) (row_among blocks i place was is_there fits_there) ∙ subst (λ (b : Block). is_row key code (row_at b.items place) ≡ true) (sym same_block) held_there.2.1
+module _ (all : List Row) (at key code : ℕ) (row : Row) (place : IsPlace all at key code row) where
+  test_at : is_row key code (row_at all at) ≡ true
+  test_at = ap (λ r. is_row key code r) place.here ∙ place.test
 
-  more_set : (n : ℕ) (new : Block) → new.items ≡ set was.items place (with_more n 1 row) → rows_in (set blocks i new) ≡ set all at (with_more n 1 (row_at all at))
-  more_set n new is = rows_set blocks i place was new (with_more n 1 row) is_there fits_there is ∙ ap (λ r. set all at (with_more n 1 r)) (sym row_there)
+  pub adds_at : (n : ℕ) (new : List Row) → new ≡ set all at (with_more n 1 row) → AddsPly (bag_content all) (bag_content new) key code n
+  adds_at n new is = subst (λ l. AddsPly (bag_content all) (bag_content l) key code n) (ap (λ r. set all at (with_more n 1 r)) place.here ∙ sym is) (adds_set all key code at n place.within test_at)
 
-  pub adds_in : (n : ℕ) (new : Block) → new.items ≡ set was.items place (with_more n 1 row) → AddsPly (bag_content all) (bag_content (rows_in (set blocks i new))) key code n
-  adds_in n new is = subst (λ l. AddsPly (bag_content all) (bag_content l) key code n) (sym (more_set n new is)) (adds_set all key code at n at_within test)
+  pub fit_at : (n : ℕ) (new : List Row) → new ≡ set all at (with_more n 1 row) → SumsFit all → HasRoomFor (held (bag_content all) key code) n → SumsFit new
+  fit_at n new is fit room = subst SumsFit (ap (λ r. set all at (with_more n 1 r)) place.here ∙ sym is) (fit_set all key code at n fit place.within test_at room)
 
-  pub fit_in : (n : ℕ) (new : Block) → new.items ≡ set was.items place (with_more n 1 row) → SumsFit all → HasRoomFor (held (bag_content all) key code) n → SumsFit (rows_in (set blocks i new))
-  fit_in n new is fit room = subst SumsFit (sym (more_set n new is)) (fit_set all key code at n fit at_within test room)
-
-  pub points_in : row.points ≤ points_of all key code
-  points_in = omega (
+  part_at : (part : Row → ℕ) → part row ≤ total part all key code
+  part_at part = omega (
     arith,
-    get_or-le-sum_by (gain (λ r. r.points) key code) all at (new_row 0 0) at_within,
-    ap (λ b. cond b (row_at all at).points 0) test,
-    ap (λ (r : Row). r.points) row_there,
+    get_or-le-sum_by (gain part key code) all at (new_row 0 0) place.within,
+    ap (λ b. cond b (part (row_at all at)) 0) test_at,
+    ap part place.here,
   )
 
-  pub times_in : row.times ≤ times_of all key code
-  times_in = omega (
-    arith,
-    get_or-le-sum_by (gain (λ r. r.times) key code) all at (new_row 0 0) at_within,
-    ap (λ b. cond b (row_at all at).times 0) test,
-    ap (λ (r : Row). r.times) row_there,
-  )
+  pub points_at : (n : ℕ) → HasRoomFor (held (bag_content all) key code) n → row.points + n ≤ 2 ^ 63
+  points_at n room = omega (arith, part_at (λ r. r.points), room.points, held_points all key code)
 
--- ---- a row at the end of the last block
-
-pub rows_last : (blocks : List Block) (n : ℕ) (block new : Block) (row : Row) → n + 1 ≡ length blocks → get_or blocks n block ≡ block → new.items ≡ block.items ++ row ∷ []
-    → rows_in (set blocks n new) ≡ rows_in blocks ++ row ∷ []
-rows_last blocks n block new row last here is =
-    let end : drop (suc n) blocks ≡ [] = drop_all (suc n) blocks (omega (arith, last)) in
-    let all : take (n + 1) blocks ≡ blocks = take_all (n + 1) blocks (omega (arith, last)) in
-    let before : rows_in blocks ≡ rows_in (take n blocks) ++ block.items =
-    ap rows_in (sym all) ∙ rows_more blocks n block (omega (arith, last)) ∙ ap (λ (b : Block). rows_in (take n blocks) ++ b.items) here in
-    ap rows_in (set_split blocks n new (omega (arith, last)) ∙ ap (λ l. take n blocks ++ new ∷ l) end)
-    ∙ rows_pushed (take n blocks) new
-    ∙ ap (λ l. rows_in (take n blocks) ++ l) is
-    ∙ sym (append_assoc (rows_in (take n blocks)) block.items (row ∷ []))
-    ∙ ap (λ l. l ++ row ∷ []) (sym before)
+  pub times_at : (n : ℕ) → HasRoomFor (held (bag_content all) key code) n → row.times + 1 ≤ 2 ^ 63
+  times_at n room = omega (arith, part_at (λ r. r.times), room.times, held_times all key code)

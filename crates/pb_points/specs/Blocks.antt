@@ -1,13 +1,18 @@
 -- Rows in blocks.
-use Rattle.std.specs.Prelude.{◌≡◌, ℕ, Some, List, slice_get, Vec}
+use Rattle.std.specs.Prelude.{◌≡◌, ℕ, Some, List, ◌++◌, slice_get, Vec}
 use Rattle.std.specs.List.{flat_map}
 use Rattle.std.specs.declared.alloc.Global.{Global}
+use Rattle.pb_points.specs.declared.blocks.Blocks.{Blocks}
 use Rattle.pb_points.specs.declared.row.Row.{Row}
 use Rattle.pb_points.specs.BagTally.{IsRowAt}
 
 -- the rows of all blocks, one block after the other
 abbrev pub rows_in : List (Vec Row Global) → List Row
 rows_in blocks = flat_map (λ block. block.items) blocks
+
+-- the rows of the full blocks, and then those of the last one
+abbrev pub rows_of : Blocks → List Row
+rows_of blocks = rows_in blocks.full.items ++ blocks.last.items
 
 -- in this block, at the place, is a row of this key and this code
 abbrev pub IsRowIn : List (Vec Row Global) → ℕ → ℕ → ℕ → ℕ → Type 0

@@ -2,10 +2,12 @@
 
 ghost use Rattle.std.specs.Prelude.{◌≡◌, ◌<◌, AllPairs, IfOk, length};
 ghost use Rattle.pb_points.specs.BagTally.{HoldsSame, IsAddedUp, SumsFit, bag_content};
-ghost use Rattle.pb_points.specs.Blocks.{rows_in};
+ghost use Rattle.pb_points.specs.Blocks.{rows_of};
 ghost use Rattle.pb_points.specs.Rows.{IsUpTo};
 
-use crate::blocks::{in_blocks, listed, place_in, points_of, push_row, times_of};
+use crate::blocks::{
+    Blocks, in_blocks, listed, no_blocks, place_in, place_of, points_of, push_row, times_of,
+};
 use crate::book::add_frequent;
 use crate::row::{Row, sort_rows};
 use crate::tally::Tally;
@@ -21,8 +23,8 @@ const MANY: usize = 64;
 #[derive(Drop)]
 pub struct BagTally {
     alloc: Global,
-    blocks: Vec<Vec<Row>>,
-    ghost fit: { SumsFit (rows_in blocks.items) },
+    blocks: Blocks,
+    ghost fit: { SumsFit (rows_of blocks) },
 }
 
 /// One row for each key and code of the ordered rows.
@@ -50,38 +52,43 @@ fn added_up(alloc: Global, rows: &[Row]) -> Result<Vec<Row>, AllocError>
 }
 
 /// One row for each key and code of the blocks, in order.
-fn sums_of(alloc: Global, blocks: &[Vec<Row>]) -> Result<Vec<Row>, AllocError>
-    requires { SumsFit (rows_in blocks.now) }
-    ensures { IfOk result (λ v. IsAddedUp (rows_in blocks.now) v.items) }
+fn sums_of(alloc: Global, blocks: &Blocks) -> Result<Vec<Row>, AllocError>
+    requires { SumsFit (rows_of blocks.now) }
+    ensures { IfOk result (λ v. IsAddedUp (rows_of blocks.now) v.items) }
 {
     let mut rows = listed(alloc, blocks)?;
     sort_rows(&mut rows);
     added_up(alloc, &rows)
 }
 
-/// Adds up the rows where there are many blocks and no room for one more, and leaves room for twice what is left.
-fn make_room(alloc: Global, blocks: &mut Vec<Vec<Row>>) -> Result<(), AllocError>
-    requires { SumsFit (rows_in blocks.old.items) }
-    ensures same { HoldsSame (rows_in blocks.old.items) (rows_in blocks.new.items) }
-    ensures fit { SumsFit (rows_in blocks.new.items) }
+/// Adds up the rows where the last block is full, there are many others and there is no room for one more, and leaves room for twice what
+/// is left.
+fn make_room(alloc: Global, blocks: &mut Blocks) -> Result<(), AllocError>
+    requires { SumsFit (rows_of blocks.old) }
+    ensures same { HoldsSame (rows_of blocks.old) (rows_of blocks.new) }
+    ensures fit { SumsFit (rows_of blocks.new) }
 {
-    if blocks.len() < MANY || blocks.len() < blocks.capacity() {
+    if blocks.last.len() < blocks.last.capacity() {
+        return Ok(());
+    }
+    if blocks.full.len() < MANY || blocks.full.len() < blocks.full.capacity() {
         return Ok(());
     }
     let sums = sums_of(alloc, blocks)?;
     let mut all = in_blocks(alloc, &sums)?;
-    all.reserve(all.len())?;
+    let many = all.full.len();
+    all.full.reserve(many)?;
     *blocks = all;
     Ok(())
 }
 
 impl Tally for BagTally {
-    ghost content = { λ t. bag_content (rows_in t.blocks.items) };
+    ghost content = { λ t. bag_content (rows_of t.blocks) };
 
     fn new(alloc: Global) -> BagTally {
         BagTally {
             alloc,
-            blocks: Vec::new(alloc),
+            blocks: no_blocks(alloc),
         }
     }
 
@@ -97,24 +104,28 @@ impl Tally for BagTally {
     }
 
     fn add(&mut self, key: u64, code: u16, points: u64) {
-        if let Some((block, place)) = place_in(&self.blocks, key, code) {
-            let row = &mut self.blocks[block][place];
+        if let Some(place) = place_of(&self.blocks.last, key, code) {
+            let row = &mut self.blocks.last[place];
+            row.points += points;
+            row.times += 1;
+        } else if let Some((block, place)) = place_in(&self.blocks.full, key, code) {
+            let row = &mut self.blocks.full[block][place];
             row.points += points;
             row.times += 1;
         }
     }
 
     fn points(&self, key: u64, code: u16) -> u64 {
-        let mut sum = 0;
-        for block in &self.blocks {
+        let mut sum = points_of(&self.blocks.last, key, code);
+        for block in &self.blocks.full {
             sum += points_of(block, key, code);
         }
         sum
     }
 
     fn times(&self, key: u64, code: u16) -> u64 {
-        let mut sum = 0;
-        for block in &self.blocks {
+        let mut sum = times_of(&self.blocks.last, key, code);
+        for block in &self.blocks.full {
             sum += times_of(block, key, code);
         }
         sum

@@ -2,50 +2,65 @@
 
 ghost use Rattle.std.specs.Prelude.{◌≡◌, ◌≤◌, ◌^◌, ◌++◌, ◌∷◌, [], if◌then◌else◌, is_ok, IfOk, MatchOption};
 ghost use Rattle.pb_points.specs.BagTally.{IsRowAt, count_of, points_of as points, times_of as times};
-ghost use Rattle.pb_points.specs.Blocks.{IsRowIn, rows_in};
+ghost use Rattle.pb_points.specs.Blocks.{IsRowIn, rows_in, rows_of};
 
 use crate::row::Row;
 use std::alloc::{AllocError, Global};
+use std::mem;
 
 /// The rows that a block has room for.
 const BLOCK: usize = 64;
 
-/// Puts a row at the end of the last block, where that has room for it, and tells whether it did.
-fn push_in_last(blocks: &mut [Vec<Row>], row: Row) -> bool
-    ensures { rows_in blocks.new ≡ (if result then rows_in blocks.old ++ row ∷ [] else rows_in blocks.old) }
+/// Rows in blocks: those that are full, and the last one, to which rows are added. The last one stands beside the list of the others, so
+/// that adding a row reads no block before it.
+#[derive(Drop)]
+pub(crate) struct Blocks {
+    pub(crate) full: Vec<Vec<Row>>,
+    pub(crate) last: Vec<Row>,
+}
+
+/// No rows. It takes no memory.
+pub(crate) fn no_blocks(alloc: Global) -> Blocks
+    ensures { rows_of result ≡ [] }
 {
-    let Some(last) = blocks.last_mut() else {
-        return false;
-    };
-    if last.len() >= last.capacity() {
-        return false;
+    Blocks {
+        full: Vec::new(alloc),
+        last: Vec::new(alloc),
     }
-    last.push_reserved(row);
-    true
+}
+
+/// Puts a row at the end, in a new block.
+fn push_in_new(alloc: Global, blocks: &mut Blocks, row: Row) -> Result<(), AllocError>
+    ensures { rows_of blocks.new ≡ (if is_ok result then rows_of blocks.old ++ row ∷ [] else rows_of blocks.old) }
+{
+    let mut block = Vec::with_capacity(alloc, BLOCK)?;
+    block.push_reserved(row);
+    if blocks.last.is_empty() {
+        blocks.last = block;
+        return Ok(());
+    }
+    blocks.full.reserve(1)?;
+    let last = mem::replace(&mut blocks.last, block);
+    blocks.full.push_reserved(last);
+    Ok(())
 }
 
 /// Puts a row at the end, in a new block where the last one is full.
-pub(crate) fn push_row(
-    alloc: Global,
-    blocks: &mut Vec<Vec<Row>>,
-    row: Row,
-) -> Result<(), AllocError>
-    ensures { rows_in blocks.new.items ≡ (if is_ok result then rows_in blocks.old.items ++ row ∷ [] else rows_in blocks.old.items) }
+pub(crate) fn push_row(alloc: Global, blocks: &mut Blocks, row: Row) -> Result<(), AllocError>
+    ensures { rows_of blocks.new ≡ (if is_ok result then rows_of blocks.old ++ row ∷ [] else rows_of blocks.old) }
 {
-    if push_in_last(blocks, row) {
-        return Ok(());
+    if blocks.last.len() >= blocks.last.capacity() {
+        return push_in_new(alloc, blocks, row);
     }
-    let mut block = Vec::with_capacity(alloc, BLOCK)?;
-    block.push_reserved(row);
-    blocks.push(block)?;
+    blocks.last.push_reserved(row);
     Ok(())
 }
 
 /// The rows in blocks.
-pub(crate) fn in_blocks(alloc: Global, rows: &[Row]) -> Result<Vec<Vec<Row>>, AllocError>
-    ensures { IfOk result (λ v. rows_in v.items ≡ rows.now) }
+pub(crate) fn in_blocks(alloc: Global, rows: &[Row]) -> Result<Blocks, AllocError>
+    ensures { IfOk result (λ v. rows_of v ≡ rows.now) }
 {
-    let mut blocks = Vec::new(alloc);
+    let mut blocks = no_blocks(alloc);
     for row in rows {
         push_row(alloc, &mut blocks, *row)?;
     }
@@ -53,13 +68,15 @@ pub(crate) fn in_blocks(alloc: Global, rows: &[Row]) -> Result<Vec<Vec<Row>>, Al
 }
 
 /// The rows of all blocks in one list.
-pub(crate) fn listed(alloc: Global, blocks: &[Vec<Row>]) -> Result<Vec<Row>, AllocError>
-    ensures { IfOk result (λ v. v.items ≡ rows_in blocks.now) }
+pub(crate) fn listed(alloc: Global, blocks: &Blocks) -> Result<Vec<Row>, AllocError>
+    ensures { IfOk result (λ v. v.items ≡ rows_of blocks.now) }
 {
-    let mut rows = Vec::with_capacity(alloc, blocks.len().saturating_mul(BLOCK))?;
-    for block in blocks {
+    let many = (blocks.full.len() + 1).saturating_mul(BLOCK);
+    let mut rows = Vec::with_capacity(alloc, many)?;
+    for block in &blocks.full {
         rows.extend_from_slice(block)?;
     }
+    rows.extend_from_slice(&blocks.last)?;
     Ok(rows)
 }
 
@@ -77,7 +94,7 @@ pub(crate) fn place_in(blocks: &[Vec<Row>], key: u64, code: u16) -> Option<(usiz
 }
 
 /// The place of the last row of a key and a code.
-fn place_of(rows: &[Row], key: u64, code: u16) -> Option<usize>
+pub(crate) fn place_of(rows: &[Row], key: u64, code: u16) -> Option<usize>
     ensures { MatchOption result (count_of rows.now key code ≡ 0)
         (λ place. IsRowAt rows.now place key code) }
 {

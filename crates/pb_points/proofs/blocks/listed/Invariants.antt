@@ -3,4 +3,4 @@ use Rattle.pb_points.specs.Blocks.{rows_in}
 use Rattle.pb_points.proofs.blocks.listed.Given as goal
 
 abbrev pub invariant-loop-block : goal.invariant-loop-block
-invariant-loop-block l = l.rows.items ≡ rows_in (take l.block-index l.blocks)
+invariant-loop-block l = l.rows.items ≡ rows_in (take l.block-index l.block-items)

@@ -1,10 +1,10 @@
 use Rattle.std.proofs.lemmas.Result.{on_ok_weaker}
 use Rattle.pb_points.specs.BagTally.{bag_content}
-use Rattle.pb_points.specs.Blocks.{rows_in}
+use Rattle.pb_points.specs.Blocks.{rows_of}
 use Rattle.pb_points.proofs.PartBooks.{adds_of_rows}
 use Rattle.pb_points.proofs.bag_tally.BagTallyTally.add_book.Goals as goal
 
 pub returns-clause-ok : goal.returns-clause-ok
 returns-clause-ok c =
     let rows = c.in_ok-rows.field-0.items in
-    on_ok_weaker c.add_frequent.result (adds_of_rows (bag_content (rows_in c.args.self.now.blocks.items)) c.args.least rows _ _ (record { rise = c.in_ok-rows.ensures.order; each = c.in_ok-rows.ensures.each })) c.add_frequent.ensures.ok
+    on_ok_weaker c.add_frequent.result (adds_of_rows (bag_content (rows_of c.args.self.now.blocks)) c.args.least rows _ _ (record { rise = c.in_ok-rows.ensures.order; each = c.in_ok-rows.ensures.each })) c.add_frequent.ensures.ok
