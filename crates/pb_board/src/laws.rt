@@ -1,10 +1,13 @@
 //! Laws of FEN records and their texts.
 
 ghost use Rattle.std.specs.Prelude.{◌≡◌, ℕ, List};
+ghost use Rattle.std.specs.Bool.{Decides};
 ghost use Rattle.pb_board.specs.Position.{Position, Record, IsSetup, IsRecord};
 ghost use Rattle.pb_board.specs.Fen.{AreFields, FourFields, FenText};
 ghost use Rattle.pb_board.specs.Refusal.{IsFirstDue, of_record, fields};
 ghost use Rattle.pb_board.specs.declared.refusal.FenError.{FenError};
+
+use crate::setup::Setup;
 
 /// No record has two texts.
 pub fn one_text()
@@ -29,4 +32,9 @@ pub fn one_setup()
 /// No refusal is due for a text of a record.
 pub fn none_due()
     ensures { (f : Record) (t : List ℕ) (e : FenError) → IsRecord f → FenText f t → IsFirstDue of_record e (fields t) → ⊥ }
+{}
+
+/// Setups are equal (`==`) exactly where they are one position.
+pub fn equal_setups()
+    ensures { (p q : Position) → Decides (⟦<Setup as PartialEq>⟧.eq p q) (p ≡ q) }
 {}
