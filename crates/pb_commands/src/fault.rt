@@ -8,17 +8,33 @@ use thiserror::Error;
 #[derive(Clone, Copy, Debug, PartialEq, Eq, Error)]
 pub enum Fault {
     /// A source of bytes failed.
-    #[error("read")]
+    #[error("a source of bytes failed")]
     Read,
     /// A sink of bytes failed.
-    #[error("write")]
+    #[error("a sink of bytes failed")]
     Write,
     /// A source gave bytes as often as it could be asked, and still had not ended.
-    #[error("endless")]
+    #[error("a source of bytes didn't end")]
     Endless,
     /// A growth of the command's own found no memory.
-    #[error("memory")]
+    #[error("no memory was found")]
     Memory,
+}
+
+impl Fault {
+    ghost use Rattle.pb_commands.specs.Status.{word_of};
+
+    /// The word that stands for the fault in the program's line `fault ..`.
+    pub fn word(self) -> &'static str
+        ensures { result.now ≡ word_of self }
+    {
+        match self {
+            Fault::Read => "read",
+            Fault::Write => "write",
+            Fault::Endless => "endless",
+            Fault::Memory => "memory",
+        }
+    }
 }
 
 /// The status of a command that stopped before its end.

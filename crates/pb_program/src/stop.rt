@@ -5,17 +5,24 @@ ghost use Rattle.std.specs.Prelude.{◌≡◌};
 use pb_cli::{Fault, NoBook, NotContinued, NotKept, STOPPED};
 use pb_poly::{Sink, ToWrite};
 use std::io::Write;
-use thiserror::Error;
 
 /// Why a command stops.
-#[derive(Clone, Copy, Debug, PartialEq, Eq, Error)]
+#[derive(Clone, Copy, PartialEq)]
 pub(crate) enum Stop {
     /// A file can't be opened or made.
-    #[error("open")]
     NotOpened,
     /// The command met a fault.
-    #[error("{0}")]
     Fault(Fault),
+}
+
+impl Stop {
+    /// The word of the line `fault ..`.
+    fn word(self) -> &'static str {
+        match self {
+            Stop::NotOpened => "open",
+            Stop::Fault(fault) => fault.word(),
+        }
+    }
 }
 
 impl From<Fault> for Stop {
@@ -57,7 +64,7 @@ pub(crate) fn tell_stop<W: Write>(rt: &HostRuntime, output: &mut ToWrite<W>, sto
     ensures { result ≡ 3 }
 {
     if stop != Stop::Fault(Fault::Write) && output.flush().is_ok() {
-        let _ = println!(rt; "fault {stop}");
+        let _ = println!(rt; "fault {}", stop.word());
     }
     STOPPED
 }

@@ -61,10 +61,10 @@ fn statuses(page: &mut Page) -> Done {
 
 /// The word that tells each fault.
 fn faults(page: &mut Page) -> Done {
-    page.put_count("a source failed: ", &Fault::Read);
-    page.put_count("\na sink failed: ", &Fault::Write);
-    page.put_count("\na source didn't end: ", &Fault::Endless);
-    page.put_count("\nno memory: ", &Fault::Memory);
+    page.put_count("a source failed: ", &Fault::Read.word());
+    page.put_count("\na sink failed: ", &Fault::Write.word());
+    page.put_count("\na source didn't end: ", &Fault::Endless.word());
+    page.put_count("\nno memory: ", &Fault::Memory.word());
     Ok(())
 }
 
