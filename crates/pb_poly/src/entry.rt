@@ -41,13 +41,12 @@ impl Entry {
     pub(crate) fn to_bytes(self) -> [u8; 16]
         ensures { result ≡ entry_bytes self }
     {
-        let [k0, k1, k2, k3, k4, k5, k6, k7] = self.key.to_be_bytes();
-        let [c0, c1] = self.code.to_be_bytes();
-        let [w0, w1] = self.weight.to_be_bytes();
-        let [l0, l1, l2, l3] = self.learn.to_be_bytes();
-        [
-            k0, k1, k2, k3, k4, k5, k6, k7, c0, c1, w0, w1, l0, l1, l2, l3,
-        ]
+        let mut bytes = [0; ENTRY_LEN];
+        bytes[..8].copy_from_slice(&self.key.to_be_bytes());
+        bytes[8..10].copy_from_slice(&self.code.to_be_bytes());
+        bytes[10..12].copy_from_slice(&self.weight.to_be_bytes());
+        bytes[12..].copy_from_slice(&self.learn.to_be_bytes());
+        bytes
     }
 
     /// The entry with these sixteen bytes.
