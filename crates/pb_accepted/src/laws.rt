@@ -1,6 +1,14 @@
 //! Laws of ledgers. Each is the contract of a function that does nothing, over the definitions alone.
 
+ghost use Rattle.std.specs.Prelude.{◌≡◌};
+ghost use Rattle.pb_accepted.specs.declared.ledger.TheConstants.{MAX_CAP};
+ghost use Rattle.pb_accepted.specs.Holding.{most_games};
 ghost use Rattle.pb_accepted.specs.Laws.{AcceptedIsOne, AcceptedJoin, AcceptsTheTaken, BookByMembers, CountsByMembers, HeldIsAnswered, IdsAreDistinct, LawfulArrives, NamesAreShort, NoConflict, NumbersAreDistinct, NumbersAreGiven, OneBook, OneReply, OneBookText, RefusalsChangeNothing, RepeatsKeepTheirNumber, RunsAccept, RunsGoOn, RunsJoin, SameBytes, TakenHasNoRepeats, TakenIsOne};
+
+/// The most games that a ledger may be made for is the number that the definitions have.
+pub fn limits()
+    ensures cap { MAX_CAP ≡ most_games }
+{}
 
 /// What one line is answered and does, where no id stands twice: one reply and no other, to a submission that is held its
 /// number, and a refused line changes nothing. The reply names an id that is short, as `Reply::new` asks.

@@ -120,6 +120,7 @@ module _ (l : LedgerState) (book : List Entry) (named : List Named) (is_book : I
     put = h.put;
     front = front_of_text l.basis l.accepted book named h.front h.back h.listed h.some h.rest is_book holds h.are h.is h.text;
     cause = h.cause;
+    waits = h.waits;
   }
 
   -- a fault of the flush
@@ -129,4 +130,5 @@ module _ (l : LedgerState) (book : List Entry) (named : List Named) (is_book : I
     put = Appends-kept sink.bytes now.bytes new.bytes (text_of h.listed) h.put flush.bytes;
     front = front_of_text l.basis l.accepted book named named [] h.listed (text_of h.listed) [] is_book holds (sym (append-nil named)) h.is (sym (append-nil (text_of h.listed)));
     cause = flush.failed;
+    waits = inl flush.flushed;
   }

@@ -1,5 +1,5 @@
 -- The lines of an export, one setup after another.
-use Rattle.std.proofs.Common.{◌≡◌, ℕ, ◌+◌, ◌<◌, Err, List, [], ◌∷◌, ◌++◌, length, take, drop, get_or, append-nil, append_assoc, refl, sym, ap, subst, ◌∙◌, inl, inr, arith}
+use Rattle.std.proofs.Common.{◌≡◌, ℕ, ◌+◌, ◌<◌, false, Err, List, [], ◌∷◌, ◌++◌, length, take, drop, get_or, append-nil, append_assoc, refl, sym, ap, subst, ◌∙◌, inl, inr, arith}
 use Rattle.std.specs.Prelude.{Contains}
 use Rattle.std.specs.Io.KnownBytes.{Appends}
 use Rattle.std.proofs.KnownBytes.{Appends-nil, Appends-trans}
@@ -17,7 +17,7 @@ use Rattle.pb_io.specs.Sink.{Put, SinkState, StillWorks}
 use Rattle.pb_poly.specs.declared.entry.Entry.{Entry}
 use Rattle.pb_io.specs.declared.source.Failed.{Failed}
 use Rattle.pb_poly.proofs.Finding.{found_is_one}
-use Rattle.pb_export.specs.Exporting.{Listed, with_book_moves}
+use Rattle.pb_export.specs.Exporting.{Listed, Waits, with_book_moves}
 use Rattle.pb_export.specs.Listing.{IsListedOf, IsListingOf, PutsFront, PutsListing, SaysMoves, text_of}
 use Rattle.pb_export.specs.Setups.{InTextOrder, Named}
 use Rattle.pb_export.specs.declared.exporting.ExportFault.TheVariants as fault
@@ -114,6 +114,7 @@ pub record Putting (words : List ℕ) (book : List Entry) (all : List Named) (si
   pub counted : count ≡ length listed
   pub put : Appends sink.bytes now.bytes (text_of listed)
   pub works : StillWorks sink.failed now.failed
+  pub waits : Waits sink now
 
 pub Putting-none : (words : List ℕ) (book : List Entry) (all : List Named) (sink : SinkState) → Putting words book all sink sink 0 all
 Putting-none words book all sink = record {
@@ -124,6 +125,7 @@ Putting-none words book all sink = record {
   counted = refl;
   put = Appends-nil sink.bytes;
   works = λ w. w;
+  waits = inr refl;
 }
 
 module _ (words : List ℕ) (book : List Entry) (all : List Named) (sink now : SinkState) (count : ℕ) where
@@ -149,6 +151,7 @@ module _ (words : List ℕ) (book : List Entry) (all : List Named) (sink now : S
     text = sym (append-nil (text_of h.listed));
     put = h.put;
     cause = h.works;
+    waits = h.waits;
   }
 
   module _ (t : List ℕ) (s : Position) (rest : List Named) (h : Putting words book all sink now count ((t, s) ∷ rest)) (rules : IsSetup s) where
@@ -164,6 +167,7 @@ module _ (words : List ℕ) (book : List Entry) (all : List Named) (sink now : S
       counted = h.counted;
       put = h.put;
       works = h.works;
+      waits = h.waits;
     }
 
     module _ (new : SinkState) (line text : List ℕ) (says : SaysMoves words book s text) (is : line ≡ text ++ 10 ∷ []) (order : InTextOrder all) where
@@ -182,8 +186,8 @@ module _ (words : List ℕ) (book : List Entry) (all : List Named) (sink now : S
       unfolding with_it
       length_with_it = length_push h.listed (listed_here words book h.front t s h.listed h.is rules text says)
 
-      pub Putting-more : Appends now.bytes new.bytes line → StillWorks now.failed new.failed → Putting words book all sink new (count + 1) rest
-      Putting-more put works = record {
+      pub Putting-more : Appends now.bytes new.bytes line → StillWorks now.failed new.failed → new.flushed ≡ false → Putting words book all sink new (count + 1) rest
+      Putting-more put works flushed = record {
         front = h.front ++ (t, s) ∷ [];
         are = passed;
         listed = with_it;
@@ -191,6 +195,7 @@ module _ (words : List ℕ) (book : List Entry) (all : List Named) (sink now : S
         counted = omega (arith, h.counted, length_with_it);
         put = subst (Appends sink.bytes new.bytes) (sym with_text) (Appends-trans sink.bytes now.bytes new.bytes (text_of h.listed) line h.put put);
         works = λ w. works (h.works w);
+        waits = inl flushed;
       }
 
       -- a line that couldn't be put
@@ -207,4 +212,5 @@ module _ (words : List ℕ) (book : List Entry) (all : List Named) (sink now : S
             text = with_text ∙ ap (λ bytes. text_of h.listed ++ bytes) (sym (take-append-drop n line)) ∙ sym (append_assoc (text_of h.listed) (take n line) (drop n line));
             put = Appends-trans sink.bytes now.bytes new.bytes (text_of h.listed) (take n line) h.put put.front.1;
             cause = put.failed;
+            waits = inl put.flushed;
           }

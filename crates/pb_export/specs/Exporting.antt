@@ -1,5 +1,5 @@
 -- The book of games as EPD (PGN Standard 1994, section 16.2): a line for each setup of the games that the book has moves for.
-use Rattle.std.specs.Prelude.{◌≡◌, ◌≢◌, ◌↔◌, ℕ, true, false, List, [], ◌∷◌, ◌++◌, length, map, flat_map, AllPairs, Contains, codes, decimal}
+use Rattle.std.specs.Prelude.{◌≡◌, ◌≢◌, ◌⊎◌, ◌↔◌, ℕ, true, false, List, [], ◌∷◌, ◌++◌, length, map, flat_map, AllPairs, Contains, codes, decimal}
 use Rattle.std.specs.Io.KnownBytes.{Appends}
 use Rattle.pb_board.specs.Fen.{FourFields}
 use Rattle.pb_board.specs.Position.{Position}
@@ -84,9 +84,14 @@ abbrev pub FaultOf : ExportFault → SinkState → SinkState → Type 0
 FaultOf fault.Write sink sink' = sink'.failed ≡ true
 FaultOf fault.Memory sink sink' = StillWorks sink.failed sink'.failed
 
--- the export ended with a fault: a front of the text was put
+-- after the last put no flush has succeeded, or the sink was left alone
+abbrev pub Waits : SinkState → SinkState → Type 0
+Waits sink sink' = (sink'.flushed ≡ false) ⊎ (sink' ≡ sink)
+
+-- the export ended with a fault: a front of the text was put, and not flushed
 pub record ExportsUntil (ledger : LedgerState) (sink sink' : SinkState) (e : ExportFault) : Type 0 where
   pub some : List ℕ
   pub put : Appends sink.bytes sink'.bytes some
   pub front : (text : List ℕ) → ExportText ledger.basis ledger.accepted text → (rest : List ℕ) × (text ≡ some ++ rest)
   pub cause : FaultOf e sink sink'
+  pub waits : Waits sink sink'

@@ -9,7 +9,7 @@ use Rattle.pb_moves.specs.Spelling.{spelling}
 use Rattle.pb_poly.specs.Found.{Found}
 use Rattle.pb_io.specs.Sink.{SinkState, StillWorks}
 use Rattle.pb_poly.specs.declared.entry.Entry.{Entry}
-use Rattle.pb_export.specs.Exporting.{FaultOf, Listed, text_of_lines, with_book_moves}
+use Rattle.pb_export.specs.Exporting.{FaultOf, Listed, Waits, text_of_lines, with_book_moves}
 use Rattle.pb_export.specs.Setups.{Named}
 use Rattle.pb_export.specs.declared.exporting.ExportFault.{ExportFault}
 
@@ -48,7 +48,7 @@ pub record PutsListing (words : List ℕ) (book : List Entry) (named : List Name
   pub put : Appends sink.bytes sink'.bytes (text_of listed)
   pub works : StillWorks sink.failed sink'.failed
 
--- a front of the lines of the first of these setups was put
+-- a front of the lines of the first of these setups was put, and not flushed
 pub record PutsFront (words : List ℕ) (book : List Entry) (named : List Named) (sink sink' : SinkState) (e : ExportFault) : Type 0 where
   pub front : List Named
   pub back : List Named
@@ -60,3 +60,4 @@ pub record PutsFront (words : List ℕ) (book : List Entry) (named : List Named)
   pub text : text_of listed ≡ some ++ rest
   pub put : Appends sink.bytes sink'.bytes some
   pub cause : FaultOf e sink sink'
+  pub waits : Waits sink sink'

@@ -48,7 +48,7 @@ impl From<Failed> for ExportFault {
 ///
 /// # Errors
 ///
-/// The first of the sink's fault and want of memory that is met. A front of the text may have been written then.
+/// The first of the sink's fault and want of memory that is met. A front of the text may have been put then, and isn't flushed.
 pub fn export<T: Tally, K: Sink>(
     alloc: Global,
     ledger: &Ledger<T>,
@@ -56,7 +56,7 @@ pub fn export<T: Tally, K: Sink>(
 ) -> Result<u32, ExportFault>
     // The export of the games held was put and handed on, in so many lines.
     ensures ok { IfOk result (Exports ledger.now (K.state sink.old) (K.state sink.new)) }
-    // A front of it was put, and where the fault lies.
+    // A front of it was put and not flushed, and where the fault lies.
     ensures fault { IfErr result (ExportsUntil ledger.now (K.state sink.old) (K.state sink.new)) }
 {
     let book = ledger.make_book(alloc)?;

@@ -1,5 +1,5 @@
 -- A list of rows as a tally.
-use Rattle.std.proofs.Common.{zero, suc, ◌≡◌, ℕ, ◌<◌, ◌↔◌, Bool, true, false, cond, if◌then◌else◌, Option, Some, None, is_some, unwrap_or, option_map, List, [], ◌∷◌, ◌++◌, length, get_or, set, Contains, IsPermutation, position, refl, sym, ap, ◌∙◌, inl, inr, arith}
+use Rattle.std.proofs.Common.{zero, suc, ◌≡◌, ℕ, ◌<◌, ◌↔◌, Bool, true, false, cond, if◌then◌else◌, Option, Some, None, is_some, unwrap_or, option_map, List, [], ◌∷◌, ◌++◌, length, get_or, set, Contains, IsPermutation, IsSome, position, true≢false, refl, sym, ap, ◌∙◌, inl, inr, arith}
 use Rattle.std.specs.List.{IsDistinct, find, list_any, position_or_len}
 use Rattle.std.specs.Option.{option_or}
 use Rattle.std.proofs.Math.ListN.{length-set}
@@ -58,6 +58,13 @@ absent rows k c none = elim (cases_lt (position_or_len (is_row k c) rows) (lengt
 
 pub absent_found : (rows : List Row) (k c : ℕ) → position (is_row k c) rows ≡ None → find (is_row k c) rows ≡ None
 absent_found rows k c none = find_none (is_row k c) rows (absent rows k c none)
+
+pub not_there : (rows : List Row) (k c : ℕ) → find (is_row k c) rows ≡ None → IsSome (list_content rows k c) → ⊥
+not_there rows k c none h = by (find (is_row k c) rows) none h
+  where
+    by : (o : Option Row) → o ≡ None → IsSome (option_map held_of o) → ⊥
+    by None e h = true≢false (sym h)
+    by (Some r) e h = cc
 
 -- ---- a row made
 
