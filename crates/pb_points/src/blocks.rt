@@ -9,7 +9,7 @@ use std::alloc::{AllocError, Global};
 use std::mem;
 
 /// The rows that a block has room for.
-const BLOCK: usize = 32;
+const BLOCK: usize = 64;
 
 /// Rows in blocks: those that are full, and the last one, to which rows are added. The last one stands beside the list of the others, so
 /// that adding a row reads no block before it.

@@ -8,8 +8,8 @@ use crate::tally::Tally;
 use pb_poly::Entry;
 use std::alloc::{AllocError, Global};
 
-/// How many parts there are, one for each value of the upper twelve bits of a key.
-const PARTS: usize = 4096;
+/// How many parts there are, one for each value of the upper ten bits of a key.
+const PARTS: usize = 1024;
 
 /// Points and plies in parts by the upper bits of the key, each part a tally of its own, so that what is worked on is small and near. The
 /// parts are made when the first row is.
@@ -17,7 +17,7 @@ const PARTS: usize = 4096;
 pub struct PartTally<T: Tally> {
     alloc: Global,
     parts: Vec<T>,
-    ghost whole: { 0 < length parts.items → length parts.items ≡ 4096 },
+    ghost whole: { 0 < length parts.items → length parts.items ≡ 1024 },
     ghost own: { HoldsOwn T.content parts.items },
 }
 
@@ -25,12 +25,12 @@ pub struct PartTally<T: Tally> {
 fn part_of(key: u64) -> usize
     ensures { result ≡ part key }
 {
-    (key >> 52) as usize
+    (key >> 54) as usize
 }
 
 /// A tally without rows for each part.
 fn no_rows<T: Tally>(alloc: Global) -> Result<Vec<T>, AllocError>
-    ensures whole { IfOk result (λ v. length v.items ≡ 4096) }
+    ensures whole { IfOk result (λ v. length v.items ≡ 1024) }
     ensures nothing { IfOk result (λ v. HoldNothing T.content v.items) }
 {
     let mut parts = Vec::with_capacity(alloc, PARTS)?;
