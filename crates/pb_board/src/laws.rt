@@ -1,4 +1,4 @@
-//! Laws of FEN records and their texts.
+//! Laws of FEN records and their texts, and of equality (`==`) between setups.
 
 ghost use Rattle.std.specs.Prelude.{◌≡◌, ℕ, List};
 ghost use Rattle.std.specs.Bool.{Decides};

@@ -9,8 +9,8 @@ status_of (Ok true) = 0
 status_of (Ok false) = 1
 status_of (Err _) = 3
 
-abbrev pub word_of : Fault → List ℕ
-word_of Read = codes "read"
-word_of Write = codes "write"
-word_of Endless = codes "endless"
-word_of Memory = codes "memory"
+abbrev pub fault_word : Fault → List ℕ
+fault_word Read = codes "read"
+fault_word Write = codes "write"
+fault_word Endless = codes "endless"
+fault_word Memory = codes "memory"

@@ -22,11 +22,11 @@ pub enum Fault {
 }
 
 impl Fault {
-    ghost use Rattle.pb_commands.specs.Status.{word_of};
+    ghost use Rattle.pb_commands.specs.Status.{fault_word};
 
     /// The word that stands for the fault in the program's line `fault ..`.
     pub fn word(self) -> &'static str
-        ensures { result.now ≡ word_of self }
+        ensures { result.now ≡ fault_word self }
     {
         match self {
             Fault::Read => "read",

@@ -71,7 +71,11 @@ pub(crate) fn in_blocks(alloc: Global, rows: &[Row]) -> Result<Blocks, AllocErro
 pub(crate) fn listed(alloc: Global, blocks: &Blocks) -> Result<Vec<Row>, AllocError>
     ensures { IfOk result (λ v. v.items ≡ rows_of blocks.now) }
 {
-    let many = (blocks.full.len() + 1).saturating_mul(BLOCK);
+    let many = blocks
+        .full
+        .len()
+        .saturating_mul(BLOCK)
+        .saturating_add(blocks.last.len());
     let mut rows = Vec::with_capacity(alloc, many)?;
     for block in &blocks.full {
         rows.extend_from_slice(block)?;
