@@ -5,7 +5,7 @@ START := rnbqkbnr/pppppppp/8/8/8/8/PPPPPPPP/RNBQKBNR w KQkq - 0 1
 
 PREFIX := /usr/local
 
-.PHONY: build try install dist demo test test-hostile test-files test-memory test-growths test-io test-journal test-words bench clean
+.PHONY: build try install dist demo test test-hostile test-files test-memory test-growths test-io test-noise test-journal test-words bench clean
 
 build: build/pbook
 
@@ -58,7 +58,7 @@ test:
 	rt ci
 
 # All that is tried of the program in a hostile world, but for collectors that are killed on their journal.
-test-hostile: test-files test-memory test-growths test-io
+test-hostile: test-files test-memory test-growths test-io test-noise
 
 # Tries that the completions and the manual page have the commands and options of the program, and no others.
 test-words: build
@@ -80,6 +80,10 @@ test-growths: build
 # Fails each read, write and sync of each command in turn, or has it move one byte alone, and looks at the same.
 test-io: build
 	@sh scripts/test_io.sh
+
+# Runs each command on examples, random bytes, and packed and cut files, with AddressSanitizer and checks in place of proofs.
+test-noise:
+	@sh scripts/test_noise.sh
 
 # Runs the example of two workers, whose collector is killed once; then kills collectors at random moments, starts them again on their
 # journal, and compares what they answered.
