@@ -1,4 +1,4 @@
-use Rattle.std.proofs.Common.{◌≤◌, ap, subst, sym, ◌∙◌, All, arith, length}
+use Rattle.std.proofs.Common.{◌≤◌, ap, subst, sym, ◌∙◌, All, arith, length, rules}
 use Rattle.std.specs.Str.{bytes_eq}
 use Rattle.indexmap.proofs.CallerLemmas.{insert_entry-new}
 use Rattle.pb_points.specs.Tally.{Held}
@@ -38,3 +38,6 @@ returns-clause-game g c =
     let read = c.args.read.now in
     inserted A c.insert.new.self.entries c.id.result c.in_ok-game.game read c.id.ensures c.in_ok-game.ensures
     (c.in_ok-insert.ensures.entries ∙ insert_entry-new bytes_eq c.args.games.now c.id.result c.in_ok-game.game (absent_from_new A read.0 c.id.result c.id.ensures c.requires.new))
+
+pub returns-in_err-insert-clause-same_points : goal.returns-in_err-insert-clause-same_points
+returns-in_err-insert-clause-same_points g c = search rules

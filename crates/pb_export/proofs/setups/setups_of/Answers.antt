@@ -1,4 +1,4 @@
-use Rattle.std.proofs.Common.{◌+◌, List, take, subst, arith}
+use Rattle.std.proofs.Common.{◌+◌, List, take, subst, arith, rules}
 use Rattle.std.proofs.lemmas.List.{length-map, take_all}
 use Rattle.arrayvec.specs.ArrayString.{ArrayString}
 use Rattle.pb_board.specs.Position.{Position}
@@ -37,3 +37,6 @@ pub returns-clause-few : goal.returns-clause-few
 returns-clause-few g c =
     let fits = setups_fit c.args.ledger.now (texts_of c.put_in_order.new.texts.items) c.len-index-end.ensures.rules (returns-clause-setups g c) in
     omega (arith, fits, length-map c.put_in_order.new.texts.items (λ (t : ArrayString). t.bytes))
+
+pub loop-index-init : goal.loop-index-init
+loop-index-init g c = search rules

@@ -23,3 +23,6 @@ returns-clause-played c = λ _.
     beside.ensures.rules c.requires.leads carried.ensures beside.ensures.completes in
     let A : Position → Type 0 = λ t. After s m t in
     after_one s m c.carry_twice.new.self beside.ensures.rules (c.is_safe_after.ensures.0 (search rules)) (subst A (sym c.carry_twice.ensures) parts.after)
+
+pub returns-then-not-is_safe_after-clause-refused : goal.returns-then-not-is_safe_after-clause-refused
+returns-then-not-is_safe_after-clause-refused c = search rules

@@ -1,4 +1,4 @@
-use Rattle.std.proofs.Common.{ℕ, subst}
+use Rattle.std.proofs.Common.{ℕ, subst, rules}
 use Rattle.pb_board.specs.declared.piece.Piece.{Piece}
 use Rattle.pb_moves.specs.Candidate.{HoldsOwn}
 use Rattle.pb_moves.proofs.Legality.{not_legal_without_case, not_legal_without_piece}
@@ -16,3 +16,6 @@ returns-in-None-clause-legal c =
 
 pub carry-requires-clause-leads : goal.carry-requires-clause-leads
 carry-requires-clause-leads c = rw c.in-Some-Carry.field-0-is at c.in-Some-Carry.ensures
+
+pub returns-in-Some-change_of : goal.returns-in-Some-change_of
+returns-in-Some-change_of c = search rules

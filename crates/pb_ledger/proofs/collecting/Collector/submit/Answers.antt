@@ -1,3 +1,4 @@
+use Rattle.std.proofs.Common.{rules}
 use Rattle.pb_accepted.proofs.Naming.{named_short}
 use Rattle.pb_ledger.proofs.Submitting.{Leads-one}
 use Rattle.pb_ledger.proofs.collecting.Collector.submit.Goals as goal
@@ -9,3 +10,6 @@ returns-clause-leads g c =
 
 pub returns-clause-short : goal.returns-clause-short
 returns-clause-short g c = named_short _ _ _ _ c.submit-answer.ensures.reply
+
+pub returns-clause-new : goal.returns-clause-new
+returns-clause-new g c = search rules

@@ -1,4 +1,4 @@
-use Rattle.std.proofs.Common.{arith, length, ◌<◌, ◌≤◌, ◌++◌, take}
+use Rattle.std.proofs.Common.{arith, length, ◌<◌, ◌≤◌, ◌++◌, take, rules}
 use Rattle.std.proofs.lemmas.Result.{err_from_is_err_and}
 use Rattle.pb_io.proofs.ReadsLemmas.{ReadsOn-more}
 use Rattle.pb_io.specs.Reads.{chunk_len}
@@ -21,3 +21,9 @@ loop-made-preserved g c =
       room,
       fits,
     )
+
+pub returns-in_default-clause-found : goal.returns-in_default-clause-found
+returns-in_default-clause-found g c = search rules
+
+pub returns-in_default-clause-err : goal.returns-in_default-clause-err
+returns-in_default-clause-err g c = search rules

@@ -1,7 +1,8 @@
-use Rattle.std.proofs.Common.{Err, refl, subst, sym}
+use Rattle.std.proofs.Common.{Err, refl, subst, sym, arith}
 use Rattle.pb_accepted.proofs.Replies.{Takes-refusal}
 use Rattle.pb_saved.specs.Loader.{Judged}
 use Rattle.pb_saved.proofs.Loaded.{judged_refused}
+use Rattle.std.proofs.lemmas.Grind.{common_steps}
 use Rattle.pb_saved.proofs.loading.Loader.submit.Goals as goal
 
 pub returns-in-Err : goal.returns-in-Err
@@ -19,3 +20,6 @@ returns-in-Err g c =
       saved = refl;
       keeps = record { lent = refl; basis = h.basis; cap = h.cap };
     }
+
+pub returns-in-Ok-2 : goal.returns-in-Ok-2
+returns-in-Ok-2 g c = grind (arith, common_steps)
