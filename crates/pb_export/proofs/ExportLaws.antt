@@ -18,7 +18,7 @@ use Rattle.pb_accepted.proofs.Members.{same_in_order}
 
 -- ---- one export
 
-one_listing : (T : Basis) (S : List Submission) (book : List Entry) (xs ys : List Listed) → IsListing T S book xs → IsListing T S book ys → xs ≡ ys
+one_listing : (T : Basis) (S : List Submission) (book : List Entry) (xs ys : List Listed) → IsListing (IsListed T S book) xs → IsListing (IsListed T S book) ys → xs ≡ ys
 one_listing T S book xs ys h k =
     same_in_order (λ x y. IsBytesBelow x.fields y.fields) (λ x. below_itself x.fields) (λ x y. both_below x.fields y.fields) xs ys h.ordered k.ordered
     (λ x here. (k.members x).1 ((h.members x).0 here))
@@ -27,20 +27,20 @@ one_listing T S book xs ys h k =
 one_list_of_lines : (T : Basis) (S : List Submission) (a b : List (List ℕ)) → ExportLines T S a → ExportLines T S b → a ≡ b
 one_list_of_lines T S a b h k =
     let books = one_book T S h.book k.book h.is_book k.is_book in
-    let moved : IsListing T S k.book h.listed = subst (λ E. IsListing T S E h.listed) books h.is_listing in
+    let moved : IsListing (IsListed T S k.book) h.listed = subst (λ E. IsListing (IsListed T S E) h.listed) books h.is_listing in
     h.are ∙ ap (λ xs. map (λ (x : Listed). x.line) xs) (one_listing T S k.book h.listed k.listed moved k.is_listing) ∙ sym k.are
 
 pub one_export : (T : Basis) (S : List Submission) (a b : List ℕ) → ExportText T S a → ExportText T S b → a ≡ b
 one_export T S a b h k = h.2 ∙ ap text_of_lines (one_list_of_lines T S h.0 k.0 h.1 k.1) ∙ sym k.2
 
 -- no setup is listed twice
-pub listed_once : (T : Basis) (S : List Submission) (book : List Entry) (xs : List Listed) → IsListing T S book xs → AllPairs (λ x y. x.setup ≢ y.setup) xs
+pub listed_once : (T : Basis) (S : List Submission) (book : List Entry) (xs : List Listed) → IsListing (IsListed T S book) xs → AllPairs (λ x y. x.setup ≢ y.setup) xs
 listed_once T S book xs h i j d lt within e =
     let x = get_or xs i d in
     let y = get_or xs j d in
     let first = (h.members x).0 (Contains-get_or xs i d (omega arith)) in
     let second = (h.members y).0 (Contains-get_or xs j d within) in
-    let same : x.fields ≡ y.fields = one_setup_text x.setup x.fields y.fields first.fields (subst (λ s. FourFields s y.fields) (sym e) second.fields) in
+    let same : x.fields ≡ y.fields = one_setup_text x.setup x.fields y.fields first.1 (subst (λ s. FourFields s y.fields) (sym e) second.1) in
     below_itself y.fields (subst (λ w. IsBytesBelow w y.fields) same (h.ordered i j d lt within))
 
 -- ---- lists with the same members
@@ -49,15 +49,9 @@ same_stands : (S U : List Submission) (s : Position) → SameMembers S U → Sta
 same_stands S U s same h = (h.0, h.1, (same h.0).0 h.2, h.3)
 
 same_listed : (T : Basis) (S U : List Submission) (book : List Entry) (x : Listed) → SameMembers S U → IsListed T S book x → IsListed T U book x
-same_listed T S U book x same h = record {
-  stands = same_stands S U x.setup same h.stands;
-  fields = h.fields;
-  found = h.found;
-  some = h.some;
-  line = h.line;
-}
+same_listed T S U book x same h = (same_stands S U x.setup same h.0, h.1, h.2)
 
-same_listing : (T : Basis) (S U : List Submission) (book : List Entry) (listed : List Listed) → SameMembers S U → IsListing T S book listed → IsListing T U book listed
+same_listing : (T : Basis) (S U : List Submission) (book : List Entry) (listed : List Listed) → SameMembers S U → IsListing (IsListed T S book) listed → IsListing (IsListed T U book) listed
 same_listing T S U book listed same h = record {
   ordered = h.ordered;
   members = λ x. (

@@ -61,32 +61,32 @@ across (z ∷ front) back x y h here there = elim (contains_cases z front x here
 module _ (T : Basis) (S : List Submission) (book : List Entry) (named : List Named) (holds : HoldsSetups (all_setups S) named) where
   listed_of : (x : Listed) → IsListedOf T.words book named x → IsListed T S book x
   listed_of x k =
-      let is = (holds.members (x.fields, x.setup)).0 k.among in
-      record { stands = stands_before S x.setup is.0; fields = is.1; found = k.found; some = k.some; line = k.line }
+      let is = (holds.members (x.fields, x.setup)).0 k.0 in
+      (stands_before S x.setup is.0, is.1, k.1)
 
   of_listed : (x : Listed) → IsListed T S book x → IsListedOf T.words book named x
-  of_listed x k = record { among = (holds.members (x.fields, x.setup)).1 (setup_is_there S x.setup k.stands, k.fields); found = k.found; some = k.some; line = k.line }
+  of_listed x k = ((holds.members (x.fields, x.setup)).1 (setup_is_there S x.setup k.0, k.1), k.2)
 
-  pub whole_listing : (listed : List Listed) → IsListingOf T.words book named listed → IsListing T S book listed
+  pub whole_listing : (listed : List Listed) → IsListingOf T.words book named listed → IsListing (IsListed T S book) listed
   whole_listing listed h = record { ordered = h.ordered; members = λ x. ((λ c. listed_of x ((h.members x).0 c)), (λ c. (h.members x).1 (of_listed x c))) }
 
   -- the listing of the first setups is the beginning of that of all
-  pub listing_begins : (front back : List Named) (listed all : List Listed) → named ≡ front ++ back → IsListingOf T.words book front listed → IsListing T S book all → (rest : List Listed) × (all ≡ listed ++ rest)
+  pub listing_begins : (front back : List Named) (listed all : List Listed) → named ≡ front ++ back → IsListingOf T.words book front listed → IsListing (IsListed T S book) all → (rest : List Listed) × (all ≡ listed ++ rest)
   listing_begins front back listed all are h k =
       begins_in_order (λ (x y : Listed). IsBytesBelow x.fields y.fields) (λ x. below_itself x.fields) (λ x y. both_below x.fields y.fields) listed all h.ordered k.ordered to from
     where
       to : (x : Listed) → Contains listed x → Contains all x
       to x c =
           let own = (h.members x).0 c in
-          let there = subst (λ xs. Contains xs (x.fields, x.setup)) (sym are) (Contains-append_left front back (x.fields, x.setup) own.among) in
-          (k.members x).1 (listed_of x (record { among = there; found = own.found; some = own.some; line = own.line }))
+          let there = subst (λ xs. Contains xs (x.fields, x.setup)) (sym are) (Contains-append_left front back (x.fields, x.setup) own.0) in
+          (k.members x).1 (listed_of x (there, own.1))
 
       from : (x : Listed) → Contains all x → Contains listed x ⊎ ((w : Listed) → Contains listed w → IsBytesBelow w.fields x.fields)
       from x c =
           let own = of_listed x ((k.members x).0 c) in
-          elim (Contains-append_cases front back (x.fields, x.setup) (subst (λ xs. Contains xs (x.fields, x.setup)) are own.among)) [
-            | inl first ↦ inl ((h.members x).1 (record { among = first; found = own.found; some = own.some; line = own.line }))
-            | inr later ↦ inr (λ w d. across front back (w.fields, w.setup) (x.fields, x.setup) (subst InTextOrder are holds.ordered) ((h.members w).0 d).among later)
+          elim (Contains-append_cases front back (x.fields, x.setup) (subst (λ xs. Contains xs (x.fields, x.setup)) are own.0)) [
+            | inl first ↦ inl ((h.members x).1 (first, own.1))
+            | inr later ↦ inr (λ w d. across front back (w.fields, w.setup) (x.fields, x.setup) (subst InTextOrder are holds.ordered) ((h.members w).0 d).0 later)
           ]
 
 -- ---- what an export put
@@ -109,7 +109,7 @@ front_of_text : (T : Basis) (S : List Submission) (book : List Entry) (named : L
 front_of_text T S book named front back listed some rest is_book holds are h cut text spelt =
     let e = spelt.1 in
     let same : e.book ≡ book = one_book T S e.book book e.is_book is_book in
-    let longer = listing_begins T S book named holds front back listed e.listed are h (subst (λ b. IsListing T S b e.listed) same e.is_listing) in
+    let longer = listing_begins T S book named holds front back listed e.listed are h (subst (λ b. IsListing (IsListed T S b) e.listed) same e.is_listing) in
     (rest ++ text_of longer.0, spelt.2 ∙ ap text_of_lines e.are ∙ ap text_of longer.1 ∙ text_of-append listed longer.0 ∙ ap (λ bytes. bytes ++ text_of longer.0) cut ∙ append_assoc some rest (text_of longer.0))
 
 module _ (l : LedgerState) (book : List Entry) (named : List Named) (is_book : IsBook l.basis l.accepted book) (holds : HoldsSetups (all_setups l.accepted) named) where

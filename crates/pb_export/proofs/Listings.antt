@@ -17,8 +17,8 @@ use Rattle.pb_io.specs.Sink.{Put, SinkState, StillWorks}
 use Rattle.pb_poly.specs.declared.entry.Entry.{Entry}
 use Rattle.pb_io.specs.declared.source.Failed.{Failed}
 use Rattle.pb_poly.proofs.Finding.{found_is_one}
-use Rattle.pb_export.specs.Exporting.{Listed, Waits, with_book_moves}
-use Rattle.pb_export.specs.Listing.{IsListedOf, IsListingOf, PutsFront, PutsListing, SaysMoves, text_of}
+use Rattle.pb_export.specs.Exporting.{Listed, SaysMoves, Waits, with_book_moves}
+use Rattle.pb_export.specs.Listing.{IsListedOf, IsListingOf, PutsFront, PutsListing, text_of}
 use Rattle.pb_export.specs.Setups.{InTextOrder, Named}
 use Rattle.pb_export.specs.declared.exporting.ExportFault.TheVariants as fault
 
@@ -45,12 +45,12 @@ module _ (words : List ℕ) (book : List Entry) where
   pub IsListingOf-none : IsListingOf words book [] []
   IsListingOf-none = record {
     ordered = pairs_none (λ (x y : Listed). IsBytesBelow x.fields y.fields);
-    members = λ x. ((λ h. absurd (contains_none x h)), (λ h. absurd (contains_none (x.fields, x.setup) h.among)));
+    members = λ x. ((λ h. absurd (contains_none x h)), (λ h. absurd (contains_none (x.fields, x.setup) h.0)));
   }
 
   module _ (front : List Named) (t : List ℕ) (s : Position) (listed : List Listed) (h : IsListingOf words book front listed) (rules : IsSetup s) where
     earlier : (x : Listed) → IsListedOf words book front x → IsListedOf words book (front ++ (t, s) ∷ []) x
-    earlier x k = record { among = Contains-append_left front ((t, s) ∷ []) (x.fields, x.setup) k.among; found = k.found; some = k.some; line = k.line }
+    earlier x k = (Contains-append_left front ((t, s) ∷ []) (x.fields, x.setup) k.0, k.1)
 
     found_here : (x : Listed) (moves : List (Moved × ℕ)) → s ≡ x.setup → Found book words s moves → Found book words x.setup x.moves → x.moves ≡ moves
     found_here x moves e mine theirs = found_is_one book words s x.moves moves rules (subst (λ p. Found book words p x.moves) (sym e) theirs) mine
@@ -61,28 +61,28 @@ module _ (words : List ℕ) (book : List Entry) where
       ordered = h.ordered;
       members = λ x. (
         λ k. earlier x ((h.members x).0 k),
-        λ k. (h.members x).1 (elim (Contains-push_cases front (t, s) (x.fields, x.setup) k.among) [
-          | inl old ↦ record { among = old; found = k.found; some = k.some; line = k.line }
-          | inr e ↦ absurd (k.some (found_here x [] (ap (λ (y : Named). y.1) e) none k.found))
+        λ k. (h.members x).1 (elim (Contains-push_cases front (t, s) (x.fields, x.setup) k.0) [
+          | inl old ↦ (old, k.1)
+          | inr e ↦ absurd (k.1.some (found_here x [] (ap (λ (y : Named). y.1) e) none k.1.found))
         ]),
       );
     }
 
-    module _ (line : List ℕ) (says : SaysMoves words book s line) where
+    module _ (moves : List (Moved × ℕ)) (line : List ℕ) (says : SaysMoves words book s moves line) where
       abbrev pub listed_here : Listed
-      listed_here = record { setup = s; fields = t; moves = says.moves; line = line }
+      listed_here = record { setup = s; fields = t; moves = moves; line = line }
 
       is_listed_here : IsListedOf words book (front ++ (t, s) ∷ []) listed_here
-      is_listed_here = record { among = Contains-push front (t, s); found = says.found; some = says.some; line = says.form }
+      is_listed_here = (Contains-push front (t, s), says)
 
       here : (x : Listed) → ◌≡◌ {A = Named} (t, s) (x.fields, x.setup) → IsListedOf words book (front ++ (t, s) ∷ []) x → listed_here ≡ x
       here x e k =
           let text : t ≡ x.fields = ap (λ (y : Named). y.0) e in
           let setup : s ≡ x.setup = ap (λ (y : Named). y.1) e in
-          let moves : says.moves ≡ x.moves = sym (found_here x says.moves setup says.found k.found) in
-          let own = subst (λ (p : Position × List (Moved × ℕ)). EpdForm (with_book_moves p.0 p.1) line) (λ i. (setup i, moves i)) says.form in
-          let lines : line ≡ x.line = form_is_one (with_book_moves x.setup x.moves) line x.line own k.line in
-          λ i. record { setup = setup i; fields = text i; moves = moves i; line = lines i }
+          let played : moves ≡ x.moves = sym (found_here x moves setup says.found k.1.found) in
+          let own = subst (λ (p : Position × List (Moved × ℕ)). EpdForm (with_book_moves p.0 p.1) line) (λ i. (setup i, played i)) says.says in
+          let lines : line ≡ x.line = form_is_one (with_book_moves x.setup x.moves) line x.line own k.1.says in
+          λ i. record { setup = setup i; fields = text i; moves = played i; line = lines i }
 
       -- one for which it has moves
       pub IsListingOf-more : InTextOrder (front ++ (t, s) ∷ []) → IsListingOf words book (front ++ (t, s) ∷ []) (listed ++ listed_here ∷ [])
@@ -90,14 +90,14 @@ module _ (words : List ℕ) (book : List Entry) where
         ordered = all_pairs_push (λ (x y : Listed). IsBytesBelow x.fields y.fields) listed listed_here h.ordered (λ k d lt.
             let x = get_or listed k d in
             let member = (h.members x).0 (Contains-get_or listed k d lt) in
-            pairs_split (λ (y z : Named). IsBytesBelow y.0 z.0) front (t, s) [] (x.fields, x.setup) order member.among);
+            pairs_split (λ (y z : Named). IsBytesBelow y.0 z.0) front (t, s) [] (x.fields, x.setup) order member.0);
         members = λ x. (
           λ k. elim (Contains-push_cases listed listed_here x k) [
             | inl old ↦ earlier x ((h.members x).0 old)
             | inr e ↦ subst (IsListedOf words book (front ++ (t, s) ∷ [])) e is_listed_here
           ],
-          λ k. elim (Contains-push_cases front (t, s) (x.fields, x.setup) k.among) [
-            | inl old ↦ Contains-append_left listed (listed_here ∷ []) x ((h.members x).1 (record { among = old; found = k.found; some = k.some; line = k.line }))
+          λ k. elim (Contains-push_cases front (t, s) (x.fields, x.setup) k.0) [
+            | inl old ↦ Contains-append_left listed (listed_here ∷ []) x ((h.members x).1 (old, k.1))
             | inr e ↦ subst (Contains (listed ++ listed_here ∷ [])) (here x e k) (Contains-push listed listed_here)
           ],
         );
@@ -170,21 +170,21 @@ module _ (words : List ℕ) (book : List Entry) (all : List Named) (sink now : S
       waits = h.waits;
     }
 
-    module _ (new : SinkState) (line text : List ℕ) (says : SaysMoves words book s text) (is : line ≡ text ++ 10 ∷ []) (order : InTextOrder all) where
+    module _ (new : SinkState) (line : List ℕ) (moves : List (Moved × ℕ)) (text : List ℕ) (says : SaysMoves words book s moves text) (is : line ≡ text ++ 10 ∷ []) (order : InTextOrder all) where
       with_it : List Listed
-      with_it = h.listed ++ listed_here words book h.front t s h.listed h.is rules text says ∷ []
+      with_it = h.listed ++ listed_here words book h.front t s h.listed h.is rules moves text says ∷ []
 
       with_text : text_of with_it ≡ text_of h.listed ++ line
       unfolding with_it
-      with_text = text_of-push h.listed (listed_here words book h.front t s h.listed h.is rules text says) ∙ ap (λ bytes. text_of h.listed ++ bytes) (sym is)
+      with_text = text_of-push h.listed (listed_here words book h.front t s h.listed h.is rules moves text says) ∙ ap (λ bytes. text_of h.listed ++ bytes) (sym is)
 
       is_with_it : IsListingOf words book (h.front ++ (t, s) ∷ []) with_it
       unfolding with_it
-      is_with_it = IsListingOf-more words book h.front t s h.listed h.is rules text says (front_in_order (h.front ++ (t, s) ∷ []) rest (subst InTextOrder (sym passed) order))
+      is_with_it = IsListingOf-more words book h.front t s h.listed h.is rules moves text says (front_in_order (h.front ++ (t, s) ∷ []) rest (subst InTextOrder (sym passed) order))
 
       length_with_it : length with_it ≡ length h.listed + 1
       unfolding with_it
-      length_with_it = length_push h.listed (listed_here words book h.front t s h.listed h.is rules text says)
+      length_with_it = length_push h.listed (listed_here words book h.front t s h.listed h.is rules moves text says)
 
       pub Putting-more : Appends now.bytes new.bytes line → StillWorks now.failed new.failed → new.flushed ≡ false → Putting words book all sink new (count + 1) rest
       Putting-more put works flushed = record {

@@ -4,7 +4,7 @@ use Rattle.pb_games.specs.Submissions.{Submission}
 use Rattle.pb_poly.specs.declared.entry.Entry.{Entry}
 use Rattle.pb_accepted.specs.Accepting.{Answer, Accepted, Taken, OneGame}
 use Rattle.pb_accepted.specs.Basis.{Basis}
-use Rattle.pb_export.specs.Exporting.{Listed, IsListing, ExportText}
+use Rattle.pb_export.specs.Exporting.{Listed, IsListed, IsListing, ExportText}
 use Rattle.pb_accepted.specs.Laws.{NoRepeats, SameMembers}
 
 -- at most one text is the export of a list of games
@@ -13,7 +13,7 @@ OneExport = (T : Basis) (S : List Submission) (a b : List ℕ) → ExportText T 
 
 -- no setup has two lines
 abbrev pub SetupsAreListedOnce : Type 0
-SetupsAreListedOnce = (T : Basis) (S : List Submission) (book : List Entry) (listed : List Listed) → IsListing T S book listed → AllPairs (λ x y. x.setup ≢ y.setup) listed
+SetupsAreListedOnce = (T : Basis) (S : List Submission) (book : List Entry) (listed : List Listed) → IsListing (IsListed T S book) listed → AllPairs (λ x y. x.setup ≢ y.setup) listed
 
 -- lists without repeats that have the same members have the same export
 abbrev pub ExportByMembers : Type 0

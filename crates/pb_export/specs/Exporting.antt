@@ -39,25 +39,27 @@ pub record Listed : Type 0 where
   pub moves : List (Moved × ℕ)
   pub line : List ℕ
 
--- the setup stands before a ply, and these moves, one at least, are what the book has for it
-pub record IsListed (T : Basis) (S : List Submission) (book : List Entry) (x : Listed) : Type 0 where
-  pub stands : StandsBefore S x.setup
-  pub fields : FourFields x.setup x.fields
-  pub found : Found book T.words x.setup x.moves
-  pub some : x.moves ≢ []
-  pub line : EpdForm (with_book_moves x.setup x.moves) x.line
+-- these moves, one at least, are what the book has for the setup, and the line says so
+pub record SaysMoves (words : List ℕ) (book : List Entry) (s : Position) (moves : List (Moved × ℕ)) (line : List ℕ) : Type 0 where
+  pub found : Found book words s moves
+  pub some : moves ≢ []
+  pub says : EpdForm (with_book_moves s moves) line
 
--- the setups for which this book has moves, each once, in byte order of their four fields
-pub record IsListing (T : Basis) (S : List Submission) (book : List Entry) (listed : List Listed) : Type 0 where
+-- the setup stands before a ply, and the line says what the book has for it
+abbrev pub IsListed : Basis → List Submission → List Entry → Listed → Type 0
+IsListed T S book x = StandsBefore S x.setup × FourFields x.setup x.fields × SaysMoves T.words book x.setup x.moves x.line
+
+-- those of which this is so, each once, in byte order of their four fields
+pub record IsListing (is : Listed → Type 0) (listed : List Listed) : Type 0 where
   pub ordered : AllPairs (λ x y. IsBytesBelow x.fields y.fields) listed
-  pub members : (x : Listed) → Contains listed x ↔ IsListed T S book x
+  pub members : (x : Listed) → Contains listed x ↔ is x
 
 -- the lines of the export of the games
 pub record ExportLines (T : Basis) (S : List Submission) (lines : List (List ℕ)) : Type 0 where
   pub book : List Entry
   pub is_book : IsBook T S book
   pub listed : List Listed
-  pub is_listing : IsListing T S book listed
+  pub is_listing : IsListing (IsListed T S book) listed
   pub are : lines ≡ map (λ x. x.line) listed
 
 -- lines as a text, with an LF after each
