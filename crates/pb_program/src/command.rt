@@ -3,13 +3,14 @@
 use crate::apart::keep_apart;
 use crate::file::{FilePlace, open};
 use crate::journal::{JournalFile, open_to_append};
+use crate::replies::{Replies, Submissions};
 use crate::stop::Stop;
 use pb_cli::{
     Keeping, Order, Rules, collect_into, continue_into, journal_into, run_epd, run_export, run_fen,
     run_probe, run_show,
 };
 use pb_poly::{FromRead, Sink, ToWrite};
-use std::io;
+use std::cell::RefCell;
 
 /// How many fills a command may make of a source: as many as can be counted, so that only a source without an end meets the limit.
 pub const FILLS: u32 = u32::MAX;
@@ -44,9 +45,11 @@ pub(crate) fn answer<K: Sink>(
             table,
             book,
         } => match kept {
-            Keeping::Book => collect(rt, *rules, table, book),
-            Keeping::Ledger(ledger) => collect_on(rt, *rules, ledger, table, book),
-            Keeping::Journal { path, sync } => collect_to(rt, *rules, path, *sync, table, book),
+            Keeping::Book => collect(rt, *rules, table, book, output),
+            Keeping::Ledger(ledger) => collect_on(rt, *rules, ledger, table, book, output),
+            Keeping::Journal { path, sync } => {
+                collect_to(rt, *rules, path, *sync, table, book, output)
+            }
         },
         Order::Export { rules, table } => {
             let mut table = open(rt, table)?;
@@ -71,12 +74,18 @@ fn probe<K: Sink>(
 }
 
 /// Makes the file of the book once there is one, so that a fault or a refused table leaves the old file.
-fn collect(rt: &HostRuntime, rules: Rules, table: &str, book: &str) -> Result<bool, Stop> {
+fn collect<K: Sink>(
+    rt: &HostRuntime,
+    rules: Rules,
+    table: &str,
+    book: &str,
+    output: &mut K,
+) -> Result<bool, Stop> {
     keep_apart(rt, &[table, book])?;
     let mut table = open(rt, table)?;
-    let mut input = FromRead::new(rt.reader());
-    // Each reply is written at once, so that it can be waited for before the next line is sent.
-    let mut replies = ToWrite::new(io::writer(rt));
+    let output = RefCell::new(output);
+    let mut input = FromRead::new(Submissions::new(rt.reader(), &output));
+    let mut replies = ToWrite::new(Replies::new(&output));
     let mut file = FilePlace::new(rt, book);
     Ok(collect_into(
         rt.alloc(),
@@ -90,18 +99,20 @@ fn collect(rt: &HostRuntime, rules: Rules, table: &str, book: &str) -> Result<bo
 }
 
 /// Goes on from the file of a saved ledger, which is made anew after the run and before the book.
-fn collect_on(
+fn collect_on<K: Sink>(
     rt: &HostRuntime,
     rules: Rules,
     ledger: &str,
     table: &str,
     book: &str,
+    output: &mut K,
 ) -> Result<bool, Stop> {
     keep_apart(rt, &[table, ledger, book])?;
     let mut table = open(rt, table)?;
     let mut saved = open(rt, ledger)?;
-    let mut input = FromRead::new(rt.reader());
-    let mut replies = ToWrite::new(io::writer(rt));
+    let output = RefCell::new(output);
+    let mut input = FromRead::new(Submissions::new(rt.reader(), &output));
+    let mut replies = ToWrite::new(Replies::new(&output));
     let mut ledger_file = FilePlace::new(rt, ledger);
     let mut book_file = FilePlace::new(rt, book);
     Ok(continue_into(
@@ -118,21 +129,23 @@ fn collect_on(
 }
 
 /// Goes on from the file of a journal, which each new game is added to before its reply is written.
-fn collect_to(
+fn collect_to<K: Sink>(
     rt: &HostRuntime,
     rules: Rules,
     journal: &str,
     sync: bool,
     table: &str,
     book: &str,
+    output: &mut K,
 ) -> Result<bool, Stop> {
     keep_apart(rt, &[table, journal, book])?;
     let mut table = open(rt, table)?;
     let file = open_to_append(rt, journal)?;
     let mut kept = open(rt, journal)?;
     let mut lines = JournalFile::new(rt, &file, sync)?;
-    let mut input = FromRead::new(rt.reader());
-    let mut replies = ToWrite::new(io::writer(rt));
+    let output = RefCell::new(output);
+    let mut input = FromRead::new(Submissions::new(rt.reader(), &output));
+    let mut replies = ToWrite::new(Replies::new(&output));
     let mut book_file = FilePlace::new(rt, book);
     Ok(journal_into(
         rt.alloc(),

@@ -7,7 +7,9 @@ mod command;
 mod draft;
 mod file;
 mod journal;
+mod output;
 mod program;
+mod replies;
 mod stop;
 mod whole_file;
 

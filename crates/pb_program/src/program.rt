@@ -4,6 +4,7 @@ ghost use Rattle.std.specs.Prelude.{◌≡◌, ◌≤◌};
 
 use crate::command::answer;
 use crate::file::PIECE;
+use crate::output::Output;
 use crate::stop::{Stop, tell_stop};
 use pb_cli::{Fault, Order, ParseFault, parse, status};
 use pb_poly::ToWrite;
@@ -33,7 +34,8 @@ pub fn run(rt: &HostRuntime, words: &[&str]) -> u8
 fn perform(rt: &HostRuntime, order: &Order<'_>) -> u8
     ensures { result ≤ 3 }
 {
-    let Ok(writer) = BufWriter::with_capacity(rt.alloc(), PIECE, io::writer(rt)) else {
+    let output = Output::new(io::writer(rt));
+    let Ok(writer) = BufWriter::with_capacity(rt.alloc(), PIECE, output) else {
         return want_of_memory(rt);
     };
     let mut output = ToWrite::new(writer);

@@ -59,11 +59,12 @@ impl From<NotContinued> for Stop {
     }
 }
 
-/// Tells why a command stopped, in a line after what it wrote, and answers the status. A sink that failed is left alone.
+/// Tells why a command stopped, in a line after what it put, and answers the status. What it put is handed on also where no line tells of
+/// the fault, as of one of writing; a sink that failed is left alone.
 pub(crate) fn tell_stop<W: Write>(rt: &HostRuntime, output: &mut ToWrite<W>, stop: Stop) -> u8
     ensures { result ≡ 3 }
 {
-    if stop != Stop::Fault(Fault::Write) && output.flush().is_ok() {
+    if output.flush().is_ok() && stop != Stop::Fault(Fault::Write) {
         let _ = println!(rt; "fault {}", stop.word());
     }
     STOPPED
