@@ -71,7 +71,8 @@ killed_runs() {
         sleep "$moment"
         kill -9 "$program" 2> /dev/null || true
         wait "$program" 2> /dev/null || true
-        kill "$first" "$second" 2> /dev/null || true
+        # A worker may wait for a reader that never comes, and one that has only begun would lose a signal to the trap of this script.
+        kill -9 "$first" "$second" 2> /dev/null || true
         wait "$first" "$second" 2> /dev/null || true
         cat replies >> answered
         run=$((run + 1))
