@@ -5,7 +5,7 @@ START := rnbqkbnr/pppppppp/8/8/8/8/PPPPPPPP/RNBQKBNR w KQkq - 0 1
 
 PREFIX := /usr/local
 
-.PHONY: build try install dist demo test test-hostile test-files test-memory test-growths test-io test-noise test-journal test-words bench clean
+.PHONY: build try install dist demo test test-hostile test-files test-memory test-growths test-io test-noise test-replies test-journal test-words bench clean
 
 build: build/pbook
 
@@ -58,7 +58,7 @@ test:
 	rt ci
 
 # All that is tried of the program in a hostile world, but for collectors that are killed on their journal.
-test-hostile: test-files test-memory test-growths test-io test-noise
+test-hostile: test-files test-memory test-growths test-io test-noise test-replies
 
 # Tries that the completions and the manual page have the commands and options of the program, and no others.
 test-words: build
@@ -84,6 +84,10 @@ test-io: build
 # Runs each command on examples, random bytes, and packed and cut files, with AddressSanitizer and checks in place of proofs.
 test-noise:
 	@sh scripts/test_noise.sh
+
+# Tries that each reply has gone out before the next line is waited for.
+test-replies: build
+	@sh scripts/test_replies.sh
 
 # Runs the example of two workers, whose collector is killed once; then kills collectors at random moments, starts them again on their
 # journal, and compares what they answered.
