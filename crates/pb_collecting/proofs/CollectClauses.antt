@@ -1,14 +1,14 @@
 -- What the clauses of the command `collect` say, from how its run ends.
-use Rattle.std.proofs.Common.{◌≡◌, ℕ, List, Option, Some, None, Result, Ok, Err, false, true}
+use Rattle.std.proofs.Common.{ℕ, List, Option, Some, None, Result, Ok, Err, false}
 use Rattle.std.specs.Prelude.{IfErr, IfNone, IfOk, IfSome, OnOk}
 use Rattle.pb_io.specs.Source.{SourceState}
-use Rattle.pb_io.specs.Sink.{SinkState}
+use Rattle.pb_io.specs.Sink.{HandedOn, SinkState}
 use Rattle.pb_poly.specs.declared.entry.Entry.{Entry}
 use Rattle.pb_commands.specs.Judged.{PutsText}
 use Rattle.pb_commands.specs.declared.fault.Fault.{Fault}
-use Rattle.pb_collecting.specs.CollectRun.{CollectsBook, CollectsOrEnds, EndsCollect, JudgesTable, TellsCollect}
+use Rattle.pb_collecting.specs.CollectRun.{CollectsBook, CollectsOrEnds, EndsCollect, JudgesTable, RefusesTold}
 use Rattle.pb_collecting.specs.Headline.{HasHeadline}
-use Rattle.pb_collecting.proofs.CollectRuns.{tells_book, tells_refused}
+use Rattle.pb_collecting.proofs.CollectRuns.{tells_refused}
 use Rattle.pb_accepted.specs.Rules.{CountingRules}
 use Rattle.pb_collecting.proofs.Headlines.{has_headline}
 
@@ -26,8 +26,8 @@ module _ (rules : CountingRules) (fills : ℕ) (t t' s s' : SourceState) (sink s
   refused (Ok None) h = h.0
   refused (Err fault) h = tt
 
-  pub told : (result : Result (Option (List Entry)) Fault) → Ends result → IfOk result (TellsCollect rules t.to_come s.to_come sink sink')
-  told (Ok (Some entries)) h = tells_book rules fills t t' s s' sink sink' entries h.0
+  pub told : (result : Result (Option (List Entry)) Fault) → Ends result → IfOk result (λ answer. IfNone answer (RefusesTold t.to_come sink sink'))
+  told (Ok (Some entries)) h = tt
   told (Ok None) h = tells_refused rules fills t t' s s' sink sink' h.0
   told (Err fault) h = tt
 
@@ -36,9 +36,9 @@ module _ (rules : CountingRules) (fills : ℕ) (t t' s s' : SourceState) (sink s
   headline (Ok None) h = tt
   headline (Err fault) h = tt
 
-  pub handed_on : (result : Result (Option (List Entry)) Fault) → Ends result → OnOk result ((sink'.failed ≡ false) × (sink'.flushed ≡ true))
-  handed_on (Ok (Some entries)) h = (h.0.games.works, h.0.games.flushed)
-  handed_on (Ok None) h = (h.1, h.2)
+  pub handed_on : (result : Result (Option (List Entry)) Fault) → Ends result → OnOk result (HandedOn sink')
+  handed_on (Ok (Some entries)) h = h.0.games.handed_on
+  handed_on (Ok None) h = h.1
   handed_on (Err fault) h = tt
 
   pub ends : (result : Result (Option (List Entry)) Fault) → Ends result → IfErr result (EndsCollect rules fills t t' s s' sink sink')

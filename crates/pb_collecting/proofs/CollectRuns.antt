@@ -1,24 +1,24 @@
 -- How a run of the command `collect` ends, from what its parts do.
-use Rattle.std.proofs.Common.{◌≡◌, ℕ, Bool, List, ap, Option, Some, None, Result, Ok, Err, false, refl, subst, sym, true}
+use Rattle.std.proofs.Common.{◌≡◌, ℕ, Bool, List, ap, Option, Some, None, Result, Ok, Err, false, refl, subst, sym}
+use Rattle.std.specs.Prelude.{IfSome}
 use Rattle.pb_io.specs.Source.{SourceState}
-use Rattle.pb_io.specs.Sink.{SinkState}
+use Rattle.pb_io.specs.Sink.{HandedOn, SinkState}
 use Rattle.pb_poly.specs.declared.entry.Entry.{Entry}
 use Rattle.pb_accepted.specs.Counting.{IsBook}
 use Rattle.pb_accepted.specs.Ledger.{LedgerState}
 use Rattle.pb_accepted.specs.Rules.{CountingRules}
 use Rattle.pb_commands.specs.Judged.{PutsOrEnds, PutsText, Verdict}
-use Rattle.pb_commands.specs.TableJudged.{table_verdict}
+use Rattle.pb_commands.specs.TableJudged.{TableRefused, table_verdict}
 use Rattle.pb_poly.specs.TableReading.{FindsNoTable}
 use Rattle.pb_commands.specs.declared.fault.Fault.{Fault}
 use Rattle.pb_poly.specs.declared.table_file.TableFault.{TableFault}
 use Rattle.pb_poly.specs.declared.table_file.TableFault.TheVariants as table
 use Rattle.pb_commands.proofs.Judging.{shows}
 use Rattle.pb_commands.proofs.Told.{told_no_table}
-use Rattle.pb_collecting.specs.CollectRun.{CollectsBook, EndsCollect, JudgesTable, TellsCollect, at_submissions, at_table}
+use Rattle.pb_collecting.specs.CollectRun.{CollectsBook, EndsCollect, JudgesTable, RefusesTold, at_submissions, at_table}
 use Rattle.pb_collecting.specs.Taking.{FillsLedger, RefusesGames, StopsTaking, TakesOrStops}
 use Rattle.pb_collecting.specs.declared.taking.NoGames.{NoGames}
 use Rattle.pb_collecting.specs.declared.taking.NoGames.TheVariants.{Table, Submissions}
-use Rattle.pb_collecting.proofs.ToldRuns.{told_book}
 
 abbrev pub puts : Bool → List ℕ → Verdict
 puts answer out = Ok (answer, out)
@@ -49,27 +49,25 @@ module _ (rules : CountingRules) (fills : ℕ) (t t' s s' : SourceState) (sink s
   put_refused : (answer : Bool) → PutsText judges sink sink' answer → PutsText judges sink sink' false
   put_refused answer h = let j = h.judged in subst (λ a. PutsText judges sink sink' a) (refused_no j.cause answer h.out j.is) h
 
-  refused_told : (file bytes : Option (List ℕ)) → t.to_come ≡ file → PutsText judges sink sink' false → TellsCollect rules file bytes sink sink' None
-  refused_told None bytes is h = tt
-  refused_told (Some file) bytes is h =
-      let j = h.judged in record {
-        out = h.out;
-        refused = (j.cause, told_no_table fills t t' file is j.cause (false, h.out) j.is j.found, sym j.is);
-        put = h.put;
-      }
+  refused_told : (file : Option (List ℕ)) → t.to_come ≡ file → PutsText judges sink sink' false → RefusesTold file sink sink'
+  refused_told file is h = record { out = h.out; refused = by file is; put = h.put }
+    where
+      by : (file : Option (List ℕ)) → t.to_come ≡ file → IfSome file (λ f. TableRefused f h.out)
+      by None is = tt
+      by (Some file) is = let j = h.judged in (j.cause, told_no_table fills t t' file is j.cause (false, h.out) j.is j.found, sym j.is)
 
-  pub tells_refused : PutsText judges sink sink' false → TellsCollect rules t.to_come s.to_come sink sink' None
-  tells_refused h = refused_told t.to_come s.to_come refl h
+  pub tells_refused : PutsText judges sink sink' false → RefusesTold t.to_come sink sink'
+  tells_refused h = refused_told t.to_come refl h
 
   -- the line that refuses the table was put and handed on
   pub refused : s' ≡ s → (answer : Bool) (e : TableFault) → FindsNoTable fills t t' e → PutsOrEnds (λ verdict. verdict ≡ table_verdict e) sink sink' (Ok answer)
-      → PutsText judges sink sink' false × (sink'.failed ≡ false) × (sink'.flushed ≡ true)
-  refused same answer e h r = let ends = table_ends same (Ok answer) e h r in (put_refused answer ends.0, ends.1, ends.2)
+      → PutsText judges sink sink' false × HandedOn sink'
+  refused same answer e h r = let ends = table_ends same (Ok answer) e h r in (put_refused answer ends.0, ends.1)
 
   -- no games were taken: `mid` is the state of the sink before that is told
   module _ (mid : SinkState) where
     pub no_games_put : (why : NoGames) (answer : Bool) → TakesOrStops rules fills t t' s s' sink mid (Err why) → RefusesGames mid sink' (Ok answer) why
-        → PutsText judges sink sink' false × (sink'.failed ≡ false) × (sink'.flushed ≡ true)
+        → PutsText judges sink sink' false × HandedOn sink'
     no_games_put (Table e) answer h r = refused h.1 answer e h.0 (subst (λ (m : SinkState). PutsOrEnds (λ verdict. verdict ≡ table_verdict e) m sink' (Ok answer)) h.2 r)
     no_games_put (Submissions e) answer h r = absurd (cc r.0)
 
@@ -90,12 +88,3 @@ module _ (rules : CountingRules) (fills : ℕ) (t t' s s' : SourceState) (sink s
     games = h.games;
     book = subst (λ (m : LedgerState). IsBook m.basis m.accepted entries) h.is book;
   }
-
-  book_told : (entries : List Entry) (file bytes : Option (List ℕ)) → t.to_come ≡ file → s.to_come ≡ bytes → CollectsBook rules fills t t' s s' sink sink' entries
-      → TellsCollect rules file bytes sink sink' (Some entries)
-  book_told entries None bytes is_t is_s h = tt
-  book_told entries (Some file) None is_t is_s h = tt
-  book_told entries (Some file) (Some bytes) is_t is_s h = told_book rules fills t t' s s' file bytes is_t is_s sink sink' entries h
-
-  pub tells_book : (entries : List Entry) → CollectsBook rules fills t t' s s' sink sink' entries → TellsCollect rules t.to_come s.to_come sink sink' (Some entries)
-  tells_book entries h = book_told entries t.to_come s.to_come refl refl h

@@ -1,17 +1,16 @@
 -- What the clauses of the command `collect` that goes on from a saved ledger say, from how its run ends.
-use Rattle.std.proofs.Common.{◌≡◌, ℕ, List, All, Option, Some, None, Result, Ok, Err, false, true, refl}
-use Rattle.std.specs.Prelude.{IfOk, IfSome, OnOk}
+use Rattle.std.proofs.Common.{◌≡◌, ℕ, List, All, Option, Some, None, Result, Ok, Err, refl}
+use Rattle.std.specs.Prelude.{IfNone, IfOk, IfSome, OnOk}
 use Rattle.pb_io.specs.Source.{SourceState}
-use Rattle.pb_io.specs.Sink.{SinkState}
+use Rattle.pb_io.specs.Sink.{HandedOn, SinkState}
 use Rattle.pb_poly.specs.Book.{NeverFall}
 use Rattle.pb_poly.specs.Entry.{IsEntry}
 use Rattle.pb_poly.specs.declared.entry.Entry.{Entry}
 use Rattle.pb_accepted.specs.Ledger.{LedgerState}
 use Rattle.pb_accepted.specs.Rules.{CountingRules}
-use Rattle.pb_commands.specs.Judged.{PutsText}
 use Rattle.pb_commands.specs.declared.fault.Fault.{Fault}
-use Rattle.pb_collecting.specs.Continuing.{Continues, ContinuesOrEnds, GoesOn, JudgesSaved, LoadsFirst}
-use Rattle.pb_collecting.specs.ContinuingTold.{ContinuesBytes, HandsOn, HasHeadlineOfBoth, TellsContinue}
+use Rattle.pb_collecting.specs.Continuing.{Continues, ContinuesOrEnds, GoesOn, LoadsFirst}
+use Rattle.pb_collecting.specs.ContinuingTold.{HandsOn, HasHeadlineOfBoth, RefusesEither}
 use Rattle.pb_collecting.specs.declared.continuing.Continued.{Continued}
 use Rattle.pb_collecting.proofs.ContinueTold.{effect_of_both, told_continued, told_refused}
 
@@ -19,17 +18,6 @@ module _ (rules : CountingRules) (fills : ℕ) (t t' v v' s s' : SourceState) (s
   -- ---- what is so of a book
 
   module _ (loaded left : LedgerState) (entries : List Entry) (first : LoadsFirst rules fills t t' v v' loaded) (on : Continues fills s s' sink sink' loaded left (Ok entries)) where
-    abbrev Told : List ℕ → List ℕ → List ℕ → Type 0
-    Told file saved bytes = ContinuesBytes rules file saved bytes sink sink' left entries
-
-    book_told : (file saved bytes : Option (List ℕ)) → t.to_come ≡ file → v.to_come ≡ saved → s.to_come ≡ bytes
-        → IfSome file (λ f. IfSome saved (λ w. IfSome bytes (λ b. Told f w b)))
-    book_told None saved bytes is_t is_v is_s = tt
-    book_told (Some file) None bytes is_t is_v is_s = tt
-    book_told (Some file) (Some saved) None is_t is_v is_s = tt
-    book_told (Some file) (Some saved) (Some bytes) is_t is_v is_s =
-        told_continued rules fills t t' v v' s s' file saved bytes is_t is_v is_s sink sink' loaded left entries on.0.0 first on.0.1 on.1
-
     book_headline : NeverFall entries → All IsEntry entries → (file saved bytes : Option (List ℕ)) → t.to_come ≡ file → v.to_come ≡ saved → s.to_come ≡ bytes
         → HasHeadlineOfBoth rules file saved bytes sink sink' left entries
     book_headline ordered bounds None saved bytes is_t is_v is_s = tt
@@ -42,30 +30,20 @@ module _ (rules : CountingRules) (fills : ℕ) (t t' v v' s s' : SourceState) (s
   -- ---- of the whole run
 
   module _ (loaded left : LedgerState) (first : LoadsFirst rules fills t t' v v' loaded) where
-    told_on : (book : Result (List Entry) Fault) → GoesOn fills s s' sink sink' loaded left book
-        → IfOk book (λ entries. IfSome t.to_come (λ f. IfSome v.to_come (λ w. IfSome s.to_come (λ b. ContinuesBytes rules f w b sink sink' left entries))))
-    told_on (Ok entries) h = book_told loaded left entries first h.0 t.to_come v.to_come s.to_come refl refl refl
-    told_on (Err fault) h = tt
-
     headline_on : (book : Result (List Entry) Fault) → GoesOn fills s s' sink sink' loaded left book → IfOk book (HasHeadlineOfBoth rules t.to_come v.to_come s.to_come sink sink' left)
     headline_on (Ok entries) h = book_headline loaded left entries first h.0 h.1 h.2 t.to_come v.to_come s.to_come refl refl refl
     headline_on (Err fault) h = tt
 
-    handed : (book : Result (List Entry) Fault) → GoesOn fills s s' sink sink' loaded left book → OnOk book ((sink'.failed ≡ false) × (sink'.flushed ≡ true))
-    handed (Ok entries) h = (h.0.0.1.1, h.0.0.1.2)
+    handed : (book : Result (List Entry) Fault) → GoesOn fills s s' sink sink' loaded left book → OnOk book (HandedOn sink')
+    handed (Ok entries) h = h.0.0.1.1
     handed (Err fault) h = tt
-
-  refused_told : (file : Option (List ℕ)) → t.to_come ≡ file → PutsText (JudgesSaved rules fills t t' v v' s s') sink sink' false
-      → TellsContinue rules file v.to_come s.to_come sink sink' None
-  refused_told None is h = tt
-  refused_told (Some file) is h = told_refused rules fills t t' v v' s s' sink sink' file is h
 
   abbrev Ends : Result (Option Continued) Fault → Type 0
   Ends = ContinuesOrEnds rules fills t t' v v' s s' sink sink'
 
-  pub told : (result : Result (Option Continued) Fault) → Ends result → IfOk result (TellsContinue rules t.to_come v.to_come s.to_come sink sink')
-  told (Ok (Some run)) h = told_on h.0 run.ledger h.1 run.book h.2
-  told (Ok None) h = refused_told t.to_come refl h.0
+  pub told : (result : Result (Option Continued) Fault) → Ends result → IfOk result (λ answer. IfNone answer (RefusesEither t.to_come v.to_come sink sink'))
+  told (Ok (Some run)) h = tt
+  told (Ok None) h = told_refused rules fills t t' v v' s s' sink sink' h.0
   told (Err fault) h = tt
 
   pub headline : (result : Result (Option Continued) Fault) → Ends result
@@ -76,5 +54,5 @@ module _ (rules : CountingRules) (fills : ℕ) (t t' v v' s s' : SourceState) (s
 
   pub handed_on : (result : Result (Option Continued) Fault) → Ends result → IfOk result (HandsOn sink')
   handed_on (Ok (Some run)) h = handed h.0 run.ledger h.1 run.book h.2
-  handed_on (Ok None) h = (h.1, h.2)
+  handed_on (Ok None) h = h.1
   handed_on (Err fault) h = tt

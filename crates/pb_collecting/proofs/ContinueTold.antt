@@ -106,14 +106,17 @@ module _ (rules : CountingRules) (fills : ℕ) (t t' v v' s s' : SourceState) (s
   told_if None told e out is h = tt
   told_if (Some saved) told e out is h = told_no_ledger fills v v' saved told rules t t' e out is h
 
-  module _ (file : List ℕ) (told_t : t.to_come ≡ Some file) where
-    either_refused : (out : List ℕ) → JudgesSaved rules fills t t' v v' s s' (Ok (false, out)) → EitherRefused file v.to_come out
-    either_refused out (no_table e found is unread unsubmitted) = at_table (e, told_no_table fills t t' file told_t e (false, out) is found, sym is)
-    either_refused out (no_ledger e h is unsubmitted) =
-        at_ledger h.words (told_table fills t t' file told_t h.words h.table) (told_if v.to_come refl e out is h)
+  either_refused : (file : List ℕ) → t.to_come ≡ Some file → (out : List ℕ) → JudgesSaved rules fills t t' v v' s s' (Ok (false, out)) → EitherRefused file v.to_come out
+  either_refused file told_t out (no_table e found is unread unsubmitted) = at_table (e, told_no_table fills t t' file told_t e (false, out) is found, sym is)
+  either_refused file told_t out (no_ledger e h is unsubmitted) =
+      at_ledger h.words (told_table fills t t' file told_t h.words h.table) (told_if v.to_come refl e out is h)
 
-    pub told_refused : PutsText (JudgesSaved rules fills t t' v v' s s') sink sink' false → RefusesEither file v.to_come sink sink'
-    told_refused h = record { out = h.out; refused = either_refused h.out h.judged; put = h.put }
+  pub told_refused : PutsText (JudgesSaved rules fills t t' v v' s s') sink sink' false → RefusesEither t.to_come v.to_come sink sink'
+  told_refused h = record { out = h.out; refused = by t.to_come refl; put = h.put }
+    where
+      by : (file : Option (List ℕ)) → t.to_come ≡ file → IfSome file (λ f. EitherRefused f v.to_come h.out)
+      by None is = tt
+      by (Some file) is = either_refused file is h.out h.judged
 
 -- ---- what an earlier run saved
 

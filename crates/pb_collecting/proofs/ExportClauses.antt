@@ -1,8 +1,9 @@
 -- What the clauses of the command `export` say, from how its run ends.
-use Rattle.std.proofs.Common.{◌≡◌, ◌∙◌, ◌≢◌, ℕ, Bool, List, Option, Some, None, Result, Ok, Err, ap, false, refl, sym, true}
+use Rattle.std.proofs.Common.{◌≡◌, ◌∙◌, ◌≢◌, ℕ, Bool, Result, Ok, Err, ap, false, refl, sym, true}
 use Rattle.std.specs.Prelude.{IfErr, IfOk, OnOk}
 use Rattle.pb_io.specs.Source.{SourceState}
-use Rattle.pb_io.specs.Sink.{SinkState}
+use Rattle.pb_io.specs.Sink.{HandedOn, SinkState}
+use Rattle.pb_io.proofs.FlushLemmas.{still_works}
 use Rattle.pb_accepted.specs.Ledger.{LedgerState}
 use Rattle.pb_accepted.specs.Rules.{CountingRules}
 use Rattle.pb_ledger.specs.Collecting.{CollectsUntil}
@@ -14,11 +15,10 @@ use Rattle.pb_export.specs.declared.exporting.ExportFault.TheVariants as export
 use Rattle.pb_commands.specs.Judged.{PutsText, PutsUntil, Verdict}
 use Rattle.pb_commands.specs.declared.fault.Fault.{Fault}
 use Rattle.pb_commands.specs.declared.fault.Fault.TheVariants.{Read, Write, Endless, Memory}
-use Rattle.pb_collecting.specs.CollectRun.{JudgesTable}
-use Rattle.pb_collecting.specs.ExportRun.{BlamesSink, EndsExport, ExportsGames, ExportsOrStops, StopsExport, TellsExport, at_export, at_submissions, at_table, fault_of_export}
+use Rattle.pb_collecting.specs.CollectRun.{JudgesTable, RefusesTold}
+use Rattle.pb_collecting.specs.ExportRun.{BlamesSink, EndsExport, ExportsGames, ExportsOrStops, StopsExport, at_export, at_submissions, at_table, fault_of_export}
 use Rattle.pb_collecting.specs.Taking.{fault_of, new_ledger}
 use Rattle.pb_collecting.proofs.CollectRuns.{tells_refused}
-use Rattle.pb_collecting.proofs.ToldRuns.{told_games}
 
 -- ---- which faults blame the sink
 
@@ -45,10 +45,10 @@ not_written fills s s' dropped dropped' l l' collect.Memory works h = λ is. cc 
 
 -- at the export
 blame_export : (l : LedgerState) (sink sink' : SinkState) (fault : Fault) (e : ExportFault) → ExportsUntil l sink sink' e → fault ≡ fault_of_export e → BlamesSink sink sink' fault
-blame_export l sink sink' fault export.Write h is = record { only = λ _. h.cause; always = λ works fails. is }
+blame_export l sink sink' fault export.Write h is = record { only = λ _. h.cause.0; always = λ works fails. is }
 blame_export l sink sink' fault export.Memory h is = record {
   only = λ write. absurd (cc (sym write ∙ is));
-  always = λ works fails. absurd (cc (sym fails ∙ h.cause works));
+  always = λ works fails. absurd (cc (sym fails ∙ still_works sink sink' h.cause works));
 }
 
 module _ (rules : CountingRules) (fills : ℕ) (t t' s s' : SourceState) (d d' sink sink' : SinkState) where
@@ -65,24 +65,14 @@ module _ (rules : CountingRules) (fills : ℕ) (t t' s s' : SourceState) (d d' s
   refused (Ok false) h = λ is. h.refused
   refused (Err fault) h = tt
 
-  games_told : (file bytes : Option (List ℕ)) → t.to_come ≡ file → s.to_come ≡ bytes → ExportsGames rules fills t t' s s' sink sink' → TellsExport rules file bytes sink sink' true
-  games_told None bytes is_t is_s h = tt
-  games_told (Some file) None is_t is_s h = tt
-  games_told (Some file) (Some bytes) is_t is_s h = record {
-    words = h.words;
-    held = h.held;
-    takes = told_games rules fills t t' s s' file bytes is_t is_s h.words h.held h.takes;
-    puts = h.puts;
-  }
-
-  pub told : (result : Result Bool Fault) → Ends result → IfOk result (TellsExport rules t.to_come s.to_come sink sink')
-  told (Ok true) h = games_told t.to_come s.to_come refl refl (record { words = h.words; held = h.held; takes = h.games.takes; puts = h.puts })
-  told (Ok false) h = tells_refused rules fills t t' s s' sink sink' h.refused
+  pub told : (result : Result Bool Fault) → Ends result → IfOk result (λ done. done ≡ false → RefusesTold t.to_come sink sink')
+  told (Ok true) h = λ is. absurd (cc is)
+  told (Ok false) h = λ is. tells_refused rules fills t t' s s' sink sink' h.refused
   told (Err fault) h = tt
 
-  pub handed_on : (result : Result Bool Fault) → Ends result → OnOk result ((sink'.failed ≡ false) × (sink'.flushed ≡ true))
-  handed_on (Ok true) h = (h.works, h.flushed)
-  handed_on (Ok false) h = (h.works, h.flushed)
+  pub handed_on : (result : Result Bool Fault) → Ends result → OnOk result (HandedOn sink')
+  handed_on (Ok true) h = h.handed_on
+  handed_on (Ok false) h = h.handed_on
   handed_on (Err fault) h = tt
 
   -- the sink for the replies hasn't failed

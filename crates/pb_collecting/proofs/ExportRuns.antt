@@ -25,7 +25,7 @@ module _ (rules : CountingRules) (fills : ℕ) (t t' s s' : SourceState) (d d' s
         let text = r.0 in absurd (cc (refused_no e true text.out text.judged))
     no_table (Ok false) r =
         let on = refused rules fills t t' s s' sink sink' same false e h r in
-        record { refused = on.0; no_reply = no_reply; works = on.1; flushed = on.2 }
+        record { refused = on.0; no_reply = no_reply; handed_on = on.1 }
     no_table (Err fault) r = at_table (table_ends rules fills t t' s s' sink sink' same (Err fault) e h r) no_reply
 
   -- no games were taken
@@ -44,8 +44,7 @@ module _ (rules : CountingRules) (fills : ℕ) (t t' s s' : SourceState) (d d' s
           held = h.held;
           games = h.games;
           puts = record { lines = y.lines; are = y.are; put = y.put };
-          works = y.works;
-          flushed = y.flushed;
+          handed_on = y.handed_on;
         }
 
     pub not_exported : (e : ExportFault) → ExportsUntil ledger sink sink' e → StopsExport rules fills t t' s s' d d' sink sink' (fault_of_export e)

@@ -1,11 +1,14 @@
 -- The theorem of `pbook collect`, from what a run does.
 use Rattle.std.proofs.Common.{◌≡◌, ◌∙◌, zero, suc, ℕ, ◌+◌, ◌<◌, ◌≤◌, List, [], ◌∷◌, length, take, Option, Some, None, Ok, Err, All, Contains, slice_get, refl, sym, ap, subst, inl, inr, arith}
 use Rattle.std.proofs.lemmas.Option.{slice_get_within, get_or_from_slice_get}
+use Rattle.std.specs.Prelude.{IfSome}
+use Rattle.std.specs.Io.KnownBytes.{Appends}
 use Rattle.pb_io.specs.Source.{SourceState}
 use Rattle.pb_io.specs.Sink.{SinkState}
 use Rattle.pb_io.specs.Lines.{lines}
 use Rattle.pb_poly.specs.Book.{NeverFall}
 use Rattle.pb_poly.specs.Entry.{IsEntry}
+use Rattle.pb_poly.specs.Table.{IsTableFile}
 use Rattle.pb_poly.specs.declared.entry.Entry.{Entry}
 use Rattle.pb_games.specs.declared.refusal.Refusal.TheVariants.{Memory}
 use Rattle.pb_games.specs.Submissions.{Submission, IsLawful}
@@ -15,13 +18,13 @@ use Rattle.pb_accepted.specs.Basis.{Basis}
 use Rattle.pb_accepted.specs.Counting.{IsBook}
 use Rattle.pb_accepted.specs.Holding.{most_games}
 use Rattle.pb_accepted.specs.Laws.{NoRepeats}
+use Rattle.pb_accepted.specs.Replies.{replies}
 use Rattle.pb_accepted.specs.Rules.{CountingRules}
 use Rattle.pb_accepted.proofs.Numbers.{numbers_given, repeats_keep}
 use Rattle.pb_accepted.proofs.Replies.{Answered, answered, held, new, other, full as no_room, game_of, id_of, one_submission}
 use Rattle.pb_accepted.proofs.Runs.{own_ids}
-use Rattle.pb_collecting.specs.CollectRun.{CollectsBook, CollectsBytes}
-use Rattle.pb_collecting.specs.Headline.{Arrives, Effect, HasHeadline, Headline, IsAccepted, IsNewBefore, MayBeAnswered, WasAccepted, accepted, conflict, full, memory}
-use Rattle.pb_collecting.proofs.ToldRuns.{told_book}
+use Rattle.pb_collecting.specs.CollectRun.{CollectsBook}
+use Rattle.pb_collecting.specs.Headline.{Arrives, Effect, HasHeadline, IsAccepted, IsNewBefore, MayBeAnswered, WasAccepted, accepted, conflict, full, memory}
 use Rattle.pb_collecting.proofs.OneTexts.{has_one_text}
 
 -- ---- lists
@@ -205,26 +208,26 @@ module _ (L : List (List ℕ)) (R : List Answer) (A : List Submission) (run : Ru
 
 -- ---- sources that tell their bytes
 
-headline : (rules : CountingRules) (file bytes : List ℕ) (sink sink' : SinkState) (entries : List Entry) → NeverFall entries → All IsEntry entries
-    → CollectsBytes rules file bytes sink sink' entries → (h : Headline rules file bytes sink sink' entries) × Run most_games [] (lines bytes) h.answers
-headline rules file bytes sink sink' entries ordered bounds h =
-    let g = h.takes in (
-      record {
-        words = h.words;
-        table = g.table;
-        answers = g.answers;
-        put = h.put;
-        effect = effect (lines bytes) g.answers h.held g.run g.accepted (record { words = h.words; rules = rules }) entries ordered bounds h.book;
-      },
-      g.run,
-    )
-
 module _ (rules : CountingRules) (fills : ℕ) (t t' s s' : SourceState) (sink sink' : SinkState) (entries : List Entry) (ordered : NeverFall entries) (bounds : All IsEntry entries) where
-  both : (file bytes : Option (List ℕ)) → t.to_come ≡ file → s.to_come ≡ bytes → CollectsBook rules fills t t' s s' sink sink' entries → HasHeadline rules file bytes sink sink' entries
-  both None bytes is_t is_s h = tt
-  both (Some file) None is_t is_s h = tt
-  both (Some file) (Some bytes) is_t is_s h =
-      headline rules file bytes sink sink' entries ordered bounds (told_book rules fills t t' s s' file bytes is_t is_s sink sink' entries h)
+  both : (h : CollectsBook rules fills t t' s s' sink sink' entries) (file bytes : Option (List ℕ)) → IfSome file (IsTableFile h.words) → IfSome bytes (λ b. h.games.takes.came ≡ b)
+      → HasHeadline rules file bytes sink sink' entries
+  unfolding effect
+  both h None bytes is_table all = tt
+  both h (Some file) None is_table all = tt
+  both h (Some file) (Some bytes) is_table all =
+      let g = h.games.takes in
+      let run = subst (λ (xs : List ℕ). Run most_games [] (lines xs) g.answers) all g.run in
+      let taken = subst (λ (xs : List ℕ). Accepted [] (lines xs) g.answers h.held) all g.accepted in (
+        record {
+          words = h.words;
+          table = is_table;
+          answers = g.answers;
+          put = subst (λ (xs : List ℕ). Appends sink.bytes sink'.bytes (replies (lines xs) g.answers)) all h.games.put;
+          effect = effect (lines bytes) g.answers h.held run taken (record { words = h.words; rules = rules }) entries ordered bounds h.book;
+        },
+        run,
+        taken,
+      )
 
   pub has_headline : CollectsBook rules fills t t' s s' sink sink' entries → HasHeadline rules t.to_come s.to_come sink sink' entries
-  has_headline h = both t.to_come s.to_come refl refl h
+  has_headline h = both h t.to_come s.to_come h.games.takes.is_table h.games.takes.all_came

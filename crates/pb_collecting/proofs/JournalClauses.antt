@@ -1,16 +1,16 @@
 -- What the clauses of the command `collect` with a journal say, from how its run ends.
-use Rattle.std.proofs.Common.{◌≡◌, ℕ, ◌⊎◌, List, Option, Some, None, Result, Ok, Err, false, inl, inr, refl, true}
-use Rattle.std.specs.Prelude.{IfOk, IfSome, OnOk}
+use Rattle.std.proofs.Common.{◌≡◌, ℕ, ◌⊎◌, List, Option, Some, None, Result, Ok, Err, inl, inr, refl}
+use Rattle.std.specs.Prelude.{IfNone, IfOk, IfSome, OnOk}
 use Rattle.pb_io.specs.Source.{SourceState}
-use Rattle.pb_io.specs.Sink.{SinkState}
+use Rattle.pb_io.specs.Sink.{HandedOn, SinkState}
 use Rattle.pb_poly.specs.declared.entry.Entry.{Entry}
 use Rattle.pb_accepted.specs.Rules.{CountingRules}
 use Rattle.pb_commands.specs.Judged.{PutsUntil}
 use Rattle.pb_commands.specs.declared.fault.Fault.{Fault}
 use Rattle.pb_commands.specs.declared.fault.Fault.TheVariants as fault
-use Rattle.pb_collecting.specs.CollectRun.{JudgesTable}
+use Rattle.pb_collecting.specs.CollectRun.{JudgesTable, RefusesTold}
 use Rattle.pb_collecting.specs.JournalRun.{EndsJournaled, JournalsOrEnds, at_book, at_journal, at_submissions, at_table}
-use Rattle.pb_collecting.specs.JournalTold.{HasHeadlineOfJournal, Survives, TellsJournaled}
+use Rattle.pb_collecting.specs.JournalTold.{HasHeadlineOfJournal, Survives}
 use Rattle.pb_collecting.proofs.CollectRuns.{tells_refused}
 use Rattle.pb_collecting.proofs.JournalHeadlines.{has_headline}
 use Rattle.pb_collecting.proofs.JournalSurvives.{stream_survives, until_survives}
@@ -45,7 +45,7 @@ module _ (rules : CountingRules) (fills : ℕ) (t t' v v' s s' : SourceState) (j
   abbrev Ends : Result (Option (List Entry)) Fault → Type 0
   Ends = JournalsOrEnds rules fills t t' v v' s s' j j' sink sink'
 
-  pub told : (result : Result (Option (List Entry)) Fault) → Ends result → IfOk result (TellsJournaled t.to_come sink sink')
+  pub told : (result : Result (Option (List Entry)) Fault) → Ends result → IfOk result (λ answer. IfNone answer (RefusesTold t.to_come sink sink'))
   told (Ok (Some entries)) h = tt
   told (Ok None) h = tells_refused rules fills t t' s s' sink sink' h.0.refused
   told (Err fault) h = tt
@@ -63,7 +63,7 @@ module _ (rules : CountingRules) (fills : ℕ) (t t' v v' s s' : SourceState) (j
   survives (Ok None) h = inl h.0.refused.judged.unread
   survives (Err fault) h = ends_safe fault h
 
-  pub handed_on : (result : Result (Option (List Entry)) Fault) → Ends result → OnOk result ((sink'.failed ≡ false) × (sink'.flushed ≡ true))
-  handed_on (Ok (Some entries)) h = (h.0.collects.0.1, h.0.collects.0.2)
-  handed_on (Ok None) h = (h.1, h.2)
+  pub handed_on : (result : Result (Option (List Entry)) Fault) → Ends result → OnOk result (HandedOn sink')
+  handed_on (Ok (Some entries)) h = h.0.collects.0.1
+  handed_on (Ok None) h = h.1
   handed_on (Err fault) h = tt

@@ -1,7 +1,7 @@
 -- How a run of the command `collect` with the place of its book ends, from what its parts do.
-use Rattle.std.proofs.Common.{◌≡◌, ℕ, List, Option, Some, None, Result, Ok, false, refl, subst, true}
+use Rattle.std.proofs.Common.{◌≡◌, ℕ, List, Option, Some, None, Result, Ok, refl, subst}
 use Rattle.pb_io.specs.Source.{SourceState}
-use Rattle.pb_io.specs.Sink.{SinkState}
+use Rattle.pb_io.specs.Sink.{HandedOn, SinkState}
 use Rattle.pb_poly.specs.Book.{book_bytes}
 use Rattle.pb_poly.specs.declared.entry.Entry.{Entry}
 use Rattle.pb_collecting.specs.CollectRun.{CollectsOrEnds}
@@ -13,13 +13,13 @@ use Rattle.pb_collecting.proofs.CollectClauses.{handed_on, headline, told}
 
 module _ (rules : CountingRules) (fills : ℕ) (t t' s s' : SourceState) (sink sink' : SinkState) where
   pub no_book : (place : PlaceState) (made : Option (List Entry)) → made ≡ None → CollectsOrEnds rules fills t t' s s' sink sink' (Ok made)
-      → RefusesBook rules fills t t' s s' sink sink' place place × (sink'.failed ≡ false) × (sink'.flushed ≡ true)
-  no_book place None is h = (record { refused = h.0; told = told rules fills t t' s s' sink sink' (Ok None) h; same = refl }, h.1, h.2)
+      → RefusesBook rules fills t t' s s' sink sink' place place × HandedOn sink'
+  no_book place None is h = (record { refused = h.0; told = told rules fills t t' s s' sink sink' (Ok None) h; same = refl }, h.1)
   no_book place (Some entries) is h = absurd (cc is)
 
   pub made_book : (place place' : PlaceState) (entries : List Entry) (made : Option (List Entry)) → made ≡ Some entries → CollectsOrEnds rules fills t t' s s' sink sink' (Ok made)
       → (answer : Result (Unit {0}) NotKept) → (bytes : List ℕ) × (bytes ≡ book_bytes entries) × Keeps place place' answer bytes
-      → KeepsBook rules fills t t' s s' sink sink' place place' answer × (sink'.failed ≡ false) × (sink'.flushed ≡ true)
+      → KeepsBook rules fills t t' s s' sink sink' place place' answer × HandedOn sink'
   made_book place place' entries made is h answer keeps =
       let run : CollectsOrEnds rules fills t t' s s' sink sink' (Ok (Some entries)) = subst (λ (m : Option (List Entry)). CollectsOrEnds rules fills t t' s s' sink sink' (Ok m)) is h in
       let ends = handed_on rules fills t t' s s' sink sink' (Ok (Some entries)) run in (
@@ -29,6 +29,5 @@ module _ (rules : CountingRules) (fills : ℕ) (t t' s s' : SourceState) (sink s
           headline = headline rules fills t t' s s' sink sink' (Ok (Some entries)) run;
           keeps = subst (λ (bytes : List ℕ). Keeps place place' answer bytes) keeps.1 keeps.2;
         },
-        ends.0,
-        ends.1,
+        ends,
       )

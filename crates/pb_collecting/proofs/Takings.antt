@@ -1,5 +1,5 @@
 -- What taking submissions gives, from what its parts do.
-use Rattle.std.proofs.Common.{◌≡◌, ◌∙◌, ℕ, List, ap, subst}
+use Rattle.std.proofs.Common.{◌≡◌, ◌∙◌, ℕ, List, ap, refl, subst}
 use Rattle.pb_io.specs.Source.{SourceState}
 use Rattle.pb_io.specs.Sink.{SinkState}
 use Rattle.pb_accepted.specs.Basis.{Basis}
@@ -10,6 +10,7 @@ use Rattle.pb_ledger.specs.declared.totals.Totals.{Totals}
 use Rattle.pb_ledger.specs.declared.collecting.CollectFault.{CollectFault}
 use Rattle.pb_poly.specs.TableReading.{ReadsTable}
 use Rattle.pb_collecting.specs.Taking.{FillsLedger, StopsTaking, ledger_of, new_ledger}
+use Rattle.pb_collecting.proofs.ToldRuns.{came_told, table_told}
 
 module _ (rules : CountingRules) (fills : ℕ) (t t' s s' : SourceState) (sink sink' : SinkState) (words : List ℕ) (l l' : LedgerState) (is : l ≡ new_ledger rules words) (read : ReadsTable fills t t' words) where
   pub took_all : (totals : Totals) → CollectsStream fills s s' sink sink' l l' totals → FillsLedger rules fills t t' s s' sink sink' l'
@@ -20,10 +21,18 @@ module _ (rules : CountingRules) (fills : ℕ) (t t' s s' : SourceState) (sink s
         words = words;
         held = l'.accepted;
         games = record {
-          takes = record { table = read; came = h.0.came; reads = h.0.reads; answers = collects.answers; run = leads.run; accepted = leads.accepted };
+          takes = record {
+            table = read;
+            came = h.0.came;
+            reads = h.0.reads;
+            answers = collects.answers;
+            run = leads.run;
+            accepted = leads.accepted;
+            is_table = table_told fills t t' words t.to_come refl read;
+            all_came = came_told fills s s' h.0.came s.to_come refl h.0.reads;
+          };
           put = collects.put;
-          works = h.1;
-          flushed = h.2;
+          handed_on = h.1;
         };
         is = ap (λ (T : Basis). record l' { basis = T }) leads.basis ∙ ap (λ n. record (ledger_of rules words l'.accepted) { cap = n }) leads.cap;
       }

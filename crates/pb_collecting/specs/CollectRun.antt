@@ -1,26 +1,21 @@
 -- How a run of the command `collect` ends, over the states of its two sources and its sink before and after. Below, `t` and `t'`
 -- are the states of the table's source, `s` and `s'` those of the submissions'.
-use Rattle.std.specs.Prelude.{◌≡◌, ℕ, All, true, false, List, [], Option, Some, None, Result, Ok, Err, IfSome}
+use Rattle.std.specs.Prelude.{◌≡◌, ℕ, All, false, List, Option, Some, None, Result, Ok, Err, IfSome}
 use Rattle.std.specs.Io.KnownBytes.{Appends}
 use Rattle.pb_io.specs.Source.{SourceState}
-use Rattle.pb_io.specs.Sink.{SinkState}
-use Rattle.pb_io.specs.Lines.{lines}
+use Rattle.pb_io.specs.Sink.{HandedOn, SinkState}
 use Rattle.pb_poly.specs.Book.{NeverFall}
 use Rattle.pb_poly.specs.Entry.{IsEntry}
 use Rattle.pb_poly.specs.declared.entry.Entry.{Entry}
 use Rattle.pb_games.specs.Submissions.{Submission}
-use Rattle.pb_accepted.specs.Accepting.{Accepted, Answer, Run}
 use Rattle.pb_accepted.specs.Counting.{IsBook}
-use Rattle.pb_accepted.specs.Replies.{replies}
 use Rattle.pb_ledger.specs.declared.collecting.CollectFault.{CollectFault}
-use Rattle.pb_accepted.specs.Holding.{most_games}
 use Rattle.pb_accepted.specs.Rules.{CountingRules}
 use Rattle.pb_commands.specs.declared.fault.Fault.{Fault}
 use Rattle.pb_commands.specs.declared.fault.Fault.TheVariants.{Memory}
 use Rattle.pb_poly.specs.declared.table_file.TableFault.{TableFault}
 use Rattle.pb_commands.specs.Judged.{PutsText, PutsUntil, Verdict}
 use Rattle.pb_poly.specs.TableReading.{FindsNoTable}
-use Rattle.pb_poly.specs.Table.{IsTableFile}
 use Rattle.pb_commands.specs.TableJudged.{TableRefused, table_verdict}
 use Rattle.pb_collecting.specs.Taking.{CollectsGames, StopsTaking, fault_of}
 
@@ -31,31 +26,11 @@ pub record CollectsBook (rules : CountingRules) (fills : ℕ) (t t' s s' : Sourc
   pub games : CollectsGames fills t t' s s' sink sink' words held
   pub book : IsBook (record { words = words; rules = rules }) held entries
 
--- the games that are held of a table file and of submissions that are told
-pub record TakesTold (file bytes words : List ℕ) (held : List Submission) : Type 0 where
-  pub table : IsTableFile words file
-  pub answers : List Answer
-  pub run : Run most_games [] (lines bytes) answers
-  pub accepted : Accepted [] (lines bytes) answers held
-
--- the replies to submissions that are told, and the book of the games that are held
-pub record CollectsBytes (rules : CountingRules) (file bytes : List ℕ) (sink sink' : SinkState) (entries : List Entry) : Type 0 where
-  pub words : List ℕ
-  pub held : List Submission
-  pub takes : TakesTold file bytes words held
-  pub put : Appends sink.bytes sink'.bytes (replies (lines bytes) takes.answers)
-  pub book : IsBook (record { words = words; rules = rules }) held entries
-
--- the line was put that refuses a table file that is told
-pub record RefusesTold (file : List ℕ) (sink sink' : SinkState) : Type 0 where
+-- the line was put that refuses the table file, where that is told
+pub record RefusesTold (file : Option (List ℕ)) (sink sink' : SinkState) : Type 0 where
   pub out : List ℕ
-  pub refused : TableRefused file out
+  pub refused : IfSome file (λ f. TableRefused f out)
   pub put : Appends sink.bytes sink'.bytes out
-
--- what the answer says of sources that tell their bytes
-abbrev pub TellsCollect : CountingRules → Option (List ℕ) → Option (List ℕ) → SinkState → SinkState → Option (List Entry) → Type 0
-TellsCollect rules file bytes sink sink' None = IfSome file (λ f. RefusesTold f sink sink')
-TellsCollect rules file bytes sink sink' (Some entries) = IfSome file (λ f. IfSome bytes (λ b. CollectsBytes rules f b sink sink' entries))
 
 -- there is no table, this comes of it, and no submission was read
 pub record JudgesTable (fills : ℕ) (t t' s s' : SourceState) (verdict : Verdict) : Type 0 where
@@ -79,5 +54,5 @@ abbrev pub CollectsOrEnds : CountingRules → ℕ → SourceState → SourceStat
 CollectsOrEnds rules fills t t' s s' sink sink' (Ok (Some entries)) =
     CollectsBook rules fills t t' s s' sink sink' entries × NeverFall entries × All IsEntry entries
 CollectsOrEnds rules fills t t' s s' sink sink' (Ok None) =
-    PutsText (JudgesTable fills t t' s s') sink sink' false × (sink'.failed ≡ false) × (sink'.flushed ≡ true)
+    PutsText (JudgesTable fills t t' s s') sink sink' false × HandedOn sink'
 CollectsOrEnds rules fills t t' s s' sink sink' (Err fault) = EndsCollect rules fills t t' s s' sink sink' fault

@@ -1,8 +1,8 @@
 -- How a run of the command `collect` ends that goes on from a saved ledger, over the states of its ends before and after. Below, `t` and
 -- `t'` are the states of the table's source, `v` and `v'` those of the saved ledger's, `s` and `s'` those of the submissions'.
-use Rattle.std.specs.Prelude.{◌≡◌, ℕ, ◌⊎◌, All, true, false, List, ◌++◌, Option, Some, None, Result, Ok, Err, codes, decimal}
+use Rattle.std.specs.Prelude.{◌≡◌, ℕ, ◌⊎◌, All, false, List, ◌++◌, Option, Some, None, Result, Ok, Err, codes, decimal}
 use Rattle.pb_io.specs.Source.{SourceState}
-use Rattle.pb_io.specs.Sink.{SinkState}
+use Rattle.pb_io.specs.Sink.{HandedOn, SinkState}
 use Rattle.pb_io.specs.LineTask.{AtEnd}
 use Rattle.pb_poly.specs.Book.{NeverFall}
 use Rattle.pb_poly.specs.Entry.{IsEntry}
@@ -97,5 +97,5 @@ abbrev pub ContinuesOrEnds : CountingRules → ℕ → SourceState → SourceSta
 ContinuesOrEnds rules fills t t' v v' s s' sink sink' (Ok (Some run)) =
     (loaded : LedgerState) × LoadsFirst rules fills t t' v v' loaded × GoesOn fills s s' sink sink' loaded run.ledger run.book
 ContinuesOrEnds rules fills t t' v v' s s' sink sink' (Ok None) =
-    PutsText (JudgesSaved rules fills t t' v v' s s') sink sink' false × (sink'.failed ≡ false) × (sink'.flushed ≡ true)
+    PutsText (JudgesSaved rules fills t t' v v' s s') sink sink' false × HandedOn sink'
 ContinuesOrEnds rules fills t t' v v' s s' sink sink' (Err fault) = PutsUntil (JudgesSaved rules fills t t' v v' s s') sink sink' fault

@@ -1,8 +1,8 @@
 -- What a run of the command `collect` does that goes on from a saved ledger, of sources that tell their bytes: a table file, the saved
 -- ledger and the submissions. A list is counted from 0.
-use Rattle.std.specs.Prelude.{◌≡◌, ℕ, true, false, List, [], ◌++◌, Option, Some, None, Ok, IfOk, IfSome, OnOk}
+use Rattle.std.specs.Prelude.{◌≡◌, ℕ, false, List, [], ◌++◌, Option, Some, None, Ok, IfSome, OnOk}
 use Rattle.std.specs.Io.KnownBytes.{Appends}
-use Rattle.pb_io.specs.Sink.{SinkState}
+use Rattle.pb_io.specs.Sink.{HandedOn, SinkState}
 use Rattle.pb_io.specs.Lines.{lines}
 use Rattle.pb_poly.specs.Table.{IsTableFile}
 use Rattle.pb_poly.specs.declared.entry.Entry.{Entry}
@@ -67,21 +67,15 @@ pub data EitherRefused (file : List ℕ) (saved : Option (List ℕ)) (out : List
   at_table : TableRefused file out → EitherRefused file saved out
   at_ledger : (words : List ℕ) → IsTableFile words file → IfSome saved (LedgerRefused out) → EitherRefused file saved out
 
--- that line was put
-pub record RefusesEither (file : List ℕ) (saved : Option (List ℕ)) (sink sink' : SinkState) : Type 0 where
+-- that line was put, where the table file is told
+pub record RefusesEither (file saved : Option (List ℕ)) (sink sink' : SinkState) : Type 0 where
   pub out : List ℕ
-  pub refused : EitherRefused file saved out
+  pub refused : IfSome file (λ f. EitherRefused f saved out)
   pub put : Appends sink.bytes sink'.bytes out
 
 -- ---- what the answer says
 
--- of sources that tell their bytes, where no fault came
-abbrev pub TellsContinue : CountingRules → Option (List ℕ) → Option (List ℕ) → Option (List ℕ) → SinkState → SinkState → Option Continued → Type 0
-TellsContinue rules file saved bytes sink sink' (Some run) =
-    IfOk run.book (λ entries. IfSome file (λ f. IfSome saved (λ v. IfSome bytes (λ b. ContinuesBytes rules f v b sink sink' run.ledger entries))))
-TellsContinue rules file saved bytes sink sink' None = IfSome file (λ f. RefusesEither f saved sink sink')
-
 -- where no fault came, all that was put was handed on
 abbrev pub HandsOn : SinkState → Option Continued → Type 0
-HandsOn sink' (Some run) = OnOk run.book ((sink'.failed ≡ false) × (sink'.flushed ≡ true))
-HandsOn sink' None = (sink'.failed ≡ false) × (sink'.flushed ≡ true)
+HandsOn sink' (Some run) = OnOk run.book (HandedOn sink')
+HandsOn sink' None = HandedOn sink'

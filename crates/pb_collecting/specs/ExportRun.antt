@@ -1,9 +1,9 @@
 -- How a run of the command `export` ends, over the states of its two sources and its sink before and after. Below, `t` and `t'`
 -- are the states of the table's source, `s` and `s'` those of the submissions'.
-use Rattle.std.specs.Prelude.{◌≡◌, ℕ, Bool, true, false, List, Option, Result, Ok, Err, IfSome}
+use Rattle.std.specs.Prelude.{◌≡◌, ℕ, Bool, true, false, List, Result, Ok, Err}
 use Rattle.std.specs.Io.KnownBytes.{Appends}
 use Rattle.pb_io.specs.Source.{SourceState}
-use Rattle.pb_io.specs.Sink.{SinkState}
+use Rattle.pb_io.specs.Sink.{HandedOn, SinkState}
 use Rattle.pb_games.specs.Submissions.{Submission}
 use Rattle.pb_export.specs.Exporting.{ExportLines, ExportsUntil, text_of_lines}
 use Rattle.pb_ledger.specs.declared.collecting.CollectFault.{CollectFault}
@@ -12,7 +12,7 @@ use Rattle.pb_export.specs.declared.exporting.ExportFault.TheVariants as export
 use Rattle.pb_commands.specs.declared.fault.Fault.{Fault}
 use Rattle.pb_commands.specs.declared.fault.Fault.TheVariants.{Write, Memory}
 use Rattle.pb_commands.specs.Judged.{PutsText, PutsUntil}
-use Rattle.pb_collecting.specs.CollectRun.{JudgesTable, RefusesTold, TakesTold}
+use Rattle.pb_collecting.specs.CollectRun.{JudgesTable}
 use Rattle.pb_accepted.specs.Rules.{CountingRules}
 use Rattle.pb_collecting.specs.Taking.{CollectsGames, StopsTaking, TakesGames, fault_of, ledger_of}
 
@@ -29,18 +29,6 @@ pub record ExportsGames (rules : CountingRules) (fills : ℕ) (t t' s s' : Sourc
   pub takes : TakesGames fills t t' s s' words held
   pub puts : PutsExport rules sink sink' words held
 
--- the same of a table file and of submissions that are told
-pub record ExportsTold (rules : CountingRules) (file bytes : List ℕ) (sink sink' : SinkState) : Type 0 where
-  pub words : List ℕ
-  pub held : List Submission
-  pub takes : TakesTold file bytes words held
-  pub puts : PutsExport rules sink sink' words held
-
--- what the answer says of sources that tell their bytes
-abbrev pub TellsExport : CountingRules → Option (List ℕ) → Option (List ℕ) → SinkState → SinkState → Bool → Type 0
-TellsExport rules file bytes sink sink' false = IfSome file (λ f. RefusesTold f sink sink')
-TellsExport rules file bytes sink sink' true = IfSome file (λ f. IfSome bytes (λ b. ExportsTold rules f b sink sink'))
-
 -- what a fault of exporting is to the run
 abbrev pub fault_of_export : ExportFault → Fault
 fault_of_export export.Write = Write
@@ -53,15 +41,13 @@ pub record ExportsAnswered (rules : CountingRules) (fills : ℕ) (t t' s s' : So
   pub held : List Submission
   pub games : CollectsGames fills t t' s s' d d' words held
   pub puts : PutsExport rules sink sink' words held
-  pub works : sink'.failed ≡ false
-  pub flushed : sink'.flushed ≡ true
+  pub handed_on : HandedOn sink'
 
 -- the line that refuses the table was put and handed on, and no reply was put
 pub record RefusesExport (fills : ℕ) (t t' s s' : SourceState) (d d' sink sink' : SinkState) : Type 0 where
   pub refused : PutsText (JudgesTable fills t t' s s') sink sink' false
   pub no_reply : d' ≡ d
-  pub works : sink'.failed ≡ false
-  pub flushed : sink'.flushed ≡ true
+  pub handed_on : HandedOn sink'
 
 -- how a run ends with a fault
 pub data StopsExport (rules : CountingRules) (fills : ℕ) (t t' s s' : SourceState) (d d' sink sink' : SinkState) (fault : Fault) : Type 0 where

@@ -7,7 +7,7 @@ use Rattle.pb_io.specs.Lines.{lines}
 use Rattle.pb_poly.specs.declared.entry.Entry.{Entry}
 use Rattle.pb_games.specs.Submissions.{Submission, IsLawful}
 use Rattle.pb_games.specs.declared.refusal.Refusal.TheVariants.{Conflict, Full, Memory}
-use Rattle.pb_accepted.specs.Accepting.{Answer, IsNumber, Run}
+use Rattle.pb_accepted.specs.Accepting.{Accepted, Answer, IsNumber, Run}
 use Rattle.pb_accepted.specs.Basis.{Basis}
 use Rattle.pb_accepted.specs.Counting.{IsBook}
 use Rattle.pb_accepted.specs.Holding.{most_games}
@@ -70,7 +70,9 @@ pub record Headline (rules : CountingRules) (file bytes : List ℕ) (sink sink' 
   pub put : Appends sink.bytes sink'.bytes (replies (lines bytes) answers)
   pub effect : Effect (record { words = words; rules = rules }) (lines bytes) answers entries
 
--- Where the two sources tell their bytes, it is so, and the answers are those of a ledger, line by line. `Laws` says what follows.
+-- Where the two sources tell their bytes, it is so, and the answers are those of a ledger, line by line, which holds these games in the
+-- end. `Laws` says what follows.
 abbrev pub HasHeadline : CountingRules → Option (List ℕ) → Option (List ℕ) → SinkState → SinkState → List Entry → Type 0
 HasHeadline rules file bytes sink sink' entries =
-    IfSome file (λ f. IfSome bytes (λ b. (h : Headline rules f b sink sink' entries) × Run most_games [] (lines b) h.answers))
+    IfSome file (λ f. IfSome bytes (λ b. (h : Headline rules f b sink sink' entries)
+    × Run most_games [] (lines b) h.answers × Accepted [] (lines b) h.answers h.effect.games))

@@ -1,8 +1,8 @@
 -- How a run of the command `collect` with a journal ends, over the states of its ends before and after. Below, `t` and `t'` are the
 -- states of the table's source, `v` and `v'` those of the journal's, `j` and `j'` those of its sink, `s` and `s'` those of the submissions'.
-use Rattle.std.specs.Prelude.{◌≡◌, ℕ, All, true, false, List, Option, Some, None, Result, Ok, Err}
+use Rattle.std.specs.Prelude.{◌≡◌, ℕ, All, false, List, Option, Some, None, Result, Ok, Err}
 use Rattle.pb_io.specs.Source.{SourceState}
-use Rattle.pb_io.specs.Sink.{SinkState}
+use Rattle.pb_io.specs.Sink.{HandedOn, SinkState}
 use Rattle.pb_poly.specs.Book.{NeverFall}
 use Rattle.pb_poly.specs.Entry.{IsEntry}
 use Rattle.pb_poly.specs.declared.entry.Entry.{Entry}
@@ -98,5 +98,5 @@ abbrev pub JournalsOrEnds : CountingRules → ℕ → SourceState → SourceStat
 JournalsOrEnds rules fills t t' v v' s s' j j' sink sink' (Ok (Some entries)) =
     JournalsBook rules fills t t' v v' s s' j j' sink sink' entries × NeverFall entries × All IsEntry entries
 JournalsOrEnds rules fills t t' v v' s s' j j' sink sink' (Ok None) =
-    RefusesJournaled fills t t' v v' s s' j j' sink sink' × (sink'.failed ≡ false) × (sink'.flushed ≡ true)
+    RefusesJournaled fills t t' v v' s s' j j' sink sink' × HandedOn sink'
 JournalsOrEnds rules fills t t' v v' s s' j j' sink sink' (Err fault) = EndsJournaled rules fills t t' v v' s s' j j' sink sink' fault

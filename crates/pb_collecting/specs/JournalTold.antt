@@ -1,6 +1,6 @@
 -- What a run of the command `collect` with a journal does, of sources that tell their bytes: a table file, the journal and the
 -- submissions. Below, `j` and `j'` are the states of the journal's sink before and after. A list is counted from 0.
-use Rattle.std.specs.Prelude.{◌≡◌, ℕ, List, [], ◌++◌, Option, Some, None, Ok, IfSome, slice_get, take}
+use Rattle.std.specs.Prelude.{◌≡◌, ℕ, List, [], ◌++◌, Option, Some, Ok, IfSome, slice_get, take}
 use Rattle.std.specs.Io.KnownBytes.{Appends}
 use Rattle.pb_io.specs.Sink.{SinkState}
 use Rattle.pb_io.specs.Lines.{ended_lines, lines}
@@ -12,7 +12,6 @@ use Rattle.pb_accepted.specs.Holding.{most_games}
 use Rattle.pb_accepted.specs.Replies.{replies}
 use Rattle.pb_accepted.specs.Rules.{CountingRules}
 use Rattle.pb_saved.specs.Journal.{GameLines, Journals, mending}
-use Rattle.pb_collecting.specs.CollectRun.{RefusesTold}
 use Rattle.pb_collecting.specs.Headline.{Arrives, Effect}
 
 -- The lines of the journal and then those of the submissions were answered as the lines of one run, whose effect this is, and the replies to
@@ -37,11 +36,6 @@ pub record JournalsBytes (rules : CountingRules) (file kept bytes : List ℕ) (j
 abbrev pub HasHeadlineOfJournal : CountingRules → Option (List ℕ) → Option (List ℕ) → Option (List ℕ) → SinkState → SinkState → SinkState → SinkState → List Entry → Type 0
 HasHeadlineOfJournal rules file kept bytes j j' sink sink' entries =
     IfSome file (λ f. IfSome kept (λ k. IfSome bytes (λ b. JournalsBytes rules f k b j j' sink sink' entries)))
-
--- what the answer says of a table file that is told: its refusal was put
-abbrev pub TellsJournaled : Option (List ℕ) → SinkState → SinkState → Option (List Entry) → Type 0
-TellsJournaled file sink sink' None = IfSome file (λ f. RefusesTold f sink sink')
-TellsJournaled file sink sink' (Some entries) = Unit {0}
 
 -- these are the first lines of the submissions, where those are told
 abbrev pub AreFirst : List (List ℕ) → Option (List ℕ) → Type 0

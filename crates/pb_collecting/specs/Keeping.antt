@@ -1,12 +1,12 @@
 -- What a run of the command `collect` leaves at the place of its book, over the states of its ends before and after. Below, `t` and `t'`
 -- are the states of the table's source, `s` and `s'` those of the submissions'.
-use Rattle.std.specs.Prelude.{◌≡◌, ℕ, Bool, true, false, List, None, Result, Ok, Err}
+use Rattle.std.specs.Prelude.{◌≡◌, ℕ, Bool, true, false, List, Result, Ok, Err}
 use Rattle.pb_io.specs.Source.{SourceState}
-use Rattle.pb_io.specs.Sink.{SinkState}
+use Rattle.pb_io.specs.Sink.{HandedOn, SinkState}
 use Rattle.pb_poly.specs.Book.{book_bytes}
 use Rattle.pb_poly.specs.declared.entry.Entry.{Entry}
 use Rattle.pb_commands.specs.Judged.{PutsText}
-use Rattle.pb_collecting.specs.CollectRun.{CollectsBook, EndsCollect, JudgesTable, TellsCollect}
+use Rattle.pb_collecting.specs.CollectRun.{CollectsBook, EndsCollect, JudgesTable, RefusesTold}
 use Rattle.pb_collecting.specs.Headline.{HasHeadline}
 use Rattle.pb_collecting.specs.Place.{Keeps, PlaceState}
 use Rattle.pb_collecting.specs.declared.place.NotKept.{NotKept}
@@ -25,7 +25,7 @@ pub record KeepsBook (rules : CountingRules) (fills : ℕ) (t t' s s' : SourceSt
 -- the line that refuses the table was put, and the place is as it was
 pub record RefusesBook (rules : CountingRules) (fills : ℕ) (t t' s s' : SourceState) (sink sink' : SinkState) (place place' : PlaceState) : Type 0 where
   pub refused : PutsText (JudgesTable fills t t' s s') sink sink' false
-  pub told : TellsCollect rules t.to_come s.to_come sink sink' None
+  pub told : RefusesTold t.to_come sink sink'
   pub same : place' ≡ place
 
 -- how a run ends without a book at the place: before there was one, and then the place is as it was, or in keeping it
@@ -36,7 +36,7 @@ EndsKeeping rules fills t t' s s' sink sink' place place' (Keep why) = KeepsBook
 -- how a run ends: with its book at the place, with the line that refuses the table, or without a book
 abbrev pub KeepsOrEnds : CountingRules → ℕ → SourceState → SourceState → SourceState → SourceState → SinkState → SinkState → PlaceState → PlaceState → Result Bool NoBook → Type 0
 KeepsOrEnds rules fills t t' s s' sink sink' place place' (Ok true) =
-    KeepsBook rules fills t t' s s' sink sink' place place' (Ok tt) × (sink'.failed ≡ false) × (sink'.flushed ≡ true)
+    KeepsBook rules fills t t' s s' sink sink' place place' (Ok tt) × HandedOn sink'
 KeepsOrEnds rules fills t t' s s' sink sink' place place' (Ok false) =
-    RefusesBook rules fills t t' s s' sink sink' place place' × (sink'.failed ≡ false) × (sink'.flushed ≡ true)
+    RefusesBook rules fills t t' s s' sink sink' place place' × HandedOn sink'
 KeepsOrEnds rules fills t t' s s' sink sink' place place' (Err why) = EndsKeeping rules fills t t' s s' sink sink' place place' why

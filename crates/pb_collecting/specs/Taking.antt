@@ -1,9 +1,9 @@
 -- What taking submissions gives, over the states of the two sources and of the sink for the replies before and after. Below, `t` and
 -- `t'` are the states of the table's source, `s` and `s'` those of the submissions'.
-use Rattle.std.specs.Prelude.{◌≡◌, ℕ, Bool, true, false, List, [], Result, Ok, Err}
+use Rattle.std.specs.Prelude.{◌≡◌, ℕ, Bool, List, [], Result, Ok, Err, IfSome}
 use Rattle.std.specs.Io.KnownBytes.{Appends}
 use Rattle.pb_io.specs.Source.{SourceState}
-use Rattle.pb_io.specs.Sink.{SinkState}
+use Rattle.pb_io.specs.Sink.{HandedOn, SinkState}
 use Rattle.pb_io.specs.Reads.{ReadsAll, chunk_len}
 use Rattle.pb_io.specs.Lines.{lines}
 use Rattle.pb_games.specs.Submissions.{Submission}
@@ -19,6 +19,7 @@ use Rattle.pb_commands.specs.Judged.{PutsOrEnds}
 use Rattle.pb_commands.specs.TableJudged.{table_verdict}
 use Rattle.pb_commands.specs.declared.fault.Fault.{Fault}
 use Rattle.pb_commands.specs.declared.fault.Fault.TheVariants.{Read, Write, Endless, Memory}
+use Rattle.pb_poly.specs.Table.{IsTableFile}
 use Rattle.pb_poly.specs.TableReading.{FindsNoTable, ReadsTable}
 use Rattle.pb_collecting.specs.declared.taking.NoGames.{NoGames}
 use Rattle.pb_collecting.specs.declared.taking.NoGames.TheVariants.{Table, Submissions}
@@ -40,13 +41,15 @@ pub record TakesGames (fills : ℕ) (t t' s s' : SourceState) (words : List ℕ)
   pub answers : List Answer
   pub run : Run most_games [] (lines came) answers
   pub accepted : Accepted [] (lines came) answers held
+  -- where the sources tell their bytes, these are the whole table file and all submissions
+  pub is_table : IfSome t.to_come (IsTableFile words)
+  pub all_came : IfSome s.to_come (λ bytes. came ≡ bytes)
 
 -- the same, and the replies were put and handed on
 pub record CollectsGames (fills : ℕ) (t t' s s' : SourceState) (sink sink' : SinkState) (words : List ℕ) (held : List Submission) : Type 0 where
   pub takes : TakesGames fills t t' s s' words held
   pub put : Appends sink.bytes sink'.bytes (replies (lines takes.came) takes.answers)
-  pub works : sink'.failed ≡ false
-  pub flushed : sink'.flushed ≡ true
+  pub handed_on : HandedOn sink'
 
 -- the same, and this ledger holds the games
 pub record FillsLedger (rules : CountingRules) (fills : ℕ) (t t' s s' : SourceState) (sink sink' : SinkState) (ledger : LedgerState) : Type 0 where

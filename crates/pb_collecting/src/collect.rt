@@ -1,7 +1,8 @@
 //! The command `collect`: submissions are answered, and the book of the games that are held then is made.
-ghost use Rattle.std.specs.Prelude.{◌≡◌, IfErr, IfNone, IfOk, IfSome, OnOk, false, true};
+ghost use Rattle.std.specs.Prelude.{IfErr, IfNone, IfOk, IfSome, OnOk, false};
+ghost use Rattle.pb_io.specs.Sink.{HandedOn};
 ghost use Rattle.pb_commands.specs.Judged.{PutsText};
-ghost use Rattle.pb_collecting.specs.CollectRun.{CollectsOrEnds, CollectsBook, EndsCollect, JudgesTable, TellsCollect};
+ghost use Rattle.pb_collecting.specs.CollectRun.{CollectsOrEnds, CollectsBook, EndsCollect, JudgesTable, RefusesTold};
 ghost use Rattle.pb_collecting.specs.Headline.{HasHeadline};
 
 use crate::taking::{refuse_games, take_games};
@@ -36,14 +37,13 @@ pub fn run_collect<T: Source, S: Source, K: Sink>(
     ensures refused { IfOk result (λ answer. IfNone answer (PutsText
         (JudgesTable fills (T.state table_source.old) (T.state table_source.new) (S.state source.old) (S.state source.new))
         (K.state sink.old) (K.state sink.new) false)) }
-    // Of sources that tell their bytes, it is the table and the submissions of all bytes that were to come.
-    ensures told { IfOk result (TellsCollect rules (T.state table_source.old).to_come (S.state source.old).to_come
-        (K.state sink.old) (K.state sink.new)) }
-    // All that is promised of them: which lines are accepted, that each game counts once, and that the book has one text.
+    // Of a source that tells its bytes, it is the line that refuses the table file of all bytes that were to come.
+    ensures told { IfOk result (λ answer. IfNone answer (RefusesTold (T.state table_source.old).to_come (K.state sink.old) (K.state sink.new))) }
+    // All that is promised of sources that tell their bytes: which lines are accepted, that each game counts once, and that the book has
+    // one text.
     ensures headline { IfOk result (λ answer. IfSome answer (HasHeadline rules (T.state table_source.old).to_come (S.state source.old).to_come
         (K.state sink.old) (K.state sink.new))) }
-    ensures handed_on { OnOk result (((K.state sink.new).failed ≡ false)
-        × ((K.state sink.new).flushed ≡ true)) }
+    ensures handed_on { OnOk result (HandedOn (K.state sink.new)) }
     // What was done before a fault, and where the fault lies.
     ensures fault { IfErr result (EndsCollect rules fills (T.state table_source.old) (T.state table_source.new)
         (S.state source.old) (S.state source.new) (K.state sink.old) (K.state sink.new)) }

@@ -1,9 +1,9 @@
 //! The command `collect` that goes on from a saved ledger.
 
-ghost use Rattle.std.specs.Prelude.{◌≡◌, IfErr, IfNone, IfOk, IfSome, OnOk, false, true};
+ghost use Rattle.std.specs.Prelude.{◌≡◌, IfErr, IfNone, IfOk, IfSome, false};
 ghost use Rattle.pb_commands.specs.Judged.{PutsOrEnds, PutsText, PutsUntil};
 ghost use Rattle.pb_collecting.specs.Continuing.{ContinuesOrEnds, GoesOn, JudgesSaved, LoadsOrStops, RunsOn, saved_verdict, verdict_of};
-ghost use Rattle.pb_collecting.specs.ContinuingTold.{HandsOn, HasHeadlineOfBoth, TellsContinue};
+ghost use Rattle.pb_collecting.specs.ContinuingTold.{HandsOn, HasHeadlineOfBoth, RefusesEither};
 
 use crate::taking::collect_fault;
 use pb_commands::{Fault, TableFault, refuse_table, refuse_with, take_table};
@@ -55,10 +55,11 @@ pub fn run_continue<T: Source, V: Source, S: Source, K: Sink>(
     ensures refused { IfOk result (λ answer. IfNone answer (PutsText
         (JudgesSaved rules fills (T.state table_source.old) (T.state table_source.new) (V.state saved.old) (V.state saved.new) (S.state source.old) (S.state source.new))
         (K.state sink.old) (K.state sink.new) false)) }
-    // Of sources that tell their bytes, it is the table, the saved ledger and the submissions of all bytes that were to come.
-    ensures told { IfOk result (TellsContinue rules (T.state table_source.old).to_come (V.state saved.old).to_come (S.state source.old).to_come
-        (K.state sink.old) (K.state sink.new)) }
-    // Whatever run left the games that were loaded, the book is that of the games that were accepted in both runs, each of them once.
+    // Of sources that tell their bytes, it is the line that refuses the table file or the saved ledger of all bytes that were to come.
+    ensures told { IfOk result (λ answer. IfNone answer (RefusesEither (T.state table_source.old).to_come (V.state saved.old).to_come
+        (K.state sink.old) (K.state sink.new))) }
+    // Of sources that tell their bytes, the games of the saved ledger were held first. Whatever run left them, the book is that of the games
+    // that were accepted in both runs, each of them once.
     ensures headline { IfOk result (λ answer. IfSome answer (λ run. IfOk run.book (HasHeadlineOfBoth rules (T.state table_source.old).to_come
         (V.state saved.old).to_come (S.state source.old).to_come (K.state sink.old) (K.state sink.new) run.ledger))) }
     // All that was put was handed on, where no fault came.

@@ -1,8 +1,9 @@
 //! The command `export`: the book of submissions as EPD lines.
 ghost use Rattle.std.specs.Prelude.{◌≡◌, IfErr, IfOk, None, OnOk, false, true};
+ghost use Rattle.pb_io.specs.Sink.{HandedOn};
 ghost use Rattle.pb_commands.specs.Judged.{PutsText};
-ghost use Rattle.pb_collecting.specs.CollectRun.{JudgesTable};
-ghost use Rattle.pb_collecting.specs.ExportRun.{BlamesSink, EndsExport, ExportsOrStops, ExportsGames, TellsExport, fault_of_export};
+ghost use Rattle.pb_collecting.specs.CollectRun.{JudgesTable, RefusesTold};
+ghost use Rattle.pb_collecting.specs.ExportRun.{BlamesSink, EndsExport, ExportsOrStops, ExportsGames, fault_of_export};
 
 use crate::taking::{refuse_games, take_games};
 use pb_commands::Fault;
@@ -62,19 +63,18 @@ pub fn run_export<T: Source, S: Source, K: Sink>(
     sink: &mut K,
     fills: u32,
 ) -> Result<bool, Fault>
-    // Where the answer is true, the table was read, all submissions were taken, and the export of the games that are held was put.
+    // Where the answer is true, the table was read, all submissions were taken, of sources that tell their bytes all that were to come, and
+    // the export of the games that are held was put.
     ensures lines { IfOk result (λ done. done ≡ true → ExportsGames rules fills (T.state table_source.old) (T.state table_source.new)
         (S.state source.old) (S.state source.new) (K.state sink.old) (K.state sink.new)) }
     // Where it is false, the line that says why the table is refused was put.
     ensures refused { IfOk result (λ done. done ≡ false → PutsText
         (JudgesTable fills (T.state table_source.old) (T.state table_source.new) (S.state source.old) (S.state source.new))
         (K.state sink.old) (K.state sink.new) false) }
-    // Of sources that tell their bytes, it is the table and the submissions of all bytes that were to come.
-    ensures told { IfOk result (TellsExport rules (T.state table_source.old).to_come (S.state source.old).to_come
-        (K.state sink.old) (K.state sink.new)) }
+    // Of a source that tells its bytes, it is the line that refuses the table file of all bytes that were to come.
+    ensures told { IfOk result (λ done. done ≡ false → RefusesTold (T.state table_source.old).to_come (K.state sink.old) (K.state sink.new)) }
     // What was put was handed on.
-    ensures handed_on { OnOk result (((K.state sink.new).failed ≡ false)
-        × ((K.state sink.new).flushed ≡ true)) }
+    ensures handed_on { OnOk result (HandedOn (K.state sink.new)) }
     // What was done before a fault, and where the fault lies.
     ensures fault { IfErr result (EndsExport rules fills (T.state table_source.old) (T.state table_source.new)
         (S.state source.old) (S.state source.new) (K.state sink.old) (K.state sink.new)) }

@@ -1,8 +1,10 @@
 //! The command `collect` with a journal.
 
-ghost use Rattle.std.specs.Prelude.{◌≡◌, ◌⊎◌, IfErr, IfNone, IfOk, IfSome, OnOk, false, true};
+ghost use Rattle.std.specs.Prelude.{◌≡◌, ◌⊎◌, IfErr, IfNone, IfOk, IfSome, OnOk};
+ghost use Rattle.pb_io.specs.Sink.{HandedOn};
+ghost use Rattle.pb_collecting.specs.CollectRun.{RefusesTold};
 ghost use Rattle.pb_collecting.specs.JournalRun.{EndsJournaled, JournalsBook, JournalsOrEnds, RefusesJournaled, ReplaysOrStops, fault_of_journal, fault_of_replay};
-ghost use Rattle.pb_collecting.specs.JournalTold.{HasHeadlineOfJournal, Survives, TellsJournaled};
+ghost use Rattle.pb_collecting.specs.JournalTold.{HasHeadlineOfJournal, Survives};
 
 use crate::taking::collect_fault;
 use pb_commands::{Fault, TableFault, refuse_table, take_table};
@@ -50,14 +52,14 @@ pub fn run_journaled<T: Source, V: Source, J: Sink, S: Source, K: Sink>(
     ensures refused { IfOk result (λ answer. IfNone answer (RefusesJournaled fills (T.state table_source.old) (T.state table_source.new)
         (V.state kept.old) (V.state kept.new) (S.state source.old) (S.state source.new)
         (J.state journal.old) (J.state journal.new) (K.state sink.old) (K.state sink.new))) }
-    ensures told { IfOk result (TellsJournaled (T.state table_source.old).to_come (K.state sink.old) (K.state sink.new)) }
+    ensures told { IfOk result (λ answer. IfNone answer (RefusesTold (T.state table_source.old).to_come (K.state sink.old) (K.state sink.new))) }
     // Of sources that tell their bytes: the lines of the journal and of the submissions are those of one run, and this is its effect.
     ensures headline { IfOk result (λ answer. IfSome answer (HasHeadlineOfJournal rules (T.state table_source.old).to_come
         (V.state kept.old).to_come (S.state source.old).to_come (J.state journal.old) (J.state journal.new) (K.state sink.old) (K.state sink.new))) }
     // No acknowledged game is lost: no submission was read, or the journal holds each game that a reply calls `ok`.
     ensures survives { (S.state source.new ≡ S.state source.old) ⊎ IfSome (V.state kept.old).to_come (λ bytes.
         Survives bytes (S.state source.old).to_come (J.state journal.old) (J.state journal.new) (K.state sink.old) (K.state sink.new)) }
-    ensures handed_on { OnOk result (((K.state sink.new).failed ≡ false) × ((K.state sink.new).flushed ≡ true)) }
+    ensures handed_on { OnOk result (HandedOn (K.state sink.new)) }
     // What was done before a fault, and where the fault lies.
     ensures fault { IfErr result (EndsJournaled rules fills (T.state table_source.old) (T.state table_source.new)
         (V.state kept.old) (V.state kept.new) (S.state source.old) (S.state source.new)

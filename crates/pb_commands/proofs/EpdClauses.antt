@@ -1,8 +1,8 @@
 -- What the clauses of the command `epd` say, from how its run ends.
-use Rattle.std.proofs.Common.{◌≡◌, ℕ, Bool, Result, Ok, Err, false, true}
+use Rattle.std.proofs.Common.{ℕ, Bool, Result, Ok, Err}
 use Rattle.std.specs.Prelude.{IfErr, IfOk, OnOk}
 use Rattle.pb_io.specs.Source.{SourceState}
-use Rattle.pb_io.specs.Sink.{SinkState}
+use Rattle.pb_io.specs.Sink.{HandedOn, SinkState}
 use Rattle.pb_io.specs.LineTask.{IfTold}
 use Rattle.pb_io.proofs.EndLemmas.{told_of}
 use Rattle.pb_commands.specs.EpdRun.{RewritesOrEnds, RewritesStream, RewritesUntil}
@@ -22,8 +22,8 @@ module _ (fills : ℕ) (source source' : SourceState) (sink sink' : SinkState) w
   told (Ok answer) h = told_of fills source source' (λ ls. PutsText (EpdShown 1 ls) sink sink' answer) h.0
   told (Err fault) h = tt
 
-  pub handed_on : (result : Result Bool Fault) → Ends result → OnOk result ((sink'.failed ≡ false) × (sink'.flushed ≡ true))
-  handed_on (Ok answer) h = (h.1, h.2)
+  pub handed_on : (result : Result Bool Fault) → Ends result → OnOk result (HandedOn sink')
+  handed_on (Ok answer) h = h.1
   handed_on (Err fault) h = tt
 
   pub ends : (result : Result Bool Fault) → Ends result → IfErr result (RewritesUntil fills source source' sink sink')

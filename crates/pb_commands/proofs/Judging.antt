@@ -1,8 +1,8 @@
 -- What a command puts, from what its parts do and what its input comes to.
-use Rattle.std.proofs.Common.{◌≡◌, ◌∙◌, ℕ, Bool, List, Option, Some, None, Result, Ok, Err, ap, false, refl, subst, sym, true}
+use Rattle.std.proofs.Common.{◌≡◌, ◌∙◌, ℕ, Bool, List, Option, Some, None, Result, Ok, Err, ap, false, refl, subst, sym}
 use Rattle.std.specs.Prelude.{IfErr, IfOk, IfSome, MatchResult, OnOk}
 use Rattle.std.specs.Io.KnownBytes.{Appends}
-use Rattle.pb_io.specs.Sink.{SinkState}
+use Rattle.pb_io.specs.Sink.{HandedOn, SinkState}
 use Rattle.pb_commands.specs.Judged.{PutsOrEnds, PutsText, PutsUntil, Verdict}
 use Rattle.pb_commands.specs.Shows.{Shows}
 use Rattle.pb_commands.specs.declared.fault.Fault.{Fault}
@@ -29,7 +29,7 @@ module _ (judges others : Verdict → Type 0) (as_other : (verdict : Verdict) �
   until_as Memory h = (as_other (Err Memory) h.0, h.1)
 
   pub ends_as : (result : Result Bool Fault) → PutsOrEnds judges sink sink' result → PutsOrEnds others sink sink' result
-  ends_as (Ok answer) h = (text_as judges others sink sink' answer (λ out. as_other (Ok (answer, out))) h.0, h.1, h.2)
+  ends_as (Ok answer) h = (text_as judges others sink sink' answer (λ out. as_other (Ok (answer, out))) h.0, h.1)
   ends_as (Err fault) h = until_as fault h
 
 module _ (judges : Verdict → Type 0) (sink sink' : SinkState) where
@@ -39,7 +39,7 @@ module _ (judges : Verdict → Type 0) (sink sink' : SinkState) where
   -- a text that was shown, or couldn't be
   module _ {A : Type 0} (answer : Bool) (out : List ℕ) (judged : judges (Ok (answer, out))) where
     pub text_shown : (v : A) → Shows {A = A} sink sink' (Ok v) out → Ends (Ok answer)
-    text_shown v h = let on = h.handed_on in (record { out = out; judged = judged; put = h.all }, on.0, on.1)
+    text_shown v h = (record { out = out; judged = judged; put = h.all }, h.handed_on)
 
     pub text_not_shown : (e : Fault) → Shows {A = A} sink sink' (Err e) out → Ends (Err e)
     text_not_shown e h =
@@ -54,8 +54,8 @@ module _ (judges : Verdict → Type 0) (sink sink' : SinkState) where
   puts_text (Ok answer) h = h.0
   puts_text (Err fault) h = tt
 
-  pub hands_on : (result : Result Bool Fault) → Ends result → OnOk result ((sink'.failed ≡ false) × (sink'.flushed ≡ true))
-  hands_on (Ok answer) h = (h.1, h.2)
+  pub hands_on : (result : Result Bool Fault) → Ends result → OnOk result (HandedOn sink')
+  hands_on (Ok answer) h = h.1
   hands_on (Err fault) h = tt
 
   pub puts_until : (result : Result Bool Fault) → Ends result → IfErr result (PutsUntil judges sink sink')

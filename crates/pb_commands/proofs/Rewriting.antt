@@ -11,12 +11,13 @@ use Rattle.pb_epd.specs.Epd.{EpdRecord, EpdText}
 use Rattle.pb_epd.specs.Refusal.{IsFirstDueEpd}
 use Rattle.pb_epd.proofs.Texts.{text_memory}
 use Rattle.pb_io.specs.Source.{SourceState}
-use Rattle.pb_io.specs.Sink.{SinkState, Flush, StillWorks}
+use Rattle.pb_io.specs.Sink.{AwaitsFlush, Flush, SinkState}
 use Rattle.pb_io.specs.LineTask.{AtLine, StopsAtLast, TakesAll, TakesStream, TakesUntil, chunk_len}
 use Rattle.pb_io.specs.declared.lines.LinesFault.{LinesFault}
 use Rattle.pb_io.specs.declared.lines.LinesFault.TheVariants as lines
 use Rattle.pb_io.specs.declared.source.Failed.{Failed}
 use Rattle.pb_io.specs.Count.{next_count}
+use Rattle.pb_io.proofs.FlushLemmas.{AwaitsFlush-trans}
 use Rattle.pb_io.proofs.EndLemmas.{AtEnd-weaker, AtFault-weaker, AtLine-weaker, AtNoEnd-weaker}
 use Rattle.pb_commands.specs.declared.epd.Rewriter.{Rewriter}
 use Rattle.pb_commands.specs.declared.fault.Fault.{Fault}
@@ -32,7 +33,7 @@ use Rattle.pb_commands.proofs.Judging.{until_as}
 -- bytes that were put are what comes of the line
 module _ (judges : Verdict → Type 0) (sink sink' : SinkState) (taken : Bool) (out : List ℕ) (judged : judges (Ok (taken, out))) where
   pub put_as : (v : Unit {0}) → Puts sink sink' out (Ok v) → PutsOrStops judges sink sink' (Ok taken)
-  put_as v h = (record { out = out; judged = judged; put = h.0 }, λ _. h.1)
+  put_as v h = (record { out = out; judged = judged; put = h.0 }, h.1)
 
   pub stops_as : (fault : Fault) → Puts sink sink' out (Err fault) → PutsOrStops judges sink sink' (Err fault)
   stops_as Write h = record { answer = taken; out = out; judged = judged; count = h.0.0; put = h.0.1; fails = h.1 }
@@ -121,7 +122,7 @@ module _ {K : Type 0} (state : K → SinkState) where
     puts : PutsText (EpdShown (s.lines + 1) ls) (state s.sink.now) (state t.sink.now) answer
     counted : t.lines ≡ s.lines + length ls
     answered : t.all_taken ≡ (s.all_taken && answer)
-    works : StillWorks (state s.sink.now).failed (state t.sink.now).failed
+    awaits : AwaitsFlush (state s.sink.now) (state t.sink.now)
     same : t.sink.ghost_name ≡ s.sink.ghost_name
 
   run_of : (s t : Rewriter K) (ls : List (List ℕ)) → s.lines + length ls < 2 ^ 64 → TakesAll (RewritesLine state) s ls t → Run s t ls
@@ -131,7 +132,7 @@ module _ {K : Type 0} (state : K → SinkState) where
         puts = record { out = []; judged = refl; put = Appends-nil (state s.sink.now).bytes };
         counted = omega arith;
         answered = and_true s.all_taken;
-        works = λ w. w;
+        awaits = inl refl;
         same = refl;
       })
   run_of s t (line ∷ ls) few h =
@@ -156,7 +157,7 @@ module _ {K : Type 0} (state : K → SinkState) where
         };
         counted = omega (arith, rest.counted, counted);
         answered = rest.answered ∙ ap (λ b. b && rest.answer) first.2 ∙ and_assoc s.all_taken first.0 rest.answer;
-        works = λ w. rest.works (first.1.1 w);
+        awaits = AwaitsFlush-trans (state s.sink.now) (state m.sink.now) (state t.sink.now) first.1.1 rest.awaits;
         same = rest.same ∙ one.same_sink;
       }
 
@@ -223,7 +224,7 @@ module _ {K : Type 0} (state : K → SinkState) where
     }
 
     lines_put : (m : Rewriter K) (ls : List (List ℕ)) → Run s m ls → PutsLines sink (state m.sink.now) ls
-    lines_put m ls run = record { answer = run.answer; puts = text_from_one ls (state m.sink.now) run.answer run.puts; works = run.works }
+    lines_put m ls run = record { answer = run.answer; puts = text_from_one ls (state m.sink.now) run.answer run.puts; awaits = run.awaits }
 
     but_last : (ls : List (List ℕ)) → length ls ≤ fills * chunk_len → StopsAtLast (RewritesLine state) s ls Memory t → PutsButLast sink sink' ls
     but_last ls some h =

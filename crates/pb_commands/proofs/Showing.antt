@@ -3,7 +3,7 @@ use Rattle.std.proofs.Common.{◌≡◌, ℕ, Bool, List, Result, Ok, Err, false
 use Rattle.std.specs.Prelude.{IfErr, IfOk, IfSome, MatchResult, OnOk}
 use Rattle.std.specs.Io.KnownBytes.{Appends}
 use Rattle.pb_io.specs.Reads.{chunk_len}
-use Rattle.pb_io.specs.Sink.{SinkState}
+use Rattle.pb_io.specs.Sink.{HandedOn, SinkState}
 use Rattle.pb_io.specs.Source.{SourceState}
 use Rattle.pb_poly.specs.Reading.{FindsNoBook, ReadsBook, Tells}
 use Rattle.pb_poly.specs.declared.entry.Entry.{Entry}
@@ -69,7 +69,7 @@ module _ (fills : ℕ) (s s' : SourceState) (sink sink' : SinkState) where
   pub put : (result : Result Bool Fault) → Ends result → IfOk result (PutsText judges sink sink')
   put = puts_text judges sink sink'
 
-  pub handed_on : (result : Result Bool Fault) → Ends result → OnOk result ((sink'.failed ≡ false) × (sink'.flushed ≡ true))
+  pub handed_on : (result : Result Bool Fault) → Ends result → OnOk result (HandedOn sink')
   handed_on = hands_on judges sink sink'
 
   pub ended : (result : Result Bool Fault) → Ends result → IfErr result (PutsUntil judges sink sink')

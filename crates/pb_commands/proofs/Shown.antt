@@ -1,9 +1,9 @@
 -- What the command `fen` shows.
-use Rattle.std.proofs.Common.{◌≡◌, ◌∙◌, ℕ, Bool, List, [], ◌++◌, append-nil, false, refl, subst, sym, true}
+use Rattle.std.proofs.Common.{◌≡◌, ◌∙◌, ℕ, Bool, List, [], ◌++◌, append-nil, refl, subst, sym}
 use Rattle.std.specs.Prelude.{Err, IfErr, IfOk, Ok, OnOk, Result}
 use Rattle.pb_board.specs.Fen.{FenText}
 use Rattle.pb_board.specs.Position.{Record}
-use Rattle.pb_io.specs.Sink.{SinkState}
+use Rattle.pb_io.specs.Sink.{HandedOn, SinkState}
 use Rattle.pb_commands.specs.FenShown.{FenShown}
 use Rattle.pb_commands.specs.Judged.{PutsFront, PutsOrEnds, PutsText}
 use Rattle.pb_commands.specs.declared.fault.Fault.{Fault}
@@ -29,7 +29,7 @@ module _ (fen : List ℕ) (words : List (List ℕ)) (sink sink' : SinkState) whe
   pub shown : (result : Result Bool Fault) → Ends result → IfOk result (PutsText (FenShown fen words) sink sink')
   shown = puts_text (FenShown fen words) sink sink'
 
-  pub handed_on : (result : Result Bool Fault) → Ends result → OnOk result ((sink'.failed ≡ false) × (sink'.flushed ≡ true))
+  pub handed_on : (result : Result Bool Fault) → Ends result → OnOk result (HandedOn sink')
   handed_on = hands_on (FenShown fen words) sink sink'
 
   pub ended : (result : Result Bool Fault) → Ends result → IfErr result (λ fault. (fault ≡ Write) × PutsFront (FenShown fen words) sink sink')

@@ -2,7 +2,7 @@
 use Rattle.std.specs.Prelude.{◌≡◌, ℕ, Bool, List, ◌++◌, Result, Ok, Err, codes, take, false, true}
 use Rattle.std.specs.Io.KnownBytes.{Appends}
 use Rattle.pb_board.specs.LineEnd.{with_end}
-use Rattle.pb_io.specs.Sink.{SinkState}
+use Rattle.pb_io.specs.Sink.{HandedOn, SinkState}
 use Rattle.pb_commands.specs.declared.fault.Fault.{Fault}
 use Rattle.pb_commands.specs.declared.fault.Fault.TheVariants.{Write}
 
@@ -36,5 +36,5 @@ PutsUntil judges sink sink' fault = judges (Err fault) × (sink' ≡ sink)
 
 -- how a command ends: the whole text was put and handed on, or a fault came
 abbrev pub PutsOrEnds : (Verdict → Type 0) → SinkState → SinkState → Result Bool Fault → Type 0
-PutsOrEnds judges sink sink' (Ok answer) = PutsText judges sink sink' answer × (sink'.failed ≡ false) × (sink'.flushed ≡ true)
+PutsOrEnds judges sink sink' (Ok answer) = PutsText judges sink sink' answer × HandedOn sink'
 PutsOrEnds judges sink sink' (Err fault) = PutsUntil judges sink sink' fault

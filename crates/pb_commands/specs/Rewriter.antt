@@ -1,7 +1,7 @@
 -- What the rewriter of EPD lines does with lines.
-use Rattle.std.specs.Prelude.{◌≡◌, ℕ, ◌&&◌, Bool, false, List, take, true, Result, Ok, Err}
+use Rattle.std.specs.Prelude.{◌≡◌, ℕ, ◌&&◌, Bool, List, take, true, Result, Ok, Err}
 use Rattle.std.specs.Io.KnownBytes.{Appends}
-use Rattle.pb_io.specs.Sink.{SinkState, StillWorks}
+use Rattle.pb_io.specs.Sink.{AwaitsFlush, SinkState}
 use Rattle.pb_io.specs.declared.lines.LinesFault.{LinesFault}
 use Rattle.pb_io.specs.declared.lines.LinesFault.TheVariants as lines
 use Rattle.pb_io.specs.Count.{next_count}
@@ -11,15 +11,15 @@ use Rattle.pb_commands.specs.declared.fault.Fault.TheVariants.{Read, Write, Endl
 use Rattle.pb_commands.specs.EpdShown.{LineShown}
 use Rattle.pb_commands.specs.Judged.{PutsText, PutsUntil, Verdict}
 
--- these bytes were put, or the sink has failed and a front of them was
+-- these bytes were put, and not handed on, or the sink has failed and a front of them was
 abbrev pub Puts : SinkState → SinkState → List ℕ → Result (Unit {0}) Fault → Type 0
-Puts sink sink' bytes (Ok _) = Appends sink.bytes sink'.bytes bytes × (sink'.failed ≡ false)
+Puts sink sink' bytes (Ok _) = Appends sink.bytes sink'.bytes bytes × AwaitsFlush sink sink'
 Puts sink sink' bytes (Err Write) = ((count : ℕ) × Appends sink.bytes sink'.bytes (take count bytes)) × (sink'.failed ≡ true)
 Puts sink sink' bytes (Err fault) = ⊥
 
 -- what comes of a line was put, or a fault came
 abbrev pub PutsOrStops : (Verdict → Type 0) → SinkState → SinkState → Result Bool Fault → Type 0
-PutsOrStops judges sink sink' (Ok taken) = PutsText judges sink sink' taken × StillWorks sink.failed sink'.failed
+PutsOrStops judges sink sink' (Ok taken) = PutsText judges sink sink' taken × AwaitsFlush sink sink'
 PutsOrStops judges sink sink' (Err fault) = PutsUntil judges sink sink' fault
 
 -- the same of the line of this number, with the answer over all lines so far

@@ -1,13 +1,13 @@
 -- What a call does that shows bytes on a sink.
-use Rattle.std.specs.Prelude.{◌≡◌, ℕ, List, Result, IfErr, OnErr, OnOk, false, take, true}
+use Rattle.std.specs.Prelude.{◌≡◌, ℕ, List, Result, IfErr, OnErr, OnOk, take, true}
 use Rattle.std.specs.Io.KnownBytes.{Appends}
-use Rattle.pb_io.specs.Sink.{SinkState}
+use Rattle.pb_io.specs.Sink.{HandedOn, SinkState}
 use Rattle.pb_commands.specs.declared.fault.Fault.{Fault}
 use Rattle.pb_commands.specs.declared.fault.Fault.TheVariants.{Write}
 
 -- all the bytes are put and handed on, or the sink has failed, and of these bytes a front was put
 pub record Shows {A : Type 0} (old new : SinkState) (answer : Result A Fault) (bytes : List ℕ) : Type 0 where
   pub all : OnOk answer (Appends old.bytes new.bytes bytes)
-  pub handed_on : OnOk answer ((new.failed ≡ false) × (new.flushed ≡ true))
+  pub handed_on : OnOk answer (HandedOn new)
   pub fault : IfErr answer (λ fault. (fault ≡ Write) × (new.failed ≡ true))
   pub front : OnErr answer ((count : ℕ) × Appends old.bytes new.bytes (take count bytes))

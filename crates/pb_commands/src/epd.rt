@@ -3,7 +3,7 @@ ghost use Rattle.std.specs.Prelude.{◌≡◌, ◌≤◌, ◌↔◌, ◌∷◌, 
 ghost use Rattle.pb_board.specs.LineEnd.{with_end};
 ghost use Rattle.pb_io.specs.Lines.{line_limit};
 ghost use Rattle.pb_io.specs.LineTask.{AtEnd, IfTold};
-ghost use Rattle.pb_io.specs.Sink.{Put};
+ghost use Rattle.pb_io.specs.Sink.{HandedOn, Put};
 ghost use Rattle.pb_commands.specs.EpdRun.{RewritesOrEnds, RewritesStream, RewritesUntil};
 ghost use Rattle.pb_commands.specs.EpdShown.{EpdShown, IsBlank, LineShown, epd_verdict, refused_line};
 ghost use Rattle.pb_commands.specs.Judged.{PutsText};
@@ -82,8 +82,7 @@ pub fn run_epd<S: Source, K: Sink>(
         (λ ls. PutsText (EpdShown 1 ls) (K.state sink.old) (K.state sink.new) answer)) }
     ensures told { IfOk result (λ answer. IfTold (S.state source.old) (S.state source.new)
         (λ ls. PutsText (EpdShown 1 ls) (K.state sink.old) (K.state sink.new) answer)) }
-    ensures handed_on { OnOk result (((K.state sink.new).failed ≡ false)
-        × ((K.state sink.new).flushed ≡ true)) }
+    ensures handed_on { OnOk result (HandedOn (K.state sink.new)) }
     ensures fault { IfErr result (RewritesUntil fills (S.state source.old) (S.state source.new) (K.state sink.old) (K.state sink.new)) }
 {
     rewrite_stream(alloc, source, sink, fills)

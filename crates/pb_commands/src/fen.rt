@@ -1,9 +1,10 @@
 //! The command `fen`: moves are played from a FEN record, and the record after them is written.
-ghost use Rattle.std.specs.Prelude.{◌≡◌, ℕ, ◌+◌, ◌↔◌, List, All, IfErr, IfOk, IsTrue, MatchOption, MatchResult, Ok, OnOk, false, true};
+ghost use Rattle.std.specs.Prelude.{◌≡◌, ℕ, ◌+◌, ◌↔◌, List, All, IfErr, IfOk, IsTrue, MatchOption, MatchResult, Ok, OnOk, true};
 ghost use Rattle.pb_board.specs.Fen.{FenText};
 ghost use Rattle.pb_board.specs.Position.{IsRecord};
 ghost use Rattle.pb_board.specs.LineEnd.{with_end};
 ghost use Rattle.pb_board.specs.Refusal.{BreaksAt};
+ghost use Rattle.pb_io.specs.Sink.{HandedOn};
 ghost use Rattle.pb_moves.specs.AfterRecord.{AfterRecord};
 ghost use Rattle.pb_moves.specs.Cases.{Legal};
 ghost use Rattle.pb_moves.specs.Moved.{Moved};
@@ -49,8 +50,7 @@ pub fn run_fen<K: Sink>(
     sink: &mut K,
 ) -> Result<bool, Fault>
     ensures shown { IfOk result (PutsText (FenShown fen.now (texts moves.now)) (K.state sink.old) (K.state sink.new)) }
-    ensures handed_on { OnOk result (((K.state sink.new).failed ≡ false)
-        × ((K.state sink.new).flushed ≡ true)) }
+    ensures handed_on { OnOk result (HandedOn (K.state sink.new)) }
     ensures fault { IfErr result (λ fault. (fault ≡ Write)
         × PutsFront (FenShown fen.now (texts moves.now)) (K.state sink.old) (K.state sink.new)) }
 {

@@ -2,7 +2,7 @@
 ghost use Rattle.std.specs.Prelude.{◌≡◌, ℕ, Bool, IfErr, IfOk, IfSome, List, MatchResult, Ok, OnOk, false, true};
 ghost use Rattle.std.specs.Io.KnownBytes.{Appends};
 ghost use Rattle.pb_poly.specs.Reading.{Tells};
-ghost use Rattle.pb_io.specs.Sink.{Put};
+ghost use Rattle.pb_io.specs.Sink.{HandedOn, Put};
 ghost use Rattle.pb_commands.specs.Judged.{PutsOrEnds, PutsText, PutsUntil};
 ghost use Rattle.pb_commands.specs.BookJudged.{AsBook};
 ghost use Rattle.pb_commands.specs.ProbeShown.{ProbeShown, ProbesSources, found_line, probe_text};
@@ -38,8 +38,7 @@ pub fn run_probe<T: Source, B: Source, K: Sink>(
         (B.state book_source.old) (B.state book_source.new) fen.now) (K.state sink.old) (K.state sink.new)) }
     ensures told { IfOk result (λ answer. IfSome (T.state table_source.old).to_come (λ table. IfSome (B.state book_source.old).to_come (λ book.
         PutsText (ProbeShown (AsTable table) (AsBook book) fen.now) (K.state sink.old) (K.state sink.new) answer))) }
-    ensures handed_on { OnOk result (((K.state sink.new).failed ≡ false)
-        × ((K.state sink.new).flushed ≡ true)) }
+    ensures handed_on { OnOk result (HandedOn (K.state sink.new)) }
     ensures fault { IfErr result (PutsUntil
         (ProbesSources fills (T.state table_source.old) (T.state table_source.new) (B.state book_source.old) (B.state book_source.new) fen.now)
         (K.state sink.old) (K.state sink.new)) }

@@ -2,7 +2,7 @@
 ghost use Rattle.std.specs.Prelude.{◌≡◌, ℕ, Bool, IfErr, IfOk, IfSome, List, MatchResult, Ok, OnOk, false, true};
 ghost use Rattle.std.specs.Io.KnownBytes.{Appends};
 ghost use Rattle.pb_poly.specs.Reading.{Tells};
-ghost use Rattle.pb_io.specs.Sink.{Put};
+ghost use Rattle.pb_io.specs.Sink.{HandedOn, Put};
 ghost use Rattle.pb_commands.specs.BookJudged.{AsBook, ReadAsBook};
 ghost use Rattle.pb_commands.specs.BookShown.{BookShown, entry_line, show_text};
 ghost use Rattle.pb_commands.specs.Judged.{PutsOrEnds, PutsText, PutsUntil};
@@ -33,8 +33,7 @@ pub fn run_show<S: Source, K: Sink>(
         (K.state sink.old) (K.state sink.new)) }
     ensures told { IfOk result (λ answer. IfSome (S.state source.old).to_come (λ bytes.
         PutsText (BookShown (AsBook bytes)) (K.state sink.old) (K.state sink.new) answer)) }
-    ensures handed_on { OnOk result (((K.state sink.new).failed ≡ false)
-        × ((K.state sink.new).flushed ≡ true)) }
+    ensures handed_on { OnOk result (HandedOn (K.state sink.new)) }
     ensures fault { IfErr result (PutsUntil (BookShown (ReadAsBook fills (S.state source.old) (S.state source.new)))
         (K.state sink.old) (K.state sink.new)) }
     ensures only { (bytes : List ℕ) (answer : Bool) (out : List ℕ) → Tells fills (S.state source.old) (S.state source.new) bytes

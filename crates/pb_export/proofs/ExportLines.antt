@@ -98,8 +98,7 @@ exported l book named sink now new count is_book holds h flush = record {
   are = record { book = book; is_book = is_book; listed = h.listed; is_listing = whole_listing l.basis l.accepted book named holds h.listed h.is; are = refl };
   counted = h.counted ∙ sym (length-map h.listed (λ (x : Listed). x.line));
   put = Appends-kept sink.bytes now.bytes new.bytes (text_of h.listed) h.put flush.bytes;
-  works = flush.failed;
-  flushed = flush.flushed;
+  handed_on = (flush.failed, flush.flushed);
 }
 
 -- what was put is a front of the text
@@ -120,7 +119,6 @@ module _ (l : LedgerState) (book : List Entry) (named : List Named) (is_book : I
     put = h.put;
     front = front_of_text l.basis l.accepted book named h.front h.back h.listed h.some h.rest is_book holds h.are h.is h.text;
     cause = h.cause;
-    waits = h.waits;
   }
 
   -- a fault of the flush
@@ -129,6 +127,5 @@ module _ (l : LedgerState) (book : List Entry) (named : List Named) (is_book : I
     some = text_of h.listed;
     put = Appends-kept sink.bytes now.bytes new.bytes (text_of h.listed) h.put flush.bytes;
     front = front_of_text l.basis l.accepted book named named [] h.listed (text_of h.listed) [] is_book holds (sym (append-nil named)) h.is (sym (append-nil (text_of h.listed)));
-    cause = flush.failed;
-    waits = inl flush.flushed;
+    cause = (flush.failed, flush.flushed);
   }

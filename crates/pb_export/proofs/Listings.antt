@@ -1,5 +1,5 @@
 -- The lines of an export, one setup after another.
-use Rattle.std.proofs.Common.{◌≡◌, ℕ, ◌+◌, ◌<◌, false, Err, List, [], ◌∷◌, ◌++◌, length, take, drop, get_or, append-nil, append_assoc, refl, sym, ap, subst, ◌∙◌, inl, inr, arith}
+use Rattle.std.proofs.Common.{◌≡◌, ℕ, ◌+◌, ◌<◌, Err, List, Ok, [], ◌∷◌, ◌++◌, length, take, drop, get_or, append-nil, append_assoc, refl, sym, ap, subst, ◌∙◌, inl, inr, arith}
 use Rattle.std.specs.Prelude.{Contains}
 use Rattle.std.specs.Io.KnownBytes.{Appends}
 use Rattle.std.proofs.KnownBytes.{Appends-nil, Appends-trans}
@@ -13,11 +13,12 @@ use Rattle.pb_epd.proofs.Forms.{form_is_one}
 use Rattle.pb_epd.proofs.Lists.{contains_none, pairs_none, pairs_split}
 use Rattle.pb_moves.specs.Moved.{Moved}
 use Rattle.pb_poly.specs.Found.{Found}
-use Rattle.pb_io.specs.Sink.{Put, SinkState, StillWorks}
+use Rattle.pb_io.specs.Sink.{AwaitsFlush, Put, SinkState}
+use Rattle.pb_io.proofs.FlushLemmas.{AwaitsFlush-put, AwaitsFlush-trans}
 use Rattle.pb_poly.specs.declared.entry.Entry.{Entry}
 use Rattle.pb_io.specs.declared.source.Failed.{Failed}
 use Rattle.pb_poly.proofs.Finding.{found_is_one}
-use Rattle.pb_export.specs.Exporting.{Listed, SaysMoves, Waits, with_book_moves}
+use Rattle.pb_export.specs.Exporting.{Listed, SaysMoves, with_book_moves}
 use Rattle.pb_export.specs.Listing.{IsListedOf, IsListingOf, PutsFront, PutsListing, text_of}
 use Rattle.pb_export.specs.Setups.{InTextOrder, Named}
 use Rattle.pb_export.specs.declared.exporting.ExportFault.TheVariants as fault
@@ -113,8 +114,7 @@ pub record Putting (words : List ℕ) (book : List Entry) (all : List Named) (si
   pub is : IsListingOf words book front listed
   pub counted : count ≡ length listed
   pub put : Appends sink.bytes now.bytes (text_of listed)
-  pub works : StillWorks sink.failed now.failed
-  pub waits : Waits sink now
+  pub awaits : AwaitsFlush sink now
 
 pub Putting-none : (words : List ℕ) (book : List Entry) (all : List Named) (sink : SinkState) → Putting words book all sink sink 0 all
 Putting-none words book all sink = record {
@@ -124,8 +124,7 @@ Putting-none words book all sink = record {
   is = IsListingOf-none words book;
   counted = refl;
   put = Appends-nil sink.bytes;
-  works = λ w. w;
-  waits = inr refl;
+  awaits = inl refl;
 }
 
 module _ (words : List ℕ) (book : List Entry) (all : List Named) (sink now : SinkState) (count : ℕ) where
@@ -135,7 +134,7 @@ module _ (words : List ℕ) (book : List Entry) (all : List Named) (sink now : S
     is = subst (λ named. IsListingOf words book named h.listed) (sym (append-nil h.front) ∙ h.are) h.is;
     counted = h.counted;
     put = h.put;
-    works = h.works;
+    awaits = h.awaits;
   }
 
   -- no memory for a line
@@ -150,8 +149,7 @@ module _ (words : List ℕ) (book : List Entry) (all : List Named) (sink now : S
     rest = [];
     text = sym (append-nil (text_of h.listed));
     put = h.put;
-    cause = h.works;
-    waits = h.waits;
+    cause = h.awaits;
   }
 
   module _ (t : List ℕ) (s : Position) (rest : List Named) (h : Putting words book all sink now count ((t, s) ∷ rest)) (rules : IsSetup s) where
@@ -166,8 +164,7 @@ module _ (words : List ℕ) (book : List Entry) (all : List Named) (sink now : S
       is = IsListingOf-skip words book h.front t s h.listed h.is rules none;
       counted = h.counted;
       put = h.put;
-      works = h.works;
-      waits = h.waits;
+      awaits = h.awaits;
     }
 
     module _ (new : SinkState) (line : List ℕ) (moves : List (Moved × ℕ)) (text : List ℕ) (says : SaysMoves words book s moves text) (is : line ≡ text ++ 10 ∷ []) (order : InTextOrder all) where
@@ -186,16 +183,15 @@ module _ (words : List ℕ) (book : List Entry) (all : List Named) (sink now : S
       unfolding with_it
       length_with_it = length_push h.listed (listed_here words book h.front t s h.listed h.is rules moves text says)
 
-      pub Putting-more : Appends now.bytes new.bytes line → StillWorks now.failed new.failed → new.flushed ≡ false → Putting words book all sink new (count + 1) rest
-      Putting-more put works flushed = record {
+      pub Putting-more : (v : Unit {0}) → Put {E = Failed} now new (Ok v) line → Putting words book all sink new (count + 1) rest
+      Putting-more v put = record {
         front = h.front ++ (t, s) ∷ [];
         are = passed;
         listed = with_it;
         is = is_with_it;
         counted = omega (arith, h.counted, length_with_it);
-        put = subst (Appends sink.bytes new.bytes) (sym with_text) (Appends-trans sink.bytes now.bytes new.bytes (text_of h.listed) line h.put put);
-        works = λ w. works (h.works w);
-        waits = inl flushed;
+        put = subst (Appends sink.bytes new.bytes) (sym with_text) (Appends-trans sink.bytes now.bytes new.bytes (text_of h.listed) line h.put put.all);
+        awaits = AwaitsFlush-trans sink now new h.awaits (AwaitsFlush-put now new v line put);
       }
 
       -- a line that couldn't be put
@@ -211,6 +207,5 @@ module _ (words : List ℕ) (book : List Entry) (all : List Named) (sink now : S
             rest = drop n line;
             text = with_text ∙ ap (λ bytes. text_of h.listed ++ bytes) (sym (take-append-drop n line)) ∙ sym (append_assoc (text_of h.listed) (take n line) (drop n line));
             put = Appends-trans sink.bytes now.bytes new.bytes (text_of h.listed) (take n line) h.put put.front.1;
-            cause = put.failed;
-            waits = inl put.flushed;
+            cause = (put.failed, put.flushed);
           }

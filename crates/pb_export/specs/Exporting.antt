@@ -1,5 +1,5 @@
 -- The book of games as EPD (PGN Standard 1994, section 16.2): a line for each setup of the games that the book has moves for.
-use Rattle.std.specs.Prelude.{◌≡◌, ◌≢◌, ◌⊎◌, ◌↔◌, ℕ, true, false, List, [], ◌∷◌, ◌++◌, length, map, flat_map, AllPairs, Contains, codes, decimal}
+use Rattle.std.specs.Prelude.{◌≡◌, ◌≢◌, ◌↔◌, ℕ, true, false, List, [], ◌∷◌, ◌++◌, length, map, flat_map, AllPairs, Contains, codes, decimal}
 use Rattle.std.specs.Io.KnownBytes.{Appends}
 use Rattle.pb_board.specs.Fen.{FourFields}
 use Rattle.pb_board.specs.Position.{Position}
@@ -12,7 +12,7 @@ use Rattle.pb_games.specs.Submissions.{Submission, plies}
 use Rattle.pb_moves.specs.Moved.{Moved}
 use Rattle.pb_moves.specs.Spelling.{spelling}
 use Rattle.pb_poly.specs.Found.{Found}
-use Rattle.pb_io.specs.Sink.{SinkState, StillWorks}
+use Rattle.pb_io.specs.Sink.{AwaitsFlush, HandedOn, SinkState}
 use Rattle.pb_poly.specs.declared.entry.Entry.{Entry}
 use Rattle.pb_accepted.specs.Basis.{Basis}
 use Rattle.pb_accepted.specs.Counting.{IsBook}
@@ -45,7 +45,7 @@ pub record SaysMoves (words : List ℕ) (book : List Entry) (s : Position) (move
   pub some : moves ≢ []
   pub says : EpdForm (with_book_moves s moves) line
 
--- the setup stands before a ply, and the line says what the book has for it
+-- the setup stands before a ply, with these four fields, and the line says what the book has for it
 abbrev pub IsListed : Basis → List Submission → List Entry → Listed → Type 0
 IsListed T S book x = StandsBefore S x.setup × FourFields x.setup x.fields × SaysMoves T.words book x.setup x.moves x.line
 
@@ -78,22 +78,16 @@ pub record Exports (ledger : LedgerState) (sink sink' : SinkState) (count : ℕ)
   pub are : ExportLines ledger.basis ledger.accepted lines
   pub counted : count ≡ length lines
   pub put : Appends sink.bytes sink'.bytes (text_of_lines lines)
-  pub works : sink'.failed ≡ false
-  pub flushed : sink'.flushed ≡ true
+  pub handed_on : HandedOn sink'
 
 -- what a fault says of the sink
 abbrev pub FaultOf : ExportFault → SinkState → SinkState → Type 0
-FaultOf fault.Write sink sink' = sink'.failed ≡ true
-FaultOf fault.Memory sink sink' = StillWorks sink.failed sink'.failed
+FaultOf fault.Write sink sink' = (sink'.failed ≡ true) × (sink'.flushed ≡ false)
+FaultOf fault.Memory sink sink' = AwaitsFlush sink sink'
 
--- after the last put no flush has succeeded, or the sink was left alone
-abbrev pub Waits : SinkState → SinkState → Type 0
-Waits sink sink' = (sink'.flushed ≡ false) ⊎ (sink' ≡ sink)
-
--- the export ended with a fault: a front of the text was put, and not flushed
+-- the export ended with a fault: a front of the text was put, and not handed on
 pub record ExportsUntil (ledger : LedgerState) (sink sink' : SinkState) (e : ExportFault) : Type 0 where
   pub some : List ℕ
   pub put : Appends sink.bytes sink'.bytes some
   pub front : (text : List ℕ) → ExportText ledger.basis ledger.accepted text → (rest : List ℕ) × (text ≡ some ++ rest)
   pub cause : FaultOf e sink sink'
-  pub waits : Waits sink sink'

@@ -3,9 +3,9 @@ use Rattle.std.specs.Prelude.{◌≡◌, ℕ, List, ◌∷◌, ◌++◌, length,
 use Rattle.std.specs.Io.KnownBytes.{Appends}
 use Rattle.pb_moves.specs.Moved.{Moved}
 use Rattle.pb_moves.specs.Spelling.{spelling}
-use Rattle.pb_io.specs.Sink.{SinkState, StillWorks}
+use Rattle.pb_io.specs.Sink.{AwaitsFlush, SinkState}
 use Rattle.pb_poly.specs.declared.entry.Entry.{Entry}
-use Rattle.pb_export.specs.Exporting.{FaultOf, IsListing, Listed, SaysMoves, Waits, text_of_lines}
+use Rattle.pb_export.specs.Exporting.{FaultOf, IsListing, Listed, SaysMoves, text_of_lines}
 use Rattle.pb_export.specs.Setups.{Named}
 use Rattle.pb_export.specs.declared.exporting.ExportFault.{ExportFault}
 
@@ -31,9 +31,9 @@ pub record PutsListing (words : List ℕ) (book : List Entry) (named : List Name
   pub is : IsListingOf words book named listed
   pub counted : count ≡ length listed
   pub put : Appends sink.bytes sink'.bytes (text_of listed)
-  pub works : StillWorks sink.failed sink'.failed
+  pub awaits : AwaitsFlush sink sink'
 
--- a front of the lines of the first of these setups was put, and not flushed
+-- a front of the lines of the first of these setups was put, and not handed on
 pub record PutsFront (words : List ℕ) (book : List Entry) (named : List Named) (sink sink' : SinkState) (e : ExportFault) : Type 0 where
   pub front : List Named
   pub back : List Named
@@ -45,4 +45,3 @@ pub record PutsFront (words : List ℕ) (book : List Entry) (named : List Named)
   pub text : text_of listed ≡ some ++ rest
   pub put : Appends sink.bytes sink'.bytes some
   pub cause : FaultOf e sink sink'
-  pub waits : Waits sink sink'

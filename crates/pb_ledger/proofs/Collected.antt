@@ -6,7 +6,8 @@ use Rattle.std.proofs.lemmas.List.{append_assoc}
 use Rattle.std.proofs.lemmas.List.Sums.{sum_by-cons}
 use Rattle.std.proofs.KnownBytes.{Appends-nil, Appends-trans, Appends-kept}
 use Rattle.pb_io.specs.Source.{SourceState}
-use Rattle.pb_io.specs.Sink.{SinkState, Flush, StillWorks}
+use Rattle.pb_io.specs.Sink.{AwaitsFlush, Flush, SinkState}
+use Rattle.pb_io.proofs.FlushLemmas.{AwaitsFlush-put, AwaitsFlush-trans}
 use Rattle.pb_io.specs.Lines.{lines, ended_lines}
 use Rattle.pb_io.specs.LineTask.{AtEnd, StopsAtLast, TakesAll, TakesStream, TakesUntil}
 use Rattle.pb_io.specs.declared.lines.LinesFault.{LinesFault}
@@ -20,7 +21,7 @@ use Rattle.pb_ledger.specs.declared.totals.Totals.{Totals}
 use Rattle.pb_ledger.specs.declared.collecting.Collector.{Collector}
 use Rattle.pb_ledger.specs.declared.collecting.CollectFault.TheVariants as collect
 use Rattle.pb_ledger.specs.Collecting.{Collects, CollectsButOne, CollectsCounted, CollectsStream, CollectsUntil, Leads}
-use Rattle.pb_ledger.specs.Collector.{TakesLine, with_answer}
+use Rattle.pb_ledger.specs.Collector.{TakesLine, collect_fault, with_answer}
 use Rattle.pb_ledger.proofs.Submitting.{added, grows, took}
 use Rattle.pb_accepted.specs.Replies.{replies, reply_line}
 
@@ -92,7 +93,7 @@ module _ {T K : Type 0} (state : K → SinkState) where
     pub number : length collects.answers ≡ length ls
     pub counts : AddsUp s.totals → s.totals.lines + length ls < 2 ^ 64
         → Grows (length s.ledger.now.accepted) (length t.ledger.now.accepted) s.totals t.totals (length ls) (count_by is_err collects.answers)
-    pub works : StillWorks (Sink s).failed (Sink t).failed
+    pub awaits : AwaitsFlush (Sink s) (Sink t)
     pub same : Same s t
 
   pub taken_of : (s t : Collector T K) (ls : List (List ℕ)) → TakesAll (TakesLine state) s ls t → Taken s t ls
@@ -100,7 +101,7 @@ module _ {T K : Type 0} (state : K → SinkState) where
     collects = record { answers = []; leads = Leads-none s.ledger.now; put = Appends-nil (Sink s).bytes };
     number = refl;
     counts = λ sum few. record { all = omega arith; refused = omega arith; new_games = omega arith; adds_up = sum };
-    works = λ w. w;
+    awaits = inl refl;
     same = record { ledger = refl; sink = refl };
   })
   taken_of s t (line ∷ ls) h =
@@ -121,7 +122,7 @@ module _ {T K : Type 0} (state : K → SinkState) where
               new_games = omega (arith, first.new_games, others.new_games);
               adds_up = others.adds_up;
             };
-        works = λ w. rest.works one.put.failed;
+        awaits = AwaitsFlush-trans (Sink s) (Sink m) (Sink t) (AwaitsFlush-put (Sink s) (Sink m) tt (reply_line line one.answer) one.put) rest.awaits;
         same = record { ledger = rest.same.ledger ∙ one.same_ledger; sink = rest.same.sink ∙ one.same_sink };
       }
 
@@ -204,8 +205,7 @@ module _ {T K : Type 0} (state : K → SinkState) where
         → TakesStream (TakesLine state) fills old new s t → Flush {E = Failed} (Sink t) sink' (Ok u) → CollectsStream fills old new (Sink s) sink' s.ledger.now t.ledger.now t.totals
     handed_on sink' u small fresh h flush = (
       AtEnd-weaker fills old new _ _ (λ ls few c. (record { answers = c.0.answers; leads = c.0.leads; put = Appends-kept _ _ _ _ c.0.put flush.bytes }, c.1)) (stream_of small fresh h),
-      flush.failed,
-      flush.flushed,
+      (flush.failed, flush.flushed),
     )
 
     -- all lines were taken, and the replies couldn't be handed on
@@ -216,14 +216,15 @@ module _ {T K : Type 0} (state : K → SinkState) where
       flush.failed,
     )
 
+    -- how the lines ended
     pub until_memory : TakesUntil (TakesLine state) fills old new s t Memory → CollectsUntil fills old new (Sink s) (Sink t) s.ledger.now t.ledger.now collect.Memory
     until_memory h = (h.0, ap (λ (x : Collector T K). Sink x) h.1, ap (λ (x : Collector T K). x.ledger.now) h.1)
 
     pub until_fault : TakesUntil (TakesLine state) fills old new s t Read → CollectsUntil fills old new (Sink s) (Sink t) s.ledger.now t.ledger.now collect.Read
-    until_fault h = (AtFault-weaker fills old new _ _ (λ ls few taken. (taken_of s t ls taken).collects) h, (taken_of s t (ended_lines h.came) h.done).works)
+    until_fault h = (AtFault-weaker fills old new _ _ (λ ls few taken. (taken_of s t ls taken).collects) h, (taken_of s t (ended_lines h.came) h.done).awaits)
 
     pub until_endless : TakesUntil (TakesLine state) fills old new s t Endless → CollectsUntil fills old new (Sink s) (Sink t) s.ledger.now t.ledger.now collect.Endless
-    until_endless h = (AtNoEnd-weaker fills old new _ _ (λ ls few taken. (taken_of s t ls taken).collects) h, (taken_of s t (ended_lines h.came) h.done).works)
+    until_endless h = (AtNoEnd-weaker fills old new _ _ (λ ls few taken. (taken_of s t ls taken).collects) h, (taken_of s t (ended_lines h.came) h.done).awaits)
 
     stop_fails : (e : Failed) → TakesUntil (TakesLine state) fills old new s t (Stop e) → (Sink t).failed ≡ true
     stop_fails e (inl h) = (stopped_at s t (ended_lines h.came) e h.done).fails
@@ -231,6 +232,13 @@ module _ {T K : Type 0} (state : K → SinkState) where
 
     pub until_stop : (e : Failed) → TakesUntil (TakesLine state) fills old new s t (Stop e) → CollectsUntil fills old new (Sink s) (Sink t) s.ledger.now t.ledger.now collect.Write
     until_stop e h = (inl (AtLine-weaker fills old new _ _ (λ ls few stops. (stopped_at s t ls e stops).collects) h), stop_fails e h)
+
+    pub collects_until : (f : LinesFault Failed) → TakesUntil (TakesLine state) fills old new s t f
+        → CollectsUntil fills old new (Sink s) (Sink t) s.ledger.now t.ledger.now (collect_fault f)
+    collects_until Memory h = until_memory h
+    collects_until Read h = until_fault h
+    collects_until Endless h = until_endless h
+    collects_until (Stop e) h = until_stop e h
 
   same_of : (fills : ℕ) (old new : SourceState) (s t : Collector T K) (r : Result (Unit {0}) (LinesFault Failed))
       → OnOk r (TakesStream (TakesLine state) fills old new s t) → IfErr r (TakesUntil (TakesLine state) fills old new s t) → Same s t

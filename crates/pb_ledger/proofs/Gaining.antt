@@ -1,11 +1,11 @@
 -- How a journal gains the lines of new games.
-use Rattle.std.proofs.Common.{◌≡◌, ◌≢◌, ℕ, ◌<◌, true, false, List, [], ◌∷◌, ◌++◌, length, Ok, Err, refl, sym, ap, subst, ◌∙◌, append_assoc, arith, inl, inr}
+use Rattle.std.proofs.Common.{◌≡◌, ◌≢◌, ℕ, ◌<◌, List, [], ◌∷◌, ◌++◌, length, Ok, Err, refl, sym, ap, subst, ◌∙◌, append_assoc, arith, inl, inr}
 use Rattle.std.specs.List.{AllZip, flat_map}
 use Rattle.std.proofs.KnownBytes.{Appends-nil, Appends-trans}
 use Rattle.std.proofs.lemmas.Grind.{flat_map-append}
 use Rattle.std.proofs.lemmas.List.{append-nil, length_push}
 use Rattle.pb_board.specs.LineEnd.{with_end, without_return}
-use Rattle.pb_io.specs.Sink.{SinkState}
+use Rattle.pb_io.specs.Sink.{HandedOn, SinkState}
 use Rattle.pb_io.specs.Writes.{Writes}
 use Rattle.pb_io.specs.declared.source.Failed.{Failed}
 use Rattle.pb_games.specs.Submissions.{Submission, SubmissionText}
@@ -58,9 +58,6 @@ unchanged A line r B (inl adds) no_more = absurd (no_more (omega (arith, ap leng
 unchanged A line r B (inr keeps) no_more = keeps.1
 
 -- ---- gains
-
-abbrev HandedOn : SinkState → Type 0
-HandedOn journal = (journal.failed ≡ false) × (journal.flushed ≡ true)
 
 pub Gains-none : (journal : SinkState) (A : List Submission) → Gains journal journal A A
 Gains-none journal A = record {

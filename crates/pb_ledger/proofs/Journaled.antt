@@ -3,7 +3,7 @@ use Rattle.std.proofs.Common.{◌≡◌, ℕ, ◌^◌, ◌<◌, true, List, [], 
 use Rattle.std.specs.Io.KnownBytes.{Appends}
 use Rattle.std.proofs.KnownBytes.{Appends-trans}
 use Rattle.pb_io.specs.Source.{SourceState}
-use Rattle.pb_io.specs.Sink.{Flush, SinkState, StillWorks}
+use Rattle.pb_io.specs.Sink.{AwaitsFlush, Flush, SinkState}
 use Rattle.pb_io.specs.Lines.{ended_lines, lines}
 use Rattle.pb_io.specs.LineTask.{AtLine, StopsAtLast, TakesAll, TakesStream, TakesUntil}
 use Rattle.pb_io.specs.declared.lines.LinesFault.{LinesFault}
@@ -83,7 +83,7 @@ module _ {T K J : Type 0} (state : K → SinkState) (kept : J → SinkState) whe
 
   record Stopped (s t : Journaler T K J) (ls : List (List ℕ)) : Type 0 where
     unkept : CollectsUnkept (Sink s) (Sink t) (kept s.journal.now) (kept t.journal.now) s.collector.ledger.now t.collector.ledger.now ls
-    works : StillWorks (Sink s).failed (Sink t).failed
+    awaits : AwaitsFlush (Sink s) (Sink t)
     fails : (kept t.journal.now).failed ≡ true
     same : Same s t
 
@@ -115,7 +115,7 @@ module _ {T K J : Type 0} (state : K → SinkState) (kept : J → SinkState) whe
           count = last.count;
           kept = Appends-trans _ _ _ _ _ gains.put last.put;
         };
-        works = subst (λ (x : MutBor K). StillWorks (Sink s).failed (state x.now).failed) (sym last.same_sink) taken.works;
+        awaits = subst (λ (x : MutBor K). AwaitsFlush (Sink s) (state x.now)) (sym last.same_sink) taken.awaits;
         fails = last.fails;
         same = record {
           ledger = last.same_ledger ∙ taken.same.ledger;
@@ -168,7 +168,7 @@ module _ {T K J : Type 0} (state : K → SinkState) (kept : J → SinkState) whe
     )
     journals_until (Stop (Journal e)) h = (
       AtLine-weaker fills old new _ _ (λ ls few stops. (journal_stops s t ls e stops).unkept) h,
-      at_line _ (StillWorks (Sink s).failed (Sink t).failed) (λ ls stops. (journal_stops s t ls e stops).works) h,
+      at_line _ (AwaitsFlush (Sink s) (Sink t)) (λ ls stops. (journal_stops s t ls e stops).awaits) h,
       at_line _ ((kept t.journal.now).failed ≡ true) (λ ls stops. (journal_stops s t ls e stops).fails) h,
     )
 

@@ -1,8 +1,8 @@
 -- What taking the lines of a stream does to a ledger and a sink, and how it ends.
-use Rattle.std.specs.Prelude.{◌≡◌, ℕ, ◌+◌, ◌⊎◌, true, false, List, [], ◌∷◌, ◌++◌, length, take, count_by, is_err}
+use Rattle.std.specs.Prelude.{◌≡◌, ℕ, ◌+◌, ◌⊎◌, true, List, [], ◌∷◌, ◌++◌, length, take, count_by, is_err}
 use Rattle.std.specs.Io.KnownBytes.{Appends}
 use Rattle.pb_io.specs.Source.{SourceState}
-use Rattle.pb_io.specs.Sink.{SinkState, StillWorks}
+use Rattle.pb_io.specs.Sink.{AwaitsFlush, HandedOn, SinkState}
 use Rattle.pb_io.specs.LineTask.{AtEnd, AtFault, AtLine, AtNoEnd, IfTold}
 use Rattle.pb_accepted.specs.Accepting.{Accepted, Answer, Run}
 use Rattle.pb_accepted.specs.Ledger.{LedgerState}
@@ -49,16 +49,17 @@ pub record CollectsButOne (sink sink' : SinkState) (ledger ledger' : LedgerState
 -- all lines of the stream were taken and counted, and their replies were put and handed on
 abbrev pub CollectsStream : ℕ → SourceState → SourceState → SinkState → SinkState → LedgerState → LedgerState → Totals → Type 0
 CollectsStream fills source source' sink sink' ledger ledger' totals =
-    AtEnd fills source source' (CollectsCounted sink sink' ledger ledger' totals) × (sink'.failed ≡ false) × (sink'.flushed ≡ true)
+    AtEnd fills source source' (CollectsCounted sink sink' ledger ledger' totals) × HandedOn sink'
 
 -- the same of all bytes that were to come, where the source tells them
 abbrev pub CollectsTold : SourceState → SourceState → SinkState → SinkState → LedgerState → LedgerState → Totals → Type 0
 CollectsTold source source' sink sink' ledger ledger' totals = IfTold source source' (CollectsCounted sink sink' ledger ledger' totals)
 
--- how collecting ends with each fault; the sink fails at a reply, or where the replies to all lines were to be handed on
+-- how collecting ends with each fault: the replies that were put await a flush; or the sink fails, at a reply or where the replies to all
+-- lines were to be handed on
 abbrev pub CollectsUntil : ℕ → SourceState → SourceState → SinkState → SinkState → LedgerState → LedgerState → CollectFault → Type 0
-CollectsUntil fills source source' sink sink' ledger ledger' Read = AtFault fills source source' (Collects sink sink' ledger ledger') × StillWorks sink.failed sink'.failed
-CollectsUntil fills source source' sink sink' ledger ledger' Endless = AtNoEnd fills source source' (Collects sink sink' ledger ledger') × StillWorks sink.failed sink'.failed
+CollectsUntil fills source source' sink sink' ledger ledger' Read = AtFault fills source source' (Collects sink sink' ledger ledger') × AwaitsFlush sink sink'
+CollectsUntil fills source source' sink sink' ledger ledger' Endless = AtNoEnd fills source source' (Collects sink sink' ledger ledger') × AwaitsFlush sink sink'
 CollectsUntil fills source source' sink sink' ledger ledger' Write =
     (AtLine fills source source' (CollectsButOne sink sink' ledger ledger') ⊎ AtEnd fills source source' (Collects sink sink' ledger ledger')) × (sink'.failed ≡ true)
 CollectsUntil fills source source' sink sink' ledger ledger' Memory = (source' ≡ source) × (sink' ≡ sink) × (ledger' ≡ ledger)

@@ -4,7 +4,11 @@ use Rattle.pb_io.specs.Sink.{Put, SinkState}
 use Rattle.pb_io.specs.declared.source.Failed.{Failed}
 use Rattle.pb_io.specs.Count.{next_count}
 use Rattle.pb_accepted.specs.Accepting.{Answer}
+use Rattle.pb_io.specs.declared.lines.LinesFault.{LinesFault}
+use Rattle.pb_io.specs.declared.lines.LinesFault.TheVariants as lines
 use Rattle.pb_ledger.specs.declared.totals.Totals.{Totals}
+use Rattle.pb_ledger.specs.declared.collecting.CollectFault.{CollectFault}
+use Rattle.pb_ledger.specs.declared.collecting.CollectFault.TheVariants.{Read, Write, Endless, Memory}
 use Rattle.pb_ledger.specs.declared.collecting.Collector.{Collector}
 use Rattle.pb_accepted.specs.Replies.{reply_line}
 use Rattle.pb_ledger.specs.Collecting.{Leads}
@@ -23,3 +27,10 @@ pub record TakesLine {T K : Type 0} (state : K → SinkState) (s : Collector T K
   pub put : Put (state s.sink.now) (state t.sink.now) result (reply_line line answer)
   pub same_ledger : t.ledger.ghost_name ≡ s.ledger.ghost_name
   pub same_sink : t.sink.ghost_name ≡ s.sink.ghost_name
+
+-- what a fault of taking the lines is to the collecting: a line stops it where its reply couldn't be put
+abbrev pub collect_fault : {E : Type 0} → LinesFault E → CollectFault
+collect_fault lines.Memory = Memory
+collect_fault lines.Read = Read
+collect_fault lines.Endless = Endless
+collect_fault (lines.Stop e) = Write

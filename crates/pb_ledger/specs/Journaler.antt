@@ -9,8 +9,8 @@ use Rattle.pb_io.specs.declared.source.Failed.{Failed}
 use Rattle.pb_games.specs.Submissions.{Submission, SubmissionText}
 use Rattle.pb_ledger.specs.Collecting.{Leads}
 use Rattle.pb_ledger.specs.Collector as collector
+use Rattle.pb_ledger.specs.Collector.{collect_fault}
 use Rattle.pb_ledger.specs.Journaling.{Gains}
-use Rattle.pb_ledger.specs.declared.collecting.CollectFault.TheVariants as collect
 use Rattle.pb_ledger.specs.declared.journaling.JournalFault.{JournalFault}
 use Rattle.pb_ledger.specs.declared.journaling.JournalFault.TheVariants as fault
 use Rattle.pb_ledger.specs.declared.journaling.Journaler.{Journaler}
@@ -47,10 +47,7 @@ pub record TakesLine {T K J : Type 0} (state : K → SinkState) (kept : J → Si
   pub becomes : BecomesOf state kept s line result t
   pub same_journal : t.journal.ghost_name ≡ s.journal.ghost_name
 
--- what a fault of taking the lines is to the journaling
+-- what a fault of taking the lines is to the journaling: as to the collecting, but for the journal's own
 abbrev pub journal_fault : LinesFault Unanswered → JournalFault
-journal_fault lines.Memory = fault.Lines collect.Memory
-journal_fault lines.Read = fault.Lines collect.Read
-journal_fault lines.Endless = fault.Lines collect.Endless
-journal_fault (lines.Stop (Reply e)) = fault.Lines collect.Write
 journal_fault (lines.Stop (Journal e)) = fault.Journal
+journal_fault other = fault.Lines (collect_fault other)

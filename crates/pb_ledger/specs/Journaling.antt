@@ -1,10 +1,10 @@
 -- What taking the lines of a stream does to a ledger, a sink and a journal, and how it ends. The line of each new game is on the journal
 -- before its reply is put.
-use Rattle.std.specs.Prelude.{◌≡◌, ◌≢◌, ℕ, false, true, List, [], ◌∷◌, ◌++◌, take, Ok}
+use Rattle.std.specs.Prelude.{◌≡◌, ◌≢◌, ℕ, true, List, [], ◌∷◌, ◌++◌, take, Ok}
 use Rattle.std.specs.Io.KnownBytes.{Appends}
 use Rattle.pb_board.specs.LineEnd.{with_end}
 use Rattle.pb_io.specs.LineTask.{AtLine}
-use Rattle.pb_io.specs.Sink.{SinkState, StillWorks}
+use Rattle.pb_io.specs.Sink.{AwaitsFlush, HandedOn, SinkState}
 use Rattle.pb_io.specs.Source.{SourceState}
 use Rattle.pb_games.specs.Submissions.{Submission, SubmissionText}
 use Rattle.pb_accepted.specs.Accepting.{Answer}
@@ -24,7 +24,7 @@ pub record Gains (journal journal' : SinkState) (A B : List Submission) : Type 0
   pub lines : GameLines new text
   pub put : Appends journal.bytes journal'.bytes text
   pub untouched : new ≡ [] → journal' ≡ journal
-  pub handed_on : new ≢ [] → (journal'.failed ≡ false) × (journal'.flushed ≡ true)
+  pub handed_on : new ≢ [] → HandedOn journal'
 
 -- each line was taken, and all but the last answered; the last one brought a game whose line the journal didn't take, or a front of it
 pub record CollectsUnkept (sink sink' journal journal' : SinkState) (ledger ledger' : LedgerState) (L : List (List ℕ)) : Type 0 where
@@ -59,4 +59,4 @@ abbrev pub JournalsUntil : ℕ → SourceState → SourceState → SinkState →
 JournalsUntil fills source source' sink sink' journal journal' ledger ledger' (Lines e) =
     CollectsUntil fills source source' sink sink' ledger ledger' e × Gains journal journal' ledger.accepted ledger'.accepted
 JournalsUntil fills source source' sink sink' journal journal' ledger ledger' Journal =
-    AtLine fills source source' (CollectsUnkept sink sink' journal journal' ledger ledger') × StillWorks sink.failed sink'.failed × (journal'.failed ≡ true)
+    AtLine fills source source' (CollectsUnkept sink sink' journal journal' ledger ledger') × AwaitsFlush sink sink' × (journal'.failed ≡ true)

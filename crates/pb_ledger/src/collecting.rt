@@ -3,7 +3,7 @@
 ghost use Rattle.std.specs.Prelude.{◌≡◌, ◌≤◌, ◌∷◌, [], IfErr, IfOk, OnOk, length, nat_lt};
 ghost use Rattle.pb_io.specs.Sink.{Put};
 ghost use Rattle.pb_ledger.specs.Collecting.{CollectsStream, CollectsTold, CollectsUntil, Leads};
-ghost use Rattle.pb_ledger.specs.Collector.{with_answer};
+ghost use Rattle.pb_ledger.specs.Collector.{collect_fault, with_answer};
 ghost use Rattle.pb_accepted.specs.Replies.{named, reply_line};
 
 use crate::totals::Totals;
@@ -112,11 +112,20 @@ impl<T: Tally, K: Sink> Collector<'_, '_, T, K> {
                 Ok(()) => Ok(()),
                 Err(_) => Err(CollectFault::Write),
             },
-            Err(LinesFault::Memory) => Err(CollectFault::Memory),
-            Err(LinesFault::Read) => Err(CollectFault::Read),
-            Err(LinesFault::Endless) => Err(CollectFault::Endless),
-            Err(LinesFault::Stop(_)) => Err(CollectFault::Write),
+            Err(fault) => Err(fault_of(&fault)),
         }
+    }
+}
+
+/// What a fault of taking the lines is to the collecting. A task that stops at a line couldn't put its reply.
+pub(crate) fn fault_of<E>(fault: &LinesFault<E>) -> CollectFault
+    ensures { result ≡ collect_fault fault.now }
+{
+    match fault {
+        LinesFault::Memory => CollectFault::Memory,
+        LinesFault::Read => CollectFault::Read,
+        LinesFault::Endless => CollectFault::Endless,
+        LinesFault::Stop(_) => CollectFault::Write,
     }
 }
 

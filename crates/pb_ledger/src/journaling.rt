@@ -1,13 +1,13 @@
 //! Submissions in, new games to a journal, replies out.
 
-ghost use Rattle.std.specs.Prelude.{◌≡◌, ◌≤◌, ℕ, List, IfErr, IfOk, OnOk, length};
+ghost use Rattle.std.specs.Prelude.{◌≡◌, IfErr, IfOk, OnOk};
 ghost use Rattle.pb_board.specs.LineEnd.{with_end, without_return};
 ghost use Rattle.pb_io.specs.Sink.{Put};
 ghost use Rattle.pb_io.specs.Writes.{Writes};
 ghost use Rattle.pb_ledger.specs.Journaler.{journal_fault};
 ghost use Rattle.pb_ledger.specs.Journaling.{JournalsStream, JournalsUntil};
 
-use crate::collecting::{CollectFault, Collector};
+use crate::collecting::{CollectFault, Collector, fault_of};
 use crate::totals::Totals;
 use pb_accepted::Ledger;
 use pb_board::without_return;
@@ -94,7 +94,7 @@ impl<T: Tally, K: Sink, J: Sink> Journaler<'_, '_, '_, T, K, J> {
                 Ok(()) => Ok(()),
                 Err(_) => Err(JournalFault::Lines(CollectFault::Write)),
             },
-            Err(fault) => Err(fault_of(fault)),
+            Err(fault) => Err(journal_fault_of(fault)),
         }
     }
 }
@@ -115,15 +115,12 @@ fn put_line<J: Sink>(journal: &mut J, line: &[u8]) -> Result<(), Failed>
 }
 
 /// What a fault of taking the lines is to the journaling.
-fn fault_of(fault: LinesFault<Unanswered>) -> JournalFault
+fn journal_fault_of(fault: LinesFault<Unanswered>) -> JournalFault
     ensures { result ≡ journal_fault fault }
 {
     match fault {
-        LinesFault::Memory => JournalFault::Lines(CollectFault::Memory),
-        LinesFault::Read => JournalFault::Lines(CollectFault::Read),
-        LinesFault::Endless => JournalFault::Lines(CollectFault::Endless),
-        LinesFault::Stop(Unanswered::Reply(_)) => JournalFault::Lines(CollectFault::Write),
         LinesFault::Stop(Unanswered::Journal(_)) => JournalFault::Journal,
+        other => JournalFault::Lines(fault_of(&other)),
     }
 }
 

@@ -4,7 +4,7 @@ use Rattle.std.specs.Io.KnownBytes.{Appends}
 use Rattle.pb_io.specs.LineTask.{AtEndedLine, AtFault, AtNoEnd}
 use Rattle.pb_io.specs.Lines.{is_torn}
 use Rattle.pb_io.specs.Reads.{ReadsAll, chunk_len}
-use Rattle.pb_io.specs.Sink.{SinkState}
+use Rattle.pb_io.specs.Sink.{HandedOn, SinkState}
 use Rattle.pb_io.specs.Source.{SourceState}
 use Rattle.pb_games.specs.Submissions.{Submission}
 use Rattle.pb_accepted.specs.Accepting.{Reply}
@@ -17,7 +17,7 @@ use Rattle.pb_saved.specs.declared.replaying.ReplayError.TheVariants.{Read, Writ
 pub record Mends (came : List ℕ) (journal journal' : SinkState) : Type 0 where
   pub put : Appends journal.bytes journal'.bytes (mending came)
   pub whole : is_torn came ≡ false → journal' ≡ journal
-  pub handed_on : is_torn came ≡ true → (journal'.failed ≡ false) × (journal'.flushed ≡ true)
+  pub handed_on : is_torn came ≡ true → HandedOn journal'
 
 -- all bytes of the journal came, the ledger holds its games, and its end was mended
 pub record ReplaysAll (fills : ℕ) (source source' : SourceState) (journal journal' : SinkState) (old new : LedgerState) : Type 0 where

@@ -1,4 +1,4 @@
-use Rattle.std.proofs.Common.{refl, sym, true, ◌∙◌, subst, append-nil, ◌++◌, []}
+use Rattle.std.proofs.Common.{inl, refl, sym, true, ◌∙◌, subst, append-nil, ◌++◌, []}
 use Rattle.std.proofs.KnownBytes.{Appends-nil}
 use Rattle.std.proofs.lemmas.Bool.{false≢true}
 use Rattle.std.proofs.lemmas.Result.{err_from_is_err_and}
@@ -16,7 +16,7 @@ returns-then-is_blank g c = (
     judged = blank c.requires (subst IsBlank c.without_return-text.ensures (c.is_blank.ensures.0 c.if-is_blank.true)) refl;
     put = Appends-nil _;
   },
-  λ w. w,
+  inl refl,
 )
 
 pub returns-in_err-put-in-Ok : goal.returns-in_err-put-in-Ok

@@ -17,7 +17,7 @@ returns-in-Err-clause-err g c =
     let source = g.S.Source.state in let sink = g.K.Sink.state in let journal = g.J.Sink.state in
     let old = c.args.self.now in let new = c.take_lines.new.task in
     subst (λ (e : JournalFault). JournalsUntil c.args.fills (source c.args.source.now) (source c.take_lines.new.source) (sink old.collector.sink.now) (sink new.collector.sink.now)
-    (journal old.journal.now) (journal new.journal.now) old.collector.ledger.now new.collector.ledger.now e) (sym c.fault_of.ensures)
+    (journal old.journal.now) (journal new.journal.now) old.collector.ledger.now new.collector.ledger.now e) (sym c.journal_fault_of.ensures)
     (journals_until g.K.Sink.state g.J.Sink.state c.args.fills (g.S.Source.state c.args.source.now) (g.S.Source.state c.take_lines.new.source) c.args.self.now c.take_lines.new.task c.in-Err.fault c.in-Err.ensures.err)
 
 pub returns-in-Ok-flush-clause-same_ledger : goal.returns-in-Ok-flush-clause-same_ledger
