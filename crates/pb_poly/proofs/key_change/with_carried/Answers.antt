@@ -1,5 +1,4 @@
 use Rattle.std.proofs.Common.{◌≡◌, [], ◌∷◌, sym, ap, ◌∙◌}
-use Rattle.pb_board.specs.declared.piece.Piece.{Piece}
 use Rattle.pb_board.specs.Board.{Place, at}
 use Rattle.pb_moves.specs.Successor.{arriving}
 use Rattle.pb_poly.specs.Key.{joined, piece_place}
