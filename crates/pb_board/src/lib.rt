@@ -1,4 +1,5 @@
-//! Chess positions: squares, pieces, setups, and the FEN records that spell them (PGN Standard 16.1).
+//! Chess positions: squares, pieces, setups, and the FEN records that spell them (PGN Standard 16.1); it knows between which squares
+//! king and rook castle, and of no move whether it is legal.
 #![tactic(auto)]
 
 mod castling;

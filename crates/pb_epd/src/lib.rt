@@ -1,4 +1,5 @@
-//! EPD records: a setup and operations, and the reader and the writer of their texts (PGN Standard 16.2).
+//! EPD records: a setup and operations, and the reader and the writer of their texts (PGN Standard 16.2); it knows of no opcode what
+//! it means.
 #![tactic(auto)]
 
 mod epd;

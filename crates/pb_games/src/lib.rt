@@ -1,4 +1,5 @@
-//! Games as they are submitted, one line each: an id, a result, the record that the game starts from, and its moves.
+//! Games as they are submitted, one line each: an id, a result, the record that the game starts from, and its moves; it knows of no
+//! ledger, no key and no points.
 #![tactic(auto)]
 
 mod check;

@@ -1,4 +1,5 @@
-//! The moves of chess: attacks and check, which moves are legal, and the setup and the record after them.
+//! The moves of chess: attacks and check, which moves are legal, and the setup and the record after them; it knows of no game and of
+//! no book.
 //!
 //! ```rust
 //! let moves = legal_moves(alloc, &fen.setup())?;
