@@ -5,7 +5,10 @@ START := rnbqkbnr/pppppppp/8/8/8/8/PPPPPPPP/RNBQKBNR w KQkq - 0 1
 
 PREFIX := /usr/local
 
-.PHONY: build try install dist demo test test-hostile test-files test-memory test-growths test-io test-noise test-replies test-journal test-words bench clean
+# What is put in place beside the program. It lies where the gate reads it.
+INSTALLED := crates/worked_examples/data/installed
+
+.PHONY: build try install dist demo test test-hostile test-files test-memory test-growths test-io test-noise test-replies test-journal bench clean
 
 build: build/pbook
 
@@ -22,10 +25,10 @@ try:
 # Puts the program, its manual page and its completions for bash, zsh and fish in place.
 install: build
 	install -D -m 755 build/pbook '$(DESTDIR)$(PREFIX)/bin/pbook'
-	install -D -m 644 man/pbook.1 '$(DESTDIR)$(PREFIX)/share/man/man1/pbook.1'
-	install -D -m 644 completions/pbook.bash '$(DESTDIR)$(PREFIX)/share/bash-completion/completions/pbook'
-	install -D -m 644 completions/_pbook '$(DESTDIR)$(PREFIX)/share/zsh/site-functions/_pbook'
-	install -D -m 644 completions/pbook.fish '$(DESTDIR)$(PREFIX)/share/fish/vendor_completions.d/pbook.fish'
+	install -D -m 644 $(INSTALLED)/pbook.1 '$(DESTDIR)$(PREFIX)/share/man/man1/pbook.1'
+	install -D -m 644 $(INSTALLED)/pbook.bash '$(DESTDIR)$(PREFIX)/share/bash-completion/completions/pbook'
+	install -D -m 644 $(INSTALLED)/_pbook '$(DESTDIR)$(PREFIX)/share/zsh/site-functions/_pbook'
+	install -D -m 644 $(INSTALLED)/pbook.fish '$(DESTDIR)$(PREFIX)/share/fish/vendor_completions.d/pbook.fish'
 
 # Packs what `make install` puts in place, with the guide, as build/pbook-VERSION-x86_64-linux.tar.gz, beside its checksum.
 dist: build
@@ -59,10 +62,6 @@ test:
 
 # All that is tried of the program in a hostile world, but for collectors that are killed on their journal.
 test-hostile: test-files test-memory test-growths test-io test-noise test-replies
-
-# Tries that the completions and the manual page have the commands and options of the program, and no others.
-test-words: build
-	@sh scripts/test_words.sh
 
 # Tries what is left of a book's file by full disks, links, missing permissions and runs that are killed.
 test-files: build

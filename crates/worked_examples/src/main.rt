@@ -5,7 +5,8 @@
 //!
 //! The topic `run` runs the program `pbook` over the words that follow. What it prints comes after the row's name in a line of its
 //! own. Standard input has its submissions, and the folder of the run a table, one of 780 lines, an older file in the place of the
-//! book, and the files of three saved ledgers and two journals.
+//! book, and the files of three saved ledgers and two journals. The topic `words` compares the program's help with other texts: the
+//! completions and the manual page lie in that folder too, in `installed`.
 #![tactic(auto)]
 
 mod book;
@@ -28,6 +29,7 @@ mod saved;
 mod stream;
 mod table;
 mod text;
+mod words;
 
 use crate::page::{Done, Page, Trouble};
 use crate::text::text_of;
@@ -36,7 +38,7 @@ use std::fs::File;
 use std::io::{self, BufRead, BufReader};
 
 /// The answer to a call of a topic.
-fn answer(page: &mut Page, topic: &str, call: &[&str]) -> Done {
+fn answer(rt: &HostRuntime, page: &mut Page, topic: &str, call: &[&str]) -> Done {
     match topic {
         "record" => record::answer(page, call),
         "moves" => moves::answer(page, call),
@@ -48,6 +50,7 @@ fn answer(page: &mut Page, topic: &str, call: &[&str]) -> Done {
         "ledger" => ledger::answer(page, call),
         "points" => points::answer(page, call),
         "command" => command::answer(page, call),
+        "words" => words::answer(rt, page, call),
         _ => Err(Trouble::Row),
     }
 }
@@ -71,7 +74,7 @@ fn print_words(rt: &HostRuntime, words: &[&str]) -> io::Result<()> {
     if *topic == "run" {
         println!(rt; "{name}: run")?;
         page.put_count("status ", &run(rt, call));
-    } else if let Err(trouble) = answer(&mut page, topic, call) {
+    } else if let Err(trouble) = answer(rt, &mut page, topic, call) {
         return println!(rt; "{name}: failed {trouble:?}");
     }
     print_answer(rt, name, page.as_str())

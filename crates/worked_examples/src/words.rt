@@ -1,0 +1,121 @@
+//! The commands and options of the program's help, beside those in a text that tells them to a shell or to a reader.
+
+use crate::page::{Done, Page, Trouble};
+use pb_cli::{ParseFault, parse};
+use std::alloc::{AllocError, Global};
+use std::fs;
+
+/// The answer to a call.
+pub(crate) fn answer(rt: &HostRuntime, page: &mut Page, call: &[&str]) -> Done {
+    match call {
+        ["text", text] => told(page, text),
+        ["file", file] => match fs::read_to_string(rt, *file) {
+            Ok(text) => told(page, text.as_str()),
+            Err(_fault) => Err(Trouble::Row),
+        },
+        _ => Err(Trouble::Row),
+    }
+}
+
+/// The commands and the options of the help, each with whether the text has it, and the options that the text has beside them.
+fn told(page: &mut Page, text: &str) -> Done {
+    let plain = plain_of(page.alloc, text)?;
+    let first = help_of(page.alloc, &["pbook", "--help"])?;
+    let commands = commands_of(page.alloc, first.as_str())?;
+    let help = helps_of(page.alloc, first.as_str(), commands.as_slice())?;
+    tell_commands(page, commands.as_slice(), plain.as_str());
+    let wanted = options_of(page.alloc, help.as_str())?;
+    let found = options_of(page.alloc, plain.as_str())?;
+    tell_options(page, wanted.as_slice(), found.as_slice());
+    Ok(())
+}
+
+/// A text with `--` before each long option: a manual page has a backslash before each hyphen, and fish's `complete` has `-l` there, as
+/// its `set` has before a variable.
+fn plain_of(alloc: Global, written: &str) -> Result<String, AllocError> {
+    let plain = written.replace(alloc, "\\-", "-")?;
+    let plain = plain.as_str().replace(alloc, "set -l ", "set ")?;
+    plain.as_str().replace(alloc, " -l ", " --")
+}
+
+/// The text that the program shows for words that ask for its help.
+fn help_of(alloc: Global, words: &[&str]) -> Result<String, Trouble> {
+    match parse(alloc, words) {
+        Err(ParseFault::Usage(text)) => Ok(text),
+        Err(ParseFault::Memory) => Err(Trouble::Memory),
+        Ok(_order) => Err(Trouble::Row),
+    }
+}
+
+/// The commands that a help lists, each in a line between `Commands:` and an empty line.
+fn commands_of(alloc: Global, help: &str) -> Result<Vec<&str>, Trouble> {
+    let mut commands = Vec::new(alloc);
+    let (_head, list) = help.split_once("Commands:\n").unwrap_or(("", ""));
+    for line in list.lines() {
+        match line.split_whitespace().next() {
+            Some(command) => commands.push(command)?,
+            None => return Ok(commands),
+        }
+    }
+    Ok(commands)
+}
+
+/// The help and, after it, that of each of its commands.
+fn helps_of(alloc: Global, first: &str, commands: &[&str]) -> Result<String, Trouble> {
+    let mut helps = String::new(alloc);
+    helps.push_str(first)?;
+    for command in commands {
+        helps.push_str(help_of(alloc, &["pbook", *command, "--help"])?.as_str())?;
+    }
+    Ok(helps)
+}
+
+/// The long options in a text, each once, without their hyphens.
+fn options_of(alloc: Global, text: &str) -> Result<Vec<&str>, Trouble> {
+    let mut options: Vec<&str> = Vec::new(alloc);
+    for word in text.split(|c: char| c != '-' && !c.is_ascii_lowercase()) {
+        match word.strip_prefix("--") {
+            Some(option) if !option.is_empty() && !has(options.as_slice(), option) => {
+                options.push(option)?;
+            }
+            _ => {}
+        }
+    }
+    Ok(options)
+}
+
+/// Whether a word is one of these.
+fn has(words: &[&str], wanted: &str) -> bool {
+    words.iter().any(|word| *word == wanted)
+}
+
+/// Tells the commands that are words of a text, and those that are none.
+fn tell_commands(page: &mut Page, commands: &[&str], text: &str) {
+    page.put("commands");
+    for command in commands {
+        let mut words = text.split(|c: char| !c.is_ascii_lowercase());
+        if words.any(|word| word == *command) {
+            page.put(" ");
+        } else {
+            page.put(" without ");
+        }
+        page.put(command);
+    }
+    page.put("\n");
+}
+
+/// Tells the options that are wanted, and whether they were found, and those that were found and aren't wanted.
+fn tell_options(page: &mut Page, wanted: &[&str], found: &[&str]) {
+    page.put("options");
+    for option in wanted {
+        page.put(if has(found, option) { " " } else { " without " });
+        page.put(option);
+    }
+    for option in found {
+        if !has(wanted, option) {
+            page.put(" beside ");
+            page.put(option);
+        }
+    }
+    page.put("\n");
+}
