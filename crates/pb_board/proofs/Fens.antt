@@ -12,24 +12,24 @@ use Rattle.pb_board.specs.declared.refusal.SetupError.TheVariants as fault
 use Rattle.pb_board.specs.declared.refusal.FenError.{FenError}
 use Rattle.pb_board.specs.declared.refusal.FenError.TheVariants as refusal
 use Rattle.pb_board.specs.Board.{Place}
-use Rattle.pb_board.specs.Position.{Position, Record, IsSetup, HasOneKing, HasNoEdgePawn, EnPassantHolds, OnPassedRank, IsPassed}
-use Rattle.pb_board.specs.Text.{PlacementText, turn_text, castling_text, passed_text, number_text}
+use Rattle.pb_board.specs.Position.{Position, Record, IsSetup, HasOneKing, HasNoEdgePawn, EnPassantHolds, OnEnPassantRank, IsEnPassantSquare}
+use Rattle.pb_board.specs.Text.{PlacementText, turn_text, castling_text, en_passant_text, number_text}
 use Rattle.pb_board.specs.Fen.{AreFields, FenText}
 use Rattle.pb_board.specs.Position.{IsRecord, record_of}
-use Rattle.pb_board.specs.Refusal.{IsDue, IsFirstDue, of_record, of_setup, AreParts, IsRefusedAs, IsFault, IsFirstFault, field, fields, SpellsBoard, SpellsPassed, refusal_of}
-use Rattle.pb_board.proofs.Unique.{placement_one_board, turn_injective, passed_injective, fields_of_text, on_rank, one_record, one_setup}
+use Rattle.pb_board.specs.Refusal.{IsDue, IsFirstDue, of_record, of_setup, AreParts, IsRefusedAs, IsFault, IsFirstFault, field, fields, SpellsBoard, SpellsEnPassant, refusal_of}
+use Rattle.pb_board.proofs.Unique.{placement_one_board, turn_injective, en_passant_injective, fields_of_text, on_rank, one_record, one_setup}
 use Rattle.pb_board.proofs.Dues.{first_here, first_later, first_front, first_behind, first_map, none_first}
 
-en_passant : (board : List Place) (turn : Colour) (ep : Option ℕ) → IfSome ep (λ q. OnPassedRank turn q) → IfSome ep (λ q. IsPassed board turn q) → EnPassantHolds board turn ep
-en_passant board turn None h k = h
-en_passant board turn (Some q) h k = (h, k)
+en_passant_holds : (board : List Place) (turn : Colour) (ep : Option ℕ) → IfSome ep (λ q. OnEnPassantRank turn q) → IfSome ep (λ q. IsEnPassantSquare board turn q) → EnPassantHolds board turn ep
+en_passant_holds board turn None h k = h
+en_passant_holds board turn (Some q) h k = (h, k)
 
 -- the first four pieces of a text are these
-pub record Begins (pieces : List (List ℕ)) (placement turn castling passed : List ℕ) : Type 0 where
+pub record Begins (pieces : List (List ℕ)) (placement turn castling en_passant : List ℕ) : Type 0 where
   pub first : field pieces 0 ≡ placement
   pub second : field pieces 1 ≡ turn
   pub third : field pieces 2 ≡ castling
-  pub fourth : field pieces 3 ≡ passed
+  pub fourth : field pieces 3 ≡ en_passant
 
 abbrev NotDue : List (List ℕ) → FenError → Type 0
 NotDue pieces d = ¬ IsDue d pieces
@@ -50,9 +50,9 @@ all_three P x y z h k l = All-cons P x (y ∷ z ∷ []) h (all_two P y z k l)
 all_four : {A : Type 0} (P : A → Type 0) (w x y z : A) → P w → P x → P y → P z → All P (w ∷ x ∷ y ∷ z ∷ [])
 all_four P w x y z g h k l = All-cons P w (x ∷ y ∷ z ∷ []) g (all_three P x y z h k l)
 
-passed_holds : (board : List Place) (turn : Colour) (ep : Option ℕ) → EnPassantHolds board turn ep → IfSome ep (λ q. IsPassed board turn q)
-passed_holds board turn None h = h
-passed_holds board turn (Some q) h = h.1
+is_en_passant : (board : List Place) (turn : Colour) (ep : Option ℕ) → EnPassantHolds board turn ep → IfSome ep (λ q. IsEnPassantSquare board turn q)
+is_en_passant board turn None h = h
+is_en_passant board turn (Some q) h = h.1
 
 module _ (pieces : List (List ℕ)) (p : Position) (a b c d : List ℕ) (cut : Begins pieces a b c d) (h : AreParts p a b c d) where
   spells_board : SpellsBoard pieces p.board
@@ -61,14 +61,14 @@ module _ (pieces : List (List ℕ)) (p : Position) (a b c d : List ℕ) (cut : B
   only_board : (x : List Place) → SpellsBoard pieces x → x ≡ p.board
   only_board x s = (h.board_is x s.places).0 (subst (PlacementText x) cut.first s.placement)
 
-  spells_passed : SpellsPassed pieces p.turn p.ep
-  spells_passed = record { side = cut.second ∙ h.turn_is; square = cut.fourth ∙ h.passed_is; rank = h.rank_is }
+  spells_en_passant : SpellsEnPassant pieces p.turn p.ep
+  spells_en_passant = record { side = cut.second ∙ h.turn_is; square = cut.fourth ∙ h.en_passant_is; rank = h.rank_is }
 
   -- none of the refusals of the four texts is due
   no_text_due : All (NotDue pieces) of_texts
   no_text_due =
       all_four (NotDue pieces) refusal.Placement refusal.Turn refusal.Castling refusal.EnPassantText
-      (λ due. due p.board spells_board) (λ due. due p.turn (cut.second ∙ h.turn_is)) (λ due. due p.rights (cut.third ∙ h.rights_is)) (λ due. due p.turn p.ep spells_passed)
+      (λ due. due p.board spells_board) (λ due. due p.turn (cut.second ∙ h.turn_is)) (λ due. due p.rights (cut.third ∙ h.rights_is)) (λ due. due p.turn p.ep spells_en_passant)
 
   kings_due : IsFault fault.Kings p → IsDue refusal.Kings pieces
   kings_due bad x s white black =
@@ -78,18 +78,18 @@ module _ (pieces : List (List ℕ)) (p : Position) (a b c d : List ℕ) (cut : B
   pawns_due : IsFault fault.Pawns p → IsDue refusal.Pawns pieces
   pawns_due bad x s none = bad (subst HasNoEdgePawn (only_board x s) none)
 
-  passed_due : IsFault fault.EnPassant p → IsDue refusal.EnPassantPawn pieces
-  passed_due bad x t q s sp passed =
+  en_passant_due : IsFault fault.EnPassant p → IsDue refusal.EnPassantPawn pieces
+  en_passant_due bad x t q s sp holds =
       let same = only_board x s in
       let side : t ≡ p.turn = turn_injective t p.turn (sym sp.side ∙ cut.second ∙ h.turn_is) in
-      let square : q ≡ p.ep = passed_injective t q p.ep sp.rank (subst (λ w. IfSome p.ep (λ y. OnPassedRank w y)) (sym side) h.rank_is) (sym sp.square ∙ cut.fourth ∙ h.passed_is) in
-      bad (en_passant p.board p.turn p.ep h.rank_is (subst (λ w. IfSome w (λ y. IsPassed p.board p.turn y)) square (subst (λ w. IfSome q (λ y. IsPassed p.board w y)) side (subst (λ w. IfSome q (λ y. IsPassed w t y)) same passed))))
+      let square : q ≡ p.ep = en_passant_injective t q p.ep sp.rank (subst (λ w. IfSome p.ep (λ y. OnEnPassantRank w y)) (sym side) h.rank_is) (sym sp.square ∙ cut.fourth ∙ h.en_passant_is) in
+      bad (en_passant_holds p.board p.turn p.ep h.rank_is (subst (λ w. IfSome w (λ y. IsEnPassantSquare p.board p.turn y)) square (subst (λ w. IfSome q (λ y. IsEnPassantSquare p.board w y)) side (subst (λ w. IfSome q (λ y. IsEnPassantSquare w t y)) same holds))))
 
   -- the parts break a rule exactly where the refusal of that rule is due
   fault_is : (e : SetupError) → IsFault e p ↔ IsDue (refusal_of e) pieces
   fault_is fault.Kings = (kings_due, λ due white black. due p.board spells_board white black)
   fault_is fault.Pawns = (pawns_due, λ due none. due p.board spells_board none)
-  fault_is fault.EnPassant = (passed_due, λ due holds. due p.board p.turn p.ep spells_board spells_passed (passed_holds p.board p.turn p.ep holds))
+  fault_is fault.EnPassant = (en_passant_due, λ due holds. due p.board p.turn p.ep spells_board spells_en_passant (is_en_passant p.board p.turn p.ep holds))
 
   fault_due : (e : SetupError) → IsFirstFault e p → IsFirstDue of_parts (refusal_of e) pieces
   fault_due e f = first_map refusal_of (λ x. IsFault x p) (λ x. IsDue x pieces) (fault.Kings ∷ fault.Pawns ∷ fault.EnPassant ∷ []) e (λ i x lt. fault_is _) f
@@ -105,7 +105,7 @@ pub setup_found : (p : Position) (a b c d : List ℕ) → AreParts p a b c d →
 setup_found p a b c d h = record {
   placement = a;
   placement_is = (h.board_is p.board h.places).1 refl;
-  are = ap (λ x. a ∷ x ∷ c ∷ d ∷ []) h.turn_is ∙ ap (λ x. a ∷ turn_text p.turn ∷ x ∷ d ∷ []) h.rights_is ∙ ap (λ x. a ∷ turn_text p.turn ∷ castling_text p.rights ∷ x ∷ []) h.passed_is;
+  are = ap (λ x. a ∷ x ∷ c ∷ d ∷ []) h.turn_is ∙ ap (λ x. a ∷ turn_text p.turn ∷ x ∷ d ∷ []) h.rights_is ∙ ap (λ x. a ∷ turn_text p.turn ∷ castling_text p.rights ∷ x ∷ []) h.en_passant_is;
 }
 
 pub four_begin : (a b c d : List ℕ) → Begins (a ∷ b ∷ c ∷ d ∷ []) a b c d
@@ -200,13 +200,13 @@ module _ (text a b c d e f : List ℕ) (cut : fields text ≡ a ∷ b ∷ c ∷ 
 -- ---- the other way: a text of a record
 
 -- the fields of a setup are its parts
-parts_of : (p : Position) (placement : List ℕ) → IsSetup p → PlacementText p.board placement → AreParts p placement (turn_text p.turn) (castling_text p.rights) (passed_text p.ep)
+parts_of : (p : Position) (placement : List ℕ) → IsSetup p → PlacementText p.board placement → AreParts p placement (turn_text p.turn) (castling_text p.rights) (en_passant_text p.ep)
 parts_of p placement lawful h = record {
   places = lawful.places;
   board_is = λ x len. (λ k. placement_one_board x p.board placement len lawful.places k h, λ e. subst (λ w. PlacementText w placement) (sym e) h);
   turn_is = refl;
   rights_is = refl;
-  passed_is = refl;
+  en_passant_is = refl;
   rank_is = on_rank p.board p.turn p.ep lawful.en_passant;
 }
 
@@ -217,7 +217,7 @@ record_never_due f text e lawful h =
     let a = h.fields.placement in
     let b = turn_text p.turn in
     let c = castling_text p.rights in
-    let d = passed_text p.ep in
+    let d = en_passant_text p.ep in
     let cut = fields_of_text f text lawful h in
     let parts = parts_of p a lawful.setup h.fields.placement_is in
     let clocks = no_clock_due text a b c d (number_text f.half) (number_text f.full) cut p parts f.half f.full (lawful.half, refl) (lawful.low, lawful.full, refl) in
@@ -234,7 +234,7 @@ setup_never_due p four e lawful h refused =
     let a = h.placement in
     let b = turn_text p.turn in
     let c = castling_text p.rights in
-    let d = passed_text p.ep in
+    let d = en_passant_text p.ep in
     let pieces = a ∷ b ∷ c ∷ d ∷ [] in
     let parts = parts_of p a lawful h.placement_is in
     let texts = no_text_due pieces p a b c d (four_begin a b c d) parts in

@@ -12,8 +12,8 @@ use Rattle.pb_board.specs.declared.piece.Kind.{Kind}
 use Rattle.pb_board.specs.declared.piece.Kind.TheVariants.{Pawn, Knight, Bishop, Rook, Queen, King}
 use Rattle.pb_board.specs.declared.setup.Rights.{Rights}
 use Rattle.pb_board.specs.Board.{Place, Board, file, rank}
-use Rattle.pb_board.specs.Position.{OnPassedRank}
-use Rattle.pb_board.specs.Text.{letter_of, RankText, PlacementText, rank_of, ranks_down, turn_text, castling_text, flag_letters, letter_if, or_dash, passed_text, number_text}
+use Rattle.pb_board.specs.Position.{OnEnPassantRank}
+use Rattle.pb_board.specs.Text.{letter_of, RankText, PlacementText, rank_of, ranks_down, turn_text, castling_text, flag_letters, letter_if, or_dash, en_passant_text, number_text}
 use Rattle.pb_board.proofs.Numbers.{clock_numeral}
 use Rattle.pb_board.proofs.Joins.{Above}
 
@@ -124,13 +124,13 @@ castling_bytes r =
     (All-append IsFieldByte (letter_if r.black_short 107) _ (flag_bytes r.black_short 107 (omega arith) (omega arith))
     (flag_bytes r.black_long 113 (omega arith) (omega arith)))))
 
-passed_bytes_at : (turn : Colour) (q : ℕ) → OnPassedRank turn q → IsFieldByte (49 + rank q)
-passed_bytes_at White q h = byte (49 + rank q) (omega arith) (omega (arith, h))
-passed_bytes_at Black q h = byte (49 + rank q) (omega arith) (omega (arith, h))
+en_passant_bytes_at : (turn : Colour) (q : ℕ) → OnEnPassantRank turn q → IsFieldByte (49 + rank q)
+en_passant_bytes_at White q h = byte (49 + rank q) (omega arith) (omega (arith, h))
+en_passant_bytes_at Black q h = byte (49 + rank q) (omega arith) (omega (arith, h))
 
-pub passed_bytes : (turn : Colour) (ep : Option ℕ) → IfSome ep (λ q. OnPassedRank turn q) → AreFieldBytes (passed_text ep)
-passed_bytes turn None h = one 45 (byte 45 (omega arith) (omega arith))
-passed_bytes turn (Some q) h = All-cons IsFieldByte (97 + file q) ((49 + rank q) ∷ []) (high_byte (97 + file q) (omega arith) (omega arith)) (one (49 + rank q) (passed_bytes_at turn q h))
+pub en_passant_bytes : (turn : Colour) (ep : Option ℕ) → IfSome ep (λ q. OnEnPassantRank turn q) → AreFieldBytes (en_passant_text ep)
+en_passant_bytes turn None h = one 45 (byte 45 (omega arith) (omega arith))
+en_passant_bytes turn (Some q) h = All-cons IsFieldByte (97 + file q) ((49 + rank q) ∷ []) (high_byte (97 + file q) (omega arith) (omega arith)) (one (49 + rank q) (en_passant_bytes_at turn q h))
 
 pub number_bytes : (n : ℕ) → n < 2 ^ 16 → AreFieldBytes (number_text n)
 number_bytes n lt =

@@ -8,9 +8,9 @@ use Rattle.pb_board.specs.declared.piece.Colour.TheVariants.{White, Black}
 use Rattle.pb_board.specs.declared.setup.Rights.{Rights}
 use Rattle.pb_board.specs.Board.{Board}
 use Rattle.pb_board.specs.Position.{Position, IsSetup}
-use Rattle.pb_board.specs.Text.{PlacementText, turn_text, castling_text, flag_letters, letter_if, or_dash, passed_text}
+use Rattle.pb_board.specs.Text.{PlacementText, turn_text, castling_text, flag_letters, letter_if, or_dash, en_passant_text}
 use Rattle.pb_board.specs.Fen.{AreFields}
-use Rattle.pb_board.proofs.FieldBytes.{IsFieldByte, AreFieldBytes, ranks_length, placement_bytes, turn_bytes, castling_bytes, passed_bytes}
+use Rattle.pb_board.proofs.FieldBytes.{IsFieldByte, AreFieldBytes, ranks_length, placement_bytes, turn_bytes, castling_bytes, en_passant_bytes}
 use Rattle.pb_board.proofs.Unique.{on_rank}
 
 abbrev pub IsPlainByte : ℕ → Type 0
@@ -58,9 +58,9 @@ castling_word r =
     let lengths = dash_length (flag_letters r) (flags_short r) in
     word (castling_text r) lengths.0 lengths.1 (castling_bytes r)
 
-passed_length : (ep : Option ℕ) → (1 ≤ length (passed_text ep)) × (length (passed_text ep) ≤ 255)
-passed_length None = (omega arith, omega arith)
-passed_length (Some q) = (omega arith, omega arith)
+en_passant_length : (ep : Option ℕ) → (1 ≤ length (en_passant_text ep)) × (length (en_passant_text ep) ≤ 255)
+en_passant_length None = (omega arith, omega arith)
+en_passant_length (Some q) = (omega arith, omega arith)
 
 placement_word : (board : Board) (text : List ℕ) → PlacementText board text → IsWord text
 placement_word board text h =
@@ -71,11 +71,11 @@ pub setup_words : (p : Position) (four : List (List ℕ)) → IsSetup p → AreF
 setup_words p four lawful h =
     let turn = turn_text p.turn in
     let castling = castling_text p.rights in
-    let passed = passed_text p.ep in
-    let lengths = passed_length p.ep in
-    All-same IsWord four (h.placement ∷ turn ∷ castling ∷ passed ∷ []) h.are
-    (All-cons IsWord h.placement (turn ∷ castling ∷ passed ∷ []) (placement_word p.board h.placement h.placement_is)
-    (All-cons IsWord turn (castling ∷ passed ∷ []) (turn_word p.turn)
-    (All-cons IsWord castling (passed ∷ []) (castling_word p.rights)
-    (All-cons IsWord passed [] (word passed lengths.0 lengths.1 (passed_bytes p.turn p.ep (on_rank p.board p.turn p.ep lawful.en_passant)))
+    let en_passant = en_passant_text p.ep in
+    let lengths = en_passant_length p.ep in
+    All-same IsWord four (h.placement ∷ turn ∷ castling ∷ en_passant ∷ []) h.are
+    (All-cons IsWord h.placement (turn ∷ castling ∷ en_passant ∷ []) (placement_word p.board h.placement h.placement_is)
+    (All-cons IsWord turn (castling ∷ en_passant ∷ []) (turn_word p.turn)
+    (All-cons IsWord castling (en_passant ∷ []) (castling_word p.rights)
+    (All-cons IsWord en_passant [] (word en_passant lengths.0 lengths.1 (en_passant_bytes p.turn p.ep (on_rank p.board p.turn p.ep lawful.en_passant)))
     (All-nil IsWord)))))

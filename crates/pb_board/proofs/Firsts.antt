@@ -7,8 +7,8 @@ use Rattle.pb_board.specs.declared.setup.Rights.{Rights}
 use Rattle.pb_board.specs.declared.refusal.SetupError.TheVariants as fault
 use Rattle.pb_board.specs.declared.refusal.FenError.TheVariants as refusal
 use Rattle.pb_board.specs.Board.{Board}
-use Rattle.pb_board.specs.Position.{Position, HasOneKing, HasNoEdgePawn, EnPassantHolds, OnPassedRank}
-use Rattle.pb_board.specs.Text.{PlacementText, turn_text, castling_text, passed_text}
+use Rattle.pb_board.specs.Position.{Position, HasOneKing, HasNoEdgePawn, EnPassantHolds, OnEnPassantRank}
+use Rattle.pb_board.specs.Text.{PlacementText, turn_text, castling_text, en_passant_text}
 use Rattle.pb_board.specs.Refusal.{IsDue, IsFirstDue, IsFault, IsFirstFault, of_setup}
 use Rattle.pb_board.proofs.Dues.{first_here, first_later}
 use Rattle.pb_board.proofs.Unique.{turn_injective}
@@ -35,7 +35,7 @@ module _ (a b c d : List ℕ) where
   abbrev four : List (List ℕ)
   four = a ∷ b ∷ c ∷ d ∷ []
 
-  pub placement_first : ((x : Board) → length x ≡ 64 → PlacementText x a → ⊥) → IsFirstDue (take 4 of_setup) refusal.Placement four
+  pub placement_first : ((x : Board) → length x ≡ 64 → ¬ PlacementText x a) → IsFirstDue (take 4 of_setup) refusal.Placement four
   placement_first bad = first_here (λ x. IsDue x four) refusal.Placement _ (λ x s. bad x s.places s.placement)
 
   module _ (board : Board) (placement : (length board ≡ 64) × ((x : Board) → length x ≡ 64 → PlacementText x a ↔ x ≡ board)) where
@@ -51,11 +51,11 @@ module _ (a b c d : List ℕ) where
           first_later (λ x. IsDue x four) refusal.Placement _ _ is_placement
           (first_later (λ x. IsDue x four) refusal.Turn _ _ (λ due. due turn second) (first_here (λ x. IsDue x four) refusal.Castling _ bad))
 
-      pub passed_first : (rights : Rights) → c ≡ castling_text rights → ((ep : Option ℕ) → d ≡ passed_text ep → IfSome ep (λ q. OnPassedRank turn q) → ⊥) → IsFirstDue (take 4 of_setup) refusal.EnPassantText four
-      passed_first rights third bad =
+      pub en_passant_text_first : (rights : Rights) → c ≡ castling_text rights → ((ep : Option ℕ) → d ≡ en_passant_text ep → IfSome ep (λ q. OnEnPassantRank turn q) → ⊥) → IsFirstDue (take 4 of_setup) refusal.EnPassantText four
+      en_passant_text_first rights third bad =
           first_later (λ x. IsDue x four) refusal.Placement _ _ is_placement
           (first_later (λ x. IsDue x four) refusal.Turn _ _ (λ due. due turn second)
           (first_later (λ x. IsDue x four) refusal.Castling _ _ (λ due. due rights third)
           (first_here (λ x. IsDue x four) refusal.EnPassantText _ (λ t ep s.
           let same : t ≡ turn = turn_injective t turn (sym s.side ∙ second) in
-          bad ep s.square (subst (λ w. IfSome ep (λ q. OnPassedRank w q)) same s.rank)))))
+          bad ep s.square (subst (λ w. IfSome ep (λ q. OnEnPassantRank w q)) same s.rank)))))

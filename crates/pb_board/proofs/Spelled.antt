@@ -4,7 +4,7 @@ use Rattle.std.specs.List.{AllZip, join_with_byte}
 use Rattle.std.proofs.lemmas.List.{length-append, length-replicate, length-take}
 use Rattle.pb_board.specs.Board.{Place}
 use Rattle.pb_board.specs.Position.{Position, Record}
-use Rattle.pb_board.specs.Text.{letter, BeginsOccupied, RankText, PlacementText, rank_of, ranks_down, turn_text, castling_text, passed_text, number_text}
+use Rattle.pb_board.specs.Text.{letter, BeginsOccupied, RankText, PlacementText, rank_of, ranks_down, turn_text, castling_text, en_passant_text, number_text}
 use Rattle.pb_board.specs.Fen.{AreFields, FenText}
 
 -- ---- ranks
@@ -49,7 +49,7 @@ placement_spelled board =
 pub fields_spelled : (p : Position) → (four : List (List ℕ)) × AreFields p four
 fields_spelled p =
     let placement = placement_spelled p.board in (
-      placement.0 ∷ turn_text p.turn ∷ castling_text p.rights ∷ passed_text p.ep ∷ [],
+      placement.0 ∷ turn_text p.turn ∷ castling_text p.rights ∷ en_passant_text p.ep ∷ [],
       record { placement = placement.0; placement_is = placement.1; are = refl },
     )
 

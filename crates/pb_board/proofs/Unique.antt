@@ -10,14 +10,14 @@ use Rattle.pb_board.specs.declared.piece.Colour.TheVariants.{White, Black}
 use Rattle.pb_board.specs.declared.piece.Piece.{Piece}
 use Rattle.pb_board.specs.declared.setup.Rights.{Rights}
 use Rattle.pb_board.specs.Board.{Place}
-use Rattle.pb_board.specs.Position.{Position, Record, IsSetup, OnPassedRank, EnPassantHolds, position_of}
-use Rattle.pb_board.specs.Text.{letter, BeginsOccupied, RankText, PlacementText, rank_of, ranks_down, turn_text, castling_text, passed_text, number_text}
+use Rattle.pb_board.specs.Position.{Position, Record, IsSetup, OnEnPassantRank, EnPassantHolds, position_of}
+use Rattle.pb_board.specs.Text.{letter, BeginsOccupied, RankText, PlacementText, rank_of, ranks_down, turn_text, castling_text, en_passant_text, number_text}
 use Rattle.pb_board.specs.Fen.{AreFields, FourFields, FenText}
 use Rattle.pb_board.specs.Position.{IsRecord, record_of}
 use Rattle.pb_board.specs.Refusal.{fields}
 use Rattle.pb_board.proofs.Letters.{letter_injective, letter_above}
 use Rattle.pb_board.proofs.Joins.{Above, split_join}
-use Rattle.pb_board.proofs.FieldBytes.{above_space, placement_bytes, turn_bytes, castling_bytes, passed_bytes, number_bytes}
+use Rattle.pb_board.proofs.FieldBytes.{above_space, placement_bytes, turn_bytes, castling_bytes, en_passant_bytes, number_bytes}
 use Rattle.pb_board.proofs.Ranks.{nothing_left}
 use Rattle.pb_board.proofs.Boards.{placement_rows, rows}
 
@@ -109,29 +109,29 @@ placement_one_board a b x la lb h k =
 
 -- ---- the pieces of a record's text
 
-pub on_rank : (board : List Place) (turn : Colour) (ep : Option ℕ) → EnPassantHolds board turn ep → IfSome ep (λ q. OnPassedRank turn q)
+pub on_rank : (board : List Place) (turn : Colour) (ep : Option ℕ) → EnPassantHolds board turn ep → IfSome ep (λ q. OnEnPassantRank turn q)
 on_rank board turn None h = h
 on_rank board turn (Some q) h = h.0
 
-above_passed : (p : Position) → IsSetup p → Above 32 (passed_text p.ep)
-above_passed p lawful = above_space (passed_text p.ep) (passed_bytes p.turn p.ep (on_rank p.board p.turn p.ep lawful.en_passant))
+above_en_passant : (p : Position) → IsSetup p → Above 32 (en_passant_text p.ep)
+above_en_passant p lawful = above_space (en_passant_text p.ep) (en_passant_bytes p.turn p.ep (on_rank p.board p.turn p.ep lawful.en_passant))
 
 -- the text, field by field
 pub joined_fields : (f : Record) (t : List ℕ) → (h : FenText f t)
-    → t ≡ join_with_byte 32 (h.fields.placement ∷ turn_text f.setup.turn ∷ castling_text f.setup.rights ∷ passed_text f.setup.ep ∷ number_text f.half ∷ number_text f.full ∷ [])
+    → t ≡ join_with_byte 32 (h.fields.placement ∷ turn_text f.setup.turn ∷ castling_text f.setup.rights ∷ en_passant_text f.setup.ep ∷ number_text f.half ∷ number_text f.full ∷ [])
 joined_fields f t h = h.joined ∙ ap (λ (four : List (List ℕ)). join_with_byte 32 (four ++ number_text f.half ∷ number_text f.full ∷ [])) h.fields.are
 
 pub fields_of_text : (f : Record) (t : List ℕ) → IsRecord f → (h : FenText f t)
-    → fields t ≡ h.fields.placement ∷ turn_text f.setup.turn ∷ castling_text f.setup.rights ∷ passed_text f.setup.ep ∷ number_text f.half ∷ number_text f.full ∷ []
+    → fields t ≡ h.fields.placement ∷ turn_text f.setup.turn ∷ castling_text f.setup.rights ∷ en_passant_text f.setup.ep ∷ number_text f.half ∷ number_text f.full ∷ []
 fields_of_text f t lawful h =
     let p = f.setup in
-    ap fields (joined_fields f t h) ∙ split_join 32 (h.fields.placement ∷ turn_text p.turn ∷ castling_text p.rights ∷ passed_text p.ep ∷ number_text f.half ∷ number_text f.full ∷ []) (
+    ap fields (joined_fields f t h) ∙ split_join 32 (h.fields.placement ∷ turn_text p.turn ∷ castling_text p.rights ∷ en_passant_text p.ep ∷ number_text f.half ∷ number_text f.full ∷ []) (
       above_space h.fields.placement (placement_bytes p.board h.fields.placement h.fields.placement_is),
       (
         above_space _ (turn_bytes p.turn),
         (
           above_space _ (castling_bytes p.rights),
-          (above_passed p lawful.setup, (above_space _ (number_bytes f.half lawful.half), (above_space _ (number_bytes f.full lawful.full), tt))),
+          (above_en_passant p lawful.setup, (above_space _ (number_bytes f.half lawful.half), (above_space _ (number_bytes f.full lawful.full), tt))),
         ),
       ),
     ) (lit< tt)
@@ -173,18 +173,18 @@ turn_injective White Black e = let h : ◌≡◌ {A = ℕ} 119 98 = ap (λ (t : 
 turn_injective Black White e = let h : ◌≡◌ {A = ℕ} 98 119 = ap (λ (t : List ℕ). get_or t 0 0) e in absurd (omega (arith, h))
 turn_injective Black Black e = refl
 
-pub passed_injective : (turn : Colour) (p q : Option ℕ) → IfSome p (λ x. OnPassedRank turn x) → IfSome q (λ x. OnPassedRank turn x) → passed_text p ≡ passed_text q → p ≡ q
-passed_injective turn None None h k e = refl
-passed_injective turn None (Some y) h k e = absurd (omega (arith, ap length e))
-passed_injective turn (Some x) None h k e = absurd (omega (arith, ap length e))
-passed_injective turn (Some x) (Some y) h k e =
+pub en_passant_injective : (turn : Colour) (p q : Option ℕ) → IfSome p (λ x. OnEnPassantRank turn x) → IfSome q (λ x. OnEnPassantRank turn x) → en_passant_text p ≡ en_passant_text q → p ≡ q
+en_passant_injective turn None None h k e = refl
+en_passant_injective turn None (Some y) h k e = absurd (omega (arith, ap length e))
+en_passant_injective turn (Some x) None h k e = absurd (omega (arith, ap length e))
+en_passant_injective turn (Some x) (Some y) h k e =
     let file : 97 + x % 8 ≡ 97 + y % 8 = ap (λ (t : List ℕ). get_or t 0 0) e in
     let same : x ≡ y = omega (arith, file, h, k) in
     ap (λ n. Some n) same
 
 one_list_of_fields : (p : Position) (s t : List (List ℕ)) → AreFields p s → AreFields p t → s ≡ t
 one_list_of_fields p s t h k =
-    h.are ∙ ap (λ x. x ∷ turn_text p.turn ∷ castling_text p.rights ∷ passed_text p.ep ∷ []) (placement_one_text p.board h.placement k.placement h.placement_is k.placement_is) ∙ sym k.are
+    h.are ∙ ap (λ x. x ∷ turn_text p.turn ∷ castling_text p.rights ∷ en_passant_text p.ep ∷ []) (placement_one_text p.board h.placement k.placement h.placement_is k.placement_is) ∙ sym k.are
 
 pub one_text : (f : Record) (t u : List ℕ) → FenText f t → FenText f u → t ≡ u
 one_text f t u h k =
@@ -200,7 +200,7 @@ one_setup p q four lp lq h k =
     let boards : p.board ≡ q.board = placement_one_board p.board q.board h.placement lp.places lq.places h.placement_is (subst (PlacementText q.board) (sym (cell 0)) k.placement_is) in
     let turns : p.turn ≡ q.turn = turn_injective p.turn q.turn (cell 1) in
     let rights : p.rights ≡ q.rights = castling_injective p.rights q.rights (cell 2) in
-    let eps : p.ep ≡ q.ep = passed_injective p.turn p.ep q.ep (on_rank p.board p.turn p.ep lp.en_passant) (subst (λ x. IfSome q.ep (λ y. OnPassedRank x y)) (sym turns) (on_rank q.board q.turn q.ep lq.en_passant)) (cell 3) in
+    let eps : p.ep ≡ q.ep = en_passant_injective p.turn p.ep q.ep (on_rank p.board p.turn p.ep lp.en_passant) (subst (λ x. IfSome q.ep (λ y. OnEnPassantRank x y)) (sym turns) (on_rank q.board q.turn q.ep lq.en_passant)) (cell 3) in
     ap (λ x. position_of x p.turn p.rights p.ep) boards ∙ ap (λ x. position_of q.board x p.rights p.ep) turns ∙ ap (λ x. position_of q.board q.turn x p.ep) rights ∙ ap (λ x. position_of q.board q.turn q.rights x) eps
 
 pub one_record : (f g : Record) (t : List ℕ) → IsRecord f → IsRecord g → FenText f t → FenText g t → f ≡ g

@@ -9,7 +9,7 @@ use Rattle.pb_board.specs.declared.piece.Colour.TheVariants.{White, Black}
 use Rattle.pb_board.specs.declared.setup.Rights.{Rights}
 use Rattle.pb_board.specs.Board.{Place}
 use Rattle.pb_board.specs.Position.{Position}
-use Rattle.pb_board.specs.Text.{letter, BeginsOccupied, RankText, PlacementText, rank_of, ranks_down, turn_text, castling_text, passed_text}
+use Rattle.pb_board.specs.Text.{letter, BeginsOccupied, RankText, PlacementText, rank_of, ranks_down, turn_text, castling_text, en_passant_text}
 use Rattle.pb_board.specs.Written.{AppendsRank, AppendsPlacement, AppendsSetup}
 
 -- the first i squares were written, but for a run of empty ones at their end
@@ -122,12 +122,12 @@ turn_short : (t : Colour) → length (turn_text t) ≡ 1
 turn_short White = refl
 turn_short Black = refl
 
-pub setup_written : (p : Position) (start s1 s2 s3 s4 s5 s6 s7 : List ℕ) (b : List Place) (t : Colour) (r : Rights) (e : Option ℕ) → b ≡ p.board → t ≡ p.turn → r ≡ p.rights → e ≡ p.ep → AppendsPlacement start s1 b → s2 ≡ s1 ++ 32 ∷ [] → s3 ≡ s2 ++ turn_text t → s4 ≡ s3 ++ 32 ∷ [] → s5 ≡ s4 ++ castling_text r → s6 ≡ s5 ++ 32 ∷ [] → s7 ≡ s6 ++ passed_text e → length (castling_text r) ≤ 4 → length (passed_text e) ≤ 2 → AppendsSetup start s7 p
+pub setup_written : (p : Position) (start s1 s2 s3 s4 s5 s6 s7 : List ℕ) (b : List Place) (t : Colour) (r : Rights) (e : Option ℕ) → b ≡ p.board → t ≡ p.turn → r ≡ p.rights → e ≡ p.ep → AppendsPlacement start s1 b → s2 ≡ s1 ++ 32 ∷ [] → s3 ≡ s2 ++ turn_text t → s4 ≡ s3 ++ 32 ∷ [] → s5 ≡ s4 ++ castling_text r → s6 ≡ s5 ++ 32 ∷ [] → s7 ≡ s6 ++ en_passant_text e → length (castling_text r) ≤ 4 → length (en_passant_text e) ≤ 2 → AppendsSetup start s7 p
 setup_written p start s1 s2 s3 s4 s5 s6 s7 b t r e b-is t-is r-is e-is h h2 h3 h4 h5 h6 h7 four two = record {
-  text = join_with_byte 32 (h.text ∷ turn_text p.turn ∷ castling_text p.rights ∷ passed_text p.ep ∷ []);
+  text = join_with_byte 32 (h.text ∷ turn_text p.turn ∷ castling_text p.rights ∷ en_passant_text p.ep ∷ []);
   spells = record { four = _; fields = record { placement = h.text; placement_is = subst (λ w. PlacementText w h.text) b-is h.spells; are = refl }; joined = refl };
   short =
-      omega (arith, length-four h.text (turn_text p.turn) (castling_text p.rights) (passed_text p.ep), h.short, turn_short p.turn, rw r-is at four, rw e-is at two);
+      omega (arith, length-four h.text (turn_text p.turn) (castling_text p.rights) (en_passant_text p.ep), h.short, turn_short p.turn, rw r-is at four, rw e-is at two);
   appended =
-      rw (h7, h6, h5, h4, h3, h2, h.appended, t-is, r-is, e-is) (join_four start h.text (turn_text p.turn) (castling_text p.rights) (passed_text p.ep));
+      rw (h7, h6, h5, h4, h3, h2, h.appended, t-is, r-is, e-is) (join_four start h.text (turn_text p.turn) (castling_text p.rights) (en_passant_text p.ep));
 }

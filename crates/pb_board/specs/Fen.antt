@@ -2,13 +2,13 @@
 use Rattle.std.specs.Prelude.{◌≡◌, ℕ, List, [], ◌∷◌, ◌++◌}
 use Rattle.std.specs.List.{join_with_byte}
 use Rattle.pb_board.specs.Position.{Position, Record}
-use Rattle.pb_board.specs.Text.{PlacementText, turn_text, castling_text, passed_text, number_text}
+use Rattle.pb_board.specs.Text.{PlacementText, turn_text, castling_text, en_passant_text, number_text}
 
 -- the texts of the first four fields
 pub record AreFields (p : Position) (four : List (List ℕ)) : Type 0 where
   pub placement : List ℕ
   pub placement_is : PlacementText p.board placement
-  pub are : four ≡ placement ∷ turn_text p.turn ∷ castling_text p.rights ∷ passed_text p.ep ∷ []
+  pub are : four ≡ placement ∷ turn_text p.turn ∷ castling_text p.rights ∷ en_passant_text p.ep ∷ []
 
 -- the first four fields, joined by single spaces
 pub record FourFields (p : Position) (text : List ℕ) : Type 0 where

@@ -30,25 +30,25 @@ abbrev pub HasNoEdgePawn : Board → Type 0
 HasNoEdgePawn board = (q : ℕ) (side : Colour) → Holds board q (pawn_of side) → (0 < rank q) × (rank q < 7)
 
 -- the rank of the en passant square, by the side to move: the sixth for White, the third for Black
-abbrev pub passed_rank : Colour → ℕ
-passed_rank White = 5
-passed_rank Black = 2
+abbrev pub en_passant_rank : Colour → ℕ
+en_passant_rank White = 5
+en_passant_rank Black = 2
 
--- the square directly beyond an en passant square, where the pawn stands that has passed it
+-- the square directly beyond an en passant square, where the pawn stands that has passed over it
 abbrev pub beyond : Colour → ℕ → ℕ
 beyond White q = q - 8
 beyond Black q = q + 8
 
--- the square is empty, and an enemy pawn has just passed it
-pub record IsPassed (board : Board) (turn : Colour) (q : ℕ) : Type 0 where
+-- the square is empty, and an enemy pawn has just passed over it
+pub record IsEnPassantSquare (board : Board) (turn : Colour) (q : ℕ) : Type 0 where
   pub empty : IsEmpty board q
   pub pawn : Holds board (beyond turn q) (pawn_of (opponent turn))
 
-abbrev pub OnPassedRank : Colour → ℕ → Type 0
-OnPassedRank turn q = rank q ≡ passed_rank turn
+abbrev pub OnEnPassantRank : Colour → ℕ → Type 0
+OnEnPassantRank turn q = rank q ≡ en_passant_rank turn
 
 abbrev pub EnPassantHolds : Board → Colour → Option ℕ → Type 0
-EnPassantHolds board turn ep = IfSome ep (λ q. OnPassedRank turn q × IsPassed board turn q)
+EnPassantHolds board turn ep = IfSome ep (λ q. OnEnPassantRank turn q × IsEnPassantSquare board turn q)
 
 -- the rules that every setup meets
 pub record IsSetup (p : Position) : Type 0 where

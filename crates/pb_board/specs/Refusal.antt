@@ -9,8 +9,8 @@ use Rattle.pb_board.specs.declared.refusal.SetupError.TheVariants as fault
 use Rattle.pb_board.specs.declared.refusal.FenError.{FenError}
 use Rattle.pb_board.specs.declared.refusal.FenError.TheVariants as refusal
 use Rattle.pb_board.specs.Board.{Board}
-use Rattle.pb_board.specs.Position.{Position, HasOneKing, HasNoEdgePawn, EnPassantHolds, OnPassedRank, IsPassed}
-use Rattle.pb_board.specs.Text.{PlacementText, turn_text, castling_text, passed_text, number_text}
+use Rattle.pb_board.specs.Position.{Position, HasOneKing, HasNoEdgePawn, EnPassantHolds, OnEnPassantRank, IsEnPassantSquare}
+use Rattle.pb_board.specs.Text.{PlacementText, turn_text, castling_text, en_passant_text, number_text}
 
 -- this one of the list is due, and none before it
 pub record IsFirstOf {E : Type 0} (errors : List E) (due : E → Type 0) (e : E) : Type 0 where
@@ -52,10 +52,10 @@ pub record SpellsBoard (pieces : List (List ℕ)) (board : Board) : Type 0 where
   pub placement : PlacementText board (field pieces 0)
 
 -- the fourth piece spells a square of the rank that fits the side which the second piece names, or none
-pub record SpellsPassed (pieces : List (List ℕ)) (turn : Colour) (ep : Option ℕ) : Type 0 where
+pub record SpellsEnPassant (pieces : List (List ℕ)) (turn : Colour) (ep : Option ℕ) : Type 0 where
   pub side : field pieces 1 ≡ turn_text turn
-  pub square : field pieces 3 ≡ passed_text ep
-  pub rank : IfSome ep (λ q. OnPassedRank turn q)
+  pub square : field pieces 3 ≡ en_passant_text ep
+  pub rank : IfSome ep (λ q. OnEnPassantRank turn q)
 
 -- when each refusal is due
 abbrev pub IsDue : FenError → List (List ℕ) → Type 0
@@ -63,13 +63,13 @@ IsDue refusal.Fields pieces = length pieces ≢ 6
 IsDue refusal.Placement pieces = (board : Board) → ¬ SpellsBoard pieces board
 IsDue refusal.Turn pieces = (turn : Colour) → field pieces 1 ≢ turn_text turn
 IsDue refusal.Castling pieces = (rights : Rights) → field pieces 2 ≢ castling_text rights
-IsDue refusal.EnPassantText pieces = (turn : Colour) (ep : Option ℕ) → ¬ SpellsPassed pieces turn ep
+IsDue refusal.EnPassantText pieces = (turn : Colour) (ep : Option ℕ) → ¬ SpellsEnPassant pieces turn ep
 IsDue refusal.Half pieces = (n : ℕ) → n < 2 ^ 16 → field pieces 4 ≢ number_text n
 IsDue refusal.Full pieces = (n : ℕ) → 0 < n → n < 2 ^ 16 → field pieces 5 ≢ number_text n
 IsDue refusal.Kings pieces = (board : Board) → SpellsBoard pieces board → HasOneKing board White → ¬ HasOneKing board Black
 IsDue refusal.Pawns pieces = (board : Board) → SpellsBoard pieces board → ¬ HasNoEdgePawn board
 IsDue refusal.EnPassantPawn pieces =
-    (board : Board) (turn : Colour) (ep : Option ℕ) → SpellsBoard pieces board → SpellsPassed pieces turn ep → ¬ IfSome ep (λ q. IsPassed board turn q)
+    (board : Board) (turn : Colour) (ep : Option ℕ) → SpellsBoard pieces board → SpellsEnPassant pieces turn ep → ¬ IfSome ep (λ q. IsEnPassantSquare board turn q)
 
 -- the refusals of a whole record, in order
 abbrev pub of_record : List FenError
@@ -92,13 +92,13 @@ refusal_of fault.Pawns = refusal.Pawns
 refusal_of fault.EnPassant = refusal.EnPassantPawn
 
 -- what the four texts spell, and nothing else
-pub record AreParts (p : Position) (placement turn castling passed : List ℕ) : Type 0 where
+pub record AreParts (p : Position) (placement turn castling en_passant : List ℕ) : Type 0 where
   pub places : length p.board ≡ 64
   pub board_is : (b : Board) → length b ≡ 64 → PlacementText b placement ↔ b ≡ p.board
   pub turn_is : turn ≡ turn_text p.turn
   pub rights_is : castling ≡ castling_text p.rights
-  pub passed_is : passed ≡ passed_text p.ep
-  pub rank_is : IfSome p.ep (λ q. OnPassedRank p.turn q)
+  pub en_passant_is : en_passant ≡ en_passant_text p.ep
+  pub rank_is : IfSome p.ep (λ q. OnEnPassantRank p.turn q)
 
 -- the refusal of these parts, which are no setup
 pub record IsRefusedAs (e : FenError) (p : Position) : Type 0 where

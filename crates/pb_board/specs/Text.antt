@@ -86,9 +86,9 @@ abbrev pub square_text : ℕ → List ℕ
 square_text q = (97 + file q) ∷ (49 + rank q) ∷ []
 
 -- a square, or a - for none
-abbrev pub passed_text : Option ℕ → List ℕ
-passed_text None = 45 ∷ []
-passed_text (Some q) = square_text q
+abbrev pub en_passant_text : Option ℕ → List ℕ
+en_passant_text None = 45 ∷ []
+en_passant_text (Some q) = square_text q
 
 -- decimal, without leading zeros
 abbrev pub number_text : ℕ → List ℕ

@@ -31,7 +31,7 @@ pub fn one_setup()
 
 /// No refusal is due for a text of a record.
 pub fn none_due()
-    ensures { (f : Record) (t : List ℕ) (e : FenError) → IsRecord f → FenText f t → IsFirstDue of_record e (fields t) → ⊥ }
+    ensures { (f : Record) (t : List ℕ) (e : FenError) → IsRecord f → FenText f t → ¬ IsFirstDue of_record e (fields t) }
 {}
 
 /// Setups are equal (`==`) exactly where they are one position.

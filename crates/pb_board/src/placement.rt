@@ -10,7 +10,7 @@ use crate::rank::read_rank;
 
 /// The board that the text spells.
 pub(crate) fn read_placement(text: &[u8]) -> Option<[Option<Piece>; 64]>
-    ensures { MatchOption result ((b : List Place) → length b ≡ 64 → PlacementText b text.now → ⊥)
+    ensures { MatchOption result ((b : List Place) → length b ≡ 64 → ¬ PlacementText b text.now)
         (λ board. (length board ≡ 64) × ((b : List Place) → length b ≡ 64 → (PlacementText b text.now ↔ b ≡ board))) }
 {
     let mut board = [None; 64];

@@ -1,6 +1,6 @@
 //! The text of one rank.
 
-ghost use Rattle.std.specs.Prelude.{◌≡◌, ◌↔◌, ◌≤◌, ◌+◌, ◌-◌, ◌<◌, List, length, MatchOption, SomeIff};
+ghost use Rattle.std.specs.Prelude.{◌≡◌, ◌≢◌, ◌↔◌, ◌≤◌, ◌+◌, ◌-◌, ◌<◌, List, length, MatchOption, SomeIff};
 ghost use Rattle.pb_board.specs.Board.{Place};
 ghost use Rattle.pb_board.specs.Text.{RankText, letter as piece_letter};
 ghost use Rattle.pb_board.specs.declared.piece.Piece.{Piece};
@@ -9,7 +9,7 @@ use crate::piece::{Colour, Kind, Piece};
 
 /// The piece of this letter.
 fn piece_of(letter: u8) -> Option<Piece>
-    ensures { MatchOption result ((p : Piece) → piece_letter p ≡ letter → ⊥) (λ p. letter ≡ piece_letter p) }
+    ensures { MatchOption result ((p : Piece) → piece_letter p ≢ letter) (λ p. letter ≡ piece_letter p) }
 {
     let colour = if letter.is_ascii_uppercase() {
         Colour::White
@@ -30,7 +30,7 @@ fn piece_of(letter: u8) -> Option<Piece>
 
 /// The eight squares, from file a on, that the text spells.
 pub(crate) fn read_rank(text: &[u8]) -> Option<[Option<Piece>; 8]>
-    ensures { MatchOption result ((s : List Place) → length s ≡ 8 → RankText s text.now → ⊥)
+    ensures { MatchOption result ((s : List Place) → length s ≡ 8 → ¬ RankText s text.now)
         (λ squares. (s : List Place) → length s ≡ 8 → (RankText s text.now ↔ s ≡ squares)) }
 {
     let mut squares = [None; 8];

@@ -13,7 +13,7 @@ use crate::piece::{Colour, Piece};
 use crate::placement::read_placement;
 use crate::refusal::{FenError, SetupError};
 use crate::setup::{Rights, Setup};
-use crate::small_fields::{read_passed, read_rights, read_turn};
+use crate::small_fields::{read_en_passant, read_rights, read_turn};
 use crate::square::Square;
 
 /// What the first four fields spell.
@@ -31,10 +31,10 @@ fn read_parts(
     placement: &[u8],
     turn: &[u8],
     castling: &[u8],
-    passed: &[u8],
+    en_passant: &[u8],
 ) -> Result<Parts, FenError>
-    ensures { MatchResult result (λ p. AreParts (position_of p.board p.turn p.rights p.ep) placement.now turn.now castling.now passed.now)
-        (λ e. IsFirstDue (take 4 of_setup) e (placement.now ∷ turn.now ∷ castling.now ∷ passed.now ∷ [])) }
+    ensures { MatchResult result (λ p. AreParts (position_of p.board p.turn p.rights p.ep) placement.now turn.now castling.now en_passant.now)
+        (λ e. IsFirstDue (take 4 of_setup) e (placement.now ∷ turn.now ∷ castling.now ∷ en_passant.now ∷ [])) }
 {
     let Some(board) = read_placement(placement) else {
         return Err(FenError::Placement);
@@ -45,7 +45,7 @@ fn read_parts(
     let Some(rights) = read_rights(castling) else {
         return Err(FenError::Castling);
     };
-    let Some(ep) = read_passed(passed, turn) else {
+    let Some(ep) = read_en_passant(en_passant, turn) else {
         return Err(FenError::EnPassantText);
     };
     Ok(Parts {
@@ -137,7 +137,7 @@ fn judge(text: &[u8]) -> Result<Fen, FenError>
         fields.placement,
         fields.turn,
         fields.castling,
-        fields.passed,
+        fields.en_passant,
     )?;
     let Some(half) = read_number(fields.half) else {
         return Err(FenError::Half);

@@ -5,7 +5,7 @@ ghost use Rattle.pb_board.specs.declared.piece.Colour.{Colour};
 ghost use Rattle.pb_board.specs.Board.{Board};
 ghost use Rattle.pb_board.specs.Mask.{masks_of};
 ghost use Rattle.pb_board.specs.Piece.{pawn_of};
-ghost use Rattle.pb_board.specs.Position.{HasOneKing, HasNoEdgePawn, IsOnlyKing, IsPassed, OnPassedRank};
+ghost use Rattle.pb_board.specs.Position.{HasOneKing, HasNoEdgePawn, IsOnlyKing, IsEnPassantSquare, OnEnPassantRank};
 
 use crate::masks::{self, Masks};
 use crate::piece::{Colour, Kind, Piece};
@@ -49,9 +49,13 @@ pub(crate) fn has_no_edge_pawn(board: &[Option<Piece>; 64]) -> bool
 }
 
 /// Tells whether the square is empty, with an enemy pawn directly beyond it.
-pub(crate) fn is_passed(board: &[Option<Piece>; 64], turn: Colour, square: Square) -> bool
-    requires { OnPassedRank turn square }
-    ensures { IsTrue result ↔ IsPassed board.now turn square }
+pub(crate) fn is_en_passant_square(
+    board: &[Option<Piece>; 64],
+    turn: Colour,
+    square: Square,
+) -> bool
+    requires { OnEnPassantRank turn square }
+    ensures { IsTrue result ↔ IsEnPassantSquare board.now turn square }
 {
     let square = square.index() as usize;
     let beyond = match turn {

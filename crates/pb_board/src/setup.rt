@@ -8,8 +8,8 @@ use crate::initial::{initial_board, initial_masks};
 use crate::masks::{self, Masks};
 use crate::piece::{Colour, Piece};
 use crate::refusal::SetupError;
-use crate::rules::{has_no_edge_pawn, is_passed, one_king, only_king};
-use crate::small_fields::passed_rank;
+use crate::rules::{has_no_edge_pawn, is_en_passant_square, one_king, only_king};
+use crate::small_fields::en_passant_rank;
 use crate::square::Square;
 use std::marker::Model;
 
@@ -119,7 +119,8 @@ impl Setup {
             return Err(SetupError::Pawns);
         }
         if let Some(square) = ep
-            && !(square.rank() == passed_rank(turn) && is_passed(&board, turn, square))
+            && !(square.rank() == en_passant_rank(turn)
+                && is_en_passant_square(&board, turn, square))
         {
             return Err(SetupError::EnPassant);
         }

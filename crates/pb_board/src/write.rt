@@ -2,7 +2,7 @@
 
 ghost use Rattle.std.specs.Prelude.{◌≡◌, ◌≤◌, ◌<◌, ◌+◌, ◌++◌, ◌∷◌, [], ◌==◌, if◌then◌else◌, IfOk, length};
 ghost use Rattle.pb_board.specs.Fen.{FenText, FourFields};
-ghost use Rattle.pb_board.specs.Text.{letter as piece_letter, number_text, turn_text, castling_text, passed_text};
+ghost use Rattle.pb_board.specs.Text.{letter as piece_letter, number_text, turn_text, castling_text, en_passant_text};
 ghost use Rattle.pb_board.specs.Written.{AppendsRank, AppendsPlacement, AppendsSetup};
 
 use crate::fen::{Fen, FenBytes};
@@ -111,10 +111,10 @@ fn put_rights(out: &mut FenBytes, rights: Rights)
 }
 
 /// Writes the en passant square.
-fn put_passed(out: &mut FenBytes, ep: Option<Square>)
+fn put_en_passant(out: &mut FenBytes, ep: Option<Square>)
     requires { length out.old + 2 ≤ 93 }
-    ensures short { length (passed_text ep) ≤ 2 }
-    ensures text { out.new ≡ out.old ++ passed_text ep }
+    ensures short { length (en_passant_text ep) ≤ 2 }
+    ensures text { out.new ≡ out.old ++ en_passant_text ep }
 {
     match ep {
         Some(square) => {
@@ -147,7 +147,7 @@ pub(crate) fn put_setup(out: &mut FenBytes, setup: &Setup)
     out.push(b' ');
     put_rights(out, setup.rights());
     out.push(b' ');
-    put_passed(out, setup.ep());
+    put_en_passant(out, setup.ep());
 }
 
 /// The text of a record, in memory of its own; `Fen::text` gives it without taking any.

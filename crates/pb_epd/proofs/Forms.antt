@@ -5,7 +5,7 @@ use Rattle.std.specs.List.{slice_split, join_with_byte}
 use Rattle.std.proofs.lemmas.List.{append_assoc, append-nil, same_from_push}
 use Rattle.std.proofs.lemmas.List.Elements.{All-head, All-tail, All-cons, All-weaker}
 use Rattle.pb_board.specs.Position.{Position}
-use Rattle.pb_board.specs.Text.{turn_text, castling_text, passed_text}
+use Rattle.pb_board.specs.Text.{turn_text, castling_text, en_passant_text}
 use Rattle.pb_board.specs.Fen.{AreFields}
 use Rattle.pb_board.proofs.Unique.{one_setup, one_setup_text}
 use Rattle.pb_board.proofs.FieldWords.{IsPlainByte, IsWord, setup_words}
@@ -139,26 +139,26 @@ form_is_text e bytes lawful form =
     let placement = s.fields.placement in
     let turn = turn_text p.turn in
     let castling = castling_text p.rights in
-    let passed = passed_text p.ep in
-    let fields : AreFields p (placement ∷ turn ∷ castling ∷ passed ∷ []) = record { placement = placement; placement_is = s.fields.placement_is; are = refl } in
-    let words = setup_words p (placement ∷ turn ∷ castling ∷ passed ∷ []) lawful.setup fields in
-    let after1 = All-tail IsWord placement (turn ∷ castling ∷ passed ∷ []) words in
-    let after2 = All-tail IsWord turn (castling ∷ passed ∷ []) after1 in
-    let after3 = All-tail IsWord castling (passed ∷ []) after2 in
+    let en_passant = en_passant_text p.ep in
+    let fields : AreFields p (placement ∷ turn ∷ castling ∷ en_passant ∷ []) = record { placement = placement; placement_is = s.fields.placement_is; are = refl } in
+    let words = setup_words p (placement ∷ turn ∷ castling ∷ en_passant ∷ []) lawful.setup fields in
+    let after1 = All-tail IsWord placement (turn ∷ castling ∷ en_passant ∷ []) words in
+    let after2 = All-tail IsWord turn (castling ∷ en_passant ∷ []) after1 in
+    let after3 = All-tail IsWord castling (en_passant ∷ []) after2 in
     let ops = flat_map operation_tokens e.operations in
     let rest = flat_map (λ o. 32 ∷ operation_text o) e.operations in
-    let four = spaced_token (word castling) (word passed) ops rest (word_token passed (All-head IsWord passed [] after3)) (operations_stand (word passed) e.operations lawful.lawful) in
-    let three = spaced_token (word turn) (word castling) (word passed ∷ ops) (32 ∷ (passed ++ rest)) (word_token castling (All-head IsWord castling (passed ∷ []) after2)) four in
-    let two = spaced_token (word placement) (word turn) (word castling ∷ word passed ∷ ops) (32 ∷ (castling ++ 32 ∷ (passed ++ rest))) (word_token turn (All-head IsWord turn (castling ∷ passed ∷ []) after1)) three in
-    let whole : bytes ≡ placement ++ 32 ∷ (turn ++ 32 ∷ (castling ++ 32 ∷ (passed ++ rest))) = form.is ∙ ap (λ w. w ++ rest) (s.joined ∙ ap (join_with_byte 32) s.fields.are) ∙ simp append_assoc in
+    let four = spaced_token (word castling) (word en_passant) ops rest (word_token en_passant (All-head IsWord en_passant [] after3)) (operations_stand (word en_passant) e.operations lawful.lawful) in
+    let three = spaced_token (word turn) (word castling) (word en_passant ∷ ops) (32 ∷ (en_passant ++ rest)) (word_token castling (All-head IsWord castling (en_passant ∷ []) after2)) four in
+    let two = spaced_token (word placement) (word turn) (word castling ∷ word en_passant ∷ ops) (32 ∷ (castling ++ 32 ∷ (en_passant ++ rest))) (word_token turn (All-head IsWord turn (castling ∷ en_passant ∷ []) after1)) three in
+    let whole : bytes ≡ placement ++ 32 ∷ (turn ++ 32 ∷ (castling ++ 32 ∷ (en_passant ++ rest))) = form.is ∙ ap (λ w. w ++ rest) (s.joined ∙ ap (join_with_byte 32) s.fields.are) ∙ simp append_assoc in
     record {
-      four = placement ∷ turn ∷ castling ∷ passed ∷ [];
+      four = placement ∷ turn ∷ castling ∷ en_passant ∷ [];
       fields = fields;
       operations = e.operations;
       lawful = lawful.lawful;
       distinct = distinct_in_order e.operations lawful.ordered;
       same = λ o. (λ k. k, λ k. k);
-      tokens = (0, 32 ∷ (turn ++ 32 ∷ (castling ++ 32 ∷ (passed ++ rest))), word_token placement (All-head IsWord placement (turn ∷ castling ∷ passed ∷ []) words), λ no. absurd (no refl), whole, two);
+      tokens = (0, 32 ∷ (turn ++ 32 ∷ (castling ++ 32 ∷ (en_passant ++ rest))), word_token placement (All-head IsWord placement (turn ∷ castling ∷ en_passant ∷ []) words), λ no. absurd (no refl), whole, two);
     }
 
 pub form_is_one : (e : EpdRecord) (b c : List ℕ) → EpdForm e b → EpdForm e c → b ≡ c

@@ -4,7 +4,7 @@ use Rattle.std.specs.Prelude.{All, AllPairs, IfOk, IfErr, map, flat_map}
 use Rattle.std.specs.List.{slice_split}
 use Rattle.std.proofs.lemmas.List.{append-nil, same_from_push}
 use Rattle.pb_board.specs.Position.{Position, IsSetup}
-use Rattle.pb_board.specs.Text.{turn_text, castling_text, passed_text}
+use Rattle.pb_board.specs.Text.{turn_text, castling_text, en_passant_text}
 use Rattle.pb_board.specs.Fen.{AreFields}
 use Rattle.pb_board.specs.Refusal.{IsFirstDue, of_setup}
 use Rattle.pb_board.specs.declared.refusal.FenError.{FenError}
@@ -156,7 +156,7 @@ text_found e bytes a b c d ts us p tokens is fields same h = record {
 -- ---- the text of a record
 
 pub text_tokens : (e : EpdRecord) (bytes : List ℕ) → (h : EpdText e bytes)
-    → Tokens (word h.fields.placement ∷ word (turn_text e.setup.turn) ∷ word (castling_text e.setup.rights) ∷ word (passed_text e.setup.ep) ∷ flat_map operation_tokens h.operations) bytes
+    → Tokens (word h.fields.placement ∷ word (turn_text e.setup.turn) ∷ word (castling_text e.setup.rights) ∷ word (en_passant_text e.setup.ep) ∷ flat_map operation_tokens h.operations) bytes
 text_tokens e bytes h = subst (λ four. Tokens (map word four ++ flat_map operation_tokens h.operations) bytes) h.fields.are h.tokens
 
 module _ (e : EpdRecord) (bytes : List ℕ) (lawful : IsEpd e) (h : EpdText e bytes) where

@@ -24,10 +24,10 @@ pub record Follow (t : Token) (ts : List Token) (rest : List ℕ) : Type 0 where
   pub after : TokensAfter t others rest
 
 -- these words are the first four of the list, and the others follow them
-pub record FourFollow (placement turn castling passed rest : List ℕ) (ts : List Token) : Type 0 where
+pub record FourFollow (placement turn castling en_passant rest : List ℕ) (ts : List Token) : Type 0 where
   pub others : List Token
-  pub is : ts ≡ word placement ∷ word turn ∷ word castling ∷ word passed ∷ others
-  pub after : TokensAfter (word passed) others rest
+  pub is : ts ≡ word placement ∷ word turn ∷ word castling ∷ word en_passant ∷ others
+  pub after : TokensAfter (word en_passant) others rest
 
 -- words and texts alone
 abbrev pub AreOperands : List Token → Type 0

@@ -23,7 +23,7 @@ pub(crate) struct FourWords<'a> {
     pub(crate) placement: &'a [u8],
     pub(crate) turn: &'a [u8],
     pub(crate) castling: &'a [u8],
-    pub(crate) passed: &'a [u8],
+    pub(crate) en_passant: &'a [u8],
     pub(crate) rest: &'a [u8],
 }
 
@@ -72,18 +72,18 @@ fn next_word<'a>(before: Lexeme<'_>, text: &'a [u8]) -> Option<(&'a [u8], &'a [u
 fn four_words(text: &[u8]) -> Option<FourWords<'_>>
     ensures next { MatchOption result
         ((four : List (List ℕ)) (ts : List Token) → length four ≡ 4 → ¬ Tokens (map word four ++ ts) text.now)
-        (λ f. (ts : List Token) → Tokens ts text.now → FourFollow f.placement.now f.turn.now f.castling.now f.passed.now f.rest.now ts) }
-    ensures back { IfSome result (λ f. HasTokens (word f.passed.now) f.rest.now → HasTokens end_mark text.now) }
+        (λ f. (ts : List Token) → Tokens ts text.now → FourFollow f.placement.now f.turn.now f.castling.now f.en_passant.now f.rest.now ts) }
+    ensures back { IfSome result (λ f. HasTokens (word f.en_passant.now) f.rest.now → HasTokens end_mark text.now) }
 {
     let (placement, rest) = next_word(Lexeme::End, text)?;
     let (turn, rest) = next_word(Lexeme::Word(placement), rest)?;
     let (castling, rest) = next_word(Lexeme::Word(turn), rest)?;
-    let (passed, rest) = next_word(Lexeme::Word(castling), rest)?;
+    let (en_passant, rest) = next_word(Lexeme::Word(castling), rest)?;
     Some(FourWords {
         placement,
         turn,
         castling,
-        passed,
+        en_passant,
         rest,
     })
 }
@@ -244,9 +244,9 @@ fn read_tokens(alloc: Global, text: &[u8]) -> Result<Epd, EpdError>
         fields.placement,
         fields.turn,
         fields.castling,
-        fields.passed,
+        fields.en_passant,
     ]) {
-        Ok(setup) => read_operations(alloc, setup, Lexeme::Word(fields.passed), fields.rest),
+        Ok(setup) => read_operations(alloc, setup, Lexeme::Word(fields.en_passant), fields.rest),
         Err(error) => Err(EpdError::Setup(error)),
     }
 }

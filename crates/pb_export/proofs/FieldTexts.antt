@@ -10,8 +10,8 @@ use Rattle.std.proofs.lemmas.Fmt.{decimal_digit}
 use Rattle.std.proofs.lemmas.Str.{IsUtf8-from_ascii}
 use Rattle.pb_board.specs.Fen.{AreFields, FenText, FourFields}
 use Rattle.pb_board.specs.Position.{IsSetup, Position, record_of}
-use Rattle.pb_board.specs.Text.{castling_text, number_text, passed_text, turn_text}
-use Rattle.pb_board.proofs.FieldBytes.{above_space, castling_bytes, passed_bytes, placement_bytes, turn_bytes}
+use Rattle.pb_board.specs.Text.{castling_text, number_text, en_passant_text, turn_text}
+use Rattle.pb_board.proofs.FieldBytes.{above_space, castling_bytes, en_passant_bytes, placement_bytes, turn_bytes}
 use Rattle.pb_board.proofs.FieldWords.{IsPlainByte, IsWord, setup_words}
 use Rattle.pb_board.proofs.Joins.{split_join}
 use Rattle.pb_board.proofs.Unique.{joined_fields, on_rank}
@@ -40,7 +40,7 @@ numbers = λ i. decimal_digit 0 (omega arith) i ∷ decimal_digit 1 (omega arith
 pub four_in_record : (p : Position) (text : List ℕ) → FenText (record_of p 0 1) text → (4 ≤ length text) × FourFields p (take (length text - 4) text)
 four_in_record p text h =
     let a = h.fields.placement in
-    let joined = joined_fields (record_of p 0 1) text h ∙ ap (λ (w : List (List ℕ)). join_with_byte 32 (a ∷ turn_text p.turn ∷ castling_text p.rights ∷ passed_text p.ep ∷ w)) numbers ∙ with_clocks a (turn_text p.turn) (castling_text p.rights) (passed_text p.ep) in
+    let joined = joined_fields (record_of p 0 1) text h ∙ ap (λ (w : List (List ℕ)). join_with_byte 32 (a ∷ turn_text p.turn ∷ castling_text p.rights ∷ en_passant_text p.ep ∷ w)) numbers ∙ with_clocks a (turn_text p.turn) (castling_text p.rights) (en_passant_text p.ep) in
     let four : text ≡ join_with_byte 32 h.four ++ clocks = joined ∙ ap (λ (w : List (List ℕ)). join_with_byte 32 w ++ clocks) (sym h.fields.are) in
     (omega (arith, ap length four, length-append (join_with_byte 32 h.four) clocks), record { four = h.four; fields = h.fields; joined = front_of (join_with_byte 32 h.four) text four })
 
@@ -64,12 +64,12 @@ is_utf8 p text rules h =
 
 -- ---- its pieces
 
-pub pieces : (p : Position) (text : List ℕ) → IsSetup p → (h : FourFields p text) → slice_split (λ b. eqb b 32) text ≡ h.fields.placement ∷ turn_text p.turn ∷ castling_text p.rights ∷ passed_text p.ep ∷ []
+pub pieces : (p : Position) (text : List ℕ) → IsSetup p → (h : FourFields p text) → slice_split (λ b. eqb b 32) text ≡ h.fields.placement ∷ turn_text p.turn ∷ castling_text p.rights ∷ en_passant_text p.ep ∷ []
 pieces p text rules h =
     ap (slice_split (λ b. eqb b 32)) (h.joined ∙ ap (join_with_byte 32) h.fields.are)
-    ∙ split_join 32 (h.fields.placement ∷ turn_text p.turn ∷ castling_text p.rights ∷ passed_text p.ep ∷ []) (
+    ∙ split_join 32 (h.fields.placement ∷ turn_text p.turn ∷ castling_text p.rights ∷ en_passant_text p.ep ∷ []) (
       above_space h.fields.placement (placement_bytes p.board h.fields.placement h.fields.placement_is),
-      (above_space _ (turn_bytes p.turn), (above_space _ (castling_bytes p.rights), (above_space _ (passed_bytes p.turn p.ep (on_rank p.board p.turn p.ep rules.en_passant)), tt))),
+      (above_space _ (turn_bytes p.turn), (above_space _ (castling_bytes p.rights), (above_space _ (en_passant_bytes p.turn p.ep (on_rank p.board p.turn p.ep rules.en_passant)), tt))),
     ) (omega arith)
 
 -- a text of more pieces than one can be cut
@@ -88,7 +88,7 @@ cut_piece pieces others left x front are cut =
 pub last_piece : (text d : List ℕ) → slice_split (λ b. eqb b 32) text ≡ d ∷ [] → d ≡ text
 last_piece text d e = sym (ap (join_with_byte 32) e) ∙ join_with_byte-slice_split 32 text
 
-pub pieces_are : (p : Position) (text : List ℕ) → (h : FourFields p text) → (a b c d : List ℕ) → h.fields.placement ≡ a → turn_text p.turn ≡ b → castling_text p.rights ≡ c → passed_text p.ep ≡ d → AreFields p (a ∷ b ∷ c ∷ d ∷ [])
+pub pieces_are : (p : Position) (text : List ℕ) → (h : FourFields p text) → (a b c d : List ℕ) → h.fields.placement ≡ a → turn_text p.turn ≡ b → castling_text p.rights ≡ c → en_passant_text p.ep ≡ d → AreFields p (a ∷ b ∷ c ∷ d ∷ [])
 pieces_are p text h a b c d ea eb ec ed = record {
   placement = h.fields.placement;
   placement_is = h.fields.placement_is;

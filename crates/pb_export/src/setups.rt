@@ -110,6 +110,6 @@ pub(crate) fn setup_of(text: &SetupText) -> Setup
     let text = text.as_str().as_bytes();
     let (placement, rest) = cut_once(text, b' ').unwrap();
     let (turn, rest) = cut_once(rest, b' ').unwrap();
-    let (castling, passed) = cut_once(rest, b' ').unwrap();
-    read_setup([placement, turn, castling, passed]).unwrap()
+    let (castling, en_passant) = cut_once(rest, b' ').unwrap();
+    read_setup([placement, turn, castling, en_passant]).unwrap()
 }

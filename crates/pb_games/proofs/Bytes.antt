@@ -9,8 +9,8 @@ use Rattle.pb_board.specs.declared.piece.Kind.TheVariants.{Pawn, Knight, Bishop,
 use Rattle.pb_board.specs.declared.setup.Rights.{Rights}
 use Rattle.pb_board.specs.Fen.{FenText}
 use Rattle.pb_board.specs.Position.{Record, IsRecord}
-use Rattle.pb_board.specs.Text.{turn_text, castling_text, flag_letters, letter_if, or_dash, passed_text, number_text}
-use Rattle.pb_board.proofs.FieldBytes.{AreFieldBytes, above_space, ranks_length, placement_bytes, turn_bytes, castling_bytes, passed_bytes, number_bytes}
+use Rattle.pb_board.specs.Text.{turn_text, castling_text, flag_letters, letter_if, or_dash, en_passant_text, number_text}
+use Rattle.pb_board.proofs.FieldBytes.{AreFieldBytes, above_space, ranks_length, placement_bytes, turn_bytes, castling_bytes, en_passant_bytes, number_bytes}
 use Rattle.pb_board.proofs.Joins.{Above, AllAbove}
 use Rattle.pb_board.proofs.Numbers.{clock_numeral}
 use Rattle.pb_board.proofs.Unique.{on_rank, joined_fields}
@@ -63,12 +63,12 @@ field_above text h = Above-weaker 31 32 text (omega arith) (above_space text h)
 pub fen_above : (f : Record) (text : List ℕ) → IsRecord f → FenText f text → Above 31 text
 fen_above f text lawful h =
     let p = f.setup in
-    let passed = passed_bytes p.turn p.ep (on_rank p.board p.turn p.ep lawful.setup.en_passant) in
+    let en_passant = en_passant_bytes p.turn p.ep (on_rank p.board p.turn p.ep lawful.setup.en_passant) in
     let half = field_above _ (number_bytes f.half lawful.half) in
     let full = field_above _ (number_bytes f.full lawful.full) in
-    subst (Above 31) (sym (joined_fields f text h)) (join_above 31 32 (h.fields.placement ∷ turn_text p.turn ∷ castling_text p.rights ∷ passed_text p.ep ∷ number_text f.half ∷ number_text f.full ∷ []) (lit< tt) (
+    subst (Above 31) (sym (joined_fields f text h)) (join_above 31 32 (h.fields.placement ∷ turn_text p.turn ∷ castling_text p.rights ∷ en_passant_text p.ep ∷ number_text f.half ∷ number_text f.full ∷ []) (lit< tt) (
       field_above h.fields.placement (placement_bytes p.board h.fields.placement h.fields.placement_is),
-      (field_above _ (turn_bytes p.turn), (field_above _ (castling_bytes p.rights), (field_above _ passed, (half, (full, tt))))),
+      (field_above _ (turn_bytes p.turn), (field_above _ (castling_bytes p.rights), (field_above _ en_passant, (half, (full, tt))))),
     ))
 
 letter_short : (flag : Bool) (c : ℕ) → length (letter_if flag c) ≤ 1
@@ -99,9 +99,9 @@ turn_short : (turn : Colour) → length (turn_text turn) ≤ 1
 turn_short White = omega arith
 turn_short Black = omega arith
 
-passed_short : (ep : Option ℕ) → length (passed_text ep) ≤ 2
-passed_short None = omega arith
-passed_short (Some q) = omega arith
+en_passant_short : (ep : Option ℕ) → length (en_passant_text ep) ≤ 2
+en_passant_short None = omega arith
+en_passant_short (Some q) = omega arith
 
 six_short : (p t c e a b : List ℕ) → length p ≤ 72 → length t ≤ 1 → length c ≤ 4 → length e ≤ 2 → length a ≤ 5 → length b ≤ 5 → length (join_with_byte 32 (p ∷ t ∷ c ∷ e ∷ a ∷ b ∷ [])) ≤ 94
 six_short p t c e a b hp ht hc he ha hb =
@@ -120,8 +120,8 @@ fen_short f text lawful h =
     let p = f.setup in
     let board = h.fields.placement_is in
     let ranks = (ranks_length 8 p.board board.0 board.1).1 in
-    let whole = six_short h.fields.placement (turn_text p.turn) (castling_text p.rights) (passed_text p.ep) (number_text f.half) (number_text f.full) (omega (arith, ranks, ap length board.2))
-    (turn_short p.turn) (castling_short p.rights) (passed_short p.ep) (clock_numeral f.half lawful.half).short (clock_numeral f.full lawful.full).short in
+    let whole = six_short h.fields.placement (turn_text p.turn) (castling_text p.rights) (en_passant_text p.ep) (number_text f.half) (number_text f.full) (omega (arith, ranks, ap length board.2))
+    (turn_short p.turn) (castling_short p.rights) (en_passant_short p.ep) (clock_numeral f.half lawful.half).short (clock_numeral f.full lawful.full).short in
     omega (arith, whole, ap length (joined_fields f text h))
 
 -- ---- the moves

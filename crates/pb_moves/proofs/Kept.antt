@@ -11,14 +11,14 @@ use Rattle.pb_board.specs.declared.piece.Piece.{Piece}
 use Rattle.pb_board.specs.declared.setup.Rights.{Rights}
 use Rattle.pb_board.specs.Piece.{opponent, pawn_of, rook_of}
 use Rattle.pb_board.specs.Board.{Board, Place, file, rank, Holds, IsForward}
-use Rattle.pb_board.specs.Position.{Position, position_of, IsSetup, HasNoEdgePawn, EnPassantHolds, OnPassedRank, beyond}
+use Rattle.pb_board.specs.Position.{Position, position_of, IsSetup, HasNoEdgePawn, EnPassantHolds, OnEnPassantRank, beyond}
 use Rattle.pb_moves.specs.Moved.{Moved}
 use Rattle.pb_board.specs.Castling.{castling_row}
 use Rattle.pb_moves.specs.Castling.{rook_goes}
 use Rattle.pb_moves.specs.Cases.{Differs, Becomes, Goes, pawn_rank, CaseOf, piece_move, pawn_step, pawn_double, pawn_capture, en_passant, castles}
 use Rattle.pb_moves.proofs.Differing.{All-two, arrived, each_place, holds_on_board, off_two}
-use Rattle.pb_moves.proofs.Passing.{halfway_between, passed_empty, passed_over}
-use Rattle.pb_moves.proofs.Unique.{piece_is, passed_at}
+use Rattle.pb_moves.proofs.Passing.{halfway_between, halfway_empty, passed_over}
+use Rattle.pb_moves.proofs.Unique.{piece_is, en_passant_at}
 use Rattle.pb_moves.proofs.Kings.{becomes_king, holds_at, pawn_reach, kings_after, some_one, white_and_black}
 
 -- pawns stay off the first and last rank where what arrives does
@@ -45,11 +45,11 @@ becomes_no_pawn side m before k other (inl x) = x.3.0
 becomes_no_pawn side m before k other (inr x) = λ e. other (sym x.2 ∙ e)
 
 -- a double step passes a square of the rank for it, next before its target
-pub passed_fits : (side : Colour) (from to passed : ℕ) → rank from ≡ pawn_rank side → file to ≡ file from → file passed ≡ file from
-    → IsForward side 2 from to → IsForward side 1 from passed
-    → OnPassedRank (opponent side) passed × (to ≡ beyond (opponent side) passed) × (passed ≢ from) × (passed ≢ to)
-passed_fits White from to passed home to_file passed_file two one = (omega arith, omega arith, (λ same. omega arith), λ same. omega arith)
-passed_fits Black from to passed home to_file passed_file two one = (omega arith, omega arith, (λ same. omega arith), λ same. omega arith)
+pub halfway_fits : (side : Colour) (from to halfway : ℕ) → rank from ≡ pawn_rank side → file to ≡ file from → file halfway ≡ file from
+    → IsForward side 2 from to → IsForward side 1 from halfway
+    → OnEnPassantRank (opponent side) halfway × (to ≡ beyond (opponent side) halfway) × (halfway ≢ from) × (halfway ≢ to)
+halfway_fits White from to halfway home to_file halfway_file two one = (omega arith, omega arith, (λ same. omega arith), λ same. omega arith)
+halfway_fits Black from to halfway home to_file halfway_file two one = (omega arith, omega arith, (λ same. omega arith), λ same. omega arith)
 
 -- a pawn that isn't on the last rank stays a pawn
 pub double_becomes : (side : Colour) (m : Moved) (before k : Kind) → before ≡ Pawn → (0 < rank m.to) × (rank m.to < 7) → Becomes side m before k → k ≡ Pawn
@@ -61,9 +61,9 @@ pub opponent_opponent : (c : Colour) → opponent (opponent c) ≡ c
 opponent_opponent White = refl
 opponent_opponent Black = refl
 
-pub passed_rank_inside : (c : Colour) (q : ℕ) → OnPassedRank c q → (0 < rank q) × (rank q < 7)
-passed_rank_inside White q e = (omega arith, omega arith)
-passed_rank_inside Black q e = (omega arith, omega arith)
+pub en_passant_rank_inside : (c : Colour) (q : ℕ) → OnEnPassantRank c q → (0 < rank q) × (rank q < 7)
+en_passant_rank_inside White q e = (omega arith, omega arith)
+en_passant_rank_inside Black q e = (omega arith, omega arith)
 
 -- a pawn's own place, from what stands there
 pub pawn_place : (s : Position) (from : ℕ) (p : Piece) → IsSetup s → Holds s.board from p → p.kind ≡ Pawn → (0 < rank from) × (rank from < 7)
@@ -108,9 +108,9 @@ keeps s m p new ok stands own (pawn_step x) =
       en_passant_holds = tt;
     }
 keeps s m p new ok stands own (pawn_double x) =
-    let passed = (m.from + m.to) / 2 in
+    let halfway = (m.from + m.to) / 2 in
     let half = halfway_between s.turn m.from m.to x.same_file x.forward in
-    let fits = passed_fits s.turn m.from m.to passed x.begins x.same_file half.1 x.forward half.2 in
+    let fits = halfway_fits s.turn m.from m.to halfway x.begins x.same_file half.1 x.forward half.2 in
     let inside = double_rank s.turn m.from m.to x.begins x.forward in
     let q : Piece = record { colour = s.turn; kind = x.after.kind } in
     let P : Piece → Type 0 = λ z. Holds new m.to z in
@@ -125,8 +125,8 @@ keeps s m p new ok stands own (pawn_double x) =
       en_passant_holds = (
         fits.0,
         record {
-          empty = x.after.board.others passed (off_two passed (m.from, None) (m.to, Some q) fits.2 fits.3) ∙ passed_empty s m.from m.to on_from on_to half.0 x.way;
-          pawn = holds_at new m.to (beyond (opponent s.turn) passed) _ fits.1 pawn;
+          empty = x.after.board.others halfway (off_two halfway (m.from, None) (m.to, Some q) fits.2 fits.3) ∙ halfway_empty s m.from m.to on_from on_to half.0 x.way;
+          pawn = holds_at new m.to (beyond (opponent s.turn) halfway) _ fits.1 pawn;
         },
       );
     }
@@ -143,7 +143,7 @@ keeps s m p new ok stands own (en_passant x) =
     let F : ℕ × Place → Type 0 = λ c. (side : Colour) → c.1 ≢ Some (pawn_of side) in
     record {
       places = x.after.board.squares;
-      pawns = pawns_going s m p new ((beyond s.turn m.to, None) ∷ []) ok x.after (λ is_pawn. passed_rank_inside s.turn m.to (passed_at s m.to ok x.passed).0)
+      pawns = pawns_going s m p new ((beyond s.turn m.to, None) ∷ []) ok x.after (λ is_pawn. en_passant_rank_inside s.turn m.to (en_passant_at s m.to ok x.square).0)
           (All-cons F (beyond s.turn m.to, None) [] (λ side e. cc) (All-nil F));
       en_passant_holds = tt;
     }

@@ -18,7 +18,7 @@ use Rattle.pb_moves.specs.Castling.{rook_goes, MayCastle}
 use Rattle.pb_moves.specs.Cases.{Differs, Becomes, Goes, CaseOf, piece_move, pawn_step, pawn_double, pawn_capture, en_passant, castles, IsPrey}
 use Rattle.pb_moves.proofs.Castlings.{rows}
 use Rattle.pb_moves.proofs.Differing.{All-two, arrived, each_place}
-use Rattle.pb_moves.proofs.Unique.{piece_is, passed_at}
+use Rattle.pb_moves.proofs.Unique.{piece_is, en_passant_at}
 
 -- two pieces do not stand on one square
 pub holds_one : (board : Board) (q : ℕ) (p r : Piece) → Holds board q p → Holds board q r → p ≡ r
@@ -109,7 +109,7 @@ pub pawn_reach : (colour : Colour) (kind : Kind) (board : Board) (a b : ℕ) →
 pawn_reach colour Pawn board a b r e = r.1
 pawn_reach colour k board a b r e = absurd (cc)
 
--- the pawn that is taken in passing stands beyond the square that it passed
+-- the pawn that is taken en passant stands beyond the square that it passed over
 pub gone_is_beyond : (side : Colour) (from to gone : ℕ) → IsForward side 1 from to → file gone ≡ file to → rank gone ≡ rank from → gone ≡ beyond side to
 gone_is_beyond White from to gone forward gone_file gone_rank = omega arith
 gone_is_beyond Black from to gone forward gone_file gone_rank = omega arith
@@ -155,10 +155,10 @@ king_stays s m p new side k ok stands own other only (pawn_capture x) =
     king_stays_going s m p new side k [] stands own other (open_no_king s.board s.turn m.to side (inr x.target)) (All-nil (λ c. (c.1 ≢ Some (king_of side)) × ¬ Holds s.board c.0 (king_of side))) only x.after
 king_stays s m p new side k ok stands own other only (en_passant x) =
     let Safe : ℕ × Place → Type 0 = λ c. (c.1 ≢ Some (king_of side)) × ¬ Holds s.board c.0 (king_of side) in
-    let passed = passed_at s m.to ok x.passed in
+    let square = en_passant_at s m.to ok x.square in
     let F : Piece → Kind = λ z. z.kind in
-    king_stays_going s m p new side k ((beyond s.turn m.to, None) ∷ []) stands own other (open_no_king s.board s.turn m.to side (inl passed.1.empty))
-    (All-cons Safe (beyond s.turn m.to, None) [] ((λ e. absurd cc), λ h. let same = ap F (holds_one s.board (beyond s.turn m.to) _ _ passed.1.pawn h) in cc) (All-nil Safe)) only x.after
+    king_stays_going s m p new side k ((beyond s.turn m.to, None) ∷ []) stands own other (open_no_king s.board s.turn m.to side (inl square.1.empty))
+    (All-cons Safe (beyond s.turn m.to, None) [] ((λ e. absurd cc), λ h. let same = ap F (holds_one s.board (beyond s.turn m.to) _ _ square.1.pawn h) in cc) (All-nil Safe)) only x.after
 king_stays s m p new side k ok stands own other only (castles c x) =
     let row = castling_row c in
     let Safe : ℕ × Place → Type 0 = λ c. (c.1 ≢ Some (king_of side)) × ¬ Holds s.board c.0 (king_of side) in

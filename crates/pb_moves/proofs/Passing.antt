@@ -89,8 +89,8 @@ halfway_is White from to half same forward files ranks = omega arith
 halfway_is Black from to half same forward files ranks = omega arith
 
 -- the square that a pawn passes over is empty where the way is clear
-pub passed_empty : (s : Position) (from to : ℕ) → from < 64 → to < 64 → IsBetween from ((from + to) / 2) to → Clear s.board from to → IsEmpty s.board ((from + to) / 2)
-passed_empty s from to on_from on_to between way = way ((from + to) / 2) (omega arith) between
+pub halfway_empty : (s : Position) (from to : ℕ) → from < 64 → to < 64 → IsBetween from ((from + to) / 2) to → Clear s.board from to → IsEmpty s.board ((from + to) / 2)
+halfway_empty s from to on_from on_to between way = way ((from + to) / 2) (omega arith) between
 
 -- what the code tests: a pawn stays on its file and goes two ranks
 pub test_passes : (s : Position) (m : Moved) (p : Piece) (new : Board) (half : ℕ) → Holds s.board m.from p → p.colour ≡ s.turn → p.kind ≡ Pawn → file m.from ≡ file m.to

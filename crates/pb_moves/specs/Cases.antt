@@ -94,7 +94,7 @@ pub record PawnCapture (s : Position) (m : Moved) (piece : Piece) (new : Board) 
 pub record EnPassant (s : Position) (m : Moved) (piece : Piece) (new : Board) : Type 0 where
   pub pawn : piece.kind ≡ Pawn
   pub reaches : Reaches piece s.board m.from m.to
-  pub passed : s.ep ≡ Some m.to
+  pub square : s.ep ≡ Some m.to
   pub after : Goes s m piece ((beyond s.turn m.to, None) ∷ []) new
 
 -- castling by a row of the table

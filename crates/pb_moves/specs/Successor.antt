@@ -23,8 +23,8 @@ arriving piece None = piece
 arriving piece (Some kind) = record { colour = piece.colour; kind = kind }
 
 -- en passant: a pawn goes to an empty square of another file, and the pawn beside it is gone
-abbrev pub without_passed : Board → Board → Moved → Board
-without_passed old new m =
+abbrev pub without_taken : Board → Board → Moved → Board
+without_taken old new m =
     if not (file m.to == file m.from) && is_none (at old m.to) then put new (8 * rank m.from + file m.to) None else new
 
 -- castling: the rook goes too
@@ -33,7 +33,7 @@ with_rook old new None = new
 with_rook old new (Some c) = let row = castling_row c in put (put new row.rook_from None) row.rook_to (at old row.rook_from)
 
 abbrev pub beside : Kind → Board → Board → Moved → Board
-beside Pawn old new m = without_passed old new m
+beside Pawn old new m = without_taken old new m
 beside King old new m = with_rook old new (castling_of m.from m.to)
 beside _ old new m = new
 

@@ -10,7 +10,7 @@ ghost use Rattle.pb_moves.specs.After.{PassesOver, KeepsFlag};
 ghost use Rattle.pb_moves.specs.Candidate.{HoldsOwn};
 ghost use Rattle.pb_moves.specs.Beside.{Completes};
 
-use crate::cases::passed;
+use crate::cases::halfway;
 use crate::moves::Move;
 use pb_board::{Castling, Kind, Piece, Rights, Setup, Square};
 
@@ -55,8 +55,8 @@ fn rights_after(setup: &Setup, m: Move) -> Rights
     kept_rights(rights, m)
 }
 
-/// The square that the move of this piece passes over, if it is a pawn's double step.
-fn passed_by(setup: &Setup, m: Move, piece: Piece) -> Option<Square>
+/// The en passant square after the move of this piece: the one that a pawn's double step passes over.
+fn en_passant_after(setup: &Setup, m: Move, piece: Piece) -> Option<Square>
     requires { HoldsOwn setup.now m.from piece }
     ensures { (b : Board) → CaseOf setup.now m piece b → MatchOption result ((q : ℕ) → ¬ PassesOver setup.now m q) (PassesOver setup.now m) }
 {
@@ -67,7 +67,7 @@ fn passed_by(setup: &Setup, m: Move, piece: Piece) -> Option<Square>
         && from.file() == to.file()
         && from.rank().abs_diff(to.rank()) == 2
     {
-        Some(passed(from, to))
+        Some(halfway(from, to))
     } else {
         None
     }
@@ -83,6 +83,6 @@ pub(crate) fn beside_after(setup: &Setup, m: Move, piece: Piece) -> Beside
     // The reader tells that the setup meets its rules.
     let _turn = setup.turn();
     let rights = rights_after(setup, m);
-    let ep = passed_by(setup, m, piece);
+    let ep = en_passant_after(setup, m, piece);
     Beside { rights, ep }
 }

@@ -97,7 +97,7 @@ pub(crate) fn pawn_double(setup: &Setup, m: Move, pawn: Piece, kind: Kind) -> Op
         && from.rank() == pawn_rank(colour)
         && is_forward(colour, 2, from, to)
         && is_empty(board, to)
-        && is_empty(board, passed(from, to))
+        && is_empty(board, halfway(from, to))
     {
         Some(Change::Carry(Piece { colour, kind }))
     } else {
@@ -116,16 +116,16 @@ fn pawn_rank(side: Colour) -> u8
     }
 }
 
-/// The square between two squares of one file.
+/// The square half way between two squares of one file.
 #[inline(always)]
-pub(crate) fn passed(from: Square, to: Square) -> Square
+pub(crate) fn halfway(from: Square, to: Square) -> Square
     requires { file to ≡ file from }
     ensures { (file result ≡ file from) × (rank result ≡ (rank from + rank to) / 2) × (result < 64) }
 {
     square_at(8 * ((from.rank() + to.rank()) / 2) + from.file())
 }
 
-/// A pawn's capture of the pawn that has just passed it.
+/// A pawn's capture of the pawn that has just gone two ranks.
 #[inline]
 pub(crate) fn en_passant(setup: &Setup, m: Move, pawn: Piece, kind: Kind) -> Option<Change>
     requires own { pawn.colour ≡ setup.now.turn }

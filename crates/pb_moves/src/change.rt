@@ -21,7 +21,7 @@ impl Change {
     ghost use Rattle.pb_board.specs.Carried.{carried_twice};
     ghost use Rattle.pb_moves.specs.Change.{Changes, Fits};
 
-    /// The two pieces that the change carries, one after the other: a pawn that takes another in passing goes by way of that pawn's
+    /// The two pieces that the change carries, one after the other: a pawn that takes another en passant goes by way of that pawn's
     /// square, and a rook after its king. Where only one is carried, it is put down twice.
     pub(crate) fn carried(self, m: Move) -> (Carried, Carried)
         ensures { (b : Board) → length b ≡ 64 → Fits self m b → Changes self m b (carried_twice b result.0 result.1) }

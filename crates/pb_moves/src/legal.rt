@@ -82,7 +82,7 @@ pub(crate) fn change_of(setup: &Setup, m: Move, piece: Piece) -> Option<Change>
 }
 
 /// Whether what stands on the square lets a pawn go there: nothing ahead of it, and aside something to take, or some pawn that can be
-/// taken in passing. Other pieces are let pass. Where the answer is no, no move of the piece goes there.
+/// taken en passant. Other pieces are let pass. Where the answer is no, no move of the piece goes there.
 #[inline(always)]
 pub(crate) fn has_way(setup: &Setup, piece: Piece, from: Square, to: Square) -> bool
     ensures { (m : Moved) (b : Board) → m.from ≡ from → m.to ≡ to → CaseOf setup.now m piece b → IsTrue result }
@@ -112,8 +112,8 @@ pub(crate) fn king_after(setup: &Setup, m: Move, piece: Piece) -> Square
     }
 }
 
-/// What is seen of the enemy's attackers after the change. Each change carries a piece, or two in turn: a pawn that takes another in
-/// passing goes by way of that pawn's square, and a rook goes after its king.
+/// What is seen of the enemy's attackers after the change. Each change carries a piece, or two in turn: a pawn that takes another en
+/// passant goes by way of that pawn's square, and a rook goes after its king.
 #[inline(always)]
 fn sight_after(setup: &Setup, m: Move, piece: Piece, change: &Change) -> Sight
     requires own { HoldsOwn setup.now m.from piece }

@@ -49,7 +49,7 @@ fn carry(setup: &mut Setup, m: Move, piece: Piece, arriving: Piece) -> bool
     true
 }
 
-/// Plays a move that carries twice: castling, or a capture of a pawn that has passed.
+/// Plays a move that carries twice: castling, or a capture en passant.
 #[inline(never)]
 fn carry_twice(setup: &mut Setup, m: Move, piece: Piece, change: Change) -> bool
     requires own { HoldsOwn setup.old m.from piece }

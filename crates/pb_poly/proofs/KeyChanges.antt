@@ -19,7 +19,7 @@ use Rattle.pb_moves.proofs.Differing.{All-two, at_put_other, at_put_same, length
 use Rattle.pb_moves.proofs.Kings.{gone_is_beyond, pawn_reach}
 use Rattle.pb_moves.proofs.Successors.{board_is}
 use Rattle.pb_moves.proofs.Castlings.{castling_is, near_is_none, rows}
-use Rattle.pb_moves.proofs.Unique.{king_near, passed_at, pawn_files}
+use Rattle.pb_moves.proofs.Unique.{king_near, en_passant_at, pawn_files}
 use Rattle.pb_poly.specs.Key.{piece_places}
 use Rattle.pb_poly.specs.KeyChange.{beside_kind, changed_places, rook_squares, square_places}
 use Rattle.pb_poly.proofs.Among.{Among, Distinct, total}
@@ -198,7 +198,7 @@ pub slant : (side : Colour) (from to : ℕ) → files_apart from to ≡ 1 → Is
 slant White from to files forward = ((λ e. omega arith), (λ e. omega arith), λ e. omega arith)
 slant Black from to files forward = ((λ e. omega arith), (λ e. omega arith), λ e. omega arith)
 
--- the pawn that is taken in passing stands beside the one that takes it
+-- the pawn that is taken en passant stands beside the one that takes it
 pub gone_is : (s : Position) (m : Moved) (p : Piece) (new : Board) → p.colour ≡ s.turn → EnPassant s m p new → 8 * rank m.from + file m.to ≡ beyond s.turn m.to
 gone_is s m p new own x =
     let F : Colour → Type 0 = λ side. IsForward side 1 m.from m.to in
@@ -241,7 +241,7 @@ covers s m p new ok is stands own (en_passant x) =
     let P : List ℕ → Type 0 = λ beside. Covers s.board new (m.from ∷ m.to ∷ beside) in
     let apart = slant p.colour m.from m.to (pawn_files p.colour p.kind s.board m.from m.to x.reaches x.pawn) (pawn_reach p.colour p.kind s.board m.from m.to x.reaches x.pawn) in
     let G : ℕ → Type 0 = λ q. Goes s m p ((q, None) ∷ []) new in
-    subst P (sym (beside_passing p.kind s.board m x.pawn apart.0 (passed_at s m.to ok x.passed).1.empty))
+    subst P (sym (beside_passing p.kind s.board m x.pawn apart.0 (en_passant_at s m.to ok x.square).1.empty))
     (covers_three s.board new m.from m.to (8 * rank m.from + file m.to) is.moves apart.1 apart.2
     (others_three s m p new (8 * rank m.from + file m.to) (subst G (sym (gone_is s m p new own x)) x.after)))
 covers s m p new ok is stands own (castles c x) =

@@ -24,7 +24,7 @@ use Rattle.pb_moves.proofs.Legality.{case_at}
 use Rattle.pb_moves.proofs.Passing.{passes_is}
 use Rattle.pb_moves.proofs.Successors.{arriving_becomes, castles_differs, keeps_is, kept_elsewhere, one_after, rights_is, same_flag}
 use Rattle.pb_moves.proofs.Unique.{besides_of, goes_of, king_near, step_ranks}
-use Rattle.pb_poly.specs.Key.{has_taker, joined, passed_places, piece_place, place_if}
+use Rattle.pb_poly.specs.Key.{has_taker, joined, en_passant_places, piece_place, place_if}
 use Rattle.pb_poly.specs.KeyChange.{beside_kind, changed_places, lost_places, rook_squares, square_places}
 use Rattle.pb_poly.proofs.KeyChanges.{beside_castling, beside_passing, gone_is, others_two}
 use Rattle.pb_poly.proofs.Keys.{joined-append}
@@ -86,7 +86,7 @@ rook_places s m p new c king found stands case =
     let came : at new row.rook_to ≡ Some (rook_of row.colour) = differs.named 3 (0, None) (omega arith) in
     ap (λ squares. changed_places s.board new squares) (beside_castling p.kind s.board m king ∙ ap rook_squares found) ∙ rw (stood, free, left, came) refl
 
--- a pawn that goes aside to an empty square takes in passing
+-- a pawn that goes aside to an empty square takes en passant
 pub gone_places : (s : Position) (m : Moved) (p : Piece) (new : Board) (gone : ℕ) → p.kind ≡ Pawn → file m.to ≢ file m.from → at s.board m.to ≡ None → gone ≡ 8 * rank m.from + file m.to
     → Holds s.board m.from p → Case s m new → changed_places s.board new (beside_kind p.kind s.board m) ≡ square_places (at s.board gone) gone
 gone_places s m p new gone pawn aside free is stands case =
@@ -134,7 +134,7 @@ rights_after s m t ok x =
 
 -- ---- the en passant square
 
--- the pawn has passed the square half way, which lies before it
+-- the pawn has passed over the square half way, which lies before it
 step_beyond : (side : Colour) (from to : ℕ) → file to ≡ file from → IsForward side 2 from to → (beyond (opponent side) ((from + to) / 2) ≡ to) × (file ((from + to) / 2) ≡ file to)
 step_beyond White from to same forward = (omega arith, omega arith)
 step_beyond Black from to same forward = (omega arith, omega arith)
@@ -154,19 +154,19 @@ takers_stay s m p new side x =
     rw (below, above) refl
 
 double_places : (s t : Position) (m : Moved) (p : Piece) → t.turn ≡ opponent s.turn → t.ep ≡ Some ((m.from + m.to) / 2) → PawnDouble s m p t.board
-    → passed_places t t.ep ≡ place_if (has_taker s.board (opponent s.turn) m.to) (772 + file m.to)
+    → en_passant_places t t.ep ≡ place_if (has_taker s.board (opponent s.turn) m.to) (772 + file m.to)
 double_places s t m p turn ep x =
-    let passed = (m.from + m.to) / 2 in
+    let halfway = (m.from + m.to) / 2 in
     let is = step_beyond s.turn m.from m.to x.same_file x.forward in
-    ap (λ (o : Option ℕ). passed_places t o) ep
-    ∙ ap (λ (side : Colour). place_if (has_taker t.board side (beyond side passed)) (772 + file passed)) turn
-    ∙ ap (λ q. place_if (has_taker t.board (opponent s.turn) q) (772 + file passed)) is.0
-    ∙ ap (λ flag. place_if flag (772 + file passed)) (takers_stay s m p t.board (opponent s.turn) x)
+    ap (λ (o : Option ℕ). en_passant_places t o) ep
+    ∙ ap (λ (side : Colour). place_if (has_taker t.board side (beyond side halfway)) (772 + file halfway)) turn
+    ∙ ap (λ q. place_if (has_taker t.board (opponent s.turn) q) (772 + file halfway)) is.0
+    ∙ ap (λ flag. place_if flag (772 + file halfway)) (takers_stay s m p t.board (opponent s.turn) x)
     ∙ ap (λ f. place_if (has_taker s.board (opponent s.turn) m.to) (772 + f)) is.1
 
 -- a pawn's step of two ranks is a double step
 pub stepped_places : (s t : Position) (m : Moved) (p : Piece) → Holds s.board m.from p → After s m t → p.kind ≡ Pawn → ranks_apart m.from m.to ≡ 2
-    → passed_places t t.ep ≡ place_if (has_taker s.board (opponent s.turn) m.to) (772 + file m.to)
+    → en_passant_places t t.ep ≡ place_if (has_taker s.board (opponent s.turn) m.to) (772 + file m.to)
 stepped_places s t m p stands x pawn two =
     let own = own_at s m p t.board stands x.moves in
     let one : (side : Colour) → IsForward side 1 m.from m.to → ⊥ = λ side forward. let ranks = step_ranks side 1 m.from m.to forward in omega arith in
@@ -180,10 +180,10 @@ stepped_places s t m p stands x pawn two =
     ]
 
 -- no other move passes over a square
-pub no_step : (s t : Position) (m : Moved) (p : Piece) → Holds s.board m.from p → After s m t → (p.kind ≡ Pawn → ranks_apart m.from m.to ≢ 2) → passed_places t t.ep ≡ []
+pub no_step : (s t : Position) (m : Moved) (p : Piece) → Holds s.board m.from p → After s m t → (p.kind ≡ Pawn → ranks_apart m.from m.to ≢ 2) → en_passant_places t t.ep ≡ []
 no_step s t m p stands x other =
     let own = own_at s m p t.board stands x.moves in
-    let none : t.ep ≡ None → passed_places t t.ep ≡ [] = λ e. ap (λ (o : Option ℕ). passed_places t o) e in
+    let none : t.ep ≡ None → en_passant_places t t.ep ≡ [] = λ e. ap (λ (o : Option ℕ). en_passant_places t o) e in
     elim (case_at s m t.board p stands x.moves) [
       | piece_move y ↦ none (passes_is s m p t.board t.ep stands own (piece_move y) x.ep)
       | pawn_step y ↦ none (passes_is s m p t.board t.ep stands own (pawn_step y) x.ep)

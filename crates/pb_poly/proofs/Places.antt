@@ -17,7 +17,7 @@ use Rattle.pb_board.specs.Board.{Board, Place, at, file, rank, is_piece}
 use Rattle.pb_board.specs.Position.{Position, IsSetup, beyond}
 use Rattle.pb_board.proofs.PieceTests.{is_piece-is, is_piece-passes}
 use Rattle.pb_moves.specs.Attack.{files_apart}
-use Rattle.pb_poly.specs.Key.{ArePlaces, HasPlace, of_piece, of_right, en_passant, white_to_move, HasTaker, castling_place, castling_places, has_taker, number_of, passed_places, piece_place, piece_places, place_if, places, rights_places, turn_places}
+use Rattle.pb_poly.specs.Key.{ArePlaces, HasPlace, of_piece, of_right, en_passant, white_to_move, HasTaker, castling_place, castling_places, has_taker, number_of, en_passant_places, piece_place, piece_places, place_if, places, rights_places, turn_places}
 use Rattle.pb_poly.proofs.Among.{Among, Distinct, among_contained, among_either, among_left, among_right, contains_among, distinct_append, distinct_pairs}
 
 -- ---- the pieces
@@ -158,9 +158,9 @@ beside_either taker pawn same next = elim (cases_lt taker pawn) [
   | inr high ↦ inr (omega arith, λ e. omega (arith, e))
 ]
 
-taker_of : (s : Position) (passed : ℕ) → has_taker s.board s.turn (beyond s.turn passed) ≡ true → HasTaker s passed
-taker_of s passed h =
-    let pawn : ℕ = beyond s.turn passed in
+taker_of : (s : Position) (square : ℕ) → has_taker s.board s.turn (beyond s.turn square) ≡ true → HasTaker s square
+taker_of s square h =
+    let pawn : ℕ = beyond s.turn square in
     elim (either_true (not (file pawn == 0) && is_piece (pawn_of s.turn) (at s.board (pawn - 1))) (not (file pawn == 7) && is_piece (pawn_of s.turn) (at s.board (pawn + 1))) h) [
       | inl left ↦
           let parts = and_parts (not (file pawn == 0)) (is_piece (pawn_of s.turn) (at s.board (pawn - 1))) left in
@@ -172,9 +172,9 @@ taker_of s passed h =
           record { taker = pawn + 1; stands = is_piece-is (pawn_of s.turn) (at s.board (pawn + 1)) parts.1; same_rank = rank_next pawn inside; next_file = file_next pawn inside }
     ]
 
-of_taker : (s : Position) (passed : ℕ) → HasTaker s passed → has_taker s.board s.turn (beyond s.turn passed) ≡ true
-of_taker s passed h =
-    let pawn : ℕ = beyond s.turn passed in
+of_taker : (s : Position) (square : ℕ) → HasTaker s square → has_taker s.board s.turn (beyond s.turn square) ≡ true
+of_taker s square h =
+    let pawn : ℕ = beyond s.turn square in
     let left : Bool = not (file pawn == 0) && is_piece (pawn_of s.turn) (at s.board (pawn - 1)) in
     let right : Bool = not (file pawn == 7) && is_piece (pawn_of s.turn) (at s.board (pawn + 1)) in
     let stands = there_pawn s.turn (at s.board h.taker) h.stands in
@@ -184,20 +184,20 @@ of_taker s passed h =
       | inr r ↦ true_right left right (both_true (not (file pawn == 7)) (is_piece (pawn_of s.turn) (at s.board (pawn + 1))) (tells_other (file pawn) 7 r.1) (subst P r.0 stands))
     ]
 
-among_passed : (s : Position) (ep : Option ℕ) (n : ℕ) → Among (passed_places s ep) n → (passed : ℕ) × (ep ≡ Some passed) × HasTaker s passed × (n ≡ 772 + file passed)
-among_passed s None n h = absurd h
-among_passed s (Some passed) n h =
-    let flag = among_flag (has_taker s.board s.turn (beyond s.turn passed)) (772 + file passed) n h in
-    (passed, refl, taker_of s passed flag.0, flag.1)
+among_en_passant : (s : Position) (ep : Option ℕ) (n : ℕ) → Among (en_passant_places s ep) n → (square : ℕ) × (ep ≡ Some square) × HasTaker s square × (n ≡ 772 + file square)
+among_en_passant s None n h = absurd h
+among_en_passant s (Some square) n h =
+    let flag = among_flag (has_taker s.board s.turn (beyond s.turn square)) (772 + file square) n h in
+    (square, refl, taker_of s square flag.0, flag.1)
 
-passed_among : (s : Position) (ep : Option ℕ) (passed n : ℕ) → ep ≡ Some passed → HasTaker s passed → n ≡ 772 + file passed → Among (passed_places s ep) n
-passed_among s ep passed n is taker place =
-    let P : Option ℕ → Type 0 = λ o. Among (passed_places s o) n in
-    subst P (sym is) (flag_among (has_taker s.board s.turn (beyond s.turn passed)) (772 + file passed) n (of_taker s passed taker) place)
+en_passant_among : (s : Position) (ep : Option ℕ) (square n : ℕ) → ep ≡ Some square → HasTaker s square → n ≡ 772 + file square → Among (en_passant_places s ep) n
+en_passant_among s ep square n is taker place =
+    let P : Option ℕ → Type 0 = λ o. Among (en_passant_places s o) n in
+    subst P (sym is) (flag_among (has_taker s.board s.turn (beyond s.turn square)) (772 + file square) n (of_taker s square taker) place)
 
-distinct_passed : (s : Position) (ep : Option ℕ) → Distinct (passed_places s ep)
-distinct_passed s None = tt
-distinct_passed s (Some passed) = distinct_flag (has_taker s.board s.turn (beyond s.turn passed)) (772 + file passed)
+distinct_en_passant : (s : Position) (ep : Option ℕ) → Distinct (en_passant_places s ep)
+distinct_en_passant s None = tt
+distinct_en_passant s (Some square) = distinct_flag (has_taker s.board s.turn (beyond s.turn square)) (772 + file square)
 
 -- ---- all places
 
@@ -268,46 +268,46 @@ right_place s n h =
     let low = castling_places_low is.0 in
     (omega (arith, is.2, low.0), omega (arith, is.2, low.1))
 
-passed_place : (s : Position) (ep : Option ℕ) (n : ℕ) → Among (passed_places s ep) n → (772 ≤ n) × (n < 780)
-passed_place s ep n h = let p = among_passed s ep n h in let is = p.3 in (omega (arith, is), omega (arith, is))
+en_passant_place : (s : Position) (ep : Option ℕ) (n : ℕ) → Among (en_passant_places s ep) n → (772 ≤ n) × (n < 780)
+en_passant_place s ep n h = let p = among_en_passant s ep n h in let is = p.3 in (omega (arith, is), omega (arith, is))
 
-distinct_rest : (s : Position) → Distinct (rights_places s.rights ++ (passed_places s s.ep ++ turn_places s.turn))
+distinct_rest : (s : Position) → Distinct (rights_places s.rights ++ (en_passant_places s s.ep ++ turn_places s.turn))
 distinct_rest s =
-    let es = passed_places s s.ep in
+    let es = en_passant_places s s.ep in
     let ts = turn_places s.turn in
-    let tail = distinct_append es ts (distinct_passed s s.ep) (distinct_turn s.turn) (λ n x y. let a = passed_place s s.ep n x in let b = (among_turn s.turn n y).1 in omega (arith, a.1)) in
+    let tail = distinct_append es ts (distinct_en_passant s s.ep) (distinct_turn s.turn) (λ n x y. let a = en_passant_place s s.ep n x in let b = (among_turn s.turn n y).1 in omega (arith, a.1)) in
     distinct_append (rights_places s.rights) (es ++ ts) (distinct_castlings (rights_of s) castlings castlings_rise) tail (λ n x y.
     let a = right_place s n x in
     elim (among_either es ts n y) [
-      | inl e ↦ let b = passed_place s s.ep n e in omega (arith, a.1, b.0)
+      | inl e ↦ let b = en_passant_place s s.ep n e in omega (arith, a.1, b.0)
       | inr t ↦ let b = (among_turn s.turn n t).1 in omega (arith, a.1)
     ])
 
-rest_high : (s : Position) (n : ℕ) → Among (rights_places s.rights ++ (passed_places s s.ep ++ turn_places s.turn)) n → 768 ≤ n
-rest_high s n h = elim (among_either (rights_places s.rights) (passed_places s s.ep ++ turn_places s.turn) n h) [
+rest_high : (s : Position) (n : ℕ) → Among (rights_places s.rights ++ (en_passant_places s s.ep ++ turn_places s.turn)) n → 768 ≤ n
+rest_high s n h = elim (among_either (rights_places s.rights) (en_passant_places s s.ep ++ turn_places s.turn) n h) [
   | inl a ↦ (right_place s n a).0
-  | inr b ↦ elim (among_either (passed_places s s.ep) (turn_places s.turn) n b) [
-    | inl e ↦ let p = passed_place s s.ep n e in omega (arith, p.0)
+  | inr b ↦ elim (among_either (en_passant_places s s.ep) (turn_places s.turn) n b) [
+    | inl e ↦ let p = en_passant_place s s.ep n e in omega (arith, p.0)
     | inr t ↦ let is = (among_turn s.turn n t).1 in omega arith
   ]
 ]
 
 distinct_places : (s : Position) → length s.board ≡ 64 → Distinct (places s)
 distinct_places s full =
-    distinct_append (piece_places s.board 0) (rights_places s.rights ++ (passed_places s s.ep ++ turn_places s.turn)) (distinct_pieces s.board 0 (omega arith)) (distinct_rest s) (λ n x y.
+    distinct_append (piece_places s.board 0) (rights_places s.rights ++ (en_passant_places s s.ep ++ turn_places s.turn)) (distinct_pieces s.board 0 (omega arith)) (distinct_rest s) (λ n x y.
     let low = low_square s.board 0 n (omega arith) (place_on s.board 0 n x) in
     let high = rest_high s n y in
     omega (arith, low.1))
 
 has_place : (s : Position) (n : ℕ) → Among (places s) n → HasPlace s n
 has_place s n h =
-    let rest = rights_places s.rights ++ (passed_places s s.ep ++ turn_places s.turn) in
+    let rest = rights_places s.rights ++ (en_passant_places s s.ep ++ turn_places s.turn) in
     elim (among_either (piece_places s.board 0) rest n h) [
       | inl p ↦ let at_board = place_on s.board 0 n p in of_piece at_board.offset at_board.piece at_board.stands (at_board.is ∙ ap (λ q. piece_place at_board.piece q) (omega arith))
-      | inr r ↦ elim (among_either (rights_places s.rights) (passed_places s s.ep ++ turn_places s.turn) n r) [
+      | inr r ↦ elim (among_either (rights_places s.rights) (en_passant_places s s.ep ++ turn_places s.turn) n r) [
         | inl a ↦ (let is = among_castlings (rights_of s) castlings n a in of_right is.0 is.1 is.2)
-        | inr b ↦ elim (among_either (passed_places s s.ep) (turn_places s.turn) n b) [
-          | inl e ↦ let p = among_passed s s.ep n e in en_passant p.0 p.1 p.2 p.3
+        | inr b ↦ elim (among_either (en_passant_places s s.ep) (turn_places s.turn) n b) [
+          | inl e ↦ let p = among_en_passant s s.ep n e in en_passant p.0 p.1 p.2 p.3
           | inr t ↦ let p = among_turn s.turn n t in white_to_move p.0 p.1
         ]
       ]
@@ -315,16 +315,16 @@ has_place s n h =
 
 among_places : (s : Position) (n : ℕ) → HasPlace s n → Among (places s) n
 among_places s n (of_piece square p stands is) =
-    let rest = rights_places s.rights ++ (passed_places s s.ep ++ turn_places s.turn) in
+    let rest = rights_places s.rights ++ (en_passant_places s s.ep ++ turn_places s.turn) in
     let P : ℕ → Type 0 = λ m. Among (piece_places s.board 0) m in
     let e : piece_place p (0 + square) ≡ n = ap (λ q. piece_place p q) (omega arith) ∙ sym is in
     among_left (piece_places s.board 0) rest n (subst P e (among_pieces s.board 0 square p stands))
 among_places s n (of_right c set is) =
     among_right (piece_places s.board 0) _ n (among_left (rights_places s.rights) _ n (castling_among (rights_of s) c n set is))
-among_places s n (en_passant passed here taker is) =
-    among_right (piece_places s.board 0) _ n (among_right (rights_places s.rights) _ n (among_left (passed_places s s.ep) _ n (passed_among s s.ep passed n here taker is)))
+among_places s n (en_passant square here taker is) =
+    among_right (piece_places s.board 0) _ n (among_right (rights_places s.rights) _ n (among_left (en_passant_places s s.ep) _ n (en_passant_among s s.ep square n here taker is)))
 among_places s n (white_to_move white is) =
-    among_right (piece_places s.board 0) _ n (among_right (rights_places s.rights) _ n (among_right (passed_places s s.ep) _ n (turn_among s.turn n white is)))
+    among_right (piece_places s.board 0) _ n (among_right (rights_places s.rights) _ n (among_right (en_passant_places s s.ep) _ n (turn_among s.turn n white is)))
 
 pub are_places : (s : Position) → IsSetup s → ArePlaces s (places s)
 are_places s setup = record {

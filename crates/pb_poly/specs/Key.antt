@@ -26,18 +26,18 @@ piece_place piece square = 64 * number_of piece.colour piece.kind + square
 abbrev pub castling_place : Castling → ℕ
 castling_place c = 768 + (castling_row c).number
 
--- a pawn of the side to move stands directly beside the pawn that passed the square
-pub record HasTaker (s : Position) (passed : ℕ) : Type 0 where
+-- a pawn of the side to move stands directly beside the pawn that passed over the square
+pub record HasTaker (s : Position) (square : ℕ) : Type 0 where
   pub taker : ℕ
   pub stands : Holds s.board taker (pawn_of s.turn)
-  pub same_rank : rank taker ≡ rank (beyond s.turn passed)
-  pub next_file : files_apart taker (beyond s.turn passed) ≡ 1
+  pub same_rank : rank taker ≡ rank (beyond s.turn square)
+  pub next_file : files_apart taker (beyond s.turn square) ≡ 1
 
 -- the setup has this place of the table
 pub data HasPlace (s : Position) (place : ℕ) : Type 0 where
   of_piece : (square : ℕ) (p : Piece) → Holds s.board square p → place ≡ piece_place p square → HasPlace s place
   of_right : (c : Castling) → IsTrue ((castling_row c).right s.rights) → place ≡ castling_place c → HasPlace s place
-  en_passant : (passed : ℕ) → s.ep ≡ Some passed → HasTaker s passed → place ≡ 772 + file passed → HasPlace s place
+  en_passant : (square : ℕ) → s.ep ≡ Some square → HasTaker s square → place ≡ 772 + file square → HasPlace s place
   white_to_move : s.turn ≡ White → place ≡ 780 → HasPlace s place
 
 -- the places that the setup has, each once, in any order
@@ -79,9 +79,9 @@ abbrev pub has_taker : Board → Colour → ℕ → Bool
 has_taker board turn pawn =
     (not (file pawn == 0) && is_piece (pawn_of turn) (at board (pawn - 1))) || (not (file pawn == 7) && is_piece (pawn_of turn) (at board (pawn + 1)))
 
-abbrev pub passed_places : Position → Option ℕ → List ℕ
-passed_places s None = []
-passed_places s (Some passed) = place_if (has_taker s.board s.turn (beyond s.turn passed)) (772 + file passed)
+abbrev pub en_passant_places : Position → Option ℕ → List ℕ
+en_passant_places s None = []
+en_passant_places s (Some square) = place_if (has_taker s.board s.turn (beyond s.turn square)) (772 + file square)
 
 abbrev pub turn_places : Colour → List ℕ
 turn_places White = 780 ∷ []
@@ -89,7 +89,7 @@ turn_places Black = []
 
 -- all places of a setup, each once
 abbrev pub places : Position → List ℕ
-places s = piece_places s.board 0 ++ (rights_places s.rights ++ (passed_places s s.ep ++ turn_places s.turn))
+places s = piece_places s.board 0 ++ (rights_places s.rights ++ (en_passant_places s s.ep ++ turn_places s.turn))
 
 -- a key and the words at these places, joined by exclusive or
 abbrev pub joined : List ℕ → ℕ → List ℕ → ℕ

@@ -25,7 +25,7 @@ abbrev pub rook_squares : Option Castling → List ℕ
 rook_squares None = []
 rook_squares (Some c) = let row = castling_row c in row.rook_from ∷ row.rook_to ∷ []
 
--- the squares besides its own two that the move of such a piece may change: that of a pawn taken in passing, and the rook's
+-- the squares besides its own two that the move of such a piece may change: that of a pawn taken en passant, and the rook's
 abbrev pub beside_kind : Kind → Board → Moved → List ℕ
 beside_kind Pawn old m = if not (file m.to == file m.from) && is_none (at old m.to) then (8 * rank m.from + file m.to) ∷ [] else []
 beside_kind King old m = rook_squares (castling_of m.from m.to)

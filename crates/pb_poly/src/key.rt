@@ -5,8 +5,8 @@ ghost use Rattle.pb_board.specs.declared.piece.Colour.TheVariants.{Black};
 ghost use Rattle.pb_board.specs.Piece.{pawn_of};
 ghost use Rattle.pb_board.specs.Castling.{castling_row};
 ghost use Rattle.pb_board.specs.Board.{at, file, is_piece};
-ghost use Rattle.pb_board.specs.Position.{OnPassedRank, beyond as beyond_by};
-ghost use Rattle.pb_poly.specs.Key.{IsKey, castling_place as castling_place_by, has_taker as has_taker_by, joined, key as key_by, number_of as number_of_by, passed_places, piece_place as piece_place_by, piece_places, place_if, rights_places, turn_places};
+ghost use Rattle.pb_board.specs.Position.{OnEnPassantRank, beyond as beyond_by};
+ghost use Rattle.pb_poly.specs.Key.{IsKey, castling_place as castling_place_by, has_taker as has_taker_by, joined, key as key_by, number_of as number_of_by, en_passant_places, piece_place as piece_place_by, piece_places, place_if, rights_places, turn_places};
 
 use crate::table::Table;
 use pb_board::{Castling, Colour, Kind, Piece, Rights, Setup, Square};
@@ -109,14 +109,14 @@ fn has_pawn(setup: &Setup, side: Colour, square: u8) -> bool
 }
 
 /// The square directly beyond an en passant square, by index.
-fn beyond(turn: Colour, passed: Square) -> u8
-    requires { OnPassedRank turn passed }
-    ensures value { result ≡ beyond_by turn passed }
+fn beyond(turn: Colour, square: Square) -> u8
+    requires { OnEnPassantRank turn square }
+    ensures value { result ≡ beyond_by turn square }
     ensures on_board { result < 64 }
 {
     match turn {
-        Colour::White => passed.index() - 8,
-        Colour::Black => passed.index() + 8,
+        Colour::White => square.index() - 8,
+        Colour::Black => square.index() + 8,
     }
 }
 
@@ -131,23 +131,23 @@ pub(crate) fn has_taker(setup: &Setup, side: Colour, pawn: u8) -> bool
 
 /// The place of the word of an en passant square on the file of this square.
 #[inline(always)]
-pub(crate) fn passed_place(square: Square) -> usize
+pub(crate) fn en_passant_place(square: Square) -> usize
     ensures value { result ≡ 772 + file square }
     ensures few { result < 780 }
 {
     772 + square.file() as usize
 }
 
-/// The key, joined by the word of the en passant square where a pawn stands beside the pawn that has passed it.
+/// The key, joined by the word of the en passant square where a pawn stands beside the pawn that has passed over it.
 #[inline(always)]
-pub(crate) fn with_passed(table: &Table, key: u64, setup: &Setup) -> u64
-    ensures { result ≡ joined table.now key (passed_places setup.now setup.now.ep) }
+pub(crate) fn with_en_passant(table: &Table, key: u64, setup: &Setup) -> u64
+    ensures { result ≡ joined table.now key (en_passant_places setup.now setup.now.ep) }
 {
     let turn = setup.turn();
     match setup.ep() {
-        Some(passed) => {
-            let flag = has_taker(setup, turn, beyond(turn, passed));
-            with_flag(table, key, flag, passed_place(passed))
+        Some(square) => {
+            let flag = has_taker(setup, turn, beyond(turn, square));
+            with_flag(table, key, flag, en_passant_place(square))
         }
         None => key,
     }
@@ -167,7 +167,7 @@ fn with_turn(table: &Table, key: u64, turn: Colour) -> u64
 /// castling right, for the file of the en passant square, and for White to move.
 ///
 /// The word of the en passant square counts exactly where a pawn of the side to move stands beside the pawn that has
-/// passed it, whether or not that pawn may take it.
+/// passed over it, whether or not that pawn may take it.
 pub fn key_of(table: &Table, setup: &Setup) -> u64
     ensures parity { IsKey table.now setup.now result }
     ensures value { result ≡ key_by table.now setup.now }
@@ -176,6 +176,6 @@ pub fn key_of(table: &Table, setup: &Setup) -> u64
     let _words = table.words();
     let pieces = pieces_key(table, setup.board());
     let rights = with_rights(table, pieces, setup.rights());
-    let passed = with_passed(table, rights, setup);
-    with_turn(table, passed, setup.turn())
+    let en_passant = with_en_passant(table, rights, setup);
+    with_turn(table, en_passant, setup.turn())
 }

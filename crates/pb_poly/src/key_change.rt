@@ -10,11 +10,12 @@ ghost use Rattle.pb_board.specs.Position.{Position};
 ghost use Rattle.pb_moves.specs.Cases.{Case, Legal};
 ghost use Rattle.pb_moves.specs.After.{After};
 ghost use Rattle.pb_moves.specs.Successor.{after, arriving, keeps, rights_of};
-ghost use Rattle.pb_poly.specs.Key.{IsKey, joined, key as key_by, passed_places, piece_place as piece_place_by};
+ghost use Rattle.pb_poly.specs.Key.{IsKey, joined, key as key_by, en_passant_places, piece_place as piece_place_by};
 ghost use Rattle.pb_poly.specs.KeyChange.{beside_kind, changed_places, lost_places, square_places};
 
 use crate::key::{
-    WHITE_TO_MOVE, has_taker, passed_place, piece_place, with_flag, with_passed, with_rights,
+    WHITE_TO_MOVE, en_passant_place, has_taker, piece_place, with_en_passant, with_flag,
+    with_rights,
 };
 use crate::table::Table;
 use pb_board::{Castling, Kind, Piece, Rights, Setup, Square};
@@ -69,7 +70,7 @@ fn with_carried(table: &Table, key: u64, before: &Setup, m: Move, piece: Piece) 
     with_arriving(table, taken, piece, m)
 }
 
-/// The key, joined by the word of the pawn that a pawn takes in passing.
+/// The key, joined by the word of the pawn that a pawn takes en passant.
 #[inline(always)]
 fn with_gone(table: &Table, key: u64, before: &Setup, m: Move, pawn: Piece) -> u64
     requires stands { Holds before.now.board m.from pawn }
@@ -100,7 +101,7 @@ fn with_rook(table: &Table, key: u64, castling: Castling) -> u64
     with_piece(table, left, rook, squares.rook_to)
 }
 
-/// The key, joined by the words of the squares besides the move's own two: that of a pawn taken in passing, and those of a
+/// The key, joined by the words of the squares besides the move's own two: that of a pawn taken en passant, and those of a
 /// rook that castles.
 #[inline(always)]
 fn with_beside(table: &Table, key: u64, before: &Setup, m: Move, piece: Piece) -> u64
@@ -147,7 +148,7 @@ fn with_lost(table: &Table, key: u64, rights: Rights, m: Move) -> u64
 #[inline(always)]
 fn with_stepped(table: &Table, key: u64, before: &Setup, m: Move, piece: Piece) -> u64
     requires { Holds before.now.board m.from piece }
-    ensures { (t : Position) → After before.now m t → result ≡ joined table.now key (passed_places t t.ep) }
+    ensures { (t : Position) → After before.now m t → result ≡ joined table.now key (en_passant_places t t.ep) }
 {
     let (from, to) = (m.from(), m.to());
     let enemy = before.turn().opponent();
@@ -156,7 +157,7 @@ fn with_stepped(table: &Table, key: u64, before: &Setup, m: Move, piece: Piece) 
     }
     // The move leaves the squares beside this one as they were.
     let flag = has_taker(before, enemy, to.index());
-    with_flag(table, key, flag, passed_place(to))
+    with_flag(table, key, flag, en_passant_place(to))
 }
 
 /// The key of the setup after a legal move, made of the setup before it and its key alone.
@@ -177,9 +178,9 @@ pub fn key_next(table: &Table, key: u64, before: &Setup, m: Move) -> u64
     let carried = with_carried(table, key, before, m, piece);
     let pieces = with_beside(table, carried, before, m, piece);
     let rights = with_lost(table, pieces, before.rights(), m);
-    let unpassed = with_passed(table, rights, before);
-    let passed = with_stepped(table, unpassed, before, m, piece);
-    passed ^ table.word(WHITE_TO_MOVE)
+    let cleared = with_en_passant(table, rights, before);
+    let stepped = with_stepped(table, cleared, before, m, piece);
+    stepped ^ table.word(WHITE_TO_MOVE)
 }
 
 /// The key of the setup after a move, made of the key of the setup before it, as `play` gives the one after the other.

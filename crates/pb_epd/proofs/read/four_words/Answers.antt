@@ -10,5 +10,5 @@ returns-in_err-turn c = rw c.from_residual-in_err-turn.ensures (record { next = 
 pub returns-in_err-castling : goal.returns-in_err-castling
 returns-in_err-castling c = rw c.from_residual-in_err-castling.ensures (record { next = (none_third _ _ _ c.in_ok-placement.ensures.next _ _ c.in_ok-turn.ensures.next c.in_err-castling.ensures.next); back = tt })
 
-pub returns-in_err-passed : goal.returns-in_err-passed
-returns-in_err-passed c = rw c.from_residual-in_err-passed.ensures (record { next = (none_fourth _ _ _ c.in_ok-placement.ensures.next _ _ c.in_ok-turn.ensures.next _ _ c.in_ok-castling.ensures.next c.in_err-passed.ensures.next); back = tt })
+pub returns-in_err-en_passant : goal.returns-in_err-en_passant
+returns-in_err-en_passant c = rw c.from_residual-in_err-en_passant.ensures (record { next = (none_fourth _ _ _ c.in_ok-placement.ensures.next _ _ c.in_ok-turn.ensures.next _ _ c.in_ok-castling.ensures.next c.in_err-en_passant.ensures.next); back = tt })

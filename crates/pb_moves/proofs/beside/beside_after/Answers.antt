@@ -10,7 +10,7 @@ returns-clause-completes c = λ b case.
     let p = c.args.piece in
     let own = c.requires in
     let ok = c.turn-turn.ensures.rules in
-    let ep = c.passed_by-ep.ensures b case in
+    let ep = c.en_passant_after-ep.ensures b case in
     record {
       after = record {
         moves = record { piece = p; stands = own.stands; own = own.own; by_case = case };
@@ -18,6 +18,6 @@ returns-clause-completes c = λ b case.
         rights = c.rights_after-rights.ensures;
         ep = ep;
       };
-      rules = setup_by_parts s m p b c.rights_after-rights.result c.passed_by-ep.result ok own.stands own.own case
-          (passes_is s m p b c.passed_by-ep.result own.stands own.own case ep);
+      rules = setup_by_parts s m p b c.rights_after-rights.result c.en_passant_after-ep.result ok own.stands own.own case
+          (passes_is s m p b c.en_passant_after-ep.result own.stands own.own case ep);
     }

@@ -28,26 +28,26 @@ returns c =
     let table = c.words-words.ensures.rules in
     let carried = c.with_carried-carried.result in
     let pieces = c.with_beside-pieces.result in
-    let passed = c.with_stepped-passed.result in
-    let l : ℕ = bit_xor passed c.word.result in
+    let stepped = c.with_stepped-stepped.result in
+    let l : ℕ = bit_xor stepped c.word.result in
     let stands : Holds s.board m.from p = cc (c.at.ensures, c.in-Some.is, c.from.ensures.value) in
     let only : (t : Position) → After s m t → l ≡ key words t = λ t x.
     let squares = beside_kind p.kind s.board m in
     let case = case_at s m t.board p stands x.moves in
     let kept = covers s m p t.board ok c.from.ensures.rules stands (own_at s m p t.board stands x.moves) case in
     key_follows words s t (m.from ∷ m.to ∷ squares) c.args.key l table ok.places (goes_of s m p t.board case).board.squares kept c.requires.key
-    (xor_lt 64 passed c.word.result c.with_stepped-passed.type_inv c.word.type_inv) (record {
+    (xor_lt 64 stepped c.word.result c.with_stepped-stepped.type_inv c.word.type_inv) (record {
       pieces = pieces;
       rights = c.with_lost-rights.result;
-      unpassed = c.with_passed-unpassed.result;
-      passed = passed;
+      cleared = c.with_en_passant-cleared.result;
+      stepped = stepped;
       pieces_is = all_squares words s.board t.board m squares c.args.key carried pieces (c.with_carried-carried.ensures t.board x.moves) (c.with_beside-pieces.ensures t.board x.moves);
       rights_is = c.with_lost-rights.ensures ∙ ap (λ (r : Rights). joined words pieces (lost_places r (rights_of r m))) c.rights.ensures
           ∙ ap (λ (r : Rights). joined words pieces (lost_places s.rights r)) (sym (rights_after s m t ok x));
-      unpassed_is = c.with_passed-unpassed.ensures;
-      passed_is = c.with_stepped-passed.ensures t x;
+      cleared_is = c.with_en_passant-cleared.ensures;
+      stepped_is = c.with_stepped-stepped.ensures t x;
       turn = x.turn;
-      is = ap (λ n. bit_xor passed n) c.word.ensures;
+      is = ap (λ n. bit_xor stepped n) c.word.ensures;
     }) in
     let value : Legal s m → l ≡ key words (after s m) = λ legal. only (after s m) (after_is s m ok legal) in
     let P : ℕ → Type 0 = λ k. IsKey words (after s m) k in

@@ -3,8 +3,8 @@ use Rattle.pb_board.specs.declared.piece.Kind.TheVariants.{Pawn}
 use Rattle.pb_board.specs.Board.{file}
 use Rattle.pb_moves.specs.Attack.{ranks_apart}
 use Rattle.pb_moves.proofs.Passing.{test_passes, test_fails}
-use Rattle.pb_moves.proofs.beside.passed_by.Goals.{else-eq-via-then-eq+then-file+else-abs_diff-eq2, else-eq-via-then-eq+else-file, else-eq-via-else-eq}
-use Rattle.pb_moves.proofs.beside.passed_by.Goals as goal
+use Rattle.pb_moves.proofs.beside.en_passant_after.Goals.{else-eq-via-then-eq+then-file+else-abs_diff-eq2, else-eq-via-then-eq+else-file, else-eq-via-else-eq}
+use Rattle.pb_moves.proofs.beside.en_passant_after.Goals as goal
 
 pub returns-then-abs_diff-eq2 : goal.returns-then-abs_diff-eq2
 returns-then-abs_diff-eq2 c = λ b x.
@@ -12,7 +12,7 @@ returns-then-abs_diff-eq2 c = λ b x.
     let pawn : c.args.piece.kind ≡ Pawn = search rules in
     let same : file c.args.m.from ≡ file c.args.m.to = omega arith in
     let two : ranks_apart c.args.m.from c.args.m.to ≡ 2 = omega arith in
-    test_passes c.args.setup.now m c.args.piece b c.passed.result c.requires.stands c.requires.own pawn same two (omega arith, omega arith) x
+    test_passes c.args.setup.now m c.args.piece b c.halfway.result c.requires.stands c.requires.own pawn same two (omega arith, omega arith) x
 
 pub returns-else-eq : goal.returns-else-eq
 returns-else-eq c = λ b x q.
