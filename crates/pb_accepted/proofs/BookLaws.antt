@@ -1,17 +1,13 @@
 -- Laws of the book of a list of games.
 use Rattle.std.proofs.Common.{◌≡◌, ℕ, ◌+◌, ◌<◌, ◌⊎◌, List, [], ◌∷◌, cond, sum_by, IsPermutation, refl, sym, ap, subst, ◌∙◌, inl, inr, arith}
-use Rattle.std.specs.List.{flat_map}
 use Rattle.std.proofs.lemmas.List.Sorted.{sum_by-IsPermutation}
-use Rattle.std.proofs.lemmas.List.Sums.{sum_by-cons, sum_by-append}
 use Rattle.pb_poly.specs.declared.entry.Entry.{Entry}
 use Rattle.pb_poly.specs.Book.{BookBytes, book_bytes}
 use Rattle.pb_games.specs.Submissions.{Submission}
-use Rattle.pb_points.specs.Tally.{is_pair}
 use Rattle.pb_points.specs.Weight.{scaled, Before}
-use Rattle.pb_accepted.specs.declared.gift.Gift.{Gift}
 use Rattle.pb_accepted.specs.Accepting.{Answer, Accepted, Taken, OneGame}
 use Rattle.pb_accepted.specs.Basis.{Basis}
-use Rattle.pb_accepted.specs.Counting.{gifts_of, points, count, times, Occurs, IsGreatest, IsWeight, IsBook}
+use Rattle.pb_accepted.specs.Counting.{points, occurrences, count, times, Occurs, IsGreatest, IsWeight, IsBook}
 use Rattle.pb_accepted.specs.Laws.{NoRepeats, SameMembers}
 use Rattle.pb_accepted.proofs.Distinct.{accepts_the_taken, no_repeats, Taken-unique}
 use Rattle.pb_accepted.proofs.Members.{same_in_order, permutation_from_members}
@@ -48,12 +44,6 @@ one_text T S E F b c h hb k kc = hb.are ∙ ap book_bytes (one_book T S E F h k)
 
 -- ---- lists with the same members
 
--- a sum over lists joined end to end
-pub sum_by-flat_map : {X Y : Type 0} (f : Y → ℕ) (g : X → List Y) (xs : List X) → sum_by f (flat_map g xs) ≡ sum_by (λ x. sum_by f (g x)) xs
-sum_by-flat_map f g [] = refl
-sum_by-flat_map f g (x ∷ xs) =
-    sum_by-append f (g x) (flat_map g xs) ∙ ap (λ n. sum_by f (g x) + n) (sum_by-flat_map f g xs) ∙ sym (sum_by-cons (λ y. sum_by f (g y)) x xs)
-
 module _ (T : Basis) (S U : List Submission) (once : NoRepeats S) (each : NoRepeats U) (same : SameMembers S U) where
   reordered : IsPermutation S U
   reordered = permutation_from_members S U once each (λ s. (same s).0) (λ s. (same s).1)
@@ -62,10 +52,7 @@ module _ (T : Basis) (S U : List Submission) (once : NoRepeats S) (each : NoRepe
   same_count k c = sym (sum_by-IsPermutation (λ s. points T s.1 k c) S U reordered)
 
   same_times : (k c : ℕ) → times T S k c ≡ times T U k c
-  same_times k c =
-      let one : Gift → ℕ = λ r. cond (is_pair r.key r.code k c) 1 0 in
-      let gifts : Submission → List Gift = λ s. gifts_of T s.1 in
-      sum_by-flat_map one gifts S ∙ sym (sum_by-IsPermutation (λ s. sum_by one (gifts s)) S U reordered) ∙ sym (sum_by-flat_map one gifts U)
+  same_times k c = sym (sum_by-IsPermutation (λ s. occurrences T s.1 k c) S U reordered)
 
 module _ (T : Basis) (S U : List Submission) (counts : (k c : ℕ) → count T S k c ≡ count T U k c) (occur : (k c : ℕ) → times T S k c ≡ times T U k c) where
   same_occurs : (k c : ℕ) → Occurs T S k c → Occurs T U k c

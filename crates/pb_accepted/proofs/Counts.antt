@@ -9,14 +9,14 @@ use Rattle.pb_games.specs.Submissions.{Submission, IsSubmission}
 use Rattle.pb_points.specs.Tally.{Content, Held, held}
 use Rattle.pb_accepted.specs.Accepting.{IsNewId}
 use Rattle.pb_accepted.specs.Basis.{Basis}
-use Rattle.pb_accepted.specs.Counting.{gifts_of, occurring, points, count, times, with_gifts}
+use Rattle.pb_accepted.specs.Counting.{points, occurrences, count, times}
+use Rattle.pb_accepted.specs.Gift.{gifts_of, with_gifts}
 use Rattle.pb_accepted.specs.Holding.{HoldsCounts}
 use Rattle.pb_accepted.specs.Ledger.{LedgerState}
-use Rattle.pb_accepted.proofs.BookLaws.{sum_by-flat_map}
-use Rattle.pb_accepted.proofs.Gifts.{gained-le, length-gifts_of, occurring-le, one, small_gifts}
+use Rattle.pb_accepted.proofs.Gifts.{gained-le, gained_points, length-gifts_of, occurring-le, occurring_times, small_gifts}
 
 points-le : (T : Basis) (g : Game) (k c : ℕ) → points T g k c ≤ length g.moves * 2
-points-le T g k c = omega (arith, gained-le (gifts_of T g) k c (small_gifts T g), length-gifts_of T g)
+points-le T g k c = omega (arith, gained_points T g k c, gained-le (gifts_of T g) k c (small_gifts T g), length-gifts_of T g)
 
 -- each game gives at most two points for each of its 1,024 moves
 count-le : (T : Basis) (A : List Submission) (k c : ℕ) → All IsSubmission A → count T A k c ≤ length A * 2048
@@ -29,11 +29,12 @@ points_fit f l s h legal k c =
     let bound : length l.accepted * 2048 ≤ 1000000 * 2048 = omega (arith, h.rules.room, h.rules.few) in
     omega (arith, now, bound, count-le l.basis l.accepted k c h.rules.games, legal.game.few)
 
+occurrences-le : (T : Basis) (g : Game) (k c : ℕ) → occurrences T g k c ≤ length g.moves
+occurrences-le T g k c = omega (arith, occurring_times T g k c, occurring-le (gifts_of T g) k c, length-gifts_of T g)
+
 -- each game has at most 1,024 plies with a key and a code
 times-le : (T : Basis) (A : List Submission) (k c : ℕ) → All IsSubmission A → times T A k c ≤ length A * 1024
-times-le T A k c games =
-    let each = sum_by-le (λ s. occurring (gifts_of T s.1) k c) 1024 A (λ j d lt. omega (arith, occurring-le (gifts_of T (get_or A j d).1) k c, length-gifts_of T (get_or A j d).1, (games j d lt).game.few)) in
-    subst (λ n. n ≤ length A * 1024) (sym (sum_by-flat_map (one k c) (λ (s : Submission). gifts_of T s.1) A)) each
+times-le T A k c games = sum_by-le (λ s. occurrences T s.1 k c) 1024 A (λ j d lt. omega (arith, occurrences-le T (get_or A j d).1 k c, (games j d lt).game.few))
 
 pub times_fit : (f : Content) (l : LedgerState) (s : Submission) → HoldsCounts f l → IsSubmission s → (k c : ℕ) → (held f k c).times + length s.1.moves ≤ 2 ^ 63
 times_fit f l s h legal k c =
@@ -45,17 +46,12 @@ times_fit f l s h legal k c =
 abbrev pub with_game : LedgerState → Submission → LedgerState
 with_game l s = record { basis = l.basis; cap = l.cap; accepted = l.accepted ++ s ∷ [] }
 
-times_push : (T : Basis) (A : List Submission) (s : Submission) (k c : ℕ) → times T (A ++ s ∷ []) k c ≡ times T A k c + occurring (gifts_of T s.1) k c
-times_push T A s k c =
-    let before = sum_by-flat_map (one k c) (λ (u : Submission). gifts_of T u.1) A in
-    let after = sum_by-flat_map (one k c) (λ (u : Submission). gifts_of T u.1) (A ++ s ∷ []) in
-    omega (arith, before, after, sum_by_push (λ (u : Submission). occurring (gifts_of T u.1) k c) A s)
-
 more_counted : (T : Basis) (A : List Submission) (s : Submission) (k c : ℕ) (h : Held) → h ≡ record { points = count T A k c; times = times T A k c }
     → with_gifts (gifts_of T s.1) k c h ≡ record { points = count T (A ++ s ∷ []) k c; times = times T (A ++ s ∷ []) k c }
 more_counted T A s k c h e =
-    ap (with_gifts (gifts_of T s.1) k c) e
-    ∙ (λ i. record { points = sym (sum_by_push (λ u. points T u.1 k c) A s) i; times = sym (times_push T A s k c) i })
+    let points_are = ap (λ n. count T A k c + n) (gained_points T s.1 k c) ∙ sym (sum_by_push (λ u. points T u.1 k c) A s) in
+    let times_are = ap (λ n. times T A k c + n) (occurring_times T s.1 k c) ∙ sym (sum_by_push (λ u. occurrences T u.1 k c) A s) in
+    ap (with_gifts (gifts_of T s.1) k c) e ∙ (λ i. record { points = points_are i; times = times_are i })
 
 pub Holds-push : (f g : Content) (l : LedgerState) (s : Submission) → HoldsCounts f l → IsSubmission s → IsNewId s.0 l.accepted → length l.accepted < l.cap
     → ((k c : ℕ) → held g k c ≡ with_gifts (gifts_of l.basis s.1) k c (held f k c)) → HoldsCounts g (with_game l s)

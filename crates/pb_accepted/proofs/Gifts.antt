@@ -1,9 +1,9 @@
 -- What the plies of a game give, and what gifts do to a tally, one after another.
-use Rattle.std.proofs.Common.{suc, ◌≡◌, ℕ, ◌+◌, ◌*◌, ◌<◌, ◌≤◌, ◌^◌, Bool, true, false, cond, if◌then◌else◌, Option, Some, IsSome, unwrap_or, List, [], ◌∷◌, map, take, length, get_or, All, refl, sym, ap, subst, ◌∙◌, inl, inr, arith}
+use Rattle.std.proofs.Common.{suc, ◌≡◌, ℕ, ◌+◌, ◌*◌, ◌<◌, ◌≤◌, ◌^◌, Bool, true, false, cond, if◌then◌else◌, Option, Some, IsSome, unwrap_or, List, [], ◌∷◌, map, take, length, sum_by, get_or, All, refl, sym, ap, subst, ◌∙◌, inl, inr, arith}
 use Rattle.std.proofs.lemmas.Bool.{cases_lt}
 use Rattle.std.proofs.lemmas.List.{get_or_default, length-map, length-take, take-map, take_all}
 use Rattle.std.proofs.lemmas.List.Elements.{All-map, All-weaker}
-use Rattle.std.proofs.lemmas.List.Sums.{sum_by_more, sum_by_more_le, sum_by-le}
+use Rattle.std.proofs.lemmas.List.Sums.{sum_by-cons, sum_by_more, sum_by_more_le, sum_by-le}
 use Rattle.pb_board.specs.declared.piece.Colour.{Colour}
 use Rattle.pb_board.specs.declared.piece.Colour.TheVariants as side
 use Rattle.pb_board.specs.Position.{Position}
@@ -19,7 +19,8 @@ use Rattle.pb_points.proofs.Pairs.{is_pair_itself}
 use Rattle.pb_points.specs.Tally.{Content, HasRoomFor, Held, MakesRow, AddsPly, held, is_pair, more, nothing}
 use Rattle.pb_accepted.specs.declared.gift.Gift.{Gift}
 use Rattle.pb_accepted.specs.Basis.{Basis}
-use Rattle.pb_accepted.specs.Counting.{counted, credit, gained, gift_of, gifts_of, occurring, share, with_gifts}
+use Rattle.pb_accepted.specs.Counting.{counted, credit, occurrences, points}
+use Rattle.pb_accepted.specs.Gift.{gained, gift_of, gifts_of, occurring, share, with_gifts}
 
 -- ---- the gifts of a game
 
@@ -63,6 +64,33 @@ share-le k c r = by (is_pair r.key r.code k c)
 -- gifts of at most two points add at most two each
 pub gained-le : (gifts : List Gift) (k c : ℕ) → All (λ r. r.points ≤ 2) gifts → gained gifts k c ≤ length gifts * 2
 gained-le gifts k c small = sum_by-le (share k c) 2 gifts (λ j d lt. omega (arith, share-le k c (get_or gifts j d), small j d lt))
+
+-- whether a gift is of this key and this code, as a number
+abbrev pub one : ℕ → ℕ → Gift → ℕ
+one k c r = cond (is_pair r.key r.code k c) 1 0
+
+one-le : (k c : ℕ) (r : Gift) → one k c r ≤ 1
+one-le k c r = by (is_pair r.key r.code k c)
+  where
+    by : (b : Bool) → cond b 1 0 ≤ 1
+    by true = omega arith
+    by false = omega arith
+
+pub occurring-le : (gifts : List Gift) (k c : ℕ) → occurring gifts k c ≤ length gifts
+occurring-le gifts k c = let most = sum_by-le (one k c) 1 gifts (λ j d lt. one-le k c (get_or gifts j d)) in omega (arith, most)
+
+-- ---- what a game gives, said of its plies and of its gifts
+
+-- a sum over a list that is mapped
+sum_by-map : {X Y : Type 0} (f : Y → ℕ) (g : X → Y) (xs : List X) → sum_by f (map g xs) ≡ sum_by (λ x. f (g x)) xs
+sum_by-map f g [] = refl
+sum_by-map f g (x ∷ xs) = sum_by-cons f (g x) (map g xs) ∙ ap (λ n. f (g x) + n) (sum_by-map f g xs) ∙ sym (sum_by-cons (λ y. f (g y)) x xs)
+
+pub gained_points : (T : Basis) (g : Game) (k c : ℕ) → gained (gifts_of T g) k c ≡ points T g k c
+gained_points T g k c = sum_by-map (share k c) (gift_of T.words g.outcome) (counted T g)
+
+pub occurring_times : (T : Basis) (g : Game) (k c : ℕ) → occurring (gifts_of T g) k c ≡ occurrences T g k c
+occurring_times T g k c = sum_by-map (one k c) (gift_of T.words g.outcome) (counted T g)
 
 -- ---- rows that are made
 
@@ -117,20 +145,6 @@ pub Ensured-all : (f g : Content) (gifts : List Gift) (i : ℕ) → length gifts
 Ensured-all f g gifts i far e j d lt = e.there j d (omega (arith, lt, far)) lt
 
 -- ---- gifts that are added
-
--- whether a gift is of this key and this code, as a number
-abbrev pub one : ℕ → ℕ → Gift → ℕ
-one k c r = cond (is_pair r.key r.code k c) 1 0
-
-one-le : (k c : ℕ) (r : Gift) → one k c r ≤ 1
-one-le k c r = by (is_pair r.key r.code k c)
-  where
-    by : (b : Bool) → cond b 1 0 ≤ 1
-    by true = omega arith
-    by false = omega arith
-
-pub occurring-le : (gifts : List Gift) (k c : ℕ) → occurring gifts k c ≤ length gifts
-occurring-le gifts k c = let most = sum_by-le (one k c) 1 gifts (λ j d lt. one-le k c (get_or gifts j d)) in omega (arith, most)
 
 -- from f to g the first `done` gifts were added, and the rows of all are there
 pub record Added (f g : Content) (gifts : List Gift) (done : ℕ) : Type 0 where

@@ -1,6 +1,5 @@
 -- Points, counts, weights and the book of a list of games. T is the basis, S the list of submissions.
-use Rattle.std.specs.Prelude.{◌≡◌, ℕ, ◌≤◌, ◌↔◌, ◌+◌, List, map, take, sum_by, count_by, AllPairs, Contains, if◌then◌else◌}
-use Rattle.std.specs.List.{flat_map}
+use Rattle.std.specs.Prelude.{◌≡◌, ℕ, ◌≤◌, ◌↔◌, Bool, List, take, sum_by, count_by, AllPairs, Contains, if◌then◌else◌}
 use Rattle.pb_board.specs.declared.piece.Colour.{Colour}
 use Rattle.pb_board.specs.declared.piece.Colour.TheVariants as side
 use Rattle.pb_moves.specs.Played.{Ply}
@@ -11,9 +10,8 @@ use Rattle.pb_games.specs.declared.game.Game.{Game}
 use Rattle.pb_games.specs.declared.outcome.Outcome.{Outcome}
 use Rattle.pb_games.specs.declared.outcome.Outcome.TheVariants.{White, Black, Draw}
 use Rattle.pb_games.specs.Submissions.{Submission, plies}
-use Rattle.pb_points.specs.Tally.{Held, is_pair}
+use Rattle.pb_points.specs.Tally.{is_pair}
 use Rattle.pb_points.specs.Weight.{scaled, Before}
-use Rattle.pb_accepted.specs.declared.gift.Gift.{Gift}
 use Rattle.pb_accepted.specs.Basis.{Basis}
 
 -- the points of a ply, by the result and the side that moved: 2 where it won, 1 for a draw, 0 where it lost
@@ -24,48 +22,29 @@ credit Black side.White = 0
 credit Black side.Black = 2
 credit Draw _ = 1
 
--- a ply's key, code and points
-abbrev pub gift_of : List ℕ → Outcome → Ply → Gift
-gift_of words o p = record { key = key words p.0; code = code p.0 p.1; points = credit o p.0.turn }
-
 -- the plies of a game that count
 abbrev pub counted : Basis → Game → List Ply
 counted T g = take T.rules.plies (plies g)
 
--- what they give, and those of all games, one after another
-abbrev pub gifts_of : Basis → Game → List Gift
-gifts_of T g = map (gift_of T.words g.outcome) (counted T g)
+-- a ply's setup has this key, and its move this code
+abbrev pub is_of : List ℕ → ℕ → ℕ → Ply → Bool
+is_of words k c p = is_pair (key words p.0) (code p.0 p.1) k c
 
-abbrev pub all_gifts : Basis → List Submission → List Gift
-all_gifts T S = flat_map (λ s. gifts_of T s.1) S
-
--- what a gift adds to the points of this key and code
-abbrev pub share : ℕ → ℕ → Gift → ℕ
-share k c r = if is_pair r.key r.code k c then r.points else 0
-
--- what gifts add to the points of a key and a code
-abbrev pub gained : List Gift → ℕ → ℕ → ℕ
-gained gifts k c = sum_by (share k c) gifts
-
--- how many of the gifts are of a key and a code
-abbrev pub occurring : List Gift → ℕ → ℕ → ℕ
-occurring gifts k c = count_by (λ r. is_pair r.key r.code k c) gifts
-
--- what is held of a key and a code, with these gifts more
-abbrev pub with_gifts : List Gift → ℕ → ℕ → Held → Held
-with_gifts gifts k c h = record { points = h.points + gained gifts k c; times = h.times + occurring gifts k c }
-
--- the points that a game gives to a key and a code
+-- the points that a game gives to a key and a code: those of its plies that count and have them
 abbrev pub points : Basis → Game → ℕ → ℕ → ℕ
-points T g k c = gained (gifts_of T g) k c
+points T g k c = sum_by (λ p. if is_of T.words k c p then credit g.outcome p.0.turn else 0) (counted T g)
 
--- the count of a key and a code: the sum of the points over all games
+-- how often they occur in a game
+abbrev pub occurrences : Basis → Game → ℕ → ℕ → ℕ
+occurrences T g k c = count_by (is_of T.words k c) (counted T g)
+
+-- the count of a key and a code: the sum of their points over all games
 abbrev pub count : Basis → List Submission → ℕ → ℕ → ℕ
 count T S k c = sum_by (λ s. points T s.1 k c) S
 
--- how many of the plies that count have this key and code
+-- how often they occur in all games
 abbrev pub times : Basis → List Submission → ℕ → ℕ → ℕ
-times T S k c = occurring (all_gifts T S) k c
+times T S k c = sum_by (λ s. occurrences T s.1 k c) S
 
 -- so many have that the rules don't leave them out
 abbrev pub Occurs : Basis → List Submission → ℕ → ℕ → Type 0

@@ -2,6 +2,7 @@ pub mod Accepting
 pub mod Arriving
 pub mod Basis
 pub mod Counting
+pub mod Gift
 pub mod Holding
 pub mod Laws
 pub mod Ledger

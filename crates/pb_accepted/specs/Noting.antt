@@ -7,7 +7,7 @@ use Rattle.pb_games.specs.declared.game.Game.{Game}
 use Rattle.pb_games.specs.declared.outcome.Outcome.{Outcome}
 use Rattle.pb_games.specs.Submissions.{plies}
 use Rattle.pb_accepted.specs.declared.notes.Notes.{Notes}
-use Rattle.pb_accepted.specs.Counting.{gift_of}
+use Rattle.pb_accepted.specs.Gift.{gift_of}
 
 -- these plies of a game with this outcome were noted, and the key is that of the setup
 pub record Holds (words : List ℕ) (o : Outcome) (k : ℕ) (notes : Notes) (outcome : Outcome) (ps : List Ply) (t : Position) : Type 0 where

@@ -2,7 +2,8 @@
 
 ghost use Rattle.std.specs.Prelude.{◌≡◌, ◌≤◌, ◌+◌, ◌*◌, ◌^◌, ℕ, IsSome, OnOk, All, length, take};
 ghost use Rattle.pb_points.specs.Tally.{held};
-ghost use Rattle.pb_accepted.specs.Counting.{credit as credit_by, with_gifts};
+ghost use Rattle.pb_accepted.specs.Counting.{credit as credit_by};
+ghost use Rattle.pb_accepted.specs.Gift.{with_gifts};
 
 use crate::rules::Rules;
 use pb_board::Colour;

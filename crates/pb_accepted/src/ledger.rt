@@ -5,7 +5,8 @@ ghost use Rattle.pb_games.specs.Submissions.{IsLawful, IsSubmission, Submission}
 ghost use Rattle.pb_points.specs.Tally.{held};
 ghost use Rattle.pb_accepted.specs.Accepting.{Allowed, IsNewId, IsNumber, Takes};
 ghost use Rattle.pb_accepted.specs.Arriving.{IsArrival};
-ghost use Rattle.pb_accepted.specs.Counting.{IsBook, gifts_of, with_gifts};
+ghost use Rattle.pb_accepted.specs.Counting.{IsBook};
+ghost use Rattle.pb_accepted.specs.Gift.{gifts_of, with_gifts};
 ghost use Rattle.pb_accepted.specs.Holding.{IsLedger, Tallies, most_games};
 ghost use Rattle.pb_accepted.specs.Noting.{HasNoted};
 ghost use Rattle.pb_accepted.specs.Rules.{all_plies};

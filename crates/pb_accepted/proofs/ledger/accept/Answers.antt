@@ -3,7 +3,7 @@ use Rattle.std.specs.Str.{bytes_eq}
 use Rattle.indexmap.proofs.CallerLemmas.{insert_entry-new}
 use Rattle.pb_points.specs.Tally.{Held}
 use Rattle.pb_accepted.specs.Basis.{Basis}
-use Rattle.pb_accepted.specs.Counting.{with_gifts}
+use Rattle.pb_accepted.specs.Gift.{with_gifts}
 use Rattle.pb_accepted.proofs.Gifts.{counted_gifts, length-gifts_of, small_gifts}
 use Rattle.pb_accepted.proofs.Places.{absent_from_new, inserted}
 use Rattle.pb_accepted.proofs.ledger.accept.Goals as goal

@@ -2,7 +2,7 @@ use Rattle.std.proofs.Common.{◌≡◌, ℕ, ◌+◌, ◌<◌, ◌≤◌, ◌++
 use Rattle.std.proofs.lemmas.List.{length_push}
 use Rattle.pb_points.specs.Tally.{held}
 use Rattle.pb_accepted.specs.Accepting.{Allowed, IsNewId, Takes}
-use Rattle.pb_accepted.specs.Counting.{gifts_of, with_gifts}
+use Rattle.pb_accepted.specs.Gift.{gifts_of, with_gifts}
 use Rattle.pb_accepted.specs.Holding.{HoldsCounts}
 use Rattle.pb_accepted.specs.Ledger.{LedgerState}
 use Rattle.pb_accepted.proofs.Arrivals.{submitted}
