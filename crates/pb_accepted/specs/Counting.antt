@@ -34,7 +34,7 @@ is_of words k c p = is_pair (key words p.0) (code p.0 p.1) k c
 abbrev pub points : Basis → Game → ℕ → ℕ → ℕ
 points T g k c = sum_by (λ p. if is_of T.words k c p then credit g.outcome p.0.turn else 0) (counted T g)
 
--- how often they occur in a game
+-- how often they occur among the plies of a game that count
 abbrev pub occurrences : Basis → Game → ℕ → ℕ → ℕ
 occurrences T g k c = count_by (is_of T.words k c) (counted T g)
 
@@ -42,11 +42,11 @@ occurrences T g k c = count_by (is_of T.words k c) (counted T g)
 abbrev pub count : Basis → List Submission → ℕ → ℕ → ℕ
 count T S k c = sum_by (λ s. points T s.1 k c) S
 
--- how often they occur in all games
+-- how often they occur in all games, among the plies that count
 abbrev pub times : Basis → List Submission → ℕ → ℕ → ℕ
 times T S k c = sum_by (λ s. occurrences T s.1 k c) S
 
--- so many have that the rules don't leave them out
+-- they occur at least as often as the rules ask, and so aren't left out
 abbrev pub Occurs : Basis → List Submission → ℕ → ℕ → Type 0
 Occurs T S k c = T.rules.least ≤ times T S k c
 
