@@ -13,11 +13,11 @@ show() {
     build/pbook show "$work/book" > "$work/output"
 }
 
-time=$(best 5 show)
-awk -v time="$time" 'BEGIN { printf "show: a million entries in %.2f s\n", time / 1e9 }'
+least=$(best 5 show)
+awk -v time="$least" 'BEGIN { printf "show: a million entries in %.2f s\n", time / 1e9 }'
 START='rnbqkbnr/pppppppp/8/8/8/8/PPPPPPPP/RNBQKBNR w KQkq - 0 1'
-time=$(best 5 build/pbook probe examples/table.txt "$work/book" "$START")
-awk -v time="$time" 'BEGIN { printf "probe: in a million entries in %.3f s\n", time / 1e9 }'
+least=$(best 5 build/pbook probe examples/table.txt "$work/book" "$START")
+awk -v time="$least" 'BEGIN { printf "probe: in a million entries in %.3f s\n", time / 1e9 }'
 if [ -x /usr/bin/time ]; then
     /usr/bin/time -f 'show: %M KB of memory at most' build/pbook show "$work/book" > "$work/output"
 fi

@@ -1,14 +1,14 @@
 #!/bin/sh
-# Times `pbook collect` on games of 80 plies that bench_moves makes (`make bench` builds it): 20,000 games, the same games
+# Times `pbook collect` on games of 80 plies that bench/rows.sh gives: 20,000 games, the same games
 # sent twice, 100,000 games, and 100,000 ids of one game; and beside it `polyglot make-book` on the first 20,000 as PGN, where it
 # and pgn-extract are installed. Each time is the best of three runs. Where MILLION is set, a million games too, once: that takes some
 # minutes and gigabytes.
 set -eu
 PATH=$PATH:/usr/games
-games=crates/bench_moves/out/bench_moves
 work=$(mktemp -d)
 trap 'rm -rf "$work"' EXIT
 . bench/best.sh
+. bench/rows.sh
 
 # collect LINES: makes a book of the lines
 collect() {
@@ -30,15 +30,15 @@ make_book() {
     polyglot make-book -pgn "$work/games.pgn" -bin "$work/other" -max-ply 1024 -min-game 1 > "$work/output"
 }
 
-"$games" lines 20000 > "$work/lines"
-time=$(best 3 collect "$work/lines")
-figures "collect, 20,000 games" "$work/lines" "$time" \
+lines 20000 > "$work/lines"
+least=$(best 3 collect "$work/lines")
+figures "collect, 20,000 games" "$work/lines" "$least" \
     sh -c "build/pbook collect examples/table.txt $work/book < $work/lines"
 cat "$work/lines" "$work/lines" > "$work/twice"
 twice=$(best 3 collect "$work/twice")
-figures "collect, the same games again" "$work/lines" $((twice - time)) \
+figures "collect, the same games again" "$work/lines" $((twice - least)) \
     sh -c "build/pbook collect examples/table.txt $work/book < $work/twice"
-"$games" lines 100000 > "$work/many"
+lines 100000 > "$work/many"
 figures "collect, 100,000 games" "$work/many" "$(best 3 collect "$work/many")" \
     sh -c "build/pbook collect examples/table.txt $work/book < $work/many"
 awk -F'\t' -v OFS='\t' 'NR == 1 { for (n = 1; n <= 100000; n++) { $1 = "id-" n; print } exit }' "$work/lines" > "$work/one"
@@ -46,7 +46,7 @@ figures "collect, one game under 100,000 ids" "$work/one" "$(best 3 collect "$wo
     sh -c "build/pbook collect examples/table.txt $work/book < $work/one"
 
 if [ -n "${MILLION:-}" ]; then
-    "$games" lines 1000000 > "$work/million"
+    lines 1000000 > "$work/million"
     figures "collect, a million games" "$work/million" "$(best 1 collect "$work/million")" \
         sh -c "build/pbook collect examples/table.txt $work/book < $work/million"
     rm "$work/million"

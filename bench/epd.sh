@@ -16,8 +16,8 @@ epd() {
     build/pbook epd < "$lines" > "$lines.out"
 }
 
-time=$(best 5 epd)
-awk -v bytes="$(wc -c < "$lines")" -v time="$time" \
+least=$(best 5 epd)
+awk -v bytes="$(wc -c < "$lines")" -v time="$least" \
     'BEGIN { printf "epd: %.0f MB in %.2f s, %.0f MB/s\n", bytes / 1e6, time / 1e9, bytes * 1000 / time }'
 cmp "$lines" "$lines.out"
 if [ -x /usr/bin/time ]; then

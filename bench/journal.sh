@@ -1,11 +1,11 @@
 #!/bin/sh
-# Times `pbook collect --journal` on 20,000 games of 80 plies that bench_moves makes (`make bench` builds it), beside the same games by
+# Times `pbook collect --journal` on 20,000 games of 80 plies that bench/rows.sh gives, beside the same games by
 # `collect` alone, then the replay of the journal that was left, and 500 games by `--sync`. Each time is the best of five runs.
 set -eu
-games=crates/bench_moves/out/bench_moves
 work=$(mktemp -d)
 trap 'rm -rf "$work"' EXIT
 . bench/best.sh
+. bench/rows.sh
 
 # The folder of the journal has to be on a disk for --sync to mean something; that of the repository is.
 journal=build/bench.journal
@@ -28,7 +28,7 @@ replayed() {
 
 tell() { awk -v name="$1" -v games="$2" -v time="$3" 'BEGIN { printf "%s: %.2f s, %.1f microseconds a game\n", name, time / 1e9, time / games / 1e3 }'; }
 
-"$games" lines 20000 > "$work/lines"
+lines 20000 > "$work/lines"
 head -n 500 "$work/lines" > "$work/few"
 tell 'collect, 20,000 games' 20000 "$(best 5 alone)"
 tell 'collect --journal, the same games' 20000 "$(best 5 journaled "$work/lines")"

@@ -1,12 +1,14 @@
 #!/bin/sh
-# Times the program bench_moves (`make bench` builds it): sequences of legal moves a second, and
+# Times the library over rows (bench/rows.sh): sequences of legal moves a second, and
 # nanoseconds to judge and play a ply and to make its key. Each figure is the best of five runs, so that other work on the machine
 # disturbs it least. Where Stockfish is installed, the longest sequences are counted in turn with its `go perft`, for scale.
-# Usage: bench/moves.sh [PROGRAM] (at the top of the repository).
+# Usage: bench/moves.sh, at the top of the repository; ANSWERER may name another build of worked_examples.
 set -eu
 PATH=$PATH:/usr/games
-program=${1:-crates/bench_moves/out/bench_moves}
+work=$(mktemp -d)
+trap 'rm -rf "$work"' EXIT
 . bench/best.sh
+. bench/rows.sh
 initial='rnbqkbnr/pppppppp/8/8/8/8/PPPPPPPP/RNBQKBNR w KQkq - 0 1'
 middle='r3k2r/p1ppqpb1/bn2pnp1/3PN3/1p2P3/2N2Q1p/PPPBBPPP/R3K2R w KQkq - 0 1'
 
@@ -18,8 +20,8 @@ tell() {
 
 # sequences NAME FEN LENGTH
 sequences() {
-    count=$("$program" perft "$2" "$3")
-    tell "$1, length $3" "$count" "$(best 5 "$program" perft "$2" "$3")"
+    count=$(answer perft "$3" "$2")
+    tell "$1, length $3" "$count" "$(best 5 answered)"
 }
 
 # ask ORDER ANSWER: hands Stockfish an order and leaves in `line` the line of its answer that begins so
@@ -34,13 +36,13 @@ ask() {
 
 # beside NAME FEN LENGTH: the same in turn with Stockfish, which has to count as many. It runs already, so its start isn't timed.
 beside() {
-    count=$("$program" perft "$2" "$3")
+    count=$(answer perft "$3" "$2")
     printf 'position fen %s\n' "$2" >&3
     ask "go perft $3" 'Nodes searched: '
     [ "${line#Nodes searched: }" = "$count" ] || { echo "$1, length $3: $count sequences, Stockfish has another count: $line"; exit 1; }
     rounds=5
     while [ "$rounds" -gt 0 ]; do
-        once "$program" perft "$2" "$3" >> "$work/own"
+        once answered >> "$work/own"
         once ask "go perft $3" 'Nodes searched: ' >> "$work/other"
         rounds=$((rounds - 1))
     done
@@ -52,8 +54,6 @@ beside() {
 sequences 'initial array' "$initial" 4
 sequences 'middle game' "$middle" 3
 if command -v stockfish > /dev/null; then
-    work=$(mktemp -d)
-    trap 'rm -rf "$work"' EXIT
     mkfifo "$work/orders" "$work/answers"
     stockfish < "$work/orders" > "$work/answers" &
     exec 3> "$work/orders" 4< "$work/answers"
@@ -68,16 +68,22 @@ else
     sequences 'middle game' "$middle" 4
 fi
 
+# play CALL ROUNDS: the least time of so many rounds of a thousand games
+play() {
+    row "$1" 1000 "$2"
+    best 5 answered
+}
+
 # The games are chosen by listing moves, which takes longer than playing them: the difference of two runs is the
 # playing alone.
-first=$(best 5 "$program" games 1)
-many=$(best 5 "$program" games 41)
-plies=$("$program" games 40)
+first=$(play games 1)
+many=$(play games 41)
+plies=$(answer games 1000 40)
 awk -v plies="$plies" -v time="$((many - first))" \
     'BEGIN { printf "games: %.0f ns to judge and play a ply, %.1f million plies a second\n", time / plies, plies * 1000 / time }'
 
 # The keys alone: what the same games with their keys take beyond them.
-one=$(best 5 "$program" keys 1)
-keys=$(best 5 "$program" keys 41)
+one=$(play keys 1)
+keys=$(play keys 41)
 awk -v plies="$plies" -v time="$((keys - one - many + first))" \
     'BEGIN { printf "keys: %.0f ns to make the key of a ply from the one before\n", time / plies }'

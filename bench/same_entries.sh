@@ -4,13 +4,13 @@
 # in a row. PolyGlot leaves open in which order moves of one key and one weight stand, so the entries are compared in sorted order.
 set -eu
 PATH=$PATH:/usr/games
-games=crates/bench_moves/out/bench_moves
 if ! command -v polyglot > /dev/null || ! command -v pgn-extract > /dev/null; then
     echo 'entries beside PolyGlot: not compared, polyglot and pgn-extract are wanted'
     exit 0
 fi
 work=$(mktemp -d)
 trap 'rm -rf "$work"' EXIT
+. bench/rows.sh
 
 # The first word as it lies in the program, and 781 words of 8 bytes from there on.
 program=$(command -v polyglot)
@@ -18,7 +18,7 @@ first='\x41\x6d\x77\x33\x7e\x24\x39\x9d'
 offset=$(LC_ALL=C grep -obUaP "$first" "$program" | head -1 | cut -d: -f1)
 od -An -v -tx8 -w8 -j "$offset" -N $((781 * 8)) "$program" | tr -d ' ' > "$work/table"
 
-"$games" lines 20000 > "$work/lines"
+lines 20000 > "$work/lines"
 awk -F'\t' '{ printf "[Event \"?\"]\n[Result \"%s\"]\n\n%s %s\n\n", $2, $4, $2 }' "$work/lines" > "$work/moves.pgn"
 pgn-extract -s -Wsan "$work/moves.pgn" > "$work/games.pgn" 2> "$work/warnings"
 

@@ -1,16 +1,14 @@
 #!/bin/sh
 # Compares the counts of sequences of legal moves with published ones, those of sequences.txt. It prints a line for each position that
 # agrees, and one for each count that differs or is missing, with status 1 then; all counts are taken before it ends.
-# Usage: bench/sequences.sh [PROGRAM] (at the top of the repository; the program bench_moves, which `make bench` builds, where none is given,
-# else one that answers `PROGRAM perft FEN LENGTH` by a number).
+# Usage: bench/sequences.sh, at the top of the repository. The counts are answers to rows (bench/rows.sh).
 set -eu
-program=${1:-crates/bench_moves/out/bench_moves}
-[ -x "$program" ] || { echo "sequences: no program $program; \`make bench\` builds it"; exit 1; }
+work=$(mktemp -d)
+trap 'rm -rf "$work"' EXIT
+. bench/rows.sh
 
 # A pipe would hide the status that the loop sets.
-counts=$(mktemp)
-trap 'rm -f "$counts"' EXIT
-grep -v '^#' bench/sequences.txt > "$counts"
+grep -v '^#' bench/sequences.txt > "$work/counts"
 status=0
 positions=0
 while IFS='|' read -r name record published; do
@@ -18,7 +16,7 @@ while IFS='|' read -r name record published; do
     agree=true
     for due in $published; do
         length=$((length + 1))
-        count=$("$program" perft "$record" "$length" < /dev/null) || count="none, its status is $?"
+        count=$(answer perft "$length" "$record")
         if [ "$count" != "$due" ]; then
             echo "sequences: $name, length $length: $due are published, the program counts $count"
             agree=false
@@ -31,7 +29,7 @@ while IFS='|' read -r name record published; do
         echo "sequences: $name: not as published"
         status=1
     fi
-done < "$counts"
+done < "$work/counts"
 if [ "$positions" -ne 6 ]; then
     echo "sequences: $positions positions were read, six are wanted"
     status=1

@@ -32,6 +32,12 @@ ledger_of rules words held = record { basis = record { words = words; rules = ru
 abbrev pub new_ledger : CountingRules → List ℕ → LedgerState
 new_ledger rules words = ledger_of rules words []
 
+-- the table was read, and the ledger is a new one of its words
+pub record IsEmptyLedger (rules : CountingRules) (fills : ℕ) (t t' : SourceState) (ledger : LedgerState) : Type 0 where
+  pub words : List ℕ
+  pub table : ReadsTable fills t t' words
+  pub is : ledger ≡ new_ledger rules words
+
 -- the table of these words was read, and all lines of the stream were submitted, from no games on, and answered; these games are
 -- held
 pub record TakesGames (fills : ℕ) (t t' s s' : SourceState) (words : List ℕ) (held : List Submission) : Type 0 where

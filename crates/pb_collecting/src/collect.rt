@@ -1,13 +1,16 @@
 //! The command `collect`: submissions are answered, and the book of the games that are held then is made.
-ghost use Rattle.std.specs.Prelude.{IfErr, IfNone, IfOk, IfSome, OnOk, false};
-ghost use Rattle.pb_io.specs.Sink.{HandedOn};
+ghost use Rattle.std.specs.Prelude.{ℕ, IfErr, IfNone, IfOk, IfSome, OnOk, false};
+ghost use Rattle.pb_io.specs.Source.{SourceState};
+ghost use Rattle.pb_io.specs.Sink.{HandedOn, SinkState};
+ghost use Rattle.pb_accepted.specs.Rules.{CountingRules};
 ghost use Rattle.pb_commands.specs.Judged.{PutsText};
 ghost use Rattle.pb_collecting.specs.CollectRun.{CollectsOrEnds, CollectsBook, EndsCollect, JudgesTable, RefusesTold};
 ghost use Rattle.pb_collecting.specs.Headline.{HasHeadline};
+ghost use Rattle.pb_collecting.specs.Taking.{FillsLedger};
 
 use crate::taking::{refuse_games, take_games};
 use pb_commands::Fault;
-use pb_ledger::Rules;
+use pb_ledger::{Ledger, MapTally, Rules};
 use pb_poly::{Book, Sink, Source};
 use std::alloc::Global;
 
@@ -63,13 +66,21 @@ pub(crate) fn collect_submissions<T: Source, S: Source, K: Sink>(
     ensures { CollectsOrEnds rules fills (T.state table_source.old) (T.state table_source.new) (S.state source.old) (S.state source.new)
         (K.state sink.old) (K.state sink.new) result }
 {
-    let ledger = match take_games(alloc, rules, table_source, source, sink, fills) {
-        Ok(ledger) => ledger,
+    match take_games(alloc, rules, table_source, source, sink, fills) {
+        Ok(ledger) => book_of(alloc, &ledger),
         Err(why) => {
             refuse_games(sink, why)?;
-            return Ok(None);
+            Ok(None)
         }
-    };
+    }
+}
+
+/// Makes the book of the games that were taken.
+fn book_of(alloc: Global, ledger: &Ledger<MapTally>) -> Result<Option<Book>, Fault>
+    // Whatever submissions were taken, the run ends so.
+    ensures { (rules : CountingRules) (fills : ℕ) (t t' s s' : SourceState) (sink sink' : SinkState)
+        → FillsLedger rules fills t t' s s' sink sink' ledger.now → CollectsOrEnds rules fills t t' s s' sink sink' result }
+{
     let Ok(book) = ledger.make_book(alloc) else {
         return Err(Fault::Memory);
     };

@@ -5,9 +5,9 @@ ghost use Rattle.pb_commands.specs.Judged.{PutsOrEnds, PutsText, PutsUntil};
 ghost use Rattle.pb_collecting.specs.Continuing.{ContinuesOrEnds, GoesOn, JudgesSaved, LoadsOrStops, RunsOn, saved_verdict, verdict_of};
 ghost use Rattle.pb_collecting.specs.ContinuingTold.{HandsOn, HasHeadlineOfBoth, RefusesEither};
 
-use crate::taking::collect_fault;
-use pb_commands::{Fault, TableFault, refuse_table, refuse_with, take_table};
-use pb_ledger::{Ledger, LoadError, MAX_CAP, MapTally, Rules, collect, load};
+use crate::taking::{collect_fault, empty_ledger};
+use pb_commands::{Fault, TableFault, refuse_table, refuse_with};
+use pb_ledger::{Ledger, LoadError, MapTally, Rules, collect, load};
 use pb_poly::{Book, Sink, Source};
 use std::alloc::Global;
 
@@ -23,9 +23,9 @@ pub struct Continued {
 /// Why no submission was read.
 #[derive(Clone, Copy)]
 enum NoLedger {
-    /// There is no table.
+    /// There is no table, or there was no memory for a ledger.
     Table(TableFault),
-    /// The saved ledger was not loaded, or there was no memory for a ledger.
+    /// The saved ledger was not loaded.
     Saved(LoadError),
 }
 
@@ -106,12 +106,9 @@ fn load_games<T: Source, V: Source>(
 ) -> Result<Ledger<MapTally>, NoLedger>
     ensures { LoadsOrStops rules fills (T.state table_source.old) (T.state table_source.new) (V.state saved.old) (V.state saved.new) result }
 {
-    let table = match take_table(alloc, table_source, fills) {
-        Ok(table) => table,
+    let mut ledger = match empty_ledger(alloc, rules, table_source, fills) {
+        Ok(ledger) => ledger,
         Err(error) => return Err(NoLedger::Table(error)),
-    };
-    let Ok(mut ledger) = Ledger::<MapTally>::with_rules(alloc, &table, MAX_CAP, rules) else {
-        return Err(NoLedger::Saved(LoadError::Memory));
     };
     match load(alloc, saved, &mut ledger, fills) {
         Ok(_) => Ok(ledger),

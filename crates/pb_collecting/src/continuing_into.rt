@@ -1,6 +1,12 @@
 //! The command `collect` that goes on from a saved ledger, up to the places where the ledger and its book are kept.
 
+ghost use Rattle.std.specs.Prelude.{ℕ, IfOk};
+ghost use Rattle.pb_io.specs.Source.{SourceState};
+ghost use Rattle.pb_io.specs.Sink.{SinkState};
+ghost use Rattle.pb_accepted.specs.Rules.{CountingRules};
+ghost use Rattle.pb_collecting.specs.Continuing.{RunsOn};
 ghost use Rattle.pb_collecting.specs.ContinuingInto.{KeepsOrStops};
+ghost use Rattle.pb_collecting.specs.ContinuingTold.{HasHeadlineOfBoth};
 
 use crate::continuing::{Continued, run_continue};
 use crate::place::{NotKept, Place};
@@ -43,29 +49,36 @@ pub fn continue_into<T: Source, V: Source, S: Source, K: Sink, P: Place, Q: Plac
         (S.state source.old) (S.state source.new) (K.state sink.old) (K.state sink.new)
         (P.state ledger_place.old) (P.state ledger_place.new) (Q.state book_place.old) (Q.state book_place.new) result }
 {
-    let Continued { ledger, book } = match run_continue(
-        alloc,
-        rules,
-        table_source,
-        saved,
-        source,
-        sink,
-        fills,
-    ) {
-        Ok(Some(run)) => run,
-        Ok(None) => return Ok(false),
-        Err(fault) => return Err(NotContinued::Run(fault)),
-    };
+    match run_continue(alloc, rules, table_source, saved, source, sink, fills) {
+        Ok(Some(run)) => keep_run(&run, ledger_place, book_place),
+        Ok(None) => Ok(false),
+        Err(fault) => Err(NotContinued::Run(fault)),
+    }
+}
+
+/// Keeps the ledger of a run at the one place, also where a fault ended the run, and then its book at the other.
+fn keep_run<P: Place, Q: Place>(
+    run: &Continued,
+    ledger_place: &mut P,
+    book_place: &mut Q,
+) -> Result<bool, NotContinued>
+    // Whatever sources the run read, it ends so.
+    ensures { (rules : CountingRules) (fills : ℕ) (t t' v v' s s' : SourceState) (sink sink' : SinkState)
+        → RunsOn rules fills t t' v v' s s' sink sink' run.now.ledger run.now.book
+        → IfOk run.now.book (HasHeadlineOfBoth rules t.to_come v.to_come s.to_come sink sink' run.now.ledger)
+        → KeepsOrStops rules fills t t' v v' s s' sink sink' (P.state ledger_place.old) (P.state ledger_place.new)
+        (Q.state book_place.old) (Q.state book_place.new) result }
+{
     // The ledger is kept first: what was answered `ok` is in it.
-    let kept = ledger_place.keep(&ledger);
-    let book = match book {
+    let kept = ledger_place.keep(&run.ledger);
+    let book = match &run.book {
         Ok(book) => book,
-        Err(fault) => return Err(NotContinued::Run(fault)),
+        Err(fault) => return Err(NotContinued::Run(*fault)),
     };
     if let Err(why) = kept {
         return Err(NotContinued::Ledger(why));
     }
-    match book_place.keep(&book) {
+    match book_place.keep(book) {
         Ok(()) => Ok(true),
         Err(why) => Err(NotContinued::Book(why)),
     }

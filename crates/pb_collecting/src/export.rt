@@ -1,13 +1,16 @@
 //! The command `export`: the book of submissions as EPD lines.
-ghost use Rattle.std.specs.Prelude.{◌≡◌, IfErr, IfOk, None, OnOk, false, true};
-ghost use Rattle.pb_io.specs.Sink.{HandedOn};
+ghost use Rattle.std.specs.Prelude.{◌≡◌, ℕ, IfErr, IfOk, None, OnOk, false, true};
+ghost use Rattle.pb_io.specs.Source.{SourceState};
+ghost use Rattle.pb_io.specs.Sink.{HandedOn, SinkState};
+ghost use Rattle.pb_accepted.specs.Rules.{CountingRules};
 ghost use Rattle.pb_commands.specs.Judged.{PutsText};
 ghost use Rattle.pb_collecting.specs.CollectRun.{JudgesTable, RefusesTold};
 ghost use Rattle.pb_collecting.specs.ExportRun.{BlamesSink, EndsExport, ExportsOrStops, ExportsGames, fault_of_export};
+ghost use Rattle.pb_collecting.specs.Taking.{FillsLedger};
 
 use crate::taking::{refuse_games, take_games};
 use pb_commands::Fault;
-use pb_ledger::{ExportFault, Rules, export};
+use pb_ledger::{ExportFault, Ledger, MapTally, Rules, export};
 use pb_poly::{Failed, Sink, Source};
 use std::alloc::Global;
 
@@ -111,11 +114,23 @@ pub fn export_submissions<T: Source, S: Source, D: Sink, K: Sink>(
     ensures { ExportsOrStops rules fills (T.state table_source.old) (T.state table_source.new) (S.state source.old) (S.state source.new)
         (D.state replies.old) (D.state replies.new) (K.state sink.old) (K.state sink.new) result }
 {
-    let ledger = match take_games(alloc, rules, table_source, source, replies, fills) {
-        Ok(ledger) => ledger,
-        Err(why) => return refuse_games(sink, why),
-    };
-    match export(alloc, &ledger, sink) {
+    match take_games(alloc, rules, table_source, source, replies, fills) {
+        Ok(ledger) => export_games(alloc, &ledger, sink),
+        Err(why) => refuse_games(sink, why),
+    }
+}
+
+/// Puts the export of the games that were taken.
+fn export_games<K: Sink>(
+    alloc: Global,
+    ledger: &Ledger<MapTally>,
+    sink: &mut K,
+) -> Result<bool, Fault>
+    // Whatever submissions were taken, the run ends so.
+    ensures { (rules : CountingRules) (fills : ℕ) (t t' s s' : SourceState) (d d' : SinkState) → FillsLedger rules fills t t' s s' d d' ledger.now
+        → ExportsOrStops rules fills t t' s s' d d' (K.state sink.old) (K.state sink.new) result }
+{
+    match export(alloc, ledger, sink) {
         Ok(_) => Ok(true),
         Err(fault) => Err(export_fault(fault)),
     }

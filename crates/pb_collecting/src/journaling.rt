@@ -1,14 +1,16 @@
 //! The command `collect` with a journal.
 
 ghost use Rattle.std.specs.Prelude.{◌≡◌, ◌⊎◌, IfErr, IfNone, IfOk, IfSome, OnOk};
-ghost use Rattle.pb_io.specs.Sink.{HandedOn};
+ghost use Rattle.pb_io.specs.Source.{SourceState};
+ghost use Rattle.pb_io.specs.Sink.{HandedOn, SinkState};
+ghost use Rattle.pb_accepted.specs.Rules.{CountingRules};
 ghost use Rattle.pb_collecting.specs.CollectRun.{RefusesTold};
-ghost use Rattle.pb_collecting.specs.JournalRun.{EndsJournaled, JournalsBook, JournalsOrEnds, RefusesJournaled, ReplaysOrStops, fault_of_journal, fault_of_replay};
+ghost use Rattle.pb_collecting.specs.JournalRun.{EndsJournaled, JournalsBook, JournalsOrEnds, RefusesJournaled, ReplaysFirst, ReplaysOrStops, fault_of_journal, fault_of_replay};
 ghost use Rattle.pb_collecting.specs.JournalTold.{HasHeadlineOfJournal, Survives};
 
-use crate::taking::collect_fault;
-use pb_commands::{Fault, TableFault, refuse_table, take_table};
-use pb_ledger::{JournalFault, Ledger, MAX_CAP, MapTally, Rules, collect_journaled};
+use crate::taking::{collect_fault, empty_ledger};
+use pb_commands::{Fault, TableFault, refuse_table};
+use pb_ledger::{JournalFault, Ledger, MapTally, Rules, collect_journaled};
 use pb_poly::{Book, Sink, Source};
 use pb_saved::{ReplayError, replay};
 use std::alloc::Global;
@@ -16,9 +18,9 @@ use std::alloc::Global;
 /// Why no submission was read.
 #[derive(Clone, Copy)]
 enum NoJournal {
-    /// There is no table.
+    /// There is no table, or there was no memory for a ledger.
     Table(TableFault),
-    /// The journal was not replayed, or there was no memory for a ledger.
+    /// The journal was not replayed.
     Replay(ReplayError),
 }
 
@@ -91,15 +93,31 @@ fn journal_submissions<T: Source, V: Source, J: Sink, S: Source, K: Sink>(
     ensures { JournalsOrEnds rules fills (T.state table_source.old) (T.state table_source.new) (V.state kept.old) (V.state kept.new)
         (S.state source.old) (S.state source.new) (J.state journal.old) (J.state journal.new) (K.state sink.old) (K.state sink.new) result }
 {
-    let mut ledger = match replay_games(alloc, rules, table_source, kept, journal, fills) {
-        Ok(ledger) => ledger,
+    match replay_games(alloc, rules, table_source, kept, journal, fills) {
+        Ok(mut ledger) => go_on(alloc, &mut ledger, journal, source, sink, fills),
         Err(NoJournal::Table(error)) => {
             refuse_table(sink, error)?;
-            return Ok(None);
+            Ok(None)
         }
-        Err(NoJournal::Replay(error)) => return Err(replay_fault(error)),
-    };
-    if let Err(fault) = collect_journaled(alloc, source, sink, journal, &mut ledger, fills) {
+        Err(NoJournal::Replay(error)) => Err(replay_fault(error)),
+    }
+}
+
+/// Takes the submissions into the ledger that holds the journal's games, and makes the book of all that it holds then.
+fn go_on<J: Sink, S: Source, K: Sink>(
+    alloc: Global,
+    ledger: &mut Ledger<MapTally>,
+    journal: &mut J,
+    source: &mut S,
+    sink: &mut K,
+    fills: u32,
+) -> Result<Option<Book>, Fault>
+    // Whatever journal was replayed, the run ends so.
+    ensures { (rules : CountingRules) (t t' v v' : SourceState) (j : SinkState) → ReplaysFirst rules fills t t' v v' j (J.state journal.old) ledger.old
+        → JournalsOrEnds rules fills t t' v v' (S.state source.old) (S.state source.new) j (J.state journal.new)
+        (K.state sink.old) (K.state sink.new) result }
+{
+    if let Err(fault) = collect_journaled(alloc, source, sink, journal, ledger, fills) {
         return Err(journal_fault(fault));
     }
     let Ok(book) = ledger.make_book(alloc) else {
@@ -122,12 +140,9 @@ fn replay_games<T: Source, V: Source, J: Sink>(
     ensures { ReplaysOrStops rules fills (T.state table_source.old) (T.state table_source.new) (V.state kept.old) (V.state kept.new)
         (J.state journal.old) (J.state journal.new) result }
 {
-    let table = match take_table(alloc, table_source, fills) {
-        Ok(table) => table,
+    let mut ledger = match empty_ledger(alloc, rules, table_source, fills) {
+        Ok(ledger) => ledger,
         Err(error) => return Err(NoJournal::Table(error)),
-    };
-    let Ok(mut ledger) = Ledger::<MapTally>::with_rules(alloc, &table, MAX_CAP, rules) else {
-        return Err(NoJournal::Replay(ReplayError::Memory));
     };
     match replay(alloc, kept, journal, &mut ledger, fills) {
         Ok(()) => Ok(ledger),

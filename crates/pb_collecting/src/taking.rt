@@ -1,6 +1,7 @@
 //! Games out of submissions.
-ghost use Rattle.std.specs.Prelude.{◌≡◌};
-ghost use Rattle.pb_collecting.specs.Taking.{RefusesGames, TakesOrStops, fault_of};
+ghost use Rattle.std.specs.Prelude.{◌≡◌, MatchResult};
+ghost use Rattle.pb_poly.specs.TableReading.{FindsNoTable};
+ghost use Rattle.pb_collecting.specs.Taking.{IsEmptyLedger, RefusesGames, TakesOrStops, fault_of};
 
 use pb_commands::{Fault, TableFault, refuse_table, take_table};
 use pb_ledger::{CollectFault, Ledger, MAX_CAP, MapTally, Rules, collect};
@@ -10,10 +11,28 @@ use std::alloc::Global;
 /// Why not all submissions were taken.
 #[derive(Clone, Copy)]
 pub(crate) enum NoGames {
-    /// There is no table.
+    /// There is no table, or there was no memory for a ledger.
     Table(TableFault),
-    /// The lines were not all taken and answered, or there was no memory for the ledger.
+    /// The lines were not all taken and answered.
     Submissions(CollectFault),
+}
+
+/// Reads the table, and makes a ledger of its words and of these rules that holds no games. Want of memory for the ledger is told as that
+/// for the table.
+pub(crate) fn empty_ledger<T: Source>(
+    alloc: Global,
+    rules: Rules,
+    table_source: &mut T,
+    fills: u32,
+) -> Result<Ledger<MapTally>, TableFault>
+    ensures { MatchResult result (IsEmptyLedger rules fills (T.state table_source.old) (T.state table_source.new))
+        (FindsNoTable fills (T.state table_source.old) (T.state table_source.new)) }
+{
+    let table = take_table(alloc, table_source, fills)?;
+    match Ledger::with_rules(alloc, &table, MAX_CAP, rules) {
+        Ok(ledger) => Ok(ledger),
+        Err(_) => Err(TableFault::Memory),
+    }
 }
 
 /// Reads the table, then takes the submissions into a new ledger of these rules and puts the reply to each.
@@ -28,12 +47,9 @@ pub(crate) fn take_games<T: Source, S: Source, K: Sink>(
     ensures { TakesOrStops rules fills (T.state table_source.old) (T.state table_source.new) (S.state source.old) (S.state source.new)
         (K.state replies.old) (K.state replies.new) result }
 {
-    let table = match take_table(alloc, table_source, fills) {
-        Ok(table) => table,
+    let mut ledger = match empty_ledger(alloc, rules, table_source, fills) {
+        Ok(ledger) => ledger,
         Err(error) => return Err(NoGames::Table(error)),
-    };
-    let Ok(mut ledger) = Ledger::<MapTally>::with_rules(alloc, &table, MAX_CAP, rules) else {
-        return Err(NoGames::Submissions(CollectFault::Memory));
     };
     match collect(alloc, source, replies, &mut ledger, fills) {
         Ok(_) => Ok(ledger),

@@ -1,8 +1,10 @@
 //! The command `probe`: the moves that a book has for a position.
 ghost use Rattle.std.specs.Prelude.{◌≡◌, ℕ, Bool, IfErr, IfOk, IfSome, List, MatchResult, Ok, OnOk, false, true};
 ghost use Rattle.std.specs.Io.KnownBytes.{Appends};
-ghost use Rattle.pb_poly.specs.Reading.{Tells};
+ghost use Rattle.pb_poly.specs.Reading.{ReadsBook, Tells};
+ghost use Rattle.pb_poly.specs.TableReading.{ReadsTable};
 ghost use Rattle.pb_io.specs.Sink.{HandedOn, Put};
+ghost use Rattle.pb_io.specs.Source.{SourceState};
 ghost use Rattle.pb_commands.specs.Judged.{PutsOrEnds, PutsText, PutsUntil};
 ghost use Rattle.pb_commands.specs.BookJudged.{AsBook};
 ghost use Rattle.pb_commands.specs.ProbeShown.{ProbeShown, ProbesSources, found_line, probe_text};
@@ -16,7 +18,7 @@ use crate::refusal::{refuse, refuse_book, refuse_table};
 use itoa::Buffer;
 use pb_board::read_fen;
 use pb_moves::Move;
-use pb_poly::{Failed, Sink, Source, probe, read_book, take_table};
+use pb_poly::{Book, Failed, Sink, Source, Table, probe, read_book, take_table};
 use std::alloc::Global;
 
 /// Shows the moves that a book has for a record's setup, each with its weight in decimal, in the book's order. The table of
@@ -67,15 +69,29 @@ fn show_moves<T: Source, B: Source, K: Sink>(
         Ok(table) => table,
         Err(error) => return refuse_table(sink, error),
     };
-    let book = match read_book(alloc, book_source, fills) {
-        Ok(book) => book,
-        Err(error) => return refuse_book(sink, error),
-    };
+    match read_book(alloc, book_source, fills) {
+        Ok(book) => show_under(alloc, &table, &book, fen, sink),
+        Err(error) => refuse_book(sink, error),
+    }
+}
+
+/// Shows the moves that the book has for the record's setup, or why there is no record.
+fn show_under<K: Sink>(
+    alloc: Global,
+    table: &Table,
+    book: &Book,
+    fen: &[u8],
+    sink: &mut K,
+) -> Result<bool, Fault>
+    // However the two were read, the command ends so.
+    ensures { (fills : ℕ) (t t' b b' : SourceState) → ReadsTable fills t t' table.now → ReadsBook fills b b' book.now
+        → PutsOrEnds (ProbesSources fills t t' b b' fen.now) (K.state sink.old) (K.state sink.new) result }
+{
     let record = match read_fen(fen) {
         Ok(record) => record,
         Err(error) => return refuse(sink, &[b"refused fen ", error.word().as_bytes()]),
     };
-    let Ok(found) = probe(alloc, &book, &table, &record.setup()) else {
+    let Ok(found) = probe(alloc, book, table, &record.setup()) else {
         return Err(Fault::Memory);
     };
     show_found(sink, found.as_slice())?;

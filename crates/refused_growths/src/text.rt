@@ -1,14 +1,16 @@
 //! Texts that take no memory.
 
+ghost use Rattle.std.specs.Prelude.{None, false};
+
 use arrayvec::ArrayVec;
+use pb_ledger::{Ledger, Tally, save};
+use pb_poly::{Book, Failed, Sink, write_book};
 
-/// How many bytes a text has room for.
-const ROOM: usize = 16_384;
-
-/// A text of at most 16,384 bytes. A part that doesn't fit is left out, so that the text is another one.
+/// A text of at most 16,384 bytes, and a sink. A part that doesn't fit is left out, so that the text is another one.
 #[derive(Drop)]
 pub(crate) struct Text {
-    bytes: ArrayVec<u8, ROOM>,
+    bytes: ArrayVec<u8, 16_384>,
+    flushed: bool,
 }
 
 impl Text {
@@ -16,23 +18,31 @@ impl Text {
     pub(crate) fn of(parts: &[&[u8]]) -> Text {
         let mut text = Text {
             bytes: ArrayVec::new(),
+            flushed: false,
         };
         for part in parts {
-            text.put(part);
+            text.add(part);
         }
         text
     }
 
-    /// Adds bytes.
-    pub(crate) fn put(&mut self, part: &[u8]) {
-        let _ = self.bytes.try_extend_from_slice(part);
+    /// The file of a book.
+    pub(crate) fn of_book(book: &Book) -> Text {
+        let mut text = Text::of(&[]);
+        let _ = write_book(&mut text, book);
+        text
     }
 
-    /// Adds bytes so many times.
-    pub(crate) fn put_times(&mut self, part: &[u8], times: usize) {
-        for _ in 0..times {
-            self.put(part);
-        }
+    /// The saved form of a ledger.
+    pub(crate) fn of_ledger<T: Tally>(ledger: &Ledger<T>) -> Text {
+        let mut text = Text::of(&[]);
+        let _ = save(ledger, &mut text);
+        text
+    }
+
+    /// Adds bytes.
+    pub(crate) fn add(&mut self, part: &[u8]) {
+        let _ = self.bytes.try_extend_from_slice(part);
     }
 
     /// The bytes.
@@ -41,21 +51,21 @@ impl Text {
     }
 }
 
-/// The digit that writes a number below ten, or a `?`.
-pub(crate) fn digit(number: u32) -> [u8; 1] {
-    match u8::try_from(number) {
-        Ok(small) if small < 10 => [b'0' + small],
-        _ => [b'?'],
-    }
-}
+impl Sink for Text {
+    ghost state = { λ s. record { bytes = None; failed = false; flushed = s.flushed } };
 
-/// The file of a table of which word i is 2^(i mod 64).
-pub(crate) fn table_file() -> Text {
-    let mut file = Text::of(&[]);
-    for place in 0..781_usize {
-        let mut word = *b"0000000000000000\n";
-        word[15 - place % 64 / 4] = b"1248"[place % 4];
-        file.put(&word);
+    fn put(&mut self, bytes: &[u8]) -> Result<(), Failed> {
+        self.add(bytes);
+        self.flushed = false;
+        Ok(())
     }
-    file
+
+    fn flush(&mut self) -> Result<(), Failed> {
+        self.flushed = true;
+        Ok(())
+    }
+
+    fn failed(&self) -> bool {
+        false
+    }
 }

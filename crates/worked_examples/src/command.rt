@@ -1,170 +1,183 @@
-//! The command line, and the commands `fen` and `epd` over memory, readers and writers.
+//! The command line, and each command over the ends that a word of the row names, such as
+//! `input=reader:5 output=room:9`. With `put=hidden` what was put isn't told, and with `next=told`
+//! the next three bytes of the input are.
 
-use crate::book_command;
-use crate::ends::{Ends, Taker, ends_of, failing_source};
-use crate::page::{Done, Page, Trouble};
-use crate::runs::Runs;
-use crate::text::count_of;
-use pb_cli::{Fault, ParseFault, parse, run_epd, run_fen, status};
-use pb_poly::{FromRead, ToWrite};
+use crate::collecting;
+use crate::ends::{Output, fills_in, rules_in};
+use crate::game::stream_of;
+use pb_cli::{Fault, ParseFault, parse, run_epd, run_export, run_fen, run_probe, run_show, status};
+use pb_poly::{FromRead, Source, ToWrite};
 use pb_program::FILLS;
+use rows::book::file_of;
+use rows::ends::{NamedSource, end_of, named_source};
+use rows::page::{Done, NO_ROW, Page, Trouble};
 use std::io::Cursor;
 
 /// How much room the array of a writer has.
 const ROOM: usize = 128;
 
+/// All faults of a command.
+const FAULTS: [Fault; 4] = [Fault::Read, Fault::Write, Fault::Endless, Fault::Memory];
+
 /// The answer to a call.
 pub(crate) fn answer(page: &mut Page, call: &[&str]) -> Done {
-    match call {
-        ["parse", words @ ..] => parsed(page, words),
-        ["status"] => statuses(page),
-        ["faults"] => faults(page),
-        ["fills"] => fills(page),
-        ["fen", record, moves @ ..] => fen(page, record, moves),
-        ["fen-room", most, record] => fen_room(page, most, record),
-        ["epd", piece, ends, text] => epd(page, piece, ends, text),
-        ["epd-pieces", most, text] => epd_pieces(page, most, text),
-        ["epd-streams", text] => epd_streams(page, text),
-        ["epd-room", most, text] => epd_room(page, most, text),
-        _ => book_command::answer(page, call),
+    let [name, words @ ..] = call else {
+        return NO_ROW
+    };
+    match *name {
+        "parse" => parsed(page, words),
+        "status" => statuses(page),
+        "faults" => faults(page),
+        "fills" => page.put_display(&FILLS),
+        "fen" => return fen(page, words),
+        "epd" => return epd(page, words),
+        "epd-streams" => return epd_streams(page, words),
+        "show" => return show(page, words),
+        "probe" => return probe(page, words),
+        "export" => return export(page, words),
+        _ => return collecting::answer(page, name, words),
     }
+    Ok(())
 }
 
 /// The answer of a command with its status, and what was put.
-pub(crate) fn told(page: &mut Page, answer: Result<bool, Fault>, put: &[u8]) {
+fn tell(page: &mut Page, ends: &str, answer: Result<bool, Fault>, output: &Output) -> Done {
+    tell_status(page, answer);
+    if end_of(ends, "put", "told") == "told" {
+        output.tell(page);
+    }
+    Ok(())
+}
+
+/// The answer of a command with its status.
+fn tell_status(page: &mut Page, answer: Result<bool, Fault>) {
     page.put_debug(&answer);
     page.put_count(" status ", &status(answer));
     page.put("\n");
-    page.put_bytes(put);
+}
+
+/// The next three bytes of a source, where the word asks for them.
+pub(crate) fn tell_next(page: &mut Page, ends: &str, source: &mut NamedSource<'_>) {
+    if end_of(ends, "next", "hidden") == "told" {
+        let mut next = [0; 3];
+        let filled = source.fill(&mut next);
+        page.put("\n");
+        page.put_debug(&filled);
+        page.put(" ");
+        page.put_bytes(next.as_slice());
+    }
 }
 
 /// The order that a command line gives, or whether its text is shown instead.
-fn parsed(page: &mut Page, words: &[&str]) -> Done {
+fn parsed(page: &mut Page, words: &[&str]) {
     match parse(page.alloc, words) {
         Ok(order) => page.put_debug(&order),
         Err(ParseFault::Usage(_text)) => page.put("usage"),
         Err(ParseFault::Memory) => page.put("memory"),
     }
-    Ok(())
 }
 
 /// The status for each answer of a command.
-fn statuses(page: &mut Page) -> Done {
-    told(page, Ok(true), b"");
-    told(page, Ok(false), b"");
-    told(page, Err(Fault::Read), b"");
-    told(page, Err(Fault::Write), b"");
-    told(page, Err(Fault::Endless), b"");
-    told(page, Err(Fault::Memory), b"");
-    Ok(())
+fn statuses(page: &mut Page) {
+    tell_status(page, Ok(true));
+    tell_status(page, Ok(false));
+    for fault in &FAULTS {
+        tell_status(page, Err(*fault));
+    }
 }
 
 /// The word that tells each fault.
-fn faults(page: &mut Page) -> Done {
-    page.put_count("a source failed: ", &Fault::Read.word());
-    page.put_count("\na sink failed: ", &Fault::Write.word());
-    page.put_count("\na source didn't end: ", &Fault::Endless.word());
-    page.put_count("\nno memory: ", &Fault::Memory.word());
-    Ok(())
-}
-
-/// How many fills a command makes.
-fn fills(page: &mut Page) -> Done {
-    page.put_display(&FILLS);
-    Ok(())
+fn faults(page: &mut Page) {
+    for fault in &FAULTS {
+        page.put_debug(fault);
+        page.put_count(": ", &fault.word());
+        page.put("\n");
+    }
 }
 
 /// The command `fen`.
-fn fen(page: &mut Page, record: &str, moves: &[&str]) -> Done {
-    let mut taker = Taker::new(page.alloc, usize::MAX, false);
-    let answer = run_fen(
-        page.alloc,
-        record.as_bytes(),
-        moves,
-        &mut ToWrite::new(&mut taker),
-    );
-    told(page, answer, taker.taken.as_slice());
-    Ok(())
+fn fen(page: &mut Page, words: &[&str]) -> Done {
+    let [ends, record, moves @ ..] = words else {
+        return NO_ROW
+    };
+    let mut output = Output::of(page.alloc, ends, "output");
+    let mut sink = ToWrite::new(&mut output);
+    let answer = run_fen(page.alloc, record.as_bytes(), moves, &mut sink);
+    tell(page, ends, answer, &output)
 }
 
-/// The command `fen` into each room up to this many bytes.
-fn fen_room(page: &mut Page, most: &str, record: &str) -> Done {
-    let mut runs = Runs::new();
-    for room in 0..=count_of(most) {
-        let mut taker = Taker::new(page.alloc, room, false);
-        let ended = run_fen(
-            page.alloc,
-            record.as_bytes(),
-            &[],
-            &mut ToWrite::new(&mut taker),
-        );
-        let mut answer = Page::new(page.alloc);
-        told(&mut answer, ended, b"");
-        runs.add(page, room, answer);
-    }
-    runs.end(page);
-    Ok(())
-}
-
-/// The command `epd` over a text in pieces of this size, where the ends are as said, and what it put.
-fn run_over(page: &mut Page, text: &[u8], piece: usize, ends: Ends) {
-    let mut source = failing_source(text, piece, ends.input);
-    let mut taker = Taker::new(page.alloc, ends.output, true);
-    let answer = run_epd(
-        page.alloc,
-        &mut source,
-        &mut ToWrite::new(&mut taker),
-        ends.fills,
-    );
-    told(page, answer, taker.taken.as_slice());
-}
-
-/// The command `epd` over a text.
-fn epd(page: &mut Page, piece: &str, ends: &str, text: &str) -> Done {
-    run_over(page, text.as_bytes(), count_of(piece), ends_of(ends));
-    Ok(())
-}
-
-/// The command `epd` over a text in pieces of each size up to this.
-fn epd_pieces(page: &mut Page, most: &str, text: &str) -> Done {
-    let mut runs = Runs::new();
-    for piece in 1..=count_of(most) {
-        let mut answer = Page::new(page.alloc);
-        run_over(&mut answer, text.as_bytes(), piece, ends_of("all"));
-        runs.add(page, piece, answer);
-    }
-    runs.end(page);
-    Ok(())
+/// The command `epd`.
+fn epd(page: &mut Page, words: &[&str]) -> Done {
+    let [ends, text] = words else { return NO_ROW };
+    let mut source = named_source(end_of(ends, "input", "reader:16"), text.as_bytes());
+    let mut output = Output::of(page.alloc, ends, "output");
+    let mut sink = ToWrite::new(&mut output);
+    let answer = run_epd(page.alloc, &mut source, &mut sink, fills_in(ends));
+    tell(page, ends, answer, &output)
 }
 
 /// The command `epd` over a reader and a writer of std.
-fn epd_streams(page: &mut Page, text: &str) -> Done {
+fn epd_streams(page: &mut Page, words: &[&str]) -> Done {
+    let [text] = words else { return NO_ROW };
     let mut room = [0; ROOM];
     let answer = {
         let mut source = FromRead::new(text.as_bytes());
         let mut sink = ToWrite::new(Cursor::new(room.as_mut_slice()));
         run_epd(page.alloc, &mut source, &mut sink, u32::MAX)
     };
-    told(page, answer, room.as_slice());
+    tell_status(page, answer);
+    page.put_bytes(room.as_slice());
     Ok(())
 }
 
-/// The command `epd` into each room up to this many bytes.
-fn epd_room(page: &mut Page, most: &str, text: &str) -> Done {
-    let mut runs = Runs::new();
-    for room in 0..=count_of(most) {
-        let mut source = failing_source(text.as_bytes(), 16, usize::MAX);
-        let mut taker = Taker::new(page.alloc, room, false);
-        let ended = run_epd(
-            page.alloc,
-            &mut source,
-            &mut ToWrite::new(&mut taker),
-            u32::MAX,
-        );
-        let mut answer = Page::new(page.alloc);
-        told(&mut answer, ended, b"");
-        runs.add(page, room, answer);
-    }
-    runs.end(page);
+/// The command `show` over a book of these entries.
+fn show(page: &mut Page, words: &[&str]) -> Done {
+    let [ends, entries @ ..] = words else {
+        return NO_ROW
+    };
+    let file = file_of(page.alloc, entries)?;
+    let mut source = named_source(end_of(ends, "input", "reader:1"), file.as_bytes());
+    let mut output = Output::of(page.alloc, ends, "output");
+    let mut sink = ToWrite::new(&mut output);
+    let answer = run_show(page.alloc, &mut source, &mut sink, fills_in(ends));
+    tell(page, ends, answer, &output)
+}
+
+/// The command `probe` over a table, and a book of these entries.
+fn probe(page: &mut Page, words: &[&str]) -> Done {
+    let [ends, table, record, entries @ ..] = words else {
+        return NO_ROW
+    };
+    let file = file_of(page.alloc, entries)?;
+    let mut output = Output::of(page.alloc, ends, "output");
+    let answer = run_probe(
+        page.alloc,
+        &mut named_source(end_of(ends, "table", "reader:1000"), table.as_bytes()),
+        &mut named_source(end_of(ends, "input", "reader:3"), file.as_bytes()),
+        record.as_bytes(),
+        &mut ToWrite::new(&mut output),
+        fills_in(ends),
+    );
+    tell(page, ends, answer, &output)
+}
+
+/// The command `export` over a table and lines.
+fn export(page: &mut Page, words: &[&str]) -> Done {
+    let [ends, table, lines @ ..] = words else {
+        return NO_ROW
+    };
+    let stream = stream_of(page.alloc, lines)?;
+    let mut source = named_source(end_of(ends, "input", "reader:7"), stream.as_bytes());
+    let mut output = Output::of(page.alloc, ends, "output");
+    let answer = run_export(
+        page.alloc,
+        rules_in(ends).ok_or(Trouble::Row)?,
+        &mut named_source(end_of(ends, "table", "reader:1000"), table.as_bytes()),
+        &mut source,
+        &mut ToWrite::new(&mut output),
+        fills_in(ends),
+    );
+    tell(page, ends, answer, &output)?;
+    tell_next(page, ends, &mut source);
     Ok(())
 }

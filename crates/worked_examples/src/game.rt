@@ -1,107 +1,56 @@
-//! Submissions. Rows write a line with `|` for each TAB, a field `S` for the record of the start position, and `#` for the number
-//! where `128*` in front of the line stands for so many lines.
+//! Submissions. Rows write a line with `|` for each TAB, a field `S` for the record of the start
+//! position, and `#` for the number where `128*` in front of the line stands for so many lines.
 
-use crate::moves::tell_moves;
-use crate::page::{Done, Page, Trouble};
-use crate::text::{START, number_of, small_of};
 use pb_ledger::{Id, Line, MoveList, check_line};
-use pb_moves::Move;
-use std::alloc::Global;
+use rows::moves::tell_moves;
+use rows::page::{Done, NO_ROW, Page};
+use rows::text::{START, number_of};
+use std::alloc::{AllocError, Global};
 
 /// The answer to a call.
 pub(crate) fn answer(page: &mut Page, call: &[&str]) -> Done {
-    match call {
-        ["check", line] => check(page, line),
-        ["parts", line] => parts(page, line),
-        ["id", text] => id(page, text),
-        _ => Err(Trouble::Row),
+    let [name, text] = call else { return NO_ROW };
+    match *name {
+        "check" => check(page, text, false),
+        "parts" => check(page, text, true),
+        "id" => id(page, text),
+        _ => NO_ROW,
     }
 }
 
-/// The line that an argument writes.
-fn line_of(alloc: Global, text: &str) -> Result<Vec<u8>, Trouble> {
-    let mut line = Vec::new(alloc);
-    push_line(&mut line, text)?;
-    Ok(line)
-}
-
-/// Adds the line that an argument writes.
-fn push_line(line: &mut Vec<u8>, text: &str) -> Done {
-    for (number, field) in text.split('|').enumerate() {
-        if number > 0 {
-            line.push(b'\t')?;
-        }
-        let field = if field == "S" { START } else { field };
-        line.extend_from_slice(field.as_bytes())?;
-    }
-    Ok(())
-}
-
-/// The line that an argument writes with this number.
-fn numbered(alloc: Global, text: &str, number: u32) -> Result<Vec<u8>, Trouble> {
-    let Some((front, back)) = text.split_once('#') else {
-        return line_of(alloc, text);
-    };
-    let mut page = Page::new(alloc);
-    page.put_count(front, &number);
-    page.put(back);
-    line_of(alloc, page.as_str())
+/// The lines that a text writes, with this number.
+pub(crate) fn lines_of(alloc: Global, text: &str, number: u64) -> Result<String, AllocError> {
+    let number = format!(in alloc; "{number}")?;
+    let start = format!(in alloc; "\t{START}\t")?;
+    let lines = text.replace(alloc, "|", "\t")?;
+    let lines = lines.as_str().replace(alloc, "\tS\t", start.as_str())?;
+    lines.as_str().replace(alloc, "#", number.as_str())
 }
 
 /// How many lines an argument stands for, and how they are written.
-fn times_of(text: &str) -> (u32, &str) {
+pub(crate) fn times_of(text: &str) -> (u64, &str) {
     match text.split_once('*') {
-        Some((count, rest)) if number_of(count) > 0 => (small_of(count), rest),
+        Some((count, rest)) if number_of(count) > 0 => (number_of(count), rest),
         _ => (1, text),
     }
 }
 
-/// The lines that arguments write.
-pub(crate) fn lines_of(alloc: Global, texts: &[&str]) -> Result<Vec<Vec<u8>>, Trouble> {
-    let mut lines = Vec::new(alloc);
-    for text in texts {
-        push_times(alloc, &mut lines, text)?;
-    }
-    Ok(lines)
-}
-
-/// Adds the lines that an argument writes.
-fn push_times(alloc: Global, lines: &mut Vec<Vec<u8>>, text: &str) -> Done {
-    let (times, text) = times_of(text);
-    for number in 1..=times {
-        lines.push(numbered(alloc, text, number)?)?;
-    }
-    Ok(())
-}
-
 /// The lines that arguments write, each with an LF but one that ends in `{end}`.
-pub(crate) fn stream_of(alloc: Global, texts: &[&str]) -> Result<Vec<u8>, Trouble> {
-    let mut stream = Vec::new(alloc);
+pub(crate) fn stream_of(alloc: Global, texts: &[&str]) -> Result<String, AllocError> {
+    let mut stream = String::new(alloc);
     for text in texts {
-        match text.split_once("{end}") {
-            Some((text, _)) => push_line(&mut stream, text)?,
-            None => {
-                push_line(&mut stream, text)?;
-                stream.push(b'\n')?;
-            }
-        }
+        stream.push_str(text)?;
+        stream.push_str("\n")?;
     }
-    Ok(stream)
+    let stream = stream.as_str().replace(alloc, "{end}\n", "")?;
+    lines_of(alloc, stream.as_str(), 1)
 }
 
-/// The line, judged: its number of moves.
-fn check(page: &mut Page, text: &str) -> Done {
-    match check_line(line_of(page.alloc, text)?.as_slice()) {
+/// The line, judged: its number of moves, or all its parts.
+fn check(page: &mut Page, text: &str, whole: bool) -> Done {
+    match check_line(lines_of(page.alloc, text, 1)?.as_bytes()) {
+        Ok(line) if whole => tell_parts(page, &line)?,
         Ok(line) => page.put_count("moves: ", &line.plies()),
-        Err(refusal) => page.put_refusal(&refusal),
-    }
-    Ok(())
-}
-
-/// The line, judged: its parts.
-fn parts(page: &mut Page, text: &str) -> Done {
-    match check_line(line_of(page.alloc, text)?.as_slice()) {
-        Ok(line) => tell_parts(page, &line)?,
         Err(refusal) => page.put_refusal(&refusal),
     }
     Ok(())
@@ -118,8 +67,10 @@ fn tell_parts(page: &mut Page, line: &Line) -> Done {
     page.put_bytes(line.start().text().as_bytes());
     page.put_count("\nmoves: ", &line.plies());
     page.put(" ");
-    let moves: Vec<Move> = line.moves().collect(page.alloc)?;
-    tell_moves(page, MoveList::of(moves).as_slice());
+    tell_moves(
+        page,
+        MoveList::of(line.moves().collect(page.alloc)?).as_slice(),
+    );
     Ok(())
 }
 

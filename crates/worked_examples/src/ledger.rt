@@ -1,20 +1,25 @@
-//! Ledgers of submitted games, their books and their exports, over both tallies. The answer stands once where both give the same.
+//! Ledgers of submitted games, their books and their exports, over both tallies. The answer stands
+//! once where both give the same. The first word of each call says over which table, for how many
+//! games, by which rules and over which ends the ledger is: `cap=1 input=memory:5`.
 
-use crate::book::tell;
-use crate::ends::{Taker, failing_source, source_of};
-use crate::game::{lines_of, stream_of};
-use crate::moves::tell_moves;
-use crate::page::{Done, Page, Trouble};
-use crate::runs::Runs;
-use crate::saved;
-use crate::table::table_of;
-use crate::text::{count_of, fills_of, small_of, text_of};
-use pb_ledger::{Ledger, ListTally, MapTally, Rules, Tally, collect, export};
-use pb_poly::{MemSink, ToWrite};
-use std::alloc::{AllocError, Global};
+ghost use Rattle.std.specs.Prelude.{◌≡◌, [], IfOk};
 
-/// How many games a ledger holds where a row names no number.
-pub(crate) const CAP: u32 = 1000;
+use crate::ends::{Output, fills_in, rules_in};
+use crate::game::{lines_of, stream_of, times_of};
+use pb_ledger::{
+    CollectFault, Ledger, ListTally, MapTally, Tally, Totals, collect, export, load, save,
+};
+use pb_poly::{MemSink, Sink, ToWrite};
+use rows::book::tell;
+use rows::ends::{end_of, named_source};
+use rows::moves::tell_moves;
+use rows::page::{Done, NO_ROW, Page, Trouble};
+use rows::table::table_of;
+use rows::text::{small_of, text_of};
+use std::alloc::Global;
+
+/// How many games a ledger holds at most.
+const CAP: u32 = 1000;
 
 /// The answer to a call.
 pub(crate) fn answer(page: &mut Page, call: &[&str]) -> Done {
@@ -31,94 +36,82 @@ pub(crate) fn answer(page: &mut Page, call: &[&str]) -> Done {
     Ok(())
 }
 
-/// The answer to a call, over one tally. What of the games counts stands before the call, where it isn't all of them.
+/// The answer to a call, over one tally.
 fn answer_by<T: Tally>(page: &mut Page, call: &[&str]) -> Done {
-    match call {
-        ["by-rules", plies, least, call @ ..] => match Rules::new(
-            small_of(plies),
-            small_of(least),
-        ) {
-            Some(rules) => answer_with::<T>(page, rules, call),
-            None => {
-                page.put("no rules");
-                Ok(())
-            }
-        },
-        _ => answer_with::<T>(page, Rules::all_plies(), call),
+    let [name, ends, lines @ ..] = call else {
+        return NO_ROW
+    };
+    match *name {
+        "rules" => rules::<T>(page, ends),
+        "submit" => submitted::<T>(page, ends, lines),
+        "games" => games::<T>(page, ends, lines),
+        "book" => tell_held(page, &ledger_with::<T>(page.alloc, ends, lines)?),
+        "export" => exported::<T>(page, ends, lines),
+        "collect" => collected::<T>(page, ends, lines),
+        "collect-twice" => collected_twice::<T>(page, ends, lines),
+        "save" => saved::<T>(page, ends, lines),
+        "load" => loaded::<T>(page, ends, lines),
+        "load-saved" => load_saved::<T>(page, ends, lines),
+        _ => NO_ROW,
     }
 }
 
-/// The answer to a call by these rules.
-fn answer_with<T: Tally>(page: &mut Page, rules: Rules, call: &[&str]) -> Done {
-    match call {
-        ["rules"] => tell_rules::<T>(page, rules),
-        ["submit", cap, lines @ ..] => submit::<T>(page, rules, cap, lines),
-        ["games", lines @ ..] => games::<T>(page, lines),
-        ["book", table, lines @ ..] => book::<T>(page, rules, table, lines),
-        ["export", table, lines @ ..] => exported::<T>(page, rules, table, lines),
-        ["collect", cap, piece, fills, lines @ ..] => {
-            collected::<T>(page, [cap, piece, fills], lines)
-        }
-        ["collect-cut-off", lines @ ..] => cut_off::<T>(page, lines),
-        ["collect-cramped", most, lines @ ..] => cramped_up_to::<T>(page, most, lines),
-        _ => saved::answer::<T>(page, call),
+/// An empty ledger, over the table of powers where the word names no other.
+fn new_ledger<T: Tally>(alloc: Global, ends: &str) -> Result<Ledger<T>, Trouble>
+    ensures { IfOk result (λ ledger. ledger.accepted ≡ []) }
+{
+    let powers = text_of(alloc, "{powers}")?;
+    let table = table_of(alloc, end_of(ends, "table", powers.as_str()))?;
+    let cap = small_of(end_of(ends, "cap", "1000")).clamp(1, CAP);
+    let rules = rules_in(ends).ok_or(Trouble::Row)?;
+    Ok(Ledger::with_rules(alloc, &table, cap, rules)?)
+}
+
+/// Submits these lines, and tells the answer to each.
+fn submit_all<T: Tally>(page: &mut Page, ledger: &mut Ledger<T>, lines: &[&str]) -> Done {
+    for text in lines {
+        submit(page, ledger, text)?;
     }
-}
-
-/// An empty ledger over the table of powers, for at most so many games, 1 to 1,000, of which all plies count.
-pub(crate) fn ledger_over_powers<T: Tally>(alloc: Global, cap: u32) -> Result<Ledger<T>, Trouble> {
-    let table = table_of(alloc, powers(alloc)?.as_str())?;
-    Ok(Ledger::new(alloc, &table, cap.clamp(1, CAP))?)
-}
-
-/// The rules of a ledger of these.
-fn tell_rules<T: Tally>(page: &mut Page, rules: Rules) -> Done {
-    let table = table_of(page.alloc, powers(page.alloc)?.as_str())?;
-    let ledger = Ledger::<T>::with_rules(page.alloc, &table, CAP, rules)?;
-    page.put_count("plies: ", &ledger.rules().plies());
-    page.put_count(", least: ", &ledger.rules().least());
     Ok(())
 }
 
-/// The file of the table of powers.
-pub(crate) fn powers(alloc: Global) -> Result<String, AllocError> {
-    text_of(alloc, "{powers}")
-}
-
-/// A ledger with the games of these lines, where the answer to each line is told.
-fn ledger_with<T: Tally>(
-    page: &mut Page,
-    rules: Rules,
-    table: &str,
-    cap: u32,
-    lines: &[&str],
-) -> Result<Ledger<T>, Trouble> {
-    let table = table_of(page.alloc, table)?;
-    let mut ledger = Ledger::with_rules(page.alloc, &table, cap.clamp(1, CAP), rules)?;
-    for line in &lines_of(page.alloc, lines)? {
-        match ledger.submit(line.as_slice()) {
+/// Submits the lines that an argument stands for, and tells the answer to each.
+fn submit<T: Tally>(page: &mut Page, ledger: &mut Ledger<T>, text: &str) -> Done {
+    let (times, text) = times_of(text);
+    for number in 1..=times {
+        match ledger.submit(lines_of(page.alloc, text, number)?.as_bytes()) {
             Ok(number) => page.put_count("ok ", &number),
             Err(refusal) => page.put_refusal(&refusal),
         }
         page.put("\n");
     }
-    Ok(ledger)
+    Ok(())
 }
 
 /// A ledger with the games of these lines.
-pub(crate) fn quiet_ledger<T: Tally>(
+pub(crate) fn ledger_with<T: Tally>(
     alloc: Global,
-    rules: Rules,
-    table: &str,
+    ends: &str,
     lines: &[&str],
 ) -> Result<Ledger<T>, Trouble> {
-    ledger_with(&mut Page::new(alloc), rules, table, CAP, lines)
+    let mut ledger = new_ledger(alloc, ends)?;
+    submit_all(&mut Page::new(alloc), &mut ledger, lines)?;
+    Ok(ledger)
+}
+
+/// The rules of a ledger, if there are such.
+fn rules<T: Tally>(page: &mut Page, ends: &str) -> Done {
+    match rules_in(ends) {
+        Some(_) => page.put_debug(&new_ledger::<T>(page.alloc, ends)?.rules()),
+        None => page.put("no rules"),
+    }
+    Ok(())
 }
 
 /// The answers to these lines, and how many games are held then.
-fn submit<T: Tally>(page: &mut Page, rules: Rules, cap: &str, lines: &[&str]) -> Done {
-    let powers = powers(page.alloc)?;
-    let ledger = ledger_with::<T>(page, rules, powers.as_str(), small_of(cap), lines)?;
+fn submitted<T: Tally>(page: &mut Page, ends: &str, lines: &[&str]) -> Done {
+    let mut ledger = new_ledger::<T>(page.alloc, ends)?;
+    submit_all(page, &mut ledger, lines)?;
     page.put_count("held: ", &ledger.len());
     Ok(())
 }
@@ -141,24 +134,17 @@ fn tell_game<T: Tally>(page: &mut Page, ledger: &Ledger<T>, number: u32) {
     page.put("\n");
 }
 
-/// The games that are held after these lines, by their numbers from 0 to the first that isn't there.
-fn games<T: Tally>(page: &mut Page, lines: &[&str]) -> Done {
-    let powers = powers(page.alloc)?;
-    let ledger = quiet_ledger::<T>(page.alloc, Rules::all_plies(), powers.as_str(), lines)?;
+/// The games that are held, by their numbers from 0 to the first that isn't there.
+fn games<T: Tally>(page: &mut Page, ends: &str, lines: &[&str]) -> Done {
+    let ledger = ledger_with::<T>(page.alloc, ends, lines)?;
     for number in 0..=ledger.len().saturating_add(1) {
         tell_game(page, &ledger, number);
     }
     Ok(())
 }
 
-/// The book after these lines.
-fn book<T: Tally>(page: &mut Page, rules: Rules, table: &str, lines: &[&str]) -> Done {
-    let ledger = quiet_ledger::<T>(page.alloc, rules, table, lines)?;
-    tell_held(page, &ledger)
-}
-
 /// How many games a ledger holds, and their book.
-pub(crate) fn tell_held<T: Tally>(page: &mut Page, ledger: &Ledger<T>) -> Done {
+fn tell_held<T: Tally>(page: &mut Page, ledger: &Ledger<T>) -> Done {
     page.put_count("held: ", &ledger.len());
     page.put("\n");
     tell(page, &ledger.make_book(page.alloc)?);
@@ -166,8 +152,8 @@ pub(crate) fn tell_held<T: Tally>(page: &mut Page, ledger: &Ledger<T>) -> Done {
 }
 
 /// The number of EPD lines and the lines after these submissions.
-fn exported<T: Tally>(page: &mut Page, rules: Rules, table: &str, lines: &[&str]) -> Done {
-    let ledger = quiet_ledger::<T>(page.alloc, rules, table, lines)?;
+fn exported<T: Tally>(page: &mut Page, ends: &str, lines: &[&str]) -> Done {
+    let ledger = ledger_with::<T>(page.alloc, ends, lines)?;
     let mut sink = MemSink::new(page.alloc);
     let Ok(count) = export(page.alloc, &ledger, &mut sink) else {
         return Err(Trouble::Memory);
@@ -178,84 +164,99 @@ fn exported<T: Tally>(page: &mut Page, rules: Rules, table: &str, lines: &[&str]
     Ok(())
 }
 
-/// The replies to a stream, what became of its lines, how many games are held, and their book.
-fn collected<T: Tally>(page: &mut Page, [cap, piece, fills]: [&str; 3], lines: &[&str]) -> Done {
-    let stream = stream_of(page.alloc, lines)?;
-    let mut ledger = ledger_over_powers::<T>(page.alloc, small_of(cap))?;
-    let mut source = source_of(stream.as_slice(), count_of(piece));
-    let mut sink = MemSink::new(page.alloc);
-    let answer = collect(
-        page.alloc,
-        &mut source,
-        &mut sink,
-        &mut ledger,
-        fills_of(fills),
-    );
-    page.put_bytes(sink.as_bytes());
-    page.put_debug(&answer);
-    page.put("\n");
-    tell_held(page, &ledger)
+/// Takes a stream over the source that the word names.
+fn take<T: Tally, K: Sink>(
+    alloc: Global,
+    ledger: &mut Ledger<T>,
+    ends: &str,
+    stream: &str,
+    sink: &mut K,
+) -> Result<Totals, CollectFault> {
+    let mut source = named_source(end_of(ends, "input", "memory:64"), stream.as_bytes());
+    collect(alloc, &mut source, sink, ledger, fills_in(ends))
 }
 
-/// For each front of a stream the answer where its reader fails once after it, and how many games are held.
-fn cut_off<T: Tally>(page: &mut Page, lines: &[&str]) -> Done {
+/// The replies to a stream, what became of its lines, how many games are held, and their book.
+fn take_all<T: Tally>(page: &mut Page, ledger: &mut Ledger<T>, ends: &str, lines: &[&str]) -> Done {
     let stream = stream_of(page.alloc, lines)?;
-    let mut runs = Runs::new();
-    for count in 0..=stream.len() {
-        let mut answer = Page::new(page.alloc);
-        cut_off_at::<T>(&mut answer, stream.as_slice(), count)?;
-        runs.add(page, count, answer);
-    }
-    runs.end(page);
+    let mut replies = MemSink::new(page.alloc);
+    let answer = take(page.alloc, ledger, ends, stream.as_str(), &mut replies);
+    page.put_bytes(replies.as_bytes());
+    page.put_debug(&answer);
+    page.put("\n");
+    tell_held(page, ledger)
+}
+
+/// The same of a new ledger.
+fn collected<T: Tally>(page: &mut Page, ends: &str, lines: &[&str]) -> Done {
+    let mut ledger = new_ledger::<T>(page.alloc, ends)?;
+    take_all(page, &mut ledger, ends, lines)
+}
+
+/// What becomes of the lines where the output fails, whether it had a front of the replies, and the
+/// same of the stream once more.
+fn collected_twice<T: Tally>(page: &mut Page, ends: &str, lines: &[&str]) -> Done {
+    let mut ledger = new_ledger::<T>(page.alloc, ends)?;
+    let stream = stream_of(page.alloc, lines)?;
+    let mut output = Output::of(page.alloc, ends, "output");
+    let mut sink = ToWrite::new(&mut output);
+    let first = take(page.alloc, &mut ledger, ends, stream.as_str(), &mut sink);
+    let mut again = Page::new(page.alloc);
+    take_all(&mut again, &mut ledger, ends, lines)?;
+    page.put_debug(&first);
+    let is_front = again.as_str().as_bytes().starts_with(output.bytes());
+    page.put_count(", a front of the replies ", &is_front);
+    page.put("\n");
+    page.put(again.as_str());
     Ok(())
 }
 
-/// The answer where the reader of a stream fails once after so many bytes, and how many games are held.
-fn cut_off_at<T: Tally>(page: &mut Page, stream: &[u8], count: usize) -> Done {
-    let mut ledger = ledger_over_powers::<T>(page.alloc, CAP)?;
-    let mut source = failing_source(stream, 2, count);
-    let mut sink = MemSink::new(page.alloc);
-    let answer = collect(page.alloc, &mut source, &mut sink, &mut ledger, u32::MAX);
+/// The saved form of a ledger.
+fn form_of<T: Tally>(alloc: Global, ledger: &Ledger<T>) -> Result<MemSink, Trouble> {
+    let mut form = MemSink::new(alloc);
+    save(ledger, &mut form)?;
+    Ok(form)
+}
+
+/// What becomes of the saved form of these games over the output that the word names, and what that
+/// has then.
+fn saved<T: Tally>(page: &mut Page, ends: &str, lines: &[&str]) -> Done {
+    let ledger = ledger_with::<T>(page.alloc, ends, lines)?;
+    let form = form_of(page.alloc, &ledger)?;
+    let mut output = Output::of(page.alloc, ends, "output");
+    let answer = save(&ledger, &mut ToWrite::new(&mut output));
+    page.put_debug(&answer);
+    let is_front = form.as_bytes().starts_with(output.bytes());
+    page.put_count(", a front of the form ", &is_front);
+    output.tell_all(page);
+    Ok(())
+}
+
+/// A new ledger into which a source was loaded. The answer is told, and how many games are held.
+fn load_new<T: Tally>(page: &mut Page, ends: &str, bytes: &[u8]) -> Result<Ledger<T>, Trouble> {
+    let mut ledger = new_ledger(page.alloc, ends)?;
+    let mut source = named_source(end_of(ends, "input", "memory:64"), bytes);
+    let answer = load(page.alloc, &mut source, &mut ledger, fills_in(ends));
     page.put_debug(&answer);
     page.put_count(", held: ", &ledger.len());
-    Ok(())
+    Ok(ledger)
 }
 
-/// The answer where the writer of the replies fails once after so many bytes, and then to the same stream with room for all.
-fn cramped<T: Tally>(page: &mut Page, stream: &[u8], room: usize) -> Done {
-    let mut ledger = ledger_over_powers::<T>(page.alloc, CAP)?;
-    let mut taker = Taker::new(page.alloc, room, false);
-    let mut source = source_of(stream, 64);
-    let first = collect(
-        page.alloc,
-        &mut source,
-        &mut ToWrite::new(&mut taker),
-        &mut ledger,
-        u32::MAX,
-    );
-    page.put_debug(&first.err());
-    page.put("\n");
-    let mut sink = MemSink::new(page.alloc);
-    let _ = collect(
-        page.alloc,
-        &mut source_of(stream, 64),
-        &mut sink,
-        &mut ledger,
-        u32::MAX,
-    );
-    page.put_bytes(sink.as_bytes());
-    tell_held(page, &ledger)
-}
-
-/// The same for each room up to this.
-fn cramped_up_to<T: Tally>(page: &mut Page, most: &str, lines: &[&str]) -> Done {
+/// The answer to the loading of these lines, and how many games are held.
+fn loaded<T: Tally>(page: &mut Page, ends: &str, lines: &[&str]) -> Done {
     let stream = stream_of(page.alloc, lines)?;
-    let mut runs = Runs::new();
-    for room in 0..=count_of(most) {
-        let mut answer = Page::new(page.alloc);
-        cramped::<T>(&mut answer, stream.as_slice(), room)?;
-        runs.add(page, room, answer);
-    }
-    runs.end(page);
+    load_new::<T>(page, ends, stream.as_bytes())?;
     Ok(())
+}
+
+/// The answer to the loading of the saved form of these games, whether they are saved as the same
+/// bytes then, and what becomes of the same lines after that.
+fn load_saved<T: Tally>(page: &mut Page, ends: &str, lines: &[&str]) -> Done {
+    let first = form_of(page.alloc, &ledger_with::<T>(page.alloc, ends, lines)?)?;
+    let mut ledger = load_new::<T>(page, ends, first.as_bytes())?;
+    let second = form_of(page.alloc, &ledger)?;
+    let is_same = first.as_bytes() == second.as_bytes();
+    page.put_count(", saved the same ", &is_same);
+    page.put("\n");
+    take_all(page, &mut ledger, ends, lines)
 }

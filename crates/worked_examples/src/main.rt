@@ -1,83 +1,113 @@
-//! Worked examples over all crates, as data. Each line of the file `rows.txt` in the folder of the run is a row: its name, a topic, a
-//! call and the call's arguments, with a TAB between each two. Each line of its answer is printed after the row's name. What the
-//! answers have to be stands in the file `stdout` beside this crate's sources: the values come from the standards, from worked
-//! tables and from other programs, never from a run. Empty lines and lines that begin with `#` are passed over.
+//! Worked examples over all crates, as data. Each line of the file `rows.txt` in the folder of the
+//! run is a row: its name, a topic, a call and the call's arguments, with a TAB between each two.
+//! Each line of its answer is printed after the row's name. What the answers have to be stands in
+//! the file `stdout` beside this crate's sources: the values come from the standards, from worked
+//! tables and from other programs, never from a run. Empty lines and lines that begin with `#` are
+//! passed over.
 //!
-//! The topic `run` runs the program `pbook` over the words that follow. What it prints comes after the row's name in a line of its
-//! own. Standard input has its submissions, and the folder of the run a table, one of 780 lines, an older file in the place of the
-//! book, and the files of three saved ledgers and two journals. The topic `words` compares the program's help with other texts: the
-//! completions and the manual page lie in that folder too, in `installed`.
+//! `each` and two numbers in front of the topic stand for a row for each number from the first to
+//! the last, which goes into the places of `{n}`. So does `fuses` for 0, 1, 2, .. up to the first
+//! number with which no write fails.
+//!
+//! The topic `run` runs the program `pbook` over the words that follow. What it prints comes after
+//! the row's name in a line of its own. Standard input has its submissions, and the folder of the
+//! run a table, one of 780 lines, an older file in the place of the book, and the files of three
+//! saved ledgers and two journals. The topic `words` compares the program's help with other texts:
+//! the completions and the manual page lie in that folder too, in `installed`. The topic `bench`
+//! counts and plays for a clock, and `make bench` has rows of its own for it.
 #![tactic(auto)]
 
-mod book;
-mod book_command;
+mod bench;
+mod collecting;
 mod command;
-mod continuing;
 mod ends;
-mod epd;
-mod fused_command;
-mod fused_ledger;
 mod game;
-mod journaling;
 mod ledger;
-mod moves;
-mod page;
 mod points;
-mod record;
-mod runs;
-mod saved;
-mod stream;
-mod table;
-mod text;
 mod words;
 
-use crate::page::{Done, Page, Trouble};
-use crate::text::text_of;
 use pb_program::run;
+use rows::ends::MOST_CALLS;
+use rows::page::{Done, NO_ROW, Page};
+use rows::runs::{each, tell_another};
+use rows::text::text_of;
 use std::fs::File;
 use std::io::{self, BufRead, BufReader};
 
 /// The answer to a call of a topic.
 fn answer(rt: &HostRuntime, page: &mut Page, topic: &str, call: &[&str]) -> Done {
     match topic {
-        "record" => record::answer(page, call),
-        "moves" => moves::answer(page, call),
-        "epd" => epd::answer(page, call),
-        "table" => table::answer(page, call),
-        "book" => book::answer(page, call),
-        "stream" => stream::answer(page, call),
+        "record" => rows::record::answer(page, call),
+        "moves" => rows::moves::answer(page, call),
+        "epd" => rows::epd::answer(page, call),
+        "table" => rows::table::answer(page, call),
+        "book" => rows::book::answer(page, call),
+        "stream" => rows::stream::answer(page, call),
         "game" => game::answer(page, call),
         "ledger" => ledger::answer(page, call),
         "points" => points::answer(page, call),
         "command" => command::answer(page, call),
         "words" => words::answer(rt, page, call),
-        _ => Err(Trouble::Row),
+        "bench" => bench::answer(rt, page, call),
+        "run" => {
+            page.put_count("status ", &run(rt, call));
+            Ok(())
+        }
+        _ => NO_ROW,
     }
 }
 
 /// Prints the answer to a row.
 fn print_row(rt: &HostRuntime, row: &str) -> io::Result<()> {
-    let mut texts = Vec::new(rt.alloc());
-    for word in row.split('\t') {
-        texts.push(text_of(rt.alloc(), word)?)?;
-    }
-    let words: Vec<&str> = texts.iter().map(|text| text.as_str()).collect(rt.alloc())?;
-    print_words(rt, words.as_slice())
-}
-
-/// Prints the answer to the words of a row.
-fn print_words(rt: &HostRuntime, words: &[&str]) -> io::Result<()> {
-    let [name, topic, call @ ..] = words else {
-        return println!(rt; "a row of one word");
-    };
-    let mut page = Page::new(rt.alloc());
-    if *topic == "run" {
+    let (name, call) = row.split_once('\t').unwrap_or((row, ""));
+    if call.starts_with("run\t") {
         println!(rt; "{name}: run")?;
-        page.put_count("status ", &run(rt, call));
-    } else if let Err(trouble) = answer(rt, &mut page, topic, call) {
+    }
+    let mut page = Page::new(rt.alloc());
+    if let Err(trouble) = answer_row(rt, &mut page, call) {
         return println!(rt; "{name}: failed {trouble:?}");
     }
     print_answer(rt, name, page.as_str())
+}
+
+/// The answer to a row without its name, for each number where it says so.
+fn answer_row(rt: &HostRuntime, page: &mut Page, row: &str) -> Done {
+    match row.split_once('\t') {
+        Some(("each", written)) => each(page, written, |page, row| answer_words(rt, page, row)),
+        Some(("fuses", written)) => fuses(rt, page, written),
+        _ => answer_words(rt, page, row),
+    }
+}
+
+/// The answers for 0, 1, 2, .. up to the first number at which no write fails. Equal ones in a row
+/// are told once.
+fn fuses(rt: &HostRuntime, page: &mut Page, written: &str) -> Done {
+    let mut last = None;
+    for good in 0..MOST_CALLS {
+        let digits = format!(in page.alloc; "{good}")?;
+        let row = written.replace(page.alloc, "{n}", digits.as_str())?;
+        let mut answer = Page::new(page.alloc);
+        answer_words(rt, &mut answer, row.as_str())?;
+        let has_failed = answer.as_str().contains("Write") || answer.as_str().contains("Failed");
+        tell_another(page, &mut last, answer);
+        if !has_failed {
+            return Ok(());
+        }
+    }
+    NO_ROW
+}
+
+/// The answer to a topic, a call and its arguments.
+fn answer_words(rt: &HostRuntime, page: &mut Page, row: &str) -> Done {
+    let mut texts = Vec::new(page.alloc);
+    for word in row.split('\t') {
+        texts.push(text_of(page.alloc, word)?)?;
+    }
+    let words: Vec<&str> = texts.iter().map(|text| text.as_str()).collect(page.alloc)?;
+    let [topic, call @ ..] = words.as_slice() else {
+        return NO_ROW
+    };
+    answer(rt, page, topic, call)
 }
 
 /// Prints an answer, each line after the row's name.

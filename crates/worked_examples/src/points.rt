@@ -1,35 +1,41 @@
-//! The points and plies that a ledger keeps, beside those counted again from its games, and weights.
+//! The points and plies that a ledger keeps, beside those counted again from its games, and
+//! weights.
 
-use crate::ledger::quiet_ledger;
-use crate::page::{Done, Page, Trouble};
-use crate::text::number_of;
+use crate::ledger::ledger_with;
 use pb_board::Colour;
-use pb_ledger::{Game, Ledger, ListTally, MapTally, Outcome, Row, Rules, Tally, scale};
+use pb_ledger::{Game, Ledger, ListTally, MapTally, Outcome, Row, Tally, scale};
 use pb_moves::play;
 use pb_poly::{Table, code_of, key_of};
+use rows::page::{Done, NO_ROW, Page, Trouble};
+use rows::text::number_of;
 use std::alloc::Global;
 
 /// The answer to a call.
 pub(crate) fn answer(page: &mut Page, call: &[&str]) -> Done {
-    match call {
-        ["recount", table, lines @ ..] => tell_recount(page, table, lines),
-        ["scale", count, greatest] => tell_scale(page, count, greatest),
-        _ => Err(Trouble::Row),
+    let [name, first, rest @ ..] = call else {
+        return NO_ROW
+    };
+    match *name {
+        "recount" => tell_recount(page, first, rest),
+        "scale" => tell_scale(page, first, rest),
+        _ => NO_ROW,
     }
 }
 
-/// Whether each tally has the points and the plies of the games that are held after these lines, and no others.
-fn tell_recount(page: &mut Page, table: &str, lines: &[&str]) -> Done {
-    page.put_count("by map ", &recount::<MapTally>(page.alloc, table, lines)?);
+/// Whether each tally has the points and the plies of the games that are held after these lines,
+/// and no others.
+fn tell_recount(page: &mut Page, ends: &str, lines: &[&str]) -> Done {
+    page.put_count("by map ", &recount::<MapTally>(page.alloc, ends, lines)?);
     page.put_count(
         ", by list ",
-        &recount::<ListTally>(page.alloc, table, lines)?,
+        &recount::<ListTally>(page.alloc, ends, lines)?,
     );
     Ok(())
 }
 
 /// The weight of so many points beside the most that a move of its key has.
-fn tell_scale(page: &mut Page, count: &str, greatest: &str) -> Done {
+fn tell_scale(page: &mut Page, count: &str, words: &[&str]) -> Done {
+    let [greatest] = words else { return NO_ROW };
     let count = number_of(count);
     page.put_display(&scale(count, number_of(greatest).max(count)));
     Ok(())
@@ -50,10 +56,7 @@ fn add_game(rows: &mut Vec<Row>, table: &Table, game: &Game) -> Done {
             points,
             times: 1,
         })?;
-        let Some(next) = play(&setup, *m) else {
-            return Err(Trouble::Row);
-        };
-        setup = next;
+        setup = play(&setup, *m).ok_or(Trouble::Row)?;
     }
     Ok(())
 }
@@ -61,11 +64,9 @@ fn add_game(rows: &mut Vec<Row>, table: &Table, game: &Game) -> Done {
 /// What each ply of all games gives.
 fn rows_of<T: Tally>(alloc: Global, ledger: &Ledger<T>) -> Result<Vec<Row>, Trouble> {
     let mut rows = Vec::new(alloc);
-    for number in 1..ledger.len().wrapping_add(1) {
-        match ledger.get(number) {
-            Some((_, game)) => add_game(&mut rows, ledger.table(), game)?,
-            None => return Err(Trouble::Row),
-        }
+    for number in 1..=ledger.len() {
+        let (_, game) = ledger.get(number).ok_or(Trouble::Row)?;
+        add_game(&mut rows, ledger.table(), game)?;
     }
     Ok(rows)
 }
@@ -87,9 +88,10 @@ fn total_of(rows: &[Row], key: u64, code: u16) -> Row {
     total
 }
 
-/// Whether the tally has the points and the plies of the games that are held after these lines, and no others.
-fn recount<T: Tally>(alloc: Global, table: &str, lines: &[&str]) -> Result<bool, Trouble> {
-    let ledger = quiet_ledger::<T>(alloc, Rules::all_plies(), table, lines)?;
+/// Whether the tally has the points and the plies of the games that are held after these lines, and
+/// no others.
+fn recount<T: Tally>(alloc: Global, ends: &str, lines: &[&str]) -> Result<bool, Trouble> {
+    let ledger = ledger_with::<T>(alloc, ends, lines)?;
     let rows = rows_of(alloc, &ledger)?;
     for row in &rows {
         let total = total_of(rows.as_slice(), row.key, row.code);

@@ -1,37 +1,47 @@
-//! The commands and options of the program's help, beside those in a text that tells them to a shell or to a reader.
+//! The commands and options of the program's help, beside those in a text that tells them to a
+//! shell or to a reader.
 
-use crate::page::{Done, Page, Trouble};
 use pb_cli::{ParseFault, parse};
+use rows::page::{Done, NO_ROW, Page, Trouble};
 use std::alloc::{AllocError, Global};
 use std::fs;
 
 /// The answer to a call.
 pub(crate) fn answer(rt: &HostRuntime, page: &mut Page, call: &[&str]) -> Done {
-    match call {
-        ["text", text] => told(page, text),
-        ["file", file] => match fs::read_to_string(rt, *file) {
+    let [name, text] = call else { return NO_ROW };
+    match *name {
+        "text" => told(page, text),
+        "file" => match fs::read_to_string(rt, *text) {
             Ok(text) => told(page, text.as_str()),
-            Err(_fault) => Err(Trouble::Row),
+            Err(_fault) => NO_ROW,
         },
-        _ => Err(Trouble::Row),
+        _ => NO_ROW,
     }
 }
 
-/// The commands and the options of the help, each with whether the text has it, and the options that the text has beside them.
+/// The commands and the options of the help, each with whether the text has it, and the options
+/// that the text has beside them.
 fn told(page: &mut Page, text: &str) -> Done {
     let plain = plain_of(page.alloc, text)?;
     let first = help_of(page.alloc, &["pbook", "--help"])?;
     let commands = commands_of(page.alloc, first.as_str())?;
     let help = helps_of(page.alloc, first.as_str(), commands.as_slice())?;
-    tell_commands(page, commands.as_slice(), plain.as_str());
+    let words = plain.as_str().split(|c: char| !c.is_ascii_lowercase());
+    let words: Vec<&str> = words.collect(page.alloc)?;
+    tell_wanted(page, "commands", commands.as_slice(), words.as_slice());
     let wanted = options_of(page.alloc, help.as_str())?;
     let found = options_of(page.alloc, plain.as_str())?;
-    tell_options(page, wanted.as_slice(), found.as_slice());
+    tell_wanted(page, "\noptions", wanted.as_slice(), found.as_slice());
+    for option in &found {
+        if !has(wanted.as_slice(), option) {
+            page.put_count(" beside ", option);
+        }
+    }
     Ok(())
 }
 
-/// A text with `--` before each long option: a manual page has a backslash before each hyphen, and fish's `complete` has `-l` there, as
-/// its `set` has before a variable.
+/// A text with `--` before each long option: a manual page has a backslash before each hyphen, and
+/// fish's `complete` has `-l` there, as its `set` has before a variable.
 fn plain_of(alloc: Global, written: &str) -> Result<String, AllocError> {
     let plain = written.replace(alloc, "\\-", "-")?;
     let plain = plain.as_str().replace(alloc, "set -l ", "set ")?;
@@ -89,33 +99,10 @@ fn has(words: &[&str], wanted: &str) -> bool {
     words.iter().any(|word| *word == wanted)
 }
 
-/// Tells the commands that are words of a text, and those that are none.
-fn tell_commands(page: &mut Page, commands: &[&str], text: &str) {
-    page.put("commands");
-    for command in commands {
-        let mut words = text.split(|c: char| !c.is_ascii_lowercase());
-        if words.any(|word| word == *command) {
-            page.put(" ");
-        } else {
-            page.put(" without ");
-        }
-        page.put(command);
+/// Tells the words that are wanted, and whether they were found.
+fn tell_wanted(page: &mut Page, name: &str, wanted: &[&str], found: &[&str]) {
+    page.put(name);
+    for word in wanted {
+        page.put_count(if has(found, word) { " " } else { " without " }, word);
     }
-    page.put("\n");
-}
-
-/// Tells the options that are wanted, and whether they were found, and those that were found and aren't wanted.
-fn tell_options(page: &mut Page, wanted: &[&str], found: &[&str]) {
-    page.put("options");
-    for option in wanted {
-        page.put(if has(found, option) { " " } else { " without " });
-        page.put(option);
-    }
-    for option in found {
-        if !has(wanted, option) {
-            page.put(" beside ");
-            page.put(option);
-        }
-    }
-    page.put("\n");
 }

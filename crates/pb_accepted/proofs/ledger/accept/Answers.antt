@@ -41,3 +41,6 @@ returns-clause-game g c =
 
 pub returns-in_err-insert-clause-same_points : goal.returns-in_err-insert-clause-same_points
 returns-in_err-insert-clause-same_points g c = search rules
+
+pub returns-in_err-ensure_rows-clause-same_games : goal.returns-in_err-ensure_rows-clause-same_games
+returns-in_err-ensure_rows-clause-same_games g c = search rules

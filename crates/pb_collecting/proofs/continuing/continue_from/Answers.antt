@@ -1,4 +1,4 @@
-use Rattle.std.proofs.Common.{refl, rules}
+use Rattle.std.proofs.Common.{refl}
 use Rattle.std.proofs.lemmas.Result.{err_from_is_err_and}
 use Rattle.pb_collecting.proofs.ContinueRuns.{refusal_fails, refusal_put}
 use Rattle.pb_collecting.proofs.continuing.continue_from.Goals as goal
@@ -12,4 +12,4 @@ pub returns-in-Err : goal.returns-in-Err
 returns-in-Err g c = refusal_put _ _ _ _ _ _ _ _ refl _ _ c.in-Err.why c.in-Err.ensures c.in_ok-refuse_saved-in-Err.field-0 c.in_ok-refuse_saved-in-Err.ensures
 
 pub returns : goal.returns
-returns g c = search rules
+returns g c = (_, c.in-Ok.ensures, c.go_on-book.ensures)

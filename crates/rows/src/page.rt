@@ -1,0 +1,143 @@
+//! The answer to a row, as it is written down.
+
+use pb_poly::Failed;
+use std::alloc::{AllocError, AllocFailed, Global};
+use std::fmt::{self, Debug, Display, Write};
+
+/// How many equal bytes are written one by one at most.
+const LONGEST_RUN: usize = 31;
+
+/// Why a row has no answer.
+#[derive(Clone, Copy, Debug)]
+pub enum Trouble {
+    /// There was no memory.
+    Memory,
+    /// The row names no call, or gives it no such arguments.
+    Row,
+}
+
+impl From<AllocError> for Trouble {
+    fn from(_error: AllocError) -> Trouble {
+        Trouble::Memory
+    }
+}
+
+impl<T: Drop> From<AllocFailed<T>> for Trouble {
+    fn from(_error: AllocFailed<T>) -> Trouble {
+        Trouble::Memory
+    }
+}
+
+impl From<Failed> for Trouble {
+    fn from(_error: Failed) -> Trouble {
+        Trouble::Memory
+    }
+}
+
+impl From<fmt::Error> for Trouble {
+    fn from(_error: fmt::Error) -> Trouble {
+        Trouble::Memory
+    }
+}
+
+/// What a call answers once its answer is written down.
+pub type Done = Result<(), Trouble>;
+
+/// The answer to a row that names no call, or gives it no such arguments.
+pub const NO_ROW: Done = Err(Trouble::Row);
+
+/// What has been written down so far. What finds no memory is left out, so that the answer is
+/// another one.
+#[derive(Drop)]
+pub struct Page {
+    pub alloc: Global,
+    text: String,
+}
+
+impl Write for Page {
+    fn write_str(&mut self, text: &str) -> fmt::Result {
+        self.text.push_str(text).map_err(|_| fmt::Error)
+    }
+}
+
+impl Page {
+    /// Nothing yet.
+    pub fn new(alloc: Global) -> Page {
+        Page {
+            alloc,
+            text: String::new(alloc),
+        }
+    }
+
+    /// The answer.
+    pub fn as_str(&self) -> &str {
+        self.text.as_str()
+    }
+
+    /// Adds a text.
+    pub fn put(&mut self, text: &str) {
+        let _ = self.text.push_str(text);
+    }
+
+    /// Adds a value as it is told to a user.
+    pub fn put_display<T: Display>(&mut self, value: &T) {
+        let _ = write!(self.text, "{value}");
+    }
+
+    /// Adds a value as it is told to a programmer.
+    pub fn put_debug<T: Debug>(&mut self, value: &T) {
+        let _ = write!(self.text, "{value:?}");
+    }
+
+    /// Adds a name and a number after it.
+    pub fn put_count<T: Display>(&mut self, name: &str, count: &T) {
+        let _ = write!(self.text, "{name}{count}");
+    }
+
+    /// Adds a refusal.
+    pub fn put_refusal<T: Debug>(&mut self, refusal: &T) {
+        let _ = write!(self.text, "refused {refusal:?}");
+    }
+
+    /// Adds the bytes as two hexadecimal digits each.
+    pub fn put_digits(&mut self, bytes: &[u8]) {
+        for byte in bytes {
+            let _ = write!(self.text, "{byte:02x}");
+        }
+    }
+
+    /// Adds the bytes as a row would write them, but for LFs, which end lines of the answer.
+    pub fn put_bytes(&mut self, bytes: &[u8]) {
+        for run in bytes.chunk_by(|a, b| a == b) {
+            self.put_run(run);
+        }
+    }
+
+    /// Adds equal bytes.
+    fn put_run(&mut self, run: &[u8]) {
+        let count = run.len();
+        let [byte, ..] = run else {
+            return;
+        };
+        if count > LONGEST_RUN {
+            self.put_count("{", &count);
+            self.put("*");
+            self.put_byte(*byte);
+            self.put("}");
+            return;
+        }
+        for _ in run {
+            self.put_byte(*byte);
+        }
+    }
+
+    /// Adds a byte.
+    fn put_byte(&mut self, byte: u8) {
+        match byte {
+            b'\r' => self.put("{cr}"),
+            b'\t' => self.put("{tab}"),
+            0 => self.put("{nul}"),
+            _ => self.put_display(&char::from(byte)),
+        }
+    }
+}

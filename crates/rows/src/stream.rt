@@ -1,0 +1,157 @@
+//! Where bytes come from, where they go, and the lines of a stream.
+
+ghost use Rattle.std.specs.Prelude.{⊤};
+
+use crate::ends::{Taker, giver_of, named_source};
+use crate::page::{Done, NO_ROW, Page};
+use crate::text::{count_of, fills_of, small_of};
+use pb_poly::{FromRead, FuseSink, LineTask, MemSink, Sink, Source, ToWrite, take_lines};
+use std::alloc::AllocError;
+use std::fmt::Write;
+use std::io::Cursor;
+
+/// The answer to a call.
+pub fn answer(page: &mut Page, call: &[&str]) -> Done {
+    let [name, words @ ..] = call else {
+        return NO_ROW;
+    };
+    match *name {
+        "lines" => lines(page, words),
+        "failing-lines" => failing_lines(page, words),
+        "fill" => fill(page, words),
+        "sink" => sink(page, words),
+        _ => NO_ROW,
+    }
+}
+
+/// Writes each line down with a bar after it, and a star for a long one. The line `stop` stops it.
+#[derive(Drop)]
+struct Barred {
+    text: Vec<u8>,
+}
+
+impl LineTask for Barred {
+    type Stop = AllocError;
+
+    ghost takes = { λ _ _ _ _. ⊤ };
+
+    fn take(&mut self, line: &[u8]) -> Result<(), AllocError> {
+        if line == b"stop".as_slice() {
+            return Err(AllocError);
+        }
+        self.text.extend_from_slice(line)?;
+        self.text.extend_from_slice(b"|")
+    }
+
+    fn take_long(&mut self) -> Result<(), AllocError> {
+        self.text.extend_from_slice(b"*|")
+    }
+}
+
+/// What became of a source's lines, and what was written down of them.
+fn take_all<S: Source>(page: &mut Page, source: &mut S, fills: u32) {
+    let mut task = Barred {
+        text: Vec::new(page.alloc),
+    };
+    let answer = take_lines(page.alloc, source, &mut task, fills);
+    page.put_debug(&answer);
+    page.put("\n");
+    page.put_bytes(task.text.as_slice());
+}
+
+/// The lines of a text from the source that a word names, in so many fills.
+fn lines(page: &mut Page, words: &[&str]) -> Done {
+    let [source, fills, text] = words else {
+        return NO_ROW;
+    };
+    take_all(
+        page,
+        &mut named_source(source, text.as_bytes()),
+        fills_of(fills),
+    );
+    Ok(())
+}
+
+/// The lines of a reader that fails once, what the source answers after that, and how often the
+/// reader was asked after its failure.
+fn failing_lines(page: &mut Page, words: &[&str]) -> Done {
+    let [failure, text] = words else {
+        return NO_ROW;
+    };
+    let mut giver = giver_of(text.as_bytes(), 2, failure);
+    let mut source = FromRead::new(&mut giver);
+    take_all(page, &mut source, u32::MAX);
+    let next = source.fill(&mut [0; 4]);
+    write!(page, "\nfailed {}, then {next:?}\n", source.failed())?;
+    page.put_count("reads after the failure: ", &giver.later);
+    Ok(())
+}
+
+/// The bytes of each fill of a slice of these sizes with a bar after them and the answer, and
+/// whether the source has failed then.
+fn fill(page: &mut Page, words: &[&str]) -> Done {
+    let [source, text, rooms @ ..] = words else {
+        return NO_ROW;
+    };
+    let mut source = named_source(source, text.as_bytes());
+    for room in rooms {
+        let mut slice = vec![in page.alloc; 0; count_of(room)]?;
+        let filled = source.fill(slice.as_mut_slice());
+        page.put_bytes(&slice[..filled.unwrap_or(0)]);
+        write!(page, "|{filled:?}\n")?;
+    }
+    page.put_count("failed ", &source.failed());
+    Ok(())
+}
+
+/// What a sink answers to these texts in turn, where the text `flush` flushes it, and whether it
+/// has failed then.
+fn put_all<K: Sink>(page: &mut Page, mut sink: K, texts: &[&str]) -> K {
+    for text in texts {
+        let answer = match *text {
+            "flush" => sink.flush(),
+            text => sink.put(text.as_bytes()),
+        };
+        page.put_debug(&answer);
+        page.put(" ");
+    }
+    page.put_count("failed ", &sink.failed());
+    page.put("\n");
+    sink
+}
+
+/// What the sink that a word names answers to these texts, and what it keeps: `memory`, `fuse:2`
+/// where two puts and flushes pass, a `vector`, an `array` of four bytes, or a writer.
+fn sink(page: &mut Page, words: &[&str]) -> Done {
+    let [end, texts @ ..] = words else {
+        return NO_ROW;
+    };
+    let (kind, good) = end.split_once(':').unwrap_or((end, ""));
+    match kind {
+        "memory" => {
+            let kept = put_all(page, MemSink::new(page.alloc), texts);
+            page.put_bytes(kept.as_bytes());
+        }
+        "fuse" => {
+            let kept = put_all(page, FuseSink::new(page.alloc, small_of(good)), texts);
+            page.put_bytes(kept.as_bytes());
+        }
+        "vector" => {
+            let mut kept = Vec::new(page.alloc);
+            put_all(page, ToWrite::new(&mut kept), texts);
+            page.put_bytes(kept.as_slice());
+        }
+        "array" => {
+            let mut kept = [0; 4];
+            put_all(page, ToWrite::new(Cursor::new(kept.as_mut_slice())), texts);
+            page.put_bytes(kept.as_slice());
+        }
+        _ => {
+            let mut taker = Taker::of(page.alloc, end);
+            put_all(page, ToWrite::new(&mut taker), texts);
+            page.put_bytes(taker.taken.as_slice());
+            page.put_count("\nflushes: ", &taker.flushes);
+        }
+    }
+    Ok(())
+}

@@ -1,0 +1,89 @@
+//! How rows write bytes and numbers. Printable bytes stand for themselves, and a word in braces for
+//! others: `{cr}`, `{lf}`, `{tab}`, `{space}`, `{nul}`; `{8192*a}` for that many `a`; `{start}` for
+//! the record of the start position; `{powers}`, `{places}`, `{ones}` and `{products}` for the
+//! files of tables; and `{powers:13260}` for the first so many bytes of such a text. Any other word
+//! in braces stays as it is. Answers are written in the same way.
+
+use crate::table::push_file;
+use std::alloc::{AllocError, Global};
+
+/// The record of the start position.
+pub const START: &str = "rnbqkbnr/pppppppp/8/8/8/8/PPPPPPPP/RNBQKBNR w KQkq - 0 1";
+
+/// The text that a row writes.
+pub fn text_of(alloc: Global, written: &str) -> Result<String, AllocError> {
+    let mut text = String::new(alloc);
+    for part in written.split('{') {
+        match part.split_once('}') {
+            Some((word, rest)) => {
+                push_word(alloc, &mut text, word)?;
+                text.push_str(rest)?;
+            }
+            None => text.push_str(part)?,
+        }
+    }
+    Ok(text)
+}
+
+/// Adds what a word in braces stands for.
+fn push_word(alloc: Global, text: &mut String, word: &str) -> Result<(), AllocError> {
+    if let Some((count, repeated)) = word.split_once('*') {
+        for _ in 0..number_of(count) {
+            text.push_str(repeated)?;
+        }
+        return Ok(());
+    }
+    let Some((name, count)) = word.split_once(':') else {
+        return push_named(text, word);
+    };
+    let mut whole = String::new(alloc);
+    push_named(&mut whole, name)?;
+    text.push_str(whole.as_str().get(..count_of(count)).unwrap_or(""))
+}
+
+/// Adds the text of a name, or a name of none in its braces.
+fn push_named(text: &mut String, name: &str) -> Result<(), AllocError> {
+    match name {
+        "cr" => text.push_str("\r"),
+        "lf" => text.push_str("\n"),
+        "tab" => text.push_str("\t"),
+        "space" => text.push_str(" "),
+        "nul" => text.push_str("\0"),
+        "start" => text.push_str(START),
+        "powers" | "places" | "ones" | "products" => push_file(text, name, "\n"),
+        _ => {
+            text.push_str("{")?;
+            text.push_str(name)?;
+            text.push_str("}")
+        }
+    }
+}
+
+/// The number that a word writes, or 0.
+pub fn number_of(word: &str) -> u64 {
+    word.parse::<u64>().unwrap_or(0)
+}
+
+/// The number of things that a word writes, or 0.
+pub fn count_of(word: &str) -> usize {
+    number_of(word) as usize
+}
+
+/// The number of 32 bits that a word writes, or the greatest.
+pub fn small_of(word: &str) -> u32 {
+    number_of(word).min(4_294_967_295) as u32
+}
+
+/// The number of fills in a word, or `all` for as many as there may be.
+pub fn fills_of(word: &str) -> u32 {
+    if word == "all" {
+        u32::MAX
+    } else {
+        small_of(word)
+    }
+}
+
+/// The number that a word writes in hexadecimal, or 0.
+pub fn hexadecimal(word: &str) -> u64 {
+    u64::from_str_radix(word, 16).unwrap_or(0)
+}

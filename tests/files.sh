@@ -1,0 +1,574 @@
+#!/bin/sh
+# Tries what `pbook collect` leaves of BOOK, and of the FILE of `--ledger`, in a hostile world:
+# devices, links, folders, missing permissions, full disks, a killed run. As root it tries more,
+# on file systems that it mounts, and where strace is installed it has calls of the system fail.
+# The first check that doesn't hold ends it.
+# Usage: PROGRAM=program tests/files.sh [CHECK..] (at the top of the repository; all checks where
+# none is given).
+set -eu
+PROGRAM=${PROGRAM:-build/pbook}
+. tests/lib/harness.sh
+cp examples/table.txt "$work/table"
+cp examples/games.txt "$work/games"
+cp examples/book.bin "$work/new"
+head -c 1600 "$work/new" > "$work/old"
+
+# in_folder CHECK: runs a check in a new folder of its own, $place, in which BOOK and FILE have
+# these names
+in_folder() {
+    place=$work/$1 book=$work/$1/book.bin ledger=$work/$1/games.ledger
+    mkdir "$place"
+    cd "$place"
+    "$1"
+}
+
+is_root() { [ "$(id -u)" -eq 0 ]; }
+has() { command -v "$1" > /dev/null; }
+
+# as_other COMMAND..: runs the command as a user who isn't root
+as_other() {
+    if is_root; then setpriv --reuid=65534 --regid=65534 --clear-groups "$@"; else "$@"; fi
+}
+
+# collects STATUS BOOK [INPUT [OPTION..]]: whether `collect` ends with this status and is silent on
+# standard error. Its replies are in $work/replies. Where $runner is a command, that runs it.
+runner=
+table=$work/table
+collects() {
+    due=$1 to=$2 input=${3:-$work/games} status=0
+    shift $(($# < 3 ? $# : 3))
+    $runner "$PROGRAM" collect "$@" "$table" "$to" \
+        < "$input" > "$work/replies" 2> "$work/errors" || status=$?
+    if [ "$status" -eq "$due" ] && [ ! -s "$work/errors" ]; then return; fi
+    echo "    the status is $status, and this is put on standard error:"
+    cat "$work/errors"
+    return 1
+}
+
+# with_old: BOOK is an old one before the run
+with_old() { cp "$work/old" "$book"; }
+
+# What may hold after it, of a file, of the replies, or of the folder.
+is_new() { cmp -s "$1" "$work/new"; }
+is_old() { cmp -s "$1" "$work/old"; }
+says() { [ "$(tail -n 1 "$work/replies")" = "$1" ]; }
+says_only() { [ "$(cat "$work/replies")" = "$1" ]; }
+node() { stat -c %i "$1"; }
+has_node() { [ "$(node "$2")" = "$1" ]; }
+has_mode() { [ "$(stat -c %a "$2")" = "$1" ]; }
+no_draft() { [ -z "$(find "$place" -name '.*.pbook-*')" ]; }
+
+# Distinct games: kings that walk round between random rows of pawns. As many are made as are
+# asked for.
+long_games() {
+    awk -v games="$1" 'BEGIN {
+        white = split("e1 d1 c1 b1 a1 a2 b2 c2 d2 e2 f2 g2 h2 h1 g1 f1", w, " ")
+        black = split("e8 d8 c8 b8 a8 a7 b7 c7 d7 e7 f7 g7 g8 f8", b, " ")
+        for (ply = 0; ply < 112; ply++) {
+            moves = moves w[ply % white + 1] w[(ply + 1) % white + 1] " "
+            moves = moves b[ply % black + 1] b[(ply + 1) % black + 1] " "
+        }
+        sub(/ $/, "", moves)
+        for (i = 0; i < 256; i++) {
+            row = ""
+            empty = 0
+            for (bit = 1; bit < 256; bit *= 2) {
+                if (int(i / bit) % 2) { row = row (empty ? empty : "") "p"; empty = 0 } else empty++
+            }
+            rows[i] = row (empty ? empty : "")
+        }
+        for (n = 0; n < games; n++) {
+            setup = sprintf("4k3/8/%s/8/8/%s/8/4K3", rows[n % 256], toupper(rows[int(n / 256)]))
+            printf "long-%d\t1/2-1/2\t%s w - - 0 1\t%s\n", n, setup, moves
+        }
+    }'
+}
+
+# makes BOOK [FILE]: a run makes the new book of BOOK, which is this file, and leaves no draft
+makes() {
+    holds collects 0 "$1"
+    holds is_new "${2:-$1}"
+    holds no_draft
+}
+
+# cannot_open BOOK [INPUT [OPTION..]]: a run ends since a file can't be opened
+cannot_open() {
+    holds collects 3 "$@"
+    holds says 'fault open'
+}
+
+new_book() {
+    makes "$book"
+    holds has_mode 644 "$book"
+}
+
+here() { makes book.bin; }
+
+old_book() {
+    with_old
+    chmod 640 "$book"
+    before=$(node "$book")
+    makes "$book"
+    holds has_mode 640 "$book"
+    holds not has_node "$before" "$book"
+}
+
+full_device() {
+    holds collects 3 /dev/full
+    holds not says 'fault open'
+    holds test -c /dev/full
+}
+
+null_device() {
+    holds collects 0 /dev/null
+    holds test -c /dev/null
+}
+
+pipe() {
+    mkfifo pipe
+    timeout 60 cat pipe > piped &
+    holds collects 0 "$place/pipe"
+    wait
+    holds is_new piped
+    holds test -p pipe
+}
+
+standard_output() {
+    "$PROGRAM" collect "$table" /dev/stdout < "$work/games" > output
+    holds is_new output
+}
+
+symlink() {
+    with_old
+    ln -s book.bin link
+    makes "$place/link" "$book"
+    holds test -L link
+}
+
+dangling_symlink() {
+    ln -s book.bin link
+    makes "$place/link" "$book"
+    holds test -L link
+}
+
+hard_link() {
+    with_old
+    ln "$book" other
+    makes "$book" other
+    holds has_node "$(node other)" "$book"
+}
+
+folder() {
+    mkdir folder
+    cannot_open "$place/folder"
+    holds no_draft
+}
+
+missing_folder() {
+    cannot_open "$place/missing/book.bin"
+    holds not test -e missing
+}
+
+no_name() {
+    for name in '' "$place/nothing/" "$place/nothing/."; do cannot_open "$name"; done
+    holds not test -e nothing
+    holds no_draft
+}
+
+long_name() {
+    makes "$place/$(printf '%0255d' 0)"
+}
+
+no_permission() {
+    with_old
+    chmod 444 "$book"
+    chmod 777 "$place"
+    runner=as_other
+    cannot_open "$book"
+    holds is_old "$book"
+    holds no_draft
+}
+
+folder_without_drafts() {
+    with_old
+    chmod 666 "$book"
+    chmod 555 "$place"
+    before=$(node "$book")
+    runner=as_other
+    makes "$book"
+    holds has_node "$before" "$book"
+    chmod 755 "$place"
+}
+
+# A folder that may be written and not read can't be synced, and takes a draft all the same.
+unread_folder() {
+    chmod 333 "$place"
+    runner=as_other
+    holds collects 0 "$book"
+    chmod 755 "$place"
+    holds is_new "$book"
+    holds no_draft
+}
+
+other_owner() {
+    with_old
+    chmod 666 "$book"
+    chmod 777 "$place"
+    before=$(node "$book")
+    runner=as_other
+    makes "$book"
+    holds has_node "$before" "$book"
+}
+
+# limited: a run whose files may have two kilobytes
+limited() {
+    trap '' XFSZ
+    ulimit -f 4
+    "$PROGRAM" collect "$table" "$book" < "$work/games" > /dev/null
+}
+
+limit() {
+    with_old
+    holds ends 3 limited
+    holds is_old "$book"
+    holds no_draft
+}
+
+full_disk() {
+    mkdir disk
+    mount -t tmpfs -o size=16k tmpfs "$place/disk"
+    cp "$work/old" disk/book.bin
+    long_games 20 > lines
+    holds collects 3 "$place/disk/book.bin" lines
+    holds not says 'fault open'
+    holds is_old disk/book.bin
+    holds no_draft
+}
+
+full_of_names() {
+    mkdir disk
+    mount -t tmpfs -o nr_inodes=2 tmpfs "$place/disk"
+    cp "$work/old" disk/book.bin
+    cannot_open "$place/disk/book.bin"
+    holds is_old disk/book.bin
+}
+
+mount_point() {
+    with_old
+    cp "$work/old" "$work/mounted.bin"
+    mount --bind "$work/mounted.bin" "$book"
+    makes "$book" "$work/mounted.bin"
+}
+
+# where CALL STATUS CONDITION: a run over an old BOOK ends with this status where the system's
+# call fails so, and this holds of BOOK
+where() {
+    with_old
+    runner="strace -f -o /dev/null -e trace=${1%%:*} -e inject=$1"
+    holds collects "$2" "$book"
+    holds "$3" "$book"
+    holds no_draft
+}
+
+device_faults() {
+    # The draft's bytes can't be written to the disk, or it can't be given BOOK's name.
+    where fsync:error=EIO:when=1 3 is_old
+    where rename:error=EIO 3 is_old
+    # The folder's names can't be written to the disk.
+    where fsync:error=EIO:when=2 3 is_new
+    # The file system syncs no folders; BOOK's name is held by a mount; the file system has no
+    # locks.
+    where fsync:error=EINVAL:when=2 0 is_new
+    where rename:error=EBUSY 0 is_new
+    where flock:error=ENOLCK 0 is_new
+}
+
+draft_left() {
+    with_old
+    cp "$work/old" .book.bin.pbook-0
+    makes "$book"
+}
+
+draft_in_use() {
+    with_old
+    cp "$work/old" .book.bin.pbook-0
+    exec 9>> .book.bin.pbook-0
+    flock -x 9
+    holds collects 0 "$book"
+    holds is_new "$book"
+    holds is_old .book.bin.pbook-0
+    holds test "$(find "$place" -name '.*.pbook-*')" = "$place/.book.bin.pbook-0"
+}
+
+draft_is_a_link() {
+    with_old
+    cp "$work/old" precious
+    ln -s precious .book.bin.pbook-0
+    mkfifo .book.bin.pbook-1
+    holds collects 0 "$book"
+    holds is_new "$book"
+    holds is_old precious
+    holds test -L .book.bin.pbook-0
+    holds test -p .book.bin.pbook-1
+}
+
+side_by_side() {
+    with_old
+    for _ in 1 2 3 4 5 6 7 8 9 10; do
+        for _ in 1 2 3 4 5; do
+            "$PROGRAM" collect "$table" "$book" < "$work/games" > /dev/null &
+        done
+        wait
+        holds is_new "$book"
+        holds no_draft
+    done
+}
+
+# moments COUNT SEED: so many random numbers about 1000
+moments() {
+    awk -v count="$1" -v seed="$2" \
+        'BEGIN { srand(seed); for (i = 0; i < count; i++) print int(800 + 400 * rand()) }'
+}
+
+# whole_run BOOK OPTION..: makes BOOK of the lines in $work/lines, and sets `about` to the
+# microseconds that it takes
+whole_run() {
+    begin=$(date +%s%N)
+    whole=$1
+    shift
+    holds collects 0 "$whole" "$work/lines" "$@"
+    about=$((($(date +%s%N) - begin) / 1000))
+}
+
+# killed_run THOUSANDTHS OPTION..: such a run that makes $book, and is killed, unless it has
+# ended, when so many thousandths of $about have gone. It sets `moment` to the microseconds.
+killed_run() {
+    moment=$((about * $1 / 1000)) status=0
+    shift
+    timeout --foreground -s KILL "$(printf '%d.%06d' $((moment / 1000000)) $((moment % 1000000)))" \
+        "$PROGRAM" collect "$@" "$table" "$book" < "$work/lines" > /dev/null || status=$?
+    case $status in
+        0 | 124) ;; # It has ended before the kill, or just as it came.
+        *) holds test "$status" -eq 137 ;;
+    esac
+}
+
+# saw WORD: writes down what a killed run left; the moments get later after a kill that left the
+# old file, and earlier after one that came too late
+saw() {
+    echo "$1" >> "$work/seen"
+    if [ "$1" = old ]; then about=$((about + about / 40)); else about=$((about - about / 40)); fi
+}
+
+# seen WORD: how often that was so
+seen() { count "$1" "$work/seen"; }
+
+# odd_size FILE WHOLE: ends the check at a file that is neither the old one nor the whole new one
+odd_size() {
+    echo "    killed after $moment us: ${1##*/} has $(stat -c %s "$1") bytes"
+    echo "    the new one has $(stat -c %s "$2")"
+    exit 1
+}
+
+# A hundred runs are killed, and each leaves the old BOOK or the new one. The moments are random,
+# about the one at which BOOK gets to be the new one.
+killed() {
+    long_games 4000 > "$work/lines"
+    : > "$work/seen"
+    whole_run "$work/whole"
+    moments 100 1 > "$work/moments"
+    while read -r thousandths; do
+        with_old
+        killed_run "$thousandths"
+        if is_old "$book"; then
+            saw old
+        elif cmp -s "$book" "$work/whole"; then
+            saw new
+        else
+            odd_size "$book" "$work/whole"
+        fi
+        no_draft || echo draft >> "$work/seen"
+        holds test "$(find "$place" | wc -l)" -le 3
+    done < "$work/moments"
+    note "$(seen old) times the old BOOK, $(seen new) times the new one; $(seen draft) left a draft"
+    holds grep -q old "$work/seen"
+    holds grep -q new "$work/seen"
+    whole_run "$book"
+    holds cmp "$book" "$work/whole"
+    holds no_draft
+}
+
+# A new folder has an old BOOK and the FILE of a run over the first games, a copy of which is
+# `before`.
+with_ledger() {
+    with_old
+    : > "$ledger"
+    head -n 100 "$work/games" > "$work/first"
+    holds collects 0 "$work/first.bin" "$work/first" --ledger "$ledger"
+    holds test -s "$ledger"
+    cp "$ledger" before
+}
+
+# A run that is cut in three leaves the replies, the book and the games of one run, and FILE keeps
+# its mode.
+cut_in_three() {
+    : > whole
+    : > parts
+    chmod 640 parts
+    "$PROGRAM" collect --ledger whole "$table" whole.bin < "$work/games" > whole.replies
+    for part in 1,90 91,200 '201,$'; do
+        sed -n "${part}p" "$work/games" | "$PROGRAM" collect --ledger parts "$table" parts.bin
+    done > parts.replies
+    holds cmp whole.replies parts.replies
+    holds cmp whole.bin parts.bin
+    holds cmp whole parts
+    holds is_new parts.bin
+    holds has_mode 640 parts
+    holds no_draft
+}
+
+# An input of an earlier run is taken as it is, where no line of it was refused, and games come
+# again in it.
+old_list() {
+    with_ledger
+    sed 1d before > list
+    cat list list > "$ledger"
+    holds collects 0 "$place/list.bin" /dev/null --ledger "$ledger"
+    holds cmp "$ledger" before
+}
+
+# BOOK, FILE and TABLE are different files, by whatever names they go.
+one_file() {
+    with_ledger
+    cp "$table" table
+    ln games.ledger second
+    ln -s games.ledger link
+    for name in games.ledger ../one_file/games.ledger second link; do
+        cannot_open "$place/$name" "$work/games" --ledger "$ledger"
+        holds collects 3 "$ledger" "$work/games" --journal "$place/$name"
+        holds says_only 'fault open'
+    done
+    table=$place/table
+    holds collects 3 "$place/table"
+    holds says_only 'fault open'
+    holds cmp table "$work/table"
+    holds collects 0 /dev/null "$work/games" --ledger /dev/null
+    holds cmp "$ledger" before
+    holds no_draft
+}
+
+broken_ledger() {
+    with_ledger
+    sed -i '5s/.*/no game/' "$ledger"
+    cp "$ledger" before
+    holds collects 1 "$book" "$work/games" --ledger "$ledger"
+    holds says_only 'refused ledger line 5'
+    holds cmp "$ledger" before
+    holds is_old "$book"
+    holds no_draft
+}
+
+missing_ledger() {
+    with_old
+    cannot_open "$book" "$work/games" --ledger "$ledger"
+    holds not test -e "$ledger"
+    holds is_old "$book"
+}
+
+closed_ledger() {
+    with_ledger
+    chmod 000 "$ledger"
+    runner=as_other
+    holds collects 3 "$book" "$work/games" --ledger "$ledger"
+    holds says_only 'fault open'
+    holds is_old "$book"
+}
+
+# The ledger is kept though the book can't be.
+ledger_without_book() {
+    with_ledger
+    holds collects 3 /dev/full "$work/games" --ledger "$ledger"
+    holds test "$(wc -l < "$ledger")" -gt "$(wc -l < before)"
+}
+
+full_disk_of_ledger() {
+    with_ledger
+    mkdir disk
+    mount -t tmpfs -o size=48k tmpfs "$place/disk"
+    cp "$work/old" disk/book.bin
+    cp before disk/games.ledger
+    holds collects 3 "$place/disk/book.bin" "$work/games" --ledger "$place/disk/games.ledger"
+    holds not says 'fault open'
+    holds cmp disk/games.ledger before
+    holds is_old disk/book.bin
+    holds no_draft
+}
+
+# Sixty runs that go on are killed: FILE is the old or the new one, and so is BOOK, which is new
+# only where FILE is.
+killed_while_saving() {
+    with_ledger
+    long_games 4000 > "$work/lines"
+    : > "$work/seen"
+    cp before after
+    whole_run "$work/made" --ledger "$place/after"
+    moments 60 2 > "$work/moments"
+    while read -r thousandths; do
+        cp before "$ledger"
+        with_old
+        killed_run "$thousandths" --ledger "$ledger"
+        if cmp -s "$ledger" before; then
+            saw old
+            holds is_old "$book"
+        elif cmp -s "$ledger" after; then
+            saw new
+            is_old "$book" || holds cmp "$book" "$work/made"
+        else
+            odd_size "$ledger" after
+        fi
+    done < "$work/moments"
+    note "$(seen old) times the old FILE, $(seen new) times the new one"
+    holds grep -q old "$work/seen"
+    holds grep -q new "$work/seen"
+    whole_run "$book" --ledger "$ledger"
+    holds cmp "$ledger" after
+    holds cmp "$book" "$work/made"
+    holds no_draft
+}
+
+# can_mount: whether file systems can be mounted
+can_mount() {
+    # Root of a container may not mount; that is told by the caller.
+    mkdir "$work/probe"
+    mount -t tmpfs tmpfs "$work/probe" 2> /dev/null && umount "$work/probe"
+}
+
+# choose CONDITION WHY CHECK..: has these checks tried where the condition holds, and else tells
+# why they are not
+chosen=
+choose() {
+    condition=$1 why=$2
+    shift 2
+    if $condition; then chosen="$chosen $*"; else leave_out "$why" "$@"; fi
+}
+can_be_other() { ! is_root || has setpriv; }
+can_own() { is_root && has setpriv; }
+
+if [ $# -eq 0 ]; then
+    choose true '' new_book here old_book full_device null_device pipe standard_output symlink \
+        dangling_symlink hard_link folder missing_folder no_name long_name limit draft_left \
+        draft_is_a_link side_by_side cut_in_three old_list one_file broken_ledger missing_ledger \
+        ledger_without_book
+    choose 'has flock' 'flock is wanted' draft_in_use
+    choose 'has strace' 'strace is wanted' device_faults
+    choose can_be_other 'setpriv is wanted' no_permission folder_without_drafts unread_folder \
+        closed_ledger
+    choose can_own 'root and setpriv are wanted' other_owner
+    choose can_mount 'nothing can be mounted' full_disk full_of_names mount_point \
+        full_disk_of_ledger
+    choose true '' killed killed_while_saving
+    # shellcheck disable=SC2086 # each name is a word
+    set -- $chosen
+fi
+for name; do check "$name" in_folder "$name"; done
+finish

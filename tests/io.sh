@@ -1,0 +1,190 @@
+#!/bin/sh
+# Fails the reads, writes and syncs of `pbook`, call by call: each command is run on small real
+# files with its n-th such call failing, for n = 1, 2, .. until a run has no n-th call; then so
+# with the n-th call moving one byte alone. tests/fail_io.c says which calls count.
+# - Where a call moves one byte, output, status and files are as if it had moved all.
+# - Where a call fails, the status is 3. What is put is a front of what is put else; where a read
+#   failed, it is whole lines and then `fault read`. Only where a text is put because the words
+#   gave no order does the status stay.
+# - BOOK is the old one, or none where there was none; it is the new one only where a sync failed,
+#   that of the folder. Through a link, where it is made in place, it may be empty or a front of
+#   the new one too.
+# - The FILE of `--ledger` is the one that is made of the first lines of the submissions, at least
+#   of all that were answered; or it is the old one, where nothing was answered, or where FILE
+#   itself couldn't be made. No draft of it or of BOOK is left.
+# - A journal is the one that is due, or a front of that, with at least the games that were
+#   answered.
+# A line is printed for each command. The first run that may not be ends all; what was found is
+# shown, and the folder with it stays: the files before (old) and after (run), the output (put)
+# and all inputs.
+# Usage: PROGRAM=program tests/io.sh (at the top of the repository; cc has to be there).
+set -eu
+PROGRAM=${PROGRAM:-build/pbook}
+. tests/lib/harness.sh
+. tests/lib/shim.sh
+. tests/lib/small_runs.sh
+
+# set_shim: has the call of the number $at fail, or move one byte, as the variable $hit says
+set_shim() { export "$hit=$at" IO_TOLD="$work/told"; }
+
+describe() {
+    describe_command
+    echo "the call: $at, hit by $hit, $kind of file $file; calls: $calls; status: $status"
+}
+
+# run_hit WORD..: runs the program, and the call of the number $at is hit
+run_hit() {
+    calls='?' kind='?' file='?'
+    run_shimmed "$input" "$@"
+    read -r calls kind file < "$work/told"
+}
+
+# is_same: whether output, status and files are those of a run in which no call was hit
+is_same() { is_same_output && is_of ample book && is_of ample file; }
+
+# moved: what a call that moves one byte alone may leave
+moved() {
+    is_same ||
+        fails 'output, status or files are not as if all had moved' "$work/ample.put" "$work/put"
+}
+
+# is_front_put FILE: what was put, which is in this file, has to be a front of what is due
+is_front_put() {
+    is_front "$1" "$work/ample.put" ||
+        fails 'the output is no front of what is due' "$work/ample.put" "$1"
+}
+
+# judge_output: the status is 3, and the output is what a failed call may leave. It sets
+# `answered` to the number of lines that were put whole, but for the fault.
+judge_output() {
+    [ "$status" -eq 3 ] || fails 'the status due is 3'
+    cp "$work/put" "$work/front"
+    if [ "$kind" = read ]; then
+        [ "$(tail -n 1 "$work/put")" = 'fault read' ] || fails 'a failed read is not told'
+        sed '$d' "$work/put" > "$work/front"
+    fi
+    is_front_put "$work/front"
+    answered=$(wc -l < "$work/front")
+    if [ "$kind" = read ]; then
+        head -n "$answered" "$work/ample.put" | cmp -s - "$work/front" ||
+            fails 'a line was not put whole'
+    fi
+}
+
+# judge_book: BOOK is what a failed call may leave
+judge_book() {
+    if is_of old book; then return; fi
+    if [ "$kind" = sync ] && is_of ample book; then return; fi
+    [ -L "$work/run/book" ] || fails 'BOOK is not the old one'
+    [ "$kind" != read ] || fails 'BOOK is not the old one, and a read failed'
+    is_front "$work/run/book" "$work/ample/book" || fails 'BOOK is no front of the new one'
+}
+
+# helped: what a run may leave that prints a text and has no order, whose status stays
+helped() {
+    [ "$status" -eq "$ample_status" ] || fails "the status due is $ample_status"
+    is_front_put "$work/put"
+}
+
+# shown: what a command may leave that makes no file
+shown() {
+    judge_output
+    is_of old book || fails 'BOOK was changed'
+    is_of old file || fails 'FILE was changed'
+}
+
+# make_front COUNT WORD..: makes the folder $work/made-COUNT of a run over so many lines of the
+# submissions
+make_front() {
+    [ ! -e "$work/made-$1" ] || return 0
+    head -n "$1" "$input" > "$work/taken"
+    make_of "$@"
+}
+
+# may_stay: whether the failed call may leave FILE as it was
+may_stay() {
+    [ "$answered" -eq 0 ] || [ "$kind" = sync ] || { [ "$kind" = write ] && [ "$file" -ne 1 ]; }
+}
+
+# collected WORD..: what `collect` may leave
+collected() {
+    judge_output
+    judge_book
+    [ -e "$work/old/file" ] || return 0
+    if is_of old file && may_stay; then return; fi
+    lines=$(awk 'END { print NR }' "$input")
+    for front in $(seq "$answered" "$lines"); do
+        make_front "$front" "$@"
+        if is_of "made-$front" file; then return; fi
+    done
+    fails 'FILE is made of no front of the submissions with all that were answered' \
+        "$work/made-$answered/file" "$work/run/file"
+}
+
+# journaled WORD..: what `collect --journal` may leave
+journaled() {
+    judge_output
+    judge_book
+    is_front "$work/run/file" "$work/ample/file" ||
+        fails 'the journal is no front of the one due' "$work/ample/file" "$work/run/file"
+    make_front "$answered" "$@"
+    if is_front "$work/made-$answered/file" "$work/run/file"; then return; fi
+    if [ "$answered" -eq 0 ] && is_front "$work/old/file" "$work/run/file"; then return; fi
+    fails 'the journal has lost games that were answered' \
+        "$work/made-$answered/file" "$work/run/file"
+}
+
+# hit_each VARIABLE JUDGE WORD..: hits each call in turn, as this variable of the shim's says,
+# until a run has no such call. Each run in which a call was hit is a line of $work/log.
+hit_each() {
+    hit=$1 judge=$2 at=1
+    shift 2
+    run_hit "$@"
+    while [ "$at" -le "$calls" ]; do
+        "$judge" "$@"
+        echo "$hit $kind" >> "$work/log"
+        at=$((at + 1))
+        run_hit "$@"
+    done
+    [ "$calls" -gt 0 ] || fails 'it makes no such call'
+    is_same || fails 'no call was hit, and the output is another' "$work/ample.put" "$work/put"
+}
+
+# hits JUDGE INPUT WORD..: the check of a command
+hits() {
+    judge=$1
+    shift
+    prepare "$@"
+    shift
+    : > "$work/log"
+    hit_each FAIL_AT "$judge" "$@"
+    hit_each SHORT_AT moved "$@"
+    cat "$work/log" >> "$work/logs"
+    note "$(logged 'FAIL_AT read') reads, $(logged 'FAIL_AT write') writes and \
+$(logged 'FAIL_AT sync') syncs failed; $(logged SHORT_AT) calls moved one byte alone"
+}
+
+# try NAME JUDGE INPUT WORD..: checks a command
+try() {
+    name=$1
+    shift
+    check "$name" hits "$@"
+}
+
+# The runs on an old FILE that this script alone has.
+on_old_file() {
+    try 'collect on an old FILE' collected later collect --ledger file ../table book
+    try 'collect on an old journal, synced' journaled later \
+        collect --journal file --sync ../table book
+    printf 'torn\t1-0\t%s\te2' "$start" >> "$work/old/file"
+    try 'collect on a torn journal' journaled later collect --journal file ../table book
+}
+
+unseen='preadv|preadv2|pwritev|pwritev2|sendfile|splice|copy_file_range|recv|send|sync|syncfs|msync'
+check 'the shim sees all calls that read, write and sync' \
+    make_shim tests/fail_io.c "$unseen|sync_file_range|fread|fwrite|mmap|mmap64"
+try 'export' shown games export ../table
+each_run try on_old_file
+failed_calls=$(count FAIL_AT "$work/logs")
+echo "$failed_calls calls failed, $(count SHORT_AT "$work/logs") moved one byte alone"
+finish

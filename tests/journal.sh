@@ -1,0 +1,162 @@
+#!/bin/sh
+# Kills `pbook collect --journal` with SIGKILL at 200 random moments while two workers send and
+# resend games through a fifo, and starts it again on the journal each time: each game that was
+# ever answered `ok` has to have its number in the last run, and BOOK has to be that of one run
+# that nothing interrupted. Then the same with --sync, at fewer moments, and, as root, on a disk
+# that fills up. The first check that doesn't hold ends it.
+# Usage: PROGRAM=program KILLS=number tests/journal.sh (at the top of the repository; 200 kills
+# where KILLS isn't given).
+set -eu
+PROGRAM=${PROGRAM:-build/pbook}
+. tests/lib/harness.sh
+cp examples/table.txt "$work/table"
+kills=${KILLS:-200}
+cd "$work"
+mkfifo games
+
+# A walk of kings is a legal game of its own for each number. Two workers have one half of them
+# each; each sends 60 in a run, of which 30 are those of the run before.
+awk -v games=$((60 * (kills + 1))) 'BEGIN {
+    white = split("e1 d1 c1 b1 a1 a2 b2 c2 d2 e2 f2 g2 h2 h1 g1 f1", w, " ")
+    black = split("e8 d8 c8 b8 a8 a7 b7 c7 d7 e7 f7 g7 g8 f8", b, " ")
+    for (i = 0; i < games; i++) {
+        moves = ""
+        for (ply = 0; ply < 10 + i % 60; ply++) {
+            moves = moves w[(i + ply) % white + 1] w[(i + ply + 1) % white + 1] " "
+            moves = moves b[ply % black + 1] b[(ply + 1) % black + 1] " "
+        }
+        sub(/ $/, "", moves)
+        square = w[i % white + 1]
+        file = index("abcdefgh", substr(square, 1, 1))
+        rank = ""
+        if (file > 1) rank = rank (file - 1)
+        rank = rank "K"
+        if (file < 8) rank = rank (8 - file)
+        start = substr(square, 2) == "1" ? "4k3/8/8/8/8/8/8/" rank : "4k3/8/8/8/8/8/" rank "/8"
+        printf "w%d-%d\t1-0\t%s w - - 0 1\t%s\n", i % 2, i, start, moves
+    }
+}' > all
+grep '^w0' all > half0
+grep '^w1' all > half1
+
+# worker HALF RUN: sends the lines of a run, each at once
+worker() {
+    sed -n "$(($2 * 30 - 29 > 1 ? $2 * 30 - 29 : 1)),$(($2 * 30 + 30))p" "half$1" > "part$1"
+    # The reader is killed in between. Where that is told by an error in place of a signal, it is
+    # one for each line.
+    while read -r line; do printf '%s\n' "$line" 2> /dev/null || return 0; done < "part$1" > games
+}
+
+# random BELOW COUNT: so many numbers, in thousandths, one a line
+random() {
+    awk -v below="$1" -v count="$2" \
+        'BEGIN { srand(7); for (i = 0; i < count; i++) print int(rand() * below) / 1000 }'
+}
+
+# end PROCESS: kills a process of the background, which may have ended, and waits for it, which
+# the shell may tell
+end() {
+    kill -9 "$1" 2> /dev/null || true
+    wait "$1" 2> /dev/null || true
+}
+
+# wait_for_replies: waits for the first reply, three seconds at most
+wait_for_replies() {
+    tries=0
+    while [ ! -s replies ] && [ "$tries" -lt 3000 ]; do
+        tries=$((tries + 1))
+        sleep 0.001
+    done
+}
+
+# killed_runs COUNT OPTION..: so many runs on a new journal, each killed at some moment; their
+# replies go to `answered`
+killed_runs() {
+    random 20 "$1" > moments
+    shift
+    : > journal
+    : > answered
+    run=0
+    while read -r moment; do
+        : > replies
+        "$PROGRAM" collect --journal journal "$@" table book < games > replies 2> errors &
+        collector=$!
+        worker 0 "$run" & first=$!
+        worker 1 "$run" & second=$!
+        # Each fourth run is killed while it may still read the journal, the others once they have
+        # answered.
+        if [ $((run % 4)) -ne 3 ]; then wait_for_replies; fi
+        sleep "$moment"
+        end "$collector"
+        # A worker may wait for a reader that never comes, and one that has only begun would lose
+        # a signal to the trap of this script.
+        end "$first"
+        end "$second"
+        holds test ! -s errors
+        cat replies >> answered
+        run=$((run + 1))
+    done < moments
+    note "$(count '^ok' answered) answers of $run runs, $(wc -l < journal) games on the journal"
+    holds grep -q '^ok' answered
+}
+
+# The last run takes all games, and nothing interrupts it.
+whole_run() { "$PROGRAM" collect --journal journal "$@" table book < all > last; }
+
+# Each whole `ok` line that was ever written stands among the replies of the last run.
+all_are_kept() {
+    grep '^ok [^ ]* [0-9]*$' answered | sort -u > acknowledged
+    sort -u last > numbered
+    comm -23 acknowledged numbered > lost
+    holds test ! -s lost
+}
+
+# No number was given to two games, and no game has two.
+one_number_each() {
+    cat acknowledged numbered | sort -u > both
+    for field in 2 3; do
+        cut -d ' ' -f "$field" both | sort | uniq -d > twice
+        holds test ! -s twice
+    done
+}
+
+# The book is that of one run over all games without a journal, and so is that of the journal alone.
+book_of_one_run() {
+    "$PROGRAM" collect table whole < all > one
+    holds cmp book whole
+    "$PROGRAM" collect table again < journal > two
+    holds cmp again whole
+}
+
+# full_disk: a run on a disk that fills up, and then one elsewhere on the journal that it leaves
+full_disk() {
+    mkdir small
+    mount -t tmpfs -o size=64k tmpfs "$work/small"
+    : > small/journal
+    status=0
+    "$PROGRAM" collect --journal small/journal table book < all > answered || status=$?
+    holds test "$status" -eq 3
+    cp small/journal journal
+    holds grep -q '^ok' answered
+}
+
+check 'runs are killed' killed_runs "$kills"
+check 'the last run takes all games' whole_run
+check 'each game that was answered has its number' all_are_kept
+check 'each game has one number' one_number_each
+check 'the book is that of one run' book_of_one_run
+
+check 'the same with --sync: runs are killed' killed_runs $((kills / 10)) --sync
+check 'the same with --sync: the last run takes all games' whole_run --sync
+check 'the same with --sync: numbers' all_are_kept
+check 'the same with --sync: the book' book_of_one_run
+
+if [ "$(id -u)" -eq 0 ]; then
+    check 'a full disk ends the run' full_disk
+    check 'the last run after it takes all games' whole_run
+    check 'each game that was answered before it was full has its number' all_are_kept
+    check 'the book after it is that of one run' book_of_one_run
+else
+    leave_out 'root is wanted' 'a full disk' 'the last run after it' 'its numbers' 'its book'
+fi
+finish

@@ -1,0 +1,89 @@
+# shellcheck shell=sh
+# Shared by the scripts of the folder above. It is read by `.` at the top of the repository, and
+# makes the folder $work, which goes when the script ends, unless a check has failed. PROGRAM, where
+# it was set, is then a copy of that program in $work.
+#
+# These scripts are for Linux alone, as the program is: they need GNU's coreutils (`date +%s%N`,
+# `stat -c`, `timeout`) and /proc/mounts. A check that needs more, such as flock, strace, setpriv
+# or a mount, is left out where that isn't to be had, and the script says so.
+umask 022
+work=$(mktemp -d)
+chmod 755 "$work"
+held=0
+untried=0
+
+# leave: unmounts what the checks have mounted, and removes their folder
+leave() {
+    awk -v work="$work/" 'index($2, work) == 1 { print $2 }' /proc/mounts > "$work/mounted"
+    while read -r folder; do umount "$folder"; done < "$work/mounted"
+    [ "$failed" = true ] || rm -rf "$work"
+}
+failed=false
+trap leave EXIT
+trap 'exit 1' HUP INT TERM
+
+if [ -n "${PROGRAM:-}" ]; then
+    install -m 755 "$PROGRAM" "$work/program"
+    PROGRAM=$work/program
+fi
+
+# check NAME COMMAND..: runs a check and tells whether it holds. It runs in a subshell, in which
+# any command that fails ends it. The first check that fails ends the script.
+check() {
+    name=$1
+    shift
+    : > "$work/note"
+    # A condition, as of `if`, would switch `set -e` off in the check.
+    set +e
+    (
+        set -e
+        "$@"
+    )
+    status=$?
+    set -e
+    if [ "$status" -ne 0 ]; then
+        failed=true
+        echo "FAILED: $name (what it left is in $work)"
+        exit 1
+    fi
+    held=$((held + 1))
+    echo "ok: $name$(sed 's/^/: /' "$work/note")"
+}
+
+# note TEXT: what the line of the running check tells beside its name
+note() { echo "$1" > "$work/note"; }
+
+# holds CONDITION..: ends the running check where this command fails, and shows the command
+holds() {
+    if "$@"; then return; fi
+    echo "    does not hold: $*"
+    exit 1
+}
+
+# not CONDITION..: whether this command fails
+not() { if "$@"; then return 1; fi; }
+
+# ends STATUS COMMAND..: whether this command ends with this status. It runs in a subshell.
+ends() {
+    due=$1 status=0
+    shift
+    ("$@") || status=$?
+    [ "$status" -eq "$due" ] || { echo "    the status is $status" && return 1; }
+}
+
+# count PATTERN FILE: the number of lines that the pattern is found in
+count() { awk -v pattern="$1" '$0 ~ pattern { found++ } END { print found + 0 }' "$2"; }
+
+# leave_out WHY NAME..: tells that these checks are not tried
+leave_out() {
+    why=$1
+    shift
+    untried=$((untried + $#))
+    echo "not tried, $why: $*"
+}
+
+# finish: tells how many checks hold
+finish() {
+    echo "$held checks hold, $untried were not tried"
+    [ "$held" -gt 0 ]
+}
