@@ -5,7 +5,7 @@ Usage: scripts/wrong_body.py CRATE NAME (at the top of the repository, where the
 
 CRATE is a folder below crates/ and NAME a file of its must-fail/, with or without `.edit`. The crate is checked with the body in its
 place; then its files are as they were. Goals of the second list have no answer: the prover searches for them to the end, and runs once
-more (`offers`) to print what one might write.
+more (`offers`) to print what one might write. Those of the third are told by a note alone.
 """
 import pathlib
 import re
@@ -54,8 +54,10 @@ def main():
             path.write_text(right, encoding="utf-8")
     answered = re.findall(r"^\S*proofs/(\S+)\.antt:\d+:\d+: error: `([^`]+)`", said, re.M)
     searched = re.findall(r"^fn (\S+): .*`search` did not prove (.*)$", said, re.M)
+    noted = re.findall(r"^note: (\S+?):\d+:\d+: it is not proved that .* \(`([^`]+)`\)$", said, re.M)
     print("broken, with an answer:", *(f"  {file} {goal}" for file, goal in dict.fromkeys(answered)), sep="\n")
     print("broken, without one:", *(f"  {function} {goals}" for function, goals in searched), sep="\n")
+    print("noted as not proved:", *(f"  {file} {goal}" for file, goal in dict.fromkeys(noted)), sep="\n")
     print("seconds:", " ".join(f"{name} {float(time):.1f}" for name, time in times if float(time) >= 0.5))
 
 
