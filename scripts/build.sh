@@ -6,6 +6,9 @@
 # A crate that is proved stays so in its out/, and a run after one that was interrupted goes on with
 # the next.
 set -eu
+mkdir -p build
+exec 9> build/lock
+flock -n 9 || { echo 'make: another run proves here, and has the crates in its rooms'; exit 1; }
 start='rnbqkbnr/pppppppp/8/8/8/8/PPPPPPPP/RNBQKBNR w KQkq - 0 1'
 rm -rf build/proved
 mkdir -p build/proved
