@@ -1,5 +1,5 @@
 -- The command line of `pbook`: one level of commands, each with its words.
-use Rattle.std.specs.Prelude.{Some, [], ◌∷◌, codes, true}
+use Rattle.std.specs.Prelude.{ℕ, Some, [], ◌∷◌, codes, true}
 use Rattle.clap.specs.Words.{App, Rule, Text, new_app, new_rule, with_rule, with_subcommand}
 use Rattle.clap.specs.Simple.{on_top}
 use Rattle.clap.specs.Lexer.{usize_max}
@@ -28,6 +28,14 @@ option_with id value = record (option_if_given id) { defaults = value ∷ [] }
 abbrev pub flag : Text → Rule
 flag id = record (new_rule id) { long = Some id; action = Some SetTrue }
 
+-- a flag that a short letter stands for too
+abbrev pub flag_with_short : Text → ℕ → Rule
+flag_with_short id letter = record (flag id) { short = Some letter }
+
+-- the flag that leaves only errors on standard error: `--quiet`, or `-q`, whose letter is 113
+abbrev pub quiet_flag : Rule
+quiet_flag = flag_with_short (codes "quiet") 113
+
 -- a command with the three options that say what is kept beside the book
 abbrev pub with_keeping : App → App
 with_keeping app = with_rule (with_rule (with_rule app (option_if_given (codes "ledger"))) (option_if_given (codes "journal"))) (flag (codes "sync"))
@@ -51,11 +59,13 @@ probe_command = with_rule (with_rule (with_rule (new_app (codes "probe")) (requi
     (required_word (codes "FEN"))
 
 abbrev pub collect_command : App
-collect_command = with_rule (with_rule (with_counting (with_keeping (new_app (codes "collect"))))
+collect_command = with_rule (with_rule
+    (with_rule (with_counting (with_keeping (new_app (codes "collect")))) quiet_flag)
     (required_word (codes "TABLE"))) (required_word (codes "BOOK"))
 
 abbrev pub export_command : App
-export_command = with_rule (with_counting (new_app (codes "export"))) (required_word (codes "TABLE"))
+export_command = with_rule (with_rule (with_counting (new_app (codes "export"))) quiet_flag)
+    (required_word (codes "TABLE"))
 
 -- the program, before its commands
 abbrev pub program_alone : App
@@ -67,5 +77,6 @@ program_alone = on_top (λ s. record s {
 
 -- the whole command line
 abbrev pub pbook : App
-pbook = with_subcommand (with_subcommand (with_subcommand (with_subcommand (with_subcommand (with_subcommand program_alone fen_command.top) epd_command.top)
-    show_command.top) probe_command.top) collect_command.top) export_command.top
+pbook = with_subcommand (with_subcommand (with_subcommand (with_subcommand (with_subcommand
+    (with_subcommand program_alone collect_command.top) export_command.top) fen_command.top)
+    epd_command.top) show_command.top) probe_command.top

@@ -2,7 +2,7 @@
 ghost use Rattle.std.specs.Prelude.{◌≡◌, IfOk, codes, false};
 ghost use Rattle.clap.specs.Words.{App, new_app, rule_of};
 ghost use Rattle.pb_cli.specs.Built.{IsCommand};
-ghost use Rattle.pb_cli.specs.CommandLine.{collect_command, epd_command, export_command, fen_command, flag, further_words, option_if_given, option_with, pbook, probe_command, program_alone, required_word, show_command, with_counting, with_keeping};
+ghost use Rattle.pb_cli.specs.CommandLine.{collect_command, epd_command, export_command, fen_command, flag, flag_with_short, further_words, option_if_given, option_with, pbook, probe_command, program_alone, quiet_flag, required_word, show_command, with_counting, with_keeping};
 
 use clap::{Arg, ArgAction, Command};
 use std::alloc::{AllocError, Global};
@@ -43,18 +43,28 @@ const PLIES_HELP: &str = "How many first plies of each game count, 1 to 1024";
 const LEAST_HELP: &str =
     "How often a move must occur in the plies that count to be in the book, 1 to 1000000";
 
-/// The whole command line.
+/// What the program says without being asked.
+const QUIET_HELP: &str =
+    "Print only errors on standard error: no warnings, no progress and no summary";
+
+/// What a line of the input is, for the help of each command that takes games.
+const GAMES_HELP: &str = "\
+Each line of standard input is a game: its id, its result, the FEN record that it starts from and
+its moves, with a TAB between each two. For example, where <TAB> is one TAB:
+  w1-1<TAB>1-0<TAB>rnbqkbnr/pppppppp/8/8/8/8/PPPPPPPP/RNBQKBNR w KQkq - 0 1<TAB>e2e4 e7e5";
+
+/// The whole command line. Help lists the commands in this order.
 pub(crate) fn command_line<'a>(alloc: Global) -> Result<Command<'a>, AllocError>
     ensures { IfOk result (IsCommand pbook) }
 {
     let alone = program(alloc)?;
-    let with_fen = alone.subcommand(fen(alloc)?)?;
+    let with_collect = alone.subcommand(collect(alloc)?)?;
+    let with_export = with_collect.subcommand(export(alloc)?)?;
+    let with_fen = with_export.subcommand(fen(alloc)?)?;
     let with_epd = with_fen.subcommand(epd(alloc))?;
     let with_show = with_epd.subcommand(show(alloc)?)?;
     let with_probe = with_show.subcommand(probe(alloc)?)?;
-    let with_collect = with_probe.subcommand(collect(alloc)?)?;
-    let with_export = with_collect.subcommand(export(alloc)?)?;
-    Ok(with_export)
+    Ok(with_probe)
 }
 
 /// The program without its commands. Its name in usage lines is `pbook`, however it was called.
@@ -86,9 +96,7 @@ fn fen<'a>(alloc: Global) -> Result<Command<'a>, AllocError>
 fn epd<'a>(alloc: Global) -> Command<'a>
     ensures { IsCommand epd_command result }
 {
-    without_words(
-        alloc,
-        "epd",
+    Command::new(alloc, "epd").about(
         "Rewrites EPD lines from standard input, each in its one ordered form",
     )
 }
@@ -117,41 +125,47 @@ fn probe<'a>(alloc: Global) -> Result<Command<'a>, AllocError>
     Ok(whole)
 }
 
-/// `collect TABLE BOOK`, with the options `--ledger FILE`, `--journal FILE`, `--sync`, `--plies N` and `--least G`
+/// `collect TABLE BOOK`, with the options `--ledger FILE`, `--journal FILE`, `--sync`, `--plies N`,
+/// `--least G` and `--quiet`
 fn collect<'a>(alloc: Global) -> Result<Command<'a>, AllocError>
     ensures { IfOk result (IsCommand collect_command) }
 {
-    let bare = without_words(
+    let bare = taking_games(
         alloc,
         "collect",
         "Takes games from standard input, prints the reply to each, and makes the book of those that are held",
     );
     let keeping = with_keeping(alloc, bare)?;
     let counting = with_counting(alloc, keeping)?;
-    let tabled = counting.arg(required(alloc, "TABLE", TABLE_HELP))?;
+    let quieted = counting.arg(quiet(alloc))?;
+    let tabled = quieted.arg(required(alloc, "TABLE", TABLE_HELP))?;
     let whole = tabled.arg(required(alloc, "BOOK", MADE_HELP))?;
     Ok(whole)
 }
 
-/// `export TABLE`, with the options `--plies N` and `--least G`
+/// `export TABLE`, with the options `--plies N`, `--least G` and `--quiet`
 fn export<'a>(alloc: Global) -> Result<Command<'a>, AllocError>
     ensures { IfOk result (IsCommand export_command) }
 {
-    let bare = without_words(
+    let bare = taking_games(
         alloc,
         "export",
         "Takes games from standard input and prints the book of those that are held as EPD lines",
     );
     let counting = with_counting(alloc, bare)?;
-    let whole = counting.arg(required(alloc, "TABLE", TABLE_HELP))?;
+    let quieted = counting.arg(quiet(alloc))?;
+    let whole = quieted.arg(required(alloc, "TABLE", TABLE_HELP))?;
     Ok(whole)
 }
 
-/// A command that takes no words so far.
-fn without_words<'a>(alloc: Global, name: &'a str, about: &'a str) -> Command<'a>
+/// A command that takes games from standard input, and no words so far. What a line has to be
+/// stands at the end of its help, and not in the list of commands.
+fn taking_games<'a>(alloc: Global, name: &'a str, about: &'a str) -> Command<'a>
     ensures { IsCommand (new_app name.now) result }
 {
-    Command::new(alloc, name).about(about)
+    Command::new(alloc, name)
+        .about(about)
+        .after_help(GAMES_HELP)
 }
 
 /// The command with the options that say what is kept beside the book.
@@ -208,6 +222,22 @@ fn flag<'a>(alloc: Global, name: &'a str, help: &'a str) -> Arg<'a>
         .long(name)
         .action(ArgAction::SetTrue)
         .help(help)
+}
+
+/// An option without a value that a short letter stands for too.
+fn flag_with_short<'a>(alloc: Global, name: &'a str, letter: char, help: &'a str) -> Arg<'a>
+    ensures rule { rule_of result ≡ flag_with_short name.now letter }
+    ensures local { result.global ≡ false }
+{
+    flag(alloc, name, help).short(letter)
+}
+
+/// `--quiet`, or `-q`.
+fn quiet<'a>(alloc: Global) -> Arg<'a>
+    ensures rule { rule_of result ≡ quiet_flag }
+    ensures local { result.global ≡ false }
+{
+    flag_with_short(alloc, "quiet", 'q', QUIET_HELP)
 }
 
 /// A word that has to be given.

@@ -7,8 +7,8 @@ mod order;
 
 pub use order::{Keeping, Order, ParseFault, parse};
 pub use pb_collecting::{
-    Continued, MAX_LEAST, MAX_PLIES, MemPlace, NoBook, NotContinued, NotKept, Place, Rules, Text,
-    collect_into, continue_into, journal_into, run_collect, run_continue, run_export,
+    Continued, MAX_LEAST, MAX_PLIES, MemPlace, NoBook, NotContinued, NotKept, PassedLines, Place,
+    Rules, Text, collect_into, continue_into, journal_into, run_collect, run_continue, run_export,
     run_journaled,
 };
 pub use pb_commands::{Fault, STOPPED, run_epd, run_fen, run_probe, run_show, status};

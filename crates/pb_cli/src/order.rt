@@ -68,6 +68,8 @@ pub enum Order<'a> {
         table: &'a str,
         /// The path of the book that is made.
         book: &'a str,
+        /// Whether standard error gets nothing but errors.
+        quiet: bool,
     },
     /// Writes the book of the submissions on standard input as EPD lines.
     Export {
@@ -75,6 +77,8 @@ pub enum Order<'a> {
         rules: Rules,
         /// The path of the table.
         table: &'a str,
+        /// Whether standard error gets nothing but errors.
+        quiet: bool,
     },
 }
 
@@ -183,11 +187,13 @@ fn collect<'a>(alloc: Global, given: &ArgMatches<'a>) -> Result<Order<'a>, Parse
     let kept = kept_beside(alloc, given)?;
     let table = word(alloc, given, "TABLE")?;
     let book = word(alloc, given, "BOOK")?;
+    let quiet = flag(given, "quiet");
     Ok(Order::Collect {
         rules,
         kept,
         table,
         book,
+        quiet,
     })
 }
 
@@ -200,6 +206,7 @@ fn export<'a>(alloc: Global, given: &ArgMatches<'a>) -> Result<Order<'a>, ParseF
     Ok(Order::Export {
         rules: rules(alloc, given)?,
         table: word(alloc, given, "TABLE")?,
+        quiet: flag(given, "quiet"),
     })
 }
 

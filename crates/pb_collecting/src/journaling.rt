@@ -12,7 +12,7 @@ use crate::taking::{collect_fault, empty_ledger};
 use pb_commands::{Fault, TableFault, refuse_table};
 use pb_ledger::{JournalFault, Ledger, MapTally, Rules, collect_journaled};
 use pb_poly::{Book, Sink, Source};
-use pb_saved::{ReplayError, replay};
+use pb_saved::{PassedLines, ReplayError, replay};
 use std::alloc::Global;
 
 /// Why no submission was read.
@@ -31,17 +31,21 @@ enum NoJournal {
 /// the end, at most 1,000,000, by the rules as in `run_collect`. The table of words that keys are made of is read before the journal. Where it
 /// is refused, `refused table` and `long`, `line` or `count` is put, nothing else is read or written, and there is no book.
 ///
+/// `passed` is told the numbers of the journal's lines that are passed over, as by `replay`. No
+/// clause speaks of it: it is for people.
+///
 /// # Errors
 ///
 /// `Read` and `Endless` come of the table, the journal or the submissions, `Write` of the sink or the journal. A game whose line the journal
 /// didn't take isn't answered. `Memory` comes where a growth of the ledger's or the book's own found no memory, or a game of the journal; a
 /// submission that wants memory is refused in its reply.
-pub fn run_journaled<T: Source, V: Source, J: Sink, S: Source, K: Sink>(
+pub fn run_journaled<T: Source, V: Source, J: Sink, W: PassedLines, S: Source, K: Sink>(
     alloc: Global,
     rules: Rules,
     table_source: &mut T,
     kept: &mut V,
     journal: &mut J,
+    passed: &mut W,
     source: &mut S,
     sink: &mut K,
     fills: u32,
@@ -73,6 +77,7 @@ pub fn run_journaled<T: Source, V: Source, J: Sink, S: Source, K: Sink>(
         table_source,
         kept,
         journal,
+        passed,
         source,
         sink,
         fills,
@@ -80,12 +85,13 @@ pub fn run_journaled<T: Source, V: Source, J: Sink, S: Source, K: Sink>(
 }
 
 /// The same, told in one clause.
-fn journal_submissions<T: Source, V: Source, J: Sink, S: Source, K: Sink>(
+fn journal_submissions<T: Source, V: Source, J: Sink, W: PassedLines, S: Source, K: Sink>(
     alloc: Global,
     rules: Rules,
     table_source: &mut T,
     kept: &mut V,
     journal: &mut J,
+    passed: &mut W,
     source: &mut S,
     sink: &mut K,
     fills: u32,
@@ -93,7 +99,7 @@ fn journal_submissions<T: Source, V: Source, J: Sink, S: Source, K: Sink>(
     ensures { JournalsOrEnds rules fills (T.state table_source.old) (T.state table_source.new) (V.state kept.old) (V.state kept.new)
         (S.state source.old) (S.state source.new) (J.state journal.old) (J.state journal.new) (K.state sink.old) (K.state sink.new) result }
 {
-    match replay_games(alloc, rules, table_source, kept, journal, fills) {
+    match replay_games(alloc, rules, table_source, kept, journal, passed, fills) {
         Ok(mut ledger) => go_on(alloc, &mut ledger, journal, source, sink, fills),
         Err(NoJournal::Table(error)) => {
             refuse_table(sink, error)?;
@@ -129,12 +135,13 @@ fn go_on<J: Sink, S: Source, K: Sink>(
 }
 
 /// Reads the table, then replays the journal into a new ledger of these rules.
-fn replay_games<T: Source, V: Source, J: Sink>(
+fn replay_games<T: Source, V: Source, J: Sink, W: PassedLines>(
     alloc: Global,
     rules: Rules,
     table_source: &mut T,
     kept: &mut V,
     journal: &mut J,
+    passed: &mut W,
     fills: u32,
 ) -> Result<Ledger<MapTally>, NoJournal>
     ensures { ReplaysOrStops rules fills (T.state table_source.old) (T.state table_source.new) (V.state kept.old) (V.state kept.new)
@@ -144,7 +151,7 @@ fn replay_games<T: Source, V: Source, J: Sink>(
         Ok(ledger) => ledger,
         Err(error) => return Err(NoJournal::Table(error)),
     };
-    match replay(alloc, kept, journal, &mut ledger, fills) {
+    match replay(alloc, kept, journal, &mut ledger, passed, fills) {
         Ok(()) => Ok(ledger),
         Err(error) => Err(NoJournal::Replay(error)),
     }

@@ -9,6 +9,7 @@ use crate::keeping::NoBook;
 use crate::place::Place;
 use pb_ledger::Rules;
 use pb_poly::{Sink, Source};
+use pb_saved::PassedLines;
 use std::alloc::Global;
 
 /// Takes submission lines as `run_journaled` does, and keeps the book of the games that are held at the end. Where the table is refused, the
@@ -18,12 +19,13 @@ use std::alloc::Global;
 ///
 /// `Run` is the fault of `run_journaled`, and then the place is as it was; `Keep` is the fault that the place met when it was to keep the
 /// book of this run. The journal has each game that was answered `ok` in both.
-pub fn journal_into<T: Source, V: Source, J: Sink, S: Source, K: Sink, P: Place>(
+pub fn journal_into<T: Source, V: Source, J: Sink, W: PassedLines, S: Source, K: Sink, P: Place>(
     alloc: Global,
     rules: Rules,
     table_source: &mut T,
     kept: &mut V,
     journal: &mut J,
+    passed: &mut W,
     source: &mut S,
     sink: &mut K,
     place: &mut P,
@@ -42,6 +44,7 @@ pub fn journal_into<T: Source, V: Source, J: Sink, S: Source, K: Sink, P: Place>
         table_source,
         kept,
         journal,
+        passed,
         source,
         sink,
         fills,

@@ -22,5 +22,6 @@ pub use journaling::run_journaled;
 pub use journaling_into::journal_into;
 pub use keeping::{NoBook, collect_into};
 pub use pb_ledger::{MAX_LEAST, MAX_PLIES, Rules};
+pub use pb_saved::PassedLines;
 pub use place::{MemPlace, NotKept, Place};
 pub use text::Text;

@@ -21,5 +21,5 @@ pub use pb_accepted::{
     Plies, Refusal, Reply, Row, Rules, Start, Tally, check_line, scale,
 };
 pub use pb_export::{ExportFault, export};
-pub use pb_saved::{LoadError, ReplayError, load, replay, save};
+pub use pb_saved::{LoadError, PassedLines, ReplayError, load, replay, save};
 pub use totals::Totals;

@@ -1,17 +1,43 @@
 //! Drafts of files: a new file beside the one that it is to replace.
 
-use crate::apart::tell_of_one;
-use pb_cli::NotKept;
+use crate::apart::{is_one_file, tell_of_one};
+use crate::streams::{INPUT, OUTPUT};
+use std::alloc::AllocError;
 use std::fs::{self, File, Metadata, OpenOptions, TryLockError};
 use std::io::{self, ErrorKind};
-use std::os::unix::fs::MetadataExt;
+use std::os::unix::fs::{MetadataExt, OpenOptionsExt};
 use std::path::{Path, PathBuf};
 
 /// How many names are tried for a draft: as many runs may make one file at a time.
 const NAMES: u32 = 100;
 
-/// A new file beside another. Its run holds a lock on it, by which other runs know it from one that a killed run left: a draft's name
-/// belongs to whoever holds a lock on the file that it leads to.
+/// The permissions of a draft that is to replace a file, until it has that file's.
+const OWN: u32 = 0o600;
+
+/// The permissions of a new file, of which the system takes those away that its user doesn't give.
+const ANYBODY: u32 = 0o666;
+
+/// Why there is no draft.
+#[derive(Drop)]
+pub(crate) enum NoDraft {
+    /// The folder takes no new file of such a name, or the path ends in none.
+    Folder(Option<io::Error>),
+    /// The file can't be made, as on a full disk.
+    Open(io::Error),
+    /// Other runs have all names.
+    InUse,
+    /// There is no memory for a name.
+    Memory,
+}
+
+impl From<AllocError> for NoDraft {
+    fn from(_error: AllocError) -> NoDraft {
+        NoDraft::Memory
+    }
+}
+
+/// A new file beside another. Its run holds a lock on it, by which other runs know it from one that
+/// a killed run left: a draft's name belongs to whoever holds a lock on the file that it leads to.
 #[derive(Drop)]
 pub(crate) struct Draft {
     file: File,
@@ -19,35 +45,33 @@ pub(crate) struct Draft {
 }
 
 impl Draft {
-    /// An empty draft of the file of this path, by the name `.NAME.pbook-0` or with the next number that no run uses. None where the
-    /// folder takes no new file of such a name.
-    ///
-    /// # Errors
-    ///
-    /// `Memory` where there is none for the name; else `Open`, as on a full disk.
-    pub(crate) fn beside(rt: &HostRuntime, path: &str) -> Result<Option<Draft>, NotKept> {
+    /// An empty draft of the file of this path, by the name `.NAME.pbook-0` or with the next number
+    /// that no run uses. The draft of a file that is there can be read by its user alone at first.
+    pub(crate) fn beside(
+        rt: &HostRuntime,
+        path: &str,
+        old: Option<&Metadata>,
+    ) -> Result<Draft, NoDraft> {
+        let mut options = OpenOptions::new();
+        options
+            .write(true)
+            .create_new(true)
+            .mode(if old.is_some() { OWN } else { ANYBODY });
         for number in 0..NAMES {
-            let Some(name) = name_beside(rt, path, number)? else {
-                return Ok(None);
-            };
+            let name = name_beside(rt, path, number)?;
             remove_left_over(rt, name.as_path());
-            match OpenOptions::new()
-                .write(true)
-                .create_new(true)
-                .open(rt, name.as_path())
-            {
-                Ok(file) if is_held(rt, &file, name.as_path()) => return Ok(Some(Draft {
-                    file,
-                    name,
-                })),
+            match options.open(rt, name.as_path()) {
+                Ok(file) if is_held(rt, &file, name.as_path()) => return Ok(Draft { file, name }),
                 // Another run took the name.
                 Ok(_) => {}
                 Err(error) if error.kind() == ErrorKind::AlreadyExists => {}
-                Err(error) if is_of_folder(error.kind()) => return Ok(None),
-                Err(_) => return Err(NotKept::Open),
+                Err(error) if is_of_folder(error.kind()) => {
+                    return Err(NoDraft::Folder(Some(error)));
+                }
+                Err(error) => return Err(NoDraft::Open(error)),
             }
         }
-        Err(NotKept::Open)
+        Err(NoDraft::InUse)
     }
 
     /// The file, to be written.
@@ -55,7 +79,8 @@ impl Draft {
         &self.file
     }
 
-    /// Gives the draft the permissions of this file. False where its owner or group is another, or it can't have them.
+    /// Gives the draft the permissions of this file. False where its owner or group is another, or
+    /// it can't have them.
     pub(crate) fn take_after(&self, old: &Metadata) -> bool {
         let Ok(made) = self.file.metadata() else {
             return false;
@@ -70,6 +95,11 @@ impl Draft {
         fs::rename(rt, self.name.as_path(), path)
     }
 
+    /// The file, which has another name now.
+    pub(crate) fn into_file(self) -> File {
+        self.file
+    }
+
     /// Removes the draft from its folder.
     pub(crate) fn remove(self, rt: &HostRuntime) {
         let _ = fs::remove_file(rt, self.name.as_path());
@@ -81,20 +111,18 @@ pub(crate) fn leads_to(rt: &HostRuntime, name: Path<'_>, file: &Metadata) -> boo
     fs::symlink_metadata(rt, name).is_ok_and(|named| tell_of_one(&named, file))
 }
 
-/// The name of a draft beside the file of this path. None where the path doesn't end in a file's name.
-fn name_beside(rt: &HostRuntime, path: &str, number: u32) -> Result<Option<PathBuf>, NotKept> {
+/// The name of a draft beside the file of this path.
+fn name_beside(rt: &HostRuntime, path: &str, number: u32) -> Result<PathBuf, NoDraft> {
     let Some(file) = Path::new(path).file_name() else {
-        return Ok(None);
+        return Err(NoDraft::Folder(None));
     };
     if !path.ends_with(file) {
-        return Ok(None);
+        return Err(NoDraft::Folder(None));
     }
-    let Ok(name) = format!(in rt.alloc(); ".{file}.pbook-{number}") else {
-        return Err(NotKept::Memory);
-    };
+    let name = format!(in rt.alloc(); ".{file}.pbook-{number}")?;
     match Path::new(path).with_file_name(rt.alloc(), name.as_str()) {
-        Ok(name) => Ok(Some(name)),
-        Err(_) => Err(NotKept::Memory),
+        Ok(name) => Ok(name),
+        Err(_) => Err(NoDraft::Memory),
     }
 }
 
@@ -102,6 +130,9 @@ fn name_beside(rt: &HostRuntime, path: &str, number: u32) -> Result<Option<PathB
 fn remove_left_over(rt: &HostRuntime, name: Path<'_>) {
     // Only a file is opened, since opening a pipe may wait.
     if !fs::symlink_metadata(rt, name).is_ok_and(|named| named.is_file()) {
+        return;
+    }
+    if is_of_stream(rt, name.as_str()) {
         return;
     }
     let Ok(file) = OpenOptions::new().write(true).open(rt, name) else {
@@ -112,9 +143,16 @@ fn remove_left_over(rt: &HostRuntime, name: Path<'_>) {
     }
 }
 
-/// Whether this run now holds the new file: it isn't locked by a run that takes it for one left over, nor removed by such a run.
+/// Whether the name leads to the file that standard input is read from, or that of the replies.
+fn is_of_stream(rt: &HostRuntime, name: &str) -> bool {
+    is_one_file(rt, name, INPUT) || is_one_file(rt, name, OUTPUT)
+}
+
+/// Whether this run now holds the new file: it isn't locked by a run that takes it for one left
+/// over, nor removed by such a run. The lock can be shared, so that a book that was a draft a
+/// moment ago may be replaced by the next run's.
 fn is_held(rt: &HostRuntime, file: &File, name: Path<'_>) -> bool {
-    match file.try_lock() {
+    match file.try_lock_shared() {
         Ok(()) => has_name(rt, file, name),
         Err(TryLockError::WouldBlock) => false,
         // A file system without locks, on which no draft is taken for one left over.
@@ -128,7 +166,8 @@ fn has_name(rt: &HostRuntime, file: &File, name: Path<'_>) -> bool {
         .is_ok_and(|told| told.nlink() == 1 && leads_to(rt, name, &told))
 }
 
-/// Whether a new file fails so because of the folder that it is to stand in, or because of its name's length.
+/// Whether a new file fails so because of the folder that it is to stand in, or because of its
+/// name's length.
 fn is_of_folder(kind: ErrorKind) -> bool {
     matches!(
         kind,

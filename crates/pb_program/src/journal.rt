@@ -2,57 +2,73 @@
 
 ghost use Rattle.std.specs.Prelude.{None};
 
+use crate::counts::News;
 use crate::file::PIECE;
+use crate::folder::sync_folder;
+use crate::messages::Named;
+use crate::progress::Progress;
 use crate::stop::Stop;
+use crate::told::Told;
 use pb_cli::Fault;
 use pb_poly::{Failed, Sink, ToWrite};
-use std::fs::{File, OpenOptions, TryLockError};
+use std::fs::File;
 use std::io::BufWriter;
 
-/// The file of this path, which has to be there, to be written at its end. This run holds it until it ends: two that wrote one journal at a
-/// time would each give numbers of their own.
+/// Puts what the file holds on the disk, and its name. The games that an earlier run wrote may be
+/// in the system's memory alone, and the workers that send them again take their answer for a
+/// promise.
 ///
 /// # Errors
 ///
-/// `NotOpened` where there is no such file that can be written, and where another run holds it.
-pub(crate) fn open_to_append(rt: &HostRuntime, path: &str) -> Result<File, Stop> {
-    let Ok(file) = OpenOptions::new().append(true).open(rt, path) else {
-        return Err(Stop::NotOpened);
+/// The fault of a write.
+pub(crate) fn sync_whole(named: Named<'_>, file: &File) -> Result<(), Stop> {
+    let synced = match file.sync_all() {
+        Ok(()) => sync_folder(named.messages.rt(), named.name),
+        Err(error) => Err(error),
     };
-    match file.try_lock() {
-        Err(TryLockError::WouldBlock) => Err(Stop::NotOpened),
-        // A file system without locks leaves it to the user to start one run alone.
-        Ok(()) | Err(TryLockError::Error(_)) => Ok(file),
+    match synced {
+        Ok(()) => Ok(()),
+        Err(error) => {
+            named.fail(&error);
+            Err(Stop::Fault(Fault::Write))
+        }
     }
 }
 
-/// A file as a sink at its end: what is put is written when it is flushed, at once, and with `sync` it is on the disk then.
+/// A file as a sink at its end: what is put is written when it is flushed, at once, and with `sync`
+/// it is on the disk then.
 #[derive(Drop)]
-pub(crate) struct JournalFile<'f> {
+pub(crate) struct JournalFile<'f, 'p, 'a> {
     file: &'f File,
-    lines: ToWrite<BufWriter<&'f File>>,
+    named: Named<'a>,
+    lines: ToWrite<BufWriter<Told<'a, &'f File>>>,
+    progress: &'p Progress<'a>,
     sync: bool,
     failed: bool,
     flushed: bool,
 }
 
-impl<'f> JournalFile<'f> {
+impl<'f, 'p, 'a> JournalFile<'f, 'p, 'a> {
     /// A sink into the file.
     ///
     /// # Errors
     ///
     /// Want of memory for its buffer.
     pub(crate) fn new(
-        rt: &HostRuntime,
+        named: Named<'a>,
         file: &'f File,
+        progress: &'p Progress<'a>,
         sync: bool,
-    ) -> Result<JournalFile<'f>, Stop> {
-        let Ok(writer) = BufWriter::with_capacity(rt.alloc(), PIECE, file) else {
+    ) -> Result<JournalFile<'f, 'p, 'a>, Stop> {
+        let alloc = named.messages.rt().alloc();
+        let Ok(writer) = BufWriter::with_capacity(alloc, PIECE, Told::new(named, file)) else {
             return Err(Stop::Fault(Fault::Memory));
         };
         Ok(JournalFile {
             file,
+            named,
             lines: ToWrite::new(writer),
+            progress,
             sync,
             failed: false,
             flushed: false,
@@ -62,14 +78,18 @@ impl<'f> JournalFile<'f> {
     /// Hands the lines to the system, and has them reach the disk where that is wanted.
     fn hand_on(&mut self) -> Result<(), Failed> {
         self.lines.flush()?;
-        if self.sync && self.file.sync_data().is_err() {
+        if self.sync
+            && let Err(error) = self.file.sync_data()
+        {
+            self.named.fail(&error);
             return Err(Failed);
         }
+        self.progress.tell_new_by(News::Journaled(true));
         Ok(())
     }
 }
 
-impl Sink for JournalFile<'_> {
+impl Sink for JournalFile<'_, '_, '_> {
     ghost state = { λ s. record { bytes = None; failed = s.failed; flushed = s.flushed } };
 
     fn put(&mut self, bytes: &[u8]) -> Result<(), Failed> {

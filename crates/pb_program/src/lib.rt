@@ -1,16 +1,30 @@
-//! What the program `pbook` does with its words: it opens the files that they name, runs their command over them and over the
-//! standard streams, and answers the exit status; it knows of no line, table or book what stands in it.
+//! What the program `pbook` does with its words: it opens the files that they name, runs their
+//! command over them and over the standard streams, and answers the exit status; it knows of no
+//! line, table or book what stands in it.
 #![tactic(auto)]
 
 mod apart;
+mod collecting;
 mod command;
+mod counts;
 mod draft;
 mod file;
+mod folder;
+mod front;
+mod hold;
 mod journal;
-mod output;
+mod ledger_lines;
+mod looks;
+mod message;
+mod messages;
+mod part;
+mod passed;
 mod program;
+mod progress;
 mod replies;
 mod stop;
+mod streams;
+mod told;
 mod whole_file;
 
 pub use command::FILLS;

@@ -4,19 +4,23 @@ ghost use Rattle.std.specs.Prelude.{◌≡◌, ◌≤◌};
 
 use crate::command::answer;
 use crate::file::PIECE;
-use crate::output::Output;
+use crate::front::{Front, Fronted};
+use crate::message::{Message, RefusedFile};
+use crate::messages::{Messages, Named};
+use crate::part::Part;
 use crate::stop::{Stop, tell_stop};
-use pb_cli::{Fault, Order, ParseFault, parse, status};
+use crate::told::Told;
+use pb_cli::{Fault, Keeping, Order, ParseFault, parse, status};
 use pb_poly::ToWrite;
-use std::io;
-use std::io::BufWriter;
+use std::cell::RefCell;
+use std::io::{self, BufWriter, IsTerminal};
 
 /// The status for words that give no order.
 pub const USAGE: u8 = 2;
 
-/// Reads the words of the command line, of which the first is the program's name, runs their command and answers the exit
-/// status: 0 where all was taken, 1 where an input was refused, 2 where the words give no order, 3 where a device failed or
-/// memory was wanting.
+/// Reads the words of the command line, of which the first is the program's name, runs their
+/// command and answers the exit status: 0 where all was taken, 1 where an input was refused, 2
+/// where the words give no order, 3 where a device failed or memory was wanting.
 pub fn run(rt: &HostRuntime, words: &[&str]) -> u8
     ensures { result ≤ 3 }
 {
@@ -25,8 +29,20 @@ pub fn run(rt: &HostRuntime, words: &[&str]) -> u8
         Err(ParseFault::Memory) => want_of_memory(rt),
         Err(ParseFault::Usage(text)) => {
             let _ = print!(rt; "{text}");
+            tell_usage(rt, text.as_str());
             USAGE
         }
+    }
+}
+
+/// Tells the first line of a usage error, where standard output is sent to a file. A text that was
+/// asked for is none.
+fn tell_usage(rt: &HostRuntime, text: &str) {
+    if let Some(error) = text.strip_prefix("error: ")
+        && let Some(text) = error.lines().next()
+        && !rt.stdout().is_terminal()
+    {
+        Messages::new(rt, false).tell(&Message::Usage { text });
     }
 }
 
@@ -34,14 +50,61 @@ pub fn run(rt: &HostRuntime, words: &[&str]) -> u8
 fn perform(rt: &HostRuntime, order: &Order<'_>) -> u8
     ensures { result ≤ 3 }
 {
-    let output = Output::new(io::writer(rt));
+    let messages = Messages::new(rt, is_quiet(order));
+    let front = RefCell::new(Front::new());
+    let told = Told::new(Named::new(messages, "standard output"), io::writer(rt));
+    let output = Fronted::new(told, &front);
     let Ok(writer) = BufWriter::with_capacity(rt.alloc(), PIECE, output) else {
         return want_of_memory(rt);
     };
     let mut output = ToWrite::new(writer);
-    match answer(rt, order, &mut output) {
-        Ok(taken) => status(Ok(taken)),
-        Err(stop) => tell_stop(rt, &mut output, stop),
+    match answer(messages, order, &mut output) {
+        Ok(taken) => {
+            if !taken {
+                tell_refused(messages, order, &front);
+            }
+            status(Ok(taken))
+        }
+        Err(stop) => tell_stop(messages, &mut output, stop),
+    }
+}
+
+/// Whether the command is to tell faults and refused files alone.
+fn is_quiet(order: &Order<'_>) -> bool {
+    match order {
+        Order::Collect { quiet, .. } | Order::Export { quiet, .. } => *quiet,
+        _ => false,
+    }
+}
+
+/// Tells which file was refused, and why. A record or a line that is refused is an answer.
+fn tell_refused(messages: Messages<'_>, order: &Order<'_>, front: &RefCell<Front>) {
+    if let Ok(front) = front.try_borrow()
+        && let Some((kind, wrong)) = front.refused()
+    {
+        messages.tell(&RefusedFile {
+            name: name_of(order, kind),
+            wrong,
+        });
+    }
+}
+
+/// The name of the order's file of this kind.
+fn name_of<'a>(order: &Order<'a>, kind: Part) -> &'a str {
+    match (order, kind) {
+        (
+            Order::Collect {
+                kept: Keeping::Ledger(path),
+                ..
+            },
+            Part::Ledger,
+        ) => path,
+        (Order::Show { book } | Order::Probe { book, .. }, Part::Book) => book,
+        (
+            Order::Probe { table, .. } | Order::Collect { table, .. } | Order::Export { table, .. },
+            _,
+        ) => table,
+        _ => "",
     }
 }
 
@@ -50,5 +113,9 @@ pub fn want_of_memory(rt: &HostRuntime) -> u8
     ensures { result ≡ 3 }
 {
     let mut output = ToWrite::new(io::writer(rt));
-    tell_stop(rt, &mut output, Stop::Fault(Fault::Memory))
+    tell_stop(
+        Messages::new(rt, false),
+        &mut output,
+        Stop::Fault(Fault::Memory),
+    )
 }

@@ -1,51 +1,80 @@
 //! Replies that wait in the buffer of standard output until more submissions are read.
 
+use crate::progress::Progress;
 use pb_poly::Sink;
 use std::cell::RefCell;
 use std::io::{self, ErrorKind, Read, Write};
 
-/// What gives submissions. The replies that wait are written before each read, so that whoever sends a line and waits for its reply has it
-/// before this waits for more lines.
+/// What gives submissions. The replies that wait are written before each read, so that whoever
+/// sends a line and waits for its reply has it before this waits for more lines.
 #[derive(Drop)]
-pub(crate) struct Submissions<'o, 'k, R, K> {
+pub(crate) struct Submissions<'o, 'k, 'p, 'a, R, K> {
     reader: R,
     output: &'o RefCell<&'k mut K>,
+    progress: &'p Progress<'a>,
+    has_begun: bool,
 }
 
-impl<'o, 'k, R: Read, K: Sink> Submissions<'o, 'k, R, K> {
+impl<'o, 'k, 'p, 'a, R: Read, K: Sink> Submissions<'o, 'k, 'p, 'a, R, K> {
     /// What the reader gives, to be answered on this output.
-    pub(crate) fn new(reader: R, output: &'o RefCell<&'k mut K>) -> Submissions<'o, 'k, R, K> {
-        Submissions { reader, output }
+    pub(crate) fn new(
+        reader: R,
+        output: &'o RefCell<&'k mut K>,
+        progress: &'p Progress<'a>,
+    ) -> Submissions<'o, 'k, 'p, 'a, R, K> {
+        Submissions {
+            reader,
+            output,
+            progress,
+            has_begun: false,
+        }
     }
 }
 
-impl<R: Read, K: Sink> Read for Submissions<'_, '_, R, K> {
-    // Where the replies can't be written nothing more is read, and the read fails: an end of input would make a submission of a torn last
-    // line. The run then ends as by a fault of reading, which isn't told, since the output has failed and `tell_stop` leaves it alone.
+impl<R: Read, K: Sink> Read for Submissions<'_, '_, '_, '_, R, K> {
+    // Where the replies can't be written nothing more is read, and the read fails: an end of input
+    // would make a submission of a torn last line. The run then ends as by a fault of reading,
+    // which isn't told, since the output has failed and `tell_stop` leaves it alone.
     fn read(&mut self, into: &mut [u8]) -> io::Result<usize> {
+        self.progress.give_way();
         hand_on(self.output)?;
-        self.reader.read(into)
+        self.progress.show();
+        let count = self.reader.read(into)?;
+        if !self.has_begun {
+            self.has_begun = true;
+            self.progress.begin(&into[..count]);
+        }
+        if count == 0 {
+            self.progress.show_step(", making the book");
+        }
+        Ok(count)
     }
 }
 
 /// What takes replies. They wait in the buffer of the output.
 #[derive(Drop)]
-pub(crate) struct Replies<'o, 'k, K> {
+pub(crate) struct Replies<'o, 'k, 'p, 'a, K> {
     output: &'o RefCell<&'k mut K>,
+    progress: &'p Progress<'a>,
 }
 
-impl<'o, 'k, K: Sink> Replies<'o, 'k, K> {
+impl<'o, 'k, 'p, 'a, K: Sink> Replies<'o, 'k, 'p, 'a, K> {
     /// Replies on this output.
-    pub(crate) fn new(output: &'o RefCell<&'k mut K>) -> Replies<'o, 'k, K> {
-        Replies { output }
+    pub(crate) fn new(
+        output: &'o RefCell<&'k mut K>,
+        progress: &'p Progress<'a>,
+    ) -> Replies<'o, 'k, 'p, 'a, K> {
+        Replies { output, progress }
     }
 }
 
-impl<K: Sink> Write for Replies<'_, '_, K> {
+impl<K: Sink> Write for Replies<'_, '_, '_, '_, K> {
+    // A reply is put at once and whole.
     fn write(&mut self, bytes: &[u8]) -> io::Result<usize> {
         if let Ok(mut output) = self.output.try_borrow_mut()
             && output.put(bytes).is_ok()
         {
+            self.progress.reply(bytes);
             return Ok(bytes.len());
         }
         Err(io::Error::from(ErrorKind::BrokenPipe))

@@ -2,6 +2,8 @@
 
 ghost use Rattle.std.specs.Prelude.{◌≡◌};
 
+use crate::message::Message;
+use crate::messages::Messages;
 use pb_cli::{Fault, NoBook, NotContinued, NotKept, STOPPED};
 use pb_poly::{Sink, ToWrite};
 use std::io::Write;
@@ -9,7 +11,7 @@ use std::io::Write;
 /// Why a command stops.
 #[derive(Clone, Copy, PartialEq)]
 pub(crate) enum Stop {
-    /// A file can't be opened or made.
+    /// A file can't be opened or made, or another run holds it.
     NotOpened,
     /// The command met a fault.
     Fault(Fault),
@@ -59,13 +61,19 @@ impl From<NotContinued> for Stop {
     }
 }
 
-/// Tells why a command stopped, in a line after what it put, and answers the status. What it put is handed on also where no line tells of
-/// the fault, as of one of writing; a sink that failed is left alone.
-pub(crate) fn tell_stop<W: Write>(rt: &HostRuntime, output: &mut ToWrite<W>, stop: Stop) -> u8
+/// Tells why a command stopped, in a line after what it put, and answers the status. What it put is
+/// handed on also where no line tells of the fault, as of one of writing; a sink that failed is
+/// left alone. On standard error a file or a stream that failed was told where that was met.
+pub(crate) fn tell_stop<W: Write>(messages: Messages<'_>, output: &mut ToWrite<W>, stop: Stop) -> u8
     ensures { result ≡ 3 }
 {
+    match stop {
+        Stop::Fault(Fault::Memory) => messages.tell(&Message::Memory),
+        Stop::Fault(Fault::Endless) => messages.tell(&Message::Endless),
+        _ => {}
+    }
     if output.flush().is_ok() && stop != Stop::Fault(Fault::Write) {
-        let _ = println!(rt; "fault {}", stop.word());
+        let _ = println!(messages.rt(); "fault {}", stop.word());
     }
     STOPPED
 }

@@ -10,6 +10,7 @@ use Rattle.pb_io.specs.LineTask.{StopsAtLast, TakesAll, TakesEnded, TakesEndedUn
 use Rattle.pb_io.specs.declared.lines.LinesFault.{LinesFault}
 use Rattle.pb_io.specs.declared.lines.LinesFault.TheVariants as fault
 use Rattle.pb_io.proofs.EndLemmas.{AtEndedLine-weaker, AtFault-weaker, AtNoEnd-weaker}
+use Rattle.pb_games.specs.declared.refusal.Refusal.{Refusal}
 use Rattle.pb_games.specs.declared.refusal.Refusal.TheVariants as refusal
 use Rattle.pb_accepted.specs.Accepting.{Accepted, Allowed, Answer, Run, Takes}
 use Rattle.pb_accepted.proofs.Replies.{Takes-refusal}
@@ -21,19 +22,25 @@ use Rattle.pb_saved.specs.Replayer.{HoldsGames, TakesLine, replay_error}
 use Rattle.pb_saved.specs.Replaying.{ReplaysUntil, WantsMemoryFor}
 use Rattle.pb_saved.proofs.Loaded.{KeepsLedger-same, KeepsLedger-then, wanted}
 
-module _ {T : Type 0} where
+-- a line that is refused stops the replayer as its refusal does
+pub stops_of : (answer : Answer) (why : Refusal) (result : Result (Unit {0}) AllocError) → answer ≡ Err why → MatchResult result (λ _. why ≢ refusal.Memory) (λ _. why ≡ refusal.Memory)
+    → MatchResult result (λ _. answer ≢ Err refusal.Memory) (λ _. answer ≡ Err refusal.Memory)
+stops_of answer why (Ok x) is h = λ wants. let same : why ≡ refusal.Memory = cc in h same
+stops_of answer why (Err e) is h = cc
+
+module _ {T W : Type 0} where
   -- lines that were submitted, none of them refused for want of memory
-  pub record Taken (s t : Replayer T) (ls : List (List ℕ)) : Type 0 where
+  pub record Taken (s t : Replayer T W) (ls : List (List ℕ)) : Type 0 where
     pub answers : List Answer
     pub run : Run s.ledger.now.cap s.ledger.now.accepted ls answers
     pub accepted : Accepted s.ledger.now.accepted ls answers t.ledger.now.accepted
     pub remembered : All (λ r. r ≢ Err refusal.Memory) answers
     pub keeps : KeepsLedger s.ledger t.ledger
 
-  Taken-none : (s : Replayer T) → Taken s s []
+  Taken-none : (s : Replayer T W) → Taken s s []
   Taken-none s = record { answers = []; run = tt; accepted = refl; remembered = All-nil (λ r. r ≢ Err refusal.Memory); keeps = KeepsLedger-same s.ledger }
 
-  Taken-more : (s m t : Replayer T) (line : List ℕ) (ls : List (List ℕ)) → TakesLine s line (Ok tt) m → Taken m t ls → Taken s t (line ∷ ls)
+  Taken-more : (s m t : Replayer T W) (line : List ℕ) (ls : List (List ℕ)) → TakesLine s line (Ok tt) m → Taken m t ls → Taken s t (line ∷ ls)
   Taken-more s m t line ls one rest = record {
     answers = one.answer ∷ rest.answers;
     run = (m.ledger.now.accepted, one.allowed, one.takes, subst (λ cap. Run cap m.ledger.now.accepted ls rest.answers) one.keeps.cap rest.run);
@@ -42,13 +49,13 @@ module _ {T : Type 0} where
     keeps = KeepsLedger-then s.ledger m.ledger t.ledger one.keeps rest.keeps;
   }
 
-  taken : (s t : Replayer T) (ls : List (List ℕ)) → TakesAll TakesLine s ls t → Taken s t ls
-  taken s t [] h = subst (λ (x : Replayer T). Taken s x []) (sym h) (Taken-none s)
+  taken : (s t : Replayer T W) (ls : List (List ℕ)) → TakesAll TakesLine s ls t → Taken s t ls
+  taken s t [] h = subst (λ (x : Replayer T W). Taken s x []) (sym h) (Taken-none s)
   taken s t (line ∷ ls) h = Taken-more s h.0 t line ls h.1 (taken h.0 t ls h.2)
 
   -- ---- from no games on
 
-  module _ (s t : Replayer T) (fresh : s.ledger.now.accepted ≡ []) where
+  module _ (s t : Replayer T W) (fresh : s.ledger.now.accepted ≡ []) where
     replayed : (ls : List (List ℕ)) → TakesAll TakesLine s ls t → Replays s.ledger.now.cap ls t.ledger.now.accepted
     replayed ls h =
         let all = taken s t ls h in record {
@@ -59,7 +66,7 @@ module _ {T : Type 0} where
         }
 
   -- the line that stopped the replayer brings a new game, and no memory was left for it
-  module _ (s t : Replayer T) (fresh : s.ledger.now.accepted ≡ []) (ls : List (List ℕ)) (e : AllocError) (h : StopsAtLast TakesLine s ls e t) where
+  module _ (s t : Replayer T W) (fresh : s.ledger.now.accepted ≡ []) (ls : List (List ℕ)) (e : AllocError) (h : StopsAtLast TakesLine s ls e t) where
     stopped : WantsMemoryFor s.ledger.now.cap t.ledger.now.accepted ls
     stopped =
         let m = h.2 in
@@ -82,19 +89,19 @@ module _ {T : Type 0} where
 
   -- ---- the whole of a stream
 
-  module _ (fills : ℕ) (old new : SourceState) (s t : Replayer T) (fresh : s.ledger.now.accepted ≡ []) where
+  module _ (fills : ℕ) (old new : SourceState) (s t : Replayer T W) (fresh : s.ledger.now.accepted ≡ []) where
     all_held : (torn : Bool) → TakesEnded TakesLine fills old new s t torn → HoldsGames fills old new s.ledger.now t.ledger.now torn
     all_held torn h = record { came = h.came; reads = h.reads; holds = replayed s t fresh (ended_lines h.came) h.taken; left = h.left }
 
     replayed_until : (fault : LinesFault AllocError) → TakesEndedUntil TakesLine fills old new s t fault
         → (j : SinkState) → ReplaysUntil fills old new j j s.ledger.now t.ledger.now (replay_error fault)
-    replayed_until fault.Memory h j = (inl (h.0, ap (λ (x : Replayer T). x.ledger.now) h.1), refl)
+    replayed_until fault.Memory h j = (inl (h.0, ap (λ (x : Replayer T W). x.ledger.now) h.1), refl)
     replayed_until fault.Read h j = (AtFault-weaker fills old new _ _ (λ ls few all. replayed s t fresh ls all) h, refl)
     replayed_until fault.Endless h j = (AtNoEnd-weaker fills old new _ _ (λ ls few all. replayed s t fresh ls all) h, refl)
     replayed_until (fault.Stop e) h j = (inr (AtEndedLine-weaker fills old new _ _ (λ ls few stops. stopped s t fresh ls e stops) h), refl)
 
     keeps_until : (fault : LinesFault AllocError) → TakesEndedUntil TakesLine fills old new s t fault → KeepsLedger s.ledger t.ledger
-    keeps_until fault.Memory h = subst (λ (x : Replayer T). KeepsLedger s.ledger x.ledger) (sym h.1) (KeepsLedger-same s.ledger)
+    keeps_until fault.Memory h = subst (λ (x : Replayer T W). KeepsLedger s.ledger x.ledger) (sym h.1) (KeepsLedger-same s.ledger)
     keeps_until fault.Read h = (taken s t (ended_lines h.came) h.done).keeps
     keeps_until fault.Endless h = (taken s t (ended_lines h.came) h.done).keeps
     keeps_until (fault.Stop e) h = (AtEndedLine-weaker fills old new _ (λ _. KeepsLedger s.ledger t.ledger) (λ ls few stops. stopped_keeps s t fresh ls e stops) h).done

@@ -16,7 +16,7 @@ use Rattle.pb_saved.specs.declared.replaying.ReplayError.{ReplayError}
 use Rattle.pb_saved.specs.declared.replaying.ReplayError.TheVariants.{Read, Endless, Memory}
 
 -- a line was submitted: want of memory alone stops the replayer
-pub record TakesLine {T : Type 0} (s : Replayer T) (line : List ℕ) (result : Result (Unit {0}) AllocError) (t : Replayer T) : Type 0 where
+pub record TakesLine {T W : Type 0} (s : Replayer T W) (line : List ℕ) (result : Result (Unit {0}) AllocError) (t : Replayer T W) : Type 0 where
   pub answer : Answer
   pub allowed : Allowed s.ledger.now.cap s.ledger.now.accepted line answer
   pub takes : Takes s.ledger.now.accepted line answer t.ledger.now.accepted

@@ -5,9 +5,11 @@
 
 pub mod laws;
 mod loading;
+mod passed;
 mod replaying;
 mod saving;
 
 pub use loading::{LoadError, load};
+pub use passed::PassedLines;
 pub use replaying::{ReplayError, replay};
 pub use saving::{put_game, save};

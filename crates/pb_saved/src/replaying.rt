@@ -1,6 +1,7 @@
 //! A ledger from the lines of a journal.
 
-ghost use Rattle.std.specs.Prelude.{◌≡◌, [], IfErr, IfOk, OnOk};
+ghost use Rattle.std.specs.Prelude.{◌≡◌, ◌≢◌, [], IfErr, IfOk, MatchResult, OnOk};
+ghost use Rattle.pb_games.specs.declared.refusal.Refusal.TheVariants.{Memory};
 ghost use Rattle.pb_io.specs.Sink.{SinkState};
 ghost use Rattle.pb_io.specs.Writes.{Writes};
 ghost use Rattle.pb_saved.specs.Journal.{seal};
@@ -8,7 +9,10 @@ ghost use Rattle.pb_saved.specs.Lending.{KeepsLedger};
 ghost use Rattle.pb_saved.specs.Replayer.{HoldsGames, replay_error};
 ghost use Rattle.pb_saved.specs.Replaying.{ReplaysAll, ReplaysUntil};
 
+use crate::passed::PassedLines;
+use crate::saving::HEADER;
 use pb_accepted::Ledger;
+use pb_board::without_return;
 use pb_games::Refusal;
 use pb_io::{Failed, LineTask, LinesFault, Sink, Source, take_ended_lines};
 use pb_points::Tally;
@@ -17,6 +21,9 @@ use thiserror::Error;
 
 /// What ends a torn line so that it never is a submission: a TAB more than a submission has, and LF.
 const SEAL: &[u8] = b"\t\t\t\t\n";
+
+/// The end of a line that was sealed, without its LF.
+const SEALED: &[u8] = b"\t\t\t\t";
 
 /// Why a journal was not replayed.
 #[derive(Clone, Copy, Debug, PartialEq, Eq, Error)]
@@ -35,13 +42,34 @@ pub enum ReplayError {
     Memory,
 }
 
-/// Submits the lines of a journal.
+/// Submits the lines of a journal and counts them.
 #[derive(Drop)]
-struct Replayer<'l, T: Tally> {
+struct Replayer<'l, T: Tally, W: PassedLines> {
     ledger: &'l mut Ledger<T>,
+    passed: &'l mut W,
+    lines: u64,
 }
 
-impl<T: Tally> LineTask for Replayer<'_, T> {
+impl<T: Tally, W: PassedLines> Replayer<'_, T, W> {
+    /// Passes over the line that was counted last and is refused so, which changed nothing, and
+    /// tells its number where it is neither sealed nor a header. Where memory was wanting, it can't
+    /// be passed over.
+    fn pass_over(&mut self, line: &[u8], refusal: Refusal) -> Result<(), AllocError>
+        ensures ledger { self.new.ledger ≡ self.old.ledger }
+        ensures stops { MatchResult result (λ _. refusal ≢ Memory) (λ _. refusal ≡ Memory) }
+    {
+        if refusal == Refusal::Memory {
+            return Err(AllocError);
+        }
+        let is_header = self.lines == 1 && without_return(line) == HEADER;
+        if !is_header && !line.ends_with(SEALED) {
+            self.passed.tell(self.lines);
+        }
+        Ok(())
+    }
+}
+
+impl<T: Tally, W: PassedLines> LineTask for Replayer<'_, T, W> {
     type Stop = AllocError;
 
     ghost use Rattle.pb_saved.specs.Replayer.{TakesLine};
@@ -49,20 +77,22 @@ impl<T: Tally> LineTask for Replayer<'_, T> {
     ghost takes = { TakesLine };
 
     fn take(&mut self, line: &[u8]) -> Result<(), AllocError> {
+        self.lines = self.lines.saturating_add(1);
         match self.ledger.submit(line) {
-            Err(Refusal::Memory) => Err(AllocError),
-            // A line that is refused changes nothing.
-            _ => Ok(()),
+            Ok(_) => Ok(()),
+            Err(refusal) => self.pass_over(line, refusal),
         }
     }
 
     fn take_long(&mut self) -> Result<(), AllocError> {
+        self.lines = self.lines.saturating_add(1);
         // It is refused for its length.
+        self.passed.tell(self.lines);
         Ok(())
     }
 }
 
-impl<T: Tally> Replayer<'_, T> {
+impl<T: Tally, W: PassedLines> Replayer<'_, T, W> {
     /// Takes the lines of the source that an LF ended. The answer is whether bytes are left after the last.
     fn take_all<S: Source>(
         &mut self,
@@ -96,16 +126,21 @@ fn error_of(fault: LinesFault<AllocError>) -> ReplayError
 /// line was answered `ok` once. Bytes after the last LF are a torn line: they are not taken, and four TABs and an LF are put on the sink and
 /// handed on, so that they never are a submission. A journal whose end isn't torn is left as it was.
 ///
+/// `passed` is told the number of each line that is refused, for another cause than want of memory,
+/// but for a sealed one and for the header of a saved ledger as the first line. A line of more than
+/// `LINE_LIMIT` bytes is told, sealed or not. No clause speaks of it: it is for people.
+///
 /// # Errors
 ///
 /// `Memory` comes before the first fill, or where a new game finds none; `Read` where the source fails, and `Endless` where it doesn't end
 /// within the fills. The ledger then holds the games of the lines before, and nothing was put on the sink. `Write` comes where the sink
 /// fails: the ledger holds all games of the journal, and a front of the TABs and the LF may have been put.
-pub fn replay<T: Tally, S: Source, J: Sink>(
+pub fn replay<T: Tally, S: Source, J: Sink, W: PassedLines>(
     alloc: Global,
     source: &mut S,
     journal: &mut J,
     ledger: &mut Ledger<T>,
+    passed: &mut W,
     fills: u32,
 ) -> Result<(), ReplayError>
     requires { ledger.old.accepted ≡ [] }
@@ -116,7 +151,7 @@ pub fn replay<T: Tally, S: Source, J: Sink>(
     ensures basis { ledger.new.basis ≡ ledger.old.basis }
     ensures cap { ledger.new.cap ≡ ledger.old.cap }
 {
-    let is_torn = take_games(alloc, source, ledger, fills)?;
+    let is_torn = take_games(alloc, source, ledger, passed, fills)?;
     if is_torn && put_seal(journal).is_err() {
         return Err(ReplayError::Write);
     }
@@ -124,10 +159,11 @@ pub fn replay<T: Tally, S: Source, J: Sink>(
 }
 
 /// Takes the games of a journal. The answer is whether its end is torn.
-fn take_games<T: Tally, S: Source>(
+fn take_games<T: Tally, S: Source, W: PassedLines>(
     alloc: Global,
     source: &mut S,
     ledger: &mut Ledger<T>,
+    passed: &mut W,
     fills: u32,
 ) -> Result<bool, ReplayError>
     requires { ledger.old.accepted ≡ [] }
@@ -137,9 +173,13 @@ fn take_games<T: Tally, S: Source>(
     ensures basis { ledger.new.basis ≡ ledger.old.basis }
     ensures cap { ledger.new.cap ≡ ledger.old.cap }
 {
-    let mut replayer = Replayer { ledger };
+    let mut replayer = Replayer {
+        ledger,
+        passed,
+        lines: 0,
+    };
     let taken = replayer.take_all(alloc, source, fills);
-    let Replayer { ledger } = replayer;
+    let Replayer { ledger, .. } = replayer;
     // The proof reads what the reference holds from this use.
     let _ = &*ledger;
     taken

@@ -138,10 +138,21 @@ fn run(kit: &Kit, name: &str, lines: &[u8], put: &mut MemSink, gained: &mut MemS
             Left::of(continue_into(alloc, rules, table, old, lines, put, ledger, book, MAX))
         }
         "run_journaled" => {
-            Left::booked(run_journaled(alloc, rules, table, kept, gained, lines, put, MAX))
+            Left::booked(run_journaled(alloc, rules, table, kept, gained, &mut (), lines, put, MAX))
         }
         "journal_into" => {
-            Left::kept(journal_into(alloc, rules, table, kept, gained, lines, put, book, MAX))
+            Left::kept(journal_into(
+                alloc,
+                rules,
+                table,
+                kept,
+                gained,
+                &mut (),
+                lines,
+                put,
+                book,
+                MAX,
+            ))
         }
         _ => Left::of(run_export(alloc, rules, table, lines, put, MAX).map_err(NotContinued::Run)),
     };

@@ -210,7 +210,14 @@ pub(crate) fn replaying<T: Tally>(kit: &Kit) -> Answer {
     let mut ledger = Ledger::<T>::new(kit.alloc, &kit.table, 1000)?;
     let mut source = MemSource::new(journal.as_bytes(), 64);
     let mut sink = MemSink::new(kit.alloc);
-    let answer = replay(kit.alloc, &mut source, &mut sink, &mut ledger, u32::MAX);
+    let answer = replay(
+        kit.alloc,
+        &mut source,
+        &mut sink,
+        &mut ledger,
+        &mut (),
+        u32::MAX,
+    );
     let holds_all = Text::of_ledger(&ledger).as_bytes() == saved_of(ALL).as_bytes();
     match answer {
         Ok(()) => Ok(holds_all && sink.as_bytes() == b"\t\t\t\t\n".as_slice()),

@@ -1,13 +1,14 @@
 //! The command `collect`: alone, from a saved ledger on, or with a journal; and each of them with
 //! places in memory for what it keeps. The number of a row says how many of the lines after it are
-//! those of the saved ledger or of the journal; the others are submissions.
+//! those of the saved ledger or of the journal; the others are submissions. With `passed=told` the
+//! numbers of the journal's lines that are passed over are told last.
 
 use crate::command::tell_next;
 use crate::ends::{Output, fills_in, rules_in};
 use crate::game::stream_of;
 use pb_cli::{
-    Continued, Fault, MemPlace, Rules, collect_into, continue_into, journal_into, run_collect,
-    run_continue, run_journaled,
+    Continued, Fault, MemPlace, PassedLines, Rules, collect_into, continue_into, journal_into,
+    run_collect, run_continue, run_journaled,
 };
 use pb_ledger::save;
 use pb_poly::{Book, MemSink, ToWrite};
@@ -15,6 +16,7 @@ use rows::book;
 use rows::ends::{NamedSource, end_of, named_source};
 use rows::page::{Done, NO_ROW, Page, Trouble};
 use rows::text::count_of;
+use std::alloc::Global;
 use std::fmt::Debug;
 
 /// What a run is given.
@@ -31,6 +33,35 @@ struct Run<'a> {
     ledger: MemPlace,
     /// Where the book is kept.
     book: MemPlace,
+}
+
+/// The numbers of the journal's lines that are passed over, each after a space.
+#[derive(Drop)]
+struct Passed {
+    numbers: Page,
+}
+
+impl PassedLines for Passed {
+    fn tell(&mut self, number: u64) {
+        self.numbers.put_count(" ", &number);
+    }
+}
+
+impl Passed {
+    /// No number yet.
+    fn new(alloc: Global) -> Passed {
+        Passed {
+            numbers: Page::new(alloc),
+        }
+    }
+
+    /// Tells them, where the word for the row's ends asks for them.
+    fn tell_all(&self, page: &mut Page, ends: &str) {
+        if end_of(ends, "passed", "hidden") == "told" {
+            page.put("\npassed");
+            page.put(self.numbers.as_str());
+        }
+    }
 }
 
 /// The answer to a call.
@@ -116,12 +147,14 @@ impl Run<'_> {
     fn journal(&mut self, page: &mut Page) {
         let mut journal = Output::of(page.alloc, self.ends, "journal");
         let mut replies = Output::of(page.alloc, self.ends, "output");
+        let mut passed = Passed::new(page.alloc);
         let answer = run_journaled(
             page.alloc,
             self.rules,
             &mut self.table,
             &mut self.first,
             &mut ToWrite::new(&mut journal),
+            &mut passed,
             &mut self.input,
             &mut ToWrite::new(&mut replies),
             self.fills,
@@ -129,6 +162,7 @@ impl Run<'_> {
         tell_book(page, &replies, &answer);
         page.put("\njournal");
         journal.tell_all(page);
+        passed.tell_all(page, self.ends);
     }
 
     /// The run alone, with a place for its book.
@@ -172,12 +206,14 @@ impl Run<'_> {
     fn journal_into(&mut self, page: &mut Page) {
         let mut journal = Output::of(page.alloc, self.ends, "journal");
         let mut replies = Output::of(page.alloc, self.ends, "output");
+        let mut passed = Passed::new(page.alloc);
         let answer = journal_into(
             page.alloc,
             self.rules,
             &mut self.table,
             &mut self.first,
             &mut ToWrite::new(&mut journal),
+            &mut passed,
             &mut self.input,
             &mut ToWrite::new(&mut replies),
             &mut self.book,
@@ -186,6 +222,7 @@ impl Run<'_> {
         self.tell_kept(page, &replies, &answer);
         page.put("\njournal");
         journal.tell_all(page);
+        passed.tell_all(page, self.ends);
     }
 
     /// The replies, the answer of a run with places, and the book that is kept, an entry a line.

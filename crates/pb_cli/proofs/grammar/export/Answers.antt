@@ -3,5 +3,8 @@ use Rattle.pb_cli.proofs.grammar.export.Goals as goal
 
 pub returns : goal.returns
 returns c =
-    let counting = c.in_ok-counting.ensures _ c.without_words-bare.ensures in
-    IsCommand-arg _ _ _ _ _ counting c.in_ok-whole.ensures c.required.ensures.rule c.required.ensures.local
+    let counting = c.in_ok-counting.ensures _ c.taking_games-bare.ensures in
+    let quieted = IsCommand-arg _ _ _ _ _ counting c.in_ok-quieted.ensures
+    c.quiet.ensures.rule c.quiet.ensures.local in
+    IsCommand-arg _ _ _ _ _ quieted c.in_ok-whole.ensures
+    c.required.ensures.rule c.required.ensures.local

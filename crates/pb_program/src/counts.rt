@@ -1,0 +1,225 @@
+//! How many submissions came, and what became of them.
+
+use std::fmt::{self, Display};
+use std::str;
+
+/// Why a submission is refused.
+#[derive(Clone, Copy)]
+enum Reason {
+    Long,
+    Shape,
+    Id,
+    Result,
+    Fen,
+    Start,
+    Spelling,
+    Plies,
+    Illegal,
+    Conflict,
+    Full,
+    Memory,
+}
+
+/// The reasons, in the order in which they are told.
+const REASONS: [Reason; 12] = [
+    Reason::Long,
+    Reason::Shape,
+    Reason::Id,
+    Reason::Result,
+    Reason::Fen,
+    Reason::Start,
+    Reason::Spelling,
+    Reason::Plies,
+    Reason::Illegal,
+    Reason::Conflict,
+    Reason::Full,
+    Reason::Memory,
+];
+
+impl Reason {
+    /// The word that replies give.
+    fn word(self) -> &'static str {
+        match self {
+            Reason::Long => "long",
+            Reason::Shape => "shape",
+            Reason::Id => "id",
+            Reason::Result => "result",
+            Reason::Fen => "fen",
+            Reason::Start => "start",
+            Reason::Spelling => "spelling",
+            Reason::Plies => "plies",
+            Reason::Illegal => "illegal",
+            Reason::Conflict => "conflict",
+            Reason::Full => "full",
+            Reason::Memory => "memory",
+        }
+    }
+}
+
+/// How a game that is new is told from one that came again.
+#[derive(Clone, Copy)]
+pub(crate) enum News {
+    /// Its number is above that of all games that are held.
+    Above(u32),
+    /// It was put on the journal just before, or wasn't.
+    Journaled(bool),
+    /// It can't be told.
+    Unknown,
+}
+
+/// What became of the submissions.
+#[derive(Drop)]
+pub(crate) struct Counts {
+    lines: u64,
+    games: u64,
+    new: u64,
+    news: News,
+    refused: [u64; 12],
+}
+
+impl Counts {
+    /// No submission so far.
+    pub(crate) fn new(news: News) -> Counts {
+        Counts {
+            lines: 0,
+            games: 0,
+            new: 0,
+            news,
+            refused: [0; 12],
+        }
+    }
+
+    /// Says how the games that are new are told from now on.
+    pub(crate) fn tell_new_by(&mut self, news: News) {
+        self.news = news;
+    }
+
+    /// Begins with the submissions. What was put on the journal before is no game.
+    pub(crate) fn begin(&mut self) {
+        if let News::Journaled(_) = self.news {
+            self.news = News::Journaled(false);
+        }
+    }
+
+    /// How many submissions came.
+    pub(crate) fn lines(&self) -> u64 {
+        self.lines
+    }
+
+    /// How many of them were answered `ok`.
+    pub(crate) fn games(&self) -> u64 {
+        self.games
+    }
+
+    /// Whether lines were answered.
+    pub(crate) fn are_answered(&self) -> bool {
+        self.games > 0 || self.refusals() > 0
+    }
+
+    /// Counts lines that nothing answers.
+    pub(crate) fn add_lines(&mut self, bytes: &[u8]) {
+        let ends = bytes.iter().filter(|byte| **byte == b'\n').count();
+        self.lines = self.lines.saturating_add(ends as u64);
+    }
+
+    /// Counts the submission that has this reply.
+    pub(crate) fn add_reply(&mut self, reply: &[u8]) {
+        self.lines = self.lines.saturating_add(1);
+        let Ok(reply) = str::from_utf8(reply) else {
+            return;
+        };
+        let mut words = reply.trim_end().split(' ');
+        let is_game = words.next() == Some("ok");
+        match words.nth(1) {
+            Some(number) if is_game => self.add_game(number.parse().ok()),
+            Some(reason) => self.add_refusal(reason),
+            None => {}
+        }
+    }
+
+    /// Counts a game, by its number.
+    fn add_game(&mut self, number: Option<u32>) {
+        self.games = self.games.saturating_add(1);
+        let is_new = match (self.news, number) {
+            (News::Above(held), Some(number)) => number > held,
+            (News::Journaled(is_new), _) => is_new,
+            _ => false,
+        };
+        if !is_new {
+            return;
+        }
+        self.new = self.new.saturating_add(1);
+        self.news = match (self.news, number) {
+            (News::Above(_), Some(number)) => News::Above(number),
+            (News::Journaled(_), _) => News::Journaled(false),
+            (news, _) => news,
+        };
+    }
+
+    /// Counts a refused submission.
+    fn add_refusal(&mut self, reason: &str) {
+        for (known, count) in REASONS.iter().zip(self.refused.iter_mut()) {
+            if known.word() == reason {
+                *count = count.saturating_add(1);
+            }
+        }
+    }
+
+    /// How many submissions were refused.
+    pub(crate) fn refusals(&self) -> u64 {
+        self.refused
+            .iter()
+            .fold(0u64, |sum, count| sum.saturating_add(*count))
+    }
+}
+
+impl Display for Counts {
+    fn fmt<W: fmt::Write>(&self, f: &mut fmt::Formatter<W>) -> fmt::Result {
+        let lines = Grouped(self.lines);
+        let games = Grouped(self.games);
+        let refusals = Grouped(self.refusals());
+        let s = plural(self.lines);
+        write!(f, "{lines} line{s}: {games} ok")?;
+        if !matches!(self.news, News::Unknown) {
+            let new = Grouped(self.new);
+            let again = Grouped(self.games.saturating_sub(self.new));
+            write!(f, " ({new} new, {again} again)")?;
+        }
+        write!(f, ", {refusals} refused")?;
+        let mut is_first = true;
+        for (reason, count) in REASONS.iter().zip(self.refused.iter()) {
+            if *count > 0 {
+                let before = if is_first { " (" } else { ", " };
+                let count = Grouped(*count);
+                let word = reason.word();
+                write!(f, "{before}{count} {word}")?;
+                is_first = false;
+            }
+        }
+        if is_first { Ok(()) } else { write!(f, ")") }
+    }
+}
+
+/// What is put after a noun for so many things.
+pub(crate) fn plural(count: u64) -> &'static str {
+    if count == 1 { "" } else { "s" }
+}
+
+/// A number that is written with commas between its thousands.
+#[derive(Clone, Copy)]
+pub(crate) struct Grouped(pub(crate) u64);
+
+impl Display for Grouped {
+    fn fmt<W: fmt::Write>(&self, f: &mut fmt::Formatter<W>) -> fmt::Result {
+        let millions = self.0 / 1_000_000;
+        let thousands = self.0 / 1000 % 1000;
+        let ones = self.0 % 1000;
+        if millions > 0 {
+            write!(f, "{millions},{thousands:03},{ones:03}")
+        } else if thousands > 0 {
+            write!(f, "{thousands},{ones:03}")
+        } else {
+            write!(f, "{ones}")
+        }
+    }
+}

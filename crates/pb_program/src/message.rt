@@ -1,0 +1,262 @@
+//! What a run tells on standard error: each message is a line of its own, in this one place.
+
+use crate::counts::{Counts, Grouped};
+use crate::part::Part;
+use arrayvec::ArrayString;
+use std::fmt::{self, Display, Write};
+use std::io;
+
+/// How many bytes of the system's text for an error are told.
+const TEXT: usize = 128;
+
+/// The system's text for an error, in the midst of a sentence.
+#[derive(Drop)]
+pub(crate) struct Cause {
+    text: ArrayString<TEXT>,
+}
+
+impl Cause {
+    /// The cause that this error tells. It takes no memory, of which there may be none.
+    pub(crate) fn of(error: &io::Error) -> Cause {
+        let mut text = ArrayString::new();
+        let _ = write!(text, "{error}");
+        Cause { text }
+    }
+}
+
+impl Display for Cause {
+    fn fmt<W: fmt::Write>(&self, f: &mut fmt::Formatter<W>) -> fmt::Result {
+        let text = self.text.as_str();
+        let plain = match text.split_once(" (os error ") {
+            Some((front, _)) => front,
+            None => text,
+        };
+        let mut letters = plain.chars();
+        match letters.next() {
+            Some(first) => {
+                let first = first.to_ascii_lowercase();
+                let rest = letters.as_str();
+                write!(f, "{first}{rest}")
+            }
+            None => Ok(()),
+        }
+    }
+}
+
+/// What a failure has left of a file that was to be replaced.
+#[derive(Clone, Copy)]
+pub(crate) enum Left {
+    /// Nothing that a user could miss.
+    All,
+    /// The old file of this part.
+    Old(Part),
+    /// No file of this part, as before.
+    Nothing(Part),
+    /// A file of which a part may be missing.
+    Front,
+    /// The new file, whose name may not be on the disk.
+    New,
+}
+
+impl Display for Left {
+    fn fmt<W: fmt::Write>(&self, f: &mut fmt::Formatter<W>) -> fmt::Result {
+        match *self {
+            Left::All => Ok(()),
+            Left::Old(part) => {
+                let noun = part.noun();
+                write!(f, "; the old {noun} is unchanged")
+            }
+            Left::Nothing(part) => {
+                let noun = part.noun();
+                write!(f, "; there is no {noun}")
+            }
+            Left::Front => write!(f, "; it may be incomplete"),
+            Left::New => write!(f, "; the new one is there, and a crash may undo it"),
+        }
+    }
+}
+
+/// Why a file was refused, by the words of the line `refused ..` that told it.
+#[derive(Clone, Copy)]
+pub(crate) enum Wrong<'w> {
+    /// A table of too many bytes.
+    LongTable,
+    /// The number of a table's line, which isn't 16 hexadecimal digits.
+    TableLine(&'w str),
+    /// The number of a table's lines, which isn't 781.
+    TableCount(&'w str),
+    /// The number of a book's entry, whose key is below that of the entry before it.
+    Unsorted(&'w str),
+    /// The number of bytes after the last whole entry of a book.
+    Cut(&'w str),
+    /// The number of a ledger's line, which isn't taken.
+    LedgerLine(&'w str),
+}
+
+impl Display for Wrong<'_> {
+    fn fmt<W: fmt::Write>(&self, f: &mut fmt::Formatter<W>) -> fmt::Result {
+        match *self {
+            Wrong::LongTable => write!(f, "it is longer than a table; is it a book?"),
+            Wrong::TableLine("1") => {
+                write!(f, "line 1 isn't 16 hexadecimal digits; is it a book?")
+            }
+            Wrong::TableLine(number) => write!(f, "line {number} isn't 16 hexadecimal digits"),
+            Wrong::TableCount(count) => write!(f, "a table has 781 lines, and this one {count}"),
+            Wrong::Unsorted(number) => write!(
+                f,
+                "entry {number} has a lower key than the one before it; is it a book?"
+            ),
+            Wrong::Cut(count) => {
+                write!(f, "its last entry has {count} of 16 bytes; is it a book?")
+            }
+            Wrong::LedgerLine(number) => {
+                write!(f, "line {number} isn't a game that can be taken")
+            }
+        }
+    }
+}
+
+/// What submissions look like that are none.
+#[derive(Clone, Copy)]
+pub(crate) enum Looks {
+    /// Like games in PGN.
+    Pgn,
+    /// Like a file that gzip has packed.
+    Gzip,
+}
+
+/// What is told.
+#[derive(Drop)]
+pub(crate) enum Message<'m> {
+    /// A file or a stream has failed.
+    Failed {
+        name: &'m str,
+        cause: Cause,
+        left: Left,
+    },
+    /// There is no file to go on from.
+    NoFile {
+        name: &'m str,
+        part: Part,
+    },
+    /// Two parts lead to one file.
+    OneFile {
+        one: Part,
+        other: Part,
+    },
+    /// Another run holds the file.
+    InUse {
+        name: &'m str,
+    },
+    /// What standard output takes would go into this file.
+    IsOutput {
+        part: Part,
+    },
+    /// A standard stream isn't open.
+    NotOpen {
+        stream: &'static str,
+    },
+    /// A growth was refused.
+    Memory,
+    /// The fills were used up.
+    Endless,
+    /// The words give no order.
+    Usage {
+        text: &'m str,
+    },
+    /// A new file can't be made.
+    CannotBeMade {
+        name: &'m str,
+        cause: Cause,
+    },
+    /// A line of a journal is no game, and nothing has sealed it.
+    PassedOver {
+        name: &'m str,
+        number: u64,
+    },
+    /// There are more such lines than are told.
+    PassedOverMore {
+        name: &'m str,
+    },
+    /// The submissions don't look like any.
+    LooksLike(Looks),
+    /// No line was a game.
+    NoGame,
+    /// No line was a game, and the book of this name has no entries.
+    EmptyBook {
+        name: &'m str,
+    },
+}
+
+impl Display for Message<'_> {
+    fn fmt<W: fmt::Write>(&self, f: &mut fmt::Formatter<W>) -> fmt::Result {
+        match self {
+            Message::Failed { name, cause, left } => write!(f, "{name}: {cause}{left}"),
+            Message::NoFile { name, part } => {
+                let noun = part.noun();
+                write!(f, "{name}: no such file (an empty one begins a {noun})")
+            }
+            Message::OneFile { one, other } => write!(f, "{one} and {other} are one file"),
+            Message::InUse { name } => write!(f, "{name} is in use by another run"),
+            Message::IsOutput { part } => write!(f, "{part} is standard output"),
+            Message::NotOpen { stream } => write!(f, "{stream} isn't open"),
+            Message::Memory => write!(f, "out of memory"),
+            Message::Endless => write!(f, "an input has no end"),
+            Message::Usage { text } => write!(f, "{text}"),
+            Message::CannotBeMade { name, cause } => write!(f, "{name} can't be made: {cause}"),
+            Message::PassedOver { name, number } => {
+                write!(f, "{name}: line {number} can't be taken; it is passed over")
+            }
+            Message::PassedOverMore { name } => write!(f, "{name}: more lines can't be taken"),
+            Message::LooksLike(Looks::Pgn) => {
+                write!(f, "standard input looks like PGN, not like submissions")
+            }
+            Message::LooksLike(Looks::Gzip) => {
+                write!(f, "standard input is packed by gzip; zcat unpacks it")
+            },
+            Message::NoGame => write!(f, "no game was accepted"),
+            Message::EmptyBook { name } => {
+                write!(f, "no game was accepted; {name} is an empty book")
+            }
+        }
+    }
+}
+
+/// A file isn't what it has to be.
+#[derive(Clone, Copy)]
+pub(crate) struct RefusedFile<'n, 'w> {
+    pub(crate) name: &'n str,
+    pub(crate) wrong: Wrong<'w>,
+}
+
+impl Display for RefusedFile<'_, '_> {
+    fn fmt<W: fmt::Write>(&self, f: &mut fmt::Formatter<W>) -> fmt::Result {
+        let name = self.name;
+        let wrong = self.wrong;
+        write!(f, "{name}: {wrong}")
+    }
+}
+
+/// What a run has taken and made. A book that isn't a file has no number of entries.
+#[derive(Clone, Copy)]
+pub(crate) struct Summary<'c, 'b> {
+    pub(crate) counts: &'c Counts,
+    pub(crate) book: &'b str,
+    pub(crate) entries: Option<u64>,
+}
+
+impl Display for Summary<'_, '_> {
+    fn fmt<W: fmt::Write>(&self, f: &mut fmt::Formatter<W>) -> fmt::Result {
+        let counts = self.counts;
+        write!(f, "{counts}")?;
+        match self.entries {
+            Some(entries) => {
+                let book = self.book;
+                let noun = if entries == 1 { "entry" } else { "entries" };
+                let entries = Grouped(entries);
+                write!(f, "; {book}: {entries} {noun}")
+            }
+            None => Ok(()),
+        }
+    }
+}

@@ -1,0 +1,105 @@
+//! Standard error, where a run tells what went wrong.
+
+use crate::message::{Cause, Left, Message};
+use crate::streams::is_open;
+use std::fmt::Display;
+use std::io::{self, IsTerminal};
+
+/// What clears a line of a terminal.
+pub(crate) const CLEAR: &str = "\r\x1b[K";
+
+/// Standard error, as long as it takes what is told. Nothing else depends on that.
+#[derive(Clone, Copy)]
+pub(crate) struct Messages<'a> {
+    rt: &'a HostRuntime,
+    is_open: bool,
+    is_terminal: bool,
+    is_quiet: bool,
+    // Whether standard output is a terminal too, most likely the same.
+    is_shared: bool,
+}
+
+impl<'a> Messages<'a> {
+    /// The messages of a run; one that is quiet tells faults and refused files alone.
+    pub(crate) fn new(rt: &'a HostRuntime, is_quiet: bool) -> Messages<'a> {
+        // Where it isn't open, a file that the run opens may get its number.
+        let is_open = is_open(&rt.stderr());
+        Messages {
+            rt,
+            is_open,
+            is_terminal: is_open && rt.stderr().is_terminal(),
+            is_quiet,
+            is_shared: rt.stdout().is_terminal(),
+        }
+    }
+
+    /// The runtime that the messages are told by.
+    pub(crate) fn rt(&self) -> &'a HostRuntime {
+        self.rt
+    }
+
+    /// Whether somebody watches, who wants to know how a run goes.
+    pub(crate) fn are_watched(&self) -> bool {
+        self.is_terminal && !self.is_quiet
+    }
+
+    /// Whether the replies go to a terminal as well.
+    pub(crate) fn share_terminal(&self) -> bool {
+        self.is_shared
+    }
+
+    /// Tells a fault, why a file is refused, or what a run has done.
+    pub(crate) fn tell<D: Display>(&self, message: &D) {
+        self.clear();
+        if self.is_open {
+            let _ = eprintln!(self.rt; "pbook: {message}");
+        }
+    }
+
+    /// Clears the line that shows how far the run is.
+    pub(crate) fn clear(&self) {
+        if self.is_terminal {
+            let _ = eprint!(self.rt; "{CLEAR}");
+        }
+    }
+
+    /// Tells what may be a slip of the user's.
+    pub(crate) fn warn(&self, message: &Message<'_>) {
+        if !self.is_quiet {
+            self.tell(message);
+        }
+    }
+}
+
+/// A file or a stream, by the name that messages call it by.
+#[derive(Clone, Copy)]
+pub(crate) struct Named<'a> {
+    pub(crate) messages: Messages<'a>,
+    pub(crate) name: &'a str,
+    pub(crate) left: Left,
+}
+
+impl<'a> Named<'a> {
+    /// What has this name, and leaves nothing half done where it fails.
+    pub(crate) fn new(messages: Messages<'a>, name: &'a str) -> Named<'a> {
+        Named {
+            messages,
+            name,
+            left: Left::All,
+        }
+    }
+
+    /// The same, where a failure leaves this.
+    pub(crate) fn leaving(self, left: Left) -> Named<'a> {
+        Named { left, ..self }
+    }
+
+    /// Tells that it has failed.
+    pub(crate) fn fail(&self, error: &io::Error) {
+        self.messages.tell(&Message::Failed {
+            name: self.name,
+            cause: Cause::of(error),
+            left: self.left,
+        });
+    }
+}

@@ -1,0 +1,36 @@
+//! The parts that files have in a run.
+
+use std::fmt::{self, Display};
+
+/// What a file is to a run.
+#[derive(Clone, Copy, PartialEq)]
+pub(crate) enum Part {
+    Table,
+    Ledger,
+    Journal,
+    Book,
+}
+
+impl Part {
+    /// The word for a file of this part.
+    pub(crate) fn noun(self) -> &'static str {
+        match self {
+            Part::Table => "table",
+            Part::Ledger => "ledger",
+            Part::Journal => "journal",
+            Part::Book => "book",
+        }
+    }
+}
+
+impl Display for Part {
+    /// As the help calls it, or as an option does.
+    fn fmt<W: fmt::Write>(&self, f: &mut fmt::Formatter<W>) -> fmt::Result {
+        match self {
+            Part::Table => write!(f, "TABLE"),
+            Part::Ledger => write!(f, "the ledger"),
+            Part::Journal => write!(f, "the journal"),
+            Part::Book => write!(f, "BOOK"),
+        }
+    }
+}
