@@ -8,7 +8,8 @@ PREFIX := /usr/local
 # What is put in place beside the program. It lies where the gate reads it.
 INSTALLED := crates/worked_examples/data/installed
 
-.PHONY: build install dist demo test test-hostile test-files test-memory test-growths test-io test-noise test-replies test-journal bench clean
+.PHONY: build install dist demo test test-hostile test-files test-order test-locks test-messages test-memory test-growths test-io \
+    test-noise test-replies test-journal test-wrong-programs bench clean
 
 build: build/pbook
 
@@ -37,13 +38,32 @@ test:
 
 # All that is tried of the program in a hostile world, but for collectors that are killed on their
 # journal; and what shellcheck says of the scripts. PROGRAM=program tries another than build/pbook.
-test-hostile: test-files test-memory test-growths test-io test-noise test-replies
+# WRONG_PROGRAMS=1 tries too that wrong programs are seen, which takes some minutes more.
+test-hostile: test-files test-order test-locks test-messages test-memory test-growths test-io \
+    test-noise test-replies $(if $(WRONG_PROGRAMS),test-wrong-programs)
 	@sh tests/shellcheck.sh
 
 # Tries what is left of a book's file by full disks, links, missing permissions and runs that are
 # killed.
 test-files: build
 	@sh tests/files.sh
+
+# Compares the order of the system's calls, and so what a power cut can lose, with the one due.
+test-order: build
+	@sh tests/order.sh
+
+# Tries runs over one file at a time, files named as drafts of others, and closed standard streams.
+test-locks: build
+	@sh tests/locks.sh
+
+# Tries what is told on standard error.
+test-messages: build
+	@sh tests/messages.sh
+
+# Builds programs with the mistakes of tests/wrong_programs/, which proofs let pass, and tries that
+# test-order or test-locks sees each. A program takes a minute or two.
+test-wrong-programs:
+	@sh tests/wrong_programs.sh
 
 # Refuses each growth of memory of each command in turn, and looks at what is put and what is left
 # of the files.

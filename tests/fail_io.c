@@ -6,14 +6,16 @@
 // `main`.
 //
 // IO_TOLD is a file that is made at the end. It has one line: the number of calls, what the call was that FAIL_AT or SHORT_AT hit (`read`, `write`
-// or `sync`, or `none`), and the number of its file.
+// or `sync`, or `none`), the number of its file, and the name that this file had, without its folder.
 
 #define _GNU_SOURCE
 #include <errno.h>
 #include <fcntl.h>
 #include <stdbool.h>
 #include <stdio.h>
+#include <limits.h>
 #include <stdlib.h>
+#include <string.h>
 #include <sys/syscall.h>
 #include <sys/types.h>
 #include <sys/uio.h>
@@ -29,6 +31,7 @@ static unsigned long failing;
 static unsigned long shortened;
 static const char *hit = "none";
 static int hit_file = -1;
+static char hit_name[PATH_MAX] = "none";
 
 static unsigned long number_in(const char *variable) {
     const char *text = getenv(variable);
@@ -46,7 +49,19 @@ __attribute__((destructor)) static void tell(void) {
     const char *told = getenv("IO_TOLD");
     if (!told) return;
     FILE *file = fopen(told, "w");
-    if (!file || fprintf(file, "%lu %s %d\n", calls, hit, hit_file) < 0 || fclose(file)) _exit(99);
+    if (!file || fprintf(file, "%lu %s %d %s\n", calls, hit, hit_file, hit_name) < 0 || fclose(file)) _exit(99);
+}
+
+// Keeps the last part of the open file's name.
+static void keep_name(int file) {
+    char link[64];
+    char path[PATH_MAX];
+    snprintf(link, sizeof link, "/proc/self/fd/%d", file);
+    const ssize_t length = readlink(link, path, sizeof path - 1);
+    if (length <= 0) return;
+    path[length] = 0;
+    const char *slash = strrchr(path, '/');
+    strcpy(hit_name, slash ? slash + 1 : path);
 }
 
 // Counts a call, and says what becomes of it.
@@ -57,6 +72,7 @@ static enum fate fate_of(enum kind kind, int file) {
     if (calls != failing && calls != shortened) return PASSES;
     hit = names[kind];
     hit_file = file;
+    keep_name(file);
     if (calls == shortened) return IS_SHORT;
     errno = EIO;
     return FAILS;

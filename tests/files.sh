@@ -8,55 +8,7 @@
 set -eu
 PROGRAM=${PROGRAM:-build/pbook}
 . tests/lib/harness.sh
-cp examples/table.txt "$work/table"
-cp examples/games.txt "$work/games"
-cp examples/book.bin "$work/new"
-head -c 1600 "$work/new" > "$work/old"
-
-# in_folder CHECK: runs a check in a new folder of its own, $place, in which BOOK and FILE have
-# these names
-in_folder() {
-    place=$work/$1 book=$work/$1/book.bin ledger=$work/$1/games.ledger
-    mkdir "$place"
-    cd "$place"
-    "$1"
-}
-
-is_root() { [ "$(id -u)" -eq 0 ]; }
-has() { command -v "$1" > /dev/null; }
-
-# as_other COMMAND..: runs the command as a user who isn't root
-as_other() {
-    if is_root; then setpriv --reuid=65534 --regid=65534 --clear-groups "$@"; else "$@"; fi
-}
-
-# collects STATUS BOOK [INPUT [OPTION..]]: whether `collect` ends with this status and is silent on
-# standard error. Its replies are in $work/replies. Where $runner is a command, that runs it.
-runner=
-table=$work/table
-collects() {
-    due=$1 to=$2 input=${3:-$work/games} status=0
-    shift $(($# < 3 ? $# : 3))
-    $runner "$PROGRAM" collect "$@" "$table" "$to" \
-        < "$input" > "$work/replies" 2> "$work/errors" || status=$?
-    if [ "$status" -eq "$due" ] && [ ! -s "$work/errors" ]; then return; fi
-    echo "    the status is $status, and this is put on standard error:"
-    cat "$work/errors"
-    return 1
-}
-
-# with_old: BOOK is an old one before the run
-with_old() { cp "$work/old" "$book"; }
-
-# What may hold after it, of a file, of the replies, or of the folder.
-is_new() { cmp -s "$1" "$work/new"; }
-is_old() { cmp -s "$1" "$work/old"; }
-says() { [ "$(tail -n 1 "$work/replies")" = "$1" ]; }
-says_only() { [ "$(cat "$work/replies")" = "$1" ]; }
-node() { stat -c %i "$1"; }
-has_node() { [ "$(node "$2")" = "$1" ]; }
-has_mode() { [ "$(stat -c %a "$2")" = "$1" ]; }
-no_draft() { [ -z "$(find "$place" -name '.*.pbook-*')" ]; }
+. tests/lib/places.sh
 
 # Distinct games: kings that walk round between random rows of pawns. As many are made as are
 # asked for.
@@ -134,8 +86,9 @@ pipe() {
 }
 
 standard_output() {
-    "$PROGRAM" collect "$table" /dev/stdout < "$work/games" > output
+    "$PROGRAM" collect "$table" /dev/stdout < "$work/games" > output 2> errors
     holds is_new output
+    holds test ! -s errors
 }
 
 symlink() {
@@ -164,8 +117,9 @@ folder() {
     holds no_draft
 }
 
+# That the folder isn't there is told before the submissions are read too, unless -q is given.
 missing_folder() {
-    cannot_open "$place/missing/book.bin"
+    cannot_open "$place/missing/book.bin" "$work/games" -q
     holds not test -e missing
 }
 
@@ -220,16 +174,17 @@ other_owner() {
     holds has_node "$before" "$book"
 }
 
-# limited: a run whose files may have two kilobytes
-limited() {
+# limited COMMAND..: runs the command, whose files may have two kilobytes
+limited() (
     trap '' XFSZ
     ulimit -f 4
-    "$PROGRAM" collect "$table" "$book" < "$work/games" > /dev/null
-}
+    exec "$@"
+)
 
 limit() {
     with_old
-    holds ends 3 limited
+    runner=limited
+    holds collects 3 "$book"
     holds is_old "$book"
     holds no_draft
 }
@@ -316,9 +271,10 @@ side_by_side() {
     with_old
     for _ in 1 2 3 4 5 6 7 8 9 10; do
         for _ in 1 2 3 4 5; do
-            "$PROGRAM" collect "$table" "$book" < "$work/games" > /dev/null &
+            "$PROGRAM" collect "$table" "$book" < "$work/games" > /dev/null 2>> told &
         done
         wait
+        holds test ! -s told
         holds is_new "$book"
         holds no_draft
     done
@@ -346,7 +302,9 @@ killed_run() {
     moment=$((about * $1 / 1000)) status=0
     shift
     timeout --foreground -s KILL "$(printf '%d.%06d' $((moment / 1000000)) $((moment % 1000000)))" \
-        "$PROGRAM" collect "$@" "$table" "$book" < "$work/lines" > /dev/null || status=$?
+        "$PROGRAM" collect "$@" "$table" "$book" < "$work/lines" > /dev/null 2> "$work/told" ||
+        status=$?
+    holds test ! -s "$work/told"
     case $status in
         0 | 124) ;; # It has ended before the kill, or just as it came.
         *) holds test "$status" -eq 137 ;;
@@ -415,10 +373,12 @@ cut_in_three() {
     : > whole
     : > parts
     chmod 640 parts
-    "$PROGRAM" collect --ledger whole "$table" whole.bin < "$work/games" > whole.replies
+    "$PROGRAM" collect --ledger whole "$table" whole.bin < "$work/games" > whole.replies 2> told
     for part in 1,90 91,200 '201,$'; do
-        sed -n "${part}p" "$work/games" | "$PROGRAM" collect --ledger parts "$table" parts.bin
+        sed -n "${part}p" "$work/games" |
+            "$PROGRAM" collect --ledger parts "$table" parts.bin 2>> told
     done > parts.replies
+    holds test ! -s told
     holds cmp whole.replies parts.replies
     holds cmp whole.bin parts.bin
     holds cmp whole parts
@@ -535,24 +495,6 @@ killed_while_saving() {
     holds cmp "$book" "$work/made"
     holds no_draft
 }
-
-# can_mount: whether file systems can be mounted
-can_mount() {
-    # Root of a container may not mount; that is told by the caller.
-    mkdir "$work/probe"
-    mount -t tmpfs tmpfs "$work/probe" 2> /dev/null && umount "$work/probe"
-}
-
-# choose CONDITION WHY CHECK..: has these checks tried where the condition holds, and else tells
-# why they are not
-chosen=
-choose() {
-    condition=$1 why=$2
-    shift 2
-    if $condition; then chosen="$chosen $*"; else leave_out "$why" "$@"; fi
-}
-can_be_other() { ! is_root || has setpriv; }
-can_own() { is_root && has setpriv; }
 
 if [ $# -eq 0 ]; then
     choose true '' new_book here old_book full_device null_device pipe standard_output symlink \

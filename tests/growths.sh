@@ -23,6 +23,11 @@ echo 'want of memory in a preparation' > "$work/unprepared"
 
 describe() { describe_refusals; }
 
+# judge_errors: nothing is on standard error
+judge_errors() {
+    [ ! -s "$work/errors" ] || fails 'something is on standard error' /dev/null "$work/errors"
+}
+
 # is_put NAME: whether the output is this one, and the status that of a run that judged all calls
 is_put() { [ "$status" -eq 0 ] && cmp -s "$work/$1" "$work/put"; }
 
@@ -51,6 +56,8 @@ refused_in() {
     is_put due || fails 'no memory was refused, and the output is another' "$work/due" "$work/put"
     [ "$calls" -gt 0 ] || fails 'it asks for no memory'
     [ "$1" = alone ] || [ "$prepared" = true ] || fails 'no run with refused calls judged one'
+    growths=$calls
+    as_counted /dev/null
     note "$calls growths refused"
 }
 

@@ -14,6 +14,9 @@
 #   itself couldn't be made. No draft of it or of BOOK is left.
 # - A journal is the one that is due, or a front of that, with at least the games that were
 #   answered.
+# - One line on standard error names the file and the cause; where a call hits standard error
+#   itself, all else is as if it had not.
+# - The calls that are hit are, one by one, those that strace sees of a run without the shim.
 # A line is printed for each command. The first run that may not be ends all; what was found is
 # shown, and the folder with it stays: the files before (old) and after (run), the output (put)
 # and all inputs.
@@ -24,19 +27,50 @@ PROGRAM=${PROGRAM:-build/pbook}
 . tests/lib/shim.sh
 . tests/lib/small_runs.sh
 
+hit='?' at='?' calls='?' kind='?' file='?' file_name='?'
+
 # set_shim: has the call of the number $at fail, or move one byte, as the variable $hit says
 set_shim() { export "$hit=$at" IO_TOLD="$work/told"; }
 
 describe() {
     describe_command
-    echo "the call: $at, hit by $hit, $kind of file $file; calls: $calls; status: $status"
+    echo "the call: $at, hit by $hit, $kind of file $file ($file_name); calls: $calls"
+    echo "the status: $status"
 }
 
 # run_hit WORD..: runs the program, and the call of the number $at is hit
 run_hit() {
-    calls='?' kind='?' file='?'
+    calls='?' kind='?' file='?' file_name='?'
     run_shimmed "$input" "$@"
-    read -r calls kind file < "$work/told"
+    read -r calls kind file file_name < "$work/told"
+    judge_errors
+}
+
+# name_of_hit: an expression for the names by which the file may be told that was hit
+name_of_hit() {
+    case "$file $file_name" in
+        '0 '*) echo 'standard input' ;;
+        '1 '*) echo 'standard output' ;;
+        *' run') echo '(book|file)' ;;
+        *' linked') echo book ;;
+        *' '.*.pbook-*) echo "$file_name" | sed 's/^\.\(.*\)\.pbook-.*/\1/' ;;
+        *) echo "(\.\./)?$file_name" ;;
+    esac
+}
+
+# judge_errors: a call that failed is told with its file and the cause, in one line, unless the text
+# was one for words that give no order. A call that failed or moved one byte of standard error
+# leaves a front of what is due there.
+judge_errors() {
+    if [ "$file" = 2 ]; then
+        is_front "$work/errors" "$work/ample.errors" ||
+            fails 'standard error is no front of what is due' "$work/ample.errors" "$work/errors"
+    elif [ "$hit" = FAIL_AT ] && [ "$kind" != none ] && [ "$judge" != helped ]; then
+        one_line_told "pbook: $(name_of_hit): input/output error(;.*)?"
+    else
+        is_same_told ||
+            fails 'another text is on standard error' "$work/ample.errors" "$work/errors"
+    fi
 }
 
 # is_same: whether output, status and files are those of a run in which no call was hit
@@ -52,6 +86,12 @@ moved() {
 is_front_put() {
     is_front "$1" "$work/ample.put" ||
         fails 'the output is no front of what is due' "$work/ample.put" "$1"
+}
+
+# judged_as_whole: whether the call hit standard error, which changes nothing else
+judged_as_whole() {
+    [ "$file" = 2 ] || return 1
+    is_same || fails 'standard error changed something else' "$work/ample.put" "$work/put"
 }
 
 # judge_output: the status is 3, and the output is what a failed call may leave. It sets
@@ -141,13 +181,41 @@ hit_each() {
     shift 2
     run_hit "$@"
     while [ "$at" -le "$calls" ]; do
-        "$judge" "$@"
+        judged_as_whole || "$judge" "$@"
         echo "$hit $kind" >> "$work/log"
         at=$((at + 1))
         run_hit "$@"
     done
     [ "$calls" -gt 0 ] || fails 'it makes no such call'
     is_same || fails 'no call was hit, and the output is another' "$work/ample.put" "$work/put"
+}
+
+# see_calls WORD..: writes to $work/seen what strace sees of the calls of a run that no shim hits,
+# in their order, `read`, `write` or `sync`, but for those by which the program was loaded
+see_calls() {
+    rm -rf "$work/counted"
+    cp -RP "$work/old" "$work/counted"
+    (
+        cd "$work/counted"
+        exec strace -f -y -s 0 -e signal=none -o "$work/calls" \
+            -e trace=read,pread64,readv,write,pwrite64,writev,fsync,fdatasync "$PROGRAM" "$@"
+    ) < "$input" > "$work/counted.put" 2> "$work/counted.errors" || true
+    awk '
+        # Lines of calls begin with the number of the process.
+        $2 !~ /^(p?(read|write)|f(data)?sync)/ || /\.so[.0-9]*>|<\/proc\// { next }
+        { print $2 ~ /read/ ? "read" : $2 ~ /write/ ? "write" : "sync" }' \
+        "$work/calls" > "$work/seen"
+}
+
+# all_hit WORD..: the calls that failed, and as many that moved one byte, have to be those that
+# strace sees
+all_hit() {
+    sed -n 's/^FAIL_AT //p' "$work/log" > "$work/failed"
+    see_calls "$@"
+    cmp -s "$work/seen" "$work/failed" ||
+        fails 'strace sees other calls (<) than those that failed' "$work/seen" "$work/failed"
+    [ "$(logged SHORT_AT)" -eq "$(wc -l < "$work/seen")" ] ||
+        fails "$(logged SHORT_AT) calls moved one byte, and strace sees $(wc -l < "$work/seen")"
 }
 
 # hits JUDGE INPUT WORD..: the check of a command
@@ -159,6 +227,7 @@ hits() {
     : > "$work/log"
     hit_each FAIL_AT "$judge" "$@"
     hit_each SHORT_AT moved "$@"
+    if [ "$traced" = true ]; then all_hit "$@"; fi
     cat "$work/log" >> "$work/logs"
     note "$(logged 'FAIL_AT read') reads, $(logged 'FAIL_AT write') writes and \
 $(logged 'FAIL_AT sync') syncs failed; $(logged SHORT_AT) calls moved one byte alone"
@@ -180,6 +249,12 @@ on_old_file() {
     try 'collect on a torn journal' journaled later collect --journal file ../table book
 }
 
+traced=false
+if strace -o /dev/null true 2> /dev/null; then
+    traced=true
+else
+    leave_out 'strace is wanted' 'the calls that are hit are all'
+fi
 unseen='preadv|preadv2|pwritev|pwritev2|sendfile|splice|copy_file_range|recv|send|sync|syncfs|msync'
 check 'the shim sees all calls that read, write and sync' \
     make_shim tests/fail_io.c "$unseen|sync_file_range|fread|fwrite|mmap|mmap64"

@@ -100,8 +100,11 @@ killed_runs() {
     holds grep -q '^ok' answered
 }
 
-# The last run takes all games, and nothing interrupts it.
-whole_run() { "$PROGRAM" collect --journal journal "$@" table book < all > last; }
+# The last run takes all games, and nothing interrupts it, and tells nothing on standard error.
+whole_run() {
+    "$PROGRAM" collect --journal journal "$@" table book < all > last 2> errors
+    holds test ! -s errors
+}
 
 # Each whole `ok` line that was ever written stands among the replies of the last run.
 all_are_kept() {
@@ -122,9 +125,10 @@ one_number_each() {
 
 # The book is that of one run over all games without a journal, and so is that of the journal alone.
 book_of_one_run() {
-    "$PROGRAM" collect table whole < all > one
+    "$PROGRAM" collect table whole < all > one 2> errors
     holds cmp book whole
-    "$PROGRAM" collect table again < journal > two
+    "$PROGRAM" collect table again < journal > two 2>> errors
+    holds test ! -s errors
     holds cmp again whole
 }
 
@@ -134,8 +138,9 @@ full_disk() {
     mount -t tmpfs -o size=64k tmpfs "$work/small"
     : > small/journal
     status=0
-    "$PROGRAM" collect --journal small/journal table book < all > answered || status=$?
+    "$PROGRAM" collect --journal small/journal table book < all > answered 2> errors || status=$?
     holds test "$status" -eq 3
+    holds test "$(cat errors)" = 'pbook: small/journal: no space left on device'
     cp small/journal journal
     holds grep -q '^ok' answered
 }

@@ -10,6 +10,9 @@
 # - where submissions are taken: status 0, `refused <id> memory` in place of an `ok`, the other
 #   replies as they are due after that, and the files or the export of the games that were
 #   answered `ok` alone.
+# On standard error one line tells of want of memory where that ended the run, and else there is
+# what is there with ample memory, or that no game was accepted.
+# The calls are as many as glibc's libmemusage.so counts, where that is there.
 # A line is printed for each command. The first run that may not be ends all; what was found is
 # shown, and the folder with it stays: the files before (old) and after (run), the output (put)
 # and all inputs.
@@ -26,6 +29,20 @@ echo 'fault memory' > "$work/fault"
 describe() {
     describe_command
     describe_refusals
+}
+
+# judge_errors: want of memory that ended the run is told in one line
+judge_errors() {
+    if is_same_output && is_same_told; then return; fi
+    if [ "$status" -eq 3 ]; then
+        one_line_told 'pbook: out of memory'
+    elif [ "$status" -eq 0 ] && [ -s "$work/errors" ]; then
+        one_line_told 'pbook: no game was accepted(; book is an empty book)?'
+        if grep -q '^ok ' "$work/put"; then fails 'a game was accepted, and none is told'; fi
+    else
+        is_same_told ||
+            fails 'another text is on standard error' "$work/ample.errors" "$work/errors"
+    fi
 }
 
 # same_files FOLDER: BOOK and FILE have to be as they are in this folder
@@ -275,6 +292,8 @@ refusals() {
     refuse alone "$judge" "$@"
     growths=$calls
     [ "$growths" -gt 0 ] || fails 'it asks for no memory'
+    [ "$(logged '^alone 1')" -eq "$growths" ] || fails 'a call was not refused'
+    as_counted "$input" "$@"
     refuse all "$judge" "$@"
     [ "$growths" -eq "$calls" ] || fails 'memory is asked for in another number of calls each time'
     [ "$(logged fault)" -gt 0 ] || fails 'want of memory is never answered'

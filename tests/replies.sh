@@ -28,7 +28,8 @@ ask() {
 converse() {
     : > "$work/kept"
     : > "$work/answers"
-    "$PROGRAM" collect "$@" examples/table.txt "$work/book" < "$work/games" > "$work/replies" &
+    "$PROGRAM" collect "$@" examples/table.txt "$work/book" \
+        < "$work/games" > "$work/replies" 2> "$work/errors" &
     collector=$!
     trap 'kill -9 "$collector"' EXIT
     exec 3> "$work/games" 4< "$work/replies"
@@ -38,6 +39,7 @@ converse() {
     trap - EXIT
     holds cmp "$work/answers" "$work/wanted"
     holds cmp "$work/book" examples/book.bin
+    holds test ! -s "$work/errors"
 }
 
 mkfifo "$work/games" "$work/replies"

@@ -34,10 +34,43 @@ refuse_each() {
         calls='?' refused='?'
         run_shimmed "$refused_input" "$@"
         read -r calls refused < "$work/told"
+        judge_errors
         [ "$how" != alone ] || [ "$refused" -le 1 ] || fails 'more than one call was refused'
         came=
         "$judge" "$@"
         echo "$how $refused $came" >> "$work/log"
     done
     [ "$calls" -eq $((from - 1)) ] || fails 'memory is asked for in another number of calls'
+}
+
+# Where glibc keeps its own counter of such calls, which is another than the shim. It doesn't count
+# those that ask for an alignment.
+counter=
+for place in /lib/*/libmemusage.so /usr/lib/*/libmemusage.so /lib64/libmemusage.so; do
+    [ ! -e "$place" ] || counter=$place
+done
+if [ -z "$counter" ]; then
+    leave_out 'libmemusage.so is wanted' 'memory is asked for as often as it counts'
+elif grep -qE 'memalign|aligned_alloc' "$work/called"; then
+    leave_out "libmemusage.so doesn't see all calls" 'memory is asked for as often as it counts'
+    counter=
+fi
+
+# as_counted INPUT WORD..: the calls that ask for memory, of which there were $growths, have to be
+# those that libmemusage.so counts in a run in which none is refused
+as_counted() {
+    [ -n "$counter" ] || return 0
+    : "${growths:?the run is made first}"
+    counted_input=$1
+    shift
+    rm -rf "$work/counted"
+    cp -RP "$work/old" "$work/counted"
+    (
+        cd "$work/counted"
+        export LD_PRELOAD="$counter"
+        exec "$PROGRAM" "$@"
+    ) < "$counted_input" > "$work/counted.put" 2> "$work/counts" || true
+    counted=$(sed 's/\x1b\[[0-9;]*m//g' "$work/counts" |
+        awk -F '|' '/^ *(malloc|realloc|calloc)\|/ { sum += $2 } END { print sum + 0 }')
+    [ "$counted" -eq "$growths" ] || fails "libmemusage.so counts $counted calls, not $growths"
 }

@@ -40,7 +40,7 @@ run_in() (
 )
 
 # prepare INPUT WORD..: runs the program when no call is hit. The output is in $work/ample.put,
-# the files are in $work/ample.
+# what is told on standard error in $work/ample.errors, and the files are in $work/ample.
 prepare() {
     input=$work/$1
     shift
@@ -48,8 +48,37 @@ prepare() {
     rm -rf "$work/ample" "$work"/made-*
     cp -RP "$work/old" "$work/ample"
     status=0
-    run_in "$work/ample" "$input" "$@" > "$work/ample.put" || status=$?
+    run_in "$work/ample" "$input" "$@" > "$work/ample.put" 2> "$work/ample.errors" || status=$?
     ample_status=$status
+    told_as_due "$@"
+}
+
+# told_as_due WORD..: the undisturbed run has told what is due on standard error: the file that it
+# refused or couldn't open, the first line of an error of use, and else nothing
+told_as_due() {
+    cause=
+    case "$ample_status $*" in
+        '1 show '*) cause="../cut_book: .*" ;;
+        '1 collect --ledger '*) cause="file: line 11 isn't a game that can be taken" ;;
+        '1 collect '*) cause='../half_table: it .*781.*' ;;
+        '2 colect '*) cause=$(sed -n '1s/^error: //p' "$work/ample.put") ;;
+        '3 probe '*) cause='../no_book: no such file or directory' ;;
+    esac
+    cp "$work/ample.errors" "$work/errors"
+    if [ -n "$cause" ]; then
+        one_line_told "pbook: $cause"
+    elif [ -s "$work/errors" ]; then
+        fails 'something is on standard error' /dev/null "$work/errors"
+    fi
+}
+
+# is_same_told: whether what is on standard error is as in the undisturbed run
+is_same_told() { cmp -s "$work/ample.errors" "$work/errors"; }
+
+# one_line_told PATTERN: what is on standard error has to be one line of this extended expression
+one_line_told() {
+    if [ "$(wc -l < "$work/errors")" -eq 1 ] && grep -Eqx "$1" "$work/errors"; then return; fi
+    fails "what is on standard error is not one line of $1" /dev/null "$work/errors"
 }
 
 # describe_command: which command is tried
@@ -79,7 +108,7 @@ make_of() {
     folder=$work/made-$1
     shift
     cp -RP "$work/old" "$folder"
-    run_in "$folder" "$work/taken" "$@" > "$work/made.put" ||
+    run_in "$folder" "$work/taken" "$@" > "$work/made.put" 2> "$work/made.errors" ||
         fails 'some of the submissions make no book'
 }
 

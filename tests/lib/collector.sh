@@ -1,0 +1,140 @@
+# shellcheck shell=sh
+# Shared by the scripts that talk with a collector while it runs, or write down in which order it
+# calls the system. It is read by `.` after tests/lib/places.sh. All of it is called in a check,
+# in the folder of that check.
+: "${place=}" "${work:?tests/lib/harness.sh is read first}" "${PROGRAM:?}"
+
+# Games of three workers, and the number of bytes of each line with its LF.
+games_of() { sed -n "$1p" "$work/games"; }
+bytes_of() { games_of "$1" | wc -c | tr -d ' '; }
+id_of() { games_of "$1" | cut -f 1; }
+
+# traced FILE COMMAND..: runs the command, and writes its calls that open, read, write, sync, lock,
+# cut and rename files to this file. One call is a line.
+traced() {
+    to=$1
+    shift
+    strace -y -s 0 -e signal=none -o "$to" -e trace=openat,flock,read,write,pwrite64,writev,\
+fsync,fdatasync,ftruncate,fchmod,rename,renameat,renameat2,unlink,exit_group "$@"
+}
+
+# events FILE [FOLDER]: the calls of such a file in short, a line each: what was done, the name of
+# the file as seen from this folder, or from that of the check, and what came of it. Standard input
+# is `games`, and standard output `replies`. Calls that fail aren't told, but for those of `flock`.
+events() {
+    awk -v here="${2:-$place}/" -v folder="${2:-$place}" '
+        # The name that a path has from here.
+        function name_of(path) {
+            sub(/ \(deleted\)$/, "", path)
+            if (path == folder) return "."
+            if (index(path, here) == 1) return substr(path, length(here) + 1)
+            return path
+        }
+        # The name of the open file that the text begins with, such as 4</tmp/name>.
+        function opened(text,    number) {
+            number = text + 0
+            if (number == 0 && done != "openat") return "games"
+            if (number == 1 && done != "openat") return "replies"
+            sub(/^[0-9]+</, "", text)
+            return name_of(substr(text, 1, index(text, ">") - 1))
+        }
+        # The text between two quotes that comes at this place.
+        function quoted(text, at,    part) {
+            split(text, part, "\"")
+            return name_of(part[at * 2])
+        }
+        {
+            done = $0
+            sub(/\(.*/, "", done)
+            given = substr($0, length(done) + 2)
+            came = $0
+            sub(/.* = /, "", came)
+            if (done == "flock") {
+                how = given
+                sub(/^[^,]*, /, "", how)
+                sub(/[|)].*/, "", how)
+                print "flock", opened(given), how (came + 0 < 0 ? " in vain" : "")
+            }
+            if (came + 0 < 0) next
+            if (done == "openat") {
+                how = given ~ /O_EXCL/ ? "new" : given ~ /O_RDWR/ ? "rw" : given ~ /O_WRONLY/ ? "w" : "r"
+                if (given ~ /O_TRUNC/) how = how " emptied"
+                if (how == "new") { mode = given; sub(/\) = .*/, "", mode); sub(/.*, /, "", mode); how = how " " mode }
+                print "open", opened(came), how
+            }
+            if (done == "fchmod") {
+                mode = given
+                sub(/\) = .*/, "", mode)
+                sub(/.*, /, "", mode)
+                print "fchmod", opened(given), mode
+            }
+            if (done ~ /^p?writev?(64)?$/) print "write", opened(given), came + 0
+            if (done == "read") print "read", opened(given)
+            if (done ~ /^(fsync|fdatasync|ftruncate)$/) print done, opened(given)
+            if (done ~ /^rename/) print "rename", quoted(given, 1), "to", quoted(given, 2)
+            if (done == "unlink") print "unlink", quoted(given, 1)
+        }' "$1"
+}
+
+# joined: the events of standard input, where a text that is read, or one that is written to
+# another file than a journal or standard output, counts as one call
+joined() {
+    awk '
+        function tell() { if (last != "") print last, bytes; last = ""; bytes = "" }
+        $1 == "read" || ($1 == "write" && $2 !~ /journal$|^replies$/) {
+            if (last != $1 " " $2) tell()
+            last = $1 " " $2
+            if ($1 == "write") bytes += $3
+            next
+        }
+        { tell(); print }
+        END { tell() }' | sed 's/ $//'
+}
+
+# in_order FILE PATTERN: whether the events of the calls in the file that have this pattern are the
+# lines of standard input
+in_order() {
+    cat > due
+    events "$1" | joined | grep -E "$2" > seen || true
+    if cmp -s due seen; then return; fi
+    echo '    what is due (<), and what was seen (>):'
+    diff due seen | sed 's/^/    /'
+    return 1
+}
+
+# begin COMMAND..: starts a collector with these words in the background, to which `say` sends
+# lines. It is $collector, its replies are in the pipe `replies`, and what it tells on standard
+# error is in `told`.
+begin() {
+    mkfifo games replies
+    "$@" < games > replies 2> told &
+    collector=$!
+    # A check that fails leaves none behind.
+    trap 'kill -9 "$collector" 2> /dev/null || true' EXIT
+    exec 3> games 4< replies
+}
+
+# say NUMBER REPLY: sends the game of this number, and whether the reply to it is this one
+say() {
+    games_of "$1" >&3
+    reply=$(timeout 20 head -n 1 <&4) || true
+    if [ "$reply" = "$2" ]; then return; fi
+    echo "    the reply to game $1 is: $reply"
+    return 1
+}
+
+# end STATUS: ends the submissions, and whether the collector then ends with this status; the other
+# lines of its output are in `rest`
+end() {
+    exec 3>&-
+    timeout 20 cat <&4 > rest || return 1
+    exec 4<&-
+    due=$1 status=0
+    wait "$collector" || status=$?
+    trap - EXIT
+    rm games replies
+    if [ "$status" -eq "$due" ]; then return; fi
+    echo "    the status is $status"
+    cat told
+    return 1
+}

@@ -1,0 +1,103 @@
+# shellcheck shell=sh
+# Shared by the scripts that try `pbook collect` in folders of their own. It is read by `.` after
+# tests/lib/harness.sh.
+: "${work:?tests/lib/harness.sh is read first}"
+
+cp examples/table.txt "$work/table"
+cp examples/games.txt "$work/games"
+cp examples/book.bin "$work/new"
+head -c 1600 "$work/new" > "$work/old"
+table=$work/table
+
+# in_folder CHECK: runs a check in a new folder of its own, $place, in which BOOK, FILE and the
+# journal have these names
+in_folder() {
+    place=$work/$1
+    # shellcheck disable=SC2034 # the checks read these names
+    book=$place/book.bin ledger=$place/games.ledger journal=$place/games.journal
+    mkdir "$place"
+    cd "$place" || return
+    "$1"
+}
+
+is_root() { [ "$(id -u)" -eq 0 ]; }
+has() { command -v "$1" > /dev/null; }
+
+# as_other COMMAND..: runs the command as a user who isn't root
+as_other() {
+    if is_root; then setpriv --reuid=65534 --regid=65534 --clear-groups "$@"; else "$@"; fi
+}
+
+# is_told STATUS: whether $work/errors has what a run of this status may put on standard error:
+# nothing where all was taken, and else one line that tells of the program's name and a cause
+is_told() {
+    if [ "$1" -eq 0 ]; then
+        [ ! -s "$work/errors" ]
+    else
+        [ "$(wc -l < "$work/errors")" -eq 1 ] && grep -q '^pbook: .' "$work/errors"
+    fi
+}
+
+# ran STATUS COMMAND..: whether this command ends with this status and tells of it as it has to on
+# standard error. What it puts is in $work/replies. Where $runner is a command, that runs it.
+runner=
+ran() {
+    due=$1 status=0
+    shift
+    $runner "$@" > "$work/replies" 2> "$work/errors" || status=$?
+    if [ "$status" -eq "$due" ] && is_told "$due"; then return; fi
+    echo "    the status is $status, and this is put on standard error:"
+    cat "$work/errors"
+    return 1
+}
+
+# collects STATUS BOOK [INPUT [OPTION..]]: whether `collect` ends so over this input
+collects() {
+    wanted=$1 to=$2 input=${3:-$work/games}
+    shift $(($# < 3 ? $# : 3))
+    ran "$wanted" "$PROGRAM" collect "$@" "$table" "$to" < "$input"
+}
+
+# with_old: BOOK is an old one before the run
+with_old() { cp "$work/old" "$book"; }
+
+# What may hold after it, of a file, of the replies, of standard error, or of the folder.
+is_new() { cmp -s "$1" "$work/new"; }
+is_old() { cmp -s "$1" "$work/old"; }
+says() { [ "$(tail -n 1 "$work/replies")" = "$1" ]; }
+says_only() { [ "$(cat "$work/replies")" = "$1" ]; }
+tells() { [ "$(cat "$work/errors")" = "pbook: $1" ]; }
+node() { stat -c %i "$1"; }
+has_node() { [ "$(node "$2")" = "$1" ]; }
+has_mode() { [ "$(stat -c %a "$2")" = "$1" ]; }
+no_draft() { [ -z "$(find "$place" -name '.*.pbook-*')" ]; }
+
+# awaits CONDITION..: whether this comes true within ten seconds
+awaits() {
+    tries=0
+    until "$@"; do
+        tries=$((tries + 1))
+        [ "$tries" -lt 1000 ] || return 1
+        sleep 0.01
+    done
+}
+
+# can_mount: whether file systems can be mounted
+can_mount() {
+    # Root of a container may not mount; that is told by the caller.
+    mkdir "$work/probe"
+    mount -t tmpfs tmpfs "$work/probe" 2> /dev/null && umount "$work/probe"
+}
+can_be_other() { ! is_root || has setpriv; }
+can_own() { is_root && has setpriv; }
+# Where a container lets nobody trace, strace is there and fails.
+can_trace() { has strace && strace -o /dev/null true 2> /dev/null; }
+
+# choose CONDITION WHY CHECK..: has these checks tried where the condition holds, and else tells
+# why they are not
+chosen=
+choose() {
+    condition=$1 why=$2
+    shift 2
+    if $condition; then chosen="$chosen $*"; else leave_out "$why" "$@"; fi
+}

@@ -1,0 +1,469 @@
+#!/bin/sh
+# Tries what `pbook` tells on standard error: each fault, refused file and warning by the name of
+# the file and its cause, a summary and how far it is in a terminal alone; and that a standard error
+# that is closed or full changes nothing else. The first check that doesn't hold ends it.
+# Usage: PROGRAM=program tests/messages.sh [CHECK..] (at the top of the repository; all checks where
+# none is given).
+set -eu
+PROGRAM=${PROGRAM:-build/pbook}
+. tests/lib/harness.sh
+. tests/lib/places.sh
+start='rnbqkbnr/pppppppp/8/8/8/8/PPPPPPPP/RNBQKBNR w KQkq - 0 1'
+
+# prepare: the folder of a check has a table, an old book and a file of games
+prepare() {
+    cp "$work/table" table.txt
+    cp "$work/old" book.bin
+    head -n 9 "$work/games" > games
+}
+
+# tells_of STATUS TEXT COMMAND..: whether the command, run over `games`, ends with this status, and
+# what it puts on standard error are the lines of this text, each after `pbook: `
+tells_of() {
+    due=$1 status=0
+    printf '%s' "$2" | sed 's/^/pbook: /' > due
+    [ -z "$2" ] || echo >> due
+    shift 2
+    $runner "$@" < "$input" > "$work/replies" 2> "$work/errors" || status=$?
+    if [ "$status" -eq "$due" ] && cmp -s due "$work/errors"; then return; fi
+    echo "    the status is $status; what is due on standard error (<), and what is there (>):"
+    diff due "$work/errors" | sed 's/^/    /'
+    return 1
+}
+input=games
+
+missing_files() {
+    prepare
+    for words in 'collect no.txt book.bin' 'export no.txt' 'probe no.txt book.bin x' \
+        'collect --ledger games no.txt book.bin' 'collect --journal games no.txt book.bin'; do
+        # shellcheck disable=SC2086 # each word is one
+        holds tells_of 3 'no.txt: no such file or directory' "$PROGRAM" $words
+        holds says_only 'fault open'
+    done
+    for words in 'show no.bin' 'probe table.txt no.bin x'; do
+        # shellcheck disable=SC2086
+        holds tells_of 3 'no.bin: no such file or directory' "$PROGRAM" $words
+        holds says_only 'fault open'
+    done
+    for option in ledger journal; do
+        holds tells_of 3 "far/kept: no such file (an empty one begins a $option)" \
+            "$PROGRAM" collect "--$option" far/kept table.txt book.bin
+        holds says_only 'fault open'
+    done
+    holds is_old book.bin
+}
+
+no_permission() {
+    prepare
+    chmod 000 table.txt
+    runner=as_other
+    holds tells_of 3 'table.txt: permission denied' "$PROGRAM" export table.txt
+    holds says_only 'fault open'
+    chmod 644 table.txt
+    : > kept
+    chmod 000 kept
+    for option in ledger journal; do
+        holds tells_of 3 'kept: permission denied' \
+            "$PROGRAM" collect "--$option" kept table.txt book.bin
+        holds says_only 'fault open'
+    done
+    chmod 444 book.bin
+    holds tells_of 3 'book.bin: permission denied' \
+        "$PROGRAM" collect table.txt book.bin
+}
+
+one_file() {
+    prepare
+    ln -s table.txt table.link
+    ln games games.link
+    for words in 'collect table.txt table.link' 'collect table.link table.txt'; do
+        # shellcheck disable=SC2086
+        holds tells_of 3 'TABLE and BOOK are one file' "$PROGRAM" $words
+        holds says_only 'fault open'
+    done
+    for option in ledger journal; do
+        holds tells_of 3 "TABLE and the $option are one file" \
+            "$PROGRAM" collect "--$option" table.link table.txt book.bin
+        holds says_only 'fault open'
+        holds tells_of 3 "the $option and BOOK are one file" \
+            "$PROGRAM" collect "--$option" games table.txt games.link
+        holds says_only 'fault open'
+    done
+    holds cmp table.txt "$work/table"
+}
+
+failed_reads() {
+    prepare
+    mkdir folder
+    for words in 'collect folder book.bin' 'export folder' 'show folder' 'probe folder book.bin x' \
+        'probe table.txt folder x'; do
+        # shellcheck disable=SC2086
+        holds tells_of 3 'folder: is a directory' "$PROGRAM" $words
+        holds says_only 'fault read'
+    done
+    input=folder
+    for words in epd 'export table.txt' 'collect table.txt book.bin'; do
+        # shellcheck disable=SC2086
+        holds tells_of 3 'standard input: is a directory' "$PROGRAM" $words
+        holds says_only 'fault read'
+    done
+    holds is_old book.bin
+}
+
+# to_full COMMAND..: runs the command, whose output goes to a full device
+to_full() { "$@" > /dev/full; }
+
+full_output() {
+    prepare
+    echo "${start% 0 1} ce 1;" > lines
+    runner=to_full
+    for words in 'collect table.txt book.bin' 'export table.txt' 'show book.bin'; do
+        # shellcheck disable=SC2086
+        holds tells_of 3 'standard output: no space left on device' "$PROGRAM" $words
+    done
+    holds tells_of 3 'standard output: no space left on device' "$PROGRAM" fen "$start"
+    input=lines
+    holds tells_of 3 'standard output: no space left on device' "$PROGRAM" epd
+    holds is_old book.bin
+}
+
+# A device keeps nothing, so nothing is said of what it has.
+full_book() {
+    prepare
+    holds tells_of 3 '/dev/full: no space left on device' \
+        "$PROGRAM" collect table.txt /dev/full
+}
+
+full_disk() {
+    prepare
+    mkdir disk
+    mount -t tmpfs -o size=16k tmpfs "$place/disk"
+    cp "$work/old" disk/book.bin
+    head -c 9000 /dev/zero > disk/zero
+    input=$work/games
+    holds tells_of 3 'disk/book.bin: no space left on device; the old book is unchanged' \
+        "$PROGRAM" collect table.txt disk/book.bin
+    holds is_old disk/book.bin
+    rm disk/book.bin
+    head -c 12000 /dev/zero > disk/zero
+    holds tells_of 3 'disk/book.bin: no space left on device; there is no book' \
+        "$PROGRAM" collect table.txt disk/book.bin
+    holds not test -e disk/book.bin
+    # A file with two names is written in place.
+    : > disk/book.bin
+    ln disk/book.bin disk/other
+    holds tells_of 3 'disk/book.bin: no space left on device; it may be incomplete' \
+        "$PROGRAM" collect table.txt disk/book.bin
+    : > disk/book.bin
+    : > disk/games.ledger
+    holds tells_of 3 'disk/games.ledger: no space left on device; the old ledger is unchanged' \
+        "$PROGRAM" collect --ledger disk/games.ledger table.txt book.bin
+    holds test ! -s disk/games.ledger
+    : > disk/games.journal
+    holds tells_of 3 'disk/games.journal: no space left on device' \
+        "$PROGRAM" collect --journal disk/games.journal table.txt book.bin
+    holds is_old book.bin
+    umount disk
+}
+
+# with_line NUMBER TEXT: the table with another text in this line
+with_line() { awk -v at="$1" -v text="$2" 'NR == at { print text; next } { print }' "$work/table"; }
+
+refused_tables() {
+    prepare
+    cp "$work/new" one
+    with_line 1 'no word' > two
+    with_line 5 'no word' > five
+    head -n 780 "$work/table" > short
+    cat "$work/table" "$work/table" > long
+    head -c 20000 /dev/zero | tr '\0' '0' | fold -w 16 > longer
+    for words in 'collect TABLE book.bin' 'export TABLE' 'probe TABLE book.bin x'; do
+        while IFS='|' read -r file text; do
+            # shellcheck disable=SC2046 # each word is one
+            holds tells_of 1 "$file: $text" "$PROGRAM" $(echo "$words" | sed "s/TABLE/$file/")
+        done << END
+one|line 1 isn't 16 hexadecimal digits; is it a book?
+two|line 1 isn't 16 hexadecimal digits; is it a book?
+five|line 5 isn't 16 hexadecimal digits
+short|a table has 781 lines, and this one 780
+longer|it is longer than a table; is it a book?
+END
+    done
+    holds is_old book.bin
+}
+
+refused_books() {
+    prepare
+    head -c 1601 "$work/new" > cut.bin
+    { tail -c 16 "$work/new" && cat "$work/new"; } > unordered.bin
+    for words in 'show BOOK' "probe table.txt BOOK x"; do
+        while IFS='|' read -r file text; do
+            # shellcheck disable=SC2046
+            holds tells_of 1 "$file: $text" "$PROGRAM" $(echo "$words" | sed "s/BOOK/$file/")
+        done << END
+cut.bin|its last entry has 1 of 16 bytes; is it a book?
+unordered.bin|entry 2 has a lower key than the one before it; is it a book?
+table.txt|entry 2 has a lower key than the one before it; is it a book?
+END
+    done
+}
+
+refused_ledger() {
+    prepare
+    : > games.ledger
+    holds tells_of 0 '' "$PROGRAM" collect --ledger games.ledger table.txt book.bin
+    sed '5s/.*/no game/' games.ledger > broken
+    holds tells_of 1 "broken: line 5 isn't a game that can be taken" \
+        "$PROGRAM" collect --ledger broken table.txt book.bin
+    holds says_only 'refused ledger line 5'
+}
+
+# What no file has refused isn't told: the output has it.
+refused_words() {
+    prepare
+    holds tells_of 1 '' "$PROGRAM" fen "$start" e2e5
+    holds tells_of 1 '' "$PROGRAM" fen 'no record'
+    holds tells_of 1 '' "$PROGRAM" probe table.txt book.bin 'no record'
+    holds tells_of 1 '' "$PROGRAM" epd
+}
+
+wrong_use() {
+    input=/dev/null
+    for words in colect collect 'collect --plies x table.txt book.bin' 'show one two'; do
+        # shellcheck disable=SC2086
+        "$PROGRAM" $words > due.put 2> /dev/null || true
+        first=$(sed -n '1s/^error: //p' due.put)
+        holds test -n "$first"
+        # shellcheck disable=SC2086
+        holds tells_of 2 "$first" "$PROGRAM" $words
+        holds cmp "$work/replies" due.put
+    done
+}
+
+# Help that was asked for is no fault, nor is the help that is put where no word is given.
+asked_help() {
+    input=/dev/null
+    for words in --help --version 'collect --help' ''; do
+        # shellcheck disable=SC2086
+        holds tells_of 2 '' "$PROGRAM" $words
+        holds test -s "$work/replies"
+    done
+}
+
+no_game() {
+    prepare
+    input=/dev/null
+    holds tells_of 0 'no game was accepted; book.bin is an empty book' \
+        "$PROGRAM" collect table.txt book.bin
+    holds test ! -s book.bin
+    echo 'no game' > bad
+    input=bad
+    holds tells_of 0 'no game was accepted; new.bin is an empty book' \
+        "$PROGRAM" collect table.txt new.bin
+    : > kept
+    input=games
+    holds tells_of 0 '' "$PROGRAM" collect --ledger kept table.txt book.bin
+    input=bad
+    holds tells_of 0 'no game was accepted' "$PROGRAM" collect --ledger kept table.txt book.bin
+    holds test -s book.bin
+    input=/dev/null
+    holds tells_of 0 '' "$PROGRAM" collect --ledger kept table.txt book.bin
+    input=games
+    holds tells_of 0 '' "$PROGRAM" collect --ledger kept table.txt book.bin
+    for input in /dev/null bad; do
+        holds tells_of 0 '' "$PROGRAM" collect -q table.txt book.bin
+        holds tells_of 0 '' "$PROGRAM" collect --quiet table.txt book.bin
+    done
+}
+
+other_input() {
+    prepare
+    printf '[Event "one game"]\n[Result "1-0"]\n\n1. e4 e5 2. Nf3 1-0\n' > pgn
+    gzip -c games > packed
+    empty='no game was accepted; book.bin is an empty book'
+    input=pgn
+    holds tells_of 0 "standard input looks like PGN, not like submissions
+$empty" "$PROGRAM" collect table.txt book.bin
+    input=packed
+    holds tells_of 0 "standard input is packed by gzip; zcat unpacks it
+$empty" "$PROGRAM" collect table.txt book.bin
+    for input in pgn packed; do
+        holds tells_of 0 '' "$PROGRAM" collect -q table.txt book.bin
+    done
+}
+
+# told_yet TEXT: whether this line is on standard error
+told_yet() { grep -qxF "pbook: $1" told; }
+
+# What has to be told at once is told while the run waits for more.
+told_at_once() {
+    prepare
+    mkfifo lines
+    "$PROGRAM" collect table.txt missing/book.bin < lines > replies 2> told &
+    collector=$!
+    trap 'kill -9 "$collector" 2> /dev/null || true' EXIT
+    exec 3> lines
+    echo '[Event "one game"]' >&3
+    holds awaits told_yet "missing/book.bin can't be made: no such file or directory"
+    holds awaits told_yet 'standard input looks like PGN, not like submissions'
+    exec 3>&-
+    status=0
+    wait "$collector" || status=$?
+    trap - EXIT
+    holds test "$status" -eq 3
+}
+
+no_place() {
+    prepare
+    holds tells_of 3 "missing/book.bin can't be made: no such file or directory
+missing/book.bin: no such file or directory" \
+        "$PROGRAM" collect table.txt missing/book.bin
+    holds says 'fault open'
+    holds tells_of 3 'missing/book.bin: no such file or directory' \
+        "$PROGRAM" collect -q table.txt missing/book.bin
+}
+
+bad_journal_line() {
+    prepare
+    { cat games && echo 'no game' && cat games; } > kept
+    printf 'torn' >> kept
+    cp kept before
+    holds tells_of 0 "kept: line 10 can't be taken; it is passed over" \
+        "$PROGRAM" collect --journal kept table.txt book.bin
+    # The torn end is sealed by now, and isn't told.
+    holds tells_of 0 "kept: line 10 can't be taken; it is passed over" \
+        "$PROGRAM" collect --journal kept table.txt book.bin
+    holds tells_of 0 '' "$PROGRAM" collect -q --journal kept table.txt book.bin
+    { echo 'pbook-ledger 1' && cat games; } > kept
+    holds tells_of 0 '' "$PROGRAM" collect --journal kept table.txt book.bin
+}
+
+# Faults are told with -q too.
+quiet_faults() {
+    prepare
+    holds tells_of 3 'no.txt: no such file or directory' \
+        "$PROGRAM" collect -q no.txt book.bin
+    holds tells_of 3 '/dev/full: no space left on device' \
+        "$PROGRAM" collect -q table.txt /dev/full
+    head -n 9 table.txt > short
+    holds tells_of 1 "short: a table has 781 lines, and this one 9" "$PROGRAM" collect -q short book.bin
+}
+
+# each_told TRY: calls TRY with a name and the words of runs that tell something, and of some that
+# don't
+each_told() {
+    "$1" missing collect no.txt book.bin
+    "$1" full collect table.txt /dev/full
+    "$1" refused collect short book.bin
+    "$1" none collect -- table.txt book.bin
+    "$1" ledger collect --ledger kept table.txt book.bin
+    "$1" journal collect --journal rotten table.txt book.bin
+    "$1" journal_synced collect --journal rotten --sync table.txt book.bin
+    "$1" new collect table.txt new.bin
+    "$1" one_file collect table.txt table.txt
+    "$1" export export table.txt
+    "$1" book show table.txt
+    "$1" use colect
+}
+
+# told_files: the files that such a run finds
+told_files() {
+    prepare
+    head -n 9 table.txt > short
+    : > kept
+    { cat games && echo 'no game'; } > rotten
+    printf '[Event "one game"]\nno game\n' > pgn
+}
+
+# run_of NAME HOW WORD..: runs the program in a new folder, NAME.HOW, with standard error of this
+# kind
+run_of() {
+    name=$1.$2 how=$2
+    shift 2
+    mkdir "$name"
+    (
+        cd "$name"
+        told_files
+        status=0
+        case $how in
+            file) "$PROGRAM" "$@" < pgn > put 2> ../told || status=$? ;;
+            closed) "$PROGRAM" "$@" < pgn > put 2>&- || status=$? ;;
+            full) "$PROGRAM" "$@" < pgn > put 2> /dev/full || status=$? ;;
+        esac
+        echo "$status" > status
+    )
+}
+
+# same_without NAME WORD..: without a standard error, output, status and files are the same
+same_without() {
+    name_of_run=$1
+    shift
+    for kind in file closed full; do run_of "$name_of_run" "$kind" "$@"; done
+    for kind in closed full; do
+        holds diff -r "$name_of_run.file" "$name_of_run.$kind"
+    done
+    ! [ -s told ] || with_told=$((with_told + 1))
+}
+
+without_errors() {
+    with_told=0
+    each_told same_without
+    note "$with_told of these runs tell something"
+    holds test "$with_told" -ge 9
+}
+
+# in_terminal COMMAND: runs the command, a line of the shell, whose standard error is a terminal;
+# what is shown there is in `shown`, each line that is written over as one of its own
+in_terminal() {
+    script -qec "$1" /dev/null < /dev/null > typescript || return 1
+    tr '\r' '\n' < typescript | sed 's/\x1b\[K//g' > shown
+}
+
+summary='pbook: 322 lines: 320 ok (300 new, 20 again), 2 refused (1 illegal, 1 conflict)'
+terminal() {
+    prepare
+    holds in_terminal "'$PROGRAM' collect table.txt book.bin < '$work/games' > replies"
+    holds grep -qxF "$summary; book.bin: 367 entries" shown
+    holds in_terminal "'$PROGRAM' collect -q table.txt book.bin < '$work/games' > replies"
+    holds test ! -s typescript
+    holds is_new book.bin
+}
+
+progress='^pbook: [0-9,]+ lines?, [0-9,]+ games?, [0-9,]+ refused'
+terminal_progress() {
+    prepare
+    slowly="for n in 1 2 3 4 5 6; do sed -n \${n}p '$work/games'; sleep 0.5; done"
+    holds in_terminal "{ $slowly; } | '$PROGRAM' collect table.txt book.bin > replies"
+    holds grep -Eq "$progress" shown
+    holds grep -qF 'pbook: 6 lines: 6 ok (6 new' shown
+    holds test "$(wc -l < replies)" -eq 6
+    holds in_terminal "{ $slowly; } | '$PROGRAM' collect -q table.txt book.bin > replies"
+    holds test ! -s typescript
+    # To a file goes none of it.
+    holds in_terminal "{ $slowly; } | '$PROGRAM' collect table.txt book.bin > replies 2> told"
+    holds test ! -s told
+    holds test ! -s typescript
+}
+
+# Wrong use is told once where both outputs are one terminal.
+terminal_use() {
+    script -qec "'$PROGRAM' colect" /dev/null < /dev/null > typescript || true
+    holds grep -q '^error: ' typescript
+    holds test "$(grep -c "colect'" typescript)" -eq 1
+}
+
+if [ $# -eq 0 ]; then
+    choose true '' missing_files one_file failed_reads refused_tables refused_books \
+        refused_ledger refused_words wrong_use asked_help no_game bad_journal_line no_place \
+        told_at_once
+    choose 'test -c /dev/full' '/dev/full is wanted' full_output full_book quiet_faults \
+        without_errors
+    choose 'has gzip' 'gzip is wanted' other_input
+    choose can_be_other 'setpriv is wanted' no_permission
+    choose can_mount 'nothing can be mounted' full_disk
+    choose 'has script' 'script is wanted' terminal terminal_progress terminal_use
+    # shellcheck disable=SC2086 # each name is a word
+    set -- $chosen
+fi
+for name; do check "$name" in_folder "$name"; done
+finish

@@ -1,0 +1,257 @@
+#!/bin/sh
+# Compares the order of the system's calls with the one that keeps what was answered: a journal's
+# line is written whole and synced before its reply, a draft is on the disk before it takes its
+# name, FILE is made anew before BOOK. strace tells the calls. The first check that doesn't hold
+# ends it.
+# Usage: PROGRAM=program tests/order.sh [CHECK..] (at the top of the repository; all checks where
+# none is given).
+set -eu
+PROGRAM=${PROGRAM:-build/pbook}
+. tests/lib/harness.sh
+. tests/lib/places.sh
+. tests/lib/collector.sh
+
+# of_journal: the calls that keep what is answered: those of the journal, of its folder and of
+# standard output, up to the end of the submissions
+of_journal() {
+    in_order calls '^(open|flock|read|write|fsync|fdatasync) (games\.journal|\.|replies)( |$)'
+}
+
+# reply_of TEXT: the number of bytes of a reply
+reply_of() { echo "$1" | wc -c | tr -d ' '; }
+
+# Each new game is written whole by one call, and is on the disk before its reply goes out; a game
+# that comes again is answered at once. BOOK stands in another folder, so that the syncs of this
+# one are those of the journal.
+synced_journal() {
+    : > games.journal
+    mkdir books
+    begin traced calls "$PROGRAM" collect --journal games.journal --sync "$table" books/book.bin
+    holds say 1 "ok $(id_of 1) 1"
+    holds say 2 "ok $(id_of 2) 2"
+    holds say 1 "ok $(id_of 1) 1"
+    holds say 3 "ok $(id_of 3) 3"
+    holds end 0
+    holds of_journal << END
+open games.journal rw
+flock games.journal LOCK_EX
+fsync games.journal
+open . r
+fsync .
+read games.journal
+write games.journal $(bytes_of 1)
+fdatasync games.journal
+write replies $(reply_of "ok $(id_of 1) 1")
+write games.journal $(bytes_of 2)
+fdatasync games.journal
+write replies $(reply_of "ok $(id_of 2) 2")
+write replies $(reply_of "ok $(id_of 1) 1")
+write games.journal $(bytes_of 3)
+fdatasync games.journal
+write replies $(reply_of "ok $(id_of 3) 3")
+END
+    games_of 1,3 > whole
+    holds cmp whole games.journal
+}
+
+# Many games that come at once are written and synced one by one, before the first reply.
+synced_at_once() {
+    : > games.journal
+    mkdir books
+    games_of 1,3 > games
+    holds ran 0 traced calls \
+        "$PROGRAM" collect --journal games.journal --sync "$table" books/book.bin < games
+    holds of_journal << END
+open games.journal rw
+flock games.journal LOCK_EX
+fsync games.journal
+open . r
+fsync .
+read games.journal
+write games.journal $(bytes_of 1)
+fdatasync games.journal
+write games.journal $(bytes_of 2)
+fdatasync games.journal
+write games.journal $(bytes_of 3)
+fdatasync games.journal
+write replies $(wc -c < "$work/replies" | tr -d ' ')
+END
+}
+
+# Without --sync a game is written before its reply, and nothing waits for the disk.
+unsynced_journal() {
+    : > games.journal
+    mkdir books
+    begin traced calls "$PROGRAM" collect --journal games.journal "$table" books/book.bin
+    holds say 1 "ok $(id_of 1) 1"
+    holds say 2 "ok $(id_of 2) 2"
+    holds end 0
+    holds of_journal << END
+open games.journal rw
+flock games.journal LOCK_EX
+read games.journal
+write games.journal $(bytes_of 1)
+write replies $(reply_of "ok $(id_of 1) 1")
+write games.journal $(bytes_of 2)
+write replies $(reply_of "ok $(id_of 2) 2")
+END
+}
+
+# A game that a run without --sync has left is on the disk before it is answered again, and so is
+# the journal's name.
+repeat_of_unsynced() {
+    : > games.journal
+    mkdir books
+    games_of 1,2 > games
+    holds collects 0 "$place/books/book.bin" "$place/games" --journal games.journal
+    rm games
+    begin traced calls "$PROGRAM" collect --journal games.journal --sync "$table" books/book.bin
+    holds say 2 "ok $(id_of 2) 2"
+    holds end 0
+    holds of_journal << END
+open games.journal rw
+flock games.journal LOCK_EX
+fsync games.journal
+open . r
+fsync .
+read games.journal
+write replies $(reply_of "ok $(id_of 2) 2")
+END
+}
+
+# A torn end is sealed, and the seal is on the disk before the first reply.
+torn_journal() {
+    games_of 1 > games.journal
+    games_of 2 | head -c 50 >> games.journal
+    mkdir books
+    begin traced calls "$PROGRAM" collect --journal games.journal --sync "$table" books/book.bin
+    holds say 1 "ok $(id_of 1) 1"
+    holds end 0
+    holds of_journal << END
+open games.journal rw
+flock games.journal LOCK_EX
+fsync games.journal
+open . r
+fsync .
+read games.journal
+write games.journal 5
+fdatasync games.journal
+write replies $(reply_of "ok $(id_of 1) 1")
+END
+}
+
+# The journal's folder is synced where that is another one than the run's.
+journal_elsewhere() {
+    mkdir far books
+    : > far/games.journal
+    games_of 1 > games
+    holds ran 0 traced calls \
+        "$PROGRAM" collect --journal far/games.journal --sync "$table" books/book.bin < games
+    holds in_order calls '^(fsync|write|fdatasync) (far|replies|\.)' << END
+fsync far/games.journal
+fsync far
+write far/games.journal $(bytes_of 1)
+fdatasync far/games.journal
+write replies $(wc -c < "$work/replies" | tr -d ' ')
+END
+}
+
+# size_of FILE: how many bytes it has
+size_of() { stat -c %s "$1"; }
+
+# A book is on the disk before it takes its name, and then its name is, also where BOOK stands in
+# another folder than that of the run.
+draft_order='^(write|fsync|fdatasync|ftruncate|rename) \S*book|^fsync '
+new_draft() {
+    holds ran 0 traced calls "$PROGRAM" collect "$table" book.bin < "$work/games"
+    holds in_order calls "$draft_order" << END
+write .book.bin.pbook-0 $(size_of book.bin)
+fsync .book.bin.pbook-0
+rename .book.bin.pbook-0 to book.bin
+fsync .
+END
+}
+
+draft_elsewhere() {
+    mkdir far
+    holds ran 0 traced calls "$PROGRAM" collect "$table" far/book.bin < "$work/games"
+    holds in_order calls "$draft_order" << END
+write far/.book.bin.pbook-0 $(size_of far/book.bin)
+fsync far/.book.bin.pbook-0
+rename far/.book.bin.pbook-0 to far/book.bin
+fsync far
+END
+}
+
+# The draft of a file that others can't read can't be read by them at any time. It has the old
+# permissions before it has the name.
+private_draft() {
+    with_old
+    chmod 640 book.bin
+    holds ran 0 traced calls "$PROGRAM" collect "$table" book.bin < "$work/games"
+    holds in_order calls "$draft_order|^fchmod|^open \S+ new" << END
+open .book.bin.pbook-0 new 0600
+fchmod .book.bin.pbook-0 0100640
+write .book.bin.pbook-0 $(size_of book.bin)
+fsync .book.bin.pbook-0
+rename .book.bin.pbook-0 to book.bin
+fsync .
+END
+    holds has_mode 640 book.bin
+}
+
+# FILE is opened to be written, and held, before a submission is read. It is made anew before BOOK
+# is opened or made anew, and so that others can't read it where they can't read the old one.
+saved_ledger() {
+    with_old
+    games_of 1,3 > games
+    : > games.ledger
+    holds collects 0 "$book" "$place/games" --ledger games.ledger
+    chmod 600 games.ledger
+    games_of 4,9 > games
+    holds ran 0 traced calls \
+        "$PROGRAM" collect --ledger games.ledger "$table" book.bin < games
+    holds in_order calls '^(open|fchmod|fsync|rename) \S*(games\.ledger|book)|^fsync|^read games$' \
+        << END
+open games.ledger rw
+read games
+read games
+open games.ledger w
+open .games.ledger.pbook-0 new 0600
+fchmod .games.ledger.pbook-0 0100600
+fsync .games.ledger.pbook-0
+rename .games.ledger.pbook-0 to games.ledger
+fsync .
+open book.bin w
+open .book.bin.pbook-0 new 0600
+fchmod .book.bin.pbook-0 0100644
+fsync .book.bin.pbook-0
+rename .book.bin.pbook-0 to book.bin
+fsync .
+END
+    holds has_mode 600 games.ledger
+}
+
+# What is written in place is emptied, written and then put on the disk.
+in_place() {
+    with_old
+    ln book.bin other
+    holds ran 0 traced calls "$PROGRAM" collect "$table" book.bin < "$work/games"
+    holds in_order calls '^(open|write|fsync|fdatasync|ftruncate|rename) \S*book|^fsync' << END
+open book.bin w
+ftruncate book.bin
+write book.bin $(size_of book.bin)
+fsync book.bin
+END
+}
+
+if can_trace; then
+    if [ $# -eq 0 ]; then
+        set -- synced_journal synced_at_once unsynced_journal repeat_of_unsynced torn_journal \
+            journal_elsewhere new_draft draft_elsewhere private_draft saved_ledger in_place
+    fi
+    for name; do check "$name" in_folder "$name"; done
+    finish
+else
+    leave_out 'strace is wanted' 'the order of the calls'
+fi

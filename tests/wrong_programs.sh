@@ -1,0 +1,127 @@
+#!/bin/sh
+# Builds programs with mistakes that the proofs let pass, since no contract tells of the disk, and
+# tries that the other scripts see them: a wrong program may not pass the check that each of its
+# mistakes names. The program without a mistake passes them all.
+#
+# A mistake is a file tests/wrong_programs/PROGRAM-MISTAKE.edit: lines that tell what it does, a
+# line `seen by: SCRIPT CHECK`, a line `file: NAME` for each file of crates/pb_program that it
+# changes, and pairs of lines `old: TEXT` and `new: TEXT` below it. Each old TEXT stands there
+# once. All mistakes of one PROGRAM are made at once.
+#
+# The programs are built from a copy of the tree without proof, a minute or two each. Shims aren't
+# loaded before them, so no other scripts are tried.
+# Usage: tests/wrong_programs.sh [PROGRAM..] (at the top of the repository; all where none is given,
+# and the one without a mistake too; strace has to be there).
+set -eu
+unset PROGRAM
+. tests/lib/harness.sh
+. tests/lib/unproved.sh
+
+# copy_tree: makes $work/tree, a copy of all that the program is built from
+copy_tree() {
+    rm -rf "$work/tree"
+    mkdir "$work/tree"
+    cp crates.txt "$work/tree"
+    for folder in crates/*/; do
+        mkdir -p "$work/tree/$folder"
+        for part in "$folder"*; do
+            [ "${part##*/}" = out ] || cp -R "$part" "$work/tree/$folder"
+        done
+    done
+    [ ! -f HANDLES ] || cp HANDLES "$work/tree"
+}
+
+# make_mistake FILE: makes this mistake in the copy
+make_mistake() {
+    grep -Eq '^seen by: (order|locks)\.sh [a-z_]+$' "$1"
+    awk -v crate="$work/tree/crates/pb_program/" '
+        # The text with its only place of the old text changed.
+        function changed(text, old, to,    at) {
+            at = index(text, old)
+            if (!at || index(substr(text, at + 1), old)) {
+                print "    the old text does not stand once in " path ": " old
+                failed = 1
+                exit 1
+            }
+            return substr(text, 1, at - 1) to substr(text, at + length(old))
+        }
+        function finish() {
+            if (path == "") return
+            printf "%s", text > path
+            close(path)
+        }
+        /^file: / {
+            finish()
+            path = crate substr($0, 7)
+            text = ""
+            while ((getline line < path) > 0) text = text line "\n"
+            close(path)
+        }
+        /^old: / { old = substr($0, 6) }
+        /^new:/ { text = changed(text, old, substr($0, 6)); made++ }
+        END { if (!failed) finish(); exit failed || !made }' "$1"
+}
+
+# build PROGRAM: builds it as $work/PROGRAM with its mistakes, or `right` without one
+build() {
+    copy_tree
+    for mistake in tests/wrong_programs/"$1"-*.edit; do
+        [ "$1" = right ] || holds make_mistake "$mistake"
+    done
+    holds build_unproved "$work/tree" "$work/$1"
+}
+
+# checked PROGRAM SCRIPT [CHECK]: what this script, or a check of it, says of the program, is in
+# $work/verdict; whether all holds
+checked() {
+    mkdir -p "$work/left"
+    # ASan, which the program is built with, looks for leaks by a means that strace has taken.
+    PROGRAM=$work/$1 TMPDIR=$work/left ASAN_OPTIONS=detect_leaks=0 sh "tests/$2" ${3+"$3"} \
+        > "$work/verdict" 2>&1
+}
+
+# passes SCRIPT: the program without a mistake passes the script, and leaves out no check
+passes() {
+    checked right "$1" || {
+        cat "$work/verdict"
+        exit 1
+    }
+    note "$(tail -n 1 "$work/verdict")"
+}
+
+# is_seen PROGRAM SCRIPT CHECK: the check fails over the program
+is_seen() {
+    if checked "$@"; then
+        cat "$work/verdict"
+        exit 1
+    fi
+    holds grep -q "^FAILED: $3 " "$work/verdict"
+}
+
+# seen_by FILE: the script and the check that see this mistake
+seen_by() { sed -n 's/^seen by: //p' "$1"; }
+
+[ $# -gt 0 ] || {
+    # shellcheck disable=SC2046 # each name is a word
+    set -- right $(for file in tests/wrong_programs/*.edit; do
+        basename "$file" | sed 's/-.*//'
+    done | sort -u)
+}
+strace -o /dev/null true 2> /dev/null || {
+    leave_out 'strace is wanted' "$@"
+    exit 0
+}
+for program; do
+    check "the program is built: $program" build "$program"
+    if [ "$program" = right ]; then
+        check 'it passes order.sh' passes order.sh
+        check 'it passes locks.sh' passes locks.sh
+        continue
+    fi
+    for file in tests/wrong_programs/"$program"-*.edit; do
+        mistake=$(basename "$file" .edit)
+        # shellcheck disable=SC2046 # the script and the check are words
+        check "a mistake is seen: $mistake" is_seen "$program" $(seen_by "$file")
+    done
+done
+finish
