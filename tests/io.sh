@@ -58,14 +58,18 @@ name_of_hit() {
     esac
 }
 
-# judge_errors: a call that failed is told with its file and the cause, in one line, unless the text
-# was one for words that give no order. A call that failed or moved one byte of standard error
-# leaves a front of what is due there.
+# judge_errors: a call that failed is told with its file and the cause, in one line, which comes
+# before what else is due where a text was put because the words gave no order. A call that failed
+# or moved one byte of standard error leaves a front of what is due there.
 judge_errors() {
     if [ "$file" = 2 ]; then
         is_front "$work/errors" "$work/ample.errors" ||
             fails 'standard error is no front of what is due' "$work/ample.errors" "$work/errors"
-    elif [ "$hit" = FAIL_AT ] && [ "$kind" != none ] && [ "$judge" != helped ]; then
+    elif [ "$hit" = FAIL_AT ] && [ "$kind" != none ] && [ "$judge" = helped ]; then
+        { echo 'pbook: standard output: input/output error' && cat "$work/ample.errors"; } |
+            cmp -s - "$work/errors" ||
+            fails 'the failed write is not told before all else' /dev/null "$work/errors"
+    elif [ "$hit" = FAIL_AT ] && [ "$kind" != none ]; then
         one_line_told "pbook: $(name_of_hit): input/output error(;.*)?"
     else
         is_same_told ||

@@ -4,7 +4,7 @@ use crate::apart::keep_apart;
 use crate::command::{FILLS, input};
 use crate::counts::News;
 use crate::file::FilePlace;
-use crate::hold::{hold_journal, hold_ledger, open_table};
+use crate::hold::{hold_journal, hold_ledger, open};
 use crate::journal::{JournalFile, sync_whole};
 use crate::ledger_lines::LedgerLines;
 use crate::messages::{Messages, Named};
@@ -26,13 +26,28 @@ type TableSource<'a> = FromRead<Told<'a, File>>;
 /// A run of `collect`: its rules, the table that it reads and the book that it makes.
 #[derive(Clone, Copy)]
 pub(crate) struct Collecting<'a> {
-    pub(crate) messages: Messages<'a>,
-    pub(crate) rules: Rules,
-    pub(crate) table: &'a str,
-    pub(crate) book: &'a str,
+    messages: Messages<'a>,
+    rules: Rules,
+    table: &'a str,
+    book: &'a str,
 }
 
 impl<'a> Collecting<'a> {
+    /// A run by these rules, with the paths of its table and its book.
+    pub(crate) fn new(
+        messages: Messages<'a>,
+        rules: Rules,
+        table: &'a str,
+        book: &'a str,
+    ) -> Collecting<'a> {
+        Collecting {
+            messages,
+            rules,
+            table,
+            book,
+        }
+    }
+
     /// Takes the submissions on standard input, keeps what is wanted beside the book, and answers
     /// whether there is a book.
     pub(crate) fn run<K: Sink>(&self, kept: Keeping<'a>, output: &mut K) -> Result<bool, Stop> {
@@ -151,7 +166,7 @@ impl<'a> Collecting<'a> {
 
     /// The table's file as a source.
     fn open_table(&self) -> Result<TableSource<'a>, Stop> {
-        let file = open_table(self.messages, self.table)?;
+        let file = open(self.messages, self.table)?;
         Ok(FromRead::new(Told::new(Named::new(self.messages, self.table), file)))
     }
 

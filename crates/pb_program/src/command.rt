@@ -2,7 +2,7 @@
 
 use crate::collecting::Collecting;
 use crate::counts::News;
-use crate::hold::{open, open_table};
+use crate::hold::open;
 use crate::messages::{Messages, Named};
 use crate::progress::{Progress, Watched};
 use crate::stop::Stop;
@@ -54,15 +54,7 @@ pub(crate) fn answer<K: Sink>(
             table,
             book,
             ..
-        } => {
-            let collecting = Collecting {
-                messages,
-                rules: *rules,
-                table,
-                book,
-            };
-            collecting.run(*kept, output)
-        }
+        } => { Collecting::new(messages, *rules, table, book).run(*kept, output) }
         Order::Export { rules, table, .. } => export(messages, *rules, table, output),
     }
 }
@@ -75,7 +67,7 @@ fn probe<K: Sink>(
     record: &str,
     output: &mut K,
 ) -> Result<bool, Stop> {
-    let mut table = source(messages, table, open_table(messages, table)?);
+    let mut table = source(messages, table, open(messages, table)?);
     let mut book = source(messages, book, open(messages, book)?);
     let alloc = messages.rt().alloc();
     let record = record.as_bytes();
@@ -89,7 +81,7 @@ fn export<K: Sink>(
     table: &str,
     output: &mut K,
 ) -> Result<bool, Stop> {
-    let mut table = source(messages, table, open_table(messages, table)?);
+    let mut table = source(messages, table, open(messages, table)?);
     let progress = Progress::new(messages, News::Unknown);
     let mut input = FromRead::new(Watched::new(input(messages), &progress));
     let alloc = messages.rt().alloc();

@@ -20,27 +20,19 @@ enum NotHeld {
     InUse,
 }
 
-/// The table of this path. What this run and others may do with it is to read it: its name is no
-/// draft's, whatever it looks like.
-///
-/// # Errors
-///
-/// `NotOpened` where there is no such file that can be read.
-pub(crate) fn open_table(messages: Messages<'_>, path: &str) -> Result<File, Stop> {
-    let file = open(messages, path)?;
-    // Another run may hold it; then it is no draft that is left either.
-    let _ = file.try_lock_shared();
-    Ok(file)
-}
-
-/// The file of this path, to be read.
+/// The file of this path, to be read. Its name is no draft's for this run and others, whatever it
+/// looks like.
 ///
 /// # Errors
 ///
 /// `NotOpened` where there is no such file that can be read.
 pub(crate) fn open(messages: Messages<'_>, path: &str) -> Result<File, Stop> {
     match File::open(messages.rt(), path) {
-        Ok(file) => Ok(file),
+        Ok(file) => {
+            // Where another run holds it alone, it is no draft that is left either.
+            let _ = file.try_lock_shared();
+            Ok(file)
+        }
         Err(error) => {
             Named::new(messages, path).fail(&error);
             Err(Stop::NotOpened)

@@ -15,6 +15,9 @@ use pb_poly::ToWrite;
 use std::cell::RefCell;
 use std::io::{self, BufWriter, IsTerminal};
 
+/// What messages call standard output.
+const OUTPUT: &str = "standard output";
+
 /// The status for words that give no order.
 pub const USAGE: u8 = 2;
 
@@ -28,21 +31,24 @@ pub fn run(rt: &HostRuntime, words: &[&str]) -> u8
         Ok(order) => perform(rt, &order),
         Err(ParseFault::Memory) => want_of_memory(rt),
         Err(ParseFault::Usage(text)) => {
-            let _ = print!(rt; "{text}");
-            tell_usage(rt, text.as_str());
+            show_usage(rt, text.as_str());
             USAGE
         }
     }
 }
 
-/// Tells the first line of a usage error, where standard output is sent to a file. A text that was
-/// asked for is none.
-fn tell_usage(rt: &HostRuntime, text: &str) {
+/// Puts the text on standard output. The first line of a usage error is told too, where that is sent
+/// to a file. A text that was asked for is none.
+fn show_usage(rt: &HostRuntime, text: &str) {
+    let messages = Messages::new(rt, false);
+    if let Err(error) = print!(rt; "{text}") {
+        Named::new(messages, OUTPUT).fail(&error);
+    }
     if let Some(error) = text.strip_prefix("error: ")
         && let Some(text) = error.lines().next()
         && !rt.stdout().is_terminal()
     {
-        Messages::new(rt, false).tell(&Message::Usage { text });
+        messages.tell(&Message::Usage { text });
     }
 }
 
@@ -52,7 +58,7 @@ fn perform(rt: &HostRuntime, order: &Order<'_>) -> u8
 {
     let messages = Messages::new(rt, is_quiet(order));
     let front = RefCell::new(Front::new());
-    let told = Told::new(Named::new(messages, "standard output"), io::writer(rt));
+    let told = Told::new(Named::new(messages, OUTPUT), io::writer(rt));
     let output = Fronted::new(told, &front);
     let Ok(writer) = BufWriter::with_capacity(rt.alloc(), PIECE, output) else {
         return want_of_memory(rt);
