@@ -60,7 +60,7 @@ told_as_due() {
     case "$ample_status $*" in
         '1 show '*) cause="../cut_book: .*" ;;
         '1 collect --ledger '*) cause="file: line 11 isn't a game that can be taken" ;;
-        '1 collect '*) cause='../half_table: it .*781.*' ;;
+        '1 collect '*) cause='../half_table: a table has 781 lines, and this one 400' ;;
         '2 colect '*) cause=$(sed -n '1s/^error: //p' "$work/ample.put") ;;
         '3 probe '*) cause='../no_book: no such file or directory' ;;
     esac
