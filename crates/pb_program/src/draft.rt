@@ -53,7 +53,9 @@ impl Draft {
         old: Option<&Metadata>,
     ) -> Result<Draft, NoDraft> {
         let mut options = OpenOptions::new();
+        // Over a network a shared lock is for files alone that are open to be read.
         options
+            .read(true)
             .write(true)
             .create_new(true)
             .mode(if old.is_some() { OWN } else { ANYBODY });

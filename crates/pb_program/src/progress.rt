@@ -60,9 +60,11 @@ impl<'a> Progress<'a> {
         }
     }
 
-    /// Takes bytes of submissions that aren't answered.
+    /// Takes bytes of submissions that aren't answered. Where nobody watches they aren't counted.
     fn take(&self, bytes: &[u8]) {
-        if let Ok(mut counts) = self.counts.try_borrow_mut() {
+        if self.is_shown
+            && let Ok(mut counts) = self.counts.try_borrow_mut()
+        {
             counts.add_lines(bytes);
         }
     }
