@@ -125,21 +125,27 @@ impl Counts {
     /// Counts the submission that has this reply.
     pub(crate) fn add_reply(&mut self, reply: &[u8]) {
         self.lines = self.lines.saturating_add(1);
+        if reply.starts_with(b"ok ") {
+            self.games = self.games.saturating_add(1);
+        }
+    }
+
+    /// Counts it by what the reply says: whether the game is new, or why there is none.
+    pub(crate) fn tell_apart(&mut self, reply: &[u8]) {
         let Ok(reply) = str::from_utf8(reply) else {
             return;
         };
         let mut words = reply.trim_end().split(' ');
         let is_game = words.next() == Some("ok");
         match words.nth(1) {
-            Some(number) if is_game => self.add_game(number.parse().ok()),
+            Some(number) if is_game => self.add_if_new(number.parse().ok()),
             Some(reason) => self.add_refusal(reason),
             None => {}
         }
     }
 
-    /// Counts a game, by its number.
-    fn add_game(&mut self, number: Option<u32>) {
-        self.games = self.games.saturating_add(1);
+    /// Counts the game of this number, if it is new.
+    fn add_if_new(&mut self, number: Option<u32>) {
         let is_new = match (self.news, number) {
             (News::Above(held), Some(number)) => number > held,
             (News::Journaled(is_new), _) => is_new,

@@ -30,8 +30,13 @@ impl<'p, 'a, R: Read> LedgerLines<'p, 'a, R> {
         }
     }
 
-    /// Counts the lines of a piece of the file.
-    fn take(&mut self, piece: &[u8]) {
+    /// Counts the lines of a piece of the file, which is empty at the end.
+    fn count(&mut self, piece: &[u8]) {
+        let Some(last) = piece.last() else {
+            self.end();
+            return;
+        };
+        self.last = *last;
         let ends = piece.iter().filter(|byte| **byte == b'\n').count();
         let is_counted = self.has_begun || piece.starts_with(HEADER);
         self.has_begun = true;
@@ -39,9 +44,6 @@ impl<'p, 'a, R: Read> LedgerLines<'p, 'a, R> {
             (Some(before), Ok(ends)) if is_counted => before.checked_add(ends),
             _ => None,
         };
-        if let Some(last) = piece.last() {
-            self.last = *last;
-        }
     }
 
     /// Says how many games the lines after the header are. The last may have no LF.
@@ -60,10 +62,8 @@ impl<'p, 'a, R: Read> LedgerLines<'p, 'a, R> {
 impl<R: Read> Read for LedgerLines<'_, '_, R> {
     fn read(&mut self, into: &mut [u8]) -> io::Result<usize> {
         let count = self.reader.read(into)?;
-        if count == 0 {
-            self.end();
-        } else {
-            self.take(&into[..count]);
+        if self.progress.is_watched() {
+            self.count(&into[..count]);
         }
         Ok(count)
     }

@@ -53,10 +53,18 @@ impl<'a> Progress<'a> {
         }
     }
 
+    /// Whether somebody watches, for whom more is counted.
+    pub(crate) fn is_watched(&self) -> bool {
+        self.messages.are_watched()
+    }
+
     /// Takes the reply to a submission.
     pub(crate) fn reply(&self, reply: &[u8]) {
         if let Ok(mut counts) = self.counts.try_borrow_mut() {
             counts.add_reply(reply);
+            if self.is_watched() {
+                counts.tell_apart(reply);
+            }
         }
     }
 
@@ -147,7 +155,7 @@ impl<'a> Progress<'a> {
         } else if counts.games() == 0 && counts.lines() > 0 {
             self.messages.warn(&Message::NoGame);
         }
-        if self.messages.are_watched() {
+        if self.is_watched() {
             self.messages.tell(&Summary {
                 counts: &counts,
                 book,
