@@ -30,7 +30,7 @@ events() {
             if (index(path, here) == 1) return substr(path, length(here) + 1)
             return path
         }
-        # The name of the open file that the text begins with, such as 4</tmp/name>.
+        # The name of the open file that the text begins with, such as 4</folder/name>.
         function opened(text,    number) {
             number = text + 0
             if (number == 0 && done != "openat") return "games"
