@@ -26,7 +26,7 @@ enum NoJournal {
 
 /// Takes submission lines as `run_collect` does, from the games of a journal on, and puts the line of each game that is new on the journal, and
 /// hands it on, before its reply is put: so no game that was answered `ok` is lost, whatever ends the run. The journal is an end that is read
-/// first and one that is written then, as a file opened twice is. Its lines that an LF ended are submitted, and their replies dropped; bytes
+/// first and one that is written then, as a file opened for both is. Its lines that an LF ended are submitted, and their replies dropped; bytes
 /// after them are a torn line, which is sealed by four TABs and an LF, and is no submission. The book is that of all games that are held at
 /// the end, at most 1,000,000, by the rules as in `run_collect`. The table of words that keys are made of is read before the journal. Where it
 /// is refused, `refused table` and `long`, `line` or `count` is put, nothing else is read or written, and there is no book.
