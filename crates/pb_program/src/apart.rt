@@ -1,11 +1,9 @@
 //! The files of one run, which have to be different ones.
 
-use crate::message::Message;
-use crate::messages::Messages;
-use crate::part::Part;
 use crate::stop::Stop;
 use crate::streams::OUTPUT;
 use pb_cli::Fault;
+use pb_messages::{Message, Messages, Part};
 use std::fs::{self, Metadata};
 use std::os::unix::fs::MetadataExt;
 

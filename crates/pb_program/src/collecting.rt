@@ -2,20 +2,15 @@
 
 use crate::apart::keep_apart;
 use crate::command::{FILLS, input};
-use crate::counts::News;
 use crate::file::FilePlace;
 use crate::hold::{hold_journal, hold_ledger, open};
 use crate::journal::{JournalFile, sync_whole};
-use crate::ledger_lines::LedgerLines;
-use crate::messages::{Messages, Named};
-use crate::part::Part;
 use crate::passed::TellPassed;
-use crate::progress::Progress;
 use crate::replies::{Replies, Submissions};
 use crate::stop::Stop;
-use crate::told::Told;
 use crate::whole_file::WholeFile;
 use pb_cli::{Keeping, Rules, collect_into, continue_into, journal_into};
+use pb_messages::{LedgerLines, Messages, Named, News, Part, Progress, Told};
 use pb_poly::{FromRead, Sink, ToWrite};
 use std::cell::RefCell;
 use std::fs::File;

@@ -1,14 +1,11 @@
 //! Each command over the files that it names and the standard streams.
 
 use crate::collecting::Collecting;
-use crate::counts::News;
 use crate::hold::open;
-use crate::messages::{Messages, Named};
-use crate::progress::{Progress, Watched};
 use crate::stop::Stop;
 use crate::streams::expect_open;
-use crate::told::Told;
 use pb_cli::{Order, Rules, run_epd, run_export, run_fen, run_probe, run_show};
+use pb_messages::{Messages, Named, News, Progress, Told, Watched};
 use pb_poly::{FromRead, Sink};
 use std::fs::File;
 use std::io::{Input, StdinLock};

@@ -1,10 +1,8 @@
 //! Files that a run holds by a lock, so that no other run changes them meanwhile.
 
 use crate::apart::tell_of_one;
-use crate::message::{Cause, Left, Message};
-use crate::messages::{Messages, Named};
-use crate::part::Part;
 use crate::stop::Stop;
+use pb_messages::{Cause, Left, Message, Messages, Named, Part};
 use std::fs::{self, File, OpenOptions, TryLockError};
 use std::io::{self, ErrorKind};
 

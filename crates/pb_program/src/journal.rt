@@ -2,14 +2,11 @@
 
 ghost use Rattle.std.specs.Prelude.{None};
 
-use crate::counts::News;
 use crate::file::PIECE;
 use crate::folder::sync_folder;
-use crate::messages::Named;
-use crate::progress::Progress;
 use crate::stop::Stop;
-use crate::told::Told;
 use pb_cli::Fault;
+use pb_messages::{Named, News, Progress, Told};
 use pb_poly::{Failed, Sink, ToWrite};
 use std::fs::File;
 use std::io::BufWriter;

@@ -6,25 +6,16 @@
 mod apart;
 mod collecting;
 mod command;
-mod counts;
 mod draft;
 mod file;
 mod folder;
-mod front;
 mod hold;
 mod journal;
-mod ledger_lines;
-mod looks;
-mod message;
-mod messages;
-mod part;
 mod passed;
 mod program;
-mod progress;
 mod replies;
 mod stop;
 mod streams;
-mod told;
 mod whole_file;
 
 pub use command::FILLS;

@@ -1,8 +1,7 @@
 //! The lines of a journal that are no games.
 
-use crate::message::Message;
-use crate::messages::Named;
 use pb_cli::PassedLines;
+use pb_messages::{Message, Named};
 
 /// How many lines are told by their numbers.
 const TOLD: u32 = 10;

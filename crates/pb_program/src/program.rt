@@ -4,13 +4,9 @@ ghost use Rattle.std.specs.Prelude.{◌≡◌, ◌≤◌};
 
 use crate::command::answer;
 use crate::file::PIECE;
-use crate::front::{Front, Fronted};
-use crate::message::{Message, RefusedFile};
-use crate::messages::{Messages, Named};
-use crate::part::Part;
 use crate::stop::{Stop, tell_stop};
-use crate::told::Told;
 use pb_cli::{Fault, Keeping, Order, ParseFault, parse, status};
+use pb_messages::{Front, Fronted, Message, Messages, Named, Part, RefusedFile, Told};
 use pb_poly::ToWrite;
 use std::cell::RefCell;
 use std::io::{self, BufWriter, IsTerminal};

@@ -1,6 +1,6 @@
 //! Replies that wait in the buffer of standard output until more submissions are read.
 
-use crate::progress::Progress;
+use pb_messages::Progress;
 use pb_poly::Sink;
 use std::cell::RefCell;
 use std::io::{self, ErrorKind, Read, Write};

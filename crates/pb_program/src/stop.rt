@@ -2,9 +2,8 @@
 
 ghost use Rattle.std.specs.Prelude.{◌≡◌};
 
-use crate::message::Message;
-use crate::messages::Messages;
 use pb_cli::{Fault, NoBook, NotContinued, NotKept, STOPPED};
+use pb_messages::{Message, Messages};
 use pb_poly::{Sink, ToWrite};
 use std::io::Write;
 

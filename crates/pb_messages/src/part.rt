@@ -4,7 +4,7 @@ use std::fmt::{self, Display};
 
 /// What a file is to a run.
 #[derive(Clone, Copy, PartialEq)]
-pub(crate) enum Part {
+pub enum Part {
     Table,
     Ledger,
     Journal,
@@ -13,7 +13,7 @@ pub(crate) enum Part {
 
 impl Part {
     /// The word for a file of this part.
-    pub(crate) fn noun(self) -> &'static str {
+    pub fn noun(self) -> &'static str {
         match self {
             Part::Table => "table",
             Part::Ledger => "ledger",

@@ -11,13 +11,13 @@ const TEXT: usize = 128;
 
 /// The system's text for an error, in the midst of a sentence.
 #[derive(Drop)]
-pub(crate) struct Cause {
+pub struct Cause {
     text: ArrayString<TEXT>,
 }
 
 impl Cause {
     /// The cause that this error tells. It takes no memory, of which there may be none.
-    pub(crate) fn of(error: &io::Error) -> Cause {
+    pub fn of(error: &io::Error) -> Cause {
         let mut text = ArrayString::new();
         let _ = write!(text, "{error}");
         Cause { text }
@@ -45,7 +45,7 @@ impl Display for Cause {
 
 /// What a failure has left of a file that was to be replaced.
 #[derive(Clone, Copy)]
-pub(crate) enum Left {
+pub enum Left {
     /// Nothing that a user could miss.
     All,
     /// The old file of this part.
@@ -78,7 +78,7 @@ impl Display for Left {
 
 /// Why a file was refused, by the words of the line `refused ..` that told it.
 #[derive(Clone, Copy)]
-pub(crate) enum Wrong<'w> {
+pub enum Wrong<'w> {
     /// A table of too many bytes.
     LongTable,
     /// The number of a table's line, which isn't 16 hexadecimal digits.
@@ -118,7 +118,7 @@ impl Display for Wrong<'_> {
 
 /// What submissions look like that are none.
 #[derive(Clone, Copy)]
-pub(crate) enum Looks {
+pub enum Looks {
     /// Like games in PGN.
     Pgn,
     /// Like a file that gzip has packed.
@@ -127,7 +127,7 @@ pub(crate) enum Looks {
 
 /// What is told.
 #[derive(Drop)]
-pub(crate) enum Message<'m> {
+pub enum Message<'m> {
     /// A file or a stream has failed.
     Failed {
         name: &'m str,
@@ -224,9 +224,9 @@ impl Display for Message<'_> {
 
 /// A file isn't what it has to be.
 #[derive(Clone, Copy)]
-pub(crate) struct RefusedFile<'n, 'w> {
-    pub(crate) name: &'n str,
-    pub(crate) wrong: Wrong<'w>,
+pub struct RefusedFile<'n, 'w> {
+    pub name: &'n str,
+    pub wrong: Wrong<'w>,
 }
 
 impl Display for RefusedFile<'_, '_> {
@@ -240,9 +240,9 @@ impl Display for RefusedFile<'_, '_> {
 /// What a run has taken and made. A book that isn't a file has no number of entries.
 #[derive(Clone, Copy)]
 pub(crate) struct Summary<'c, 'b> {
-    pub(crate) counts: &'c Counts,
-    pub(crate) book: &'b str,
-    pub(crate) entries: Option<u64>,
+    pub counts: &'c Counts,
+    pub book: &'b str,
+    pub entries: Option<u64>,
 }
 
 impl Display for Summary<'_, '_> {

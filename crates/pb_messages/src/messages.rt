@@ -1,7 +1,7 @@
 //! Standard error, where a run tells what went wrong.
 
 use crate::message::{Cause, Left, Message};
-use crate::streams::is_open;
+use crate::open::is_open;
 use std::fmt::Display;
 use std::io::{self, IsTerminal};
 
@@ -10,7 +10,7 @@ pub(crate) const CLEAR: &str = "\r\x1b[K";
 
 /// Standard error, as long as it takes what is told. Nothing else depends on that.
 #[derive(Clone, Copy)]
-pub(crate) struct Messages<'a> {
+pub struct Messages<'a> {
     rt: &'a HostRuntime,
     is_open: bool,
     is_terminal: bool,
@@ -21,7 +21,7 @@ pub(crate) struct Messages<'a> {
 
 impl<'a> Messages<'a> {
     /// The messages of a run; one that is quiet tells faults and refused files alone.
-    pub(crate) fn new(rt: &'a HostRuntime, is_quiet: bool) -> Messages<'a> {
+    pub fn new(rt: &'a HostRuntime, is_quiet: bool) -> Messages<'a> {
         // Where it isn't open, a file that the run opens may get its number.
         let is_open = is_open(&rt.stderr());
         Messages {
@@ -34,22 +34,22 @@ impl<'a> Messages<'a> {
     }
 
     /// The runtime that the messages are told by.
-    pub(crate) fn rt(&self) -> &'a HostRuntime {
+    pub fn rt(&self) -> &'a HostRuntime {
         self.rt
     }
 
     /// Whether somebody watches, who wants to know how a run goes.
-    pub(crate) fn are_watched(&self) -> bool {
+    pub fn are_watched(&self) -> bool {
         self.is_terminal && !self.is_quiet
     }
 
     /// Whether the replies go to a terminal as well.
-    pub(crate) fn share_terminal(&self) -> bool {
+    pub fn share_terminal(&self) -> bool {
         self.is_shared
     }
 
     /// Tells a fault, why a file is refused, or what a run has done.
-    pub(crate) fn tell<D: Display>(&self, message: &D) {
+    pub fn tell<D: Display>(&self, message: &D) {
         self.clear();
         if self.is_open {
             let _ = eprintln!(self.rt; "pbook: {message}");
@@ -57,14 +57,14 @@ impl<'a> Messages<'a> {
     }
 
     /// Clears the line that shows how far the run is.
-    pub(crate) fn clear(&self) {
+    pub fn clear(&self) {
         if self.is_terminal {
             let _ = eprint!(self.rt; "{CLEAR}");
         }
     }
 
     /// Tells what may be a slip of the user's.
-    pub(crate) fn warn(&self, message: &Message<'_>) {
+    pub fn warn(&self, message: &Message<'_>) {
         if !self.is_quiet {
             self.tell(message);
         }
@@ -73,15 +73,15 @@ impl<'a> Messages<'a> {
 
 /// A file or a stream, by the name that messages call it by.
 #[derive(Clone, Copy)]
-pub(crate) struct Named<'a> {
-    pub(crate) messages: Messages<'a>,
-    pub(crate) name: &'a str,
-    pub(crate) left: Left,
+pub struct Named<'a> {
+    pub messages: Messages<'a>,
+    pub name: &'a str,
+    pub left: Left,
 }
 
 impl<'a> Named<'a> {
     /// What has this name, and leaves nothing half done where it fails.
-    pub(crate) fn new(messages: Messages<'a>, name: &'a str) -> Named<'a> {
+    pub fn new(messages: Messages<'a>, name: &'a str) -> Named<'a> {
         Named {
             messages,
             name,
@@ -90,12 +90,12 @@ impl<'a> Named<'a> {
     }
 
     /// The same, where a failure leaves this.
-    pub(crate) fn leaving(self, left: Left) -> Named<'a> {
+    pub fn leaving(self, left: Left) -> Named<'a> {
         Named { left, ..self }
     }
 
     /// Tells that it has failed.
-    pub(crate) fn fail(&self, error: &io::Error) {
+    pub fn fail(&self, error: &io::Error) {
         self.messages.tell(&Message::Failed {
             name: self.name,
             cause: Cause::of(error),

@@ -17,7 +17,7 @@ const ENTRY: u64 = 16;
 
 /// How far a run is: what became of its submissions, and when that was shown last.
 #[derive(Drop)]
-pub(crate) struct Progress<'a> {
+pub struct Progress<'a> {
     messages: Messages<'a>,
     is_shown: bool,
     counts: RefCell<Counts>,
@@ -26,7 +26,7 @@ pub(crate) struct Progress<'a> {
 
 impl<'a> Progress<'a> {
     /// A run that has read nothing yet.
-    pub(crate) fn new(messages: Messages<'a>, news: News) -> Progress<'a> {
+    pub fn new(messages: Messages<'a>, news: News) -> Progress<'a> {
         Progress {
             messages,
             // A line that is typed would be written over.
@@ -37,7 +37,7 @@ impl<'a> Progress<'a> {
     }
 
     /// Takes the first bytes of the submissions.
-    pub(crate) fn begin(&self, bytes: &[u8]) {
+    pub fn begin(&self, bytes: &[u8]) {
         if let Ok(mut counts) = self.counts.try_borrow_mut() {
             counts.begin();
         }
@@ -47,19 +47,19 @@ impl<'a> Progress<'a> {
     }
 
     /// Says how the games that are new are told from now on.
-    pub(crate) fn tell_new_by(&self, news: News) {
+    pub fn tell_new_by(&self, news: News) {
         if let Ok(mut counts) = self.counts.try_borrow_mut() {
             counts.tell_new_by(news);
         }
     }
 
     /// Whether somebody watches, for whom more is counted.
-    pub(crate) fn is_watched(&self) -> bool {
+    pub fn is_watched(&self) -> bool {
         self.messages.are_watched()
     }
 
     /// Takes the reply to a submission.
-    pub(crate) fn reply(&self, reply: &[u8]) {
+    pub fn reply(&self, reply: &[u8]) {
         if let Ok(mut counts) = self.counts.try_borrow_mut() {
             counts.add_reply(reply);
             if self.is_watched() {
@@ -78,7 +78,7 @@ impl<'a> Progress<'a> {
     }
 
     /// Makes room for replies, where they go to the terminal too.
-    pub(crate) fn give_way(&self) {
+    pub fn give_way(&self) {
         if self.is_shown && self.messages.share_terminal() {
             self.messages.clear();
         }
@@ -86,14 +86,14 @@ impl<'a> Progress<'a> {
 
     /// Shows how far the run is, where that is wanted and the last line has stood for a while, or
     /// made room for replies.
-    pub(crate) fn show(&self) {
+    pub fn show(&self) {
         if self.is_shown && (self.messages.share_terminal() || self.is_due()) {
             self.draw("");
         }
     }
 
     /// Shows that all submissions are taken, and what comes now.
-    pub(crate) fn show_step(&self, step: &str) {
+    pub fn show_step(&self, step: &str) {
         if self.is_shown {
             self.draw(step);
         }
@@ -135,14 +135,14 @@ impl<'a> Progress<'a> {
     }
 
     /// Clears the line that is shown, at the end.
-    pub(crate) fn clear(&self) {
+    pub fn clear(&self) {
         if self.is_shown {
             self.messages.clear();
         }
     }
 
     /// Tells what the run has made, or that nothing was taken.
-    pub(crate) fn end(&self, book: &str) {
+    pub fn end(&self, book: &str) {
         let size = match fs::metadata(self.messages.rt(), book) {
             Ok(told) if told.is_file() => Some(told.len()),
             _ => None,
@@ -167,14 +167,14 @@ impl<'a> Progress<'a> {
 
 /// The submissions of a command that answers none.
 #[derive(Drop)]
-pub(crate) struct Watched<'p, 'a, R> {
+pub struct Watched<'p, 'a, R> {
     reader: R,
     progress: &'p Progress<'a>,
 }
 
 impl<'p, 'a, R: Read> Watched<'p, 'a, R> {
     /// What the reader gives.
-    pub(crate) fn new(reader: R, progress: &'p Progress<'a>) -> Watched<'p, 'a, R> {
+    pub fn new(reader: R, progress: &'p Progress<'a>) -> Watched<'p, 'a, R> {
         Watched { reader, progress }
     }
 }

@@ -12,13 +12,13 @@ const FRONT: usize = 64;
 
 /// The first bytes that were written.
 #[derive(Drop)]
-pub(crate) struct Front {
+pub struct Front {
     bytes: ArrayVec<u8, FRONT>,
 }
 
 impl Front {
     /// Nothing was written yet.
-    pub(crate) fn new() -> Front {
+    pub fn new() -> Front {
         Front {
             bytes: ArrayVec::new(),
         }
@@ -34,7 +34,7 @@ impl Front {
     }
 
     /// The file that the first line refuses, and why.
-    pub(crate) fn refused(&self) -> Option<(Part, Wrong<'_>)> {
+    pub fn refused(&self) -> Option<(Part, Wrong<'_>)> {
         let text = str::from_utf8(self.bytes.as_slice()).ok()?;
         let refusal = text.lines().next()?.strip_prefix("refused ")?;
         let mut words = refusal.split(' ');
@@ -54,14 +54,14 @@ impl Front {
 
 /// A writer whose first bytes are kept.
 #[derive(Drop)]
-pub(crate) struct Fronted<'f, W> {
+pub struct Fronted<'f, W> {
     writer: W,
     front: &'f RefCell<Front>,
 }
 
 impl<'f, W: Write> Fronted<'f, W> {
     /// A writer that has written nothing.
-    pub(crate) fn new(writer: W, front: &'f RefCell<Front>) -> Fronted<'f, W> {
+    pub fn new(writer: W, front: &'f RefCell<Front>) -> Fronted<'f, W> {
         Fronted { writer, front }
     }
 }

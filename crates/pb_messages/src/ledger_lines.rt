@@ -10,7 +10,7 @@ const HEADER: &[u8] = b"pbook-ledger 1";
 /// A reader of a ledger's file. At the end it says how many games are held, which an old list,
 /// where games may come again, doesn't tell.
 #[derive(Drop)]
-pub(crate) struct LedgerLines<'p, 'a, R> {
+pub struct LedgerLines<'p, 'a, R> {
     reader: R,
     progress: &'p Progress<'a>,
     lines: Option<u32>,
@@ -20,7 +20,7 @@ pub(crate) struct LedgerLines<'p, 'a, R> {
 
 impl<'p, 'a, R: Read> LedgerLines<'p, 'a, R> {
     /// The file of which nothing was read.
-    pub(crate) fn new(reader: R, progress: &'p Progress<'a>) -> LedgerLines<'p, 'a, R> {
+    pub fn new(reader: R, progress: &'p Progress<'a>) -> LedgerLines<'p, 'a, R> {
         LedgerLines {
             reader,
             progress,

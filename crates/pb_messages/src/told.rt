@@ -6,7 +6,7 @@ use std::io::{self, ErrorKind, Read, Write};
 /// A reader or a writer that tells its first failure, and is left alone from then on: a buffer
 /// writes what it still holds when it is dropped, and the device may work again by then.
 #[derive(Drop)]
-pub(crate) struct Told<'a, T> {
+pub struct Told<'a, T> {
     inner: T,
     named: Named<'a>,
     failed: bool,
@@ -14,7 +14,7 @@ pub(crate) struct Told<'a, T> {
 
 impl<'a, T> Told<'a, T> {
     /// What has this name, and works so far.
-    pub(crate) fn new(named: Named<'a>, inner: T) -> Told<'a, T> {
+    pub fn new(named: Named<'a>, inner: T) -> Told<'a, T> {
         Told {
             inner,
             named,

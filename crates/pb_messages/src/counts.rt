@@ -58,7 +58,7 @@ impl Reason {
 
 /// How a game that is new is told from one that came again.
 #[derive(Clone, Copy)]
-pub(crate) enum News {
+pub enum News {
     /// Its number is above that of all games that are held.
     Above(u32),
     /// It was put on the journal just before, or wasn't.
