@@ -8,12 +8,16 @@ PREFIX := /usr/local
 # What is put in place beside the program. It lies where the gate reads it.
 INSTALLED := crates/worked_examples/data/installed
 
+# The programs that tests and measurements run. The gate leaves them there.
+GROWTHS := crates/refused_growths/out/refused_growths
+EXAMPLES := crates/worked_examples/out/worked_examples
+
 .PHONY: build install dist demo test test-hostile test-files test-order test-locks test-messages test-memory test-growths test-io \
     test-noise test-replies test-journal test-wrong-programs bench clean
 
 build: build/pbook
 
-build/pbook: $(SOURCES) scripts/build.sh scripts/prove_crate.sh
+build/pbook: $(SOURCES) scripts/build.sh
 	@sh scripts/build.sh
 
 # Puts the program, its manual page and its completions for bash, zsh and fish in place.
@@ -71,9 +75,11 @@ test-memory: build
 	@sh tests/memory.sh
 
 # Refuses each growth of memory of the library's calls in turn, and looks at what they answer.
-test-growths: build
-	@cd crates/refused_growths && rt run > /dev/null < /dev/null
+test-growths: $(GROWTHS)
 	@sh tests/growths.sh
+
+$(GROWTHS): $(SOURCES) $(wildcard crates/refused_growths/src/*.rt)
+	@cd crates/refused_growths && rt run > /dev/null < /dev/null
 
 # Fails each read, write and sync of each command in turn, or has it move one byte alone, and looks
 # at the same.
@@ -95,13 +101,9 @@ test-journal: build
 	@sh examples/workers.sh
 	@sh tests/journal.sh
 
-# Compares counts of sequences of moves with published ones, times playing moves and the commands, and
-# compares a book with PolyGlot's own. The program worked_examples counts and plays: running it proves
-# and builds it, and ends for want of rows.
-bench: build
-	@rm -f crates/worked_examples/out/worked_examples
-	@cd crates/worked_examples && { rt run > ../../build/bench.log 2>&1 < /dev/null || \
-	    [ -x out/worked_examples ] || { cat ../../build/bench.log; exit 1; }; }
+# Compares counts of sequences of moves with published ones, times playing moves and the commands,
+# and compares a book with PolyGlot's own.
+bench: build $(EXAMPLES)
 	@sh bench/sequences.sh
 	@sh bench/moves.sh
 	@sh bench/epd.sh
@@ -110,6 +112,13 @@ bench: build
 	@sh bench/journal.sh
 	@sh bench/same_entries.sh
 	@sh bench/export.sh
+
+# Running worked_examples proves and builds it, and ends for want of rows.
+$(EXAMPLES): $(SOURCES) $(wildcard crates/rows/src/*.rt crates/worked_examples/src/*.rt)
+	@mkdir -p build
+	@rm -f $@
+	@cd crates/worked_examples && { rt run > ../../build/bench.log 2>&1 < /dev/null || \
+	    [ -x out/worked_examples ] || { cat ../../build/bench.log; exit 1; }; }
 
 clean:
 	rm -rf build crates/*/out

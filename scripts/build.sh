@@ -1,48 +1,90 @@
 #!/bin/sh
-# Proves the crates of pbook side by side, each as soon as those below it are proved, builds the
-# program, and tells how far that is. It leaves the program at build/pbook.
+# Proves what the program stands on, builds it at build/pbook, and tells how far that is.
 # Usage: scripts/build.sh (at the top of the repository).
 #
-# A crate that is proved stays so in its out/, and a run after one that was interrupted goes on with
-# the next.
+# The toolchain's gate proves crates side by side and from nothing, and keeps on this machine what
+# has passed (rattle-kit-13f). So it runs over a copy of the program's crates, without the wrong
+# bodies and without the programs that serve tests: `make test` then takes these proofs as they are,
+# and a run that was interrupted goes on with the crates that are left.
 set -eu
 mkdir -p build
 exec 9> build/lock
-flock -n 9 || { echo 'make: another run proves here, and has the crates in its rooms'; exit 1; }
+flock -n 9 || { echo 'make: another run proves here'; exit 1; }
 start='rnbqkbnr/pppppppp/8/8/8/8/PPPPPPPP/RNBQKBNR w KQkq - 0 1'
-rm -rf build/proved
-mkdir -p build/proved
 begin=$(date +%s)
+top=$PWD
+room=$(mktemp -d)
+gate=
+leave() {
+    [ -z "$gate" ] || kill "$gate" 2> /dev/null || :
+    rm -rf "$room"
+}
+trap leave EXIT
+trap 'exit 1' HUP INT TERM
 
-# The program's crate and all below it, as rules of make. The lines of crates.txt name crates of the
-# toolchain too, which have no line of their own.
+# The lines of the program's crate and of all below it. They name crates of the toolchain too, which
+# have no line of their own.
 awk '
     /^#/ || NF == 0 { next }
-    { name = $1; sub(/:$/, "", name); $1 = ""; uses[name] = $0 }
+    { name = $1; sub(/:$/, "", name); line[name] = $0 }
 
-    # Writes the rule of a crate, which waits for all below it, after theirs.
-    function write_rule(name,    word, count, i, other, below) {
-        if (name in rule) return
-        rule[name] = " "
-        count = split(uses[name], word, " ")
-        for (i = 1; i <= count; i++) if (word[i] in uses) {
-            write_rule(word[i])
-            split(word[i] rule[word[i]], below, " ")
-            for (other in below) if (!index(rule[name], " " below[other] " "))
-                rule[name] = rule[name] below[other] " "
-        }
-        print name ":" rule[name] "\n\t@sh scripts/prove_crate.sh $@ $^"
-        print ".PHONY: " name
+    # Prints the lines of the crates that this one stands on, and then its own.
+    function print_lines(name,    word, count, i) {
+        if (!(name in line) || name in printed) return
+        printed[name] = 1
+        count = split(line[name], word, " ")
+        for (i = 2; i <= count; i++) print_lines(word[i])
+        print line[name]
     }
-    END { write_rule("pbook") }
-' crates.txt > build/crates.mk
+    END { print_lines("pbook") }
+' crates.txt > "$room/crates.txt"
+cp HANDLES "$room/HANDLES"
+crates=$(cut -d: -f1 "$room/crates.txt")
+for crate in $crates; do
+    mkdir -p "$room/crates/$crate"
+    for part in src specs proofs data args stdin stdout status; do
+        [ ! -e "crates/$crate/$part" ] || cp -R "crates/$crate/$part" "$room/crates/$crate/$part"
+    done
+done
+all=$(echo "$crates" | wc -l)
 
-# The prover shares the functions of a crate among processors too, so two crates keep four busy.
-at_once=$((($(nproc) + 1) / 2))
-crates=$(grep -c '^.PHONY' build/crates.mk)
-echo "Proving and building pbook: $crates crates, $at_once at once."
-MAKEFLAGS='' make -s -f build/crates.mk -j "$at_once" pbook
+# Tells what is being proved, and what remains.
+tell_work() {
+    left=$all
+    names=
+    for crate in $crates; do
+        if grep -q "^rt: $crate \(proved\|is kept\)" "$log"; then
+            left=$((left - 1))
+        elif [ -d "$room/crates/$crate/out" ]; then
+            names="$names $crate"
+        fi
+    done
+    echo "after $(($(date +%s) - begin)) s:$names; $left of $all crates left"
+}
 
-[ "$(crates/pbook/out/pbook fen "$start")" = "$start" ]
-install -m 755 crates/pbook/out/pbook build/pbook
+echo "Proving and building pbook: $all crates, side by side."
+log=$top/build/log
+cd "$room"
+rt ci > "$log" 2>&1 &
+gate=$!
+cd "$top"
+told=$begin
+shown=0
+while kill -0 "$gate" 2> /dev/null; do
+    sleep 1
+    lines=$(wc -l < "$log")
+    sed -n "$((shown + 1)),${lines}s/^rt: \([a-z_]* \(proved\|is kept\)\).*/\1/p" "$log"
+    shown=$lines
+    if [ "$(date +%s)" -ge $((told + 20)) ]; then
+        told=$(date +%s)
+        tell_work
+    fi
+done
+wait "$gate" || { cat "$log"; exit 1; }
+gate=
+
+[ "$("$room/crates/pbook/out/pbook" fen "$start")" = "$start" ]
+install -m 755 "$room/crates/pbook/out/pbook" build/pbook
+sed -n 's/^logic=proved functions=\([0-9]*\).*/\1/p' "$log" |
+    awk '{ sum += $1 } END { if (NR) print sum " functions were proved now." }'
 echo "build/pbook stands, after $(($(date +%s) - begin)) seconds."

@@ -1,9 +1,13 @@
-//! Laws of ledgers. Each is the contract of a function that does nothing, over the definitions alone.
+//! Laws of ledgers, and of equality (`==`) between rules. Each is the contract of a function that does nothing, over the definitions alone.
 
 ghost use Rattle.std.specs.Prelude.{◌≡◌};
+ghost use Rattle.std.specs.Bool.{Decides};
 ghost use Rattle.pb_accepted.specs.declared.ledger.TheConstants.{MAX_CAP};
 ghost use Rattle.pb_accepted.specs.Holding.{most_games};
 ghost use Rattle.pb_accepted.specs.Laws.{AcceptedIsOne, AcceptedJoin, AcceptsTheTaken, BookByMembers, CountsByMembers, HeldIsAnswered, IdsAreDistinct, LawfulArrives, NamesAreShort, NoConflict, NumbersAreDistinct, NumbersAreGiven, OneBook, OneReply, OneBookText, RefusalsChangeNothing, RepeatsKeepTheirNumber, RunsAccept, RunsGoOn, RunsJoin, SameBytes, TakenHasNoRepeats, TakenIsOne};
+ghost use Rattle.pb_accepted.specs.Rules.{CountingRules};
+
+use crate::rules::Rules;
 
 /// The most games that a ledger may be made for is the number that the definitions have.
 pub fn limits()
@@ -62,4 +66,9 @@ pub fn books()
     ensures members { BookByMembers }
     ensures text { OneBookText }
     ensures same_bytes { SameBytes }
+{}
+
+/// Rules are equal (`==`) exactly where their numbers are.
+pub fn equal_values()
+    ensures rules { (a b : CountingRules) → Decides (⟦<Rules as PartialEq>⟧.eq a b) (a ≡ b) }
 {}

@@ -12,9 +12,7 @@ mod reply;
 mod rules;
 
 pub use ledger::{Ledger, MAX_CAP};
-pub use pb_games::{
-    Game, Id, Line, MAX_PLIES, MoveList, Outcome, Plies, Refusal, Start, check_line,
-};
+pub use pb_games::{Game, Id, Line, MAX_PLIES, MoveList, Outcome, Plies, Refusal, check_line};
 pub use pb_points::{ListTally, MapTally, Row, Tally, scale};
 pub use reply::Reply;
 pub use rules::{MAX_LEAST, Rules};

@@ -8,7 +8,7 @@ ghost use Rattle.pb_accepted.specs.Noting.{HasNoted};
 use crate::gift::{Gift, credit};
 use crate::notes::Notes;
 use pb_board::Setup;
-use pb_games::{Game, Line, MoveList, Outcome, Player, Refusal, Start, judge_line};
+use pb_games::{Game, Line, MoveList, Outcome, Player, Refusal, judge_line};
 use pb_moves::{Move, play_on};
 use pb_poly::{Table, code_of, key_next, key_of};
 use std::alloc::{AllocError, Global};
@@ -53,13 +53,13 @@ impl Recorder {
         judge_line(line, self)
     }
 
-    /// The game of the line that was judged last. Memory is taken for its moves, and for its start where that isn't the initial record.
+    /// The game of the line that was judged last. Memory is taken for its moves.
     pub(crate) fn game(&self, alloc: Global, line: &Line<'_>) -> Result<Game, AllocError>
         requires { HasNoted self.now.table self.now.notes line.now.1 }
         ensures { IfOk result (λ g. g ≡ line.now.1) }
     {
         Ok(Game {
-            start: Start::of(alloc, &line.start())?,
+            start: line.start(),
             outcome: line.outcome(),
             moves: MoveList::of(Vec::from_slice(alloc, &self.notes.moves)?),
         })

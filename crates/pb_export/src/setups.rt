@@ -45,7 +45,7 @@ fn add_game(texts: &mut Vec<SetupText>, game: &Game) -> Result<(), AllocError>
     requires { IsLegalGame game.now }
     ensures { OnOk result ((known : List Position) → HoldsTexts known (texts_of texts.old.items) → HoldsTexts (known ++ setups_before game.now) (texts_of texts.new.items)) }
 {
-    let mut setup = game.start.record().setup();
+    let mut setup = game.start.setup();
     for m in game.moves.as_slice() {
         make_room(texts)?;
         add_setup(texts, &setup)?;

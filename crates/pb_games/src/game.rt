@@ -2,7 +2,7 @@
 
 use crate::move_list::MoveList;
 use crate::outcome::Outcome;
-use crate::start::Start;
+use pb_board::Fen;
 
 /// A game: the record that it starts from, how it ended, and its moves.
 ///
@@ -10,7 +10,7 @@ use crate::start::Start;
 #[derive(Drop)]
 pub struct Game {
     /// The record before the first move, with its clocks.
-    pub start: Start,
+    pub start: Fen,
     /// How the game ended.
     pub outcome: Outcome,
     /// The moves from the start on.

@@ -1,7 +1,16 @@
-//! Laws of submissions, their lines and their refusals, for the crates above. Their statements stand in `specs/`, and
-//! each of these functions is proved to keep them.
+//! Laws of submissions, their lines and their refusals, and of equality (`==`), for the crates above. Those that are long are stated in
+//! `specs/`; each of these functions is proved to keep its own.
 
+ghost use Rattle.std.specs.Prelude.{◌≡◌, ℕ, List};
+ghost use Rattle.std.specs.Bool.{Decides};
+ghost use Rattle.pb_games.specs.declared.outcome.Outcome.{Outcome};
+ghost use Rattle.pb_games.specs.declared.refusal.Refusal.{Refusal};
 ghost use Rattle.pb_games.specs.Laws.{OneRefusal, OneSubmission, OneText, PartsHaveNoTab, RefusedByItself, RefusedIsUnlawful, TextIsOneLine, TextIsShort};
+
+use crate::id::Id;
+use crate::outcome::Outcome;
+use crate::refusal::Refusal;
+use std::hash::Hash;
 
 /// No line has two submissions.
 pub fn one_submission()
@@ -33,4 +42,12 @@ pub fn refused_is_unlawful()
 /// No line is refused by itself in two ways.
 pub fn one_refusal()
     ensures { OneRefusal }
+{}
+
+/// Ids, outcomes and refusals are equal (`==`) exactly where they are one, and distinct ids hand a hasher distinct bytes.
+pub fn equal_values()
+    ensures ids { (a b : List ℕ) → Decides (⟦<Id as PartialEq>⟧.eq a b) (a ≡ b) }
+    ensures outcomes { (a b : Outcome) → Decides (⟦<Outcome as PartialEq>⟧.eq a b) (a ≡ b) }
+    ensures refusals { (a b : Refusal) → Decides (⟦<Refusal as PartialEq>⟧.eq a b) (a ≡ b) }
+    ensures hashes { (a b : List ℕ) → ⟦<Id as Hash>⟧.hash_input a ≡ ⟦<Id as Hash>⟧.hash_input b → a ≡ b }
 {}

@@ -29,4 +29,3 @@ pub use player::Player;
 pub use plies::Plies;
 pub use refusal::Refusal;
 pub use repeat::repeats;
-pub use start::Start;

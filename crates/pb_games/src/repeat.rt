@@ -9,6 +9,7 @@ ghost use Rattle.pb_games.specs.Words.{words_of};
 use crate::fields::{LineFields, cut_fields};
 use crate::game::Game;
 use crate::id::Id;
+use crate::start::is_text_of;
 use crate::words::Words;
 use pb_moves::Move;
 
@@ -31,7 +32,7 @@ fn are_fields_of(fields: &LineFields<'_>, id: &Id, game: &Game) -> bool
 {
     fields.id == id.as_bytes()
         && fields.outcome == game.outcome.text()
-        && game.start.is_text(fields.start)
+        && is_text_of(fields.start, &game.start)
         && spell(fields.moves, game.moves.as_slice())
 }
 

@@ -1,5 +1,5 @@
 -- What a fuse does to a source and to a sink, and what a source gives that never ends.
-use Rattle.std.specs.Prelude.{◌≡◌, ℕ, ◌-◌, ◌<◌, ◌/◌, min, Bool, true, false, ◌&&◌, ◌||◌, ◌==◌, nat_lt, if◌then◌else◌, List, [], ◌∷◌, length, take, Result, Ok, is_err}
+use Rattle.std.specs.Prelude.{◌≡◌, ℕ, ◌-◌, ◌<◌, ◌/◌, min, Bool, true, false, ◌&&◌, ◌||◌, ◌==◌, nat_lt, if◌then◌else◌, List, [], ◌∷◌, length, take, drop, Option, Result, Ok, IfOk, IfSome, is_err}
 use Rattle.std.specs.Io.KnownBytes.{Appends}
 use Rattle.pb_io.specs.Sink.{SinkState}
 use Rattle.pb_io.specs.Source.{SourceState}
@@ -29,7 +29,14 @@ pub record FuseFlush {E : Type 0} (old : SinkState) (good good_after : ℕ) (ans
   pub fails : is_err answer ≡ (old.failed || (good == 0))
   pub one_less : good_after ≡ good - 1
 
--- A fill that gives this byte, once, wherever there is room.
-pub record GivesOne {E : Type 0} (value : ℕ) (answer : Result ℕ E) (slice : List ℕ) : Type 0 where
+-- A fill that gives this byte, once, wherever there is room. What stands behind it in the slice stays.
+pub record GivesOne {E : Type 0} (value : ℕ) (answer : Result ℕ E) (slice slice' : List ℕ) : Type 0 where
   pub one : answer ≡ Ok (min 1 (length slice))
-  pub byte : 0 < length slice → take 1 slice ≡ value ∷ []
+  pub byte : 0 < length slice → take 1 slice' ≡ value ∷ []
+  pub behind : drop 1 slice' ≡ drop 1 slice
+
+-- A fill from bytes in memory that gives at most so many at once: as many as are left and there is room for. What stands
+-- behind them in the slice stays.
+pub record GivesPiece {E : Type 0} (to_come : Option (List ℕ)) (piece : ℕ) (answer : Result ℕ E) (slice slice' : List ℕ) : Type 0 where
+  pub count : IfSome to_come (λ bytes. answer ≡ Ok (min piece (min (length bytes) (length slice))))
+  pub behind : IfOk answer (λ n. drop n slice' ≡ drop n slice)

@@ -1,12 +1,12 @@
 //! Ends that try a program: a source and a sink that fail once their fuse blows, and a source that never ends.
 
-ghost use Rattle.std.specs.Prelude.{◌≡◌, ℕ, ◌+◌, ◌^◌, ◌<◌, ◌≤◌, [], OnErr, Some, None, false, length};
-ghost use Rattle.pb_io.specs.Fuse.{FuseFill, FuseFlush, FusePut, GivesOne};
+ghost use Rattle.std.specs.Prelude.{◌≡◌, ℕ, ◌+◌, ◌^◌, ◌<◌, ◌≤◌, [], OnErr, OnOk, Some, None, false, length};
+ghost use Rattle.pb_io.specs.Fuse.{FuseFill, FuseFlush, FusePut, GivesOne, GivesPiece};
 ghost use Rattle.pb_io.specs.Sink.{Flush, Put};
 ghost use Rattle.pb_io.specs.Source.{Fill};
 
 use crate::sink::Sink;
-use crate::source::{Failed, MemSource, Source};
+use crate::source::{Failed, FillCounts, MemSource, Source};
 use std::alloc::Global;
 
 /// Bytes in memory, of which a given number of fills pass. The next one fails, and so does each later one.
@@ -14,10 +14,11 @@ use std::alloc::Global;
 /// A fill of an empty slice is not counted: it fails only once another fill has failed.
 #[derive(Drop)]
 pub struct FuseSource<'a> {
-    source: MemSource<'a>,
+    /// The bytes, in pieces.
+    pub source: MemSource<'a>,
     /// How many of the next fills pass, where none has failed.
     pub good: u32,
-    fills: u64,
+    fills: FillCounts,
     failed: bool,
 }
 
@@ -25,28 +26,31 @@ impl<'a> FuseSource<'a> {
     /// The bytes, in pieces of at most `piece`, until `good` fills have passed.
     pub fn new(bytes: &'a [u8], piece: usize, good: u32) -> FuseSource<'a>
         requires { 1 ≤ piece }
-        ensures state { ⟦<FuseSource<'a> as Source>⟧.state result ≡ record { to_come = Some bytes.now; fills = 0; ended = false; failed = false } }
+        ensures state { ⟦<FuseSource<'a> as Source>⟧.state result ≡ record { to_come = Some bytes.now; fills = 0; empty_fills = 0; ended = false; failed = false } }
         ensures good { result.good ≡ good }
+        ensures piece { result.source.piece ≡ piece }
     {
         FuseSource {
             source: MemSource::new(bytes, piece),
             good,
-            fills: 0,
+            fills: FillCounts::none(),
             failed: false,
         }
     }
 }
 
 impl<'a> Source for FuseSource<'a> {
-    ghost state = { λ s. record { to_come = (⟦<MemSource<'a> as Source>⟧.state s.source).to_come; fills = s.fills; ended = (⟦<MemSource<'a> as Source>⟧.state s.source).ended; failed = s.failed } };
+    ghost state = { λ s. record { to_come = (⟦<MemSource<'a> as Source>⟧.state s.source).to_come; fills = s.fills.some; empty_fills = s.fills.empty; ended = (⟦<MemSource<'a> as Source>⟧.state s.source).ended; failed = s.failed } };
 
     fn fill(&mut self, into: &mut [u8]) -> Result<usize, Failed>
         ensures fill { Fill (⟦<FuseSource<'a> as Source>⟧.state self.old) (⟦<FuseSource<'a> as Source>⟧.state self.new) result into.new }
         ensures fuse { FuseFill (⟦<FuseSource<'a> as Source>⟧.state self.old) self.old.good self.new.good result into.new }
+        ensures gives { OnOk result (GivesPiece (⟦<FuseSource<'a> as Source>⟧.state self.old).to_come self.old.source.piece result into.old into.new) }
         ensures untouched { OnErr result (into.new ≡ into.old) }
+        ensures piece { self.new.source.piece ≡ self.old.source.piece }
     {
+        self.fills.add(into.len());
         if !into.is_empty() {
-            self.fills = self.fills.saturating_add(1);
             self.failed = self.failed || self.good == 0;
             self.good = self.good.saturating_sub(1);
         }
@@ -74,12 +78,13 @@ pub struct FuseSink {
     pub starved: bool,
     failed: bool,
     flushed: bool,
+    flushes: u64,
 }
 
 impl FuseSink {
     /// A sink with no bytes, of which `good` puts and flushes pass.
     pub fn new(alloc: Global, good: u32) -> FuseSink
-        ensures state { ⟦<FuseSink as Sink>⟧.state result ≡ record { bytes = Some []; failed = false; flushed = false } }
+        ensures state { ⟦<FuseSink as Sink>⟧.state result ≡ record { bytes = Some []; failed = false; flushed = false; flushes = 0 } }
         ensures good { result.good ≡ good }
         ensures fed { result.starved ≡ false }
     {
@@ -89,6 +94,7 @@ impl FuseSink {
             starved: false,
             failed: false,
             flushed: false,
+            flushes: 0,
         }
     }
 
@@ -101,7 +107,7 @@ impl FuseSink {
 }
 
 impl Sink for FuseSink {
-    ghost state = { λ s. record { bytes = Some s.bytes.items; failed = s.failed; flushed = s.flushed } };
+    ghost state = { λ s. record { bytes = Some s.bytes.items; failed = s.failed; flushed = s.flushed; flushes = s.flushes } };
 
     fn put(&mut self, bytes: &[u8]) -> Result<(), Failed>
         ensures put { Put (⟦<FuseSink as Sink>⟧.state self.old) (⟦<FuseSink as Sink>⟧.state self.new) result bytes.now }
@@ -131,7 +137,11 @@ impl Sink for FuseSink {
         self.failed = self.failed || self.good == 0;
         self.good = self.good.saturating_sub(1);
         self.flushed = !self.failed;
-        if self.failed { Err(Failed) } else { Ok(()) }
+        if self.failed {
+            return Err(Failed);
+        }
+        self.flushes = self.flushes.saturating_add(1);
+        Ok(())
     }
 
     fn failed(&self) -> bool {
@@ -144,32 +154,35 @@ impl Sink for FuseSink {
 pub struct NeverSource {
     /// The byte.
     pub byte: u8,
-    fills: u64,
+    fills: FillCounts,
 }
 
 impl NeverSource {
     /// A source of nothing but this byte.
     pub fn new(byte: u8) -> NeverSource
-        ensures state { ⟦<NeverSource as Source>⟧.state result ≡ record { to_come = None; fills = 0; ended = false; failed = false } }
+        ensures state { ⟦<NeverSource as Source>⟧.state result ≡ record { to_come = None; fills = 0; empty_fills = 0; ended = false; failed = false } }
         ensures byte { result.byte ≡ byte }
     {
-        NeverSource { byte, fills: 0 }
+        NeverSource {
+            byte,
+            fills: FillCounts::none(),
+        }
     }
 }
 
 impl Source for NeverSource {
-    ghost state = { λ s. record { to_come = None; fills = s.fills; ended = false; failed = false } };
+    ghost state = { λ s. record { to_come = None; fills = s.fills.some; empty_fills = s.fills.empty; ended = false; failed = false } };
 
     fn fill(&mut self, into: &mut [u8]) -> Result<usize, Failed>
         ensures fill { Fill (⟦<NeverSource as Source>⟧.state self.old) (⟦<NeverSource as Source>⟧.state self.new) result into.new }
-        ensures one { GivesOne self.old.byte result into.new }
+        ensures one { GivesOne self.old.byte result into.old into.new }
         ensures byte { self.new.byte ≡ self.old.byte }
     {
+        self.fills.add(into.len());
         if into.is_empty() {
             return Ok(0);
         }
         into[0] = self.byte;
-        self.fills = self.fills.saturating_add(1);
         Ok(1)
     }
 

@@ -1,8 +1,26 @@
-//! Laws of the lines of a stream. Each is the contract of a function that does nothing.
+//! Laws of the lines of a stream, of the limits, and of equality (`==`) between failures. Each is the contract of a function that does nothing.
 
 ghost use Rattle.std.specs.Prelude.{◌≡◌, ◌≤◌, ℕ, List, ◌++◌, length};
+ghost use Rattle.std.specs.Bool.{Decides};
 ghost use Rattle.std.specs.List.{join_with_byte};
-ghost use Rattle.pb_io.specs.Lines.{ended_lines, lines, pieces};
+ghost use Rattle.pb_io.specs.Lines.{ended_lines, line_limit, lines, pieces};
+ghost use Rattle.pb_io.specs.Reads.{chunk_len};
+ghost use Rattle.pb_io.specs.declared.lines.TheConstants.{LINE_LIMIT};
+ghost use Rattle.pb_io.specs.declared.source.Failed.{Failed};
+ghost use Rattle.pb_io.specs.declared.source.TheConstants.{CHUNK_LEN};
+
+use crate::source::Failed;
+
+/// The longest line that is kept, and how much room a source is given at a time, are the numbers that the definitions have.
+pub fn limits()
+    ensures line { LINE_LIMIT ≡ line_limit }
+    ensures chunk { CHUNK_LEN ≡ chunk_len }
+{}
+
+/// Failures are equal (`==`).
+pub fn equal_failures()
+    ensures { (e f : Failed) → Decides (⟦<Failed as PartialEq>⟧.eq e f) (e ≡ f) }
+{}
 
 /// The pieces of a text, joined by LFs, are the text.
 pub fn pieces_join()

@@ -18,7 +18,7 @@ pub use collecting::{CollectFault, collect};
 pub use journaling::{JournalFault, collect_journaled};
 pub use pb_accepted::{
     Game, Id, Ledger, Line, ListTally, MAX_CAP, MAX_LEAST, MAX_PLIES, MapTally, MoveList, Outcome,
-    Plies, Refusal, Reply, Row, Rules, Start, Tally, check_line, scale,
+    Plies, Refusal, Reply, Row, Rules, Tally, check_line, scale,
 };
 pub use pb_export::{ExportFault, export};
 pub use pb_saved::{LoadError, PassedLines, ReplayError, load, replay, save};

@@ -1,10 +1,20 @@
 //! Laws of move codes, of keys, of books and of what they hold. Each is the contract of a function that does nothing.
 
+ghost use Rattle.std.specs.Bool.{Decides};
+ghost use Rattle.std.specs.Prelude.{◌≡◌};
 ghost use Rattle.pb_poly.specs.Book.{BookIsOne, BytesAreOne};
 ghost use Rattle.pb_poly.specs.Code.{CodeIsOne};
 ghost use Rattle.pb_poly.specs.Found.{FoundIsOne};
 ghost use Rattle.pb_poly.specs.Key.{KeyIsOne, KeyIsParity};
+ghost use Rattle.pb_poly.specs.declared.entry.Entry.{Entry};
+ghost use Rattle.pb_poly.specs.declared.reading.BookError.{BookError};
+ghost use Rattle.pb_poly.specs.declared.table.TableError.{TableError};
+ghost use Rattle.pb_poly.specs.declared.table_file.TableFault.{TableFault};
 
+use crate::entry::Entry;
+use crate::reading::BookError;
+use crate::table::TableError;
+use crate::table_file::TableFault;
 pub use pb_io::laws::{lines_begin, lines_few, pieces_join};
 
 /// No two legal moves share a code.
@@ -23,6 +33,14 @@ pub fn key_is_one()
 pub fn book_is_one()
     ensures entries { BookIsOne }
     ensures bytes { BytesAreOne }
+{}
+
+/// Entries, and reasons why bytes give no book or no table, are equal (`==`) exactly where they are one value.
+pub fn equal_values()
+    ensures entry { (e f : Entry) → Decides (⟦<Entry as PartialEq>⟧.eq e f) (e ≡ f) }
+    ensures book { (e f : BookError) → Decides (⟦<BookError as PartialEq>⟧.eq e f) (e ≡ f) }
+    ensures table { (e f : TableError) → Decides (⟦<TableError as PartialEq>⟧.eq e f) (e ≡ f) }
+    ensures fault { (e f : TableFault) → Decides (⟦<TableFault as PartialEq>⟧.eq e f) (e ≡ f) }
 {}
 
 /// A book holds one list of moves and weights for a setup.

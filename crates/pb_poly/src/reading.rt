@@ -183,8 +183,7 @@ impl Reading {
         fills: u32,
     ) -> Result<Book, BookError>
         requires empty { self ≡ ([], []) }
-        requires room { 0 < length chunk.old }
-        requires fits { length chunk.old ≤ chunk_len }
+        requires room { length chunk.old ≡ chunk_len }
         ensures found { IfOk result (ReadsBook fills (S.state source.old) (S.state source.new)) }
         ensures err { IfErr result (FindsNoBook fills (S.state source.old) (S.state source.new)) }
     {

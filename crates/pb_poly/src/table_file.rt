@@ -11,24 +11,31 @@ use crate::table::{Table, TableError, read_table};
 use pb_io::Source;
 use std::alloc::{AllocError, Global};
 use std::marker::Model;
+use thiserror::Error;
 
 /// The most bytes that a table file may have.
 const TABLE_LIMIT: usize = 16_384;
 
 /// Why a source gave no table.
-#[derive(Clone, Copy, Debug, PartialEq, Eq)]
+#[derive(Clone, Copy, Debug, PartialEq, Eq, Error)]
 pub enum TableFault {
     /// More bytes came than a table file may have. None of them was judged.
+    #[error("more than 16384 bytes")]
     Long,
     /// The line of this number, from 1, isn't 16 hexadecimal digits. Each line before it is.
+    #[error("line {0} isn't 16 hexadecimal digits")]
     Line(usize),
     /// Each line is 16 hexadecimal digits, and there are this many and not 781.
+    #[error("{0} lines")]
     Count(usize),
     /// The source has failed.
+    #[error("the input has failed")]
     Read,
     /// The fills were used up, and none was the end or a fault.
+    #[error("the input has no end")]
     Endless,
     /// No memory, for the bytes before the first fill or for the table after the last.
+    #[error("no memory")]
     Memory,
 }
 

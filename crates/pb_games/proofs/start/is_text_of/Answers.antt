@@ -3,8 +3,8 @@ use Rattle.pb_board.specs.Fen.{FenText}
 use Rattle.pb_board.proofs.Unique.{one_text}
 use Rattle.pb_games.proofs.start.is_text_of.Goals as goal
 
-pub returns : goal.returns
-returns c =
+pub returns-else-is_initial : goal.returns-else-is_initial
+returns-else-is_initial c =
     let f = c.args.fen.now in
     let text = c.args.text.now in
     let own = c.as_bytes.result.now in

@@ -3,7 +3,7 @@ use Rattle.std.specs.Io.KnownBytes.{Appends}
 use Rattle.pb_io.specs.Parts.{parts_joined}
 use Rattle.pb_io.proofs.parts.put_parts.Given as goal
 
--- the parts before this one have been put, and a sink that had failed still has
+-- the parts before this one have been put and not handed on, and a sink that had failed still has
 abbrev pub invariant-loop-part : goal.invariant-loop-part
 invariant-loop-part g l =
     let state = g.K.Sink.state in
@@ -11,4 +11,5 @@ invariant-loop-part g l =
       written : (done : List ℕ) × Appends (state l.initial.sink).bytes (state l.sink).bytes done
           × (done ++ (parts_joined (drop l.part-index l.parts) ++ l.end) ≡ parts_joined l.parts ++ l.end);
       failed : (state l.initial.sink).failed ≡ true → (state l.sink).failed ≡ true;
+      flushes : (state l.sink).flushes ≡ (state l.initial.sink).flushes;
     }

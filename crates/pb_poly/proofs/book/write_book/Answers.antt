@@ -24,6 +24,7 @@ returns-in_err-write_entry g c =
       failed = put.failed;
       stays_failed = λ _. refl;
       flushed = put.flushed;
+      flushes = put.flushes ∙ c.loop-entry.invariant.flushes;
     })
 
 pub returns : goal.returns
@@ -32,4 +33,4 @@ returns g c =
     let entries : List Entry = c.entries-entry-items.result.now in
     let all : take c.loop-entry.entry-index entries ≡ c.args.book.now = take_all c.loop-entry.entry-index entries (omega arith) ∙ c.entries-entry-items.ensures.value in
     let put = subst (λ (es : List Entry). Appends (state c.args.sink.now).bytes (state c.loop-entry.sink).bytes (book_bytes es)) all c.loop-entry.invariant.put in
-    Writes-flushed (state c.args.sink.now) (state c.loop-entry.sink) (state c.flush.new.self) c.flush.result (book_bytes c.args.book.now) put c.loop-entry.invariant.works c.flush.ensures
+    Writes-flushed (state c.args.sink.now) (state c.loop-entry.sink) (state c.flush.new.self) c.flush.result (book_bytes c.args.book.now) put c.loop-entry.invariant.works c.loop-entry.invariant.flushes c.flush.ensures

@@ -1,5 +1,5 @@
 use Rattle.std.proofs.Common.{◌<◌, length, Ok, ap, arith, rules}
-use Rattle.std.proofs.lemmas.List.{length-set, take_more_set}
+use Rattle.std.proofs.lemmas.List.{drop-set-lt, length-set, take_more_set}
 use Rattle.pb_io.proofs.fuse.NeverSourceSource.fill.Goals as goal
 
 pub returns-clause-one : goal.returns-clause-one
@@ -9,4 +9,5 @@ returns-clause-one c =
     record {
       one = ap Ok (omega (arith, length-set into 0 c.args.self.now.byte, some));
       byte = λ _. take_more_set into 0 c.args.self.now.byte some;
+      behind = drop-set-lt 1 into 0 c.args.self.now.byte (omega arith);
     }

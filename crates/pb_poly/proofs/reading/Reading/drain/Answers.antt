@@ -18,8 +18,7 @@ loop-made-preserved g c =
       now.0 ++ take c.in-Ok.count c.fill.new.into,
       ReadsOn-more chunk_len c.loop-made._made (state c.args.source.now) (state c.loop-made.source) (state c.fill.new.self) now.0 c.fill.new.into room fits now.1 c.in-Ok.count some c.in-Ok.ensures,
       c.in_ok-feed.ensures.ok now.0 now.2,
-      room,
-      fits,
+      omega arith,
     )
 
 pub returns-in_default-clause-found : goal.returns-in_default-clause-found

@@ -1,4 +1,4 @@
-use Rattle.std.proofs.Common.{ℕ, List, length, ◌<◌, ◌≤◌}
+use Rattle.std.proofs.Common.{◌≡◌, ℕ, List, length}
 use Rattle.pb_io.specs.Reads.{ReadsOn, chunk_len}
 use Rattle.pb_poly.specs.Reading.{Splits}
 use Rattle.pb_poly.proofs.reading.Reading.drain.Given as goal
@@ -8,4 +8,4 @@ abbrev pub invariant-loop-made : goal.invariant-loop-made
 invariant-loop-made g l =
     let state = g.S.Source.state in
     (came : List ℕ) × ReadsOn chunk_len l._made (state l.initial.source) (state l.source) came × Splits came l.self.0 l.self.1
-    × (0 < length l.chunk) × (length l.chunk ≤ chunk_len)
+    × (length l.chunk ≡ chunk_len)
