@@ -43,6 +43,7 @@ pub(crate) struct JournalFile<'f, 'p, 'a> {
     sync: bool,
     failed: bool,
     flushed: bool,
+    flushes: u64,
 }
 
 impl<'f, 'p, 'a> JournalFile<'f, 'p, 'a> {
@@ -69,6 +70,7 @@ impl<'f, 'p, 'a> JournalFile<'f, 'p, 'a> {
             sync,
             failed: false,
             flushed: false,
+            flushes: 0,
         })
     }
 
@@ -87,7 +89,7 @@ impl<'f, 'p, 'a> JournalFile<'f, 'p, 'a> {
 }
 
 impl Sink for JournalFile<'_, '_, '_> {
-    ghost state = { λ s. record { bytes = None; failed = s.failed; flushed = s.flushed } };
+    ghost state = { λ s. record { bytes = None; failed = s.failed; flushed = s.flushed; flushes = s.flushes } };
 
     fn put(&mut self, bytes: &[u8]) -> Result<(), Failed> {
         self.flushed = false;
@@ -98,7 +100,11 @@ impl Sink for JournalFile<'_, '_, '_> {
     fn flush(&mut self) -> Result<(), Failed> {
         self.failed = self.failed || self.hand_on().is_err();
         self.flushed = !self.failed;
-        if self.failed { Err(Failed) } else { Ok(()) }
+        if self.failed {
+            return Err(Failed);
+        }
+        self.flushes = self.flushes.saturating_add(1);
+        Ok(())
     }
 
     fn failed(&self) -> bool {

@@ -2,7 +2,7 @@
 
 use crate::stop::Stop;
 use pb_cli::Fault;
-use pb_messages::{is_open, Message, Messages};
+use pb_messages::{Message, Messages, is_open};
 
 /// Where the files of standard input and output are found, whatever their names.
 pub(crate) const INPUT: &str = "/dev/stdin";
