@@ -8,10 +8,8 @@ ghost use Rattle.pb_points.specs.Rows.{IsUpTo};
 use crate::blocks::{
     Blocks, in_blocks, listed, no_blocks, place_in, place_of, points_of, push_row, times_of,
 };
-use crate::book::add_frequent;
 use crate::row::{Row, sort_rows};
 use crate::tally::Tally;
-use pb_poly::Entry;
 use std::alloc::{AllocError, Global};
 
 /// The blocks from which on a full list of them is added up before it grows.
@@ -133,14 +131,5 @@ impl Tally for BagTally {
 
     fn rows(&self, alloc: Global) -> Result<Vec<Row>, AllocError> {
         sums_of(alloc, &self.blocks)
-    }
-
-    fn add_book(
-        &self,
-        alloc: Global,
-        least: u64,
-        entries: &mut Vec<Entry>,
-    ) -> Result<(), AllocError> {
-        add_frequent(alloc, self.rows(alloc)?, least, entries)
     }
 }

@@ -5,6 +5,7 @@
 mod bag_tally;
 mod blocks;
 mod book;
+pub mod laws;
 mod list_tally;
 mod map_tally;
 mod part_tally;

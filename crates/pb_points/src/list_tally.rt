@@ -5,10 +5,8 @@ ghost use Rattle.pb_points.specs.ListTally.{list_content, with_more};
 ghost use Rattle.pb_points.specs.Rows.{is_row, row_at};
 ghost use Rattle.pb_points.specs.Tally.{HasRoomFor, MakesRow, held_of};
 
-use crate::book::add_frequent;
 use crate::row::{Row, sort_rows};
 use crate::tally::Tally;
-use pb_poly::Entry;
 use std::alloc::{AllocError, Global};
 use std::marker::Model;
 
@@ -101,14 +99,5 @@ impl Tally for ListTally {
         let mut rows = Vec::from_slice(alloc, &self.rows)?;
         sort_rows(&mut rows);
         Ok(rows)
-    }
-
-    fn add_book(
-        &self,
-        alloc: Global,
-        least: u64,
-        entries: &mut Vec<Entry>,
-    ) -> Result<(), AllocError> {
-        add_frequent(alloc, self.rows(alloc)?, least, entries)
     }
 }

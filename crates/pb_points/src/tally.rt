@@ -2,6 +2,7 @@
 
 ghost use Rattle.std.specs.Prelude.{◌≡◌, ℕ, ◌↔◌, Option, None, Some, IsSome, IfOk, OnOk, OnErr, AllPairs, Contains};
 
+use crate::book::add_frequent;
 use crate::row::Row;
 use pb_poly::Entry;
 use std::alloc::{AllocError, Global};
@@ -52,7 +53,8 @@ pub trait Tally: Drop {
         ensures order { IfOk result (λ v. AllPairs IsBelow v.items) }
         ensures each { IfOk result (λ v. (r : Row) → Contains v.items r ↔ (content self.now r.key r.code ≡ Some (held_of r))) };
 
-    /// Adds the book of the rows to the entries, of the moves that were played at least so many times.
+    /// Adds the book of the rows to the entries, of the moves that were played at least so many
+    /// times. This goes by `rows`; a tally that keeps its rows in parts may list fewer at once.
     ///
     /// # Errors
     ///
@@ -65,5 +67,8 @@ pub trait Tally: Drop {
         entries: &mut Vec<Entry>,
     ) -> Result<(), AllocError>
         ensures ok { OnOk result (AddsBookOf (content self.now) least entries.old.items entries.new.items) }
-        ensures err { OnErr result (AddsSome entries.old.items entries.new.items) };
+        ensures err { OnErr result (AddsSome entries.old.items entries.new.items) }
+    {
+        add_frequent(alloc, self.rows(alloc)?, least, entries)
+    }
 }
