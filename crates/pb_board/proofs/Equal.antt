@@ -1,22 +1,33 @@
--- What `==` of setups says, part by part.
-use Rattle.std.proofs.Common.{◌≡◌, ℕ, Bool, ◌&&◌, Option, Some, None, refl, sym, ap, ap₂, eqb}
+-- What `==` of the public types says, part by part.
+use Rattle.std.proofs.Common.{◌≡◌, ℕ, Bool, ◌&&◌, List, length, take, Option, Some, None, refl, sym, ap, ap₂, ◌∙◌, eqb}
 use Rattle.std.proofs.lemmas.Bool.{false≢true}
 use Rattle.std.proofs.lemmas.Bool.Decides.{Decides-and, Decides-like, Decides-eqb}
+use Rattle.std.proofs.lemmas.List.{take_at}
 use Rattle.std.proofs.lemmas.Option.{none-some, same_Some}
 use Rattle.std.proofs.lemmas.Slice.Eq.{slice_eq-Decides}
 use Rattle.std.specs.Bool.{Decides, beq}
 use Rattle.std.specs.Cmp.{booleans_Decides}
 use Rattle.std.specs.Option.{option_eq}
 use Rattle.std.specs.Cmp.Lexicographic.{pointwise}
-use denote.Enum.Bare.{sameb, same_true, true_same}
+use denote.Enum.Bare.{Bare, sameb, same_true, true_same}
+use denote.Enum.Declared.{Declared}
+use Rattle.pb_board.specs.contracts.castling.Castling as castling
 use Rattle.pb_board.specs.contracts.piece.Colour as colour
 use Rattle.pb_board.specs.contracts.piece.Kind as kind
+use Rattle.pb_board.specs.contracts.refusal.FenError as fen_error
+use Rattle.pb_board.specs.contracts.refusal.SetupError as setup_error
+use Rattle.pb_board.specs.declared.castling.Castling.{Castling}
+use Rattle.pb_board.specs.declared.castling.CastlingSquares.{CastlingSquares}
 use Rattle.pb_board.specs.declared.piece.Colour.{Colour}
 use Rattle.pb_board.specs.declared.piece.Kind.{Kind}
 use Rattle.pb_board.specs.declared.piece.Piece.{Piece}
+use Rattle.pb_board.specs.declared.refusal.FenError.{FenError}
+use Rattle.pb_board.specs.declared.refusal.SetupError.{SetupError}
+use Rattle.pb_board.specs.declared.setup.Carried.{Carried}
 use Rattle.pb_board.specs.declared.setup.Rights.{Rights}
 use Rattle.pb_board.specs.Board.{Board}
-use Rattle.pb_board.specs.Position.{Position}
+use Rattle.pb_board.specs.Padded.{padded}
+use Rattle.pb_board.specs.Position.{Position, Record, record_of}
 
 options : {A : Type 0} {E : A → A → Bool} → ((a b : A) → Decides (E a b) (a ≡ b)) → (x y : Option A) → Decides (option_eq E x y) (x ≡ y)
 options each None None = (λ e. refl, λ e. refl)
@@ -24,21 +35,37 @@ options each None (Some b) = (λ e. absurd (false≢true e), λ e. absurd (none-
 options each (Some a) None = (λ e. absurd (false≢true e), λ e. absurd (none-some a (sym e)))
 options each (Some a) (Some b) = Decides-like _ (λ e. ap Some e) (same_Some a b) (each a b)
 
+bare : (D : Declared) → Bare D.parts → (a b : D.D) → Decides (sameb D a b) (a ≡ b)
+bare D no_fields a b = (same_true D no_fields a b, true_same D a b)
+
 pub colours : (a b : Colour) → Decides (sameb colour.the_type a b) (a ≡ b)
-colours a b = (same_true colour.the_type tt a b, true_same colour.the_type a b)
+colours = bare colour.the_type tt
 
-kinds : (a b : Kind) → Decides (sameb kind.the_type a b) (a ≡ b)
-kinds a b = (same_true kind.the_type tt a b, true_same kind.the_type a b)
+pub kinds : (a b : Kind) → Decides (sameb kind.the_type a b) (a ≡ b)
+kinds = bare kind.the_type tt
 
-pieces : (a b : Piece) → Decides (sameb colour.the_type a.colour b.colour && sameb kind.the_type a.kind b.kind) (a ≡ b)
+pub castlings : (a b : Castling) → Decides (sameb castling.the_type a b) (a ≡ b)
+castlings = bare castling.the_type tt
+
+pub setup_errors : (a b : SetupError) → Decides (sameb setup_error.the_type a b) (a ≡ b)
+setup_errors = bare setup_error.the_type tt
+
+pub fen_errors : (a b : FenError) → Decides (sameb fen_error.the_type a b) (a ≡ b)
+fen_errors = bare fen_error.the_type tt
+
+abbrev same_pieces : Piece → Piece → Bool
+same_pieces a b = sameb colour.the_type a.colour b.colour && sameb kind.the_type a.kind b.kind
+
+pub pieces : (a b : Piece) → Decides (same_pieces a b) (a ≡ b)
 pieces a b = Decides-like _
     (λ e. ap₂ (λ (c : Colour) (k : Kind). record { colour = c; kind = k }) e.0 e.1)
     (λ e. (ap (λ (p : Piece). p.colour) e, ap (λ (p : Piece). p.kind) e))
     (Decides-and _ _ (colours a.colour b.colour) (kinds a.kind b.kind))
 
-rights : (a b : Rights) → Decides
-    (beq a.white_short b.white_short && (beq a.white_long b.white_long && (beq a.black_short b.black_short && beq a.black_long b.black_long)))
-    (a ≡ b)
+abbrev same_rights : Rights → Rights → Bool
+same_rights a b = beq a.white_short b.white_short && (beq a.white_long b.white_long && (beq a.black_short b.black_short && beq a.black_long b.black_long))
+
+pub rights : (a b : Rights) → Decides (same_rights a b) (a ≡ b)
 rights a b = Decides-like _
     (λ e. ap₂ (λ (w v : Bool × Bool). record { white_short = w.0; white_long = w.1; black_short = v.0; black_long = v.1 })
     (ap₂ (λ (s l : Bool). (s, l)) e.0 e.1.0) (ap₂ (λ (s l : Bool). (s, l)) e.1.1.0 e.1.1.1))
@@ -47,21 +74,54 @@ rights a b = Decides-like _
     (Decides-and _ _ (booleans_Decides a.white_long b.white_long)
     (Decides-and _ _ (booleans_Decides a.black_short b.black_short) (booleans_Decides a.black_long b.black_long))))
 
-pub rest : (a b : Rights) (x y : Option ℕ) → Decides
-    ((beq a.white_short b.white_short && (beq a.white_long b.white_long && (beq a.black_short b.black_short && beq a.black_long b.black_long)))
-    && option_eq (λ (m n : ℕ). eqb m n) x y)
-    ((a ≡ b) × (x ≡ y))
-rest a b x y = Decides-and _ _ (rights a b) (options Decides-eqb x y)
+abbrev same_boards : Board → Board → Bool
+same_boards a b = pointwise (option_eq same_pieces) a b
 
-pub boards : (a b : Board) → Decides
-    (pointwise (option_eq (λ (x y : Piece). sameb colour.the_type x.colour y.colour && sameb kind.the_type x.kind y.kind)) a b)
-    (a ≡ b)
+boards : (a b : Board) → Decides (same_boards a b) (a ≡ b)
 boards a b = slice_eq-Decides (options pieces) a b _ refl
 
-pub positions : (p q : Position) (x y z : Bool) → Decides x (p.board ≡ q.board) → Decides y (p.turn ≡ q.turn) →
-    Decides z ((p.rights ≡ q.rights) × (p.ep ≡ q.ep)) → Decides (x && (y && z)) (p ≡ q)
-positions p q x y z b t r = Decides-like _
+abbrev same_positions : Position → Position → Bool
+same_positions p q = same_boards p.board q.board && (sameb colour.the_type p.turn q.turn && (same_rights p.rights q.rights && option_eq (λ (m n : ℕ). eqb m n) p.ep q.ep))
+
+pub positions : (p q : Position) → Decides (same_positions p q) (p ≡ q)
+positions p q = Decides-like _
     (λ e. ap₂ (λ (s : Board × Colour) (l : Rights × Option ℕ). record { board = s.0; turn = s.1; rights = l.0; ep = l.1 })
     (ap₂ (λ (s : Board) (c : Colour). (s, c)) e.0 e.1.0) (ap₂ (λ (s : Rights) (o : Option ℕ). (s, o)) e.1.1.0 e.1.1.1))
     (λ e. (ap (λ (s : Position). s.board) e, (ap (λ (s : Position). s.turn) e, (ap (λ (s : Position). s.rights) e, ap (λ (s : Position). s.ep) e))))
-    (Decides-and _ _ b (Decides-and _ _ t r))
+    (Decides-and _ _ (boards p.board q.board) (Decides-and _ _ (colours p.turn q.turn)
+    (Decides-and _ _ (rights p.rights q.rights) (options Decides-eqb p.ep q.ep))))
+
+pub carried : (a b : Carried) → Decides (eqb a.from b.from && (eqb a.to b.to && same_pieces a.piece b.piece)) (a ≡ b)
+carried a b = Decides-like _
+    (λ e. ap₂ (λ (q : ℕ) (r : ℕ × Piece). record { from = q; to = r.0; piece = r.1 }) e.0 (ap₂ (λ (q : ℕ) (p : Piece). (q, p)) e.1.0 e.1.1))
+    (λ e. (ap (λ (c : Carried). c.from) e, (ap (λ (c : Carried). c.to) e, ap (λ (c : Carried). c.piece) e)))
+    (Decides-and _ _ (Decides-eqb a.from b.from) (Decides-and _ _ (Decides-eqb a.to b.to) (pieces a.piece b.piece)))
+
+pub castling_squares : (a b : CastlingSquares) → Decides
+    (eqb a.king_from b.king_from && (eqb a.king_to b.king_to && (eqb a.rook_from b.rook_from && eqb a.rook_to b.rook_to)))
+    (a ≡ b)
+castling_squares a b = Decides-like _
+    (λ e. ap₂ (λ (k r : ℕ × ℕ). record { king_from = k.0; king_to = k.1; rook_from = r.0; rook_to = r.1 })
+    (ap₂ (λ (m n : ℕ). (m, n)) e.0 e.1.0) (ap₂ (λ (m n : ℕ). (m, n)) e.1.1.0 e.1.1.1))
+    (λ e. (
+      ap (λ (s : CastlingSquares). s.king_from) e,
+      (
+        ap (λ (s : CastlingSquares). s.king_to) e,
+        (ap (λ (s : CastlingSquares). s.rook_from) e, ap (λ (s : CastlingSquares). s.rook_to) e),
+      ),
+    ))
+    (Decides-and _ _ (Decides-eqb a.king_from b.king_from) (Decides-and _ _ (Decides-eqb a.king_to b.king_to)
+    (Decides-and _ _ (Decides-eqb a.rook_from b.rook_from) (Decides-eqb a.rook_to b.rook_to))))
+
+pub records : (f g : Record) → Decides (eqb f.half g.half && (eqb f.full g.full && same_positions f.setup g.setup)) (f ≡ g)
+records f g = Decides-like _
+    (λ e. ap₂ (λ (p : Position) (c : ℕ × ℕ). record_of p c.0 c.1) e.1.1 (ap₂ (λ (m n : ℕ). (m, n)) e.0 e.1.0))
+    (λ e. (ap (λ (r : Record). r.half) e, (ap (λ (r : Record). r.full) e, ap (λ (r : Record). r.setup) e)))
+    (Decides-and _ _ (Decides-eqb f.half g.half) (Decides-and _ _ (Decides-eqb f.full g.full) (positions f.setup g.setup)))
+
+-- short texts in buffers of one size, of which the bytes and the lengths are compared
+pub texts : (room : ℕ) (a b : List ℕ) → Decides (pointwise (λ (m n : ℕ). eqb m n) (padded room a) (padded room b) && eqb (length a) (length b)) (a ≡ b)
+texts room a b = Decides-like _
+    (λ e. sym (take_at a _ (length a) refl) ∙ ap₂ (λ (n : ℕ) (bytes : List ℕ). take n bytes) e.1 e.0 ∙ take_at b _ (length b) refl)
+    (λ e. (ap (λ (t : List ℕ). padded room t) e, ap (λ (t : List ℕ). length t) e))
+    (Decides-and _ _ (slice_eq-Decides Decides-eqb (padded room a) (padded room b) _ refl) (Decides-eqb (length a) (length b)))

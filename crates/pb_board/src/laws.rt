@@ -1,13 +1,26 @@
-//! Laws of FEN records and their texts, and of equality (`==`) between setups.
+//! Laws of FEN records and their texts, and of equality (`==`) between the values of each public type.
 
 ghost use Rattle.std.specs.Prelude.{◌≡◌, ℕ, List};
 ghost use Rattle.std.specs.Bool.{Decides};
 ghost use Rattle.pb_board.specs.Position.{Position, Record, IsSetup, IsRecord};
 ghost use Rattle.pb_board.specs.Fen.{AreFields, FourFields, FenText};
 ghost use Rattle.pb_board.specs.Refusal.{IsFirstDue, of_record, fields};
+ghost use Rattle.pb_board.specs.declared.castling.Castling.{Castling};
+ghost use Rattle.pb_board.specs.declared.castling.CastlingSquares.{CastlingSquares};
+ghost use Rattle.pb_board.specs.declared.piece.Colour.{Colour};
+ghost use Rattle.pb_board.specs.declared.piece.Kind.{Kind};
+ghost use Rattle.pb_board.specs.declared.piece.Piece.{Piece};
 ghost use Rattle.pb_board.specs.declared.refusal.FenError.{FenError};
+ghost use Rattle.pb_board.specs.declared.refusal.SetupError.{SetupError};
+ghost use Rattle.pb_board.specs.declared.setup.Carried.{Carried};
+ghost use Rattle.pb_board.specs.declared.setup.Rights.{Rights};
 
-use crate::setup::Setup;
+use crate::castling::{Castling, CastlingSquares};
+use crate::fen::{Fen, FenBytes};
+use crate::piece::{Colour, Kind, Piece};
+use crate::refusal::{FenError, SetupError};
+use crate::setup::{Carried, Rights, Setup};
+use crate::square::Square;
 
 /// No record has two texts.
 pub fn one_text()
@@ -34,7 +47,35 @@ pub fn none_due()
     ensures { (f : Record) (t : List ℕ) (e : FenError) → IsRecord f → FenText f t → ¬ IsFirstDue of_record e (fields t) }
 {}
 
-/// Setups are equal (`==`) exactly where they are one position.
+/// Setups are equal (`==`) exactly where they are one position, and castling rights where each flag is the same.
 pub fn equal_setups()
-    ensures { (p q : Position) → Decides (⟦<Setup as PartialEq>⟧.eq p q) (p ≡ q) }
+    ensures setups { (p q : Position) → Decides (⟦<Setup as PartialEq>⟧.eq p q) (p ≡ q) }
+    ensures rights { (a b : Rights) → Decides (⟦<Rights as PartialEq>⟧.eq a b) (a ≡ b) }
+{}
+
+/// Records are equal exactly where setup and clocks are the same, and their texts where the bytes are.
+pub fn equal_records()
+    ensures records { (f g : Record) → Decides (⟦<Fen as PartialEq>⟧.eq f g) (f ≡ g) }
+    ensures texts { (t u : List ℕ) → Decides (⟦<FenBytes as PartialEq>⟧.eq t u) (t ≡ u) }
+{}
+
+/// Squares, colours, kinds, pieces, and pieces that are carried, are equal exactly where they are the same.
+pub fn equal_pieces()
+    ensures squares { (a b : ℕ) → Decides (⟦<Square as PartialEq>⟧.eq a b) (a ≡ b) }
+    ensures colours { (a b : Colour) → Decides (⟦<Colour as PartialEq>⟧.eq a b) (a ≡ b) }
+    ensures kinds { (a b : Kind) → Decides (⟦<Kind as PartialEq>⟧.eq a b) (a ≡ b) }
+    ensures pieces { (a b : Piece) → Decides (⟦<Piece as PartialEq>⟧.eq a b) (a ≡ b) }
+    ensures carried { (a b : Carried) → Decides (⟦<Carried as PartialEq>⟧.eq a b) (a ≡ b) }
+{}
+
+/// Castlings, and the squares between which king and rook go, are equal exactly where they are the same.
+pub fn equal_castlings()
+    ensures castlings { (a b : Castling) → Decides (⟦<Castling as PartialEq>⟧.eq a b) (a ≡ b) }
+    ensures squares { (a b : CastlingSquares) → Decides (⟦<CastlingSquares as PartialEq>⟧.eq a b) (a ≡ b) }
+{}
+
+/// Refusals of setups, and of records, are equal exactly where the cause is the same.
+pub fn equal_refusals()
+    ensures setups { (a b : SetupError) → Decides (⟦<SetupError as PartialEq>⟧.eq a b) (a ≡ b) }
+    ensures records { (a b : FenError) → Decides (⟦<FenError as PartialEq>⟧.eq a b) (a ≡ b) }
 {}
