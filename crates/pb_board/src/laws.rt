@@ -2,8 +2,8 @@
 
 ghost use Rattle.std.specs.Prelude.{◌≡◌, ℕ, List};
 ghost use Rattle.std.specs.Bool.{Decides};
-ghost use Rattle.pb_board.specs.Position.{Position, Record, IsSetup, IsRecord};
 ghost use Rattle.std.specs.Ordering.{nat_cmp, ordering_then};
+ghost use Rattle.pb_board.specs.Position.{Position, Record, IsSetup, IsRecord};
 ghost use Rattle.pb_board.specs.Piece.{colour_number, kind_number};
 ghost use Rattle.pb_board.specs.Fen.{AreFields, FourFields, FenText};
 ghost use Rattle.pb_board.specs.Refusal.{IsFirstDue, of_record, fields};
