@@ -1,8 +1,10 @@
-//! Laws of FEN records and their texts, and of equality (`==`) between the values of each public type.
+//! Laws of FEN records and their texts, and of equality (`==`) and order of the values of the public types.
 
 ghost use Rattle.std.specs.Prelude.{◌≡◌, ℕ, List};
 ghost use Rattle.std.specs.Bool.{Decides};
+ghost use Rattle.std.specs.Ordering.{nat_cmp, ordering_then};
 ghost use Rattle.pb_board.specs.Position.{Position, Record, IsSetup, IsRecord};
+ghost use Rattle.pb_board.specs.Piece.{colour_number, kind_number};
 ghost use Rattle.pb_board.specs.Fen.{AreFields, FourFields, FenText};
 ghost use Rattle.pb_board.specs.Refusal.{IsFirstDue, of_record, fields};
 ghost use Rattle.pb_board.specs.declared.castling.Castling.{Castling};
@@ -66,6 +68,15 @@ pub fn equal_pieces()
     ensures kinds { (a b : Kind) → Decides (⟦<Kind as PartialEq>⟧.eq a b) (a ≡ b) }
     ensures pieces { (a b : Piece) → Decides (⟦<Piece as PartialEq>⟧.eq a b) (a ≡ b) }
     ensures carried { (a b : Carried) → Decides (⟦<Carried as PartialEq>⟧.eq a b) (a ≡ b) }
+{}
+
+/// Squares are in the order of their numbers, White is before Black, kinds go from pawn, knight, bishop, rook and queen to
+/// king, and pieces are ordered by colour and then by kind.
+pub fn ordered_pieces()
+    ensures squares { (a b : ℕ) → ⟦<Square as Ord>⟧.cmp a b ≡ nat_cmp a b }
+    ensures colours { (a b : Colour) → ⟦<Colour as Ord>⟧.cmp a b ≡ nat_cmp (colour_number a) (colour_number b) }
+    ensures kinds { (a b : Kind) → ⟦<Kind as Ord>⟧.cmp a b ≡ nat_cmp (kind_number a) (kind_number b) }
+    ensures pieces { (a b : Piece) → ⟦<Piece as Ord>⟧.cmp a b ≡ ordering_then (⟦<Colour as Ord>⟧.cmp a.colour b.colour) (⟦<Kind as Ord>⟧.cmp a.kind b.kind) }
 {}
 
 /// Castlings, and the squares between which king and rook go, are equal exactly where they are the same.

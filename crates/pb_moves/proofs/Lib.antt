@@ -20,3 +20,4 @@ pub mod Changing
 pub mod Carrying
 pub mod Listed
 pub mod Castlings
+pub mod Equal
