@@ -3,15 +3,18 @@
 ghost use Rattle.std.specs.Prelude.{◌≡◌};
 ghost use Rattle.std.specs.Bool.{Decides};
 ghost use Rattle.pb_accepted.specs.declared.ledger.TheConstants.{MAX_CAP};
+ghost use Rattle.pb_accepted.specs.declared.rules.TheConstants.{MAX_LEAST};
 ghost use Rattle.pb_accepted.specs.Holding.{most_games};
 ghost use Rattle.pb_accepted.specs.Laws.{AcceptedIsOne, AcceptedJoin, AcceptsTheTaken, BookByMembers, CountsByMembers, HeldIsAnswered, IdsAreDistinct, LawfulArrives, NamesAreShort, NoConflict, NumbersAreDistinct, NumbersAreGiven, OneBook, OneReply, OneBookText, RefusalsChangeNothing, RepeatsKeepTheirNumber, RunsAccept, RunsGoOn, RunsJoin, SameBytes, TakenHasNoRepeats, TakenIsOne};
-ghost use Rattle.pb_accepted.specs.Rules.{CountingRules};
+ghost use Rattle.pb_accepted.specs.Rules.{CountingRules, most_occurrences};
 
 use crate::rules::Rules;
 
-/// The most games that a ledger may be made for is the number that the definitions have.
+/// The most games that a ledger may be made for is the number that the definitions have, and so are the most occurrences that a move
+/// may be asked for.
 pub fn limits()
     ensures cap { MAX_CAP ≡ most_games }
+    ensures least { MAX_LEAST ≡ most_occurrences }
 {}
 
 /// What one line is answered and does, where no id stands twice: one reply and no other, to a submission that is held its
