@@ -120,7 +120,7 @@ module _ {F : Type 0} (n fills : ℕ) (old mid new : SourceState) (came slice : 
   finds_no_book Memory f = inr (record {
     came = came ++ f.2.front;
     reads = reads_front f.0 f.1 f.2;
-    due = (f.0, f.1, f.2.bytes, f.2.ordered);
+    due = (f.0, f.1, f.2.bytes, f.3);
   })
   finds_no_book (Cut k) f = absurd f.3
   finds_no_book Read f = absurd f.3

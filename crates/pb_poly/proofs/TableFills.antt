@@ -30,7 +30,7 @@ module _ (n : ℕ) (old mid new : SourceState) (held : List ℕ) (on : ReadsOn t
         let within : h.count ≤ length h.slice = h.fills.fill.within in record {
           came = held ++ take h.count h.slice;
           reads = ReadsSome-more table_limit n old mid new held h.slice h.fills.room h.fills.fits on fills h.count below h.fills.fill;
-          due = omega (arith, length-append held (take h.count h.slice), length-take h.count h.slice, h.full, h.some);
+          due = omega (arith, length-append held (take h.count h.slice), length-take h.count h.slice, h.full, h.one);
         }
     fill_fails held' Read few h =
         let slice = h.0 in let e = h.1 in let fills_some = h.2 in record {

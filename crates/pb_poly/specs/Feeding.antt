@@ -16,7 +16,7 @@ pub record MeetsWithin (came chunk : List ℕ) (before : List Entry) (entry : En
 -- why an entry isn't added
 abbrev pub RefusesEntry : List Entry → Entry → BookError → Type 0
 RefusesEntry before entry (Unsorted number) = (¬ NeverFall (before ++ entry ∷ [])) × (number ≡ length before + 1)
-RefusesEntry before entry Memory = Unit {0}
+RefusesEntry before entry Memory = NeverFall (before ++ entry ∷ [])
 RefusesEntry before entry (Cut _) = ⊥
 RefusesEntry before entry Read = ⊥
 RefusesEntry before entry Endless = ⊥

@@ -18,12 +18,12 @@ pub record HoldsMore (old new : SourceState) (held held' : List ℕ) (count : �
   pub fills : FillsSome old new (Ok count) slice
   pub more : held' ≡ held ++ take count slice
 
--- a byte came beyond those that are held
+-- one byte came beyond those that are held
 pub record IsBeyond (old new : SourceState) (held : List ℕ) : Type 0 where
   pub slice : List ℕ
   pub count : ℕ
   pub fills : FillsSome old new (Ok count) slice
-  pub some : 0 < count
+  pub one : count ≡ 1
   pub full : length held ≡ table_limit
 
 -- the fill failed

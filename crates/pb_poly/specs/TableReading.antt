@@ -1,5 +1,5 @@
 -- What reading a table file from a source gives.
-use Rattle.std.specs.Prelude.{◌≡◌, ℕ, ◌<◌, ◌≤◌, ◌⊎◌, List, length}
+use Rattle.std.specs.Prelude.{◌≡◌, ℕ, ◌+◌, ◌≤◌, ◌⊎◌, List, length}
 use Rattle.pb_io.specs.Source.{SourceState}
 use Rattle.pb_io.specs.Reads.{ReadsAll, ReadsOn, ReadsSome, ReadsToFault}
 use Rattle.pb_poly.specs.Table.{IsDueTable, IsTableFile, table_limit}
@@ -22,7 +22,7 @@ TableRead due = ReadsAll
 
 -- what is so of the bytes that came; how many may come is judged first
 abbrev pub TableDue : TableFault → List ℕ → Type 0
-TableDue Long came = table_limit < length came
+TableDue Long came = length came ≡ table_limit + 1
 TableDue (Line number) came = (length came ≤ table_limit) × IsDueTable (poly.Line number) came
 TableDue (Count count) came = (length came ≤ table_limit) × IsDueTable (poly.Count count) came
 TableDue Memory came = (length came ≤ table_limit) × IsDueTable poly.Memory came

@@ -7,6 +7,11 @@ returns-then-entry-self-clause-err c =
     let inv = c.self.invariant in
     rw (← c.self.view_is) (falls c.self.inside.entries.items c.args.entry c.self.inside.last_key inv.1.last_is c.if-entry-self.true, omega (arith, c.self.inside.entries.ok.0, c.len.ensures))
 
+pub returns-in-Err-clause-err : goal.returns-in-Err-clause-err
+returns-in-Err-clause-err c =
+    let inv = c.self.invariant in let old = c.self.inside.entries.items in rw (← c.self.view_is)
+    (IsOrdered-push old (old ++ c.args.entry ∷ []) c.args.entry c.self.inside.last_key c.args.entry.key inv.1 refl c.requires refl c.if-entry-self.false).ordered
+
 pub invariant_of-self : goal.invariant_of-self
 invariant_of-self c =
     let inv = c.self.invariant in let old = c.self.inside.entries.items in rw c.in-Ok.ensures.items (
