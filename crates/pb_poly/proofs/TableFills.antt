@@ -31,12 +31,14 @@ module _ (n : ℕ) (old mid new : SourceState) (held : List ℕ) (on : ReadsOn t
           came = held ++ take h.count h.slice;
           reads = ReadsSome-more table_limit n old mid new held h.slice h.fills.room h.fills.fits on fills h.count below h.fills.fill;
           due = omega (arith, length-append held (take h.count h.slice), length-take h.count h.slice, h.full, h.one);
+          few = omega (arith, length-append held (take h.count h.slice), length-take h.count h.slice, h.full, h.one);
         }
     fill_fails held' Read few h =
         let slice = h.0 in let e = h.1 in let fills_some = h.2 in record {
           came = held;
           reads = ReadsToFault-more table_limit n old mid new held slice fills_some.room fills_some.fits on fills e below fills_some.fill;
           due = few;
+          few = omega (arith, few);
         }
     fill_fails held' (Line _) few h = absurd h
     fill_fails held' (Count _) few h = absurd h

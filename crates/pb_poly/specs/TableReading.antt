@@ -1,5 +1,5 @@
 -- What reading a table file from a source gives.
-use Rattle.std.specs.Prelude.{◌≡◌, ℕ, ◌+◌, ◌≤◌, ◌⊎◌, List, length}
+use Rattle.std.specs.Prelude.{◌≡◌, ℕ, ◌+◌, ◌<◌, ◌≤◌, ◌⊎◌, List, length}
 use Rattle.pb_io.specs.Source.{SourceState}
 use Rattle.pb_io.specs.Reads.{ReadsAll, ReadsOn, ReadsSome, ReadsToFault}
 use Rattle.pb_poly.specs.Table.{IsDueTable, IsTableFile, table_limit}
@@ -22,7 +22,7 @@ TableRead due = ReadsAll
 
 -- what is so of the bytes that came; how many may come is judged first
 abbrev pub TableDue : TableFault → List ℕ → Type 0
-TableDue Long came = length came ≡ table_limit + 1
+TableDue Long came = table_limit < length came
 TableDue (Line number) came = (length came ≤ table_limit) × IsDueTable (poly.Line number) came
 TableDue (Count count) came = (length came ≤ table_limit) × IsDueTable (poly.Count count) came
 TableDue Memory came = (length came ≤ table_limit) × IsDueTable poly.Memory came
@@ -33,6 +33,8 @@ pub record MeetsNoTable (fills : ℕ) (old new : SourceState) (e : TableFault) :
   pub came : List ℕ
   pub reads : TableRead e table_limit fills old new came
   pub due : TableDue e came
+  -- no more than the first byte too many is asked for
+  pub few : length came ≤ table_limit + 1
 
 -- why no table was read
 abbrev pub FindsNoTable : ℕ → SourceState → SourceState → TableFault → Type 0

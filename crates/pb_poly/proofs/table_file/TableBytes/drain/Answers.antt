@@ -40,4 +40,5 @@ returns-clause-err g c =
       came = c.loop-made.self;
       reads = subst (λ n. ReadsOn table_limit n (state c.args.source.now) (state c.loop-made.source) c.loop-made.self) all c.loop-made.invariant.reads;
       due = c.loop-made.invariant.few;
+      few = omega (arith, c.loop-made.invariant.few);
     }
