@@ -10,7 +10,7 @@ use Rattle.pb_epd.specs.declared.refusal.EpdError.TheVariants as epd
 use Rattle.pb_epd.specs.declared.refusal.PutError.{PutError}
 use Rattle.pb_epd.specs.declared.refusal.PutError.TheVariants as put
 use Rattle.pb_epd.specs.Epd.{EpdRecord}
-use Rattle.pb_epd.specs.Refusal.{Cut, IsDueEpd, IsDuePut, IsFirstDueEpd, IsFirstDuePut, epd_errors, put_errors}
+use Rattle.pb_epd.specs.Refusal.{Cut, IsDueEpd, IsDuePut, IsFirstDueEpd, IsFirstDuePut, epd_errors, put_errors, SpellSetup}
 
 -- ---- lists whose places are known
 
@@ -70,9 +70,9 @@ first_epd x bytes due none = record {
 }
 
 -- want of memory stands in no list
-pub memory_first : (bytes : List ℕ) → Cut bytes → IsFirstDueEpd epd.Memory bytes
-memory_first bytes cut = record {
-  due = cut;
+pub memory_first : (bytes : List ℕ) → (cut : Cut bytes) → SpellSetup cut.four → IsFirstDueEpd epd.Memory bytes
+memory_first bytes cut setup = record {
+  due = (cut, setup);
   first = λ at e n m before after is.
       let here = place_of epd_place 1 before epd.Memory after (subst (AreFrom epd_place 1) is (epd_places at e n m)) in
       absurd (omega (arith, here, ap length is, length-append before (epd.Memory ∷ after)));

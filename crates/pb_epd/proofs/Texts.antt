@@ -129,7 +129,7 @@ module _ (bytes a b c d : List ℕ) (others : List Token) (tokens : Tokens (word
     refused_first (epd.Opcode n) h = first_epd (epd.Opcode n) bytes (is_cut h.ended h.unended h.cut, h.breaks) none_before_opcode
     refused_first epd.Unended h = first_epd epd.Unended bytes (is_cut h.0 h.1 h.2.cut, h.3) (none_before_unended h.0 h.1 h.2)
     refused_first (epd.Repeated n) h = first_epd (epd.Repeated n) bytes (is_cut h.0 [] h.1.cut, h.2) (none_before_repeated h.0 h.1)
-    refused_first epd.Memory h = memory_first bytes some_cut
+    refused_first epd.Memory h = memory_first bytes some_cut (p, lawful, spells)
     refused_first _ h = absurd h
 
 pub fields_first : (bytes : List ℕ) (ts : List Token) → Tokens ts bytes
@@ -184,8 +184,9 @@ module _ (e : EpdRecord) (bytes : List ℕ) (lawful : IsEpd e) (h : EpdText e by
   text_not_due epd.Memory other = absurd (other refl)
 
 -- want of memory may come at the text of a record
-pub text_memory : (e : EpdRecord) (bytes : List ℕ) → EpdText e bytes → IsFirstDueEpd epd.Memory bytes
-text_memory e bytes h = memory_first bytes (some_cut bytes _ _ _ _ _ (text_tokens e bytes h))
+pub text_memory : (e : EpdRecord) (bytes : List ℕ) → IsEpd e → EpdText e bytes → IsFirstDueEpd epd.Memory bytes
+text_memory e bytes lawful h = memory_first bytes (some_cut bytes _ _ _ _ _ (text_tokens e bytes h))
+    (e.setup, lawful.setup, subst (AreFields e.setup) h.fields.are h.fields)
 
 -- ---- what the reader answers
 

@@ -1,6 +1,12 @@
-//! Laws of EPD records and their texts.
+//! Laws of EPD records and their texts, and of equality (`==`) between refusals.
 
+ghost use Rattle.std.specs.Prelude.{◌≡◌};
+ghost use Rattle.std.specs.Bool.{Decides};
 ghost use Rattle.pb_epd.specs.Laws.{FormIsText, FormIsOne, RecordIsOne, BadIsOne, NoneDue};
+ghost use Rattle.pb_epd.specs.declared.refusal.EpdError.{EpdError};
+ghost use Rattle.pb_epd.specs.declared.refusal.PutError.{PutError};
+
+use crate::refusal::{EpdError, PutError};
 
 /// Each form is a text of its record.
 pub fn form_is_text()
@@ -25,4 +31,10 @@ pub fn one_bad_token()
 /// No refusal but want of memory is due for a text of a record.
 pub fn none_due()
     ensures { NoneDue }
+{}
+
+/// Refusals of operations, and of texts, are equal (`==`) exactly where cause and place are the same.
+pub fn equal_refusals()
+    ensures operations { (a b : PutError) → Decides (⟦<PutError as PartialEq>⟧.eq a b) (a ≡ b) }
+    ensures texts { (a b : EpdError) → Decides (⟦<EpdError as PartialEq>⟧.eq a b) (a ≡ b) }
 {}

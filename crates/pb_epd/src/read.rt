@@ -271,7 +271,7 @@ fn judge(alloc: Global, text: &[u8]) -> Result<Epd, EpdError>
 /// # Errors
 ///
 /// The first refusal that is due is answered, in the order of `EpdError`'s variants; only want of memory may come before the
-/// refusals of the setup and of the operations.
+/// refusals of the operations.
 pub fn read_epd(alloc: Global, text: &[u8]) -> Result<Epd, EpdError>
     // What is read is a record, and the text spells it.
     ensures found { IfOk result (λ e. IsEpd e × EpdText e text.now) }

@@ -7,16 +7,16 @@ use thiserror::Error;
 #[derive(Clone, Copy, Debug, PartialEq, Eq, Hash, Error)]
 pub enum PutError {
     /// The opcode is not a letter and up to fourteen letters, digits or underscores.
-    #[error("opcode")]
+    #[error("the opcode isn't a letter and up to fourteen letters, digits or underscores")]
     Opcode,
     /// The first operand, counted from 1, that is no word and no text.
-    #[error("operand {0}")]
+    #[error("operand {0} is no word and no text")]
     Operand(usize),
     /// The record has this opcode.
-    #[error("repeated")]
+    #[error("the record has this opcode")]
     Repeated,
     /// No memory is left.
-    #[error("memory")]
+    #[error("no memory is left")]
     Memory,
 }
 
@@ -24,24 +24,24 @@ pub enum PutError {
 #[derive(Clone, Copy, Debug, PartialEq, Eq, Hash, Error)]
 pub enum EpdError {
     /// The offset, from 0, of the first byte of the first bad token.
-    #[error("token {0}")]
+    #[error("a bad token begins at byte {0}, counted from 0")]
     Token(usize),
     /// The first four tokens are not four words.
-    #[error("fields")]
+    #[error("the first four tokens aren't four words")]
     Fields,
     /// The four words spell no setup.
-    #[error("setup {0}")]
+    #[error("the four words spell no setup: {0}")]
     Setup(FenError),
     /// The first ended operation, counted from 1, that does not begin with an opcode.
-    #[error("opcode {0}")]
+    #[error("operation {0} doesn't begin with an opcode")]
     Opcode(usize),
     /// Tokens stand after the last end.
-    #[error("unended")]
+    #[error("tokens stand after the last end")]
     Unended,
     /// The first operation, counted from 1, whose opcode stood before.
-    #[error("repeated {0}")]
+    #[error("operation {0} has an opcode that stood before")]
     Repeated(usize),
     /// No memory is left.
-    #[error("memory")]
+    #[error("no memory is left")]
     Memory,
 }
