@@ -10,3 +10,6 @@ returns-clause-equal c = λ r s. Decides-like _
     (λ e. (ap (λ (x : Row). x.key) e, (ap (λ (x : Row). x.code) e, (ap (λ (x : Row). x.points) e, ap (λ (x : Row). x.times) e))))
     (Decides-and _ _ (Decides-eqb r.key s.key) (Decides-and _ _ (Decides-eqb r.code s.code)
     (Decides-and _ _ (Decides-eqb r.points s.points) (Decides-eqb r.times s.times))))
+
+pub returns-clause-clone : goal.returns-clause-clone
+returns-clause-clone c = λ r s same. same
