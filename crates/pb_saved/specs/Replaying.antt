@@ -1,6 +1,7 @@
 -- How the replay of a journal into a ledger without games ends, over the states of the journal as a source and as a sink.
 use Rattle.std.specs.Prelude.{◌≡◌, ℕ, ◌+◌, ◌⊎◌, false, true, List, [], ◌∷◌, ◌++◌, length, take, Ok}
 use Rattle.std.specs.Io.KnownBytes.{Appends}
+use Rattle.pb_io.specs.Count.{next_count}
 use Rattle.pb_io.specs.LineTask.{AtEndedLine, AtFault, AtNoEnd}
 use Rattle.pb_io.specs.Lines.{is_torn}
 use Rattle.pb_io.specs.Reads.{ReadsAll, chunk_len}
@@ -13,11 +14,12 @@ use Rattle.pb_saved.specs.Journal.{Journals, Replays, mending, seal}
 use Rattle.pb_saved.specs.declared.replaying.ReplayError.{ReplayError}
 use Rattle.pb_saved.specs.declared.replaying.ReplayError.TheVariants.{Read, Write, Endless, Memory}
 
--- a torn end was sealed, and that was handed on; where the end isn't torn the journal is as it was
+-- a torn end was sealed, and that was handed on, once; where the end isn't torn the journal is as it was
 pub record Mends (came : List ℕ) (journal journal' : SinkState) : Type 0 where
   pub put : Appends journal.bytes journal'.bytes (mending came)
   pub whole : is_torn came ≡ false → journal' ≡ journal
   pub handed_on : is_torn came ≡ true → HandedOn journal'
+  pub flushes : is_torn came ≡ true → journal'.flushes ≡ next_count journal.flushes
 
 -- all bytes of the journal came, the ledger holds its games, and its end was mended
 pub record ReplaysAll (fills : ℕ) (source source' : SourceState) (journal journal' : SinkState) (old new : LedgerState) : Type 0 where
@@ -26,7 +28,7 @@ pub record ReplaysAll (fills : ℕ) (source source' : SourceState) (journal jour
   pub holds : Journals old.cap came new.accepted
   pub mends : Mends came journal journal'
 
--- all bytes came and the ledger holds the games, but the torn end couldn't be sealed
+-- all bytes came and the ledger holds the games, but the torn end couldn't be sealed, and nothing was handed on
 pub record MendsNot (fills : ℕ) (source source' : SourceState) (journal journal' : SinkState) (old new : LedgerState) : Type 0 where
   pub came : List ℕ
   pub reads : ReadsAll chunk_len fills source source' came
@@ -35,6 +37,7 @@ pub record MendsNot (fills : ℕ) (source source' : SourceState) (journal journa
   pub count : ℕ
   pub put : Appends journal.bytes journal'.bytes (take count seal)
   pub fails : journal'.failed ≡ true
+  pub flushes : journal'.flushes ≡ journal.flushes
 
 -- the lines but the last one leave B, and the last one brings a new game, for which memory was wanting
 pub record WantsMemoryFor (cap : ℕ) (B : List Submission) (ls : List (List ℕ)) : Type 0 where

@@ -6,7 +6,8 @@ use Rattle.pb_games.specs.Submissions.{SubmissionText}
 use Rattle.pb_saved.specs.Saving.{header}
 use Rattle.pb_saved.proofs.saving.save.Given as goal
 
--- of the texts of all games those before this one have been put after the header, and a sink that had failed still has
+-- of the texts of all games those before this one have been put after the header, a sink that had failed still has, and nothing was
+-- handed on
 abbrev pub invariant-loop-index : goal.invariant-loop-index
 invariant-loop-index g l =
     let state = g.K.Sink.state in
@@ -15,4 +16,5 @@ invariant-loop-index g l =
       are : AllZip SubmissionText l.ledger.accepted texts;
       written : Appends (state l.fn.sink).bytes (state l.sink).bytes (flat_map with_end (header ∷ take l.index texts));
       failed : (state l.fn.sink).failed ≡ true → (state l.sink).failed ≡ true;
+      flushes : (state l.sink).flushes ≡ (state l.fn.sink).flushes;
     }
