@@ -12,6 +12,7 @@ use Rattle.pb_games.specs.declared.game.Game.{Game}
 use Rattle.pb_games.specs.Submissions.{Submission, plies}
 use Rattle.pb_moves.specs.Moved.{Moved}
 use Rattle.pb_moves.specs.Played.{Ply}
+use Rattle.pb_io.specs.Count.{next_count}
 use Rattle.pb_io.specs.Sink.{Flush, SinkState}
 use Rattle.pb_poly.specs.declared.entry.Entry.{Entry}
 use Rattle.pb_io.specs.declared.source.Failed.{Failed}
@@ -24,7 +25,7 @@ use Rattle.pb_export.specs.Setups.{HoldsSetups, InTextOrder, Named, all_setups, 
 use Rattle.pb_export.specs.declared.exporting.ExportFault.{ExportFault}
 use Rattle.pb_export.specs.declared.exporting.ExportFault.TheVariants as fault
 use Rattle.pb_accepted.proofs.BookLaws.{one_book}
-use Rattle.pb_export.proofs.Listings.{text_of-append}
+use Rattle.pb_export.proofs.Listings.{not_flushed, text_of-append}
 use Rattle.pb_accepted.proofs.Members.{begins_in_order}
 
 -- ---- the setups of the games
@@ -99,6 +100,7 @@ exported l book named sink now new count is_book holds h flush = record {
   counted = h.counted ∙ sym (length-map h.listed (λ (x : Listed). x.line));
   put = Appends-kept sink.bytes now.bytes new.bytes (text_of h.listed) h.put flush.bytes;
   handed_on = (flush.failed, flush.flushed);
+  flushes = flush.flushes ∙ ap next_count (not_flushed sink now h.awaits);
 }
 
 -- what was put is a front of the text
@@ -127,5 +129,5 @@ module _ (l : LedgerState) (book : List Entry) (named : List Named) (is_book : I
     some = text_of h.listed;
     put = Appends-kept sink.bytes now.bytes new.bytes (text_of h.listed) h.put flush.bytes;
     front = front_of_text l.basis l.accepted book named named [] h.listed (text_of h.listed) [] is_book holds (sym (append-nil named)) h.is (sym (append-nil (text_of h.listed)));
-    cause = (flush.failed, flush.flushed);
+    cause = (flush.failed, flush.flushed, flush.flushes ∙ not_flushed sink now h.awaits);
   }

@@ -106,6 +106,11 @@ module _ (words : List ℕ) (book : List Entry) where
 
 -- ---- lines that are put
 
+-- what awaits a flush was not handed on
+pub not_flushed : (old new : SinkState) → AwaitsFlush old new → new.flushes ≡ old.flushes
+not_flushed old new (inl same) = ap (λ (x : SinkState). x.flushes) same
+not_flushed old new (inr awaits) = awaits.2
+
 -- the lines of the setups before the rest have been put
 pub record Putting (words : List ℕ) (book : List Entry) (all : List Named) (sink now : SinkState) (count : ℕ) (rest : List Named) : Type 0 where
   pub front : List Named
@@ -207,5 +212,5 @@ module _ (words : List ℕ) (book : List Entry) (all : List Named) (sink now : S
             rest = drop n line;
             text = with_text ∙ ap (λ bytes. text_of h.listed ++ bytes) (sym (take-append-drop n line)) ∙ sym (append_assoc (text_of h.listed) (take n line) (drop n line));
             put = Appends-trans sink.bytes now.bytes new.bytes (text_of h.listed) (take n line) h.put put.front.1;
-            cause = (put.failed, put.flushed);
+            cause = (put.failed, put.flushed, put.flushes ∙ not_flushed sink now h.awaits);
           }

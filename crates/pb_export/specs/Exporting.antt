@@ -12,6 +12,7 @@ use Rattle.pb_games.specs.Submissions.{Submission, plies}
 use Rattle.pb_moves.specs.Moved.{Moved}
 use Rattle.pb_moves.specs.Spelling.{spelling}
 use Rattle.pb_poly.specs.Found.{Found}
+use Rattle.pb_io.specs.Count.{next_count}
 use Rattle.pb_io.specs.Sink.{AwaitsFlush, HandedOn, SinkState}
 use Rattle.pb_poly.specs.declared.entry.Entry.{Entry}
 use Rattle.pb_accepted.specs.Basis.{Basis}
@@ -72,17 +73,18 @@ ExportText T S text = (lines : List (List ℕ)) × ExportLines T S lines × (tex
 
 -- ---- what an export does
 
--- the export of the games held was put and handed on, in so many lines
+-- the export of the games held was put and handed on, once, in so many lines
 pub record Exports (ledger : LedgerState) (sink sink' : SinkState) (count : ℕ) : Type 0 where
   pub lines : List (List ℕ)
   pub are : ExportLines ledger.basis ledger.accepted lines
   pub counted : count ≡ length lines
   pub put : Appends sink.bytes sink'.bytes (text_of_lines lines)
   pub handed_on : HandedOn sink'
+  pub flushes : sink'.flushes ≡ next_count sink.flushes
 
--- what a fault says of the sink
+-- what a fault says of the sink: nothing was handed on
 abbrev pub FaultOf : ExportFault → SinkState → SinkState → Type 0
-FaultOf fault.Write sink sink' = (sink'.failed ≡ true) × (sink'.flushed ≡ false)
+FaultOf fault.Write sink sink' = (sink'.failed ≡ true) × (sink'.flushed ≡ false) × (sink'.flushes ≡ sink.flushes)
 FaultOf fault.Memory sink sink' = AwaitsFlush sink sink'
 
 -- the export ended with a fault: a front of the text was put, and not handed on

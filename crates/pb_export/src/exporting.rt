@@ -54,9 +54,9 @@ pub fn export<T: Tally, K: Sink>(
     ledger: &Ledger<T>,
     sink: &mut K,
 ) -> Result<u32, ExportFault>
-    // The export of the games held was put and handed on, in so many lines.
+    // The export of the games held was put and handed on, once, in so many lines.
     ensures ok { IfOk result (Exports ledger.now (K.state sink.old) (K.state sink.new)) }
-    // A front of it was put and not flushed, and where the fault lies.
+    // A front of it was put and nothing was handed on, and where the fault lies.
     ensures fault { IfErr result (ExportsUntil ledger.now (K.state sink.old) (K.state sink.new)) }
 {
     let book = ledger.make_book(alloc)?;

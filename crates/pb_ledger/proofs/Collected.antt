@@ -5,6 +5,7 @@ use Rattle.std.specs.Io.KnownBytes.{Appends}
 use Rattle.std.proofs.lemmas.List.{append_assoc}
 use Rattle.std.proofs.lemmas.List.Sums.{sum_by-cons}
 use Rattle.std.proofs.KnownBytes.{Appends-nil, Appends-trans, Appends-kept}
+use Rattle.pb_io.specs.Count.{next_count}
 use Rattle.pb_io.specs.Source.{SourceState}
 use Rattle.pb_io.specs.Sink.{AwaitsFlush, Flush, SinkState}
 use Rattle.pb_io.proofs.FlushLemmas.{AwaitsFlush-put, AwaitsFlush-trans}
@@ -17,6 +18,7 @@ use Rattle.pb_io.proofs.EndLemmas.{AtEnd-weaker, AtFault-weaker, AtLine-weaker, 
 use Rattle.pb_accepted.specs.Accepting.{Answer, Run}
 use Rattle.pb_accepted.specs.Ledger.{LedgerState}
 use Rattle.pb_accepted.proofs.Runs.{Accepted-append, Run-append}
+use Rattle.pb_export.proofs.Listings.{not_flushed}
 use Rattle.pb_ledger.specs.declared.totals.Totals.{Totals}
 use Rattle.pb_ledger.specs.declared.collecting.Collector.{Collector}
 use Rattle.pb_ledger.specs.declared.collecting.CollectFault.TheVariants as collect
@@ -134,6 +136,7 @@ module _ {T K : Type 0} (state : K → SinkState) where
     count : ℕ
     put : Appends (Sink s).bytes (Sink t).bytes (replies before answers ++ take count (reply_line line answer))
     fails : (Sink t).failed ≡ true
+    flushes : (Sink t).flushes ≡ (Sink s).flushes
     same : Same s t
 
   stopped_of : (s m t : Collector T K) (before : List (List ℕ)) (line : List ℕ) (e : Failed)
@@ -145,6 +148,7 @@ module _ {T K : Type 0} (state : K → SinkState) where
     count = last.put.front.0;
     put = last.put.front.1;
     fails = last.put.failed;
+    flushes = last.put.flushes;
     same = record { ledger = last.same_ledger; sink = last.same_sink };
   })
   stopped_of s m t (first ∷ before) line e taken last =
@@ -157,12 +161,14 @@ module _ {T K : Type 0} (state : K → SinkState) where
             subst P (sym (append_assoc (reply_line first one.answer) (replies before rest.answers) (take rest.count (reply_line line rest.answer))))
             (Appends-trans _ _ _ _ _ one.put.all rest.put);
         fails = rest.fails;
+        flushes = rest.flushes ∙ one.put.flushes;
         same = record { ledger = rest.same.ledger ∙ one.same_ledger; sink = rest.same.sink ∙ one.same_sink };
       }
 
   pub record StoppedAt (s t : Collector T K) (ls : List (List ℕ)) : Type 0 where
     pub collects : CollectsButOne (Sink s) (Sink t) s.ledger.now t.ledger.now ls
     pub fails : (Sink t).failed ≡ true
+    pub flushes : (Sink t).flushes ≡ (Sink s).flushes
     pub same : Same s t
 
   pub stopped_at : (s t : Collector T K) (ls : List (List ℕ)) (e : Failed) → StopsAtLast (TakesLine state) s ls e t → StoppedAt s t ls
@@ -179,12 +185,17 @@ module _ {T K : Type 0} (state : K → SinkState) where
           put = stopped.put;
         };
         fails = stopped.fails;
+        flushes = stopped.flushes;
         same = stopped.same;
       }
 
   -- ---- the whole of a stream
 
   module _ (fills : ℕ) (old new : SourceState) (s t : Collector T K) where
+    -- no reply was handed on before the end
+    unflushed_of : TakesStream (TakesLine state) fills old new s t → (Sink t).flushes ≡ (Sink s).flushes
+    unflushed_of h = not_flushed (Sink s) (Sink t) (taken_of s t (lines h.came) h.done).awaits
+
     stream_of : fills < 2 ^ 32 → s.totals ≡ record { lines = 0; new = 0; repeats = 0; refused = 0 }
         → TakesStream (TakesLine state) fills old new s t → AtEnd fills old new (CollectsCounted (Sink s) (Sink t) s.ledger.now t.ledger.now t.totals)
     stream_of small fresh h = AtEnd-weaker fills old new _ _ (λ ls few taken.
@@ -206,6 +217,7 @@ module _ {T K : Type 0} (state : K → SinkState) where
     handed_on sink' u small fresh h flush = (
       AtEnd-weaker fills old new _ _ (λ ls few c. (record { answers = c.0.answers; leads = c.0.leads; put = Appends-kept _ _ _ _ c.0.put flush.bytes }, c.1)) (stream_of small fresh h),
       (flush.failed, flush.flushed),
+      flush.flushes ∙ ap next_count (unflushed_of h),
     )
 
     -- all lines were taken, and the replies couldn't be handed on
@@ -214,6 +226,7 @@ module _ {T K : Type 0} (state : K → SinkState) where
     unflushed sink' e h flush = (
       inr (AtEnd-weaker fills old new _ _ (λ ls few taken. let c = (taken_of s t ls taken).collects in record { answers = c.answers; leads = c.leads; put = Appends-kept _ _ _ _ c.put flush.bytes }) h),
       flush.failed,
+      flush.flushes ∙ unflushed_of h,
     )
 
     -- how the lines ended
@@ -226,12 +239,13 @@ module _ {T K : Type 0} (state : K → SinkState) where
     pub until_endless : TakesUntil (TakesLine state) fills old new s t Endless → CollectsUntil fills old new (Sink s) (Sink t) s.ledger.now t.ledger.now collect.Endless
     until_endless h = (AtNoEnd-weaker fills old new _ _ (λ ls few taken. (taken_of s t ls taken).collects) h, (taken_of s t (ended_lines h.came) h.done).awaits)
 
-    stop_fails : (e : Failed) → TakesUntil (TakesLine state) fills old new s t (Stop e) → (Sink t).failed ≡ true
-    stop_fails e (inl h) = (stopped_at s t (ended_lines h.came) e h.done).fails
-    stop_fails e (inr h) = (stopped_at s t (lines h.came) e h.done).fails
+    stop_fails : (e : Failed) → TakesUntil (TakesLine state) fills old new s t (Stop e) → ((Sink t).failed ≡ true) × ((Sink t).flushes ≡ (Sink s).flushes)
+    stop_fails e (inl h) = let stopped = stopped_at s t (ended_lines h.came) e h.done in (stopped.fails, stopped.flushes)
+    stop_fails e (inr h) = let stopped = stopped_at s t (lines h.came) e h.done in (stopped.fails, stopped.flushes)
 
     pub until_stop : (e : Failed) → TakesUntil (TakesLine state) fills old new s t (Stop e) → CollectsUntil fills old new (Sink s) (Sink t) s.ledger.now t.ledger.now collect.Write
-    until_stop e h = (inl (AtLine-weaker fills old new _ _ (λ ls few stops. (stopped_at s t ls e stops).collects) h), stop_fails e h)
+    until_stop e h =
+        let fails = stop_fails e h in (inl (AtLine-weaker fills old new _ _ (λ ls few stops. (stopped_at s t ls e stops).collects) h), fails.0, fails.1)
 
     pub collects_until : (f : LinesFault Failed) → TakesUntil (TakesLine state) fills old new s t f
         → CollectsUntil fills old new (Sink s) (Sink t) s.ledger.now t.ledger.now (collect_fault f)

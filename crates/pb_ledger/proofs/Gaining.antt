@@ -3,7 +3,7 @@ use Rattle.std.proofs.Common.{◌≡◌, ◌≢◌, ℕ, ◌<◌, List, [], ◌�
 use Rattle.std.specs.List.{AllZip, flat_map}
 use Rattle.std.proofs.KnownBytes.{Appends-nil, Appends-trans}
 use Rattle.std.proofs.lemmas.Grind.{flat_map-append}
-use Rattle.std.proofs.lemmas.List.{append-nil, length_push}
+use Rattle.std.proofs.lemmas.List.{append-nil, length-append, length_push}
 use Rattle.pb_board.specs.LineEnd.{with_end, without_return}
 use Rattle.pb_io.specs.Sink.{HandedOn, SinkState}
 use Rattle.pb_io.specs.Writes.{Writes}
@@ -13,7 +13,7 @@ use Rattle.pb_games.proofs.Texts.{text_back}
 use Rattle.pb_accepted.specs.Accepting.{Allowed, Answer, Takes}
 use Rattle.pb_accepted.proofs.Replies.{Takes-refusal}
 use Rattle.pb_saved.specs.Journal.{GameLines}
-use Rattle.pb_ledger.specs.Journaling.{Gains}
+use Rattle.pb_ledger.specs.Journaling.{Gains, HandedOnEach}
 
 -- ---- the lines of games
 
@@ -68,6 +68,7 @@ Gains-none journal A = record {
   put = Appends-nil journal.bytes;
   untouched = λ none. refl;
   handed_on = λ some. absurd (some refl);
+  each = λ below. omega arith;
 }
 
 -- no game has come
@@ -85,6 +86,7 @@ Gains-one journal journal' A B game text u are spells writes = record {
   put = writes.all;
   untouched = λ none. cc;
   handed_on = λ some. (writes.failed, writes.flushed);
+  each = λ below. omega (arith, below, writes.flushes);
 }
 
 both_none : (F G : List Submission) → F ++ G ≡ [] → (F ≡ []) × (G ≡ [])
@@ -97,6 +99,11 @@ handed_on_last journal journal' F [] some before untouched after =
     subst HandedOn (sym (untouched refl)) (before (λ none. some (append-nil F ∙ none)))
 handed_on_last journal journal' F (g ∷ G) some before untouched after = after (λ none. (cc))
 
+-- one after the other, and then others
+pub HandedOnEach-trans : (a b c : SinkState) (F G : List Submission) → HandedOnEach F a b → HandedOnEach G b c → HandedOnEach (F ++ G) a c
+HandedOnEach-trans a b c F G first next below =
+    let later = next below in let earlier = first (omega (arith, below, later)) in omega (arith, later, earlier, length-append F G)
+
 pub Gains-trans : (a b c : SinkState) (A B C : List Submission) → Gains a b A B → Gains b c B C → Gains a c A C
 Gains-trans a b c A B C first next = record {
   new = first.new ++ next.new;
@@ -106,4 +113,5 @@ Gains-trans a b c A B C first next = record {
   put = Appends-trans _ _ _ _ _ first.put next.put;
   untouched = λ none. let each = both_none first.new next.new none in next.untouched each.1 ∙ first.untouched each.0;
   handed_on = λ some. handed_on_last b c first.new next.new some first.handed_on next.untouched next.handed_on;
+  each = HandedOnEach-trans a b c first.new next.new first.each next.each;
 }

@@ -1,5 +1,5 @@
 -- From the lines that the journaler took to what was journaled: what the collector in it took, and what the journal gained.
-use Rattle.std.proofs.Common.{◌≡◌, ℕ, ◌^◌, ◌<◌, true, List, [], ◌∷◌, ◌++◌, MutBor, Result, Ok, Err, OnOk, IfErr, refl, sym, ap, ◌∙◌, subst, inl, inr}
+use Rattle.std.proofs.Common.{◌≡◌, ℕ, ◌^◌, ◌<◌, true, List, [], ◌∷◌, ◌++◌, MutBor, Result, Ok, Err, OnOk, IfErr, refl, sym, ap, ◌∙◌, subst, arith, inl, inr}
 use Rattle.std.specs.Io.KnownBytes.{Appends}
 use Rattle.std.proofs.KnownBytes.{Appends-trans}
 use Rattle.pb_io.specs.Source.{SourceState}
@@ -114,6 +114,7 @@ module _ {T K J : Type 0} (state : K → SinkState) (kept : J → SinkState) whe
           spells = last.spells;
           count = last.count;
           kept = Appends-trans _ _ _ _ _ gains.put last.put;
+          each = λ below. let same = last.flushes in let earlier = gains.each (omega (arith, below, same)) in omega (arith, same, earlier);
         };
         awaits = subst (λ (x : MutBor K). AwaitsFlush (Sink s) (state x.now)) (sym last.same_sink) taken.awaits;
         fails = last.fails;

@@ -61,6 +61,7 @@ module _ {T K J : Type 0} (state : K → SinkState) (kept : J → SinkState) (s 
         count = wrote.front.0;
         put = wrote.front.1;
         fails = wrote.failed;
+        flushes = wrote.flushes;
         same_ledger = submitted.same_ledger;
         same_sink = submitted.same_sink;
       }

@@ -1,6 +1,7 @@
 -- What taking the lines of a stream does to a ledger and a sink, and how it ends.
 use Rattle.std.specs.Prelude.{◌≡◌, ℕ, ◌+◌, ◌⊎◌, true, List, [], ◌∷◌, ◌++◌, length, take, count_by, is_err}
 use Rattle.std.specs.Io.KnownBytes.{Appends}
+use Rattle.pb_io.specs.Count.{next_count}
 use Rattle.pb_io.specs.Source.{SourceState}
 use Rattle.pb_io.specs.Sink.{AwaitsFlush, HandedOn, SinkState}
 use Rattle.pb_io.specs.LineTask.{AtEnd, AtFault, AtLine, AtNoEnd, IfTold}
@@ -46,20 +47,21 @@ pub record CollectsButOne (sink sink' : SinkState) (ledger ledger' : LedgerState
   pub count : ℕ
   pub put : Appends sink.bytes sink'.bytes (replies before answers ++ take count (reply_line line answer))
 
--- all lines of the stream were taken and counted, and their replies were put and handed on
+-- all lines of the stream were taken and counted, and their replies were put and handed on, once
 abbrev pub CollectsStream : ℕ → SourceState → SourceState → SinkState → SinkState → LedgerState → LedgerState → Totals → Type 0
 CollectsStream fills source source' sink sink' ledger ledger' totals =
-    AtEnd fills source source' (CollectsCounted sink sink' ledger ledger' totals) × HandedOn sink'
+    AtEnd fills source source' (CollectsCounted sink sink' ledger ledger' totals) × HandedOn sink' × (sink'.flushes ≡ next_count sink.flushes)
 
 -- the same of all bytes that were to come, where the source tells them
 abbrev pub CollectsTold : SourceState → SourceState → SinkState → SinkState → LedgerState → LedgerState → Totals → Type 0
 CollectsTold source source' sink sink' ledger ledger' totals = IfTold source source' (CollectsCounted sink sink' ledger ledger' totals)
 
 -- how collecting ends with each fault: the replies that were put await a flush; or the sink fails, at a reply or where the replies to all
--- lines were to be handed on
+-- lines were to be handed on, and none was
 abbrev pub CollectsUntil : ℕ → SourceState → SourceState → SinkState → SinkState → LedgerState → LedgerState → CollectFault → Type 0
 CollectsUntil fills source source' sink sink' ledger ledger' Read = AtFault fills source source' (Collects sink sink' ledger ledger') × AwaitsFlush sink sink'
 CollectsUntil fills source source' sink sink' ledger ledger' Endless = AtNoEnd fills source source' (Collects sink sink' ledger ledger') × AwaitsFlush sink sink'
 CollectsUntil fills source source' sink sink' ledger ledger' Write =
     (AtLine fills source source' (CollectsButOne sink sink' ledger ledger') ⊎ AtEnd fills source source' (Collects sink sink' ledger ledger')) × (sink'.failed ≡ true)
+    × (sink'.flushes ≡ sink.flushes)
 CollectsUntil fills source source' sink sink' ledger ledger' Memory = (source' ≡ source) × (sink' ≡ sink) × (ledger' ≡ ledger)

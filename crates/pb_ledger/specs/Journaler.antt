@@ -22,7 +22,7 @@ pub record Answered {T K J : Type 0} (state : K → SinkState) (kept : J → Sin
   pub takes : collector.TakesLine state s.collector line put t.collector
   pub gains : Gains (kept s.journal.now) (kept t.journal.now) s.collector.ledger.now.accepted t.collector.ledger.now.accepted
 
--- the line brought a game, of whose line a front was put before the journal failed, and no reply was put
+-- the line brought a game, of whose line a front was put before the journal failed, and not handed on; and no reply was put
 pub record Unkept {T K J : Type 0} (kept : J → SinkState) (s : Journaler T K J) (line : List ℕ) (t : Journaler T K J) : Type 0 where
   pub number : ℕ
   pub leads : Leads s.collector.ledger.now t.collector.ledger.now (line ∷ []) (Ok number ∷ [])
@@ -33,6 +33,7 @@ pub record Unkept {T K J : Type 0} (kept : J → SinkState) (s : Journaler T K J
   pub count : ℕ
   pub put : Appends (kept s.journal.now).bytes (kept t.journal.now).bytes (take count (with_end text))
   pub fails : (kept t.journal.now).failed ≡ true
+  pub flushes : (kept t.journal.now).flushes ≡ (kept s.journal.now).flushes
   pub same_ledger : t.collector.ledger.ghost_name ≡ s.collector.ledger.ghost_name
   pub same_sink : t.collector.sink ≡ s.collector.sink
 

@@ -1,6 +1,6 @@
 -- What taking the lines of a stream does to a ledger, a sink and a journal, and how it ends. The line of each new game is on the journal
 -- before its reply is put.
-use Rattle.std.specs.Prelude.{◌≡◌, ◌≢◌, ℕ, true, List, [], ◌∷◌, ◌++◌, take, Ok}
+use Rattle.std.specs.Prelude.{◌≡◌, ◌≢◌, ℕ, ◌+◌, ◌-◌, ◌^◌, ◌<◌, true, List, [], ◌∷◌, ◌++◌, length, take, Ok}
 use Rattle.std.specs.Io.KnownBytes.{Appends}
 use Rattle.pb_board.specs.LineEnd.{with_end}
 use Rattle.pb_io.specs.LineTask.{AtLine}
@@ -16,7 +16,11 @@ use Rattle.pb_ledger.specs.declared.journaling.JournalFault.{JournalFault}
 use Rattle.pb_ledger.specs.declared.journaling.JournalFault.TheVariants.{Journal, Lines}
 use Rattle.pb_ledger.specs.declared.totals.Totals.{Totals}
 
--- the games that B has after those of A are on the journal, their lines handed on; where there are none it is as it was
+-- each of these games was handed on by itself: by the journal's count of flushes, below its greatest value
+abbrev pub HandedOnEach : List Submission → SinkState → SinkState → Type 0
+HandedOnEach games journal journal' = journal'.flushes < 2 ^ 64 - 1 → journal'.flushes ≡ journal.flushes + length games
+
+-- the games that B has after those of A are on the journal, their lines handed on one by one; where there are none it is as it was
 pub record Gains (journal journal' : SinkState) (A B : List Submission) : Type 0 where
   pub new : List Submission
   pub are : B ≡ A ++ new
@@ -25,6 +29,7 @@ pub record Gains (journal journal' : SinkState) (A B : List Submission) : Type 0
   pub put : Appends journal.bytes journal'.bytes text
   pub untouched : new ≡ [] → journal' ≡ journal
   pub handed_on : new ≢ [] → HandedOn journal'
+  pub each : HandedOnEach new journal journal'
 
 -- each line was taken, and all but the last answered; the last one brought a game whose line the journal didn't take, or a front of it
 pub record CollectsUnkept (sink sink' journal journal' : SinkState) (ledger ledger' : LedgerState) (L : List (List ℕ)) : Type 0 where
@@ -48,6 +53,7 @@ pub record CollectsUnkept (sink sink' journal journal' : SinkState) (ledger ledg
   pub spells : SubmissionText game last
   pub count : ℕ
   pub kept : Appends journal.bytes journal'.bytes (text ++ take count (with_end last))
+  pub each : HandedOnEach new journal journal'
 
 -- all lines of the stream were taken, counted and answered, and the new games are on the journal
 abbrev pub JournalsStream : ℕ → SourceState → SourceState → SinkState → SinkState → SinkState → SinkState → LedgerState → LedgerState → Totals → Type 0

@@ -146,7 +146,7 @@ pub fn collect<T: Tally, S: Source, K: Sink>(
     ledger: &mut Ledger<T>,
     fills: u32,
 ) -> Result<Totals, CollectFault>
-    // All lines were taken and answered.
+    // All lines were taken and answered, and the replies were handed on, once.
     ensures ok { IfOk result (CollectsStream fills (S.state source.old) (S.state source.new) (K.state sink.old) (K.state sink.new) ledger.old ledger.new) }
     // They are the lines of all bytes that the source tells.
     ensures told { IfOk result (CollectsTold (S.state source.old) (S.state source.new) (K.state sink.old) (K.state sink.new) ledger.old ledger.new) }

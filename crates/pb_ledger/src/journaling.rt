@@ -30,11 +30,13 @@ pub enum JournalFault {
 }
 
 /// Why a line wasn't answered.
-#[derive(Clone, Copy, Debug, PartialEq, Eq)]
+#[derive(Clone, Copy, Debug, PartialEq, Eq, Error)]
 enum Unanswered {
     /// The journal failed at the line of the game that it brought.
+    #[error("the journal can't be written")]
     Journal(Failed),
     /// The sink failed at its reply.
+    #[error("the reply can't be written")]
     Reply(Failed),
 }
 
@@ -141,7 +143,8 @@ pub fn collect_journaled<T: Tally, S: Source, K: Sink, J: Sink>(
     ledger: &mut Ledger<T>,
     fills: u32,
 ) -> Result<Totals, JournalFault>
-    // All lines were taken and answered, and the new games are on the journal.
+    // All lines were taken and answered, and the new games are on the journal, each handed on by
+    // itself.
     ensures ok { IfOk result (JournalsStream fills (S.state source.old) (S.state source.new) (K.state sink.old) (K.state sink.new)
         (J.state journal.old) (J.state journal.new) ledger.old ledger.new) }
     // The lines taken before a fault, what of their games is on the journal, and where the fault lies.
