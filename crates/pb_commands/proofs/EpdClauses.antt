@@ -2,12 +2,12 @@
 use Rattle.std.proofs.Common.{ℕ, Bool, Result, Ok, Err}
 use Rattle.std.specs.Prelude.{IfErr, IfOk, OnOk}
 use Rattle.pb_io.specs.Source.{SourceState}
-use Rattle.pb_io.specs.Sink.{HandedOn, SinkState}
+use Rattle.pb_io.specs.Sink.{SinkState}
 use Rattle.pb_io.specs.LineTask.{IfTold}
 use Rattle.pb_io.proofs.EndLemmas.{told_of}
 use Rattle.pb_commands.specs.EpdRun.{RewritesOrEnds, RewritesStream, RewritesUntil}
 use Rattle.pb_commands.specs.EpdShown.{EpdShown}
-use Rattle.pb_commands.specs.Judged.{PutsText}
+use Rattle.pb_commands.specs.Judged.{HandedOnOnce, PutsText}
 use Rattle.pb_commands.specs.declared.fault.Fault.{Fault}
 
 module _ (fills : ℕ) (source source' : SourceState) (sink sink' : SinkState) where
@@ -22,7 +22,7 @@ module _ (fills : ℕ) (source source' : SourceState) (sink sink' : SinkState) w
   told (Ok answer) h = told_of fills source source' (λ ls. PutsText (EpdShown 1 ls) sink sink' answer) h.0
   told (Err fault) h = tt
 
-  pub handed_on : (result : Result Bool Fault) → Ends result → OnOk result (HandedOn sink')
+  pub handed_on : (result : Result Bool Fault) → Ends result → OnOk result (HandedOnOnce sink sink')
   handed_on (Ok answer) h = h.1
   handed_on (Err fault) h = tt
 

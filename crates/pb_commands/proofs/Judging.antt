@@ -2,8 +2,8 @@
 use Rattle.std.proofs.Common.{◌≡◌, ◌∙◌, ℕ, Bool, List, Option, Some, None, Result, Ok, Err, ap, false, refl, subst, sym}
 use Rattle.std.specs.Prelude.{IfErr, IfOk, IfSome, MatchResult, OnOk}
 use Rattle.std.specs.Io.KnownBytes.{Appends}
-use Rattle.pb_io.specs.Sink.{HandedOn, SinkState}
-use Rattle.pb_commands.specs.Judged.{PutsOrEnds, PutsText, PutsUntil, Verdict}
+use Rattle.pb_io.specs.Sink.{SinkState}
+use Rattle.pb_commands.specs.Judged.{HandedOnOnce, PutsOrEnds, PutsText, PutsUntil, Verdict}
 use Rattle.pb_commands.specs.Shows.{Shows}
 use Rattle.pb_commands.specs.declared.fault.Fault.{Fault}
 use Rattle.pb_commands.specs.declared.fault.Fault.TheVariants.{Read, Write, Endless, Memory}
@@ -23,6 +23,7 @@ module _ (judges others : Verdict → Type 0) (as_other : (verdict : Verdict) �
     count = h.count;
     put = h.put;
     fails = h.fails;
+    flushes = h.flushes;
   }
   until_as Read h = (as_other (Err Read) h.0, h.1)
   until_as Endless h = (as_other (Err Endless) h.0, h.1)
@@ -46,7 +47,7 @@ module _ (judges : Verdict → Type 0) (sink sink' : SinkState) where
         let fault = h.fault in
         let front = h.front in
         subst (λ (x : Fault). PutsUntil judges sink sink' x) (sym fault.0)
-        (record { answer = answer; out = out; judged = judged; count = front.0; put = front.1; fails = fault.1 })
+        (record { answer = answer; out = out; judged = judged; count = front.0; put = front.1; fails = fault.1; flushes = h.flushes })
 
   -- ---- what the clauses of a command say, from how it ends
 
@@ -54,7 +55,7 @@ module _ (judges : Verdict → Type 0) (sink sink' : SinkState) where
   puts_text (Ok answer) h = h.0
   puts_text (Err fault) h = tt
 
-  pub hands_on : (result : Result Bool Fault) → Ends result → OnOk result (HandedOn sink')
+  pub hands_on : (result : Result Bool Fault) → Ends result → OnOk result (HandedOnOnce sink sink')
   hands_on (Ok answer) h = h.1
   hands_on (Err fault) h = tt
 

@@ -6,7 +6,7 @@ use Rattle.pb_board.specs.declared.refusal.FenError.{FenError}
 use Rattle.pb_board.specs.Position.{Position, Record}
 use Rattle.pb_moves.specs.Moved.{Moved}
 use Rattle.pb_poly.specs.Found.{Found}
-use Rattle.pb_io.specs.Sink.{HandedOn, SinkState}
+use Rattle.pb_io.specs.Sink.{SinkState}
 use Rattle.pb_io.specs.Source.{SourceState}
 use Rattle.pb_poly.specs.Reading.{FindsNoBook, ReadsBook, Tells}
 use Rattle.pb_poly.specs.declared.entry.Entry.{Entry}
@@ -17,7 +17,7 @@ use Rattle.pb_poly.specs.declared.table_file.TableFault.{TableFault}
 use Rattle.pb_poly.specs.declared.table_file.TableFault.TheVariants as table_fault
 use Rattle.pb_poly.proofs.ToldReads.{no_endless, no_fault}
 use Rattle.pb_commands.specs.BookJudged.{AsBook, book_verdict}
-use Rattle.pb_commands.specs.Judged.{PutsOrEnds, PutsText, PutsUntil, Verdict}
+use Rattle.pb_commands.specs.Judged.{HandedOnOnce, PutsOrEnds, PutsText, PutsUntil, Verdict}
 use Rattle.pb_commands.specs.ProbeShown.{FoundShown, ProbeShown, ProbesSources, probe_text}
 use Rattle.pb_commands.specs.RecordJudged.{AsRecord, record_verdict}
 use Rattle.pb_commands.specs.Shows.{Shows}
@@ -90,7 +90,7 @@ module _ (fills : ℕ) (t t' b b' : SourceState) (fen : List ℕ) (sink sink' : 
   pub put : (result : Result Bool Fault) → Ends result → IfOk result (PutsText judges sink sink')
   put = puts_text judges sink sink'
 
-  pub handed_on : (result : Result Bool Fault) → Ends result → OnOk result (HandedOn sink')
+  pub handed_on : (result : Result Bool Fault) → Ends result → OnOk result (HandedOnOnce sink sink')
   handed_on = hands_on judges sink sink'
 
   pub ended : (result : Result Bool Fault) → Ends result → IfErr result (PutsUntil judges sink sink')

@@ -24,7 +24,7 @@ use Rattle.pb_commands.specs.declared.fault.Fault.{Fault}
 use Rattle.pb_commands.specs.declared.fault.Fault.TheVariants.{Read, Write, Endless, Memory}
 use Rattle.pb_commands.specs.EpdShown.{EpdShown, LineShown, epd_verdict}
 use Rattle.pb_commands.specs.EpdRun.{PutsButLast, PutsLines, RewritesStream, RewritesUntil}
-use Rattle.pb_commands.specs.Judged.{PutsFront, PutsText, Verdict}
+use Rattle.pb_commands.specs.Judged.{HandedOnOnce, PutsFront, PutsText, Verdict}
 use Rattle.pb_commands.specs.Rewriter.{Puts, PutsOrStops, RewritesLine, fault_of}
 use Rattle.pb_commands.proofs.Judging.{until_as}
 
@@ -36,7 +36,7 @@ module _ (judges : Verdict → Type 0) (sink sink' : SinkState) (taken : Bool) (
   put_as v h = (record { out = out; judged = judged; put = h.0 }, h.1)
 
   pub stops_as : (fault : Fault) → Puts sink sink' out (Err fault) → PutsOrStops judges sink sink' (Err fault)
-  stops_as Write h = record { answer = taken; out = out; judged = judged; count = h.0.0; put = h.0.1; fails = h.1 }
+  stops_as Write h = record { answer = taken; out = out; judged = judged; count = h.0.0; put = h.0.1; fails = h.1; flushes = h.2 }
   stops_as Read h = absurd h
   stops_as Endless h = absurd h
   stops_as Memory h = absurd h
@@ -68,6 +68,17 @@ only_memory number line fault other (LineShown.long past is) = cc is
 only_memory number line fault other (LineShown.blank short blank is) = cc is
 only_memory number line fault other (LineShown.written form e short lawful text written is) = cc is
 only_memory number line fault other (LineShown.no_record x short full due is) = no_record_read number x fault other is
+
+-- ---- flushes
+
+-- none were made
+same_flushes : (old new : SinkState) → AwaitsFlush old new → new.flushes ≡ old.flushes
+same_flushes old new (inl same) = ap (λ (x : SinkState). x.flushes) same
+same_flushes old new (inr awaits) = awaits.2
+
+-- all lines were rewritten, and what was put was handed on
+pub flushed_once : (k l m : SinkState) (v : Unit {0}) → AwaitsFlush k l → Flush {E = Failed} l m (Ok v) → HandedOnOnce k m
+flushed_once k l m v awaits flush = ((flush.failed, flush.flushed), flush.flushes ∙ ap next_count (same_flushes k l awaits))
 
 -- ---- lines in order
 
@@ -187,6 +198,7 @@ module _ {K : Type 0} (state : K → SinkState) where
           count = length text.out + last.count;
           put = subst (λ bytes. Appends (state s.sink.now).bytes (state t.sink.now).bytes bytes) (sym (take-append-add text.out last.out last.count)) (Appends-trans _ _ _ _ _ text.put last.put);
           fails = last.fails;
+          flushes = last.flushes ∙ same_flushes (state s.sink.now) (state h.2.sink.now) run.awaits;
         }
 
     same_at_stop : (e : Fault) → StopsAtLast (RewritesLine state) s ls e t → t.sink.ghost_name ≡ s.sink.ghost_name
@@ -221,6 +233,7 @@ module _ {K : Type 0} (state : K → SinkState) where
       count = h.count;
       put = h.put;
       fails = h.fails;
+      flushes = h.flushes;
     }
 
     lines_put : (m : Rewriter K) (ls : List (List ℕ)) → Run s m ls → PutsLines sink (state m.sink.now) ls
@@ -243,6 +256,11 @@ module _ {K : Type 0} (state : K → SinkState) where
         let run = run_of s t ls (few ls some) h in
         let answer : t.all_taken ≡ run.answer = run.answered ∙ ap (λ b. b && run.answer) fresh in
         subst (λ b. PutsText (EpdShown 1 ls) sink sink' b) (sym answer) (text_from_one ls sink' run.answer run.puts))
+
+    pub awaits_of : (r : Result (Unit {0}) (LinesFault Fault)) → OnOk r (TakesStream (RewritesLine state) fills old new s t) → OnOk r (AwaitsFlush sink sink')
+    awaits_of (Ok tt) h =
+        (AtEnd-weaker fills old new (λ ls. TakesAll (RewritesLine state) s ls t) (λ ls. AwaitsFlush sink sink') (λ ls some h. (run_of s t ls (few ls some) h).awaits) h).done
+    awaits_of (Err e) h = tt
 
     all_lines : (ls : List (List ℕ)) → length ls ≤ fills * chunk_len → TakesAll (RewritesLine state) s ls t → PutsLines sink sink' ls
     all_lines ls some h = lines_put t ls (run_of s t ls (few ls some) h)
@@ -281,8 +299,8 @@ module _ {K : Type 0} (state : K → SinkState) where
 
 -- all lines were rewritten, and what was put couldn't be handed on
 pub unflushed : (fills : ℕ) (old new : SourceState) (k l m : SinkState) (answer : Bool) (e : Failed)
-    → RewritesStream fills old new k l answer → Flush {E = Failed} l m (Err e) → RewritesUntil fills old new k m Write
-unflushed fills old new k l m answer e h flush =
+    → RewritesStream fills old new k l answer → AwaitsFlush k l → Flush {E = Failed} l m (Err e) → RewritesUntil fills old new k m Write
+unflushed fills old new k l m answer e h awaits flush =
     let text = h.done in inr (record {
       came = h.came;
       reads = h.reads;
@@ -293,5 +311,6 @@ unflushed fills old new k l m answer e h flush =
         count = length text.out;
         put = subst (λ bytes. Appends k.bytes m.bytes bytes) (sym (take-length text.out)) (Appends-kept _ _ _ _ text.put flush.bytes);
         fails = flush.failed;
+        flushes = flush.flushes ∙ same_flushes k l awaits;
       };
     })

@@ -3,7 +3,7 @@ use Rattle.std.proofs.Common.{◌≡◌, ℕ, Bool, List, Result, Ok, Err, false
 use Rattle.std.specs.Prelude.{IfErr, IfOk, IfSome, MatchResult, OnOk}
 use Rattle.std.specs.Io.KnownBytes.{Appends}
 use Rattle.pb_io.specs.Reads.{chunk_len}
-use Rattle.pb_io.specs.Sink.{HandedOn, SinkState}
+use Rattle.pb_io.specs.Sink.{SinkState}
 use Rattle.pb_io.specs.Source.{SourceState}
 use Rattle.pb_poly.specs.Reading.{FindsNoBook, ReadsBook, Tells}
 use Rattle.pb_poly.specs.declared.entry.Entry.{Entry}
@@ -12,7 +12,7 @@ use Rattle.pb_poly.specs.declared.reading.BookError.TheVariants as book_error
 use Rattle.pb_poly.proofs.ToldReads.{no_endless, no_fault}
 use Rattle.pb_commands.specs.BookJudged.{AsBook, ReadAsBook, book_verdict}
 use Rattle.pb_commands.specs.BookShown.{BookShown, show_text}
-use Rattle.pb_commands.specs.Judged.{PutsOrEnds, PutsText, PutsUntil, Verdict}
+use Rattle.pb_commands.specs.Judged.{HandedOnOnce, PutsOrEnds, PutsText, PutsUntil, Verdict}
 use Rattle.pb_commands.specs.Shows.{Shows}
 use Rattle.pb_commands.specs.declared.fault.Fault.{Fault}
 use Rattle.pb_commands.specs.declared.fault.Fault.TheVariants.{Read, Endless, Memory}
@@ -69,7 +69,7 @@ module _ (fills : ℕ) (s s' : SourceState) (sink sink' : SinkState) where
   pub put : (result : Result Bool Fault) → Ends result → IfOk result (PutsText judges sink sink')
   put = puts_text judges sink sink'
 
-  pub handed_on : (result : Result Bool Fault) → Ends result → OnOk result (HandedOn sink')
+  pub handed_on : (result : Result Bool Fault) → Ends result → OnOk result (HandedOnOnce sink sink')
   handed_on = hands_on judges sink sink'
 
   pub ended : (result : Result Bool Fault) → Ends result → IfErr result (PutsUntil judges sink sink')

@@ -3,9 +3,9 @@ use Rattle.std.proofs.Common.{◌≡◌, ◌∙◌, ℕ, Bool, List, [], ◌++�
 use Rattle.std.specs.Prelude.{Err, IfErr, IfOk, Ok, OnOk, Result}
 use Rattle.pb_board.specs.Fen.{FenText}
 use Rattle.pb_board.specs.Position.{Record}
-use Rattle.pb_io.specs.Sink.{HandedOn, SinkState}
+use Rattle.pb_io.specs.Sink.{SinkState}
 use Rattle.pb_commands.specs.FenShown.{FenShown}
-use Rattle.pb_commands.specs.Judged.{PutsFront, PutsOrEnds, PutsText}
+use Rattle.pb_commands.specs.Judged.{HandedOnOnce, PutsFront, PutsOrEnds, PutsText}
 use Rattle.pb_commands.specs.declared.fault.Fault.{Fault}
 use Rattle.pb_commands.specs.declared.fault.Fault.TheVariants.{Read, Write, Endless, Memory}
 use Rattle.pb_commands.proofs.Judging.{hands_on, puts_text}
@@ -29,7 +29,7 @@ module _ (fen : List ℕ) (words : List (List ℕ)) (sink sink' : SinkState) whe
   pub shown : (result : Result Bool Fault) → Ends result → IfOk result (PutsText (FenShown fen words) sink sink')
   shown = puts_text (FenShown fen words) sink sink'
 
-  pub handed_on : (result : Result Bool Fault) → Ends result → OnOk result (HandedOn sink')
+  pub handed_on : (result : Result Bool Fault) → Ends result → OnOk result (HandedOnOnce sink sink')
   handed_on = hands_on (FenShown fen words) sink sink'
 
   pub ended : (result : Result Bool Fault) → Ends result → IfErr result (λ fault. (fault ≡ Write) × PutsFront (FenShown fen words) sink sink')

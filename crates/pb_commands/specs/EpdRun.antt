@@ -1,12 +1,12 @@
 -- How a run of the command `epd` ends with a fault, over the states of its source and its sink before and after.
 use Rattle.std.specs.Prelude.{◌≡◌, ℕ, ◌+◌, ◌⊎◌, Bool, List, [], ◌∷◌, ◌++◌, length, Result, Ok, Err}
 use Rattle.pb_io.specs.Source.{SourceState}
-use Rattle.pb_io.specs.Sink.{AwaitsFlush, HandedOn, SinkState}
+use Rattle.pb_io.specs.Sink.{AwaitsFlush, SinkState}
 use Rattle.pb_io.specs.LineTask.{AtEnd, AtFault, AtLine, AtNoEnd}
 use Rattle.pb_commands.specs.declared.fault.Fault.{Fault}
 use Rattle.pb_commands.specs.declared.fault.Fault.TheVariants.{Read, Write, Endless, Memory}
 use Rattle.pb_commands.specs.EpdShown.{EpdShown, LineShown}
-use Rattle.pb_commands.specs.Judged.{PutsFront, PutsText}
+use Rattle.pb_commands.specs.Judged.{HandedOnOnce, PutsFront, PutsText}
 
 -- what these lines give was put, and not handed on
 pub record PutsLines (sink sink' : SinkState) (ls : List (List ℕ)) : Type 0 where
@@ -37,5 +37,5 @@ RewritesStream fills source source' sink sink' answer = AtEnd fills source sourc
 -- how a run ends
 abbrev pub RewritesOrEnds : ℕ → SourceState → SourceState → SinkState → SinkState → Result Bool Fault → Type 0
 RewritesOrEnds fills source source' sink sink' (Ok answer) =
-    RewritesStream fills source source' sink sink' answer × HandedOn sink'
+    RewritesStream fills source source' sink sink' answer × HandedOnOnce sink sink'
 RewritesOrEnds fills source source' sink sink' (Err fault) = RewritesUntil fills source source' sink sink' fault

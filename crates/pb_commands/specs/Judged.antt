@@ -2,6 +2,7 @@
 use Rattle.std.specs.Prelude.{◌≡◌, ℕ, Bool, List, ◌++◌, Result, Ok, Err, codes, take, false, true}
 use Rattle.std.specs.Io.KnownBytes.{Appends}
 use Rattle.pb_board.specs.LineEnd.{with_end}
+use Rattle.pb_io.specs.Count.{next_count}
 use Rattle.pb_io.specs.Sink.{HandedOn, SinkState}
 use Rattle.pb_commands.specs.declared.fault.Fault.{Fault}
 use Rattle.pb_commands.specs.declared.fault.Fault.TheVariants.{Write}
@@ -14,13 +15,17 @@ Verdict = Result (Bool × List ℕ) Fault
 abbrev pub refused : List ℕ → Verdict
 refused why = Ok (false, with_end (codes "refused " ++ why))
 
+-- what was put was handed on, at the end and not before
+abbrev pub HandedOnOnce : SinkState → SinkState → Type 0
+HandedOnOnce sink sink' = HandedOn sink' × (sink'.flushes ≡ next_count sink.flushes)
+
 -- the whole text was put
 pub record PutsText (judges : Verdict → Type 0) (sink sink' : SinkState) (answer : Bool) : Type 0 where
   pub out : List ℕ
   pub judged : judges (Ok (answer, out))
   pub put : Appends sink.bytes sink'.bytes out
 
--- the sink failed, and a front of the text was put
+-- the sink failed, and a front of the text was put, and none of it handed on
 pub record PutsFront (judges : Verdict → Type 0) (sink sink' : SinkState) : Type 0 where
   pub answer : Bool
   pub out : List ℕ
@@ -28,13 +33,14 @@ pub record PutsFront (judges : Verdict → Type 0) (sink sink' : SinkState) : Ty
   pub count : ℕ
   pub put : Appends sink.bytes sink'.bytes (take count out)
   pub fails : sink'.failed ≡ true
+  pub flushes : sink'.flushes ≡ sink.flushes
 
 -- at a fault that isn't the sink's nothing was put, nor was the sink touched
 abbrev pub PutsUntil : (Verdict → Type 0) → SinkState → SinkState → Fault → Type 0
 PutsUntil judges sink sink' Write = PutsFront judges sink sink'
 PutsUntil judges sink sink' fault = judges (Err fault) × (sink' ≡ sink)
 
--- how a command ends: the whole text was put and handed on, or a fault came
+-- how a command ends: the whole text was put and then handed on, or a fault came
 abbrev pub PutsOrEnds : (Verdict → Type 0) → SinkState → SinkState → Result Bool Fault → Type 0
-PutsOrEnds judges sink sink' (Ok answer) = PutsText judges sink sink' answer × HandedOn sink'
+PutsOrEnds judges sink sink' (Ok answer) = PutsText judges sink sink' answer × HandedOnOnce sink sink'
 PutsOrEnds judges sink sink' (Err fault) = PutsUntil judges sink sink' fault

@@ -11,10 +11,11 @@ use Rattle.pb_commands.specs.declared.fault.Fault.TheVariants.{Read, Write, Endl
 use Rattle.pb_commands.specs.EpdShown.{LineShown}
 use Rattle.pb_commands.specs.Judged.{PutsText, PutsUntil, Verdict}
 
--- these bytes were put, and not handed on, or the sink has failed and a front of them was
+-- these bytes were put, or the sink has failed and a front of them was; nothing was handed on
 abbrev pub Puts : SinkState → SinkState → List ℕ → Result (Unit {0}) Fault → Type 0
 Puts sink sink' bytes (Ok _) = Appends sink.bytes sink'.bytes bytes × AwaitsFlush sink sink'
-Puts sink sink' bytes (Err Write) = ((count : ℕ) × Appends sink.bytes sink'.bytes (take count bytes)) × (sink'.failed ≡ true)
+Puts sink sink' bytes (Err Write) =
+    ((count : ℕ) × Appends sink.bytes sink'.bytes (take count bytes)) × (sink'.failed ≡ true) × (sink'.flushes ≡ sink.flushes)
 Puts sink sink' bytes (Err fault) = ⊥
 
 -- what comes of a line was put, or a fault came

@@ -3,10 +3,10 @@ ghost use Rattle.std.specs.Prelude.{◌≡◌, ◌≤◌, ◌↔◌, ◌∷◌, 
 ghost use Rattle.pb_board.specs.LineEnd.{with_end};
 ghost use Rattle.pb_io.specs.Lines.{line_limit};
 ghost use Rattle.pb_io.specs.LineTask.{AtEnd, IfTold};
-ghost use Rattle.pb_io.specs.Sink.{HandedOn, Put};
+ghost use Rattle.pb_io.specs.Sink.{AwaitsFlush, Put};
 ghost use Rattle.pb_commands.specs.EpdRun.{RewritesOrEnds, RewritesStream, RewritesUntil};
 ghost use Rattle.pb_commands.specs.EpdShown.{EpdShown, IsBlank, LineShown, epd_verdict, refused_line};
-ghost use Rattle.pb_commands.specs.Judged.{PutsText};
+ghost use Rattle.pb_commands.specs.Judged.{HandedOnOnce, PutsText};
 ghost use Rattle.pb_io.specs.Parts.{parts_joined};
 ghost use Rattle.pb_commands.specs.Rewriter.{Puts, PutsOrStops, fault_of};
 
@@ -60,6 +60,7 @@ impl<K: Sink> Rewriter<'_, K> {
             (K.state self.old.sink.now) (K.state self.new.sink.now) self.new.all_taken) }
         ensures err { IfErr result (λ e. RewritesUntil fills (S.state source.old) (S.state source.new)
             (K.state self.old.sink.now) (K.state self.new.sink.now) (fault_of e)) }
+        ensures awaits { OnOk result (AwaitsFlush (K.state self.old.sink.now) (K.state self.new.sink.now)) }
         ensures same_sink { self.new.sink.ghost_name ≡ self.old.sink.ghost_name }
     {
         take_lines(self.alloc, source, self, fills)
@@ -67,7 +68,8 @@ impl<K: Sink> Rewriter<'_, K> {
 }
 
 /// Rewrites EPD lines: of each line of the source, its one ordered form is put, or `refused`, the line's number from 1 and
-/// why it is no EPD record. A line of spaces alone is counted and passed over. Answers whether no line was refused.
+/// why it is no EPD record. A line of spaces alone is counted and passed over. Answers whether no line was refused. What was put is
+/// handed on once, at the end.
 ///
 /// A line is refused as `long` past 8,192 bytes; a final CR counts, and is dropped. A piece that no LF ended is taken at the
 /// end of input, and not at a fault. `Memory` comes where a growth found no memory, and ends the run after the lines before; it
@@ -82,7 +84,7 @@ pub fn run_epd<S: Source, K: Sink>(
         (λ ls. PutsText (EpdShown 1 ls) (K.state sink.old) (K.state sink.new) answer)) }
     ensures told { IfOk result (λ answer. IfTold (S.state source.old) (S.state source.new)
         (λ ls. PutsText (EpdShown 1 ls) (K.state sink.old) (K.state sink.new) answer)) }
-    ensures handed_on { OnOk result (HandedOn (K.state sink.new)) }
+    ensures handed_on { OnOk result (HandedOnOnce (K.state sink.old) (K.state sink.new)) }
     ensures fault { IfErr result (RewritesUntil fills (S.state source.old) (S.state source.new) (K.state sink.old) (K.state sink.new)) }
 {
     rewrite_stream(alloc, source, sink, fills)

@@ -4,14 +4,13 @@ ghost use Rattle.pb_board.specs.Fen.{FenText};
 ghost use Rattle.pb_board.specs.Position.{IsRecord};
 ghost use Rattle.pb_board.specs.LineEnd.{with_end};
 ghost use Rattle.pb_board.specs.Refusal.{BreaksAt};
-ghost use Rattle.pb_io.specs.Sink.{HandedOn};
 ghost use Rattle.pb_moves.specs.AfterRecord.{AfterRecord};
 ghost use Rattle.pb_moves.specs.Cases.{Legal};
 ghost use Rattle.pb_moves.specs.Moved.{Moved};
 ghost use Rattle.pb_moves.specs.Played.{IsSpelled, Spells};
 ghost use Rattle.pb_commands.specs.Line.{texts};
 ghost use Rattle.pb_commands.specs.FenShown.{FenShown, Unplayable};
-ghost use Rattle.pb_commands.specs.Judged.{PutsFront, PutsOrEnds, PutsText};
+ghost use Rattle.pb_commands.specs.Judged.{HandedOnOnce, PutsFront, PutsOrEnds, PutsText};
 ghost use Rattle.pb_commands.specs.Plays.{PlaysWords};
 ghost use Rattle.pb_commands.specs.Refused.{refusal_verdict};
 ghost use Rattle.pb_commands.specs.declared.fault.Fault.TheVariants.{Write};
@@ -42,7 +41,7 @@ enum Refusal {
 /// was taken.
 ///
 /// It takes no memory of its own. `Write` comes where the sink has failed, and then a front of
-/// what was to be shown was put.
+/// what was to be shown was put, and none of it handed on.
 pub fn run_fen<K: Sink>(
     _alloc: Global,
     fen: &[u8],
@@ -50,7 +49,7 @@ pub fn run_fen<K: Sink>(
     sink: &mut K,
 ) -> Result<bool, Fault>
     ensures shown { IfOk result (PutsText (FenShown fen.now (texts moves.now)) (K.state sink.old) (K.state sink.new)) }
-    ensures handed_on { OnOk result (HandedOn (K.state sink.new)) }
+    ensures handed_on { OnOk result (HandedOnOnce (K.state sink.old) (K.state sink.new)) }
     ensures fault { IfErr result (λ fault. (fault ≡ Write)
         × PutsFront (FenShown fen.now (texts moves.now)) (K.state sink.old) (K.state sink.new)) }
 {

@@ -6,6 +6,7 @@ mod epd;
 mod fault;
 mod fen;
 mod hexadecimal;
+pub mod laws;
 mod output;
 mod probe;
 mod refusal;

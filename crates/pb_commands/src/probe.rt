@@ -3,9 +3,9 @@ ghost use Rattle.std.specs.Prelude.{◌≡◌, ℕ, Bool, IfErr, IfOk, IfSome, L
 ghost use Rattle.std.specs.Io.KnownBytes.{Appends};
 ghost use Rattle.pb_poly.specs.Reading.{ReadsBook, Tells};
 ghost use Rattle.pb_poly.specs.TableReading.{ReadsTable};
-ghost use Rattle.pb_io.specs.Sink.{HandedOn, Put};
+ghost use Rattle.pb_io.specs.Sink.{Put};
 ghost use Rattle.pb_io.specs.Source.{SourceState};
-ghost use Rattle.pb_commands.specs.Judged.{PutsOrEnds, PutsText, PutsUntil};
+ghost use Rattle.pb_commands.specs.Judged.{HandedOnOnce, PutsOrEnds, PutsText, PutsUntil};
 ghost use Rattle.pb_commands.specs.BookJudged.{AsBook};
 ghost use Rattle.pb_commands.specs.ProbeShown.{ProbeShown, ProbesSources, found_line, probe_text};
 ghost use Rattle.pb_commands.specs.Shows.{Shows};
@@ -24,7 +24,8 @@ use std::alloc::Global;
 /// Shows the moves that a book has for a record's setup, each with its weight in decimal, in the book's order. The table of
 /// words that keys are made of, the book and the record are judged in this order, and the first that is refused is told:
 /// `refused table` and `long`, `line` or `count`, `refused book` and `unsorted` or `cut`, or `refused fen` and the word of the
-/// record's refusal. Nothing later is read then, nor after a fault. Answers whether all three were taken.
+/// record's refusal. Nothing later is read then, nor after a fault. What was put is handed on once, at the end. Answers whether all three
+/// were taken.
 ///
 /// Where both sources tell bytes, don't fail and end within the fills, what is put is what those bytes show, a fault of the
 /// sink and want of memory aside.
@@ -40,7 +41,7 @@ pub fn run_probe<T: Source, B: Source, K: Sink>(
         (B.state book_source.old) (B.state book_source.new) fen.now) (K.state sink.old) (K.state sink.new)) }
     ensures told { IfOk result (λ answer. IfSome (T.state table_source.old).to_come (λ table. IfSome (B.state book_source.old).to_come (λ book.
         PutsText (ProbeShown (AsTable table) (AsBook book) fen.now) (K.state sink.old) (K.state sink.new) answer))) }
-    ensures handed_on { OnOk result (HandedOn (K.state sink.new)) }
+    ensures handed_on { OnOk result (HandedOnOnce (K.state sink.old) (K.state sink.new)) }
     ensures fault { IfErr result (PutsUntil
         (ProbesSources fills (T.state table_source.old) (T.state table_source.new) (B.state book_source.old) (B.state book_source.new) fen.now)
         (K.state sink.old) (K.state sink.new)) }

@@ -2,10 +2,10 @@
 ghost use Rattle.std.specs.Prelude.{◌≡◌, ℕ, Bool, IfErr, IfOk, IfSome, List, MatchResult, Ok, OnOk, false, true};
 ghost use Rattle.std.specs.Io.KnownBytes.{Appends};
 ghost use Rattle.pb_poly.specs.Reading.{Tells};
-ghost use Rattle.pb_io.specs.Sink.{HandedOn, Put};
+ghost use Rattle.pb_io.specs.Sink.{Put};
 ghost use Rattle.pb_commands.specs.BookJudged.{AsBook, ReadAsBook};
 ghost use Rattle.pb_commands.specs.BookShown.{BookShown, entry_line, show_text};
-ghost use Rattle.pb_commands.specs.Judged.{PutsOrEnds, PutsText, PutsUntil};
+ghost use Rattle.pb_commands.specs.Judged.{HandedOnOnce, PutsOrEnds, PutsText, PutsUntil};
 ghost use Rattle.pb_commands.specs.Shows.{Shows};
 ghost use Rattle.pb_commands.specs.declared.fault.Fault.TheVariants.{Memory};
 
@@ -19,7 +19,7 @@ use std::alloc::Global;
 /// Shows a book: a line for each entry, with its key, code, weight and learn value as 16, 4, 4 and 8 lower-case hexadecimal
 /// digits. Where the source gives no book, shows `refused book unsorted` and the number, from 1, of the first entry whose key
 /// is below the key before it, or `refused book cut` and the number of bytes after the last whole entry. Answers whether the
-/// book was taken. The whole book is read before a line is put.
+/// book was taken. The whole book is read before a line is put, and the lines are handed on once, at the end.
 ///
 /// Where the source tells bytes, doesn't fail and ends within the fills, what is put is what those bytes show, a fault of the
 /// sink and want of memory aside. `Memory` comes where a growth of the book found no memory.
@@ -33,7 +33,7 @@ pub fn run_show<S: Source, K: Sink>(
         (K.state sink.old) (K.state sink.new)) }
     ensures told { IfOk result (λ answer. IfSome (S.state source.old).to_come (λ bytes.
         PutsText (BookShown (AsBook bytes)) (K.state sink.old) (K.state sink.new) answer)) }
-    ensures handed_on { OnOk result (HandedOn (K.state sink.new)) }
+    ensures handed_on { OnOk result (HandedOnOnce (K.state sink.old) (K.state sink.new)) }
     ensures fault { IfErr result (PutsUntil (BookShown (ReadAsBook fills (S.state source.old) (S.state source.new)))
         (K.state sink.old) (K.state sink.new)) }
     ensures only { (bytes : List ℕ) (answer : Bool) (out : List ℕ) → Tells fills (S.state source.old) (S.state source.new) bytes

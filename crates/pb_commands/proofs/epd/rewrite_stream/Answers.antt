@@ -4,7 +4,7 @@ use Rattle.pb_commands.proofs.epd.rewrite_stream.Goals as goal
 
 pub returns-in-Err : goal.returns-in-Err
 returns-in-Err g c =
-    let fails = unflushed _ _ _ _ _ _ _ _ c.in-Ok.ensures.ok c.in-Err.ensures in search rules
+    let fails = unflushed _ _ _ _ _ _ _ _ c.in-Ok.ensures.ok c.in-Ok.ensures.awaits c.in-Err.ensures in search rules
 
 pub returns-in-Err-Memory : goal.returns-in-Err-Memory
 returns-in-Err-Memory g c = search rules

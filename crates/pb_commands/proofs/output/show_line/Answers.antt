@@ -1,4 +1,4 @@
-use Rattle.std.proofs.Common.{refl}
+use Rattle.std.proofs.Common.{◌∙◌, refl}
 use Rattle.pb_io.proofs.PutLemmas.{front_all}
 use Rattle.pb_commands.proofs.output.show_line.Goals as goal
 
@@ -9,4 +9,5 @@ returns-in_default-flush g c =
       handed_on = tt;
       fault = (refl, flush.failed);
       front = front_all _ _ _ _ c.in-Ok.ensures.all flush.bytes;
+      flushes = flush.flushes ∙ c.in-Ok.ensures.flushes;
     }

@@ -1,10 +1,9 @@
 use Rattle.std.proofs.Common.{[], ℕ, refl, subst}
-use Rattle.std.specs.Io.KnownBytes.{Appends}
 use Rattle.std.proofs.KnownBytes.{Appends-nil}
 use Rattle.pb_moves.specs.Moved.{Moved}
 use Rattle.pb_io.specs.Sink.{Put}
 use Rattle.pb_io.specs.declared.source.Failed.{Failed}
-use Rattle.std.proofs.Common.{Err}
+use Rattle.std.proofs.Common.{Err, Ok}
 use Rattle.pb_commands.specs.ProbeShown.{found_line}
 use Rattle.pb_commands.proofs.Lines.{PutsLines-more, flush_fails, line_fails, lines_shown}
 use Rattle.pb_commands.proofs.probe.show_found.Goals as goal
@@ -13,7 +12,7 @@ abbrev Pair : Type 0
 Pair = Moved × ℕ
 
 pub loop-m-init : goal.loop-m-init
-loop-m-init g c = record { done = []; put = Appends-nil _; cut = refl }
+loop-m-init g c = record { done = []; put = Appends-nil _; cut = refl; flushes = refl }
 
 pub returns-in_default : goal.returns-in_default
 returns-in_default g c =
@@ -24,8 +23,8 @@ returns-in_default g c =
 pub loop-m-preserved : goal.loop-m-preserved
 loop-m-preserved g c =
     let state = g.K.Sink.state in
-    PutsLines-more found_line c.args.found.now c.loop-m.m-index (state c.args.sink.now) (state c.loop-m.sink) (state c.put_found.new.sink) c.loop-m.invariant c.loop-m-item.result c.loop-m-test.true
-    (subst (λ (x : Pair). Appends (state c.loop-m.sink).bytes (state c.put_found.new.sink).bytes (found_line x)) c.loop-m-item.is c.in-Ok.ensures.all)
+    PutsLines-more found_line c.args.found.now c.loop-m.m-index (state c.args.sink.now) (state c.loop-m.sink) (state c.put_found.new.sink) c.loop-m.invariant c.loop-m-item.result c.in-Ok.field-0 c.loop-m-test.true
+    (subst (λ (x : Pair). Put {E = Failed} (state c.loop-m.sink) (state c.put_found.new.sink) (Ok c.in-Ok.field-0) (found_line x)) c.loop-m-item.is c.in-Ok.ensures)
 
 pub returns-in_default-flush : goal.returns-in_default-flush
 returns-in_default-flush g c =

@@ -9,7 +9,7 @@ abbrev none : Entry
 none = record { key = 0; code = 0; weight = 0; learn = 0 }
 
 pub loop-entry-init : goal.loop-entry-init
-loop-entry-init g c = record { done = []; put = Appends-nil _; cut = refl }
+loop-entry-init g c = record { done = []; put = Appends-nil _; cut = refl; flushes = refl }
 
 pub returns-in_default : goal.returns-in_default
 returns-in_default g c =
@@ -17,7 +17,7 @@ returns-in_default g c =
 
 pub loop-entry-preserved : goal.loop-entry-preserved
 loop-entry-preserved g c =
-    let state = g.K.Sink.state in PutsLines-more entry_line c.args.entries.now c.loop-entry.entry-index (state c.args.sink.now) (state c.loop-entry.sink) (state c.put_entry.new.sink) c.loop-entry.invariant none c.loop-entry-test.true c.in-Ok.ensures.all
+    let state = g.K.Sink.state in PutsLines-more entry_line c.args.entries.now c.loop-entry.entry-index (state c.args.sink.now) (state c.loop-entry.sink) (state c.put_entry.new.sink) c.loop-entry.invariant none _ c.loop-entry-test.true c.in-Ok.ensures
 
 pub returns-in_default-flush : goal.returns-in_default-flush
 returns-in_default-flush g c =

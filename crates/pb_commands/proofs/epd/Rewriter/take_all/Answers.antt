@@ -1,5 +1,5 @@
 use Rattle.std.proofs.lemmas.Result.{on_ok_weaker, IfErr-weaker}
-use Rattle.pb_commands.proofs.Rewriting.{all_of, until_of, same_of}
+use Rattle.pb_commands.proofs.Rewriting.{all_of, awaits_of, until_of, same_of}
 use Rattle.pb_commands.proofs.epd.Rewriter.take_all.Goals as goal
 
 pub returns-clause-ok : goal.returns-clause-ok
@@ -13,6 +13,11 @@ returns-clause-err g c =
     IfErr-weaker c.take_lines.result _ _
     (until_of g.K.Sink.state c.args.fills c.ranges.fills.fits (g.S.Source.state c.args.source.now) (g.S.Source.state c.take_lines.new.source) c.args.self.now c.take_lines.new.task c.requires.first)
     c.take_lines.ensures.err
+
+pub returns-clause-awaits : goal.returns-clause-awaits
+returns-clause-awaits g c =
+    awaits_of g.K.Sink.state c.args.fills c.ranges.fills.fits (g.S.Source.state c.args.source.now) (g.S.Source.state c.take_lines.new.source) c.args.self.now c.take_lines.new.task c.requires.first c.take_lines.result
+    c.take_lines.ensures.ok
 
 pub returns-clause-same_sink : goal.returns-clause-same_sink
 returns-clause-same_sink g c =

@@ -1,0 +1,12 @@
+//! Laws of equality (`==`) between faults. Each is the contract of a function that does nothing.
+
+ghost use Rattle.std.specs.Prelude.{◌≡◌};
+ghost use Rattle.std.specs.Bool.{Decides};
+ghost use Rattle.pb_commands.specs.declared.fault.Fault.{Fault};
+
+use crate::fault::Fault;
+
+/// Faults are equal (`==`) exactly where they are one.
+pub fn equal_faults()
+    ensures { (e f : Fault) → Decides (⟦<Fault as PartialEq>⟧.eq e f) (e ≡ f) }
+{}
