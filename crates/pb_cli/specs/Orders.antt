@@ -39,6 +39,13 @@ HasKeeping keeping.Book rows = (first_of (codes "ledger") rows ≡ None) × (fir
 HasKeeping (keeping.Ledger path) rows = HasWord (codes "ledger") path rows × (first_of (codes "journal") rows ≡ None) × HasFlag (codes "sync") false rows
 HasKeeping (keeping.Journal path sync) rows = (first_of (codes "ledger") rows ≡ None) × HasWord (codes "journal") path rows × HasFlag (codes "sync") sync rows
 
+-- the same is kept: it is of one kind, at paths of the same text, and synced alike
+abbrev pub KeepsTheSame : Keeping → Keeping → Type 0
+KeepsTheSame keeping.Book keeping.Book = Unit {0}
+KeepsTheSame (keeping.Ledger path) (keeping.Ledger other) = path.now ≡ other.now
+KeepsTheSame (keeping.Journal path sync) (keeping.Journal other synced) = (path.now ≡ other.now) × (sync ≡ synced)
+KeepsTheSame kept other = ⊥
+
 -- the argument of this name was given a word that writes this number in digits
 abbrev pub HasNumber : Text → ℕ → List Row → Type 0
 HasNumber id number rows = (word : Text) × (first_of id rows ≡ Some word) × IsNumeral 10 word × (digits_value 10 word ≡ number)

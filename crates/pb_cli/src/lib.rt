@@ -3,6 +3,7 @@
 #![tactic(auto)]
 
 mod grammar;
+pub mod laws;
 mod order;
 
 pub use order::{Keeping, Order, ParseFault, parse};

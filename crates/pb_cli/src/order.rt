@@ -15,6 +15,7 @@ use clap::ArgMatches;
 use clap::error::ErrorKind;
 use pb_collecting::{MAX_LEAST, MAX_PLIES, Rules};
 use std::alloc::{AllocError, Global};
+use thiserror::Error;
 
 /// What a run that takes games keeps of them beside their book, by the path of its file.
 #[derive(Clone, Copy, Debug, PartialEq, Eq)]
@@ -83,11 +84,13 @@ pub enum Order<'a> {
 }
 
 /// Why the command line gives no order.
-#[derive(Debug, Drop)]
+#[derive(Debug, Drop, Error)]
 pub enum ParseFault {
     /// The text to show: a usage error, the help or the version.
+    #[error("{0}")]
     Usage(String),
     /// There was no memory to read the words.
+    #[error("no memory is left")]
     Memory,
 }
 

@@ -2,9 +2,9 @@
 use Rattle.std.proofs.Common.{ℕ, List, Option, Some, None, Result, Ok, Err, false}
 use Rattle.std.specs.Prelude.{IfErr, IfNone, IfOk, IfSome, OnOk}
 use Rattle.pb_io.specs.Source.{SourceState}
-use Rattle.pb_io.specs.Sink.{HandedOn, SinkState}
+use Rattle.pb_io.specs.Sink.{SinkState}
 use Rattle.pb_poly.specs.declared.entry.Entry.{Entry}
-use Rattle.pb_commands.specs.Judged.{PutsText}
+use Rattle.pb_commands.specs.Judged.{HandedOnOnce, PutsText}
 use Rattle.pb_commands.specs.declared.fault.Fault.{Fault}
 use Rattle.pb_collecting.specs.CollectRun.{CollectsBook, CollectsOrEnds, EndsCollect, JudgesTable, RefusesTold}
 use Rattle.pb_collecting.specs.Headline.{HasHeadline}
@@ -36,7 +36,7 @@ module _ (rules : CountingRules) (fills : ℕ) (t t' s s' : SourceState) (sink s
   headline (Ok None) h = tt
   headline (Err fault) h = tt
 
-  pub handed_on : (result : Result (Option (List Entry)) Fault) → Ends result → OnOk result (HandedOn sink')
+  pub handed_on : (result : Result (Option (List Entry)) Fault) → Ends result → OnOk result (HandedOnOnce sink sink')
   handed_on (Ok (Some entries)) h = h.0.games.handed_on
   handed_on (Ok None) h = h.1
   handed_on (Err fault) h = tt

@@ -2,12 +2,12 @@
 use Rattle.std.proofs.Common.{◌≡◌, ℕ, Bool, List, ap, Option, Some, None, Result, Ok, Err, false, refl, subst, sym}
 use Rattle.std.specs.Prelude.{IfSome}
 use Rattle.pb_io.specs.Source.{SourceState}
-use Rattle.pb_io.specs.Sink.{HandedOn, SinkState}
+use Rattle.pb_io.specs.Sink.{SinkState}
 use Rattle.pb_poly.specs.declared.entry.Entry.{Entry}
 use Rattle.pb_accepted.specs.Counting.{IsBook}
 use Rattle.pb_accepted.specs.Ledger.{LedgerState}
 use Rattle.pb_accepted.specs.Rules.{CountingRules}
-use Rattle.pb_commands.specs.Judged.{PutsOrEnds, PutsText, Verdict}
+use Rattle.pb_commands.specs.Judged.{HandedOnOnce, PutsOrEnds, PutsText, Verdict}
 use Rattle.pb_commands.specs.TableJudged.{TableRefused, table_verdict}
 use Rattle.pb_poly.specs.TableReading.{FindsNoTable}
 use Rattle.pb_commands.specs.declared.fault.Fault.{Fault}
@@ -61,13 +61,13 @@ module _ (rules : CountingRules) (fills : ℕ) (t t' s s' : SourceState) (sink s
 
   -- the line that refuses the table was put and handed on
   pub refused : s' ≡ s → (answer : Bool) (e : TableFault) → FindsNoTable fills t t' e → PutsOrEnds (λ verdict. verdict ≡ table_verdict e) sink sink' (Ok answer)
-      → PutsText judges sink sink' false × HandedOn sink'
+      → PutsText judges sink sink' false × HandedOnOnce sink sink'
   refused same answer e h r = let ends = table_ends same (Ok answer) e h r in (put_refused answer ends.0, ends.1)
 
   -- no games were taken: `mid` is the state of the sink before that is told
   module _ (mid : SinkState) where
     pub no_games_put : (why : NoGames) (answer : Bool) → TakesOrStops rules fills t t' s s' sink mid (Err why) → RefusesGames mid sink' (Ok answer) why
-        → PutsText judges sink sink' false × HandedOn sink'
+        → PutsText judges sink sink' false × HandedOnOnce sink sink'
     no_games_put (Table e) answer h r = refused h.1 answer e h.0 (subst (λ (m : SinkState). PutsOrEnds (λ verdict. verdict ≡ table_verdict e) m sink' (Ok answer)) h.2 r)
     no_games_put (Submissions e) answer h r = absurd (cc r.0)
 

@@ -2,7 +2,8 @@
 use Rattle.std.proofs.Common.{◌≡◌, ℕ, List, All, Option, Some, None, Result, Ok, Err, refl}
 use Rattle.std.specs.Prelude.{IfNone, IfOk, IfSome, OnOk}
 use Rattle.pb_io.specs.Source.{SourceState}
-use Rattle.pb_io.specs.Sink.{HandedOn, SinkState}
+use Rattle.pb_io.specs.Sink.{SinkState}
+use Rattle.pb_commands.specs.Judged.{HandedOnOnce}
 use Rattle.pb_poly.specs.Book.{NeverFall}
 use Rattle.pb_poly.specs.Entry.{IsEntry}
 use Rattle.pb_poly.specs.declared.entry.Entry.{Entry}
@@ -34,8 +35,8 @@ module _ (rules : CountingRules) (fills : ℕ) (t t' v v' s s' : SourceState) (s
     headline_on (Ok entries) h = book_headline loaded left entries first h.0 h.1 h.2 t.to_come v.to_come s.to_come refl refl refl
     headline_on (Err fault) h = tt
 
-    handed : (book : Result (List Entry) Fault) → GoesOn fills s s' sink sink' loaded left book → OnOk book (HandedOn sink')
-    handed (Ok entries) h = h.0.0.1.1
+    handed : (book : Result (List Entry) Fault) → GoesOn fills s s' sink sink' loaded left book → OnOk book (HandedOnOnce sink sink')
+    handed (Ok entries) h = let stream = h.0.0.1 in (stream.1, stream.2)
     handed (Err fault) h = tt
 
   abbrev Ends : Result (Option Continued) Fault → Type 0
@@ -52,7 +53,7 @@ module _ (rules : CountingRules) (fills : ℕ) (t t' v v' s s' : SourceState) (s
   headline (Ok None) h = tt
   headline (Err fault) h = tt
 
-  pub handed_on : (result : Result (Option Continued) Fault) → Ends result → IfOk result (HandsOn sink')
+  pub handed_on : (result : Result (Option Continued) Fault) → Ends result → IfOk result (HandsOn sink sink')
   handed_on (Ok (Some run)) h = handed h.0 run.ledger h.1 run.book h.2
   handed_on (Ok None) h = h.1
   handed_on (Err fault) h = tt

@@ -1,7 +1,7 @@
 -- How a run that goes on from a saved ledger ends, from what its parts do.
 use Rattle.std.proofs.Common.{◌≡◌, ◌∙◌, ℕ, Bool, List, Ok, Err, ap, false, refl, subst}
 use Rattle.pb_io.specs.Source.{SourceState}
-use Rattle.pb_io.specs.Sink.{HandedOn, SinkState}
+use Rattle.pb_io.specs.Sink.{SinkState}
 use Rattle.pb_poly.specs.TableReading.{ReadsTable}
 use Rattle.pb_accepted.specs.Basis.{Basis}
 use Rattle.pb_accepted.specs.Ledger.{LedgerState}
@@ -9,7 +9,7 @@ use Rattle.pb_accepted.specs.Rules.{CountingRules}
 use Rattle.pb_saved.specs.Loading.{LoadsStream, LoadsUntil}
 use Rattle.pb_saved.specs.declared.loading.LoadError.{LoadError}
 use Rattle.pb_saved.specs.declared.loading.LoadError.TheVariants as load
-use Rattle.pb_commands.specs.Judged.{PutsOrEnds, PutsText, PutsUntil, Verdict}
+use Rattle.pb_commands.specs.Judged.{HandedOnOnce, PutsOrEnds, PutsText, PutsUntil, Verdict}
 use Rattle.pb_commands.specs.declared.fault.Fault.{Fault}
 use Rattle.pb_commands.proofs.Judging.{shows}
 use Rattle.pb_collecting.specs.Continuing.{JudgesSaved, LoadsFirst, LoadsNot, LoadsOrStops, no_ledger, no_table, saved_verdict, verdict_of}
@@ -54,7 +54,7 @@ module _ (rules : CountingRules) (fills : ℕ) (t t' v v' s s' : SourceState) (s
     pub refusal_fails : (fault : Fault) → PutsOrEnds (λ verdict. verdict ≡ verdict_of why) sink sink' (Err fault) → PutsUntil judges sink sink' fault
     refusal_fails fault h = shows judges (verdict_of why) (judged why stops) sink sink' (Err fault) h
 
-    pub refusal_put : (answer : Bool) → PutsOrEnds (λ verdict. verdict ≡ verdict_of why) sink sink' (Ok answer) → PutsText judges sink sink' false × HandedOn sink'
+    pub refusal_put : (answer : Bool) → PutsOrEnds (λ verdict. verdict ≡ verdict_of why) sink sink' (Ok answer) → PutsText judges sink sink' false × HandedOnOnce sink sink'
     refusal_put answer h =
         let puts = shows judges (verdict_of why) (judged why stops) sink sink' (Ok answer) h in
         (subst (PutsText judges sink sink') (refused_answer answer puts.0.out puts.0.judged) puts.0, puts.1)

@@ -2,7 +2,7 @@
 use Rattle.std.proofs.Common.{◌≡◌, ◌∙◌, ◌≢◌, ℕ, Bool, Result, Ok, Err, ap, false, refl, sym, true}
 use Rattle.std.specs.Prelude.{IfErr, IfOk, OnOk}
 use Rattle.pb_io.specs.Source.{SourceState}
-use Rattle.pb_io.specs.Sink.{HandedOn, SinkState}
+use Rattle.pb_io.specs.Sink.{SinkState}
 use Rattle.pb_io.proofs.FlushLemmas.{still_works}
 use Rattle.pb_accepted.specs.Ledger.{LedgerState}
 use Rattle.pb_accepted.specs.Rules.{CountingRules}
@@ -12,7 +12,7 @@ use Rattle.pb_ledger.specs.declared.collecting.CollectFault.{CollectFault}
 use Rattle.pb_ledger.specs.declared.collecting.CollectFault.TheVariants as collect
 use Rattle.pb_export.specs.declared.exporting.ExportFault.{ExportFault}
 use Rattle.pb_export.specs.declared.exporting.ExportFault.TheVariants as export
-use Rattle.pb_commands.specs.Judged.{PutsText, PutsUntil, Verdict}
+use Rattle.pb_commands.specs.Judged.{HandedOnOnce, PutsText, PutsUntil, Verdict}
 use Rattle.pb_commands.specs.declared.fault.Fault.{Fault}
 use Rattle.pb_commands.specs.declared.fault.Fault.TheVariants.{Read, Write, Endless, Memory}
 use Rattle.pb_collecting.specs.CollectRun.{JudgesTable, RefusesTold}
@@ -70,7 +70,7 @@ module _ (rules : CountingRules) (fills : ℕ) (t t' s s' : SourceState) (d d' s
   told (Ok false) h = λ is. tells_refused rules fills t t' s s' sink sink' h.refused
   told (Err fault) h = tt
 
-  pub handed_on : (result : Result Bool Fault) → Ends result → OnOk result (HandedOn sink')
+  pub handed_on : (result : Result Bool Fault) → Ends result → OnOk result (HandedOnOnce sink sink')
   handed_on (Ok true) h = h.handed_on
   handed_on (Ok false) h = h.handed_on
   handed_on (Err fault) h = tt

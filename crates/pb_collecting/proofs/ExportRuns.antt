@@ -44,7 +44,7 @@ module _ (rules : CountingRules) (fills : ℕ) (t t' s s' : SourceState) (d d' s
           held = h.held;
           games = h.games;
           puts = record { lines = y.lines; are = y.are; put = y.put };
-          handed_on = y.handed_on;
+          handed_on = (y.handed_on, y.flushes);
         }
 
     pub not_exported : (e : ExportFault) → ExportsUntil ledger sink sink' e → StopsExport rules fills t t' s s' d d' sink sink' (fault_of_export e)

@@ -2,10 +2,10 @@
 use Rattle.std.proofs.Common.{◌≡◌, ℕ, ◌⊎◌, List, Option, Some, None, Result, Ok, Err, inl, inr, refl}
 use Rattle.std.specs.Prelude.{IfNone, IfOk, IfSome, OnOk}
 use Rattle.pb_io.specs.Source.{SourceState}
-use Rattle.pb_io.specs.Sink.{HandedOn, SinkState}
+use Rattle.pb_io.specs.Sink.{SinkState}
 use Rattle.pb_poly.specs.declared.entry.Entry.{Entry}
 use Rattle.pb_accepted.specs.Rules.{CountingRules}
-use Rattle.pb_commands.specs.Judged.{PutsUntil}
+use Rattle.pb_commands.specs.Judged.{HandedOnOnce, PutsUntil}
 use Rattle.pb_commands.specs.declared.fault.Fault.{Fault}
 use Rattle.pb_commands.specs.declared.fault.Fault.TheVariants as fault
 use Rattle.pb_collecting.specs.CollectRun.{JudgesTable, RefusesTold}
@@ -63,7 +63,7 @@ module _ (rules : CountingRules) (fills : ℕ) (t t' v v' s s' : SourceState) (j
   survives (Ok None) h = inl h.0.refused.judged.unread
   survives (Err fault) h = ends_safe fault h
 
-  pub handed_on : (result : Result (Option (List Entry)) Fault) → Ends result → OnOk result (HandedOn sink')
-  handed_on (Ok (Some entries)) h = h.0.collects.0.1
+  pub handed_on : (result : Result (Option (List Entry)) Fault) → Ends result → OnOk result (HandedOnOnce sink sink')
+  handed_on (Ok (Some entries)) h = let stream = h.0.collects.0 in (stream.1, stream.2)
   handed_on (Ok None) h = h.1
   handed_on (Err fault) h = tt

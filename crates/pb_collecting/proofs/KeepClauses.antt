@@ -2,7 +2,8 @@
 use Rattle.std.proofs.Common.{◌≡◌, ℕ, Bool, Result, Ok, Err, false, true}
 use Rattle.std.specs.Prelude.{IfErr, IfOk, OnOk}
 use Rattle.pb_io.specs.Source.{SourceState}
-use Rattle.pb_io.specs.Sink.{HandedOn, SinkState}
+use Rattle.pb_io.specs.Sink.{SinkState}
+use Rattle.pb_commands.specs.Judged.{HandedOnOnce}
 use Rattle.pb_collecting.specs.Keeping.{EndsKeeping, KeepsBook, KeepsOrEnds, RefusesBook}
 use Rattle.pb_collecting.specs.Place.{PlaceState}
 use Rattle.pb_accepted.specs.Rules.{CountingRules}
@@ -22,7 +23,7 @@ module _ (rules : CountingRules) (fills : ℕ) (t t' s s' : SourceState) (sink s
   refused (Ok false) h = λ is. h.0
   refused (Err why) h = tt
 
-  pub handed_on : (result : Result Bool NoBook) → Ends result → OnOk result (HandedOn sink')
+  pub handed_on : (result : Result Bool NoBook) → Ends result → OnOk result (HandedOnOnce sink sink')
   handed_on (Ok true) h = h.1
   handed_on (Ok false) h = h.1
   handed_on (Err why) h = tt

@@ -32,7 +32,7 @@ module _ (rules : CountingRules) (fills : ℕ) (t t' s s' : SourceState) (sink s
             all_came = came_told fills s s' h.0.came s.to_come refl h.0.reads;
           };
           put = collects.put;
-          handed_on = h.1;
+          handed_on = (h.1, h.2);
         };
         is = ap (λ (T : Basis). record l' { basis = T }) leads.basis ∙ ap (λ n. record (ledger_of rules words l'.accepted) { cap = n }) leads.cap;
       }

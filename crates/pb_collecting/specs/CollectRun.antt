@@ -3,7 +3,7 @@
 use Rattle.std.specs.Prelude.{◌≡◌, ℕ, All, false, List, Option, Some, None, Result, Ok, Err, IfSome}
 use Rattle.std.specs.Io.KnownBytes.{Appends}
 use Rattle.pb_io.specs.Source.{SourceState}
-use Rattle.pb_io.specs.Sink.{HandedOn, SinkState}
+use Rattle.pb_io.specs.Sink.{SinkState}
 use Rattle.pb_poly.specs.Book.{NeverFall}
 use Rattle.pb_poly.specs.Entry.{IsEntry}
 use Rattle.pb_poly.specs.declared.entry.Entry.{Entry}
@@ -14,7 +14,7 @@ use Rattle.pb_accepted.specs.Rules.{CountingRules}
 use Rattle.pb_commands.specs.declared.fault.Fault.{Fault}
 use Rattle.pb_commands.specs.declared.fault.Fault.TheVariants.{Memory}
 use Rattle.pb_poly.specs.declared.table_file.TableFault.{TableFault}
-use Rattle.pb_commands.specs.Judged.{PutsText, PutsUntil, Verdict}
+use Rattle.pb_commands.specs.Judged.{HandedOnOnce, PutsText, PutsUntil, Verdict}
 use Rattle.pb_poly.specs.TableReading.{FindsNoTable}
 use Rattle.pb_commands.specs.TableJudged.{TableRefused, table_verdict}
 use Rattle.pb_collecting.specs.Taking.{CollectsGames, StopsTaking, fault_of}
@@ -54,5 +54,5 @@ abbrev pub CollectsOrEnds : CountingRules → ℕ → SourceState → SourceStat
 CollectsOrEnds rules fills t t' s s' sink sink' (Ok (Some entries)) =
     CollectsBook rules fills t t' s s' sink sink' entries × NeverFall entries × All IsEntry entries
 CollectsOrEnds rules fills t t' s s' sink sink' (Ok None) =
-    PutsText (JudgesTable fills t t' s s') sink sink' false × HandedOn sink'
+    PutsText (JudgesTable fills t t' s s') sink sink' false × HandedOnOnce sink sink'
 CollectsOrEnds rules fills t t' s s' sink sink' (Err fault) = EndsCollect rules fills t t' s s' sink sink' fault

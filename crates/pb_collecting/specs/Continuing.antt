@@ -2,7 +2,7 @@
 -- `t'` are the states of the table's source, `v` and `v'` those of the saved ledger's, `s` and `s'` those of the submissions'.
 use Rattle.std.specs.Prelude.{◌≡◌, ℕ, ◌⊎◌, All, false, List, ◌++◌, Option, Some, None, Result, Ok, Err, codes, decimal}
 use Rattle.pb_io.specs.Source.{SourceState}
-use Rattle.pb_io.specs.Sink.{HandedOn, SinkState}
+use Rattle.pb_io.specs.Sink.{SinkState}
 use Rattle.pb_io.specs.LineTask.{AtEnd}
 use Rattle.pb_poly.specs.Book.{NeverFall}
 use Rattle.pb_poly.specs.Entry.{IsEntry}
@@ -20,7 +20,7 @@ use Rattle.pb_saved.specs.declared.loading.LoadError.TheVariants as load
 use Rattle.pb_ledger.specs.Collecting.{CollectsStream, CollectsUntil}
 use Rattle.pb_ledger.specs.declared.totals.Totals.{Totals}
 use Rattle.pb_ledger.specs.declared.collecting.CollectFault.TheVariants as collect
-use Rattle.pb_commands.specs.Judged.{PutsText, PutsUntil, Verdict, refused}
+use Rattle.pb_commands.specs.Judged.{HandedOnOnce, PutsText, PutsUntil, Verdict, refused}
 use Rattle.pb_commands.specs.TableJudged.{table_verdict}
 use Rattle.pb_commands.specs.declared.fault.Fault.{Fault}
 use Rattle.pb_commands.specs.declared.fault.Fault.TheVariants.{Read, Write, Endless, Memory}
@@ -97,5 +97,5 @@ abbrev pub ContinuesOrEnds : CountingRules → ℕ → SourceState → SourceSta
 ContinuesOrEnds rules fills t t' v v' s s' sink sink' (Ok (Some run)) =
     (loaded : LedgerState) × LoadsFirst rules fills t t' v v' loaded × GoesOn fills s s' sink sink' loaded run.ledger run.book
 ContinuesOrEnds rules fills t t' v v' s s' sink sink' (Ok None) =
-    PutsText (JudgesSaved rules fills t t' v v' s s') sink sink' false × HandedOn sink'
+    PutsText (JudgesSaved rules fills t t' v v' s s') sink sink' false × HandedOnOnce sink sink'
 ContinuesOrEnds rules fills t t' v v' s s' sink sink' (Err fault) = PutsUntil (JudgesSaved rules fills t t' v v' s s') sink sink' fault

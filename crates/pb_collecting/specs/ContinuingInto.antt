@@ -3,13 +3,13 @@
 -- ledger's place and `q` that of the book's.
 use Rattle.std.specs.Prelude.{◌≡◌, ℕ, ◌⊎◌, Bool, true, false, List, Result, Ok, Err, IfOk}
 use Rattle.pb_io.specs.Source.{SourceState}
-use Rattle.pb_io.specs.Sink.{HandedOn, SinkState}
+use Rattle.pb_io.specs.Sink.{SinkState}
 use Rattle.pb_poly.specs.Book.{book_bytes}
 use Rattle.pb_poly.specs.declared.entry.Entry.{Entry}
 use Rattle.pb_accepted.specs.Ledger.{LedgerState}
 use Rattle.pb_accepted.specs.Rules.{CountingRules}
 use Rattle.pb_saved.specs.Saving.{Saved}
-use Rattle.pb_commands.specs.Judged.{PutsText, PutsUntil}
+use Rattle.pb_commands.specs.Judged.{HandedOnOnce, PutsText, PutsUntil}
 use Rattle.pb_commands.specs.declared.fault.Fault.{Fault}
 use Rattle.pb_collecting.specs.Continuing.{JudgesSaved, RunsOn}
 use Rattle.pb_collecting.specs.ContinuingTold.{HasHeadlineOfBoth}
@@ -34,7 +34,7 @@ abbrev pub KeepsOrStops : CountingRules → ℕ → SourceState → SourceState 
 KeepsOrStops rules fills t t' v v' s s' sink sink' p p' q q' (Ok true) =
     (entries : List Entry) × KeepsLedger rules fills t t' v v' s s' sink sink' p p' (Ok entries) (Ok tt) × Keeps q q' (Ok tt) (book_bytes entries)
 KeepsOrStops rules fills t t' v v' s s' sink sink' p p' q q' (Ok false) =
-    PutsText (JudgesSaved rules fills t t' v v' s s') sink sink' false × HandedOn sink' × (p' ≡ p) × (q' ≡ q)
+    PutsText (JudgesSaved rules fills t t' v v' s s') sink sink' false × HandedOnOnce sink sink' × (p' ≡ p) × (q' ≡ q)
 KeepsOrStops rules fills t t' v v' s s' sink sink' p p' q q' (Err (Run fault)) =
     (PutsUntil (JudgesSaved rules fills t t' v v' s s') sink sink' fault × (p' ≡ p) × (q' ≡ q))
     ⊎ ((answer : Result (Unit {0}) NotKept) × KeepsLedger rules fills t t' v v' s s' sink sink' p p' (Err fault) answer × (q' ≡ q))

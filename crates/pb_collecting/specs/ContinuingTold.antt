@@ -2,7 +2,8 @@
 -- ledger and the submissions. A list is counted from 0.
 use Rattle.std.specs.Prelude.{◌≡◌, ℕ, false, List, [], ◌++◌, Option, Some, None, Ok, IfSome, OnOk}
 use Rattle.std.specs.Io.KnownBytes.{Appends}
-use Rattle.pb_io.specs.Sink.{HandedOn, SinkState}
+use Rattle.pb_io.specs.Sink.{SinkState}
+use Rattle.pb_commands.specs.Judged.{HandedOnOnce}
 use Rattle.pb_io.specs.Lines.{lines}
 use Rattle.pb_poly.specs.Table.{IsTableFile}
 use Rattle.pb_poly.specs.declared.entry.Entry.{Entry}
@@ -75,7 +76,7 @@ pub record RefusesEither (file saved : Option (List ℕ)) (sink sink' : SinkStat
 
 -- ---- what the answer says
 
--- where no fault came, all that was put was handed on
-abbrev pub HandsOn : SinkState → Option Continued → Type 0
-HandsOn sink' (Some run) = OnOk run.book (HandedOn sink')
-HandsOn sink' None = HandedOn sink'
+-- where no fault came, all that was put was handed on, at the end and not before
+abbrev pub HandsOn : SinkState → SinkState → Option Continued → Type 0
+HandsOn sink sink' (Some run) = OnOk run.book (HandedOnOnce sink sink')
+HandsOn sink sink' None = HandedOnOnce sink sink'

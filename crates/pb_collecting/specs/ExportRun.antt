@@ -3,7 +3,7 @@
 use Rattle.std.specs.Prelude.{◌≡◌, ℕ, Bool, true, false, List, Result, Ok, Err}
 use Rattle.std.specs.Io.KnownBytes.{Appends}
 use Rattle.pb_io.specs.Source.{SourceState}
-use Rattle.pb_io.specs.Sink.{HandedOn, SinkState}
+use Rattle.pb_io.specs.Sink.{SinkState}
 use Rattle.pb_games.specs.Submissions.{Submission}
 use Rattle.pb_export.specs.Exporting.{ExportLines, ExportsUntil, text_of_lines}
 use Rattle.pb_ledger.specs.declared.collecting.CollectFault.{CollectFault}
@@ -11,7 +11,7 @@ use Rattle.pb_export.specs.declared.exporting.ExportFault.{ExportFault}
 use Rattle.pb_export.specs.declared.exporting.ExportFault.TheVariants as export
 use Rattle.pb_commands.specs.declared.fault.Fault.{Fault}
 use Rattle.pb_commands.specs.declared.fault.Fault.TheVariants.{Write, Memory}
-use Rattle.pb_commands.specs.Judged.{PutsText, PutsUntil}
+use Rattle.pb_commands.specs.Judged.{HandedOnOnce, PutsText, PutsUntil}
 use Rattle.pb_collecting.specs.CollectRun.{JudgesTable}
 use Rattle.pb_accepted.specs.Rules.{CountingRules}
 use Rattle.pb_collecting.specs.Taking.{CollectsGames, StopsTaking, TakesGames, fault_of, ledger_of}
@@ -41,13 +41,13 @@ pub record ExportsAnswered (rules : CountingRules) (fills : ℕ) (t t' s s' : So
   pub held : List Submission
   pub games : CollectsGames fills t t' s s' d d' words held
   pub puts : PutsExport rules sink sink' words held
-  pub handed_on : HandedOn sink'
+  pub handed_on : HandedOnOnce sink sink'
 
 -- the line that refuses the table was put and handed on, and no reply was put
 pub record RefusesExport (fills : ℕ) (t t' s s' : SourceState) (d d' sink sink' : SinkState) : Type 0 where
   pub refused : PutsText (JudgesTable fills t t' s s') sink sink' false
   pub no_reply : d' ≡ d
-  pub handed_on : HandedOn sink'
+  pub handed_on : HandedOnOnce sink sink'
 
 -- how a run ends with a fault
 pub data StopsExport (rules : CountingRules) (fills : ℕ) (t t' s s' : SourceState) (d d' sink sink' : SinkState) (fault : Fault) : Type 0 where

@@ -3,7 +3,8 @@
 -- that of the book's place.
 use Rattle.std.specs.Prelude.{◌≡◌, ℕ, Bool, true, false, List, Result, Ok, Err}
 use Rattle.pb_io.specs.Source.{SourceState}
-use Rattle.pb_io.specs.Sink.{HandedOn, SinkState}
+use Rattle.pb_io.specs.Sink.{SinkState}
+use Rattle.pb_commands.specs.Judged.{HandedOnOnce}
 use Rattle.pb_poly.specs.Book.{book_bytes}
 use Rattle.pb_poly.specs.declared.entry.Entry.{Entry}
 use Rattle.pb_accepted.specs.Rules.{CountingRules}
@@ -26,9 +27,9 @@ pub record KeepsJournaled (rules : CountingRules) (fills : ℕ) (t t' v v' s s' 
 -- book that wasn't kept
 abbrev pub JournalsInto : CountingRules → ℕ → SourceState → SourceState → SourceState → SourceState → SourceState → SourceState → SinkState → SinkState → SinkState → SinkState → PlaceState → PlaceState → Result Bool NoBook → Type 0
 JournalsInto rules fills t t' v v' s s' j j' sink sink' p p' (Ok true) =
-    KeepsJournaled rules fills t t' v v' s s' j j' sink sink' p p' (Ok tt) × HandedOn sink'
+    KeepsJournaled rules fills t t' v v' s s' j j' sink sink' p p' (Ok tt) × HandedOnOnce sink sink'
 JournalsInto rules fills t t' v v' s s' j j' sink sink' p p' (Ok false) =
-    RefusesJournaled fills t t' v v' s s' j j' sink sink' × HandedOn sink' × (p' ≡ p)
+    RefusesJournaled fills t t' v v' s s' j j' sink sink' × HandedOnOnce sink sink' × (p' ≡ p)
 JournalsInto rules fills t t' v v' s s' j j' sink sink' p p' (Err (Run fault)) =
     EndsJournaled rules fills t t' v v' s s' j j' sink sink' fault × (p' ≡ p)
 JournalsInto rules fills t t' v v' s s' j j' sink sink' p p' (Err (Keep why)) = KeepsJournaled rules fills t t' v v' s s' j j' sink sink' p p' (Err why)

@@ -2,7 +2,7 @@
 -- states of the table's source, `v` and `v'` those of the journal's, `j` and `j'` those of its sink, `s` and `s'` those of the submissions'.
 use Rattle.std.specs.Prelude.{◌≡◌, ℕ, All, false, List, Option, Some, None, Result, Ok, Err}
 use Rattle.pb_io.specs.Source.{SourceState}
-use Rattle.pb_io.specs.Sink.{HandedOn, SinkState}
+use Rattle.pb_io.specs.Sink.{SinkState}
 use Rattle.pb_poly.specs.Book.{NeverFall}
 use Rattle.pb_poly.specs.Entry.{IsEntry}
 use Rattle.pb_poly.specs.declared.entry.Entry.{Entry}
@@ -17,7 +17,7 @@ use Rattle.pb_ledger.specs.Journaling.{JournalsStream, JournalsUntil}
 use Rattle.pb_ledger.specs.declared.journaling.JournalFault.{JournalFault}
 use Rattle.pb_ledger.specs.declared.journaling.JournalFault.TheVariants as journal
 use Rattle.pb_ledger.specs.declared.totals.Totals.{Totals}
-use Rattle.pb_commands.specs.Judged.{PutsText, PutsUntil}
+use Rattle.pb_commands.specs.Judged.{HandedOnOnce, PutsText, PutsUntil}
 use Rattle.pb_commands.specs.declared.fault.Fault.{Fault}
 use Rattle.pb_commands.specs.declared.fault.Fault.TheVariants.{Read, Write, Endless, Memory}
 use Rattle.pb_collecting.specs.CollectRun.{JudgesTable}
@@ -98,5 +98,5 @@ abbrev pub JournalsOrEnds : CountingRules → ℕ → SourceState → SourceStat
 JournalsOrEnds rules fills t t' v v' s s' j j' sink sink' (Ok (Some entries)) =
     JournalsBook rules fills t t' v v' s s' j j' sink sink' entries × NeverFall entries × All IsEntry entries
 JournalsOrEnds rules fills t t' v v' s s' j j' sink sink' (Ok None) =
-    RefusesJournaled fills t t' v v' s s' j j' sink sink' × HandedOn sink'
+    RefusesJournaled fills t t' v v' s s' j j' sink sink' × HandedOnOnce sink sink'
 JournalsOrEnds rules fills t t' v v' s s' j j' sink sink' (Err fault) = EndsJournaled rules fills t t' v v' s s' j j' sink sink' fault

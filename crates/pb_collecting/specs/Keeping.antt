@@ -2,10 +2,10 @@
 -- are the states of the table's source, `s` and `s'` those of the submissions'.
 use Rattle.std.specs.Prelude.{◌≡◌, ℕ, Bool, true, false, List, Result, Ok, Err}
 use Rattle.pb_io.specs.Source.{SourceState}
-use Rattle.pb_io.specs.Sink.{HandedOn, SinkState}
+use Rattle.pb_io.specs.Sink.{SinkState}
 use Rattle.pb_poly.specs.Book.{book_bytes}
 use Rattle.pb_poly.specs.declared.entry.Entry.{Entry}
-use Rattle.pb_commands.specs.Judged.{PutsText}
+use Rattle.pb_commands.specs.Judged.{HandedOnOnce, PutsText}
 use Rattle.pb_collecting.specs.CollectRun.{CollectsBook, EndsCollect, JudgesTable, RefusesTold}
 use Rattle.pb_collecting.specs.Headline.{HasHeadline}
 use Rattle.pb_collecting.specs.Place.{Keeps, PlaceState}
@@ -36,7 +36,7 @@ EndsKeeping rules fills t t' s s' sink sink' place place' (Keep why) = KeepsBook
 -- how a run ends: with its book at the place, with the line that refuses the table, or without a book
 abbrev pub KeepsOrEnds : CountingRules → ℕ → SourceState → SourceState → SourceState → SourceState → SinkState → SinkState → PlaceState → PlaceState → Result Bool NoBook → Type 0
 KeepsOrEnds rules fills t t' s s' sink sink' place place' (Ok true) =
-    KeepsBook rules fills t t' s s' sink sink' place place' (Ok tt) × HandedOn sink'
+    KeepsBook rules fills t t' s s' sink sink' place place' (Ok tt) × HandedOnOnce sink sink'
 KeepsOrEnds rules fills t t' s s' sink sink' place place' (Ok false) =
-    RefusesBook rules fills t t' s s' sink sink' place place' × HandedOn sink'
+    RefusesBook rules fills t t' s s' sink sink' place place' × HandedOnOnce sink sink'
 KeepsOrEnds rules fills t t' s s' sink sink' place place' (Err why) = EndsKeeping rules fills t t' s s' sink sink' place place' why

@@ -3,7 +3,7 @@
 use Rattle.std.specs.Prelude.{◌≡◌, ℕ, Bool, List, [], Result, Ok, Err, IfSome}
 use Rattle.std.specs.Io.KnownBytes.{Appends}
 use Rattle.pb_io.specs.Source.{SourceState}
-use Rattle.pb_io.specs.Sink.{HandedOn, SinkState}
+use Rattle.pb_io.specs.Sink.{SinkState}
 use Rattle.pb_io.specs.Reads.{ReadsAll, chunk_len}
 use Rattle.pb_io.specs.Lines.{lines}
 use Rattle.pb_games.specs.Submissions.{Submission}
@@ -15,7 +15,7 @@ use Rattle.pb_ledger.specs.declared.collecting.CollectFault.{CollectFault}
 use Rattle.pb_ledger.specs.declared.collecting.CollectFault.TheVariants as collect
 use Rattle.pb_accepted.specs.Holding.{most_games}
 use Rattle.pb_accepted.specs.Rules.{CountingRules}
-use Rattle.pb_commands.specs.Judged.{PutsOrEnds}
+use Rattle.pb_commands.specs.Judged.{HandedOnOnce, PutsOrEnds}
 use Rattle.pb_commands.specs.TableJudged.{table_verdict}
 use Rattle.pb_commands.specs.declared.fault.Fault.{Fault}
 use Rattle.pb_commands.specs.declared.fault.Fault.TheVariants.{Read, Write, Endless, Memory}
@@ -55,7 +55,7 @@ pub record TakesGames (fills : ℕ) (t t' s s' : SourceState) (words : List ℕ)
 pub record CollectsGames (fills : ℕ) (t t' s s' : SourceState) (sink sink' : SinkState) (words : List ℕ) (held : List Submission) : Type 0 where
   pub takes : TakesGames fills t t' s s' words held
   pub put : Appends sink.bytes sink'.bytes (replies (lines takes.came) takes.answers)
-  pub handed_on : HandedOn sink'
+  pub handed_on : HandedOnOnce sink sink'
 
 -- the same, and this ledger holds the games
 pub record FillsLedger (rules : CountingRules) (fills : ℕ) (t t' s s' : SourceState) (sink sink' : SinkState) (ledger : LedgerState) : Type 0 where

@@ -1,9 +1,9 @@
 //! The command `collect`: submissions are answered, and the book of the games that are held then is made.
 ghost use Rattle.std.specs.Prelude.{ℕ, IfErr, IfNone, IfOk, IfSome, OnOk, false};
 ghost use Rattle.pb_io.specs.Source.{SourceState};
-ghost use Rattle.pb_io.specs.Sink.{HandedOn, SinkState};
+ghost use Rattle.pb_io.specs.Sink.{SinkState};
 ghost use Rattle.pb_accepted.specs.Rules.{CountingRules};
-ghost use Rattle.pb_commands.specs.Judged.{PutsText};
+ghost use Rattle.pb_commands.specs.Judged.{HandedOnOnce, PutsText};
 ghost use Rattle.pb_collecting.specs.CollectRun.{CollectsOrEnds, CollectsBook, EndsCollect, JudgesTable, RefusesTold};
 ghost use Rattle.pb_collecting.specs.Headline.{HasHeadline};
 ghost use Rattle.pb_collecting.specs.Taking.{FillsLedger};
@@ -46,7 +46,7 @@ pub fn run_collect<T: Source, S: Source, K: Sink>(
     // one text.
     ensures headline { IfOk result (λ answer. IfSome answer (HasHeadline rules (T.state table_source.old).to_come (S.state source.old).to_come
         (K.state sink.old) (K.state sink.new))) }
-    ensures handed_on { OnOk result (HandedOn (K.state sink.new)) }
+    ensures handed_on { OnOk result (HandedOnOnce (K.state sink.old) (K.state sink.new)) }
     // What was done before a fault, and where the fault lies.
     ensures fault { IfErr result (EndsCollect rules fills (T.state table_source.old) (T.state table_source.new)
         (S.state source.old) (S.state source.new) (K.state sink.old) (K.state sink.new)) }

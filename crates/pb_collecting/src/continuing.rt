@@ -62,8 +62,8 @@ pub fn run_continue<T: Source, V: Source, S: Source, K: Sink>(
     // that were accepted in both runs, each of them once.
     ensures headline { IfOk result (λ answer. IfSome answer (λ run. IfOk run.book (HasHeadlineOfBoth rules (T.state table_source.old).to_come
         (V.state saved.old).to_come (S.state source.old).to_come (K.state sink.old) (K.state sink.new) run.ledger))) }
-    // All that was put was handed on, where no fault came.
-    ensures handed_on { IfOk result (HandsOn (K.state sink.new)) }
+    // All that was put was handed on, at the end and not before, where no fault came.
+    ensures handed_on { IfOk result (HandsOn (K.state sink.old) (K.state sink.new)) }
     // No submission was read where a fault came before.
     ensures fault { IfErr result (PutsUntil
         (JudgesSaved rules fills (T.state table_source.old) (T.state table_source.new) (V.state saved.old) (V.state saved.new) (S.state source.old) (S.state source.new))

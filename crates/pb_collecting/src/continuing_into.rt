@@ -14,16 +14,20 @@ use pb_commands::Fault;
 use pb_ledger::Rules;
 use pb_poly::{Sink, Source};
 use std::alloc::Global;
+use thiserror::Error;
 
 /// Why not both the ledger and its book are kept.
-#[derive(Clone, Copy, Debug, PartialEq, Eq)]
+#[derive(Clone, Copy, Debug, PartialEq, Eq, Error)]
 pub enum NotContinued {
     /// The run met a fault. Before a submission was read both places were left alone; later the games that were taken are kept at the
     /// ledger's place, if that took them, and the book's was left alone.
+    #[error("there is no book: {0}")]
     Run(Fault),
     /// The ledger was not kept, and the book's place was left alone.
+    #[error("the ledger isn't kept: {0}")]
     Ledger(NotKept),
     /// The ledger was kept, and the book was not.
+    #[error("the book isn't kept: {0}")]
     Book(NotKept),
 }
 

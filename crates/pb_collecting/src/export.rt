@@ -1,9 +1,9 @@
 //! The command `export`: the book of submissions as EPD lines.
 ghost use Rattle.std.specs.Prelude.{◌≡◌, ℕ, IfErr, IfOk, None, OnOk, false, true};
 ghost use Rattle.pb_io.specs.Source.{SourceState};
-ghost use Rattle.pb_io.specs.Sink.{HandedOn, SinkState};
+ghost use Rattle.pb_io.specs.Sink.{SinkState};
 ghost use Rattle.pb_accepted.specs.Rules.{CountingRules};
-ghost use Rattle.pb_commands.specs.Judged.{PutsText};
+ghost use Rattle.pb_commands.specs.Judged.{HandedOnOnce, PutsText};
 ghost use Rattle.pb_collecting.specs.CollectRun.{JudgesTable, RefusesTold};
 ghost use Rattle.pb_collecting.specs.ExportRun.{BlamesSink, EndsExport, ExportsOrStops, ExportsGames, fault_of_export};
 ghost use Rattle.pb_collecting.specs.Taking.{FillsLedger};
@@ -18,10 +18,11 @@ use std::alloc::Global;
 #[derive(Default, Drop)]
 struct Dropped {
     flushed: bool,
+    flushes: u64,
 }
 
 impl Sink for Dropped {
-    ghost state = { λ s. record { bytes = None; failed = false; flushed = s.flushed } };
+    ghost state = { λ s. record { bytes = None; failed = false; flushed = s.flushed; flushes = s.flushes } };
 
     fn put(&mut self, _bytes: &[u8]) -> Result<(), Failed> {
         self.flushed = false;
@@ -30,6 +31,7 @@ impl Sink for Dropped {
 
     fn flush(&mut self) -> Result<(), Failed> {
         self.flushed = true;
+        self.flushes = self.flushes.saturating_add(1);
         Ok(())
     }
 
@@ -77,7 +79,7 @@ pub fn run_export<T: Source, S: Source, K: Sink>(
     // Of a source that tells its bytes, it is the line that refuses the table file of all bytes that were to come.
     ensures told { IfOk result (λ done. done ≡ false → RefusesTold (T.state table_source.old).to_come (K.state sink.old) (K.state sink.new)) }
     // What was put was handed on.
-    ensures handed_on { OnOk result (HandedOn (K.state sink.new)) }
+    ensures handed_on { OnOk result (HandedOnOnce (K.state sink.old) (K.state sink.new)) }
     // What was done before a fault, and where the fault lies.
     ensures fault { IfErr result (EndsExport rules fills (T.state table_source.old) (T.state table_source.new)
         (S.state source.old) (S.state source.new) (K.state sink.old) (K.state sink.new)) }

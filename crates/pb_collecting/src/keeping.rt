@@ -1,7 +1,7 @@
 //! The command `collect` up to the place where its book is kept.
 
 ghost use Rattle.std.specs.Prelude.{◌≡◌, IfErr, IfOk, Ok, OnOk, false, true};
-ghost use Rattle.pb_io.specs.Sink.{HandedOn};
+ghost use Rattle.pb_commands.specs.Judged.{HandedOnOnce};
 ghost use Rattle.pb_collecting.specs.Keeping.{EndsKeeping, KeepsBook, KeepsOrEnds, RefusesBook};
 
 use crate::collect::collect_submissions;
@@ -10,13 +10,16 @@ use pb_commands::Fault;
 use pb_ledger::Rules;
 use pb_poly::{Sink, Source};
 use std::alloc::Global;
+use thiserror::Error;
 
 /// Why no book is kept at the place.
-#[derive(Clone, Copy, Debug, PartialEq, Eq)]
+#[derive(Clone, Copy, Debug, PartialEq, Eq, Error)]
 pub enum NoBook {
     /// The run met a fault before there was a book. The place was left alone.
+    #[error("there is no book: {0}")]
     Run(Fault),
     /// The book was made and not kept.
+    #[error("the book isn't kept: {0}")]
     Keep(NotKept),
 }
 
@@ -44,7 +47,7 @@ pub fn collect_into<T: Source, S: Source, K: Sink, P: Place>(
     ensures refused { IfOk result (λ kept. kept ≡ false → RefusesBook rules fills (T.state table_source.old) (T.state table_source.new)
         (S.state source.old) (S.state source.new) (K.state sink.old) (K.state sink.new) (P.state place.old) (P.state place.new)) }
     // What was put was handed on.
-    ensures handed_on { OnOk result (HandedOn (K.state sink.new)) }
+    ensures handed_on { OnOk result (HandedOnOnce (K.state sink.old) (K.state sink.new)) }
     // What was done before a fault, where the fault lies, and what it leaves at the place.
     ensures fault { IfErr result (EndsKeeping rules fills (T.state table_source.old) (T.state table_source.new)
         (S.state source.old) (S.state source.new) (K.state sink.old) (K.state sink.new) (P.state place.old) (P.state place.new)) }

@@ -1,6 +1,16 @@
-//! Laws of the theorem of `pbook collect`. Each is the contract of a function that does nothing, over the definitions alone.
+//! Laws of the theorem of `pbook collect`, and of equality (`==`) between reasons why nothing is kept. Each is the contract of a function
+//! that does nothing, over the definitions alone.
 
+ghost use Rattle.std.specs.Prelude.{◌≡◌};
+ghost use Rattle.std.specs.Bool.{Decides};
 ghost use Rattle.pb_collecting.specs.Laws.{AnswersRepeatsAlike, GoesOnAsOneRun, HasOneEffect, KeepsGamesAtRefusals};
+ghost use Rattle.pb_collecting.specs.declared.continuing_into.NotContinued.{NotContinued};
+ghost use Rattle.pb_collecting.specs.declared.keeping.NoBook.{NoBook};
+ghost use Rattle.pb_collecting.specs.declared.place.NotKept.{NotKept};
+
+use crate::continuing_into::NotContinued;
+use crate::keeping::NoBook;
+use crate::place::NotKept;
 
 /// Whatever the submissions are, a repeat is answered as its first acceptance was, and a refused submission changes nothing.
 pub fn every_run()
@@ -17,4 +27,11 @@ pub fn one_game()
 /// What an earlier run saved is what a run holds that goes on from it, and the replies and the book of both are those of one long run.
 pub fn goes_on()
     ensures { GoesOnAsOneRun }
+{}
+
+/// Reasons why a text, a book, or a ledger and its book aren't kept are equal (`==`) exactly where they are one.
+pub fn equal_values()
+    ensures text { (a b : NotKept) → Decides (⟦<NotKept as PartialEq>⟧.eq a b) (a ≡ b) }
+    ensures book { (a b : NoBook) → Decides (⟦<NoBook as PartialEq>⟧.eq a b) (a ≡ b) }
+    ensures both { (a b : NotContinued) → Decides (⟦<NotContinued as PartialEq>⟧.eq a b) (a ≡ b) }
 {}

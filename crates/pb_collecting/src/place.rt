@@ -7,15 +7,19 @@ ghost use Rattle.pb_collecting.specs.Place.{Keeps, KeepsWhatItHad, PlaceState};
 use crate::text::Text;
 use pb_poly::{MemSink, Sink};
 use std::alloc::Global;
+use thiserror::Error;
 
 /// Why a text was not kept.
-#[derive(Clone, Copy, Debug, PartialEq, Eq)]
+#[derive(Clone, Copy, Debug, PartialEq, Eq, Error)]
 pub enum NotKept {
     /// The place can't be opened. What it held is still there.
+    #[error("the place can't be opened")]
     Open,
     /// A write failed. A front of the text may be all that is left.
+    #[error("the text can't be written")]
     Write,
     /// There was no memory to write with. The place may be empty.
+    #[error("no memory is left")]
     Memory,
 }
 

@@ -1,0 +1,12 @@
+//! Laws of equality (`==`) between what is kept. Each is the contract of a function that does nothing.
+
+ghost use Rattle.std.specs.Bool.{Decides};
+ghost use Rattle.pb_cli.specs.Orders.{KeepsTheSame};
+ghost use Rattle.pb_cli.specs.declared.order.Keeping.{Keeping};
+
+use crate::order::Keeping;
+
+/// What is kept is equal (`==`) exactly where it is of one kind, at paths of the same text, and synced alike.
+pub fn equal_keeping()
+    ensures { (a b : Keeping) → Decides (⟦<Keeping as PartialEq>⟧.eq a b) (KeepsTheSame a b) }
+{}
