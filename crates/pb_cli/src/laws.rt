@@ -7,11 +7,6 @@ ghost use Rattle.pb_cli.specs.declared.order.Keeping.{Keeping};
 use crate::order::Keeping;
 
 /// What is kept is equal (`==`) exactly where it is of one kind, at paths of the same text, and synced alike.
-<<<<<<< HEAD
-pub fn equal_keeping()
-    ensures { (a b : Keeping) → Decides (⟦<Keeping as PartialEq>⟧.eq a b) (KeepsTheSame a b) }
-=======
 pub fn equal_keeping<'a>()
     ensures { (a b : Keeping) → Decides (⟦<Keeping<'a> as PartialEq>⟧.eq a b) (KeepsTheSame a b) }
->>>>>>> c3c70450794d0e05fe49660041f8c99d61499b80
 {}
