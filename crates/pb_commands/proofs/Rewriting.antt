@@ -7,7 +7,7 @@ use Rattle.std.proofs.KnownBytes.{Appends-nil, Appends-trans, Appends-kept}
 use Rattle.pb_board.specs.LineEnd.{without_return}
 use Rattle.pb_epd.specs.declared.refusal.EpdError.{EpdError}
 use Rattle.pb_epd.specs.declared.refusal.EpdError.TheVariants as epd
-use Rattle.pb_epd.specs.Epd.{EpdRecord, EpdText}
+use Rattle.pb_epd.specs.Epd.{EpdRecord, EpdText, IsEpd}
 use Rattle.pb_epd.specs.Refusal.{IsFirstDueEpd}
 use Rattle.pb_epd.proofs.Texts.{text_memory}
 use Rattle.pb_io.specs.Source.{SourceState}
@@ -50,8 +50,8 @@ line_shows judges verdict judged sink sink' (Err fault) h =
     until_as (λ v. v ≡ verdict) judges (λ v is. subst (λ (x : Verdict). judges x) (sym is) judged) sink sink' fault h
 
 -- want of memory is the first reason of a record's text, and so of the line that has this text
-pub memory_due : (line text : List ℕ) (e : EpdRecord) → text ≡ without_return line → EpdText e text → IsFirstDueEpd epd.Memory (without_return line)
-memory_due line text e same spells = subst (λ (x : List ℕ). IsFirstDueEpd epd.Memory x) same (text_memory e text spells)
+pub memory_due : (line text : List ℕ) (e : EpdRecord) → text ≡ without_return line → IsEpd e → EpdText e text → IsFirstDueEpd epd.Memory (without_return line)
+memory_due line text e same lawful spells = subst (λ (x : List ℕ). IsFirstDueEpd epd.Memory x) same (text_memory e text lawful spells)
 
 -- no line ends a run as a source does
 no_record_read : (number : ℕ) (x : EpdError) (fault : Fault) → (fault ≡ Memory → ⊥) → Err fault ≡ epd_verdict number x → ⊥

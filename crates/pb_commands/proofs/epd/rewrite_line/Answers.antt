@@ -43,6 +43,6 @@ returns-in-Err g c =
 pub returns-in_default : goal.returns-in_default
 returns-in_default g c = (
   no_record epd.Memory c.requires (λ blank. false≢true (c.if-is_blank.ensures.1 (subst IsBlank (sym c.without_return-text.ensures) blank)))
-      (memory_due c.args.line.now _ c.in-Ok.record c.without_return-text.ensures c.in-Ok.ensures.found.1) refl,
+      (memory_due c.args.line.now _ c.in-Ok.record c.without_return-text.ensures c.in-Ok.ensures.found.0 c.in-Ok.ensures.found.1) refl,
   refl,
 )
