@@ -5,7 +5,7 @@ use crate::moves::tell_move;
 use crate::page::{Done, NO_ROW, Page, Trouble};
 use crate::record::setup_of;
 use crate::table::table_of;
-use crate::text::{fills_of, hexadecimal};
+use crate::text::{fills_of, hexadecimal, times_of};
 use pb_poly::{Book, Entry, MemSink, Sink, probe, read_book, write_book, write_entry};
 use std::alloc::{AllocError, Global};
 use std::fmt::Write;
@@ -41,17 +41,29 @@ fn entries_of(alloc: Global, texts: &[&str]) -> Result<Vec<Entry>, AllocError> {
     texts.iter().map(|text| entry_of(text)).collect(alloc)
 }
 
-/// The file of these entries. An argument without a space stands for bytes.
+/// The file of these entries, of which `128*# 1 1 0` writes 128, with keys whose hexadecimal digits
+/// are those of the decimal numbers from 1. An argument without a space stands for bytes.
 pub fn file_of(alloc: Global, entries: &[&str]) -> Result<MemSink, Trouble> {
     let mut file = MemSink::new(alloc);
     for text in entries {
         if text.contains(' ') {
-            write_entry(&mut file, &entry_of(text))?;
+            put_entries(alloc, &mut file, text)?;
         } else {
             file.put(text.as_bytes())?;
         }
     }
     Ok(file)
+}
+
+/// Adds the entries that an argument stands for.
+fn put_entries(alloc: Global, file: &mut MemSink, text: &str) -> Done {
+    let (times, text) = times_of(text);
+    for number in 1..=times {
+        let digits = format!(in alloc; "{number}")?;
+        let entry = text.replace(alloc, "#", digits.as_str())?;
+        write_entry(file, &entry_of(entry.as_str()))?;
+    }
+    Ok(())
 }
 
 /// The entries, a line each.

@@ -1,8 +1,27 @@
-//! Answers of which equal ones in a row are told once.
+//! Answers of which equal ones in a row are told once, and long ones of which a digest is told.
 
 use crate::page::{Done, Page, Trouble};
 use crate::text::count_of;
 use std::fmt::Write;
+
+/// The start and the factor of a checksum (FNV-1a of 64 bits).
+const BASIS: u64 = 0xcbf2_9ce4_8422_2325;
+
+const PRIME: u64 = 0x0000_0100_0000_01b3;
+
+/// Tells of an answer how many lines it has and the checksum of its bytes, and then its first line
+/// and its last.
+pub fn tell_digest(page: &mut Page, answer: &str) {
+    let mut sum = BASIS;
+    for byte in answer.as_bytes() {
+        sum = (sum ^ u64::from(*byte)).wrapping_mul(PRIME);
+    }
+    let count = answer.lines().count();
+    let _ = write!(page, "{count} lines, checksum {sum:016x}\n");
+    page.put(answer.lines().next().unwrap_or(""));
+    page.put("\n");
+    page.put(answer.lines().last().unwrap_or(""));
+}
 
 /// Tells an answer where it isn't the one that was told last.
 pub fn tell_another(page: &mut Page, last: &mut Option<Page>, answer: Page) {

@@ -1,13 +1,14 @@
 //! Ledgers of submitted games, their books and their exports, over both tallies. The answer stands
 //! once where both give the same. The first word of each call says over which table, for how many
-//! games, by which rules and over which ends the ledger is: `cap=1 input=memory:5`.
+//! games, by which rules and over which ends the ledger is: `cap=1 input=memory:5`. With `by=map`
+//! the tally of plain lists is left out, which would take minutes over 70,000 positions.
 
 ghost use Rattle.std.specs.Prelude.{◌≡◌, [], IfOk};
 
 use crate::ends::{Output, fills_in, rules_in};
-use crate::game::{lines_of, stream_of, times_of};
+use crate::game::{lines_of, stream_of};
 use pb_ledger::{
-    CollectFault, Ledger, ListTally, MapTally, Tally, Totals, collect, export, load, save,
+    CollectFault, Ledger, ListTally, MAX_CAP, MapTally, Tally, Totals, collect, export, load, save,
 };
 use pb_poly::{MemSink, Sink, ToWrite};
 use rows::book::tell;
@@ -15,16 +16,20 @@ use rows::ends::{end_of, named_source};
 use rows::moves::tell_moves;
 use rows::page::{Done, NO_ROW, Page, Trouble};
 use rows::table::table_of;
-use rows::text::{small_of, text_of};
+use rows::text::{small_of, text_of, times_of};
 use std::alloc::Global;
-
-/// How many games a ledger holds at most.
-const CAP: u32 = 1000;
 
 /// The answer to a call.
 pub(crate) fn answer(page: &mut Page, call: &[&str]) -> Done {
     let mut by_map = Page::new(page.alloc);
     answer_by::<MapTally>(&mut by_map, call)?;
+    if call
+        .get(1)
+        .is_some_and(|ends| end_of(ends, "by", "both") == "map")
+    {
+        page.put(by_map.as_str());
+        return Ok(());
+    }
     let mut by_list = Page::new(page.alloc);
     answer_by::<ListTally>(&mut by_list, call)?;
     if by_map.as_str() != by_list.as_str() {
@@ -62,7 +67,7 @@ fn new_ledger<T: Tally>(alloc: Global, ends: &str) -> Result<Ledger<T>, Trouble>
 {
     let powers = text_of(alloc, "{powers}")?;
     let table = table_of(alloc, end_of(ends, "table", powers.as_str()))?;
-    let cap = small_of(end_of(ends, "cap", "1000")).clamp(1, CAP);
+    let cap = small_of(end_of(ends, "cap", "1000")).clamp(1, MAX_CAP);
     let rules = rules_in(ends).ok_or(Trouble::Row)?;
     Ok(Ledger::with_rules(alloc, &table, cap, rules)?)
 }

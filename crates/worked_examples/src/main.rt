@@ -7,7 +7,8 @@
 //!
 //! `each` and two numbers in front of the topic stand for a row for each number from the first to
 //! the last, which goes into the places of `{n}`. So does `fuses` for 0, 1, 2, .. up to the first
-//! number with which no write fails.
+//! number with which no write fails. `digest` stands for the row after it, of whose long answer the
+//! number of lines, a checksum, the first line and the last are told.
 //!
 //! The topic `run` runs the program `pbook` over the words that follow. What it prints comes after
 //! the row's name in a line of its own. Standard input has its submissions, and the folder of the
@@ -29,7 +30,7 @@ mod words;
 use pb_program::run;
 use rows::ends::MOST_CALLS;
 use rows::page::{Done, NO_ROW, Page};
-use rows::runs::{each, tell_another};
+use rows::runs::{each, tell_another, tell_digest};
 use rows::text::text_of;
 use std::fs::File;
 use std::io::{self, BufRead, BufReader};
@@ -75,8 +76,17 @@ fn answer_row(rt: &HostRuntime, page: &mut Page, row: &str) -> Done {
     match row.split_once('\t') {
         Some(("each", written)) => each(page, written, |page, row| answer_words(rt, page, row)),
         Some(("fuses", written)) => fuses(rt, page, written),
+        Some(("digest", written)) => digest(rt, page, written),
         _ => answer_words(rt, page, row),
     }
+}
+
+/// The digest of the answer.
+fn digest(rt: &HostRuntime, page: &mut Page, written: &str) -> Done {
+    let mut answer = Page::new(page.alloc);
+    answer_words(rt, &mut answer, written)?;
+    tell_digest(page, answer.as_str());
+    Ok(())
 }
 
 /// The answers for 0, 1, 2, .. up to the first number at which no write fails. Equal ones in a row
