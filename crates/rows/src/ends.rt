@@ -157,7 +157,11 @@ impl Taker {
     /// is one too, and any other word for one that takes all.
     pub fn of(alloc: Global, word: &str) -> Taker {
         let (kind, room) = word.split_once(':').unwrap_or((word, ""));
-        let room = if room.is_empty() { NEVER } else { count_of(room) };
+        let room = if room.is_empty() {
+            NEVER
+        } else {
+            count_of(room)
+        };
         let fails_at_flush = kind == "broken";
         Taker {
             taken: Vec::new(alloc),

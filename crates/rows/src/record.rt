@@ -120,7 +120,10 @@ fn look(page: &mut Page, words: &[&str]) -> Done {
         page.put(name);
         page.put(" ");
         page.put_debug(&setup.at(square));
-        page.put_count(", attacked by White ", &attacked(&setup, square, Colour::White));
+        page.put_count(
+            ", attacked by White ",
+            &attacked(&setup, square, Colour::White),
+        );
         page.put_count(", by Black ", &attacked(&setup, square, Colour::Black));
         page.put("\n");
     }

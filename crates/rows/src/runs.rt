@@ -62,11 +62,7 @@ fn row_at(alloc: Global, row: &str, number: usize) -> Result<String, AllocError>
 
 /// Tells the answers to a row for 0, 1, 2, .. in the places of `{n}`, up to the first number at
 /// which no write fails. Equal ones in a row are told once.
-pub fn fuses<F: FnMut(&mut Page, &str) -> Done>(
-    page: &mut Page,
-    row: &str,
-    mut answer: F,
-) -> Done
+pub fn fuses<F: FnMut(&mut Page, &str) -> Done>(page: &mut Page, row: &str, mut answer: F) -> Done
     requires { F.IsAlwaysCallable answer }
 {
     let mut told = Page::new(page.alloc);

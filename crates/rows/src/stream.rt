@@ -153,7 +153,11 @@ fn sink(page: &mut Page, words: &[&str]) -> Done {
         }
         "array" => {
             let mut kept = [0; 4];
-            put_all(page, &mut ToWrite::new(Cursor::new(kept.as_mut_slice())), texts);
+            put_all(
+                page,
+                &mut ToWrite::new(Cursor::new(kept.as_mut_slice())),
+                texts,
+            );
             page.put_bytes(kept.as_slice());
         }
         _ => {
