@@ -5,7 +5,8 @@ use crate::moves::tell_move;
 use crate::page::{Done, NO_ROW, Page, Trouble};
 use crate::record::setup_of;
 use crate::table::table_of;
-use crate::text::{fills_of, hexadecimal};
+use crate::text::{fills_of, hexadecimal, times_of};
+use pb_moves::Move;
 use pb_poly::{Book, Entry, MemSink, Sink, probe, read_book, write_book, write_entry};
 use std::alloc::{AllocError, Global};
 use std::fmt::Write;
@@ -38,20 +39,36 @@ fn entry_of(text: &str) -> Entry {
 
 /// These entries.
 fn entries_of(alloc: Global, texts: &[&str]) -> Result<Vec<Entry>, AllocError> {
-    texts.iter().map(|text| entry_of(text)).collect(alloc)
+    let mut entries = Vec::new(alloc);
+    for text in texts {
+        entries.push(entry_of(text))?;
+    }
+    Ok(entries)
 }
 
-/// The file of these entries. An argument without a space stands for bytes.
+/// The file of these entries, of which `128*# 1 1 0` writes 128, with keys whose hexadecimal digits
+/// are those of the decimal numbers from 1. An argument without a space stands for bytes.
 pub fn file_of(alloc: Global, entries: &[&str]) -> Result<MemSink, Trouble> {
     let mut file = MemSink::new(alloc);
     for text in entries {
         if text.contains(' ') {
-            write_entry(&mut file, &entry_of(text))?;
+            put_entries(alloc, &mut file, text)?;
         } else {
             file.put(text.as_bytes())?;
         }
     }
     Ok(file)
+}
+
+/// Adds the entries that an argument stands for.
+fn put_entries(alloc: Global, file: &mut MemSink, text: &str) -> Done {
+    let (times, text) = times_of(text);
+    for number in 1..=times {
+        let digits = format!(in alloc; "{number}")?;
+        let entry = text.replace(alloc, "#", digits.as_str())?;
+        write_entry(file, &entry_of(entry.as_str()))?;
+    }
+    Ok(())
 }
 
 /// The entries, a line each.
@@ -77,14 +94,18 @@ fn read(page: &mut Page, words: &[&str]) -> Done {
     let bytes = front_of(source, file.as_bytes());
     let mut source = named_source(source, bytes);
     match read_book(page.alloc, &mut source, fills_of(fills)) {
-        Ok(book) => {
-            tell(page, &book);
-            let mut again = MemSink::new(page.alloc);
-            write_book(&mut again, &book)?;
-            page.put_count("written the same ", &(again.as_bytes() == bytes));
-        }
+        Ok(book) => return tell_read(page, &book, bytes),
         Err(refusal) => page.put_refusal(&refusal),
     }
+    Ok(())
+}
+
+/// The entries of a book, and whether they are written as the file that they were read from.
+fn tell_read(page: &mut Page, book: &Book, file: &[u8]) -> Done {
+    tell(page, book);
+    let mut again = MemSink::new(page.alloc);
+    write_book(&mut again, book)?;
+    page.put_count("written the same ", &(again.as_bytes() == file));
     Ok(())
 }
 
@@ -96,7 +117,9 @@ fn of(page: &mut Page, texts: &[&str]) -> Done {
             tell(page, &book);
         }
         Err((number, back)) => {
-            write!(page, "refused entry {number}, {} handed back", back.len())?;
+            page.put_count("refused entry ", &number);
+            page.put_count(", ", &back.len());
+            page.put(" handed back");
         }
     }
     Ok(())
@@ -107,11 +130,21 @@ fn found(page: &mut Page, words: &[&str]) -> Done {
     let [table, record, texts @ ..] = words else {
         return NO_ROW;
     };
-    let book = Book::of(entries_of(page.alloc, texts)?).map_err(|_| Trouble::Row)?;
+    let setup = setup_of(record)?;
     let table = table_of(page.alloc, table)?;
-    for (m, weight) in &probe(page.alloc, &book, &table, &setup_of(record)?)? {
-        tell_move(page, Some(*m));
-        write!(page, " {weight}\n")?;
-    }
+    let entries = entries_of(page.alloc, texts)?;
+    let Ok(book) = Book::of(entries) else {
+        return NO_ROW;
+    };
+    tell_found(page, &probe(page.alloc, &book, &table, &setup)?);
     Ok(())
+}
+
+/// Moves with their weights, a line each.
+fn tell_found(page: &mut Page, moves: &[(Move, u16)]) {
+    for (m, weight) in moves {
+        tell_move(page, Some(*m));
+        page.put_count(" ", weight);
+        page.put("\n");
+    }
 }

@@ -11,9 +11,6 @@ use std::io::{self, ErrorKind, Read, Write};
 /// The place of an error that never comes.
 const NEVER: usize = usize::MAX;
 
-/// More puts and flushes than any row makes.
-pub const MOST_CALLS: u32 = 1000;
-
 /// Gives bytes in pieces, with an error after so many of them, and then the others. A read into no
 /// room is an error too.
 #[derive(Drop)]
@@ -155,29 +152,24 @@ pub struct Taker {
 }
 
 impl Taker {
-    /// A writer with this room before its failure, which is an error of a broken one.
-    pub fn new(alloc: Global, room: usize, is_broken: bool) -> Taker {
-        Taker {
-            taken: Vec::new(alloc),
-            room,
-            is_broken,
-            fails_at_flush: false,
-            flushes: 0,
-        }
-    }
-
     /// The writer that a word names: `room:5` for one that takes no more once after five bytes,
     /// `interrupted:5` for one whose write is an error then, `broken:5` for one whose first flush
     /// is one too, and any other word for one that takes all.
     pub fn of(alloc: Global, word: &str) -> Taker {
-        let (kind, room) = match word.split_once(':') {
-            Some((kind, room)) => (kind, count_of(room)),
-            None => (word, NEVER),
+        let (kind, room) = word.split_once(':').unwrap_or((word, ""));
+        let room = if room.is_empty() {
+            NEVER
+        } else {
+            count_of(room)
         };
-        let is_broken = kind == "interrupted" || kind == "broken";
-        let mut taker = Taker::new(alloc, room, is_broken);
-        taker.fails_at_flush = kind == "broken";
-        taker
+        let fails_at_flush = kind == "broken";
+        Taker {
+            taken: Vec::new(alloc),
+            room,
+            is_broken: fails_at_flush || kind == "interrupted",
+            fails_at_flush,
+            flushes: 0,
+        }
     }
 }
 

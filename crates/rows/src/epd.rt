@@ -1,11 +1,10 @@
 //! EPD records.
 
-use crate::page::{Done, NO_ROW, Page, Trouble};
+use crate::page::{Done, NO_ROW, Page};
 use crate::record::setup_of;
 use pb_board::write_setup;
 use pb_epd::{Epd, Operand, OperandBytes, read_epd, write_epd};
 use std::alloc::{AllocError, Global};
-use std::fmt::Write;
 
 /// The answer to a call.
 pub fn answer(page: &mut Page, call: &[&str]) -> Done {
@@ -24,7 +23,7 @@ pub fn answer(page: &mut Page, call: &[&str]) -> Done {
 fn read(page: &mut Page, words: &[&str]) -> Done {
     let [line] = words else { return NO_ROW };
     match read_epd(page.alloc, line.as_bytes()) {
-        Ok(record) => tell(page, &record)?,
+        Ok(record) => return tell(page, &record),
         Err(refusal) => page.put_refusal(&refusal),
     }
     Ok(())
@@ -32,7 +31,8 @@ fn read(page: &mut Page, words: &[&str]) -> Done {
 
 /// How many operations a record has, and its text.
 fn tell(page: &mut Page, record: &Epd) -> Done {
-    write!(page, "operations: {}\n", record.len())?;
+    page.put_count("operations: ", &record.len());
+    page.put("\n");
     page.put_bytes(write_epd(page.alloc, record)?.as_slice());
     page.put("\n");
     Ok(())
@@ -41,7 +41,9 @@ fn tell(page: &mut Page, record: &Epd) -> Done {
 /// The operands of an operation.
 fn operands(page: &mut Page, words: &[&str]) -> Done {
     let [line, opcode] = words else { return NO_ROW };
-    let record = read_epd(page.alloc, line.as_bytes()).map_err(|_| Trouble::Row)?;
+    let Ok(record) = read_epd(page.alloc, line.as_bytes()) else {
+        return NO_ROW;
+    };
     match record.get(opcode.as_bytes()) {
         Some(operands) => tell_operands(page, operands),
         None => page.put("none"),
@@ -68,9 +70,14 @@ fn put_all(page: &mut Page, words: &[&str]) -> Done {
     let [record, operations @ ..] = words else {
         return NO_ROW;
     };
-    let mut record = Epd::new(page.alloc, setup_of(record)?);
+    let setup = setup_of(record)?;
+    put_each(page, &mut Epd::new(page.alloc, setup), operations)
+}
+
+/// The same of a record of no operations.
+fn put_each(page: &mut Page, record: &mut Epd, operations: &[&str]) -> Done {
     for operation in operations {
-        put(page, &mut record, operation)?;
+        put(page, record, operation)?;
     }
     page.put("setup ");
     page.put_bytes(write_setup(page.alloc, &record.setup())?.as_slice());
@@ -79,17 +86,19 @@ fn put_all(page: &mut Page, words: &[&str]) -> Done {
 
 /// Puts an operation, an opcode and words with a comma before each.
 fn put(page: &mut Page, record: &mut Epd, operation: &str) -> Done {
-    let mut parts = operation.split(',');
-    let opcode = parts.next().unwrap_or("");
-    let mut operands = Vec::new(page.alloc);
-    for word in parts {
-        operands.push(word_of(page.alloc, word)?)?;
-    }
-    write!(page, "{:?}\n", record.put(opcode.as_bytes(), operands))?;
+    let opcode = operation.split(',').next().unwrap_or("");
+    let operands = words_of(page.alloc, operation)?;
+    page.put_debug(&record.put(opcode.as_bytes(), operands));
+    page.put("\n");
     tell(page, record)
 }
 
-/// A word as an operand.
-fn word_of(alloc: Global, word: &str) -> Result<Operand, AllocError> {
-    Ok(Operand::Word(OperandBytes::of(word.as_bytes().to_vec(alloc)?)))
+/// The words of an operation as operands.
+fn words_of(alloc: Global, operation: &str) -> Result<Vec<Operand>, AllocError> {
+    let mut operands = Vec::new(alloc);
+    for word in operation.split(',').skip(1) {
+        let bytes = word.as_bytes().to_vec(alloc)?;
+        operands.push(Operand::Word(OperandBytes::of(bytes)))?;
+    }
+    Ok(operands)
 }

@@ -6,7 +6,6 @@ use crate::text::small_of;
 use pb_board::Setup;
 use pb_moves::{Move, advance, is_legal, legal_moves, play, play_on, read_move};
 use std::alloc::{AllocError, Global};
-use std::fmt::Write;
 
 /// The answer to a call.
 pub fn answer(page: &mut Page, call: &[&str]) -> Done {
@@ -88,7 +87,7 @@ fn count(page: &mut Page, words: &[&str]) -> Done {
     let setup = setup_of(record)?;
     page.put_display(&perft(page.alloc, &setup, 1)?);
     for depth in 2..=small_of(depth) {
-        write!(page, " {}", perft(page.alloc, &setup, depth)?)?;
+        page.put_count(" ", &perft(page.alloc, &setup, depth)?);
     }
     Ok(())
 }
@@ -102,13 +101,10 @@ fn legal(page: &mut Page, words: &[&str]) -> Done {
     let mut board = setup;
     let in_place = play_on(&mut board, m);
     let same = board == after.unwrap_or(setup);
-    write!(
-        page,
-        "legal {}, played {}, ",
-        is_legal(&setup, m),
-        after.is_some()
-    )?;
-    write!(page, "in place {in_place}, the same {same}")?;
+    page.put_count("legal ", &is_legal(&setup, m));
+    page.put_count(", played ", &after.is_some());
+    page.put_count(", in place ", &in_place);
+    page.put_count(", the same ", &same);
     Ok(())
 }
 
@@ -120,7 +116,8 @@ fn play_all(page: &mut Page, words: &[&str]) -> Done {
     let mut fen = record_of(record)?;
     for text in moves {
         let Some(next) = advance(&fen, spelled(text)?) else {
-            write!(page, "{text} isn't legal")?;
+            page.put(text);
+            page.put(" isn't legal");
             return Ok(());
         };
         fen = next;

@@ -34,12 +34,6 @@ impl From<Failed> for Trouble {
     }
 }
 
-impl From<fmt::Error> for Trouble {
-    fn from(_error: fmt::Error) -> Trouble {
-        Trouble::Memory
-    }
-}
-
 /// What a call answers once its answer is written down.
 pub type Done = Result<(), Trouble>;
 
@@ -96,7 +90,18 @@ impl Page {
 
     /// Adds a refusal.
     pub fn put_refusal<T: Debug>(&mut self, refusal: &T) {
-        let _ = write!(self.text, "refused {refusal:?}");
+        self.put("refused ");
+        self.put_debug(refusal);
+    }
+
+    /// Adds a name and a key after it, as 16 hexadecimal digits.
+    pub fn put_key(&mut self, name: &str, key: u64) {
+        let _ = write!(self.text, "{name}{key:016x}");
+    }
+
+    /// Adds a name and a code after it, as four hexadecimal digits.
+    pub fn put_code(&mut self, name: &str, code: u16) {
+        let _ = write!(self.text, "{name}{code:04x}");
     }
 
     /// Adds the bytes as two hexadecimal digits each.

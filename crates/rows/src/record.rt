@@ -4,10 +4,9 @@ use crate::moves::spelled;
 use crate::page::{Done, NO_ROW, Page, Trouble};
 use crate::text::number_of;
 use pb_board::{
-    Colour, Fen, FenError, Setup, Square, read_fen, read_setup, write_fen, write_setup,
+    Colour, Fen, FenError, Piece, Setup, Square, read_fen, read_setup, write_fen, write_setup,
 };
-use pb_moves::{attacked, in_check, playable};
-use std::fmt::Write;
+use pb_moves::{Move, attacked, in_check, playable};
 
 /// The answer to a call.
 pub fn answer(page: &mut Page, call: &[&str]) -> Done {
@@ -30,7 +29,7 @@ pub fn record_of(record: &str) -> Result<Fen, Trouble> {
     if record == "start" {
         return Fen::new(Setup::start(), 0, 1).ok_or(Trouble::Row);
     }
-    read_fen(record.as_bytes()).map_err(|_| Trouble::Row)
+    read_fen(record.as_bytes()).ok().ok_or(Trouble::Row)
 }
 
 /// The setup of the record of a text.
@@ -39,9 +38,9 @@ pub fn setup_of(record: &str) -> Result<Setup, Trouble> {
 }
 
 /// Tells why a record is refused, and the word for it.
-fn tell_refusal(page: &mut Page, refusal: FenError) -> Done {
-    write!(page, "refused {refusal:?} {}", refusal.word())?;
-    Ok(())
+fn tell_refusal(page: &mut Page, refusal: FenError) {
+    page.put_refusal(&refusal);
+    page.put_count(" ", &refusal.word());
 }
 
 /// Tells the record as it tells its text, as it is written, and its clocks.
@@ -49,7 +48,8 @@ fn tell(page: &mut Page, fen: &Fen) -> Done {
     page.put_bytes(fen.text().as_bytes());
     page.put("\n");
     page.put_bytes(write_fen(page.alloc, fen)?.as_slice());
-    write!(page, "\nclocks {} {}", fen.half(), fen.full())?;
+    page.put_count("\nclocks ", &fen.half());
+    page.put_count(" ", &fen.full());
     Ok(())
 }
 
@@ -57,9 +57,10 @@ fn tell(page: &mut Page, fen: &Fen) -> Done {
 fn read(page: &mut Page, words: &[&str]) -> Done {
     let [text] = words else { return NO_ROW };
     match read_fen(text.as_bytes()) {
-        Ok(fen) => tell(page, &fen),
+        Ok(fen) => return tell(page, &fen),
         Err(refusal) => tell_refusal(page, refusal),
     }
+    Ok(())
 }
 
 /// Four fields read as a setup and written again, and whether it is the initial array.
@@ -69,10 +70,10 @@ fn read_fields(page: &mut Page, words: &[&str]) -> Done {
         Ok(setup) => {
             page.put_bytes(write_setup(page.alloc, &setup)?.as_slice());
             page.put_count("\nstart ", &(setup == Setup::start()));
-            Ok(())
         }
         Err(refusal) => tell_refusal(page, refusal),
     }
+    Ok(())
 }
 
 /// The square of a name, as `e4`.
@@ -96,13 +97,11 @@ fn tell_square(page: &mut Page, words: &[&str]) -> Done {
         _ => return NO_ROW,
     };
     match square {
-        Some(it) => write!(
-            page,
-            "index {} file {} rank {}",
-            it.index(),
-            it.file(),
-            it.rank()
-        )?,
+        Some(it) => {
+            page.put_count("index ", &it.index());
+            page.put_count(" file ", &it.file());
+            page.put_count(" rank ", &it.rank());
+        }
         None => page.put("none"),
     }
     Ok(())
@@ -115,36 +114,35 @@ fn look(page: &mut Page, words: &[&str]) -> Done {
         return NO_ROW;
     };
     let setup = setup_of(record)?;
-    tell_parts(page, &setup)?;
+    tell_parts(page, &setup);
     for name in squares {
         let square = named(name)?;
-        write!(page, "{name} {:?}, attacked by ", setup.at(square))?;
-        let white = attacked(&setup, square, Colour::White);
-        let black = attacked(&setup, square, Colour::Black);
-        write!(page, "White {white}, by Black {black}\n")?;
+        page.put(name);
+        page.put(" ");
+        page.put_debug(&setup.at(square));
+        page.put_count(
+            ", attacked by White ",
+            &attacked(&setup, square, Colour::White),
+        );
+        page.put_count(", by Black ", &attacked(&setup, square, Colour::Black));
+        page.put("\n");
     }
     Ok(())
 }
 
 /// The parts of a setup, and who is in check.
-fn tell_parts(page: &mut Page, setup: &Setup) -> Done {
-    let en_passant = setup.ep().map(|square| square.index());
-    write!(
-        page,
-        "{:?} to move, en passant {en_passant:?}\n",
-        setup.turn()
-    )?;
-    let white = setup.king(Colour::White).index();
-    let black = setup.king(Colour::Black).index();
-    write!(page, "kings {white} {black}\n{:?}\n", setup.rights())?;
-    let white = in_check(setup, Colour::White);
-    let black = in_check(setup, Colour::Black);
-    write!(
-        page,
-        "in check: White {white}, Black {black}; playable {}\n",
-        playable(setup)
-    )?;
-    Ok(())
+fn tell_parts(page: &mut Page, setup: &Setup) {
+    page.put_debug(&setup.turn());
+    page.put(" to move, en passant ");
+    page.put_debug(&setup.ep().map(|square| square.index()));
+    page.put_count("\nkings ", &setup.king(Colour::White).index());
+    page.put_count(" ", &setup.king(Colour::Black).index());
+    page.put("\n");
+    page.put_debug(&setup.rights());
+    page.put_count("\nin check: White ", &in_check(setup, Colour::White));
+    page.put_count(", Black ", &in_check(setup, Colour::Black));
+    page.put_count("; playable ", &playable(setup));
+    page.put("\n");
 }
 
 /// The setup with the parts of a record, but for this en passant square and for what these moves,
@@ -156,14 +154,18 @@ fn build(page: &mut Page, words: &[&str]) -> Done {
     let setup = setup_of(record)?;
     let mut board = *setup.board();
     for word in moves {
-        let m = spelled(word)?;
-        board[m.to().index() as usize] = board[m.from().index() as usize].take();
+        carry(&mut board, spelled(word)?);
     }
     match Setup::build(board, setup.turn(), setup.rights(), named(en_passant).ok()) {
         Ok(setup) => page.put_bytes(write_setup(page.alloc, &setup)?.as_slice()),
         Err(refusal) => page.put_refusal(&refusal),
     }
     Ok(())
+}
+
+/// Carries what stands on the square that a move leaves to the one that it reaches.
+fn carry(board: &mut [Option<Piece>; 64], m: Move) {
+    board[m.to().index() as usize] = board[m.from().index() as usize].take();
 }
 
 /// The number that a word writes, or 65,535.
@@ -175,10 +177,8 @@ fn clock_of(word: &str) -> u16 {
 fn clocks(page: &mut Page, words: &[&str]) -> Done {
     let [half, full] = words else { return NO_ROW };
     match Fen::new(Setup::start(), clock_of(half), clock_of(full)) {
-        Some(fen) => tell(page, &fen),
-        None => {
-            page.put("none");
-            Ok(())
-        }
+        Some(fen) => return tell(page, &fen),
+        None => page.put("none"),
     }
+    Ok(())
 }

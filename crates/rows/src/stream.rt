@@ -7,7 +7,6 @@ use crate::page::{Done, NO_ROW, Page};
 use crate::text::{count_of, fills_of, small_of};
 use pb_poly::{FromRead, FuseSink, LineTask, MemSink, Sink, Source, ToWrite, take_lines};
 use std::alloc::AllocError;
-use std::fmt::Write;
 use std::io::Cursor;
 
 /// The answer to a call.
@@ -82,8 +81,10 @@ fn failing_lines(page: &mut Page, words: &[&str]) -> Done {
     let mut source = FromRead::new(&mut giver);
     take_all(page, &mut source, u32::MAX);
     let next = source.fill(&mut [0; 4]);
-    write!(page, "\nfailed {}, then {next:?}\n", source.failed())?;
-    page.put_count("reads after the failure: ", &giver.later);
+    page.put_count("\nfailed ", &source.failed());
+    page.put(", then ");
+    page.put_debug(&next);
+    page.put_count("\nreads after the failure: ", &giver.later);
     Ok(())
 }
 
@@ -95,18 +96,26 @@ fn fill(page: &mut Page, words: &[&str]) -> Done {
     };
     let mut source = named_source(source, text.as_bytes());
     for room in rooms {
-        let mut slice = vec![in page.alloc; 0; count_of(room)]?;
-        let filled = source.fill(slice.as_mut_slice());
-        page.put_bytes(&slice[..filled.unwrap_or(0)]);
-        write!(page, "|{filled:?}\n")?;
+        fill_room(page, &mut source, count_of(room))?;
     }
     page.put_count("failed ", &source.failed());
     Ok(())
 }
 
+/// The bytes of a fill of a slice of this size with a bar after them, and the answer.
+fn fill_room<S: Source>(page: &mut Page, source: &mut S, room: usize) -> Done {
+    let mut slice = vec![in page.alloc; 0; room]?;
+    let filled = source.fill(slice.as_mut_slice());
+    page.put_bytes(&slice[..filled.unwrap_or(0)]);
+    page.put("|");
+    page.put_debug(&filled);
+    page.put("\n");
+    Ok(())
+}
+
 /// What a sink answers to these texts in turn, where the text `flush` flushes it, and whether it
 /// has failed then.
-fn put_all<K: Sink>(page: &mut Page, mut sink: K, texts: &[&str]) -> K {
+fn put_all<K: Sink>(page: &mut Page, sink: &mut K, texts: &[&str]) {
     for text in texts {
         let answer = match *text {
             "flush" => sink.flush(),
@@ -117,7 +126,6 @@ fn put_all<K: Sink>(page: &mut Page, mut sink: K, texts: &[&str]) -> K {
     }
     page.put_count("failed ", &sink.failed());
     page.put("\n");
-    sink
 }
 
 /// What the sink that a word names answers to these texts, and what it keeps: `memory`, `fuse:2`
@@ -129,26 +137,32 @@ fn sink(page: &mut Page, words: &[&str]) -> Done {
     let (kind, good) = end.split_once(':').unwrap_or((end, ""));
     match kind {
         "memory" => {
-            let kept = put_all(page, MemSink::new(page.alloc), texts);
+            let mut kept = MemSink::new(page.alloc);
+            put_all(page, &mut kept, texts);
             page.put_bytes(kept.as_bytes());
         }
         "fuse" => {
-            let kept = put_all(page, FuseSink::new(page.alloc, small_of(good)), texts);
+            let mut kept = FuseSink::new(page.alloc, small_of(good));
+            put_all(page, &mut kept, texts);
             page.put_bytes(kept.as_bytes());
         }
         "vector" => {
             let mut kept = Vec::new(page.alloc);
-            put_all(page, ToWrite::new(&mut kept), texts);
+            put_all(page, &mut ToWrite::new(&mut kept), texts);
             page.put_bytes(kept.as_slice());
         }
         "array" => {
             let mut kept = [0; 4];
-            put_all(page, ToWrite::new(Cursor::new(kept.as_mut_slice())), texts);
+            put_all(
+                page,
+                &mut ToWrite::new(Cursor::new(kept.as_mut_slice())),
+                texts,
+            );
             page.put_bytes(kept.as_slice());
         }
         _ => {
             let mut taker = Taker::of(page.alloc, end);
-            put_all(page, ToWrite::new(&mut taker), texts);
+            put_all(page, &mut ToWrite::new(&mut taker), texts);
             page.put_bytes(taker.taken.as_slice());
             page.put_count("\nflushes: ", &taker.flushes);
         }

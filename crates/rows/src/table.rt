@@ -64,7 +64,7 @@ pub fn answer(page: &mut Page, call: &[&str]) -> Done {
 
 /// The table that a text writes.
 pub fn table_of(alloc: Global, text: &str) -> Result<Table, Trouble> {
-    read_table(alloc, text.as_bytes()).map_err(|_| Trouble::Row)
+    read_table(alloc, text.as_bytes()).ok().ok_or(Trouble::Row)
 }
 
 /// Whether the text is a table, or why not.
@@ -88,16 +88,16 @@ fn read_words(page: &mut Page, words: &[&str]) -> Done {
     if *digits == "capital" {
         file.make_ascii_uppercase();
     }
-    let whole = table_of(page.alloc, file.as_str())?;
+    page.put_count("whole ", &is_read_as(page.alloc, file.as_str(), name)?);
     let _last = file.pop();
-    let cut = table_of(page.alloc, file.as_str())?;
-    let cut = is_named(&cut, name);
-    write!(
-        page,
-        "whole {}, without its last byte {cut}",
-        is_named(&whole, name)
-    )?;
+    let is_cut = is_read_as(page.alloc, file.as_str(), name)?;
+    page.put_count(", without its last byte ", &is_cut);
     Ok(())
+}
+
+/// Whether a text is read as the table of a name.
+fn is_read_as(alloc: Global, text: &str, name: &str) -> Result<bool, Trouble> {
+    Ok(is_named(&table_of(alloc, text)?, name))
 }
 
 /// Why the first so many bytes of a table's file, of which each line has 17, are no table.
@@ -119,11 +119,13 @@ fn cut(page: &mut Page, words: &[&str]) -> Done {
     for count in 0..bytes.len() {
         let answer = read_table(page.alloc, &bytes[..count]).err();
         if answer != due_after(count) {
-            write!(page, "{answer:?} for {count}")?;
+            page.put_debug(&answer);
+            page.put_count(" for ", &count);
             return Ok(());
         }
     }
-    write!(page, "{} fronts judged", bytes.len())?;
+    page.put_display(&bytes.len());
+    page.put(" fronts judged");
     Ok(())
 }
 
@@ -132,8 +134,8 @@ fn key(page: &mut Page, words: &[&str]) -> Done {
     let [table, record] = words else {
         return NO_ROW;
     };
-    let key = key_of(&table_of(page.alloc, table)?, &setup_of(record)?);
-    write!(page, "{key:016x}")?;
+    let setup = setup_of(record)?;
+    page.put_key("", key_of(&table_of(page.alloc, table)?, &setup));
     Ok(())
 }
 
@@ -143,11 +145,16 @@ fn keys(page: &mut Page, words: &[&str]) -> Done {
     let [table, record, moves @ ..] = words else {
         return NO_ROW;
     };
-    let table = table_of(page.alloc, table)?;
-    let mut setup = setup_of(record)?;
+    let setup = setup_of(record)?;
+    tell_all_keys(page, &table_of(page.alloc, table)?, setup, moves)
+}
+
+/// The keys after these moves from a setup.
+fn tell_all_keys(page: &mut Page, table: &Table, setup: Setup, moves: &[&str]) -> Done {
+    let mut setup = setup;
     for word in moves {
         page.put(word);
-        setup = tell_keys(page, &table, &setup, spelled(word)?)?;
+        setup = tell_keys(page, table, &setup, spelled(word)?)?;
     }
     Ok(())
 }
@@ -156,11 +163,10 @@ fn keys(page: &mut Page, words: &[&str]) -> Done {
 fn tell_keys(page: &mut Page, table: &Table, setup: &Setup, m: Move) -> Result<Setup, Trouble> {
     let after = play(setup, m).ok_or(Trouble::Row)?;
     let key = key_of(table, setup);
-    let anew = key_of(table, &after);
-    let changed = key_after(table, key, setup, m, &after);
-    let next = key_next(table, key, setup, m);
-    write!(page, " anew {anew:016x}, by change {changed:016x}, ")?;
-    write!(page, "of the setup before {next:016x}\n")?;
+    page.put_key(" anew ", key_of(table, &after));
+    page.put_key(", by change ", key_after(table, key, setup, m, &after));
+    page.put_key(", of the setup before ", key_next(table, key, setup, m));
+    page.put("\n");
     Ok(after)
 }
 
@@ -169,7 +175,8 @@ fn code(page: &mut Page, words: &[&str]) -> Done {
     let [record, text] = words else { return NO_ROW };
     let setup = setup_of(record)?;
     let code = code_of(&setup, spelled(text)?);
-    write!(page, "{code:04x} ")?;
+    page.put_code("", code);
+    page.put(" ");
     tell_move(page, move_of(&setup, code));
     Ok(())
 }
@@ -184,7 +191,7 @@ fn codes(page: &mut Page, words: &[&str]) -> Done {
         if move_of(&setup, code) != Some(*m) {
             return NO_ROW;
         }
-        write!(page, " {code:04x}")?;
+        page.put_code(" ", code);
     }
     Ok(())
 }

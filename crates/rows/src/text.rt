@@ -1,14 +1,18 @@
 //! How rows write bytes and numbers. Printable bytes stand for themselves, and a word in braces for
 //! others: `{cr}`, `{lf}`, `{tab}`, `{space}`, `{nul}`; `{8192*a}` for that many `a`; `{start}` for
-//! the record of the start position; `{powers}`, `{places}`, `{ones}` and `{products}` for the
-//! files of tables; and `{powers:13260}` for the first so many bytes of such a text. Any other word
-//! in braces stays as it is. Answers are written in the same way.
+//! the record of the start position, and `{most}` for one with 218 legal moves; `{powers}`,
+//! `{places}`, `{ones}` and `{products}` for the files of tables; and `{powers:13260}` for the first
+//! so many bytes of such a text. Any other word in braces stays as it is. Answers are written in the
+//! same way.
 
 use crate::table::push_file;
 use std::alloc::{AllocError, Global};
 
 /// The record of the start position.
 pub const START: &str = "rnbqkbnr/pppppppp/8/8/8/8/PPPPPPPP/RNBQKBNR w KQkq - 0 1";
+
+/// A record with more legal moves than any other that is known.
+const MOST: &str = "R6R/3Q4/1Q4Q1/4Q3/2Q4Q/Q4Q2/pp1Q4/kBNN1KB1 w - - 0 1";
 
 /// The text that a row writes.
 pub fn text_of(alloc: Global, written: &str) -> Result<String, AllocError> {
@@ -50,6 +54,7 @@ fn push_named(text: &mut String, name: &str) -> Result<(), AllocError> {
         "space" => text.push_str(" "),
         "nul" => text.push_str("\0"),
         "start" => text.push_str(START),
+        "most" => text.push_str(MOST),
         "powers" | "places" | "ones" | "products" => push_file(text, name, "\n"),
         _ => {
             text.push_str("{")?;
@@ -80,6 +85,15 @@ pub fn fills_of(word: &str) -> u32 {
         u32::MAX
     } else {
         small_of(word)
+    }
+}
+
+/// How many an argument stands for, and how each is written: `128*#` stands for 128, each with its
+/// number in the place of `#`.
+pub fn times_of(text: &str) -> (u64, &str) {
+    match text.split_once('*') {
+        Some((count, rest)) if number_of(count) > 0 => (number_of(count), rest),
+        _ => (1, text),
     }
 }
 

@@ -166,12 +166,13 @@ fn export(page: &mut Page, words: &[&str]) -> Done {
     let [ends, table, lines @ ..] = words else {
         return NO_ROW
     };
+    let rules = rules_in(ends).ok_or(Trouble::Row)?;
     let stream = stream_of(page.alloc, lines)?;
     let mut source = named_source(end_of(ends, "input", "reader:7"), stream.as_bytes());
     let mut output = Output::of(page.alloc, ends, "output");
     let answer = run_export(
         page.alloc,
-        rules_in(ends).ok_or(Trouble::Row)?,
+        rules,
         &mut named_source(end_of(ends, "table", "reader:1000"), table.as_bytes()),
         &mut source,
         &mut ToWrite::new(&mut output),

@@ -1,10 +1,11 @@
 //! Submissions. Rows write a line with `|` for each TAB, a field `S` for the record of the start
-//! position, and `#` for the number where `128*` in front of the line stands for so many lines.
+//! position, and `#` for the number where `128*` in front of the line stands for so many lines, or
+//! `%` for three ranks of pawns and knights that spell that number.
 
 use pb_ledger::{Id, Line, MoveList, check_line};
 use rows::moves::tell_moves;
 use rows::page::{Done, NO_ROW, Page};
-use rows::text::{START, number_of};
+use rows::text::{START, times_of};
 use std::alloc::{AllocError, Global};
 
 /// The answer to a call.
@@ -20,30 +21,40 @@ pub(crate) fn answer(page: &mut Page, call: &[&str]) -> Done {
 
 /// The lines that a text writes, with this number.
 pub(crate) fn lines_of(alloc: Global, text: &str, number: u64) -> Result<String, AllocError> {
-    let number = format!(in alloc; "{number}")?;
+    let digits = format!(in alloc; "{number}")?;
+    let ranks = ranks_of(alloc, number)?;
     let start = format!(in alloc; "\t{START}\t")?;
     let lines = text.replace(alloc, "|", "\t")?;
     let lines = lines.as_str().replace(alloc, "\tS\t", start.as_str())?;
-    lines.as_str().replace(alloc, "#", number.as_str())
+    let lines = lines.as_str().replace(alloc, "%", ranks.as_str())?;
+    lines.as_str().replace(alloc, "#", digits.as_str())
 }
 
-/// How many lines an argument stands for, and how they are written.
-pub(crate) fn times_of(text: &str) -> (u64, &str) {
-    match text.split_once('*') {
-        Some((count, rest)) if number_of(count) > 0 => (number_of(count), rest),
-        _ => (1, text),
+/// Three ranks of a record that spell a number in binary, from the lowest digit: a knight for each
+/// 1 and a pawn for each 0.
+fn ranks_of(alloc: Global, number: u64) -> Result<String, AllocError> {
+    let mut ranks = String::new(alloc);
+    for place in 0..24 {
+        if place % 8 == 0 && place > 0 {
+            ranks.push_str("/")?;
+        }
+        let is_set = (number >> place) & 1 == 1;
+        ranks.push_str(if is_set { "N" } else { "P" })?;
     }
+    Ok(ranks)
 }
 
 /// The lines that arguments write, each with an LF but one that ends in `{end}`.
 pub(crate) fn stream_of(alloc: Global, texts: &[&str]) -> Result<String, AllocError> {
     let mut stream = String::new(alloc);
     for text in texts {
-        stream.push_str(text)?;
-        stream.push_str("\n")?;
+        let (times, text) = times_of(text);
+        for number in 1..=times {
+            stream.push_str(lines_of(alloc, text, number)?.as_str())?;
+            stream.push_str("\n")?;
+        }
     }
-    let stream = stream.as_str().replace(alloc, "{end}\n", "")?;
-    lines_of(alloc, stream.as_str(), 1)
+    stream.as_str().replace(alloc, "{end}\n", "")
 }
 
 /// The line, judged: its number of moves, or all its parts.

@@ -1,13 +1,14 @@
 //! Ledgers of submitted games, their books and their exports, over both tallies. The answer stands
 //! once where both give the same. The first word of each call says over which table, for how many
-//! games, by which rules and over which ends the ledger is: `cap=1 input=memory:5`.
+//! games, by which rules and over which ends the ledger is: `cap=1 input=memory:5`. With `by=map`
+//! the tally of plain lists is left out, which would take minutes over 70,000 positions.
 
 ghost use Rattle.std.specs.Prelude.{◌≡◌, [], IfOk};
 
 use crate::ends::{Output, fills_in, rules_in};
-use crate::game::{lines_of, stream_of, times_of};
+use crate::game::{lines_of, stream_of};
 use pb_ledger::{
-    CollectFault, Ledger, ListTally, MapTally, Tally, Totals, collect, export, load, save,
+    CollectFault, Ledger, ListTally, MAX_CAP, MapTally, Tally, Totals, collect, export, load, save,
 };
 use pb_poly::{MemSink, Sink, ToWrite};
 use rows::book::tell;
@@ -15,14 +16,16 @@ use rows::ends::{end_of, named_source};
 use rows::moves::tell_moves;
 use rows::page::{Done, NO_ROW, Page, Trouble};
 use rows::table::table_of;
-use rows::text::{small_of, text_of};
+use rows::text::{small_of, text_of, times_of};
 use std::alloc::Global;
-
-/// How many games a ledger holds at most.
-const CAP: u32 = 1000;
 
 /// The answer to a call.
 pub(crate) fn answer(page: &mut Page, call: &[&str]) -> Done {
+    if let [_, ends, ..] = call
+        && end_of(ends, "by", "both") == "map"
+    {
+        return answer_by::<MapTally>(page, call);
+    }
     let mut by_map = Page::new(page.alloc);
     answer_by::<MapTally>(&mut by_map, call)?;
     let mut by_list = Page::new(page.alloc);
@@ -62,7 +65,7 @@ fn new_ledger<T: Tally>(alloc: Global, ends: &str) -> Result<Ledger<T>, Trouble>
 {
     let powers = text_of(alloc, "{powers}")?;
     let table = table_of(alloc, end_of(ends, "table", powers.as_str()))?;
-    let cap = small_of(end_of(ends, "cap", "1000")).clamp(1, CAP);
+    let cap = small_of(end_of(ends, "cap", "1000")).clamp(1, MAX_CAP);
     let rules = rules_in(ends).ok_or(Trouble::Row)?;
     Ok(Ledger::with_rules(alloc, &table, cap, rules)?)
 }
@@ -197,17 +200,28 @@ fn collected<T: Tally>(page: &mut Page, ends: &str, lines: &[&str]) -> Done {
 /// same of the stream once more.
 fn collected_twice<T: Tally>(page: &mut Page, ends: &str, lines: &[&str]) -> Done {
     let mut ledger = new_ledger::<T>(page.alloc, ends)?;
-    let stream = stream_of(page.alloc, lines)?;
     let mut output = Output::of(page.alloc, ends, "output");
-    let mut sink = ToWrite::new(&mut output);
-    let first = take(page.alloc, &mut ledger, ends, stream.as_str(), &mut sink);
+    take_into(page, &mut ledger, ends, lines, &mut output)?;
     let mut again = Page::new(page.alloc);
     take_all(&mut again, &mut ledger, ends, lines)?;
-    page.put_debug(&first);
     let is_front = again.as_str().as_bytes().starts_with(output.bytes());
     page.put_count(", a front of the replies ", &is_front);
     page.put("\n");
     page.put(again.as_str());
+    Ok(())
+}
+
+/// What becomes of the lines over an output.
+fn take_into<T: Tally>(
+    page: &mut Page,
+    ledger: &mut Ledger<T>,
+    ends: &str,
+    lines: &[&str],
+    output: &mut Output,
+) -> Done {
+    let stream = stream_of(page.alloc, lines)?;
+    let mut sink = ToWrite::new(output);
+    page.put_debug(&take(page.alloc, ledger, ends, stream.as_str(), &mut sink));
     Ok(())
 }
 
@@ -252,11 +266,16 @@ fn loaded<T: Tally>(page: &mut Page, ends: &str, lines: &[&str]) -> Done {
 /// The answer to the loading of the saved form of these games, whether they are saved as the same
 /// bytes then, and what becomes of the same lines after that.
 fn load_saved<T: Tally>(page: &mut Page, ends: &str, lines: &[&str]) -> Done {
-    let first = form_of(page.alloc, &ledger_with::<T>(page.alloc, ends, lines)?)?;
-    let mut ledger = load_new::<T>(page, ends, first.as_bytes())?;
-    let second = form_of(page.alloc, &ledger)?;
-    let is_same = first.as_bytes() == second.as_bytes();
-    page.put_count(", saved the same ", &is_same);
-    page.put("\n");
+    let form = form_of(page.alloc, &ledger_with::<T>(page.alloc, ends, lines)?)?;
+    let mut ledger = load_new::<T>(page, ends, form.as_bytes())?;
+    save_again(page, &ledger, form.as_bytes())?;
     take_all(page, &mut ledger, ends, lines)
+}
+
+/// Whether a ledger has this saved form.
+fn save_again<T: Tally>(page: &mut Page, ledger: &Ledger<T>, form: &[u8]) -> Done {
+    let again = form_of(page.alloc, ledger)?;
+    page.put_count(", saved the same ", &(again.as_bytes() == form));
+    page.put("\n");
+    Ok(())
 }

@@ -7,7 +7,8 @@
 //!
 //! `each` and two numbers in front of the topic stand for a row for each number from the first to
 //! the last, which goes into the places of `{n}`. So does `fuses` for 0, 1, 2, .. up to the first
-//! number with which no write fails.
+//! number with which no write fails. `digest` stands for the row after it, of whose long answer the
+//! number of lines, a checksum, the first line and the last are told.
 //!
 //! The topic `run` runs the program `pbook` over the words that follow. What it prints comes after
 //! the row's name in a line of its own. Standard input has its submissions, and the folder of the
@@ -27,10 +28,10 @@ mod points;
 mod words;
 
 use pb_program::run;
-use rows::ends::MOST_CALLS;
 use rows::page::{Done, NO_ROW, Page};
-use rows::runs::{each, tell_another};
+use rows::runs::{each, fuses, tell_digest};
 use rows::text::text_of;
+use std::alloc::{AllocError, Global};
 use std::fs::File;
 use std::io::{self, BufRead, BufReader};
 
@@ -74,40 +75,37 @@ fn print_row(rt: &HostRuntime, row: &str) -> io::Result<()> {
 fn answer_row(rt: &HostRuntime, page: &mut Page, row: &str) -> Done {
     match row.split_once('\t') {
         Some(("each", written)) => each(page, written, |page, row| answer_words(rt, page, row)),
-        Some(("fuses", written)) => fuses(rt, page, written),
+        Some(("fuses", written)) => fuses(page, written, |page, row| answer_words(rt, page, row)),
+        Some(("digest", written)) => digest(rt, page, written),
         _ => answer_words(rt, page, row),
     }
 }
 
-/// The answers for 0, 1, 2, .. up to the first number at which no write fails. Equal ones in a row
-/// are told once.
-fn fuses(rt: &HostRuntime, page: &mut Page, written: &str) -> Done {
-    let mut last = None;
-    for good in 0..MOST_CALLS {
-        let digits = format!(in page.alloc; "{good}")?;
-        let row = written.replace(page.alloc, "{n}", digits.as_str())?;
-        let mut answer = Page::new(page.alloc);
-        answer_words(rt, &mut answer, row.as_str())?;
-        let has_failed = answer.as_str().contains("Write") || answer.as_str().contains("Failed");
-        tell_another(page, &mut last, answer);
-        if !has_failed {
-            return Ok(());
-        }
-    }
-    NO_ROW
+/// The digest of the answer.
+fn digest(rt: &HostRuntime, page: &mut Page, written: &str) -> Done {
+    let mut answer = Page::new(page.alloc);
+    answer_words(rt, &mut answer, written)?;
+    tell_digest(page, answer.as_str());
+    Ok(())
 }
 
 /// The answer to a topic, a call and its arguments.
 fn answer_words(rt: &HostRuntime, page: &mut Page, row: &str) -> Done {
-    let mut texts = Vec::new(page.alloc);
-    for word in row.split('\t') {
-        texts.push(text_of(page.alloc, word)?)?;
-    }
+    let texts = texts_of(page.alloc, row)?;
     let words: Vec<&str> = texts.iter().map(|text| text.as_str()).collect(page.alloc)?;
     let [topic, call @ ..] = words.as_slice() else {
         return NO_ROW
     };
     answer(rt, page, topic, call)
+}
+
+/// The texts that the words of a row write.
+fn texts_of(alloc: Global, row: &str) -> Result<Vec<String>, AllocError> {
+    let mut texts = Vec::new(alloc);
+    for word in row.split('\t') {
+        texts.push(text_of(alloc, word)?)?;
+    }
+    Ok(texts)
 }
 
 /// Prints an answer, each line after the row's name.

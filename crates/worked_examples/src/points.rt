@@ -43,7 +43,7 @@ fn tell_scale(page: &mut Page, count: &str, words: &[&str]) -> Done {
 
 /// Adds what each ply of a game gives.
 fn add_game(rows: &mut Vec<Row>, table: &Table, game: &Game) -> Done {
-    let mut setup = game.start.record().setup();
+    let mut setup = game.start.setup();
     for m in game.moves.as_slice() {
         let points = match (game.outcome, setup.turn()) {
             (Outcome::Draw, _) => 1,

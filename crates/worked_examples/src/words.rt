@@ -26,11 +26,23 @@ fn told(page: &mut Page, text: &str) -> Done {
     let first = help_of(page.alloc, &["pbook", "--help"])?;
     let commands = commands_of(page.alloc, first.as_str())?;
     let help = helps_of(page.alloc, first.as_str(), commands.as_slice())?;
-    let words = plain.as_str().split(|c: char| !c.is_ascii_lowercase());
+    tell_commands(page, commands.as_slice(), plain.as_str())?;
+    tell_options(page, help.as_str(), plain.as_str())
+}
+
+/// The commands, each with whether the text has it.
+fn tell_commands(page: &mut Page, commands: &[&str], text: &str) -> Done {
+    let words = text.split(|c: char| !c.is_ascii_lowercase());
     let words: Vec<&str> = words.collect(page.alloc)?;
-    tell_wanted(page, "commands", commands.as_slice(), words.as_slice());
-    let wanted = options_of(page.alloc, help.as_str())?;
-    let found = options_of(page.alloc, plain.as_str())?;
+    tell_wanted(page, "commands", commands, words.as_slice());
+    Ok(())
+}
+
+/// The options of the help, each with whether the text has it, and those that the text has beside
+/// them.
+fn tell_options(page: &mut Page, help: &str, text: &str) -> Done {
+    let wanted = options_of(page.alloc, help)?;
+    let found = options_of(page.alloc, text)?;
     tell_wanted(page, "\noptions", wanted.as_slice(), found.as_slice());
     for option in &found {
         if !has(wanted.as_slice(), option) {
