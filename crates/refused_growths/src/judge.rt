@@ -1,7 +1,9 @@
-//! Each call is made twice, in two rounds. What it left has to be the same both times, or a front of it where memory was wanting.
+//! How calls are judged: each is made twice, in two rounds. What it left has to be the same both times, or a front of it where memory was
+//! wanting.
 
-use crate::kit::{Kit, LINES, Text, again, text};
+use crate::kit::{GAMES, Kit, TWO, Text, again, text};
 use pb_cli::Fault;
+use pb_poly::{MemSink, Sink};
 use std::alloc::AllocError;
 
 /// Why a call ended before its end.
@@ -9,8 +11,6 @@ use std::alloc::AllocError;
 pub(crate) enum Stop {
     /// Memory was wanting.
     Memory,
-    /// It was wanting at the place where the games were to be kept.
-    Games,
     /// Anything else.
     Wrong,
 }
@@ -39,22 +39,9 @@ pub(crate) fn want(is_due: bool) -> Answer {
 pub(crate) fn or_stop<T, E: PartialEq + Drop>(answer: Result<T, E>, memory: E) -> Result<T, Stop> {
     match answer {
         Ok(made) => Ok(made),
-        Err(why) => Err(if why == memory {
-            Stop::Memory
-        } else {
-            Stop::Wrong
-        }),
+        Err(why) if why == memory => Err(Stop::Memory),
+        Err(_) => Err(Stop::Wrong),
     }
-}
-
-/// What a command answers that has to take its input, by whether a sink has failed for want of memory.
-pub(crate) fn taken(answer: Result<bool, Fault>, has_failed: bool) -> Answer {
-    let memory = if has_failed {
-        Fault::Write
-    } else {
-        Fault::Memory
-    };
-    due(or_stop(answer, memory)?)
 }
 
 /// A call over submissions, and what it left.
@@ -67,17 +54,20 @@ pub(crate) struct Run {
     pub(crate) games: Text,
     /// The file of the book that was made.
     pub(crate) book: Text,
+    /// How many lines found no memory. They and the replies to them are left out of both texts once the call is over.
+    refused: u64,
     answer: Answer,
 }
 
 impl Run {
-    /// A call over these lines.
+    /// A call over these lines that isn't made yet.
     pub(crate) fn over(lines: &[u8]) -> Run {
         Run {
             lines: text(&[lines]),
             put: Text::new(),
             games: Text::new(),
             book: Text::new(),
+            refused: 0,
             answer: Ok(()),
         }
     }
@@ -88,72 +78,82 @@ impl Run {
     {
         let mut run = Run::over(lines);
         run.answer = call(kit, &mut run);
+        let (mut others, mut put) = (Text::new(), Text::new());
+        let mut rest = lines.split_inclusive(|byte| *byte == b'\n');
+        for reply in run.put.split_inclusive(|byte| *byte == b'\n') {
+            let line = rest.next().unwrap_or_default();
+            if reply.ends_with(b" memory\n") {
+                run.refused = run.refused.saturating_add(1);
+            } else {
+                let _ = others.try_extend_from_slice(line);
+                let _ = put.try_extend_from_slice(reply);
+            }
+        }
+        (run.lines, run.put) = (others, put);
+        kit.want(run.refused.saturating_add(u64::from(run.answer.is_err())));
         run
     }
 
-    /// Whether memory was there for all.
-    fn is_ample(&self) -> bool {
-        self.answer.is_ok() && self.refused() == 0
+    /// Adds what a command put that has to take its input, and answers as it does. A sink fails for want of memory alone.
+    pub(crate) fn end(&mut self, answer: Result<bool, Fault>, sink: &MemSink) -> Answer {
+        self.add(sink.as_bytes())?;
+        due(or_stop(
+            answer,
+            if sink.failed() {
+                Fault::Write
+            } else {
+                Fault::Memory
+            },
+        )?)
     }
 
     /// Adds bytes to what was put.
     pub(crate) fn add(&mut self, bytes: &[u8]) -> Answer {
-        self.put
-            .try_extend_from_slice(bytes)
-            .map_err(|_| Stop::Wrong)
+        due(self.put.try_extend_from_slice(bytes).is_ok())
     }
 
-    /// The same without the lines that found no memory, and how many they are.
-    fn without_refused(&self) -> (Run, u64) {
-        let (mut others, mut refused) = (Run::over(b""), 0_u64);
-        let replies = self.put.split_inclusive(|byte| *byte == b'\n');
-        for (line, reply) in self
-            .lines
-            .split_inclusive(|byte| *byte == b'\n')
-            .zip(replies)
-        {
-            if reply.ends_with(b" memory\n") {
-                refused = refused.saturating_add(1);
-            } else {
-                let _ = others.lines.try_extend_from_slice(line);
-                let _ = others.add(reply);
-            }
-        }
-        others.games = text(&[&self.games]);
-        others.book = text(&[&self.book]);
-        (others, refused)
-    }
-
-    /// How many lines found no memory.
-    pub(crate) fn refused(&self) -> u64 {
-        self.without_refused().1
+    /// Whether memory was there for all.
+    fn is_ample(&self) -> bool {
+        self.refused == 0 && self.answer.is_ok()
     }
 
     /// Whether this left the same.
     fn is(&self, due: &Run) -> bool {
+        let same_games = self.games.as_slice() == due.games.as_slice();
         self.put.as_slice() == due.put.as_slice()
-            && self.games.as_slice() == due.games.as_slice()
+            && same_games
             && self.book.as_slice() == due.book.as_slice()
     }
 
-    /// Whether this left a front, and kept no book, but the games of all lines that were replied to. That they aren't kept is another want.
-    fn is_front(&self, kit: &Kit, due: &Run, why: Stop) -> bool {
-        let (kept, replied) = (line_count(&self.games), line_count(&self.put).min(5));
-        let is_lost = kept == 0 && replied > 0 && !due.games.is_empty() && why == Stop::Memory;
-        kit.want(u64::from(is_lost));
-        let has_games = match why {
-            Stop::Memory => kept == 0 || kept > replied,
-            Stop::Games => kept == 0,
-            Stop::Wrong => false,
+    /// Whether this left a front, and no book. No game is wanting that was replied to, where games were kept.
+    fn is_front(&self, due: &Run) -> bool {
+        let mut all = due.put.split_inclusive(|byte| *byte == b'\n');
+        let mut put = self.put.split_inclusive(|byte| *byte == b'\n');
+        let is_part = put.all(|part| all.any(|whole| whole.starts_with(part)));
+        let is_front = if self.refused > 0 {
+            is_part
+        } else {
+            due.put.starts_with(&self.put)
         };
-        let is_front = due.put.starts_with(&self.put) && due.games.starts_with(&self.games);
-        is_front && has_games && self.book.is_empty()
+        is_front && due.games.starts_with(&self.games) && self.has_games() && self.book.is_empty()
     }
-}
 
-/// How many lines an LF ends.
-pub(crate) fn line_count(text: &[u8]) -> u64 {
-    text.iter().filter(|byte| **byte == b'\n').count() as u64
+    /// Whether no games were kept, or all that were replied to by `ok`.
+    fn has_games(&self) -> bool {
+        self.games.is_empty()
+            || self
+                .put
+                .split(|byte| *byte == b'\n')
+                .all(|reply| match reply.strip_prefix(b"ok ") {
+                    Some(rest) => {
+                        let id = rest.get(..2).unwrap_or(rest);
+                        self.games
+                            .split(|byte| *byte == b'\n')
+                            .any(|game| game.starts_with(id))
+                    }
+                    None => true,
+                })
+    }
 }
 
 /// A call that was made, by its name and what it is over.
@@ -162,14 +162,14 @@ pub(crate) struct Made {
     pub(crate) name: &'static str,
     pub(crate) over: &'static str,
     run: Run,
-    /// Whether both times it left what it had to.
+    /// Whether it left both times what it had to.
     pub(crate) is_due: bool,
 }
 
 /// Makes the calls, and judges them.
 #[derive(Drop)]
 pub(crate) struct Judge<'a> {
-    pub(crate) kit: &'a Kit,
+    kit: &'a Kit,
     pub(crate) over: &'static str,
     pub(crate) made: Vec<Made>,
     /// How many calls of this round were made.
@@ -177,14 +177,15 @@ pub(crate) struct Judge<'a> {
 }
 
 impl Judge<'_> {
-    /// A judge that has made none, with room for so many.
+    /// A judge that has made none, with room for all.
     pub(crate) fn new(kit: &Kit) -> Result<Judge<'_>, AllocError> {
         let made = again(|| Vec::with_capacity(kit.alloc, 64))?;
+        let (over, count) = ("", 0);
         Ok(Judge {
             kit,
-            over: "",
+            over,
             made,
-            count: 0,
+            count,
         })
     }
 
@@ -196,60 +197,37 @@ impl Judge<'_> {
     )
         requires { F.IsAlwaysCallable call }
     {
-        let (kit, over) = (self.kit, self.over);
-        let run = Run::of(kit, &mut call, LINES);
-        kit.want(run.refused().saturating_add(u64::from(run.answer.is_err())));
-        match self.made.get_mut(self.count) {
-            Some(
-                Made {
-                    run: first,
-                    is_due,
-                    ..
-                },
-            ) if first.is_ample() => {
-                *is_due = agrees(kit, &mut call, &run, first);
-            }
-            Some(
-                Made {
-                    run: first,
-                    is_due,
-                    ..
-                },
-            ) => {
-                *is_due = agrees(kit, &mut call, first, &run);
-            }
-            None => {
-                let is_due = false;
-                let _ = self.made.push(Made {
-                    name,
-                    over,
-                    run,
-                    is_due,
-                });
-            }
+        let (kit, over, is_due) = (self.kit, self.over, false);
+        let run = Run::of(kit, &mut call, &text(&[GAMES, TWO]));
+        if let Some(made) = self.made.get_mut(self.count) {
+            made.is_due = if run.is_ample() && !made.run.is_ample() {
+                agrees(kit, &mut call, &made.run, &run)
+            } else {
+                agrees(kit, &mut call, &run, &made.run)
+            };
+        } else {
+            let _ = self.made.push(Made {
+                name,
+                over,
+                run,
+                is_due,
+            });
         }
         self.count = self.count.saturating_add(1);
     }
 }
 
-/// Whether a run of a call left what it had to, beside one with ample memory.
+/// Whether a call left what it had to, beside one with more memory. Where lines found none, that is what the other lines alone make.
 fn agrees<F: FnMut(&Kit, &mut Run) -> Answer>(kit: &Kit, call: &mut F, run: &Run, due: &Run) -> bool
     requires { F.IsAlwaysCallable call.old }
 {
-    if let Err(why) = run.answer {
-        return run.is_front(kit, due, why);
-    }
-    let (others, refused) = run.without_refused();
-    if refused == 0 {
-        return run.is(due);
-    }
-    // What is due is what the other lines alone make.
-    let alone = Run::of(kit, call, &others.lines);
-    match alone.answer {
-        Ok(()) => others.is(&alone),
-        Err(why) => {
-            kit.want(1);
-            why == Stop::Memory && others.book.is_empty()
+    match run.answer {
+        _ if due.answer == Err(Stop::Wrong) => false,
+        Ok(()) if run.refused > 0 => {
+            let alone = Run::of(kit, call, &run.lines);
+            run.is(&alone) || !alone.is_ample() && run.is_front(due)
         }
+        Ok(()) => run.is(due),
+        Err(why) => why == Stop::Memory && run.is_front(due),
     }
 }

@@ -11,30 +11,27 @@ use std::cell::Cell;
 /// A text that takes no memory. A part that doesn't fit is left out, so that the text is another one.
 pub(crate) type Text = ArrayVec<u8, 16_384>;
 
+/// More than any source is asked.
+pub(crate) const MAX: u32 = u32::MAX;
+
 /// The record of the start position.
 pub(crate) const START: &[u8] = b"rnbqkbnr/pppppppp/8/8/8/8/PPPPPPPP/RNBQKBNR w KQkq - 0 1";
 
-/// Six submissions, short enough that the points of their moves can be counted by hand. The last one repeats the first.
-pub(crate) const LINES: &[u8] =
+/// The lines of five games, short enough that the points of their moves can be counted by hand.
+pub(crate) const GAMES: &[u8] =
     b"g1\t1-0\trnbqkbnr/pppppppp/8/8/8/8/PPPPPPPP/RNBQKBNR w KQkq - 0 1\te2e4 e7e5\n\
     g2\t1/2-1/2\trnbqkbnr/pppppppp/8/8/8/8/PPPPPPPP/RNBQKBNR w KQkq - 0 1\te2e4 e7e5\n\
     g3\t0-1\trnbqkbnr/pppppppp/8/8/8/8/PPPPPPPP/RNBQKBNR w KQkq - 0 1\td2d4\n\
     g4\t1-0\trnbqkbnr/pppppppp/8/8/8/8/PPPPPPPP/RNBQKBNR w KQkq - 0 1\td2d4\n\
-    g5\t1/2-1/2\trnbqkbnr/pppppppp/8/8/8/8/PPPPPPPP/RNBQKBNR w KQkq - 0 1\te2e4\n\
-    g1\t1-0\trnbqkbnr/pppppppp/8/8/8/8/PPPPPPPP/RNBQKBNR w KQkq - 0 1\te2e4 e7e5\n";
+    g5\t1/2-1/2\trnbqkbnr/pppppppp/8/8/8/8/PPPPPPPP/RNBQKBNR w KQkq - 0 1\te2e4\n";
 
-/// The saved form of a ledger of the first two, which is a journal of them too.
+/// The first line of a saved form.
+pub(crate) const HEADER: &[u8] = b"pbook-ledger 1\n";
+
+/// The saved form of a ledger of the first two games, which is a journal of them too.
 pub(crate) const TWO: &[u8] = b"pbook-ledger 1\n\
     g1\t1-0\trnbqkbnr/pppppppp/8/8/8/8/PPPPPPPP/RNBQKBNR w KQkq - 0 1\te2e4 e7e5\n\
     g2\t1/2-1/2\trnbqkbnr/pppppppp/8/8/8/8/PPPPPPPP/RNBQKBNR w KQkq - 0 1\te2e4 e7e5\n";
-
-/// The saved form of all five games, and a journal of them.
-pub(crate) const FIVE: &[u8] = b"pbook-ledger 1\n\
-    g1\t1-0\trnbqkbnr/pppppppp/8/8/8/8/PPPPPPPP/RNBQKBNR w KQkq - 0 1\te2e4 e7e5\n\
-    g2\t1/2-1/2\trnbqkbnr/pppppppp/8/8/8/8/PPPPPPPP/RNBQKBNR w KQkq - 0 1\te2e4 e7e5\n\
-    g3\t0-1\trnbqkbnr/pppppppp/8/8/8/8/PPPPPPPP/RNBQKBNR w KQkq - 0 1\td2d4\n\
-    g4\t1-0\trnbqkbnr/pppppppp/8/8/8/8/PPPPPPPP/RNBQKBNR w KQkq - 0 1\td2d4\n\
-    g5\t1/2-1/2\trnbqkbnr/pppppppp/8/8/8/8/PPPPPPPP/RNBQKBNR w KQkq - 0 1\te2e4\n";
 
 /// The book of all five, over a table of which word i is 2^(i mod 64).
 pub(crate) const BOOK: &[u8] = b"\xff\xff\x00\x00\x00\x00\xef\xf0\x03\x1c\x00\x04\x00\x00\x00\x00\
@@ -91,9 +88,8 @@ impl Kit {
         let kings = read_fen(b"4k3/8/8/8/8/8/8/4K3 w - - 0 1").map_err(|_| AllocError)?;
         let table_file = table_file();
         let table = again(|| read_table(alloc, &table_file).map_err(|_| AllocError))?;
-        let five = again(|| ledger_of(alloc, &table, 5, FIVE))?;
+        let five = again(|| ledger_of(alloc, &table, 5, &text(&[HEADER, GAMES])))?;
         let book = again(|| five.make_book(alloc))?;
-        let wants = Cell::new(0);
         Ok(Kit {
             alloc,
             start,
@@ -102,7 +98,7 @@ impl Kit {
             table,
             five,
             book,
-            wants,
+            wants: Cell::new(0),
         })
     }
 

@@ -1,52 +1,24 @@
 //! Ledgers over one tally.
 
-use crate::judge::{Answer, Judge, Run, due, line_count, or_stop, want};
-use crate::kit::{FIVE, Kit, LINES, START, TWO, Text, file_of, ledger_of, saved, text};
+use crate::judge::{Answer, Judge, Run, due, or_stop, want};
+use crate::kit::{GAMES, HEADER, Kit, MAX, START, TWO, Text, file_of, ledger_of, saved, text};
 use pb_ledger::{
     CollectFault, Ledger, LoadError, Refusal, ReplayError, Tally, collect, load, replay,
 };
 use pb_poly::{MemSink, MemSource, Sink};
 
-/// A legal game.
-const LEGAL: &[u8] = b"g3\t1-0\t4k3/8/8/8/8/8/8/4K3 w - - 0 1\te1d1";
+/// An id of a byte more than one may have.
+const LONG_ID: &[u8] = &[b'a'; 65];
 
-/// Lines to which a ledger of the first two games answers so, and gains no game.
-const ANSWERS: [(&[u8], Result<u32, Refusal>); 11] = [
-    (
-        b"g2\t1/2-1/2\trnbqkbnr/pppppppp/8/8/8/8/PPPPPPPP/RNBQKBNR w KQkq - 0 1\te2e4 e7e5",
-        Ok(2),
-    ),
-    (
-        b"g2\t0-1\t4k3/8/8/8/8/8/8/4K3 w - - 0 1\te1d1",
-        Err(Refusal::Conflict(2)),
-    ),
-    (&[b'a'; 70], Err(Refusal::Shape)),
-    (
-        b"g3\t*\t4k3/8/8/8/8/8/8/4K3 w - - 0 1\te1d1",
-        Err(Refusal::Result),
-    ),
-    (
-        b"g3\t1-0\t4k3/8/8/8/8/8/8/4RK2 w - - 0 1\t",
-        Err(Refusal::Start),
-    ),
-    (
-        b"g3\t1-0\t4k3/8/8/8/8/8/8/4K3 w - - 0 1\te1e3 e1e9",
-        Err(Refusal::Spelling(2)),
-    ),
-    (
-        b"g3\t1-0\t4k3/8/8/8/8/8/8/4K3 w - - 0 1\te1d1  e8d8",
-        Err(Refusal::Spelling(2)),
-    ),
-    (
-        b"g3\t1-0\t4k3/8/8/8/8/8/8/4K3 w - - 0 1\t0000",
-        Err(Refusal::Spelling(1)),
-    ),
-    (
-        b"g3\t1-0\t4k3/8/8/8/8/8/8/4K3 w - - 0 1\te1e3",
-        Err(Refusal::Illegal(1)),
-    ),
-    (&[b'a'; 8192], Err(Refusal::Shape)),
-    (&[b'a'; 8193], Err(Refusal::Long)),
+/// The id, result and moves from the start position of lines that a ledger of the first two games refuses so.
+const REFUSED: [([&[u8]; 3], Refusal); 7] = [
+    ([b"g2", b"0-1", b"e2e4 e7e5"], Refusal::Conflict(2)),
+    ([LONG_ID, b"1-0", b"e2e4"], Refusal::Id),
+    ([b"g3", b"*", b"e2e4"], Refusal::Result),
+    ([b"g3", b"1-0", b"e2e5 e7e9"], Refusal::Spelling(2)),
+    ([b"g3", b"1-0", b"e2e4  e7e5"], Refusal::Spelling(2)),
+    ([b"g3", b"1-0", b"0000"], Refusal::Spelling(1)),
+    ([b"g3", b"1-0", b"e2e5"], Refusal::Illegal(1)),
 ];
 
 /// Makes the calls.
@@ -76,29 +48,22 @@ fn rows<T: Tally>(kit: &Kit, run: &mut Run) -> Answer {
     Ok(())
 }
 
-/// The submissions to a new ledger in order, each again where it found no memory, and their book.
+/// The games to a new ledger in order, each again where it found no memory, and their book.
 fn submitting<T: Tally>(kit: &Kit, run: &mut Run) -> Answer {
     let mut ledger = Ledger::<T>::new(kit.alloc, &kit.table, 1000)?;
-    for line in LINES
-        .split(|byte| *byte == b'\n')
-        .filter(|line| !line.is_empty())
-    {
-        kit.attempts(|| submitted(kit, &mut ledger, line))?;
+    for line in GAMES.split_inclusive(|byte| *byte == b'\n') {
+        kit.attempts(|| submitted(kit, run, &mut ledger, line.trim_ascii_end()))?;
     }
     run.games = saved(&ledger);
     run.book = file_of(&ledger.make_book(kit.alloc)?);
     Ok(())
 }
 
-/// A game that is submitted, and gets its number. Where it finds no memory, nothing has changed.
-fn submitted<T: Tally>(kit: &Kit, ledger: &mut Ledger<T>, line: &[u8]) -> Answer {
+/// A game that is submitted, and its number. Where it finds no memory, nothing has changed.
+fn submitted<T: Tally>(kit: &Kit, run: &mut Run, ledger: &mut Ledger<T>, line: &[u8]) -> Answer {
     let before = state(kit, ledger);
     match ledger.submit(line) {
-        Ok(number) => due(
-            ledger
-                .get(number)
-                .is_some_and(|(id, _)| line.starts_with(id.as_bytes())),
-        ),
+        Ok(number) => run.add(&number.to_be_bytes()),
         Err(why) => {
             let is_same = state(kit, ledger).as_slice() == before.as_slice();
             want(why == Refusal::Memory && is_same)
@@ -122,37 +87,37 @@ fn state<T: Tally>(kit: &Kit, ledger: &Ledger<T>) -> Text {
 fn without_memory<T: Tally>(kit: &Kit, _: &mut Run) -> Answer {
     let mut full = ledger_of::<T>(kit.alloc, &kit.table, 2, TWO)?;
     let mut roomy = ledger_of::<T>(kit.alloc, &kit.table, 5, TWO)?;
-    let mut is_due = full.submit(LEGAL) == Err(Refusal::Full);
-    for (line, answer) in ANSWERS {
-        is_due = full.submit(line) == answer && roomy.submit(line) == answer && is_due;
+    for ([id, outcome, moves], why) in REFUSED {
+        let line = text(&[id, b"\t", outcome, b"\t", START, b"\t", moves]);
+        due(full.submit(&line) == Err(why) && roomy.submit(&line) == Err(why))?;
     }
     let moves = text(&[b" e2e4".as_slice(); 1025]);
     let many = text(&[b"g3\t1-0\t", START, b"\t", moves.trim_ascii_start()]);
-    let long_id = text(&[&[b'a'; 65], b"\t1-0\t\t"]);
-    due(
-        is_due
-            && roomy.submit(&many) == Err(Refusal::Plies)
-            && roomy.submit(&long_id) == Err(Refusal::Id)
-            && (full.len(), roomy.len()) == (2, 2),
-    )
+    due(roomy.submit(&many) == Err(Refusal::Plies))?;
+    due(roomy.submit(b"g3\t1-0\t4k3/8/8/8/8/8/8/4RK2 w - - 0 1\t") == Err(Refusal::Start))?;
+    due(roomy.submit(&[b'a'; 8192]) == Err(Refusal::Shape))?;
+    due(roomy.submit(&[b'a'; 8193]) == Err(Refusal::Long))?;
+    for (line, number) in GAMES.split(|byte| *byte == b'\n').zip(1..3) {
+        due(full.submit(line) == Ok(number) && roomy.submit(line) == Ok(number))?;
+    }
+    let third = text(&[b"g3\t1-0\t", START, b"\te2e4"]);
+    due(full.submit(&third) == Err(Refusal::Full) && full.len() == 2 && roomy.len() == 2)
 }
 
 /// The lines to a new ledger, and their book.
 fn collecting<T: Tally>(kit: &Kit, run: &mut Run) -> Answer {
     let mut ledger = Ledger::<T>::new(kit.alloc, &kit.table, 1000)?;
-    let mut source = MemSource::new(&run.lines, 64);
-    let mut sink = MemSink::new(kit.alloc);
-    let answer = collect(kit.alloc, &mut source, &mut sink, &mut ledger, u32::MAX);
+    let (mut source, mut sink) = (MemSource::new(&run.lines, 64), MemSink::new(kit.alloc));
+    let answer = collect(kit.alloc, &mut source, &mut sink, &mut ledger, MAX);
     run.add(sink.as_bytes())?;
     run.games = saved(&ledger);
     match answer {
         Ok(totals) => {
-            let lines = totals
-                .new
-                .saturating_add(totals.repeats)
-                .saturating_add(totals.refused);
-            due(totals.lines == lines && totals.lines == line_count(&run.lines))?;
-            due(totals.new == u64::from(ledger.len()) && totals.refused == run.refused())?;
+            let replies = run.put.iter().filter(|byte| **byte == b'\n').count();
+            let known = totals.new.saturating_add(totals.repeats);
+            due(totals.lines == replies as u64)?;
+            due(totals.lines == known.saturating_add(totals.refused))?;
+            due(totals.new == u64::from(ledger.len()))?;
             run.book = file_of(&ledger.make_book(kit.alloc)?);
             Ok(())
         }
@@ -164,31 +129,20 @@ fn collecting<T: Tally>(kit: &Kit, run: &mut Run) -> Answer {
 
 /// The saved form of all five, loaded into a new ledger.
 fn loading<T: Tally>(kit: &Kit, run: &mut Run) -> Answer {
+    let five = text(&[HEADER, GAMES]);
     let mut ledger = Ledger::<T>::new(kit.alloc, &kit.table, 1000)?;
-    let answer = load(
-        kit.alloc,
-        &mut MemSource::new(FIVE, 64),
-        &mut ledger,
-        u32::MAX,
-    );
+    let mut source = MemSource::new(&five, 64);
+    let answer = load(kit.alloc, &mut source, &mut ledger, MAX);
     run.games = saved(&ledger);
     due(or_stop(answer, LoadError::Memory)? == 5)
 }
 
 /// A journal of all five whose last line is torn, replayed into a new ledger, and the end of it.
 fn replaying<T: Tally>(kit: &Kit, run: &mut Run) -> Answer {
-    let journal = text(&[FIVE, b"g6\t1-0"]);
+    let journal = text(&[GAMES, b"g6\t1-0"]);
     let mut ledger = Ledger::<T>::new(kit.alloc, &kit.table, 1000)?;
-    let mut source = MemSource::new(&journal, 64);
-    let mut sink = MemSink::new(kit.alloc);
-    let answer = replay(
-        kit.alloc,
-        &mut source,
-        &mut sink,
-        &mut ledger,
-        &mut (),
-        u32::MAX,
-    );
+    let (mut source, mut sink) = (MemSource::new(&journal, 64), MemSink::new(kit.alloc));
+    let answer = replay(kit.alloc, &mut source, &mut sink, &mut ledger, &mut (), MAX);
     run.add(sink.as_bytes())?;
     run.games = saved(&ledger);
     match answer {

@@ -1,16 +1,12 @@
 //! The commands that take games, over memory.
 
-use crate::judge::{Answer, Judge, Run, Stop, due, taken, want};
-use crate::kit::{EXPORT, Kit, LINES, TWO, Text, file_of, saved, text};
-use crate::values::puts;
+use crate::judge::{Answer, Judge, Run, Stop, due, want};
+use crate::kit::{EXPORT, Kit, MAX, TWO, file_of, saved, text};
 use pb_cli::{
     Continued, Fault, MemPlace, NoBook, NotContinued, NotKept, Rules, collect_into, continue_into,
     journal_into, run_collect, run_continue, run_export, run_journaled,
 };
 use pb_poly::{Book, MemSink, MemSource, Sink};
-
-/// More than any source is asked.
-const MAX: u32 = u32::MAX;
 
 /// A command that makes a book.
 #[derive(Clone, Copy, PartialEq, Eq)]
@@ -25,87 +21,63 @@ enum Command {
 
 /// Makes the calls.
 pub(crate) fn make(judge: &mut Judge) {
-    judge.call(
-        "run_collect",
-        |kit, run| collect(kit, run, Command::Collect),
-    );
-    judge.call(
-        "collect_into",
-        |kit, run| collect(kit, run, Command::CollectInto),
-    );
-    judge.call(
-        "run_continue",
-        |kit, run| collect(kit, run, Command::Continue),
-    );
-    judge.call(
-        "continue_into",
-        |kit, run| collect(kit, run, Command::ContinueInto),
-    );
-    judge.call(
-        "run_journaled",
-        |kit, run| collect(kit, run, Command::Journaled),
-    );
-    judge.call(
-        "journal_into",
-        |kit, run| collect(kit, run, Command::JournalInto),
-    );
+    for (name, command) in [
+        ("run_collect", Command::Collect),
+        ("collect_into", Command::CollectInto),
+        ("run_continue", Command::Continue),
+        ("continue_into", Command::ContinueInto),
+        ("run_journaled", Command::Journaled),
+        ("journal_into", Command::JournalInto),
+    ] {
+        judge.call(name, |kit, run| collect(kit, run, command));
+    }
     judge.call("run_export", export);
 }
 
 /// Makes a run of a command, from the first two games on where it continues them.
 fn collect(kit: &Kit, run: &mut Run, command: Command) -> Answer {
-    let (alloc, rules) = (kit.alloc, Rules::all_plies());
-    let lines = text(&[&run.lines]);
+    let (alloc, rules, lines) = (kit.alloc, Rules::all_plies(), text(&[&run.lines]));
     let table = &mut MemSource::new(&kit.table_file, 1000);
-    let two = &mut MemSource::new(TWO, 7);
-    let lines = &mut MemSource::new(&lines, 100);
+    let (old, new) = (
+        &mut MemSource::new(TWO, 7),
+        &mut MemSource::new(&lines, 100),
+    );
     let (put, log) = (&mut MemSink::new(alloc), &mut MemSink::new(alloc));
     let (games, book) = (&mut MemPlace::new(alloc), &mut MemPlace::new(alloc));
     let answer = match command {
-        Command::Collect => booked(run_collect(alloc, rules, table, lines, put, MAX), run),
-        Command::CollectInto => kept(collect_into(alloc, rules, table, lines, put, book, MAX)),
-        Command::Continue => {
-            continued(run_continue(alloc, rules, table, two, lines, put, MAX), run)
-        }
+        Command::Collect => booked(run_collect(alloc, rules, table, new, put, MAX), run),
+        Command::CollectInto => kept(collect_into(alloc, rules, table, new, put, book, MAX)),
+        Command::Continue => continued(run_continue(alloc, rules, table, old, new, put, MAX), run),
         Command::ContinueInto => {
-            continue_into(alloc, rules, table, two, lines, put, games, book, MAX)
+            continue_into(alloc, rules, table, old, new, put, games, book, MAX)
         }
         Command::Journaled => {
-            booked(
-                run_journaled(alloc, rules, table, two, log, &mut (), lines, put, MAX),
-                run,
-            )
+            let answer = run_journaled(alloc, rules, table, old, log, &mut (), new, put, MAX);
+            booked(answer, run)
         }
         Command::JournalInto => {
-            kept(journal_into(
-                alloc,
-                rules,
-                table,
-                two,
-                log,
-                &mut (),
-                lines,
-                put,
-                book,
-                MAX,
-            ))
+            let answer = journal_into(alloc, rules, table, old, log, &mut (), new, put, book, MAX);
+            kept(answer)
         }
     };
-    run.add(put.as_bytes())?;
     if matches!(command, Command::Journaled | Command::JournalInto) {
         run.games = text(&[TWO, log.as_bytes()]);
-    }
-    if let Some(kept) = games.kept() {
+    } else if let Some(kept) = games.kept() {
         run.games = text(&[kept]);
     }
     if let Some(kept) = book.kept() {
         run.book = text(&[kept]);
     }
+    let is_kept = !run.games.is_empty();
     match answer {
-        Ok(is_taken) => due(is_taken),
-        Err(NotContinued::Run(why)) => taken(Err(why), put.failed() || log.failed()),
-        Err(NotContinued::Ledger(NotKept::Memory)) => Err(Stop::Games),
-        Err(NotContinued::Ledger(_)) => Err(Stop::Wrong),
+        Ok(is_taken) => run.end(Ok(is_taken), put),
+        Err(NotContinued::Run(why)) => {
+            // That games are lost that were replied to is another want.
+            let is_lost = matches!(command, Command::Continue | Command::ContinueInto) && !is_kept;
+            kit.want(u64::from(is_lost && !put.as_bytes().is_empty()));
+            run.end(Err(why), if log.failed() { log } else { put })
+        }
+        Err(NotContinued::Ledger(why)) => want(why == NotKept::Memory && !is_kept),
         Err(NotContinued::Book(why)) => want(why == NotKept::Memory),
     }
 }
@@ -152,13 +124,9 @@ fn export(kit: &Kit, run: &mut Run) -> Answer {
     if run.put.as_slice() == EXPORT {
         return Ok(());
     }
-    if run.put.is_empty() {
-        kit.want(4);
-        return want(true);
-    }
-    kit.want(1);
-    let (mut before, mut after) = (text(&[]), LINES);
-    for line in LINES.split_inclusive(|byte| *byte == b'\n') {
+    kit.want(if run.put.is_empty() { 4 } else { 1 });
+    let (mut before, mut after) = (text(&[]), run.lines.as_slice());
+    for line in run.lines.split_inclusive(|byte| *byte == b'\n') {
         after = after.strip_prefix(line).unwrap_or(after);
         let mut others = Run::over(&text(&[&before, after]));
         export_lines(kit, &mut others)?;
@@ -174,16 +142,10 @@ fn export(kit: &Kit, run: &mut Run) -> Answer {
 /// What the command exports of the lines of a run.
 fn export_lines(kit: &Kit, run: &mut Run) -> Answer {
     let lines = text(&[&run.lines]);
-    puts(kit, run, |sink| {
-        let mut table = MemSource::new(&kit.table_file, 1000);
-        let mut lines = MemSource::new(&lines, 100);
-        run_export(
-            kit.alloc,
-            Rules::all_plies(),
-            &mut table,
-            &mut lines,
-            sink,
-            MAX,
-        )
-    })
+    let mut sink = MemSink::new(kit.alloc);
+    let mut table = MemSource::new(&kit.table_file, 1000);
+    let mut lines = MemSource::new(&lines, 100);
+    let rules = Rules::all_plies();
+    let answer = run_export(kit.alloc, rules, &mut table, &mut lines, &mut sink, MAX);
+    run.end(answer, &sink)
 }

@@ -1,7 +1,7 @@
 //! Values, books, bytes that are put into memory, and the commands that take no games.
 
-use crate::judge::{Answer, Judge, Run, Stop, due, or_stop, taken, want};
-use crate::kit::{BOOK, Kit, START, file_of};
+use crate::judge::{Answer, Judge, Run, Stop, due, or_stop, want};
+use crate::kit::{BOOK, Kit, MAX, START, file_of};
 use pb_board::{read_fen, write_fen, write_setup};
 use pb_cli::{Fault, Order, ParseFault, parse, run_epd, run_fen, run_probe, run_show};
 use pb_epd::{Epd, EpdError, Operand, OperandBytes, PutError, read_epd, write_epd};
@@ -12,9 +12,6 @@ use pb_poly::{
     read_book, read_table, take_table, write_book,
 };
 use std::alloc::{AllocError, Global};
-
-/// More than any source is asked.
-const MAX: u32 = u32::MAX;
 
 /// A line of two operations in another order than that of their opcodes.
 const TURNED: &[u8] = b"4k3/8/8/8/8/8/8/4K3 w - -  id \"two kings\";  bm e1d1 ;";
@@ -28,40 +25,28 @@ const LEARNT: &[u8] = b"\0\0\0\0\0\0\0\x05\0\0\0\0\0\0\0\x07\0\0\0\0\0\0\0\x05\0
 
 /// Makes the calls that take values and books.
 pub(crate) fn make(judge: &mut Judge) {
-    judge.call(
-        "write_fen",
-        |kit, run| run.add(&write_fen(kit.alloc, &kit.start)?),
-    );
-    judge.call(
-        "write_setup",
-        |kit, run| run.add(&write_setup(kit.alloc, &kit.kings.setup())?),
-    );
+    judge.call("write_fen", |kit, run| {
+        run.add(&write_fen(kit.alloc, &kit.start)?)
+    });
+    judge.call("write_setup", |kit, run| {
+        run.add(&write_setup(kit.alloc, &kit.kings.setup())?)
+    });
     judge.call("legal_moves", moves);
     judge.call("read_table", |kit, run| {
-        add_table(
-            run,
-            read_table(kit.alloc, &kit.table_file),
-            TableError::Memory,
-        )
+        let table = read_table(kit.alloc, &kit.table_file);
+        add_table(run, &or_stop(table, TableError::Memory)?)
     });
     judge.call("take_table", |kit, run| {
-        let mut source = MemSource::new(&kit.table_file, 1000);
-        add_table(
-            run,
-            take_table(kit.alloc, &mut source, MAX),
-            TableFault::Memory,
-        )
+        let table = take_table(kit.alloc, &mut MemSource::new(&kit.table_file, 1000), MAX);
+        add_table(run, &or_stop(table, TableFault::Memory)?)
     });
     judge.call("read_epd, write_epd", |kit, run| {
         let record = or_stop(read_epd(kit.alloc, TURNED), EpdError::Memory)?;
         run.add(&write_epd(kit.alloc, &record)?)
     });
     judge.call("read_epd, an opcode twice", |kit, _| {
-        refuses(
-            kit,
-            b"4k3/8/8/8/8/8/8/4K3 w - - bm; bm;",
-            EpdError::Repeated(2),
-        )
+        let line = b"4k3/8/8/8/8/8/8/4K3 w - - bm; bm;";
+        refuses(kit, line, EpdError::Repeated(2))
     });
     judge.call("read_epd without memory", without_memory);
     judge.call("Epd::put", putting);
@@ -72,7 +57,9 @@ pub(crate) fn make(judge: &mut Judge) {
         run.add(&file_of(&or_stop(book, BookError::Memory)?))
     });
     judge.call("write_book", |kit, run| {
-        puts(kit, run, |sink| put(write_book(sink, &kit.book)))
+        let mut sink = MemSink::new(kit.alloc);
+        let answer = write_book(&mut sink, &kit.book);
+        run.end(of_put(answer), &sink)
     });
     judge.call("probe", probing);
 }
@@ -80,93 +67,75 @@ pub(crate) fn make(judge: &mut Judge) {
 /// Makes the calls over a ledger of all five games, and those of commands that take no games.
 pub(crate) fn make_commands(judge: &mut Judge) {
     judge.call("export", |kit, run| {
-        puts(kit, run, |sink| match export(kit.alloc, &kit.five, sink) {
-            Ok(lines) => Ok(lines == 2),
-            Err(ExportFault::Write) => Err(Fault::Write),
-            Err(ExportFault::Memory) => Err(Fault::Memory),
-        })
+        let mut sink = MemSink::new(kit.alloc);
+        let answer = export(kit.alloc, &kit.five, &mut sink);
+        run.end(of_export(answer), &sink)
     });
     judge.call("save", |kit, run| {
-        puts(kit, run, |sink| put(save(&kit.five, sink)))
+        let mut sink = MemSink::new(kit.alloc);
+        let answer = save(&kit.five, &mut sink);
+        run.end(of_put(answer), &sink)
     });
     judge.call("parse", |kit, run| {
         match parse(kit.alloc, &["pbook", "fen", "8/8", "e2e4"]) {
-            Ok(Order::Fen { record, moves }) if moves.len() == 1 => {
+            Ok(Order::Fen { record, moves }) => {
                 run.add(record.as_bytes())?;
-                run.add(moves[0].as_bytes())
+                due(moves.as_slice() == ["e2e4"].as_slice())
             }
-            Err(ParseFault::Memory) => Err(Stop::Memory),
-            _ => Err(Stop::Wrong),
+            Err(ParseFault::Memory) => want(true),
+            _ => due(false),
         }
     });
-    judge.call(
-        "parse, no words",
-        |kit, run| match parse(kit.alloc, &["pbook"]) {
+    judge.call("parse, no words", |kit, run| {
+        match parse(kit.alloc, &["pbook"]) {
             Err(ParseFault::Usage(text)) => run.add(text.as_bytes()),
-            Err(ParseFault::Memory) => Err(Stop::Memory),
-            Ok(_) => Err(Stop::Wrong),
-        },
-    );
+            Err(ParseFault::Memory) => want(true),
+            Ok(_) => due(false),
+        }
+    });
     judge.call("run_fen", |kit, run| {
-        puts(
-            kit,
-            run,
-            |sink| run_fen(kit.alloc, START, &["e2e4", "c7c5", "g1f3"], sink),
-        )
+        let mut sink = MemSink::new(kit.alloc);
+        let answer = run_fen(kit.alloc, START, &["e2e4", "c7c5", "g1f3"], &mut sink);
+        run.end(answer, &sink)
     });
     judge.call("run_epd", |kit, run| {
-        puts(kit, run, |sink| {
-            let answer = run_epd(kit.alloc, &mut MemSource::new(LINES, 7), sink, MAX);
-            answer.map(|is_taken| !is_taken)
-        })
+        let mut sink = MemSink::new(kit.alloc);
+        let answer = run_epd(kit.alloc, &mut MemSource::new(LINES, 7), &mut sink, MAX);
+        run.end(answer.map(|is_taken| !is_taken), &sink)
     });
     judge.call("run_show", |kit, run| {
-        puts(
-            kit,
-            run,
-            |sink| run_show(kit.alloc, &mut MemSource::new(BOOK, 5), sink, MAX),
-        )
+        let mut sink = MemSink::new(kit.alloc);
+        let answer = run_show(kit.alloc, &mut MemSource::new(BOOK, 5), &mut sink, MAX);
+        run.end(answer, &sink)
     });
     judge.call("run_probe", |kit, run| {
-        puts(kit, run, |sink| {
-            let mut table = MemSource::new(&kit.table_file, 1000);
-            run_probe(
-                kit.alloc,
-                &mut table,
-                &mut MemSource::new(BOOK, 5),
-                START,
-                sink,
-                MAX,
-            )
-        })
+        let mut table = MemSource::new(&kit.table_file, 1000);
+        let (mut book, mut sink) = (MemSource::new(BOOK, 5), MemSink::new(kit.alloc));
+        let answer = run_probe(kit.alloc, &mut table, &mut book, START, &mut sink, MAX);
+        run.end(answer, &sink)
     });
 }
 
 /// The answer of a call that puts, as that of a command.
-fn put(answer: Result<(), Failed>) -> Result<bool, Fault> {
+fn of_put(answer: Result<(), Failed>) -> Result<bool, Fault> {
     match answer {
         Ok(()) => Ok(true),
         Err(Failed) => Err(Fault::Write),
     }
 }
 
-/// What a command puts into memory that has to take its input.
-pub(crate) fn puts<F: FnOnce(&mut MemSink) -> Result<bool, Fault>>(
-    kit: &Kit,
-    run: &mut Run,
-    call: F,
-) -> Answer
-    requires { F.IsAlwaysCallable call }
-{
-    let mut sink = MemSink::new(kit.alloc);
-    let answer = call(&mut sink);
-    run.add(sink.as_bytes())?;
-    taken(answer, sink.failed())
+/// The answer of an export, which has two lines, as that of a command.
+fn of_export(answer: Result<u64, ExportFault>) -> Result<bool, Fault> {
+    match answer {
+        Ok(lines) => Ok(lines == 2),
+        Err(ExportFault::Write) => Err(Fault::Write),
+        Err(ExportFault::Memory) => Err(Fault::Memory),
+    }
 }
 
 /// The words of a table.
-fn add_table<E: PartialEq + Drop>(run: &mut Run, table: Result<Table, E>, memory: E) -> Answer {
-    for word in or_stop(table, memory)?.words() {
+fn add_table(run: &mut Run, table: &Table) -> Answer {
+    for word in table.words() {
         run.add(&word.to_be_bytes())?;
     }
     Ok(())
