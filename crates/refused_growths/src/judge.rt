@@ -1,7 +1,7 @@
 //! How calls are judged: each is made twice, in two rounds. What it left has to be the same both times, or a front of it where memory was
 //! wanting.
 
-use crate::kit::{GAMES, Kit, TWO, Text, again, text};
+use crate::kit::{GAMES, Kit, TWO, Text, again, is_lf, text};
 use pb_cli::Fault;
 use pb_poly::{MemSink, Sink};
 use std::alloc::AllocError;
@@ -44,6 +44,15 @@ pub(crate) fn or_stop<T, E: PartialEq + Drop>(answer: Result<T, E>, memory: E) -
     }
 }
 
+/// The answer of a command that has to take its input. A sink fails for want of memory alone.
+pub(crate) fn answered(answer: Result<bool, Fault>, has_failed: bool) -> Answer {
+    match answer {
+        Ok(is_taken) => due(is_taken && !has_failed),
+        Err(Fault::Write) => want(has_failed),
+        Err(why) => want(why == Fault::Memory && !has_failed),
+    }
+}
+
 /// A call over submissions, and what it left.
 #[derive(Drop)]
 pub(crate) struct Run {
@@ -79,8 +88,8 @@ impl Run {
         let mut run = Run::over(lines);
         run.answer = call(kit, &mut run);
         let (mut others, mut put) = (Text::new(), Text::new());
-        let mut rest = lines.split_inclusive(|byte| *byte == b'\n');
-        for reply in run.put.split_inclusive(|byte| *byte == b'\n') {
+        let mut rest = lines.split_inclusive(is_lf);
+        for reply in run.put.split_inclusive(is_lf) {
             let line = rest.next().unwrap_or_default();
             if reply.ends_with(b" memory\n") {
                 run.refused = run.refused.saturating_add(1);
@@ -94,17 +103,10 @@ impl Run {
         run
     }
 
-    /// Adds what a command put that has to take its input, and answers as it does. A sink fails for want of memory alone.
+    /// Adds what a command put, and answers as it does, which has to take its input.
     pub(crate) fn end(&mut self, answer: Result<bool, Fault>, sink: &MemSink) -> Answer {
-        self.add(sink.as_bytes())?;
-        due(or_stop(
-            answer,
-            if sink.failed() {
-                Fault::Write
-            } else {
-                Fault::Memory
-            },
-        )?)
+        let _ = self.add(sink.as_bytes());
+        answered(answer, sink.failed())
     }
 
     /// Adds bytes to what was put.
@@ -119,40 +121,29 @@ impl Run {
 
     /// Whether this left the same.
     fn is(&self, due: &Run) -> bool {
-        let same_games = self.games.as_slice() == due.games.as_slice();
-        self.put.as_slice() == due.put.as_slice()
-            && same_games
-            && self.book.as_slice() == due.book.as_slice()
+        self.put.as_slice() == due.put.as_slice() && self.has_kept(due)
+    }
+
+    /// Whether this left the same games and the same book.
+    fn has_kept(&self, due: &Run) -> bool {
+        self.games.as_slice() == due.games.as_slice() && self.book.as_slice() == due.book.as_slice()
     }
 
     /// Whether this left a front, and no book. No game is wanting that was replied to, where games were kept.
     fn is_front(&self, due: &Run) -> bool {
-        let mut all = due.put.split_inclusive(|byte| *byte == b'\n');
-        let mut put = self.put.split_inclusive(|byte| *byte == b'\n');
+        let mut all = due.put.split_inclusive(is_lf);
+        let mut put = self.put.split_inclusive(is_lf);
         let is_part = put.all(|part| all.any(|whole| whole.starts_with(part)));
-        let is_front = if self.refused > 0 {
-            is_part
-        } else {
-            due.put.starts_with(&self.put)
-        };
-        is_front && due.games.starts_with(&self.games) && self.has_games() && self.book.is_empty()
+        let is_put = is_part && (self.refused > 0 || due.put.starts_with(&self.put));
+        is_put && due.games.starts_with(&self.games) && self.has_games() && self.book.is_empty()
     }
 
     /// Whether no games were kept, or all that were replied to by `ok`.
     fn has_games(&self) -> bool {
-        self.games.is_empty()
-            || self
-                .put
-                .split(|byte| *byte == b'\n')
-                .all(|reply| match reply.strip_prefix(b"ok ") {
-                    Some(rest) => {
-                        let id = rest.get(..2).unwrap_or(rest);
-                        self.games
-                            .split(|byte| *byte == b'\n')
-                            .any(|game| game.starts_with(id))
-                    }
-                    None => true,
-                })
+        let is_kept = |id: &[u8]| self.games.split(is_lf).any(|game| game.starts_with(id));
+        let replies = self.put.split(is_lf);
+        let mut taken = replies.filter_map(|reply| reply.strip_prefix(b"ok "));
+        self.games.is_empty() || taken.all(|rest| is_kept(rest.get(..2).unwrap_or(rest)))
     }
 }
 

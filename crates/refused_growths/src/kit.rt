@@ -43,6 +43,11 @@ pub(crate) const EXPORT: &[u8] =
     b"rnbqkbnr/pppppppp/8/8/4P3/8/PPPP1PPP/RNBQKBNR b KQkq e3 bkm e7e5 1;\n\
     rnbqkbnr/pppppppp/8/8/8/8/PPPPPPPP/RNBQKBNR w KQkq - bkm e2e4 4 d2d4 2;\n";
 
+/// Whether a byte ends a line.
+pub(crate) fn is_lf(byte: &u8) -> bool {
+    *byte == b'\n'
+}
+
 /// The parts one after the other.
 pub(crate) fn text(parts: &[&[u8]]) -> Text {
     let mut text = Text::new();

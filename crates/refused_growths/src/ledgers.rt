@@ -1,7 +1,9 @@
 //! Ledgers over one tally.
 
 use crate::judge::{Answer, Judge, Run, due, or_stop, want};
-use crate::kit::{GAMES, HEADER, Kit, MAX, START, TWO, Text, file_of, ledger_of, saved, text};
+use crate::kit::{
+    GAMES, HEADER, Kit, MAX, START, TWO, Text, file_of, is_lf, ledger_of, saved, text,
+};
 use pb_ledger::{
     CollectFault, Ledger, LoadError, Refusal, ReplayError, Tally, collect, load, replay,
 };
@@ -35,23 +37,27 @@ pub(crate) fn make<T: Tally>(judge: &mut Judge) {
 fn rows<T: Tally>(kit: &Kit, run: &mut Run) -> Answer {
     let mut tally = T::new(kit.alloc);
     for code in [7, 6] {
-        kit.attempts(|| {
-            let answer = tally.ensure(5, code);
-            due(tally.points(5, code) == 0 && tally.times(5, code) == 0)?;
-            Ok(answer?)
-        })?;
+        kit.attempts(|| ensured(&mut tally, code))?;
     }
-    for row in &tally.rows(kit.alloc)? {
-        due(row.key == 5 && row.points == 0 && row.times == 0)?;
-        run.add(&row.code.to_be_bytes())?;
+    let rows = tally.rows(kit.alloc)?;
+    for row in &rows {
+        let _ = run.add(&row.key.to_be_bytes());
+        let _ = run.add(&row.code.to_be_bytes());
     }
-    Ok(())
+    due(rows.iter().all(|row| row.points == 0 && row.times == 0))
+}
+
+/// A row that is made, and has no points.
+fn ensured<T: Tally>(tally: &mut T, code: u16) -> Answer {
+    let answer = tally.ensure(5, code);
+    due(tally.points(5, code) == 0 && tally.times(5, code) == 0)?;
+    Ok(answer?)
 }
 
 /// The games to a new ledger in order, each again where it found no memory, and their book.
 fn submitting<T: Tally>(kit: &Kit, run: &mut Run) -> Answer {
     let mut ledger = Ledger::<T>::new(kit.alloc, &kit.table, 1000)?;
-    for line in GAMES.split_inclusive(|byte| *byte == b'\n') {
+    for line in GAMES.split_inclusive(is_lf) {
         kit.attempts(|| submitted(kit, run, &mut ledger, line.trim_ascii_end()))?;
     }
     run.games = saved(&ledger);
@@ -87,21 +93,33 @@ fn state<T: Tally>(kit: &Kit, ledger: &Ledger<T>) -> Text {
 fn without_memory<T: Tally>(kit: &Kit, _: &mut Run) -> Answer {
     let mut full = ledger_of::<T>(kit.alloc, &kit.table, 2, TWO)?;
     let mut roomy = ledger_of::<T>(kit.alloc, &kit.table, 5, TWO)?;
+    let third = text(&[b"g3\t1-0\t", START, b"\te2e4"]);
+    let is_full = full.submit(&third) == Err(Refusal::Full);
+    due(is_full && refuses(&mut full) && refuses(&mut roomy) && refuses_long(&mut roomy))
+}
+
+/// Whether a ledger refuses the lines that are refused, knows its two games, and has gained none.
+fn refuses<T: Tally>(ledger: &mut Ledger<T>) -> bool {
+    let mut is_due = true;
     for ([id, outcome, moves], why) in REFUSED {
         let line = text(&[id, b"\t", outcome, b"\t", START, b"\t", moves]);
-        due(full.submit(&line) == Err(why) && roomy.submit(&line) == Err(why))?;
+        is_due = ledger.submit(&line) == Err(why) && is_due;
     }
+    for (line, number) in GAMES.split(is_lf).zip(1..3) {
+        is_due = ledger.submit(line) == Ok(number) && is_due;
+    }
+    is_due && ledger.len() == 2
+}
+
+/// Whether a ledger refuses a line of too many moves, one whose game can't be played, and ones at the limit of length and past it.
+fn refuses_long<T: Tally>(ledger: &mut Ledger<T>) -> bool {
     let moves = text(&[b" e2e4".as_slice(); 1025]);
     let many = text(&[b"g3\t1-0\t", START, b"\t", moves.trim_ascii_start()]);
-    due(roomy.submit(&many) == Err(Refusal::Plies))?;
-    due(roomy.submit(b"g3\t1-0\t4k3/8/8/8/8/8/8/4RK2 w - - 0 1\t") == Err(Refusal::Start))?;
-    due(roomy.submit(&[b'a'; 8192]) == Err(Refusal::Shape))?;
-    due(roomy.submit(&[b'a'; 8193]) == Err(Refusal::Long))?;
-    for (line, number) in GAMES.split(|byte| *byte == b'\n').zip(1..3) {
-        due(full.submit(line) == Ok(number) && roomy.submit(line) == Ok(number))?;
-    }
-    let third = text(&[b"g3\t1-0\t", START, b"\te2e4"]);
-    due(full.submit(&third) == Err(Refusal::Full) && full.len() == 2 && roomy.len() == 2)
+    let has_refused = ledger.submit(&many) == Err(Refusal::Plies);
+    let unplayed = ledger.submit(b"g3\t1-0\t4k3/8/8/8/8/8/8/4RK2 w - - 0 1\t");
+    let (full, long) = (ledger.submit(&[b'a'; 8192]), ledger.submit(&[b'a'; 8193]));
+    let is_long = full == Err(Refusal::Shape) && long == Err(Refusal::Long);
+    has_refused && unplayed == Err(Refusal::Start) && is_long
 }
 
 /// The lines to a new ledger, and their book.
@@ -109,17 +127,17 @@ fn collecting<T: Tally>(kit: &Kit, run: &mut Run) -> Answer {
     let mut ledger = Ledger::<T>::new(kit.alloc, &kit.table, 1000)?;
     let (mut source, mut sink) = (MemSource::new(&run.lines, 64), MemSink::new(kit.alloc));
     let answer = collect(kit.alloc, &mut source, &mut sink, &mut ledger, MAX);
-    run.add(sink.as_bytes())?;
+    let _ = run.add(sink.as_bytes());
     run.games = saved(&ledger);
     match answer {
         Ok(totals) => {
-            let replies = run.put.iter().filter(|byte| **byte == b'\n').count();
+            let replies = run.put.iter().filter(|byte| is_lf(byte)).count();
             let known = totals.new.saturating_add(totals.repeats);
-            due(totals.lines == replies as u64)?;
-            due(totals.lines == known.saturating_add(totals.refused))?;
-            due(totals.new == u64::from(ledger.len()))?;
+            let has_all = totals.lines == replies as u64
+                && totals.lines == known.saturating_add(totals.refused)
+                && totals.new == u64::from(ledger.len());
             run.book = file_of(&ledger.make_book(kit.alloc)?);
-            Ok(())
+            due(has_all)
         }
         Err(CollectFault::Memory) => want(!sink.failed() && run.put.is_empty()),
         Err(CollectFault::Write) => want(sink.failed()),
@@ -143,7 +161,7 @@ fn replaying<T: Tally>(kit: &Kit, run: &mut Run) -> Answer {
     let mut ledger = Ledger::<T>::new(kit.alloc, &kit.table, 1000)?;
     let (mut source, mut sink) = (MemSource::new(&journal, 64), MemSink::new(kit.alloc));
     let answer = replay(kit.alloc, &mut source, &mut sink, &mut ledger, &mut (), MAX);
-    run.add(sink.as_bytes())?;
+    let _ = run.add(sink.as_bytes());
     run.games = saved(&ledger);
     match answer {
         Err(ReplayError::Write) => want(sink.failed() && ledger.len() == 5),

@@ -1,7 +1,7 @@
 //! The commands that take games, over memory.
 
-use crate::judge::{Answer, Judge, Run, Stop, due, want};
-use crate::kit::{EXPORT, Kit, MAX, TWO, file_of, saved, text};
+use crate::judge::{Answer, Judge, Run, Stop, answered, due, want};
+use crate::kit::{EXPORT, Kit, MAX, TWO, file_of, is_lf, saved, text};
 use pb_cli::{
     Continued, Fault, MemPlace, NoBook, NotContinued, NotKept, Rules, collect_into, continue_into,
     journal_into, run_collect, run_continue, run_export, run_journaled,
@@ -68,14 +68,15 @@ fn collect(kit: &Kit, run: &mut Run, command: Command) -> Answer {
     if let Some(kept) = book.kept() {
         run.book = text(&[kept]);
     }
+    let _ = run.add(put.as_bytes());
     let is_kept = !run.games.is_empty();
     match answer {
-        Ok(is_taken) => run.end(Ok(is_taken), put),
+        Ok(is_taken) => due(is_taken),
         Err(NotContinued::Run(why)) => {
             // That games are lost that were replied to is another want.
             let is_lost = matches!(command, Command::Continue | Command::ContinueInto) && !is_kept;
-            kit.want(u64::from(is_lost && !put.as_bytes().is_empty()));
-            run.end(Err(why), if log.failed() { log } else { put })
+            kit.want(u64::from(is_lost && !run.put.is_empty()));
+            answered(Err(why), put.failed() || log.failed())
         }
         Err(NotContinued::Ledger(why)) => want(why == NotKept::Memory && !is_kept),
         Err(NotContinued::Book(why)) => want(why == NotKept::Memory),
@@ -126,7 +127,7 @@ fn export(kit: &Kit, run: &mut Run) -> Answer {
     }
     kit.want(if run.put.is_empty() { 4 } else { 1 });
     let (mut before, mut after) = (text(&[]), run.lines.as_slice());
-    for line in run.lines.split_inclusive(|byte| *byte == b'\n') {
+    for line in run.lines.split_inclusive(is_lf) {
         after = after.strip_prefix(line).unwrap_or(after);
         let mut others = Run::over(&text(&[&before, after]));
         export_lines(kit, &mut others)?;

@@ -76,11 +76,10 @@ pub(crate) fn make_commands(judge: &mut Judge) {
         let answer = save(&kit.five, &mut sink);
         run.end(of_put(answer), &sink)
     });
-    judge.call("parse", |kit, run| {
+    judge.call("parse", |kit, _| {
         match parse(kit.alloc, &["pbook", "fen", "8/8", "e2e4"]) {
             Ok(Order::Fen { record, moves }) => {
-                run.add(record.as_bytes())?;
-                due(moves.as_slice() == ["e2e4"].as_slice())
+                due(record == "8/8" && moves.as_slice() == ["e2e4"].as_slice())
             }
             Err(ParseFault::Memory) => want(true),
             _ => due(false),
@@ -125,7 +124,7 @@ fn of_put(answer: Result<(), Failed>) -> Result<bool, Fault> {
 }
 
 /// The answer of an export, which has two lines, as that of a command.
-fn of_export(answer: Result<u64, ExportFault>) -> Result<bool, Fault> {
+fn of_export(answer: Result<u32, ExportFault>) -> Result<bool, Fault> {
     match answer {
         Ok(lines) => Ok(lines == 2),
         Err(ExportFault::Write) => Err(Fault::Write),
@@ -136,7 +135,7 @@ fn of_export(answer: Result<u64, ExportFault>) -> Result<bool, Fault> {
 /// The words of a table.
 fn add_table(run: &mut Run, table: &Table) -> Answer {
     for word in table.words() {
-        run.add(&word.to_be_bytes())?;
+        let _ = run.add(&word.to_be_bytes());
     }
     Ok(())
 }
@@ -145,7 +144,7 @@ fn add_table(run: &mut Run, table: &Table) -> Answer {
 fn moves(kit: &Kit, run: &mut Run) -> Answer {
     let fen = read_fen(b"8/4P3/8/8/8/8/8/k3K3 w - - 0 1").map_err(|_| Stop::Wrong)?;
     for m in &legal_moves(kit.alloc, &fen.setup())? {
-        run.add(m.text().as_bytes())?;
+        let _ = run.add(m.text().as_bytes());
     }
     Ok(())
 }
@@ -196,7 +195,7 @@ fn memory(kit: &Kit, run: &mut Run) -> Answer {
         if sink.put(part).is_err() {
             return want(sink.failed() && sink.as_bytes() == run.put.as_slice());
         }
-        run.add(part)?;
+        let _ = run.add(part);
     }
     due(!sink.failed() && sink.as_bytes() == run.put.as_slice())
 }
@@ -207,20 +206,20 @@ fn fuse(kit: &Kit, run: &mut Run) -> Answer {
     if sink.put(BOOK).is_err() {
         return want(sink.starved && sink.as_bytes().is_empty());
     }
-    due(sink.put(b"half").is_err() && sink.failed())?;
-    run.add(sink.as_bytes())?;
+    let is_blown = sink.put(b"half").is_err() && sink.failed();
+    let _ = run.add(sink.as_bytes());
     if sink.starved {
-        want(sink.as_bytes() == BOOK)
+        want(is_blown && sink.as_bytes() == BOOK)
     } else {
-        Ok(())
+        due(is_blown)
     }
 }
 
 /// The moves that a book has for the start position.
 fn probing(kit: &Kit, run: &mut Run) -> Answer {
     for (m, weight) in &probe(kit.alloc, &kit.book, &kit.table, &kit.start.setup())? {
-        run.add(m.text().as_bytes())?;
-        run.add(&weight.to_be_bytes())?;
+        let _ = run.add(m.text().as_bytes());
+        let _ = run.add(&weight.to_be_bytes());
     }
     Ok(())
 }
