@@ -1,9 +1,9 @@
 //! How rows write bytes and numbers. Printable bytes stand for themselves, and a word in braces for
 //! others: `{cr}`, `{lf}`, `{tab}`, `{space}`, `{nul}`; `{8192*a}` for that many `a`; `{start}` for
 //! the record of the start position, and `{most}` for one with 218 legal moves; `{powers}`,
-//! `{places}`, `{ones}` and `{products}` for the files of tables; and `{powers:13260}` for the first
-//! so many bytes of such a text. Any other word in braces stays as it is. Answers are written in the
-//! same way.
+//! `{places}`, `{ones}` and `{products}` for the files of tables; and `{powers:13260}` for the
+//! first so many bytes of such a text. Any other word in braces stays as it is. Answers are written
+//! in the same way.
 
 use crate::table::push_file;
 use std::alloc::{AllocError, Global};
