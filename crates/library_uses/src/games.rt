@@ -5,7 +5,7 @@ ghost use Rattle.pb_accepted.specs.Accepting.{Allowed, Answer, Takes};
 ghost use Rattle.pb_accepted.specs.Replies.{reply_line};
 
 use pb_ledger::laws::one_line;
-use pb_ledger::{Ledger, MapTally, Reply};
+use pb_ledger::{Ledger, MapTally, Reply, Tally};
 use pb_poly::Table;
 use std::io::{self, Write};
 
@@ -18,7 +18,7 @@ const LINES: [&[u8]; 4] = [
 ];
 
 /// Submits a line, and makes the reply to it.
-fn reply_to(ledger: &mut Ledger<MapTally>, line: &[u8]) -> Reply
+fn reply_to<T: Tally>(ledger: &mut Ledger<T>, line: &[u8]) -> Reply
     // The reply is that of an answer which the games held allow, and what is held afterwards goes by the same answer.
     ensures { (answer : Answer) × Allowed ledger.old.cap ledger.old.accepted line.now answer
         × Takes ledger.old.accepted line.now answer ledger.new.accepted
@@ -30,19 +30,32 @@ fn reply_to(ledger: &mut Ledger<MapTally>, line: &[u8]) -> Reply
     Reply::new(line, answer)
 }
 
-/// Prints the replies to the lines, and the entries of the book.
-pub(crate) fn print(rt: &HostRuntime, table: &Table) -> io::Result<()> {
-    let Ok(mut ledger) = Ledger::new(rt.alloc(), table, 1000) else {
+/// Prints the replies to the lines, and the entries of the book, of a ledger with a tally of this
+/// kind.
+pub(crate) fn print_by<T: Tally>(
+    rt: &HostRuntime,
+    table: &Table,
+    lines: &[&[u8]],
+) -> io::Result<()> {
+    let Ok(mut ledger) = Ledger::<T>::new(rt.alloc(), table, 1000) else {
         return println!(rt; "no ledger");
     };
-    for line in LINES {
+    for line in lines {
         io::writer(rt).write_all(reply_to(&mut ledger, line).as_bytes())?;
     }
     let Ok(book) = ledger.make_book(rt.alloc()) else {
         return println!(rt; "no book");
     };
     for entry in book.entries() {
-        println!(rt; "{:016x} {:04x} {}", entry.key, entry.code, entry.weight)?;
+        println!(rt;
+            "{:016x} {:04x} {:04x} {:08x}",
+            entry.key, entry.code, entry.weight, entry.learn
+        )?;
     }
     Ok(())
+}
+
+/// Prints what comes of the lines above, by the library's own tally.
+pub(crate) fn print(rt: &HostRuntime, table: &Table) -> io::Result<()> {
+    print_by::<MapTally>(rt, table, &LINES)
 }

@@ -6,6 +6,7 @@
 mod books;
 mod games;
 mod moves;
+mod tallies;
 
 use pb_poly::{FromRead, take_table};
 use std::fs::File;
@@ -25,5 +26,6 @@ fn main(rt: HostRuntime) -> io::Result<()> {
         return print_line(&rt, b"no table");
     };
     books::print(&rt, &table)?;
-    games::print(&rt, &table)
+    games::print(&rt, &table)?;
+    tallies::print(&rt, &table)
 }
