@@ -1,4 +1,4 @@
-use Rattle.std.proofs.Common.{inr}
+use Rattle.std.proofs.Common.{arith, inr}
 use Rattle.std.proofs.lemmas.Result.{err_from_is_err_and}
 use Rattle.pb_collecting.proofs.taking.empty_ledger.Goals as goal
 
@@ -14,4 +14,4 @@ returns-in-Ok g c = record { words = c.in_ok-table.table; table = c.in_ok-table.
 pub returns : goal.returns
 returns g c =
     let read = c.in_ok-table.ensures.found in
-    inr (record { came = read.came; reads = read.reads; due = (read.is.few, (c.in_ok-table.table, read.is.text)) })
+    inr (record { came = read.came; reads = read.reads; due = (read.is.few, (c.in_ok-table.table, read.is.text)); few = omega (arith, read.is.few) })
