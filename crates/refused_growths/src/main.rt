@@ -1,15 +1,15 @@
-//! Calls of the library that take memory, each judged by what it answers, so that a tool around this program may refuse any growth of
-//! memory. An answer has to be the one with ample memory, or want of memory in the place that the call has for it. All calls are made in
-//! two rounds, and one of all may want memory; those after it have to answer as if that had not been. So what is printed doesn't depend
-//! on which growth was refused: a line for each call, `ok` and its name.
+//! Calls of the library that take memory, each judged by what it leaves, so that a tool around this program may refuse any growth of
+//! memory. All calls are made in two rounds, and one of all may want memory. Of the two runs of a call one has ample memory then. The other
+//! has to leave the same, or to answer that memory was wanting, in the place that the call has for it, and leave a front. So what is
+//! printed doesn't depend on which growth was refused: a line for each call, `ok` and its name.
 //!
-//! `FAILED` in the place of `ok` tells of an answer that may not be. `wanting in all` in the last line tells that memory was wanting more
-//! than once: it never comes where one growth is refused. Where there is no memory for what the calls are made over, in two attempts,
+//! `FAILED` in the place of `ok` tells of a call that left what it may not. `wanting in all` in the last line tells that memory was wanting
+//! more than once: it never comes where one growth is refused. Where there is no memory for what the calls are made over, in two attempts,
 //! `want of memory in a preparation` is all that is printed.
 //!
-//! What the answers have to be is written here, from the standards and from games that are short enough to be counted by hand. Where
-//! some of five games found no memory, it is what the library makes of the others alone. The status is 0, 1 where a line says `FAILED`,
-//! and 3 where there was no memory for the preparation.
+//! So the library without want of memory says what is due; other tests compare that with values from outside. Where submissions found no
+//! memory, it is what the same call makes of the others alone. The status is 0, 1 where a line says `FAILED`, and 3 where there was no
+//! memory for the preparation.
 #![tactic(auto)]
 
 mod judge;

@@ -25,8 +25,8 @@ const LEARNT: &[u8] = b"\0\0\0\0\0\0\0\x05\0\0\0\0\0\0\0\x07\0\0\0\0\0\0\0\x05\0
 
 /// Makes the calls that take values and books.
 pub(crate) fn make(judge: &mut Judge) {
-    judge.call("write_fen", |kit, run| {
-        run.add(&write_fen(kit.alloc, &kit.start)?)
+    judge.call("write_fen", |kit, _| {
+        due(write_fen(kit.alloc, &kit.start)?.as_slice() == START)
     });
     judge.call("write_setup", |kit, run| {
         run.add(&write_setup(kit.alloc, &kit.kings.setup())?)
@@ -52,9 +52,9 @@ pub(crate) fn make(judge: &mut Judge) {
     judge.call("Epd::put", putting);
     judge.call("MemSink::put", memory);
     judge.call("FuseSink::put", fuse);
-    judge.call("read_book", |kit, run| {
+    judge.call("read_book", |kit, _| {
         let book = read_book(kit.alloc, &mut MemSource::new(LEARNT, 1), MAX);
-        run.add(&file_of(&or_stop(book, BookError::Memory)?))
+        due(file_of(&or_stop(book, BookError::Memory)?).as_slice() == LEARNT)
     });
     judge.call("write_book", |kit, run| {
         let mut sink = MemSink::new(kit.alloc);
