@@ -1,6 +1,5 @@
 use Rattle.std.proofs.Common.{AllPairs, Contains, ◌↔◌, ◌≡◌, Some, sym, subst}
 use Rattle.std.proofs.lemmas.Result.{IfOk-weaker}
-use Rattle.pb_points.specs.declared.row.Row.{Row}
 use Rattle.pb_points.specs.Rows.{IsBelow}
 use Rattle.pb_points.specs.Tally.{held_of}
 use Rattle.library_uses.proofs.Sums.{content, each_row, rows_rise}
