@@ -32,15 +32,36 @@ pub(crate) fn sync_whole(named: Named<'_>, file: &File) -> Result<(), Stop> {
     }
 }
 
-/// A file as a sink at its end: what is put is written when it is flushed, at once, and with `sync`
-/// it is on the disk then.
+/// The end of a file, and the lines that wait to be written there at once.
 #[derive(Drop)]
-pub(crate) struct JournalFile<'f, 'p, 'a> {
+struct LastLines<'f, 'p, 'a> {
     file: &'f File,
     named: Named<'a>,
     lines: ToWrite<BufWriter<Told<'a, &'f File>>>,
     progress: &'p Progress<'a>,
     sync: bool,
+}
+
+impl LastLines<'_, '_, '_> {
+    /// Hands the lines to the system, and has them reach the disk where that is wanted.
+    fn hand_on(&mut self) -> Result<(), Failed> {
+        self.lines.flush()?;
+        if self.sync
+            && let Err(error) = self.file.sync_data()
+        {
+            self.named.fail(&error);
+            return Err(Failed);
+        }
+        self.progress.tell_new_by(News::Journaled(true));
+        Ok(())
+    }
+}
+
+/// A file as a sink at its end: what is put is written when it is flushed, at once, and with `sync`
+/// it is on the disk then.
+#[derive(Drop)]
+pub(crate) struct JournalFile<'f, 'p, 'a> {
+    last: LastLines<'f, 'p, 'a>,
     failed: bool,
     flushed: bool,
     flushes: u64,
@@ -63,28 +84,17 @@ impl<'f, 'p, 'a> JournalFile<'f, 'p, 'a> {
             return Err(Stop::Fault(Fault::Memory));
         };
         Ok(JournalFile {
-            file,
-            named,
-            lines: ToWrite::new(writer),
-            progress,
-            sync,
+            last: LastLines {
+                file,
+                named,
+                lines: ToWrite::new(writer),
+                progress,
+                sync,
+            },
             failed: false,
             flushed: false,
             flushes: 0,
         })
-    }
-
-    /// Hands the lines to the system, and has them reach the disk where that is wanted.
-    fn hand_on(&mut self) -> Result<(), Failed> {
-        self.lines.flush()?;
-        if self.sync
-            && let Err(error) = self.file.sync_data()
-        {
-            self.named.fail(&error);
-            return Err(Failed);
-        }
-        self.progress.tell_new_by(News::Journaled(true));
-        Ok(())
     }
 }
 
@@ -93,18 +103,26 @@ impl Sink for JournalFile<'_, '_, '_> {
 
     fn put(&mut self, bytes: &[u8]) -> Result<(), Failed> {
         self.flushed = false;
-        self.failed = self.failed || self.lines.put(bytes).is_err();
+        self.failed = self.failed || self.last.lines.put(bytes).is_err();
         if self.failed { Err(Failed) } else { Ok(()) }
     }
 
     fn flush(&mut self) -> Result<(), Failed> {
-        self.failed = self.failed || self.hand_on().is_err();
-        self.flushed = !self.failed;
+        self.flushed = false;
         if self.failed {
             return Err(Failed);
         }
-        self.flushes = self.flushes.saturating_add(1);
-        Ok(())
+        match self.last.hand_on() {
+            Ok(()) => {
+                self.flushed = true;
+                self.flushes = self.flushes.saturating_add(1);
+                Ok(())
+            }
+            Err(_) => {
+                self.failed = true;
+                Err(Failed)
+            }
+        }
     }
 
     fn failed(&self) -> bool {
