@@ -84,6 +84,7 @@ impl Run {
     /// A call that is made over these lines.
     fn of<F: FnMut(&Kit, &mut Run) -> Answer>(kit: &Kit, call: &mut F, lines: &[u8]) -> Run
         requires { F.IsAlwaysCallable call.old }
+        ensures { F.IsAlwaysCallable call.new }
     {
         let mut run = Run::over(lines);
         run.answer = call(kit, &mut run);
@@ -131,9 +132,7 @@ impl Run {
 
     /// Whether this left a front, and no book. No game is wanting that was replied to, where games were kept.
     fn is_front(&self, due: &Run) -> bool {
-        let mut all = due.put.split_inclusive(is_lf);
-        let mut put = self.put.split_inclusive(is_lf);
-        let is_part = put.all(|part| all.any(|whole| whole.starts_with(part)));
+        let is_part = is_in_order(&self.put, &due.put);
         let is_put = is_part && (self.refused > 0 || due.put.starts_with(&self.put));
         is_put && due.games.starts_with(&self.games) && self.has_games() && self.book.is_empty()
     }
@@ -145,6 +144,17 @@ impl Run {
         let mut taken = replies.filter_map(|reply| reply.strip_prefix(b"ok "));
         self.games.is_empty() || taken.all(|rest| is_kept(rest.get(..2).unwrap_or(rest)))
     }
+}
+
+/// Whether each line of the one text begins a line of the other, in their order.
+fn is_in_order(some: &[u8], all: &[u8]) -> bool {
+    let mut rest = all.split_inclusive(is_lf);
+    for line in some.split_inclusive(is_lf) {
+        if !rest.any(|whole| whole.starts_with(line)) {
+            return false;
+        }
+    }
+    true
 }
 
 /// A call that was made, by its name and what it is over.
