@@ -10,12 +10,13 @@ use pb_cli::{
     Continued, Fault, MemPlace, PassedLines, Rules, collect_into, continue_into, journal_into,
     run_collect, run_continue, run_journaled,
 };
-use pb_ledger::{Ledger, Tally, save};
+use pb_ledger::save;
 use pb_poly::{Book, MemSink, ToWrite};
 use rows::book;
 use rows::ends::{NamedSource, end_of, named_source};
 use rows::page::{Done, NO_ROW, Page, Trouble};
 use rows::text::count_of;
+use std::alloc::Global;
 use std::fmt::Debug;
 
 /// What a run is given.
@@ -32,10 +33,6 @@ struct Run<'a> {
     ledger: MemPlace,
     /// Where the book is kept.
     book: MemPlace,
-    /// What the journal gains.
-    journal: Output,
-    replies: Output,
-    passed: Passed,
 }
 
 /// The numbers of the journal's lines that are passed over, each after a space.
@@ -47,6 +44,23 @@ struct Passed {
 impl PassedLines for Passed {
     fn tell(&mut self, number: u64) {
         self.numbers.put_count(" ", &number);
+    }
+}
+
+impl Passed {
+    /// No number yet.
+    fn new(alloc: Global) -> Passed {
+        Passed {
+            numbers: Page::new(alloc),
+        }
+    }
+
+    /// Tells them, where the word for the row's ends asks for them.
+    fn tell_all(&self, page: &mut Page, ends: &str) {
+        if end_of(ends, "passed", "hidden") == "told" {
+            page.put("\npassed");
+            page.put(self.numbers.as_str());
+        }
     }
 }
 
@@ -67,11 +81,6 @@ pub(crate) fn answer(page: &mut Page, name: &str, words: &[&str]) -> Done {
         input: named_source(end_of(ends, "input", "reader:100"), later.as_bytes()),
         ledger: MemPlace::new(page.alloc),
         book: MemPlace::new(page.alloc),
-        journal: Output::of(page.alloc, ends, "journal"),
-        replies: Output::of(page.alloc, ends, "output"),
-        passed: Passed {
-            numbers: Page::new(page.alloc),
-        },
     };
     run.tell(page, name)?;
     tell_next(page, ends, &mut run.input);
@@ -95,84 +104,97 @@ impl Run<'_> {
 
     /// The run alone.
     fn collect(&mut self, page: &mut Page) {
+        let mut replies = Output::of(page.alloc, self.ends, "output");
         let answer = run_collect(
             page.alloc,
             self.rules,
             &mut self.table,
             &mut self.input,
-            &mut ToWrite::new(&mut self.replies),
+            &mut ToWrite::new(&mut replies),
             self.fills,
         );
-        self.tell_book(page, &answer);
+        tell_book(page, &replies, &answer);
     }
 
     /// The run from a saved ledger on, how many games are held then, and their saved form.
     fn go_on(&mut self, page: &mut Page) -> Done {
+        let mut replies = Output::of(page.alloc, self.ends, "output");
         let answer = run_continue(
             page.alloc,
             self.rules,
             &mut self.table,
             &mut self.first,
             &mut self.input,
-            &mut ToWrite::new(&mut self.replies),
+            &mut ToWrite::new(&mut replies),
             self.fills,
         );
         match answer {
             Ok(Some(Continued { ledger, book })) => {
-                self.tell_book(page, &book.map(Some));
-                return tell_form(page, &ledger);
+                tell_book(page, &replies, &book.map(Some));
+                page.put_count("\nheld: ", &ledger.len());
+                page.put("\n");
+                let mut form = MemSink::new(page.alloc);
+                save(&ledger, &mut form)?;
+                page.put_bytes(form.as_bytes());
             }
-            Ok(None) => self.tell_book(page, &Ok(None)),
-            Err(fault) => self.tell_book(page, &Err(fault)),
+            Ok(None) => tell_book(page, &replies, &Ok(None)),
+            Err(fault) => tell_book(page, &replies, &Err(fault)),
         }
         Ok(())
     }
 
     /// The run with a journal, and what that has gained.
     fn journal(&mut self, page: &mut Page) {
+        let mut journal = Output::of(page.alloc, self.ends, "journal");
+        let mut replies = Output::of(page.alloc, self.ends, "output");
+        let mut passed = Passed::new(page.alloc);
         let answer = run_journaled(
             page.alloc,
             self.rules,
             &mut self.table,
             &mut self.first,
-            &mut ToWrite::new(&mut self.journal),
-            &mut self.passed,
+            &mut ToWrite::new(&mut journal),
+            &mut passed,
             &mut self.input,
-            &mut ToWrite::new(&mut self.replies),
+            &mut ToWrite::new(&mut replies),
             self.fills,
         );
-        self.tell_book(page, &answer);
-        self.tell_journal(page);
+        tell_book(page, &replies, &answer);
+        page.put("\njournal");
+        journal.tell_all(page);
+        passed.tell_all(page, self.ends);
     }
 
     /// The run alone, with a place for its book.
     fn collect_into(&mut self, page: &mut Page) {
+        let mut replies = Output::of(page.alloc, self.ends, "output");
         let answer = collect_into(
             page.alloc,
             self.rules,
             &mut self.table,
             &mut self.input,
-            &mut ToWrite::new(&mut self.replies),
+            &mut ToWrite::new(&mut replies),
             &mut self.book,
             self.fills,
         );
-        self.tell_kept(page, &answer);
+        self.tell_kept(page, &replies, &answer);
     }
 
     /// The run from a saved ledger on, with places for its ledger and its book.
     fn continue_into(&mut self, page: &mut Page) {
+        let mut replies = Output::of(page.alloc, self.ends, "output");
         let answer = continue_into(
             page.alloc,
             self.rules,
             &mut self.table,
             &mut self.first,
             &mut self.input,
-            &mut ToWrite::new(&mut self.replies),
+            &mut ToWrite::new(&mut replies),
             &mut self.ledger,
             &mut self.book,
             self.fills,
         );
-        self.tell_kept(page, &answer);
+        self.tell_kept(page, &replies, &answer);
         page.put("\n");
         match self.ledger.kept() {
             Some(bytes) => page.put_bytes(bytes),
@@ -182,36 +204,30 @@ impl Run<'_> {
 
     /// The run with a journal, what that has gained, and a place for the book.
     fn journal_into(&mut self, page: &mut Page) {
+        let mut journal = Output::of(page.alloc, self.ends, "journal");
+        let mut replies = Output::of(page.alloc, self.ends, "output");
+        let mut passed = Passed::new(page.alloc);
         let answer = journal_into(
             page.alloc,
             self.rules,
             &mut self.table,
             &mut self.first,
-            &mut ToWrite::new(&mut self.journal),
-            &mut self.passed,
+            &mut ToWrite::new(&mut journal),
+            &mut passed,
             &mut self.input,
-            &mut ToWrite::new(&mut self.replies),
+            &mut ToWrite::new(&mut replies),
             &mut self.book,
             self.fills,
         );
-        self.tell_kept(page, &answer);
-        self.tell_journal(page);
-    }
-
-    /// What the journal has gained, and which of its lines are passed over where the word for the
-    /// row's ends asks for them.
-    fn tell_journal(&self, page: &mut Page) {
+        self.tell_kept(page, &replies, &answer);
         page.put("\njournal");
-        self.journal.tell_all(page);
-        if end_of(self.ends, "passed", "hidden") == "told" {
-            page.put("\npassed");
-            page.put(self.passed.numbers.as_str());
-        }
+        journal.tell_all(page);
+        passed.tell_all(page, self.ends);
     }
 
     /// The replies, the answer of a run with places, and the book that is kept, an entry a line.
-    fn tell_kept<A: Debug>(&self, page: &mut Page, answer: &A) {
-        self.replies.tell(page);
+    fn tell_kept<A: Debug>(&self, page: &mut Page, replies: &Output, answer: &A) {
+        replies.tell(page);
         page.put_debug(answer);
         match self.book.kept() {
             Some(bytes) => {
@@ -223,28 +239,18 @@ impl Run<'_> {
             None => page.put("\nnothing is kept"),
         }
     }
-
-    /// The replies, and the book or why there is none.
-    fn tell_book(&self, page: &mut Page, answer: &Result<Option<Book>, Fault>) {
-        self.replies.tell(page);
-        match answer {
-            Ok(Some(made)) if made.entries().is_empty() => page.put("an empty book"),
-            Ok(Some(made)) => book::tell(page, made),
-            Ok(None) => page.put("no book"),
-            Err(fault) => {
-                page.put("fault ");
-                page.put_debug(fault);
-            }
-        }
-    }
 }
 
-/// How many games a ledger holds, and its saved form.
-fn tell_form<T: Tally>(page: &mut Page, ledger: &Ledger<T>) -> Done {
-    page.put_count("\nheld: ", &ledger.len());
-    page.put("\n");
-    let mut form = MemSink::new(page.alloc);
-    save(ledger, &mut form)?;
-    page.put_bytes(form.as_bytes());
-    Ok(())
+/// The replies, and the book or why there is none.
+fn tell_book(page: &mut Page, replies: &Output, answer: &Result<Option<Book>, Fault>) {
+    replies.tell(page);
+    match answer {
+        Ok(Some(made)) if made.entries().is_empty() => page.put("an empty book"),
+        Ok(Some(made)) => book::tell(page, made),
+        Ok(None) => page.put("no book"),
+        Err(fault) => {
+            page.put("fault ");
+            page.put_debug(fault);
+        }
+    }
 }

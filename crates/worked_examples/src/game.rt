@@ -34,12 +34,13 @@ pub(crate) fn lines_of(alloc: Global, text: &str, number: u64) -> Result<String,
 /// 1 and a pawn for each 0.
 fn ranks_of(alloc: Global, number: u64) -> Result<String, AllocError> {
     let mut ranks = String::new(alloc);
-    for place in 0..24 {
+    let mut rest = number;
+    for place in 0..24_u32 {
         if place % 8 == 0 && place > 0 {
             ranks.push_str("/")?;
         }
-        let is_set = (number >> place) & 1 == 1;
-        ranks.push_str(if is_set { "N" } else { "P" })?;
+        ranks.push_str(if rest % 2 == 1 { "N" } else { "P" })?;
+        rest /= 2;
     }
     Ok(ranks)
 }
