@@ -1,70 +1,158 @@
-//! Calls of the library that take memory, each judged by what it leaves, so that a tool around this program may refuse any growth of
-//! memory. All calls are made in two rounds, and one of all may want memory. Of the two runs of a call one has ample memory then. The other
-//! has to leave the same, or to answer that memory was wanting, in the place that the call has for it, and leave a front. So what is
-//! printed doesn't depend on which growth was refused: a line for each call, `ok` and its name.
+//! Calls of the library that take memory, each judged by what it answers, so that a tool around this program may refuse any growth of
+//! memory. An answer has to be the one with ample memory, or want of memory in the place that the call has for it. All calls are made in
+//! two rounds, and one of all may want memory; those after it have to answer as if that had not been. So what is printed doesn't depend
+//! on which growth was refused: a line for each call, `ok` and its name.
 //!
-//! `FAILED` in the place of `ok` tells of a call that left what it may not. `wanting in all` in the last line tells that memory was wanting
-//! more than once: it never comes where one growth is refused. Where there is no memory for what the calls are made over, in two attempts,
+//! `FAILED` in the place of `ok` tells of an answer that may not be. `wanting in all` in the last line tells that memory was wanting more
+//! than once: it never comes where one growth is refused. Where there is no memory for what the calls are made over, in two attempts,
 //! `want of memory in a preparation` is all that is printed.
 //!
-//! So the library without want of memory says what is due; other tests compare that with values from outside. Where submissions found no
-//! memory, it is what the same call makes of the others alone. The status is 0, 1 where a line says `FAILED`, and 3 where there was no
-//! memory for the preparation.
+//! What the answers have to be is written here, from the standards and from games that are short enough to be counted by hand. Where
+//! some of five games found no memory, it is what the library makes of the others alone, in the preparation. The status is 0, 1 where a
+//! line says `FAILED`, and 3 where there was no memory for the preparation.
 #![tactic(auto)]
 
-mod judge;
+mod answer;
+mod commands;
+mod games;
 mod kit;
 mod ledgers;
-mod runs;
+mod text;
 mod values;
 
-use crate::judge::Judge;
-use crate::kit::{BOOK, Kit, file_of};
-use pb_ledger::{ListTally, MapTally};
+use crate::answer::{Answer, parts};
+use crate::commands::{shown, taken};
+use crate::games::START;
+use crate::kit::{KINGS, Kit, Ones};
+use crate::values::bytes;
+use pb_board::{write_fen, write_setup};
+use pb_ledger::{ListTally, MapTally, Tally};
 use std::alloc::AllocError;
+use std::io;
 use std::process::ExitCode;
 
-/// Makes all calls in two rounds, and prints of each whether it left what is due, and whether memory was wanting once at most. Answers
-/// whether all is as it has to be.
-fn run(rt: &HostRuntime) -> Result<bool, AllocError> {
-    let kit = Kit::new(rt.alloc())?;
-    let mut judge = Judge::new(&kit)?;
-    for _ in 0..2 {
-        judge.count = 0;
-        judge.over = "";
-        values::make(&mut judge);
-        judge.over = " over a map";
-        ledgers::make::<MapTally>(&mut judge);
-        judge.over = " over a list";
-        ledgers::make::<ListTally>(&mut judge);
-        judge.over = "";
-        values::make_commands(&mut judge);
-        runs::make(&mut judge);
-    }
-    let is_counted = file_of(&kit.book).as_slice() == BOOK;
-    let mut is_due = tell(rt, is_counted, "the games as they are counted", "", "");
-    for round in ["", ", again"] {
-        for made in &judge.made {
-            is_due = tell(rt, made.is_due, made.name, made.over, round) && is_due;
-        }
-    }
-    let word = match kit.wants.get() {
-        _ if !is_due => "FAILED",
-        0 | 1 => "ok",
-        _ => "wanting",
-    };
-    Ok(println!(rt; "{word} in all").is_ok() && is_due)
+/// What is printed of the verdicts.
+#[derive(Drop)]
+struct Report<'a> {
+    rt: &'a HostRuntime,
+    // Which round of calls it is, as it stands after a name.
+    round: &'a str,
+    wants: u32,
+    has_failed: bool,
 }
 
-/// Prints whether a call left what is due, and answers whether it did.
-fn tell(rt: &HostRuntime, is_due: bool, name: &str, over: &str, round: &str) -> bool {
-    let word = if is_due { "ok" } else { "FAILED" };
-    println!(rt; "{word} {name}{over}{round}").is_ok() && is_due
+impl Report<'_> {
+    /// Prints what calls answered, each after its name and what it is over.
+    fn tell(&mut self, over: &str, calls: &[(&str, Answer)]) -> io::Result<()> {
+        for (name, answer) in calls {
+            let (is_due, times) = parts(*answer);
+            self.has_failed = self.has_failed || !is_due;
+            self.wants = self.wants.saturating_add(times);
+            let word = if is_due { "ok" } else { "FAILED" };
+            println!(self.rt; "{word} {name}{over}{}", self.round)?;
+        }
+        Ok(())
+    }
+
+    /// Makes all calls in two rounds, and prints whether memory was wanting once at most in all.
+    fn judge(
+        &mut self,
+        kit: &Kit,
+        by_map: &mut Ones<MapTally>,
+        by_list: &mut Ones<ListTally>,
+    ) -> io::Result<()> {
+        let known = ("the games as they are counted", ledgers::is_counted(kit));
+        self.tell("", &[known])?;
+        for round in ["", ", again"] {
+            self.round = round;
+            self.tell("", &judged_values(kit))?;
+            self.tell(" over a map", &judged_ledgers(kit, by_map))?;
+            self.tell(" over a list", &judged_ledgers(kit, by_list))?;
+            self.tell("", &judged_commands(kit))?;
+        }
+        let word = match self.wants {
+            _ if self.has_failed => "FAILED",
+            0 | 1 => "ok",
+            _ => "wanting",
+        };
+        println!(self.rt; "{word} in all")
+    }
+}
+
+/// Values, books and the bytes of sinks.
+fn judged_values(kit: &Kit) -> [(&'static str, Answer); 14] {
+    let alloc = kit.alloc;
+    [
+        ("write_fen", bytes(write_fen(alloc, &kit.start), START)),
+        ("write_setup", bytes(write_setup(alloc, &kit.kings), KINGS)),
+        ("legal_moves", values::moves(kit)),
+        ("read_table", values::table(kit)),
+        ("take_table", values::table_of_source(kit)),
+        ("read_epd, write_epd", values::rewriting(kit)),
+        ("read_epd, an opcode twice", values::repeated(kit)),
+        ("read_epd without memory", values::without_memory(kit)),
+        ("Epd::put", values::putting(kit)),
+        ("MemSink::put", values::memory(kit)),
+        ("FuseSink::put", values::fuse(kit)),
+        ("read_book", values::reading(kit)),
+        ("write_book", values::writing(kit)),
+        ("probe", values::probing(kit)),
+    ]
+}
+
+/// Ledgers over one tally.
+fn judged_ledgers<T: Tally>(kit: &Kit, ones: &mut Ones<T>) -> [(&'static str, Answer); 6] {
+    [
+        ("ensure, rows", ledgers::rows::<T>(kit)),
+        ("submit", ledgers::submitting::<T>(kit)),
+        ("submit without memory", ledgers::without_memory(ones)),
+        ("collect", ledgers::collecting::<T>(kit)),
+        ("load", ledgers::loading::<T>(kit)),
+        ("replay", ledgers::replaying::<T>(kit)),
+    ]
+}
+
+/// What is made of a ledger, and the commands.
+fn judged_commands(kit: &Kit) -> [(&'static str, Answer); 15] {
+    [
+        ("export", ledgers::exporting(kit)),
+        ("save", ledgers::saving(kit)),
+        ("parse", commands::words(kit)),
+        ("parse, no words", commands::no_words(kit)),
+        ("run_fen", shown(kit, "run_fen")),
+        ("run_epd", shown(kit, "run_epd")),
+        ("run_show", shown(kit, "run_show")),
+        ("run_probe", shown(kit, "run_probe")),
+        ("run_collect", taken(kit, "run_collect")),
+        ("collect_into", taken(kit, "collect_into")),
+        ("run_continue", taken(kit, "run_continue")),
+        ("continue_into", taken(kit, "continue_into")),
+        ("run_journaled", taken(kit, "run_journaled")),
+        ("journal_into", taken(kit, "journal_into")),
+        ("run_export", taken(kit, "run_export")),
+    ]
+}
+
+/// Makes what the calls are made over, judges them all in two rounds, and answers the status.
+fn run(rt: &HostRuntime) -> Result<u8, AllocError> {
+    let kit = Kit::new(rt.alloc())?;
+    let mut by_map = Ones::new(rt.alloc(), &kit.table)?;
+    let mut by_list = Ones::new(rt.alloc(), &kit.table)?;
+    let mut report = Report {
+        rt,
+        round: "",
+        wants: 0,
+        has_failed: false,
+    };
+    match report.judge(&kit, &mut by_map, &mut by_list) {
+        Ok(()) => Ok(u8::from(report.has_failed)),
+        Err(_) => Ok(1),
+    }
 }
 
 fn main(rt: HostRuntime) -> ExitCode {
     match run(&rt) {
-        Ok(is_due) => ExitCode::from(u8::from(!is_due)),
+        Ok(status) => ExitCode::from(status),
         Err(AllocError) => {
             let _ = println!(rt; "want of memory in a preparation");
             ExitCode::from(3)

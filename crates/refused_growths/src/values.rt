@@ -1,11 +1,11 @@
-//! Values, books, bytes that are put into memory, and the commands that take no games.
+//! Moves, tables, records, books and bytes that are put into memory.
 
-use crate::judge::{Answer, Judge, Run, Stop, due, or_stop, want};
-use crate::kit::{BOOK, Kit, MAX, START, file_of};
-use pb_board::{read_fen, write_fen, write_setup};
-use pb_cli::{Fault, Order, ParseFault, parse, run_epd, run_fen, run_probe, run_show};
+use crate::answer::{Answer, Want, attempts, both, put};
+use crate::games::BOOK;
+use crate::kit::{KINGS, Kit};
+use crate::text::Text;
+use pb_board::read_fen;
 use pb_epd::{Epd, EpdError, Operand, OperandBytes, PutError, read_epd, write_epd};
-use pb_ledger::{ExportFault, export, save};
 use pb_moves::legal_moves;
 use pb_poly::{
     BookError, Failed, FuseSink, MemSink, MemSource, Sink, Table, TableError, TableFault, probe,
@@ -13,170 +13,84 @@ use pb_poly::{
 };
 use std::alloc::{AllocError, Global};
 
-/// A line of two operations in another order than that of their opcodes.
-const TURNED: &[u8] = b"4k3/8/8/8/8/8/8/4K3 w - -  id \"two kings\";  bm e1d1 ;";
-
-/// Three EPD lines, of which one is blank and one is refused.
-const LINES: &[u8] = b"4k3/8/8/8/8/8/8/4K3 w - -  id \"two kings\";  bm e1d1 ;\n\n\
-    4k3/8/8/8/8/8/8/4K3 w - - 0 1\n";
-
 /// Two entries of one key, with no weight and with what was learnt.
 const LEARNT: &[u8] = b"\0\0\0\0\0\0\0\x05\0\0\0\0\0\0\0\x07\0\0\0\0\0\0\0\x05\0\0\0\0\0\0\0\x07";
 
-/// Makes the calls that take values and books.
-pub(crate) fn make(judge: &mut Judge) {
-    judge.call("write_fen", |kit, _| {
-        due(write_fen(kit.alloc, &kit.start)?.as_slice() == START)
-    });
-    judge.call("write_setup", |kit, run| {
-        run.add(&write_setup(kit.alloc, &kit.kings.setup())?)
-    });
-    judge.call("legal_moves", moves);
-    judge.call("read_table", |kit, run| {
-        let table = read_table(kit.alloc, &kit.table_file);
-        add_table(run, &or_stop(table, TableError::Memory)?)
-    });
-    judge.call("take_table", |kit, run| {
-        let table = take_table(kit.alloc, &mut MemSource::new(&kit.table_file, 1000), MAX);
-        add_table(run, &or_stop(table, TableFault::Memory)?)
-    });
-    judge.call("read_epd, write_epd", |kit, run| {
-        let record = or_stop(read_epd(kit.alloc, TURNED), EpdError::Memory)?;
-        run.add(&write_epd(kit.alloc, &record)?)
-    });
-    judge.call("read_epd, an opcode twice", |kit, _| {
-        let line = b"4k3/8/8/8/8/8/8/4K3 w - - bm; bm;";
-        refuses(kit, line, EpdError::Repeated(2))
-    });
-    judge.call("read_epd without memory", without_memory);
-    judge.call("Epd::put", putting);
-    judge.call("MemSink::put", memory);
-    judge.call("FuseSink::put", fuse);
-    judge.call("read_book", |kit, _| {
-        let book = read_book(kit.alloc, &mut MemSource::new(LEARNT, 1), MAX);
-        due(file_of(&or_stop(book, BookError::Memory)?).as_slice() == LEARNT)
-    });
-    judge.call("write_book", |kit, run| {
-        let mut sink = MemSink::new(kit.alloc);
-        let answer = write_book(&mut sink, &kit.book);
-        run.end(of_put(answer), &sink)
-    });
-    judge.call("probe", probing);
-}
-
-/// Makes the calls over a ledger of all five games, and those of commands that take no games.
-pub(crate) fn make_commands(judge: &mut Judge) {
-    judge.call("export", |kit, run| {
-        let mut sink = MemSink::new(kit.alloc);
-        let answer = export(kit.alloc, &kit.five, &mut sink);
-        run.end(of_export(answer), &sink)
-    });
-    judge.call("save", |kit, run| {
-        let mut sink = MemSink::new(kit.alloc);
-        let answer = save(&kit.five, &mut sink);
-        run.end(of_put(answer), &sink)
-    });
-    judge.call("parse", |kit, _| {
-        match parse(kit.alloc, &["pbook", "fen", "8/8", "e2e4"]) {
-            Ok(Order::Fen { record, moves }) => {
-                due(record == "8/8" && moves.as_slice() == ["e2e4"].as_slice())
-            }
-            Err(ParseFault::Memory) => want(true),
-            _ => due(false),
-        }
-    });
-    judge.call("parse, no words", |kit, run| {
-        match parse(kit.alloc, &["pbook"]) {
-            Err(ParseFault::Usage(text)) => run.add(text.as_bytes()),
-            Err(ParseFault::Memory) => want(true),
-            Ok(_) => due(false),
-        }
-    });
-    judge.call("run_fen", |kit, run| {
-        let mut sink = MemSink::new(kit.alloc);
-        let answer = run_fen(kit.alloc, START, &["e2e4", "c7c5", "g1f3"], &mut sink);
-        run.end(answer, &sink)
-    });
-    judge.call("run_epd", |kit, run| {
-        let mut sink = MemSink::new(kit.alloc);
-        let answer = run_epd(kit.alloc, &mut MemSource::new(LINES, 7), &mut sink, MAX);
-        run.end(answer.map(|is_taken| !is_taken), &sink)
-    });
-    judge.call("run_show", |kit, run| {
-        let mut sink = MemSink::new(kit.alloc);
-        let answer = run_show(kit.alloc, &mut MemSource::new(BOOK, 5), &mut sink, MAX);
-        run.end(answer, &sink)
-    });
-    judge.call("run_probe", |kit, run| {
-        let mut table = MemSource::new(&kit.table_file, 1000);
-        let (mut book, mut sink) = (MemSource::new(BOOK, 5), MemSink::new(kit.alloc));
-        let answer = run_probe(kit.alloc, &mut table, &mut book, START, &mut sink, MAX);
-        run.end(answer, &sink)
-    });
-}
-
-/// The answer of a call that puts, as that of a command.
-fn of_put(answer: Result<(), Failed>) -> Result<bool, Fault> {
-    match answer {
-        Ok(()) => Ok(true),
-        Err(Failed) => Err(Fault::Write),
-    }
-}
-
-/// The answer of an export, which has two lines, as that of a command.
-fn of_export(answer: Result<u32, ExportFault>) -> Result<bool, Fault> {
-    match answer {
-        Ok(lines) => Ok(lines == 2),
-        Err(ExportFault::Write) => Err(Fault::Write),
-        Err(ExportFault::Memory) => Err(Fault::Memory),
-    }
-}
-
-/// The words of a table.
-fn add_table(run: &mut Run, table: &Table) -> Answer {
-    for word in table.words() {
-        let _ = run.add(&word.to_be_bytes());
-    }
-    Ok(())
+/// Whether a list of bytes is what is due.
+pub(crate) fn bytes(answer: Result<Vec<u8>, AllocError>, due: &[u8]) -> Answer {
+    Ok(answer?.as_slice() == due)
 }
 
 /// The moves of a king and of a pawn before its promotion.
-fn moves(kit: &Kit, run: &mut Run) -> Answer {
-    let fen = read_fen(b"8/4P3/8/8/8/8/8/k3K3 w - - 0 1").map_err(|_| Stop::Wrong)?;
-    for m in &legal_moves(kit.alloc, &fen.setup())? {
-        let _ = run.add(m.text().as_bytes());
+pub(crate) fn moves(kit: &Kit) -> Answer {
+    let Ok(fen) = read_fen(b"8/4P3/8/8/8/8/8/k3K3 w - - 0 1") else {
+        return Ok(false);
+    };
+    let moves = legal_moves(kit.alloc, &fen.setup())?;
+    let mut spelled = Text::of(&[]);
+    for m in moves.as_slice() {
+        spelled.add(m.text().as_bytes());
+        spelled.add(b" ");
     }
-    Ok(())
+    let due = b"e1d1 e1f1 e1d2 e1e2 e1f2 e7e8n e7e8b e7e8r e7e8q ";
+    Ok(spelled.as_bytes() == due.as_slice())
 }
 
-/// A line that has to be refused so.
-fn refuses(kit: &Kit, line: &[u8], due: EpdError) -> Answer {
-    match read_epd(kit.alloc, line) {
-        Err(why) if why == due => Ok(()),
-        Err(EpdError::Memory) => Err(Stop::Memory),
-        _ => Err(Stop::Wrong),
+/// Whether word i of a table is 2^(i mod 64).
+fn has_powers(table: &Table) -> bool {
+    let mut words = table.words().iter().enumerate();
+    table.words().len() == 781 && words.all(|(place, word)| *word == 1 << (place % 64))
+}
+
+/// The table of a file.
+pub(crate) fn table(kit: &Kit) -> Answer {
+    match read_table(kit.alloc, kit.table_file.as_bytes()) {
+        Ok(table) => Ok(has_powers(&table)),
+        Err(why) => Err(Want::once(why == TableError::Memory)),
+    }
+}
+
+/// The table of a source.
+pub(crate) fn table_of_source(kit: &Kit) -> Answer {
+    let mut source = MemSource::new(kit.table_file.as_bytes(), 1000);
+    match take_table(kit.alloc, &mut source, u32::MAX) {
+        Ok(table) => Ok(has_powers(&table)),
+        Err(why) => Err(Want::once(why == TableFault::Memory)),
+    }
+}
+
+/// The record of an EPD line that two kings and these operations make.
+fn read(kit: &Kit, operations: &[u8]) -> Result<Epd, EpdError> {
+    read_epd(kit.alloc, Text::of(&[KINGS, operations]).as_bytes())
+}
+
+/// The text of a record of two kings, beside the operations that are due.
+fn written(kit: &Kit, record: &Epd, operations: &[u8]) -> Answer {
+    let due = Text::of(&[KINGS, operations]);
+    bytes(write_epd(kit.alloc, record), due.as_bytes())
+}
+
+/// A line of two operations in another order than that of their opcodes, as it is written again.
+pub(crate) fn rewriting(kit: &Kit) -> Answer {
+    match read(kit, b"  id \"two kings\";  bm e1d1 ;") {
+        Ok(record) => written(kit, &record, b" bm e1d1; id \"two kings\";"),
+        Err(why) => Err(Want::once(why == EpdError::Memory)),
+    }
+}
+
+/// A line with an opcode that stands twice.
+pub(crate) fn repeated(kit: &Kit) -> Answer {
+    match read(kit, b" bm; bm;") {
+        Err(EpdError::Memory) => Err(Want::once(true)),
+        answer => Ok(matches!(answer, Err(EpdError::Repeated(2)))),
     }
 }
 
 /// A line with a text that doesn't end, and one of three words. It takes no memory to refuse them.
-fn without_memory(kit: &Kit, _: &mut Run) -> Answer {
-    let unended = refuses(
-        kit,
-        b"4k3/8/8/8/8/8/8/4K3 w - - id \"x",
-        EpdError::Token(29),
-    );
-    let three_words = refuses(kit, b"4k3/8/8/8/8/8/8/4K3 w -", EpdError::Fields);
-    due(unended.is_ok() && three_words.is_ok())
-}
-
-/// An operation that is put to a record, and put again where it found no memory; the record has to be as it was then.
-fn putting(kit: &Kit, run: &mut Run) -> Answer {
-    let mut record = Epd::new(kit.alloc, kit.kings.setup());
-    kit.attempts(|| match record.put(b"bkm", operands(kit.alloc)?) {
-        Ok(()) => Ok(()),
-        Err(why) => want(why == PutError::Memory && record.len() == 0),
-    })?;
-    run.add(&write_epd(kit.alloc, &record)?)
+pub(crate) fn without_memory(kit: &Kit) -> Answer {
+    let unended = read(kit, b" id \"x");
+    let three_words = read_epd(kit.alloc, b"4k3/8/8/8/8/8/8/4K3 w -");
+    Ok(matches!(unended, Err(EpdError::Token(29))) && matches!(three_words, Err(EpdError::Fields)))
 }
 
 /// Two words as operands.
@@ -188,38 +102,78 @@ fn operands(alloc: Global) -> Result<Vec<Operand>, AllocError> {
     Ok(operands)
 }
 
+/// An operation that is put to a record, and put again where it found no memory; the record has to be as it was then.
+pub(crate) fn putting(kit: &Kit) -> Answer {
+    let mut record = Epd::new(kit.alloc, kit.kings);
+    let answer = attempts(|| match record.put(b"bkm", operands(kit.alloc)?) {
+        Ok(()) => Ok(true),
+        Err(why) => Err(Want::once(why == PutError::Memory && record.len() == 0)),
+    });
+    match answer {
+        Err(Want { times: 2, .. }) => answer,
+        _ => both(answer, written(kit, &record, b" bkm e1d1 2;")),
+    }
+}
+
 /// Two puts into a sink in memory. One that finds no memory leaves the bytes before it.
-fn memory(kit: &Kit, run: &mut Run) -> Answer {
+pub(crate) fn memory(kit: &Kit) -> Answer {
     let mut sink = MemSink::new(kit.alloc);
+    let mut due = Text::of(&[]);
     for part in [BOOK, b"\n"] {
         if sink.put(part).is_err() {
-            return want(sink.failed() && sink.as_bytes() == run.put.as_slice());
+            return Err(Want::once(sink.failed() && sink.as_bytes() == due.as_bytes()));
         }
-        let _ = run.add(part);
+        due.add(part);
     }
-    due(!sink.failed() && sink.as_bytes() == run.put.as_slice())
+    Ok(!sink.failed() && sink.as_bytes() == due.as_bytes())
 }
 
 /// A put into a fuse that passes, and one that blows it and keeps half of its bytes where there is memory.
-fn fuse(kit: &Kit, run: &mut Run) -> Answer {
+pub(crate) fn fuse(kit: &Kit) -> Answer {
     let mut sink = FuseSink::new(kit.alloc, 1);
     if sink.put(BOOK).is_err() {
-        return want(sink.starved && sink.as_bytes().is_empty());
+        return Err(Want::once(sink.starved && sink.as_bytes().is_empty()));
     }
     let is_blown = sink.put(b"half").is_err() && sink.failed();
-    let _ = run.add(sink.as_bytes());
+    let half: &[u8] = if sink.starved { b"" } else { b"ha" };
+    let is_due = is_blown && sink.as_bytes() == Text::of(&[BOOK, half]).as_bytes();
     if sink.starved {
-        want(is_blown && sink.as_bytes() == BOOK)
+        Err(Want::once(is_due))
     } else {
-        due(is_blown)
+        Ok(is_due)
     }
 }
 
-/// The moves that a book has for the start position.
-fn probing(kit: &Kit, run: &mut Run) -> Answer {
-    for (m, weight) in &probe(kit.alloc, &kit.book, &kit.table, &kit.start.setup())? {
-        let _ = run.add(m.text().as_bytes());
-        let _ = run.add(&weight.to_be_bytes());
+/// The book of a file, in pieces of one byte, as it is written again.
+pub(crate) fn reading(kit: &Kit) -> Answer {
+    match read_book(kit.alloc, &mut MemSource::new(LEARNT, 1), u32::MAX) {
+        Ok(book) => Ok(Text::of_book(&book).as_bytes() == LEARNT),
+        Err(why) => Err(Want::once(why == BookError::Memory)),
     }
-    Ok(())
+}
+
+/// The moves that a book has for the start position: e2e4 with weight 4, and d2d4 with weight 2.
+pub(crate) fn probing(kit: &Kit) -> Answer {
+    let found = probe(kit.alloc, &kit.book, &kit.table, &kit.start.setup())?;
+    let [(first, most), (second, least)] = found.as_slice() else {
+        return Ok(false);
+    };
+    let spelled = Text::of(&[first.text().as_bytes(), second.text().as_bytes()]);
+    Ok(spelled.as_bytes() == b"e2e4d2d4".as_slice() && [*most, *least] == [4, 2])
+}
+
+/// The file of a book.
+pub(crate) fn writing(kit: &Kit) -> Answer {
+    let mut sink = MemSink::new(kit.alloc);
+    let answer = write_book(&mut sink, &kit.book);
+    in_memory(answer, &sink, BOOK)
+}
+
+/// What was put into memory, beside what is due.
+pub(crate) fn in_memory(answer: Result<(), Failed>, sink: &MemSink, due: &[u8]) -> Answer {
+    let answer = match answer {
+        Ok(()) => Ok(!sink.failed()),
+        Err(Failed) => Err(Want::once(sink.failed())),
+    };
+    put(answer, sink.as_bytes(), due)
 }
