@@ -17,7 +17,7 @@ use Rattle.pb_io.specs.declared.lines.LinesFault.{LinesFault}
 use Rattle.pb_io.specs.declared.lines.LinesFault.TheVariants as lines
 use Rattle.pb_io.specs.declared.source.Failed.{Failed}
 use Rattle.pb_io.specs.Count.{next_count}
-use Rattle.pb_io.proofs.FlushLemmas.{AwaitsFlush-trans}
+use Rattle.pb_io.proofs.FlushLemmas.{AwaitsFlush-trans, not_flushed}
 use Rattle.pb_io.proofs.EndLemmas.{AtEnd-weaker, AtFault-weaker, AtLine-weaker, AtNoEnd-weaker}
 use Rattle.pb_commands.specs.declared.epd.Rewriter.{Rewriter}
 use Rattle.pb_commands.specs.declared.fault.Fault.{Fault}
@@ -71,14 +71,9 @@ only_memory number line fault other (LineShown.no_record x short full due is) = 
 
 -- ---- flushes
 
--- none were made
-same_flushes : (old new : SinkState) → AwaitsFlush old new → new.flushes ≡ old.flushes
-same_flushes old new (inl same) = ap (λ (x : SinkState). x.flushes) same
-same_flushes old new (inr awaits) = awaits.2
-
 -- all lines were rewritten, and what was put was handed on
 pub flushed_once : (k l m : SinkState) (v : Unit {0}) → AwaitsFlush k l → Flush {E = Failed} l m (Ok v) → HandedOnOnce k m
-flushed_once k l m v awaits flush = ((flush.failed, flush.flushed), flush.flushes ∙ ap next_count (same_flushes k l awaits))
+flushed_once k l m v awaits flush = ((flush.failed, flush.flushed), flush.flushes ∙ ap next_count (not_flushed k l awaits))
 
 -- ---- lines in order
 
@@ -198,7 +193,7 @@ module _ {K : Type 0} (state : K → SinkState) where
           count = length text.out + last.count;
           put = subst (λ bytes. Appends (state s.sink.now).bytes (state t.sink.now).bytes bytes) (sym (take-append-add text.out last.out last.count)) (Appends-trans _ _ _ _ _ text.put last.put);
           fails = last.fails;
-          flushes = last.flushes ∙ same_flushes (state s.sink.now) (state h.2.sink.now) run.awaits;
+          flushes = last.flushes ∙ not_flushed (state s.sink.now) (state h.2.sink.now) run.awaits;
         }
 
     same_at_stop : (e : Fault) → StopsAtLast (RewritesLine state) s ls e t → t.sink.ghost_name ≡ s.sink.ghost_name
@@ -311,6 +306,6 @@ unflushed fills old new k l m answer e h awaits flush =
         count = length text.out;
         put = subst (λ bytes. Appends k.bytes m.bytes bytes) (sym (take-length text.out)) (Appends-kept _ _ _ _ text.put flush.bytes);
         fails = flush.failed;
-        flushes = flush.flushes ∙ same_flushes k l awaits;
+        flushes = flush.flushes ∙ not_flushed k l awaits;
       };
     })

@@ -14,6 +14,7 @@ use Rattle.pb_moves.specs.Moved.{Moved}
 use Rattle.pb_moves.specs.Played.{Ply}
 use Rattle.pb_io.specs.Count.{next_count}
 use Rattle.pb_io.specs.Sink.{Flush, SinkState}
+use Rattle.pb_io.proofs.FlushLemmas.{not_flushed}
 use Rattle.pb_poly.specs.declared.entry.Entry.{Entry}
 use Rattle.pb_io.specs.declared.source.Failed.{Failed}
 use Rattle.pb_accepted.specs.Basis.{Basis}
@@ -25,7 +26,7 @@ use Rattle.pb_export.specs.Setups.{HoldsSetups, InTextOrder, Named, all_setups, 
 use Rattle.pb_export.specs.declared.exporting.ExportFault.{ExportFault}
 use Rattle.pb_export.specs.declared.exporting.ExportFault.TheVariants as fault
 use Rattle.pb_accepted.proofs.BookLaws.{one_book}
-use Rattle.pb_export.proofs.Listings.{not_flushed, text_of-append}
+use Rattle.pb_export.proofs.Listings.{text_of-append}
 use Rattle.pb_accepted.proofs.Members.{begins_in_order}
 
 -- ---- the setups of the games

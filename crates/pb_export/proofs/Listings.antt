@@ -14,7 +14,7 @@ use Rattle.pb_epd.proofs.Lists.{contains_none, pairs_none, pairs_split}
 use Rattle.pb_moves.specs.Moved.{Moved}
 use Rattle.pb_poly.specs.Found.{Found}
 use Rattle.pb_io.specs.Sink.{AwaitsFlush, Put, SinkState}
-use Rattle.pb_io.proofs.FlushLemmas.{AwaitsFlush-put, AwaitsFlush-trans}
+use Rattle.pb_io.proofs.FlushLemmas.{AwaitsFlush-put, AwaitsFlush-trans, not_flushed}
 use Rattle.pb_poly.specs.declared.entry.Entry.{Entry}
 use Rattle.pb_io.specs.declared.source.Failed.{Failed}
 use Rattle.pb_poly.proofs.Finding.{found_is_one}
@@ -105,11 +105,6 @@ module _ (words : List ℕ) (book : List Entry) where
       }
 
 -- ---- lines that are put
-
--- what awaits a flush was not handed on
-pub not_flushed : (old new : SinkState) → AwaitsFlush old new → new.flushes ≡ old.flushes
-not_flushed old new (inl same) = ap (λ (x : SinkState). x.flushes) same
-not_flushed old new (inr awaits) = awaits.2
 
 -- the lines of the setups before the rest have been put
 pub record Putting (words : List ℕ) (book : List Entry) (all : List Named) (sink now : SinkState) (count : ℕ) (rest : List Named) : Type 0 where

@@ -16,3 +16,8 @@ AwaitsFlush-trans old mid new (inr before) (inr now) = inr (now.0, now.1, now.2 
 pub still_works : (old new : SinkState) → AwaitsFlush old new → old.failed ≡ false → new.failed ≡ false
 still_works old new (inl same) works = ap (λ (x : SinkState). x.failed) same ∙ works
 still_works old new (inr awaits) works = awaits.0
+
+-- what awaits a flush was not handed on
+pub not_flushed : (old new : SinkState) → AwaitsFlush old new → new.flushes ≡ old.flushes
+not_flushed old new (inl same) = ap (λ (x : SinkState). x.flushes) same
+not_flushed old new (inr awaits) = awaits.2

@@ -8,7 +8,7 @@ use Rattle.std.proofs.KnownBytes.{Appends-nil, Appends-trans, Appends-kept}
 use Rattle.pb_io.specs.Count.{next_count}
 use Rattle.pb_io.specs.Source.{SourceState}
 use Rattle.pb_io.specs.Sink.{AwaitsFlush, Flush, SinkState}
-use Rattle.pb_io.proofs.FlushLemmas.{AwaitsFlush-put, AwaitsFlush-trans}
+use Rattle.pb_io.proofs.FlushLemmas.{AwaitsFlush-put, AwaitsFlush-trans, not_flushed}
 use Rattle.pb_io.specs.Lines.{lines, ended_lines}
 use Rattle.pb_io.specs.LineTask.{AtEnd, StopsAtLast, TakesAll, TakesStream, TakesUntil}
 use Rattle.pb_io.specs.declared.lines.LinesFault.{LinesFault}
@@ -18,7 +18,6 @@ use Rattle.pb_io.proofs.EndLemmas.{AtEnd-weaker, AtFault-weaker, AtLine-weaker, 
 use Rattle.pb_accepted.specs.Accepting.{Answer, Run}
 use Rattle.pb_accepted.specs.Ledger.{LedgerState}
 use Rattle.pb_accepted.proofs.Runs.{Accepted-append, Run-append}
-use Rattle.pb_export.proofs.Listings.{not_flushed}
 use Rattle.pb_ledger.specs.declared.totals.Totals.{Totals}
 use Rattle.pb_ledger.specs.declared.collecting.Collector.{Collector}
 use Rattle.pb_ledger.specs.declared.collecting.CollectFault.TheVariants as collect

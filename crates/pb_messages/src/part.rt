@@ -3,7 +3,7 @@
 use std::fmt::{self, Display};
 
 /// What a file is to a run.
-#[derive(Clone, Copy, PartialEq)]
+#[derive(Clone, Copy)]
 pub enum Part {
     Table,
     Ledger,

@@ -27,7 +27,7 @@ pub(crate) fn keep_apart(messages: Messages<'_>, files: &[(Part, &str)]) -> Resu
             });
             return Err(Stop::NotOpened);
         }
-        if *part != Part::Book && is_one_file(rt, path, OUTPUT) {
+        if !matches!(part, Part::Book) && is_one_file(rt, path, OUTPUT) {
             messages.tell(&Message::IsOutput { part: *part });
             return Err(Stop::Fault(Fault::Write));
         }

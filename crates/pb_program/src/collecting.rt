@@ -4,7 +4,7 @@ use crate::apart::keep_apart;
 use crate::command::{FILLS, input};
 use crate::file::FilePlace;
 use crate::hold::{hold_journal, hold_ledger, open};
-use crate::journal::{JournalFile, sync_whole};
+use crate::journal::{JournalEnd, sync_whole};
 use crate::passed::TellPassed;
 use crate::replies::{Replies, Submissions};
 use crate::stop::Stop;
@@ -141,7 +141,7 @@ impl<'a> Collecting<'a> {
         let mut book = self.book_place()?;
         let progress = Progress::new(self.messages, News::Journaled(false));
         let mut kept = FromRead::new(Told::new(named, &file));
-        let mut lines = JournalFile::new(named, &file, &progress, sync)?;
+        let mut lines = ToWrite::new(JournalEnd::new(named, &file, &progress, sync)?);
         let mut input = FromRead::new(Submissions::new(input(self.messages), output, &progress));
         let mut replies = ToWrite::new(Replies::new(output, &progress));
         let has_book = journal_into(
