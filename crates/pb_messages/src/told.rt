@@ -22,6 +22,11 @@ impl<'a, T> Told<'a, T> {
         }
     }
 
+    /// The reader or the writer itself.
+    pub fn get_ref(&self) -> &T {
+        &self.inner
+    }
+
     /// Tells the failure.
     fn fail(&mut self, error: &io::Error) {
         self.failed = true;

@@ -1,22 +1,15 @@
 //! The command `collect` over the files that it names.
 
-use crate::apart::keep_apart;
-use crate::command::{FILLS, input};
-use crate::file::FilePlace;
-use crate::hold::{hold_journal, hold_ledger, open};
-use crate::journal::{JournalEnd, sync_whole};
-use crate::passed::TellPassed;
-use crate::replies::{Replies, Submissions};
+use crate::command::{FILLS, FileSource, input, source};
 use crate::stop::Stop;
-use crate::whole_file::WholeFile;
-use pb_cli::{Keeping, Rules, collect_into, continue_into, journal_into};
+use pb_cli::{Fault, Keeping, Rules, collect_into, continue_into, journal_into};
+use pb_files::{
+    FileDesk, JournalSink, KeptFile, Replies, Submissions, TellPassed, hold_ledger, keep_apart,
+    start_journal,
+};
 use pb_messages::{LedgerLines, Messages, Named, News, Part, Progress, Told};
 use pb_poly::{FromRead, Sink, ToWrite};
 use std::cell::RefCell;
-use std::fs::File;
-
-/// A table's file as a source.
-type TableSource<'a> = FromRead<Told<'a, File>>;
 
 /// A run of `collect`: its rules, the table that it reads and the book that it makes.
 #[derive(Clone, Copy)]
@@ -57,21 +50,15 @@ impl<'a> Collecting<'a> {
     /// Makes the file of the book once there is one, so that a fault or a refused table leaves the
     /// old file.
     fn collect<K: Sink>(&self, output: &RefCell<&mut K>) -> Result<bool, Stop> {
-        keep_apart(
-            self.messages,
-            &[(Part::Table, self.table), (Part::Book, self.book)],
-        )?;
-        let mut table = self.open_table()?;
-        let mut book = self.book_place()?;
+        let mut table = self.table_beside(None)?;
+        let mut book = self.place()?;
         let progress = Progress::new(self.messages, News::Above(0));
-        let mut input = FromRead::new(Submissions::new(input(self.messages), output, &progress));
-        let mut replies = ToWrite::new(Replies::new(output, &progress));
         let has_book = collect_into(
             self.messages.rt().alloc(),
             self.rules,
             &mut table,
-            &mut input,
-            &mut replies,
+            &mut FromRead::new(Submissions::new(input(self.messages), output, &progress)),
+            &mut ToWrite::new(Replies::new(output, &progress)),
             &mut book,
             FILLS,
         )?;
@@ -85,31 +72,20 @@ impl<'a> Collecting<'a> {
         ledger: &'a str,
         output: &RefCell<&mut K>,
     ) -> Result<bool, Stop> {
-        keep_apart(
-            self.messages,
-            &[
-                (Part::Table, self.table),
-                (Part::Ledger, ledger),
-                (Part::Book, self.book),
-            ],
-        )?;
-        let mut table = self.open_table()?;
-        let file = hold_ledger(self.messages, ledger)?;
-        let mut book = self.book_place()?;
+        let mut table = self.table_beside(Some((Part::Ledger, ledger)))?;
+        let named = Named::new(self.messages, ledger);
         let progress = Progress::new(self.messages, News::Unknown);
-        let lines = Told::new(Named::new(self.messages, ledger), &file);
-        let mut saved = FromRead::new(LedgerLines::new(lines, &progress));
-        let mut place = FilePlace::new(WholeFile::of_ledger(self.messages, ledger, &file));
-        let mut input = FromRead::new(Submissions::new(input(self.messages), output, &progress));
-        let mut replies = ToWrite::new(Replies::new(output, &progress));
+        let file = hold_ledger(named, &progress)?;
+        let mut book = self.place()?;
+        let lines = LedgerLines::new(Told::new(named, &file), &progress);
         let has_book = continue_into(
             self.messages.rt().alloc(),
             self.rules,
             &mut table,
-            &mut saved,
-            &mut input,
-            &mut replies,
-            &mut place,
+            &mut FromRead::new(lines),
+            &mut FromRead::new(Submissions::new(input(self.messages), output, &progress)),
+            &mut ToWrite::new(Replies::new(output, &progress)),
+            &mut KeptFile::new(FileDesk::of_ledger(self.messages, ledger, &file)),
             &mut book,
             FILLS,
         )?;
@@ -124,52 +100,46 @@ impl<'a> Collecting<'a> {
         sync: bool,
         output: &RefCell<&mut K>,
     ) -> Result<bool, Stop> {
-        keep_apart(
-            self.messages,
-            &[
-                (Part::Table, self.table),
-                (Part::Journal, journal),
-                (Part::Book, self.book),
-            ],
-        )?;
+        let mut table = self.table_beside(Some((Part::Journal, journal)))?;
         let named = Named::new(self.messages, journal);
-        let mut table = self.open_table()?;
-        let file = hold_journal(self.messages, journal)?;
-        if sync {
-            sync_whole(named, &file)?;
-        }
-        let mut book = self.book_place()?;
         let progress = Progress::new(self.messages, News::Journaled(false));
-        let mut kept = FromRead::new(Told::new(named, &file));
-        let mut lines = ToWrite::new(JournalEnd::new(named, &file, &progress, sync)?);
-        let mut input = FromRead::new(Submissions::new(input(self.messages), output, &progress));
-        let mut replies = ToWrite::new(Replies::new(output, &progress));
+        let mut started = start_journal(named, &progress, sync)?;
+        let mut book = self.place()?;
+        let alloc = self.messages.rt().alloc();
+        let Ok(mut lines) = JournalSink::new(alloc, started.journal, sync) else {
+            return Err(Stop::Fault(Fault::Memory));
+        };
         let has_book = journal_into(
-            self.messages.rt().alloc(),
+            alloc,
             self.rules,
             &mut table,
-            &mut kept,
+            &mut started.reader,
             &mut lines,
             &mut TellPassed::new(named),
-            &mut input,
-            &mut replies,
+            &mut FromRead::new(Submissions::new(input(self.messages), output, &progress)),
+            &mut ToWrite::new(Replies::new(output, &progress)),
             &mut book,
             FILLS,
         )?;
         Ok(self.end(&progress, has_book))
     }
 
-    /// The table's file as a source.
-    fn open_table(&self) -> Result<TableSource<'a>, Stop> {
-        let file = open(self.messages, self.table)?;
-        Ok(FromRead::new(Told::new(Named::new(self.messages, self.table), file)))
+    /// The table as a source, once it is seen that the files of the run are different ones.
+    fn table_beside(&self, kept: Option<(Part, &str)>) -> Result<FileSource<'a>, Stop> {
+        let table = (Part::Table, self.table);
+        let book = (Part::Book, self.book);
+        match kept {
+            Some(kept) => keep_apart(self.messages, &[table, kept, book])?,
+            None => keep_apart(self.messages, &[table, book])?,
+        }
+        source(self.messages, self.table)
     }
 
     /// The place of the book, after a warning where it can't be made.
-    fn book_place<'f>(&self) -> Result<FilePlace<'a, 'f>, Stop> {
-        let file = WholeFile::of_book(self.messages, self.book);
-        file.warn_of_folder()?;
-        Ok(FilePlace::new(file))
+    fn place<'f>(&self) -> Result<KeptFile<FileDesk<'a, 'f>>, Stop> {
+        let mut desk = FileDesk::of_book(self.messages, self.book);
+        desk.warn_of_folder()?;
+        Ok(KeptFile::new(desk))
     }
 
     /// Ends the run, which has made a book or refused the table or the ledger.

@@ -1,14 +1,17 @@
 //! Each command over the files that it names and the standard streams.
 
 use crate::collecting::Collecting;
-use crate::hold::open;
 use crate::stop::Stop;
 use crate::streams::expect_open;
 use pb_cli::{Order, Rules, run_epd, run_export, run_fen, run_probe, run_show};
+use pb_files::open;
 use pb_messages::{Messages, Named, News, Progress, Told, Watched};
 use pb_poly::{FromRead, Sink};
 use std::fs::File;
 use std::io::{Input, StdinLock};
+
+/// A file as a source.
+pub(crate) type FileSource<'a> = FromRead<Told<'a, File>>;
 
 /// How many fills a command may make of a source: as many as can be counted, so that only a source
 /// without an end meets the limit.
@@ -37,7 +40,7 @@ pub(crate) fn answer<K: Sink>(
             Ok(run_epd(rt.alloc(), &mut input, output, FILLS)?)
         }
         Order::Show { book } => {
-            let mut book = source(messages, book, open(messages, book)?);
+            let mut book = source(messages, book)?;
             Ok(run_show(rt.alloc(), &mut book, output, FILLS)?)
         }
         Order::Probe {
@@ -64,8 +67,8 @@ fn probe<K: Sink>(
     record: &str,
     output: &mut K,
 ) -> Result<bool, Stop> {
-    let mut table = source(messages, table, open(messages, table)?);
-    let mut book = source(messages, book, open(messages, book)?);
+    let mut table = source(messages, table)?;
+    let mut book = source(messages, book)?;
     let alloc = messages.rt().alloc();
     let record = record.as_bytes();
     Ok(run_probe(alloc, &mut table, &mut book, record, output, FILLS)?)
@@ -78,7 +81,7 @@ fn export<K: Sink>(
     table: &str,
     output: &mut K,
 ) -> Result<bool, Stop> {
-    let mut table = source(messages, table, open(messages, table)?);
+    let mut table = source(messages, table)?;
     let progress = Progress::new(messages, News::Unknown);
     let mut input = FromRead::new(Watched::new(input(messages), &progress));
     let alloc = messages.rt().alloc();
@@ -87,9 +90,10 @@ fn export<K: Sink>(
     Ok(taken?)
 }
 
-/// A file of this name as a source.
-fn source<'a>(messages: Messages<'a>, name: &'a str, file: File) -> FromRead<Told<'a, File>> {
-    FromRead::new(Told::new(Named::new(messages, name), file))
+/// The file of this name as a source.
+pub(crate) fn source<'a>(messages: Messages<'a>, name: &'a str) -> Result<FileSource<'a>, Stop> {
+    let named = Named::new(messages, name);
+    Ok(FromRead::new(Told::new(named, open(named)?)))
 }
 
 /// Standard input.

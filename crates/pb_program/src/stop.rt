@@ -3,6 +3,7 @@
 ghost use Rattle.std.specs.Prelude.{◌≡◌};
 
 use pb_cli::{Fault, NoBook, NotContinued, NotKept, STOPPED};
+use pb_files::{NotApart, NotHeld, NotRead, NotStarted};
 use pb_messages::{Message, Messages};
 use pb_poly::{Sink, ToWrite};
 use std::io::Write;
@@ -56,6 +57,31 @@ impl From<NotContinued> for Stop {
         match why {
             NotContinued::Run(fault) => Stop::Fault(fault),
             NotContinued::Ledger(why) | NotContinued::Book(why) => Stop::from(why),
+        }
+    }
+}
+
+impl From<NotApart> for Stop {
+    fn from(why: NotApart) -> Stop {
+        match why {
+            NotApart::OneFile => Stop::NotOpened,
+            NotApart::IsOutput => Stop::Fault(Fault::Write),
+        }
+    }
+}
+
+impl From<NotHeld> for Stop {
+    fn from(_why: NotHeld) -> Stop {
+        Stop::NotOpened
+    }
+}
+
+impl From<NotStarted> for Stop {
+    fn from(why: NotStarted) -> Stop {
+        match why {
+            NotStarted::NotHeld(why) => Stop::from(why),
+            NotStarted::NotRead(NotRead::Sync) => Stop::Fault(Fault::Write),
+            NotStarted::NotRead(NotRead::Failed) => Stop::Fault(Fault::Read),
         }
     }
 }

@@ -4,11 +4,6 @@ use crate::stop::Stop;
 use pb_cli::Fault;
 use pb_messages::{Message, Messages, is_open};
 
-/// Where the files of standard input and output are found, whatever their names.
-pub(crate) const INPUT: &str = "/dev/stdin";
-
-pub(crate) const OUTPUT: &str = "/dev/stdout";
-
 /// Makes sure that standard output is open, and standard input where it is read.
 ///
 /// # Errors

@@ -41,6 +41,7 @@ fn answer(rt: &HostRuntime, page: &mut Page, topic: &str, call: &[&str]) -> Done
         "record" => rows::record::answer(page, call),
         "moves" => rows::moves::answer(page, call),
         "epd" => rows::epd::answer(page, call),
+        "file" => rows::files::answer(page, call),
         "table" => rows::table::answer(page, call),
         "book" => rows::book::answer(page, call),
         "stream" => rows::stream::answer(page, call),

@@ -1,6 +1,6 @@
 //! The lines of a journal that are no games.
 
-use pb_cli::PassedLines;
+use pb_collecting::PassedLines;
 use pb_messages::{Message, Named};
 
 /// How many lines are told by their numbers.
@@ -9,14 +9,14 @@ const TOLD: u32 = 10;
 /// Tells which lines of a journal are passed over: something has changed them since they were
 /// written, or they never were games.
 #[derive(Drop)]
-pub(crate) struct TellPassed<'a> {
+pub struct TellPassed<'a> {
     named: Named<'a>,
     told: u32,
 }
 
 impl<'a> TellPassed<'a> {
     /// The journal of this name, of which no line was passed over.
-    pub(crate) fn new(named: Named<'a>) -> TellPassed<'a> {
+    pub fn new(named: Named<'a>) -> TellPassed<'a> {
         TellPassed { named, told: 0 }
     }
 }

@@ -1,14 +1,14 @@
 //! Replies that wait in the buffer of standard output until more submissions are read.
 
+use pb_io::Sink;
 use pb_messages::Progress;
-use pb_poly::Sink;
 use std::cell::RefCell;
 use std::io::{self, ErrorKind, Read, Write};
 
 /// What gives submissions. The replies that wait are written before each read, so that whoever
 /// sends a line and waits for its reply has it before this waits for more lines.
 #[derive(Drop)]
-pub(crate) struct Submissions<'o, 'k, 'p, 'a, R, K> {
+pub struct Submissions<'o, 'k, 'p, 'a, R, K> {
     reader: R,
     output: &'o RefCell<&'k mut K>,
     progress: &'p Progress<'a>,
@@ -17,7 +17,7 @@ pub(crate) struct Submissions<'o, 'k, 'p, 'a, R, K> {
 
 impl<'o, 'k, 'p, 'a, R: Read, K: Sink> Submissions<'o, 'k, 'p, 'a, R, K> {
     /// What the reader gives, to be answered on this output.
-    pub(crate) fn new(
+    pub fn new(
         reader: R,
         output: &'o RefCell<&'k mut K>,
         progress: &'p Progress<'a>,
@@ -53,14 +53,14 @@ impl<R: Read, K: Sink> Read for Submissions<'_, '_, '_, '_, R, K> {
 
 /// What takes replies. They wait in the buffer of the output.
 #[derive(Drop)]
-pub(crate) struct Replies<'o, 'k, 'p, 'a, K> {
+pub struct Replies<'o, 'k, 'p, 'a, K> {
     output: &'o RefCell<&'k mut K>,
     progress: &'p Progress<'a>,
 }
 
 impl<'o, 'k, 'p, 'a, K: Sink> Replies<'o, 'k, 'p, 'a, K> {
     /// Replies on this output.
-    pub(crate) fn new(
+    pub fn new(
         output: &'o RefCell<&'k mut K>,
         progress: &'p Progress<'a>,
     ) -> Replies<'o, 'k, 'p, 'a, K> {

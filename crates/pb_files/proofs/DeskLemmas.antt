@@ -1,0 +1,33 @@
+-- What a place finds after steps of its desk.
+use Rattle.std.proofs.Common.{◌≡◌, ◌∙◌, ℕ, List, Option, None, Some, Result, Ok, Err, ap, inr, length, refl, subst, sym, take}
+use Rattle.std.proofs.Math.Seq.{take-length}
+use Rattle.pb_io.specs.Sink.{SinkState}
+use Rattle.pb_files.specs.Desk.{Goes, Names, Shelf}
+use Rattle.pb_files.specs.Keeping.{found_at}
+use Rattle.pb_collecting.specs.Place.{Keeps, PlaceState}
+use Rattle.pb_collecting.specs.declared.place.NotKept.{NotKept}
+use Rattle.pb_collecting.specs.declared.place.NotKept.TheVariants.{Open, Write, Memory}
+use Rattle.pb_files.specs.declared.saving.NotSaved.{NotSaved}
+use Rattle.pb_files.specs.declared.saving.NotSaved.TheVariants.{Unsettled}
+use Rattle.pb_files.specs.Saving.{Saves}
+
+-- the bytes are there under the name, though a crash may undo it
+named : (bytes : List ℕ) (old new : Option Shelf) (end : Option SinkState) (before : Option NotKept) → Goes (Names (Some bytes)) old new
+    → Keeps (record { found = found_at old end; fault = before }) (record { found = found_at new None; fault = Some Write }) (Err Write) bytes
+named bytes None None end before goes = record { holds = tt; leaves = inr (0, tt); fault = refl }
+named bytes None (Some b) end before goes = absurd goes
+named bytes (Some a) None end before goes = absurd goes
+named bytes (Some a) (Some b) end before goes = record {
+  holds = tt;
+  leaves = inr (length bytes, ap (λ content. Some content) (goes.found ∙ ap (λ l. Some l) (sym (take-length bytes))));
+  fault = refl;
+}
+
+-- the same, as it is told
+pub named_keeps : (E : Type 0) (bytes : List ℕ) (old new : Option Shelf) (end : Option SinkState) (before : Option NotKept) (place : PlaceState) (why : NotSaved) (answer : Result (Unit {0}) NotKept)
+    → Saves {E = E} bytes old new (Err why) → why ≡ Unsettled → place ≡ record { found = found_at new None; fault = Some Write } → answer ≡ Err Write
+    → Keeps (record { found = found_at old end; fault = before }) place answer bytes
+named_keeps E bytes old new end before place why answer saves unsettled there is =
+    let kept = named bytes old new end before (subst (λ (e : NotSaved). Saves {E = E} bytes old new (Err e)) unsettled saves) in
+    subst (λ (p : PlaceState). Keeps (record { found = found_at old end; fault = before }) p answer bytes) (sym there)
+    (subst (λ (r : Result (Unit {0}) NotKept). Keeps (record { found = found_at old end; fault = before }) (record { found = found_at new None; fault = Some Write }) r bytes) (sym is) kept)

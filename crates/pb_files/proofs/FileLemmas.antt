@@ -1,0 +1,110 @@
+-- Lemmas on the steps of a file that is added to, and on what they leave.
+use Rattle.std.proofs.Common.{◌≡◌, ◌∙◌, ℕ, ◌+◌, ◌-◌, min, List, [], ◌++◌, Option, None, Some, length, take, drop, refl, rules, sym, ap, subst, append_assoc, append-nil, arith}
+use Rattle.std.specs.Option.{ForSome}
+use Rattle.std.specs.Prelude.{IfSome}
+use Rattle.std.specs.Io.KnownBytes.{Keeps}
+use Rattle.std.proofs.lemmas.List.{take-append-le, take_min, take_rest}
+use Rattle.std.proofs.Math.Seq.{take-add}
+use Rattle.pb_files.specs.Begins.{BeginsWith}
+use Rattle.pb_files.specs.Disk.{Adds, Disk, Grows, IsOnDisk, Leaves, OutlivesCrash, Steps, Syncs, on_disk}
+use Rattle.pb_files.specs.JournalSink.{bytes_put}
+
+-- no byte, and bytes in two steps
+
+pub adds-none : (disk : Disk) → Adds [] disk disk
+adds-none disk = record { found = sym (append-nil disk.found); kept = omega arith }
+
+adds-then : (a b c : List ℕ) (old mid new : Disk) → a ++ b ≡ c → Adds a old mid → Adds b mid new → Adds c old new
+adds-then a b c old mid new is first second = record {
+  found = second.found ∙ ap (λ f. f ++ b) first.found ∙ append_assoc old.found a b ∙ ap (λ bs. old.found ++ bs) is;
+  kept = omega (arith, first.kept, second.kept);
+}
+
+adds-sync : (bytes : List ℕ) (old mid new : Disk) → Adds bytes old mid → Syncs mid new → Adds bytes old new
+adds-sync bytes old mid new adds syncs = record {
+  found = syncs.found ∙ adds.found;
+  kept = omega (arith, adds.kept, syncs.kept);
+}
+
+-- What is on the disk stays there.
+pub kept-first : (disk later : Disk) → Grows disk later → BeginsWith (on_disk later) (on_disk disk)
+kept-first disk later (bytes, adds) =
+    let k : ℕ = min disk.kept (length disk.found) in
+    let n : ℕ = later.kept - k in
+    let count : later.kept ≡ k + n = omega (arith, adds.kept) in
+    let front : take k (disk.found ++ bytes) ≡ on_disk disk = take-append-le k disk.found bytes (omega arith) ∙ take_min disk.kept disk.found in (
+      take n (drop k (disk.found ++ bytes)),
+      ap (λ f. take later.kept f) adds.found ∙ ap (λ i. take i (disk.found ++ bytes)) count ∙ take-add k n (disk.found ++ bytes)
+          ∙ ap (λ bs. bs ++ take n (drop k (disk.found ++ bytes))) front,
+    )
+
+pub crash-first : (disk later : Disk) → Grows disk later → (left : List ℕ) → Leaves later left → BeginsWith left (on_disk disk)
+crash-first disk later grows left (rest, is) =
+    let stays = kept-first disk later grows in
+    (stays.0 ++ rest, is ∙ ap (λ bs. bs ++ rest) stays.1 ∙ append_assoc (on_disk disk) stays.0 rest)
+
+pub outlives : (disk : Disk) → IsOnDisk disk → OutlivesCrash disk
+outlives disk all later grows left leaves =
+    let stays = crash-first disk later grows left leaves in (stays.0, stays.1 ∙ ap (λ bs. bs ++ stays.0) all)
+
+-- the same where the file may tell nothing
+
+pub told_none : (told : Option Disk) → Steps (Adds []) told told
+told_none None = tt
+told_none (Some disk) = adds-none disk
+
+pub told_then : (a b c : List ℕ) (old mid new : Option Disk) → a ++ b ≡ c → Steps (Adds a) old mid → Steps (Adds b) mid new → Steps (Adds c) old new
+told_then a b c None None None is first second = tt
+told_then a b c None None (Some new) is first second = absurd second
+told_then a b c None (Some mid) new is first second = absurd first
+told_then a b c (Some old) None new is first second = absurd first
+told_then a b c (Some old) (Some mid) None is first second = absurd second
+told_then a b c (Some old) (Some mid) (Some new) is first second = adds-then a b c old mid new is first second
+
+pub told_sync : (bytes : List ℕ) (old mid new : Option Disk) → Steps (Adds bytes) old mid → Steps Syncs mid new → Steps (Adds bytes) old new
+told_sync bytes None None None adds syncs = tt
+told_sync bytes None None (Some new) adds syncs = absurd syncs
+told_sync bytes None (Some mid) new adds syncs = absurd adds
+told_sync bytes (Some old) None new adds syncs = absurd adds
+told_sync bytes (Some old) (Some mid) None adds syncs = absurd syncs
+told_sync bytes (Some old) (Some mid) (Some new) adds syncs = adds-sync bytes old mid new adds syncs
+
+pub told_grows : (bytes : List ℕ) (old new : Option Disk) → Steps (Adds bytes) old new → Steps Grows old new
+told_grows bytes None None adds = tt
+told_grows bytes None (Some new) adds = absurd adds
+told_grows bytes (Some old) None adds = absurd adds
+told_grows bytes (Some old) (Some new) adds = (bytes, adds)
+
+-- what was written no longer waits
+pub told_bytes : (bytes rest waits : List ℕ) (old new : Option Disk) → bytes ++ rest ≡ waits → Steps (Adds bytes) old new → Keeps (bytes_put old waits) (bytes_put new rest)
+told_bytes bytes rest waits None new is adds = tt
+told_bytes bytes rest waits (Some old) None is adds = absurd adds
+told_bytes bytes rest waits (Some old) (Some new) is adds =
+    ap (λ f. f ++ rest) adds.found ∙ append_assoc old.found bytes rest ∙ ap (λ bs. old.found ++ bs) is
+
+-- what a sync put on the disk
+pub told_outlives : (mid new : Option Disk) → Steps Syncs mid new → IfSome new OutlivesCrash
+told_outlives None None syncs = tt
+told_outlives None (Some new) syncs = absurd syncs
+told_outlives (Some mid) None syncs = absurd syncs
+told_outlives (Some mid) (Some new) syncs = outlives new syncs.all
+
+-- One write more takes a front of the rest.
+pub told_more : (bytes : List ℕ) (count more : ℕ) (old mid new : Option Disk) → Steps (Adds (take count bytes)) old mid
+    → Steps (Adds (take more (take (length bytes - count) (drop count bytes)))) mid new → Steps (Adds (take (count + more) bytes)) old new
+told_more bytes count more old mid new first second =
+    told_then (take count bytes) (take more (take (length bytes - count) (drop count bytes))) (take (count + more) bytes) old mid new
+    (ap (λ rest. take count bytes ++ take more rest) (take_rest bytes count) ∙ sym (take-add count more bytes)) first second
+
+-- a write that fails takes none
+pub told_failed : (bytes : List ℕ) (old mid new : Option Disk) → Steps (Adds bytes) old mid → Steps (Adds []) mid new → Steps (Adds bytes) old new
+told_failed bytes old mid new first second = told_then bytes [] bytes old mid new (append-nil bytes) first second
+
+pub told_on_disk : (mid new : Option Disk) → Steps Syncs mid new → ForSome new IsOnDisk
+told_on_disk None (Some new) syncs disk is = absurd syncs
+told_on_disk (Some mid) (Some new) syncs disk is = subst IsOnDisk (search rules) syncs.all
+told_on_disk mid None syncs disk is = cc
+
+pub told_on_disk_outlives : (told : Option Disk) → ForSome told IsOnDisk → IfSome told OutlivesCrash
+told_on_disk_outlives None on_disk = tt
+told_on_disk_outlives (Some disk) on_disk = outlives disk (on_disk disk refl)

@@ -1,0 +1,3 @@
+pub mod BeginLemmas
+pub mod DeskLemmas
+pub mod FileLemmas

@@ -1,0 +1,14 @@
+use Rattle.std.proofs.Common.{◌≡◌, ◌≤◌, ◌-◌, length, take, true}
+use Rattle.pb_files.specs.Disk.{Adds, Steps}
+use Rattle.pb_files.proofs.journal_sink.write_all.Given as goal
+
+-- so many bytes have been written, and no call has failed
+abbrev pub invariant-loop-count : goal.invariant-loop-count
+invariant-loop-count g l = record {
+  within : l.count ≤ length l.bytes;
+  ready : (g.J.JournalFile.state l.file).ready ≡ true;
+  added : Steps (Adds (take l.count l.bytes)) (g.J.JournalFile.state l.initial.file).told (g.J.JournalFile.state l.file).told;
+}
+
+abbrev pub decreases-loop-count : goal.decreases-loop-count
+decreases-loop-count g l = length l.bytes - l.count

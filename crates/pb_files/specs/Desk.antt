@@ -1,0 +1,67 @@
+-- What is known of a name in a folder whose file is made anew by way of a draft beside it, and what a crash leaves under it.
+use Rattle.std.specs.Prelude.{◌≡◌, ◌⊎◌, ℕ, Bool, false, true, List, [], ◌∷◌, ◌++◌, Option, None, Some}
+use Rattle.std.specs.Option.{option_map}
+use Rattle.pb_io.specs.Sink.{SinkState}
+
+-- What stands under a name: bytes, or no file.
+abbrev pub Content : Type 0
+Content = Option (List ℕ)
+
+-- What a reader finds under the name; which whole contents a crash may leave there now; which ones a crash at some moment so far might have
+-- left; and whether at some moment it might have left a part of one.
+pub record Shelf : Type 0 where
+  pub found : Content
+  pub leaves : List Content
+  pub left : List Content
+  pub torn : Bool
+
+-- What a run knows: the shelf, where the desk tells of it, and whether a draft can't take the place of what stands there.
+pub record DeskState : Type 0 where
+  pub told : Option Shelf
+  pub refused : Bool
+
+-- What is told goes on by a step. A desk that tells nothing goes on so.
+abbrev pub Goes : (Shelf → Shelf → Type 0) → Option Shelf → Option Shelf → Type 0
+Goes step None None = Unit {0}
+Goes step None (Some new) = ⊥
+Goes step (Some old) None = ⊥
+Goes step (Some old) (Some new) = step old new
+
+-- An end into an empty file, which tells its bytes where the desk tells what it knows.
+pub record Begins (told : Option Shelf) (end : SinkState) : Type 0 where
+  pub empty : end.bytes ≡ option_map (λ _. []) told
+  pub works : end.failed ≡ false
+
+-- A reader finds this content, and a crash might have left it, or what it might have left before: no part of it.
+pub record Names (content : Content) (old new : Shelf) : Type 0 where
+  pub found : new.found ≡ content
+  pub left : new.left ≡ old.left ++ content ∷ []
+  pub torn : new.torn ≡ old.torn
+
+-- A crash might have left this content, or what it might have left before: no part of it.
+pub record MayHaveLeft (content : Content) (old new : Shelf) : Type 0 where
+  pub left : (new.left ≡ old.left) ⊎ (new.left ≡ old.left ++ content ∷ [])
+  pub torn : new.torn ≡ old.torn
+
+-- The name wasn't given, as far as a reader sees.
+pub record NamesNot (content : Content) (old new : Shelf) : Type 0 where
+  pub found : new.found ≡ old.found
+  pub crash : MayHaveLeft content old new
+
+-- The folder's names are on the disk: a crash leaves what a reader finds.
+pub record Settles (old new : Shelf) : Type 0 where
+  pub found : new.found ≡ old.found
+  pub leaves : new.leaves ≡ old.found ∷ []
+  pub left : new.left ≡ old.left
+  pub torn : new.torn ≡ old.torn
+
+-- They may be there or not.
+pub record SettlesNot (old new : Shelf) : Type 0 where
+  pub found : new.found ≡ old.found
+  pub left : new.left ≡ old.left
+  pub torn : new.torn ≡ old.torn
+
+-- The file under the name is empty. From now on a crash may leave a part of what is put there.
+pub record Empties (old new : Shelf) : Type 0 where
+  pub found : new.found ≡ Some []
+  pub torn : new.torn ≡ true

@@ -1,0 +1,27 @@
+-- What is known of a sink at the end of a journal's file.
+use Rattle.std.specs.Prelude.{◌≡◌, Bool, true, List, [], ℕ, ◌++◌, Option, None, Some, IfSome, Result, OnOk}
+use Rattle.pb_files.specs.Disk.{Disk, Grows, OutlivesCrash, Steps}
+
+-- the disk, where the file tells of it, the bytes that wait to be written, and whether a flush puts all on the disk
+pub record EndState : Type 0 where
+  pub told : Option Disk
+  pub waits : List ℕ
+  pub sync : Bool
+
+-- what was put: what a reader finds, and then what waits
+abbrev pub bytes_put : Option Disk → List ℕ → Option (List ℕ)
+bytes_put None waits = None
+bytes_put (Some disk) waits = Some (disk.found ++ waits)
+
+-- A put adds nothing to the file: the bytes wait.
+pub record PutAtEnd (old new : EndState) : Type 0 where
+  pub told : new.told ≡ old.told
+  pub sync : new.sync ≡ old.sync
+
+-- A flush writes all that waits, and with sync each crash from then on leaves it, whatever is added later.
+pub record FlushAtEnd {E : Type 0} (old new : EndState) (answer : Result (Unit {0}) E) : Type 0 where
+  pub found : OnOk answer (new.waits ≡ [])
+  pub outlives : OnOk answer (old.sync ≡ true → IfSome new.told OutlivesCrash)
+  -- what was found stays, and what was on the disk
+  pub grows : Steps Grows old.told new.told
+  pub sync : new.sync ≡ old.sync

@@ -1,0 +1,10 @@
+pub mod Begins
+pub mod Desk
+pub mod Disk
+pub mod Holding
+pub mod JournalFile
+pub mod JournalSink
+pub mod Keeping
+pub mod MemDesk
+pub mod Saving
+pub mod Starting

@@ -1,0 +1,31 @@
+-- What making a file anew whole leaves under its name, whenever a crash comes.
+use Rattle.std.specs.Prelude.{◌≡◌, ℕ, List, [], ◌∷◌, ◌++◌, Option, Some, Result, Ok, Err}
+use Rattle.pb_files.specs.Desk.{Goes, MayHaveLeft, Names, NamesNot, Shelf}
+use Rattle.pb_files.specs.declared.desk.NotMade.{NotMade}
+use Rattle.pb_files.specs.declared.desk.NotMade.TheVariants as made
+use Rattle.pb_collecting.specs.declared.place.NotKept.TheVariants.{Open}
+use Rattle.pb_files.specs.declared.saving.NotSaved.{NotSaved}
+use Rattle.pb_files.specs.declared.saving.NotSaved.TheVariants.{Refused, Failed, Unsettled}
+
+-- A reader finds these bytes, and a crash leaves them from now on. Up to now it left these bytes, or what it would have left before.
+pub record Saved (bytes : List ℕ) (old new : Shelf) : Type 0 where
+  pub names : Names (Some bytes) old new
+  pub leaves : new.leaves ≡ Some bytes ∷ []
+
+-- How making the file anew of these bytes ends: they are there, for each crash from now on too; they are there, and a crash may undo it; or the
+-- old file is there. At each moment a crash leaves the old file or these bytes.
+abbrev pub Saves : {E : Type 0} → List ℕ → Option Shelf → Option Shelf → Result E NotSaved → Type 0
+Saves bytes old new (Ok end) = Goes (Saved bytes) old new
+Saves bytes old new (Err Unsettled) = Goes (Names (Some bytes)) old new
+Saves bytes old new (Err (Failed why)) = Goes (NamesNot (Some bytes)) old new
+Saves bytes old new (Err Refused) = Goes (NamesNot (Some bytes)) old new
+
+-- A crash at any moment so far left these bytes, or what it would have left before.
+abbrev pub OldOrNew : List ℕ → Option Shelf → Option Shelf → Type 0
+OldOrNew bytes old new = Goes (MayHaveLeft (Some bytes)) old new
+
+-- what it is to the saving that there is no draft
+abbrev pub not_saved : NotMade → NotSaved
+not_saved made.Taken = Failed Open
+not_saved made.Refused = Refused
+not_saved (made.Failed why) = Failed why

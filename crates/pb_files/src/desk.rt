@@ -1,0 +1,98 @@
+//! A name in a folder, and the drafts of its file.
+
+ghost use Rattle.std.specs.Prelude.{◌≡◌, IfOk, OnErr, OnOk, Ok, Err, false, true};
+ghost use Rattle.pb_io.specs.Sink.{HandedOn};
+ghost use Rattle.pb_files.specs.Desk.{Begins, DeskState, Empties, Goes, Names, NamesNot, Settles, SettlesNot};
+ghost use Rattle.pb_files.specs.declared.desk.NotMade.TheVariants as made;
+
+use pb_collecting::NotKept;
+use pb_io::Sink;
+
+/// Why there is no draft of a number.
+#[derive(Clone, Copy, Debug, PartialEq, Eq)]
+pub enum NotMade {
+    /// Another run has the name.
+    Taken,
+    /// The folder takes no draft, or none that can take the old file's place.
+    Refused,
+    /// It can't be made.
+    Failed(NotKept),
+}
+
+impl From<NotKept> for NotMade {
+    ghost from_gives = { λ why result. result ≡ made.Failed why };
+
+    fn from(why: NotKept) -> NotMade {
+        NotMade::Failed(why)
+    }
+}
+
+/// Why a draft doesn't get the name of its file.
+#[derive(Clone, Copy, Debug, PartialEq, Eq)]
+pub enum NotNamed {
+    /// The name can't be given to another file.
+    Refused,
+    /// The system has failed.
+    Failed,
+}
+
+/// A name in a folder, and drafts beside it, which have numbers. Whoever has an end into a draft alone writes it.
+pub trait Desk {
+    /// An end into a file: what is put is written there, and a flush puts it on the disk.
+    type End: Sink + Drop;
+
+    /// What is known of the name.
+    ghost state: { Self → DeskState };
+
+    /// Looks at what stands under the name. The answer is whether a draft can take its place.
+    ///
+    /// # Errors
+    ///
+    /// `Open` where that can't be told, or another run holds the file.
+    fn takes_draft(&mut self) -> Result<bool, NotKept>
+        ensures refused { result ≡ Ok false → (state self.new).refused ≡ true }
+        ensures same { (state self.new).told ≡ (state self.old).told };
+
+    /// Removes the draft of this number, unless a run holds it: its own was killed.
+    fn remove_left_over(&mut self, number: u32)
+        ensures same { (state self.new).told ≡ (state self.old).told };
+
+    /// Makes the draft of this number, which is empty, and holds it.
+    fn make(&mut self, number: u32) -> Result<Self::End, NotMade>
+        ensures begins { IfOk result (λ end. Begins (state self.new).told (Self.End.state end)) }
+        ensures refused { result ≡ Err NotMade.Refused → (state self.new).refused ≡ true }
+        ensures same { (state self.new).told ≡ (state self.old).told };
+
+    /// Tells that other runs have all names.
+    fn tell_all_taken(&mut self)
+        ensures same { (state self.new).told ≡ (state self.old).told };
+
+    /// Gives the draft the name, in the place of the file that has it. The draft is on the disk.
+    fn rename(&mut self, draft: &Self::End) -> Result<(), NotNamed>
+        requires { HandedOn (Self.End.state draft.now) }
+        ensures named { OnOk result (Goes (Names (Self.End.state draft.now).bytes) (state self.old).told (state self.new).told) }
+        ensures not_named { OnErr result (Goes (NamesNot (Self.End.state draft.now).bytes) (state self.old).told (state self.new).told) }
+        ensures refused { result ≡ Err NotNamed.Refused → (state self.new).refused ≡ true };
+
+    /// Removes the draft, as far as that can be done.
+    fn remove(&mut self, draft: Self::End)
+        ensures refused { (state self.new).refused ≡ (state self.old).refused }
+        ensures same { (state self.new).told ≡ (state self.old).told };
+
+    /// Puts the folder's names on the disk.
+    fn sync_folder(&mut self) -> Result<(), NotKept>
+        ensures settled { OnOk result (Goes Settles (state self.old).told (state self.new).told) }
+        ensures not_settled { OnErr result (Goes SettlesNot (state self.old).told (state self.new).told) };
+
+    /// Opens the file under the name, or makes it, and empties it: for what takes no draft, such as a device.
+    ///
+    /// # Errors
+    ///
+    /// It can't be opened, or not be emptied, or there is no memory to write with.
+    fn open_in_place(&mut self) -> Result<Self::End, NotKept>
+        requires { (state self.old).refused ≡ true }
+        ensures refused { (state self.new).refused ≡ true }
+        ensures begins { IfOk result (λ end. Begins (state self.new).told (Self.End.state end)) }
+        ensures emptied { OnOk result (Goes Empties (state self.old).told (state self.new).told) }
+        ensures same { OnErr result ((state self.new).told ≡ (state self.old).told) };
+}

@@ -1,0 +1,57 @@
+//! An end into a file of the system.
+
+use pb_messages::{Named, Told};
+use std::alloc::{AllocError, Global};
+use std::fs::File;
+use std::io::{self, BufWriter, Write};
+
+/// How many bytes go into a file at once.
+pub const PIECE: usize = 65_536;
+
+/// Writes into a file, which a flush puts on the disk. What fails is told.
+#[derive(Drop)]
+pub struct FileWriter<'a> {
+    named: Named<'a>,
+    file: BufWriter<Told<'a, File>>,
+    is_synced: bool,
+}
+
+impl<'a> FileWriter<'a> {
+    /// An end into this file, which is empty. A device isn't put on the disk.
+    ///
+    /// # Errors
+    ///
+    /// There is no memory for a buffer.
+    pub(crate) fn new(
+        alloc: Global,
+        named: Named<'a>,
+        file: File,
+        is_synced: bool,
+    ) -> Result<FileWriter<'a>, AllocError> {
+        match BufWriter::with_capacity(alloc, PIECE, Told::new(named, file)) {
+            Ok(file) => Ok(FileWriter {
+                named,
+                file,
+                is_synced,
+            }),
+            Err(_) => Err(AllocError),
+        }
+    }
+}
+
+impl Write for FileWriter<'_> {
+    fn write(&mut self, bytes: &[u8]) -> io::Result<usize> {
+        self.file.write(bytes)
+    }
+
+    fn flush(&mut self) -> io::Result<()> {
+        self.file.flush()?;
+        if self.is_synced
+            && let Err(error) = self.file.get_ref().get_ref().sync_all()
+        {
+            self.named.fail(&error);
+            return Err(error);
+        }
+        Ok(())
+    }
+}

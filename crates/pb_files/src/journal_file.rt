@@ -1,0 +1,58 @@
+//! A file that this run holds and adds to.
+
+ghost use Rattle.std.specs.Prelude.{◌≡◌, ◌≤◌, ◌<◌, [], IfOk, OnErr, OnOk, is_ok, length, take, true};
+ghost use Rattle.pb_files.specs.Disk.{Adds, FileState, Steps, Syncs};
+ghost use Rattle.pb_files.specs.JournalFile.{ReadsAll};
+
+use pb_io::{Failed, Source};
+
+/// A file that this run holds, so that no other run adds to it.
+pub trait JournalFile {
+    /// What is known of the file.
+    ghost state: { Self → FileState };
+
+    /// Whether each write and each sync so far has succeeded.
+    fn is_ready(&self) -> bool
+        ensures { result ≡ (state self.now).ready };
+
+    /// Adds a front of the bytes in one write, at least one byte where there are any, and answers
+    /// how many.
+    ///
+    /// # Errors
+    ///
+    /// `Failed` where nothing was added. Nothing may be written any more then.
+    fn append(&mut self, bytes: &[u8]) -> Result<usize, Failed>
+        requires { (state self.old).ready ≡ true }
+        ensures ready { (state self.new).ready ≡ is_ok result }
+        ensures within { IfOk result (λ count. count ≤ length bytes.now) }
+        ensures some { IfOk result (λ count. 0 < length bytes.now → 0 < count) }
+        ensures front { IfOk result (λ count. Steps (Adds (take count bytes.now)) (state self.old).told (state self.new).told) }
+        ensures none { OnErr result (Steps (Adds []) (state self.old).told (state self.new).told) };
+
+    /// Puts all that is found on the disk, and the file's name.
+    ///
+    /// # Errors
+    ///
+    /// `Failed` where it may not be there. Nothing may be written any more then, since a later
+    /// sync could succeed without it.
+    fn sync(&mut self) -> Result<(), Failed>
+        requires { (state self.old).ready ≡ true }
+        ensures ready { (state self.new).ready ≡ is_ok result }
+        ensures all { OnOk result (Steps Syncs (state self.old).told (state self.new).told) }
+        ensures none { OnErr result (Steps (Adds []) (state self.old).told (state self.new).told) };
+}
+
+/// A file that this run holds and reads before it adds to it.
+pub trait ReadFile: JournalFile {
+    /// What reads the file from its first byte.
+    type Reader: Source;
+
+    /// A reader of all that is found.
+    ///
+    /// # Errors
+    ///
+    /// `Failed` where the file can't be read.
+    fn reader(&mut self) -> Result<Self::Reader, Failed>
+        ensures all { IfOk result (λ reader. ReadsAll (Self.state self.old).told (Self.Reader.state reader)) }
+        ensures same { Self.state self.new ≡ Self.state self.old };
+}

@@ -1,0 +1,92 @@
+//! A name in a folder as the place of a text.
+
+ghost use Rattle.std.specs.Option.{option_map};
+ghost use Rattle.std.specs.Prelude.{◌≡◌, ℕ, List, None, true};
+ghost use Rattle.std.specs.Result.{result_err};
+ghost use Rattle.pb_files.specs.Keeping.{OldOrNewByDraft, found_at};
+ghost use Rattle.pb_collecting.specs.Place.{Keeps};
+
+use crate::desk::Desk;
+use crate::saving::{NotSaved, save_whole};
+use pb_collecting::{NotKept, Place, Text};
+
+/// A file that is made anew whole where a draft can take its place, and is written in place where none can.
+#[derive(Drop)]
+pub struct KeptFile<D: Desk> {
+    /// The file's name, and its drafts.
+    pub desk: D,
+    in_place: Option<D::End>,
+    // The file that has the name now: the lock on it lasts as long as its end.
+    named: Option<D::End>,
+    fault: Option<NotKept>,
+}
+
+impl<D: Desk> KeptFile<D> {
+    /// The place of this name, where nothing was kept yet.
+    pub fn new(desk: D) -> KeptFile<D>
+        ensures state { ⟦<KeptFile<D> as Place>⟧.state result ≡ record { found = option_map (λ shelf. shelf.found) (D.state desk).told; fault = None } }
+        ensures desk { result.desk ≡ desk }
+    {
+        KeptFile {
+            desk,
+            in_place: None,
+            named: None,
+            fault: None,
+        }
+    }
+
+    /// Writes the text over what is there.
+    fn write_in_place<X: Text>(&mut self, text: &X) -> Result<(), NotKept>
+        requires text { (bytes : List ℕ) × X.is_text text.now bytes }
+        requires refused { (D.state self.old.desk).refused ≡ true }
+        ensures refused { (D.state self.new.desk).refused ≡ true }
+        ensures kept { (bytes : List ℕ) × X.is_text text.now bytes
+            × Keeps (⟦<KeptFile<D> as Place>⟧.state self.old) (⟦<KeptFile<D> as Place>⟧.state self.new) result bytes }
+    {
+        let mut end = match self.desk.open_in_place() {
+            Ok(end) => end,
+            Err(why) => return self.answer(Err(why)),
+        };
+        let written = text.write(&mut end);
+        self.in_place = Some(end);
+        match written {
+            Ok(()) => self.answer(Ok(())),
+            Err(_) => self.answer(Err(NotKept::Write)),
+        }
+    }
+
+    /// Answers how the text was kept, and remembers it.
+    fn answer(&mut self, kept: Result<(), NotKept>) -> Result<(), NotKept>
+        ensures kept { result ≡ kept }
+        ensures fault { self.new ≡ record self.old { fault = result_err kept } }
+    {
+        self.fault = kept.err();
+        kept
+    }
+}
+
+impl<D: Desk> Place for KeptFile<D> {
+    ghost state = { λ p. record { found = found_at (D.state p.desk).told (option_map D.End.state p.in_place); fault = p.fault } };
+
+    fn keep<X: Text>(&mut self, text: &X) -> Result<(), NotKept>
+        requires { (bytes : List ℕ) × X.is_text text.now bytes }
+        ensures kept { (bytes : List ℕ) × X.is_text text.now bytes
+            × Keeps (⟦<KeptFile<D> as Place>⟧.state self.old) (⟦<KeptFile<D> as Place>⟧.state self.new) result bytes }
+        // A crash leaves no part of the text, unless the file is written in place.
+        ensures whole { (bytes : List ℕ) × X.is_text text.now bytes × OldOrNewByDraft bytes (D.state self.old.desk) (D.state self.new.desk) }
+    {
+        match save_whole(&mut self.desk, text) {
+            Ok(end) => {
+                self.in_place = None;
+                self.named = Some(end);
+                self.answer(Ok(()))
+            }
+            Err(NotSaved::Unsettled) => {
+                self.in_place = None;
+                self.answer(Err(NotKept::Write))
+            }
+            Err(NotSaved::Failed(why)) => self.answer(Err(why)),
+            Err(NotSaved::Refused) => self.write_in_place(text),
+        }
+    }
+}

@@ -1,0 +1,44 @@
+//! The files that a run writes: how it comes to hold one, what it adds to a journal, and how it makes
+//! a book or a ledger anew; what a reader finds there, and what a kill and a crash leave.
+//!
+//! What a file and a folder do is said by traits, and what stands on them is proved for each that
+//! keeps them: for files in memory, which tell all, and for those of the system, which tell nothing.
+//! That the system's keep the traits is trusted.
+#![tactic(auto)]
+
+mod apart;
+mod desk;
+mod file_desk;
+mod file_journal;
+mod file_opener;
+mod file_writer;
+mod folder;
+mod holding;
+mod journal_file;
+mod journal_sink;
+mod kept;
+pub mod laws;
+mod mem_desk;
+mod mem_journal;
+mod one_file;
+mod passed;
+mod replies;
+mod saving;
+mod starting;
+
+pub use apart::{NotApart, keep_apart};
+pub use desk::{Desk, NotMade, NotNamed};
+pub use file_desk::FileDesk;
+pub use file_journal::FileJournal;
+pub use file_opener::{hold_ledger, open, start_journal};
+pub use file_writer::{FileWriter, PIECE};
+pub use holding::{Lock, NotHeld, Opener, hold};
+pub use journal_file::{JournalFile, ReadFile};
+pub use journal_sink::{FileEnd, JournalSink};
+pub use kept::KeptFile;
+pub use mem_desk::{Before, MemDesk};
+pub use mem_journal::{MemFile, MemJournal, MemOpener, Others};
+pub use passed::TellPassed;
+pub use replies::{Replies, Submissions};
+pub use saving::{NotSaved, save_whole};
+pub use starting::{JournalOpener, NotRead, NotStarted, Started, read_whole, start};

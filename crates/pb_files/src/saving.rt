@@ -1,0 +1,92 @@
+//! A file that is made anew whole.
+
+ghost use Rattle.std.specs.Prelude.{◌≡◌, ℕ, List, Err, IfOk, true};
+ghost use Rattle.pb_files.specs.Desk.{Begins};
+ghost use Rattle.pb_files.specs.Saving.{Saves, not_saved};
+
+use crate::desk::{Desk, NotMade, NotNamed};
+use pb_collecting::{NotKept, Text};
+use thiserror::Error;
+
+/// How many names are tried for a draft: as many runs may make one file at a time.
+const NAMES: u32 = 100;
+
+/// Why a file was not made anew.
+#[derive(Clone, Copy, Debug, PartialEq, Eq, Error)]
+pub enum NotSaved {
+    /// A draft can't take the place of what stands there. That is as it was.
+    #[error("no draft can take the file's place")]
+    Refused,
+    /// The draft can't be made, written or named. The old file is there.
+    #[error("{0}")]
+    Failed(NotKept),
+    /// The new file is there, and a crash may undo it.
+    #[error("the folder can't be put on the disk")]
+    Unsettled,
+}
+
+impl From<NotMade> for NotSaved {
+    ghost from_gives = { λ why result. result ≡ not_saved why };
+
+    fn from(why: NotMade) -> NotSaved {
+        match why {
+            NotMade::Taken => NotSaved::Failed(NotKept::Open),
+            NotMade::Refused => NotSaved::Refused,
+            NotMade::Failed(why) => NotSaved::Failed(why),
+        }
+    }
+}
+
+/// An empty draft: by the first number that no run has.
+fn new_draft<D: Desk>(desk: &mut D) -> Result<D::End, NotMade>
+    ensures begins { IfOk result (λ end. Begins (D.state desk.new).told (D.End.state end)) }
+    ensures refused { result ≡ Err NotMade.Refused → (D.state desk.new).refused ≡ true }
+    ensures same { (D.state desk.new).told ≡ (D.state desk.old).told }
+{
+    if !desk.takes_draft()? {
+        return Err(NotMade::Refused);
+    }
+    for number in 0..NAMES {
+        desk.remove_left_over(number);
+        match desk.make(number) {
+            Err(NotMade::Taken) => {}
+            made => return made,
+        }
+    }
+    desk.tell_all_taken();
+    Err(NotMade::Taken)
+}
+
+/// Makes the file under the name anew of the text: a draft is written, put on the disk and given the
+/// name, and then the folder is put on the disk. The answer is the end into the file that has the
+/// name now.
+///
+/// # Errors
+///
+/// Those of `NotSaved`. There is no draft any more.
+pub fn save_whole<D: Desk, X: Text>(desk: &mut D, text: &X) -> Result<D::End, NotSaved>
+    requires { (bytes : List ℕ) × X.is_text text.now bytes }
+    ensures saves { (bytes : List ℕ) × X.is_text text.now bytes × Saves bytes (D.state desk.old).told (D.state desk.new).told result }
+    ensures refused { result ≡ Err NotSaved.Refused → (D.state desk.new).refused ≡ true }
+{
+    let mut draft = new_draft(desk)?;
+    if text.write(&mut draft).is_err() {
+        desk.remove(draft);
+        return Err(NotSaved::Failed(NotKept::Write));
+    }
+    match desk.rename(&draft) {
+        Ok(()) => {}
+        Err(NotNamed::Refused) => {
+            desk.remove(draft);
+            return Err(NotSaved::Refused);
+        }
+        Err(NotNamed::Failed) => {
+            desk.remove(draft);
+            return Err(NotSaved::Failed(NotKept::Write));
+        }
+    }
+    if desk.sync_folder().is_err() {
+        return Err(NotSaved::Unsettled);
+    }
+    Ok(draft)
+}
