@@ -36,7 +36,8 @@ pub enum NotNamed {
     Failed,
 }
 
-/// A name in a folder, and drafts beside it, which have numbers. Whoever has an end into a draft alone writes it.
+/// A name in a folder, and drafts beside it, which have numbers. Whoever has an end into a draft
+/// alone writes it.
 pub trait Desk {
     /// An end into a file: what is put is written there, and a flush puts it on the disk.
     type End: Sink + Drop;
@@ -84,7 +85,8 @@ pub trait Desk {
         ensures settled { OnOk result (Goes Settles (state self.old).told (state self.new).told) }
         ensures not_settled { OnErr result (Goes SettlesNot (state self.old).told (state self.new).told) };
 
-    /// Opens the file under the name, or makes it, and empties it: for what takes no draft, such as a device.
+    /// Opens the file under the name, or makes it, and empties it: for what takes no draft, such as
+    /// a device.
     ///
     /// # Errors
     ///

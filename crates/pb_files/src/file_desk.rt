@@ -32,9 +32,9 @@ struct Old {
 /// to whoever holds a lock on the file that it leads to. No contract knows what is on them, so this
 /// desk tells nothing; it tells users what has failed.
 ///
-/// A draft can replace a file of one name, and of this run's owner and group. Devices, pipes, links,
-/// files with a second name, and files whose folder takes no draft or whose name a mount holds are
-/// written in place.
+/// A draft can replace a file of one name, and of this run's owner and group. Devices, pipes,
+/// links, files with a second name, and files whose folder takes no draft or whose name a mount
+/// holds are written in place.
 #[derive(Drop)]
 pub struct FileDesk<'a, 'f> {
     messages: Messages<'a>,
@@ -152,7 +152,8 @@ impl<'a, 'f> FileDesk<'a, 'f> {
         }
     }
 
-    /// A new file of this name. That of a file that is there can be read by its user alone at first.
+    /// A new file of this name. The draft of a file that is there can be read by its user alone at
+    /// first.
     fn create(&self, name: Path<'_>) -> io::Result<File> {
         let mode = if self.old.is_some() { OWN } else { ANYBODY };
         // Over a network a shared lock is for files alone that are open to be read.
@@ -162,8 +163,8 @@ impl<'a, 'f> FileDesk<'a, 'f> {
     }
 
     /// Whether this run now holds the new file: it isn't locked by a run that takes it for one left
-    /// over, nor removed by such a run. The lock on a book's can be shared, so that the next run may
-    /// replace it.
+    /// over, nor removed by such a run. The lock on a book's can be shared, so that the next run
+    /// may replace it.
     fn is_held(&self, file: &File, name: Path<'_>) -> bool {
         let lock = match self.held {
             Some(_) => file.try_lock(),

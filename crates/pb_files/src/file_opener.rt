@@ -49,9 +49,9 @@ pub fn hold_ledger<'a>(named: Named<'a>, progress: &Progress<'a>) -> Result<File
     held
 }
 
-/// The journal of this name, which this run holds until it ends, and its reader: two runs that wrote
-/// one journal at a time would each give numbers of their own. With `sync` all that is read is on
-/// the disk: the games that an earlier run wrote may be in the system's memory alone, and the
+/// The journal of this name, which this run holds until it ends, and its reader: two runs that
+/// wrote one journal at a time would each give numbers of their own. With `sync` all that is read
+/// is on the disk: the games that an earlier run wrote may be in the system's memory alone, and the
 /// workers that send them again take their answer for a promise.
 ///
 /// # Errors

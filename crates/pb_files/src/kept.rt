@@ -10,7 +10,8 @@ use crate::desk::Desk;
 use crate::saving::{NotSaved, save_whole};
 use pb_collecting::{NotKept, Place, Text};
 
-/// A file that is made anew whole where a draft can take its place, and is written in place where none can.
+/// A file that is made anew whole where a draft can take its place, and is written in place where
+/// none can.
 #[derive(Drop)]
 pub struct KeptFile<D: Desk> {
     /// The file's name, and its drafts.

@@ -1,9 +1,9 @@
-//! The files that a run writes: how it comes to hold one, what it adds to a journal, and how it makes
-//! a book or a ledger anew; what a reader finds there, and what a kill and a crash leave.
+//! The files that a run writes: how it comes to hold one, what it adds to a journal, and how it
+//! makes a book or a ledger anew; what a reader finds there, and what a kill and a crash leave.
 //!
 //! What a file and a folder do is said by traits, and what stands on them is proved for each that
-//! keeps them: for files in memory, which tell all, and for those of the system, which tell nothing.
-//! That the system's keep the traits is trusted.
+//! keeps them: for files in memory, which tell all, and for those of the system, which tell
+//! nothing. That the system's keep the traits is trusted.
 #![tactic(auto)]
 
 mod apart;

@@ -1,4 +1,5 @@
-//! A name in memory, which tells all that is known of it, and whose calls fail from a chosen one on.
+//! A name in memory, which tells all that is known of it, and whose calls fail from a chosen one
+//! on.
 
 ghost use Rattle.std.specs.Option.{option_copied, option_map};
 ghost use Rattle.std.specs.Prelude.{◌≡◌, List, [], ◌∷◌, Some, IfSome, false};
