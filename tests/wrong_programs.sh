@@ -4,7 +4,7 @@
 # mistakes names. The program without a mistake passes them all.
 #
 # A mistake is a file tests/wrong_programs/PROGRAM-MISTAKE.edit: lines that tell what it does, a
-# line `seen by: SCRIPT CHECK`, a line `file: NAME` for each file of crates/pb_program that it
+# line `seen by: SCRIPT CHECK`, a line `file: NAME` for each file below crates/ that it
 # changes, and pairs of lines `old: TEXT` and `new: TEXT` below it. Each old TEXT stands there
 # once. All mistakes of one PROGRAM are made at once.
 #
@@ -34,7 +34,7 @@ copy_tree() {
 # make_mistake FILE: makes this mistake in the copy
 make_mistake() {
     grep -Eq '^seen by: (order|locks)\.sh [a-z_]+$' "$1"
-    awk -v crate="$work/tree/crates/pb_program/" '
+    awk -v crates="$work/tree/crates/" '
         # The text with its only place of the old text changed.
         function changed(text, old, to,    at) {
             at = index(text, old)
@@ -52,7 +52,7 @@ make_mistake() {
         }
         /^file: / {
             finish()
-            path = crate substr($0, 7)
+            path = crates substr($0, 7)
             text = ""
             while ((getline line < path) > 0) text = text line "\n"
             close(path)
