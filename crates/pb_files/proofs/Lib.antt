@@ -1,3 +1,4 @@
 pub mod BeginLemmas
 pub mod DeskLemmas
 pub mod FileLemmas
+pub mod RunLemmas

@@ -6,5 +6,6 @@ pub mod JournalFile
 pub mod JournalSink
 pub mod Keeping
 pub mod MemDesk
+pub mod Runs
 pub mod Saving
 pub mod Starting

@@ -1,10 +1,11 @@
 //! Laws of what kills and crashes leave of a file that is added to. Each is the contract of a
 //! function that does nothing.
 
-ghost use Rattle.std.specs.Prelude.{List, ℕ};
+ghost use Rattle.std.specs.Prelude.{◌≡◌, List, ℕ};
 ghost use Rattle.pb_io.specs.Lines.{ended_lines};
 ghost use Rattle.pb_files.specs.Disk.{Disk, Grows, IsOnDisk, Leaves, OutlivesCrash, on_disk};
 ghost use Rattle.pb_files.specs.Begins.{BeginsWith};
+ghost use Rattle.pb_files.specs.Runs.{Holds, Names, OfOthers, Step, after};
 
 /// Lines that are found outlive every later kill, which leaves what is found then: whatever is
 /// added later, they are the first.
@@ -29,4 +30,17 @@ pub fn synced_lines_outlive_crashes()
 pub fn on_disk_is_what_outlives_crashes()
     ensures outlives { (disk : Disk) → IsOnDisk disk → OutlivesCrash disk }
     ensures on_disk { (disk : Disk) → OutlivesCrash disk → IsOnDisk disk }
+{}
+
+/// Two runs never hold the draft of one name, in a model of their steps.
+#[tactic(auto, using(crate::proofs::RunLemmas::one_run))]
+pub fn one_run_holds_a_draft()
+    ensures { (run other : ℕ) (names : Names) → Holds run names → Holds other names → run ≡ other }
+{}
+
+/// A run that holds a draft holds it on, whatever other runs do and in whatever order: so a run that
+/// has seen that it does may write the draft.
+#[tactic(auto, using(crate::proofs::RunLemmas::still_held))]
+pub fn a_held_draft_stays_held()
+    ensures { (run : ℕ) (names : Names) (steps : List Step) → Holds run names → OfOthers run steps → Holds run (after names steps) }
 {}
