@@ -1,5 +1,5 @@
-//! The files that a run writes: how it comes to hold one, what it adds to a journal, and how it
-//! makes a book or a ledger anew; what a reader finds there, and what a kill and a crash leave.
+//! The files and streams of a run: how it comes to hold a file, what it adds to a journal, and how
+//! it makes a book or a ledger anew; what a reader finds there, and what a kill and a crash leave.
 //!
 //! What a file and a folder do is said by traits, and what stands on them is proved for each that
 //! keeps them: for files in memory, which tell all, and for those of the system, which tell
@@ -25,6 +25,8 @@ mod passed;
 mod replies;
 mod saving;
 mod starting;
+mod stop;
+mod streams;
 
 pub use apart::{NotApart, keep_apart};
 pub use desk::{Desk, NotMade, NotNamed};
@@ -42,3 +44,5 @@ pub use passed::TellPassed;
 pub use replies::{Replies, Submissions};
 pub use saving::{NotSaved, save_whole};
 pub use starting::{JournalOpener, NotRead, NotStarted, Started, read_whole, start};
+pub use stop::Stop;
+pub use streams::expect_open;

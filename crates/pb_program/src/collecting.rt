@@ -1,11 +1,10 @@
 //! The command `collect` over the files that it names.
 
 use crate::command::{FILLS, FileSource, input, source};
-use crate::stop::Stop;
 use pb_cli::{Fault, Keeping, Rules, collect_into, continue_into, journal_into};
 use pb_files::{
-    FileDesk, JournalSink, KeptFile, Replies, Submissions, TellPassed, hold_ledger, keep_apart,
-    start_journal,
+    FileDesk, JournalSink, KeptFile, Replies, Stop, Submissions, TellPassed, hold_ledger,
+    keep_apart, start_journal,
 };
 use pb_messages::{LedgerLines, Messages, Named, News, Part, Progress, Told};
 use pb_poly::{FromRead, Sink, ToWrite};

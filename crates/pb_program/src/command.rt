@@ -1,10 +1,8 @@
 //! Each command over the files that it names and the standard streams.
 
 use crate::collecting::Collecting;
-use crate::stop::Stop;
-use crate::streams::expect_open;
 use pb_cli::{Order, Rules, run_epd, run_export, run_fen, run_probe, run_show};
-use pb_files::open;
+use pb_files::{Stop, expect_open, open};
 use pb_messages::{Messages, Named, News, Progress, Told, Watched};
 use pb_poly::{FromRead, Sink};
 use std::fs::File;

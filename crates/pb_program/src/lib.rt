@@ -7,7 +7,6 @@ mod collecting;
 mod command;
 mod program;
 mod stop;
-mod streams;
 
 pub use command::FILLS;
 pub use program::{USAGE, run, want_of_memory};

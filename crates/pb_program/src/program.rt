@@ -3,9 +3,9 @@
 ghost use Rattle.std.specs.Prelude.{◌≡◌, ◌≤◌};
 
 use crate::command::answer;
-use crate::stop::{Stop, tell_stop};
+use crate::stop::tell_stop;
 use pb_cli::{Fault, Keeping, Order, ParseFault, parse, status};
-use pb_files::PIECE;
+use pb_files::{PIECE, Stop};
 use pb_messages::{Front, Fronted, Message, Messages, Named, Part, RefusedFile, Told};
 use pb_poly::ToWrite;
 use std::cell::RefCell;

@@ -1,7 +1,7 @@
 //! The standard streams, which have to be open before a file is.
 
 use crate::stop::Stop;
-use pb_cli::Fault;
+use pb_commands::Fault;
 use pb_messages::{Message, Messages, is_open};
 
 /// Makes sure that standard output is open, and standard input where it is read.
@@ -9,7 +9,7 @@ use pb_messages::{Message, Messages, is_open};
 /// # Errors
 ///
 /// The fault of a write, or that of a read.
-pub(crate) fn expect_open(messages: Messages<'_>, reads_input: bool) -> Result<(), Stop> {
+pub fn expect_open(messages: Messages<'_>, reads_input: bool) -> Result<(), Stop> {
     let rt = messages.rt();
     if !is_open(&rt.stdout()) {
         let stream = "standard output";
