@@ -20,12 +20,14 @@ pub record Shelf : Type 0 where
   pub left : List Content
   pub torn : Bool
 
--- What a run knows: the shelf, where the desk tells of it; whether a draft can't take the place of what stands there; and whether a draft of
--- this run stands beside the name.
+-- What a run knows: the shelf, where the desk tells of it; whether a draft can't take the place of what stands there; whether a draft of
+-- this run stands beside the name; and whether the folder couldn't be put on the disk since the name was given. A later try may succeed
+-- then though the name isn't there.
 pub record DeskState : Type 0 where
   pub told : Option Shelf
   pub refused : Bool
   pub drafted : Bool
+  pub unsettled : Bool
 
 -- whether the answer is that no draft can take the place of what stands there
 abbrev pub is_untakable : Result Bool NotKept → Bool

@@ -33,6 +33,13 @@ is_refused (Err Refused) = true
 is_refused (Err (Failed why)) = false
 is_refused (Err Unsettled) = false
 
+-- whether the folder couldn't be put on the disk
+abbrev pub is_unsettled : {E : Type 0} → Result E NotSaved → Bool
+is_unsettled (Ok end) = false
+is_unsettled (Err Refused) = false
+is_unsettled (Err (Failed why)) = false
+is_unsettled (Err Unsettled) = true
+
 -- what it is to the saving that there is no draft
 abbrev pub not_saved : NotMade → NotSaved
 not_saved made.Taken = Failed Open

@@ -1,6 +1,6 @@
 //! A name in a folder, and the drafts of its file.
 
-ghost use Rattle.std.specs.Prelude.{◌≡◌, IfOk, OnErr, OnOk, Ok, Err, false, true};
+ghost use Rattle.std.specs.Prelude.{◌≡◌, IfOk, OnErr, OnOk, is_err, Ok, Err, false, true};
 ghost use Rattle.pb_io.specs.Sink.{HandedOn};
 ghost use Rattle.pb_files.specs.Desk.{Begins, DeskState, Empties, Goes, Names, NamesNot, Settles, SettlesNot, is_refused_draft, is_refused_name, is_untakable};
 ghost use Rattle.pb_files.specs.declared.desk.NotMade.TheVariants as made;
@@ -81,6 +81,7 @@ pub trait Desk {
         ensures named { OnOk result (Goes (Names (Self.End.state draft.now).bytes) (state self.old).told (state self.new).told) }
         ensures not_named { OnErr result (Goes (NamesNot (Self.End.state draft.now).bytes) (state self.old).told (state self.new).told) }
         ensures drafted { OnOk result ((state self.new).drafted ≡ false) }
+        ensures unsettled { OnOk result ((state self.new).unsettled ≡ false) }
         ensures still_drafted { OnErr result ((state self.new).drafted ≡ true) }
         ensures refused { (state self.new).refused ≡ is_refused_name result };
 
@@ -91,8 +92,10 @@ pub trait Desk {
         ensures refused { (state self.new).refused ≡ (state self.old).refused }
         ensures same { (state self.new).told ≡ (state self.old).told };
 
-    /// Puts the folder's names on the disk.
+    /// Puts the folder's names on the disk. Once this has failed, another try would tell nothing.
     fn sync_folder(&mut self) -> Result<(), NotKept>
+        requires { (state self.old).unsettled ≡ false }
+        ensures unsettled { (state self.new).unsettled ≡ is_err result }
         ensures refused { (state self.new).refused ≡ (state self.old).refused }
         ensures drafted { (state self.new).drafted ≡ (state self.old).drafted }
         ensures settled { OnOk result (Goes Settles (state self.old).told (state self.new).told) }

@@ -46,6 +46,7 @@ pub struct FileDesk<'a, 'f> {
     old: Option<Old>,
     draft: Option<PathBuf>,
     refused: bool,
+    unsettled: bool,
 }
 
 impl<'a, 'f> FileDesk<'a, 'f> {
@@ -73,6 +74,7 @@ impl<'a, 'f> FileDesk<'a, 'f> {
             old: None,
             draft: None,
             refused: false,
+            unsettled: false,
         }
     }
 
@@ -227,7 +229,7 @@ impl<'a, 'f> FileDesk<'a, 'f> {
 impl<'a> Desk for FileDesk<'a, '_> {
     type End = ToWrite<FileWriter<'a>>;
 
-    ghost state = { λ s. record { told = None; refused = s.refused; drafted = is_some s.draft } };
+    ghost state = { λ s. record { told = None; refused = s.refused; drafted = is_some s.draft; unsettled = s.unsettled } };
 
     fn takes_draft(&mut self) -> Result<bool, NotKept> {
         let rt = self.messages.rt();
@@ -304,6 +306,7 @@ impl<'a> Desk for FileDesk<'a, '_> {
         match fs::rename(self.messages.rt(), name.as_path(), self.path) {
             Ok(()) => {
                 self.draft = None;
+                self.unsettled = false;
                 Ok(())
             }
             Err(error) if error.kind() == ErrorKind::ResourceBusy => {
@@ -328,6 +331,7 @@ impl<'a> Desk for FileDesk<'a, '_> {
             Ok(()) => Ok(()),
             Err(error) => {
                 self.named(Left::New).fail(&error);
+                self.unsettled = true;
                 Err(NotKept::Write)
             }
         }

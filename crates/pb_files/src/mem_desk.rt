@@ -37,6 +37,7 @@ pub struct MemDesk {
     torn: bool,
     refused: bool,
     drafted: bool,
+    unsettled: bool,
     calls: u32,
     good: u32,
 }
@@ -51,7 +52,7 @@ impl MemDesk {
         good: u32,
     ) -> MemDesk
         ensures { let content = option_map (λ v. v.items) first in ⟦<MemDesk as Desk>⟧.state result
-            ≡ record { told = Some (record { found = content; leaves = content ∷ []; left = content ∷ []; torn = false }); refused = false; drafted = false } }
+            ≡ record { told = Some (record { found = content; leaves = content ∷ []; left = content ∷ []; torn = false }); refused = false; drafted = false; unsettled = false } }
     {
         MemDesk {
             alloc,
@@ -62,6 +63,7 @@ impl MemDesk {
             torn: false,
             refused: false,
             drafted: false,
+            unsettled: false,
             calls,
             good,
         }
@@ -111,6 +113,7 @@ impl Desk for MemDesk {
       told = Some (record { found = found_of first named; leaves = leaves_of m.settled first named; left = contents_of first named; torn = m.torn });
       refused = m.refused;
       drafted = m.drafted;
+      unsettled = m.unsettled;
     } };
 
     fn takes_draft(&mut self) -> Result<bool, NotKept> {
@@ -150,6 +153,7 @@ impl Desk for MemDesk {
         };
         self.named = Some(bytes);
         self.drafted = false;
+        self.unsettled = false;
         self.settled = false;
         Ok(())
     }
@@ -160,6 +164,7 @@ impl Desk for MemDesk {
 
     fn sync_folder(&mut self) -> Result<(), NotKept> {
         if !self.goes_on() {
+            self.unsettled = true;
             return Err(NotKept::Write);
         }
         self.settled = true;
