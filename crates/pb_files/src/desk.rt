@@ -1,6 +1,6 @@
 //! A name in a folder, and the drafts of its file.
 
-ghost use Rattle.std.specs.Prelude.{◌≡◌, IfOk, OnErr, OnOk, is_err, Ok, Err, false, true};
+ghost use Rattle.std.specs.Prelude.{◌≡◌, IfOk, OnErr, OnOk, false, is_err, true};
 ghost use Rattle.pb_io.specs.Sink.{HandedOn};
 ghost use Rattle.pb_files.specs.Desk.{Begins, DeskState, Empties, Goes, Names, NamesNot, Settles, SettlesNot, is_refused_draft, is_refused_name, is_untakable};
 ghost use Rattle.pb_files.specs.declared.desk.NotMade.TheVariants as made;
