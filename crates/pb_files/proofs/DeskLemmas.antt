@@ -1,12 +1,12 @@
 -- What a place finds after steps of its desk.
-use Rattle.std.proofs.Common.{◌≡◌, ◌∙◌, ℕ, List, Option, None, Some, Result, Ok, Err, ap, inr, length, refl, subst, sym, take}
+use Rattle.std.proofs.Common.{◌≡◌, ◌∙◌, ℕ, List, Option, None, Some, Result, Err, ap, inr, length, refl, subst, sym}
 use Rattle.std.proofs.Math.Seq.{take-length}
 use Rattle.pb_io.specs.Sink.{SinkState}
 use Rattle.pb_files.specs.Desk.{Goes, Names, Shelf}
 use Rattle.pb_files.specs.Keeping.{found_at}
 use Rattle.pb_collecting.specs.Place.{Keeps, PlaceState}
 use Rattle.pb_collecting.specs.declared.place.NotKept.{NotKept}
-use Rattle.pb_collecting.specs.declared.place.NotKept.TheVariants.{Open, Write, Memory}
+use Rattle.pb_collecting.specs.declared.place.NotKept.TheVariants.{Write}
 use Rattle.pb_files.specs.declared.saving.NotSaved.{NotSaved}
 use Rattle.pb_files.specs.declared.saving.NotSaved.TheVariants.{Unsettled}
 use Rattle.pb_files.specs.Saving.{Saves}

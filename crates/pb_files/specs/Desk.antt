@@ -1,7 +1,12 @@
 -- What is known of a name in a folder whose file is made anew by way of a draft beside it, and what a crash leaves under it.
-use Rattle.std.specs.Prelude.{◌≡◌, ◌⊎◌, ℕ, Bool, false, true, List, [], ◌∷◌, ◌++◌, Option, None, Some}
+use Rattle.std.specs.Prelude.{◌≡◌, ◌⊎◌, ℕ, Bool, false, true, List, [], ◌∷◌, ◌++◌, Option, None, Some, Result, Ok, Err}
 use Rattle.std.specs.Option.{option_map}
 use Rattle.pb_io.specs.Sink.{SinkState}
+use Rattle.pb_collecting.specs.declared.place.NotKept.{NotKept}
+use Rattle.pb_files.specs.declared.desk.NotMade.{NotMade}
+use Rattle.pb_files.specs.declared.desk.NotMade.TheVariants as made
+use Rattle.pb_files.specs.declared.desk.NotNamed.{NotNamed}
+use Rattle.pb_files.specs.declared.desk.NotNamed.TheVariants as named
 
 -- What stands under a name: bytes, or no file.
 abbrev pub Content : Type 0
@@ -15,10 +20,33 @@ pub record Shelf : Type 0 where
   pub left : List Content
   pub torn : Bool
 
--- What a run knows: the shelf, where the desk tells of it, and whether a draft can't take the place of what stands there.
+-- What a run knows: the shelf, where the desk tells of it; whether a draft can't take the place of what stands there; whether a draft of
+-- this run stands beside the name; and whether the folder couldn't be put on the disk since the name was given. A later try may succeed
+-- then though the name isn't there.
 pub record DeskState : Type 0 where
   pub told : Option Shelf
   pub refused : Bool
+  pub drafted : Bool
+  pub unsettled : Bool
+
+-- whether the answer is that no draft can take the place of what stands there
+abbrev pub is_untakable : Result Bool NotKept → Bool
+is_untakable (Ok true) = false
+is_untakable (Ok false) = true
+is_untakable (Err why) = false
+
+-- whether a draft was refused, and not made or failed
+abbrev pub is_refused_draft : {E : Type 0} → Result E NotMade → Bool
+is_refused_draft (Ok end) = false
+is_refused_draft (Err made.Taken) = false
+is_refused_draft (Err made.Refused) = true
+is_refused_draft (Err (made.Failed why)) = false
+
+-- whether the name was refused
+abbrev pub is_refused_name : Result (Unit {0}) NotNamed → Bool
+is_refused_name (Ok done) = false
+is_refused_name (Err named.Refused) = true
+is_refused_name (Err named.Failed) = false
 
 -- What is told goes on by a step. A desk that tells nothing goes on so.
 abbrev pub Goes : (Shelf → Shelf → Type 0) → Option Shelf → Option Shelf → Type 0
@@ -32,9 +60,10 @@ pub record Begins (told : Option Shelf) (end : SinkState) : Type 0 where
   pub empty : end.bytes ≡ option_map (λ _. []) told
   pub works : end.failed ≡ false
 
--- A reader finds this content, and a crash might have left it, or what it might have left before: no part of it.
+-- A reader finds this content. A crash may leave it, or what it may have left before, and so it might up to now: no part of it.
 pub record Names (content : Content) (old new : Shelf) : Type 0 where
   pub found : new.found ≡ content
+  pub leaves : new.leaves ≡ old.leaves ++ content ∷ []
   pub left : new.left ≡ old.left ++ content ∷ []
   pub torn : new.torn ≡ old.torn
 
@@ -46,6 +75,7 @@ pub record MayHaveLeft (content : Content) (old new : Shelf) : Type 0 where
 -- The name wasn't given, as far as a reader sees.
 pub record NamesNot (content : Content) (old new : Shelf) : Type 0 where
   pub found : new.found ≡ old.found
+  pub leaves : (new.leaves ≡ old.leaves) ⊎ (new.leaves ≡ old.leaves ++ content ∷ [])
   pub crash : MayHaveLeft content old new
 
 -- The folder's names are on the disk: a crash leaves what a reader finds.
@@ -58,6 +88,7 @@ pub record Settles (old new : Shelf) : Type 0 where
 -- They may be there or not.
 pub record SettlesNot (old new : Shelf) : Type 0 where
   pub found : new.found ≡ old.found
+  pub leaves : new.leaves ≡ old.leaves
   pub left : new.left ≡ old.left
   pub torn : new.torn ≡ old.torn
 

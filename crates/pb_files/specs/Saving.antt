@@ -1,5 +1,5 @@
 -- What making a file anew whole leaves under its name, whenever a crash comes.
-use Rattle.std.specs.Prelude.{◌≡◌, ℕ, List, [], ◌∷◌, ◌++◌, Option, Some, Result, Ok, Err}
+use Rattle.std.specs.Prelude.{◌≡◌, ℕ, Bool, false, true, List, [], ◌∷◌, ◌++◌, Option, Some, Result, Ok, Err}
 use Rattle.pb_files.specs.Desk.{Goes, MayHaveLeft, Names, NamesNot, Shelf}
 use Rattle.pb_files.specs.declared.desk.NotMade.{NotMade}
 use Rattle.pb_files.specs.declared.desk.NotMade.TheVariants as made
@@ -9,8 +9,10 @@ use Rattle.pb_files.specs.declared.saving.NotSaved.TheVariants.{Refused, Failed,
 
 -- A reader finds these bytes, and a crash leaves them from now on. Up to now it left these bytes, or what it would have left before.
 pub record Saved (bytes : List ℕ) (old new : Shelf) : Type 0 where
-  pub names : Names (Some bytes) old new
+  pub found : new.found ≡ Some bytes
   pub leaves : new.leaves ≡ Some bytes ∷ []
+  pub left : new.left ≡ old.left ++ Some bytes ∷ []
+  pub torn : new.torn ≡ old.torn
 
 -- How making the file anew of these bytes ends: they are there, for each crash from now on too; they are there, and a crash may undo it; or the
 -- old file is there. At each moment a crash leaves the old file or these bytes.
@@ -23,6 +25,20 @@ Saves bytes old new (Err Refused) = Goes (NamesNot (Some bytes)) old new
 -- A crash at any moment so far left these bytes, or what it would have left before.
 abbrev pub OldOrNew : List ℕ → Option Shelf → Option Shelf → Type 0
 OldOrNew bytes old new = Goes (MayHaveLeft (Some bytes)) old new
+
+-- whether a draft was refused, or the name
+abbrev pub is_refused : {E : Type 0} → Result E NotSaved → Bool
+is_refused (Ok end) = false
+is_refused (Err Refused) = true
+is_refused (Err (Failed why)) = false
+is_refused (Err Unsettled) = false
+
+-- whether the folder couldn't be put on the disk
+abbrev pub is_unsettled : {E : Type 0} → Result E NotSaved → Bool
+is_unsettled (Ok end) = false
+is_unsettled (Err Refused) = false
+is_unsettled (Err (Failed why)) = false
+is_unsettled (Err Unsettled) = true
 
 -- what it is to the saving that there is no draft
 abbrev pub not_saved : NotMade → NotSaved

@@ -1,8 +1,8 @@
 //! A name in a folder, and the drafts of its file.
 
-ghost use Rattle.std.specs.Prelude.{◌≡◌, IfOk, OnErr, OnOk, Ok, Err, false, true};
+ghost use Rattle.std.specs.Prelude.{◌≡◌, IfOk, OnErr, OnOk, false, is_err, true};
 ghost use Rattle.pb_io.specs.Sink.{HandedOn};
-ghost use Rattle.pb_files.specs.Desk.{Begins, DeskState, Empties, Goes, Names, NamesNot, Settles, SettlesNot};
+ghost use Rattle.pb_files.specs.Desk.{Begins, DeskState, Empties, Goes, Names, NamesNot, Settles, SettlesNot, is_refused_draft, is_refused_name, is_untakable};
 ghost use Rattle.pb_files.specs.declared.desk.NotMade.TheVariants as made;
 
 use pb_collecting::NotKept;
@@ -51,37 +51,53 @@ pub trait Desk {
     ///
     /// `Open` where that can't be told, or another run holds the file.
     fn takes_draft(&mut self) -> Result<bool, NotKept>
-        ensures refused { result ≡ Ok false → (state self.new).refused ≡ true }
+        ensures refused { (state self.new).refused ≡ is_untakable result }
+        ensures drafted { (state self.new).drafted ≡ (state self.old).drafted }
         ensures same { (state self.new).told ≡ (state self.old).told };
 
     /// Removes the draft of this number, unless a run holds it: its own was killed.
     fn remove_left_over(&mut self, number: u32)
-        ensures same { (state self.new).told ≡ (state self.old).told };
+        ensures same { state self.new ≡ state self.old };
 
-    /// Makes the draft of this number, which is empty, and holds it.
+    /// Makes the draft of this number, which is empty, and holds it. A draft can take the place of
+    /// what stands under the name.
     fn make(&mut self, number: u32) -> Result<Self::End, NotMade>
+        requires { (state self.old).refused ≡ false }
         ensures begins { IfOk result (λ end. Begins (state self.new).told (Self.End.state end)) }
-        ensures refused { result ≡ Err NotMade.Refused → (state self.new).refused ≡ true }
+        ensures refused { (state self.new).refused ≡ is_refused_draft result }
+        ensures drafted { OnOk result ((state self.new).drafted ≡ true) }
+        ensures not_drafted { OnErr result ((state self.new).drafted ≡ (state self.old).drafted) }
         ensures same { (state self.new).told ≡ (state self.old).told };
 
     /// Tells that other runs have all names.
     fn tell_all_taken(&mut self)
-        ensures same { (state self.new).told ≡ (state self.old).told };
+        ensures same { state self.new ≡ state self.old };
 
     /// Gives the draft the name, in the place of the file that has it. The draft is on the disk.
     fn rename(&mut self, draft: &Self::End) -> Result<(), NotNamed>
-        requires { HandedOn (Self.End.state draft.now) }
+        requires handed_on { HandedOn (Self.End.state draft.now) }
+        requires refused { (state self.old).refused ≡ false }
+        requires drafted { (state self.old).drafted ≡ true }
         ensures named { OnOk result (Goes (Names (Self.End.state draft.now).bytes) (state self.old).told (state self.new).told) }
         ensures not_named { OnErr result (Goes (NamesNot (Self.End.state draft.now).bytes) (state self.old).told (state self.new).told) }
-        ensures refused { result ≡ Err NotNamed.Refused → (state self.new).refused ≡ true };
+        ensures drafted { OnOk result ((state self.new).drafted ≡ false) }
+        ensures unsettled { OnOk result ((state self.new).unsettled ≡ false) }
+        ensures still_drafted { OnErr result ((state self.new).drafted ≡ true) }
+        ensures refused { (state self.new).refused ≡ is_refused_name result };
 
-    /// Removes the draft, as far as that can be done.
+    /// Removes the draft, as far as that can be done. It hasn't got the name.
     fn remove(&mut self, draft: Self::End)
+        requires { (state self.old).drafted ≡ true }
+        ensures drafted { (state self.new).drafted ≡ false }
         ensures refused { (state self.new).refused ≡ (state self.old).refused }
         ensures same { (state self.new).told ≡ (state self.old).told };
 
-    /// Puts the folder's names on the disk.
+    /// Puts the folder's names on the disk. Once this has failed, another try would tell nothing.
     fn sync_folder(&mut self) -> Result<(), NotKept>
+        requires { (state self.old).unsettled ≡ false }
+        ensures unsettled { (state self.new).unsettled ≡ is_err result }
+        ensures refused { (state self.new).refused ≡ (state self.old).refused }
+        ensures drafted { (state self.new).drafted ≡ (state self.old).drafted }
         ensures settled { OnOk result (Goes Settles (state self.old).told (state self.new).told) }
         ensures not_settled { OnErr result (Goes SettlesNot (state self.old).told (state self.new).told) };
 

@@ -1,7 +1,8 @@
 //! A name in a folder of the system.
 
-ghost use Rattle.std.specs.Prelude.{◌≡◌, Err, IfOk, None, true};
-ghost use Rattle.pb_files.specs.Desk.{Begins};
+ghost use Rattle.std.specs.Option.{is_some};
+ghost use Rattle.std.specs.Prelude.{◌≡◌, IfOk, None, OnErr, OnOk, false, true};
+ghost use Rattle.pb_files.specs.Desk.{Begins, is_refused_draft};
 
 use crate::desk::{Desk, NotMade, NotNamed};
 use crate::file_writer::FileWriter;
@@ -45,6 +46,7 @@ pub struct FileDesk<'a, 'f> {
     old: Option<Old>,
     draft: Option<PathBuf>,
     refused: bool,
+    unsettled: bool,
 }
 
 impl<'a, 'f> FileDesk<'a, 'f> {
@@ -72,6 +74,7 @@ impl<'a, 'f> FileDesk<'a, 'f> {
             old: None,
             draft: None,
             refused: false,
+            unsettled: false,
         }
     }
 
@@ -190,7 +193,8 @@ impl<'a, 'f> FileDesk<'a, 'f> {
 
     /// Remembers that no draft can take the file's place.
     fn refuse(&mut self) -> NotMade
-        ensures { (⟦<FileDesk<'a, 'f> as Desk>⟧.state self.new).refused ≡ true }
+        ensures refused { self.exit.now ≡ record self.entry.now { refused = true } }
+        ensures answer { result ≡ NotMade.Refused }
     {
         self.refused = true;
         NotMade::Refused
@@ -198,8 +202,11 @@ impl<'a, 'f> FileDesk<'a, 'f> {
 
     /// An end into the draft of this name.
     fn end_into(&mut self, file: File, name: PathBuf) -> Result<ToWrite<FileWriter<'a>>, NotMade>
+        requires { (⟦<FileDesk<'a, 'f> as Desk>⟧.state self.now).refused ≡ false }
         ensures begins { IfOk result (λ end. Begins None (⟦<ToWrite<FileWriter<'a>> as Sink>⟧.state end)) }
-        ensures refused { result ≡ Err NotMade.Refused → (⟦<FileDesk<'a, 'f> as Desk>⟧.state self.new).refused ≡ true }
+        ensures refused { (⟦<FileDesk<'a, 'f> as Desk>⟧.state self.exit.now).refused ≡ is_refused_draft result }
+        ensures drafted { OnOk result ((⟦<FileDesk<'a, 'f> as Desk>⟧.state self.exit.now).drafted ≡ true) }
+        ensures not_drafted { OnErr result ((⟦<FileDesk<'a, 'f> as Desk>⟧.state self.exit.now).drafted ≡ (⟦<FileDesk<'a, 'f> as Desk>⟧.state self.entry.now).drafted) }
     {
         let rt = self.messages.rt();
         if !self.takes_after(&file) {
@@ -222,11 +229,12 @@ impl<'a, 'f> FileDesk<'a, 'f> {
 impl<'a> Desk for FileDesk<'a, '_> {
     type End = ToWrite<FileWriter<'a>>;
 
-    ghost state = { λ s. record { told = None; refused = s.refused } };
+    ghost state = { λ s. record { told = None; refused = s.refused; drafted = is_some s.draft; unsettled = s.unsettled } };
 
     fn takes_draft(&mut self) -> Result<bool, NotKept> {
         let rt = self.messages.rt();
         self.old = None;
+        self.refused = false;
         let takes = match OpenOptions::new().write(true).open(rt, self.path) {
             Ok(file) => {
                 let told = match file.metadata() {
@@ -296,7 +304,11 @@ impl<'a> Desk for FileDesk<'a, '_> {
             return Err(NotNamed::Failed);
         };
         match fs::rename(self.messages.rt(), name.as_path(), self.path) {
-            Ok(()) => Ok(()),
+            Ok(()) => {
+                self.draft = None;
+                self.unsettled = false;
+                Ok(())
+            }
             Err(error) if error.kind() == ErrorKind::ResourceBusy => {
                 self.refused = true;
                 Err(NotNamed::Refused)
@@ -309,7 +321,7 @@ impl<'a> Desk for FileDesk<'a, '_> {
     }
 
     fn remove(&mut self, _draft: ToWrite<FileWriter<'a>>) {
-        if let Some(name) = &self.draft {
+        if let Some(name) = self.draft.take() {
             let _ = fs::remove_file(self.messages.rt(), name.as_path());
         }
     }
@@ -319,6 +331,7 @@ impl<'a> Desk for FileDesk<'a, '_> {
             Ok(()) => Ok(()),
             Err(error) => {
                 self.named(Left::New).fail(&error);
+                self.unsettled = true;
                 Err(NotKept::Write)
             }
         }

@@ -1,9 +1,9 @@
 //! A name in a folder as the place of a text.
 
 ghost use Rattle.std.specs.Option.{option_map};
-ghost use Rattle.std.specs.Prelude.{◌≡◌, ℕ, List, None, true};
+ghost use Rattle.std.specs.Prelude.{◌≡◌, ℕ, List, None, OnErr, OnOk, true};
 ghost use Rattle.std.specs.Result.{result_err};
-ghost use Rattle.pb_files.specs.Keeping.{OldOrNewByDraft, found_at};
+ghost use Rattle.pb_files.specs.Keeping.{IsNamedByDraft, LeadsWhereItLed, OldOrNewByDraft, SavedByDraft, found_at};
 ghost use Rattle.pb_collecting.specs.Place.{Keeps};
 
 use crate::desk::Desk;
@@ -41,6 +41,7 @@ impl<D: Desk> KeptFile<D> {
         requires text { (bytes : List ℕ) × X.is_text text.now bytes }
         requires refused { (D.state self.old.desk).refused ≡ true }
         ensures refused { (D.state self.new.desk).refused ≡ true }
+        ensures named { self.new.named ≡ self.old.named }
         ensures kept { (bytes : List ℕ) × X.is_text text.now bytes
             × Keeps (⟦<KeptFile<D> as Place>⟧.state self.old) (⟦<KeptFile<D> as Place>⟧.state self.new) result bytes }
     {
@@ -75,6 +76,10 @@ impl<D: Desk> Place for KeptFile<D> {
             × Keeps (⟦<KeptFile<D> as Place>⟧.state self.old) (⟦<KeptFile<D> as Place>⟧.state self.new) result bytes }
         // A crash leaves no part of the text, unless the file is written in place.
         ensures whole { (bytes : List ℕ) × X.is_text text.now bytes × OldOrNewByDraft bytes (D.state self.old.desk) (D.state self.new.desk) }
+        ensures settled { (bytes : List ℕ) × X.is_text text.now bytes × OnOk result (SavedByDraft bytes (D.state self.old.desk) (D.state self.new.desk)) }
+        ensures held { OnOk result (IsNamedByDraft (option_map D.End.state self.new.named) (D.state self.new.desk)) }
+        ensures still_held { OnErr result (self.new.named ≡ self.old.named) }
+        ensures in_place { LeadsWhereItLed (option_map D.End.state self.old.in_place) (option_map D.End.state self.new.in_place) (D.state self.old.desk) (D.state self.new.desk) }
     {
         match save_whole(&mut self.desk, text) {
             Ok(end) => {

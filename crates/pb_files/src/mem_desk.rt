@@ -36,6 +36,8 @@ pub struct MemDesk {
     settled: bool,
     torn: bool,
     refused: bool,
+    drafted: bool,
+    unsettled: bool,
     calls: u32,
     good: u32,
 }
@@ -50,7 +52,7 @@ impl MemDesk {
         good: u32,
     ) -> MemDesk
         ensures { let content = option_map (λ v. v.items) first in ⟦<MemDesk as Desk>⟧.state result
-            ≡ record { told = Some (record { found = content; leaves = content ∷ []; left = content ∷ []; torn = false }); refused = false } }
+            ≡ record { told = Some (record { found = content; leaves = content ∷ []; left = content ∷ []; torn = false }); refused = false; drafted = false; unsettled = false } }
     {
         MemDesk {
             alloc,
@@ -60,6 +62,8 @@ impl MemDesk {
             settled: true,
             torn: false,
             refused: false,
+            drafted: false,
+            unsettled: false,
             calls,
             good,
         }
@@ -77,7 +81,9 @@ impl MemDesk {
     }
 
     /// What a crash may leave besides: the file that was there before.
-    pub fn may_be_undone(&self) -> bool {
+    pub fn may_be_undone(&self) -> bool
+        ensures { IfSome (⟦<MemDesk as Desk>⟧.state self.now).told (λ shelf. result ≡ false → shelf.leaves ≡ shelf.found ∷ []) }
+    {
         !self.settled
     }
 
@@ -106,13 +112,16 @@ impl Desk for MemDesk {
     ghost state = { λ m. let first = option_map (λ v. v.items) m.first in let named = option_map (λ v. v.items) m.named in record {
       told = Some (record { found = found_of first named; leaves = leaves_of m.settled first named; left = contents_of first named; torn = m.torn });
       refused = m.refused;
+      drafted = m.drafted;
+      unsettled = m.unsettled;
     } };
 
     fn takes_draft(&mut self) -> Result<bool, NotKept> {
+        self.refused = false;
         if !self.goes_on() || self.before == Before::Held {
             return Err(NotKept::Open);
         }
-        self.refused = self.refused || self.before == Before::Special;
+        self.refused = self.before == Before::Special;
         Ok(!self.refused)
     }
 
@@ -129,6 +138,7 @@ impl Desk for MemDesk {
         if number == 0 && self.before != Before::Free {
             return Err(NotMade::Taken);
         }
+        self.drafted = true;
         Ok(FuseSink::new(self.alloc, self.good))
     }
 
@@ -142,14 +152,19 @@ impl Desk for MemDesk {
             return Err(NotNamed::Failed);
         };
         self.named = Some(bytes);
+        self.drafted = false;
+        self.unsettled = false;
         self.settled = false;
         Ok(())
     }
 
-    fn remove(&mut self, _draft: FuseSink) {}
+    fn remove(&mut self, _draft: FuseSink) {
+        self.drafted = false;
+    }
 
     fn sync_folder(&mut self) -> Result<(), NotKept> {
         if !self.goes_on() {
+            self.unsettled = true;
             return Err(NotKept::Write);
         }
         self.settled = true;

@@ -1,8 +1,8 @@
 //! A file that is made anew whole.
 
-ghost use Rattle.std.specs.Prelude.{◌≡◌, ℕ, List, Err, IfOk, true};
-ghost use Rattle.pb_files.specs.Desk.{Begins};
-ghost use Rattle.pb_files.specs.Saving.{Saves, not_saved};
+ghost use Rattle.std.specs.Prelude.{◌≡◌, ℕ, List, IfOk, IfSome, OnErr, OnOk, true};
+ghost use Rattle.pb_files.specs.Desk.{Begins, is_refused_draft};
+ghost use Rattle.pb_files.specs.Saving.{Saves, is_refused, is_unsettled, not_saved};
 
 use crate::desk::{Desk, NotMade, NotNamed};
 use pb_collecting::{NotKept, Text};
@@ -40,7 +40,9 @@ impl From<NotMade> for NotSaved {
 /// An empty draft: by the first number that no run has.
 fn new_draft<D: Desk>(desk: &mut D) -> Result<D::End, NotMade>
     ensures begins { IfOk result (λ end. Begins (D.state desk.new).told (D.End.state end)) }
-    ensures refused { result ≡ Err NotMade.Refused → (D.state desk.new).refused ≡ true }
+    ensures refused { (D.state desk.new).refused ≡ is_refused_draft result }
+    ensures drafted { OnOk result ((D.state desk.new).drafted ≡ true) }
+    ensures not_drafted { OnErr result ((D.state desk.new).drafted ≡ (D.state desk.old).drafted) }
     ensures same { (D.state desk.new).told ≡ (D.state desk.old).told }
 {
     if !desk.takes_draft()? {
@@ -67,7 +69,10 @@ fn new_draft<D: Desk>(desk: &mut D) -> Result<D::End, NotMade>
 pub fn save_whole<D: Desk, X: Text>(desk: &mut D, text: &X) -> Result<D::End, NotSaved>
     requires { (bytes : List ℕ) × X.is_text text.now bytes }
     ensures saves { (bytes : List ℕ) × X.is_text text.now bytes × Saves bytes (D.state desk.old).told (D.state desk.new).told result }
-    ensures refused { result ≡ Err NotSaved.Refused → (D.state desk.new).refused ≡ true }
+    ensures end { IfOk result (λ end. IfSome (D.state desk.new).told (λ shelf. shelf.found ≡ (D.End.state end).bytes)) }
+    ensures refused { (D.state desk.new).refused ≡ is_refused result }
+    ensures unsettled { is_unsettled result ≡ true → (D.state desk.new).unsettled ≡ true }
+    ensures no_draft { (D.state desk.new).drafted ≡ true → (D.state desk.old).drafted ≡ true }
 {
     let mut draft = new_draft(desk)?;
     if text.write(&mut draft).is_err() {

@@ -1,4 +1,4 @@
-use Rattle.std.proofs.Common.{Some, ap}
+use Rattle.std.proofs.Common.{ap}
 use Rattle.std.specs.Option.{option_map}
 use Rattle.pb_files.specs.Keeping.{found_at}
 use Rattle.pb_files.proofs.DeskLemmas.{named_keeps}
