@@ -1,6 +1,6 @@
 //! A name in a folder as the place of a text.
 
-ghost use Rattle.std.specs.Option.{option_map};
+ghost use Rattle.std.specs.Option.{option_copied, option_map};
 ghost use Rattle.std.specs.Prelude.{◌≡◌, ℕ, List, None, true};
 ghost use Rattle.std.specs.Result.{result_err};
 ghost use Rattle.pb_files.specs.Keeping.{OldOrNewByDraft, found_at};
@@ -34,6 +34,13 @@ impl<D: Desk> KeptFile<D> {
             named: None,
             fault: None,
         }
+    }
+
+    /// The end into the file where it is written in place: a reader finds what it has taken.
+    pub fn in_place(&self) -> Option<&D::End>
+        ensures { (⟦<KeptFile<D> as Place>⟧.state self.now).found ≡ found_at (D.state self.now.desk).told (option_map D.End.state (option_copied result)) }
+    {
+        self.in_place.as_ref()
     }
 
     /// Writes the text over what is there.
