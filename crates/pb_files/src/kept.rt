@@ -16,9 +16,10 @@ use pb_collecting::{NotKept, Place, Text};
 pub struct KeptFile<D: Desk> {
     /// The file's name, and its drafts.
     pub desk: D,
-    in_place: Option<D::End>,
-    // The file that has the name now: the lock on it lasts as long as its end.
-    named: Option<D::End>,
+    /// The end into the file, where it is written in place: a reader finds what it has taken.
+    pub in_place: Option<D::End>,
+    /// The end into the file that a draft became. The lock on it lasts as long as its end.
+    pub named: Option<D::End>,
     fault: Option<NotKept>,
 }
 

@@ -37,7 +37,7 @@ struct Run<'a> {
 
 /// The numbers of the journal's lines that are passed over, each after a space.
 #[derive(Drop)]
-struct Passed {
+pub(crate) struct Passed {
     numbers: Page,
 }
 
@@ -49,7 +49,7 @@ impl PassedLines for Passed {
 
 impl Passed {
     /// No number yet.
-    fn new(alloc: Global) -> Passed {
+    pub(crate) fn new(alloc: Global) -> Passed {
         Passed {
             numbers: Page::new(alloc),
         }

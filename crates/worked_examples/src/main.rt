@@ -10,6 +10,8 @@
 //! number with which no write fails. `digest` stands for the row after it, of whose long answer the
 //! number of lines, a checksum, the first line and the last are told.
 //!
+//! The topic `files` runs over files in memory that fail at a call, up to what a crash leaves.
+//!
 //! The topic `run` runs the program `pbook` over the words that follow. What it prints comes after
 //! the row's name in a line of its own. Standard input has its submissions, and the folder of the
 //! run a table, one of 780 lines, an older file in the place of the book, and the files of three
@@ -22,9 +24,11 @@ mod bench;
 mod collecting;
 mod command;
 mod ends;
+mod files;
 mod game;
 mod ledger;
 mod points;
+mod restarting;
 mod words;
 
 use pb_program::run;
@@ -48,6 +52,7 @@ fn answer(rt: &HostRuntime, page: &mut Page, topic: &str, call: &[&str]) -> Done
         "game" => game::answer(page, call),
         "ledger" => ledger::answer(page, call),
         "points" => points::answer(page, call),
+        "files" => files::answer(page, call),
         "command" => command::answer(page, call),
         "words" => words::answer(rt, page, call),
         "bench" => bench::answer(rt, page, call),

@@ -1,0 +1,169 @@
+//! Runs over files in memory of which so many calls succeed: what each answers, what a reader finds
+//! then, and what a crash or a kill leaves to the next run. A number of calls may be `all`, and so
+//! may that of the puts and flushes which each file takes. A `;` stands between the entries of a
+//! book.
+
+use crate::ends::rules_in;
+use crate::game::stream_of;
+use crate::restarting;
+use pb_cli::{Place, Rules, collect_into, continue_into};
+use pb_files::{Before, KeptFile, MemDesk};
+use pb_poly::{FromRead, MemSink, read_book};
+use rows::book::file_of;
+use rows::page::{Done, NO_ROW, Page, Trouble};
+use rows::text::{count_of, fills_of, text_of};
+use std::alloc::Global;
+
+/// The file that was there before.
+const OLD: &[u8] = b"an older file";
+
+/// The answer to a call.
+pub(crate) fn answer(page: &mut Page, call: &[&str]) -> Done {
+    let [name, words @ ..] = call else {
+        return NO_ROW
+    };
+    match *name {
+        "keep" => keep(page, words),
+        "collect" => collect(page, words),
+        "continue" => go_on(page, words),
+        "journal" => restarting::answer(page, words),
+        _ => NO_ROW,
+    }
+}
+
+/// What stands beside a name or under it, by a word.
+fn before_of(word: &str) -> Result<Before, Trouble> {
+    match word {
+        "free" => Ok(Before::Free),
+        "left-over" => Ok(Before::LeftOver),
+        "drafted" => Ok(Before::Drafted),
+        "held" => Ok(Before::Held),
+        "special" => Ok(Before::Special),
+        _ => Err(Trouble::Row),
+    }
+}
+
+/// The place of a name of a file of these bytes: what stands beside it, how many calls succeed, and
+/// how many puts and flushes.
+fn place_of(
+    alloc: Global,
+    first: &[u8],
+    before: &str,
+    calls: &str,
+    good: &str,
+) -> Result<KeptFile<MemDesk>, Trouble> {
+    Ok(KeptFile::new(MemDesk::new(
+        alloc,
+        before_of(before)?,
+        Some(Vec::from_slice(alloc, first)?),
+        fills_of(calls),
+        fills_of(good),
+    )))
+}
+
+/// The file of a book of these entries.
+pub(crate) fn book_of(alloc: Global, entries: &str) -> Result<MemSink, Trouble> {
+    let entries: Vec<&str> = entries.split(';').collect(alloc)?;
+    file_of(alloc, entries.as_slice())
+}
+
+/// All games and plies count.
+pub(crate) fn rules() -> Result<Rules, Trouble> {
+    rules_in("").ok_or(Trouble::Row)
+}
+
+/// What a reader finds at a place, and what a crash may make of it.
+fn tell_found(page: &mut Page, place: &KeptFile<MemDesk>, old: &[u8], new: &[u8]) {
+    let found = match &place.in_place {
+        Some(end) => Some(end.as_bytes()),
+        None => place.desk.found(),
+    };
+    match found {
+        None => page.put("no file"),
+        Some(bytes) if bytes == old => page.put("the old file"),
+        Some(bytes) if bytes == new => page.put("the new file"),
+        Some(bytes) if new.starts_with(bytes) => {
+            page.put_count("a front of ", &bytes.len());
+            page.put(" bytes");
+        }
+        Some(_) => page.put("other bytes"),
+    }
+    if place.desk.may_be_undone() {
+        page.put(", a crash may undo it");
+    }
+    if place.desk.is_torn() {
+        page.put(", or leave a part");
+    }
+}
+
+/// Makes a file anew of a book.
+fn keep(page: &mut Page, words: &[&str]) -> Done {
+    let [before, calls, good, entries] = words else {
+        return NO_ROW
+    };
+    let new = book_of(page.alloc, entries)?;
+    let mut source = FromRead::new(new.as_bytes());
+    let Ok(book) = read_book(page.alloc, &mut source, u32::MAX) else {
+        return NO_ROW
+    };
+    let mut place = place_of(page.alloc, OLD, before, calls, good)?;
+    page.put_debug(&place.keep(&book));
+    page.put(": ");
+    tell_found(page, &place, OLD, new.as_bytes());
+    Ok(())
+}
+
+/// Makes a file anew of the book of these lines.
+fn collect(page: &mut Page, words: &[&str]) -> Done {
+    let [before, calls, good, entries, lines @ ..] = words else {
+        return NO_ROW
+    };
+    let table = text_of(page.alloc, "{powers}")?;
+    let stream = stream_of(page.alloc, lines)?;
+    let mut place = place_of(page.alloc, OLD, before, calls, good)?;
+    let answer = collect_into(
+        page.alloc,
+        rules()?,
+        &mut FromRead::new(table.as_bytes()),
+        &mut FromRead::new(stream.as_bytes()),
+        &mut MemSink::new(page.alloc),
+        &mut place,
+        u32::MAX,
+    );
+    page.put_debug(&answer);
+    page.put(": ");
+    tell_found(page, &place, OLD, book_of(page.alloc, entries)?.as_bytes());
+    Ok(())
+}
+
+/// Goes on from a saved ledger, and makes that and the book anew: so many calls succeed of the
+/// ledger's file, and so many of the book's.
+fn go_on(page: &mut Page, words: &[&str]) -> Done {
+    let [calls, book_calls, entries, count, lines @ ..] = words else {
+        return NO_ROW
+    };
+    let (first, later) = lines.split_at(count_of(count).min(lines.len()));
+    let old = stream_of(page.alloc, first)?;
+    let later = stream_of(page.alloc, later)?;
+    let table = text_of(page.alloc, "{powers}")?;
+    let mut ledger = place_of(page.alloc, old.as_bytes(), "free", calls, "all")?;
+    let mut book = place_of(page.alloc, OLD, "free", book_calls, "all")?;
+    let answer = continue_into(
+        page.alloc,
+        rules()?,
+        &mut FromRead::new(table.as_bytes()),
+        &mut FromRead::new(old.as_bytes()),
+        &mut FromRead::new(later.as_bytes()),
+        &mut MemSink::new(page.alloc),
+        &mut ledger,
+        &mut book,
+        u32::MAX,
+    );
+    page.put_debug(&answer);
+    page.put(": ledger ");
+    let new = stream_of(page.alloc, lines)?;
+    tell_found(page, &ledger, old.as_bytes(), new.as_bytes());
+    page.put("; book ");
+    tell_found(page, &book, OLD, book_of(page.alloc, entries)?.as_bytes());
+    Ok(())
+}

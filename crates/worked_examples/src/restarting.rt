@@ -1,0 +1,127 @@
+//! A run over a journal in memory of which so many calls succeed, and then the run that is started
+//! again on what a crash or a kill has left of it. Its submissions are the same, but the first
+//! comes last: a game that the journal has lost gets another number.
+
+use crate::collecting::Passed;
+use crate::files::{book_of, rules};
+use crate::game::stream_of;
+use pb_cli::{MemPlace, NoBook, journal_into};
+use pb_files::{JournalSink, MemJournal, read_whole};
+use pb_poly::{FromRead, MemSink, Source};
+use rows::page::{Done, NO_ROW, Page, Trouble};
+use rows::text::{count_of, text_of};
+use std::alloc::Global;
+
+/// What a run leaves.
+#[derive(Drop)]
+struct Ran {
+    /// What it answered.
+    answer: Page,
+    /// The end of its journal.
+    journal: JournalSink<MemJournal>,
+    /// Its replies.
+    replies: MemSink,
+    /// Where its book is kept.
+    book: MemPlace,
+}
+
+/// The answer to a call: a run over a journal that is synced or not, of which so many calls
+/// succeed, and the next over what is left.
+pub(crate) fn answer(page: &mut Page, words: &[&str]) -> Done {
+    let [sync, end, calls, entries, lines @ ..] = words else {
+        return NO_ROW
+    };
+    let [head, rest @ ..] = lines else {
+        return NO_ROW
+    };
+    let sync = *sync == "sync";
+    let book = book_of(page.alloc, entries)?;
+    let stream = stream_of(page.alloc, lines)?;
+    let first = Ran::of(page.alloc, sync, &[], count_of(calls), stream.as_str())?;
+    first.tell(page, book.as_bytes());
+    let left = match *end {
+        "crash" => first.journal.file().after_crash(),
+        _ => first.journal.file().found(),
+    };
+    page.put_count(", ", &left.len());
+    page.put(" bytes left; then ");
+    let mut stream = stream_of(page.alloc, rest)?;
+    stream.push_str(stream_of(page.alloc, &[head])?.as_str())?;
+    let second = Ran::of(page.alloc, sync, left, usize::MAX, stream.as_str())?;
+    second.tell(page, book.as_bytes());
+    tell_kept(page, first.replies.as_bytes(), second.replies.as_bytes());
+    Ok(())
+}
+
+impl Ran {
+    /// The run over a journal of these bytes and over these submissions.
+    fn of(
+        alloc: Global,
+        sync: bool,
+        bytes: &[u8],
+        calls: usize,
+        lines: &str,
+    ) -> Result<Ran, Trouble> {
+        let mut file = MemJournal::new(Vec::from_slice(alloc, bytes)?, calls);
+        let reader = read_whole(&mut file, sync);
+        let mut ran = Ran {
+            answer: Page::new(alloc),
+            journal: JournalSink::new(alloc, file, sync)?,
+            replies: MemSink::new(alloc),
+            book: MemPlace::new(alloc),
+        };
+        let table = text_of(alloc, "{powers}")?;
+        match reader {
+            Ok(mut reader) => ran.take(alloc, table.as_str(), &mut reader, lines)?,
+            Err(why) => ran.answer.put_display(&why),
+        }
+        Ok(ran)
+    }
+
+    /// Takes the submissions.
+    fn take<S: Source>(&mut self, alloc: Global, table: &str, kept: &mut S, lines: &str) -> Done {
+        let answer = journal_into(
+            alloc,
+            rules()?,
+            &mut FromRead::new(table.as_bytes()),
+            kept,
+            &mut self.journal,
+            &mut Passed::new(alloc),
+            &mut FromRead::new(lines.as_bytes()),
+            &mut self.replies,
+            &mut self.book,
+            u32::MAX,
+        );
+        self.answer.put_debug(&answer);
+        Ok(())
+    }
+
+    /// Tells the answer, and whether this book is kept.
+    fn tell(&self, page: &mut Page, book: &[u8]) {
+        page.put(self.answer.as_str());
+        match self.book.kept() {
+            None => page.put(", no book"),
+            Some(bytes) if bytes == book => page.put(", the book"),
+            Some(_) => page.put(", another book"),
+        }
+    }
+}
+
+/// Tells how many of these replies are among those of the next run.
+fn tell_kept(page: &mut Page, replies: &[u8], next: &[u8]) {
+    let replies = str::from_utf8(replies).unwrap_or("");
+    let next = str::from_utf8(next).unwrap_or("");
+    let mut kept = 0_usize;
+    for reply in replies.lines() {
+        if next.lines().any(|line| line == reply) {
+            kept = kept.saturating_add(1);
+        }
+    }
+    let count = replies.lines().count();
+    page.put_count(", ", &kept);
+    page.put_count(" of ", &count);
+    page.put(" replies kept");
+    if kept < count {
+        page.put(": lost");
+    }
+}
