@@ -77,9 +77,12 @@ impl<D: Desk> Place for KeptFile<D> {
             × Keeps (⟦<KeptFile<D> as Place>⟧.state self.old) (⟦<KeptFile<D> as Place>⟧.state self.new) result bytes }
         // A crash leaves no part of the text, unless the file is written in place.
         ensures whole { (bytes : List ℕ) × X.is_text text.now bytes × OldOrNewByDraft bytes (D.state self.old.desk) (D.state self.new.desk) }
+        // What was kept outlives each crash from now on, unless it is written in place.
         ensures settled { (bytes : List ℕ) × X.is_text text.now bytes × OnOk result (SavedByDraft bytes (D.state self.old.desk) (D.state self.new.desk)) }
+        // The place goes on holding the file that has the name, and lets none go where it fails.
         ensures held { OnOk result (IsNamedByDraft (option_map D.End.state self.new.named) (D.state self.new.desk)) }
         ensures still_held { OnErr result (self.new.named ≡ self.old.named) }
+        // A reader finds what an end has taken only as long as the name leads to its file.
         ensures in_place { LeadsWhereItLed (option_map D.End.state self.old.in_place) (option_map D.End.state self.new.in_place) (D.state self.old.desk) (D.state self.new.desk) }
     {
         match save_whole(&mut self.desk, text) {
