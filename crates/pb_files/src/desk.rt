@@ -9,7 +9,7 @@ use pb_collecting::NotKept;
 use pb_io::Sink;
 
 /// Why there is no draft of a number.
-#[derive(Clone, Copy, Debug, PartialEq, Eq)]
+#[derive(Clone, Copy, Debug)]
 pub enum NotMade {
     /// Another run has the name.
     Taken,
@@ -28,7 +28,7 @@ impl From<NotKept> for NotMade {
 }
 
 /// Why a draft doesn't get the name of its file.
-#[derive(Clone, Copy, Debug, PartialEq, Eq)]
+#[derive(Clone, Copy, Debug)]
 pub enum NotNamed {
     /// The name can't be given to another file.
     Refused,

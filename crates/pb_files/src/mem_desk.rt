@@ -11,7 +11,7 @@ use pb_io::FuseSink;
 use std::alloc::Global;
 
 /// What stands beside the name, or under it, before a run comes.
-#[derive(Clone, Copy, Debug, PartialEq, Eq)]
+#[derive(Clone, Copy, Debug)]
 pub enum Before {
     /// No draft, and a file that a draft can replace, or none.
     Free,
@@ -118,15 +118,15 @@ impl Desk for MemDesk {
 
     fn takes_draft(&mut self) -> Result<bool, NotKept> {
         self.refused = false;
-        if !self.goes_on() || self.before == Before::Held {
+        if !self.goes_on() || matches!(self.before, Before::Held) {
             return Err(NotKept::Open);
         }
-        self.refused = self.before == Before::Special;
+        self.refused = matches!(self.before, Before::Special);
         Ok(!self.refused)
     }
 
     fn remove_left_over(&mut self, number: u32) {
-        if number == 0 && self.before == Before::LeftOver && self.goes_on() {
+        if number == 0 && matches!(self.before, Before::LeftOver) && self.goes_on() {
             self.before = Before::Free;
         }
     }
@@ -135,7 +135,7 @@ impl Desk for MemDesk {
         if !self.goes_on() {
             return Err(NotMade::Failed(NotKept::Open));
         }
-        if number == 0 && self.before != Before::Free {
+        if number == 0 && !matches!(self.before, Before::Free) {
             return Err(NotMade::Taken);
         }
         self.drafted = true;

@@ -22,7 +22,7 @@ pub trait JournalOpener: Opener {
 }
 
 /// Why a journal can't be read.
-#[derive(Clone, Copy, Debug, PartialEq, Eq, Error)]
+#[derive(Clone, Copy, Debug, Error)]
 pub enum NotRead {
     /// What is found can't be put on the disk.
     #[error("the file can't be put on the disk")]
@@ -33,7 +33,7 @@ pub enum NotRead {
 }
 
 /// Why a run doesn't come to a journal.
-#[derive(Clone, Copy, Debug, PartialEq, Eq, Error)]
+#[derive(Clone, Copy, Debug, Error)]
 pub enum NotStarted {
     /// Its file isn't held.
     #[error("{0}")]
