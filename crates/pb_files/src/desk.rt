@@ -7,15 +7,19 @@ ghost use Rattle.pb_files.specs.declared.desk.NotMade.TheVariants as made;
 
 use pb_collecting::NotKept;
 use pb_io::Sink;
+use thiserror::Error;
 
 /// Why there is no draft of a number.
-#[derive(Clone, Copy, Debug)]
+#[derive(Clone, Copy, Debug, Error)]
 pub enum NotMade {
     /// Another run has the name.
+    #[error("another run has the draft's name")]
     Taken,
     /// The folder takes no draft, or none that can take the old file's place.
+    #[error("no draft can take the file's place")]
     Refused,
     /// It can't be made.
+    #[error("{0}")]
     Failed(NotKept),
 }
 
@@ -28,11 +32,13 @@ impl From<NotKept> for NotMade {
 }
 
 /// Why a draft doesn't get the name of its file.
-#[derive(Clone, Copy, Debug)]
+#[derive(Clone, Copy, Debug, Error)]
 pub enum NotNamed {
     /// The name can't be given to another file.
+    #[error("the name can't be given to another file")]
     Refused,
     /// The system has failed.
+    #[error("the draft can't be given the name")]
     Failed,
 }
 
