@@ -3,8 +3,9 @@
 ghost use Rattle.std.specs.Prelude.{◌≡◌, ◌≤◌, ◌||◌, IfOk, IfSome, [], drop, false, length, not, take, true};
 ghost use Rattle.std.specs.Option.{ForSome};
 ghost use Rattle.pb_io.specs.Sink.{Flush, Put};
-ghost use Rattle.pb_files.specs.Disk.{Adds, IsOnDisk, OutlivesCrash, Steps};
+ghost use Rattle.pb_files.specs.Disk.{Adds, IsOnDisk, OutlivesCrash};
 ghost use Rattle.pb_files.specs.JournalSink.{EndState, FlushAtEnd, PutAtEnd, bytes_put};
+ghost use Rattle.pb_files.specs.Steps.{Steps};
 
 use crate::journal_file::JournalFile;
 use pb_io::{Failed, Sink};

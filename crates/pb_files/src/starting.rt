@@ -1,9 +1,10 @@
 //! How a run comes to a journal.
 
 ghost use Rattle.std.specs.Prelude.{◌≡◌, [], IfErr, IfOk, IfSome, OnOk, false, true};
-ghost use Rattle.pb_files.specs.Disk.{Adds, IsOnDisk, Steps};
+ghost use Rattle.pb_files.specs.Disk.{Adds, IsOnDisk};
 ghost use Rattle.pb_files.specs.JournalFile.{ReadsAll};
 ghost use Rattle.pb_files.specs.Starting.{IfNotHeld, IfSyncFault};
+ghost use Rattle.pb_files.specs.Steps.{Steps};
 
 use crate::holding::{NotHeld, Opener, hold};
 use crate::journal_file::ReadFile;
