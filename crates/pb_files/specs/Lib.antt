@@ -10,3 +10,4 @@ pub mod Runs
 pub mod Saving
 pub mod Starting
 pub mod Steps
+pub mod Stop
