@@ -3,6 +3,7 @@
 
 ghost use Rattle.std.specs.Option.{option_copied, option_map};
 ghost use Rattle.std.specs.Prelude.{◌≡◌, List, [], ◌∷◌, Some, IfSome, false};
+ghost use Rattle.std.specs.Prelude.{length, nat_lt};
 ghost use Rattle.pb_files.specs.MemDesk.{contents_of, found_of, leaves_of};
 
 use crate::desk::{Desk, NotMade, NotNamed};
@@ -80,11 +81,14 @@ impl MemDesk {
         }
     }
 
-    /// What a crash may leave besides: the file that was there before.
+    /// Whether a crash may still leave what was there before, and not what a reader finds.
     pub fn may_be_undone(&self) -> bool
-        ensures { IfSome (⟦<MemDesk as Desk>⟧.state self.now).told (λ shelf. result ≡ false → shelf.leaves ≡ shelf.found ∷ []) }
+        ensures several { IfSome (⟦<MemDesk as Desk>⟧.state self.now).told
+            (λ shelf. result ≡ nat_lt 1 (length shelf.leaves)) }
+        ensures settled { IfSome (⟦<MemDesk as Desk>⟧.state self.now).told
+            (λ shelf. result ≡ false → shelf.leaves ≡ shelf.found ∷ []) }
     {
-        !self.settled
+        !self.settled && self.named.is_some()
     }
 
     /// Whether a crash might have left a part of a text.
