@@ -6,8 +6,9 @@ use Rattle.std.specs.Io.KnownBytes.{Keeps}
 use Rattle.std.proofs.lemmas.List.{take-append-le, take_min, take_rest}
 use Rattle.std.proofs.Math.Seq.{take-add}
 use Rattle.pb_files.specs.Begins.{BeginsWith}
-use Rattle.pb_files.specs.Disk.{Adds, Disk, Grows, IsOnDisk, Leaves, OutlivesCrash, Steps, Syncs, on_disk}
+use Rattle.pb_files.specs.Disk.{Adds, Disk, Grows, IsOnDisk, Leaves, OutlivesCrash, Syncs, on_disk}
 use Rattle.pb_files.specs.JournalSink.{bytes_put}
+use Rattle.pb_files.specs.Steps.{Steps}
 
 -- no byte, and bytes in two steps
 

@@ -1,6 +1,7 @@
 -- What is known of a sink at the end of a journal's file.
 use Rattle.std.specs.Prelude.{◌≡◌, Bool, true, List, [], ℕ, ◌++◌, Option, None, Some, IfSome, Result, OnOk}
-use Rattle.pb_files.specs.Disk.{Disk, Grows, OutlivesCrash, Steps}
+use Rattle.pb_files.specs.Disk.{Disk, Grows, OutlivesCrash}
+use Rattle.pb_files.specs.Steps.{Steps}
 
 -- the disk, where the file tells of it, the bytes that wait to be written, and whether a flush puts all on the disk
 pub record EndState : Type 0 where

@@ -3,15 +3,14 @@
 ghost use Rattle.std.specs.Prelude.{◌≡◌, ◌≤◌, ◌||◌, IfOk, IfSome, [], drop, false, length, not, take, true};
 ghost use Rattle.std.specs.Option.{ForSome};
 ghost use Rattle.pb_io.specs.Sink.{Flush, Put};
-ghost use Rattle.pb_files.specs.Disk.{Adds, IsOnDisk, OutlivesCrash, Steps};
+ghost use Rattle.pb_files.specs.Disk.{Adds, IsOnDisk, OutlivesCrash};
 ghost use Rattle.pb_files.specs.JournalSink.{EndState, FlushAtEnd, PutAtEnd, bytes_put};
+ghost use Rattle.pb_files.specs.Steps.{Steps};
 
+use crate::file_writer::PIECE;
 use crate::journal_file::JournalFile;
 use pb_io::{Failed, Sink};
 use std::alloc::{AllocError, Global};
-
-/// How many bytes may wait before more room is made.
-const ROOM: usize = 65536;
 
 /// A sink whose bytes wait to be written to a file.
 pub trait FileEnd {
@@ -43,7 +42,7 @@ impl<J: JournalFile + Drop> JournalSink<J> {
         ensures state { IfOk result (λ sink. ⟦<JournalSink<J> as Sink>⟧.state sink ≡ record { bytes = bytes_put (J.state file).told []; failed = not (J.state file).ready; flushed = false; flushes = 0 }) }
         ensures end { IfOk result (λ sink. ⟦<JournalSink<J> as FileEnd>⟧.end sink ≡ record { told = (J.state file).told; waits = []; sync = sync }) }
     {
-        let waiting = Vec::with_capacity(alloc, ROOM)?;
+        let waiting = Vec::with_capacity(alloc, PIECE)?;
         Ok(JournalSink {
             file,
             sync,
