@@ -1,4 +1,5 @@
 pub mod BeginLemmas
 pub mod DeskLemmas
 pub mod FileLemmas
+pub mod LeftLemmas
 pub mod RunLemmas

@@ -1,6 +1,6 @@
 -- What is known of a sink at the end of a journal's file.
 use Rattle.std.specs.Prelude.{◌≡◌, Bool, false, true, List, [], ℕ, ◌++◌, Option, None, Some, IfSome, Result, OnOk}
-use Rattle.pb_files.specs.Disk.{Disk, Grows, OutlivesCrash}
+use Rattle.pb_files.specs.Disk.{Disk, Grows, OutlivesCrash, on_disk}
 use Rattle.pb_files.specs.Steps.{Steps}
 
 -- the disk, where the file tells of it, the bytes that wait to be written, and whether a flush puts all on the disk

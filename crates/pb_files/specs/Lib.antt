@@ -4,6 +4,7 @@ pub mod Disk
 pub mod Holding
 pub mod JournalFile
 pub mod JournalSink
+pub mod Journaling
 pub mod Keeping
 pub mod MemDesk
 pub mod Runs

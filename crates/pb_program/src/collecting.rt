@@ -1,10 +1,10 @@
 //! The command `collect` over the files that it names.
 
 use crate::command::{FILLS, FileSource, input, source};
-use pb_cli::{Fault, Keeping, Rules, collect_into, continue_into, journal_into};
+use pb_cli::{Fault, Keeping, Rules, collect_into, continue_into};
 use pb_files::{
     FileDesk, JournalSink, KeptFile, Replies, Stop, Submissions, TellPassed, hold_ledger,
-    keep_apart, start_journal,
+    journal_file, keep_apart, start_journal,
 };
 use pb_messages::{LedgerLines, Messages, Named, News, Part, Progress, Told};
 use pb_poly::{FromRead, Sink, ToWrite};
@@ -108,7 +108,7 @@ impl<'a> Collecting<'a> {
         let Ok(mut lines) = JournalSink::new(alloc, started.journal, sync) else {
             return Err(Stop::Fault(Fault::Memory));
         };
-        let has_book = journal_into(
+        let has_book = journal_file(
             alloc,
             self.rules,
             &mut table,

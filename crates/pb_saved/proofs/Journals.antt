@@ -11,7 +11,7 @@ use Rattle.std.proofs.lemmas.List.Sums.{sum_by-append}
 use Rattle.std.proofs.lemmas.List.Splits.{length-slice_split}
 use Rattle.pb_board.specs.LineEnd.{with_end, without_return}
 use Rattle.pb_io.specs.Lines.{ended_lines, is_line_feed, is_torn, last_piece, line_limit}
-use Rattle.pb_io.proofs.LineLemmas.{IsQuiet, ended_lines-ended, ended_lines-quiet, last_piece-ended}
+use Rattle.pb_io.proofs.LineLemmas.{IsQuiet, ended-first, ended_lines-ended, ended_lines-quiet, last_piece-ended}
 use Rattle.pb_games.specs.declared.refusal.Refusal.{Refusal}
 use Rattle.pb_games.specs.declared.refusal.Refusal.TheVariants.{Long, Memory, Shape}
 use Rattle.pb_games.specs.Refusing.{Refuses, fields_of}
@@ -23,7 +23,7 @@ use Rattle.pb_accepted.specs.Holding.{HaveOwnIds}
 use Rattle.pb_accepted.proofs.Replies.{Allowed-refused, HaveOwnIds-Takes, Takes-refused, Takes-unique, one_reply}
 use Rattle.pb_accepted.proofs.Runs.{Accepted-append, HaveOwnIds-nil, Run-append}
 use Rattle.pb_saved.specs.Journal.{GameLines, Journals, Replays, mending, seal}
-use Rattle.pb_saved.specs.JournalLaws.{JournalGrows, JournalIsOne, JournalMayTear}
+use Rattle.pb_saved.specs.JournalLaws.{JournalGoesOn, JournalGrows, JournalIsOne, JournalMayTear}
 use Rattle.pb_saved.proofs.SavedLoading.{Given, HaveOwnIds-front, given, quiet_text}
 
 -- ---- a journal is of one list
@@ -37,14 +37,27 @@ reply_of : (cap : ℕ) (A : List Submission) (line : List ℕ) (r : Answer) → 
 reply_of cap A line r (inl h) remembered = h
 reply_of cap A line r (inr h) remembered = absurd (remembered h.0)
 
-one_run : (cap : ℕ) (A B C : List Submission) (ls : List (List ℕ)) (Q R : List Answer) → HaveOwnIds A → Run cap A ls Q → Run cap A ls R → Accepted A ls Q B → Accepted A ls R C
-    → All Kept Q → All Kept R → B ≡ C
-one_run cap A B C [] [] [] own run run' h k kept kept' = h ∙ sym k
-one_run cap A B C [] (q ∷ Q) R own run run' h k kept kept' = absurd run
-one_run cap A B C [] [] (r ∷ R) own run run' h k kept kept' = absurd run'
-one_run cap A B C (line ∷ ls) [] R own run run' h k kept kept' = absurd run
-one_run cap A B C (line ∷ ls) (q ∷ Q) [] own run run' h k kept kept' = absurd run'
-one_run cap A B C (line ∷ ls) (q ∷ Q) (r ∷ R) own run run' h k kept kept' =
+-- lines only add submissions
+only_adds : (A : List Submission) (L : List (List ℕ)) (R : List Answer) (B : List Submission) → Accepted A L R B → (more : List Submission) × (B ≡ A ++ more)
+only_adds A [] [] B h = ([], h ∙ sym (append-nil A))
+only_adds A [] (r ∷ R) B h = absurd h
+only_adds A (line ∷ L) [] B h = absurd h
+only_adds A (line ∷ L) (r ∷ R) B h =
+    let rest = only_adds h.0 L R B h.2 in
+    elim h.1 [
+      | inl adds ↦ (adds.0 ∷ rest.0, rest.1 ∙ ap (λ (X : List Submission). X ++ rest.0) adds.4 ∙ append_assoc A (adds.0 ∷ []) rest.0)
+      | inr keeps ↦ (rest.0, rest.1 ∙ ap (λ (X : List Submission). X ++ rest.0) keeps.1)
+    ]
+
+-- a run that goes on adds to what its first lines left
+goes_on : (cap : ℕ) (A B C : List Submission) (ls ms : List (List ℕ)) (Q R : List Answer) → HaveOwnIds A → Run cap A ls Q → Run cap A (ls ++ ms) R → Accepted A ls Q B → Accepted A (ls ++ ms) R C
+    → All Kept Q → All Kept R → (more : List Submission) × (C ≡ B ++ more)
+goes_on cap A B C [] ms [] R own run run' h k kept kept' =
+    let adds = only_adds A ms R C k in (adds.0, adds.1 ∙ ap (λ (X : List Submission). X ++ adds.0) (sym h))
+goes_on cap A B C [] ms (q ∷ Q) R own run run' h k kept kept' = absurd run
+goes_on cap A B C (line ∷ ls) ms [] R own run run' h k kept kept' = absurd run
+goes_on cap A B C (line ∷ ls) ms (q ∷ Q) [] own run run' h k kept kept' = absurd run'
+goes_on cap A B C (line ∷ ls) ms (q ∷ Q) (r ∷ R) own run run' h k kept kept' =
     let M : List Submission = run.0 in
     let reply = reply_of cap A line q run.1 (All-head Kept q Q kept) in
     let reply' = reply_of cap A line r run'.1 (All-head Kept r R kept') in
@@ -52,12 +65,27 @@ one_run cap A B C (line ∷ ls) (q ∷ Q) (r ∷ R) own run run' h k kept kept' 
     let there : run'.0 ≡ M = Takes-unique A line q run'.0 M (subst (λ x. Takes A line x run'.0) same run'.2) run.2 in
     let left : h.0 ≡ M = Takes-unique A line q h.0 M h.1 run.2 in
     let left' : k.0 ≡ M = Takes-unique A line q k.0 M (subst (λ x. Takes A line x k.0) same k.1) run.2 in
-    one_run cap M B C ls Q R (HaveOwnIds-Takes A line q M run.2 own) run.3 (subst (λ (X : List Submission). Run cap X ls R) there run'.3)
-    (subst (λ (X : List Submission). Accepted X ls Q B) left h.2) (subst (λ (X : List Submission). Accepted X ls R C) left' k.2)
+    goes_on cap M B C ls ms Q R (HaveOwnIds-Takes A line q M run.2 own) run.3 (subst (λ (X : List Submission). Run cap X (ls ++ ms) R) there run'.3)
+    (subst (λ (X : List Submission). Accepted X ls Q B) left h.2) (subst (λ (X : List Submission). Accepted X (ls ++ ms) R C) left' k.2)
     (All-tail Kept q Q kept) (All-tail Kept r R kept')
 
+pub journal_goes_on : JournalGoesOn
+journal_goes_on cap front behind A B h k =
+    let lines = ended-first front behind in
+    let k' : Replays cap (ended_lines front ++ lines.0) B = subst (λ (ls : List (List ℕ)). Replays cap ls B) lines.1 k in
+    goes_on cap [] A B (ended_lines front) lines.0 h.answers k'.answers HaveOwnIds-nil h.run k'.run h.accepted k'.accepted h.remembered k'.remembered
+
+empty : (X : List Submission) → length X ≤ 0 → X ≡ []
+empty [] none = refl
+empty (x ∷ X) none = absurd (omega (arith, none))
+
 pub journal_is_one : JournalIsOne
-journal_is_one cap bytes A B h k = one_run cap [] A B (ended_lines bytes) h.answers k.answers HaveOwnIds-nil h.run k.run h.accepted k.accepted h.remembered k.remembered
+journal_is_one cap bytes A B h k =
+    let at_end : (X : List Submission) → Journals cap bytes X → Journals cap (bytes ++ []) X = λ X j. subst (λ (bs : List ℕ). Journals cap bs X) (sym (append-nil bytes)) j in
+    let on = journal_goes_on cap bytes [] A B h (at_end B k) in
+    let back = journal_goes_on cap bytes [] B A k (at_end A h) in
+    let none : length on.0 ≤ 0 = omega (arith, ap length on.1, ap length back.1, length-append A on.0, length-append B back.0) in
+    sym (on.1 ∙ ap (λ (X : List Submission). A ++ X) (empty on.0 none) ∙ append-nil A)
 
 -- ---- a sealed line
 

@@ -9,6 +9,11 @@ use Rattle.pb_saved.specs.Journal.{GameLines, Journals, mending}
 abbrev pub JournalIsOne : Type 0
 JournalIsOne = (cap : ℕ) (bytes : List ℕ) (A B : List Submission) → Journals cap bytes A → Journals cap bytes B → A ≡ B
 
+-- whatever comes behind the bytes of a journal, its games stay, under their numbers
+abbrev pub JournalGoesOn : Type 0
+JournalGoesOn = (cap : ℕ) (front behind : List ℕ) (A B : List Submission) → Journals cap front A → Journals cap (front ++ behind) B
+    → (later : List Submission) × (B ≡ A ++ later)
+
 -- a front of what mends it, as a kill may leave, changes nothing
 abbrev pub JournalMendingMayTear : Type 0
 JournalMendingMayTear = (cap : ℕ) (bytes : List ℕ) (A : List Submission) (n : ℕ) → Journals cap bytes A → Journals cap (bytes ++ take n (mending bytes)) A

@@ -3,7 +3,7 @@
 
 ghost use Rattle.std.specs.Bool.{Decides};
 ghost use Rattle.std.specs.Prelude.{◌≡◌};
-ghost use Rattle.pb_saved.specs.JournalLaws.{JournalGrows, JournalIsOne, JournalMayTear, JournalMendingMayTear};
+ghost use Rattle.pb_saved.specs.JournalLaws.{JournalGoesOn, JournalGrows, JournalIsOne, JournalMayTear, JournalMendingMayTear};
 ghost use Rattle.pb_saved.specs.Laws.{ContinuedIsOneRun, SavedIsOne, SavedLoads};
 ghost use Rattle.pb_saved.specs.declared.loading.LoadError.{LoadError};
 ghost use Rattle.pb_saved.specs.declared.replaying.ReplayError.{ReplayError};
@@ -22,10 +22,11 @@ pub fn continued()
     ensures { ContinuedIsOneRun }
 {}
 
-/// The bytes of a journal hold one list of games; mending its end changes none of them; it gains the lines of new games; and of a line that is
-/// torn the game is there as a whole or not at all.
+/// The bytes of a journal hold one list of games, which come first whatever bytes follow; mending its end changes none of them; it gains the
+/// lines of new games; and of a line that is torn the game is there as a whole or not at all.
 pub fn journaled()
     ensures one { JournalIsOne }
+    ensures goes_on { JournalGoesOn }
     ensures mends { JournalMendingMayTear }
     ensures grows { JournalGrows }
     ensures tears { JournalMayTear }
