@@ -1,11 +1,11 @@
 -- Lemmas on the steps of a file that is added to, and on what they leave.
-use Rattle.std.proofs.Common.{◌≡◌, ◌∙◌, ℕ, Bool, true, false, ◌+◌, ◌-◌, min, List, [], ◌++◌, Option, None, Some, length, take, drop, refl, rules, sym, ap, subst, append_assoc, append-nil, arith}
+use Rattle.std.proofs.Common.{◌≡◌, ◌∙◌, ℕ, Bool, true, false, ◌+◌, ◌-◌, min, List, [], ◌++◌, Option, None, Some, Result, Ok, Err, IsErr, length, take, drop, refl, rules, sym, ap, subst, append_assoc, append-nil, arith}
 use Rattle.std.specs.Option.{ForSome}
 use Rattle.std.specs.Prelude.{IfSome}
 use Rattle.std.specs.Io.KnownBytes.{Keeps}
 use Rattle.std.proofs.lemmas.List.{take-append-le, take_min, take_rest}
 use Rattle.std.proofs.Math.Seq.{take-add}
-use Rattle.pb_io.specs.Sink.{Lasts}
+use Rattle.pb_io.specs.Sink.{Flush, Lasts, SinkState}
 use Rattle.pb_files.specs.Begins.{BeginsWith}
 use Rattle.pb_files.specs.Disk.{Adds, Disk, Grows, IsOnDisk, Leaves, OutlivesCrash, Syncs, on_disk}
 use Rattle.pb_files.specs.JournalSink.{bytes_lasting, bytes_put}
@@ -124,3 +124,17 @@ pub lasting_all : (sync : Bool) (told : Option Disk) → (sync ≡ true → ForS
 lasting_all sync None on_disk = refl
 lasting_all true (Some disk) on_disk = ap (λ (bytes : List ℕ). Some bytes) (on_disk refl disk refl ∙ sym (append-nil disk.found))
 lasting_all false (Some disk) on_disk = ap (λ (bytes : List ℕ). Some bytes) (sym (append-nil disk.found))
+
+-- a flush that failed
+pub flush_failed : {E : Type 0} (old new : SinkState) (answer : Result (Unit {0}) E) → IsErr answer → Keeps old.bytes new.bytes → Lasts old.lasting new.lasting
+    → new.failed ≡ true → new.flushed ≡ false → new.flushes ≡ old.flushes → Flush old new answer
+flush_failed old new (Ok v) failing bytes lasts failed flushed flushes = let bad : false ≡ true = failing in cc
+flush_failed old new (Err e) failing bytes lasts failed flushed flushes = record {
+  bytes = bytes;
+  lasts = lasts;
+  all_lasts = tt;
+  failed = failed;
+  stays_failed = λ _. refl;
+  flushed = flushed;
+  flushes = flushes;
+}

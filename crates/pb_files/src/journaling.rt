@@ -18,7 +18,7 @@ use std::alloc::Global;
 /// # Errors
 ///
 /// Those of `journal_into`.
-pub fn journal_file<
+pub fn journal_to_file<
     T: Source,
     V: Source,
     J: JournalFile,

@@ -38,7 +38,7 @@ pub use file_writer::{FileWriter, PIECE};
 pub use holding::{Lock, NotHeld, Opener, hold};
 pub use journal_file::{JournalFile, ReadFile};
 pub use journal_sink::{FileEnd, JournalSink};
-pub use journaling::journal_file;
+pub use journaling::journal_to_file;
 pub use kept::KeptFile;
 pub use mem_desk::{Before, MemDesk};
 pub use mem_journal::{MemFile, MemJournal, MemOpener, Others};

@@ -4,7 +4,7 @@ use crate::command::{FILLS, FileSource, input, source};
 use pb_cli::{Fault, Keeping, Rules, collect_into, continue_into};
 use pb_files::{
     FileDesk, JournalSink, KeptFile, Replies, Stop, Submissions, TellPassed, hold_ledger,
-    journal_file, keep_apart, start_journal,
+    journal_to_file, keep_apart, start_journal,
 };
 use pb_messages::{LedgerLines, Messages, Named, News, Part, Progress, Told};
 use pb_poly::{FromRead, Sink, ToWrite};
@@ -108,7 +108,7 @@ impl<'a> Collecting<'a> {
         let Ok(mut lines) = JournalSink::new(alloc, started.journal, sync) else {
             return Err(Stop::Fault(Fault::Memory));
         };
-        let has_book = journal_file(
+        let has_book = journal_to_file(
             alloc,
             self.rules,
             &mut table,

@@ -1,6 +1,6 @@
 use Rattle.std.proofs.Common.{refl}
 use Rattle.pb_files.proofs.LeftLemmas.{leaves}
-use Rattle.pb_files.proofs.journaling.journal_file.Goals as goal
+use Rattle.pb_files.proofs.journaling.journal_to_file.Goals as goal
 
 pub returns-clause-leaves : goal.returns-clause-leaves
 returns-clause-leaves g c disk started = leaves disk _ _ _ _ _ _ _ _ _ started refl refl refl c.journal_into.ensures.outlives
