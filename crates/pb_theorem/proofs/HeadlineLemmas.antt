@@ -93,11 +93,11 @@ module _ (rules : CountingRules) (sink sink' : SinkState) (entries : List Entry)
   headline_from f b (put, puts, h) =
       let L = lines b in
       let both = run_to most_games [] L h.answers h.games
-          (subst (λ (L : List (List ℕ)). steps.Run most_games [] L h.answers h.games) (lines_are b) h.run) in
+      (subst (λ (L : List (List ℕ)). steps.Run most_games [] L h.answers h.games) (lines_are b) h.run) in
       let all = are_submissions L h.answers h.games both.1 in
       let book = book_from h.randoms rules h.games all entries h.book in
       let replied : put ≡ replies L h.answers =
-          h.replied ∙ ap (λ (L : List (List ℕ)). reply.replies L h.answers) (lines_are b) ∙ replies_are L h.answers in (
+      h.replied ∙ ap (λ (L : List (List ℕ)). reply.replies L h.answers) (lines_are b) ∙ replies_are L h.answers in (
         record {
           words = h.randoms;
           table = table_from h.randoms f h.table;

@@ -50,7 +50,7 @@ besides_is board new m Queen c is = refl
 
 arriving_is : (p : Piece) (promo : Option Kind) → piece_of p.colour (unwrap_or promo p.kind) ≡ arriving p promo
 arriving_is p None = refl
-arriving_is p (Some kind) = refl
+arriving_is p (Some k) = refl
 
 board_after : (board : Board) (m : Moved) (place : Place) → puts board (chess.changes board m place) ≡ board_of board m place
 board_after board m None = refl
@@ -171,8 +171,8 @@ names_from side m before (Some k) e lawful h =
     inl (at_last.0, last_from side m.to at_last.1, named.0, named.1)
 
 king_promo : (m : Moved) (side : Colour) (kind : Kind) (o : Option Kind) → m.promo ≡ o → kind ≡ King → (IsSome m.promo ↔ ((kind ≡ Pawn) × (rank_for side m.to ≡ 7))) → m.promo ≡ None
-king_promo m side kind None e king h = e
-king_promo m side kind (Some k) e king h = absurd (let pawn = (h.0 (some_promo m.promo k e)).0 in cc)
+king_promo m side before None e king h = e
+king_promo m side before (Some k) e king h = absurd (let pawn = (h.0 (some_promo m.promo k e)).0 in cc)
 
 -- ---- and back
 

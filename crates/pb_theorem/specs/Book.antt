@@ -57,11 +57,9 @@ scaled n M = if nat_le M most_weight then n else (n * most_weight) / M
 
 -- the key and the code occur often enough, and this is their weight: their points, scaled by the most under the key
 abbrev pub IsWeight : List PlyPoints → ℕ → ℕ → ℕ → ℕ → Type 0
-IsWeight G least k c weight = (least ≤ times G k c)
-    × ((M : ℕ) × IsGreatest G least k M × (weight ≡ scaled (points G k c) M))
+IsWeight G least k c weight = (least ≤ times G k c) × ((M : ℕ) × IsGreatest G least k M × (weight ≡ scaled (points G k c) M))
 
 -- the entries are the book of these plies, an entry for each key and code that have a weight, unless it is 0
 pub record IsBook (G : List PlyPoints) (least : ℕ) (E : List Entry) : Type 0 where
   pub ordered : AllPairs Before E
-  pub members : (e : Entry)
-      → Contains E e ↔ (IsWeight G least e.key e.code e.weight × (1 ≤ e.weight) × (e.learn ≡ 0))
+  pub members : (e : Entry) → Contains E e ↔ (IsWeight G least e.key e.code e.weight × (1 ≤ e.weight) × (e.learn ≡ 0))

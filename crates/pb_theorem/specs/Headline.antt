@@ -35,8 +35,7 @@ pub record Headline (rules : CountingRules) (file bytes put : List ℕ) (entries
   pub run : Run most_games [] (lines bytes) answers games
   pub replied : put ≡ replies (lines bytes) answers
   -- the games are those that were answered `ok`, under their numbers, each once
-  pub are : (n : ℕ) (s : Submission)
-      → IsNumber games n s ↔ ((i : ℕ) × IsAccepted (lines bytes) answers i s n)
+  pub are : (n : ℕ) (s : Submission) → IsNumber games n s ↔ ((i : ℕ) × IsAccepted (lines bytes) answers i s n)
   pub once : AllPairs (λ s t. s ≢ t) games
   -- one that comes again gets its number again
   pub repeats : (i j n : ℕ) (s : Submission) → i < j → IsAccepted (lines bytes) answers i s n

@@ -19,18 +19,12 @@ use Rattle.pb_theorem.specs.Refusals.{Refuses}
 
 -- A line is answered r, where the list A may have at most cap members, and it becomes B.
 pub data Step (cap : ℕ) (A : List Submission) (line : List ℕ) (r : Answer) (B : List Submission) : Type 0 where
-  new : (s : Submission) → IsLawful line s → IsNewId s.0 A → length A < cap
-      → r ≡ Ok (length A + 1) → B ≡ A ++ s ∷ [] → Step cap A line r B
-  full : (s : Submission) → IsLawful line s → IsNewId s.0 A → cap ≤ length A
-      → r ≡ Err Full → B ≡ A → Step cap A line r B
-  memory : (s : Submission) → IsLawful line s → IsNewId s.0 A → length A < cap
-      → r ≡ Err Memory → B ≡ A → Step cap A line r B
-  repeat : (s : Submission) (n : ℕ) → IsLawful line s → IsNumber A n s
-      → r ≡ Ok n → B ≡ A → Step cap A line r B
-  conflict : (s : Submission) (g : Game) (n : ℕ) → IsLawful line s → IsNumber A n (s.0, g) → g ≢ s.1
-      → r ≡ Err (Conflict n) → B ≡ A → Step cap A line r B
-  refused : (e : Refusal) → Refuses line e
-      → r ≡ Err e → B ≡ A → Step cap A line r B
+  new : (s : Submission) → IsLawful line s → IsNewId s.0 A → length A < cap → r ≡ Ok (length A + 1) → B ≡ A ++ s ∷ [] → Step cap A line r B
+  full : (s : Submission) → IsLawful line s → IsNewId s.0 A → cap ≤ length A → r ≡ Err Full → B ≡ A → Step cap A line r B
+  memory : (s : Submission) → IsLawful line s → IsNewId s.0 A → length A < cap → r ≡ Err Memory → B ≡ A → Step cap A line r B
+  repeat : (s : Submission) (n : ℕ) → IsLawful line s → IsNumber A n s → r ≡ Ok n → B ≡ A → Step cap A line r B
+  conflict : (s : Submission) (g : Game) (n : ℕ) → IsLawful line s → IsNumber A n (s.0, g) → g ≢ s.1 → r ≡ Err (Conflict n) → B ≡ A → Step cap A line r B
+  refused : (e : Refusal) → Refuses line e → r ≡ Err e → B ≡ A → Step cap A line r B
 
 -- These lines are answered so, one after another, from the list A on, and it becomes B.
 abbrev pub Run : ℕ → List Submission → List (List ℕ) → List Answer → List Submission → Type 0

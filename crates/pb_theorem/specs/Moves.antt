@@ -35,8 +35,7 @@ Pattern Pawn files ranks = (files ≡ 1) × (ranks ≡ 1)
 Pattern Knight files ranks = ((files ≡ 1) × (ranks ≡ 2)) ⊎ ((files ≡ 2) × (ranks ≡ 1))
 Pattern Bishop files ranks = (files ≡ ranks) × (0 < files)
 Pattern Rook files ranks = ((files ≡ 0) × (0 < ranks)) ⊎ ((0 < files) × (ranks ≡ 0))
-Pattern Queen files ranks = ((files ≡ ranks) × (0 < files))
-    ⊎ (((files ≡ 0) × (0 < ranks)) ⊎ ((0 < files) × (ranks ≡ 0)))
+Pattern Queen files ranks = ((files ≡ ranks) × (0 < files)) ⊎ (((files ≡ 0) × (0 < ranks)) ⊎ ((0 < files) × (ranks ≡ 0)))
 Pattern King files ranks = max files ranks ≡ 1
 
 -- q lies strictly between a and b, on the line through them
@@ -58,13 +57,11 @@ Attacks side kind board a b = Pattern kind (files_apart a b) (ranks_apart a b)
 
 -- some piece of this side attacks the square
 abbrev pub IsAttacked : Board → Colour → ℕ → Type 0
-IsAttacked board side square = (a : ℕ) × (kind : Kind)
-    × Holds board a (piece_of side kind) × Attacks side kind board a square
+IsAttacked board side square = (a : ℕ) × (kind : Kind) × Holds board a (piece_of side kind) × Attacks side kind board a square
 
 -- some enemy piece attacks the king's square
 abbrev pub InCheck : Board → Colour → Type 0
-InCheck board side = (king : ℕ)
-    × Holds board king (piece_of side King) × IsAttacked board (opponent side) king
+InCheck board side = (king : ℕ) × Holds board king (piece_of side King) × IsAttacked board (opponent side) king
 
 -- ---- the setup after a move
 
@@ -78,7 +75,7 @@ besides board m Pawn castling = if not (file m.to == file m.from) && is_none (at
     then (8 * rank m.from + file m.to, None) ∷ []
     else []
 besides board m King (Some c) = rook_moves board (castling_row c)
-besides board m kind castling = []
+besides board m _ _ = []
 
 -- all that changes where this piece moves: it leaves `from`, and it stands on `to`, or the piece does that it is promoted to
 abbrev pub changes : Board → Moved → Place → List (ℕ × Place)
@@ -89,8 +86,7 @@ changes board m (Some p) = (m.from, None) ∷ (m.to, Some (piece_of p.colour (un
 -- a castling right is kept where the move leaves and reaches neither the king's square nor the rook's
 abbrev pub keeps_right : Rights → Moved → Castling → Bool
 keeps_right r m c = let row = castling_row c in
-    row.right r && not (m.from == row.king_from || m.to == row.king_from
-    || (m.from == row.rook_from || m.to == row.rook_from))
+    row.right r && not (m.from == row.king_from || m.to == row.king_from || (m.from == row.rook_from || m.to == row.rook_from))
 
 abbrev pub rights_after : Rights → Moved → Rights
 rights_after r m = record {
@@ -132,8 +128,7 @@ IsCapturable board side square =
 -- a pawn may go straight on: one rank, or two from its first square
 pub record Pushes (s : Position) (m : Moved) : Type 0 where
   pub same_file : file m.to ≡ file m.from
-  pub forward : IsForward s.turn 1 m.from m.to
-      ⊎ ((rank_for s.turn m.from ≡ 1) × IsForward s.turn 2 m.from m.to)
+  pub forward : IsForward s.turn 1 m.from m.to ⊎ ((rank_for s.turn m.from ≡ 1) × IsForward s.turn 2 m.from m.to)
   pub way : Clear s.board m.from m.to
   pub empty : IsEmpty s.board m.to
 
@@ -151,13 +146,10 @@ pub record MayCastle (row : CastlingRow) (s : Position) (m : Moved) : Type 0 whe
 
 -- where a piece of the side to move may go, its own king's safety apart
 pub data PseudoLegal (s : Position) (m : Moved) (kind : Kind) : Type 0 where
-  quiet : kind ≢ Pawn → Attacks s.turn kind s.board m.from m.to
-      → IsEmpty s.board m.to → PseudoLegal s m kind
-  captures : Attacks s.turn kind s.board m.from m.to
-      → IsCapturable s.board s.turn m.to → PseudoLegal s m kind
+  quiet : kind ≢ Pawn → Attacks s.turn kind s.board m.from m.to → IsEmpty s.board m.to → PseudoLegal s m kind
+  captures : Attacks s.turn kind s.board m.from m.to → IsCapturable s.board s.turn m.to → PseudoLegal s m kind
   pushes : kind ≡ Pawn → Pushes s m → PseudoLegal s m kind
-  en_passant : kind ≡ Pawn → Attacks s.turn kind s.board m.from m.to
-      → s.ep ≡ Some m.to → PseudoLegal s m kind
+  en_passant : kind ≡ Pawn → Attacks s.turn kind s.board m.from m.to → s.ep ≡ Some m.to → PseudoLegal s m kind
   castles : (c : Castling) → kind ≡ King → MayCastle (castling_row c) s m → PseudoLegal s m kind
 
 -- a piece of the side to move goes by one of these cases, a promotion is named just where a pawn reaches the last rank, and

@@ -40,18 +40,14 @@ use Rattle.pb_theorem.specs.Limits.{most_games}
 -- what comes of that, a line that is put, or a fault, and then nothing is.
 pub data RunEnds {M X : Type 0} (first : M → Type 0) (judges : Verdict → Type 0) (goes : M → Result X Fault → Type 0)
     (sink sink' : SinkState) (result : Result (Option X) Fault) : Type 0 where
-  went : (m : M) (x : X) → first m → goes m (Ok x)
-      → result ≡ Ok (Some x) → RunEnds first judges goes sink sink' result
-  broke : (m : M) (fault : Fault) → first m → goes m (Err fault)
-      → result ≡ Err fault → RunEnds first judges goes sink sink' result
+  went : (m : M) (x : X) → first m → goes m (Ok x) → result ≡ Ok (Some x) → RunEnds first judges goes sink sink' result
+  broke : (m : M) (fault : Fault) → first m → goes m (Err fault) → result ≡ Err fault → RunEnds first judges goes sink sink' result
   told : (out : List ℕ) → judges (Ok (false, out)) → Appends sink.bytes sink'.bytes out → HandedOnOnce sink sink'
       → result ≡ Ok None → RunEnds first judges goes sink sink' result
   -- the sink failed at the line, of which a front was put, and none of it handed on
   untold : (out : List ℕ) (count : ℕ) → judges (Ok (false, out)) → Appends sink.bytes sink'.bytes (take count out)
-      → sink'.failed ≡ true → sink'.flushes ≡ sink.flushes
-      → result ≡ Err Write → RunEnds first judges goes sink sink' result
-  stopped : (fault : Fault) → judges (Err fault) → sink' ≡ sink
-      → result ≡ Err fault → RunEnds first judges goes sink sink' result
+      → sink'.failed ≡ true → sink'.flushes ≡ sink.flushes → result ≡ Err Write → RunEnds first judges goes sink sink' result
+  stopped : (fault : Fault) → judges (Err fault) → sink' ≡ sink → result ≡ Err fault → RunEnds first judges goes sink sink' result
 
 -- the submissions were taken, which left a ledger, and the book made of its games; or taking them broke off, or memory was
 -- wanting for the book
@@ -133,8 +129,7 @@ abbrev pub Exports : ℕ → SourceState → SourceState → SinkState → SinkS
     → LedgerState → Result (Unit {0}) Fault → Type 0
 Exports fills s s' d d' sink sink' ledger (Ok u) =
     (left : LedgerState) × (lines : List (List ℕ)) × Takes fills s s' d d' ledger left
-    × ExportLines left.basis left.accepted lines × Appends sink.bytes sink'.bytes (text_of_lines lines)
-    × HandedOnOnce sink sink'
+    × ExportLines left.basis left.accepted lines × Appends sink.bytes sink'.bytes (text_of_lines lines) × HandedOnOnce sink sink'
 Exports fills s s' d d' sink sink' ledger (Err fault) =
     (BreaksOff fills s s' d d' ledger fault × (sink' ≡ sink))
     ⊎ ((left : LedgerState) × (e : ExportFault) × Takes fills s s' d d' ledger left

@@ -17,8 +17,7 @@ use Rattle.pb_theorem.specs.Runs.{CollectRun, ContinueRun, ExportRun, JournalRun
 abbrev pub SameHeadline : Type 0
 SameHeadline = (rules : CountingRules) (file bytes : Option (List ℕ)) (sink sink' : SinkState) (entries : List Entry)
     → AreRules rules
-    → theorem.HasHeadline rules file bytes sink sink' entries
-    ↔ collecting.HasHeadline rules file bytes sink sink' entries
+    → theorem.HasHeadline rules file bytes sink sink' entries ↔ collecting.HasHeadline rules file bytes sink sink' entries
 
 abbrev pub SameCollectRun : Type 0
 SameCollectRun = (rules : CountingRules) (fills : ℕ) (t t' s s' : SourceState) (sink sink' : SinkState)

@@ -59,5 +59,4 @@ fen_text f = join_with_byte space (setup_fields f.setup ++ decimal f.half ∷ de
 
 -- the UCI text of a move: the square left, the square reached, and the small letter of a promotion
 abbrev pub spelling : Moved → List ℕ
-spelling m = square_text m.from
-    ++ (square_text m.to ++ map (λ kind. piece_letter (piece_of Black kind)) (option_to_list m.promo))
+spelling m = square_text m.from ++ (square_text m.to ++ map (λ kind. piece_letter (piece_of Black kind)) (option_to_list m.promo))

@@ -1,8 +1,9 @@
-//! The theorem of `pbook collect` in the field's terms, on the calls that make a book. Beside it, laws
-//! that equate its words with those of the crates below.
+//! The theorem of `pbook collect` in the field's terms, on the calls that make a book. Beside it,
+//! laws that equate its words with those of the crates below.
 #![tactic(auto)]
 
-ghost use Rattle.std.specs.Prelude.{◌≡◌, ◌≢◌, ◌↔◌, ℕ, List, All, Ok, Err, IfErr, IfNone, IfOk, IfSome};
+ghost use Rattle.std.specs.Prelude.{◌≡◌, ◌≢◌, ◌↔◌, ℕ, List, All, Ok, Err};
+ghost use Rattle.std.specs.Prelude.{IfErr, IfNone, IfOk, IfSome};
 ghost use Rattle.pb_board.specs.Fen.{FenText};
 ghost use Rattle.pb_board.specs.Position.{IsRecord, IsSetup, Position, Record};
 ghost use Rattle.pb_io.specs.Lines.{lines};
@@ -45,7 +46,11 @@ ghost use Rattle.pb_theorem.specs.Moves as chess;
 ghost use Rattle.pb_theorem.specs.Refusals as refusals;
 ghost use Rattle.pb_theorem.specs.Replies as reply;
 ghost use Rattle.pb_theorem.specs.Same.{
-    SameCollectRun, SameContinueRun, SameExportRun, SameHeadline, SameJournalRun,
+  SameCollectRun,
+  SameContinueRun,
+  SameExportRun,
+  SameHeadline,
+  SameJournalRun,
 };
 ghost use Rattle.pb_theorem.specs.Texts as texts;
 
@@ -58,14 +63,14 @@ use std::alloc::Global;
 
 // ---- the theorem, on calls that make the book
 
-/// The replies to these submissions, and the opening book of the games that are accepted, whose keys
-/// come of the random numbers that the table's bytes write. The rules say which plies count. None where
-/// the bytes write no table.
+/// The replies to these submissions, and the opening book of the games that are accepted, whose
+/// keys come of the random numbers that the table's bytes write. The rules say which plies count.
+/// None where the bytes write no table.
 ///
 /// # Errors
 ///
-/// `Memory` comes where a growth of the ledger, of the book or of the answer found no memory, `Write`
-/// where one for a reply did, and `Endless` where the bytes are more than can be asked for.
+/// `Memory` comes where a growth of the ledger, of the book or of the answer found no memory,
+/// `Write` where one for a reply did, and `Endless` where more bytes come than can be asked for.
 pub fn collect_bytes(
     alloc: Global,
     rules: Rules,
@@ -163,26 +168,29 @@ pub fn same_refusals()
     ensures { (line : List ℕ) (r : Refusal) → refusals.Refuses line r ↔ Refuses line r }
 {}
 
-/// Equates the steps of a ledger with the answers that pb_accepted allows and the games that they leave,
-/// and the reply lines with its reply lines.
+/// Equates the steps of a ledger with the answers that pb_accepted allows and the games that they
+/// leave, and the reply lines with its reply lines.
 pub fn same_runs()
-    ensures runs { (cap : ℕ) (A : List Submission) (L : List (List ℕ)) (R : List Answer) (B : List Submission)
-        → ledger.Run cap A L R B ↔ (Run cap A L R × Accepted A L R B) }
+    ensures runs { (cap : ℕ) (A : List Submission) (L : List (List ℕ)) (R : List Answer)
+        (B : List Submission) → ledger.Run cap A L R B ↔ (Run cap A L R × Accepted A L R B) }
     ensures replies { (L : List (List ℕ)) (R : List Answer) → reply.replies L R ≡ replies L R }
 {}
 
 /// Equates keys with those of pb_poly, and the codes of legal moves with its codes.
 pub fn same_keys()
     ensures keys { (randoms : List ℕ) (s : Position) → keys.key randoms s ≡ key randoms s }
-    ensures codes { (s : Position) (m : Moved) → IsSetup s → Legal s m → keys.encode_move s m ≡ code s m }
+    ensures codes { (s : Position) (m : Moved) → IsSetup s → Legal s m
+        → keys.encode_move s m ≡ code s m }
 {}
 
-/// Equates table files with those of pb_poly, and the book of lawful submissions with pb_accepted's.
+/// Equates table files with those of pb_poly, and the book of lawful submissions with that of
+/// pb_accepted.
 pub fn same_books()
     ensures tables { (randoms bytes : List ℕ)
         → book.IsTableFile randoms bytes ↔ IsTableFile randoms bytes }
-    ensures books { (randoms : List ℕ) (rules : CountingRules) (S : List Submission) (E : List Entry)
-        → All IsSubmission S → book.IsBook (book.counted_plies randoms rules S) rules.least E
+    ensures books { (randoms : List ℕ) (rules : CountingRules) (S : List Submission)
+        (E : List Entry) → All IsSubmission S
+        → book.IsBook (book.counted_plies randoms rules S) rules.least E
         ↔ IsBook (record { words = randoms; rules = rules }) S E }
 {}
 
@@ -191,10 +199,12 @@ pub fn same_headline()
     ensures { SameHeadline }
 {}
 
-/// Equates what reading a table file and a book gives, and why none is read, with what pb_poly says.
+/// Equates what reading a table file and a book gives, and why none is read, with what pb_poly
+/// says.
 pub fn same_files()
     ensures tables { (fills : ℕ) (old new : SourceState) (randoms : List ℕ)
-        → files.ReadsTable fills old new (Ok randoms) ↔ tables_read.ReadsTable fills old new randoms }
+        → files.ReadsTable fills old new (Ok randoms)
+        ↔ tables_read.ReadsTable fills old new randoms }
     ensures table_faults { (fills : ℕ) (old new : SourceState) (e : TableFault)
         → files.ReadsTable fills old new (Err e) ↔ tables_read.FindsNoTable fills old new e }
     ensures books { (fills : ℕ) (old new : SourceState) (entries : List Entry)
