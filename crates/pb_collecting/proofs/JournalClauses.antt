@@ -2,7 +2,7 @@
 use Rattle.std.proofs.Common.{◌≡◌, ℕ, ◌⊎◌, List, Option, Some, None, Result, Ok, Err, inl, inr, refl}
 use Rattle.std.specs.Prelude.{IfNone, IfOk, IfSome, OnOk}
 use Rattle.pb_io.specs.Source.{SourceState}
-use Rattle.pb_io.specs.Sink.{SinkState}
+use Rattle.pb_io.specs.Sink.{AllLasts, SinkState}
 use Rattle.pb_poly.specs.declared.entry.Entry.{Entry}
 use Rattle.pb_accepted.specs.Rules.{CountingRules}
 use Rattle.pb_commands.specs.Judged.{HandedOnOnce, PutsUntil}
@@ -10,7 +10,7 @@ use Rattle.pb_commands.specs.declared.fault.Fault.{Fault}
 use Rattle.pb_commands.specs.declared.fault.Fault.TheVariants as fault
 use Rattle.pb_collecting.specs.CollectRun.{JudgesTable, RefusesTold}
 use Rattle.pb_collecting.specs.JournalRun.{EndsJournaled, JournalsOrEnds, at_book, at_journal, at_submissions, at_table}
-use Rattle.pb_collecting.specs.JournalTold.{HasHeadlineOfJournal, Survives}
+use Rattle.pb_collecting.specs.JournalTold.{HasHeadlineOfJournal, Outlives, Survives}
 use Rattle.pb_collecting.proofs.CollectRuns.{tells_refused}
 use Rattle.pb_collecting.proofs.JournalHeadlines.{has_headline}
 use Rattle.pb_collecting.proofs.JournalSurvives.{stream_survives, until_survives}
@@ -25,14 +25,26 @@ module _ (rules : CountingRules) (fills : ℕ) (t t' v v' s s' : SourceState) (j
   unread fault.Endless h = h.0.unread
   unread fault.Memory h = h.0.unread
 
-  abbrev Safe : Option (List ℕ) → Type 0
-  Safe kept = (s' ≡ s) ⊎ IfSome kept (λ bytes. Survives bytes s.to_come j j' sink sink')
+  -- no submission was read, or this is so of the journal's bytes
+  abbrev Unless : (List ℕ → Type 0) → Type 0
+  Unless P = (s' ≡ s) ⊎ IfSome v.to_come P
 
-  safe : (kept : Option (List ℕ)) → v.to_come ≡ kept → ((bytes : List ℕ) → v.to_come ≡ Some bytes → (s' ≡ s) ⊎ Survives bytes s.to_come j j' sink sink') → Safe kept
+  IsSafe : List ℕ → Type 0
+  IsSafe bytes = Survives bytes s.to_come j j' sink sink' × (AllLasts j → Outlives bytes s.to_come j j' sink sink')
+
+  safe : (kept : Option (List ℕ)) → v.to_come ≡ kept → ((bytes : List ℕ) → v.to_come ≡ Some bytes → (s' ≡ s) ⊎ IsSafe bytes) → (s' ≡ s) ⊎ IfSome kept IsSafe
   safe None is told = inr tt
   safe (Some bytes) is told = told bytes is
 
-  ends_safe : (fault : Fault) → EndsJournaled rules fills t t' v v' s s' j j' sink sink' fault → Safe v.to_come
+  weaker : (P : List ℕ → Type 0) → ((bytes : List ℕ) → IsSafe bytes → P bytes) → Unless IsSafe → Unless P
+  weaker P follows (inl unread) = inl unread
+  weaker P follows (inr h) = inr (by v.to_come h)
+    where
+      by : (kept : Option (List ℕ)) → IfSome kept IsSafe → IfSome kept P
+      by None h = tt
+      by (Some bytes) h = follows bytes h
+
+  ends_safe : (fault : Fault) → EndsJournaled rules fills t t' v v' s s' j j' sink sink' fault → Unless IsSafe
   ends_safe fault (at_table puts unread_journal untouched) = inl (unread fault puts)
   ends_safe fault (at_journal e not is unsubmitted nothing) = inl unsubmitted
   ends_safe fault (at_submissions e held left mended first until is) =
@@ -56,12 +68,18 @@ module _ (rules : CountingRules) (fills : ℕ) (t t' v v' s s' : SourceState) (j
   headline (Ok None) h = tt
   headline (Err fault) h = tt
 
-  pub survives : (result : Result (Option (List Entry)) Fault) → Ends result → Safe v.to_come
-  survives (Ok (Some entries)) h =
+  is_safe : (result : Result (Option (List Entry)) Fault) → Ends result → Unless IsSafe
+  is_safe (Ok (Some entries)) h =
       let b = h.0 in
       safe v.to_come refl (λ bytes told. stream_survives rules fills t t' v v' s j b.mended j' sink sink' b.held b.first bytes told s' b.left b.totals b.collects)
-  survives (Ok None) h = inl h.0.refused.judged.unread
-  survives (Err fault) h = ends_safe fault h
+  is_safe (Ok None) h = inl h.0.refused.judged.unread
+  is_safe (Err fault) h = ends_safe fault h
+
+  pub survives : (result : Result (Option (List Entry)) Fault) → Ends result → Unless (λ bytes. Survives bytes s.to_come j j' sink sink')
+  survives result h = weaker _ (λ bytes safe. safe.0) (is_safe result h)
+
+  pub outlives : (result : Result (Option (List Entry)) Fault) → Ends result → AllLasts j → Unless (λ bytes. Outlives bytes s.to_come j j' sink sink')
+  outlives result h all = weaker _ (λ bytes safe. safe.1 all) (is_safe result h)
 
   pub handed_on : (result : Result (Option (List Entry)) Fault) → Ends result → OnOk result (HandedOnOnce sink sink')
   handed_on (Ok (Some entries)) h = let stream = h.0.collects.0 in (stream.1, stream.2)

@@ -5,7 +5,7 @@ use Rattle.std.proofs.KnownBytes.{Appends-trans}
 use Rattle.std.proofs.Math.Seq.{take-append-add, take-length}
 use Rattle.pb_board.specs.LineEnd.{with_end}
 use Rattle.pb_io.specs.Source.{SourceState}
-use Rattle.pb_io.specs.Sink.{SinkState}
+use Rattle.pb_io.specs.Sink.{AllLasts, LastsFirst, SinkState}
 use Rattle.pb_io.specs.LineTask.{AtLine}
 use Rattle.pb_io.specs.Lines.{ended_lines, lines}
 use Rattle.pb_io.specs.Reads.{Reads, ReadsAll, ReadsFront, chunk_len}
@@ -17,7 +17,7 @@ use Rattle.pb_accepted.specs.Holding.{most_games}
 use Rattle.pb_accepted.specs.Ledger.{LedgerState}
 use Rattle.pb_accepted.specs.Replies.{replies, reply_line}
 use Rattle.pb_accepted.specs.Rules.{CountingRules}
-use Rattle.pb_saved.specs.Journal.{Journals, mending}
+use Rattle.pb_saved.specs.Journal.{GameLines, Journals, mending}
 use Rattle.pb_ledger.specs.Collecting.{Collects, CollectsButOne, Leads}
 use Rattle.pb_ledger.specs.Journaling.{CollectsUnkept, Gains, JournalsStream, JournalsUntil}
 use Rattle.pb_ledger.specs.declared.collecting.CollectFault.TheVariants as collect
@@ -26,7 +26,7 @@ use Rattle.pb_ledger.specs.declared.journaling.JournalFault.TheVariants as journ
 use Rattle.pb_ledger.specs.declared.totals.Totals.{Totals}
 use Rattle.pb_collecting.specs.Headline.{Arrives}
 use Rattle.pb_collecting.specs.JournalRun.{ReplaysFirst}
-use Rattle.pb_collecting.specs.JournalTold.{AreFirst, Survives}
+use Rattle.pb_collecting.specs.JournalTold.{AreFirst, HoldsAnswered, Outlives, Survives}
 use Rattle.pb_collecting.proofs.JournalGains.{IsNumber-front, gains_all, gains_torn, has_numbers, replies-push}
 use Rattle.pb_collecting.proofs.JournalHeadlines.{held_told, mended_told}
 
@@ -64,9 +64,9 @@ first_but_one (Some bytes) before line h = (line ∷ h.0, h.1 ∙ append_assoc b
 
 module _ (rules : CountingRules) (fills : ℕ) (t t' v v' s : SourceState) (j mended j' sink sink' : SinkState) (held : LedgerState) (first : ReplaysFirst rules fills t t' v v' j mended held)
     (kept : List ℕ) (told : v.to_come ≡ Some kept) where
-  -- the new games are on the journal as far as they were acknowledged
+  -- the new games are on the journal as far as they were acknowledged, and last there
   abbrev Safe : Type 0
-  Safe = Survives kept s.to_come j j' sink sink'
+  Safe = Survives kept s.to_come j j' sink sink' × (AllLasts j → Outlives kept s.to_come j j' sink sink')
 
   holds : Journals most_games kept held.accepted
   holds = held_told rules fills t t' v v' j mended held first kept told
@@ -78,23 +78,40 @@ module _ (rules : CountingRules) (fills : ℕ) (t t' v v' s : SourceState) (j me
   gained : (text : List ℕ) → Appends mended.bytes j'.bytes text → Appends j.bytes j'.bytes (mending kept ++ text)
   gained text put = Appends-trans _ _ _ _ _ (mended_told rules fills t t' v v' j mended held first kept told) put
 
+  -- what was put, where all of it lasts
+  all_last : (bytes : List ℕ) → Appends j.bytes j'.bytes bytes → AllLasts j' → LastsFirst j j' bytes
+  all_last bytes put all =
+      ([], subst (λ (known : Option (List ℕ)). Appends j.bytes known (bytes ++ [])) (sym all) (subst (Appends j.bytes j'.bytes) (sym (append-nil bytes)) put))
+
+  -- the journal with the lines of new games
+  holds_all : (left : LedgerState) (L : List (List ℕ)) (R : List Answer) (on : Leads (record { basis = record { words = first.words; rules = rules }; cap = most_games; accepted = held.accepted }) left L R)
+      (new : List Submission) (text : List ℕ) → left.accepted ≡ held.accepted ++ new → GameLines new text → Journals most_games (kept ++ (mending kept ++ text)) (held.accepted ++ new)
+  holds_all left L R on new text are lines_of =
+      subst (λ (bytes : List ℕ). Journals most_games bytes (held.accepted ++ new)) (append_assoc kept (mending kept) text)
+      (gains_all most_games kept held.accepted left.accepted L R holds on.run on.accepted new text are lines_of)
+
   -- a front of the replies was put, and the new games are on the journal
   survives : (left : LedgerState) (L : List (List ℕ)) (R : List Answer) (n : ℕ) → AreFirst L s.to_come → Leads held left L R → Gains mended j' held.accepted left.accepted
       → Appends sink.bytes sink'.bytes (take n (replies L R)) → Safe
   survives left L R n front leads gains replied =
-      let on = leads_on left L R leads in record {
+      let on = leads_on left L R leads in
+      let holds_answered : HoldsAnswered (kept ++ (mending kept ++ gains.text)) s.to_come sink sink' = record {
         lines = L;
         first = front;
         answers = R;
         count = n;
         replied = replied;
-        gained = mending kept ++ gains.text;
-        put = gained gains.text gains.put;
         games = held.accepted ++ gains.new;
-        holds = subst (λ (bytes : List ℕ). Journals most_games bytes (held.accepted ++ gains.new)) (append_assoc kept (mending kept) gains.text)
-            (gains_all most_games kept held.accepted left.accepted L R holds on.run on.accepted gains.new gains.text gains.are gains.lines);
+        holds = holds_all left L R on gains.new gains.text gains.are gains.lines;
         has = has_numbers most_games held.accepted L R (held.accepted ++ gains.new) on.run (subst (λ (X : List Submission). Accepted held.accepted L R X) gains.are on.accepted);
-      }
+      } in (
+        record { gained = mending kept ++ gains.text; put = gained gains.text gains.put; holds = holds_answered },
+        λ before. record {
+          gained = mending kept ++ gains.text;
+          lasts = all_last (mending kept ++ gains.text) (gained gains.text gains.put) (gains.all_lasts (first.replays.mends.all_lasts before));
+          holds = holds_answered;
+        },
+      )
 
   -- all replies were put
   collected : (left : LedgerState) (L : List (List ℕ)) → AreFirst L s.to_come → Collects sink sink' held left L → Gains mended j' held.accepted left.accepted → Safe
@@ -115,10 +132,17 @@ module _ (rules : CountingRules) (fills : ℕ) (t t' v v' s : SourceState) (j me
   -- the last line's game is on the journal as a whole or not at all, and wasn't answered
   unkept : (left : LedgerState) (L : List (List ℕ)) → AreFirst L s.to_come → CollectsUnkept sink sink' mended j' held left L → Safe
   unkept left L front h =
-      elim (gains_torn most_games kept held.accepted left.accepted L (h.answers ++ Ok h.number ∷ []) holds on.run on.accepted h.new h.game h.text h.last h.count h.games h.lines h.spells) [
-        | inl torn ↦ answered (held.accepted ++ h.new) torn before
-        | inr whole ↦ answered (held.accepted ++ h.new ++ h.game ∷ []) whole after
-      ]
+      (
+        elim (gains_torn most_games kept held.accepted left.accepted L (h.answers ++ Ok h.number ∷ []) holds on.run on.accepted h.new h.game h.text h.last h.count h.games h.lines h.spells) [
+          | inl torn ↦ survives_so (held.accepted ++ h.new) torn before
+          | inr whole ↦ survives_so (held.accepted ++ h.new ++ h.game ∷ []) whole after
+        ],
+        λ all. record {
+          gained = mending kept ++ h.text;
+          lasts = lasts_so (h.lasts (first.replays.mends.all_lasts all));
+          holds = answered (mending kept ++ h.text) (held.accepted ++ h.new) (holds_all h.middle h.before h.answers led h.new h.text h.held_before h.lines) before;
+        },
+      )
     where
       on : Leads (record { basis = record { words = first.words; rules = rules }; cap = most_games; accepted = held.accepted }) left L (h.answers ++ Ok h.number ∷ [])
       on = leads_on left L (h.answers ++ Ok h.number ∷ []) h.leads
@@ -126,9 +150,11 @@ module _ (rules : CountingRules) (fills : ℕ) (t t' v v' s : SourceState) (j me
       Has : List Submission → Type 0
       Has games = (i n : ℕ) → slice_get h.answers i ≡ Some (Ok n) → (s : Submission) × Arrives h.before i s × IsNumber games n s
 
+      led : Leads (record { basis = record { words = first.words; rules = rules }; cap = most_games; accepted = held.accepted }) h.middle h.before h.answers
+      led = leads_on h.middle h.before h.answers h.leads_before
+
       before : Has (held.accepted ++ h.new)
       before =
-          let led = leads_on h.middle h.before h.answers h.leads_before in
           has_numbers most_games held.accepted h.before h.answers (held.accepted ++ h.new) led.run (subst (λ (X : List Submission). Accepted held.accepted h.before h.answers X) h.held_before led.accepted)
 
       after : Has (held.accepted ++ h.new ++ h.game ∷ [])
@@ -137,18 +163,30 @@ module _ (rules : CountingRules) (fills : ℕ) (t t' v v' s : SourceState) (j me
       line : List ℕ
       line = take h.count (with_end h.last)
 
-      answered : (games : List Submission) → Journals most_games (kept ++ mending kept ++ h.text ++ line) games → Has games → Safe
-      answered games journals has = record {
+      -- the journal was mended before it took the lines
+      lasts_so : LastsFirst mended j' h.text → LastsFirst j j' (mending kept ++ h.text)
+      lasts_so lasts =
+          (lasts.0, subst (Appends j.bytes j'.lasting) (sym (append_assoc (mending kept) h.text lasts.0))
+          (Appends-trans _ _ _ _ _ (mended_told rules fills t t' v v' j mended held first kept told) lasts.1))
+
+      answered : (gains : List ℕ) (games : List Submission) → Journals most_games (kept ++ gains) games → Has games → HoldsAnswered (kept ++ gains) s.to_come sink sink'
+      answered gains games journals has = record {
         lines = h.before;
         first = first_but_one s.to_come h.before h.line (subst (λ (X : List (List ℕ)). AreFirst X s.to_come) h.are front);
         answers = h.answers;
         count = length (replies h.before h.answers);
         replied = subst (Appends sink.bytes sink'.bytes) (sym (take-length (replies h.before h.answers))) h.put;
+        games = games;
+        holds = journals;
+        has = has;
+      }
+
+      survives_so : (games : List Submission) → Journals most_games (kept ++ mending kept ++ h.text ++ line) games → Has games → Survives kept s.to_come j j' sink sink'
+      survives_so games journals has = record {
         gained = mending kept ++ (h.text ++ line);
         put = gained (h.text ++ line) h.kept;
-        games = games;
-        holds = subst (λ (bytes : List ℕ). Journals most_games bytes games) (append_assoc (kept ++ mending kept) h.text line ∙ append_assoc kept (mending kept) (h.text ++ line)) journals;
-        has = has;
+        holds = answered (mending kept ++ (h.text ++ line)) games
+            (subst (λ (bytes : List ℕ). Journals most_games bytes games) (append_assoc (kept ++ mending kept) h.text line ∙ append_assoc kept (mending kept) (h.text ++ line)) journals) has;
       }
 
   -- ---- how the lines ended

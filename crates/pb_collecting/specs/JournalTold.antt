@@ -2,7 +2,7 @@
 -- submissions. Below, `j` and `j'` are the states of the journal's sink before and after. A list is counted from 0.
 use Rattle.std.specs.Prelude.{◌≡◌, ℕ, List, [], ◌++◌, Option, Some, Ok, IfSome, slice_get, take}
 use Rattle.std.specs.Io.KnownBytes.{Appends}
-use Rattle.pb_io.specs.Sink.{SinkState}
+use Rattle.pb_io.specs.Sink.{LastsFirst, SinkState}
 use Rattle.pb_io.specs.Lines.{ended_lines, lines}
 use Rattle.pb_poly.specs.Table.{IsTableFile}
 use Rattle.pb_poly.specs.declared.entry.Entry.{Entry}
@@ -41,16 +41,26 @@ HasHeadlineOfJournal rules file kept bytes j j' sink sink' entries =
 abbrev pub AreFirst : List (List ℕ) → Option (List ℕ) → Type 0
 AreFirst first submitted = IfSome submitted (λ bytes. (later : List (List ℕ)) × (lines bytes ≡ first ++ later))
 
--- No acknowledged game is lost, however the run ends: of these lines, the first of the submissions, a front of the replies was put, and each
--- game that one of them calls `ok` stands under its number in the games that the journal now holds.
-pub record Survives (kept : List ℕ) (submitted : Option (List ℕ)) (j j' sink sink' : SinkState) : Type 0 where
+-- A journal of these bytes holds all that was acknowledged: of these lines, the first of the submissions, a front of the replies was put, and
+-- each game that one of them calls `ok` stands under its number in the games of the journal.
+pub record HoldsAnswered (journal : List ℕ) (submitted : Option (List ℕ)) (sink sink' : SinkState) : Type 0 where
   pub lines : List (List ℕ)
   pub first : AreFirst lines submitted
   pub answers : List Answer
   pub count : ℕ
   pub replied : Appends sink.bytes sink'.bytes (take count (replies lines answers))
+  pub games : List Submission
+  pub holds : Journals most_games journal games
+  pub has : (i n : ℕ) → slice_get answers i ≡ Some (Ok n) → (s : Submission) × Arrives lines i s × IsNumber games n s
+
+-- No acknowledged game is lost, however the run ends: the journal now holds them.
+pub record Survives (kept : List ℕ) (submitted : Option (List ℕ)) (j j' sink sink' : SinkState) : Type 0 where
   pub gained : List ℕ
   pub put : Appends j.bytes j'.bytes gained
-  pub games : List Submission
-  pub holds : Journals most_games (kept ++ gained) games
-  pub has : (i n : ℕ) → slice_get answers i ≡ Some (Ok n) → (s : Submission) × Arrives lines i s × IsNumber games n s
+  pub holds : HoldsAnswered (kept ++ gained) submitted sink sink'
+
+-- Nor whatever ends it: what lasts of the journal holds them, first, whatever lasts behind that.
+pub record Outlives (kept : List ℕ) (submitted : Option (List ℕ)) (j j' sink sink' : SinkState) : Type 0 where
+  pub gained : List ℕ
+  pub lasts : LastsFirst j j' gained
+  pub holds : HoldsAnswered (kept ++ gained) submitted sink sink'

@@ -22,7 +22,7 @@ struct Dropped {
 }
 
 impl Sink for Dropped {
-    ghost state = { λ s. record { bytes = None; failed = false; flushed = s.flushed; flushes = s.flushes } };
+    ghost state = { λ s. record { bytes = None; lasting = None; failed = false; flushed = s.flushed; flushes = s.flushes } };
 
     fn put(&mut self, _bytes: &[u8]) -> Result<(), Failed> {
         self.flushed = false;

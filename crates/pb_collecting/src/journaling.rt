@@ -2,12 +2,12 @@
 
 ghost use Rattle.std.specs.Prelude.{◌≡◌, ◌⊎◌, IfErr, IfNone, IfOk, IfSome, OnOk};
 ghost use Rattle.pb_io.specs.Source.{SourceState};
-ghost use Rattle.pb_io.specs.Sink.{SinkState};
+ghost use Rattle.pb_io.specs.Sink.{AllLasts, SinkState};
 ghost use Rattle.pb_accepted.specs.Rules.{CountingRules};
 ghost use Rattle.pb_commands.specs.Judged.{HandedOnOnce};
 ghost use Rattle.pb_collecting.specs.CollectRun.{RefusesTold};
 ghost use Rattle.pb_collecting.specs.JournalRun.{EndsJournaled, JournalsBook, JournalsOrEnds, RefusesJournaled, ReplaysFirst, ReplaysOrStops, fault_of_journal, fault_of_replay};
-ghost use Rattle.pb_collecting.specs.JournalTold.{HasHeadlineOfJournal, Survives};
+ghost use Rattle.pb_collecting.specs.JournalTold.{HasHeadlineOfJournal, Outlives, Survives};
 
 use crate::taking::{collect_fault, empty_ledger};
 use pb_commands::{Fault, TableFault, refuse_table};
@@ -66,6 +66,9 @@ pub fn run_journaled<T: Source, V: Source, J: Sink, W: PassedLines, S: Source, K
     // No acknowledged game is lost: no submission was read, or the journal holds each game that a reply calls `ok`.
     ensures survives { (S.state source.new ≡ S.state source.old) ⊎ IfSome (V.state kept.old).to_come (λ bytes.
         Survives bytes (S.state source.old).to_come (J.state journal.old) (J.state journal.new) (K.state sink.old) (K.state sink.new)) }
+    // Nor by whatever ends the run, where what the journal had before lasts.
+    ensures outlives { AllLasts (J.state journal.old) → (S.state source.new ≡ S.state source.old) ⊎ IfSome (V.state kept.old).to_come (λ bytes.
+        Outlives bytes (S.state source.old).to_come (J.state journal.old) (J.state journal.new) (K.state sink.old) (K.state sink.new)) }
     ensures handed_on { OnOk result (HandedOnOnce (K.state sink.old) (K.state sink.new)) }
     // What was done before a fault, and where the fault lies.
     ensures fault { IfErr result (EndsJournaled rules fills (T.state table_source.old) (T.state table_source.new)

@@ -1,8 +1,9 @@
 //! The command `collect` with a journal, up to the place where its book is kept.
 
 ghost use Rattle.std.specs.Prelude.{◌≡◌, ◌⊎◌, IfSome};
+ghost use Rattle.pb_io.specs.Sink.{AllLasts};
 ghost use Rattle.pb_collecting.specs.JournalInto.{JournalsInto};
-ghost use Rattle.pb_collecting.specs.JournalTold.{Survives};
+ghost use Rattle.pb_collecting.specs.JournalTold.{Outlives, Survives};
 
 use crate::journaling::run_journaled;
 use crate::keeping::NoBook;
@@ -37,6 +38,9 @@ pub fn journal_into<T: Source, V: Source, J: Sink, W: PassedLines, S: Source, K:
     // No acknowledged game is lost, whatever becomes of the book.
     ensures survives { (S.state source.new ≡ S.state source.old) ⊎ IfSome (V.state kept.old).to_come (λ bytes.
         Survives bytes (S.state source.old).to_come (J.state journal.old) (J.state journal.new) (K.state sink.old) (K.state sink.new)) }
+    // Nor by whatever ends the run, where what the journal had before lasts.
+    ensures outlives { AllLasts (J.state journal.old) → (S.state source.new ≡ S.state source.old) ⊎ IfSome (V.state kept.old).to_come (λ bytes.
+        Outlives bytes (S.state source.old).to_come (J.state journal.old) (J.state journal.new) (K.state sink.old) (K.state sink.new)) }
 {
     let book = match run_journaled(
         alloc,

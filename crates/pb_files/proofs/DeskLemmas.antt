@@ -2,7 +2,7 @@
 use Rattle.std.proofs.Common.{◌≡◌, ◌∙◌, ℕ, List, Option, None, Some, Result, Err, ap, inr, length, refl, subst, sym}
 use Rattle.std.proofs.Math.Seq.{take-length}
 use Rattle.pb_io.specs.Sink.{SinkState}
-use Rattle.pb_files.specs.Desk.{Goes, Names, Shelf}
+use Rattle.pb_files.specs.Desk.{Names, Shelf}
 use Rattle.pb_files.specs.Keeping.{found_at}
 use Rattle.pb_collecting.specs.Place.{Keeps, PlaceState}
 use Rattle.pb_collecting.specs.declared.place.NotKept.{NotKept}
@@ -10,9 +10,10 @@ use Rattle.pb_collecting.specs.declared.place.NotKept.TheVariants.{Write}
 use Rattle.pb_files.specs.declared.saving.NotSaved.{NotSaved}
 use Rattle.pb_files.specs.declared.saving.NotSaved.TheVariants.{Unsettled}
 use Rattle.pb_files.specs.Saving.{Saves}
+use Rattle.pb_files.specs.Steps.{Steps}
 
 -- the bytes are there under the name, though a crash may undo it
-named : (bytes : List ℕ) (old new : Option Shelf) (end : Option SinkState) (before : Option NotKept) → Goes (Names (Some bytes)) old new
+named : (bytes : List ℕ) (old new : Option Shelf) (end : Option SinkState) (before : Option NotKept) → Steps (Names (Some bytes)) old new
     → Keeps (record { found = found_at old end; fault = before }) (record { found = found_at new None; fault = Some Write }) (Err Write) bytes
 named bytes None None end before goes = record { holds = tt; leaves = inr (0, tt); fault = refl }
 named bytes None (Some b) end before goes = absurd goes

@@ -1,13 +1,15 @@
 -- Lemmas on the steps of a file that is added to, and on what they leave.
-use Rattle.std.proofs.Common.{◌≡◌, ◌∙◌, ℕ, ◌+◌, ◌-◌, min, List, [], ◌++◌, Option, None, Some, length, take, drop, refl, rules, sym, ap, subst, append_assoc, append-nil, arith}
+use Rattle.std.proofs.Common.{◌≡◌, ◌∙◌, ℕ, Bool, true, false, ◌+◌, ◌-◌, min, List, [], ◌++◌, Option, None, Some, length, take, drop, refl, rules, sym, ap, subst, append_assoc, append-nil, arith}
 use Rattle.std.specs.Option.{ForSome}
 use Rattle.std.specs.Prelude.{IfSome}
 use Rattle.std.specs.Io.KnownBytes.{Keeps}
 use Rattle.std.proofs.lemmas.List.{take-append-le, take_min, take_rest}
 use Rattle.std.proofs.Math.Seq.{take-add}
+use Rattle.pb_io.specs.Sink.{Lasts}
 use Rattle.pb_files.specs.Begins.{BeginsWith}
-use Rattle.pb_files.specs.Disk.{Adds, Disk, Grows, IsOnDisk, Leaves, OutlivesCrash, Steps, Syncs, on_disk}
-use Rattle.pb_files.specs.JournalSink.{bytes_put}
+use Rattle.pb_files.specs.Disk.{Adds, Disk, Grows, IsOnDisk, Leaves, OutlivesCrash, Syncs, on_disk}
+use Rattle.pb_files.specs.JournalSink.{bytes_lasting, bytes_put}
+use Rattle.pb_files.specs.Steps.{Steps}
 
 -- no byte, and bytes in two steps
 
@@ -108,3 +110,17 @@ told_on_disk mid None syncs disk is = cc
 pub told_on_disk_outlives : (told : Option Disk) → ForSome told IsOnDisk → IfSome told OutlivesCrash
 told_on_disk_outlives None on_disk = tt
 told_on_disk_outlives (Some disk) on_disk = outlives disk (on_disk disk refl)
+
+-- ---- what lasts of a sink at the end of a file
+
+pub lasting_grows : (sync : Bool) (old new : Option Disk) → Steps Grows old new → Lasts (bytes_lasting sync old) (bytes_lasting sync new)
+lasting_grows sync None None grows = ([], tt)
+lasting_grows sync None (Some new) grows = absurd grows
+lasting_grows sync (Some old) None grows = absurd grows
+lasting_grows true (Some old) (Some new) grows = kept-first old new grows
+lasting_grows false (Some old) (Some new) (bytes, adds) = (bytes, adds.found)
+
+pub lasting_all : (sync : Bool) (told : Option Disk) → (sync ≡ true → ForSome told IsOnDisk) → bytes_lasting sync told ≡ bytes_put told []
+lasting_all sync None on_disk = refl
+lasting_all true (Some disk) on_disk = ap (λ (bytes : List ℕ). Some bytes) (on_disk refl disk refl ∙ sym (append-nil disk.found))
+lasting_all false (Some disk) on_disk = ap (λ (bytes : List ℕ). Some bytes) (sym (append-nil disk.found))

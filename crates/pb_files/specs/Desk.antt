@@ -1,5 +1,5 @@
 -- What is known of a name in a folder whose file is made anew by way of a draft beside it, and what a crash leaves under it.
-use Rattle.std.specs.Prelude.{◌≡◌, ◌⊎◌, ℕ, Bool, false, true, List, [], ◌∷◌, ◌++◌, Option, None, Some, Result, Ok, Err}
+use Rattle.std.specs.Prelude.{◌≡◌, ◌⊎◌, ℕ, Bool, false, true, List, [], ◌∷◌, ◌++◌, Option, Some, Result, Ok, Err}
 use Rattle.std.specs.Option.{option_map}
 use Rattle.pb_io.specs.Sink.{SinkState}
 use Rattle.pb_collecting.specs.declared.place.NotKept.{NotKept}
@@ -47,13 +47,6 @@ abbrev pub is_refused_name : Result (Unit {0}) NotNamed → Bool
 is_refused_name (Ok done) = false
 is_refused_name (Err named.Refused) = true
 is_refused_name (Err named.Failed) = false
-
--- What is told goes on by a step. A desk that tells nothing goes on so.
-abbrev pub Goes : (Shelf → Shelf → Type 0) → Option Shelf → Option Shelf → Type 0
-Goes step None None = Unit {0}
-Goes step None (Some new) = ⊥
-Goes step (Some old) None = ⊥
-Goes step (Some old) (Some new) = step old new
 
 -- An end into an empty file, which tells its bytes where the desk tells what it knows.
 pub record Begins (told : Option Shelf) (end : SinkState) : Type 0 where

@@ -1,5 +1,5 @@
 -- What is known of a file that is only added to, and what a kill and a crash leave of it.
-use Rattle.std.specs.Prelude.{◌≡◌, ℕ, ◌≤◌, Bool, List, ◌++◌, take, Option, None, Some, ⊤}
+use Rattle.std.specs.Prelude.{◌≡◌, ℕ, ◌≤◌, Bool, List, ◌++◌, take, Option}
 use Rattle.pb_files.specs.Begins.{BeginsWith}
 
 -- the bytes that a reader finds, and how many from the first on are on the disk
@@ -42,10 +42,3 @@ pub record Syncs (old new : Disk) : Type 0 where
 -- whatever is added later, a crash leaves these bytes first
 abbrev pub OutlivesCrash : Disk → Type 0
 OutlivesCrash disk = (later : Disk) → Grows disk later → (left : List ℕ) → Leaves later left → BeginsWith left disk.found
-
--- what is told goes on by such a step, and a file that tells nothing goes on telling nothing
-abbrev pub Steps : (Disk → Disk → Type 0) → Option Disk → Option Disk → Type 0
-Steps step None None = ⊤
-Steps step None (Some new) = ⊥
-Steps step (Some old) None = ⊥
-Steps step (Some old) (Some new) = step old new

@@ -1,6 +1,7 @@
 -- What is known of a sink at the end of a journal's file.
-use Rattle.std.specs.Prelude.{◌≡◌, Bool, true, List, [], ℕ, ◌++◌, Option, None, Some, IfSome, Result, OnOk}
-use Rattle.pb_files.specs.Disk.{Disk, Grows, OutlivesCrash, Steps}
+use Rattle.std.specs.Prelude.{◌≡◌, Bool, false, true, List, [], ℕ, ◌++◌, Option, None, Some, IfSome, Result, OnOk}
+use Rattle.pb_files.specs.Disk.{Disk, Grows, OutlivesCrash}
+use Rattle.pb_files.specs.Steps.{Steps}
 
 -- the disk, where the file tells of it, the bytes that wait to be written, and whether a flush puts all on the disk
 pub record EndState : Type 0 where
@@ -12,6 +13,12 @@ pub record EndState : Type 0 where
 abbrev pub bytes_put : Option Disk → List ℕ → Option (List ℕ)
 bytes_put None waits = None
 bytes_put (Some disk) waits = Some (disk.found ++ waits)
+
+-- what lasts of it: with sync what is on the disk, which a crash leaves, and else what a reader finds, which a kill leaves
+abbrev pub bytes_lasting : Bool → Option Disk → Option (List ℕ)
+bytes_lasting sync None = None
+bytes_lasting true (Some disk) = Some (on_disk disk)
+bytes_lasting false (Some disk) = Some disk.found
 
 -- A put adds nothing to the file: the bytes wait.
 pub record PutAtEnd (old new : EndState) : Type 0 where

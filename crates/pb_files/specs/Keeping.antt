@@ -2,8 +2,9 @@
 use Rattle.std.specs.Prelude.{◌≡◌, ◌⊎◌, false, true, List, ℕ, Option, None, Some, IfSome}
 use Rattle.std.specs.Option.{is_some, option_map}
 use Rattle.pb_io.specs.Sink.{SinkState}
-use Rattle.pb_files.specs.Desk.{Content, DeskState, Goes, Shelf}
+use Rattle.pb_files.specs.Desk.{Content, DeskState, Shelf}
 use Rattle.pb_files.specs.Saving.{OldOrNew, Saved}
+use Rattle.pb_files.specs.Steps.{Steps}
 
 -- what a reader finds: what the name leads to, or of a file that is written in place what its end has taken
 abbrev pub content_at : Option SinkState → Shelf → Content
@@ -20,7 +21,7 @@ OldOrNewByDraft bytes old new = new.refused ≡ false → OldOrNew bytes old.tol
 
 -- unless a draft was refused, what was kept is there for each crash from now on too
 abbrev pub SavedByDraft : List ℕ → DeskState → DeskState → Type 0
-SavedByDraft bytes old new = new.refused ≡ false → Goes (Saved bytes) old.told new.told
+SavedByDraft bytes old new = new.refused ≡ false → Steps (Saved bytes) old.told new.told
 
 -- unless a draft was refused, this is an end into the file that has the name
 abbrev pub IsNamedByDraft : Option SinkState → DeskState → Type 0
@@ -28,4 +29,4 @@ IsNamedByDraft named desk = desk.refused ≡ false → (is_some named ≡ true) 
 
 -- unless a draft was refused, an end into a file that is written in place is let go, or the name leads where it led
 abbrev pub LeadsWhereItLed : Option SinkState → Option SinkState → DeskState → DeskState → Type 0
-LeadsWhereItLed before after old new = new.refused ≡ false → (after ≡ None) ⊎ ((after ≡ before) × Goes (λ a b. b.found ≡ a.found) old.told new.told)
+LeadsWhereItLed before after old new = new.refused ≡ false → (after ≡ None) ⊎ ((after ≡ before) × Steps (λ (a b : Shelf). b.found ≡ a.found) old.told new.told)

@@ -9,3 +9,5 @@ pub mod MemDesk
 pub mod Runs
 pub mod Saving
 pub mod Starting
+pub mod Steps
+pub mod Stop

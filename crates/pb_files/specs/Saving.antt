@@ -1,6 +1,7 @@
 -- What making a file anew whole leaves under its name, whenever a crash comes.
 use Rattle.std.specs.Prelude.{◌≡◌, ℕ, Bool, false, true, List, [], ◌∷◌, ◌++◌, Option, Some, Result, Ok, Err}
-use Rattle.pb_files.specs.Desk.{Goes, MayHaveLeft, Names, NamesNot, Shelf}
+use Rattle.pb_files.specs.Desk.{MayHaveLeft, Names, NamesNot, Shelf}
+use Rattle.pb_files.specs.Steps.{Steps}
 use Rattle.pb_files.specs.declared.desk.NotMade.{NotMade}
 use Rattle.pb_files.specs.declared.desk.NotMade.TheVariants as made
 use Rattle.pb_collecting.specs.declared.place.NotKept.TheVariants.{Open}
@@ -17,14 +18,14 @@ pub record Saved (bytes : List ℕ) (old new : Shelf) : Type 0 where
 -- How making the file anew of these bytes ends: they are there, for each crash from now on too; they are there, and a crash may undo it; or the
 -- old file is there. At each moment a crash leaves the old file or these bytes.
 abbrev pub Saves : {E : Type 0} → List ℕ → Option Shelf → Option Shelf → Result E NotSaved → Type 0
-Saves bytes old new (Ok end) = Goes (Saved bytes) old new
-Saves bytes old new (Err Unsettled) = Goes (Names (Some bytes)) old new
-Saves bytes old new (Err (Failed why)) = Goes (NamesNot (Some bytes)) old new
-Saves bytes old new (Err Refused) = Goes (NamesNot (Some bytes)) old new
+Saves bytes old new (Ok end) = Steps (Saved bytes) old new
+Saves bytes old new (Err Unsettled) = Steps (Names (Some bytes)) old new
+Saves bytes old new (Err (Failed why)) = Steps (NamesNot (Some bytes)) old new
+Saves bytes old new (Err Refused) = Steps (NamesNot (Some bytes)) old new
 
 -- A crash at any moment so far left these bytes, or what it would have left before.
 abbrev pub OldOrNew : List ℕ → Option Shelf → Option Shelf → Type 0
-OldOrNew bytes old new = Goes (MayHaveLeft (Some bytes)) old new
+OldOrNew bytes old new = Steps (MayHaveLeft (Some bytes)) old new
 
 -- whether a draft was refused, or the name
 abbrev pub is_refused : {E : Type 0} → Result E NotSaved → Bool

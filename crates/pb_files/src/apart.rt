@@ -5,7 +5,7 @@ use pb_messages::{Message, Messages, Part};
 use thiserror::Error;
 
 /// Why files can't be those of one run.
-#[derive(Clone, Copy, Debug, PartialEq, Eq, Error)]
+#[derive(Clone, Copy, Debug, Error)]
 pub enum NotApart {
     /// Two of the paths lead to one file.
     #[error("two files of a run are one")]

@@ -2,20 +2,27 @@
 
 ghost use Rattle.std.specs.Prelude.{◌≡◌, IfOk, OnErr, OnOk, false, is_err, true};
 ghost use Rattle.pb_io.specs.Sink.{HandedOn};
-ghost use Rattle.pb_files.specs.Desk.{Begins, DeskState, Empties, Goes, Names, NamesNot, Settles, SettlesNot, is_refused_draft, is_refused_name, is_untakable};
+ghost use Rattle.pb_files.specs.Desk.{Begins, DeskState, Empties, Names, NamesNot};
+ghost use Rattle.pb_files.specs.Desk.{Settles, SettlesNot, is_refused_draft, is_refused_name};
+ghost use Rattle.pb_files.specs.Desk.{is_untakable};
+ghost use Rattle.pb_files.specs.Steps.{Steps};
 ghost use Rattle.pb_files.specs.declared.desk.NotMade.TheVariants as made;
 
 use pb_collecting::NotKept;
 use pb_io::Sink;
+use thiserror::Error;
 
 /// Why there is no draft of a number.
-#[derive(Clone, Copy, Debug, PartialEq, Eq)]
+#[derive(Clone, Copy, Debug, Error)]
 pub enum NotMade {
     /// Another run has the name.
+    #[error("another run has the draft's name")]
     Taken,
     /// The folder takes no draft, or none that can take the old file's place.
+    #[error("no draft can take the file's place")]
     Refused,
     /// It can't be made.
+    #[error("{0}")]
     Failed(NotKept),
 }
 
@@ -28,11 +35,13 @@ impl From<NotKept> for NotMade {
 }
 
 /// Why a draft doesn't get the name of its file.
-#[derive(Clone, Copy, Debug, PartialEq, Eq)]
+#[derive(Clone, Copy, Debug, Error)]
 pub enum NotNamed {
     /// The name can't be given to another file.
+    #[error("the name can't be given to another file")]
     Refused,
     /// The system has failed.
+    #[error("the draft can't be given the name")]
     Failed,
 }
 
@@ -78,8 +87,10 @@ pub trait Desk {
         requires handed_on { HandedOn (Self.End.state draft.now) }
         requires refused { (state self.old).refused ≡ false }
         requires drafted { (state self.old).drafted ≡ true }
-        ensures named { OnOk result (Goes (Names (Self.End.state draft.now).bytes) (state self.old).told (state self.new).told) }
-        ensures not_named { OnErr result (Goes (NamesNot (Self.End.state draft.now).bytes) (state self.old).told (state self.new).told) }
+        ensures named { OnOk result (Steps (Names (Self.End.state draft.now).bytes)
+            (state self.old).told (state self.new).told) }
+        ensures not_named { OnErr result (Steps (NamesNot (Self.End.state draft.now).bytes)
+            (state self.old).told (state self.new).told) }
         ensures drafted { OnOk result ((state self.new).drafted ≡ false) }
         ensures unsettled { OnOk result ((state self.new).unsettled ≡ false) }
         ensures still_drafted { OnErr result ((state self.new).drafted ≡ true) }
@@ -98,8 +109,9 @@ pub trait Desk {
         ensures unsettled { (state self.new).unsettled ≡ is_err result }
         ensures refused { (state self.new).refused ≡ (state self.old).refused }
         ensures drafted { (state self.new).drafted ≡ (state self.old).drafted }
-        ensures settled { OnOk result (Goes Settles (state self.old).told (state self.new).told) }
-        ensures not_settled { OnErr result (Goes SettlesNot (state self.old).told (state self.new).told) };
+        ensures settled { OnOk result (Steps Settles (state self.old).told (state self.new).told) }
+        ensures not_settled { OnErr result
+            (Steps SettlesNot (state self.old).told (state self.new).told) };
 
     /// Opens the file under the name, or makes it, and empties it: for what takes no draft, such as
     /// a device.
@@ -111,6 +123,6 @@ pub trait Desk {
         requires { (state self.old).refused ≡ true }
         ensures refused { (state self.new).refused ≡ true }
         ensures begins { IfOk result (λ end. Begins (state self.new).told (Self.End.state end)) }
-        ensures emptied { OnOk result (Goes Empties (state self.old).told (state self.new).told) }
+        ensures emptied { OnOk result (Steps Empties (state self.old).told (state self.new).told) }
         ensures same { OnErr result ((state self.new).told ≡ (state self.old).told) };
 }

@@ -5,7 +5,7 @@ use std::alloc::{AllocError, Global};
 use std::fs::File;
 use std::io::{self, BufWriter, Write};
 
-/// How many bytes go into a file at once.
+/// The room, in bytes, for what waits to go into a file.
 pub const PIECE: usize = 65_536;
 
 /// Writes into a file, which a flush puts on the disk. What fails is told.

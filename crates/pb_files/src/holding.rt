@@ -10,7 +10,7 @@ use thiserror::Error;
 const TRIES: u32 = 100;
 
 /// Why a file isn't held.
-#[derive(Clone, Copy, Debug, PartialEq, Eq, Error)]
+#[derive(Clone, Copy, Debug, Error)]
 pub enum NotHeld {
     /// The name leads to no file.
     #[error("there is no such file")]
@@ -24,7 +24,7 @@ pub enum NotHeld {
 }
 
 /// What became of the wish to lock a file.
-#[derive(Clone, Copy, Debug, PartialEq, Eq)]
+#[derive(Clone, Copy, Debug)]
 pub enum Lock {
     /// This run has the lock that one run alone can have.
     Held,
@@ -82,7 +82,7 @@ pub fn hold<O: Opener>(opener: &mut O) -> Result<O::File, NotHeld>
 {
     for tried in 0..TRIES {
         let file = opener.open()?;
-        if opener.lock(&file) == Lock::InUse {
+        if matches!(opener.lock(&file), Lock::InUse) {
             return Err(NotHeld::InUse);
         }
         if opener.is_named(&file) {

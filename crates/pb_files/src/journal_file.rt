@@ -1,8 +1,9 @@
 //! A file that this run holds and adds to.
 
 ghost use Rattle.std.specs.Prelude.{◌≡◌, ◌≤◌, ◌<◌, [], IfOk, OnErr, OnOk, is_ok, length, take, true};
-ghost use Rattle.pb_files.specs.Disk.{Adds, FileState, Steps, Syncs};
+ghost use Rattle.pb_files.specs.Disk.{Adds, FileState, Syncs};
 ghost use Rattle.pb_files.specs.JournalFile.{ReadsAll};
+ghost use Rattle.pb_files.specs.Steps.{Steps};
 
 use pb_io::{Failed, Source};
 

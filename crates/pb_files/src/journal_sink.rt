@@ -3,15 +3,14 @@
 ghost use Rattle.std.specs.Prelude.{◌≡◌, ◌≤◌, ◌||◌, IfOk, IfSome, [], drop, false, length, not, take, true};
 ghost use Rattle.std.specs.Option.{ForSome};
 ghost use Rattle.pb_io.specs.Sink.{Flush, Put};
-ghost use Rattle.pb_files.specs.Disk.{Adds, IsOnDisk, OutlivesCrash, Steps};
-ghost use Rattle.pb_files.specs.JournalSink.{EndState, FlushAtEnd, PutAtEnd, bytes_put};
+ghost use Rattle.pb_files.specs.Disk.{Adds, IsOnDisk, OutlivesCrash};
+ghost use Rattle.pb_files.specs.JournalSink.{EndState, FlushAtEnd, PutAtEnd, bytes_lasting, bytes_put};
+ghost use Rattle.pb_files.specs.Steps.{Steps};
 
+use crate::file_writer::PIECE;
 use crate::journal_file::JournalFile;
 use pb_io::{Failed, Sink};
 use std::alloc::{AllocError, Global};
-
-/// How many bytes may wait before more room is made.
-const ROOM: usize = 65536;
 
 /// A sink whose bytes wait to be written to a file.
 pub trait FileEnd {
@@ -40,10 +39,10 @@ impl<J: JournalFile + Drop> JournalSink<J> {
     ///
     /// Want of memory for what waits.
     pub fn new(alloc: Global, file: J, sync: bool) -> Result<JournalSink<J>, AllocError>
-        ensures state { IfOk result (λ sink. ⟦<JournalSink<J> as Sink>⟧.state sink ≡ record { bytes = bytes_put (J.state file).told []; failed = not (J.state file).ready; flushed = false; flushes = 0 }) }
+        ensures state { IfOk result (λ sink. ⟦<JournalSink<J> as Sink>⟧.state sink ≡ record { bytes = bytes_put (J.state file).told []; lasting = bytes_lasting sync (J.state file).told; failed = not (J.state file).ready; flushed = false; flushes = 0 }) }
         ensures end { IfOk result (λ sink. ⟦<JournalSink<J> as FileEnd>⟧.end sink ≡ record { told = (J.state file).told; waits = []; sync = sync }) }
     {
-        let waiting = Vec::with_capacity(alloc, ROOM)?;
+        let waiting = Vec::with_capacity(alloc, PIECE)?;
         Ok(JournalSink {
             file,
             sync,
@@ -78,7 +77,7 @@ impl<J: JournalFile> FileEnd for JournalSink<J> {
 }
 
 impl<J: JournalFile> Sink for JournalSink<J> {
-    ghost state = { λ s. record { bytes = bytes_put (J.state s.file).told s.waiting.items; failed = s.no_memory || not (J.state s.file).ready; flushed = s.flushed; flushes = s.flushes } };
+    ghost state = { λ s. record { bytes = bytes_put (J.state s.file).told s.waiting.items; lasting = bytes_lasting s.sync (J.state s.file).told; failed = s.no_memory || not (J.state s.file).ready; flushed = s.flushed; flushes = s.flushes } };
 
     fn put(&mut self, bytes: &[u8]) -> Result<(), Failed>
         ensures put { Put (⟦<JournalSink<J> as Sink>⟧.state self.old) (⟦<JournalSink<J> as Sink>⟧.state self.new) result bytes.now }
@@ -97,7 +96,7 @@ impl<J: JournalFile> Sink for JournalSink<J> {
         }
     }
 
-    #[tactic(auto, using(crate::proofs::FileLemmas::told_sync, crate::proofs::FileLemmas::told_grows, crate::proofs::FileLemmas::told_bytes, crate::proofs::FileLemmas::told_outlives, crate::proofs::FileLemmas::told_on_disk))]
+    #[tactic(auto, using(crate::proofs::FileLemmas::told_sync, crate::proofs::FileLemmas::told_grows, crate::proofs::FileLemmas::told_bytes, crate::proofs::FileLemmas::told_outlives, crate::proofs::FileLemmas::told_on_disk, crate::proofs::FileLemmas::lasting_grows, crate::proofs::FileLemmas::lasting_all))]
     fn flush(&mut self) -> Result<(), Failed>
         ensures flush { Flush (⟦<JournalSink<J> as Sink>⟧.state self.old) (⟦<JournalSink<J> as Sink>⟧.state self.new) result }
         ensures end { FlushAtEnd (⟦<JournalSink<J> as FileEnd>⟧.end self.old) (⟦<JournalSink<J> as FileEnd>⟧.end self.new) result }

@@ -3,6 +3,7 @@
 
 ghost use Rattle.std.specs.Option.{option_copied, option_map};
 ghost use Rattle.std.specs.Prelude.{◌≡◌, List, [], ◌∷◌, Some, IfSome, false};
+ghost use Rattle.std.specs.Prelude.{length, nat_lt};
 ghost use Rattle.pb_files.specs.MemDesk.{contents_of, found_of, leaves_of};
 
 use crate::desk::{Desk, NotMade, NotNamed};
@@ -11,7 +12,7 @@ use pb_io::FuseSink;
 use std::alloc::Global;
 
 /// What stands beside the name, or under it, before a run comes.
-#[derive(Clone, Copy, Debug, PartialEq, Eq)]
+#[derive(Clone, Copy, Debug)]
 pub enum Before {
     /// No draft, and a file that a draft can replace, or none.
     Free,
@@ -80,11 +81,14 @@ impl MemDesk {
         }
     }
 
-    /// What a crash may leave besides: the file that was there before.
+    /// Whether a crash may still leave what was there before, and not what a reader finds.
     pub fn may_be_undone(&self) -> bool
-        ensures { IfSome (⟦<MemDesk as Desk>⟧.state self.now).told (λ shelf. result ≡ false → shelf.leaves ≡ shelf.found ∷ []) }
+        ensures several { IfSome (⟦<MemDesk as Desk>⟧.state self.now).told
+            (λ shelf. result ≡ nat_lt 1 (length shelf.leaves)) }
+        ensures settled { IfSome (⟦<MemDesk as Desk>⟧.state self.now).told
+            (λ shelf. result ≡ false → shelf.leaves ≡ shelf.found ∷ []) }
     {
-        !self.settled
+        !self.settled && self.named.is_some()
     }
 
     /// Whether a crash might have left a part of a text.
@@ -118,15 +122,15 @@ impl Desk for MemDesk {
 
     fn takes_draft(&mut self) -> Result<bool, NotKept> {
         self.refused = false;
-        if !self.goes_on() || self.before == Before::Held {
+        if !self.goes_on() || matches!(self.before, Before::Held) {
             return Err(NotKept::Open);
         }
-        self.refused = self.before == Before::Special;
+        self.refused = matches!(self.before, Before::Special);
         Ok(!self.refused)
     }
 
     fn remove_left_over(&mut self, number: u32) {
-        if number == 0 && self.before == Before::LeftOver && self.goes_on() {
+        if number == 0 && matches!(self.before, Before::LeftOver) && self.goes_on() {
             self.before = Before::Free;
         }
     }
@@ -135,7 +139,7 @@ impl Desk for MemDesk {
         if !self.goes_on() {
             return Err(NotMade::Failed(NotKept::Open));
         }
-        if number == 0 && self.before != Before::Free {
+        if number == 0 && !matches!(self.before, Before::Free) {
             return Err(NotMade::Taken);
         }
         self.drafted = true;

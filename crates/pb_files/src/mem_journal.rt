@@ -112,7 +112,7 @@ impl ReadFile for MemJournal {
 }
 
 /// What other runs do with a file of a name in memory.
-#[derive(Clone, Copy, Debug, PartialEq, Eq)]
+#[derive(Clone, Copy, Debug)]
 pub enum Others {
     /// Nothing.
     Absent,
@@ -173,7 +173,7 @@ impl Opener for MemOpener {
     ghost denies = { λ o why. o.denied ≡ Some why };
 
     fn open(&mut self) -> Result<MemFile, NotHeld> {
-        if self.others == Others::Removed {
+        if matches!(self.others, Others::Removed) {
             self.denied = Some(NotHeld::NoFile);
             return Err(NotHeld::NoFile);
         }
@@ -183,7 +183,7 @@ impl Opener for MemOpener {
     }
 
     fn lock(&mut self, file: &MemFile) -> Lock {
-        if self.others == Others::Hold {
+        if matches!(self.others, Others::Hold) {
             self.denied = Some(NotHeld::InUse);
             return Lock::InUse;
         }

@@ -12,7 +12,7 @@ use thiserror::Error;
 const NAMES: u32 = 100;
 
 /// Why a file was not made anew.
-#[derive(Clone, Copy, Debug, PartialEq, Eq, Error)]
+#[derive(Clone, Copy, Debug, Error)]
 pub enum NotSaved {
     /// A draft can't take the place of what stands there. That is as it was.
     #[error("no draft can take the file's place")]

@@ -1,9 +1,10 @@
 //! How a run comes to a journal.
 
 ghost use Rattle.std.specs.Prelude.{◌≡◌, [], IfErr, IfOk, IfSome, OnOk, false, true};
-ghost use Rattle.pb_files.specs.Disk.{Adds, IsOnDisk, Steps};
+ghost use Rattle.pb_files.specs.Disk.{Adds, IsOnDisk};
 ghost use Rattle.pb_files.specs.JournalFile.{ReadsAll};
 ghost use Rattle.pb_files.specs.Starting.{IfNotHeld, IfSyncFault};
+ghost use Rattle.pb_files.specs.Steps.{Steps};
 
 use crate::holding::{NotHeld, Opener, hold};
 use crate::journal_file::ReadFile;
@@ -22,7 +23,7 @@ pub trait JournalOpener: Opener {
 }
 
 /// Why a journal can't be read.
-#[derive(Clone, Copy, Debug, PartialEq, Eq, Error)]
+#[derive(Clone, Copy, Debug, Error)]
 pub enum NotRead {
     /// What is found can't be put on the disk.
     #[error("the file can't be put on the disk")]
@@ -33,7 +34,7 @@ pub enum NotRead {
 }
 
 /// Why a run doesn't come to a journal.
-#[derive(Clone, Copy, Debug, PartialEq, Eq, Error)]
+#[derive(Clone, Copy, Debug, Error)]
 pub enum NotStarted {
     /// Its file isn't held.
     #[error("{0}")]

@@ -1,5 +1,10 @@
 //! Why a run stops before its end.
 
+ghost use Rattle.std.specs.Prelude.{◌≡◌};
+ghost use Rattle.pb_files.specs.Stop.{stop_of_book, stop_of_both, stop_of_names, stop_of_place};
+ghost use Rattle.pb_files.specs.Stop.{stop_of_start, stop_word};
+ghost use Rattle.pb_files.specs.declared.stop.Stop.TheVariants as stops;
+
 use crate::apart::NotApart;
 use crate::holding::NotHeld;
 use crate::starting::{NotRead, NotStarted};
@@ -17,7 +22,9 @@ pub enum Stop {
 
 impl Stop {
     /// The word of the line `fault ..`.
-    pub fn word(self) -> &'static str {
+    pub fn word(self) -> &'static str
+        ensures { result.now ≡ stop_word self }
+    {
         match self {
             Stop::NotOpened => "open",
             Stop::Fault(fault) => fault.word(),
@@ -26,12 +33,16 @@ impl Stop {
 }
 
 impl From<Fault> for Stop {
+    ghost from_gives = { λ why result. result ≡ stops.Fault why };
+
     fn from(fault: Fault) -> Stop {
         Stop::Fault(fault)
     }
 }
 
 impl From<NotKept> for Stop {
+    ghost from_gives = { λ why result. result ≡ stop_of_place why };
+
     fn from(why: NotKept) -> Stop {
         match why {
             NotKept::Open => Stop::NotOpened,
@@ -42,6 +53,8 @@ impl From<NotKept> for Stop {
 }
 
 impl From<NoBook> for Stop {
+    ghost from_gives = { λ why result. result ≡ stop_of_book why };
+
     fn from(why: NoBook) -> Stop {
         match why {
             NoBook::Run(fault) => Stop::Fault(fault),
@@ -51,6 +64,8 @@ impl From<NoBook> for Stop {
 }
 
 impl From<NotContinued> for Stop {
+    ghost from_gives = { λ why result. result ≡ stop_of_both why };
+
     fn from(why: NotContinued) -> Stop {
         match why {
             NotContinued::Run(fault) => Stop::Fault(fault),
@@ -60,6 +75,8 @@ impl From<NotContinued> for Stop {
 }
 
 impl From<NotApart> for Stop {
+    ghost from_gives = { λ why result. result ≡ stop_of_names why };
+
     fn from(why: NotApart) -> Stop {
         match why {
             NotApart::OneFile => Stop::NotOpened,
@@ -69,12 +86,16 @@ impl From<NotApart> for Stop {
 }
 
 impl From<NotHeld> for Stop {
+    ghost from_gives = { λ _ result. result ≡ stops.NotOpened };
+
     fn from(_why: NotHeld) -> Stop {
         Stop::NotOpened
     }
 }
 
 impl From<NotStarted> for Stop {
+    ghost from_gives = { λ why result. result ≡ stop_of_start why };
+
     fn from(why: NotStarted) -> Stop {
         match why {
             NotStarted::NotHeld(why) => Stop::from(why),

@@ -6,8 +6,15 @@ use Rattle.std.proofs.Math.Seq.{take-append_seam, take-length}
 use Rattle.std.proofs.lemmas.List.{drop_more}
 use Rattle.std.specs.Io.KnownBytes.{Appends, Keeps}
 use Rattle.std.specs.Result.{IsErr}
-use Rattle.pb_io.specs.Sink.{Put, SinkState}
+use Rattle.pb_io.specs.Sink.{Lasts, Put, SinkState}
 use Rattle.pb_io.specs.Parts.{parts_joined}
+
+-- what lasts, by two steps
+pub Lasts-trans : (old mid new : Option (List ℕ)) → Lasts old mid → Lasts mid new → Lasts old new
+Lasts-trans old mid new first next = (first.0 ++ next.0, Appends-trans old mid new first.0 next.0 first.1 next.1)
+
+pub Lasts-refl : (known : Option (List ℕ)) → Lasts known known
+Lasts-refl known = ([], Appends-nil known)
 
 module _ (old mid new : Option (List ℕ)) (done part rest whole : List ℕ) (written : Appends old mid done) (is : done ++ (part ++ rest) ≡ whole) where
   -- what was put, and one part more
@@ -34,45 +41,55 @@ front_all old mid new whole written kept =
 
 -- a put that failed
 pub put_failed : {E : Type 0} (old new : SinkState) (answer : Result (Unit {0}) E) (bytes : List ℕ) → IsErr answer
-    → (count : ℕ) × Appends old.bytes new.bytes (take count bytes) → new.failed ≡ true → new.flushed ≡ false
+    → (count : ℕ) × Appends old.bytes new.bytes (take count bytes) → new.failed ≡ true → Lasts old.lasting new.lasting → new.flushed ≡ false
     → new.flushes ≡ old.flushes → Put old new answer bytes
-put_failed old new (Ok v) bytes failing front failed flushed flushes = let bad : false ≡ true = failing in cc
-put_failed old new (Err e) bytes failing front failed flushed flushes = record {
+put_failed old new (Ok v) bytes failing front failed lasts flushed flushes = let bad : false ≡ true = failing in cc
+put_failed old new (Err e) bytes failing front failed lasts flushed flushes = record {
   all = tt;
   front = front;
   failed = failed;
   stays_failed = λ _. refl;
+  lasts = lasts;
   flushed = flushed;
   flushes = flushes;
 }
 
+-- a put that failed, of a sink whose bytes all last
+pub put_stopped : {E : Type 0} (old new : SinkState) (answer : Result (Unit {0}) E) (bytes : List ℕ) → IsErr answer
+    → old.lasting ≡ old.bytes → new.lasting ≡ new.bytes → (count : ℕ) × Appends old.bytes new.bytes (take count bytes)
+    → new.failed ≡ true → new.flushed ≡ false → new.flushes ≡ old.flushes → Put old new answer bytes
+put_stopped old new answer bytes failing before after front failed flushed flushes =
+    let lasts : Lasts old.lasting new.lasting = rw (before, after) (take front.0 bytes, front.1) in
+    put_failed old new answer bytes failing front failed lasts flushed flushes
+
 -- the last part of what is put
 pub put_last : {E : Type 0} (old mid new : SinkState) (answer : Result (Unit {0}) E) (done part whole : List ℕ)
     → Appends old.bytes mid.bytes done → done ++ part ≡ whole → (old.failed ≡ true → mid.failed ≡ true)
-    → mid.flushes ≡ old.flushes → Put mid new answer part → Put old new answer whole
-put_last old mid new (Ok v) done part whole written is stays flushes put = record {
+    → Lasts old.lasting mid.lasting → mid.flushes ≡ old.flushes → Put mid new answer part → Put old new answer whole
+put_last old mid new (Ok v) done part whole written is stays lasts flushes put = record {
   all = subst (Appends old.bytes new.bytes) is (Appends-trans _ _ _ done part written put.all);
   front = tt;
   failed = put.failed;
   stays_failed = λ before. put.stays_failed (stays before);
+  lasts = Lasts-trans _ _ _ lasts put.lasts;
   flushed = put.flushed;
   flushes = put.flushes ∙ flushes;
 }
-put_last old mid new (Err e) done part whole written is stays flushes put =
+put_last old mid new (Err e) done part whole written is stays lasts flushes put =
     let no_more : done ++ (part ++ []) ≡ whole = ap (λ xs. done ++ xs) (append-nil part) ∙ is in
-    put_failed old new (Err e) whole refl (front_more _ _ _ done part [] whole written no_more put.front.0 put.front.1) put.failed put.flushed (put.flushes ∙ flushes)
+    put_failed old new (Err e) whole refl (front_more _ _ _ done part [] whole written no_more put.front.0 put.front.1) put.failed (Lasts-trans _ _ _ lasts put.lasts) put.flushed (put.flushes ∙ flushes)
 
 -- a put, and another
 pub put_then : {E : Type 0} (old mid new : SinkState) (v : Unit {0}) (answer : Result (Unit {0}) E) (a b : List ℕ)
     → Put {E = E} old mid (Ok v) a → Put mid new answer b → Put old new answer (a ++ b)
 put_then old mid new v answer a b before put =
-    put_last old mid new answer a b (a ++ b) before.all refl (λ failed. let bad : false ≡ true = before.stays_failed failed in cc) before.flushes put
+    put_last old mid new answer a b (a ++ b) before.all refl (λ failed. let bad : false ≡ true = before.stays_failed failed in cc) before.lasts before.flushes put
 
 -- a put that failed is a front of a longer one
 pub put_cut : {E : Type 0} (old new : SinkState) (e : E) (answer : Result (Unit {0}) E) (a b : List ℕ) → IsErr answer
     → Put old new (Err e) a → Put old new answer (a ++ b)
 put_cut old new e answer a b failing put =
-    put_failed old new answer (a ++ b) failing (front_more old.bytes old.bytes new.bytes [] a b (a ++ b) (Appends-nil old.bytes) refl put.front.0 put.front.1) put.failed put.flushed put.flushes
+    put_failed old new answer (a ++ b) failing (front_more old.bytes old.bytes new.bytes [] a b (a ++ b) (Appends-nil old.bytes) refl put.front.0 put.front.1) put.failed put.lasts put.flushed put.flushes
 
 -- the bytes from a part on
 pub parts_from : (parts : List (Bor (List ℕ))) (end : List ℕ) (i : ℕ) (d : Bor (List ℕ)) → i < length parts

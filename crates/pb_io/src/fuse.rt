@@ -84,7 +84,7 @@ pub struct FuseSink {
 impl FuseSink {
     /// A sink with no bytes, of which `good` puts and flushes pass.
     pub fn new(alloc: Global, good: u32) -> FuseSink
-        ensures state { ⟦<FuseSink as Sink>⟧.state result ≡ record { bytes = Some []; failed = false; flushed = false; flushes = 0 } }
+        ensures state { ⟦<FuseSink as Sink>⟧.state result ≡ record { bytes = Some []; lasting = Some []; failed = false; flushed = false; flushes = 0 } }
         ensures good { result.good ≡ good }
         ensures fed { result.starved ≡ false }
     {
@@ -107,7 +107,7 @@ impl FuseSink {
 }
 
 impl Sink for FuseSink {
-    ghost state = { λ s. record { bytes = Some s.bytes.items; failed = s.failed; flushed = s.flushed; flushes = s.flushes } };
+    ghost state = { λ s. record { bytes = Some s.bytes.items; lasting = Some s.bytes.items; failed = s.failed; flushed = s.flushed; flushes = s.flushes } };
 
     fn put(&mut self, bytes: &[u8]) -> Result<(), Failed>
         ensures put { Put (⟦<FuseSink as Sink>⟧.state self.old) (⟦<FuseSink as Sink>⟧.state self.new) result bytes.now }

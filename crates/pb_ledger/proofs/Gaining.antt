@@ -68,6 +68,7 @@ Gains-none journal A = record {
   put = Appends-nil journal.bytes;
   untouched = λ none. refl;
   handed_on = λ some. absurd (some refl);
+  all_lasts = λ before. before;
   each = λ below. omega arith;
 }
 
@@ -86,6 +87,7 @@ Gains-one journal journal' A B game text u are spells writes = record {
   put = writes.all;
   untouched = λ none. cc;
   handed_on = λ some. (writes.failed, writes.flushed);
+  all_lasts = λ before. writes.all_lasts;
   each = λ below. omega (arith, below, writes.flushes);
 }
 
@@ -113,5 +115,6 @@ Gains-trans a b c A B C first next = record {
   put = Appends-trans _ _ _ _ _ first.put next.put;
   untouched = λ none. let each = both_none first.new next.new none in next.untouched each.1 ∙ first.untouched each.0;
   handed_on = λ some. handed_on_last b c first.new next.new some first.handed_on next.untouched next.handed_on;
+  all_lasts = λ before. next.all_lasts (first.all_lasts before);
   each = HandedOnEach-trans a b c first.new next.new first.each next.each;
 }

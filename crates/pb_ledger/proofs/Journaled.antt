@@ -1,9 +1,9 @@
 -- From the lines that the journaler took to what was journaled: what the collector in it took, and what the journal gained.
-use Rattle.std.proofs.Common.{◌≡◌, ℕ, ◌^◌, ◌<◌, true, List, [], ◌∷◌, ◌++◌, MutBor, Result, Ok, Err, OnOk, IfErr, refl, sym, ap, ◌∙◌, subst, arith, inl, inr}
+use Rattle.std.proofs.Common.{◌≡◌, ℕ, ◌^◌, ◌<◌, true, List, [], ◌∷◌, ◌++◌, MutBor, Option, Result, Ok, Err, OnOk, IfErr, refl, sym, ap, ◌∙◌, subst, arith, inl, inr}
 use Rattle.std.specs.Io.KnownBytes.{Appends}
 use Rattle.std.proofs.KnownBytes.{Appends-trans}
 use Rattle.pb_io.specs.Source.{SourceState}
-use Rattle.pb_io.specs.Sink.{AwaitsFlush, Flush, SinkState}
+use Rattle.pb_io.specs.Sink.{AllLasts, AwaitsFlush, Flush, Lasts, LastsFirst, SinkState}
 use Rattle.pb_io.specs.Lines.{ended_lines, lines}
 use Rattle.pb_io.specs.LineTask.{AtLine, StopsAtLast, TakesAll, TakesStream, TakesUntil}
 use Rattle.pb_io.specs.declared.lines.LinesFault.{LinesFault}
@@ -23,6 +23,12 @@ use Rattle.pb_ledger.specs.Journaler.{TakesLine, Unkept, journal_fault}
 use Rattle.pb_ledger.specs.Journaling.{CollectsUnkept, Gains, JournalsStream, JournalsUntil}
 use Rattle.pb_ledger.proofs.Collected.{Leads-then, handed_on, stopped_at, taken_of, unflushed, until_endless, until_fault, until_memory, until_stop}
 use Rattle.pb_ledger.proofs.Gaining.{Gains-none, Gains-trans}
+
+-- what all lasted goes on lasting, whatever lasts behind it
+lasts_first : (old mid new : SinkState) (text : List ℕ) → Appends old.bytes mid.bytes text → AllLasts mid → Lasts mid.lasting new.lasting
+    → LastsFirst old new text
+lasts_first old mid new text put all lasts =
+    (lasts.0, Appends-trans _ _ _ text lasts.0 put (subst (λ (known : Option (List ℕ)). Appends known new.lasting lasts.0) all lasts.1))
 
 module _ {T K J : Type 0} (state : K → SinkState) (kept : J → SinkState) where
   abbrev Sink : Journaler T K J → SinkState
@@ -114,6 +120,7 @@ module _ {T K J : Type 0} (state : K → SinkState) (kept : J → SinkState) whe
           spells = last.spells;
           count = last.count;
           kept = Appends-trans _ _ _ _ _ gains.put last.put;
+          lasts = λ before. lasts_first _ _ _ gains.text gains.put (gains.all_lasts before) last.lasts;
           each = λ below. let same = last.flushes in let earlier = gains.each (omega (arith, below, same)) in omega (arith, same, earlier);
         };
         awaits = subst (λ (x : MutBor K). AwaitsFlush (Sink s) (state x.now)) (sym last.same_sink) taken.awaits;

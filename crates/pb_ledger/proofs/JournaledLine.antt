@@ -60,6 +60,7 @@ module _ {T K J : Type 0} (state : K → SinkState) (kept : J → SinkState) (s 
         spells = came.spells;
         count = wrote.front.0;
         put = wrote.front.1;
+        lasts = wrote.lasts;
         fails = wrote.failed;
         flushes = wrote.flushes;
         same_ledger = submitted.same_ledger;

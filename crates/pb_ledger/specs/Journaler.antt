@@ -2,7 +2,7 @@
 use Rattle.std.specs.Prelude.{◌≡◌, ℕ, true, List, [], ◌∷◌, ◌++◌, take, Result, Ok, Err}
 use Rattle.std.specs.Io.KnownBytes.{Appends}
 use Rattle.pb_board.specs.LineEnd.{with_end}
-use Rattle.pb_io.specs.Sink.{SinkState}
+use Rattle.pb_io.specs.Sink.{Lasts, SinkState}
 use Rattle.pb_io.specs.declared.lines.LinesFault.{LinesFault}
 use Rattle.pb_io.specs.declared.lines.LinesFault.TheVariants as lines
 use Rattle.pb_io.specs.declared.source.Failed.{Failed}
@@ -32,6 +32,7 @@ pub record Unkept {T K J : Type 0} (kept : J → SinkState) (s : Journaler T K J
   pub spells : SubmissionText game text
   pub count : ℕ
   pub put : Appends (kept s.journal.now).bytes (kept t.journal.now).bytes (take count (with_end text))
+  pub lasts : Lasts (kept s.journal.now).lasting (kept t.journal.now).lasting
   pub fails : (kept t.journal.now).failed ≡ true
   pub flushes : (kept t.journal.now).flushes ≡ (kept s.journal.now).flushes
   pub same_ledger : t.collector.ledger.ghost_name ≡ s.collector.ledger.ghost_name

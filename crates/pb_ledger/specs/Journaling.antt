@@ -4,7 +4,7 @@ use Rattle.std.specs.Prelude.{◌≡◌, ◌≢◌, ℕ, ◌+◌, ◌-◌, ◌^�
 use Rattle.std.specs.Io.KnownBytes.{Appends}
 use Rattle.pb_board.specs.LineEnd.{with_end}
 use Rattle.pb_io.specs.LineTask.{AtLine}
-use Rattle.pb_io.specs.Sink.{AwaitsFlush, HandedOn, SinkState}
+use Rattle.pb_io.specs.Sink.{AllLasts, AwaitsFlush, HandedOn, LastsFirst, SinkState}
 use Rattle.pb_io.specs.Source.{SourceState}
 use Rattle.pb_games.specs.Submissions.{Submission, SubmissionText}
 use Rattle.pb_accepted.specs.Accepting.{Answer}
@@ -29,6 +29,7 @@ pub record Gains (journal journal' : SinkState) (A B : List Submission) : Type 0
   pub put : Appends journal.bytes journal'.bytes text
   pub untouched : new ≡ [] → journal' ≡ journal
   pub handed_on : new ≢ [] → HandedOn journal'
+  pub all_lasts : AllLasts journal → AllLasts journal'
   pub each : HandedOnEach new journal journal'
 
 -- each line was taken, and all but the last answered; the last one brought a game whose line the journal didn't take, or a front of it
@@ -53,6 +54,7 @@ pub record CollectsUnkept (sink sink' journal journal' : SinkState) (ledger ledg
   pub spells : SubmissionText game last
   pub count : ℕ
   pub kept : Appends journal.bytes journal'.bytes (text ++ take count (with_end last))
+  pub lasts : AllLasts journal → LastsFirst journal journal' text
   pub each : HandedOnEach new journal journal'
 
 -- all lines of the stream were taken, counted and answered, and the new games are on the journal

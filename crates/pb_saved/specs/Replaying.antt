@@ -5,7 +5,7 @@ use Rattle.pb_io.specs.Count.{next_count}
 use Rattle.pb_io.specs.LineTask.{AtEndedLine, AtFault, AtNoEnd}
 use Rattle.pb_io.specs.Lines.{is_torn}
 use Rattle.pb_io.specs.Reads.{ReadsAll, chunk_len}
-use Rattle.pb_io.specs.Sink.{HandedOn, SinkState}
+use Rattle.pb_io.specs.Sink.{AllLasts, HandedOn, SinkState}
 use Rattle.pb_io.specs.Source.{SourceState}
 use Rattle.pb_games.specs.Submissions.{Submission}
 use Rattle.pb_accepted.specs.Accepting.{Reply}
@@ -18,6 +18,7 @@ use Rattle.pb_saved.specs.declared.replaying.ReplayError.TheVariants.{Read, Writ
 pub record Mends (came : List ℕ) (journal journal' : SinkState) : Type 0 where
   pub put : Appends journal.bytes journal'.bytes (mending came)
   pub whole : is_torn came ≡ false → journal' ≡ journal
+  pub all_lasts : AllLasts journal → AllLasts journal'
   pub handed_on : is_torn came ≡ true → HandedOn journal'
   pub flushes : is_torn came ≡ true → journal'.flushes ≡ next_count journal.flushes
 

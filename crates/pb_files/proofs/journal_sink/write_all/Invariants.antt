@@ -1,5 +1,6 @@
 use Rattle.std.proofs.Common.{◌≡◌, ◌≤◌, ◌-◌, length, take, true}
-use Rattle.pb_files.specs.Disk.{Adds, Steps}
+use Rattle.pb_files.specs.Disk.{Adds}
+use Rattle.pb_files.specs.Steps.{Steps}
 use Rattle.pb_files.proofs.journal_sink.write_all.Given as goal
 
 -- so many bytes have been written, and no call has failed

@@ -1,5 +1,6 @@
 use Rattle.std.proofs.Common.{◌≡◌, true, take}
 use Rattle.std.specs.Io.KnownBytes.{Appends}
+use Rattle.pb_io.specs.Sink.{Lasts}
 use Rattle.pb_poly.specs.Book.{book_bytes}
 use Rattle.pb_poly.proofs.book.write_book.Given as goal
 
@@ -10,5 +11,6 @@ invariant-loop-entry g l =
     record {
       put : Appends (state l.initial.sink).bytes (state l.sink).bytes (book_bytes (take l.entry-index l.entry-items));
       works : (state l.initial.sink).failed ≡ true → (state l.sink).failed ≡ true;
+      lasts : Lasts (state l.initial.sink).lasting (state l.sink).lasting;
       flushes : (state l.sink).flushes ≡ (state l.initial.sink).flushes;
     }

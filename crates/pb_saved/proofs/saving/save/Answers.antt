@@ -5,7 +5,7 @@ use Rattle.std.proofs.KnownBytes.{Appends-trans}
 use Rattle.std.proofs.lemmas.List.{take_all}
 use Rattle.std.proofs.lemmas.Slice.Zip.{AllZip-long}
 use Rattle.pb_board.specs.LineEnd.{with_end}
-use Rattle.pb_io.proofs.PutLemmas.{front_more, put_cut, put_failed}
+use Rattle.pb_io.proofs.PutLemmas.{Lasts-trans, front_more, put_cut, put_failed}
 use Rattle.pb_io.proofs.WritesLemmas.{Writes-flushed, Writes-stopped}
 use Rattle.pb_games.specs.Submissions.{SubmissionText}
 use Rattle.pb_games.proofs.OneLine.{one_text}
@@ -33,6 +33,7 @@ loop-index-init g c =
       are = texts.1;
       written = put.all;
       failed = λ before. let bad = put.stays_failed before in cc;
+      lasts = put.lasts;
       flushes = put.flushes;
     }
 
@@ -56,7 +57,7 @@ returns-in_err-put_game g c =
     let front = front_more _ _ _ (flat_map with_end (header ∷ take i so_far.texts)) (with_end line.0) (flat_map with_end (drop (i + 1) so_far.texts)) (flat_map with_end (header ∷ so_far.texts)) so_far.written (lines_at so_far.texts i line.0 is text.1) put.front.0 put.front.1 in (
       flat_map with_end (header ∷ so_far.texts),
       (so_far.texts, so_far.are, refl),
-      Writes-stopped _ _ answer _ failing (put_failed _ _ answer _ failing front put.failed put.flushed (put.flushes ∙ so_far.flushes)),
+      Writes-stopped _ _ answer _ failing (put_failed _ _ answer _ failing front put.failed (Lasts-trans _ _ _ so_far.lasts put.lasts) put.flushed (put.flushes ∙ so_far.flushes)),
     )
 
 pub loop-index-preserved : goal.loop-index-preserved
@@ -74,6 +75,7 @@ loop-index-preserved g c =
       are = so_far.are;
       written = subst (Appends (state c.args.sink.now).bytes (state c.put_game.new.sink).bytes) (lines_more so_far.texts i line.0 is text.1) (Appends-trans _ _ _ _ _ so_far.written put.all);
       failed = λ before. let bad = put.stays_failed (so_far.failed before) in cc;
+      lasts = Lasts-trans _ _ _ so_far.lasts put.lasts;
       flushes = put.flushes ∙ so_far.flushes;
     }
 
@@ -87,5 +89,5 @@ returns g c =
     let put = subst (λ (ts : List (List ℕ)). Appends (state c.args.sink.now).bytes (state c.loop-index.sink).bytes (flat_map with_end (header ∷ ts))) all so_far.written in (
       flat_map with_end (header ∷ so_far.texts),
       (so_far.texts, so_far.are, refl),
-      Writes-flushed (state c.args.sink.now) (state c.loop-index.sink) (state c.flush.new.self) c.flush.result _ put so_far.failed so_far.flushes c.flush.ensures,
+      Writes-flushed (state c.args.sink.now) (state c.loop-index.sink) (state c.flush.new.self) c.flush.result _ put so_far.failed so_far.lasts so_far.flushes c.flush.ensures,
     )

@@ -2,6 +2,7 @@ use Rattle.std.proofs.Common.{◌≡◌, ℕ, List, ◌∷◌, true, take}
 use Rattle.std.specs.Io.KnownBytes.{Appends}
 use Rattle.std.specs.List.{AllZip, flat_map}
 use Rattle.pb_board.specs.LineEnd.{with_end}
+use Rattle.pb_io.specs.Sink.{Lasts}
 use Rattle.pb_games.specs.Submissions.{SubmissionText}
 use Rattle.pb_saved.specs.Saving.{header}
 use Rattle.pb_saved.proofs.saving.save.Given as goal
@@ -16,5 +17,6 @@ invariant-loop-index g l =
       are : AllZip SubmissionText l.ledger.accepted texts;
       written : Appends (state l.fn.sink).bytes (state l.sink).bytes (flat_map with_end (header ∷ take l.index texts));
       failed : (state l.fn.sink).failed ≡ true → (state l.sink).failed ≡ true;
+      lasts : Lasts (state l.fn.sink).lasting (state l.sink).lasting;
       flushes : (state l.sink).flushes ≡ (state l.fn.sink).flushes;
     }

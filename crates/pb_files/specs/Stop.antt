@@ -1,0 +1,44 @@
+-- Which stop of a run each reason is, and the word that its line has.
+use Rattle.std.specs.Prelude.{ℕ, List, codes}
+use Rattle.pb_commands.specs.Status.{fault_word}
+use Rattle.pb_commands.specs.declared.fault.Fault.{Fault}
+use Rattle.pb_collecting.specs.declared.continuing_into.NotContinued.{NotContinued}
+use Rattle.pb_collecting.specs.declared.keeping.NoBook.{NoBook}
+use Rattle.pb_collecting.specs.declared.place.NotKept.{NotKept}
+use Rattle.pb_files.specs.declared.apart.NotApart.{NotApart}
+use Rattle.pb_files.specs.declared.starting.NotRead.{NotRead}
+use Rattle.pb_files.specs.declared.starting.NotStarted.{NotStarted}
+use Rattle.pb_files.specs.declared.stop.Stop.{Stop}
+
+-- the word of the line `fault ..`
+abbrev pub stop_word : Stop → List ℕ
+stop_word Stop.NotOpened = codes "open"
+stop_word (Stop.Fault fault) = fault_word fault
+
+-- a text isn't kept at its place
+abbrev pub stop_of_place : NotKept → Stop
+stop_of_place NotKept.Open = Stop.NotOpened
+stop_of_place NotKept.Write = Stop.Fault Fault.Write
+stop_of_place NotKept.Memory = Stop.Fault Fault.Memory
+
+-- there is no book, or it isn't kept
+abbrev pub stop_of_book : NoBook → Stop
+stop_of_book (NoBook.Run fault) = Stop.Fault fault
+stop_of_book (NoBook.Keep why) = stop_of_place why
+
+-- there is no book, or not both the ledger and the book are kept
+abbrev pub stop_of_both : NotContinued → Stop
+stop_of_both (NotContinued.Run fault) = Stop.Fault fault
+stop_of_both (NotContinued.Ledger why) = stop_of_place why
+stop_of_both (NotContinued.Book why) = stop_of_place why
+
+-- the names can't be those of one run
+abbrev pub stop_of_names : NotApart → Stop
+stop_of_names NotApart.OneFile = Stop.NotOpened
+stop_of_names NotApart.IsOutput = Stop.Fault Fault.Write
+
+-- the run doesn't come to its journal
+abbrev pub stop_of_start : NotStarted → Stop
+stop_of_start (NotStarted.NotHeld why) = Stop.NotOpened
+stop_of_start (NotStarted.NotRead NotRead.Sync) = Stop.Fault Fault.Write
+stop_of_start (NotStarted.NotRead NotRead.Failed) = Stop.Fault Fault.Read
