@@ -1,5 +1,5 @@
 -- Reading a table file and a book gives what pb_poly says.
-use Rattle.std.proofs.Common.{ℕ, ◌≡◌, ◌≢◌, List, [], ◌++◌, length, Result, Ok, Err, append-nil, length-append, arith, refl, sym, subst, inl, inr}
+use Rattle.std.proofs.Common.{ℕ, ◌≡◌, ◌≢◌, List, [], ◌++◌, length, Result, Ok, Err, get_or, arith, refl, sym, subst, inl, inr}
 use Rattle.std.specs.Prelude.{All}
 use Rattle.pb_io.specs.Lines.{lines}
 use Rattle.pb_io.specs.Reads as reads
@@ -16,7 +16,7 @@ use Rattle.pb_theorem.specs.Files as files
 use Rattle.pb_theorem.specs.Files.{IsRandomLine}
 use Rattle.pb_theorem.specs.Lines as cut
 use Rattle.pb_theorem.specs.Refusals.{BreaksAt}
-use Rattle.pb_theorem.specs.Streams.{Came, Reads, Way, at_end, at_fault, at_no_end, so_far}
+use Rattle.pb_theorem.specs.Streams.{Came, Reads, Way, at_end, at_fault, at_no_end, just_so_far, so_far}
 use Rattle.pb_theorem.proofs.BookLemmas as tables_of
 use Rattle.pb_theorem.proofs.CutLemmas.{lines_are}
 
@@ -60,8 +60,8 @@ module _ (room fills : ℕ) (old new : SourceState) where
   pub front_from : (bytes : List ℕ) → Reads so_far room fills old new bytes → reads.ReadsFront room fills old new bytes
   front_from bytes (rest, came, made, works) = (rest, record { reads = came_from (bytes ++ rest) came; made = made; works = works })
 
-  pub some_to : (bytes : List ℕ) → reads.ReadsSome room fills old new bytes → Reads so_far room fills old new bytes
-  some_to bytes h = front_to bytes ([], subst (λ (bs : List ℕ). reads.ReadsSome room fills old new bs) (sym (append-nil bytes)) h)
+  pub some_to : (bytes : List ℕ) → reads.ReadsSome room fills old new bytes → Reads just_so_far room fills old new bytes
+  some_to bytes h = (came_to bytes h.reads, h.made, h.works)
 
 -- ---- table files
 
@@ -72,10 +72,10 @@ line_from : (line : List ℕ) → IsRandomLine line → IsWordLine line
 line_from line (w, h) = (w, tables_of.word_from line w h)
 
 all_to : (ls : List (List ℕ)) → All IsWordLine ls → All IsRandomLine ls
-all_to ls h k d lt = line_to _ (h k d lt)
+all_to ls h k d lt = line_to (get_or ls k d) (h k d lt)
 
 all_from : (ls : List (List ℕ)) → All IsRandomLine ls → All IsWordLine ls
-all_from ls h k d lt = line_from _ (h k d lt)
+all_from ls h k d lt = line_from (get_or ls k d) (h k d lt)
 
 abbrev Breaks : ℕ → List (List ℕ) → Type 0
 Breaks n ls = BreaksAt (All IsRandomLine) ls n
@@ -102,7 +102,7 @@ module _ (fills : ℕ) (old new : SourceState) where
   table_to words h = inl (at_end, h.came, end_to table_limit fills old new h.came h.reads, tables_of.table_to words h.came h.is)
 
   no_table_to : (e : TableFault) → tables.MeetsNoTable fills old new e → files.ReadsTable fills old new (Err e)
-  no_table_to Long h = inl (so_far, h.came, some_to table_limit fills old new h.came h.reads, h.due)
+  no_table_to Long h = inl (just_so_far, h.came, some_to table_limit fills old new h.came h.reads, omega (arith, h.due, h.few))
   no_table_to (Line n) h = inl (at_end, h.came, end_to table_limit fills old new h.came h.reads, (h.due.0, breaks_to h.came n h.due.1))
   no_table_to (Count n) h =
       let c = counts_to h.came n h.due.1 in
@@ -128,18 +128,19 @@ module _ (fills : ℕ) (old new : SourceState) where
 
   by_way : (way : Way) (bytes : List ℕ) (result : Result (List ℕ) TableFault) → Reads way table_limit fills old new bytes → files.TableIs way bytes result → Lower result
   by_way at_end bytes (Ok words) r h = record { came = bytes; reads = end_from table_limit fills old new bytes r; is = tables_of.table_from words bytes h }
-  by_way so_far bytes (Err Long) (rest, came, made, works) h = record {
-    came = bytes ++ rest;
-    reads = record { reads = came_from table_limit fills old new (bytes ++ rest) came; made = made; works = works };
-    due = omega (arith, h, length-append bytes rest);
+  by_way just_so_far bytes (Err Long) (came, made, works) h = record {
+    came = bytes;
+    reads = record { reads = came_from table_limit fills old new bytes came; made = made; works = works };
+    due = omega (arith, h);
+    few = omega (arith, h);
   }
-  by_way at_end bytes (Err (Line n)) r h = record { came = bytes; reads = end_from table_limit fills old new bytes r; due = (h.0, breaks_from bytes n h.1) }
-  by_way at_end bytes (Err (Count n)) r (few, is, not, all) = record { came = bytes; reads = end_from table_limit fills old new bytes r; due = (few, counts_from bytes n (is, not, all)) }
+  by_way at_end bytes (Err (Line n)) r h = record { came = bytes; reads = end_from table_limit fills old new bytes r; due = (h.0, breaks_from bytes n h.1); few = omega (arith, h.0) }
+  by_way at_end bytes (Err (Count n)) r (few, is, not, all) = record { came = bytes; reads = end_from table_limit fills old new bytes r; due = (few, counts_from bytes n (is, not, all)); few = omega (arith, few) }
   by_way at_end bytes (Err Memory) r (words, is) =
       let table = tables_of.table_from words bytes is in
-      inr (record { came = bytes; reads = end_from table_limit fills old new bytes r; due = (table.few, (words, table.text)) })
-  by_way at_fault bytes (Err Read) r h = record { came = bytes; reads = fault_from table_limit fills old new bytes r; due = h }
-  by_way at_no_end bytes (Err Endless) r h = record { came = bytes; reads = on_from table_limit fills old new bytes r; due = h }
+      inr (record { came = bytes; reads = end_from table_limit fills old new bytes r; due = (table.few, (words, table.text)); few = omega (arith, table.few) })
+  by_way at_fault bytes (Err Read) r h = record { came = bytes; reads = fault_from table_limit fills old new bytes r; due = h; few = omega (arith, h) }
+  by_way at_no_end bytes (Err Endless) r h = record { came = bytes; reads = on_from table_limit fills old new bytes r; due = h; few = omega (arith, h) }
   by_way way bytes result r h = absurd h
 
   pub table_from : (result : Result (List ℕ) TableFault) → files.ReadsTable fills old new result → Lower result

@@ -1,5 +1,5 @@
 -- What the bytes of a table file and of a book come to, and what reading them gives.
-use Rattle.std.specs.Prelude.{◌≡◌, ◌≢◌, ℕ, ◌<◌, ◌≤◌, ◌⊎◌, List, [], ◌∷◌, ◌++◌, length, All, Result, Ok, Err}
+use Rattle.std.specs.Prelude.{◌≡◌, ◌≢◌, ℕ, ◌+◌, ◌<◌, ◌≤◌, ◌⊎◌, List, [], ◌∷◌, ◌++◌, length, All, Result, Ok, Err}
 use Rattle.pb_io.specs.Source.{SourceState}
 use Rattle.pb_poly.specs.Book.{BookBytes, NeverFall, book_bytes}
 use Rattle.pb_poly.specs.Entry.{IsEntry}
@@ -12,16 +12,17 @@ use Rattle.pb_theorem.specs.Book.{IsTableFile, SpellsRandom}
 use Rattle.pb_theorem.specs.Limits.{chunk_len, table_length, table_limit}
 use Rattle.pb_theorem.specs.Lines.{lines}
 use Rattle.pb_theorem.specs.Refusals.{BreaksAt}
-use Rattle.pb_theorem.specs.Streams.{Reads, Way, at_end, at_fault, at_no_end, so_far}
+use Rattle.pb_theorem.specs.Streams.{Reads, Way, at_end, at_fault, at_no_end, just_so_far, so_far}
 
 -- the line may stand in a table file
 abbrev pub IsRandomLine : List ℕ → Type 0
 IsRandomLine line = (random : ℕ) × SpellsRandom line random
 
--- the bytes of a table file, read in this way, come to these random numbers or to this fault
+-- the bytes of a table file, read in this way, come to these random numbers or to this fault; where they are too many, just one too
+-- many was read
 abbrev pub TableIs : Way → List ℕ → Result (List ℕ) TableFault → Type 0
 TableIs at_end bytes (Ok randoms) = IsTableFile randoms bytes
-TableIs so_far bytes (Err Long) = table_limit < length bytes
+TableIs just_so_far bytes (Err Long) = length bytes ≡ table_limit + 1
 TableIs at_end bytes (Err (Line n)) = (length bytes ≤ table_limit) × BreaksAt (All IsRandomLine) (lines bytes) n
 TableIs at_end bytes (Err (Count n)) = (length bytes ≤ table_limit)
     × (n ≡ length (lines bytes)) × (n ≢ table_length) × All IsRandomLine (lines bytes)

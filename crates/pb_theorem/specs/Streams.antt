@@ -3,11 +3,12 @@ use Rattle.std.specs.Prelude.{◌≡◌, ℕ, ◌+◌, ◌-◌, ◌*◌, ◌^◌
 use Rattle.std.specs.Io.KnownBytes.{Consumes, IsAtEnd}
 use Rattle.pb_io.specs.Source.{SourceState}
 
--- to its end, to a fault, until the fills were used up, or so far at least
+-- to its end, to a fault, until the fills were used up, just so far, or so far at least
 pub data Way : Type 0 where
   at_end : Way
   at_fault : Way
   at_no_end : Way
+  just_so_far : Way
   so_far : Way
 
 -- these bytes came, each time into a slice with room
@@ -25,5 +26,6 @@ Reads at_fault room fills old new bytes = Came room fills old new bytes × (0 < 
 Reads at_no_end room fills old new bytes = Came room fills old new bytes × (fills ≤ length bytes)
     × (new.fills < 2 ^ 64 - 1 → new.fills ≡ old.fills + fills) × (0 < fills → new.failed ≡ false)
     × (old.failed ≡ false → new.failed ≡ false) × (old.ended ≡ false → new.ended ≡ false)
+Reads just_so_far room fills old new bytes = Came room fills old new bytes × (0 < fills) × (new.failed ≡ false)
 Reads so_far room fills old new bytes =
     (rest : List ℕ) × Came room fills old new (bytes ++ rest) × (0 < fills) × (new.failed ≡ false)
