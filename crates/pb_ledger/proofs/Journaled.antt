@@ -120,7 +120,7 @@ module _ {T K J : Type 0} (state : K → SinkState) (kept : J → SinkState) whe
           spells = last.spells;
           count = last.count;
           kept = Appends-trans _ _ _ _ _ gains.put last.put;
-          lasts = λ before. lasts_first _ _ _ gains.text gains.put (gains.all_lasts before) last.lasts;
+          lasts = λ before. lasts_first (kept s.journal.now) (kept m.journal.now) (kept t.journal.now) gains.text gains.put (gains.all_lasts before) last.lasts;
           each = λ below. let same = last.flushes in let earlier = gains.each (omega (arith, below, same)) in omega (arith, same, earlier);
         };
         awaits = subst (λ (x : MutBor K). AwaitsFlush (Sink s) (state x.now)) (sym last.same_sink) taken.awaits;
