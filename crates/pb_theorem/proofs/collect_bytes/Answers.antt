@@ -1,6 +1,6 @@
 use Rattle.std.proofs.Common.{ap}
 use Rattle.pb_io.specs.Source.{SourceState}
-use Rattle.pb_theorem.proofs.RefusedLemmas.{never_refused}
+use Rattle.pb_theorem.proofs.ByteLemmas.{never_refused}
 use Rattle.pb_theorem.proofs.collect_bytes.Goals as goal
 
 pub returns-in-None-clause-refused : goal.returns-in-None-clause-refused
