@@ -29,7 +29,7 @@ module _ (rules : CountingRules) (fills : ℕ) (t t' v v' s s' : SourceState) (j
   abbrev Unless : (List ℕ → Type 0) → Type 0
   Unless P = (s' ≡ s) ⊎ IfSome v.to_come P
 
-  IsSafe : List ℕ → Type 0
+  abbrev IsSafe : List ℕ → Type 0
   IsSafe bytes = Survives bytes s.to_come j j' sink sink' × (AllLasts j → Outlives bytes s.to_come j j' sink sink')
 
   safe : (kept : Option (List ℕ)) → v.to_come ≡ kept → ((bytes : List ℕ) → v.to_come ≡ Some bytes → (s' ≡ s) ⊎ IsSafe bytes) → (s' ≡ s) ⊎ IfSome kept IsSafe
