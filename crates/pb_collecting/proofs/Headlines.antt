@@ -62,7 +62,7 @@ one_of x y h = cc
 
 -- ---- runs
 
-run_length : (cap : ℕ) (A : List Submission) (L : List (List ℕ)) (R : List Answer) → Run cap A L R → length R ≡ length L
+pub run_length : (cap : ℕ) (A : List Submission) (L : List (List ℕ)) (R : List Answer) → Run cap A L R → length R ≡ length L
 run_length cap A [] [] run = refl
 run_length cap A (line ∷ L) (r ∷ R) run = let rest = run_length cap run.0 L R run.3 in omega (arith, rest)
 run_length cap A [] (r ∷ R) run = absurd run
@@ -161,25 +161,25 @@ below cap B line n (inr h) = let no : Ok (n + 2) ≡ Err Memory = h.0 in absurd 
 -- ---- whole runs
 
 module _ (L : List (List ℕ)) (R : List Answer) (A : List Submission) (run : Run most_games [] L R) (taken : Accepted [] L R A) where
-  only_legal : (i n : ℕ) → slice_get R i ≡ Some (Ok n) → (s : Submission) × Arrives L i s
+  pub only_legal : (i n : ℕ) → slice_get R i ≡ Some (Ok n) → (s : Submission) × Arrives L i s
   only_legal i n told =
       let s = stage most_games [] L R run i (Ok n) told in
       let law = legal_of most_games s.before s.line n s.allowed in
       (law.0, (s.line, s.at, law.1))
 
-  arrivals : (i : ℕ) (s : Submission) (r : Answer) → Arrives L i s → slice_get R i ≡ Some r → MayBeAnswered L R i s r
+  pub arrivals : (i : ℕ) (s : Submission) (r : Answer) → Arrives L i s → slice_get R i ≡ Some r → MayBeAnswered L R i s r
   arrivals i s r here told =
       let x = stage most_games [] L R run i r told in
       let same = one_of here.0 x.line (sym here.1 ∙ x.at) in
       arrival most_games L R i x.before x.run x.taken 999999 refl refl x.line s r (subst (λ b. IsLawful b s) same here.2) x.allowed
 
-  repeats : (i n : ℕ) (s : Submission) → WasAccepted L R i s n → Arrives L i s → slice_get R i ≡ Some (Ok n)
+  pub repeats : (i n : ℕ) (s : Submission) → WasAccepted L R i s n → Arrives L i s → slice_get R i ≡ Some (Ok n)
   repeats i n s w here = repeats_keep most_games L R run w.0 i n w.2.0.0 here.0 s w.1 w.2.0.1 w.2.0.2 w.2.1 here.1 here.2
 
-  once : NoRepeats A
+  pub once : NoRepeats A
   once i j d lt within e = own_ids L R A taken i j d lt within (ap id_of e)
 
-  in_turn : (i n : ℕ) (s : Submission) → IsAccepted L R i s (n + 2) → (t : Submission) × WasAccepted L R i t (n + 1)
+  pub in_turn : (i n : ℕ) (s : Submission) → IsAccepted L R i s (n + 2) → (t : Submission) × WasAccepted L R i t (n + 1)
   in_turn i n s here =
       let x = stage most_games [] L R run i (Ok (n + 2)) here.1 in
       let t = slice_get-some x.before n (below most_games x.before x.line n x.allowed) in

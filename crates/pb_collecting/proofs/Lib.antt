@@ -6,7 +6,7 @@ mod ContinueTold
 mod EffectLaws
 mod ExportClauses
 mod ExportRuns
-mod Headlines
+pub mod Headlines
 mod JournalClauses
 mod JournalGains
 mod JournalHeadlines
@@ -14,6 +14,6 @@ mod JournalRuns
 mod JournalSurvives
 mod KeepClauses
 mod KeepRuns
-mod OneTexts
+pub mod OneTexts
 mod Takings
-mod ToldRuns
+pub mod ToldRuns

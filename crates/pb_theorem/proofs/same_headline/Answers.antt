@@ -1,0 +1,5 @@
+use Rattle.pb_theorem.proofs.HeadlineLemmas as headlines
+use Rattle.pb_theorem.proofs.same_headline.Goals as goal
+
+pub returns : goal.returns
+returns c = headlines.same_headline

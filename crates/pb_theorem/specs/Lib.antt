@@ -1,0 +1,16 @@
+pub mod Headline
+pub mod Ledger
+pub mod Game
+pub mod Board
+pub mod Moves
+pub mod Texts
+pub mod Lines
+pub mod Refusals
+pub mod Replies
+pub mod Key
+pub mod Book
+pub mod Limits
+pub mod Streams
+pub mod Files
+pub mod Runs
+pub mod Same

@@ -1,0 +1,150 @@
+-- How runs end that take submissions: one form for all, by what comes before the submissions and what is made of them. Below, `t`
+-- and `t'` are the states of the table's source before and after, `v` and `v'` those of a saved ledger or a journal, `s` and `s'`
+-- those of the submissions.
+use Rattle.std.specs.Prelude.{◌≡◌, ◌⊎◌, ℕ, All, Bool, false, true, List, Option, Some, None, Result, Ok, Err, take}
+use Rattle.std.specs.Io.KnownBytes.{Appends}
+use Rattle.pb_io.specs.LineTask.{AtEnd}
+use Rattle.pb_io.specs.Sink.{SinkState}
+use Rattle.pb_io.specs.Source.{SourceState}
+use Rattle.pb_poly.specs.Book.{NeverFall}
+use Rattle.pb_poly.specs.Entry.{IsEntry}
+use Rattle.pb_poly.specs.TableReading.{FindsNoTable, ReadsTable}
+use Rattle.pb_poly.specs.declared.entry.Entry.{Entry}
+use Rattle.pb_poly.specs.declared.table_file.TableFault.{TableFault}
+use Rattle.pb_accepted.specs.Counting.{IsBook}
+use Rattle.pb_accepted.specs.Ledger.{LedgerState}
+use Rattle.pb_accepted.specs.Rules.{CountingRules}
+use Rattle.pb_export.specs.Exporting.{ExportLines, ExportsUntil, text_of_lines}
+use Rattle.pb_export.specs.declared.exporting.ExportFault.{ExportFault}
+use Rattle.pb_ledger.specs.Collecting.{Collects, CollectsUntil}
+use Rattle.pb_ledger.specs.Journaling.{Gains, JournalsUntil}
+use Rattle.pb_ledger.specs.declared.collecting.CollectFault.{CollectFault}
+use Rattle.pb_ledger.specs.declared.journaling.JournalFault.{JournalFault}
+use Rattle.pb_saved.specs.Loading.{Loads, LoadsUntil}
+use Rattle.pb_saved.specs.declared.loading.LoadError.{LoadError}
+use Rattle.pb_saved.specs.Replaying.{ReplaysAll, ReplaysUntil}
+use Rattle.pb_saved.specs.declared.replaying.ReplayError.{ReplayError}
+use Rattle.pb_commands.specs.Judged.{HandedOnOnce, Verdict}
+use Rattle.pb_commands.specs.TableJudged.{table_verdict}
+use Rattle.pb_commands.specs.declared.fault.Fault.{Fault}
+use Rattle.pb_commands.specs.declared.fault.Fault.TheVariants.{Write, Memory}
+use Rattle.pb_games.specs.Submissions.{Submission}
+use Rattle.pb_collecting.specs.Continuing.{saved_verdict}
+use Rattle.pb_collecting.specs.declared.continuing.Continued.{Continued}
+use Rattle.pb_collecting.specs.ExportRun.{fault_of_export}
+use Rattle.pb_collecting.specs.JournalRun.{fault_of_journal, fault_of_replay}
+use Rattle.pb_collecting.specs.Taking.{fault_of, ledger_of, new_ledger}
+use Rattle.pb_theorem.specs.Limits.{most_games}
+
+-- A run begins with `first`, which leaves an M, and goes on from there to an X or a fault. Or nothing was begun: `judges` says
+-- what comes of that, a line that is put, or a fault, and then nothing is.
+pub data RunEnds {M X : Type 0} (first : M → Type 0) (judges : Verdict → Type 0) (goes : M → Result X Fault → Type 0)
+    (sink sink' : SinkState) (result : Result (Option X) Fault) : Type 0 where
+  went : (m : M) (x : X) → first m → goes m (Ok x) → result ≡ Ok (Some x) → RunEnds first judges goes sink sink' result
+  broke : (m : M) (fault : Fault) → first m → goes m (Err fault) → result ≡ Err fault → RunEnds first judges goes sink sink' result
+  told : (out : List ℕ) → judges (Ok (false, out)) → Appends sink.bytes sink'.bytes out → HandedOnOnce sink sink'
+      → result ≡ Ok None → RunEnds first judges goes sink sink' result
+  -- the sink failed at the line, of which a front was put, and none of it handed on
+  untold : (out : List ℕ) (count : ℕ) → judges (Ok (false, out)) → Appends sink.bytes sink'.bytes (take count out)
+      → sink'.failed ≡ true → sink'.flushes ≡ sink.flushes → result ≡ Err Write → RunEnds first judges goes sink sink' result
+  stopped : (fault : Fault) → judges (Err fault) → sink' ≡ sink → result ≡ Err fault → RunEnds first judges goes sink sink' result
+
+-- the submissions were taken, which left a ledger, and the book made of its games; or taking them broke off, or memory was
+-- wanting for the book
+abbrev pub MakesBook : (LedgerState → Type 0) → (Fault → Type 0) → Result (List Entry) Fault → Type 0
+MakesBook takes breaks (Ok entries) = (left : LedgerState) × takes left
+    × IsBook left.basis left.accepted entries × NeverFall entries × All IsEntry entries
+MakesBook takes breaks (Err fault) = breaks fault ⊎ ((fault ≡ Memory) × ((left : LedgerState) × takes left))
+
+-- it comes to an X, of which this is so
+abbrev pub OnlyOk : {X : Type 0} → (X → Type 0) → Result X Fault → Type 0
+OnlyOk holds (Ok x) = holds x
+OnlyOk holds (Err fault) = ⊥
+
+-- ---- steps
+
+-- the table was read, and this is a ledger of its random numbers without games; or there is no table, and this comes of it
+abbrev pub TakesTable : CountingRules → ℕ → SourceState → SourceState → LedgerState → Type 0
+TakesTable rules fills t t' ledger =
+    (randoms : List ℕ) × ReadsTable fills t t' randoms × (ledger ≡ new_ledger rules randoms)
+
+abbrev pub LacksTable : ℕ → SourceState → SourceState → Verdict → Type 0
+LacksTable fills t t' verdict = (e : TableFault) × FindsNoTable fills t t' e × (verdict ≡ table_verdict e)
+
+-- all submissions were taken and answered from one ledger to the other, and the replies handed on; or that broke off
+abbrev pub Takes : ℕ → SourceState → SourceState → SinkState → SinkState → LedgerState → LedgerState → Type 0
+Takes fills s s' sink sink' ledger left =
+    AtEnd fills s s' (Collects sink sink' ledger left) × HandedOnOnce sink sink'
+
+abbrev pub BreaksOffAt : ℕ → SourceState → SourceState → SinkState → SinkState → LedgerState → LedgerState → Fault → Type 0
+BreaksOffAt fills s s' sink sink' ledger left fault =
+    (e : CollectFault) × CollectsUntil fills s s' sink sink' ledger left e × (fault ≡ fault_of e)
+
+abbrev pub BreaksOff : ℕ → SourceState → SourceState → SinkState → SinkState → LedgerState → Fault → Type 0
+BreaksOff fills s s' sink sink' ledger fault =
+    (left : LedgerState) × BreaksOffAt fills s s' sink sink' ledger left fault
+
+-- ---- runs
+
+-- a run of `collect`
+abbrev pub CollectRun : CountingRules → ℕ → SourceState → SourceState → SourceState → SourceState
+    → SinkState → SinkState → Result (Option (List Entry)) Fault → Type 0
+CollectRun rules fills t t' s s' sink sink' = RunEnds (TakesTable rules fills t t')
+    (λ verdict. LacksTable fills t t' verdict × (s' ≡ s))
+    (λ ledger. MakesBook (Takes fills s s' sink sink' ledger) (BreaksOff fills s s' sink sink' ledger))
+    sink sink'
+
+-- a run that goes on from a saved ledger, and gives its own with the book, or with the fault that came
+abbrev pub ContinueRun : CountingRules → ℕ → SourceState → SourceState → SourceState → SourceState
+    → SourceState → SourceState → SinkState → SinkState → Result (Option Continued) Fault → Type 0
+ContinueRun rules fills t t' v v' s s' sink sink' = RunEnds
+    (λ loaded. (randoms : List ℕ) × (held : List Submission) × ReadsTable fills t t' randoms
+    × AtEnd fills v v' (λ ls. Loads most_games ls held) × (loaded ≡ ledger_of rules randoms held))
+    (λ verdict. (LacksTable fills t t' verdict × (v' ≡ v) × (s' ≡ s))
+    ⊎ ((randoms : List ℕ) × (left : LedgerState) × (e : LoadError) × ReadsTable fills t t' randoms
+    × LoadsUntil fills v v' (new_ledger rules randoms) left e × (verdict ≡ saved_verdict e) × (s' ≡ s)))
+    (λ loaded. OnlyOk (λ run. MakesBook
+    (λ left. Takes fills s s' sink sink' loaded left × (left ≡ run.ledger))
+    (BreaksOffAt fills s s' sink sink' loaded run.ledger) run.book))
+    sink sink'
+
+-- A run with a journal, whose sink's states are `j` and `j'`: what is left first is a ledger of the journal's games, and the
+-- journal, mended.
+abbrev pub JournalRun : CountingRules → ℕ → SourceState → SourceState → SourceState → SourceState → SourceState → SourceState
+    → SinkState → SinkState → SinkState → SinkState → Result (Option (List Entry)) Fault → Type 0
+JournalRun rules fills t t' v v' s s' j j' sink sink' = RunEnds {M = LedgerState × SinkState}
+    (λ m. (randoms : List ℕ) × ReadsTable fills t t' randoms
+    × ReplaysAll fills v v' j m.1 (new_ledger rules randoms) m.0 × (m.0 ≡ ledger_of rules randoms m.0.accepted))
+    (λ verdict. (LacksTable fills t t' verdict × (v' ≡ v) × (j' ≡ j) × (s' ≡ s))
+    ⊎ ((randoms : List ℕ) × (left : LedgerState) × (e : ReplayError) × ReadsTable fills t t' randoms
+    × ReplaysUntil fills v v' j j' (new_ledger rules randoms) left e × (verdict ≡ Err (fault_of_replay e)) × (s' ≡ s)))
+    (λ m. MakesBook (λ left. Takes fills s s' sink sink' m.0 left × Gains m.1 j' m.0.accepted left.accepted)
+    (λ fault. (e : JournalFault) × (left : LedgerState)
+    × JournalsUntil fills s s' sink sink' m.1 j' m.0 left e × (fault ≡ fault_of_journal e)))
+    sink sink'
+
+-- The submissions were taken, whose replies come on a sink of their own, of which `d` and `d'` are the states, and the lines of
+-- the export put and handed on; or that broke off.
+abbrev pub Exports : ℕ → SourceState → SourceState → SinkState → SinkState → SinkState → SinkState
+    → LedgerState → Result (Unit {0}) Fault → Type 0
+Exports fills s s' d d' sink sink' ledger (Ok u) =
+    (left : LedgerState) × (lines : List (List ℕ)) × Takes fills s s' d d' ledger left
+    × ExportLines left.basis left.accepted lines × Appends sink.bytes sink'.bytes (text_of_lines lines) × HandedOnOnce sink sink'
+Exports fills s s' d d' sink sink' ledger (Err fault) =
+    (BreaksOff fills s s' d d' ledger fault × (sink' ≡ sink))
+    ⊎ ((left : LedgerState) × (e : ExportFault) × Takes fills s s' d d' ledger left
+    × ExportsUntil left sink sink' e × (fault ≡ fault_of_export e))
+
+-- whether it was done, as an answer
+abbrev pub done : Result Bool Fault → Result (Option (Unit {0})) Fault
+done (Ok true) = Ok (Some tt)
+done (Ok false) = Ok None
+done (Err fault) = Err fault
+
+-- a run of `export`
+abbrev pub ExportRun : CountingRules → ℕ → SourceState → SourceState → SourceState → SourceState
+    → SinkState → SinkState → SinkState → SinkState → Result Bool Fault → Type 0
+ExportRun rules fills t t' s s' d d' sink sink' answer = RunEnds (TakesTable rules fills t t')
+    (λ verdict. LacksTable fills t t' verdict × (s' ≡ s) × (d' ≡ d))
+    (Exports fills s s' d d' sink sink')
+    sink sink' (done answer)

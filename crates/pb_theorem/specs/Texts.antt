@@ -1,0 +1,62 @@
+-- The texts of FEN records (PGN Standard 1994, section 16.1), and those of moves, as UCI writes them.
+use Rattle.std.specs.Prelude.{ℕ, ◌+◌, ◌*◌, ◌==◌, List, [], ◌∷◌, ◌++◌, length, map, filter, take, drop, codes, decimal, slice_index, Some, None, option_to_list, if◌then◌else◌}
+use Rattle.std.specs.List.{join_with_byte}
+use Rattle.std.specs.Option.{option_map_or}
+use Rattle.pb_board.specs.declared.piece.Colour.{Colour}
+use Rattle.pb_board.specs.declared.piece.Colour.TheVariants.{White, Black}
+use Rattle.pb_board.specs.declared.piece.Piece.{Piece}
+use Rattle.pb_board.specs.declared.setup.Rights.{Rights}
+use Rattle.pb_board.specs.Piece.{colour_number, kind_number}
+use Rattle.pb_board.specs.Board.{Place, file, rank}
+use Rattle.pb_board.specs.Castling.{castlings, castling_row}
+use Rattle.pb_board.specs.Position.{Position, Record}
+use Rattle.pb_moves.specs.Moved.{Moved}
+use Rattle.pb_theorem.specs.Board.{piece_of}
+use Rattle.pb_theorem.specs.Lines.{space}
+
+-- White's pieces have capital letters
+abbrev pub piece_letter : Piece → ℕ
+piece_letter p = slice_index (codes "PNBRQKpnbrqk") (6 * colour_number p.colour + kind_number p.kind)
+
+-- the digit of so many empty squares
+abbrev pub empty_squares : ℕ → List ℕ
+empty_squares n = if n == 0 then [] else (48 + n) ∷ []
+
+-- squares in a row, from file a on, after n empty ones
+abbrev pub rank_text : ℕ → List Place → List ℕ
+rank_text n [] = empty_squares n
+rank_text n (None ∷ squares) = rank_text (n + 1) squares
+rank_text n (Some p ∷ squares) = empty_squares n ++ piece_letter p ∷ rank_text 0 squares
+
+-- eight ranks, from rank 8 to rank 1, joined by a slash
+abbrev pub placement_text : List Place → List ℕ
+placement_text board = join_with_byte 47
+    (map (λ r. rank_text 0 (take 8 (drop (8 * r) board))) (7 ∷ 6 ∷ 5 ∷ 4 ∷ 3 ∷ 2 ∷ 1 ∷ 0 ∷ []))
+
+abbrev pub turn_text : Colour → List ℕ
+turn_text White = codes "w"
+turn_text Black = codes "b"
+
+-- the letters of the castling rights, or a -
+abbrev pub castling_text : Rights → List ℕ
+castling_text r =
+    let kept = filter (λ c. (castling_row c).right r) castlings in
+    let letters = map (λ c. slice_index (codes "KQkq") (castling_row c).number) kept in
+    if length letters == 0 then codes "-" else letters
+
+-- the letter of the file and the digit of the rank
+abbrev pub square_text : ℕ → List ℕ
+square_text q = (97 + file q) ∷ (49 + rank q) ∷ []
+
+-- the first four fields
+abbrev pub setup_fields : Position → List (List ℕ)
+setup_fields p = placement_text p.board ∷ turn_text p.turn ∷ castling_text p.rights
+    ∷ option_map_or square_text p.ep (codes "-") ∷ []
+
+-- the text of a record: six fields
+abbrev pub fen_text : Record → List ℕ
+fen_text f = join_with_byte space (setup_fields f.setup ++ decimal f.half ∷ decimal f.full ∷ [])
+
+-- the UCI text of a move: the square left, the square reached, and the small letter of a promotion
+abbrev pub spelling : Moved → List ℕ
+spelling m = square_text m.from ++ (square_text m.to ++ map (λ kind. piece_letter (piece_of Black kind)) (option_to_list m.promo))
