@@ -131,18 +131,17 @@ module _ (rules : CountingRules) (fills : ℕ) (t t' v v' s : SourceState) (j me
 
   -- the last line's game is on the journal as a whole or not at all, and wasn't answered
   unkept : (left : LedgerState) (L : List (List ℕ)) → AreFirst L s.to_come → CollectsUnkept sink sink' mended j' held left L → Safe
-  unkept left L front h =
-      (
-        elim (gains_torn most_games kept held.accepted left.accepted L (h.answers ++ Ok h.number ∷ []) holds on.run on.accepted h.new h.game h.text h.last h.count h.games h.lines h.spells) [
-          | inl torn ↦ survives_so (held.accepted ++ h.new) torn before
-          | inr whole ↦ survives_so (held.accepted ++ h.new ++ h.game ∷ []) whole after
-        ],
-        λ all. record {
-          gained = mending kept ++ h.text;
-          lasts = lasts_so (h.lasts (first.replays.mends.all_lasts all));
-          holds = answered (mending kept ++ h.text) (held.accepted ++ h.new) (holds_all h.middle h.before h.answers led h.new h.text h.held_before h.lines) before;
-        },
-      )
+  unkept left L front h = (
+    elim (gains_torn most_games kept held.accepted left.accepted L (h.answers ++ Ok h.number ∷ []) holds on.run on.accepted h.new h.game h.text h.last h.count h.games h.lines h.spells) [
+      | inl torn ↦ survives_so (held.accepted ++ h.new) torn before
+      | inr whole ↦ survives_so (held.accepted ++ h.new ++ h.game ∷ []) whole after
+    ],
+    λ all. record {
+      gained = mending kept ++ h.text;
+      lasts = lasts_so (h.lasts (first.replays.mends.all_lasts all));
+      holds = answered (mending kept ++ h.text) (held.accepted ++ h.new) (holds_all h.middle h.before h.answers led h.new h.text h.held_before h.lines) before;
+    },
+  )
     where
       on : Leads (record { basis = record { words = first.words; rules = rules }; cap = most_games; accepted = held.accepted }) left L (h.answers ++ Ok h.number ∷ [])
       on = leads_on left L (h.answers ++ Ok h.number ∷ []) h.leads
@@ -165,9 +164,11 @@ module _ (rules : CountingRules) (fills : ℕ) (t t' v v' s : SourceState) (j me
 
       -- the journal was mended before it took the lines
       lasts_so : LastsFirst mended j' h.text → LastsFirst j j' (mending kept ++ h.text)
-      lasts_so lasts =
-          (lasts.0, subst (Appends j.bytes j'.lasting) (sym (append_assoc (mending kept) h.text lasts.0))
-          (Appends-trans _ _ _ _ _ (mended_told rules fills t t' v v' j mended held first kept told) lasts.1))
+      lasts_so lasts = (
+        lasts.0,
+        subst (Appends j.bytes j'.lasting) (sym (append_assoc (mending kept) h.text lasts.0))
+            (Appends-trans _ _ _ _ _ (mended_told rules fills t t' v v' j mended held first kept told) lasts.1),
+      )
 
       answered : (gains : List ℕ) (games : List Submission) → Journals most_games (kept ++ gains) games → Has games → HoldsAnswered (kept ++ gains) s.to_come sink sink'
       answered gains games journals has = record {
