@@ -1,5 +1,5 @@
--- What is left of a journal's file, of which each game that was acknowledged is a part.
-use Rattle.std.specs.Prelude.{◌≡◌, Bool, true, false, List, [], ℕ, Option, Some}
+-- What is left of a journal's file once a run has ended, and whatever comes then.
+use Rattle.std.specs.Prelude.{◌≡◌, Bool, true, false, List, [], ◌++◌, ℕ, Option, Some}
 use Rattle.pb_io.specs.Sink.{SinkState}
 use Rattle.pb_io.specs.Source.{SourceState}
 use Rattle.pb_collecting.specs.JournalTold.{HoldsAnswered}
@@ -7,22 +7,23 @@ use Rattle.pb_files.specs.Begins.{BeginsWith}
 use Rattle.pb_files.specs.Disk.{Disk, Grows, IsOnDisk, Leaves}
 use Rattle.pb_files.specs.JournalSink.{EndState}
 
--- A journal that a run has come to: it is read from its first byte, nothing waits, and with sync all that is found is on the disk.
-pub record IsStarted (disk : Disk) (end : EndState) (reader : SourceState) : Type 0 where
+-- A journal that a run has come to: it is read from its first byte, nothing waits, and where a flush syncs all that is found is on the disk.
+pub record IsStarted (sync : Bool) (disk : Disk) (end : EndState) (reader : SourceState) : Type 0 where
   pub told : end.told ≡ Some disk
   pub reads : reader.to_come ≡ Some disk.found
   pub none_waits : end.waits ≡ []
-  pub on_disk : end.sync ≡ true → IsOnDisk disk
+  pub on_disk : sync ≡ true → IsOnDisk disk
 
--- with sync, what a crash may leave; else what a kill leaves, which is all that is found
+-- what a crash may leave, where a flush syncs; else what a kill leaves, which is all that is found
 abbrev pub MayBeLeft : Bool → Disk → List ℕ → Type 0
 MayBeLeft true disk left = Leaves disk left
 MayBeLeft false disk left = left ≡ disk.found
 
--- Whatever is added later, what may be left then begins with a journal that holds each game which a reply calls `ok`.
-pub record LeavesAnswered (end : EndState) (submitted : Option (List ℕ)) (sink sink' : SinkState) : Type 0 where
+-- Whatever is added later, what may be left then begins with the journal as it was and what it gained: this holds each game that a reply
+-- calls `ok`.
+pub record LeavesAnswered (sync : Bool) (before : Disk) (end : EndState) (submitted : Option (List ℕ)) (sink sink' : SinkState) : Type 0 where
   pub disk : Disk
   pub told : end.told ≡ Some disk
-  pub journal : List ℕ
-  pub holds : HoldsAnswered journal submitted sink sink'
-  pub first : (later : Disk) → Grows disk later → (left : List ℕ) → MayBeLeft end.sync later left → BeginsWith left journal
+  pub gained : List ℕ
+  pub holds : HoldsAnswered (before.found ++ gained) submitted sink sink'
+  pub first : (later : Disk) → Grows disk later → (left : List ℕ) → MayBeLeft sync later left → BeginsWith left (before.found ++ gained)

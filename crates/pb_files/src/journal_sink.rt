@@ -1,6 +1,6 @@
 //! The end of a journal's file, as a sink.
 
-ghost use Rattle.std.specs.Prelude.{◌≡◌, ◌≤◌, ◌||◌, IfOk, IfSome, [], drop, false, length, not, take, true};
+ghost use Rattle.std.specs.Prelude.{◌≡◌, ◌≤◌, ◌||◌, Bool, IfOk, IfSome, [], drop, false, length, not, take, true};
 ghost use Rattle.std.specs.Option.{ForSome};
 ghost use Rattle.pb_io.specs.Sink.{Flush, Put};
 ghost use Rattle.pb_files.specs.Disk.{Adds, IsOnDisk, OutlivesCrash};
@@ -11,6 +11,7 @@ use crate::file_writer::PIECE;
 use crate::journal_file::JournalFile;
 use pb_io::{Failed, Sink};
 use std::alloc::{AllocError, Global};
+use std::marker::PhantomData;
 
 /// A sink whose bytes wait to be written to a file.
 pub trait FileEnd {
@@ -18,34 +19,66 @@ pub trait FileEnd {
     ghost end: { Self → EndState };
 }
 
+/// What outlives what, once it is flushed at the end of a file.
+pub trait Durability {
+    /// Whether a flush puts all that is found on the disk.
+    ghost syncs: { Bool };
+
+    /// Whether a flush puts all that is found on the disk.
+    fn syncs() -> bool
+        ensures { result ≡ syncs };
+}
+
+/// What is flushed is on the disk, and outlives a crash.
+pub struct Synced;
+
+impl Durability for Synced {
+    ghost syncs = { true };
+
+    fn syncs() -> bool {
+        true
+    }
+}
+
+/// What is flushed is with the system, and outlives a kill.
+pub struct Written;
+
+impl Durability for Written {
+    ghost syncs = { false };
+
+    fn syncs() -> bool {
+        false
+    }
+}
+
 /// The end of a file that this run holds. What is put waits until it is flushed: then it is
-/// written, at once where the file takes all, and with `sync` it is on the disk.
+/// written, at once where the file takes all, and where `D` syncs it is on the disk.
 #[derive(Drop)]
-pub struct JournalSink<J: JournalFile> {
+pub struct JournalSink<J: JournalFile, D: Durability> {
     file: J,
-    sync: bool,
+    durability: PhantomData<D>,
     waiting: Vec<u8>,
     no_memory: bool,
     flushed: bool,
     flushes: u64,
     ghost none_waits: { flushed ≡ true → waiting.items ≡ [] },
-    ghost on_disk: { flushed ≡ true → sync ≡ true → ForSome (J.state file).told IsOnDisk },
+    ghost on_disk: { flushed ≡ true → D.syncs ≡ true → ForSome (J.state file).told IsOnDisk },
 }
 
-impl<J: JournalFile + Drop> JournalSink<J> {
+impl<J: JournalFile + Drop, D: Durability> JournalSink<J, D> {
     /// The end of the file, where nothing waits.
     ///
     /// # Errors
     ///
     /// Want of memory for what waits.
-    pub fn new(alloc: Global, file: J, sync: bool) -> Result<JournalSink<J>, AllocError>
-        ensures state { IfOk result (λ sink. ⟦<JournalSink<J> as Sink>⟧.state sink ≡ record { bytes = bytes_put (J.state file).told []; lasting = bytes_lasting sync (J.state file).told; failed = not (J.state file).ready; flushed = false; flushes = 0 }) }
-        ensures end { IfOk result (λ sink. ⟦<JournalSink<J> as FileEnd>⟧.end sink ≡ record { told = (J.state file).told; waits = []; sync = sync }) }
+    pub fn new(alloc: Global, file: J) -> Result<JournalSink<J, D>, AllocError>
+        ensures state { IfOk result (λ sink. ⟦<JournalSink<J, D> as Sink>⟧.state sink ≡ record { bytes = bytes_put (J.state file).told []; lasting = bytes_lasting D.syncs (J.state file).told; failed = not (J.state file).ready; flushed = false; flushes = 0 }) }
+        ensures end { IfOk result (λ sink. ⟦<JournalSink<J, D> as FileEnd>⟧.end sink ≡ record { told = (J.state file).told; waits = [] }) }
     {
         let waiting = Vec::with_capacity(alloc, PIECE)?;
         Ok(JournalSink {
             file,
-            sync,
+            durability: PhantomData,
             waiting,
             no_memory: false,
             flushed: false,
@@ -53,35 +86,35 @@ impl<J: JournalFile + Drop> JournalSink<J> {
         })
     }
 
-    /// Whether all that was put has been handed on, whoever flushed it: a reader finds it, and with
-    /// `sync` it outlives each crash.
+    /// Whether all that was put has been handed on, whoever flushed it: a reader finds it, and where
+    /// `D` syncs it outlives each crash.
     #[tactic(auto, using(crate::proofs::FileLemmas::told_on_disk_outlives))]
     pub fn handed_on(&self) -> bool
-        ensures flushed { result ≡ (⟦<JournalSink<J> as Sink>⟧.state self.now).flushed }
-        ensures found { result ≡ true → (⟦<JournalSink<J> as FileEnd>⟧.end self.now).waits ≡ [] }
-        ensures outlives { result ≡ true → (⟦<JournalSink<J> as FileEnd>⟧.end self.now).sync ≡ true → IfSome (⟦<JournalSink<J> as FileEnd>⟧.end self.now).told OutlivesCrash }
+        ensures flushed { result ≡ (⟦<JournalSink<J, D> as Sink>⟧.state self.now).flushed }
+        ensures found { result ≡ true → (⟦<JournalSink<J, D> as FileEnd>⟧.end self.now).waits ≡ [] }
+        ensures outlives { result ≡ true → D.syncs ≡ true → IfSome (⟦<JournalSink<J, D> as FileEnd>⟧.end self.now).told OutlivesCrash }
     {
         self.flushed
     }
 
     /// The file.
     pub fn file(&self) -> &J
-        ensures { (J.state result.now).told ≡ (⟦<JournalSink<J> as FileEnd>⟧.end self.now).told }
+        ensures { (J.state result.now).told ≡ (⟦<JournalSink<J, D> as FileEnd>⟧.end self.now).told }
     {
         &self.file
     }
 }
 
-impl<J: JournalFile> FileEnd for JournalSink<J> {
-    ghost end = { λ s. record { told = (J.state s.file).told; waits = s.waiting.items; sync = s.sync } };
+impl<J: JournalFile, D: Durability> FileEnd for JournalSink<J, D> {
+    ghost end = { λ s. record { told = (J.state s.file).told; waits = s.waiting.items } };
 }
 
-impl<J: JournalFile> Sink for JournalSink<J> {
-    ghost state = { λ s. record { bytes = bytes_put (J.state s.file).told s.waiting.items; lasting = bytes_lasting s.sync (J.state s.file).told; failed = s.no_memory || not (J.state s.file).ready; flushed = s.flushed; flushes = s.flushes } };
+impl<J: JournalFile, D: Durability> Sink for JournalSink<J, D> {
+    ghost state = { λ s. record { bytes = bytes_put (J.state s.file).told s.waiting.items; lasting = bytes_lasting D.syncs (J.state s.file).told; failed = s.no_memory || not (J.state s.file).ready; flushed = s.flushed; flushes = s.flushes } };
 
     fn put(&mut self, bytes: &[u8]) -> Result<(), Failed>
-        ensures put { Put (⟦<JournalSink<J> as Sink>⟧.state self.old) (⟦<JournalSink<J> as Sink>⟧.state self.new) result bytes.now }
-        ensures end { PutAtEnd (⟦<JournalSink<J> as FileEnd>⟧.end self.old) (⟦<JournalSink<J> as FileEnd>⟧.end self.new) }
+        ensures put { Put (⟦<JournalSink<J, D> as Sink>⟧.state self.old) (⟦<JournalSink<J, D> as Sink>⟧.state self.new) result bytes.now }
+        ensures end { PutAtEnd (⟦<JournalSink<J, D> as FileEnd>⟧.end self.old) (⟦<JournalSink<J, D> as FileEnd>⟧.end self.new) }
     {
         self.flushed = false;
         if self.failed() {
@@ -98,8 +131,8 @@ impl<J: JournalFile> Sink for JournalSink<J> {
 
     #[tactic(auto, using(crate::proofs::FileLemmas::told_sync, crate::proofs::FileLemmas::told_grows, crate::proofs::FileLemmas::told_bytes, crate::proofs::FileLemmas::told_outlives, crate::proofs::FileLemmas::told_on_disk, crate::proofs::FileLemmas::lasting_grows, crate::proofs::FileLemmas::lasting_all))]
     fn flush(&mut self) -> Result<(), Failed>
-        ensures flush { Flush (⟦<JournalSink<J> as Sink>⟧.state self.old) (⟦<JournalSink<J> as Sink>⟧.state self.new) result }
-        ensures end { FlushAtEnd (⟦<JournalSink<J> as FileEnd>⟧.end self.old) (⟦<JournalSink<J> as FileEnd>⟧.end self.new) result }
+        ensures flush { Flush (⟦<JournalSink<J, D> as Sink>⟧.state self.old) (⟦<JournalSink<J, D> as Sink>⟧.state self.new) result }
+        ensures end { FlushAtEnd D.syncs (⟦<JournalSink<J, D> as FileEnd>⟧.end self.old) (⟦<JournalSink<J, D> as FileEnd>⟧.end self.new) result }
     {
         self.flushed = false;
         if self.failed() {
@@ -110,7 +143,7 @@ impl<J: JournalFile> Sink for JournalSink<J> {
         if !self.file.is_ready() {
             return Err(Failed);
         }
-        if self.sync {
+        if D::syncs() {
             self.file.sync()?;
         }
         self.flushed = true;

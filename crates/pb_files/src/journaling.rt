@@ -6,14 +6,14 @@ ghost use Rattle.pb_files.specs.Disk.{Disk};
 ghost use Rattle.pb_files.specs.Journaling.{IsStarted, LeavesAnswered};
 
 use crate::journal_file::JournalFile;
-use crate::journal_sink::{FileEnd, JournalSink};
+use crate::journal_sink::{Durability, FileEnd, JournalSink};
 use pb_collecting::{NoBook, PassedLines, Place, Rules, journal_into};
 use pb_io::{Sink, Source};
 use std::alloc::Global;
 
 /// Runs `journal_into` with the end of a file for its journal. So each game that was answered `ok`
-/// is in that file, however the run ends, and whatever ends it: with `sync` each crash leaves it
-/// there, and else each kill.
+/// is in that file, however the run ends, and whatever comes then: where `D` syncs each crash
+/// leaves it there, and else each kill.
 ///
 /// # Errors
 ///
@@ -22,6 +22,7 @@ pub fn journal_to_file<
     T: Source,
     V: Source,
     J: JournalFile,
+    D: Durability,
     W: PassedLines,
     S: Source,
     K: Sink,
@@ -31,7 +32,7 @@ pub fn journal_to_file<
     rules: Rules,
     table_source: &mut T,
     kept: &mut V,
-    journal: &mut JournalSink<J>,
+    journal: &mut JournalSink<J, D>,
     passed: &mut W,
     source: &mut S,
     sink: &mut K,
@@ -39,11 +40,11 @@ pub fn journal_to_file<
     fills: u32,
 ) -> Result<bool, NoBook>
     ensures ends { JournalsInto rules fills (T.state table_source.old) (T.state table_source.new) (V.state kept.old) (V.state kept.new)
-        (S.state source.old) (S.state source.new) (⟦<JournalSink<J> as Sink>⟧.state journal.old) (⟦<JournalSink<J> as Sink>⟧.state journal.new)
+        (S.state source.old) (S.state source.new) (⟦<JournalSink<J, D> as Sink>⟧.state journal.old) (⟦<JournalSink<J, D> as Sink>⟧.state journal.new)
         (K.state sink.old) (K.state sink.new) (P.state place.old) (P.state place.new) result }
-    // No submission was read, or what is left of the file begins with each game that was acknowledged.
-    ensures leaves { (disk : Disk) → IsStarted disk (⟦<JournalSink<J> as FileEnd>⟧.end journal.old) (V.state kept.old)
-        → (S.state source.new ≡ S.state source.old) ⊎ LeavesAnswered (⟦<JournalSink<J> as FileEnd>⟧.end journal.new) (S.state source.old).to_come (K.state sink.old) (K.state sink.new) }
+    // No submission was read, or each game that was acknowledged is in what is left of the file.
+    ensures leaves { (disk : Disk) → IsStarted D.syncs disk (⟦<JournalSink<J, D> as FileEnd>⟧.end journal.old) (V.state kept.old)
+        → (S.state source.new ≡ S.state source.old) ⊎ LeavesAnswered D.syncs disk (⟦<JournalSink<J, D> as FileEnd>⟧.end journal.new) (S.state source.old).to_come (K.state sink.old) (K.state sink.new) }
 {
     journal_into(
         alloc,

@@ -37,7 +37,7 @@ pub use file_opener::{hold_ledger, open, start_journal};
 pub use file_writer::{FileWriter, PIECE};
 pub use holding::{Lock, NotHeld, Opener, hold};
 pub use journal_file::{JournalFile, ReadFile};
-pub use journal_sink::{FileEnd, JournalSink};
+pub use journal_sink::{Durability, FileEnd, JournalSink, Synced, Written};
 pub use journaling::journal_to_file;
 pub use kept::KeptFile;
 pub use mem_desk::{Before, MemDesk};

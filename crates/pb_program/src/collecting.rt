@@ -3,8 +3,8 @@
 use crate::command::{FILLS, FileSource, input, source};
 use pb_cli::{Fault, Keeping, Rules, collect_into, continue_into};
 use pb_files::{
-    FileDesk, JournalSink, KeptFile, Replies, Stop, Submissions, TellPassed, hold_ledger,
-    journal_to_file, keep_apart, start_journal,
+    Durability, FileDesk, JournalSink, KeptFile, Replies, Stop, Submissions, Synced, TellPassed,
+    Written, hold_ledger, journal_to_file, keep_apart, start_journal,
 };
 use pb_messages::{LedgerLines, Messages, Named, News, Part, Progress, Told};
 use pb_poly::{FromRead, Sink, ToWrite};
@@ -42,7 +42,8 @@ impl<'a> Collecting<'a> {
         match kept {
             Keeping::Book => self.collect(&output),
             Keeping::Ledger(ledger) => self.continue_from(ledger, &output),
-            Keeping::Journal { path, sync } => self.journal_to(path, sync, &output),
+            Keeping::Journal { path, sync: true } => self.journal_to::<K, Synced>(path, &output),
+            Keeping::Journal { path, .. } => self.journal_to::<K, Written>(path, &output),
         }
     }
 
@@ -93,19 +94,18 @@ impl<'a> Collecting<'a> {
 
     /// Goes on from the file of a journal, which each new game is added to before its reply is
     /// written.
-    fn journal_to<K: Sink>(
+    fn journal_to<K: Sink, D: Durability>(
         &self,
         journal: &'a str,
-        sync: bool,
         output: &RefCell<&mut K>,
     ) -> Result<bool, Stop> {
         let mut table = self.table_beside(Some((Part::Journal, journal)))?;
         let named = Named::new(self.messages, journal);
         let progress = Progress::new(self.messages, News::Journaled(false));
-        let mut started = start_journal(named, &progress, sync)?;
+        let mut started = start_journal(named, &progress, D::syncs())?;
         let mut book = self.place()?;
         let alloc = self.messages.rt().alloc();
-        let Ok(mut lines) = JournalSink::new(alloc, started.journal, sync) else {
+        let Ok(mut lines) = JournalSink::<_, D>::new(alloc, started.journal) else {
             return Err(Stop::Fault(Fault::Memory));
         };
         let has_book = journal_to_file(

@@ -3,7 +3,9 @@
 
 use crate::page::{Done, NO_ROW, Page};
 use crate::text::{count_of, small_of};
-use pb_files::{JournalSink, MemJournal, MemOpener, Opener, Others, hold, start};
+use pb_files::{
+    Durability, JournalSink, MemJournal, MemOpener, Opener, Others, Synced, Written, hold, start,
+};
 use pb_poly::{Sink, Source};
 use std::alloc::AllocError;
 
@@ -76,8 +78,16 @@ fn lines(page: &mut Page, words: &[&str]) -> Done {
     let [sync, calls, texts @ ..] = words else {
         return NO_ROW;
     };
-    let file = MemJournal::new(Vec::new(page.alloc), count_of(calls));
-    let mut sink = JournalSink::new(page.alloc, file, *sync == "sync")?;
+    match *sync {
+        "sync" => flushed::<Synced>(page, count_of(calls), texts),
+        _ => flushed::<Written>(page, count_of(calls), texts),
+    }
+}
+
+/// The same, over an end of this kind.
+fn flushed<D: Durability>(page: &mut Page, calls: usize, texts: &[&str]) -> Done {
+    let file = MemJournal::new(Vec::new(page.alloc), calls);
+    let mut sink = JournalSink::<_, D>::new(page.alloc, file)?;
     let mut flushes = 0_u32;
     for text in texts {
         if sink.put(text.as_bytes()).is_ok() && sink.flush().is_ok() {

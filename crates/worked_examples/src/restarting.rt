@@ -6,7 +6,7 @@ use crate::collecting::Passed;
 use crate::files::{book_of, rules};
 use crate::game::stream_of;
 use pb_cli::{MemPlace, NoBook, journal_into};
-use pb_files::{JournalSink, MemJournal, read_whole};
+use pb_files::{Durability, JournalSink, MemJournal, Synced, Written, read_whole};
 use pb_poly::{FromRead, MemSink, Source};
 use rows::page::{Done, NO_ROW, Page, Trouble};
 use rows::text::{count_of, text_of};
@@ -14,11 +14,11 @@ use std::alloc::Global;
 
 /// What a run leaves.
 #[derive(Drop)]
-struct Ran {
+struct Ran<D: Durability> {
     /// What it answered.
     answer: Page,
     /// The end of its journal.
-    journal: JournalSink<MemJournal>,
+    journal: JournalSink<MemJournal, D>,
     /// Its replies.
     replies: MemSink,
     /// Where its book is kept.
@@ -28,16 +28,26 @@ struct Ran {
 /// The answer to a call: a run over a journal that is synced or not, of which so many calls
 /// succeed, and the next over what is left.
 pub(crate) fn answer(page: &mut Page, words: &[&str]) -> Done {
-    let [sync, end, calls, entries, lines @ ..] = words else {
+    let [sync, words @ ..] = words else {
+        return NO_ROW
+    };
+    match *sync {
+        "sync" => ended::<Synced>(page, words),
+        _ => ended::<Written>(page, words),
+    }
+}
+
+/// The answer of runs whose journals have ends of this kind.
+fn ended<D: Durability>(page: &mut Page, words: &[&str]) -> Done {
+    let [end, calls, entries, lines @ ..] = words else {
         return NO_ROW
     };
     let [head, rest @ ..] = lines else {
         return NO_ROW
     };
-    let sync = *sync == "sync";
     let book = book_of(page.alloc, entries)?;
     let stream = stream_of(page.alloc, lines)?;
-    let first = Ran::of(page.alloc, sync, &[], count_of(calls), stream.as_str())?;
+    let first = Ran::<D>::of(page.alloc, &[], count_of(calls), stream.as_str())?;
     first.tell(page, book.as_bytes());
     let left = match *end {
         "crash" => first.journal.file().after_crash(),
@@ -47,26 +57,20 @@ pub(crate) fn answer(page: &mut Page, words: &[&str]) -> Done {
     page.put(" bytes left; then ");
     let mut stream = stream_of(page.alloc, rest)?;
     stream.push_str(stream_of(page.alloc, &[head])?.as_str())?;
-    let second = Ran::of(page.alloc, sync, left, usize::MAX, stream.as_str())?;
+    let second = Ran::<D>::of(page.alloc, left, usize::MAX, stream.as_str())?;
     second.tell(page, book.as_bytes());
     tell_kept(page, first.replies.as_bytes(), second.replies.as_bytes());
     Ok(())
 }
 
-impl Ran {
+impl<D: Durability> Ran<D> {
     /// The run over a journal of these bytes and over these submissions.
-    fn of(
-        alloc: Global,
-        sync: bool,
-        bytes: &[u8],
-        calls: usize,
-        lines: &str,
-    ) -> Result<Ran, Trouble> {
+    fn of(alloc: Global, bytes: &[u8], calls: usize, lines: &str) -> Result<Ran<D>, Trouble> {
         let mut file = MemJournal::new(Vec::from_slice(alloc, bytes)?, calls);
-        let reader = read_whole(&mut file, sync);
+        let reader = read_whole(&mut file, D::syncs());
         let mut ran = Ran {
             answer: Page::new(alloc),
-            journal: JournalSink::new(alloc, file, sync)?,
+            journal: JournalSink::new(alloc, file)?,
             replies: MemSink::new(alloc),
             book: MemPlace::new(alloc),
         };
