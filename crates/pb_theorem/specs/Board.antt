@@ -26,12 +26,13 @@ abbrev pub HasNoEdgePawn : Board → Type 0
 HasNoEdgePawn board =
     (q : ℕ) (side : Colour) → Holds board q (piece_of side Pawn) → (0 < rank q) × (rank q < 7)
 
--- the square is empty, and an enemy pawn has just made a double step over it
+-- the square is empty, and beyond it stands an enemy pawn, as after a double step
 abbrev pub WasSteppedOver : Board → Colour → ℕ → Type 0
 WasSteppedOver board turn q =
     IsEmpty board q × Holds board (beyond turn q) (piece_of (opponent turn) Pawn)
 
--- the rules that every setup meets; the en passant square is on the sixth rank of the side to move
+-- The rules that every setup meets. The en passant square is on the sixth rank of the side to move. Castling rights are those of
+-- the record, wherever the kings and rooks stand.
 pub record IsSetup (p : Position) : Type 0 where
   pub places : length p.board ≡ 64
   pub white_king : HasOneKing p.board White
