@@ -1,19 +1,24 @@
 mod CollectClauses
 mod CollectRuns
 mod ContinueClauses
+pub mod ContinueLemmas
 mod ContinueRuns
 mod ContinueTold
+mod CountLemmas
 mod EffectLaws
 mod ExportClauses
+pub mod ExportLemmas
 mod ExportRuns
 pub mod Headlines
 mod JournalClauses
 mod JournalGains
 mod JournalHeadlines
+pub mod JournalLemmas
 mod JournalRuns
 mod JournalSurvives
 mod KeepClauses
 mod KeepRuns
 pub mod OneTexts
+pub mod RunLemmas
 mod Takings
 pub mod ToldRuns

@@ -5,25 +5,18 @@ use Rattle.pb_io.specs.Source.{SourceState}
 use Rattle.pb_poly.specs.declared.entry.Entry.{Entry}
 use Rattle.pb_accepted.specs.Rules.{AreRules, CountingRules}
 use Rattle.pb_commands.specs.declared.fault.Fault.{Fault}
-use Rattle.pb_collecting.specs.CollectRun.{CollectsOrEnds}
 use Rattle.pb_collecting.specs.Continuing.{ContinuesOrEnds}
 use Rattle.pb_collecting.specs.ExportRun.{ExportsOrStops}
 use Rattle.pb_collecting.specs.Headline as collecting
 use Rattle.pb_collecting.specs.JournalRun.{JournalsOrEnds}
 use Rattle.pb_collecting.specs.declared.continuing.Continued.{Continued}
 use Rattle.pb_theorem.specs.Headline as theorem
-use Rattle.pb_theorem.specs.Runs.{CollectRun, ContinueRun, ExportRun, JournalRun}
+use Rattle.pb_collecting.specs.Runs.{ContinueRun, ExportRun, JournalRun}
 
 abbrev pub SameHeadline : Type 0
 SameHeadline = (rules : CountingRules) (file bytes : Option (List ℕ)) (sink sink' : SinkState) (entries : List Entry)
     → AreRules rules
     → theorem.HasHeadline rules file bytes sink sink' entries ↔ collecting.HasHeadline rules file bytes sink sink' entries
-
-abbrev pub SameCollectRun : Type 0
-SameCollectRun = (rules : CountingRules) (fills : ℕ) (t t' s s' : SourceState) (sink sink' : SinkState)
-    (result : Result (Option (List Entry)) Fault)
-    → CollectRun rules fills t t' s s' sink sink' result
-    ↔ CollectsOrEnds rules fills t t' s s' sink sink' result
 
 abbrev pub SameJournalRun : Type 0
 SameJournalRun = (rules : CountingRules) (fills : ℕ) (t t' v v' s s' : SourceState) (j j' sink sink' : SinkState)

@@ -1,4 +1,4 @@
-use Rattle.pb_theorem.proofs.ExportLemmas as runs
+use Rattle.pb_collecting.proofs.ExportLemmas as runs
 use Rattle.pb_theorem.proofs.same_runs_of_export.Goals as goal
 
 pub returns : goal.returns

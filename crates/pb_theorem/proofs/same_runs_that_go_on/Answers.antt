@@ -1,4 +1,4 @@
-use Rattle.pb_theorem.proofs.ContinueLemmas as runs
+use Rattle.pb_collecting.proofs.ContinueLemmas as runs
 use Rattle.pb_theorem.proofs.same_runs_that_go_on.Goals as goal
 
 pub returns : goal.returns

@@ -1,4 +1,4 @@
-use Rattle.pb_theorem.proofs.JournalLemmas as runs
+use Rattle.pb_collecting.proofs.JournalLemmas as runs
 use Rattle.pb_theorem.proofs.same_runs_with_journal.Goals as goal
 
 pub returns : goal.returns

@@ -34,7 +34,7 @@ use Rattle.pb_collecting.specs.declared.continuing.Continued.{Continued}
 use Rattle.pb_collecting.specs.ExportRun.{fault_of_export}
 use Rattle.pb_collecting.specs.JournalRun.{fault_of_journal, fault_of_replay}
 use Rattle.pb_collecting.specs.Taking.{fault_of, ledger_of, new_ledger}
-use Rattle.pb_theorem.specs.Limits.{most_games}
+use Rattle.pb_accepted.specs.Holding.{most_games}
 
 -- A run begins with `first`, which leaves an M, and goes on from there to an X or a fault. Or nothing was begun: `judges` says
 -- what comes of that, a line that is put, or a fault, and then nothing is.
