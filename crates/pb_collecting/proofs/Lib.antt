@@ -7,7 +7,7 @@ mod ContinueTold
 mod CountLemmas
 mod EffectLaws
 mod ExportClauses
-pub mod ExportLemmas
+mod ExportLemmas
 mod ExportRuns
 pub mod Headlines
 mod JournalClauses

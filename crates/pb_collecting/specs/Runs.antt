@@ -148,3 +148,9 @@ ExportRun rules fills t t' s s' d d' sink sink' answer = RunEnds (TakesTable rul
     (λ verdict. LacksTable fills t t' verdict × (s' ≡ s) × (d' ≡ d))
     (Exports fills s s' d d' sink sink')
     sink sink' (done answer)
+
+-- a run of `export` that replies to nobody: the replies are dropped, by a sink that doesn't fail
+abbrev pub SilentExportRun : CountingRules → ℕ → SourceState → SourceState → SourceState → SourceState
+    → SinkState → SinkState → Result Bool Fault → Type 0
+SilentExportRun rules fills t t' s s' sink sink' answer =
+    (d : SinkState) × (d' : SinkState) × (d'.failed ≡ false) × ExportRun rules fills t t' s s' d d' sink sink' answer

@@ -6,12 +6,11 @@ use Rattle.pb_poly.specs.declared.entry.Entry.{Entry}
 use Rattle.pb_accepted.specs.Rules.{AreRules, CountingRules}
 use Rattle.pb_commands.specs.declared.fault.Fault.{Fault}
 use Rattle.pb_collecting.specs.Continuing.{ContinuesOrEnds}
-use Rattle.pb_collecting.specs.ExportRun.{ExportsOrStops}
 use Rattle.pb_collecting.specs.Headline as collecting
 use Rattle.pb_collecting.specs.JournalRun.{JournalsOrEnds}
 use Rattle.pb_collecting.specs.declared.continuing.Continued.{Continued}
 use Rattle.pb_theorem.specs.Headline as theorem
-use Rattle.pb_collecting.specs.Runs.{ContinueRun, ExportRun, JournalRun}
+use Rattle.pb_collecting.specs.Runs.{ContinueRun, JournalRun}
 
 abbrev pub SameHeadline : Type 0
 SameHeadline = (rules : CountingRules) (file bytes : Option (List ℕ)) (sink sink' : SinkState) (entries : List Entry)
@@ -29,9 +28,3 @@ SameContinueRun = (rules : CountingRules) (fills : ℕ) (t t' v v' s s' : Source
     (result : Result (Option Continued) Fault)
     → ContinueRun rules fills t t' v v' s s' sink sink' result
     ↔ ContinuesOrEnds rules fills t t' v v' s s' sink sink' result
-
-abbrev pub SameExportRun : Type 0
-SameExportRun = (rules : CountingRules) (fills : ℕ) (t t' s s' : SourceState) (d d' sink sink' : SinkState)
-    (answer : Result Bool Fault)
-    → ExportRun rules fills t t' s s' d d' sink sink' answer
-    ↔ ExportsOrStops rules fills t t' s s' d d' sink sink' answer

@@ -48,7 +48,6 @@ ghost use Rattle.pb_theorem.specs.Refusals as refusals;
 ghost use Rattle.pb_theorem.specs.Replies as reply;
 ghost use Rattle.pb_theorem.specs.Same.{
   SameContinueRun,
-  SameExportRun,
   SameHeadline,
   SameJournalRun,
 };
@@ -222,9 +221,4 @@ pub fn same_runs_with_journal()
 /// Equates how a run ends that goes on from a saved ledger with what pb_collecting says of it.
 pub fn same_runs_that_go_on()
     ensures { SameContinueRun }
-{}
-
-/// Equates how a run of `export` ends with what pb_collecting says of it.
-pub fn same_runs_of_export()
-    ensures { SameExportRun }
 {}
