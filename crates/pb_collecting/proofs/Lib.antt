@@ -13,7 +13,8 @@ pub mod Headlines
 mod JournalClauses
 mod JournalGains
 mod JournalHeadlines
-pub mod JournalLemmas
+mod JournalKeeps
+mod JournalLemmas
 mod JournalRuns
 mod JournalSurvives
 mod KeepClauses

@@ -7,21 +7,14 @@ use Rattle.pb_accepted.specs.Rules.{AreRules, CountingRules}
 use Rattle.pb_commands.specs.declared.fault.Fault.{Fault}
 use Rattle.pb_collecting.specs.Continuing.{ContinuesOrEnds}
 use Rattle.pb_collecting.specs.Headline as collecting
-use Rattle.pb_collecting.specs.JournalRun.{JournalsOrEnds}
 use Rattle.pb_collecting.specs.declared.continuing.Continued.{Continued}
 use Rattle.pb_theorem.specs.Headline as theorem
-use Rattle.pb_collecting.specs.Runs.{ContinueRun, JournalRun}
+use Rattle.pb_collecting.specs.Runs.{ContinueRun}
 
 abbrev pub SameHeadline : Type 0
 SameHeadline = (rules : CountingRules) (file bytes : Option (List ℕ)) (sink sink' : SinkState) (entries : List Entry)
     → AreRules rules
     → theorem.HasHeadline rules file bytes sink sink' entries ↔ collecting.HasHeadline rules file bytes sink sink' entries
-
-abbrev pub SameJournalRun : Type 0
-SameJournalRun = (rules : CountingRules) (fills : ℕ) (t t' v v' s s' : SourceState) (j j' sink sink' : SinkState)
-    (result : Result (Option (List Entry)) Fault)
-    → JournalRun rules fills t t' v v' s s' j j' sink sink' result
-    ↔ JournalsOrEnds rules fills t t' v v' s s' j j' sink sink' result
 
 abbrev pub SameContinueRun : Type 0
 SameContinueRun = (rules : CountingRules) (fills : ℕ) (t t' v v' s s' : SourceState) (sink sink' : SinkState)

@@ -49,7 +49,6 @@ ghost use Rattle.pb_theorem.specs.Replies as reply;
 ghost use Rattle.pb_theorem.specs.Same.{
   SameContinueRun,
   SameHeadline,
-  SameJournalRun,
 };
 ghost use Rattle.pb_theorem.specs.Texts as texts;
 
@@ -211,11 +210,6 @@ pub fn same_files()
         → files.ReadsBook fills old new (Ok entries) ↔ books_read.ReadsBook fills old new entries }
     ensures book_faults { (fills : ℕ) (old new : SourceState) (e : BookError)
         → files.ReadsBook fills old new (Err e) ↔ books_read.FindsNoBook fills old new e }
-{}
-
-/// Equates how a run with a journal ends with what pb_collecting says of it.
-pub fn same_runs_with_journal()
-    ensures { SameJournalRun }
 {}
 
 /// Equates how a run ends that goes on from a saved ledger with what pb_collecting says of it.
