@@ -1,7 +1,8 @@
 mod CollectClauses
 mod CollectRuns
 mod ContinueClauses
-pub mod ContinueLemmas
+mod ContinueKeeps
+mod ContinueLemmas
 mod ContinueRuns
 mod ContinueTold
 mod CountLemmas
@@ -20,6 +21,6 @@ mod JournalSurvives
 mod KeepClauses
 mod KeepRuns
 pub mod OneTexts
-pub mod RunLemmas
+mod RunLemmas
 mod Takings
 pub mod ToldRuns

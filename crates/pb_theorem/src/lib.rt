@@ -46,10 +46,7 @@ ghost use Rattle.pb_theorem.specs.Lines as texts_of;
 ghost use Rattle.pb_theorem.specs.Moves as chess;
 ghost use Rattle.pb_theorem.specs.Refusals as refusals;
 ghost use Rattle.pb_theorem.specs.Replies as reply;
-ghost use Rattle.pb_theorem.specs.Same.{
-  SameContinueRun,
-  SameHeadline,
-};
+ghost use Rattle.pb_theorem.specs.Same.{SameHeadline};
 ghost use Rattle.pb_theorem.specs.Texts as texts;
 
 use pb_accepted::Rules;
@@ -210,9 +207,4 @@ pub fn same_files()
         → files.ReadsBook fills old new (Ok entries) ↔ books_read.ReadsBook fills old new entries }
     ensures book_faults { (fills : ℕ) (old new : SourceState) (e : BookError)
         → files.ReadsBook fills old new (Err e) ↔ books_read.FindsNoBook fills old new e }
-{}
-
-/// Equates how a run ends that goes on from a saved ledger with what pb_collecting says of it.
-pub fn same_runs_that_go_on()
-    ensures { SameContinueRun }
 {}
