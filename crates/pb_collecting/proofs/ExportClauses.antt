@@ -1,6 +1,6 @@
 -- What the clauses of the command `export` say, from how its run ends.
 use Rattle.std.proofs.Common.{◌≡◌, ◌∙◌, ◌≢◌, ℕ, Bool, Result, Ok, Err, ap, false, refl, sym, true}
-use Rattle.std.specs.Prelude.{IfErr, IfOk, OnOk}
+use Rattle.std.specs.Prelude.{IfErr, IfOk}
 use Rattle.pb_io.specs.Source.{SourceState}
 use Rattle.pb_io.specs.Sink.{SinkState}
 use Rattle.pb_io.proofs.FlushLemmas.{still_works}
@@ -12,13 +12,15 @@ use Rattle.pb_ledger.specs.declared.collecting.CollectFault.{CollectFault}
 use Rattle.pb_ledger.specs.declared.collecting.CollectFault.TheVariants as collect
 use Rattle.pb_export.specs.declared.exporting.ExportFault.{ExportFault}
 use Rattle.pb_export.specs.declared.exporting.ExportFault.TheVariants as export
-use Rattle.pb_commands.specs.Judged.{HandedOnOnce, PutsText, PutsUntil, Verdict}
+use Rattle.pb_commands.specs.Judged.{PutsUntil, Verdict}
 use Rattle.pb_commands.specs.declared.fault.Fault.{Fault}
 use Rattle.pb_commands.specs.declared.fault.Fault.TheVariants.{Read, Write, Endless, Memory}
 use Rattle.pb_collecting.specs.CollectRun.{JudgesTable, RefusesTold}
-use Rattle.pb_collecting.specs.ExportRun.{BlamesSink, EndsExport, ExportsGames, ExportsOrStops, StopsExport, at_export, at_submissions, at_table, fault_of_export}
+use Rattle.pb_collecting.specs.ExportRun.{BlamesSink, ExportsOrStops, StopsExport, at_export, at_submissions, at_table, fault_of_export}
+use Rattle.pb_collecting.specs.Runs.{ExportRun}
 use Rattle.pb_collecting.specs.Taking.{fault_of, new_ledger}
 use Rattle.pb_collecting.proofs.CollectRuns.{tells_refused}
+use Rattle.pb_collecting.proofs.ExportLemmas.{export_from}
 
 -- ---- which faults blame the sink
 
@@ -55,38 +57,27 @@ module _ (rules : CountingRules) (fills : ℕ) (t t' s s' : SourceState) (d d' s
   abbrev Ends : Result Bool Fault → Type 0
   Ends = ExportsOrStops rules fills t t' s s' d d' sink sink'
 
-  pub lines : (result : Result Bool Fault) → Ends result → IfOk result (λ done. done ≡ true → ExportsGames rules fills t t' s s' sink sink')
-  lines (Ok true) h = λ is. record { words = h.words; held = h.held; takes = h.games.takes; puts = h.puts }
-  lines (Ok false) h = λ is. absurd (cc is)
-  lines (Err fault) h = tt
+  abbrev Tells : Result Bool Fault → Type 0
+  Tells result = IfOk result (λ done. done ≡ false → RefusesTold t.to_come sink sink')
 
-  pub refused : (result : Result Bool Fault) → Ends result → IfOk result (λ done. done ≡ false → PutsText (JudgesTable fills t t' s s') sink sink' false)
-  refused (Ok true) h = λ is. absurd (cc is)
-  refused (Ok false) h = λ is. h.refused
-  refused (Err fault) h = tt
+  ends_told : (result : Result Bool Fault) → Ends result → Tells result
+  ends_told (Ok true) h = λ is. absurd (cc is)
+  ends_told (Ok false) h = λ is. tells_refused rules fills t t' s s' sink sink' h.refused
+  ends_told (Err fault) h = tt
 
-  pub told : (result : Result Bool Fault) → Ends result → IfOk result (λ done. done ≡ false → RefusesTold t.to_come sink sink')
-  told (Ok true) h = λ is. absurd (cc is)
-  told (Ok false) h = λ is. tells_refused rules fills t t' s s' sink sink' h.refused
-  told (Err fault) h = tt
+  pub told : (result : Result Bool Fault) → ExportRun rules fills t t' s s' d d' sink sink' result → Tells result
+  told result h = ends_told result (export_from rules fills t t' s s' d d' sink sink' result h)
 
-  pub handed_on : (result : Result Bool Fault) → Ends result → OnOk result (HandedOnOnce sink sink')
-  handed_on (Ok true) h = h.handed_on
-  handed_on (Ok false) h = h.handed_on
-  handed_on (Err fault) h = tt
+  -- where the sink for the replies hasn't failed
+  blame_stop : d'.failed ≡ false → (fault : Fault) → StopsExport rules fills t t' s s' d d' sink sink' fault → BlamesSink sink sink' fault
+  blame_stop works fault (at_table h no_reply) = blame_until (JudgesTable fills t t' s s') sink sink' fault h
+  blame_stop works fault (at_submissions e h is same) =
+      no_blame sink sink' fault (λ write. not_written fills s s' d d' (new_ledger rules h.words) h.ledger e works h.until (sym is ∙ write)) same
+  blame_stop works fault (at_export words held e games h is) = blame_export _ sink sink' fault e h is
 
-  -- the sink for the replies hasn't failed
-  module _ (works : d'.failed ≡ false) where
-    pub ends : (result : Result Bool Fault) → Ends result → IfErr result (EndsExport rules fills t t' s s' sink sink')
-    ends (Ok done) h = tt
-    ends (Err fault) h = record { dropped = d; dropped' = d'; stops = h; works = works }
+  ends_blamed : (result : Result Bool Fault) → Ends result → d'.failed ≡ false → IfErr result (BlamesSink sink sink')
+  ends_blamed (Ok done) h works = tt
+  ends_blamed (Err fault) h works = blame_stop works fault h
 
-    blame_stop : (fault : Fault) → StopsExport rules fills t t' s s' d d' sink sink' fault → BlamesSink sink sink' fault
-    blame_stop fault (at_table h no_reply) = blame_until (JudgesTable fills t t' s s') sink sink' fault h
-    blame_stop fault (at_submissions e h is same) =
-        no_blame sink sink' fault (λ write. not_written fills s s' d d' (new_ledger rules h.words) h.ledger e works h.until (sym is ∙ write)) same
-    blame_stop fault (at_export words held e games h is) = blame_export _ sink sink' fault e h is
-
-    pub blame : (result : Result Bool Fault) → Ends result → IfErr result (BlamesSink sink sink')
-    blame (Ok done) h = tt
-    blame (Err fault) h = blame_stop fault h
+  pub blame : (result : Result Bool Fault) → ExportRun rules fills t t' s s' d d' sink sink' result → d'.failed ≡ false → IfErr result (BlamesSink sink sink')
+  blame result h works = ends_blamed result (export_from rules fills t t' s s' d d' sink sink' result h) works

@@ -1,18 +1,20 @@
 -- What the clauses of the command `collect` with a journal say, from how its run ends.
 use Rattle.std.proofs.Common.{◌≡◌, ℕ, ◌⊎◌, List, Option, Some, None, Result, Ok, Err, inl, inr, refl}
-use Rattle.std.specs.Prelude.{IfNone, IfOk, IfSome, OnOk}
+use Rattle.std.specs.Prelude.{IfNone, IfOk, IfSome}
 use Rattle.pb_io.specs.Source.{SourceState}
 use Rattle.pb_io.specs.Sink.{AllLasts, SinkState}
 use Rattle.pb_poly.specs.declared.entry.Entry.{Entry}
 use Rattle.pb_accepted.specs.Rules.{CountingRules}
-use Rattle.pb_commands.specs.Judged.{HandedOnOnce, PutsUntil}
+use Rattle.pb_commands.specs.Judged.{PutsUntil}
 use Rattle.pb_commands.specs.declared.fault.Fault.{Fault}
 use Rattle.pb_commands.specs.declared.fault.Fault.TheVariants as fault
 use Rattle.pb_collecting.specs.CollectRun.{JudgesTable, RefusesTold}
 use Rattle.pb_collecting.specs.JournalRun.{EndsJournaled, JournalsOrEnds, at_book, at_journal, at_submissions, at_table}
 use Rattle.pb_collecting.specs.JournalTold.{HasHeadlineOfJournal, Outlives, Survives}
+use Rattle.pb_collecting.specs.Runs.{JournalRun}
 use Rattle.pb_collecting.proofs.CollectRuns.{tells_refused}
 use Rattle.pb_collecting.proofs.JournalHeadlines.{has_headline}
+use Rattle.pb_collecting.proofs.JournalLemmas.{journal_from}
 use Rattle.pb_collecting.proofs.JournalSurvives.{stream_survives, until_survives}
 
 module _ (rules : CountingRules) (fills : ℕ) (t t' v v' s s' : SourceState) (j j' sink sink' : SinkState) where
@@ -57,16 +59,21 @@ module _ (rules : CountingRules) (fills : ℕ) (t t' v v' s s' : SourceState) (j
   abbrev Ends : Result (Option (List Entry)) Fault → Type 0
   Ends = JournalsOrEnds rules fills t t' v v' s s' j j' sink sink'
 
-  pub told : (result : Result (Option (List Entry)) Fault) → Ends result → IfOk result (λ answer. IfNone answer (RefusesTold t.to_come sink sink'))
-  told (Ok (Some entries)) h = tt
-  told (Ok None) h = tells_refused rules fills t t' s s' sink sink' h.0.refused
-  told (Err fault) h = tt
+  abbrev Tells : Result (Option (List Entry)) Fault → Type 0
+  Tells result = IfOk result (λ answer. IfNone answer (RefusesTold t.to_come sink sink'))
 
-  pub headline : (result : Result (Option (List Entry)) Fault) → Ends result
-      → IfOk result (λ answer. IfSome answer (HasHeadlineOfJournal rules t.to_come v.to_come s.to_come j j' sink sink'))
-  headline (Ok (Some entries)) h = has_headline rules fills t t' v v' s s' j j' sink sink' entries h.1 h.2 h.0
-  headline (Ok None) h = tt
-  headline (Err fault) h = tt
+  abbrev Heads : Result (Option (List Entry)) Fault → Type 0
+  Heads result = IfOk result (λ answer. IfSome answer (HasHeadlineOfJournal rules t.to_come v.to_come s.to_come j j' sink sink'))
+
+  ends_told : (result : Result (Option (List Entry)) Fault) → Ends result → Tells result
+  ends_told (Ok (Some entries)) h = tt
+  ends_told (Ok None) h = tells_refused rules fills t t' s s' sink sink' h.0.refused
+  ends_told (Err fault) h = tt
+
+  ends_headed : (result : Result (Option (List Entry)) Fault) → Ends result → Heads result
+  ends_headed (Ok (Some entries)) h = has_headline rules fills t t' v v' s s' j j' sink sink' entries h.1 h.2 h.0
+  ends_headed (Ok None) h = tt
+  ends_headed (Err fault) h = tt
 
   is_safe : (result : Result (Option (List Entry)) Fault) → Ends result → Unless IsSafe
   is_safe (Ok (Some entries)) h =
@@ -75,13 +82,18 @@ module _ (rules : CountingRules) (fills : ℕ) (t t' v v' s s' : SourceState) (j
   is_safe (Ok None) h = inl h.0.refused.judged.unread
   is_safe (Err fault) h = ends_safe fault h
 
-  pub survives : (result : Result (Option (List Entry)) Fault) → Ends result → Unless (λ bytes. Survives bytes s.to_come j j' sink sink')
-  survives result h = weaker _ (λ bytes safe. safe.0) (is_safe result h)
+  module _ (result : Result (Option (List Entry)) Fault) (run : JournalRun rules fills t t' v v' s s' j j' sink sink' result) where
+    abbrev ends : Ends result
+    ends = journal_from rules fills t t' v v' s s' j j' sink sink' result run
 
-  pub outlives : (result : Result (Option (List Entry)) Fault) → Ends result → AllLasts j → Unless (λ bytes. Outlives bytes s.to_come j j' sink sink')
-  outlives result h all = weaker _ (λ bytes safe. safe.1 all) (is_safe result h)
+    pub told : Tells result
+    told = ends_told result ends
 
-  pub handed_on : (result : Result (Option (List Entry)) Fault) → Ends result → OnOk result (HandedOnOnce sink sink')
-  handed_on (Ok (Some entries)) h = let stream = h.0.collects.0 in (stream.1, stream.2)
-  handed_on (Ok None) h = h.1
-  handed_on (Err fault) h = tt
+    pub headline : Heads result
+    headline = ends_headed result ends
+
+    pub survives : Unless (λ bytes. Survives bytes s.to_come j j' sink sink')
+    survives = weaker _ (λ bytes safe. safe.0) (is_safe result ends)
+
+    pub outlives : AllLasts j → Unless (λ bytes. Outlives bytes s.to_come j j' sink sink')
+    outlives all = weaker _ (λ bytes safe. safe.1 all) (is_safe result ends)

@@ -1,9 +1,8 @@
 -- What the clauses of the command `collect` with the place of its book say, from how its run ends.
 use Rattle.std.proofs.Common.{◌≡◌, ℕ, Bool, Result, Ok, Err, false, true}
-use Rattle.std.specs.Prelude.{IfErr, IfOk, OnOk}
+use Rattle.std.specs.Prelude.{IfErr, IfOk}
 use Rattle.pb_io.specs.Source.{SourceState}
 use Rattle.pb_io.specs.Sink.{SinkState}
-use Rattle.pb_commands.specs.Judged.{HandedOnOnce}
 use Rattle.pb_collecting.specs.Keeping.{EndsKeeping, KeepsBook, KeepsOrEnds, RefusesBook}
 use Rattle.pb_collecting.specs.Place.{PlaceState}
 use Rattle.pb_accepted.specs.Rules.{CountingRules}
@@ -14,19 +13,14 @@ module _ (rules : CountingRules) (fills : ℕ) (t t' s s' : SourceState) (sink s
   Ends = KeepsOrEnds rules fills t t' s s' sink sink' place place'
 
   pub kept : (result : Result Bool NoBook) → Ends result → IfOk result (λ kept. kept ≡ true → KeepsBook rules fills t t' s s' sink sink' place place' (Ok tt))
-  kept (Ok true) h = λ is. h.0
+  kept (Ok true) h = λ is. h
   kept (Ok false) h = λ is. absurd (cc is)
   kept (Err why) h = tt
 
   pub refused : (result : Result Bool NoBook) → Ends result → IfOk result (λ kept. kept ≡ false → RefusesBook rules fills t t' s s' sink sink' place place')
   refused (Ok true) h = λ is. absurd (cc is)
-  refused (Ok false) h = λ is. h.0
+  refused (Ok false) h = λ is. h
   refused (Err why) h = tt
-
-  pub handed_on : (result : Result Bool NoBook) → Ends result → OnOk result (HandedOnOnce sink sink')
-  handed_on (Ok true) h = h.1
-  handed_on (Ok false) h = h.1
-  handed_on (Err why) h = tt
 
   pub ends : (result : Result Bool NoBook) → Ends result → IfErr result (EndsKeeping rules fills t t' s s' sink sink' place place')
   ends (Ok kept) h = tt

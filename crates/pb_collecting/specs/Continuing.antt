@@ -86,12 +86,6 @@ abbrev pub GoesOn : ℕ → SourceState → SourceState → SinkState → SinkSt
 GoesOn fills s s' sink sink' loaded left (Ok entries) = Continues fills s s' sink sink' loaded left (Ok entries) × NeverFall entries × All IsEntry entries
 GoesOn fills s s' sink sink' loaded left (Err fault) = Continues fills s s' sink sink' loaded left (Err fault)
 
--- the saved ledger was loaded, and the run went on from there to this ledger and this book
-pub record RunsOn (rules : CountingRules) (fills : ℕ) (t t' v v' s s' : SourceState) (sink sink' : SinkState) (left : LedgerState) (book : Result (List Entry) Fault) : Type 0 where
-  pub loaded : LedgerState
-  pub first : LoadsFirst rules fills t t' v v' loaded
-  pub continues : Continues fills s s' sink sink' loaded left book
-
 -- how a run ends: it went on, the line that refuses the table or the saved ledger was put, or a fault came before a submission was read
 abbrev pub ContinuesOrEnds : CountingRules → ℕ → SourceState → SourceState → SourceState → SourceState → SourceState → SourceState → SinkState → SinkState → Result (Option Continued) Fault → Type 0
 ContinuesOrEnds rules fills t t' v v' s s' sink sink' (Ok (Some run)) =

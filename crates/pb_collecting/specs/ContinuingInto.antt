@@ -1,7 +1,7 @@
 -- What a run that goes on from a saved ledger leaves at the places of its ledger and of its book, over the states of its ends before and
 -- after. Below, `t`, `v` and `s` are the states of the sources of the table, of the saved ledger and of the submissions, `p` that of the
 -- ledger's place and `q` that of the book's.
-use Rattle.std.specs.Prelude.{◌≡◌, ℕ, ◌⊎◌, Bool, true, false, List, Result, Ok, Err, IfOk}
+use Rattle.std.specs.Prelude.{◌≡◌, ℕ, ◌⊎◌, Bool, true, false, List, Some, None, Result, Ok, Err, IfOk}
 use Rattle.pb_io.specs.Source.{SourceState}
 use Rattle.pb_io.specs.Sink.{SinkState}
 use Rattle.pb_poly.specs.Book.{book_bytes}
@@ -9,20 +9,19 @@ use Rattle.pb_poly.specs.declared.entry.Entry.{Entry}
 use Rattle.pb_accepted.specs.Ledger.{LedgerState}
 use Rattle.pb_accepted.specs.Rules.{CountingRules}
 use Rattle.pb_saved.specs.Saving.{Saved}
-use Rattle.pb_commands.specs.Judged.{HandedOnOnce, PutsText, PutsUntil}
 use Rattle.pb_commands.specs.declared.fault.Fault.{Fault}
-use Rattle.pb_collecting.specs.Continuing.{JudgesSaved, RunsOn}
 use Rattle.pb_collecting.specs.ContinuingTold.{HasHeadlineOfBoth}
 use Rattle.pb_collecting.specs.Place.{Keeps, PlaceState}
+use Rattle.pb_collecting.specs.Runs.{ContinueRun}
 use Rattle.pb_collecting.specs.declared.place.NotKept.{NotKept}
 use Rattle.pb_collecting.specs.declared.continuing_into.NotContinued.{NotContinued}
 use Rattle.pb_collecting.specs.declared.continuing_into.NotContinued.TheVariants.{Run, Ledger, Book}
 
--- the run went on to this book, for sources that tell their bytes with all that the theorem says, or to this fault, and its ledger was
+-- a run ends with this book, for sources that tell their bytes with all that the theorem says, or with this fault, and its ledger was
 -- kept with this answer
 pub record KeepsLedger (rules : CountingRules) (fills : ℕ) (t t' v v' s s' : SourceState) (sink sink' : SinkState) (p p' : PlaceState) (book : Result (List Entry) Fault) (answer : Result (Unit {0}) NotKept) : Type 0 where
   pub left : LedgerState
-  pub run : RunsOn rules fills t t' v v' s s' sink sink' left book
+  pub run : ContinueRun rules fills t t' v v' s s' sink sink' (Ok (Some (record { ledger = left; book = book })))
   pub headline : IfOk book (HasHeadlineOfBoth rules t.to_come v.to_come s.to_come sink sink' left)
   pub bytes : List ℕ
   pub saved : Saved left.accepted bytes
@@ -34,9 +33,9 @@ abbrev pub KeepsOrStops : CountingRules → ℕ → SourceState → SourceState 
 KeepsOrStops rules fills t t' v v' s s' sink sink' p p' q q' (Ok true) =
     (entries : List Entry) × KeepsLedger rules fills t t' v v' s s' sink sink' p p' (Ok entries) (Ok tt) × Keeps q q' (Ok tt) (book_bytes entries)
 KeepsOrStops rules fills t t' v v' s s' sink sink' p p' q q' (Ok false) =
-    PutsText (JudgesSaved rules fills t t' v v' s s') sink sink' false × HandedOnOnce sink sink' × (p' ≡ p) × (q' ≡ q)
+    ContinueRun rules fills t t' v v' s s' sink sink' (Ok None) × (p' ≡ p) × (q' ≡ q)
 KeepsOrStops rules fills t t' v v' s s' sink sink' p p' q q' (Err (Run fault)) =
-    (PutsUntil (JudgesSaved rules fills t t' v v' s s') sink sink' fault × (p' ≡ p) × (q' ≡ q))
+    (ContinueRun rules fills t t' v v' s s' sink sink' (Err fault) × (p' ≡ p) × (q' ≡ q))
     ⊎ ((answer : Result (Unit {0}) NotKept) × KeepsLedger rules fills t t' v v' s s' sink sink' p p' (Err fault) answer × (q' ≡ q))
 KeepsOrStops rules fills t t' v v' s s' sink sink' p p' q q' (Err (Ledger why)) =
     (entries : List Entry) × KeepsLedger rules fills t t' v v' s s' sink sink' p p' (Ok entries) (Err why) × (q' ≡ q)

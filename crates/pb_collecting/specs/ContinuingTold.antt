@@ -1,9 +1,8 @@
 -- What a run of the command `collect` does that goes on from a saved ledger, of sources that tell their bytes: a table file, the saved
 -- ledger and the submissions. A list is counted from 0.
-use Rattle.std.specs.Prelude.{◌≡◌, ℕ, false, List, [], ◌++◌, Option, Some, None, Ok, IfSome, OnOk}
+use Rattle.std.specs.Prelude.{◌≡◌, ℕ, false, List, [], ◌++◌, Option, Ok, IfSome}
 use Rattle.std.specs.Io.KnownBytes.{Appends}
 use Rattle.pb_io.specs.Sink.{SinkState}
-use Rattle.pb_commands.specs.Judged.{HandedOnOnce}
 use Rattle.pb_io.specs.Lines.{lines}
 use Rattle.pb_poly.specs.Table.{IsTableFile}
 use Rattle.pb_poly.specs.declared.entry.Entry.{Entry}
@@ -21,7 +20,6 @@ use Rattle.pb_commands.specs.TableJudged.{TableRefused}
 use Rattle.pb_collecting.specs.Continuing.{saved_verdict}
 use Rattle.pb_collecting.specs.Headline.{Effect}
 use Rattle.pb_collecting.specs.Taking.{ledger_of}
-use Rattle.pb_collecting.specs.declared.continuing.Continued.{Continued}
 
 -- ---- the run went on to a book
 
@@ -73,10 +71,3 @@ pub record RefusesEither (file saved : Option (List ℕ)) (sink sink' : SinkStat
   pub out : List ℕ
   pub refused : IfSome file (λ f. EitherRefused f saved out)
   pub put : Appends sink.bytes sink'.bytes out
-
--- ---- what the answer says
-
--- where no fault came, all that was put was handed on, at the end and not before
-abbrev pub HandsOn : SinkState → SinkState → Option Continued → Type 0
-HandsOn sink sink' (Some run) = OnOk run.book (HandedOnOnce sink sink')
-HandsOn sink sink' None = HandedOnOnce sink sink'

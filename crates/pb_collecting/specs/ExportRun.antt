@@ -14,20 +14,13 @@ use Rattle.pb_commands.specs.declared.fault.Fault.TheVariants.{Write, Memory}
 use Rattle.pb_commands.specs.Judged.{HandedOnOnce, PutsText, PutsUntil}
 use Rattle.pb_collecting.specs.CollectRun.{JudgesTable}
 use Rattle.pb_accepted.specs.Rules.{CountingRules}
-use Rattle.pb_collecting.specs.Taking.{CollectsGames, StopsTaking, TakesGames, fault_of, ledger_of}
+use Rattle.pb_collecting.specs.Taking.{CollectsGames, StopsTaking, fault_of, ledger_of}
 
 -- the lines of the export of these games, under the table of these words, were put
 pub record PutsExport (rules : CountingRules) (sink sink' : SinkState) (words : List ℕ) (held : List Submission) : Type 0 where
   pub lines : List (List ℕ)
   pub are : ExportLines (record { words = words; rules = rules }) held lines
   pub put : Appends sink.bytes sink'.bytes (text_of_lines lines)
-
--- the table was read and all submissions were taken, and the export of the games that are held was put
-pub record ExportsGames (rules : CountingRules) (fills : ℕ) (t t' s s' : SourceState) (sink sink' : SinkState) : Type 0 where
-  pub words : List ℕ
-  pub held : List Submission
-  pub takes : TakesGames fills t t' s s' words held
-  pub puts : PutsExport rules sink sink' words held
 
 -- what a fault of exporting is to the run
 abbrev pub fault_of_export : ExportFault → Fault
@@ -66,13 +59,6 @@ abbrev pub ExportsOrStops : CountingRules → ℕ → SourceState → SourceStat
 ExportsOrStops rules fills t t' s s' d d' sink sink' (Ok true) = ExportsAnswered rules fills t t' s s' d d' sink sink'
 ExportsOrStops rules fills t t' s s' d d' sink sink' (Ok false) = RefusesExport fills t t' s s' d d' sink sink'
 ExportsOrStops rules fills t t' s s' d d' sink sink' (Err fault) = StopsExport rules fills t t' s s' d d' sink sink' fault
-
--- how a run ends with a fault whose replies are dropped, by a sink that doesn't fail
-pub record EndsExport (rules : CountingRules) (fills : ℕ) (t t' s s' : SourceState) (sink sink' : SinkState) (fault : Fault) : Type 0 where
-  pub dropped : SinkState
-  pub dropped' : SinkState
-  pub stops : StopsExport rules fills t t' s s' dropped dropped' sink sink' fault
-  pub works : dropped'.failed ≡ false
 
 -- a write fault comes only from a sink that has failed, and where the sink has failed since, no other fault does
 pub record BlamesSink (sink sink' : SinkState) (fault : Fault) : Type 0 where

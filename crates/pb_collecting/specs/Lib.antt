@@ -11,4 +11,5 @@ pub mod Keeping
 pub mod Laws
 pub mod OneText
 pub mod Place
+pub mod Runs
 pub mod Taking

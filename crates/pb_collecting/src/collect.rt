@@ -1,11 +1,11 @@
 //! The command `collect`: submissions are answered, and the book of the games that are held then is made.
-ghost use Rattle.std.specs.Prelude.{ℕ, IfErr, IfNone, IfOk, IfSome, OnOk, false};
+ghost use Rattle.std.specs.Prelude.{ℕ, IfNone, IfOk, IfSome};
 ghost use Rattle.pb_io.specs.Source.{SourceState};
 ghost use Rattle.pb_io.specs.Sink.{SinkState};
 ghost use Rattle.pb_accepted.specs.Rules.{CountingRules};
-ghost use Rattle.pb_commands.specs.Judged.{HandedOnOnce, PutsText};
-ghost use Rattle.pb_collecting.specs.CollectRun.{CollectsOrEnds, CollectsBook, EndsCollect, JudgesTable, RefusesTold};
+ghost use Rattle.pb_collecting.specs.CollectRun.{RefusesTold};
 ghost use Rattle.pb_collecting.specs.Headline.{HasHeadline};
+ghost use Rattle.pb_collecting.specs.Runs.{CollectRun};
 ghost use Rattle.pb_collecting.specs.Taking.{FillsLedger};
 
 use crate::taking::{refuse_games, take_games};
@@ -33,28 +33,25 @@ pub fn run_collect<T: Source, S: Source, K: Sink>(
     sink: &mut K,
     fills: u32,
 ) -> Result<Option<Book>, Fault>
-    // The table was read, all submissions were taken and answered, and this is the book of the games that are held.
-    ensures book { IfOk result (λ answer. IfSome answer (CollectsBook rules fills (T.state table_source.old) (T.state table_source.new)
-        (S.state source.old) (S.state source.new) (K.state sink.old) (K.state sink.new))) }
-    // The line that says why the table is refused was put.
-    ensures refused { IfOk result (λ answer. IfNone answer (PutsText
-        (JudgesTable fills (T.state table_source.old) (T.state table_source.new) (S.state source.old) (S.state source.new))
-        (K.state sink.old) (K.state sink.new) false)) }
-    // Of a source that tells its bytes, it is the line that refuses the table file of all bytes that were to come.
-    ensures told { IfOk result (λ answer. IfNone answer (RefusesTold (T.state table_source.old).to_come (K.state sink.old) (K.state sink.new))) }
-    // All that is promised of sources that tell their bytes: which lines are accepted, that each game counts once, and that the book has
-    // one text.
-    ensures headline { IfOk result (λ answer. IfSome answer (HasHeadline rules (T.state table_source.old).to_come (S.state source.old).to_come
+    // The table was read, all submissions were taken and answered, and this is the book of the games
+    // that are held; or the line was put that refuses the table; or this was done before the fault.
+    ensures ends { CollectRun rules fills
+        (T.state table_source.old) (T.state table_source.new) (S.state source.old) (S.state source.new)
+        (K.state sink.old) (K.state sink.new) result }
+    // Of a source that tells its bytes, it is the line that refuses the table file of all bytes that
+    // were to come.
+    ensures told { IfOk result (λ answer. IfNone answer (RefusesTold
+        (T.state table_source.old).to_come (K.state sink.old) (K.state sink.new))) }
+    // All that is promised of sources that tell their bytes: which lines are accepted, that each game
+    // counts once, and that the book has one text.
+    ensures headline { IfOk result (λ answer. IfSome answer (HasHeadline rules
+        (T.state table_source.old).to_come (S.state source.old).to_come
         (K.state sink.old) (K.state sink.new))) }
-    ensures handed_on { OnOk result (HandedOnOnce (K.state sink.old) (K.state sink.new)) }
-    // What was done before a fault, and where the fault lies.
-    ensures fault { IfErr result (EndsCollect rules fills (T.state table_source.old) (T.state table_source.new)
-        (S.state source.old) (S.state source.new) (K.state sink.old) (K.state sink.new)) }
 {
     collect_submissions(alloc, rules, table_source, source, sink, fills)
 }
 
-/// The same, told in one clause.
+/// The same, of which one clause says how it ends.
 pub(crate) fn collect_submissions<T: Source, S: Source, K: Sink>(
     alloc: Global,
     rules: Rules,
@@ -63,7 +60,8 @@ pub(crate) fn collect_submissions<T: Source, S: Source, K: Sink>(
     sink: &mut K,
     fills: u32,
 ) -> Result<Option<Book>, Fault>
-    ensures { CollectsOrEnds rules fills (T.state table_source.old) (T.state table_source.new) (S.state source.old) (S.state source.new)
+    ensures { CollectRun rules fills
+        (T.state table_source.old) (T.state table_source.new) (S.state source.old) (S.state source.new)
         (K.state sink.old) (K.state sink.new) result }
 {
     match take_games(alloc, rules, table_source, source, sink, fills) {
@@ -79,7 +77,8 @@ pub(crate) fn collect_submissions<T: Source, S: Source, K: Sink>(
 fn book_of(alloc: Global, ledger: &Ledger<MapTally>) -> Result<Option<Book>, Fault>
     // Whatever submissions were taken, the run ends so.
     ensures { (rules : CountingRules) (fills : ℕ) (t t' s s' : SourceState) (sink sink' : SinkState)
-        → FillsLedger rules fills t t' s s' sink sink' ledger.now → CollectsOrEnds rules fills t t' s s' sink sink' result }
+        → FillsLedger rules fills t t' s s' sink sink' ledger.now
+        → CollectRun rules fills t t' s s' sink sink' result }
 {
     let Ok(book) = ledger.make_book(alloc) else {
         return Err(Fault::Memory);

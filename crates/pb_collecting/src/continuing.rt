@@ -1,9 +1,10 @@
 //! The command `collect` that goes on from a saved ledger.
 
-ghost use Rattle.std.specs.Prelude.{◌≡◌, IfErr, IfNone, IfOk, IfSome, false};
-ghost use Rattle.pb_commands.specs.Judged.{PutsOrEnds, PutsText, PutsUntil};
-ghost use Rattle.pb_collecting.specs.Continuing.{ContinuesOrEnds, GoesOn, JudgesSaved, LoadsOrStops, RunsOn, saved_verdict, verdict_of};
-ghost use Rattle.pb_collecting.specs.ContinuingTold.{HandsOn, HasHeadlineOfBoth, RefusesEither};
+ghost use Rattle.std.specs.Prelude.{◌≡◌, IfNone, IfOk, IfSome};
+ghost use Rattle.pb_commands.specs.Judged.{PutsOrEnds};
+ghost use Rattle.pb_collecting.specs.Continuing.{GoesOn, LoadsOrStops, saved_verdict, verdict_of};
+ghost use Rattle.pb_collecting.specs.ContinuingTold.{HasHeadlineOfBoth, RefusesEither};
+ghost use Rattle.pb_collecting.specs.Runs.{ContinueRun};
 
 use crate::taking::{collect_fault, empty_ledger};
 use pb_commands::{Fault, TableFault, refuse_table, refuse_with};
@@ -29,16 +30,18 @@ enum NoLedger {
     Saved(LoadError),
 }
 
-/// Goes on from a saved ledger: its games are held from the start, submission lines are taken, the reply to each is put, and the opening
-/// book of all games that are held at the end is made, at most 1,000,000, by the rules as in `run_collect`. The table of words that keys
-/// are made of is read first, then the saved ledger. Where the table is refused, `refused table` and `long`, `line` or `count` is put, and
-/// where the saved ledger is, `refused ledger line` and the number of its first line that is refused, or that brings no new game after the
-/// header; then no submission is read, and the answer is None.
+/// Goes on from a saved ledger: its games are held from the start, submission lines are taken, the
+/// reply to each is put, and the opening book of all games that are held at the end is made, at most
+/// 1,000,000, by the rules as in `run_collect`. The table of words that keys are made of is read first,
+/// then the saved ledger. Where the table is refused, `refused table` and `long`, `line` or `count` is
+/// put, and where the saved ledger is, `refused ledger line` and the number of its first line that is
+/// refused, or that brings no new game after the header; then no submission is read, and the answer is
+/// None.
 ///
 /// # Errors
 ///
-/// A fault of the table or of the saved ledger, or in telling that one is refused; no submission was read then. A fault that comes later
-/// stands in `book`, beside the games that were taken.
+/// A fault of the table or of the saved ledger, or in telling that one is refused; no submission was
+/// read then. A fault that comes later stands in `book`, beside the games that were taken.
 pub fn run_continue<T: Source, V: Source, S: Source, K: Sink>(
     alloc: Global,
     rules: Rules,
@@ -48,31 +51,27 @@ pub fn run_continue<T: Source, V: Source, S: Source, K: Sink>(
     sink: &mut K,
     fills: u32,
 ) -> Result<Option<Continued>, Fault>
-    // The table was read, the saved ledger was loaded, and the submissions were taken from there.
-    ensures continued { IfOk result (λ answer. IfSome answer (λ run. RunsOn rules fills (T.state table_source.old) (T.state table_source.new)
-        (V.state saved.old) (V.state saved.new) (S.state source.old) (S.state source.new) (K.state sink.old) (K.state sink.new) run.ledger run.book)) }
-    // The line that says why the table or the saved ledger is refused was put, and no submission was read.
-    ensures refused { IfOk result (λ answer. IfNone answer (PutsText
-        (JudgesSaved rules fills (T.state table_source.old) (T.state table_source.new) (V.state saved.old) (V.state saved.new) (S.state source.old) (S.state source.new))
-        (K.state sink.old) (K.state sink.new) false)) }
-    // Of sources that tell their bytes, it is the line that refuses the table file or the saved ledger of all bytes that were to come.
-    ensures told { IfOk result (λ answer. IfNone answer (RefusesEither (T.state table_source.old).to_come (V.state saved.old).to_come
+    // The table was read, the saved ledger was loaded, and the submissions were taken from there, which
+    // left this ledger and its book, or the fault that came then; or the line was put that refuses the
+    // table or the saved ledger, or there was a fault, and no submission was read.
+    ensures ends { ContinueRun rules fills
+        (T.state table_source.old) (T.state table_source.new) (V.state saved.old) (V.state saved.new)
+        (S.state source.old) (S.state source.new) (K.state sink.old) (K.state sink.new) result }
+    // Of sources that tell their bytes, it is the line that refuses the table file or the saved ledger
+    // of all bytes that were to come.
+    ensures told { IfOk result (λ answer. IfNone answer (RefusesEither
+        (T.state table_source.old).to_come (V.state saved.old).to_come
         (K.state sink.old) (K.state sink.new))) }
-    // Of sources that tell their bytes, the games of the saved ledger were held first. Whatever run left them, the book is that of the games
-    // that were accepted in both runs, each of them once.
-    ensures headline { IfOk result (λ answer. IfSome answer (λ run. IfOk run.book (HasHeadlineOfBoth rules (T.state table_source.old).to_come
-        (V.state saved.old).to_come (S.state source.old).to_come (K.state sink.old) (K.state sink.new) run.ledger))) }
-    // All that was put was handed on, at the end and not before, where no fault came.
-    ensures handed_on { IfOk result (HandsOn (K.state sink.old) (K.state sink.new)) }
-    // No submission was read where a fault came before.
-    ensures fault { IfErr result (PutsUntil
-        (JudgesSaved rules fills (T.state table_source.old) (T.state table_source.new) (V.state saved.old) (V.state saved.new) (S.state source.old) (S.state source.new))
-        (K.state sink.old) (K.state sink.new)) }
+    // Of sources that tell their bytes, the games of the saved ledger were held first. Whatever run left
+    // them, the book is that of the games that were accepted in both runs, each of them once.
+    ensures headline { IfOk result (λ answer. IfSome answer (λ run. IfOk run.book (HasHeadlineOfBoth rules
+        (T.state table_source.old).to_come (V.state saved.old).to_come (S.state source.old).to_come
+        (K.state sink.old) (K.state sink.new) run.ledger))) }
 {
     continue_from(alloc, rules, table_source, saved, source, sink, fills)
 }
 
-/// The same, told in one clause.
+/// The same, of which one clause says how it ends.
 fn continue_from<T: Source, V: Source, S: Source, K: Sink>(
     alloc: Global,
     rules: Rules,
@@ -82,7 +81,8 @@ fn continue_from<T: Source, V: Source, S: Source, K: Sink>(
     sink: &mut K,
     fills: u32,
 ) -> Result<Option<Continued>, Fault>
-    ensures { ContinuesOrEnds rules fills (T.state table_source.old) (T.state table_source.new) (V.state saved.old) (V.state saved.new)
+    ensures { ContinueRun rules fills
+        (T.state table_source.old) (T.state table_source.new) (V.state saved.old) (V.state saved.new)
         (S.state source.old) (S.state source.new) (K.state sink.old) (K.state sink.new) result }
 {
     let mut ledger = match load_games(alloc, rules, table_source, saved, fills) {

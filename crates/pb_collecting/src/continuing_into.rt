@@ -1,12 +1,12 @@
 //! The command `collect` that goes on from a saved ledger, up to the places where the ledger and its book are kept.
 
-ghost use Rattle.std.specs.Prelude.{ℕ, IfOk};
+ghost use Rattle.std.specs.Prelude.{ℕ, IfOk, Ok, Some};
 ghost use Rattle.pb_io.specs.Source.{SourceState};
 ghost use Rattle.pb_io.specs.Sink.{SinkState};
 ghost use Rattle.pb_accepted.specs.Rules.{CountingRules};
-ghost use Rattle.pb_collecting.specs.Continuing.{RunsOn};
 ghost use Rattle.pb_collecting.specs.ContinuingInto.{KeepsOrStops};
 ghost use Rattle.pb_collecting.specs.ContinuingTold.{HasHeadlineOfBoth};
+ghost use Rattle.pb_collecting.specs.Runs.{ContinueRun};
 
 use crate::continuing::{Continued, run_continue};
 use crate::place::{NotKept, Place};
@@ -68,7 +68,7 @@ fn keep_run<P: Place, Q: Place>(
 ) -> Result<bool, NotContinued>
     // Whatever sources the run read, it ends so.
     ensures { (rules : CountingRules) (fills : ℕ) (t t' v v' s s' : SourceState) (sink sink' : SinkState)
-        → RunsOn rules fills t t' v v' s s' sink sink' run.now.ledger run.now.book
+        → ContinueRun rules fills t t' v v' s s' sink sink' (Ok (Some run.now))
         → IfOk run.now.book (HasHeadlineOfBoth rules t.to_come v.to_come s.to_come sink sink' run.now.ledger)
         → KeepsOrStops rules fills t t' v v' s s' sink sink' (P.state ledger_place.old) (P.state ledger_place.new)
         (Q.state book_place.old) (Q.state book_place.new) result }

@@ -1,11 +1,11 @@
 //! The command `export`: the book of submissions as EPD lines.
-ghost use Rattle.std.specs.Prelude.{◌≡◌, ℕ, IfErr, IfOk, None, OnOk, false, true};
+ghost use Rattle.std.specs.Prelude.{◌≡◌, ℕ, IfErr, IfOk, None, false};
 ghost use Rattle.pb_io.specs.Source.{SourceState};
 ghost use Rattle.pb_io.specs.Sink.{SinkState};
 ghost use Rattle.pb_accepted.specs.Rules.{CountingRules};
-ghost use Rattle.pb_commands.specs.Judged.{HandedOnOnce, PutsText};
-ghost use Rattle.pb_collecting.specs.CollectRun.{JudgesTable, RefusesTold};
-ghost use Rattle.pb_collecting.specs.ExportRun.{BlamesSink, EndsExport, ExportsOrStops, ExportsGames, fault_of_export};
+ghost use Rattle.pb_collecting.specs.CollectRun.{RefusesTold};
+ghost use Rattle.pb_collecting.specs.ExportRun.{BlamesSink, fault_of_export};
+ghost use Rattle.pb_collecting.specs.Runs.{ExportRun, SilentExportRun};
 ghost use Rattle.pb_collecting.specs.Taking.{FillsLedger};
 
 use crate::taking::{refuse_games, take_games};
@@ -50,16 +50,17 @@ fn export_fault(fault: ExportFault) -> Fault
     }
 }
 
-/// Takes submission lines and puts the opening book of the games that are held at the end, at most 1,000,000, as EPD lines: for
-/// each setup before a move of a game, also past the plies that count by the rules, the moves that the book has for it, each with its
-/// weight. Replies are dropped. The table of
-/// words that keys are made of is read first. Where it is refused, `refused table` and `long`, `line` or `count` is put, no
-/// submission is read, and the answer is false.
+/// Takes submission lines and puts the opening book of the games that are held at the end, at most
+/// 1,000,000, as EPD lines: for each setup before a move of a game, also past the plies that count by
+/// the rules, the moves that the book has for it, each with its weight. Replies are dropped. The table
+/// of words that keys are made of is read first. Where it is refused, `refused table` and `long`,
+/// `line` or `count` is put, no submission is read, and the answer is false.
 ///
 /// # Errors
 ///
-/// `Memory` comes where a growth of the ledger's or the export's own found no memory; a submission that wants memory is refused.
-/// Nothing is put before all submissions were taken, so a fault of theirs leaves the sink alone.
+/// `Memory` comes where a growth of the ledger's or the export's own found no memory; a submission
+/// that wants memory is refused. Nothing is put before all submissions were taken, so a fault of theirs
+/// leaves the sink alone.
 pub fn run_export<T: Source, S: Source, K: Sink>(
     alloc: Global,
     rules: Rules,
@@ -68,21 +69,16 @@ pub fn run_export<T: Source, S: Source, K: Sink>(
     sink: &mut K,
     fills: u32,
 ) -> Result<bool, Fault>
-    // Where the answer is true, the table was read, all submissions were taken, of sources that tell their bytes all that were to come, and
-    // the export of the games that are held was put.
-    ensures lines { IfOk result (λ done. done ≡ true → ExportsGames rules fills (T.state table_source.old) (T.state table_source.new)
-        (S.state source.old) (S.state source.new) (K.state sink.old) (K.state sink.new)) }
-    // Where it is false, the line that says why the table is refused was put.
-    ensures refused { IfOk result (λ done. done ≡ false → PutsText
-        (JudgesTable fills (T.state table_source.old) (T.state table_source.new) (S.state source.old) (S.state source.new))
-        (K.state sink.old) (K.state sink.new) false) }
-    // Of a source that tells its bytes, it is the line that refuses the table file of all bytes that were to come.
-    ensures told { IfOk result (λ done. done ≡ false → RefusesTold (T.state table_source.old).to_come (K.state sink.old) (K.state sink.new)) }
-    // What was put was handed on.
-    ensures handed_on { OnOk result (HandedOnOnce (K.state sink.old) (K.state sink.new)) }
-    // What was done before a fault, and where the fault lies.
-    ensures fault { IfErr result (EndsExport rules fills (T.state table_source.old) (T.state table_source.new)
-        (S.state source.old) (S.state source.new) (K.state sink.old) (K.state sink.new)) }
+    // The table was read, all submissions were taken, and the export of the games that are held was
+    // put, and the answer is true; or the line was put that refuses the table, and it is false; or
+    // this was done before the fault.
+    ensures ends { SilentExportRun rules fills
+        (T.state table_source.old) (T.state table_source.new) (S.state source.old) (S.state source.new)
+        (K.state sink.old) (K.state sink.new) result }
+    // Of a source that tells its bytes, it is the line that refuses the table file of all bytes that
+    // were to come.
+    ensures told { IfOk result (λ done. done ≡ false → RefusesTold
+        (T.state table_source.old).to_come (K.state sink.old) (K.state sink.new)) }
     // The sink is blamed only where it has failed, and always where it has failed since.
     ensures blame { IfErr result (BlamesSink (K.state sink.old) (K.state sink.new)) }
 {
@@ -98,8 +94,8 @@ pub fn run_export<T: Source, S: Source, K: Sink>(
     )
 }
 
-/// The same with a sink for the replies, which are put and handed on before the export. One list of answers is that of the replies and
-/// that by which the games are held whose export is put.
+/// The same with a sink for the replies, which are put and handed on before the export. One list of
+/// answers is that of the replies and that by which the games are held whose export is put.
 ///
 /// # Errors
 ///
@@ -113,7 +109,8 @@ pub fn export_submissions<T: Source, S: Source, D: Sink, K: Sink>(
     sink: &mut K,
     fills: u32,
 ) -> Result<bool, Fault>
-    ensures { ExportsOrStops rules fills (T.state table_source.old) (T.state table_source.new) (S.state source.old) (S.state source.new)
+    ensures { ExportRun rules fills
+        (T.state table_source.old) (T.state table_source.new) (S.state source.old) (S.state source.new)
         (D.state replies.old) (D.state replies.new) (K.state sink.old) (K.state sink.new) result }
 {
     match take_games(alloc, rules, table_source, source, replies, fills) {
@@ -129,8 +126,9 @@ fn export_games<K: Sink>(
     sink: &mut K,
 ) -> Result<bool, Fault>
     // Whatever submissions were taken, the run ends so.
-    ensures { (rules : CountingRules) (fills : ℕ) (t t' s s' : SourceState) (d d' : SinkState) → FillsLedger rules fills t t' s s' d d' ledger.now
-        → ExportsOrStops rules fills t t' s s' d d' (K.state sink.old) (K.state sink.new) result }
+    ensures { (rules : CountingRules) (fills : ℕ) (t t' s s' : SourceState) (d d' : SinkState)
+        → FillsLedger rules fills t t' s s' d d' ledger.now
+        → ExportRun rules fills t t' s s' d d' (K.state sink.old) (K.state sink.new) result }
 {
     match export(alloc, ledger, sink) {
         Ok(_) => Ok(true),

@@ -1,13 +1,18 @@
 //! The command `collect` with a journal.
 
-ghost use Rattle.std.specs.Prelude.{◌≡◌, ◌⊎◌, IfErr, IfNone, IfOk, IfSome, OnOk};
+ghost use Rattle.std.specs.Prelude.{◌≡◌, ◌⊎◌, IfNone, IfOk, IfSome};
 ghost use Rattle.pb_io.specs.Source.{SourceState};
 ghost use Rattle.pb_io.specs.Sink.{AllLasts, SinkState};
 ghost use Rattle.pb_accepted.specs.Rules.{CountingRules};
-ghost use Rattle.pb_commands.specs.Judged.{HandedOnOnce};
 ghost use Rattle.pb_collecting.specs.CollectRun.{RefusesTold};
-ghost use Rattle.pb_collecting.specs.JournalRun.{EndsJournaled, JournalsBook, JournalsOrEnds, RefusesJournaled, ReplaysFirst, ReplaysOrStops, fault_of_journal, fault_of_replay};
+ghost use Rattle.pb_collecting.specs.JournalRun.{
+  ReplaysFirst,
+  ReplaysOrStops,
+  fault_of_journal,
+  fault_of_replay,
+};
 ghost use Rattle.pb_collecting.specs.JournalTold.{HasHeadlineOfJournal, Outlives, Survives};
+ghost use Rattle.pb_collecting.specs.Runs.{JournalRun};
 
 use crate::taking::{collect_fault, empty_ledger};
 use pb_commands::{Fault, TableFault, refuse_table};
@@ -25,21 +30,25 @@ enum NoJournal {
     Replay(ReplayError),
 }
 
-/// Takes submission lines as `run_collect` does, from the games of a journal on, and puts the line of each game that is new on the journal, and
-/// hands it on, before its reply is put: so no game that was answered `ok` is lost, whatever ends the run. The journal is an end that is read
-/// first and one that is written then, as a file opened for both is. Its lines that an LF ended are submitted, and their replies dropped; bytes
-/// after them are a torn line, which is sealed by four TABs and an LF, and is no submission. The book is that of all games that are held at
-/// the end, at most 1,000,000, by the rules as in `run_collect`. The table of words that keys are made of is read before the journal. Where it
-/// is refused, `refused table` and `long`, `line` or `count` is put, nothing else is read or written, and there is no book.
+/// Takes submission lines as `run_collect` does, from the games of a journal on, and puts the line of
+/// each game that is new on the journal, and hands it on, before its reply is put: so no game that was
+/// answered `ok` is lost, whatever ends the run. The journal is an end that is read first and one that
+/// is written then, as a file opened for both is. Its lines that an LF ended are submitted, and their
+/// replies dropped; bytes after them are a torn line, which is sealed by four TABs and an LF, and is no
+/// submission. The book is that of all games that are held at the end, at most 1,000,000, by the rules
+/// as in `run_collect`. The table of words that keys are made of is read before the journal. Where it
+/// is refused, `refused table` and `long`, `line` or `count` is put, nothing else is read or written,
+/// and there is no book.
 ///
 /// `passed` is told the numbers of the journal's lines that are passed over, as by `replay`. No
 /// clause speaks of it: it is for people.
 ///
 /// # Errors
 ///
-/// `Read` and `Endless` come of the table, the journal or the submissions, `Write` of the sink or the journal. A game whose line the journal
-/// didn't take isn't answered. `Memory` comes where a growth of the ledger's or the book's own found no memory, or a game of the journal; a
-/// submission that wants memory is refused in its reply.
+/// `Read` and `Endless` come of the table, the journal or the submissions, `Write` of the sink or the
+/// journal. A game whose line the journal didn't take isn't answered. `Memory` comes where a growth of
+/// the ledger's or the book's own found no memory, or a game of the journal; a submission that wants
+/// memory is refused in its reply.
 pub fn run_journaled<T: Source, V: Source, J: Sink, W: PassedLines, S: Source, K: Sink>(
     alloc: Global,
     rules: Rules,
@@ -51,29 +60,32 @@ pub fn run_journaled<T: Source, V: Source, J: Sink, W: PassedLines, S: Source, K
     sink: &mut K,
     fills: u32,
 ) -> Result<Option<Book>, Fault>
-    // The journal was replayed, all submissions were taken from there, and this is the book of the games that are held.
-    ensures book { IfOk result (λ answer. IfSome answer (JournalsBook rules fills (T.state table_source.old) (T.state table_source.new)
-        (V.state kept.old) (V.state kept.new) (S.state source.old) (S.state source.new)
+    // The table was read, the journal was replayed, all submissions were taken from there, and this is
+    // the book of the games that are held; or the line was put that refuses the table, and neither the
+    // journal nor a submission was read; or this was done before the fault.
+    ensures ends { JournalRun rules fills
+        (T.state table_source.old) (T.state table_source.new) (V.state kept.old) (V.state kept.new)
+        (S.state source.old) (S.state source.new) (J.state journal.old) (J.state journal.new)
+        (K.state sink.old) (K.state sink.new) result }
+    // Of a source that tells its bytes, it is the line that refuses the table file of all bytes that
+    // were to come.
+    ensures told { IfOk result (λ answer. IfNone answer (RefusesTold
+        (T.state table_source.old).to_come (K.state sink.old) (K.state sink.new))) }
+    // Of sources that tell their bytes: the lines of the journal and of the submissions are those of one
+    // run, and this is its effect.
+    ensures headline { IfOk result (λ answer. IfSome answer (HasHeadlineOfJournal rules
+        (T.state table_source.old).to_come (V.state kept.old).to_come (S.state source.old).to_come
         (J.state journal.old) (J.state journal.new) (K.state sink.old) (K.state sink.new))) }
-    // The line that says why the table is refused was put.
-    ensures refused { IfOk result (λ answer. IfNone answer (RefusesJournaled fills (T.state table_source.old) (T.state table_source.new)
-        (V.state kept.old) (V.state kept.new) (S.state source.old) (S.state source.new)
-        (J.state journal.old) (J.state journal.new) (K.state sink.old) (K.state sink.new))) }
-    ensures told { IfOk result (λ answer. IfNone answer (RefusesTold (T.state table_source.old).to_come (K.state sink.old) (K.state sink.new))) }
-    // Of sources that tell their bytes: the lines of the journal and of the submissions are those of one run, and this is its effect.
-    ensures headline { IfOk result (λ answer. IfSome answer (HasHeadlineOfJournal rules (T.state table_source.old).to_come
-        (V.state kept.old).to_come (S.state source.old).to_come (J.state journal.old) (J.state journal.new) (K.state sink.old) (K.state sink.new))) }
-    // No acknowledged game is lost: no submission was read, or the journal holds each game that a reply calls `ok`.
-    ensures survives { (S.state source.new ≡ S.state source.old) ⊎ IfSome (V.state kept.old).to_come (λ bytes.
-        Survives bytes (S.state source.old).to_come (J.state journal.old) (J.state journal.new) (K.state sink.old) (K.state sink.new)) }
+    // No acknowledged game is lost: no submission was read, or the journal holds each game that a reply
+    // calls `ok`.
+    ensures survives { (S.state source.new ≡ S.state source.old) ⊎ IfSome (V.state kept.old).to_come
+        (λ bytes. Survives bytes (S.state source.old).to_come (J.state journal.old) (J.state journal.new)
+        (K.state sink.old) (K.state sink.new)) }
     // Nor by whatever ends the run, where what the journal had before lasts.
-    ensures outlives { AllLasts (J.state journal.old) → (S.state source.new ≡ S.state source.old) ⊎ IfSome (V.state kept.old).to_come (λ bytes.
-        Outlives bytes (S.state source.old).to_come (J.state journal.old) (J.state journal.new) (K.state sink.old) (K.state sink.new)) }
-    ensures handed_on { OnOk result (HandedOnOnce (K.state sink.old) (K.state sink.new)) }
-    // What was done before a fault, and where the fault lies.
-    ensures fault { IfErr result (EndsJournaled rules fills (T.state table_source.old) (T.state table_source.new)
-        (V.state kept.old) (V.state kept.new) (S.state source.old) (S.state source.new)
-        (J.state journal.old) (J.state journal.new) (K.state sink.old) (K.state sink.new)) }
+    ensures outlives { AllLasts (J.state journal.old) → (S.state source.new ≡ S.state source.old)
+        ⊎ IfSome (V.state kept.old).to_come
+        (λ bytes. Outlives bytes (S.state source.old).to_come (J.state journal.old) (J.state journal.new)
+        (K.state sink.old) (K.state sink.new)) }
 {
     journal_submissions(
         alloc,
@@ -88,7 +100,7 @@ pub fn run_journaled<T: Source, V: Source, J: Sink, W: PassedLines, S: Source, K
     )
 }
 
-/// The same, told in one clause.
+/// The same, of which one clause says how it ends.
 fn journal_submissions<T: Source, V: Source, J: Sink, W: PassedLines, S: Source, K: Sink>(
     alloc: Global,
     rules: Rules,
@@ -100,8 +112,10 @@ fn journal_submissions<T: Source, V: Source, J: Sink, W: PassedLines, S: Source,
     sink: &mut K,
     fills: u32,
 ) -> Result<Option<Book>, Fault>
-    ensures { JournalsOrEnds rules fills (T.state table_source.old) (T.state table_source.new) (V.state kept.old) (V.state kept.new)
-        (S.state source.old) (S.state source.new) (J.state journal.old) (J.state journal.new) (K.state sink.old) (K.state sink.new) result }
+    ensures { JournalRun rules fills
+        (T.state table_source.old) (T.state table_source.new) (V.state kept.old) (V.state kept.new)
+        (S.state source.old) (S.state source.new) (J.state journal.old) (J.state journal.new)
+        (K.state sink.old) (K.state sink.new) result }
 {
     match replay_games(alloc, rules, table_source, kept, journal, passed, fills) {
         Ok(mut ledger) => go_on(alloc, &mut ledger, journal, source, sink, fills),
@@ -123,9 +137,10 @@ fn go_on<J: Sink, S: Source, K: Sink>(
     fills: u32,
 ) -> Result<Option<Book>, Fault>
     // Whatever journal was replayed, the run ends so.
-    ensures { (rules : CountingRules) (t t' v v' : SourceState) (j : SinkState) → ReplaysFirst rules fills t t' v v' j (J.state journal.old) ledger.old
-        → JournalsOrEnds rules fills t t' v v' (S.state source.old) (S.state source.new) j (J.state journal.new)
-        (K.state sink.old) (K.state sink.new) result }
+    ensures { (rules : CountingRules) (t t' v v' : SourceState) (j : SinkState)
+        → ReplaysFirst rules fills t t' v v' j (J.state journal.old) ledger.old
+        → JournalRun rules fills t t' v v' (S.state source.old) (S.state source.new)
+        j (J.state journal.new) (K.state sink.old) (K.state sink.new) result }
 {
     if let Err(fault) = collect_journaled(alloc, source, sink, journal, ledger, fills) {
         return Err(journal_fault(fault));

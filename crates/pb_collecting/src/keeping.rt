@@ -1,7 +1,6 @@
 //! The command `collect` up to the place where its book is kept.
 
-ghost use Rattle.std.specs.Prelude.{◌≡◌, IfErr, IfOk, Ok, OnOk, false, true};
-ghost use Rattle.pb_commands.specs.Judged.{HandedOnOnce};
+ghost use Rattle.std.specs.Prelude.{◌≡◌, IfErr, IfOk, Ok, false, true};
 ghost use Rattle.pb_collecting.specs.Keeping.{EndsKeeping, KeepsBook, KeepsOrEnds, RefusesBook};
 
 use crate::collect::collect_submissions;
@@ -46,8 +45,6 @@ pub fn collect_into<T: Source, S: Source, K: Sink, P: Place>(
     // Where it is false, the line that says why the table is refused was put.
     ensures refused { IfOk result (λ kept. kept ≡ false → RefusesBook rules fills (T.state table_source.old) (T.state table_source.new)
         (S.state source.old) (S.state source.new) (K.state sink.old) (K.state sink.new) (P.state place.old) (P.state place.new)) }
-    // What was put was handed on.
-    ensures handed_on { OnOk result (HandedOnOnce (K.state sink.old) (K.state sink.new)) }
     // What was done before a fault, where the fault lies, and what it leaves at the place.
     ensures fault { IfErr result (EndsKeeping rules fills (T.state table_source.old) (T.state table_source.new)
         (S.state source.old) (S.state source.new) (K.state sink.old) (K.state sink.new) (P.state place.old) (P.state place.new)) }

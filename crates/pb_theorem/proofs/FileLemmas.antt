@@ -1,5 +1,5 @@
 -- Reading a table file and a book gives what pb_poly says.
-use Rattle.std.proofs.Common.{ℕ, ◌≡◌, ◌≢◌, List, [], ◌++◌, length, Result, Ok, Err, get_or, arith, refl, sym, subst, inl, inr}
+use Rattle.std.proofs.Common.{ℕ, ◌≡◌, ◌≢◌, List, ◌++◌, length, Result, Ok, Err, get_or, arith, refl, sym, subst, inl, inr}
 use Rattle.std.specs.Prelude.{All}
 use Rattle.pb_io.specs.Lines.{lines}
 use Rattle.pb_io.specs.Reads as reads

@@ -12,5 +12,4 @@ pub mod Book
 pub mod Limits
 pub mod Streams
 pub mod Files
-pub mod Runs
 pub mod Same

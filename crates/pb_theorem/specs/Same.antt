@@ -1,44 +1,12 @@
--- What the words of this crate are to those of the crates below: the theorem and the ends of runs say what theirs do.
-use Rattle.std.specs.Prelude.{◌↔◌, ℕ, Bool, List, Option, Result}
+-- What the words of this crate are to those of the crates below: the theorem says what theirs does.
+use Rattle.std.specs.Prelude.{◌↔◌, ℕ, List, Option}
 use Rattle.pb_io.specs.Sink.{SinkState}
-use Rattle.pb_io.specs.Source.{SourceState}
 use Rattle.pb_poly.specs.declared.entry.Entry.{Entry}
 use Rattle.pb_accepted.specs.Rules.{AreRules, CountingRules}
-use Rattle.pb_commands.specs.declared.fault.Fault.{Fault}
-use Rattle.pb_collecting.specs.CollectRun.{CollectsOrEnds}
-use Rattle.pb_collecting.specs.Continuing.{ContinuesOrEnds}
-use Rattle.pb_collecting.specs.ExportRun.{ExportsOrStops}
 use Rattle.pb_collecting.specs.Headline as collecting
-use Rattle.pb_collecting.specs.JournalRun.{JournalsOrEnds}
-use Rattle.pb_collecting.specs.declared.continuing.Continued.{Continued}
 use Rattle.pb_theorem.specs.Headline as theorem
-use Rattle.pb_theorem.specs.Runs.{CollectRun, ContinueRun, ExportRun, JournalRun}
 
 abbrev pub SameHeadline : Type 0
 SameHeadline = (rules : CountingRules) (file bytes : Option (List ℕ)) (sink sink' : SinkState) (entries : List Entry)
     → AreRules rules
     → theorem.HasHeadline rules file bytes sink sink' entries ↔ collecting.HasHeadline rules file bytes sink sink' entries
-
-abbrev pub SameCollectRun : Type 0
-SameCollectRun = (rules : CountingRules) (fills : ℕ) (t t' s s' : SourceState) (sink sink' : SinkState)
-    (result : Result (Option (List Entry)) Fault)
-    → CollectRun rules fills t t' s s' sink sink' result
-    ↔ CollectsOrEnds rules fills t t' s s' sink sink' result
-
-abbrev pub SameJournalRun : Type 0
-SameJournalRun = (rules : CountingRules) (fills : ℕ) (t t' v v' s s' : SourceState) (j j' sink sink' : SinkState)
-    (result : Result (Option (List Entry)) Fault)
-    → JournalRun rules fills t t' v v' s s' j j' sink sink' result
-    ↔ JournalsOrEnds rules fills t t' v v' s s' j j' sink sink' result
-
-abbrev pub SameContinueRun : Type 0
-SameContinueRun = (rules : CountingRules) (fills : ℕ) (t t' v v' s s' : SourceState) (sink sink' : SinkState)
-    (result : Result (Option Continued) Fault)
-    → ContinueRun rules fills t t' v v' s s' sink sink' result
-    ↔ ContinuesOrEnds rules fills t t' v v' s s' sink sink' result
-
-abbrev pub SameExportRun : Type 0
-SameExportRun = (rules : CountingRules) (fills : ℕ) (t t' s s' : SourceState) (d d' sink sink' : SinkState)
-    (answer : Result Bool Fault)
-    → ExportRun rules fills t t' s s' d d' sink sink' answer
-    ↔ ExportsOrStops rules fills t t' s s' d d' sink sink' answer

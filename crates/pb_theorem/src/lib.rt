@@ -32,7 +32,8 @@ ghost use Rattle.pb_accepted.specs.Rules.{CountingRules};
 ghost use Rattle.pb_accepted.specs.declared.ledger.TheConstants.{MAX_CAP};
 ghost use Rattle.pb_accepted.specs.declared.rules.TheConstants.{MAX_LEAST};
 ghost use Rattle.pb_commands.specs.declared.fault.Fault.TheVariants.{Read};
-ghost use Rattle.pb_collecting.specs.CollectRun.{EndsCollect, RefusesTold};
+ghost use Rattle.pb_collecting.specs.CollectRun.{RefusesTold};
+ghost use Rattle.pb_collecting.specs.Runs.{CollectRun};
 ghost use Rattle.pb_theorem.specs.Board as board;
 ghost use Rattle.pb_theorem.specs.Book as book;
 ghost use Rattle.pb_theorem.specs.Files as files;
@@ -45,13 +46,7 @@ ghost use Rattle.pb_theorem.specs.Lines as texts_of;
 ghost use Rattle.pb_theorem.specs.Moves as chess;
 ghost use Rattle.pb_theorem.specs.Refusals as refusals;
 ghost use Rattle.pb_theorem.specs.Replies as reply;
-ghost use Rattle.pb_theorem.specs.Same.{
-  SameCollectRun,
-  SameContinueRun,
-  SameExportRun,
-  SameHeadline,
-  SameJournalRun,
-};
+ghost use Rattle.pb_theorem.specs.Same.{SameHeadline};
 ghost use Rattle.pb_theorem.specs.Texts as texts;
 
 use pb_accepted::Rules;
@@ -125,9 +120,10 @@ pub fn collect<T: Source, S: Source, K: Sink>(
     // Of a source that tells its bytes, the line says why they are no table file.
     ensures told { IfOk result (λ answer. IfNone answer (RefusesTold
         (T.state table_source.old).to_come (K.state sink.old) (K.state sink.new))) }
-    ensures fault { IfErr result (EndsCollect rules fills
+    // How the run ends, whatever its ends tell.
+    ensures ends { CollectRun rules fills
         (T.state table_source.old) (T.state table_source.new)
-        (S.state source.old) (S.state source.new) (K.state sink.old) (K.state sink.new)) }
+        (S.state source.old) (S.state source.new) (K.state sink.old) (K.state sink.new) result }
 {
     // The reader tells that the numbers lie in their ranges.
     let _plies = rules.plies();
@@ -211,24 +207,4 @@ pub fn same_files()
         → files.ReadsBook fills old new (Ok entries) ↔ books_read.ReadsBook fills old new entries }
     ensures book_faults { (fills : ℕ) (old new : SourceState) (e : BookError)
         → files.ReadsBook fills old new (Err e) ↔ books_read.FindsNoBook fills old new e }
-{}
-
-/// Equates how a run of `collect` ends with what pb_collecting says of it.
-pub fn same_runs_of_collect()
-    ensures { SameCollectRun }
-{}
-
-/// Equates how a run with a journal ends with what pb_collecting says of it.
-pub fn same_runs_with_journal()
-    ensures { SameJournalRun }
-{}
-
-/// Equates how a run ends that goes on from a saved ledger with what pb_collecting says of it.
-pub fn same_runs_that_go_on()
-    ensures { SameContinueRun }
-{}
-
-/// Equates how a run of `export` ends with what pb_collecting says of it.
-pub fn same_runs_of_export()
-    ensures { SameExportRun }
 {}

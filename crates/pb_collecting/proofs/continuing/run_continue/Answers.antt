@@ -1,4 +1,4 @@
-use Rattle.pb_collecting.proofs.ContinueClauses.{handed_on, headline, told}
+use Rattle.pb_collecting.proofs.ContinueClauses.{headline, told}
 use Rattle.pb_collecting.proofs.continuing.run_continue.Goals as goal
 
 pub returns-clause-told : goal.returns-clause-told
@@ -6,6 +6,3 @@ returns-clause-told g c = told _ _ _ _ _ _ _ _ _ _ c.continue_from.result c.cont
 
 pub returns-clause-headline : goal.returns-clause-headline
 returns-clause-headline g c = headline _ _ _ _ _ _ _ _ _ _ c.continue_from.result c.continue_from.ensures
-
-pub returns-clause-handed_on : goal.returns-clause-handed_on
-returns-clause-handed_on g c = handed_on _ _ _ _ _ _ _ _ _ _ c.continue_from.result c.continue_from.ensures

@@ -1,4 +1,4 @@
-use Rattle.pb_collecting.proofs.JournalClauses.{handed_on, headline, outlives, survives, told}
+use Rattle.pb_collecting.proofs.JournalClauses.{headline, outlives, survives, told}
 use Rattle.pb_collecting.proofs.journaling.run_journaled.Goals as goal
 
 pub returns-clause-told : goal.returns-clause-told
@@ -12,6 +12,3 @@ returns-clause-survives g c = survives _ _ _ _ _ _ _ _ _ _ _ _ c.journal_submiss
 
 pub returns-clause-outlives : goal.returns-clause-outlives
 returns-clause-outlives g c = outlives _ _ _ _ _ _ _ _ _ _ _ _ c.journal_submissions.result c.journal_submissions.ensures
-
-pub returns-clause-handed_on : goal.returns-clause-handed_on
-returns-clause-handed_on g c = handed_on _ _ _ _ _ _ _ _ _ _ _ _ c.journal_submissions.result c.journal_submissions.ensures

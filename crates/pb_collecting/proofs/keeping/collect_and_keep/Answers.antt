@@ -12,4 +12,4 @@ pub returns-in-Ok : goal.returns-in-Ok
 returns-in-Ok g c = made_book _ _ _ _ _ _ _ _ _ _ c.in-Ok-Some.book c.in-Ok-Some.field-0 c.in-Ok-Some.field-0-is c.in-Ok-Some.ensures _ c.in-Ok.ensures
 
 pub returns : goal.returns
-returns g c = (made_book _ _ _ _ _ _ _ _ _ _ c.in-Ok-Some.book c.in-Ok-Some.field-0 c.in-Ok-Some.field-0-is c.in-Ok-Some.ensures _ c.in-Err-keep.ensures).0
+returns g c = made_book _ _ _ _ _ _ _ _ _ _ c.in-Ok-Some.book c.in-Ok-Some.field-0 c.in-Ok-Some.field-0-is c.in-Ok-Some.ensures _ c.in-Err-keep.ensures

@@ -34,7 +34,7 @@ use Rattle.pb_collecting.specs.declared.continuing.Continued.{Continued}
 use Rattle.pb_collecting.specs.ExportRun.{fault_of_export}
 use Rattle.pb_collecting.specs.JournalRun.{fault_of_journal, fault_of_replay}
 use Rattle.pb_collecting.specs.Taking.{fault_of, ledger_of, new_ledger}
-use Rattle.pb_theorem.specs.Limits.{most_games}
+use Rattle.pb_accepted.specs.Holding.{most_games}
 
 -- A run begins with `first`, which leaves an M, and goes on from there to an X or a fault. Or nothing was begun: `judges` says
 -- what comes of that, a line that is put, or a fault, and then nothing is.
@@ -148,3 +148,9 @@ ExportRun rules fills t t' s s' d d' sink sink' answer = RunEnds (TakesTable rul
     (λ verdict. LacksTable fills t t' verdict × (s' ≡ s) × (d' ≡ d))
     (Exports fills s s' d d' sink sink')
     sink sink' (done answer)
+
+-- a run of `export` that replies to nobody: the replies are dropped, by a sink that doesn't fail
+abbrev pub SilentExportRun : CountingRules → ℕ → SourceState → SourceState → SourceState → SourceState
+    → SinkState → SinkState → Result Bool Fault → Type 0
+SilentExportRun rules fills t t' s s' sink sink' answer =
+    (d : SinkState) × (d' : SinkState) × (d'.failed ≡ false) × ExportRun rules fills t t' s s' d d' sink sink' answer

@@ -1,4 +1,4 @@
--- A run of `export` ends as pb_collecting says.
+-- How a run of `export` ends, in the form of all runs and by its parts.
 use Rattle.std.proofs.Common.{◌≡◌, ℕ, Bool, false, true, List, Option, Some, None, Result, Ok, Err, refl, sym, ap, subst, ◌∙◌, inl, inr}
 use Rattle.pb_io.specs.Sink.{SinkState}
 use Rattle.pb_io.specs.Source.{SourceState}
@@ -12,9 +12,9 @@ use Rattle.pb_commands.specs.declared.fault.Fault.TheVariants.{Read, Write, Endl
 use Rattle.pb_ledger.specs.Collecting.{CollectsUntil}
 use Rattle.pb_collecting.specs.CollectRun.{JudgesTable}
 use Rattle.pb_collecting.specs.ExportRun.{ExportsOrStops, StopsExport, at_export, at_submissions, at_table}
+use Rattle.pb_collecting.specs.Runs as runs
 use Rattle.pb_collecting.specs.Taking.{ledger_of, new_ledger}
-use Rattle.pb_theorem.specs.Runs as runs
-use Rattle.pb_theorem.proofs.RunLemmas.{never_writes, says_no, took_from, took_to}
+use Rattle.pb_collecting.proofs.RunLemmas.{never_writes, says_no, took_from, took_to}
 
 module _ (rules : CountingRules) (fills : ℕ) (t t' s s' : SourceState) (d d' sink sink' : SinkState) where
   abbrev Own : Result (Option (Unit {0})) Fault → Type 0
@@ -45,7 +45,7 @@ module _ (rules : CountingRules) (fills : ℕ) (t t' s s' : SourceState) (d d' s
       runs.told text.out ((text.judged.cause, text.judged.found, text.judged.is), text.judged.unread, h.no_reply) text.put h.handed_on refl
   export_to (Err fault) h = fault_to fault h
 
-  -- ---- to the words of pb_collecting
+  -- ---- to its parts
 
   left_is : (words : List ℕ) (left : LedgerState) → runs.Takes fills s s' d d' (new_ledger rules words) left → left ≡ ledger_of rules words left.accepted
   left_is words left h =

@@ -1,4 +1,4 @@
--- A run with a journal ends as pb_collecting says.
+-- How a run with a journal ends, in the form of all runs and by its parts.
 use Rattle.std.proofs.Common.{◌≡◌, ℕ, false, List, Option, Some, None, Result, Ok, Err, refl, sym, ap, subst, inl, inr}
 use Rattle.pb_io.specs.Sink.{SinkState}
 use Rattle.pb_io.specs.Source.{SourceState}
@@ -13,11 +13,11 @@ use Rattle.pb_ledger.specs.Collecting.{CollectsStream}
 use Rattle.pb_ledger.specs.declared.totals.Totals.{Totals}
 use Rattle.pb_saved.specs.Replaying.{ReplaysAll}
 use Rattle.pb_collecting.specs.CollectRun.{JudgesTable}
+use Rattle.pb_collecting.specs.Runs as runs
 use Rattle.pb_collecting.specs.Taking.{ledger_of, new_ledger}
 use Rattle.pb_collecting.specs.JournalRun.{EndsJournaled, JournalsOrEnds, ReplaysFirst, at_book, at_journal, at_submissions, at_table, fault_of_replay}
-use Rattle.pb_theorem.specs.Runs as runs
-use Rattle.pb_theorem.proofs.CountLemmas.{with_totals}
-use Rattle.pb_theorem.proofs.RunLemmas.{never_writes, says_no}
+use Rattle.pb_collecting.proofs.CountLemmas.{with_totals}
+use Rattle.pb_collecting.proofs.RunLemmas.{never_writes, says_no}
 
 module _ (fills : ℕ) (s s' : SourceState) (sink sink' : SinkState) (ledger left : LedgerState) where
   pub without_totals : (totals : Totals) → CollectsStream fills s s' sink sink' ledger left totals → runs.Takes fills s s' sink sink' ledger left
@@ -36,7 +36,7 @@ module _ (rules : CountingRules) (fills : ℕ) (t t' v v' s s' : SourceState) (j
   abbrev Mid : Type 0
   Mid = LedgerState × SinkState
 
-  -- ---- from the words of pb_collecting
+  -- ---- from its parts
 
   table_to : (fault : Fault) → PutsUntil (JudgesTable fills t t' s s') sink sink' fault → v' ≡ v → j' ≡ j → Own (Err fault)
   table_to Write h unread untouched =
@@ -69,7 +69,7 @@ module _ (rules : CountingRules) (fills : ℕ) (t t' v v' s s' : SourceState) (j
       runs.told text.out (inl ((text.judged.cause, text.judged.found, text.judged.is), h.0.unread, h.0.untouched, text.judged.unread)) text.put h.1 refl
   journal_to (Err fault) h = fault_to fault h
 
-  -- ---- to the words of pb_collecting
+  -- ---- to its parts
 
   abbrev First : Mid → Type 0
   First m = (words : List ℕ) × ReadsTable fills t t' words × ReplaysAll fills v v' j m.1 (new_ledger rules words) m.0 × (m.0 ≡ ledger_of rules words m.0.accepted)

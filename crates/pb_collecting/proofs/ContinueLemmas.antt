@@ -1,4 +1,4 @@
--- A run that goes on from a saved ledger ends as pb_collecting says.
+-- How a run ends that goes on from a saved ledger, in the form of all runs and by its parts.
 use Rattle.std.proofs.Common.{◌≡◌, ℕ, ◌⊎◌, Bool, false, List, Option, Some, None, Result, Ok, Err, refl, sym, ap, subst, ◌∙◌, inl, inr}
 use Rattle.pb_io.specs.Sink.{SinkState}
 use Rattle.pb_io.specs.Source.{SourceState}
@@ -17,11 +17,11 @@ use Rattle.pb_ledger.specs.Collecting.{CollectsUntil}
 use Rattle.pb_ledger.specs.declared.collecting.CollectFault.{CollectFault}
 use Rattle.pb_ledger.specs.declared.collecting.CollectFault.TheVariants as collect
 use Rattle.pb_collecting.specs.Continuing.{ContinuesOrEnds, GoesOn, JudgesSaved, no_ledger, no_table, saved_verdict}
+use Rattle.pb_collecting.specs.Runs as runs
 use Rattle.pb_collecting.specs.Taking.{fault_of, new_ledger}
 use Rattle.pb_collecting.specs.declared.continuing.Continued.{Continued}
-use Rattle.pb_theorem.specs.Runs as runs
-use Rattle.pb_theorem.proofs.JournalLemmas.{totalled, without_totals}
-use Rattle.pb_theorem.proofs.RunLemmas.{never_writes, says_no}
+use Rattle.pb_collecting.proofs.JournalLemmas.{totalled, without_totals}
+use Rattle.pb_collecting.proofs.RunLemmas.{never_writes, says_no}
 
 -- ---- what comes of a saved ledger that isn't loaded
 

@@ -1,4 +1,4 @@
--- A run of `collect` ends as pb_collecting says.
+-- How a run of `collect` ends, in the form of all runs and by its parts.
 use Rattle.std.proofs.Common.{◌≡◌, ℕ, Bool, false, List, Option, Some, None, Result, Ok, Err, refl, sym, ap, subst, ◌∙◌, inl, inr}
 use Rattle.pb_io.specs.Sink.{SinkState}
 use Rattle.pb_io.specs.Source.{SourceState}
@@ -17,9 +17,9 @@ use Rattle.pb_commands.specs.declared.fault.Fault.{Fault}
 use Rattle.pb_commands.specs.declared.fault.Fault.TheVariants.{Read, Write, Endless, Memory}
 use Rattle.pb_ledger.specs.Collecting.{CollectsUntil}
 use Rattle.pb_collecting.specs.CollectRun.{CollectsOrEnds, EndsCollect, JudgesTable, at_book, at_submissions, at_table}
+use Rattle.pb_collecting.specs.Runs as runs
 use Rattle.pb_collecting.specs.Taking.{CollectsGames, ledger_of, new_ledger}
 use Rattle.pb_collecting.proofs.ToldRuns.{came_told, table_told}
-use Rattle.pb_theorem.specs.Runs as runs
 
 -- ---- what comes of a table that is refused
 
@@ -58,7 +58,7 @@ module _ (rules : CountingRules) (fills : ℕ) (t t' s s' : SourceState) (sink s
   abbrev Lower : Result (Option (List Entry)) Fault → Type 0
   Lower = CollectsOrEnds rules fills t t' s s' sink sink'
 
-  -- ---- from the words of pb_collecting
+  -- ---- from its parts
 
   pub took_to : (words : List ℕ) (held : List Submission) → CollectsGames fills t t' s s' sink sink' words held → runs.Takes fills s s' sink sink' (new_ledger rules words) (ledger_of rules words held)
   took_to words held h = (
@@ -94,7 +94,7 @@ module _ (rules : CountingRules) (fills : ℕ) (t t' s s' : SourceState) (sink s
   collect_to (Ok None) h = runs.told h.0.out ((h.0.judged.cause, h.0.judged.found, h.0.judged.is), h.0.judged.unread) h.0.put h.1 refl
   collect_to (Err fault) h = fault_to fault h
 
-  -- ---- to the words of pb_collecting
+  -- ---- to its parts
 
   pub took_from : (words : List ℕ) (left : LedgerState) → ReadsTable fills t t' words → runs.Takes fills s s' sink sink' (new_ledger rules words) left → CollectsGames fills t t' s s' sink sink' words left.accepted
   took_from words left read h =
