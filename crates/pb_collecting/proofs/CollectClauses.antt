@@ -6,9 +6,10 @@ use Rattle.pb_io.specs.Sink.{SinkState}
 use Rattle.pb_poly.specs.declared.entry.Entry.{Entry}
 use Rattle.pb_accepted.specs.Rules.{CountingRules}
 use Rattle.pb_commands.specs.declared.fault.Fault.{Fault}
-use Rattle.pb_collecting.specs.CollectRun.{CollectsOrEnds, RefusesTold}
+use Rattle.pb_collecting.specs.CollectRun.{RefusesTold}
 use Rattle.pb_collecting.specs.Headline.{HasHeadline}
 use Rattle.pb_collecting.specs.Runs.{CollectRun}
+use Rattle.pb_collecting.proofs.CollectParts.{CollectsOrEnds}
 use Rattle.pb_collecting.proofs.CollectRuns.{tells_refused}
 use Rattle.pb_collecting.proofs.Headlines.{has_headline}
 use Rattle.pb_collecting.proofs.RunLemmas.{collect_from}

@@ -15,10 +15,11 @@ use Rattle.pb_poly.specs.declared.table_file.TableFault.{TableFault}
 use Rattle.pb_poly.specs.declared.table_file.TableFault.TheVariants as table
 use Rattle.pb_commands.proofs.Judging.{shows}
 use Rattle.pb_commands.proofs.Told.{told_no_table}
-use Rattle.pb_collecting.specs.CollectRun.{CollectsBook, EndsCollect, JudgesTable, RefusesTold, at_submissions, at_table}
+use Rattle.pb_collecting.specs.CollectRun.{RefusesTold}
 use Rattle.pb_collecting.specs.Taking.{FillsLedger, RefusesGames, StopsTaking, TakesOrStops}
 use Rattle.pb_collecting.specs.declared.taking.NoGames.{NoGames}
 use Rattle.pb_collecting.specs.declared.taking.NoGames.TheVariants.{Table, Submissions}
+use Rattle.pb_collecting.proofs.CollectParts.{CollectsBook, EndsCollect, JudgesTable, at_submissions, at_table}
 
 abbrev pub puts : Bool → List ℕ → Verdict
 puts answer out = Ok (answer, out)

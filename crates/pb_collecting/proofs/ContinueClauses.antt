@@ -9,11 +9,12 @@ use Rattle.pb_poly.specs.declared.entry.Entry.{Entry}
 use Rattle.pb_accepted.specs.Ledger.{LedgerState}
 use Rattle.pb_accepted.specs.Rules.{CountingRules}
 use Rattle.pb_commands.specs.declared.fault.Fault.{Fault}
-use Rattle.pb_collecting.specs.Continuing.{Continues, ContinuesOrEnds, GoesOn, LoadsFirst}
+use Rattle.pb_collecting.specs.Continuing.{Continues, GoesOn, LoadsFirst}
 use Rattle.pb_collecting.specs.ContinuingTold.{HasHeadlineOfBoth, RefusesEither}
 use Rattle.pb_collecting.specs.Runs.{ContinueRun}
 use Rattle.pb_collecting.specs.declared.continuing.Continued.{Continued}
 use Rattle.pb_collecting.proofs.ContinueLemmas.{continue_from}
+use Rattle.pb_collecting.proofs.ContinueParts.{ContinuesOrEnds}
 use Rattle.pb_collecting.proofs.ContinueTold.{effect_of_both, told_continued, told_refused}
 
 module _ (rules : CountingRules) (fills : ℕ) (t t' v v' s s' : SourceState) (sink sink' : SinkState) where

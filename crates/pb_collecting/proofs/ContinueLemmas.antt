@@ -16,10 +16,11 @@ use Rattle.pb_commands.specs.declared.fault.Fault.TheVariants.{Read, Write, Endl
 use Rattle.pb_ledger.specs.Collecting.{CollectsUntil}
 use Rattle.pb_ledger.specs.declared.collecting.CollectFault.{CollectFault}
 use Rattle.pb_ledger.specs.declared.collecting.CollectFault.TheVariants as collect
-use Rattle.pb_collecting.specs.Continuing.{ContinuesOrEnds, GoesOn, JudgesSaved, no_ledger, no_table, saved_verdict}
+use Rattle.pb_collecting.specs.Continuing.{GoesOn, saved_verdict}
 use Rattle.pb_collecting.specs.Runs as runs
 use Rattle.pb_collecting.specs.Taking.{fault_of, new_ledger}
 use Rattle.pb_collecting.specs.declared.continuing.Continued.{Continued}
+use Rattle.pb_collecting.proofs.ContinueParts.{ContinuesOrEnds, JudgesSaved, no_ledger, no_table}
 use Rattle.pb_collecting.proofs.JournalLemmas.{totalled, without_totals}
 use Rattle.pb_collecting.proofs.RunLemmas.{never_writes, says_no}
 

@@ -12,11 +12,12 @@ use Rattle.pb_saved.specs.declared.loading.LoadError.TheVariants as load
 use Rattle.pb_commands.specs.Judged.{HandedOnOnce, PutsOrEnds, PutsText, PutsUntil, Verdict}
 use Rattle.pb_commands.specs.declared.fault.Fault.{Fault}
 use Rattle.pb_commands.proofs.Judging.{shows}
-use Rattle.pb_collecting.specs.Continuing.{JudgesSaved, LoadsFirst, LoadsNot, LoadsOrStops, no_ledger, no_table, saved_verdict, verdict_of}
+use Rattle.pb_collecting.specs.Continuing.{LoadsFirst, LoadsNot, LoadsOrStops, saved_verdict, verdict_of}
 use Rattle.pb_collecting.specs.Taking.{ledger_of, new_ledger}
 use Rattle.pb_collecting.specs.declared.continuing.NoLedger.{NoLedger}
 use Rattle.pb_collecting.specs.declared.continuing.NoLedger.TheVariants.{Saved, Table}
 use Rattle.pb_collecting.proofs.CollectRuns.{answer_of, refused_no}
+use Rattle.pb_collecting.proofs.ContinueParts.{JudgesSaved, no_ledger, no_table}
 
 module _ (rules : CountingRules) (fills : ℕ) (t t' v v' : SourceState) (words : List ℕ) (l l' : LedgerState) (is : l ≡ new_ledger rules words) (read : ReadsTable fills t t' words) where
   pub loaded : (n : ℕ) → LoadsStream fills v v' l l' n → l'.basis ≡ l.basis → l'.cap ≡ l.cap → LoadsFirst rules fills t t' v v' l'

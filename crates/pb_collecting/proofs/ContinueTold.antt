@@ -29,10 +29,11 @@ use Rattle.pb_ledger.specs.Collecting.{CollectsStream}
 use Rattle.pb_ledger.specs.declared.totals.Totals.{Totals}
 use Rattle.pb_commands.specs.Judged.{PutsText}
 use Rattle.pb_commands.proofs.Told.{told_no_table, told_table}
-use Rattle.pb_collecting.specs.Continuing.{JudgesSaved, LoadsFirst, LoadsNot, no_ledger, no_table, saved_verdict}
+use Rattle.pb_collecting.specs.Continuing.{LoadsFirst, LoadsNot, saved_verdict}
 use Rattle.pb_collecting.specs.ContinuingTold.{ContinuesBytes, EffectOfBoth, EitherRefused, LedgerRefused, RefusesEither, at_ledger, at_table}
 use Rattle.pb_collecting.specs.Laws.{GoesOnAsOneRun}
 use Rattle.pb_collecting.specs.Taking.{ledger_of}
+use Rattle.pb_collecting.proofs.ContinueParts.{JudgesSaved, no_ledger, no_table}
 use Rattle.pb_collecting.proofs.Headlines.{effect}
 
 -- ---- the run went on to a book

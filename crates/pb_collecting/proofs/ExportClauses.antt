@@ -15,12 +15,14 @@ use Rattle.pb_export.specs.declared.exporting.ExportFault.TheVariants as export
 use Rattle.pb_commands.specs.Judged.{PutsUntil, Verdict}
 use Rattle.pb_commands.specs.declared.fault.Fault.{Fault}
 use Rattle.pb_commands.specs.declared.fault.Fault.TheVariants.{Read, Write, Endless, Memory}
-use Rattle.pb_collecting.specs.CollectRun.{JudgesTable, RefusesTold}
-use Rattle.pb_collecting.specs.ExportRun.{BlamesSink, ExportsOrStops, StopsExport, at_export, at_submissions, at_table, fault_of_export}
+use Rattle.pb_collecting.specs.CollectRun.{RefusesTold}
+use Rattle.pb_collecting.specs.ExportRun.{BlamesSink, fault_of_export}
 use Rattle.pb_collecting.specs.Runs.{ExportRun}
 use Rattle.pb_collecting.specs.Taking.{fault_of, new_ledger}
+use Rattle.pb_collecting.proofs.CollectParts.{JudgesTable}
 use Rattle.pb_collecting.proofs.CollectRuns.{tells_refused}
 use Rattle.pb_collecting.proofs.ExportLemmas.{export_from}
+use Rattle.pb_collecting.proofs.ExportParts.{ExportsOrStops, StopsExport, at_export, at_submissions, at_table}
 
 -- ---- which faults blame the sink
 

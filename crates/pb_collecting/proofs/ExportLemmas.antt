@@ -10,10 +10,10 @@ use Rattle.pb_commands.specs.Judged.{PutsUntil}
 use Rattle.pb_commands.specs.declared.fault.Fault.{Fault}
 use Rattle.pb_commands.specs.declared.fault.Fault.TheVariants.{Read, Write, Endless, Memory}
 use Rattle.pb_ledger.specs.Collecting.{CollectsUntil}
-use Rattle.pb_collecting.specs.CollectRun.{JudgesTable}
-use Rattle.pb_collecting.specs.ExportRun.{ExportsOrStops, StopsExport, at_export, at_submissions, at_table}
 use Rattle.pb_collecting.specs.Runs as runs
 use Rattle.pb_collecting.specs.Taking.{ledger_of, new_ledger}
+use Rattle.pb_collecting.proofs.CollectParts.{JudgesTable}
+use Rattle.pb_collecting.proofs.ExportParts.{ExportsOrStops, StopsExport, at_export, at_submissions, at_table}
 use Rattle.pb_collecting.proofs.RunLemmas.{never_writes, says_no, took_from, took_to}
 
 module _ (rules : CountingRules) (fills : ℕ) (t t' s s' : SourceState) (d d' sink sink' : SinkState) where

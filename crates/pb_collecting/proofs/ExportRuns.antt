@@ -11,11 +11,12 @@ use Rattle.pb_commands.specs.TableJudged.{table_verdict}
 use Rattle.pb_poly.specs.TableReading.{FindsNoTable}
 use Rattle.pb_commands.specs.declared.fault.Fault.{Fault}
 use Rattle.pb_poly.specs.declared.table_file.TableFault.{TableFault}
-use Rattle.pb_collecting.specs.ExportRun.{ExportsAnswered, ExportsOrStops, StopsExport, at_export, at_submissions, at_table, fault_of_export}
+use Rattle.pb_collecting.specs.ExportRun.{fault_of_export}
 use Rattle.pb_collecting.specs.Taking.{FillsLedger, RefusesGames, TakesOrStops}
 use Rattle.pb_collecting.specs.declared.taking.NoGames.{NoGames}
 use Rattle.pb_collecting.specs.declared.taking.NoGames.TheVariants.{Table, Submissions}
 use Rattle.pb_collecting.proofs.CollectRuns.{refused, refused_no, table_ends}
+use Rattle.pb_collecting.proofs.ExportParts.{ExportsAnswered, ExportsOrStops, StopsExport, at_export, at_submissions, at_table}
 
 module _ (rules : CountingRules) (fills : ℕ) (t t' s s' : SourceState) (d d' sink sink' : SinkState) where
   -- the table is refused, or a fault ended its reading

@@ -23,8 +23,8 @@ use Rattle.pb_accepted.specs.Rules.{CountingRules}
 use Rattle.pb_accepted.proofs.Numbers.{numbers_given, repeats_keep}
 use Rattle.pb_accepted.proofs.Replies.{Answered, answered, held, new, other, full as no_room, game_of, id_of, one_submission}
 use Rattle.pb_accepted.proofs.Runs.{own_ids}
-use Rattle.pb_collecting.specs.CollectRun.{CollectsBook}
 use Rattle.pb_collecting.specs.Headline.{Arrives, Effect, HasHeadline, IsAccepted, IsNewBefore, MayBeAnswered, WasAccepted, accepted, conflict, full, memory}
+use Rattle.pb_collecting.proofs.CollectParts.{CollectsBook}
 use Rattle.pb_collecting.proofs.OneTexts.{has_one_text}
 
 -- ---- lists

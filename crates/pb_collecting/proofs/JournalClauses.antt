@@ -8,13 +8,14 @@ use Rattle.pb_accepted.specs.Rules.{CountingRules}
 use Rattle.pb_commands.specs.Judged.{PutsUntil}
 use Rattle.pb_commands.specs.declared.fault.Fault.{Fault}
 use Rattle.pb_commands.specs.declared.fault.Fault.TheVariants as fault
-use Rattle.pb_collecting.specs.CollectRun.{JudgesTable, RefusesTold}
-use Rattle.pb_collecting.specs.JournalRun.{EndsJournaled, JournalsOrEnds, at_book, at_journal, at_submissions, at_table}
+use Rattle.pb_collecting.specs.CollectRun.{RefusesTold}
 use Rattle.pb_collecting.specs.JournalTold.{HasHeadlineOfJournal, Outlives, Survives}
 use Rattle.pb_collecting.specs.Runs.{JournalRun}
+use Rattle.pb_collecting.proofs.CollectParts.{JudgesTable}
 use Rattle.pb_collecting.proofs.CollectRuns.{tells_refused}
 use Rattle.pb_collecting.proofs.JournalHeadlines.{has_headline}
 use Rattle.pb_collecting.proofs.JournalLemmas.{journal_from}
+use Rattle.pb_collecting.proofs.JournalParts.{EndsJournaled, JournalsOrEnds, at_book, at_journal, at_submissions, at_table}
 use Rattle.pb_collecting.proofs.JournalSurvives.{stream_survives, until_survives}
 
 module _ (rules : CountingRules) (fills : ℕ) (t t' v v' s s' : SourceState) (j j' sink sink' : SinkState) where

@@ -21,10 +21,11 @@ use Rattle.pb_accepted.specs.Rules.{CountingRules}
 use Rattle.pb_saved.specs.Journal.{Journals, mending}
 use Rattle.pb_ledger.specs.Collecting.{CollectsStream}
 use Rattle.pb_commands.proofs.Told.{told_table}
-use Rattle.pb_collecting.specs.JournalRun.{JournalsBook, ReplaysFirst}
+use Rattle.pb_collecting.specs.JournalRun.{ReplaysFirst}
 use Rattle.pb_collecting.specs.JournalTold.{HasHeadlineOfJournal, JournalsBytes}
 use Rattle.pb_collecting.proofs.Headlines.{effect}
 use Rattle.pb_collecting.proofs.JournalGains.{gains_all, one_accepted, one_run}
+use Rattle.pb_collecting.proofs.JournalParts.{JournalsBook}
 
 -- ---- the journal that was replayed, told
 

@@ -12,11 +12,12 @@ use Rattle.pb_commands.specs.declared.fault.Fault.TheVariants.{Read, Write, Endl
 use Rattle.pb_ledger.specs.Collecting.{CollectsStream}
 use Rattle.pb_ledger.specs.declared.totals.Totals.{Totals}
 use Rattle.pb_saved.specs.Replaying.{ReplaysAll}
-use Rattle.pb_collecting.specs.CollectRun.{JudgesTable}
 use Rattle.pb_collecting.specs.Runs as runs
 use Rattle.pb_collecting.specs.Taking.{ledger_of, new_ledger}
-use Rattle.pb_collecting.specs.JournalRun.{EndsJournaled, JournalsOrEnds, ReplaysFirst, at_book, at_journal, at_submissions, at_table, fault_of_replay}
+use Rattle.pb_collecting.specs.JournalRun.{ReplaysFirst, fault_of_replay}
+use Rattle.pb_collecting.proofs.CollectParts.{JudgesTable}
 use Rattle.pb_collecting.proofs.CountLemmas.{with_totals}
+use Rattle.pb_collecting.proofs.JournalParts.{EndsJournaled, JournalsOrEnds, at_book, at_journal, at_submissions, at_table}
 use Rattle.pb_collecting.proofs.RunLemmas.{never_writes, says_no}
 
 module _ (fills : ℕ) (s s' : SourceState) (sink sink' : SinkState) (ledger left : LedgerState) where

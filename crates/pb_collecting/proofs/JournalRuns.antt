@@ -13,13 +13,14 @@ use Rattle.pb_saved.specs.declared.replaying.ReplayError.{ReplayError}
 use Rattle.pb_commands.specs.Judged.{PutsOrEnds}
 use Rattle.pb_commands.specs.TableJudged.{table_verdict}
 use Rattle.pb_commands.specs.declared.fault.Fault.{Fault}
-use Rattle.pb_collecting.specs.JournalRun.{ReplaysFirst, ReplaysNot, ReplaysOrStops, at_journal, at_table, fault_of_replay}
+use Rattle.pb_collecting.specs.JournalRun.{ReplaysFirst, ReplaysNot, ReplaysOrStops, fault_of_replay}
 use Rattle.pb_collecting.specs.Runs.{JournalRun}
 use Rattle.pb_collecting.specs.declared.journaling.NoJournal.{NoJournal}
 use Rattle.pb_collecting.specs.declared.journaling.NoJournal.TheVariants.{Replay, Table}
 use Rattle.pb_collecting.specs.Taking.{ledger_of, new_ledger}
 use Rattle.pb_collecting.proofs.CollectRuns.{refused, table_ends}
 use Rattle.pb_collecting.proofs.JournalLemmas.{journal_to}
+use Rattle.pb_collecting.proofs.JournalParts.{at_journal, at_table}
 
 module _ (rules : CountingRules) (fills : ℕ) (t t' v v' : SourceState) (j j' : SinkState) (words : List ℕ) (l l' : LedgerState) (is : l ≡ new_ledger rules words) (read : ReadsTable fills t t' words) where
   pub replayed : ReplaysAll fills v v' j j' l l' → l'.basis ≡ l.basis → l'.cap ≡ l.cap → ReplaysFirst rules fills t t' v v' j j' l'

@@ -3,9 +3,9 @@ use Rattle.std.proofs.Common.{◌≡◌, ℕ, Bool, Result, Ok, Err, false, true
 use Rattle.std.specs.Prelude.{IfErr, IfOk}
 use Rattle.pb_io.specs.Source.{SourceState}
 use Rattle.pb_io.specs.Sink.{SinkState}
+use Rattle.pb_accepted.specs.Rules.{CountingRules}
 use Rattle.pb_collecting.specs.Keeping.{EndsKeeping, KeepsBook, KeepsOrEnds, RefusesBook}
 use Rattle.pb_collecting.specs.Place.{PlaceState}
-use Rattle.pb_accepted.specs.Rules.{CountingRules}
 use Rattle.pb_collecting.specs.declared.keeping.NoBook.{NoBook}
 
 module _ (rules : CountingRules) (fills : ℕ) (t t' s s' : SourceState) (sink sink' : SinkState) (place place' : PlaceState) where

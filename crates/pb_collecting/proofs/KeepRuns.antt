@@ -4,11 +4,11 @@ use Rattle.pb_io.specs.Source.{SourceState}
 use Rattle.pb_io.specs.Sink.{SinkState}
 use Rattle.pb_poly.specs.Book.{book_bytes}
 use Rattle.pb_poly.specs.declared.entry.Entry.{Entry}
+use Rattle.pb_accepted.specs.Rules.{CountingRules}
 use Rattle.pb_collecting.specs.Keeping.{KeepsBook, RefusesBook}
 use Rattle.pb_collecting.specs.Place.{Keeps, PlaceState}
 use Rattle.pb_collecting.specs.Runs.{CollectRun}
 use Rattle.pb_collecting.specs.declared.place.NotKept.{NotKept}
-use Rattle.pb_accepted.specs.Rules.{CountingRules}
 use Rattle.pb_collecting.proofs.CollectClauses.{headline, told}
 
 module _ (rules : CountingRules) (fills : ℕ) (t t' s s' : SourceState) (sink sink' : SinkState) where

@@ -16,9 +16,9 @@ use Rattle.pb_commands.specs.TableJudged.{table_verdict}
 use Rattle.pb_commands.specs.declared.fault.Fault.{Fault}
 use Rattle.pb_commands.specs.declared.fault.Fault.TheVariants.{Read, Write, Endless, Memory}
 use Rattle.pb_ledger.specs.Collecting.{CollectsUntil}
-use Rattle.pb_collecting.specs.CollectRun.{CollectsOrEnds, EndsCollect, JudgesTable, at_book, at_submissions, at_table}
 use Rattle.pb_collecting.specs.Runs as runs
 use Rattle.pb_collecting.specs.Taking.{CollectsGames, ledger_of, new_ledger}
+use Rattle.pb_collecting.proofs.CollectParts.{CollectsOrEnds, EndsCollect, JudgesTable, at_book, at_submissions, at_table}
 use Rattle.pb_collecting.proofs.ToldRuns.{came_told, table_told}
 
 -- ---- what comes of a table that is refused

@@ -1,6 +1,6 @@
--- How a run of the command `collect` ends that goes on from a saved ledger, over the states of its ends before and after. Below, `t` and
--- `t'` are the states of the table's source, `v` and `v'` those of the saved ledger's, `s` and `s'` those of the submissions'.
-use Rattle.std.specs.Prelude.{◌≡◌, ℕ, ◌⊎◌, All, false, List, ◌++◌, Option, Some, None, Result, Ok, Err, codes, decimal}
+-- The steps of a run that goes on from a saved ledger, over the states of its ends before and after. Below, `t` and `t'` are the states
+-- of the table's source, `v` and `v'` those of the saved ledger's, `s` and `s'` those of the submissions'.
+use Rattle.std.specs.Prelude.{◌≡◌, ℕ, ◌⊎◌, All, List, ◌++◌, Result, Ok, Err, codes, decimal}
 use Rattle.pb_io.specs.Source.{SourceState}
 use Rattle.pb_io.specs.Sink.{SinkState}
 use Rattle.pb_io.specs.LineTask.{AtEnd}
@@ -8,7 +8,6 @@ use Rattle.pb_poly.specs.Book.{NeverFall}
 use Rattle.pb_poly.specs.Entry.{IsEntry}
 use Rattle.pb_poly.specs.declared.entry.Entry.{Entry}
 use Rattle.pb_poly.specs.TableReading.{FindsNoTable, ReadsTable}
-use Rattle.pb_poly.specs.declared.table_file.TableFault.{TableFault}
 use Rattle.pb_games.specs.Submissions.{Submission}
 use Rattle.pb_accepted.specs.Counting.{IsBook}
 use Rattle.pb_accepted.specs.Holding.{most_games}
@@ -20,12 +19,11 @@ use Rattle.pb_saved.specs.declared.loading.LoadError.TheVariants as load
 use Rattle.pb_ledger.specs.Collecting.{CollectsStream, CollectsUntil}
 use Rattle.pb_ledger.specs.declared.totals.Totals.{Totals}
 use Rattle.pb_ledger.specs.declared.collecting.CollectFault.TheVariants as collect
-use Rattle.pb_commands.specs.Judged.{HandedOnOnce, PutsText, PutsUntil, Verdict, refused}
+use Rattle.pb_commands.specs.Judged.{Verdict, refused}
 use Rattle.pb_commands.specs.TableJudged.{table_verdict}
 use Rattle.pb_commands.specs.declared.fault.Fault.{Fault}
 use Rattle.pb_commands.specs.declared.fault.Fault.TheVariants.{Read, Write, Endless, Memory}
 use Rattle.pb_collecting.specs.Taking.{ledger_of, new_ledger}
-use Rattle.pb_collecting.specs.declared.continuing.Continued.{Continued}
 use Rattle.pb_collecting.specs.declared.continuing.NoLedger.{NoLedger}
 use Rattle.pb_collecting.specs.declared.continuing.NoLedger.TheVariants.{Table, Saved}
 
@@ -52,11 +50,6 @@ pub record LoadsNot (rules : CountingRules) (fills : ℕ) (t t' v v' : SourceSta
   pub table : ReadsTable fills t t' words
   pub left : LedgerState
   pub until : LoadsUntil fills v v' (new_ledger rules words) left e
-
--- there is no table, or no saved ledger, this comes of it, and no submission was read
-pub data JudgesSaved (rules : CountingRules) (fills : ℕ) (t t' v v' s s' : SourceState) (verdict : Verdict) : Type 0 where
-  no_table : (e : TableFault) → FindsNoTable fills t t' e → verdict ≡ table_verdict e → v' ≡ v → s' ≡ s → JudgesSaved rules fills t t' v v' s s' verdict
-  no_ledger : (e : LoadError) → LoadsNot rules fills t t' v v' e → verdict ≡ saved_verdict e → s' ≡ s → JudgesSaved rules fills t t' v v' s s' verdict
 
 -- how it ends to read the table and to load the saved ledger
 abbrev pub LoadsOrStops : CountingRules → ℕ → SourceState → SourceState → SourceState → SourceState → Result LedgerState NoLedger → Type 0
@@ -85,11 +78,3 @@ Continues fills s s' sink sink' loaded left (Err Endless) = CollectsUntil fills 
 abbrev pub GoesOn : ℕ → SourceState → SourceState → SinkState → SinkState → LedgerState → LedgerState → Result (List Entry) Fault → Type 0
 GoesOn fills s s' sink sink' loaded left (Ok entries) = Continues fills s s' sink sink' loaded left (Ok entries) × NeverFall entries × All IsEntry entries
 GoesOn fills s s' sink sink' loaded left (Err fault) = Continues fills s s' sink sink' loaded left (Err fault)
-
--- how a run ends: it went on, the line that refuses the table or the saved ledger was put, or a fault came before a submission was read
-abbrev pub ContinuesOrEnds : CountingRules → ℕ → SourceState → SourceState → SourceState → SourceState → SourceState → SourceState → SinkState → SinkState → Result (Option Continued) Fault → Type 0
-ContinuesOrEnds rules fills t t' v v' s s' sink sink' (Ok (Some run)) =
-    (loaded : LedgerState) × LoadsFirst rules fills t t' v v' loaded × GoesOn fills s s' sink sink' loaded run.ledger run.book
-ContinuesOrEnds rules fills t t' v v' s s' sink sink' (Ok None) =
-    PutsText (JudgesSaved rules fills t t' v v' s s') sink sink' false × HandedOnOnce sink sink'
-ContinuesOrEnds rules fills t t' v v' s s' sink sink' (Err fault) = PutsUntil (JudgesSaved rules fills t t' v v' s s') sink sink' fault

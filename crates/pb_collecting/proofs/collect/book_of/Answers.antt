@@ -1,5 +1,5 @@
 use Rattle.std.proofs.Common.{refl}
-use Rattle.pb_collecting.specs.CollectRun.{at_book}
+use Rattle.pb_collecting.proofs.CollectParts.{at_book}
 use Rattle.pb_collecting.proofs.CollectRuns.{made_book}
 use Rattle.pb_collecting.proofs.RunLemmas.{collect_to}
 use Rattle.pb_collecting.proofs.collect.book_of.Goals as goal
