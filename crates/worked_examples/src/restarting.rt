@@ -49,15 +49,16 @@ fn ended<D: Durability>(page: &mut Page, words: &[&str]) -> Done {
     let stream = stream_of(page.alloc, lines)?;
     let first = Ran::<D>::of(page.alloc, &[], count_of(calls), stream.as_str())?;
     first.tell(page, book.as_bytes());
+    let file = first.journal.file();
     let left = match *end {
-        "crash" => first.journal.file().after_crash(),
-        _ => first.journal.file().found(),
+        "crash" => Vec::from_slice(page.alloc, file.after_crash())?,
+        _ => Vec::from_slice(page.alloc, file.found())?,
     };
     page.put_count(", ", &left.len());
     page.put(" bytes left; then ");
     let mut stream = stream_of(page.alloc, rest)?;
     stream.push_str(stream_of(page.alloc, &[head])?.as_str())?;
-    let second = Ran::<D>::of(page.alloc, left, usize::MAX, stream.as_str())?;
+    let second = Ran::<D>::of(page.alloc, left.as_slice(), usize::MAX, stream.as_str())?;
     second.tell(page, book.as_bytes());
     tell_kept(page, first.replies.as_bytes(), second.replies.as_bytes());
     Ok(())
