@@ -2,7 +2,7 @@
 //! laws that equate its words with those of the crates below.
 #![tactic(auto)]
 
-ghost use Rattle.std.specs.Prelude.{◌≡◌, ◌≢◌, ◌↔◌, ℕ, List, All, Ok, Err};
+ghost use Rattle.std.specs.Prelude.{◌≡◌, ◌↔◌, ◌⊎◌, ℕ, List, All, Ok, Err};
 ghost use Rattle.std.specs.Prelude.{IfErr, IfNone, IfOk, IfSome};
 ghost use Rattle.pb_board.specs.Fen.{FenText};
 ghost use Rattle.pb_board.specs.Position.{IsRecord, IsSetup, Position, Record};
@@ -31,7 +31,7 @@ ghost use Rattle.pb_accepted.specs.Replies.{replies};
 ghost use Rattle.pb_accepted.specs.Rules.{CountingRules};
 ghost use Rattle.pb_accepted.specs.declared.ledger.TheConstants.{MAX_CAP};
 ghost use Rattle.pb_accepted.specs.declared.rules.TheConstants.{MAX_LEAST};
-ghost use Rattle.pb_commands.specs.declared.fault.Fault.TheVariants.{Read};
+ghost use Rattle.pb_commands.specs.declared.fault.Fault.TheVariants.{Endless, Memory};
 ghost use Rattle.pb_collecting.specs.CollectRun.{RefusesTold};
 ghost use Rattle.pb_collecting.specs.Runs.{CollectRun};
 ghost use Rattle.pb_theorem.specs.Board as board;
@@ -64,8 +64,8 @@ use std::alloc::Global;
 ///
 /// # Errors
 ///
-/// `Memory` comes where a growth of the ledger, of the book or of the answer found no memory,
-/// `Write` where one for a reply did, and `Endless` where more bytes come than can be asked for.
+/// `Memory` comes where a growth of the ledger, of the replies or of the book found no memory, and
+/// `Endless` where there are more bytes than can be asked for.
 pub fn collect_bytes(
     alloc: Global,
     rules: Rules,
@@ -77,22 +77,25 @@ pub fn collect_bytes(
     // Without a book, the bytes are no table file, whatever the numbers.
     ensures refused { IfOk result (λ answer. IfNone answer
         ((randoms : List ℕ) → ¬ book.IsTableFile randoms table.now)) }
-    // No fault of reading comes.
-    ensures fault { IfErr result (λ fault. fault ≢ Read) }
+    ensures fault { IfErr result (λ fault. (fault ≡ Memory) ⊎ (fault ≡ Endless)) }
 {
     let mut table_source = MemSource::new(table, CHUNK_LEN);
     let mut source = MemSource::new(submissions, CHUNK_LEN);
     let mut sink = MemSink::new(alloc);
-    let Some(book) = collect(
+    let made = collect(
         alloc,
         rules,
         &mut table_source,
         &mut source,
         &mut sink,
         u32::MAX,
-    )?
-    else {
-        return Ok(None);
+    );
+    let book = match made {
+        Ok(Some(book)) => book,
+        Ok(None) => return Ok(None),
+        // A sink in memory fails for want of it alone.
+        Err(Fault::Write) => return Err(Fault::Memory),
+        Err(fault) => return Err(fault),
     };
     match sink.as_bytes().to_vec(alloc) {
         Ok(replies) => Ok(Some((replies, book))),
