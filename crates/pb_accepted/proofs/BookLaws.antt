@@ -5,10 +5,11 @@ use Rattle.pb_poly.specs.declared.entry.Entry.{Entry}
 use Rattle.pb_poly.specs.Book.{BookBytes, book_bytes}
 use Rattle.pb_games.specs.Submissions.{Submission}
 use Rattle.pb_points.specs.Weight.{scaled, Before}
-use Rattle.pb_accepted.specs.Accepting.{Answer, Accepted, Taken, OneGame}
+use Rattle.pb_accepted.specs.Accepting.{Answer, Taken, OneGame}
 use Rattle.pb_accepted.specs.Basis.{Basis}
 use Rattle.pb_accepted.specs.Counting.{points, occurrences, count, times, Occurs, IsGreatest, IsWeight, IsBook}
 use Rattle.pb_accepted.specs.Laws.{NoRepeats, SameMembers}
+use Rattle.pb_accepted.proofs.Allowing.{Accepted}
 use Rattle.pb_accepted.proofs.Distinct.{accepts_the_taken, no_repeats, Taken-unique}
 use Rattle.pb_accepted.proofs.Members.{same_in_order, permutation_from_members}
 

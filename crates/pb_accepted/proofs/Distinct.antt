@@ -10,8 +10,9 @@ use Rattle.pb_games.specs.declared.refusal.Refusal.TheVariants.{Conflict, Full, 
 use Rattle.pb_games.specs.Submissions.{Submission, IsLawful}
 use Rattle.pb_games.specs.Refusing.{Refuses}
 use Rattle.pb_games.proofs.Refused as refused
-use Rattle.pb_accepted.specs.Accepting.{Answer, IsNumber, IsNewId, Answers, Allowed, Takes, Accepted, Run, Adds, Taken, OneGame}
+use Rattle.pb_accepted.specs.Accepting.{Answer, IsNumber, IsNewId, Adds, Taken, OneGame}
 use Rattle.pb_accepted.specs.Laws.{NoRepeats}
+use Rattle.pb_accepted.proofs.Allowing.{Accepted, Allowed, AllowedRun, Answers, Takes}
 use Rattle.pb_accepted.proofs.Replies.{Answered, answered, held, new, other, full, id_of, game_of, one_submission, Adds-unique, Takes-unique, room-Takes}
 use Rattle.pb_accepted.proofs.Runs.{Along-keeps, Along-unique}
 
@@ -117,7 +118,7 @@ arrival cap A line L s r few agree law (inr (e, inl h)) =
     inr (inr (e, new_one.0, new_one.1))
 arrival cap A line L s r few agree law (inr (e, inr h)) = absurd (refused.unlawful line h.0 s h.2 law)
 
-arrivals : (cap : ℕ) (A : List Submission) (L : List (List ℕ)) (R : List Answer) → length A ≤ cap → OneGame L → Agree A L → Run cap A L R
+arrivals : (cap : ℕ) (A : List Submission) (L : List (List ℕ)) (R : List Answer) → length A ≤ cap → OneGame L → Agree A L → AllowedRun cap A L R
     → (i : ℕ) (line : List ℕ) (s : Submission) (r : Answer) → slice_get L i ≡ Some line → IsLawful line s → slice_get R i ≡ Some r
     → (B : List Submission) → Accepted A (take i L) (take i R) B → Arrives cap B s r
 arrivals cap A [] [] few one agree run i line s r here law told B accepted = let none : None ≡ Some line = here in cc
@@ -134,7 +135,7 @@ arrivals cap A (b ∷ L) (q ∷ R) few one agree run (suc i) line s r here law t
 arrivals cap A [] (q ∷ R) few one agree run i line s r here law told B accepted = absurd run
 arrivals cap A (b ∷ L) [] few one agree run i line s r here law told B accepted = absurd run
 
-pub lawful_arrives : (cap : ℕ) (L : List (List ℕ)) (R : List Answer) → OneGame L → Run cap [] L R
+pub lawful_arrives : (cap : ℕ) (L : List (List ℕ)) (R : List Answer) → OneGame L → AllowedRun cap [] L R
     → (i : ℕ) (line : List ℕ) (s : Submission) (r : Answer) → slice_get L i ≡ Some line → IsLawful line s → slice_get R i ≡ Some r
     → (A : List Submission) → Accepted [] (take i L) (take i R) A
     → ((n : ℕ) × (r ≡ Ok n)) ⊎ (((r ≡ Err Full) × IsNewId s.0 A × (length A ≡ cap)) ⊎ ((r ≡ Err Memory) × IsNewId s.0 A × (length A < cap)))
@@ -158,12 +159,12 @@ allowed_clear cap A line L r few agree (inl (inl h)) = arrives_clear cap A h.0 r
 allowed_clear cap A line L r few agree (inl (inr h)) = subst IsNoConflict (sym h.1) (refused_clear line h.0 h.2)
 allowed_clear cap A line L r few agree (inr h) = λ n e. let q : r ≡ Err Memory = h.0 in cc
 
-no_conflicts : (cap : ℕ) (A : List Submission) (L : List (List ℕ)) (R : List Answer) → length A ≤ cap → OneGame L → Agree A L → Run cap A L R → AllByRecursion IsNoConflict R
+no_conflicts : (cap : ℕ) (A : List Submission) (L : List (List ℕ)) (R : List Answer) → length A ≤ cap → OneGame L → Agree A L → AllowedRun cap A L R → AllByRecursion IsNoConflict R
 no_conflicts cap A [] [] few one agree run = tt
 no_conflicts cap A (line ∷ L) (r ∷ R) few one agree run =
     (allowed_clear cap A line L r few agree run.1, no_conflicts cap run.0 L R (room-Takes cap A line r run.0 few run.1 run.2) (OneGame-tail line L one) (Agree-Takes A line L r run.0 one agree run.2) run.3)
 no_conflicts cap A [] (r ∷ R) few one agree run = absurd run
 no_conflicts cap A (line ∷ L) [] few one agree run = absurd run
 
-pub no_conflict : (cap : ℕ) (L : List (List ℕ)) (R : List Answer) → OneGame L → Run cap [] L R → All (λ r. (n : ℕ) → r ≢ Err (Conflict n)) R
+pub no_conflict : (cap : ℕ) (L : List (List ℕ)) (R : List Answer) → OneGame L → AllowedRun cap [] L R → All (λ r. (n : ℕ) → r ≢ Err (Conflict n)) R
 no_conflict cap L R one run = All-from_recursion IsNoConflict R (no_conflicts cap [] L R (omega arith) one (Agree-nil L) run)

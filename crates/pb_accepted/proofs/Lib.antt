@@ -1,3 +1,4 @@
+pub mod Allowing
 pub mod Arrivals
 pub mod BookLaws
 pub mod Books
@@ -11,3 +12,4 @@ pub mod Numbers
 pub mod Places
 pub mod Replies
 pub mod Runs
+pub mod Steps

@@ -8,8 +8,9 @@ use Rattle.pb_games.specs.Refusing.{Refuses, field_of}
 use Rattle.pb_games.specs.Submissions.{IsLawful, Submission}
 use Rattle.pb_games.proofs.Dues.{none_before, order}
 use Rattle.pb_games.proofs.Texts.{fields_back}
-use Rattle.pb_accepted.specs.Accepting.{Allowed, Answer}
+use Rattle.pb_accepted.specs.Accepting.{Answer}
 use Rattle.pb_accepted.specs.Replies.{named}
+use Rattle.pb_accepted.proofs.Allowing.{Allowed}
 
 abbrev IsNamedShort : List ℕ → Answer → Type 0
 IsNamedShort line r = length (named line r) ≤ 64

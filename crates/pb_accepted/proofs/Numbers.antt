@@ -3,8 +3,9 @@ use Rattle.std.proofs.Common.{zero, suc, ◌≡◌, ℕ, ◌+◌, ◌<◌, ◌�
 use Rattle.pb_games.specs.declared.refusal.Refusal.TheVariants.{Memory}
 use Rattle.pb_games.specs.Submissions.{Submission, IsLawful}
 use Rattle.pb_games.proofs.Refused as refused
-use Rattle.pb_accepted.specs.Accepting.{Answer, IsNumber, Answers, Allowed, Takes, Accepted, Run}
+use Rattle.pb_accepted.specs.Accepting.{Answer, IsNumber}
 use Rattle.pb_accepted.specs.Holding.{HaveOwnIds}
+use Rattle.pb_accepted.proofs.Allowing.{Accepted, Allowed, AllowedRun, Answers, Takes}
 use Rattle.pb_accepted.proofs.Replies.{one_submission, one_number, allowed_held, new_is_next, HaveOwnIds-Takes, Takes-unique}
 use Rattle.pb_accepted.proofs.Runs.{Along-keeps, own_ids, HaveOwnIds-nil}
 
@@ -53,7 +54,7 @@ number_taken cap A line s n M law (inr h) t = let e : Ok n ≡ Err Memory = h.0 
 
 -- ---- repeats
 
-later : (cap : ℕ) (A : List Submission) (L : List (List ℕ)) (R : List Answer) → Run cap A L R → HaveOwnIds A → (n : ℕ) (s : Submission) → IsNumber A n s
+later : (cap : ℕ) (A : List Submission) (L : List (List ℕ)) (R : List Answer) → AllowedRun cap A L R → HaveOwnIds A → (n : ℕ) (s : Submission) → IsNumber A n s
     → (j : ℕ) (c : List ℕ) → slice_get L j ≡ Some c → IsLawful c s → slice_get R j ≡ Some (Ok n)
 later cap A [] [] run own n s at j c here law = let no : None ≡ Some c = here in cc
 later cap A (line ∷ L) (r ∷ R) run own n s at zero c here law =
@@ -73,7 +74,7 @@ head_number cap A line r M b s n allowed taken e law f =
     let answer : r ≡ Ok n = cc in
     number_taken cap A line s n M (subst (λ x. IsLawful x s) (sym same) law) (subst (Allowed cap A line) answer allowed) (subst (λ x. Takes A line x M) answer taken)
 
-pub repeats : (cap : ℕ) (A : List Submission) (L : List (List ℕ)) (R : List Answer) → Run cap A L R → HaveOwnIds A
+pub repeats : (cap : ℕ) (A : List Submission) (L : List (List ℕ)) (R : List Answer) → AllowedRun cap A L R → HaveOwnIds A
     → (i j n : ℕ) (b c : List ℕ) (s : Submission) → i < j → slice_get L i ≡ Some b → IsLawful b s → slice_get R i ≡ Some (Ok n) → slice_get L j ≡ Some c → IsLawful c s → slice_get R j ≡ Some (Ok n)
 repeats cap A [] [] run own i j n b c s lt first law told here again = let no : None ≡ Some b = first in cc
 repeats cap A (line ∷ L) (r ∷ R) run own i zero n b c s lt first law told here again = absurd (omega (arith, lt))
@@ -90,14 +91,14 @@ abbrev Given : List (List ℕ) → List Answer → ℕ → Submission → Type 0
 Given L R n s = (j : ℕ) × (line : List ℕ) × (slice_get L j ≡ Some line) × IsLawful line s × (slice_get R j ≡ Some (Ok n))
 
 -- what was answered is a number in the end
-given_number : (cap : ℕ) (A : List Submission) (L : List (List ℕ)) (R : List Answer) (B : List Submission) → Run cap A L R → Accepted A L R B
+given_number : (cap : ℕ) (A : List Submission) (L : List (List ℕ)) (R : List Answer) (B : List Submission) → AllowedRun cap A L R → Accepted A L R B
     → (n j : ℕ) (b : List ℕ) (s : Submission) → slice_get L j ≡ Some b → IsLawful b s → slice_get R j ≡ Some (Ok n) → IsNumber B n s
 given_number cap A [] [] B run accepted n j b s here law told = let no : None ≡ Some b = here in cc
 given_number cap A (line ∷ L) (r ∷ R) B run accepted n zero b s here law told =
     IsNumber-Accepted accepted.0 L R B n s accepted.2 (head_number cap A line r accepted.0 b s n run.1 accepted.1 here law told)
 given_number cap A (line ∷ L) (r ∷ R) B run accepted n (suc j) b s here law told =
     let same = Takes-unique A line r run.0 accepted.0 run.2 accepted.1 in
-    given_number cap accepted.0 L R B (subst (λ M. Run cap M L R) same run.3) accepted.2 n j b s here law told
+    given_number cap accepted.0 L R B (subst (λ M. AllowedRun cap M L R) same run.3) accepted.2 n j b s here law told
 given_number cap A [] (r ∷ R) B run accepted n j b s here law told = absurd run
 given_number cap A (line ∷ L) [] B run accepted n j b s here law told = absurd run
 
@@ -114,12 +115,12 @@ number_before cap A line r M n s allowed (inl t) at = by (slice_get-push_cases A
         inr (subst (IsLawful line) last.1 t.1, (new_is_next cap A line t.0 r t.1 t.2 t.3 allowed).0 ∙ ap (λ m. Ok m) number)
 
 -- each number stood there at first, or was given
-number_given : (cap : ℕ) (A : List Submission) (L : List (List ℕ)) (R : List Answer) (B : List Submission) → Run cap A L R → Accepted A L R B
+number_given : (cap : ℕ) (A : List Submission) (L : List (List ℕ)) (R : List Answer) (B : List Submission) → AllowedRun cap A L R → Accepted A L R B
     → (n : ℕ) (s : Submission) → IsNumber B n s → IsNumber A n s ⊎ Given L R n s
 number_given cap A [] [] B run accepted n s at = inl (subst (λ X. IsNumber X n s) accepted at)
 number_given cap A (line ∷ L) (r ∷ R) B run accepted n s at =
     let same = Takes-unique A line r run.0 accepted.0 run.2 accepted.1 in
-    elim (number_given cap accepted.0 L R B (subst (λ M. Run cap M L R) same run.3) accepted.2 n s at) [
+    elim (number_given cap accepted.0 L R B (subst (λ M. AllowedRun cap M L R) same run.3) accepted.2 n s at) [
       | inl here ↦ elim (number_before cap A line r accepted.0 n s run.1 accepted.1 here) [
         | inl old ↦ inl old
         | inr now ↦ inr (zero, line, refl, now.0, ap (λ x. Some x) now.1)
@@ -129,7 +130,7 @@ number_given cap A (line ∷ L) (r ∷ R) B run accepted n s at =
 number_given cap A [] (r ∷ R) B run accepted n s at = absurd run
 number_given cap A (line ∷ L) [] B run accepted n s at = absurd run
 
-pub numbers_given : (cap : ℕ) (L : List (List ℕ)) (R : List Answer) (A : List Submission) → Run cap [] L R → Accepted [] L R A → (n : ℕ) (s : Submission)
+pub numbers_given : (cap : ℕ) (L : List (List ℕ)) (R : List Answer) (A : List Submission) → AllowedRun cap [] L R → Accepted [] L R A → (n : ℕ) (s : Submission)
     → IsNumber A n s ↔ ((j : ℕ) × (line : List ℕ) × (slice_get L j ≡ Some line) × IsLawful line s × (slice_get R j ≡ Some (Ok n)))
 numbers_given cap L R A run accepted n s = (to, λ g. given_number cap [] L R A run accepted n g.0 g.1 s g.2 g.3 g.4)
   where
@@ -142,6 +143,6 @@ numbers_given cap L R A run accepted n s = (to, λ g. given_number cap [] L R A 
 pub numbers_differ : (L : List (List ℕ)) (R : List Answer) (A : List Submission) (m n : ℕ) (s : Submission) → Accepted [] L R A → IsNumber A m s → IsNumber A n s → m ≡ n
 numbers_differ L R A m n s accepted h k = one_number A m n s (own_ids L R A accepted) h k
 
-pub repeats_keep : (cap : ℕ) (L : List (List ℕ)) (R : List Answer) → Run cap [] L R
+pub repeats_keep : (cap : ℕ) (L : List (List ℕ)) (R : List Answer) → AllowedRun cap [] L R
     → (i j n : ℕ) (b c : List ℕ) (s : Submission) → i < j → slice_get L i ≡ Some b → IsLawful b s → slice_get R i ≡ Some (Ok n) → slice_get L j ≡ Some c → IsLawful c s → slice_get R j ≡ Some (Ok n)
 repeats_keep cap L R run = repeats cap [] L R run HaveOwnIds-nil

@@ -13,8 +13,9 @@ use Rattle.pb_games.specs.Refusing.{Refuses}
 use Rattle.pb_games.proofs.OneLine as line
 use Rattle.pb_games.proofs.OneRefused as refusals
 use Rattle.pb_games.proofs.Refused as refused
-use Rattle.pb_accepted.specs.Accepting.{Answer, IsNumber, IsNewId, Answers, Reply, Allowed, HasRoom, Adds, Takes}
+use Rattle.pb_accepted.specs.Accepting.{Answer, IsNumber, IsNewId, HasRoom, Adds}
 use Rattle.pb_accepted.specs.Holding.{HaveOwnIds}
+use Rattle.pb_accepted.proofs.Allowing.{Allowed, Answers, Reply, Takes}
 
 -- the id, and the game, of a submission
 abbrev pub id_of : Submission → List ℕ

@@ -1,8 +1,9 @@
 -- Whole runs, line by line.
 use Rattle.std.proofs.Common.{◌≡◌, ℕ, List, [], ◌∷◌, ◌++◌, refl, sym, subst, ◌∙◌, arith}
 use Rattle.pb_games.specs.Submissions.{Submission}
-use Rattle.pb_accepted.specs.Accepting.{Answer, Allowed, Along, Takes, Accepted, Run}
+use Rattle.pb_accepted.specs.Accepting.{Answer, Along}
 use Rattle.pb_accepted.specs.Holding.{HaveOwnIds}
+use Rattle.pb_accepted.proofs.Allowing.{Accepted, Allowed, AllowedRun, Takes}
 use Rattle.pb_accepted.proofs.Replies.{Takes-unique, takes_allowed, HaveOwnIds-Takes}
 
 -- ---- steps
@@ -38,7 +39,7 @@ pub Accepted-unique : (A : List Submission) (L : List (List ℕ)) (R : List Answ
 Accepted-unique = Along-unique Takes Takes-unique
 
 -- each run leaves some list
-pub accepted_of : (cap : ℕ) (A : List Submission) (L : List (List ℕ)) (R : List Answer) → Run cap A L R → (B : List Submission) × Accepted A L R B
+pub accepted_of : (cap : ℕ) (A : List Submission) (L : List (List ℕ)) (R : List Answer) → AllowedRun cap A L R → (B : List Submission) × Accepted A L R B
 accepted_of cap A [] [] run = (A, refl)
 accepted_of cap A (line ∷ L) (r ∷ R) run = let rest = accepted_of cap run.0 L R run.3 in (rest.0, (run.0, run.2, rest.1))
 accepted_of cap A [] (r ∷ R) run = absurd run
@@ -47,8 +48,8 @@ accepted_of cap A (line ∷ L) [] run = absurd run
 -- ---- runs that go on
 
 pub Run-append : (cap : ℕ) (A B : List Submission) (K L : List (List ℕ)) (Q R : List Answer)
-    → Run cap A K Q → Accepted A K Q B → Run cap B L R → Run cap A (K ++ L) (Q ++ R)
-Run-append cap A B [] L [] R run accepted more = subst (λ X. Run cap X L R) accepted more
+    → AllowedRun cap A K Q → Accepted A K Q B → AllowedRun cap B L R → AllowedRun cap A (K ++ L) (Q ++ R)
+Run-append cap A B [] L [] R run accepted more = subst (λ X. AllowedRun cap X L R) accepted more
 Run-append cap A B (line ∷ K) L (q ∷ Q) R run accepted more =
     let same = Takes-unique A line q accepted.0 run.0 accepted.1 run.2 in
     (run.0, run.1, run.2, Run-append cap run.0 B K L Q R run.3 (subst (λ M. Accepted M K Q B) same accepted.2) more)
@@ -64,7 +65,7 @@ Accepted-append A B C (line ∷ K) L [] R accepted more = absurd accepted
 
 -- by one more line
 pub Run-push : (cap : ℕ) (A : List Submission) (L : List (List ℕ)) (R : List Answer) (B : List Submission) (line : List ℕ) (r : Answer)
-    → Run cap A L R → Accepted A L R B → Allowed cap B line r → Run cap A (L ++ line ∷ []) (R ++ r ∷ [])
+    → AllowedRun cap A L R → Accepted A L R B → Allowed cap B line r → AllowedRun cap A (L ++ line ∷ []) (R ++ r ∷ [])
 Run-push cap A L R B line r run accepted allowed =
     let taken = takes_allowed cap B line r allowed in
     Run-append cap A B L (line ∷ []) R (r ∷ []) run accepted (taken.0, allowed, taken.1, tt)

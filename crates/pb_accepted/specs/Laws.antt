@@ -5,7 +5,7 @@ use Rattle.pb_poly.specs.Book.{BookBytes}
 use Rattle.pb_games.specs.declared.refusal.Refusal.{Refusal}
 use Rattle.pb_games.specs.declared.refusal.Refusal.TheVariants.{Conflict, Full, Memory}
 use Rattle.pb_games.specs.Submissions.{Submission, IsLawful}
-use Rattle.pb_accepted.specs.Accepting.{Answer, IsNumber, IsNewId, Reply, Allowed, Takes, Accepted, Run, Taken, OneGame}
+use Rattle.pb_accepted.specs.Accepting.{Answer, IsNumber, IsNewId, OneGame, Run, Step, Taken}
 use Rattle.pb_accepted.specs.Basis.{Basis}
 use Rattle.pb_accepted.specs.Counting.{count, IsBook}
 use Rattle.pb_accepted.specs.Holding.{HaveOwnIds}
@@ -13,66 +13,52 @@ use Rattle.pb_accepted.specs.Replies.{named}
 
 -- ---- one line
 
--- where no id stands twice, a line has one reply
-abbrev pub OneReply : Type 0
-OneReply = (cap : ℕ) (A : List Submission) (line : List ℕ) (q r : Answer) → HaveOwnIds A → Reply cap A line q → Reply cap A line r → q ≡ r
+-- where no id stands twice, a line has one answer, want of memory aside, and leaves one list
+abbrev pub OneStep : Type 0
+OneStep = (cap : ℕ) (A : List Submission) (line : List ℕ) (q r : Answer) (B C : List Submission)
+    → HaveOwnIds A → Step cap A line q B → Step cap A line r C → q ≢ Err Memory → r ≢ Err Memory → (q ≡ r) × (B ≡ C)
 
 -- a submission that is held is answered with its number, whatever room and memory there are
 abbrev pub HeldIsAnswered : Type 0
-HeldIsAnswered = (cap : ℕ) (A : List Submission) (line : List ℕ) (s : Submission) (n : ℕ) (r : Answer)
-    → HaveOwnIds A → IsLawful line s → IsNumber A n s → Allowed cap A line r → r ≡ Ok n
+HeldIsAnswered = (cap : ℕ) (A : List Submission) (line : List ℕ) (s : Submission) (n : ℕ) (r : Answer) (B : List Submission)
+    → HaveOwnIds A → IsLawful line s → IsNumber A n s → Step cap A line r B → r ≡ Ok n
 
 -- a line that is refused changes nothing
 abbrev pub RefusalsChangeNothing : Type 0
-RefusalsChangeNothing = (cap : ℕ) (A : List Submission) (line : List ℕ) (e : Refusal) (B : List Submission)
-    → Allowed cap A line (Err e) → Takes A line (Err e) B → B ≡ A
+RefusalsChangeNothing = (cap : ℕ) (A : List Submission) (line : List ℕ) (e : Refusal) (B : List Submission) → Step cap A line (Err e) B → B ≡ A
 
 -- the reply to a line names at most 64 bytes
 abbrev pub NamesAreShort : Type 0
-NamesAreShort = (cap : ℕ) (A : List Submission) (line : List ℕ) (answer : Answer) → Allowed cap A line answer → length (named line answer) ≤ 64
+NamesAreShort = (cap : ℕ) (A : List Submission) (line : List ℕ) (r : Answer) (B : List Submission) → Step cap A line r B → length (named line r) ≤ 64
 
 -- ---- runs
 
--- no id stands twice in what a ledger accepts
+-- no id stands twice in what a ledger holds
 abbrev pub IdsAreDistinct : Type 0
-IdsAreDistinct = (L : List (List ℕ)) (R : List Answer) (A : List Submission) → Accepted [] L R A → HaveOwnIds A
+IdsAreDistinct = (cap : ℕ) (L : List (List ℕ)) (R : List Answer) (A : List Submission) → Run cap [] L R A → HaveOwnIds A
 
--- the lines with their answers fix what is accepted
-abbrev pub AcceptedIsOne : Type 0
-AcceptedIsOne = (A : List Submission) (L : List (List ℕ)) (R : List Answer) (B C : List Submission) → Accepted A L R B → Accepted A L R C → B ≡ C
+-- the lines with their answers fix what is held, whatever room there was
+abbrev pub OneRun : Type 0
+OneRun = (cap most : ℕ) (A : List Submission) (L : List (List ℕ)) (R : List Answer) (B C : List Submission) → Run cap A L R B → Run most A L R C → B ≡ C
 
 -- and the distinct submissions
 abbrev pub TakenIsOne : Type 0
 TakenIsOne = (A : List Submission) (L : List (List ℕ)) (R : List Answer) (B C : List Submission) → Taken A L R B → Taken A L R C → B ≡ C
 
--- each run leaves some list
-abbrev pub RunsAccept : Type 0
-RunsAccept = (cap : ℕ) (A : List Submission) (L : List (List ℕ)) (R : List Answer) → Run cap A L R → (B : List Submission) × Accepted A L R B
-
--- a run followed by one more line, and an answer that is allowed for it, is a run
-abbrev pub RunsGoOn : Type 0
-RunsGoOn = (cap : ℕ) (A : List Submission) (L : List (List ℕ)) (R : List Answer) (B : List Submission) (line : List ℕ) (r : Answer)
-    → Run cap A L R → Accepted A L R B → Allowed cap B line r → Run cap A (L ++ line ∷ []) (R ++ r ∷ [])
-
 -- two runs, the second from what the first left, are one
 abbrev pub RunsJoin : Type 0
-RunsJoin = (cap : ℕ) (A B : List Submission) (K L : List (List ℕ)) (Q R : List Answer)
-    → Run cap A K Q → Accepted A K Q B → Run cap B L R → Run cap A (K ++ L) (Q ++ R)
-
-abbrev pub AcceptedJoin : Type 0
-AcceptedJoin = (A B C : List Submission) (K L : List (List ℕ)) (Q R : List Answer)
-    → Accepted A K Q B → Accepted B L R C → Accepted A (K ++ L) (Q ++ R) C
+RunsJoin = (cap : ℕ) (A B C : List Submission) (K L : List (List ℕ)) (Q R : List Answer) → Run cap A K Q B → Run cap B L R C → Run cap A (K ++ L) (Q ++ R) C
 
 -- ---- numbers
 
 -- a submission has one number
 abbrev pub NumbersAreDistinct : Type 0
-NumbersAreDistinct = (L : List (List ℕ)) (R : List Answer) (A : List Submission) (m n : ℕ) (s : Submission)
-    → Accepted [] L R A → IsNumber A m s → IsNumber A n s → m ≡ n
+NumbersAreDistinct = (cap : ℕ) (L : List (List ℕ)) (R : List Answer) (A : List Submission) (m n : ℕ) (s : Submission)
+    → Run cap [] L R A → IsNumber A m s → IsNumber A n s → m ≡ n
 
 -- the numbers of what is held are 1 to its length, and they are just those that were answered
 abbrev pub NumbersAreGiven : Type 0
-NumbersAreGiven = (cap : ℕ) (L : List (List ℕ)) (R : List Answer) (A : List Submission) → Run cap [] L R → Accepted [] L R A → (n : ℕ) (s : Submission)
+NumbersAreGiven = (cap : ℕ) (L : List (List ℕ)) (R : List Answer) (A : List Submission) → Run cap [] L R A → (n : ℕ) (s : Submission)
     → IsNumber A n s ↔ ((j : ℕ) × (line : List ℕ) × (slice_get L j ≡ Some line) × IsLawful line s × (slice_get R j ≡ Some (Ok n)))
 
 -- once one of these lines was answered with a number, each later arrival of its submission is answered with that number
@@ -83,28 +69,28 @@ RepeatsAreAnsweredAlike L R = (i j n : ℕ) (b c : List ℕ) (s : Submission) �
 
 -- so it is in each run
 abbrev pub RepeatsKeepTheirNumber : Type 0
-RepeatsKeepTheirNumber = (cap : ℕ) (L : List (List ℕ)) (R : List Answer) → Run cap [] L R → RepeatsAreAnsweredAlike L R
+RepeatsKeepTheirNumber = (cap : ℕ) (L : List (List ℕ)) (R : List Answer) (A : List Submission) → Run cap [] L R A → RepeatsAreAnsweredAlike L R
 
 -- ---- where no id names two games
 
 -- what is held is the list of the distinct submissions taken
 abbrev pub AcceptsTheTaken : Type 0
-AcceptsTheTaken = (L : List (List ℕ)) (R : List Answer) (A : List Submission) → OneGame L → Accepted [] L R A → Taken [] L R A
+AcceptsTheTaken = (cap : ℕ) (L : List (List ℕ)) (R : List Answer) (A : List Submission) → OneGame L → Run cap [] L R A → Taken [] L R A
 
 -- no answer is a conflict
 abbrev pub NoConflict : Type 0
-NoConflict = (cap : ℕ) (L : List (List ℕ)) (R : List Answer) → OneGame L → Run cap [] L R → All (λ r. (n : ℕ) → r ≢ Err (Conflict n)) R
+NoConflict = (cap : ℕ) (L : List (List ℕ)) (R : List Answer) (A : List Submission) → OneGame L → Run cap [] L R A → All (λ r. (n : ℕ) → r ≢ Err (Conflict n)) R
 
 -- each lawful one of these lines gets a number, unless its id is new and there is no room, or room and no memory
 abbrev pub ArrivalsAreNumbered : ℕ → List (List ℕ) → List Answer → Type 0
 ArrivalsAreNumbered cap L R =
     (i : ℕ) (line : List ℕ) (s : Submission) (r : Answer) → slice_get L i ≡ Some line → IsLawful line s → slice_get R i ≡ Some r
-    → (A : List Submission) → Accepted [] (take i L) (take i R) A
+    → (A : List Submission) → Run cap [] (take i L) (take i R) A
     → ((n : ℕ) × (r ≡ Ok n)) ⊎ (((r ≡ Err Full) × IsNewId s.0 A × (length A ≡ cap)) ⊎ ((r ≡ Err Memory) × IsNewId s.0 A × (length A < cap)))
 
 -- so it is in each run
 abbrev pub LawfulArrives : Type 0
-LawfulArrives = (cap : ℕ) (L : List (List ℕ)) (R : List Answer) → OneGame L → Run cap [] L R → ArrivalsAreNumbered cap L R
+LawfulArrives = (cap : ℕ) (L : List (List ℕ)) (R : List Answer) (A : List Submission) → OneGame L → Run cap [] L R A → ArrivalsAreNumbered cap L R
 
 -- ---- lists without repeats
 
@@ -138,6 +124,6 @@ OneBookText = (T : Basis) (S : List Submission) (E F : List Entry) (b c : List �
 
 -- whatever the order of arrival, the same distinct submissions give the same bytes
 abbrev pub SameBytes : Type 0
-SameBytes = (T : Basis) (K L : List (List ℕ)) (Q R : List Answer) (A B S U : List Submission)
-    → OneGame K → Accepted [] K Q A → Taken [] K Q S → OneGame L → Accepted [] L R B → Taken [] L R U → SameMembers S U
+SameBytes = (T : Basis) (m n : ℕ) (K L : List (List ℕ)) (Q R : List Answer) (A B S U : List Submission)
+    → OneGame K → Run m [] K Q A → Taken [] K Q S → OneGame L → Run n [] L R B → Taken [] L R U → SameMembers S U
     → (E F : List Entry) (b c : List ℕ) → IsBook T A E → BookBytes E b → IsBook T B F → BookBytes F c → b ≡ c

@@ -5,7 +5,7 @@ ghost use Rattle.std.specs.Bool.{Decides};
 ghost use Rattle.pb_accepted.specs.declared.ledger.TheConstants.{MAX_CAP};
 ghost use Rattle.pb_accepted.specs.declared.rules.TheConstants.{MAX_LEAST};
 ghost use Rattle.pb_accepted.specs.Holding.{most_games};
-ghost use Rattle.pb_accepted.specs.Laws.{AcceptedIsOne, AcceptedJoin, AcceptsTheTaken, BookByMembers, CountsByMembers, HeldIsAnswered, IdsAreDistinct, LawfulArrives, NamesAreShort, NoConflict, NumbersAreDistinct, NumbersAreGiven, OneBook, OneReply, OneBookText, RefusalsChangeNothing, RepeatsKeepTheirNumber, RunsAccept, RunsGoOn, RunsJoin, SameBytes, TakenHasNoRepeats, TakenIsOne};
+ghost use Rattle.pb_accepted.specs.Laws.{AcceptsTheTaken, BookByMembers, CountsByMembers, HeldIsAnswered, IdsAreDistinct, LawfulArrives, NamesAreShort, NoConflict, NumbersAreDistinct, NumbersAreGiven, OneBook, OneBookText, OneRun, OneStep, RefusalsChangeNothing, RepeatsKeepTheirNumber, RunsJoin, SameBytes, TakenHasNoRepeats, TakenIsOne};
 ghost use Rattle.pb_accepted.specs.Rules.{CountingRules, most_occurrences};
 
 use crate::rules::Rules;
@@ -17,27 +17,20 @@ pub fn limits()
     ensures least { MAX_LEAST ≡ most_occurrences }
 {}
 
-/// What one line is answered and does, where no id stands twice: one reply and no other, to a submission that is held its
+/// What one line is answered and does, where no id stands twice: one answer and no other, to a submission that is held its
 /// number, and a refused line changes nothing. The reply names an id that is short, as `Reply::new` asks.
 pub fn one_line()
-    ensures reply { OneReply }
+    ensures one { OneStep }
     ensures held { HeldIsAnswered }
     ensures refused { RefusalsChangeNothing }
     ensures named { NamesAreShort }
 {}
 
-/// The lines with their answers fix what is accepted, and no id stands twice in it.
-pub fn accepted()
-    ensures distinct { IdsAreDistinct }
-    ensures one { AcceptedIsOne }
-{}
-
-/// Each run leaves some list; a run and one more line are a run, and so are two runs in a row.
+/// The lines with their answers fix what is held, and no id stands twice in it; two runs in a row are one.
 pub fn runs()
-    ensures accept { RunsAccept }
-    ensures go_on { RunsGoOn }
+    ensures distinct { IdsAreDistinct }
+    ensures one { OneRun }
     ensures join { RunsJoin }
-    ensures accepted_join { AcceptedJoin }
 {}
 
 /// A submission has one number; the numbers of what is held, 1 to its length, are those that were answered; and once it was

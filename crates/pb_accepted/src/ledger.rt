@@ -3,7 +3,7 @@
 ghost use Rattle.std.specs.Prelude.{◌≡◌, ◌≤◌, ◌+◌, ◌*◌, ◌^◌, ◌++◌, ◌∷◌, [], ℕ, IfOk, MatchOption, OnErr, OnOk, Ok, length};
 ghost use Rattle.pb_games.specs.Submissions.{IsLawful, IsSubmission, Submission};
 ghost use Rattle.pb_points.specs.Tally.{held};
-ghost use Rattle.pb_accepted.specs.Accepting.{Allowed, IsNewId, IsNumber, Takes};
+ghost use Rattle.pb_accepted.specs.Accepting.{IsNewId, IsNumber, Step};
 ghost use Rattle.pb_accepted.specs.Arriving.{IsArrival};
 ghost use Rattle.pb_accepted.specs.Counting.{IsBook};
 ghost use Rattle.pb_accepted.specs.Gift.{gifts_of, with_gifts};
@@ -101,11 +101,9 @@ impl<T: Tally> Ledger<T> {
     /// new and no more games may be held; `Memory` where the game is new and there was no memory for it. Nothing has changed
     /// then.
     pub fn submit(&mut self, line: &[u8]) -> Result<u32, Refusal>
-        // The answer is the reply to the line, or want of memory where that is a new number.
-        ensures reply { Allowed self.old.cap self.old.accepted line.now result }
-        // A lawful submission under a new id is added where there is room and memory, and nothing else is.
-        ensures takes { Takes self.old.accepted line.now result self.new.accepted }
-        // One that is held gets its number.
+        // A legal game under a new id is added where there is room and memory, and nothing else is.
+        ensures step { Step self.old.cap self.old.accepted line.now result self.new.accepted }
+        // One that is held gets its number, and no other answer.
         ensures held { (s : Submission) (n : ℕ) → IsLawful line.now s → IsNumber self.old.accepted n s → result ≡ Ok n }
         ensures basis { self.new.basis ≡ self.old.basis }
         ensures cap { self.new.cap ≡ self.old.cap }
@@ -144,8 +142,7 @@ impl<T: Tally> Ledger<T> {
     /// Takes a line under whose id no game is held.
     fn take(&mut self, line: &[u8]) -> Result<u32, Refusal>
         requires { (s : Submission) → IsLawful line.now s → IsNewId s.0 self.old.accepted }
-        ensures reply { Allowed self.old.cap self.old.accepted line.now result }
-        ensures takes { Takes self.old.accepted line.now result self.new.accepted }
+        ensures step { Step self.old.cap self.old.accepted line.now result self.new.accepted }
         ensures basis { self.new.basis ≡ self.old.basis }
         ensures cap { self.new.cap ≡ self.old.cap }
     {

@@ -1,10 +1,5 @@
-use Rattle.pb_accepted.proofs.Runs.{accepted_of, Run-push, Run-append, Accepted-append}
+use Rattle.pb_accepted.proofs.Steps.{distinct_ids, one_run, runs_join}
 use Rattle.pb_accepted.proofs.laws.runs.Goals as goal
 
 pub returns : goal.returns
-returns c = record {
-  accept = accepted_of;
-  go_on = Run-push;
-  join = Run-append;
-  accepted_join = Accepted-append;
-}
+returns c = record { distinct = distinct_ids; one = one_run; join = runs_join }

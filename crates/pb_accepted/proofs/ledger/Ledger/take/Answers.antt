@@ -1,17 +1,18 @@
-use Rattle.std.proofs.Common.{◌≡◌, ℕ, ◌+◌, ◌<◌, ◌≤◌, ◌++◌, ◌∷◌, [], Ok, length, sym, ap, subst, ◌∙◌, arith}
+use Rattle.std.proofs.Common.{◌≡◌, ℕ, ◌+◌, ◌<◌, ◌≤◌, ◌++◌, ◌∷◌, [], Ok, Err, length, refl, sym, ap, subst, ◌∙◌, arith}
 use Rattle.std.proofs.lemmas.List.{length_push}
+use Rattle.std.proofs.lemmas.Result.{err_from_is_err_and}
 use Rattle.pb_points.specs.Tally.{held}
-use Rattle.pb_accepted.specs.Accepting.{Allowed, IsNewId, Takes}
+use Rattle.pb_accepted.specs.Accepting.{IsNewId, Step}
+use Rattle.pb_accepted.specs.Accepting as steps
 use Rattle.pb_accepted.specs.Gift.{gifts_of, with_gifts}
 use Rattle.pb_accepted.specs.Holding.{HoldsCounts}
 use Rattle.pb_accepted.specs.Ledger.{LedgerState}
 use Rattle.pb_accepted.proofs.Arrivals.{submitted}
 use Rattle.pb_accepted.proofs.Counts.{Holds-push, points_fit, times_fit}
-use Rattle.pb_accepted.proofs.Replies.{Allowed-full, Allowed-memory, Allowed-new, Takes-new}
 use Rattle.pb_accepted.proofs.ledger.Ledger.take.Goals as goal
 
-pub returns-then-len-self-clause-reply : goal.returns-then-len-self-clause-reply
-returns-then-len-self-clause-reply g c =
+pub returns-then-len-self-clause-step : goal.returns-then-len-self-clause-step
+returns-then-len-self-clause-step g c =
     let A = c.args.self.now.accepted in
     let cap = c.args.self.now.cap in
     let read = c.in_ok-read.read in
@@ -19,7 +20,12 @@ returns-then-len-self-clause-reply g c =
     let holds = ap (λ (l : LedgerState). l.accepted) c.self.view_is in
     let capped = ap (λ (l : LedgerState). l.cap) c.self.view_is in
     let many : cap ≤ length A = omega (arith, ap length holds, capped, c.if-len-self.true, c.len.ensures.len) in
-    Allowed-full cap A c.args.line.now read lawful (c.requires read lawful) many
+    steps.full read lawful (c.requires read lawful) many refl holds
+
+pub returns-in_err-read-clause-step : goal.returns-in_err-read-clause-step
+returns-in_err-read-clause-step g c =
+    let e = err_from_is_err_and c.from_residual.result c.from_residual.ensures.1 in
+    steps.refused _ c.in_err-read.ensures.refused (e.1 ∙ ap (λ x. Err x) e.2) (ap (λ (l : LedgerState). l.accepted) c.self.view_is)
 
 pub accept-requires-clause-new : goal.accept-requires-clause-new
 accept-requires-clause-new g c =
@@ -58,8 +64,8 @@ invariant_of-self-in-Ok g c =
     subst (λ w. HoldsCounts h (record { basis = record { words = w; rules = inside.rules }; cap = inside.cap; accepted = c.accept.new.games.entries })) (sym table)
     (subst (λ X. HoldsCounts h (record { basis = l.basis; cap = inside.cap; accepted = X })) (sym c.in-Ok.ensures.game) pushed)
 
-pub returns-in-Ok-clause-reply : goal.returns-in-Ok-clause-reply
-returns-in-Ok-clause-reply g c =
+pub returns-in-Ok-clause-step : goal.returns-in-Ok-clause-step
+returns-in-Ok-clause-step g c =
     let A = c.args.self.now.accepted in
     let cap = c.args.self.now.cap in
     let read = c.in_ok-read.read in
@@ -69,20 +75,10 @@ returns-in-Ok-clause-reply g c =
     let room : length A < cap = omega (arith, ap length holds, capped, c.if-len-self.false, c.len.ensures.len, c.self.invariant.rules.room) in
     let number : c.len-in-Ok.result ≡ length A + 1 =
     c.len-in-Ok.ensures.value ∙ ap length c.in-Ok.ensures.game ∙ length_push c.self.inside.games.entries read ∙ ap (λ n. n + 1) (ap length holds) in
-    subst (λ n. Allowed cap A c.args.line.now (Ok n)) (sym number) (Allowed-new cap A c.args.line.now read lawful (c.requires read lawful) room)
+    steps.new read lawful (c.requires read lawful) room (ap (λ n. Ok n) number) (c.in-Ok.ensures.game ∙ ap (λ X. X ++ read ∷ []) holds)
 
-pub returns-in-Ok-clause-takes : goal.returns-in-Ok-clause-takes
-returns-in-Ok-clause-takes g c =
-    let A = c.args.self.now.accepted in
-    let read = c.in_ok-read.read in
-    let lawful = c.in_ok-read.ensures.found in
-    let line = c.args.line.now in
-    let number = c.len-in-Ok.result in
-    let holds = ap (λ (l : LedgerState). l.accepted) c.self.view_is in
-    subst (Takes A line (Ok number)) (sym (c.in-Ok.ensures.game ∙ ap (λ X. X ++ read ∷ []) holds)) (Takes-new c.args.self.now.cap A line read lawful number (c.requires read lawful))
-
-pub returns-in-Err-clause-reply : goal.returns-in-Err-clause-reply
-returns-in-Err-clause-reply g c =
+pub returns-in-Err-clause-step : goal.returns-in-Err-clause-step
+returns-in-Err-clause-step g c =
     let A = c.args.self.now.accepted in
     let cap = c.args.self.now.cap in
     let read = c.in_ok-read.read in
@@ -90,4 +86,4 @@ returns-in-Err-clause-reply g c =
     let holds = ap (λ (l : LedgerState). l.accepted) c.self.view_is in
     let capped = ap (λ (l : LedgerState). l.cap) c.self.view_is in
     let room : length A < cap = omega (arith, ap length holds, capped, c.if-len-self.false, c.len.ensures.len, c.self.invariant.rules.room) in
-    Allowed-memory cap A c.args.line.now read lawful (c.requires read lawful) room
+    steps.memory read lawful (c.requires read lawful) room refl (c.in-Err.ensures.same_games ∙ holds)

@@ -1,0 +1,142 @@
+-- A step of the table is an answer that is allowed and the list that it leaves; so are runs. The laws of steps follow.
+use Rattle.std.proofs.Common.{◌≡◌, ◌≢◌, ℕ, ◌+◌, ◌<◌, ◌≤◌, ◌⊎◌, ◌↔◌, List, [], ◌∷◌, ◌++◌, All, length, take, Ok, Err, Some, slice_get, sym, subst, ap, inl, inr, arith}
+use Rattle.std.proofs.lemmas.Option.{slice_get_within}
+use Rattle.pb_poly.specs.declared.entry.Entry.{Entry}
+use Rattle.pb_poly.specs.Book.{BookBytes}
+use Rattle.pb_games.specs.declared.refusal.Refusal.{Refusal}
+use Rattle.pb_games.specs.declared.refusal.Refusal.TheVariants.{Conflict, Full, Memory}
+use Rattle.pb_games.specs.Submissions.{Submission, IsLawful}
+use Rattle.pb_accepted.specs.Accepting as steps
+use Rattle.pb_accepted.specs.Accepting.{Answer, IsNewId, IsNumber, OneGame, Run, Step, Taken}
+use Rattle.pb_accepted.specs.Basis.{Basis}
+use Rattle.pb_accepted.specs.Counting.{IsBook}
+use Rattle.pb_accepted.specs.Holding.{HaveOwnIds}
+use Rattle.pb_accepted.specs.Laws as laws
+use Rattle.pb_accepted.specs.Laws.{SameMembers}
+use Rattle.pb_accepted.specs.Replies.{named}
+use Rattle.pb_accepted.proofs.Allowing.{Accepted, Allowed, AllowedRun, Reply, Takes}
+use Rattle.pb_accepted.proofs.BookLaws.{same_bytes}
+use Rattle.pb_accepted.proofs.Distinct.{accepts_the_taken, lawful_arrives, no_conflict}
+use Rattle.pb_accepted.proofs.Naming.{named_short}
+use Rattle.pb_accepted.proofs.Numbers.{numbers_differ, numbers_given, repeats_keep}
+use Rattle.pb_accepted.proofs.Replies.{Answered, answered, held, new, other, full, allowed_held, one_reply, Allowed-full, Allowed-new, Allowed-memory, Allowed-refused, Takes-held, Takes-new, Takes-refused, Takes-refusal, Takes-full, Takes-memory, Takes-unique}
+use Rattle.pb_accepted.proofs.Runs.{Accepted-append, Accepted-unique, Run-append, own_ids}
+
+-- ---- from a step
+
+abbrev Both : ℕ → List Submission → List ℕ → Answer → List Submission → Type 0
+Both cap A line r B = Allowed cap A line r × Takes A line r B
+
+by_equal : (cap : ℕ) (A : List Submission) (line : List ℕ) (r q : Answer) (B C : List Submission) → r ≡ q → B ≡ C → Both cap A line q C → Both cap A line r B
+by_equal cap A line r q B C e f h = subst (λ x. Both cap A line x B) (sym e) (subst (λ X. Both cap A line q X) (sym f) h)
+
+pub step_to : (cap : ℕ) (A : List Submission) (line : List ℕ) (r : Answer) (B : List Submission) → Step cap A line r B → Allowed cap A line r × Takes A line r B
+step_to cap A line r B (steps.new s law fresh room e f) =
+    by_equal cap A line r _ B _ e f (Allowed-new cap A line s law fresh room, Takes-new cap A line s law (length A + 1) fresh)
+step_to cap A line r B (steps.full s law fresh many e f) = by_equal cap A line r _ B _ e f (Allowed-full cap A line s law fresh many, Takes-full A line)
+step_to cap A line r B (steps.memory s law fresh room e f) = by_equal cap A line r _ B _ e f (Allowed-memory cap A line s law fresh room, Takes-memory A line)
+step_to cap A line r B (steps.repeat s n law at e f) =
+    by_equal cap A line r (Ok n) B A e f (inl (inl (s, law, inl at)), Takes-held cap A line s law at.0 s.1 (Ok n) at.2)
+step_to cap A line r B (steps.conflict s g n law at differs e f) =
+    by_equal cap A line r (Err (Conflict n)) B A e f (inl (inl (s, law, (g, at, differs))), Takes-held cap A line s law at.0 g (Err (Conflict n)) at.2)
+step_to cap A line r B (steps.refused x why e f) = by_equal cap A line r _ B _ e f (Allowed-refused cap A line x why, Takes-refused A line x why)
+
+-- ---- to a step
+
+-- no submission has the number that is next
+next_is_free : (A : List Submission) (s : Submission) → IsNumber A (length A + 1) s → ⊥
+next_is_free A s at = omega (arith, slice_get_within A at.0 s at.2, at.1)
+
+module _ (cap : ℕ) (A : List Submission) (line : List ℕ) (B : List Submission) where
+  lawful_step : (r : Answer) (s : Submission) → IsLawful line s → Answered cap A s r → Takes A line r B → Step cap A line r B
+  lawful_step r s law (held n e at) takes = steps.repeat s n law at e (Takes-unique A line r B A takes (Takes-held cap A line s law at.0 s.1 r at.2))
+  lawful_step r s law (new e fresh room) takes =
+      steps.new s law fresh room e (Takes-unique A line r B (A ++ s ∷ []) takes (subst (λ x. Takes A line x (A ++ s ∷ [])) (sym e) (Takes-new cap A line s law (length A + 1) fresh)))
+  lawful_step r s law (other n g e at differs) takes = steps.conflict s g n law at differs e (Takes-unique A line r B A takes (Takes-held cap A line s law at.0 g r at.2))
+  lawful_step r s law (full e fresh many) takes = steps.full s law fresh many e (Takes-unique A line r B A takes (subst (λ x. Takes A line x A) (sym e) (Takes-full A line)))
+
+  pub step_from : (r : Answer) → Allowed cap A line r → Takes A line r B → Step cap A line r B
+  step_from r (inl (inl h)) takes = lawful_step r h.0 h.1 (answered cap A h.0 r h.2) takes
+  step_from r (inl (inr h)) takes = steps.refused h.0 h.2 h.1 (Takes-unique A line r B A takes (subst (λ x. Takes A line x A) (sym h.1) (Takes-refused A line h.0 h.2)))
+  step_from r (inr (e, inl (s, law, inl at))) takes = absurd (next_is_free A s at)
+  step_from r (inr (e, inl (s, law, inr (fresh, room, _)))) takes =
+      steps.memory s law fresh room e (Takes-unique A line r B A takes (subst (λ x. Takes A line x A) (sym e) (Takes-memory A line)))
+  step_from r (inr (e, inr h)) takes = absurd (let no = h.1 in cc)
+
+-- ---- runs
+
+pub run_to : (cap : ℕ) (A : List Submission) (L : List (List ℕ)) (R : List Answer) (B : List Submission) → Run cap A L R B → AllowedRun cap A L R × Accepted A L R B
+run_to cap A [] [] B h = (tt, h)
+run_to cap A (line ∷ L) (r ∷ R) B h =
+    let both = step_to cap A line r h.0 h.1 in
+    let rest = run_to cap h.0 L R B h.2 in
+    ((h.0, both.0, both.1, rest.0), (h.0, both.1, rest.1))
+run_to cap A [] (r ∷ R) B h = absurd h
+run_to cap A (line ∷ L) [] B h = absurd h
+
+pub run_from : (cap : ℕ) (A : List Submission) (L : List (List ℕ)) (R : List Answer) (B : List Submission) → AllowedRun cap A L R → Accepted A L R B → Run cap A L R B
+run_from cap A [] [] B run h = h
+run_from cap A (line ∷ L) (r ∷ R) B run h =
+    let same : h.0 ≡ run.0 = Takes-unique A line r h.0 run.0 h.1 run.2 in
+    (run.0, step_from cap A line run.0 r run.1 run.2, run_from cap run.0 L R B run.3 (subst (λ M. Accepted M L R B) same h.2))
+run_from cap A [] (r ∷ R) B run h = absurd run
+run_from cap A (line ∷ L) [] B run h = absurd run
+
+-- ---- laws of steps
+
+pub one_step : laws.OneStep
+one_step most A line q r B C own h k no_q no_r =
+    let p = step_to most A line q B h in
+    let t = step_to most A line r C k in
+    let same : q ≡ r = one_reply most A line q r own (reply q p.0 no_q) (reply r t.0 no_r) in
+    (same, Takes-unique A line q B C p.1 (subst (λ x. Takes A line x C) (sym same) t.1))
+  where
+    reply : (x : Answer) → Allowed most A line x → x ≢ Err Memory → Reply most A line x
+    reply x (inl h) kept = h
+    reply x (inr h) kept = absurd (kept h.0)
+
+pub held_step : laws.HeldIsAnswered
+held_step cap A line s n r B own law at h = allowed_held cap A line s n r own law at (step_to cap A line r B h).0
+
+pub refusal_step : laws.RefusalsChangeNothing
+refusal_step cap A line e B h = let p = step_to cap A line (Err e) B h in Takes-refusal cap A line e B p.0 p.1
+
+pub named_step : laws.NamesAreShort
+named_step cap A line r B h = named_short cap A line r (step_to cap A line r B h).0
+
+-- ---- laws of runs
+
+pub distinct_ids : laws.IdsAreDistinct
+distinct_ids cap L R A run = own_ids L R A (run_to cap [] L R A run).1
+
+pub one_run : laws.OneRun
+one_run cap most A L R B C h k = Accepted-unique A L R B C (run_to cap A L R B h).1 (run_to most A L R C k).1
+
+pub runs_join : laws.RunsJoin
+runs_join cap A B C K L Q R h k =
+    let p = run_to cap A K Q B h in
+    let t = run_to cap B L R C k in
+    run_from cap A _ _ C (Run-append cap A B K L Q R p.0 p.1 t.0) (Accepted-append A B C K L Q R p.1 t.1)
+
+pub numbers_distinct : laws.NumbersAreDistinct
+numbers_distinct cap L R A m n s run = numbers_differ L R A m n s (run_to cap [] L R A run).1
+
+pub numbers_of_run : laws.NumbersAreGiven
+numbers_of_run cap L R A run = let p = run_to cap [] L R A run in numbers_given cap L R A p.0 p.1
+
+pub numbers_kept : laws.RepeatsKeepTheirNumber
+numbers_kept cap L R A run = repeats_keep cap L R (run_to cap [] L R A run).0
+
+pub taken_of_run : laws.AcceptsTheTaken
+taken_of_run cap L R A one run = accepts_the_taken L R A one (run_to cap [] L R A run).1
+
+pub run_clear : laws.NoConflict
+run_clear cap L R A one run = no_conflict cap L R one (run_to cap [] L R A run).0
+
+pub run_arrives : laws.LawfulArrives
+run_arrives cap L R A one run i line s r here law told B front =
+    lawful_arrives cap L R one (run_to cap [] L R A run).0 i line s r here law told B (run_to cap [] (take i L) (take i R) B front).1
+
+pub run_bytes : laws.SameBytes
+run_bytes T m n K L Q R A B S U one first taken also second brought =
+    same_bytes T K L Q R A B S U one (run_to m [] K Q A first).1 taken also (run_to n [] L R B second).1 brought
