@@ -2,11 +2,12 @@
 use Rattle.std.proofs.Common.{◌≡◌, ◌∙◌, ℕ, ◌≤◌, List, [], ◌∷◌, ◌++◌, All, length, refl, sym, ap, subst, append_assoc, inl, inr, arith}
 use Rattle.std.proofs.lemmas.List.Elements.{All-append, All-cons, All-nil}
 use Rattle.pb_games.specs.Submissions.{IsSubmission, Submission}
-use Rattle.pb_accepted.specs.Accepting.{Accepted, Answer, Run, Takes}
+use Rattle.pb_accepted.specs.Accepting.{Answer, Run, Step}
 use Rattle.pb_accepted.specs.Replies.{replies, reply_line}
 use Rattle.pb_accepted.proofs.Arrivals.{submitted}
-use Rattle.pb_accepted.proofs.Replies.{Takes-unique, room-Takes}
-use Rattle.pb_accepted.proofs.Runs.{Accepted-append, Along-keeps, Run-append, own_ids}
+use Rattle.pb_accepted.proofs.Replies.{room-Takes}
+use Rattle.pb_accepted.proofs.Runs.{Along-keeps}
+use Rattle.pb_accepted.proofs.Steps.{distinct_ids, runs_join, step_to}
 use Rattle.pb_io.specs.Lines.{lines}
 use Rattle.pb_saved.specs.Saving.{Saved}
 use Rattle.pb_saved.specs.Loading.{Loads}
@@ -14,40 +15,36 @@ use Rattle.pb_saved.specs.Laws.{ContinuedIsOneRun}
 use Rattle.pb_saved.proofs.SavedLoading.{loads_only}
 
 -- the replies to two runs in a row
-replies-append : (cap : ℕ) (A : List Submission) (K L : List (List ℕ)) (Q R : List Answer) → Run cap A K Q → replies (K ++ L) (Q ++ R) ≡ replies K Q ++ replies L R
-replies-append cap A [] L [] R run = refl
-replies-append cap A [] L (q ∷ Q) R run = absurd run
-replies-append cap A (line ∷ K) L [] R run = absurd run
-replies-append cap A (line ∷ K) L (q ∷ Q) R run =
-    ap (λ bs. reply_line line q ++ bs) (replies-append cap run.0 K L Q R run.3) ∙ sym (append_assoc (reply_line line q) (replies K Q) (replies L R))
+replies-append : (cap : ℕ) (A B : List Submission) (K L : List (List ℕ)) (Q R : List Answer) → Run cap A K Q B → replies (K ++ L) (Q ++ R) ≡ replies K Q ++ replies L R
+replies-append most A B [] L [] R run = refl
+replies-append most A B [] L (q ∷ Q) R run = absurd run
+replies-append most A B (line ∷ K) L [] R run = absurd run
+replies-append most A B (line ∷ K) L (q ∷ Q) R run =
+    ap (λ bs. reply_line line q ++ bs) (replies-append most run.0 B K L Q R run.2) ∙ sym (append_assoc (reply_line line q) (replies K Q) (replies L R))
 
--- a run from a list that fits leaves one that fits
-room_after : (cap : ℕ) (A B : List Submission) (L : List (List ℕ)) (R : List Answer) → length A ≤ cap → Run cap A L R → Accepted A L R B → length B ≤ cap
-room_after cap A B [] [] few run h = subst (λ (X : List Submission). length X ≤ cap) (sym h) few
-room_after cap A B [] (r ∷ R) few run h = absurd run
-room_after cap A B (line ∷ L) [] few run h = absurd run
-room_after cap A B (line ∷ L) (r ∷ R) few run h =
-    let same = Takes-unique A line r h.0 run.0 h.1 run.2 in
-    room_after cap run.0 B L R (room-Takes cap A line r run.0 few run.1 run.2) run.3 (subst (λ M. Accepted M L R B) same h.2)
+-- a step from a list that fits leaves one that fits
+room_step : (cap : ℕ) (A : List Submission) (line : List ℕ) (r : Answer) (B : List Submission) → Step cap A line r B → length A ≤ cap → length B ≤ cap
+room_step most A line r B h few = let both = step_to most A line r B h in room-Takes most A line r B few both.0 both.1
 
--- what is accepted are submissions within their bounds
-adds_lawful : (A : List Submission) (line : List ℕ) (r : Answer) (B : List Submission) → Takes A line r B → All IsSubmission A → All IsSubmission B
-adds_lawful A line r B (inl h) games =
-    subst (All IsSubmission) (sym h.4) (All-append IsSubmission A (h.0 ∷ []) games (All-cons IsSubmission h.0 [] (submitted line h.0 h.1) (All-nil IsSubmission)))
-adds_lawful A line r B (inr h) games = subst (All IsSubmission) (sym h.1) games
+-- what is held are submissions within their bounds
+adds_lawful : (cap : ℕ) (A : List Submission) (line : List ℕ) (r : Answer) (B : List Submission) → Step cap A line r B → All IsSubmission A → All IsSubmission B
+adds_lawful most A line r B h games = elim (step_to most A line r B h).1 [
+  | inl adds ↦ subst (All IsSubmission) (sym adds.4) (All-append IsSubmission A (adds.0 ∷ []) games (All-cons IsSubmission adds.0 [] (submitted line adds.0 adds.1) (All-nil IsSubmission)))
+  | inr keeps ↦ subst (All IsSubmission) (sym keeps.1) games
+]
 
-pub are_submissions : (L : List (List ℕ)) (R : List Answer) (A : List Submission) → Accepted [] L R A → All IsSubmission A
-are_submissions L R A h = Along-keeps Takes (All IsSubmission) adds_lawful [] L R A h (All-nil IsSubmission)
+pub are_submissions : (cap : ℕ) (L : List (List ℕ)) (R : List Answer) (A : List Submission) → Run cap [] L R A → All IsSubmission A
+are_submissions most L R A h = Along-keeps (Step most) (All IsSubmission) (adds_lawful most) [] L R A h (All-nil IsSubmission)
 
 -- the loaded list is the one that was saved
-pub loaded_back : (cap : ℕ) (K : List (List ℕ)) (Q : List Answer) (A B : List Submission) (bytes : List ℕ) → Run cap [] K Q → Accepted [] K Q A → Saved A bytes → Loads cap (lines bytes) B → B ≡ A
-loaded_back cap K Q A B bytes run accepted saved loads =
-    loads_only cap A bytes (are_submissions K Q A accepted) (own_ids K Q A accepted) (room_after cap [] A K Q (omega arith) run accepted) saved B loads
+pub loaded_back : (cap : ℕ) (K : List (List ℕ)) (Q : List Answer) (A B : List Submission) (bytes : List ℕ) → Run cap [] K Q A → Saved A bytes → Loads cap (lines bytes) B → B ≡ A
+loaded_back most K Q A B bytes run saved loads =
+    let room = Along-keeps (Step most) (λ (X : List Submission). length X ≤ most) (room_step most) [] K Q A run (omega arith) in
+    loads_only most A bytes (are_submissions most K Q A run) (distinct_ids most K Q A run) room saved B loads
 
 pub continued : ContinuedIsOneRun
-continued cap K L Q R A B C bytes run accepted saved loads more accepted_more =
-    let same = loaded_back cap K Q A B bytes run accepted saved loads in (
-      Run-append cap [] A K L Q R run accepted (subst (λ X. Run cap X L R) same more),
-      Accepted-append [] A C K L Q R accepted (subst (λ X. Accepted X L R C) same accepted_more),
-      replies-append cap [] K L Q R run,
+continued most K L Q R A B C bytes run saved loads more =
+    let same = loaded_back most K Q A B bytes run saved loads in (
+      runs_join most [] A C K L Q R run (subst (λ X. Run most X L R C) same more),
+      replies-append most [] A K L Q R run,
     )

@@ -18,10 +18,12 @@ use Rattle.pb_games.specs.Refusing.{Refuses, fields_of}
 use Rattle.pb_games.specs.Submissions.{IsSubmission, Submission, SubmissionText}
 use Rattle.pb_games.proofs.Dues.{first_due, none_at_first}
 use Rattle.pb_games.proofs.Headers.{shape_refused}
-use Rattle.pb_accepted.specs.Accepting.{Accepted, Allowed, Answer, Reply, Run, Takes}
+use Rattle.pb_accepted.specs.Accepting as steps
+use Rattle.pb_accepted.specs.Accepting.{Answer, Run, Step}
 use Rattle.pb_accepted.specs.Holding.{HaveOwnIds}
-use Rattle.pb_accepted.proofs.Replies.{Allowed-refused, HaveOwnIds-Takes, Takes-refused, Takes-unique, one_reply}
-use Rattle.pb_accepted.proofs.Runs.{Accepted-append, HaveOwnIds-nil, Run-append}
+use Rattle.pb_accepted.proofs.Replies.{HaveOwnIds-Takes}
+use Rattle.pb_accepted.proofs.Runs.{HaveOwnIds-nil}
+use Rattle.pb_accepted.proofs.Steps.{one_step, runs_join, step_to}
 use Rattle.pb_saved.specs.Journal.{GameLines, Journals, Replays, mending, seal}
 use Rattle.pb_saved.specs.JournalLaws.{JournalGoesOn, JournalGrows, JournalIsOne, JournalMayTear}
 use Rattle.pb_saved.proofs.SavedLoading.{Given, HaveOwnIds-front, given, quiet_text}
@@ -32,48 +34,37 @@ use Rattle.pb_saved.proofs.SavedLoading.{Given, HaveOwnIds-front, given, quiet_t
 abbrev Kept : Answer → Type 0
 Kept r = r ≢ Err Memory
 
--- the answer is the reply then
-reply_of : (cap : ℕ) (A : List Submission) (line : List ℕ) (r : Answer) → Allowed cap A line r → Kept r → Reply cap A line r
-reply_of cap A line r (inl h) remembered = h
-reply_of cap A line r (inr h) remembered = absurd (remembered h.0)
-
 -- lines only add submissions
-only_adds : (A : List Submission) (L : List (List ℕ)) (R : List Answer) (B : List Submission) → Accepted A L R B → (more : List Submission) × (B ≡ A ++ more)
-only_adds A [] [] B h = ([], h ∙ sym (append-nil A))
-only_adds A [] (r ∷ R) B h = absurd h
-only_adds A (line ∷ L) [] B h = absurd h
-only_adds A (line ∷ L) (r ∷ R) B h =
-    let rest = only_adds h.0 L R B h.2 in
-    elim h.1 [
+only_adds : (cap : ℕ) (A : List Submission) (L : List (List ℕ)) (R : List Answer) (B : List Submission) → Run cap A L R B → (more : List Submission) × (B ≡ A ++ more)
+only_adds most A [] [] B h = ([], h ∙ sym (append-nil A))
+only_adds most A [] (r ∷ R) B h = absurd h
+only_adds most A (line ∷ L) [] B h = absurd h
+only_adds most A (line ∷ L) (r ∷ R) B h =
+    let rest = only_adds most h.0 L R B h.2 in
+    elim (step_to most A line r h.0 h.1).1 [
       | inl adds ↦ (adds.0 ∷ rest.0, rest.1 ∙ ap (λ (X : List Submission). X ++ rest.0) adds.4 ∙ append_assoc A (adds.0 ∷ []) rest.0)
       | inr keeps ↦ (rest.0, rest.1 ∙ ap (λ (X : List Submission). X ++ rest.0) keeps.1)
     ]
 
 -- a run that goes on adds to what its first lines left
-goes_on : (cap : ℕ) (A B C : List Submission) (ls ms : List (List ℕ)) (Q R : List Answer) → HaveOwnIds A → Run cap A ls Q → Run cap A (ls ++ ms) R → Accepted A ls Q B → Accepted A (ls ++ ms) R C
+goes_on : (cap : ℕ) (A B C : List Submission) (ls ms : List (List ℕ)) (Q R : List Answer) → HaveOwnIds A → Run cap A ls Q B → Run cap A (ls ++ ms) R C
     → All Kept Q → All Kept R → (more : List Submission) × (C ≡ B ++ more)
-goes_on cap A B C [] ms [] R own run run' h k kept kept' =
-    let adds = only_adds A ms R C k in (adds.0, adds.1 ∙ ap (λ (X : List Submission). X ++ adds.0) (sym h))
-goes_on cap A B C [] ms (q ∷ Q) R own run run' h k kept kept' = absurd run
-goes_on cap A B C (line ∷ ls) ms [] R own run run' h k kept kept' = absurd run
-goes_on cap A B C (line ∷ ls) ms (q ∷ Q) [] own run run' h k kept kept' = absurd run'
-goes_on cap A B C (line ∷ ls) ms (q ∷ Q) (r ∷ R) own run run' h k kept kept' =
+goes_on most A B C [] ms [] R own run run' kept kept' =
+    let adds = only_adds most A ms R C run' in (adds.0, adds.1 ∙ ap (λ (X : List Submission). X ++ adds.0) (sym run))
+goes_on most A B C [] ms (q ∷ Q) R own run run' kept kept' = absurd run
+goes_on most A B C (line ∷ ls) ms [] R own run run' kept kept' = absurd run
+goes_on most A B C (line ∷ ls) ms (q ∷ Q) [] own run run' kept kept' = absurd run'
+goes_on most A B C (line ∷ ls) ms (q ∷ Q) (r ∷ R) own run run' kept kept' =
     let M : List Submission = run.0 in
-    let reply = reply_of cap A line q run.1 (All-head Kept q Q kept) in
-    let reply' = reply_of cap A line r run'.1 (All-head Kept r R kept') in
-    let same : r ≡ q = one_reply cap A line r q own reply' reply in
-    let there : run'.0 ≡ M = Takes-unique A line q run'.0 M (subst (λ x. Takes A line x run'.0) same run'.2) run.2 in
-    let left : h.0 ≡ M = Takes-unique A line q h.0 M h.1 run.2 in
-    let left' : k.0 ≡ M = Takes-unique A line q k.0 M (subst (λ x. Takes A line x k.0) same k.1) run.2 in
-    goes_on cap M B C ls ms Q R (HaveOwnIds-Takes A line q M run.2 own) run.3 (subst (λ (X : List Submission). Run cap X (ls ++ ms) R) there run'.3)
-    (subst (λ (X : List Submission). Accepted X ls Q B) left h.2) (subst (λ (X : List Submission). Accepted X (ls ++ ms) R C) left' k.2)
+    let same = one_step most A line r q run'.0 M own run'.1 run.1 (All-head Kept r R kept') (All-head Kept q Q kept) in
+    goes_on most M B C ls ms Q R (HaveOwnIds-Takes A line q M (step_to most A line q M run.1).1 own) run.2 (subst (λ (X : List Submission). Run most X (ls ++ ms) R C) same.1 run'.2)
     (All-tail Kept q Q kept) (All-tail Kept r R kept')
 
 pub journal_goes_on : JournalGoesOn
 journal_goes_on cap front behind A B h k =
     let lines = ended-first front behind in
     let k' : Replays cap (ended_lines front ++ lines.0) B = subst (λ (ls : List (List ℕ)). Replays cap ls B) lines.1 k in
-    goes_on cap [] A B (ended_lines front) lines.0 h.answers k'.answers HaveOwnIds-nil h.run k'.run h.accepted k'.accepted h.remembered k'.remembered
+    goes_on cap [] A B (ended_lines front) lines.0 h.answers k'.answers HaveOwnIds-nil h.run k'.run h.remembered k'.remembered
 
 empty : (X : List Submission) → length X ≤ 0 → X ≡ []
 empty [] none = refl
@@ -133,12 +124,11 @@ lines_put front (s ∷ G) (t ∷ texts) ended games zip =
     ∙ lines_put (front ++ with_end t) G texts (last_piece-ended front t quiet) (All-tail IsSubmission s G games) zip.1
     ∙ ap (λ ls. ls ++ texts) (ended_lines-ended front t quiet ∙ ap (λ p. ended_lines front ++ (p ++ t) ∷ []) ended) ∙ append_assoc (ended_lines front) (t ∷ []) texts
 
-replays_on : (cap : ℕ) (A B : List Submission) (ls more : List (List ℕ)) (R : List Answer) → Replays cap ls A → Run cap A more R → Accepted A more R B → All Kept R
+replays_on : (cap : ℕ) (A B : List Submission) (ls more : List (List ℕ)) (R : List Answer) → Replays cap ls A → Run cap A more R B → All Kept R
     → Replays cap (ls ++ more) B
-replays_on cap A B ls more R h run accepted remembered = record {
+replays_on most A B ls more R h run remembered = record {
   answers = h.answers ++ R;
-  run = Run-append cap [] A ls more h.answers R h.run h.accepted run;
-  accepted = Accepted-append [] A B ls more h.answers R h.accepted accepted;
+  run = runs_join most [] A B ls more h.answers R h.run run;
   remembered = All-append Kept h.answers R h.remembered remembered;
 }
 
@@ -156,10 +146,9 @@ nothing_left (b ∷ p) none = absurd (omega (arith, ltb-false 0 (length (b ∷ p
 sealed : (cap : ℕ) (bytes : List ℕ) (A : List Submission) → Journals cap bytes A → IsWhole cap (bytes ++ seal) A
 sealed cap bytes A h =
     let line : List ℕ = last_piece bytes ++ tabs in
-    let refused = sealed_refused (last_piece bytes) in
-    let taken = Takes-refused A line refused.0 refused.1 in record {
+    let refused = sealed_refused (last_piece bytes) in record {
       holds = subst (λ ls. Replays cap ls A) (sym (ended_lines-ended bytes tabs tabs_quiet))
-          (replays_on cap A A (ended_lines bytes) (line ∷ []) (Err refused.0 ∷ []) h (A, Allowed-refused cap A line refused.0 refused.1, taken, tt) (A, taken, refl)
+          (replays_on cap A A (ended_lines bytes) (line ∷ []) (Err refused.0 ∷ []) h (A, steps.refused refused.0 refused.1 refl refl, refl)
           (All-cons Kept (Err refused.0) [] (kept_refusal refused.0 refused.2) (All-nil Kept)));
       ended = last_piece-ended bytes tabs tabs_quiet;
     }
@@ -181,7 +170,7 @@ put_on cap bytes text A G h games own room put = by (given cap A G put.0 put.1 g
     by : Given cap A G put.0 → Journals cap (bytes ++ text) (A ++ G)
     by k =
         subst (λ ls. Replays cap ls (A ++ G)) (sym (ap (λ t. ended_lines (bytes ++ t)) put.2 ∙ lines_put bytes G put.0 h.ended games put.1))
-        (replays_on cap A (A ++ G) (ended_lines bytes) put.0 k.answers h.holds k.run k.accepted (All-weaker IsOk Kept remembered k.answers k.taken))
+        (replays_on cap A (A ++ G) (ended_lines bytes) put.0 k.answers h.holds k.run (All-weaker IsOk Kept remembered k.answers k.taken))
       where
         remembered : (r : Answer) → IsOk r → Kept r
         remembered (Ok n) ok = λ is. (cc)

@@ -1,5 +1,5 @@
 -- From the lines that the loader took to what was loaded.
-use Rattle.std.proofs.Common.{if◌then◌else◌, ◌≡◌, ◌≢◌, ℕ, ◌+◌, ◌*◌, ◌^◌, ◌<◌, ◌≤◌, Bool, true, false, List, [], ◌∷◌, ◌++◌, length, Result, Ok, Err, All, IsOk, IsTrue, OnOk, IfErr, refl, sym, ap, subst, ◌∙◌, inl, inr, arith}
+use Rattle.std.proofs.Common.{if◌then◌else◌, ◌≡◌, ◌≢◌, ℕ, ◌+◌, ◌*◌, ◌^◌, ◌<◌, ◌≤◌, ◌⊎◌, Bool, true, false, List, [], ◌∷◌, ◌++◌, length, Result, Ok, Err, All, IsOk, IsTrue, OnOk, IfErr, refl, sym, ap, subst, ◌∙◌, inl, inr, arith}
 use Rattle.std.specs.Prelude.{IsErrAnd, MatchResult}
 use Rattle.std.specs.Borrow.{MutBor}
 use Rattle.std.proofs.lemmas.List.Elements.{All-cons, All-nil}
@@ -19,10 +19,10 @@ use Rattle.pb_io.proofs.EndLemmas.{AtEnd-weaker, AtFault-weaker, AtLine-weaker, 
 use Rattle.pb_games.specs.Submissions.{Submission}
 use Rattle.pb_games.specs.declared.refusal.Refusal.{Refusal}
 use Rattle.pb_games.specs.declared.refusal.Refusal.TheVariants as refusal
-use Rattle.pb_accepted.specs.Accepting.{Accepted, Allowed, Answer, Answers, Reply, Run, Takes}
+use Rattle.pb_accepted.specs.Accepting.{Answer, Run, Step}
 use Rattle.pb_accepted.specs.Ledger.{LedgerState}
 use Rattle.pb_games.specs.Refusing.{Refuses}
-use Rattle.pb_accepted.proofs.Replies.{Takes-refusal}
+use Rattle.pb_accepted.proofs.Steps.{refusal_step, step_to}
 use Rattle.pb_saved.specs.declared.loading.Loader.{Loader}
 use Rattle.pb_saved.specs.declared.loading.LoadError.{LoadError}
 use Rattle.pb_saved.specs.declared.loading.LoadError.TheVariants as error
@@ -33,26 +33,12 @@ use Rattle.pb_saved.specs.Loading.{EndsAtLine, Loads, LoadsAll, LoadsButOne, Loa
 
 -- ---- one line
 
--- a line that brought no new game wasn't answered with the next number
-not_next : (cap : ℕ) (A : List Submission) (line : List ℕ) (r : Answer) → Reply cap A line r → Takes A line r A → r ≢ Ok (length A + 1)
-not_next cap A line r (inr h) takes e = let no : Err h.0 ≡ Ok (length A + 1) = sym h.1 ∙ e in cc
-not_next cap A line r (inl h) (inl adds) e = absurd (omega (arith, ap length adds.4 ∙ length_push A adds.0))
-not_next cap A line r (inl h) (inr keeps) e =
-    elim (subst (λ (q : Answer). Answers cap A h.0 q) e h.2) [
-      | inl at ↦ absurd (omega (arith, slice_get_within A at.0 h.0 at.2, at.1))
-      | inr new ↦ absurd (keeps.0 h.0 h.1 new.0 (λ f. (let no : Ok (length A + 1) ≡ Err refusal.Full = sym e ∙ f in cc), λ f. (let no : Ok (length A + 1) ≡ Err refusal.Memory = sym e ∙ f in cc)))
-    ]
-
--- an answer other than want of memory is the reply
-replied : (cap : ℕ) (A : List Submission) (line : List ℕ) (r : Answer) → Allowed cap A line r → r ≢ Err refusal.Memory → Reply cap A line r
-replied cap A line r (inl h) other = h
-replied cap A line r (inr h) other = absurd (other h.0)
-
--- want of memory is answered where the reply is the next number
-pub wanted : (cap : ℕ) (A : List Submission) (line : List ℕ) → Allowed cap A line (Err refusal.Memory) → Reply cap A line (Ok (length A + 1))
-wanted cap A line (inl (inl h)) = absurd h.2
-wanted cap A line (inl (inr h)) = let is : h.0 ≡ refusal.Memory = cc (h.1) in absurd (subst (λ e. Refuses line e) is h.2).due
-wanted cap A line (inr h) = h.1
+-- a line leaves the list as it is, or one longer
+pub same_or_longer : (cap : ℕ) (A : List Submission) (line : List ℕ) (r : Answer) (B : List Submission) → Step cap A line r B → (B ≡ A) ⊎ (length B ≡ length A + 1)
+same_or_longer most A line r B h = elim (step_to most A line r B h).1 [
+  | inl adds ↦ inr (ap length adds.4 ∙ length_push A adds.0)
+  | inr keeps ↦ inl keeps.1
+]
 
 -- a long line is no header
 pub long_line : (line : List ℕ) → line_limit < length line → is_header line ≡ false
@@ -96,8 +82,7 @@ module _ {T : Type 0} where
   -- lines that were taken as submissions
   pub record Taken (s t : Loader T) (ls : List (List ℕ)) : Type 0 where
     pub answers : List Answer
-    pub run : Run s.ledger.now.cap s.ledger.now.accepted ls answers
-    pub accepted : Accepted s.ledger.now.accepted ls answers t.ledger.now.accepted
+    pub run : Run s.ledger.now.cap s.ledger.now.accepted ls answers t.ledger.now.accepted
     pub taken : All IsOk answers
     pub new : IsTrue s.is_saved → length t.ledger.now.accepted ≡ length s.ledger.now.accepted + length ls
     pub saved : t.is_saved ≡ s.is_saved
@@ -105,13 +90,12 @@ module _ {T : Type 0} where
     pub keeps : KeepsLedger s.ledger t.ledger
 
   Taken-none : (s : Loader T) → Taken s s []
-  Taken-none s = record { answers = []; run = tt; accepted = refl; taken = All-nil IsOk; new = λ h. omega arith; saved = refl; lines = λ h. omega arith; keeps = KeepsLedger-same s.ledger }
+  Taken-none s = record { answers = []; run = refl; taken = All-nil IsOk; new = λ h. omega arith; saved = refl; lines = λ h. omega arith; keeps = KeepsLedger-same s.ledger }
 
   Taken-more : (s m t : Loader T) (line : List ℕ) (ls : List (List ℕ)) → Submits (one_more s) line (Ok tt) m → Taken m t ls → Taken s t (line ∷ ls)
   Taken-more s m t line ls one rest = record {
     answers = one.answer ∷ rest.answers;
-    run = (m.ledger.now.accepted, one.allowed, one.takes, subst (λ cap. Run cap m.ledger.now.accepted ls rest.answers) one.keeps.cap rest.run);
-    accepted = (m.ledger.now.accepted, one.takes, rest.accepted);
+    run = (m.ledger.now.accepted, one.step, subst (λ most. Run most m.ledger.now.accepted ls rest.answers t.ledger.now.accepted) one.keeps.cap rest.run);
     taken = All-cons IsOk one.answer rest.answers one.judged.0 rest.taken;
     new = λ h. let first = one.judged.1 h in let others = rest.new (subst IsTrue (sym one.saved) h) in omega (arith, first, others);
     saved = rest.saved ∙ one.saved;
@@ -142,7 +126,7 @@ module _ {T : Type 0} where
   module _ (s : Loader T) (fresh : IsFresh s) where
     Whole-none : Whole s s []
     Whole-none = record {
-      loads = record { answers = []; run = tt; accepted = fresh.2; taken = All-nil IsOk; new = λ h. ap length fresh.2 };
+      loads = record { answers = []; run = fresh.2; taken = All-nil IsOk; new = λ h. ap length fresh.2 };
       saved = fresh.1;
       lines = λ few. fresh.0;
       keeps = KeepsLedger-same s.ledger;
@@ -155,8 +139,8 @@ module _ {T : Type 0} where
         let same : submission_lines (line ∷ ls) ≡ ls = ap (λ b. if b then ls else line ∷ ls) is in record {
           loads = record {
             answers = h.answers;
-            run = subst (λ L. Run s.ledger.now.cap [] L h.answers) (sym same) (subst (λ A. Run s.ledger.now.cap A ls h.answers) start h.run);
-            accepted = subst (λ L. Accepted [] L h.answers t.ledger.now.accepted) (sym same) (subst (λ A. Accepted A ls h.answers t.ledger.now.accepted) start h.accepted);
+            run = subst (λ L. Run s.ledger.now.cap [] L h.answers t.ledger.now.accepted) (sym same)
+                (subst (λ A. Run s.ledger.now.cap A ls h.answers t.ledger.now.accepted) start h.run);
             taken = h.taken;
             new = λ _. omega (arith, h.new refl, ap length start, ap length same);
           };
@@ -172,8 +156,8 @@ module _ {T : Type 0} where
         let same : submission_lines (line ∷ ls) ≡ line ∷ ls = ap (λ b. if b then ls else line ∷ ls) is in record {
           loads = record {
             answers = h.answers;
-            run = subst (λ L. Run s.ledger.now.cap [] L h.answers) (sym same) (subst (λ A. Run s.ledger.now.cap A (line ∷ ls) h.answers) start h.run);
-            accepted = subst (λ L. Accepted [] L h.answers t.ledger.now.accepted) (sym same) (subst (λ A. Accepted A (line ∷ ls) h.answers t.ledger.now.accepted) start h.accepted);
+            run = subst (λ L. Run s.ledger.now.cap [] L h.answers t.ledger.now.accepted) (sym same)
+                (subst (λ A. Run s.ledger.now.cap A (line ∷ ls) h.answers t.ledger.now.accepted) start h.run);
             taken = h.taken;
             new = λ (k : is_header line ≡ true). let no : false ≡ true = sym is ∙ k in cc;
           };
@@ -212,11 +196,12 @@ module _ {T : Type 0} where
         no_header = λ none. other (w.lines short ∙ ap length none);
       }
 
-      -- the same answer is allowed at the list as it is afterwards
-      allowed_after : (answer : Answer) → Allowed m.ledger.now.cap m.ledger.now.accepted line answer → t.ledger.now.accepted ≡ m.ledger.now.accepted
-          → Allowed s.ledger.now.cap t.ledger.now.accepted line answer
-      allowed_after answer h same =
-          subst (λ B. Allowed s.ledger.now.cap B line answer) (sym same) (subst (λ cap. Allowed cap m.ledger.now.accepted line answer) w.keeps.cap h)
+      -- the same step, from the list as it is afterwards
+      step_after : (answer : Answer) → Step m.ledger.now.cap m.ledger.now.accepted line answer t.ledger.now.accepted → t.ledger.now.accepted ≡ m.ledger.now.accepted
+          → Step s.ledger.now.cap t.ledger.now.accepted line answer t.ledger.now.accepted
+      step_after answer h same =
+          subst (λ B. Step s.ledger.now.cap B line answer t.ledger.now.accepted) (sym same)
+          (subst (λ most. Step most m.ledger.now.accepted line answer t.ledger.now.accepted) w.keeps.cap h)
 
       stopped_so : (e : LoadError) → Submits (one_more m) line (Err e) t → Stopped e
       unfolding but_one
@@ -224,24 +209,20 @@ module _ {T : Type 0} where
       stopped_so error.Endless sub = absurd sub.judged
       stopped_so error.Memory sub =
           let answer : sub.answer ≡ Err refusal.Memory = sub.judged in
-          let allowed = subst (λ r. Allowed m.ledger.now.cap m.ledger.now.accepted line r) answer sub.allowed in
-          let takes = subst (λ r. Takes m.ledger.now.accepted line r t.ledger.now.accepted) answer sub.takes in
-          let same = Takes-refusal m.ledger.now.cap m.ledger.now.accepted line refusal.Memory t.ledger.now.accepted allowed takes in record {
-            but_one = but_one same;
-            reply = wanted s.ledger.now.cap t.ledger.now.accepted line (allowed_after (Err refusal.Memory) allowed same);
-          }
+          let step = subst (λ r. Step m.ledger.now.cap m.ledger.now.accepted line r t.ledger.now.accepted) answer sub.step in
+          let same = refusal_step m.ledger.now.cap m.ledger.now.accepted line refusal.Memory t.ledger.now.accepted step in
+          record { but_one = but_one same; wants = step_after (Err refusal.Memory) step same }
       stopped_so (error.Line n) sub =
           let judged = sub.judged in
-          let same : t.ledger.now.accepted ≡ m.ledger.now.accepted = judged.2 in
-          let reply = replied s.ledger.now.cap t.ledger.now.accepted line sub.answer (allowed_after sub.answer sub.allowed same) judged.1 in
-          let takes : Takes t.ledger.now.accepted line sub.answer t.ledger.now.accepted = subst (λ A. Takes A line sub.answer t.ledger.now.accepted) (sym same) sub.takes in record {
+          let same : t.ledger.now.accepted ≡ m.ledger.now.accepted = judged.2 in record {
             but_one = but_one same;
             number = omega (arith, judged.0, w.lines short, short, ap length are ∙ length_push before line);
             answer = sub.answer;
-            reply = reply;
+            step = step_after sub.answer sub.step same;
+            other = judged.1;
             breaks = elim judged.3 [
               | inl refused ↦ inl refused
-              | inr saved ↦ inr (subst IsTrue w.saved saved, not_next s.ledger.now.cap t.ledger.now.accepted line sub.answer reply takes)
+              | inr saved ↦ inr (subst IsTrue w.saved saved)
             ];
           }
 

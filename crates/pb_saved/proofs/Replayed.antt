@@ -12,15 +12,15 @@ use Rattle.pb_io.specs.declared.lines.LinesFault.TheVariants as fault
 use Rattle.pb_io.proofs.EndLemmas.{AtEndedLine-weaker, AtFault-weaker, AtNoEnd-weaker}
 use Rattle.pb_games.specs.declared.refusal.Refusal.{Refusal}
 use Rattle.pb_games.specs.declared.refusal.Refusal.TheVariants as refusal
-use Rattle.pb_accepted.specs.Accepting.{Accepted, Allowed, Answer, Run, Takes}
-use Rattle.pb_accepted.proofs.Replies.{Takes-refusal}
+use Rattle.pb_accepted.specs.Accepting.{Answer, Run, Step}
+use Rattle.pb_accepted.proofs.Steps.{refusal_step}
 use Rattle.pb_saved.specs.Journal.{Replays}
 use Rattle.pb_saved.specs.Lending.{KeepsLedger}
 use Rattle.pb_saved.specs.declared.replaying.Replayer.{Replayer}
 use Rattle.pb_saved.specs.declared.replaying.ReplayError.{ReplayError}
 use Rattle.pb_saved.specs.Replayer.{HoldsGames, TakesLine, replay_error}
 use Rattle.pb_saved.specs.Replaying.{ReplaysUntil, WantsMemoryFor}
-use Rattle.pb_saved.proofs.Loaded.{KeepsLedger-same, KeepsLedger-then, wanted}
+use Rattle.pb_saved.proofs.Loaded.{KeepsLedger-same, KeepsLedger-then}
 
 -- a line that is refused stops the replayer as its refusal does
 pub stops_of : (answer : Answer) (why : Refusal) (result : Result (Unit {0}) AllocError) → answer ≡ Err why → MatchResult result (λ _. why ≢ refusal.Memory) (λ _. why ≡ refusal.Memory)
@@ -32,19 +32,17 @@ module _ {T W : Type 0} where
   -- lines that were submitted, none of them refused for want of memory
   pub record Taken (s t : Replayer T W) (ls : List (List ℕ)) : Type 0 where
     pub answers : List Answer
-    pub run : Run s.ledger.now.cap s.ledger.now.accepted ls answers
-    pub accepted : Accepted s.ledger.now.accepted ls answers t.ledger.now.accepted
+    pub run : Run s.ledger.now.cap s.ledger.now.accepted ls answers t.ledger.now.accepted
     pub remembered : All (λ r. r ≢ Err refusal.Memory) answers
     pub keeps : KeepsLedger s.ledger t.ledger
 
   Taken-none : (s : Replayer T W) → Taken s s []
-  Taken-none s = record { answers = []; run = tt; accepted = refl; remembered = All-nil (λ r. r ≢ Err refusal.Memory); keeps = KeepsLedger-same s.ledger }
+  Taken-none s = record { answers = []; run = refl; remembered = All-nil (λ r. r ≢ Err refusal.Memory); keeps = KeepsLedger-same s.ledger }
 
   Taken-more : (s m t : Replayer T W) (line : List ℕ) (ls : List (List ℕ)) → TakesLine s line (Ok tt) m → Taken m t ls → Taken s t (line ∷ ls)
   Taken-more s m t line ls one rest = record {
     answers = one.answer ∷ rest.answers;
-    run = (m.ledger.now.accepted, one.allowed, one.takes, subst (λ cap. Run cap m.ledger.now.accepted ls rest.answers) one.keeps.cap rest.run);
-    accepted = (m.ledger.now.accepted, one.takes, rest.accepted);
+    run = (m.ledger.now.accepted, one.step, subst (λ most. Run most m.ledger.now.accepted ls rest.answers t.ledger.now.accepted) one.keeps.cap rest.run);
     remembered = All-cons (λ r. r ≢ Err refusal.Memory) one.answer rest.answers one.stops rest.remembered;
     keeps = KeepsLedger-then s.ledger m.ledger t.ledger one.keeps rest.keeps;
   }
@@ -60,8 +58,7 @@ module _ {T W : Type 0} where
     replayed ls h =
         let all = taken s t ls h in record {
           answers = all.answers;
-          run = subst (λ A. Run s.ledger.now.cap A ls all.answers) fresh all.run;
-          accepted = subst (λ A. Accepted A ls all.answers t.ledger.now.accepted) fresh all.accepted;
+          run = subst (λ A. Run s.ledger.now.cap A ls all.answers t.ledger.now.accepted) fresh all.run;
           remembered = all.remembered;
         }
 
@@ -73,15 +70,14 @@ module _ {T W : Type 0} where
         let line = h.1 in
         let one = h.5 in
         let keeps = (taken s m h.0 h.4).keeps in
-        let allowed : Allowed m.ledger.now.cap m.ledger.now.accepted line (Err refusal.Memory) = subst (λ r. Allowed m.ledger.now.cap m.ledger.now.accepted line r) one.stops one.allowed in
-        let takes : Takes m.ledger.now.accepted line (Err refusal.Memory) t.ledger.now.accepted = subst (λ r. Takes m.ledger.now.accepted line r t.ledger.now.accepted) one.stops one.takes in
-        let same : t.ledger.now.accepted ≡ m.ledger.now.accepted = Takes-refusal m.ledger.now.cap m.ledger.now.accepted line refusal.Memory t.ledger.now.accepted allowed takes in
-        let here : Allowed s.ledger.now.cap m.ledger.now.accepted line (Err refusal.Memory) = subst (λ cap. Allowed cap m.ledger.now.accepted line (Err refusal.Memory)) keeps.cap allowed in record {
+        let step = subst (λ r. Step m.ledger.now.cap m.ledger.now.accepted line r t.ledger.now.accepted) one.stops one.step in
+        let same : t.ledger.now.accepted ≡ m.ledger.now.accepted = refusal_step m.ledger.now.cap m.ledger.now.accepted line refusal.Memory t.ledger.now.accepted step in
+        let here = subst (λ most. Step most m.ledger.now.accepted line (Err refusal.Memory) t.ledger.now.accepted) keeps.cap step in record {
           before = h.0;
           line = line;
           are = h.3;
           replays = subst (λ B. Replays s.ledger.now.cap h.0 B) (sym same) (replayed s m fresh h.0 h.4);
-          reply = wanted s.ledger.now.cap t.ledger.now.accepted line (subst (λ B. Allowed s.ledger.now.cap B line (Err refusal.Memory)) (sym same) here);
+          wants = subst (λ B. Step s.ledger.now.cap B line (Err refusal.Memory) t.ledger.now.accepted) (sym same) here;
         }
 
     stopped_keeps : KeepsLedger s.ledger t.ledger

@@ -1,5 +1,5 @@
 -- A saved ledger loads as what was saved.
-use Rattle.std.proofs.Common.{◌≡◌, ◌≢◌, ◌∙◌, ℕ, ◌+◌, ◌≤◌, true, false, List, [], ◌∷◌, ◌++◌, Result, Ok, Err, All, IsOk, IsErr, length, get_or, refl, sym, ap, subst, inl, inr, arith, append-nil, append_assoc}
+use Rattle.std.proofs.Common.{◌≡◌, ◌≢◌, ◌∙◌, ℕ, ◌+◌, ◌<◌, ◌≤◌, true, false, List, [], ◌∷◌, ◌++◌, Result, Ok, Err, All, IsOk, IsErr, length, get_or, refl, sym, ap, subst, inl, inr, arith, append-nil, append_assoc}
 use Rattle.std.specs.Prelude.{IfErr, IfOk}
 use Rattle.std.specs.List.{AllZip, flat_map}
 use Rattle.std.proofs.Math.Seq.{get_or-append_seam}
@@ -17,10 +17,13 @@ use Rattle.pb_poly.proofs.ToldReads.{all_came, came_first, no_endless, no_fault}
 use Rattle.pb_games.specs.Submissions.{IsLawful, IsSubmission, Submission, SubmissionText}
 use Rattle.pb_games.proofs.OneLine.{one_text}
 use Rattle.pb_games.proofs.Texts.{one_line}
-use Rattle.pb_accepted.specs.Accepting.{Accepted, Answer, IsNewId, Reply, Run, Takes}
+use Rattle.pb_games.specs.declared.refusal.Refusal.TheVariants as refusal
+use Rattle.pb_accepted.specs.Accepting as steps
+use Rattle.pb_accepted.specs.Accepting.{Answer, IsNewId, Run, Step}
 use Rattle.pb_accepted.specs.Holding.{HaveOwnIds}
 use Rattle.pb_accepted.specs.Ledger.{LedgerState}
-use Rattle.pb_accepted.proofs.Replies.{Allowed-new, Takes-new, id_of, one_reply, one_submission}
+use Rattle.pb_accepted.proofs.Replies.{id_of, one_submission}
+use Rattle.pb_accepted.proofs.Steps.{one_step, step_to}
 use Rattle.pb_saved.specs.Saving.{Saved, header}
 use Rattle.pb_saved.specs.Loading.{EndsAtLine, Loads, LoadsSaved, LoadsStream, LoadsUntil, is_header}
 use Rattle.pb_saved.specs.declared.loading.LoadError.{LoadError}
@@ -81,20 +84,21 @@ HaveOwnIds-front A B own i j d lt within =
     (subst (λ (s : Submission). (get_or (A ++ B) i d).0 ≢ s.0) (get_or_append_left A B d j within) (own i j d lt (omega (arith, within, length-append A B))))
 
 -- a lawful line under a new id is added, where it isn't refused
-added : (A : List Submission) (line : List ℕ) (s : Submission) (r : Answer) (M : List Submission) → IsLawful line s → IsNewId s.0 A → IsOk r → Takes A line r M → M ≡ A ++ s ∷ []
-added A line s (Err e) M law fresh ok takes = cc
-added A line s (Ok n) M law fresh ok (inl adds) = adds.4 ∙ ap (λ (t : Submission). A ++ t ∷ []) (one_submission line adds.0 s adds.1 law)
-added A line s (Ok n) M law fresh ok (inr keeps) = absurd (keeps.0 s law fresh (λ q. (cc), λ q. (cc)))
+added : (cap : ℕ) (A : List Submission) (line : List ℕ) (s : Submission) (r : Answer) (M : List Submission) → IsLawful line s → IsNewId s.0 A → IsOk r → Step cap A line r M → M ≡ A ++ s ∷ []
+added most A line s (Err e) M law fresh ok step = cc
+added most A line s (Ok n) M law fresh ok step = elim (step_to most A line (Ok n) M step).1 [
+  | inl adds ↦ adds.4 ∙ ap (λ (t : Submission). A ++ t ∷ []) (one_submission line adds.0 s adds.1 law)
+  | inr keeps ↦ absurd (keeps.0 s law fresh (λ q. (cc), λ q. (cc)))
+]
 
 -- they are answered with the next numbers
 pub record Given (cap : ℕ) (A S : List Submission) (texts : List (List ℕ)) : Type 0 where
   pub answers : List Answer
-  pub run : Run cap A texts answers
-  pub accepted : Accepted A texts answers (A ++ S)
+  pub run : Run cap A texts answers (A ++ S)
   pub taken : All IsOk answers
 
 pub given : (cap : ℕ) (A S : List Submission) (texts : List (List ℕ)) → AllZip SubmissionText S texts → All IsSubmission S → HaveOwnIds (A ++ S) → length A + length S ≤ cap → Given cap A S texts
-given cap A [] [] zip games own room = record { answers = []; run = tt; accepted = append-nil A; taken = All-nil IsOk }
+given cap A [] [] zip games own room = record { answers = []; run = append-nil A; taken = All-nil IsOk }
 given cap A [] (t ∷ texts) zip games own room = absurd zip
 given cap A (s ∷ S) [] zip games own room = absurd zip
 given cap A (s ∷ S) (t ∷ texts) zip games own room =
@@ -104,23 +108,22 @@ given cap A (s ∷ S) (t ∷ texts) zip games own room =
     let joined : after ++ S ≡ A ++ s ∷ S = append_assoc A (s ∷ []) S in
     let rest = given cap after S texts zip.1 (All-tail IsSubmission s S games) (subst HaveOwnIds (sym joined) own) (omega (arith, room, length_push A s)) in record {
       answers = Ok (length A + 1) ∷ rest.answers;
-      run = (after, Allowed-new cap A t s law fresh (omega (arith, room)), Takes-new cap A t s law (length A + 1) fresh, rest.run);
-      accepted = (after, Takes-new cap A t s law (length A + 1) fresh, subst (λ B. Accepted after texts rest.answers B) joined rest.accepted);
+      run = (after, steps.new s law fresh (omega (arith, room)) refl refl, subst (λ B. Run cap after texts rest.answers B) joined rest.run);
       taken = All-cons IsOk (Ok (length A + 1)) rest.answers refl rest.taken;
     }
 
 -- and nothing else is added where none is refused
-only : (A S B : List Submission) (texts : List (List ℕ)) (R : List Answer) → AllZip SubmissionText S texts → All IsSubmission S → HaveOwnIds (A ++ S) → All IsOk R → Accepted A texts R B → B ≡ A ++ S
-only A [] B [] [] zip games own taken h = h ∙ sym (append-nil A)
-only A [] B [] (r ∷ R) zip games own taken h = absurd h
-only A [] B (t ∷ texts) R zip games own taken h = absurd zip
-only A (s ∷ S) B [] R zip games own taken h = absurd zip
-only A (s ∷ S) B (t ∷ texts) [] zip games own taken h = absurd h
-only A (s ∷ S) B (t ∷ texts) (r ∷ R) zip games own taken h =
+only : (cap : ℕ) (A S B : List Submission) (texts : List (List ℕ)) (R : List Answer) → AllZip SubmissionText S texts → All IsSubmission S → HaveOwnIds (A ++ S) → All IsOk R → Run cap A texts R B → B ≡ A ++ S
+only most A [] B [] [] zip games own taken h = h ∙ sym (append-nil A)
+only most A [] B [] (r ∷ R) zip games own taken h = absurd h
+only most A [] B (t ∷ texts) R zip games own taken h = absurd zip
+only most A (s ∷ S) B [] R zip games own taken h = absurd zip
+only most A (s ∷ S) B (t ∷ texts) [] zip games own taken h = absurd h
+only most A (s ∷ S) B (t ∷ texts) (r ∷ R) zip games own taken h =
     let law = lawful_text s t (All-head IsSubmission s S games) zip.0 in
     let joined : (A ++ s ∷ []) ++ S ≡ A ++ s ∷ S = append_assoc A (s ∷ []) S in
-    let next : h.0 ≡ A ++ s ∷ [] = added A t s r h.0 law (new_after A S s own) (All-head IsOk r R taken) h.1 in
-    only (A ++ s ∷ []) S B texts R zip.1 (All-tail IsSubmission s S games) (subst HaveOwnIds (sym joined) own) (All-tail IsOk r R taken) (subst (λ M. Accepted M texts R B) next h.2) ∙ joined
+    let next : h.0 ≡ A ++ s ∷ [] = added most A t s r h.0 law (new_after A S s own) (All-head IsOk r R taken) h.1 in
+    only most (A ++ s ∷ []) S B texts R zip.1 (All-tail IsSubmission s S games) (subst HaveOwnIds (sym joined) own) (All-tail IsOk r R taken) (subst (λ M. Run most M texts R B) next h.2) ∙ joined
 
 -- the submission whose text stands after these texts, and those before it
 record Cut (S : List Submission) (xs : List (List ℕ)) (y : List ℕ) : Type 0 where
@@ -151,22 +154,18 @@ cut_at (s ∷ S) (x ∷ xs) ys y games zip =
 
 -- ---- what is loaded of a saved form
 
-ok_is_no_error : (r : Answer) (n : ℕ) → r ≡ Ok n → IsErr r → ⊥
-ok_is_no_error (Ok m) n is h = let no : false ≡ true = h in cc
-ok_is_no_error (Err e) n is h = cc
-
 module _ (cap : ℕ) (A : List Submission) (bytes : List ℕ) (games : All IsSubmission A) (own : HaveOwnIds A) (room : length A ≤ cap) (saved : Saved A bytes) where
   pub loads_saved : Loads cap (lines bytes) A
   loads_saved = subst (λ (xs : List (List ℕ)). Loads cap xs A) (sym (lines_of_saved A bytes games saved)) (by (given cap [] A saved.0 saved.1 games own (omega (arith, room))))
     where
       by : Given cap [] A saved.0 → Loads cap (header ∷ saved.0) A
-      by h = record { answers = h.answers; run = h.run; accepted = h.accepted; taken = h.taken; new = λ _. sym (AllZip-long SubmissionText A saved.0 saved.1) }
+      by h = record { answers = h.answers; run = h.run; taken = h.taken; new = λ _. sym (AllZip-long SubmissionText A saved.0 saved.1) }
 
   pub loads_only : (B : List Submission) → Loads cap (lines bytes) B → B ≡ A
   loads_only B h = by (subst (λ (xs : List (List ℕ)). Loads cap xs B) (lines_of_saved A bytes games saved) h)
     where
       by : Loads cap (header ∷ saved.0) B → B ≡ A
-      by k = only [] A B saved.0 k.answers saved.1 games own k.taken k.accepted
+      by k = only cap [] A B saved.0 k.answers saved.1 games own k.taken k.run
 
   -- ---- no line of it breaks the loading
 
@@ -179,15 +178,14 @@ module _ (cap : ℕ) (A : List Submission) (bytes : List ℕ) (games : All IsSub
           let own_first = HaveOwnIds-front cut.front (cut.this ∷ cut.back) own_front in
           let long : length A ≡ length (cut.front ++ cut.this ∷ cut.back) = ap length cut.are in
           let loads : Loads cap (header ∷ before) B = subst (λ (xs : List (List ℕ)). Loads cap xs B) is h.but_one.loads in
-          let same : B ≡ cut.front = only [] cut.front B before loads.answers cut.before cut.games own_first loads.taken loads.accepted in
+          let same : B ≡ cut.front = only cap [] cut.front B before loads.answers cut.before cut.games own_first loads.taken loads.run in
           let law = lawful_text cut.this h.but_one.line cut.lawful cut.here in
           let fresh = new_after cut.front cut.back cut.this own_front in
-          let due : Reply cap cut.front h.but_one.line (Ok (length cut.front + 1)) = inl (cut.this, law, inr (fresh, omega (arith, room, long, length-append cut.front (cut.this ∷ cut.back)), refl)) in
-          let answer : h.answer ≡ Ok (length cut.front + 1) = one_reply cap cut.front h.but_one.line h.answer (Ok (length cut.front + 1)) own_first (subst (λ S. Reply cap S h.but_one.line h.answer) same h.reply) due in
-          elim h.breaks [
-            | inl refused ↦ absurd (ok_is_no_error h.answer (length cut.front + 1) answer refused)
-            | inr repeated ↦ repeated.1 (answer ∙ ap (λ (S : List Submission). Ok (length S + 1)) (sym same))
-          ]
+          let room_for : length cut.front < cap = omega (arith, room, long, length-append cut.front (cut.this ∷ cut.back)) in
+          let due : Step cap cut.front h.but_one.line (Ok (length cut.front + 1)) (cut.front ++ cut.this ∷ []) = steps.new cut.this law fresh room_for refl refl in
+          let made = subst (λ S. Step cap S h.but_one.line h.answer S) same h.step in
+          let one = one_step cap cut.front h.but_one.line h.answer (Ok (length cut.front + 1)) cut.front (cut.front ++ cut.this ∷ []) own_first made due h.other (λ q. (cc)) in
+          absurd (omega (arith, ap length one.1, length_push cut.front cut.this))
 
       by : (before : List (List ℕ)) → h.but_one.before ≡ before → header ∷ saved.0 ≡ before ++ h.but_one.line ∷ later → ⊥
       by [] none are = let line : header ≡ h.but_one.line = cc in let no : false ≡ true = sym (h.but_one.no_header none) ∙ sym (ap is_header line) ∙ header_is in cc

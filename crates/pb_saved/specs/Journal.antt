@@ -5,7 +5,7 @@ use Rattle.pb_board.specs.LineEnd.{with_end}
 use Rattle.pb_io.specs.Lines.{ended_lines, is_torn}
 use Rattle.pb_games.specs.Submissions.{Submission, SubmissionText}
 use Rattle.pb_games.specs.declared.refusal.Refusal.TheVariants.{Memory}
-use Rattle.pb_accepted.specs.Accepting.{Accepted, Answer, Run}
+use Rattle.pb_accepted.specs.Accepting.{Answer, Run}
 
 -- the text of each game in order, with an LF after each
 abbrev pub GameLines : List Submission → List ℕ → Type 0
@@ -14,8 +14,7 @@ GameLines G bytes = (texts : List (List ℕ)) × AllZip SubmissionText G texts �
 -- these lines, submitted from no games on and none refused for want of memory, leave A
 pub record Replays (cap : ℕ) (ls : List (List ℕ)) (A : List Submission) : Type 0 where
   pub answers : List Answer
-  pub run : Run cap [] ls answers
-  pub accepted : Accepted [] ls answers A
+  pub run : Run cap [] ls answers A
   pub remembered : All (λ r. r ≢ Err Memory) answers
 
 -- a journal of these bytes holds A: a piece that no LF ended is no line of it

@@ -2,7 +2,7 @@
 use Rattle.std.specs.Prelude.{◌≡◌, ℕ, ◌≤◌, List, [], ◌++◌, length, All}
 use Rattle.pb_io.specs.Lines.{lines}
 use Rattle.pb_games.specs.Submissions.{Submission, IsSubmission}
-use Rattle.pb_accepted.specs.Accepting.{Accepted, Answer, Run}
+use Rattle.pb_accepted.specs.Accepting.{Answer, Run}
 use Rattle.pb_accepted.specs.Holding.{HaveOwnIds}
 use Rattle.pb_accepted.specs.Replies.{replies}
 use Rattle.pb_saved.specs.Saving.{Saved}
@@ -20,5 +20,5 @@ SavedLoads = (cap : ℕ) (A : List Submission) (bytes : List ℕ) → All IsSubm
 -- a run, what it holds saved and loaded, and a further run from there are one run, with the same answers and so the same replies
 abbrev pub ContinuedIsOneRun : Type 0
 ContinuedIsOneRun = (cap : ℕ) (K L : List (List ℕ)) (Q R : List Answer) (A B C : List Submission) (bytes : List ℕ)
-    → Run cap [] K Q → Accepted [] K Q A → Saved A bytes → Loads cap (lines bytes) B → Run cap B L R → Accepted B L R C
-    → Run cap [] (K ++ L) (Q ++ R) × Accepted [] (K ++ L) (Q ++ R) C × (replies (K ++ L) (Q ++ R) ≡ replies K Q ++ replies L R)
+    → Run cap [] K Q A → Saved A bytes → Loads cap (lines bytes) B → Run cap B L R C
+    → Run cap [] (K ++ L) (Q ++ R) C × (replies (K ++ L) (Q ++ R) ≡ replies K Q ++ replies L R)

@@ -6,7 +6,7 @@ use Rattle.pb_io.specs.declared.lines.LinesFault.TheVariants as lines
 use Rattle.pb_games.specs.Submissions.{Submission}
 use Rattle.pb_games.specs.declared.refusal.Refusal.{Refusal}
 use Rattle.pb_games.specs.declared.refusal.Refusal.TheVariants as refusal
-use Rattle.pb_accepted.specs.Accepting.{Allowed, Answer, Takes}
+use Rattle.pb_accepted.specs.Accepting.{Answer, Step}
 use Rattle.pb_saved.specs.declared.loading.Loader.{Loader}
 use Rattle.pb_saved.specs.declared.loading.LoadError.{LoadError}
 use Rattle.pb_saved.specs.declared.loading.LoadError.TheVariants.{Line, Read, Endless, Memory}
@@ -23,8 +23,7 @@ Judged is_saved n A B answer (Err _) = ⊥
 -- the line was submitted
 pub record Submits {T : Type 0} (s : Loader T) (line : List ℕ) (result : Result (Unit {0}) LoadError) (t : Loader T) : Type 0 where
   pub answer : Answer
-  pub allowed : Allowed s.ledger.now.cap s.ledger.now.accepted line answer
-  pub takes : Takes s.ledger.now.accepted line answer t.ledger.now.accepted
+  pub step : Step s.ledger.now.cap s.ledger.now.accepted line answer t.ledger.now.accepted
   pub judged : Judged s.is_saved s.lines s.ledger.now.accepted t.ledger.now.accepted answer result
   pub lines : t.lines ≡ s.lines
   pub saved : t.is_saved ≡ s.is_saved

@@ -1,12 +1,13 @@
 -- What the lines of a saved ledger, or of an old list of submission lines, make of a ledger without games.
-use Rattle.std.specs.Prelude.{◌≡◌, ◌≢◌, ℕ, ◌+◌, ◌≤◌, ◌⊎◌, Bool, false, if◌then◌else◌, List, [], ◌∷◌, ◌++◌, length, All, Ok, IsOk, IsErr, IsTrue, Result, MatchResult}
+use Rattle.std.specs.Prelude.{◌≡◌, ◌≢◌, ℕ, ◌+◌, ◌≤◌, ◌⊎◌, Bool, false, if◌then◌else◌, List, [], ◌∷◌, ◌++◌, length, All, Err, IsOk, IsErr, IsTrue, Result, MatchResult}
 use Rattle.std.specs.Str.{bytes_eq}
 use Rattle.pb_board.specs.LineEnd.{without_return}
 use Rattle.pb_io.specs.LineTask.{AtEnd, AtFault, AtLine, AtNoEnd}
 use Rattle.pb_io.specs.Source.{SourceState}
 use Rattle.pb_poly.specs.Reading.{Tells}
 use Rattle.pb_games.specs.Submissions.{Submission, IsSubmission}
-use Rattle.pb_accepted.specs.Accepting.{Accepted, Answer, Reply, Run}
+use Rattle.pb_games.specs.declared.refusal.Refusal.TheVariants as refusal
+use Rattle.pb_accepted.specs.Accepting.{Answer, Run, Step}
 use Rattle.pb_accepted.specs.Holding.{HaveOwnIds}
 use Rattle.pb_accepted.specs.Ledger.{LedgerState}
 use Rattle.pb_saved.specs.declared.loading.LoadError.{LoadError}
@@ -30,8 +31,7 @@ submission_lines (line ∷ ls) = if is_header line then ls else line ∷ ls
 -- the lines make B: no submission of theirs is refused, and after a header each brings a new game
 pub record Loads (cap : ℕ) (ls : List (List ℕ)) (B : List Submission) : Type 0 where
   pub answers : List Answer
-  pub run : Run cap [] (submission_lines ls) answers
-  pub accepted : Accepted [] (submission_lines ls) answers B
+  pub run : Run cap [] (submission_lines ls) answers B
   pub taken : All IsOk answers
   pub new : IsTrue (has_header ls) → length B ≡ length (submission_lines ls)
 
@@ -43,18 +43,19 @@ pub record LoadsButOne (cap : ℕ) (ls : List (List ℕ)) (B : List Submission) 
   pub loads : Loads cap before B
   pub no_header : before ≡ [] → is_header line ≡ false
 
--- the last line is refused, or brings no new game after a header, and is the n-th, from 1
+-- the last line is refused, and not for want of memory, or brings no new game after a header, and is the n-th, from 1
 pub record EndsAtLine (cap n : ℕ) (B : List Submission) (ls : List (List ℕ)) : Type 0 where
   pub but_one : LoadsButOne cap ls B
   pub number : n ≡ length ls
   pub answer : Answer
-  pub reply : Reply cap B but_one.line answer
-  pub breaks : IsErr answer ⊎ (IsTrue (has_header but_one.before) × (answer ≢ Ok (length B + 1)))
+  pub step : Step cap B but_one.line answer B
+  pub other : answer ≢ Err refusal.Memory
+  pub breaks : IsErr answer ⊎ IsTrue (has_header but_one.before)
 
 -- the last line brings a new game, for which memory was wanting
 pub record WantsMemory (cap : ℕ) (B : List Submission) (ls : List (List ℕ)) : Type 0 where
   pub but_one : LoadsButOne cap ls B
-  pub reply : Reply cap B but_one.line (Ok (length B + 1))
+  pub wants : Step cap B but_one.line (Err refusal.Memory) B
 
 -- ---- over a source
 

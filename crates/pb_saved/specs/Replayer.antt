@@ -7,7 +7,7 @@ use Rattle.pb_io.specs.Source.{SourceState}
 use Rattle.pb_io.specs.declared.lines.LinesFault.{LinesFault}
 use Rattle.pb_io.specs.declared.lines.LinesFault.TheVariants as lines
 use Rattle.pb_games.specs.declared.refusal.Refusal.TheVariants as refusal
-use Rattle.pb_accepted.specs.Accepting.{Allowed, Answer, Takes}
+use Rattle.pb_accepted.specs.Accepting.{Answer, Step}
 use Rattle.pb_accepted.specs.Ledger.{LedgerState}
 use Rattle.pb_saved.specs.Journal.{Journals}
 use Rattle.pb_saved.specs.Lending.{KeepsLedger}
@@ -18,8 +18,7 @@ use Rattle.pb_saved.specs.declared.replaying.ReplayError.TheVariants.{Read, Endl
 -- a line was submitted: want of memory alone stops the replayer
 pub record TakesLine {T W : Type 0} (s : Replayer T W) (line : List ℕ) (result : Result (Unit {0}) AllocError) (t : Replayer T W) : Type 0 where
   pub answer : Answer
-  pub allowed : Allowed s.ledger.now.cap s.ledger.now.accepted line answer
-  pub takes : Takes s.ledger.now.accepted line answer t.ledger.now.accepted
+  pub step : Step s.ledger.now.cap s.ledger.now.accepted line answer t.ledger.now.accepted
   pub stops : MatchResult result (λ _. answer ≢ Err refusal.Memory) (λ _. answer ≡ Err refusal.Memory)
   pub keeps : KeepsLedger s.ledger t.ledger
 

@@ -1,5 +1,5 @@
 -- How the replay of a journal into a ledger without games ends, over the states of the journal as a source and as a sink.
-use Rattle.std.specs.Prelude.{◌≡◌, ℕ, ◌+◌, ◌⊎◌, false, true, List, [], ◌∷◌, ◌++◌, length, take, Ok}
+use Rattle.std.specs.Prelude.{◌≡◌, ℕ, ◌+◌, ◌⊎◌, false, true, List, [], ◌∷◌, ◌++◌, length, take, Err}
 use Rattle.std.specs.Io.KnownBytes.{Appends}
 use Rattle.pb_io.specs.Count.{next_count}
 use Rattle.pb_io.specs.LineTask.{AtEndedLine, AtFault, AtNoEnd}
@@ -8,7 +8,8 @@ use Rattle.pb_io.specs.Reads.{ReadsAll, chunk_len}
 use Rattle.pb_io.specs.Sink.{AllLasts, HandedOn, SinkState}
 use Rattle.pb_io.specs.Source.{SourceState}
 use Rattle.pb_games.specs.Submissions.{Submission}
-use Rattle.pb_accepted.specs.Accepting.{Reply}
+use Rattle.pb_games.specs.declared.refusal.Refusal.TheVariants as refusal
+use Rattle.pb_accepted.specs.Accepting.{Step}
 use Rattle.pb_accepted.specs.Ledger.{LedgerState}
 use Rattle.pb_saved.specs.Journal.{Journals, Replays, mending, seal}
 use Rattle.pb_saved.specs.declared.replaying.ReplayError.{ReplayError}
@@ -46,7 +47,7 @@ pub record WantsMemoryFor (cap : ℕ) (B : List Submission) (ls : List (List ℕ
   pub line : List ℕ
   pub are : ls ≡ before ++ line ∷ []
   pub replays : Replays cap before B
-  pub reply : Reply cap B line (Ok (length B + 1))
+  pub wants : Step cap B line (Err refusal.Memory) B
 
 -- how the replay ends with each error; the journal gains nothing but what mends it
 abbrev pub ReplaysUntil : ℕ → SourceState → SourceState → SinkState → SinkState → LedgerState → LedgerState → ReplayError → Type 0

@@ -1,5 +1,5 @@
 use Rattle.std.proofs.Common.{refl, subst, sym}
-use Rattle.pb_accepted.specs.Accepting.{Takes}
+use Rattle.pb_accepted.specs.Accepting.{Step}
 use Rattle.pb_saved.specs.Lending.{KeepsLedger}
 use Rattle.pb_saved.proofs.Replayed.{stops_of}
 use Rattle.pb_saved.proofs.replaying.ReplayerLineTask.take.Goals as goal
@@ -9,8 +9,15 @@ returns-in-Err g c =
     let old = c.args.self.now.ledger in
     let same = sym c.pass_over.ensures.ledger in record {
       answer = c.submit.result;
-      allowed = c.submit.ensures.reply;
-      takes = subst (λ l. Takes old.now.accepted c.args.line.now c.submit.result l.now.accepted) same c.submit.ensures.takes;
+      step = subst (λ l. Step old.now.cap old.now.accepted c.args.line.now c.submit.result l.now.accepted) same c.submit.ensures.step;
       stops = stops_of c.submit.result c.in-Err.refusal c.pass_over.result c.in-Err.is c.pass_over.ensures.stops;
       keeps = subst (λ l. KeepsLedger old l) same (record { lent = refl; basis = c.submit.ensures.basis; cap = c.submit.ensures.cap });
     }
+
+pub returns-in-Ok : goal.returns-in-Ok
+returns-in-Ok g c = record {
+  answer = c.submit.result;
+  step = c.submit.ensures.step;
+  stops = λ q. cc (c.in-Ok.is);
+  keeps = record { lent = refl; basis = c.submit.ensures.basis; cap = c.submit.ensures.cap };
+}
