@@ -17,13 +17,13 @@ use Rattle.pb_io.specs.declared.source.Failed.{Failed}
 use Rattle.pb_io.proofs.EndLemmas.{AtEnd-weaker, AtFault-weaker, AtLine-weaker, AtNoEnd-weaker}
 use Rattle.pb_accepted.specs.Accepting.{Answer, Run}
 use Rattle.pb_accepted.specs.Ledger.{LedgerState}
-use Rattle.pb_accepted.proofs.Runs.{Accepted-append, Run-append}
+use Rattle.pb_accepted.proofs.Steps.{runs_join}
 use Rattle.pb_ledger.specs.declared.totals.Totals.{Totals}
 use Rattle.pb_ledger.specs.declared.collecting.Collector.{Collector}
 use Rattle.pb_ledger.specs.declared.collecting.CollectFault.TheVariants as collect
 use Rattle.pb_ledger.specs.Collecting.{Collects, CollectsButOne, CollectsCounted, CollectsStream, CollectsUntil, Leads}
 use Rattle.pb_ledger.specs.Collector.{TakesLine, collect_fault, with_answer}
-use Rattle.pb_ledger.proofs.Submitting.{added, grows, took}
+use Rattle.pb_ledger.proofs.Submitting.{added, grows, step_of}
 use Rattle.pb_accepted.specs.Replies.{replies, reply_line}
 
 -- ---- counts
@@ -59,22 +59,19 @@ more_refused answer R = sum_by-cons (λ r. cond (is_err r) 1 0) answer R
 -- ---- lines that lead from one ledger to another
 
 Leads-none : (ledger : LedgerState) → Leads ledger ledger [] []
-Leads-none ledger = record { run = tt; accepted = refl; basis = refl; cap = refl }
+Leads-none ledger = record { run = refl; basis = refl; cap = refl }
 
 Leads-more : (a b c : LedgerState) (line : List ℕ) (answer : Answer) (L : List (List ℕ)) (R : List Answer)
     → Leads a b (line ∷ []) (answer ∷ []) → Leads b c L R → Leads a c (line ∷ L) (answer ∷ R)
-Leads-more a b c line answer L R one rest =
-    let takes = took a b line answer one in record {
-      run = (b.accepted, one.run.1, takes, subst (λ cap. Run cap b.accepted L R) one.cap rest.run);
-      accepted = (b.accepted, takes, rest.accepted);
-      basis = rest.basis ∙ one.basis;
-      cap = rest.cap ∙ one.cap;
-    }
+Leads-more a b c line answer L R one rest = record {
+  run = (b.accepted, step_of a b line answer one, subst (λ most. Run most b.accepted L R c.accepted) one.cap rest.run);
+  basis = rest.basis ∙ one.basis;
+  cap = rest.cap ∙ one.cap;
+}
 
 pub Leads-then : (a b c : LedgerState) (K L : List (List ℕ)) (Q R : List Answer) → Leads a b K Q → Leads b c L R → Leads a c (K ++ L) (Q ++ R)
 Leads-then a b c K L Q R first next = record {
-  run = Run-append a.cap a.accepted b.accepted K L Q R first.run first.accepted (subst (λ cap. Run cap b.accepted L R) first.cap next.run);
-  accepted = Accepted-append a.accepted b.accepted c.accepted K L Q R first.accepted next.accepted;
+  run = runs_join a.cap a.accepted b.accepted c.accepted K L Q R first.run (subst (λ most. Run most b.accepted L R c.accepted) first.cap next.run);
   basis = next.basis ∙ first.basis;
   cap = next.cap ∙ first.cap;
 }
@@ -114,7 +111,7 @@ module _ {T K : Type 0} (state : K → SinkState) where
         };
         number = omega (arith, rest.number);
         counts = λ sum few.
-            let grown = grows s.ledger.now.cap s.ledger.now.accepted line one.answer m.ledger.now.accepted one.leads.run.1 (took s.ledger.now m.ledger.now line one.answer one.leads) in
+            let grown = grows s.ledger.now.cap s.ledger.now.accepted line one.answer m.ledger.now.accepted (step_of s.ledger.now m.ledger.now line one.answer one.leads) in
             let first = one_more _ _ s.totals m.totals one.answer _ one.counted grown sum (omega (arith, few)) in
             let others = rest.counts first.adds_up (omega (arith, few, first.all)) in
             let refusals = more_refused one.answer rest.collects.answers in record {

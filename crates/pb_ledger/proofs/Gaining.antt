@@ -10,8 +10,8 @@ use Rattle.pb_io.specs.Writes.{Writes}
 use Rattle.pb_io.specs.declared.source.Failed.{Failed}
 use Rattle.pb_games.specs.Submissions.{Submission, SubmissionText}
 use Rattle.pb_games.proofs.Texts.{text_back}
-use Rattle.pb_accepted.specs.Accepting.{Allowed, Answer, Takes}
-use Rattle.pb_accepted.proofs.Replies.{Takes-refusal}
+use Rattle.pb_accepted.specs.Accepting.{Answer, Step}
+use Rattle.pb_accepted.proofs.Steps.{refusal_step, step_to}
 use Rattle.pb_saved.specs.Journal.{GameLines}
 use Rattle.pb_ledger.specs.Journaling.{Gains, HandedOnEach}
 
@@ -40,22 +40,25 @@ pub record Brings (A : List Submission) (line : List ℕ) (r : Answer) (B : List
   pub games : B ≡ A ++ game ∷ []
   pub spells : SubmissionText game (without_return line)
 
-pub brought : (cap : ℕ) (A : List Submission) (line : List ℕ) (r : Answer) (B : List Submission) → Allowed cap A line r → Takes A line r B → length A < length B → Brings A line r B
-brought cap A line (Ok n) B allowed (inl adds) more =
-    let submits = adds.1.submits in record {
-      number = n;
-      answered = refl;
-      game = adds.0;
-      games = adds.4;
-      spells = subst (SubmissionText adds.0) (sym (text_back line adds.0 submits)) submits.spells;
-    }
-brought cap A line (Ok n) B allowed (inr keeps) more = absurd (omega (arith, more, ap length keeps.1))
-brought cap A line (Err e) B allowed takes more = absurd (omega (arith, more, ap length (Takes-refusal cap A line e B allowed takes)))
+pub brought : (cap : ℕ) (A : List Submission) (line : List ℕ) (r : Answer) (B : List Submission) → Step cap A line r B → length A < length B → Brings A line r B
+brought most A line (Ok n) B step more = elim (step_to most A line (Ok n) B step).1 [
+  | inl adds ↦ let submits = adds.1.submits in record {
+    number = n;
+    answered = refl;
+    game = adds.0;
+    games = adds.4;
+    spells = subst (SubmissionText adds.0) (sym (text_back line adds.0 submits)) submits.spells;
+  }
+  | inr keeps ↦ absurd (omega (arith, more, ap length keeps.1))
+]
+brought most A line (Err e) B step more = absurd (omega (arith, more, ap length (refusal_step most A line e B step)))
 
 -- a line that didn't make it longer left it as it was
-pub unchanged : (A : List Submission) (line : List ℕ) (r : Answer) (B : List Submission) → Takes A line r B → (length A < length B → ⊥) → B ≡ A
-unchanged A line r B (inl adds) no_more = absurd (no_more (omega (arith, ap length adds.4 ∙ length_push A adds.0)))
-unchanged A line r B (inr keeps) no_more = keeps.1
+pub unchanged : (cap : ℕ) (A : List Submission) (line : List ℕ) (r : Answer) (B : List Submission) → Step cap A line r B → (length A < length B → ⊥) → B ≡ A
+unchanged most A line r B step no_more = elim (step_to most A line r B step).1 [
+  | inl adds ↦ absurd (no_more (omega (arith, ap length adds.4 ∙ length_push A adds.0)))
+  | inr keeps ↦ keeps.1
+]
 
 -- ---- gains
 

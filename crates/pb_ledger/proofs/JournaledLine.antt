@@ -17,7 +17,7 @@ use Rattle.pb_ledger.specs.Collecting.{Leads}
 use Rattle.pb_ledger.specs.Journaling.{Gains}
 use Rattle.pb_ledger.specs.Journaler.{Answered, TakesLine, Unkept}
 use Rattle.pb_ledger.proofs.Gaining.{Brings, Gains-kept, Gains-one, brought, unchanged}
-use Rattle.pb_ledger.proofs.Submitting.{Replied, Submitted, taken_so, took}
+use Rattle.pb_ledger.proofs.Submitting.{Replied, Submitted, step_of, taken_so}
 
 module _ {T K J : Type 0} (state : K → SinkState) (kept : J → SinkState) (s t : Journaler T K J) (line : List ℕ) where
   -- the collector has answered
@@ -46,7 +46,7 @@ module _ {T K J : Type 0} (state : K → SinkState) (kept : J → SinkState) (s 
 
   game_brought : is_new ≡ true → Brings A line answer B
   game_brought new =
-      brought s.collector.ledger.now.cap A line answer B submitted.leads.run.1 (took s.collector.ledger.now m.ledger.now line answer submitted.leads) (longer new)
+      brought s.collector.ledger.now.cap A line answer B (step_of s.collector.ledger.now m.ledger.now line answer submitted.leads) (longer new)
 
   -- the journal has failed at the game
   unkept_so : (e : Failed) → is_new ≡ true → Wrote (kept s.journal.now) (kept journal.now) line (Err e) → Unkept kept s line (record { collector = m; journal = journal })
@@ -78,7 +78,7 @@ module _ {T K J : Type 0} (state : K → SinkState) (kept : J → SinkState) (s 
   pub nothing_gained : is_new ≡ false → journal ≡ s.journal → Gains (kept s.journal.now) (kept journal.now) A B
   nothing_gained old untouched =
       subst (λ (x : MutBor J). Gains (kept s.journal.now) (kept x.now) A B) (sym untouched) (Gains-kept (kept s.journal.now) A B
-      (unchanged A line answer B (took s.collector.ledger.now m.ledger.now line answer submitted.leads) (λ more. true≢false (sym (lt-ltb (length A) (length B) more) ∙ sym submitted.grown ∙ old))))
+      (unchanged s.collector.ledger.now.cap A line answer B (step_of s.collector.ledger.now m.ledger.now line answer submitted.leads) (λ more. true≢false (sym (lt-ltb (length A) (length B) more) ∙ sym submitted.grown ∙ old))))
 
   -- the task has stopped at it
   pub stopped_so : (put : Result (Unit {0}) Failed) (r result : Result (Unit {0}) Unanswered) (e : Unanswered)

@@ -9,8 +9,9 @@ use Rattle.pb_games.specs.declared.refusal.Refusal.TheVariants as refusal
 use Rattle.pb_games.specs.Refusing.{Refuses}
 use Rattle.pb_games.specs.Submissions.{Submission}
 use Rattle.pb_games.proofs.Dues.{first_due, none_at_first}
-use Rattle.pb_accepted.specs.Accepting.{Allowed, Answer, Takes}
-use Rattle.pb_accepted.proofs.Replies.{Allowed-refused, Takes-refusal, Takes-refused}
+use Rattle.pb_accepted.specs.Accepting as steps
+use Rattle.pb_accepted.specs.Accepting.{Answer, Step}
+use Rattle.pb_accepted.proofs.Steps.{refusal_step, step_to}
 use Rattle.pb_accepted.specs.Ledger.{LedgerState}
 use Rattle.pb_ledger.specs.declared.collecting.Collector.{Collector}
 use Rattle.pb_ledger.specs.declared.totals.Totals.{Totals}
@@ -21,24 +22,20 @@ use Rattle.pb_accepted.specs.Replies.{reply_line}
 -- ---- one line
 
 -- what a submission leads to
-pub Leads-one : (ledger ledger' : LedgerState) (line : List ℕ) (answer : Answer) → Allowed ledger.cap ledger.accepted line answer → Takes ledger.accepted line answer ledger'.accepted
+pub Leads-one : (ledger ledger' : LedgerState) (line : List ℕ) (answer : Answer) → Step ledger.cap ledger.accepted line answer ledger'.accepted
     → ledger'.basis ≡ ledger.basis → ledger'.cap ≡ ledger.cap → Leads ledger ledger' (line ∷ []) (answer ∷ [])
-Leads-one ledger ledger' line answer allowed takes basis cap = record {
-  run = (ledger'.accepted, allowed, takes, tt);
-  accepted = (ledger'.accepted, takes, refl);
-  basis = basis;
-  cap = cap;
-}
+Leads-one ledger ledger' line answer step basis cap = record { run = (ledger'.accepted, step, refl); basis = basis; cap = cap }
 
 -- a line too long to be kept is refused, which changes nothing
 pub Leads-long : (ledger ledger' : LedgerState) (line : List ℕ) → line_limit < length line → ledger' ≡ ledger → Leads ledger ledger' (line ∷ []) (Err refusal.Long ∷ [])
 Leads-long ledger ledger' line long same =
     let refuses : Refuses line refusal.Long = first_due refusal.Long line (none_at_first line) long in
-    let one = Leads-one ledger ledger line (Err refusal.Long) (Allowed-refused ledger.cap ledger.accepted line refusal.Long refuses) (Takes-refused ledger.accepted line refusal.Long refuses) refl refl in
+    let one = Leads-one ledger ledger line (Err refusal.Long) (steps.refused refusal.Long refuses refl refl) refl refl in
     subst (λ (x : LedgerState). Leads ledger x (line ∷ []) (Err refusal.Long ∷ [])) (sym same) one
 
-pub took : (ledger ledger' : LedgerState) (line : List ℕ) (answer : Answer) → Leads ledger ledger' (line ∷ []) (answer ∷ []) → Takes ledger.accepted line answer ledger'.accepted
-took ledger ledger' line answer one = subst (λ (M : List Submission). Takes ledger.accepted line answer M) (sym one.accepted.2) one.accepted.1
+pub step_of : (ledger ledger' : LedgerState) (line : List ℕ) (answer : Answer) → Leads ledger ledger' (line ∷ []) (answer ∷ [])
+    → Step ledger.cap ledger.accepted line answer ledger'.accepted
+step_of ledger ledger' line answer one = subst (λ (M : List Submission). Step ledger.cap ledger.accepted line answer M) (sym one.run.2) one.run.1
 
 -- ---- how many games an answer adds
 
@@ -48,15 +45,17 @@ added (Ok n) false = 0
 added (Err e) is_new = 0
 
 -- a line adds a game where the list has grown, and a line that is refused adds none
-pub grows : (cap : ℕ) (A : List Submission) (line : List ℕ) (r : Answer) (B : List Submission) → Allowed cap A line r → Takes A line r B
+pub grows : (cap : ℕ) (A : List Submission) (line : List ℕ) (r : Answer) (B : List Submission) → Step cap A line r B
     → length B ≡ length A + added r (nat_lt (length A) (length B))
-grows cap A line (Ok n) B allowed (inl adds) =
+grows most A line (Ok n) B step = elim (step_to most A line (Ok n) B step).1 [
+  | inl adds ↦
     let more : length B ≡ length A + 1 = ap length adds.4 ∙ length-append A (adds.0 ∷ []) in
     rw (lt-ltb (length A) (length B) (omega (arith, more))) more
-grows cap A line (Ok n) B allowed (inr keeps) =
+  | inr keeps ↦
     let same : length B ≡ length A = ap length keeps.1 in
     rw (le-ltb (length A) (length B) (omega (arith, same))) (omega (arith, same))
-grows cap A line (Err e) B allowed takes = omega (arith, ap length (Takes-refusal cap A line e B allowed takes))
+]
+grows most A line (Err e) B step = omega (arith, ap length (refusal_step most A line e B step))
 
 -- ---- a line that is submitted and answered
 

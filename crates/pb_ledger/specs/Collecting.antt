@@ -5,7 +5,7 @@ use Rattle.pb_io.specs.Count.{next_count}
 use Rattle.pb_io.specs.Source.{SourceState}
 use Rattle.pb_io.specs.Sink.{AwaitsFlush, HandedOn, SinkState}
 use Rattle.pb_io.specs.LineTask.{AtEnd, AtFault, AtLine, AtNoEnd, IfTold}
-use Rattle.pb_accepted.specs.Accepting.{Accepted, Answer, Run}
+use Rattle.pb_accepted.specs.Accepting.{Answer, Run}
 use Rattle.pb_accepted.specs.Ledger.{LedgerState}
 use Rattle.pb_ledger.specs.declared.totals.Totals.{Totals}
 use Rattle.pb_ledger.specs.declared.collecting.CollectFault.{CollectFault}
@@ -14,8 +14,7 @@ use Rattle.pb_accepted.specs.Replies.{replies, reply_line}
 
 -- the answers to these lines lead from one ledger to the other, which has the same basis and cap
 pub record Leads (ledger ledger' : LedgerState) (L : List (List ℕ)) (R : List Answer) : Type 0 where
-  pub run : Run ledger.cap ledger.accepted L R
-  pub accepted : Accepted ledger.accepted L R ledger'.accepted
+  pub run : Run ledger.cap ledger.accepted L R ledger'.accepted
   pub basis : ledger'.basis ≡ ledger.basis
   pub cap : ledger'.cap ≡ ledger.cap
 

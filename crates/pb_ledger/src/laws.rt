@@ -10,7 +10,7 @@ ghost use Rattle.pb_ledger.specs.declared.totals.Totals.{Totals};
 use crate::collecting::CollectFault;
 use crate::journaling::JournalFault;
 use crate::totals::Totals;
-pub use pb_accepted::laws::{accepted, books, distinct, numbers, one_game, one_line, runs};
+pub use pb_accepted::laws::{books, distinct, numbers, one_game, one_line, runs};
 pub use pb_export::laws::exports;
 pub use pb_saved::laws::{continued, journaled, saved};
 
