@@ -1,7 +1,9 @@
 //! A list that only contracts know.
 ghost use Rattle.std.specs.Prelude.{ℕ, ◌≡◌, List, [], ◌++◌};
 ghost use Rattle.std.specs.Borrow.{ftrue};
+ghost use Rattle.pb_io.specs.Sink.{told_or_none};
 
+use std::io::Write;
 use std::marker::{Model, PhantomData};
 
 /// What was handed on so far, byte by byte, of which nothing is kept.
@@ -23,6 +25,16 @@ impl History {
     #[inline(always)]
     pub(crate) fn new() -> History
         ensures { result.bytes ≡ [] }
+    {
+        History {
+            marker: PhantomData,
+        }
+    }
+
+    /// What the writer holds, where it tells that.
+    #[inline(always)]
+    pub(crate) fn of<W: Write>(_writer: &W) -> History
+        ensures { result.bytes ≡ told_or_none (W.contents _writer.now) }
     {
         History {
             marker: PhantomData,
