@@ -8,9 +8,10 @@ use std::marker::{Model, PhantomData};
 
 /// What was handed on so far, byte by byte, of which nothing is kept.
 ///
-/// No memory holds the list, and so the proofs of `new` and `add` alone say what it becomes: an empty body could set it to
+/// No memory holds the list, and so the proofs of `new`, `of` and `add` alone say what it becomes: an empty body could set it to
 /// anything. It stays true only while nothing else is proved by hand over it, so the type is this crate's own, and `marker`, which
-/// only this module can give, is private: elsewhere a list begins empty, and grows by what is added, and nothing else.
+/// only this module can give, is private: elsewhere a list begins with no bytes or with those that a writer tells, and grows by what
+/// is added, and nothing else.
 #[derive(Drop)]
 pub(crate) struct History {
     marker: PhantomData<u8>,

@@ -3,7 +3,6 @@ use Rattle.std.proofs.Common.{[], ◌∷◌, ◌++◌, refl}
 use Rattle.std.proofs.raw_atomic.Walks.{proved}
 use base.Logic.{id⊢}
 use base.Fml.{ftrue, flft}
-use contract.Running.{tables}
 use denote.Builtin.{u8}
 use denote.Exit.{yes}
 use denote.RattleType.{owns}

@@ -1,7 +1,6 @@
 -- The one field is of no bytes, and the list that goes with it is picked here.
 use Rattle.std.proofs.Common.{[], ◌∷◌, refl}
 use Rattle.std.proofs.raw_atomic.Walks.{proved}
-use contract.Running.{tables}
 use base.Fml.{ftrue}
 use denote.Shadow.{pure_i}
 use denote.Steps.{nothing}

@@ -2,7 +2,6 @@
 use Rattle.std.proofs.Common.{◌≡◌, ℕ, List, [], ◌∷◌, refl}
 use Rattle.std.proofs.raw_atomic.Walks.{proved, leaves}
 use contract.Monad.{fact, fact_i}
-use contract.Running.{tables}
 use base.Logic.{emp}
 use base.Fml.{flft, fsep, ftrue}
 use denote.Builtin.{RefOf}
