@@ -5,6 +5,7 @@ ghost use Rattle.pb_io.specs.Fuse.{FuseFill, FuseFlush, FusePut, GivesOne, Gives
 ghost use Rattle.pb_io.specs.Sink.{Flush, Put};
 ghost use Rattle.pb_io.specs.Source.{Fill};
 
+use crate::history::History;
 use crate::sink::Sink;
 use crate::source::{Failed, FillCounts, MemSource, Source};
 use std::alloc::Global;
@@ -26,7 +27,7 @@ impl<'a> FuseSource<'a> {
     /// The bytes, in pieces of at most `piece`, until `good` fills have passed.
     pub fn new(bytes: &'a [u8], piece: usize, good: u32) -> FuseSource<'a>
         requires { 1 ≤ piece }
-        ensures state { ⟦<FuseSource<'a> as Source>⟧.state result ≡ record { to_come = Some bytes.now; fills = 0; empty_fills = 0; ended = false; failed = false } }
+        ensures state { ⟦<FuseSource<'a> as Source>⟧.state result ≡ record { to_come = Some bytes.now; handed = []; fills = 0; empty_fills = 0; ended = false; failed = false } }
         ensures good { result.good ≡ good }
         ensures piece { result.source.piece ≡ piece }
     {
@@ -40,7 +41,7 @@ impl<'a> FuseSource<'a> {
 }
 
 impl<'a> Source for FuseSource<'a> {
-    ghost state = { λ s. record { to_come = (⟦<MemSource<'a> as Source>⟧.state s.source).to_come; fills = s.fills.some; empty_fills = s.fills.empty; ended = (⟦<MemSource<'a> as Source>⟧.state s.source).ended; failed = s.failed } };
+    ghost state = { λ s. record { to_come = (⟦<MemSource<'a> as Source>⟧.state s.source).to_come; handed = (⟦<MemSource<'a> as Source>⟧.state s.source).handed; fills = s.fills.some; empty_fills = s.fills.empty; ended = (⟦<MemSource<'a> as Source>⟧.state s.source).ended; failed = s.failed } };
 
     fn fill(&mut self, into: &mut [u8]) -> Result<usize, Failed>
         ensures fill { Fill (⟦<FuseSource<'a> as Source>⟧.state self.old) (⟦<FuseSource<'a> as Source>⟧.state self.new) result into.new }
@@ -154,24 +155,26 @@ impl Sink for FuseSink {
 pub struct NeverSource {
     /// The byte.
     pub byte: u8,
+    history: History,
     fills: FillCounts,
 }
 
 impl NeverSource {
     /// A source of nothing but this byte.
     pub fn new(byte: u8) -> NeverSource
-        ensures state { ⟦<NeverSource as Source>⟧.state result ≡ record { to_come = None; fills = 0; empty_fills = 0; ended = false; failed = false } }
+        ensures state { ⟦<NeverSource as Source>⟧.state result ≡ record { to_come = None; handed = []; fills = 0; empty_fills = 0; ended = false; failed = false } }
         ensures byte { result.byte ≡ byte }
     {
         NeverSource {
             byte,
+            history: History::new(),
             fills: FillCounts::none(),
         }
     }
 }
 
 impl Source for NeverSource {
-    ghost state = { λ s. record { to_come = None; fills = s.fills.some; empty_fills = s.fills.empty; ended = false; failed = false } };
+    ghost state = { λ s. record { to_come = None; handed = s.history.bytes; fills = s.fills.some; empty_fills = s.fills.empty; ended = false; failed = false } };
 
     fn fill(&mut self, into: &mut [u8]) -> Result<usize, Failed>
         ensures fill { Fill (⟦<NeverSource as Source>⟧.state self.old) (⟦<NeverSource as Source>⟧.state self.new) result into.new }
@@ -183,6 +186,7 @@ impl Source for NeverSource {
             return Ok(0);
         }
         into[0] = self.byte;
+        self.history.add(&into[..1]);
         Ok(1)
     }
 

@@ -3,6 +3,7 @@
 #![tactic(auto)]
 
 mod fuse;
+mod history;
 pub mod laws;
 mod line_buffer;
 mod lines;

@@ -1,14 +1,13 @@
 -- The lines of a table file, and the words that they spell.
 use Rattle.std.proofs.Common.{◌≡◌, ℕ, ◌+◌, ◌^◌, ◌<◌, ◌≤◌, List, [], ◌∷◌, ◌++◌, length, take, drop, All, refl, sym, ap, ◌∙◌, subst, arith, append_assoc, length-append}
 use Rattle.std.specs.List.{AllZip}
-use Rattle.std.proofs.lemmas.List.Splits.{slice_split_none, slice_split_at}
 use Rattle.std.proofs.lemmas.List.{append-nil}
 use Rattle.std.proofs.lemmas.List.Elements.{All-append, All-cons, All-head, All-nil, All-tail}
 use Rattle.std.specs.Prelude.{IsSome, MatchOption, Option, Some, None, is_none, false, true}
 use Rattle.pb_board.specs.LineEnd.{without_return}
 use Rattle.pb_board.proofs.Breaks.{all_unbroken}
-use Rattle.pb_io.specs.Lines.{is_line_feed, pieces, lines}
-use Rattle.pb_io.proofs.LineLemmas.{IsLineFeedAt, IsQuiet, length-lines, pieces-nonempty}
+use Rattle.pb_io.specs.Lines.{lines}
+use Rattle.pb_io.proofs.LineLemmas.{IsLineFeedAt, IsQuiet, length-lines, lines-ended, lines-quiet as line-quiet}
 use Rattle.pb_poly.specs.declared.table.TableError.{TableError}
 use Rattle.pb_poly.specs.declared.table.TableError.TheVariants.{Line, Count, Memory}
 use Rattle.pb_poly.specs.Table.{IsDueTable, IsWordLine, IsTable, SpellsWord, TableText, WritesWord}
@@ -16,16 +15,12 @@ use Rattle.pb_poly.proofs.Digits.{word_is_one, word_small}
 
 -- an LF ends the first line
 pub lines-cut : (bytes : List ℕ) (i : ℕ) → IsLineFeedAt bytes i → lines bytes ≡ take i bytes ∷ lines (drop (i + 1) bytes)
-lines-cut bytes i h =
-    let rest : List ℕ = drop (i + 1) bytes in
-    let some = pieces-nonempty rest in
-    let ps : pieces bytes ≡ take i bytes ∷ pieces rest = ap pieces (sym h.cut) ∙ slice_split_at is_line_feed (take i bytes) 10 rest h.quiet refl in
-    rw (ps, some.2) refl
+lines-cut bytes i h = ap lines (sym h.cut) ∙ lines-ended (take i bytes) (drop (i + 1) bytes) h.quiet
 
 -- bytes with no LF are one line
 pub lines-quiet : (bytes : List ℕ) → IsQuiet bytes → 0 < length bytes → lines bytes ≡ bytes ∷ []
 lines-quiet [] quiet some = absurd (omega arith)
-lines-quiet (b ∷ bs) quiet some = rw (slice_split_none is_line_feed (b ∷ bs) quiet) refl
+lines-quiet (b ∷ bs) quiet some = line-quiet b bs quiet
 
 -- what the digits of a line write is what the line spells
 pub word_of_line : (line digits : List ℕ) (o : Option ℕ) → digits ≡ without_return line

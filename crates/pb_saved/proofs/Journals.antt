@@ -10,8 +10,8 @@ use Rattle.std.proofs.lemmas.List.Elements.{All-append, All-cons, All-drop, All-
 use Rattle.std.proofs.lemmas.List.Sums.{sum_by-append}
 use Rattle.std.proofs.lemmas.List.Splits.{length-slice_split}
 use Rattle.pb_board.specs.LineEnd.{with_end, without_return}
-use Rattle.pb_io.specs.Lines.{ended_lines, is_line_feed, is_torn, last_piece, line_limit}
-use Rattle.pb_io.proofs.LineLemmas.{IsQuiet, ended-first, ended_lines-ended, ended_lines-quiet, last_piece-ended}
+use Rattle.pb_io.specs.Lines.{ended_lines, is_torn, last_piece, line_limit}
+use Rattle.pb_io.proofs.LineLemmas.{IsQuiet, is_line_feed, ended-first, ended_lines-ended, ended_lines-quiet, last_piece-ended}
 use Rattle.pb_games.specs.declared.refusal.Refusal.{Refusal}
 use Rattle.pb_games.specs.declared.refusal.Refusal.TheVariants.{Long, Memory, Shape}
 use Rattle.pb_games.specs.Refusing.{Refuses, fields_of}

@@ -9,9 +9,9 @@ use Rattle.std.proofs.lemmas.List.Elements.{All-cons, All-from_recursion, All-he
 use Rattle.std.proofs.lemmas.Slice.Zip.{AllZip-long}
 use Rattle.pb_board.specs.LineEnd.{with_end}
 use Rattle.pb_io.specs.Source.{SourceState}
-use Rattle.pb_io.specs.Lines.{ended_lines, is_line_feed, lines}
+use Rattle.pb_io.specs.Lines.{ended_lines, lines}
 use Rattle.pb_io.specs.Reads.{chunk_len}
-use Rattle.pb_io.proofs.LineLemmas.{IsQuiet, lines-begin, lines-ended}
+use Rattle.pb_io.proofs.LineLemmas.{IsQuiet, is_line_feed, lines-begin, lines-ended}
 use Rattle.pb_poly.specs.Reading.{Tells}
 use Rattle.pb_poly.proofs.ToldReads.{all_came, came_first, no_endless, no_fault}
 use Rattle.pb_games.specs.Submissions.{IsLawful, IsSubmission, Submission, SubmissionText}

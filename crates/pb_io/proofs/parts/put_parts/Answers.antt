@@ -1,5 +1,5 @@
 use Rattle.std.proofs.Common.{◌∙◌, ◌++◌, ap, sym}
-use Rattle.pb_io.proofs.PutLemmas.{front_more, parts_end, parts_from, put_failed, put_last, put_more, Lasts-trans, Lasts-refl}
+use Rattle.pb_io.proofs.PutLemmas.{front_more, parts_end, parts_from, put_failed, put_last, put_more, Lasts-trans}
 use Rattle.pb_io.proofs.parts.put_parts.Goals as goal
 
 pub returns-in_err-put : goal.returns-in_err-put
