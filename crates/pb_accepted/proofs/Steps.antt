@@ -63,6 +63,10 @@ module _ (cap : ℕ) (A : List Submission) (line : List ℕ) (B : List Submissio
       steps.memory s law fresh room e (Takes-unique A line r B A takes (subst (λ x. Takes A line x A) (sym e) (Takes-memory A line)))
   step_from r (inr (e, inr h)) takes = absurd (let no = h.1 in cc)
 
+-- a line that was answered leaves one list, whatever room there was
+pub one_left : (cap most : ℕ) (A : List Submission) (line : List ℕ) (r : Answer) (B C : List Submission) → Step cap A line r B → Step most A line r C → B ≡ C
+one_left cap most A line r B C h k = Takes-unique A line r B C (step_to cap A line r B h).1 (step_to most A line r C k).1
+
 -- ---- runs
 
 pub run_to : (cap : ℕ) (A : List Submission) (L : List (List ℕ)) (R : List Answer) (B : List Submission) → Run cap A L R B → AllowedRun cap A L R × Accepted A L R B

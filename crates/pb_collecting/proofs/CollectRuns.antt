@@ -1,6 +1,5 @@
 -- How a run of the command `collect` ends, from what its parts do.
 use Rattle.std.proofs.Common.{◌≡◌, ℕ, Bool, List, ap, Option, Some, None, Result, Ok, Err, false, refl, subst, sym}
-use Rattle.std.specs.Prelude.{IfSome}
 use Rattle.pb_io.specs.Source.{SourceState}
 use Rattle.pb_io.specs.Sink.{SinkState}
 use Rattle.pb_poly.specs.declared.entry.Entry.{Entry}
@@ -8,14 +7,12 @@ use Rattle.pb_accepted.specs.Counting.{IsBook}
 use Rattle.pb_accepted.specs.Ledger.{LedgerState}
 use Rattle.pb_accepted.specs.Rules.{CountingRules}
 use Rattle.pb_commands.specs.Judged.{HandedOnOnce, PutsOrEnds, PutsText, Verdict}
-use Rattle.pb_commands.specs.TableJudged.{TableRefused, table_verdict}
+use Rattle.pb_commands.specs.TableJudged.{table_verdict}
 use Rattle.pb_poly.specs.TableReading.{FindsNoTable}
 use Rattle.pb_commands.specs.declared.fault.Fault.{Fault}
 use Rattle.pb_poly.specs.declared.table_file.TableFault.{TableFault}
 use Rattle.pb_poly.specs.declared.table_file.TableFault.TheVariants as table
 use Rattle.pb_commands.proofs.Judging.{shows}
-use Rattle.pb_commands.proofs.Told.{told_no_table}
-use Rattle.pb_collecting.specs.CollectRun.{RefusesTold}
 use Rattle.pb_collecting.specs.Taking.{FillsLedger, RefusesGames, StopsTaking, TakesOrStops}
 use Rattle.pb_collecting.specs.declared.taking.NoGames.{NoGames}
 use Rattle.pb_collecting.specs.declared.taking.NoGames.TheVariants.{Table, Submissions}
@@ -49,16 +46,6 @@ module _ (rules : CountingRules) (fills : ℕ) (t t' s s' : SourceState) (sink s
   -- the answer of a text that was put is that of a refusal
   put_refused : (answer : Bool) → PutsText judges sink sink' answer → PutsText judges sink sink' false
   put_refused answer h = let j = h.judged in subst (λ a. PutsText judges sink sink' a) (refused_no j.cause answer h.out j.is) h
-
-  refused_told : (file : Option (List ℕ)) → t.to_come ≡ file → PutsText judges sink sink' false → RefusesTold file sink sink'
-  refused_told file is h = record { out = h.out; refused = by file is; put = h.put }
-    where
-      by : (file : Option (List ℕ)) → t.to_come ≡ file → IfSome file (λ f. TableRefused f h.out)
-      by None is = tt
-      by (Some file) is = let j = h.judged in (j.cause, told_no_table fills t t' file is j.cause (false, h.out) j.is j.found, sym j.is)
-
-  pub tells_refused : PutsText judges sink sink' false → RefusesTold t.to_come sink sink'
-  tells_refused h = refused_told t.to_come refl h
 
   -- the line that refuses the table was put and handed on
   pub refused : s' ≡ s → (answer : Bool) (e : TableFault) → FindsNoTable fills t t' e → PutsOrEnds (λ verdict. verdict ≡ table_verdict e) sink sink' (Ok answer)

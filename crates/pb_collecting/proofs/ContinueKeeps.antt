@@ -9,7 +9,7 @@ use Rattle.pb_accepted.specs.Rules.{CountingRules}
 use Rattle.pb_saved.specs.Saving.{Saved}
 use Rattle.pb_commands.specs.declared.fault.Fault.{Fault}
 use Rattle.pb_collecting.specs.ContinuingInto.{KeepsLedger}
-use Rattle.pb_collecting.specs.ContinuingTold.{HasHeadlineOfBoth}
+use Rattle.pb_collecting.specs.ContinueHeadline.{HasHeadlineOfBoth}
 use Rattle.pb_collecting.specs.Place.{Keeps, PlaceState}
 use Rattle.pb_collecting.specs.Runs.{ContinueRun}
 use Rattle.pb_collecting.specs.declared.continuing.Continued.{Continued}
@@ -20,7 +20,7 @@ pub kept_book : (q q' : PlaceState) (answer : Result (Unit {0}) NotKept) (entrie
 kept_book q q' answer entries keeps = subst (λ (bytes : List ℕ). Keeps q q' answer bytes) keeps.1 keeps.2
 
 module _ (rules : CountingRules) (fills : ℕ) (t t' v v' s s' : SourceState) (sink sink' : SinkState) (run : Continued) where
-  pub kept_ledger : ContinueRun rules fills t t' v v' s s' sink sink' (Ok (Some run)) → IfOk run.book (HasHeadlineOfBoth rules t.to_come v.to_come s.to_come sink sink' run.ledger)
+  pub kept_ledger : ContinueRun rules fills t t' v v' s s' sink sink' (Ok (Some run)) → IfOk run.book (HasHeadlineOfBoth rules t t' v v' s s' sink sink' run.ledger)
       → (p p' : PlaceState) (answer : Result (Unit {0}) NotKept) → (bytes : List ℕ) × Saved run.ledger.accepted bytes × Keeps p p' answer bytes
       → (book : Result (List Entry) Fault) → run.book ≡ book → KeepsLedger rules fills t t' v v' s s' sink sink' p p' book answer
   kept_ledger ends headline p p' answer keeps book is =

@@ -4,9 +4,10 @@ use Rattle.std.specs.Prelude.{count_by, is_err}
 use Rattle.std.proofs.lemmas.List.{length_push}
 use Rattle.std.proofs.lemmas.List.Sums.{sum_by-cons}
 use Rattle.pb_games.specs.Submissions.{Submission}
-use Rattle.pb_accepted.specs.Accepting.{Accepted, Allowed, Answer, Run, Takes}
+use Rattle.pb_accepted.specs.Accepting.{Answer, Run, Step}
 use Rattle.pb_accepted.specs.Ledger.{LedgerState}
-use Rattle.pb_accepted.proofs.Replies.{Takes-unique, new_is_next}
+use Rattle.pb_accepted.proofs.Replies.{new_is_next}
+use Rattle.pb_accepted.proofs.Steps.{step_to}
 use Rattle.pb_ledger.specs.Collecting.{Collects, CollectsCounted}
 use Rattle.pb_ledger.specs.declared.totals.Totals.{Totals}
 use Rattle.pb_io.specs.Sink.{SinkState}
@@ -31,22 +32,25 @@ same_many A M B (Err e) R is h =
     let sum : count_by is_err (Err e ∷ R) ≡ 1 + count_by is_err R = sum_by-cons (λ x. cond (is_err x) 1 0) (Err e) R in
     record { new = h.new; repeats = h.repeats; grows = omega (arith, h.grows, ap length is); all = omega (arith, h.all, sum) }
 
-step : (cap : ℕ) (A M B : List Submission) (line : List ℕ) (r : Answer) (R : List Answer) → Allowed cap A line r → Takes A line r M → Counted M B R → Counted A B (r ∷ R)
-step cap A M B line r R allowed (inl t) h = let next = new_is_next cap A line t.0 r t.1 t.2 t.3 allowed in
-    subst (λ x. Counted A B (x ∷ R)) (sym next.0) (one_more A M B t.0 (length A + 1) R t.4 h)
-step cap A M B line r R allowed (inr t) h = same_many A M B r R t.1 h
+counted_step : (cap : ℕ) (A M B : List Submission) (line : List ℕ) (r : Answer) (R : List Answer) → Step cap A line r M → Counted M B R → Counted A B (r ∷ R)
+counted_step most A M B line r R step h =
+    let both = step_to most A line r M step in
+    elim both.1 [
+      | inl t ↦
+        let next = new_is_next most A line t.0 r t.1 t.2 t.3 both.0 in
+        subst (λ x. Counted A B (x ∷ R)) (sym next.0) (one_more A M B t.0 (length A + 1) R t.4 h)
+      | inr t ↦ same_many A M B r R t.1 h
+    ]
 
-counted : (cap : ℕ) (A : List Submission) (L : List (List ℕ)) (R : List Answer) (B : List Submission) → Run cap A L R → Accepted A L R B → Counted A B R
-counted cap A [] [] B run taken = record { new = 0; repeats = 0; grows = omega (arith, ap length taken); all = refl }
-counted cap A (line ∷ L) (r ∷ R) B run taken =
-    let same : taken.0 ≡ run.0 = Takes-unique A line r taken.0 run.0 taken.1 run.2 in
-    step cap A run.0 B line r R run.1 run.2 (counted cap run.0 L R B run.3 (subst (λ M. Accepted M L R B) same taken.2))
-counted cap A [] (r ∷ R) B run taken = absurd run
-counted cap A (line ∷ L) [] B run taken = absurd run
+counted : (cap : ℕ) (A : List Submission) (L : List (List ℕ)) (R : List Answer) (B : List Submission) → Run cap A L R B → Counted A B R
+counted most A [] [] B run = record { new = 0; repeats = 0; grows = omega (arith, ap length run); all = refl }
+counted most A (line ∷ L) (r ∷ R) B run = counted_step most A run.0 B line r R run.1 (counted most run.0 L R B run.2)
+counted most A [] (r ∷ R) B run = absurd run
+counted most A (line ∷ L) [] B run = absurd run
 
 -- what was collected was counted
 pub with_totals : (sink sink' : SinkState) (ledger left : LedgerState) (L : List (List ℕ)) → Collects sink sink' ledger left L → (totals : Totals) × CollectsCounted sink sink' ledger left totals L
 with_totals sink sink' ledger left L h =
-    let c = counted ledger.cap ledger.accepted L h.answers left.accepted h.leads.run h.leads.accepted in
+    let c = counted ledger.cap ledger.accepted L h.answers left.accepted h.leads.run in
     let totals : Totals = record { lines = length h.answers; new = c.new; repeats = c.repeats; refused = count_by is_err h.answers } in
     (totals, (h, record { all = refl; refusals = refl; new_games = c.grows; others = c.all }))

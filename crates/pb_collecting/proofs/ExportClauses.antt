@@ -1,6 +1,6 @@
 -- What the clauses of the command `export` say, from how its run ends.
 use Rattle.std.proofs.Common.{◌≡◌, ◌∙◌, ◌≢◌, ℕ, Bool, Result, Ok, Err, ap, false, refl, sym, true}
-use Rattle.std.specs.Prelude.{IfErr, IfOk}
+use Rattle.std.specs.Prelude.{IfErr}
 use Rattle.pb_io.specs.Source.{SourceState}
 use Rattle.pb_io.specs.Sink.{SinkState}
 use Rattle.pb_io.proofs.FlushLemmas.{still_works}
@@ -15,12 +15,10 @@ use Rattle.pb_export.specs.declared.exporting.ExportFault.TheVariants as export
 use Rattle.pb_commands.specs.Judged.{PutsUntil, Verdict}
 use Rattle.pb_commands.specs.declared.fault.Fault.{Fault}
 use Rattle.pb_commands.specs.declared.fault.Fault.TheVariants.{Read, Write, Endless, Memory}
-use Rattle.pb_collecting.specs.CollectRun.{RefusesTold}
 use Rattle.pb_collecting.specs.ExportRun.{BlamesSink, fault_of_export}
 use Rattle.pb_collecting.specs.Runs.{ExportRun}
 use Rattle.pb_collecting.specs.Taking.{fault_of, new_ledger}
 use Rattle.pb_collecting.proofs.CollectParts.{JudgesTable}
-use Rattle.pb_collecting.proofs.CollectRuns.{tells_refused}
 use Rattle.pb_collecting.proofs.ExportLemmas.{export_from}
 use Rattle.pb_collecting.proofs.ExportParts.{ExportsOrStops, StopsExport, at_export, at_submissions, at_table}
 
@@ -58,17 +56,6 @@ blame_export l sink sink' fault export.Memory h is = record {
 module _ (rules : CountingRules) (fills : ℕ) (t t' s s' : SourceState) (d d' sink sink' : SinkState) where
   abbrev Ends : Result Bool Fault → Type 0
   Ends = ExportsOrStops rules fills t t' s s' d d' sink sink'
-
-  abbrev Tells : Result Bool Fault → Type 0
-  Tells result = IfOk result (λ done. done ≡ false → RefusesTold t.to_come sink sink')
-
-  ends_told : (result : Result Bool Fault) → Ends result → Tells result
-  ends_told (Ok true) h = λ is. absurd (cc is)
-  ends_told (Ok false) h = λ is. tells_refused rules fills t t' s s' sink sink' h.refused
-  ends_told (Err fault) h = tt
-
-  pub told : (result : Result Bool Fault) → ExportRun rules fills t t' s s' d d' sink sink' result → Tells result
-  told result h = ends_told result (export_from rules fills t t' s s' d d' sink sink' result h)
 
   -- where the sink for the replies hasn't failed
   blame_stop : d'.failed ≡ false → (fault : Fault) → StopsExport rules fills t t' s s' d d' sink sink' fault → BlamesSink sink sink' fault

@@ -10,9 +10,8 @@ use Rattle.pb_io.specs.LineTask.{AtLine}
 use Rattle.pb_io.specs.Lines.{ended_lines, lines}
 use Rattle.pb_io.specs.Reads.{Reads, ReadsAll, ReadsFront, chunk_len}
 use Rattle.pb_io.proofs.LineLemmas.{lines-begin}
-use Rattle.pb_poly.proofs.ToldReads.{all_came, came_first}
 use Rattle.pb_games.specs.Submissions.{Submission}
-use Rattle.pb_accepted.specs.Accepting.{Accepted, Answer, IsNumber}
+use Rattle.pb_accepted.specs.Accepting.{Answer, IsNumber, Run}
 use Rattle.pb_accepted.specs.Holding.{most_games}
 use Rattle.pb_accepted.specs.Ledger.{LedgerState}
 use Rattle.pb_accepted.specs.Replies.{replies, reply_line}
@@ -25,58 +24,48 @@ use Rattle.pb_ledger.specs.declared.journaling.JournalFault.{JournalFault}
 use Rattle.pb_ledger.specs.declared.journaling.JournalFault.TheVariants as journal
 use Rattle.pb_ledger.specs.declared.totals.Totals.{Totals}
 use Rattle.pb_collecting.specs.Headline.{Arrives}
+use Rattle.pb_collecting.specs.JournalHeadline.{AreFirst, HoldsAnswered, Outlives, Survives}
 use Rattle.pb_collecting.specs.JournalRun.{ReplaysFirst}
-use Rattle.pb_collecting.specs.JournalTold.{AreFirst, HoldsAnswered, Outlives, Survives}
 use Rattle.pb_collecting.proofs.JournalGains.{IsNumber-front, gains_all, gains_torn, has_numbers, replies-push}
-use Rattle.pb_collecting.proofs.JournalHeadlines.{held_told, mended_told}
 
 -- ---- the first lines of the submissions
 
 module _ (fills : ℕ) (s s' : SourceState) where
   -- those that an LF ended in the bytes that came first
-  ended_first : (came : List ℕ) → ((bytes : List ℕ) → s.to_come ≡ Some bytes → (more : List ℕ) × (bytes ≡ came ++ more)) → AreFirst (ended_lines came) s.to_come
-  ended_first came begins = by s.to_come refl
-    where
-      by : (submitted : Option (List ℕ)) → s.to_come ≡ submitted → AreFirst (ended_lines came) submitted
-      by None is = tt
-      by (Some bytes) is = let b = begins bytes is in let later = lines-begin came b.0 in (later.0, ap lines b.1 ∙ later.1)
+  first_read : (came : List ℕ) → Reads chunk_len fills s s' came → AreFirst (ended_lines came) s s'
+  first_read came h =
+      let begins = lines-begin came [] in
+      (came, begins.0, h.handed, ap lines (sym (append-nil came)) ∙ begins.1)
 
-  first_read : (came : List ℕ) → Reads chunk_len fills s s' came → AreFirst (ended_lines came) s.to_come
-  first_read came h = ended_first came (λ bytes told. came_first chunk_len fills s s' bytes told came h)
-
-  front_read : (came : List ℕ) → ReadsFront chunk_len fills s s' came → AreFirst (ended_lines came) s.to_come
-  front_read came h =
-      ended_first came (λ bytes told. let c = came_first chunk_len fills s s' bytes told (came ++ h.0) h.1.reads in (h.0 ++ c.0, c.1 ∙ append_assoc came h.0 c.0))
+  front_read : (came : List ℕ) → ReadsFront chunk_len fills s s' came → AreFirst (ended_lines came) s s'
+  front_read came h = let begins = lines-begin came h.0 in (came ++ h.0, begins.0, h.1.reads.handed, begins.1)
 
   -- all of them
-  all_read : (came : List ℕ) → ReadsAll chunk_len fills s s' came → AreFirst (lines came) s.to_come
-  all_read came h = by s.to_come refl
-    where
-      by : (submitted : Option (List ℕ)) → s.to_come ≡ submitted → AreFirst (lines came) submitted
-      by None is = tt
-      by (Some bytes) is = ([], ap lines (all_came chunk_len fills s s' bytes is came h) ∙ sym (append-nil (lines came)))
+  all_read : (came : List ℕ) → ReadsAll chunk_len fills s s' came → AreFirst (lines came) s s'
+  all_read came h = (came, [], h.some.reads.handed, sym (append-nil (lines came)))
 
-first_but_one : (submitted : Option (List ℕ)) (before : List (List ℕ)) (line : List ℕ) → AreFirst (before ++ line ∷ []) submitted → AreFirst before submitted
-first_but_one None before line h = tt
-first_but_one (Some bytes) before line h = (line ∷ h.0, h.1 ∙ append_assoc before (line ∷ []) h.0)
+  first_but_one : (before : List (List ℕ)) (line : List ℕ) → AreFirst (before ++ line ∷ []) s s' → AreFirst before s s'
+  first_but_one before line h = (h.0, line ∷ h.1, h.2, h.3 ∙ append_assoc before (line ∷ []) h.1)
 
 -- ---- from the journal that was replayed on
 
-module _ (rules : CountingRules) (fills : ℕ) (t t' v v' s : SourceState) (j mended j' sink sink' : SinkState) (held : LedgerState) (first : ReplaysFirst rules fills t t' v v' j mended held)
-    (kept : List ℕ) (told : v.to_come ≡ Some kept) where
+module _ (rules : CountingRules) (fills : ℕ) (t t' v v' s s' : SourceState) (j mended j' sink sink' : SinkState) (held : LedgerState) (first : ReplaysFirst rules fills t t' v v' j mended held) where
+  abbrev kept : List ℕ
+  kept = first.replays.came
+
   -- the new games are on the journal as far as they were acknowledged, and last there
   abbrev Safe : Type 0
-  Safe = Survives kept s.to_come j j' sink sink' × (AllLasts j → Outlives kept s.to_come j j' sink sink')
+  Safe = Survives kept s s' j j' sink sink' × (AllLasts j → Outlives kept s s' j j' sink sink')
 
   holds : Journals most_games kept held.accepted
-  holds = held_told rules fills t t' v v' j mended held first kept told
+  holds = first.replays.holds
 
   leads_on : (left : LedgerState) (L : List (List ℕ)) (R : List Answer) → Leads held left L R
       → Leads (record { basis = record { words = first.words; rules = rules }; cap = most_games; accepted = held.accepted }) left L R
   leads_on left L R h = subst (λ (m : LedgerState). Leads m left L R) first.is h
 
   gained : (text : List ℕ) → Appends mended.bytes j'.bytes text → Appends j.bytes j'.bytes (mending kept ++ text)
-  gained text put = Appends-trans _ _ _ _ _ (mended_told rules fills t t' v v' j mended held first kept told) put
+  gained text put = Appends-trans _ _ _ _ _ first.replays.mends.put put
 
   -- what was put, where all of it lasts
   all_last : (bytes : List ℕ) → Appends j.bytes j'.bytes bytes → AllLasts j' → LastsFirst j j' bytes
@@ -88,14 +77,14 @@ module _ (rules : CountingRules) (fills : ℕ) (t t' v v' s : SourceState) (j me
       (new : List Submission) (text : List ℕ) → left.accepted ≡ held.accepted ++ new → GameLines new text → Journals most_games (kept ++ (mending kept ++ text)) (held.accepted ++ new)
   holds_all left L R on new text are lines_of =
       subst (λ (bytes : List ℕ). Journals most_games bytes (held.accepted ++ new)) (append_assoc kept (mending kept) text)
-      (gains_all most_games kept held.accepted left.accepted L R holds on.run on.accepted new text are lines_of)
+      (gains_all most_games kept held.accepted left.accepted L R holds on.run new text are lines_of)
 
   -- a front of the replies was put, and the new games are on the journal
-  survives : (left : LedgerState) (L : List (List ℕ)) (R : List Answer) (n : ℕ) → AreFirst L s.to_come → Leads held left L R → Gains mended j' held.accepted left.accepted
+  survives : (left : LedgerState) (L : List (List ℕ)) (R : List Answer) (n : ℕ) → AreFirst L s s' → Leads held left L R → Gains mended j' held.accepted left.accepted
       → Appends sink.bytes sink'.bytes (take n (replies L R)) → Safe
   survives left L R n front leads gains replied =
       let on = leads_on left L R leads in
-      let holds_answered : HoldsAnswered (kept ++ (mending kept ++ gains.text)) s.to_come sink sink' = record {
+      let holds_answered : HoldsAnswered (kept ++ (mending kept ++ gains.text)) s s' sink sink' = record {
         lines = L;
         first = front;
         answers = R;
@@ -103,7 +92,7 @@ module _ (rules : CountingRules) (fills : ℕ) (t t' v v' s : SourceState) (j me
         replied = replied;
         games = held.accepted ++ gains.new;
         holds = holds_all left L R on gains.new gains.text gains.are gains.lines;
-        has = has_numbers most_games held.accepted L R (held.accepted ++ gains.new) on.run (subst (λ (X : List Submission). Accepted held.accepted L R X) gains.are on.accepted);
+        has = has_numbers most_games held.accepted L R (held.accepted ++ gains.new) (subst (λ (X : List Submission). Run most_games held.accepted L R X) gains.are on.run);
       } in (
         record { gained = mending kept ++ gains.text; put = gained gains.text gains.put; holds = holds_answered },
         λ before. record {
@@ -114,25 +103,25 @@ module _ (rules : CountingRules) (fills : ℕ) (t t' v v' s : SourceState) (j me
       )
 
   -- all replies were put
-  collected : (left : LedgerState) (L : List (List ℕ)) → AreFirst L s.to_come → Collects sink sink' held left L → Gains mended j' held.accepted left.accepted → Safe
+  collected : (left : LedgerState) (L : List (List ℕ)) → AreFirst L s s' → Collects sink sink' held left L → Gains mended j' held.accepted left.accepted → Safe
   collected left L front h gains =
       survives left L h.answers (length (replies L h.answers)) front h.leads gains (subst (Appends sink.bytes sink'.bytes) (sym (take-length (replies L h.answers))) h.put)
 
   -- of the last reply a front was put
-  collected_but_one : (left : LedgerState) (L : List (List ℕ)) → AreFirst L s.to_come → CollectsButOne sink sink' held left L → Gains mended j' held.accepted left.accepted → Safe
+  collected_but_one : (left : LedgerState) (L : List (List ℕ)) → AreFirst L s s' → CollectsButOne sink sink' held left L → Gains mended j' held.accepted left.accepted → Safe
   collected_but_one left L front h gains =
       let R : List Answer = h.answers ++ h.answer ∷ [] in
       let leads : Leads held left (h.before ++ h.line ∷ []) R = subst (λ (X : List (List ℕ)). Leads held left X R) h.are h.leads in
-      let all = replies-push held.cap held.accepted h.before h.line h.answers h.answer leads.run in
+      let all = replies-push held.cap held.accepted left.accepted h.before h.line h.answers h.answer leads.run in
       let cut : take (length (replies h.before h.answers) + h.count) (replies (h.before ++ h.line ∷ []) R) ≡ replies h.before h.answers ++ take h.count (reply_line h.line h.answer) =
       ap (take (length (replies h.before h.answers) + h.count)) all ∙ take-append-add (replies h.before h.answers) (reply_line h.line h.answer) h.count in
       survives left (h.before ++ h.line ∷ []) R (length (replies h.before h.answers) + h.count)
-      (subst (λ (X : List (List ℕ)). AreFirst X s.to_come) h.are front) leads gains (subst (Appends sink.bytes sink'.bytes) (sym cut) h.put)
+      (subst (λ (X : List (List ℕ)). AreFirst X s s') h.are front) leads gains (subst (Appends sink.bytes sink'.bytes) (sym cut) h.put)
 
   -- the last line's game is on the journal as a whole or not at all, and wasn't answered
-  unkept : (left : LedgerState) (L : List (List ℕ)) → AreFirst L s.to_come → CollectsUnkept sink sink' mended j' held left L → Safe
+  unkept : (left : LedgerState) (L : List (List ℕ)) → AreFirst L s s' → CollectsUnkept sink sink' mended j' held left L → Safe
   unkept left L front h = (
-    elim (gains_torn most_games kept held.accepted left.accepted L (h.answers ++ Ok h.number ∷ []) holds on.run on.accepted h.new h.game h.text h.last h.count h.games h.lines h.spells) [
+    elim (gains_torn most_games kept held.accepted left.accepted L (h.answers ++ Ok h.number ∷ []) holds on.run h.new h.game h.text h.last h.count h.games h.lines h.spells) [
       | inl torn ↦ survives_so (held.accepted ++ h.new) torn before
       | inr whole ↦ survives_so (held.accepted ++ h.new ++ h.game ∷ []) whole after
     ],
@@ -154,7 +143,7 @@ module _ (rules : CountingRules) (fills : ℕ) (t t' v v' s : SourceState) (j me
 
       before : Has (held.accepted ++ h.new)
       before =
-          has_numbers most_games held.accepted h.before h.answers (held.accepted ++ h.new) led.run (subst (λ (X : List Submission). Accepted held.accepted h.before h.answers X) h.held_before led.accepted)
+          has_numbers most_games held.accepted h.before h.answers (held.accepted ++ h.new) (subst (λ (X : List Submission). Run most_games held.accepted h.before h.answers X) h.held_before led.run)
 
       after : Has (held.accepted ++ h.new ++ h.game ∷ [])
       after i n told_ok = let has = before i n told_ok in (has.0, has.1, IsNumber-front (held.accepted ++ h.new) (h.game ∷ []) n has.0 has.2)
@@ -167,13 +156,13 @@ module _ (rules : CountingRules) (fills : ℕ) (t t' v v' s : SourceState) (j me
       lasts_so lasts = (
         lasts.0,
         subst (Appends j.bytes j'.lasting) (sym (append_assoc (mending kept) h.text lasts.0))
-            (Appends-trans _ _ _ _ _ (mended_told rules fills t t' v v' j mended held first kept told) lasts.1),
+            (Appends-trans _ _ _ _ _ first.replays.mends.put lasts.1),
       )
 
-      answered : (gains : List ℕ) (games : List Submission) → Journals most_games (kept ++ gains) games → Has games → HoldsAnswered (kept ++ gains) s.to_come sink sink'
+      answered : (gains : List ℕ) (games : List Submission) → Journals most_games (kept ++ gains) games → Has games → HoldsAnswered (kept ++ gains) s s' sink sink'
       answered gains games journals has = record {
         lines = h.before;
-        first = first_but_one s.to_come h.before h.line (subst (λ (X : List (List ℕ)). AreFirst X s.to_come) h.are front);
+        first = first_but_one fills s s' h.before h.line (subst (λ (X : List (List ℕ)). AreFirst X s s') h.are front);
         answers = h.answers;
         count = length (replies h.before h.answers);
         replied = subst (Appends sink.bytes sink'.bytes) (sym (take-length (replies h.before h.answers))) h.put;
@@ -182,7 +171,7 @@ module _ (rules : CountingRules) (fills : ℕ) (t t' v v' s : SourceState) (j me
         has = has;
       }
 
-      survives_so : (games : List Submission) → Journals most_games (kept ++ mending kept ++ h.text ++ line) games → Has games → Survives kept s.to_come j j' sink sink'
+      survives_so : (games : List Submission) → Journals most_games (kept ++ mending kept ++ h.text ++ line) games → Has games → Survives kept s s' j j' sink sink'
       survives_so games journals has = record {
         gained = mending kept ++ (h.text ++ line);
         put = gained (h.text ++ line) h.kept;
@@ -192,8 +181,8 @@ module _ (rules : CountingRules) (fills : ℕ) (t t' v v' s : SourceState) (j me
 
   -- ---- how the lines ended
 
-  module _ (s' : SourceState) (left : LedgerState) where
-    at_line : (P : List (List ℕ) → Type 0) → ((L : List (List ℕ)) → AreFirst L s.to_come → P L → Safe) → AtLine fills s s' P → Safe
+  module _ (left : LedgerState) where
+    at_line : (P : List (List ℕ) → Type 0) → ((L : List (List ℕ)) → AreFirst L s s' → P L → Safe) → AtLine fills s s' P → Safe
     at_line P follows (inl h) = follows (ended_lines h.came) (front_read fills s s' h.came h.reads) h.done
     at_line P follows (inr h) = follows (lines h.came) (all_read fills s s' h.came h.reads) h.done
 

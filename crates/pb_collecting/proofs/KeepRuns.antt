@@ -4,12 +4,12 @@ use Rattle.pb_io.specs.Source.{SourceState}
 use Rattle.pb_io.specs.Sink.{SinkState}
 use Rattle.pb_poly.specs.Book.{book_bytes}
 use Rattle.pb_poly.specs.declared.entry.Entry.{Entry}
-use Rattle.pb_accepted.specs.Rules.{CountingRules}
+use Rattle.pb_accepted.specs.Rules.{AreRules, CountingRules}
 use Rattle.pb_collecting.specs.Keeping.{KeepsBook, RefusesBook}
 use Rattle.pb_collecting.specs.Place.{Keeps, PlaceState}
 use Rattle.pb_collecting.specs.Runs.{CollectRun}
 use Rattle.pb_collecting.specs.declared.place.NotKept.{NotKept}
-use Rattle.pb_collecting.proofs.CollectClauses.{headline, told}
+use Rattle.pb_collecting.proofs.CollectClauses.{headline}
 
 module _ (rules : CountingRules) (fills : ℕ) (t t' s s' : SourceState) (sink sink' : SinkState) where
   abbrev Made : Option (List Entry) → Type 0
@@ -17,16 +17,15 @@ module _ (rules : CountingRules) (fills : ℕ) (t t' s s' : SourceState) (sink s
 
   pub no_book : (place : PlaceState) (made : Option (List Entry)) → made ≡ None → Made made → RefusesBook rules fills t t' s s' sink sink' place place
   no_book place made is h =
-      let run : Made None = subst Made is h in
-      record { run = run; told = told rules fills t t' s s' sink sink' (Ok None) run; same = refl }
+      record { run = subst Made is h; same = refl }
 
-  pub made_book : (place place' : PlaceState) (entries : List Entry) (made : Option (List Entry)) → made ≡ Some entries → Made made
+  pub made_book : AreRules rules → (place place' : PlaceState) (entries : List Entry) (made : Option (List Entry)) → made ≡ Some entries → Made made
       → (answer : Result (Unit {0}) NotKept) → (bytes : List ℕ) × (bytes ≡ book_bytes entries) × Keeps place place' answer bytes
       → KeepsBook rules fills t t' s s' sink sink' place place' answer
-  made_book place place' entries made is h answer keeps =
+  made_book counting place place' entries made is h answer keeps =
       let run : Made (Some entries) = subst Made is h in record {
         entries = entries;
         run = run;
-        headline = headline rules fills t t' s s' sink sink' (Ok (Some entries)) run;
+        headline = headline rules counting fills t t' s s' sink sink' (Ok (Some entries)) run;
         keeps = subst (λ (bytes : List ℕ). Keeps place place' answer bytes) keeps.1 keeps.2;
       }

@@ -1,19 +1,17 @@
 mod CollectClauses
-pub mod CollectParts
 mod CollectRuns
 mod ContinueClauses
+mod ContinueHeadlines
 mod ContinueKeeps
 mod ContinueLemmas
 mod ContinueParts
 mod ContinueRuns
-mod ContinueTold
 mod CountLemmas
 mod EffectLaws
 mod ExportClauses
 mod ExportLemmas
 mod ExportParts
 mod ExportRuns
-pub mod Headlines
 mod JournalClauses
 mod JournalGains
 mod JournalHeadlines
@@ -24,7 +22,8 @@ mod JournalRuns
 mod JournalSurvives
 mod KeepClauses
 mod KeepRuns
-pub mod OneTexts
 mod RunLemmas
 mod Takings
-pub mod ToldRuns
+pub mod CollectParts
+pub mod Headlines
+pub mod OneTexts

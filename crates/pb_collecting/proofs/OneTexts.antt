@@ -1,6 +1,6 @@
 -- The text of the book of a list of submissions.
 use Rattle.std.proofs.Common.{List, All, refl}
-use Rattle.pb_poly.specs.Book.{NeverFall, book_bytes}
+use Rattle.pb_poly.specs.Book.{book_bytes}
 use Rattle.pb_poly.specs.Entry.{IsEntry}
 use Rattle.pb_poly.specs.declared.entry.Entry.{Entry}
 use Rattle.pb_poly.proofs.EntryBytes.{book_is_one}
@@ -10,10 +10,10 @@ use Rattle.pb_accepted.specs.Counting.{IsBook}
 use Rattle.pb_accepted.proofs.BookLaws.{one_book, one_text}
 use Rattle.pb_collecting.specs.OneText.{HasOneText}
 
-pub has_one_text : (T : Basis) (S : List Submission) (entries : List Entry) → NeverFall entries → All IsEntry entries → IsBook T S entries → HasOneText T S entries
-has_one_text T S entries ordered bounds book = record {
+pub has_one_text : (T : Basis) (S : List Submission) (entries : List Entry) → All IsEntry entries → IsBook T S entries → HasOneText T S entries
+has_one_text T S entries bounds book = record {
   text = book_bytes entries;
-  is_file = record { are = record { bounds = bounds; are = refl }; ordered = ordered };
+  are = record { bounds = bounds; are = refl };
   decodes = λ others other. book_is_one others entries (book_bytes entries) other (record { bounds = bounds; are = refl });
   only = λ others other is spelled. (
     one_book T S others entries is book,

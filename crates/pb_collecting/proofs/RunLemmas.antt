@@ -19,7 +19,6 @@ use Rattle.pb_ledger.specs.Collecting.{CollectsUntil}
 use Rattle.pb_collecting.specs.Runs as runs
 use Rattle.pb_collecting.specs.Taking.{CollectsGames, ledger_of, new_ledger}
 use Rattle.pb_collecting.proofs.CollectParts.{CollectsOrEnds, EndsCollect, JudgesTable, at_book, at_submissions, at_table}
-use Rattle.pb_collecting.proofs.ToldRuns.{came_told, table_told}
 
 -- ---- what comes of a table that is refused
 
@@ -67,7 +66,7 @@ module _ (rules : CountingRules) (fills : ℕ) (t t' s s' : SourceState) (sink s
       reads = h.takes.reads;
       done = record {
         answers = h.takes.answers;
-        leads = record { run = h.takes.run; accepted = h.takes.accepted; basis = refl; cap = refl };
+        leads = record { run = h.takes.run; basis = refl; cap = refl };
         put = h.put;
       };
     },
@@ -106,9 +105,6 @@ module _ (rules : CountingRules) (fills : ℕ) (t t' s s' : SourceState) (sink s
           reads = h.0.reads;
           answers = collects.answers;
           run = collects.leads.run;
-          accepted = collects.leads.accepted;
-          is_table = table_told fills t t' words t.to_come refl read;
-          all_came = came_told fills s s' h.0.came s.to_come refl h.0.reads;
         };
         put = collects.put;
         handed_on = h.1;

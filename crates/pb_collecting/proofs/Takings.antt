@@ -10,7 +10,6 @@ use Rattle.pb_ledger.specs.declared.totals.Totals.{Totals}
 use Rattle.pb_ledger.specs.declared.collecting.CollectFault.{CollectFault}
 use Rattle.pb_poly.specs.TableReading.{ReadsTable}
 use Rattle.pb_collecting.specs.Taking.{FillsLedger, StopsTaking, ledger_of, new_ledger}
-use Rattle.pb_collecting.proofs.ToldRuns.{came_told, table_told}
 
 module _ (rules : CountingRules) (fills : ℕ) (t t' s s' : SourceState) (sink sink' : SinkState) (words : List ℕ) (l l' : LedgerState) (is : l ≡ new_ledger rules words) (read : ReadsTable fills t t' words) where
   pub took_all : (totals : Totals) → CollectsStream fills s s' sink sink' l l' totals → FillsLedger rules fills t t' s s' sink sink' l'
@@ -27,9 +26,6 @@ module _ (rules : CountingRules) (fills : ℕ) (t t' s s' : SourceState) (sink s
             reads = h.0.reads;
             answers = collects.answers;
             run = leads.run;
-            accepted = leads.accepted;
-            is_table = table_told fills t t' words t.to_come refl read;
-            all_came = came_told fills s s' h.0.came s.to_come refl h.0.reads;
           };
           put = collects.put;
           handed_on = (h.1, h.2);

@@ -10,19 +10,18 @@ use Rattle.pb_accepted.specs.Ledger.{LedgerState}
 use Rattle.pb_accepted.specs.Rules.{CountingRules}
 use Rattle.pb_saved.specs.Saving.{Saved}
 use Rattle.pb_commands.specs.declared.fault.Fault.{Fault}
-use Rattle.pb_collecting.specs.ContinuingTold.{HasHeadlineOfBoth}
+use Rattle.pb_collecting.specs.ContinueHeadline.{HasHeadlineOfBoth}
 use Rattle.pb_collecting.specs.Place.{Keeps, PlaceState}
 use Rattle.pb_collecting.specs.Runs.{ContinueRun}
 use Rattle.pb_collecting.specs.declared.place.NotKept.{NotKept}
 use Rattle.pb_collecting.specs.declared.continuing_into.NotContinued.{NotContinued}
 use Rattle.pb_collecting.specs.declared.continuing_into.NotContinued.TheVariants.{Run, Ledger, Book}
 
--- a run ends with this book, for sources that tell their bytes with all that the theorem says, or with this fault, and its ledger was
--- kept with this answer
+-- a run ends with this book, with all that the theorem says, or with this fault, and its ledger was kept with this answer
 pub record KeepsLedger (rules : CountingRules) (fills : ℕ) (t t' v v' s s' : SourceState) (sink sink' : SinkState) (p p' : PlaceState) (book : Result (List Entry) Fault) (answer : Result (Unit {0}) NotKept) : Type 0 where
   pub left : LedgerState
   pub run : ContinueRun rules fills t t' v v' s s' sink sink' (Ok (Some (record { ledger = left; book = book })))
-  pub headline : IfOk book (HasHeadlineOfBoth rules t.to_come v.to_come s.to_come sink sink' left)
+  pub headline : IfOk book (HasHeadlineOfBoth rules t t' v v' s s' sink sink' left)
   pub bytes : List ℕ
   pub saved : Saved left.accepted bytes
   pub keeps : Keeps p p' answer bytes

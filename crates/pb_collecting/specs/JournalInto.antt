@@ -7,19 +7,18 @@ use Rattle.pb_io.specs.Sink.{SinkState}
 use Rattle.pb_poly.specs.Book.{book_bytes}
 use Rattle.pb_poly.specs.declared.entry.Entry.{Entry}
 use Rattle.pb_accepted.specs.Rules.{CountingRules}
-use Rattle.pb_collecting.specs.JournalTold.{HasHeadlineOfJournal}
+use Rattle.pb_collecting.specs.JournalHeadline.{HasHeadlineOfJournal}
 use Rattle.pb_collecting.specs.Place.{Keeps, PlaceState}
 use Rattle.pb_collecting.specs.Runs.{JournalRun}
 use Rattle.pb_collecting.specs.declared.place.NotKept.{NotKept}
 use Rattle.pb_collecting.specs.declared.keeping.NoBook.{NoBook}
 use Rattle.pb_collecting.specs.declared.keeping.NoBook.TheVariants.{Run, Keep}
 
--- a run ends with these entries, which are its book, for sources that tell their bytes with all that the theorem says, and their bytes
--- were kept with this answer
+-- a run ends with these entries, which are its book, with all that the theorem says, and their bytes were kept with this answer
 pub record KeepsJournaled (rules : CountingRules) (fills : ℕ) (t t' v v' s s' : SourceState) (j j' sink sink' : SinkState) (p p' : PlaceState) (answer : Result (Unit {0}) NotKept) : Type 0 where
   pub entries : List Entry
   pub run : JournalRun rules fills t t' v v' s s' j j' sink sink' (Ok (Some entries))
-  pub headline : HasHeadlineOfJournal rules t.to_come v.to_come s.to_come j j' sink sink' entries
+  pub headline : HasHeadlineOfJournal rules t t' v v' s s' j j' sink sink' entries
   pub keeps : Keeps p p' answer (book_bytes entries)
 
 -- how a run ends: with its book at the place; with the line that refuses the table, or with a fault, and the place as it was; or with a

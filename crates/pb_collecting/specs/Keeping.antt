@@ -5,7 +5,6 @@ use Rattle.pb_io.specs.Source.{SourceState}
 use Rattle.pb_io.specs.Sink.{SinkState}
 use Rattle.pb_poly.specs.Book.{book_bytes}
 use Rattle.pb_poly.specs.declared.entry.Entry.{Entry}
-use Rattle.pb_collecting.specs.CollectRun.{RefusesTold}
 use Rattle.pb_collecting.specs.Headline.{HasHeadline}
 use Rattle.pb_collecting.specs.Place.{Keeps, PlaceState}
 use Rattle.pb_collecting.specs.Runs.{CollectRun}
@@ -14,18 +13,16 @@ use Rattle.pb_collecting.specs.declared.keeping.NoBook.{NoBook}
 use Rattle.pb_accepted.specs.Rules.{CountingRules}
 use Rattle.pb_collecting.specs.declared.keeping.NoBook.TheVariants.{Run, Keep}
 
--- A run ends with these entries, which are its book, for sources that tell their bytes with all that the theorem says, and their bytes
--- were kept with this answer.
+-- A run ends with these entries, which are its book, with all that the theorem says, and their bytes were kept with this answer.
 pub record KeepsBook (rules : CountingRules) (fills : ℕ) (t t' s s' : SourceState) (sink sink' : SinkState) (place place' : PlaceState) (answer : Result (Unit {0}) NotKept) : Type 0 where
   pub entries : List Entry
   pub run : CollectRun rules fills t t' s s' sink sink' (Ok (Some entries))
-  pub headline : HasHeadline rules t.to_come s.to_come sink sink' entries
+  pub headline : HasHeadline rules t t' s s' sink sink' entries
   pub keeps : Keeps place place' answer (book_bytes entries)
 
 -- a run ends with the line that refuses the table, and the place is as it was
 pub record RefusesBook (rules : CountingRules) (fills : ℕ) (t t' s s' : SourceState) (sink sink' : SinkState) (place place' : PlaceState) : Type 0 where
   pub run : CollectRun rules fills t t' s s' sink sink' (Ok None)
-  pub told : RefusesTold t.to_come sink sink'
   pub same : place' ≡ place
 
 -- how a run ends without a book at the place: before there was one, and then the place is as it was, or in keeping it

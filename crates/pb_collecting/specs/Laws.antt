@@ -1,28 +1,28 @@
--- Laws of the theorem of `pbook collect`: what follows from `Effect`, where the answers are those of a ledger.
+-- Laws of the theorem of `pbook collect`: what follows from an effect.
 use Rattle.std.specs.Prelude.{◌≡◌, ◌≢◌, ℕ, ◌+◌, ◌++◌, List, [], Some, Err, All, slice_get, take}
 use Rattle.pb_io.specs.Lines.{lines}
-use Rattle.pb_io.specs.Sink.{SinkState}
 use Rattle.pb_poly.specs.declared.entry.Entry.{Entry}
 use Rattle.pb_games.specs.Submissions.{Submission}
 use Rattle.pb_games.specs.declared.refusal.Refusal.{Refusal}
 use Rattle.pb_games.specs.declared.refusal.Refusal.TheVariants.{Conflict}
-use Rattle.pb_accepted.specs.Accepting.{Accepted, Answer, OneGame, Run, Taken}
+use Rattle.pb_accepted.specs.Accepting.{Answer, OneGame, Run, Taken}
 use Rattle.pb_accepted.specs.Basis.{Basis}
 use Rattle.pb_accepted.specs.Counting.{IsBook}
 use Rattle.pb_accepted.specs.Holding.{most_games}
-use Rattle.pb_accepted.specs.Laws.{ArrivalsAreNumbered, NoRepeats, RepeatsAreAnsweredAlike, SameMembers}
+use Rattle.pb_accepted.specs.Laws.{ArrivalsAreNumbered, NoRepeats, SameMembers}
 use Rattle.pb_accepted.specs.Ledger.{LedgerState}
 use Rattle.pb_accepted.specs.Replies.{replies}
 use Rattle.pb_accepted.specs.Rules.{CountingRules}
 use Rattle.pb_saved.specs.Saving.{Saved}
-use Rattle.pb_collecting.specs.ContinuingTold.{ContinuesBytes, EffectOfBoth}
+use Rattle.pb_collecting.specs.ContinueHeadline.{ContinuesBytes}
 use Rattle.pb_collecting.specs.Headline.{Effect}
 use Rattle.pb_collecting.specs.OneText.{HasOneText}
 
--- a line that was refused left the games that are held as they were
-abbrev pub RefusalsLeaveTheGames : List (List ℕ) → List Answer → Type 0
-RefusalsLeaveTheGames L R = (i : ℕ) (e : Refusal) (A B : List Submission) → slice_get R i ≡ Some (Err e)
-    → Accepted [] (take i L) (take i R) A → Accepted [] (take (i + 1) L) (take (i + 1) R) B → B ≡ A
+-- in every run a line that was refused left the games that are held as they were
+abbrev pub RefusalsLeaveTheGames : Type 0
+RefusalsLeaveTheGames = (L : List (List ℕ)) (R : List Answer) (games : List Submission) → Run most_games [] L R games
+    → (i : ℕ) (e : Refusal) (A B : List Submission) → slice_get R i ≡ Some (Err e)
+    → Run most_games [] (take i L) (take i R) A → Run most_games [] (take (i + 1) L) (take (i + 1) R) B → B ≡ A
 
 -- What more is so of lines in which no id names two games.
 pub record OneEffect (T : Basis) (L : List (List ℕ)) (R : List Answer) (games : List Submission) (entries : List Entry) : Type 0 where
@@ -37,37 +37,23 @@ pub record OneEffect (T : Basis) (L : List (List ℕ)) (R : List Answer) (games 
   pub arrivals : ArrivalsAreNumbered most_games L R
   pub no_conflict : All (λ r. (n : ℕ) → r ≢ Err (Conflict n)) R
 
+-- where no id names two games, each submission has its one effect
+abbrev pub HasOneEffect : Type 0
+HasOneEffect = (T : Basis) (L : List (List ℕ)) (R : List Answer) (games : List Submission) (entries : List Entry)
+    → Effect T L R games entries → OneGame L → OneEffect T L R games entries
+
 -- What more is so where a run held these games first, went on with lines L and answers R to the games `left`, and an earlier run, of
 -- lines K with answers Q, saved these.
 pub record OneLongRun (T : Basis) (K L : List (List ℕ)) (Q R : List Answer) (saved held left : List Submission) (entries : List Entry) : Type 0 where
   -- what was saved is what was held
   pub held_is_saved : held ≡ saved
-  -- the lines of both runs and their answers are those of one run, which leaves the same games
-  pub run : Run most_games [] (K ++ L) (Q ++ R)
-  pub accepted : Accepted [] (K ++ L) (Q ++ R) left
-  -- so are the replies, and the book
+  -- the effect, and the replies, are those of one run of the lines of both
+  pub effect : Effect T (K ++ L) (Q ++ R) left entries
   pub replied : replies (K ++ L) (Q ++ R) ≡ replies K Q ++ replies L R
-  pub effect : Effect T (K ++ L) (Q ++ R) entries
-
--- ---- the laws
-
--- where no id names two games, each submission has its one effect
-abbrev pub HasOneEffect : Type 0
-HasOneEffect = (T : Basis) (L : List (List ℕ)) (R : List Answer) (entries : List Entry) (e : Effect T L R entries)
-    → Run most_games [] L R → OneGame L → OneEffect T L R e.games entries
-
--- in every run a repeat is answered as its first acceptance was
-abbrev pub AnswersRepeatsAlike : Type 0
-AnswersRepeatsAlike = (L : List (List ℕ)) (R : List Answer) → Run most_games [] L R → RepeatsAreAnsweredAlike L R
-
--- and a refused submission changes nothing
-abbrev pub KeepsGamesAtRefusals : Type 0
-KeepsGamesAtRefusals = (L : List (List ℕ)) (R : List Answer) → Run most_games [] L R → RefusalsLeaveTheGames L R
 
 -- a run that goes on from what an earlier one saved makes of both what one long run makes
 abbrev pub GoesOnAsOneRun : Type 0
-GoesOnAsOneRun =
-    (rules : CountingRules) (file saved bytes : List ℕ) (sink sink' : SinkState) (left : LedgerState) (entries : List Entry)
-    (h : ContinuesBytes rules file saved bytes sink sink' left entries) → EffectOfBoth (record { words = h.words; rules = rules }) h.held (lines bytes) h.answers entries
-    → (K : List (List ℕ)) (Q : List Answer) (A : List Submission) → Run most_games [] K Q → Accepted [] K Q A → Saved A saved
-    → OneLongRun (record { words = h.words; rules = rules }) K (lines bytes) Q h.answers A h.held left.accepted entries
+GoesOnAsOneRun = (rules : CountingRules) (file saved bytes put : List ℕ) (left : LedgerState) (entries : List Entry)
+    (h : ContinuesBytes rules file saved bytes put left entries) (K : List (List ℕ)) (Q : List Answer) (A : List Submission)
+    → Run most_games [] K Q A → Saved A saved
+    → OneLongRun left.basis K (lines bytes) Q h.answers A h.held left.accepted entries

@@ -1,12 +1,11 @@
-pub mod CollectRun
+pub mod ContinueHeadline
 pub mod Continuing
 pub mod ContinuingInto
-pub mod ContinuingTold
 pub mod ExportRun
 pub mod Headline
+pub mod JournalHeadline
 pub mod JournalInto
 pub mod JournalRun
-pub mod JournalTold
 pub mod Keeping
 pub mod Laws
 pub mod OneText

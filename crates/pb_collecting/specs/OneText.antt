@@ -5,12 +5,11 @@ use Rattle.pb_poly.specs.declared.entry.Entry.{Entry}
 use Rattle.pb_games.specs.Submissions.{Submission}
 use Rattle.pb_accepted.specs.Basis.{Basis}
 use Rattle.pb_accepted.specs.Counting.{IsBook}
-use Rattle.pb_commands.specs.BookJudged.{IsBookFile}
 
 -- the entries have one text, which decodes to them and to no others, and neither the entries nor the text of a book of these
 -- submissions could be others
 pub record HasOneText (T : Basis) (S : List Submission) (entries : List Entry) : Type 0 where
   pub text : List ℕ
-  pub is_file : IsBookFile entries text
+  pub are : BookBytes entries text
   pub decodes : (others : List Entry) → BookBytes others text → others ≡ entries
   pub only : (others : List Entry) (bytes : List ℕ) → IsBook T S others → BookBytes others bytes → (others ≡ entries) × (bytes ≡ text)

@@ -1,13 +1,13 @@
 -- What taking submissions gives, over the states of the two sources and of the sink for the replies before and after. Below, `t` and
 -- `t'` are the states of the table's source, `s` and `s'` those of the submissions'.
-use Rattle.std.specs.Prelude.{◌≡◌, ℕ, Bool, List, [], Result, Ok, Err, IfSome}
+use Rattle.std.specs.Prelude.{◌≡◌, ℕ, Bool, List, [], Result, Ok, Err}
 use Rattle.std.specs.Io.KnownBytes.{Appends}
 use Rattle.pb_io.specs.Source.{SourceState}
 use Rattle.pb_io.specs.Sink.{SinkState}
 use Rattle.pb_io.specs.Reads.{ReadsAll, chunk_len}
 use Rattle.pb_io.specs.Lines.{lines}
 use Rattle.pb_games.specs.Submissions.{Submission}
-use Rattle.pb_accepted.specs.Accepting.{Accepted, Answer, Run}
+use Rattle.pb_accepted.specs.Accepting.{Answer, Run}
 use Rattle.pb_accepted.specs.Ledger.{LedgerState}
 use Rattle.pb_ledger.specs.Collecting.{CollectsUntil}
 use Rattle.pb_accepted.specs.Replies.{replies}
@@ -19,7 +19,6 @@ use Rattle.pb_commands.specs.Judged.{HandedOnOnce, PutsOrEnds}
 use Rattle.pb_commands.specs.TableJudged.{table_verdict}
 use Rattle.pb_commands.specs.declared.fault.Fault.{Fault}
 use Rattle.pb_commands.specs.declared.fault.Fault.TheVariants.{Read, Write, Endless, Memory}
-use Rattle.pb_poly.specs.Table.{IsTableFile}
 use Rattle.pb_poly.specs.TableReading.{FindsNoTable, ReadsTable}
 use Rattle.pb_collecting.specs.declared.taking.NoGames.{NoGames}
 use Rattle.pb_collecting.specs.declared.taking.NoGames.TheVariants.{Table, Submissions}
@@ -45,11 +44,7 @@ pub record TakesGames (fills : ℕ) (t t' s s' : SourceState) (words : List ℕ)
   pub came : List ℕ
   pub reads : ReadsAll chunk_len fills s s' came
   pub answers : List Answer
-  pub run : Run most_games [] (lines came) answers
-  pub accepted : Accepted [] (lines came) answers held
-  -- where the sources tell their bytes, these are the whole table file and all submissions
-  pub is_table : IfSome t.to_come (IsTableFile words)
-  pub all_came : IfSome s.to_come (λ bytes. came ≡ bytes)
+  pub run : Run most_games [] (lines came) answers held
 
 -- the same, and the replies were put and handed on
 pub record CollectsGames (fills : ℕ) (t t' s s' : SourceState) (sink sink' : SinkState) (words : List ℕ) (held : List Submission) : Type 0 where

@@ -1,9 +1,8 @@
 //! The command `collect`: submissions are answered, and the book of the games that are held then is made.
-ghost use Rattle.std.specs.Prelude.{ℕ, IfNone, IfOk, IfSome};
+ghost use Rattle.std.specs.Prelude.{ℕ, IfOk, IfSome};
 ghost use Rattle.pb_io.specs.Source.{SourceState};
 ghost use Rattle.pb_io.specs.Sink.{SinkState};
 ghost use Rattle.pb_accepted.specs.Rules.{CountingRules};
-ghost use Rattle.pb_collecting.specs.CollectRun.{RefusesTold};
 ghost use Rattle.pb_collecting.specs.Headline.{HasHeadline};
 ghost use Rattle.pb_collecting.specs.Runs.{CollectRun};
 ghost use Rattle.pb_collecting.specs.Taking.{FillsLedger};
@@ -38,16 +37,14 @@ pub fn run_collect<T: Source, S: Source, K: Sink>(
     ensures ends { CollectRun rules fills
         (T.state table_source.old) (T.state table_source.new) (S.state source.old) (S.state source.new)
         (K.state sink.old) (K.state sink.new) result }
-    // Of a source that tells its bytes, it is the line that refuses the table file of all bytes that
-    // were to come.
-    ensures told { IfOk result (λ answer. IfNone answer (RefusesTold
-        (T.state table_source.old).to_come (K.state sink.old) (K.state sink.new))) }
-    // All that is promised of sources that tell their bytes: which lines are accepted, that each game
-    // counts once, and that the book has one text.
+    // All that is promised of the bytes that the sources handed out and the sink took: which lines are
+    // accepted, that each game counts once, and that the book has one text.
     ensures headline { IfOk result (λ answer. IfSome answer (HasHeadline rules
-        (T.state table_source.old).to_come (S.state source.old).to_come
+        (T.state table_source.old) (T.state table_source.new) (S.state source.old) (S.state source.new)
         (K.state sink.old) (K.state sink.new))) }
 {
+    // The reader tells that the numbers lie in their ranges.
+    let _plies = rules.plies();
     collect_submissions(alloc, rules, table_source, source, sink, fills)
 }
 

@@ -1,9 +1,9 @@
 //! The command `collect` that goes on from a saved ledger.
 
-ghost use Rattle.std.specs.Prelude.{◌≡◌, IfNone, IfOk, IfSome};
+ghost use Rattle.std.specs.Prelude.{◌≡◌, IfOk, IfSome};
 ghost use Rattle.pb_commands.specs.Judged.{PutsOrEnds};
+ghost use Rattle.pb_collecting.specs.ContinueHeadline.{HasHeadlineOfBoth};
 ghost use Rattle.pb_collecting.specs.Continuing.{GoesOn, LoadsOrStops, saved_verdict, verdict_of};
-ghost use Rattle.pb_collecting.specs.ContinuingTold.{HasHeadlineOfBoth, RefusesEither};
 ghost use Rattle.pb_collecting.specs.Runs.{ContinueRun};
 
 use crate::taking::{collect_fault, empty_ledger};
@@ -57,16 +57,11 @@ pub fn run_continue<T: Source, V: Source, S: Source, K: Sink>(
     ensures ends { ContinueRun rules fills
         (T.state table_source.old) (T.state table_source.new) (V.state saved.old) (V.state saved.new)
         (S.state source.old) (S.state source.new) (K.state sink.old) (K.state sink.new) result }
-    // Of sources that tell their bytes, it is the line that refuses the table file or the saved ledger
-    // of all bytes that were to come.
-    ensures told { IfOk result (λ answer. IfNone answer (RefusesEither
-        (T.state table_source.old).to_come (V.state saved.old).to_come
-        (K.state sink.old) (K.state sink.new))) }
-    // Of sources that tell their bytes, the games of the saved ledger were held first. Whatever run left
-    // them, the book is that of the games that were accepted in both runs, each of them once.
+    // The games of the saved ledger were held first. Whatever run left them, the book is that of the
+    // games that were accepted in both runs, each of them once.
     ensures headline { IfOk result (λ answer. IfSome answer (λ run. IfOk run.book (HasHeadlineOfBoth rules
-        (T.state table_source.old).to_come (V.state saved.old).to_come (S.state source.old).to_come
-        (K.state sink.old) (K.state sink.new) run.ledger))) }
+        (T.state table_source.old) (T.state table_source.new) (V.state saved.old) (V.state saved.new)
+        (S.state source.old) (S.state source.new) (K.state sink.old) (K.state sink.new) run.ledger))) }
 {
     continue_from(alloc, rules, table_source, saved, source, sink, fills)
 }

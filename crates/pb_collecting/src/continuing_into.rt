@@ -4,8 +4,8 @@ ghost use Rattle.std.specs.Prelude.{ℕ, IfOk, Ok, Some};
 ghost use Rattle.pb_io.specs.Source.{SourceState};
 ghost use Rattle.pb_io.specs.Sink.{SinkState};
 ghost use Rattle.pb_accepted.specs.Rules.{CountingRules};
+ghost use Rattle.pb_collecting.specs.ContinueHeadline.{HasHeadlineOfBoth};
 ghost use Rattle.pb_collecting.specs.ContinuingInto.{KeepsOrStops};
-ghost use Rattle.pb_collecting.specs.ContinuingTold.{HasHeadlineOfBoth};
 ghost use Rattle.pb_collecting.specs.Runs.{ContinueRun};
 
 use crate::continuing::{Continued, run_continue};
@@ -69,7 +69,7 @@ fn keep_run<P: Place, Q: Place>(
     // Whatever sources the run read, it ends so.
     ensures { (rules : CountingRules) (fills : ℕ) (t t' v v' s s' : SourceState) (sink sink' : SinkState)
         → ContinueRun rules fills t t' v v' s s' sink sink' (Ok (Some run.now))
-        → IfOk run.now.book (HasHeadlineOfBoth rules t.to_come v.to_come s.to_come sink sink' run.now.ledger)
+        → IfOk run.now.book (HasHeadlineOfBoth rules t t' v v' s s' sink sink' run.now.ledger)
         → KeepsOrStops rules fills t t' v v' s s' sink sink' (P.state ledger_place.old) (P.state ledger_place.new)
         (Q.state book_place.old) (Q.state book_place.new) result }
 {

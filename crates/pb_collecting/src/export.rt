@@ -1,9 +1,8 @@
 //! The command `export`: the book of submissions as EPD lines.
-ghost use Rattle.std.specs.Prelude.{◌≡◌, ℕ, IfErr, IfOk, None, false};
+ghost use Rattle.std.specs.Prelude.{◌≡◌, ℕ, IfErr, None, false};
 ghost use Rattle.pb_io.specs.Source.{SourceState};
 ghost use Rattle.pb_io.specs.Sink.{SinkState};
 ghost use Rattle.pb_accepted.specs.Rules.{CountingRules};
-ghost use Rattle.pb_collecting.specs.CollectRun.{RefusesTold};
 ghost use Rattle.pb_collecting.specs.ExportRun.{BlamesSink, fault_of_export};
 ghost use Rattle.pb_collecting.specs.Runs.{ExportRun, SilentExportRun};
 ghost use Rattle.pb_collecting.specs.Taking.{FillsLedger};
@@ -75,10 +74,6 @@ pub fn run_export<T: Source, S: Source, K: Sink>(
     ensures ends { SilentExportRun rules fills
         (T.state table_source.old) (T.state table_source.new) (S.state source.old) (S.state source.new)
         (K.state sink.old) (K.state sink.new) result }
-    // Of a source that tells its bytes, it is the line that refuses the table file of all bytes that
-    // were to come.
-    ensures told { IfOk result (λ done. done ≡ false → RefusesTold
-        (T.state table_source.old).to_come (K.state sink.old) (K.state sink.new)) }
     // The sink is blamed only where it has failed, and always where it has failed since.
     ensures blame { IfErr result (BlamesSink (K.state sink.old) (K.state sink.new)) }
 {

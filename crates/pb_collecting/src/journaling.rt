@@ -1,17 +1,16 @@
 //! The command `collect` with a journal.
 
-ghost use Rattle.std.specs.Prelude.{◌≡◌, ◌⊎◌, IfNone, IfOk, IfSome};
-ghost use Rattle.pb_io.specs.Source.{SourceState};
+ghost use Rattle.std.specs.Prelude.{◌≡◌, ◌⊎◌, ℕ, IfOk, IfSome, List};
+ghost use Rattle.pb_io.specs.Source.{HandsOut, SourceState};
 ghost use Rattle.pb_io.specs.Sink.{AllLasts, SinkState};
 ghost use Rattle.pb_accepted.specs.Rules.{CountingRules};
-ghost use Rattle.pb_collecting.specs.CollectRun.{RefusesTold};
+ghost use Rattle.pb_collecting.specs.JournalHeadline.{HasHeadlineOfJournal, Outlives, Survives};
 ghost use Rattle.pb_collecting.specs.JournalRun.{
   ReplaysFirst,
   ReplaysOrStops,
   fault_of_journal,
   fault_of_replay,
 };
-ghost use Rattle.pb_collecting.specs.JournalTold.{HasHeadlineOfJournal, Outlives, Survives};
 ghost use Rattle.pb_collecting.specs.Runs.{JournalRun};
 
 use crate::taking::{collect_fault, empty_ledger};
@@ -67,24 +66,21 @@ pub fn run_journaled<T: Source, V: Source, J: Sink, W: PassedLines, S: Source, K
         (T.state table_source.old) (T.state table_source.new) (V.state kept.old) (V.state kept.new)
         (S.state source.old) (S.state source.new) (J.state journal.old) (J.state journal.new)
         (K.state sink.old) (K.state sink.new) result }
-    // Of a source that tells its bytes, it is the line that refuses the table file of all bytes that
-    // were to come.
-    ensures told { IfOk result (λ answer. IfNone answer (RefusesTold
-        (T.state table_source.old).to_come (K.state sink.old) (K.state sink.new))) }
-    // Of sources that tell their bytes: the lines of the journal and of the submissions are those of one
-    // run, and this is its effect.
+    // The lines of the journal and of the submissions are those of one run, and this is its effect.
     ensures headline { IfOk result (λ answer. IfSome answer (HasHeadlineOfJournal rules
-        (T.state table_source.old).to_come (V.state kept.old).to_come (S.state source.old).to_come
-        (J.state journal.old) (J.state journal.new) (K.state sink.old) (K.state sink.new))) }
-    // No acknowledged game is lost: no submission was read, or the journal holds each game that a reply
-    // calls `ok`.
-    ensures survives { (S.state source.new ≡ S.state source.old) ⊎ IfSome (V.state kept.old).to_come
-        (λ bytes. Survives bytes (S.state source.old).to_come (J.state journal.old) (J.state journal.new)
+        (T.state table_source.old) (T.state table_source.new) (V.state kept.old) (V.state kept.new)
+        (S.state source.old) (S.state source.new) (J.state journal.old) (J.state journal.new)
+        (K.state sink.old) (K.state sink.new))) }
+    // No acknowledged game is lost: no submission was read, or the journal was read to its end and holds
+    // each game that a reply calls `ok`.
+    ensures survives { (S.state source.new ≡ S.state source.old)
+        ⊎ ((bytes : List ℕ) × HandsOut (V.state kept.old) (V.state kept.new) bytes
+        × Survives bytes (S.state source.old) (S.state source.new) (J.state journal.old) (J.state journal.new)
         (K.state sink.old) (K.state sink.new)) }
     // Nor by whatever ends the run, where what the journal had before lasts.
     ensures outlives { AllLasts (J.state journal.old) → (S.state source.new ≡ S.state source.old)
-        ⊎ IfSome (V.state kept.old).to_come
-        (λ bytes. Outlives bytes (S.state source.old).to_come (J.state journal.old) (J.state journal.new)
+        ⊎ ((bytes : List ℕ) × HandsOut (V.state kept.old) (V.state kept.new) bytes
+        × Outlives bytes (S.state source.old) (S.state source.new) (J.state journal.old) (J.state journal.new)
         (K.state sink.old) (K.state sink.new)) }
 {
     journal_submissions(

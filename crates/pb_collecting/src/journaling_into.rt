@@ -1,9 +1,10 @@
 //! The command `collect` with a journal, up to the place where its book is kept.
 
-ghost use Rattle.std.specs.Prelude.{◌≡◌, ◌⊎◌, IfSome};
+ghost use Rattle.std.specs.Prelude.{◌≡◌, ◌⊎◌, ℕ, List};
 ghost use Rattle.pb_io.specs.Sink.{AllLasts};
+ghost use Rattle.pb_io.specs.Source.{HandsOut};
+ghost use Rattle.pb_collecting.specs.JournalHeadline.{Outlives, Survives};
 ghost use Rattle.pb_collecting.specs.JournalInto.{JournalsInto};
-ghost use Rattle.pb_collecting.specs.JournalTold.{Outlives, Survives};
 
 use crate::journaling::run_journaled;
 use crate::keeping::NoBook;
@@ -36,11 +37,15 @@ pub fn journal_into<T: Source, V: Source, J: Sink, W: PassedLines, S: Source, K:
         (S.state source.old) (S.state source.new) (J.state journal.old) (J.state journal.new) (K.state sink.old) (K.state sink.new)
         (P.state place.old) (P.state place.new) result }
     // No acknowledged game is lost, whatever becomes of the book.
-    ensures survives { (S.state source.new ≡ S.state source.old) ⊎ IfSome (V.state kept.old).to_come (λ bytes.
-        Survives bytes (S.state source.old).to_come (J.state journal.old) (J.state journal.new) (K.state sink.old) (K.state sink.new)) }
+    ensures survives { (S.state source.new ≡ S.state source.old)
+        ⊎ ((bytes : List ℕ) × HandsOut (V.state kept.old) (V.state kept.new) bytes
+        × Survives bytes (S.state source.old) (S.state source.new) (J.state journal.old) (J.state journal.new)
+        (K.state sink.old) (K.state sink.new)) }
     // Nor by whatever ends the run, where what the journal had before lasts.
-    ensures outlives { AllLasts (J.state journal.old) → (S.state source.new ≡ S.state source.old) ⊎ IfSome (V.state kept.old).to_come (λ bytes.
-        Outlives bytes (S.state source.old).to_come (J.state journal.old) (J.state journal.new) (K.state sink.old) (K.state sink.new)) }
+    ensures outlives { AllLasts (J.state journal.old) → (S.state source.new ≡ S.state source.old)
+        ⊎ ((bytes : List ℕ) × HandsOut (V.state kept.old) (V.state kept.new) bytes
+        × Outlives bytes (S.state source.old) (S.state source.new) (J.state journal.old) (J.state journal.new)
+        (K.state sink.old) (K.state sink.new)) }
 {
     let book = match run_journaled(
         alloc,

@@ -65,6 +65,8 @@ fn collect_and_keep<T: Source, S: Source, K: Sink, P: Place>(
     ensures { KeepsOrEnds rules fills (T.state table_source.old) (T.state table_source.new) (S.state source.old) (S.state source.new)
         (K.state sink.old) (K.state sink.new) (P.state place.old) (P.state place.new) result }
 {
+    // The reader tells that the numbers lie in their ranges.
+    let _plies = rules.plies();
     let book = match collect_submissions(alloc, rules, table_source, source, sink, fills) {
         Ok(Some(book)) => book,
         Ok(None) => return Ok(false),

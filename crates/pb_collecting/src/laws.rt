@@ -3,7 +3,7 @@
 
 ghost use Rattle.std.specs.Prelude.{◌≡◌};
 ghost use Rattle.std.specs.Bool.{Decides};
-ghost use Rattle.pb_collecting.specs.Laws.{AnswersRepeatsAlike, GoesOnAsOneRun, HasOneEffect, KeepsGamesAtRefusals};
+ghost use Rattle.pb_collecting.specs.Laws.{GoesOnAsOneRun, HasOneEffect, RefusalsLeaveTheGames};
 ghost use Rattle.pb_collecting.specs.declared.continuing_into.NotContinued.{NotContinued};
 ghost use Rattle.pb_collecting.specs.declared.keeping.NoBook.{NoBook};
 ghost use Rattle.pb_collecting.specs.declared.place.NotKept.{NotKept};
@@ -12,10 +12,9 @@ use crate::continuing_into::NotContinued;
 use crate::keeping::NoBook;
 use crate::place::NotKept;
 
-/// Whatever the submissions are, a repeat is answered as its first acceptance was, and a refused submission changes nothing.
+/// Whatever the submissions are, a refused submission changes nothing.
 pub fn every_run()
-    ensures repeats { AnswersRepeatsAlike }
-    ensures refusals { KeepsGamesAtRefusals }
+    ensures { RefusalsLeaveTheGames }
 {}
 
 /// Where no id names two games, the book is that of the distinct legal submissions that were accepted, each counted once, no answer is a

@@ -36,11 +36,14 @@ adds_lawful most A line r B h games = elim (step_to most A line r B h).1 [
 pub are_submissions : (cap : ℕ) (L : List (List ℕ)) (R : List Answer) (A : List Submission) → Run cap [] L R A → All IsSubmission A
 are_submissions most L R A h = Along-keeps (Step most) (All IsSubmission) (adds_lawful most) [] L R A h (All-nil IsSubmission)
 
+-- and no more than there may be
+pub has_room : (cap : ℕ) (L : List (List ℕ)) (R : List Answer) (A : List Submission) → Run cap [] L R A → length A ≤ cap
+has_room most L R A h = Along-keeps (Step most) (λ (X : List Submission). length X ≤ most) (room_step most) [] L R A h (omega arith)
+
 -- the loaded list is the one that was saved
 pub loaded_back : (cap : ℕ) (K : List (List ℕ)) (Q : List Answer) (A B : List Submission) (bytes : List ℕ) → Run cap [] K Q A → Saved A bytes → Loads cap (lines bytes) B → B ≡ A
 loaded_back most K Q A B bytes run saved loads =
-    let room = Along-keeps (Step most) (λ (X : List Submission). length X ≤ most) (room_step most) [] K Q A run (omega arith) in
-    loads_only most A bytes (are_submissions most K Q A run) (distinct_ids most K Q A run) room saved B loads
+    loads_only most A bytes (are_submissions most K Q A run) (distinct_ids most K Q A run) (has_room most K Q A run) saved B loads
 
 pub continued : ContinuedIsOneRun
 continued most K L Q R A B C bytes run saved loads more =

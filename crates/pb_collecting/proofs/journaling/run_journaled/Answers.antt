@@ -1,8 +1,5 @@
-use Rattle.pb_collecting.proofs.JournalClauses.{headline, outlives, survives, told}
+use Rattle.pb_collecting.proofs.JournalClauses.{headline, outlives, survives}
 use Rattle.pb_collecting.proofs.journaling.run_journaled.Goals as goal
-
-pub returns-clause-told : goal.returns-clause-told
-returns-clause-told g c = told _ _ _ _ _ _ _ _ _ _ _ _ c.journal_submissions.result c.journal_submissions.ensures
 
 pub returns-clause-headline : goal.returns-clause-headline
 returns-clause-headline g c = headline _ _ _ _ _ _ _ _ _ _ _ _ c.journal_submissions.result c.journal_submissions.ensures

@@ -9,7 +9,7 @@ pub returns-in-Err : goal.returns-in-Err
 returns-in-Err g c = (c.in-Err.ensures, refl)
 
 pub returns-in-Ok : goal.returns-in-Ok
-returns-in-Ok g c = made_book _ _ _ _ _ _ _ _ _ _ c.in-Ok-Some.book c.in-Ok-Some.field-0 c.in-Ok-Some.field-0-is c.in-Ok-Some.ensures _ c.in-Ok.ensures
+returns-in-Ok g c = made_book _ _ _ _ _ _ _ _ c.plies-plies.ensures.rules _ _ c.in-Ok-Some.book c.in-Ok-Some.field-0 c.in-Ok-Some.field-0-is c.in-Ok-Some.ensures _ c.in-Ok.ensures
 
 pub returns : goal.returns
-returns g c = made_book _ _ _ _ _ _ _ _ _ _ c.in-Ok-Some.book c.in-Ok-Some.field-0 c.in-Ok-Some.field-0-is c.in-Ok-Some.ensures _ c.in-Err-keep.ensures
+returns g c = made_book _ _ _ _ _ _ _ _ c.plies-plies.ensures.rules _ _ c.in-Ok-Some.book c.in-Ok-Some.field-0 c.in-Ok-Some.field-0-is c.in-Ok-Some.ensures _ c.in-Err-keep.ensures

@@ -1,4 +1,4 @@
-use Rattle.pb_collecting.proofs.ContinueTold.{goes_on_as_one_run}
+use Rattle.pb_collecting.proofs.ContinueHeadlines.{goes_on_as_one_run}
 use Rattle.pb_collecting.proofs.laws.goes_on.Goals as goal
 
 pub returns : goal.returns
