@@ -50,7 +50,7 @@ besides_is board new m Bishop c is = refl
 besides_is board new m Rook c is = refl
 besides_is board new m Queen c is = refl
 
-arriving_is : (p : Piece) (promo : Option Kind) → piece_of p.colour (unwrap_or promo p.kind) ≡ arriving p promo
+pub arriving_is : (p : Piece) (promo : Option Kind) → piece_of p.colour (unwrap_or promo p.kind) ≡ arriving p promo
 arriving_is p None = refl
 arriving_is p (Some k) = refl
 
