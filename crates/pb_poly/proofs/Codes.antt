@@ -20,7 +20,7 @@ use Rattle.pb_poly.specs.Code.{HasCode, coded_to, rook_or, CodeIsOne}
 use Rattle.pb_poly.specs.Decoding.{king_or, reached}
 
 -- a king goes two files at most
-king_pattern : (k : Kind) (files ranks : ℕ) → Pattern k files ranks → k ≡ King → files ≤ 1
+pub king_pattern : (k : Kind) (files ranks : ℕ) → Pattern k files ranks → k ≡ King → files ≤ 1
 king_pattern King files ranks h king = omega (arith, h)
 king_pattern k files ranks h king = absurd (cc)
 
