@@ -1,13 +1,14 @@
 -- Words that spell moves, and moves that are played one after the other.
-use Rattle.std.proofs.Common.{◌≡◌, ◌∙◌, ℕ, ◌+◌, ◌<◌, ◌≤◌, All, Bor, List, [], ◌∷◌, ◌++◌, ap, drop, get_or, length, refl, None, Option, Some, subst, sym}
+use Rattle.std.proofs.Common.{◌≡◌, ◌∙◌, ℕ, ◌+◌, ◌<◌, ◌≤◌, All, Bor, List, [], ◌∷◌, ◌++◌, ap, drop, get_or, length, None, Option, Some, subst, sym}
 use Rattle.std.specs.List.{AllZip}
 use Rattle.std.specs.Prelude.{MatchOption}
+use Rattle.std.specs.Option.{SomeIff}
 use Rattle.std.proofs.Math.ListN.{drop_of_length-le}
 use Rattle.std.proofs.lemmas.List.{drop_more}
 use Rattle.std.proofs.lemmas.List.Elements.{All-head, All-tail}
-use Rattle.pb_board.specs.Position.{IsRecord, Record}
-use Rattle.pb_moves.specs.AfterRecord.{AfterRecord}
-use Rattle.pb_moves.specs.Cases.{Legal}
+use Rattle.pb_board.specs.Position.{Record}
+use Rattle.pb_moves.specs.Clocks.{record_after}
+use Rattle.pb_moves.specs.Legal.{Legal}
 use Rattle.pb_moves.specs.Moved.{IsMove, Moved}
 use Rattle.pb_moves.specs.Played.{IsSpelled, Plays, Spells}
 use Rattle.pb_moves.specs.Spelling.{spelling}
@@ -37,16 +38,14 @@ spelt_moves (w ∷ ws) all =
 
 -- one move more
 pub plays_more : (f : Record) (ms : List Moved) (g : Record) (m : Moved) (h : Record) → Plays f ms g → Legal g.setup m
-    → AfterRecord g m h → Plays f (ms ++ m ∷ []) h
-plays_more f [] g m h same legal after =
-    (h, subst (λ (r : Record). Legal r.setup m) same legal, subst (λ (r : Record). AfterRecord r m h) same after, refl)
-plays_more f (n ∷ ms) g m h plays legal after =
-    (plays.0, plays.1, plays.2, plays_more plays.0 ms g m h plays.3 legal after)
+    → h ≡ record_after g m → Plays f (ms ++ m ∷ []) h
+plays_more f [] g m h same legal is = (subst (λ (r : Record). Legal r.setup m) same legal, is ∙ ap (λ (r : Record). record_after r m) same)
+plays_more f (n ∷ ms) g m h plays legal is = (plays.0, plays_more (record_after f n) ms g m h plays.1 legal is)
 
 -- the move that a word spells is played, or isn't legal
 pub word_played : (word text : List ℕ) (f : Record) (m : Moved) (next : Option Record) → IsMove m × (text ≡ spelling m)
-    → text ≡ word → MatchOption next (¬ Legal f.setup m) (λ g. Legal f.setup m × AfterRecord f m g × IsRecord g)
+    → text ≡ word → SomeIff next (Legal f.setup m) (record_after f m)
     → MatchOption next (IsSpelled word → (n : Moved) × Spells word n × ¬ Legal f.setup n)
-    (λ g. (n : Moved) × Spells word n × Legal f.setup n × AfterRecord f n g)
+    (λ g. (n : Moved) × Spells word n × Legal f.setup n × (g ≡ record_after f n))
 word_played word text f m None read same illegal = λ _. (m, record { is_move = read.0; is = sym same ∙ read.1 }, illegal)
 word_played word text f m (Some g) read same played = (m, record { is_move = read.0; is = sym same ∙ read.1 }, played.0, played.1)

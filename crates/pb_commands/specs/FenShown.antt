@@ -7,7 +7,7 @@ use Rattle.pb_board.specs.Fen.{FenText}
 use Rattle.pb_board.specs.LineEnd.{with_end}
 use Rattle.pb_board.specs.Refusal.{BreaksAt}
 use Rattle.pb_moves.specs.Moved.{Moved}
-use Rattle.pb_moves.specs.Cases.{Legal}
+use Rattle.pb_moves.specs.Legal.{Legal}
 use Rattle.pb_moves.specs.Played.{Spells, IsSpelled, Plays}
 use Rattle.pb_commands.specs.Judged.{Verdict, refused}
 use Rattle.pb_commands.specs.Plays.{PlaysWords}

@@ -4,8 +4,8 @@ ghost use Rattle.pb_board.specs.Fen.{FenText};
 ghost use Rattle.pb_board.specs.Position.{IsRecord};
 ghost use Rattle.pb_board.specs.LineEnd.{with_end};
 ghost use Rattle.pb_board.specs.Refusal.{BreaksAt};
-ghost use Rattle.pb_moves.specs.AfterRecord.{AfterRecord};
-ghost use Rattle.pb_moves.specs.Cases.{Legal};
+ghost use Rattle.pb_moves.specs.Clocks.{record_after as next_record};
+ghost use Rattle.pb_moves.specs.Legal.{Legal};
 ghost use Rattle.pb_moves.specs.Moved.{Moved};
 ghost use Rattle.pb_moves.specs.Played.{IsSpelled, Spells};
 ghost use Rattle.pb_commands.specs.Line.{texts};
@@ -130,7 +130,7 @@ fn play_words(start: Fen, words: &[&str]) -> Result<Fen, usize>
 fn play_word(before: &Fen, word: &str) -> Option<Fen>
     ensures { MatchOption result
         (IsSpelled word.now → (m : Moved) × Spells word.now m × ¬ Legal before.now.setup m)
-        (λ next. (m : Moved) × Spells word.now m × Legal before.now.setup m × AfterRecord before.now m next) }
+        (λ next. (m : Moved) × Spells word.now m × Legal before.now.setup m × (next ≡ next_record before.now m)) }
 {
     let m = read_move(word.as_bytes())?;
     advance(before, m)

@@ -9,7 +9,7 @@ use Rattle.arrayvec.specs.ArrayString.{ArrayString}
 use Rattle.pb_board.specs.Fen.{FourFields}
 use Rattle.pb_board.specs.Position.{Position, IsSetup}
 use Rattle.pb_board.proofs.Unique.{one_setup_text}
-use Rattle.pb_moves.specs.Cases.{Legal}
+use Rattle.pb_moves.specs.Legal.{Legal}
 use Rattle.pb_moves.specs.Moved.{Moved}
 use Rattle.pb_moves.specs.Successor.{after}
 use Rattle.pb_moves.specs.Played.{AreLegal, Ply, plies_from}

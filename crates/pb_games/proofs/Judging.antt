@@ -10,7 +10,7 @@ use Rattle.pb_board.proofs.Breaks.{all_unbroken}
 use Rattle.pb_board.proofs.Fens.{record_never_due}
 use Rattle.pb_board.proofs.Unique.{one_record}
 use Rattle.pb_board.specs.LineEnd.{without_return}
-use Rattle.pb_moves.specs.Attack.{Playable}
+use Rattle.pb_moves.specs.Attacks.{NoOppositeCheck}
 use Rattle.pb_moves.specs.Played.{AreLegal, IsSpelled}
 use Rattle.pb_games.specs.declared.outcome.Outcome.{Outcome}
 use Rattle.pb_games.specs.declared.refusal.Refusal.{Refusal}
@@ -42,15 +42,15 @@ module _ (line a d : List ℕ) (o : Outcome) (f : Record) (h : IsHeader line a o
   spells_start : SpellsStart line f
   spells_start = record { bounds = h.bounds; text = subst (FenText f) (sym fen_at) h.text }
 
-  pub start_refused : ¬ Playable f.setup → Refuses line refusal.Start
+  pub start_refused : ¬ NoOppositeCheck f.setup → Refuses line refusal.Start
   start_refused bad = first_due refusal.Start line none_before_start (f, spells_start, bad)
 
-  module _ (playable : Playable f.setup) where
+  module _ (playable : NoOppositeCheck f.setup) where
     none_before_words : NoneBefore 7 line
     none_before_words =
         none_more 6 line none_before_start (λ due.
         let same : due.0 ≡ f = one_record due.0 f (field_of line 2) due.1.bounds h.bounds due.1.text spells_start.text in
-        due.2 (subst (λ g. Playable g.setup) (sym same) playable))
+        due.2 (subst (λ g. NoOppositeCheck g.setup) (sym same) playable))
 
     pub misspelt_refused : (n : ℕ) → BreaksAt (All IsSpelled) (words_of d) n → Refuses line (refusal.Spelling n)
     misspelt_refused n bad = first_due (refusal.Spelling n) line none_before_words (subst (λ w. BreaksAt (All IsSpelled) (words_of w) n) (sym moves_at) bad)
@@ -100,7 +100,7 @@ module _ (line a d : List ℕ) (o : Outcome) (f : Record) (h : IsHeader line a o
         }
 
 -- the refusal that the words get is the line's
-pub moves_refused : (line a d : List ℕ) (o : Outcome) (f : Record) → IsHeader line a o f d → Playable f.setup → (e : Refusal) → AreRefused f.setup d e → Refuses line e
+pub moves_refused : (line a d : List ℕ) (o : Outcome) (f : Record) → IsHeader line a o f d → NoOppositeCheck f.setup → (e : Refusal) → AreRefused f.setup d e → Refuses line e
 moves_refused line a d o f h playable refusal.Long bad = absurd bad
 moves_refused line a d o f h playable refusal.Shape bad = absurd bad
 moves_refused line a d o f h playable refusal.Id bad = absurd bad
@@ -115,10 +115,10 @@ moves_refused line a d o f h playable refusal.Full bad = absurd bad
 moves_refused line a d o f h playable refusal.Memory bad = absurd bad
 
 -- the moves that were read make a lawful submission
-pub moves_lawful : (line a d : List ℕ) (o : Outcome) (f : Record) (n : ℕ) → IsHeader line a o f d → Playable f.setup → AreRead f.setup d n → IsLawful line (submission_of a f o d)
+pub moves_lawful : (line a d : List ℕ) (o : Outcome) (f : Record) (n : ℕ) → IsHeader line a o f d → NoOppositeCheck f.setup → AreRead f.setup d n → IsLawful line (submission_of a f o d)
 moves_lawful line a d o f n h playable read = lawful line a d o f h playable read.spelt (omega (arith, read.number, read.few)) read.legal
 
-pub moves_checked : (line a d : List ℕ) (o : Outcome) (f : Record) (n : ℕ) → IsHeader line a o f d → Playable f.setup → AreRead f.setup d n → IsChecked (submission_of a f o d) d n
+pub moves_checked : (line a d : List ℕ) (o : Outcome) (f : Record) (n : ℕ) → IsHeader line a o f d → NoOppositeCheck f.setup → AreRead f.setup d n → IsChecked (submission_of a f o d) d n
 moves_checked line a d o f n h playable read =
     let all = moves_lawful line a d o f n h playable read in
     record { rules = record { id = all.submits.id; game = all.submits.game; legal = all.legal }; spelt = read.spelt; number = read.number }

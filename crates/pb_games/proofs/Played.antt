@@ -3,7 +3,7 @@ use Rattle.std.proofs.Common.{Option, Some, None, true, false, true≢false, is_
 use Rattle.pb_board.specs.Position.{Position}
 use Rattle.pb_board.specs.Refusal.{BreaksAt}
 use Rattle.pb_board.proofs.Breaks.{KeepsFronts}
-use Rattle.pb_moves.specs.Cases.{Legal}
+use Rattle.pb_moves.specs.Legal.{Legal}
 use Rattle.pb_moves.specs.Moved.{Moved}
 use Rattle.pb_moves.specs.Played.{AreLegal, Ply, plies_from}
 use Rattle.pb_moves.specs.Successor.{after}

@@ -6,7 +6,7 @@ use Rattle.pb_board.specs.Fen.{FenText}
 use Rattle.pb_board.specs.Position.{Record, IsRecord}
 use Rattle.pb_board.specs.Refusal.{BreaksAt, IsFirstDue, of_record, fields}
 use Rattle.pb_board.specs.LineEnd.{without_return}
-use Rattle.pb_moves.specs.Attack.{Playable}
+use Rattle.pb_moves.specs.Attacks.{NoOppositeCheck}
 use Rattle.pb_moves.specs.Moved.{Moved, IsMove}
 use Rattle.pb_moves.specs.Spelling.{spelling}
 use Rattle.pb_moves.specs.Played.{AreLegal, IsSpelled}
@@ -46,7 +46,7 @@ IsDue refusal.Shape line = length (fields_of line) ≢ 4
 IsDue refusal.Id line = ¬ IsId (field_of line 0)
 IsDue refusal.Result line = (outcome : Outcome) → field_of line 1 ≢ outcome_text outcome
 IsDue (refusal.Fen e) line = IsFirstDue of_record e (fields (field_of line 2))
-IsDue refusal.Start line = (f : Record) × SpellsStart line f × ¬ Playable f.setup
+IsDue refusal.Start line = (f : Record) × SpellsStart line f × ¬ NoOppositeCheck f.setup
 IsDue (refusal.Spelling n) line = BreaksAt (All IsSpelled) (move_words line) n
 IsDue refusal.Plies line = 1024 < length (move_words line)
 IsDue (refusal.Illegal n) line =

@@ -3,7 +3,7 @@ use Rattle.std.specs.Prelude.{◌≡◌, ℕ, ◌≤◌, ◌⊎◌, List, [], �
 use Rattle.std.specs.List.{join_with_byte}
 use Rattle.pb_board.specs.Fen.{FenText}
 use Rattle.pb_board.specs.Position.{IsRecord, Position}
-use Rattle.pb_moves.specs.Attack.{Playable}
+use Rattle.pb_moves.specs.Attacks.{NoOppositeCheck}
 use Rattle.pb_moves.specs.Moved.{Moved, IsMove}
 use Rattle.pb_moves.specs.Played.{Ply, plies_from, AreLegal}
 use Rattle.pb_moves.specs.Spelling.{spelling}
@@ -56,7 +56,7 @@ last_setup g = setup_after g.start.setup g.moves
 
 -- the side that isn't to move at the start isn't in check, and each move is legal where it is played
 pub record IsLegalGame (g : Game) : Type 0 where
-  pub playable : Playable g.start.setup
+  pub playable : NoOppositeCheck g.start.setup
   pub legal : AreLegal g.start.setup g.moves
 
 -- the line submits this legal game under this id

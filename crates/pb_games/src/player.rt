@@ -2,7 +2,7 @@
 
 ghost use Rattle.std.specs.Prelude.{◌≡◌, ◌↔◌, ◌++◌, ◌∷◌, [], List, IsTrue};
 ghost use Rattle.pb_board.specs.Position.{Position};
-ghost use Rattle.pb_moves.specs.Cases.{Legal};
+ghost use Rattle.pb_moves.specs.Legal.{Legal};
 ghost use Rattle.pb_moves.specs.Played.{Ply};
 ghost use Rattle.pb_moves.specs.Successor.{after};
 ghost use Rattle.pb_games.specs.declared.outcome.Outcome.{Outcome};

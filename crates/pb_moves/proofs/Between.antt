@@ -4,10 +4,10 @@ use Rattle.std.proofs.lemmas.Bool.{cases_order}
 use Rattle.pb_moves.specs.Sight.{Along, Between}
 use Rattle.pb_moves.specs.declared.ways.Lines.{Lines}
 use Rattle.pb_moves.specs.declared.ways.Lines.TheVariants.{Straight, Diagonal}
-use Rattle.pb_moves.specs.Attack.{IsBetween, IsDiagonal, IsStraight}
+use Rattle.pb_moves.specs.Reach.{LiesBetween, IsDiagonal, IsStraight}
 
 -- what lies between two squares lies between them from the other end
-pub between_back : (a q b : ℕ) → IsBetween a q b → IsBetween b q a
+pub between_back : (a q b : ℕ) → LiesBetween a q b → LiesBetween b q a
 between_back a q b h =
     let files = h.files in
     let ranks = h.ranks in
@@ -22,7 +22,7 @@ between_back a q b h =
     }
 
 -- what is straight from both ends and between them lies between
-straight_inside : (a b q : ℕ) → IsStraight a b → IsStraight a q → IsStraight b q → Between a b q → IsBetween a q b
+straight_inside : (a b q : ℕ) → IsStraight a b → IsStraight a q → IsStraight b q → Between a b q → LiesBetween a q b
 straight_inside a b q (inl s) (inl u) (inl v) w = record { not_first = λ e. omega arith; not_last = λ e. omega arith; files = omega arith; ranks = omega arith; on_diagonal = λ d. absurd (omega arith) }
 straight_inside a b q (inl s) (inl u) (inr v) w = absurd (omega arith)
 straight_inside a b q (inl s) (inr u) v w = absurd (omega arith)
@@ -30,12 +30,12 @@ straight_inside a b q (inr s) (inr u) (inr v) w = record { not_first = λ e. ome
 straight_inside a b q (inr s) (inr u) (inl v) w = absurd (omega arith)
 straight_inside a b q (inr s) (inl u) v w = absurd (omega arith)
 
-diagonal_inside : (a b q : ℕ) → IsDiagonal a b → IsDiagonal a q → IsDiagonal b q → Between a b q → IsBetween a q b
+diagonal_inside : (a b q : ℕ) → IsDiagonal a b → IsDiagonal a q → IsDiagonal b q → Between a b q → LiesBetween a q b
 diagonal_inside a b q s u v (inl w) = record { not_first = λ e. omega arith; not_last = λ e. omega arith; files = omega arith; ranks = omega arith; on_diagonal = λ d. u }
 diagonal_inside a b q s u v (inr w) = record { not_first = λ e. omega arith; not_last = λ e. omega arith; files = omega arith; ranks = omega arith; on_diagonal = λ d. u }
 
 -- and what lies between is on the line with both ends, and its index between theirs
-straight_outside : (a b q : ℕ) → IsStraight a b → IsBetween a q b → IsStraight a q × IsStraight b q × Between a b q
+straight_outside : (a b q : ℕ) → IsStraight a b → LiesBetween a q b → IsStraight a q × IsStraight b q × Between a b q
 straight_outside a b q (inl s) h =
     let f = h.files in
     let r = h.ranks in
@@ -61,7 +61,7 @@ straight_outside a b q (inr s) h =
       ]
     ]
 
-diagonal_outside : (a b q : ℕ) → IsDiagonal a b → IsBetween a q b → IsDiagonal a q × IsDiagonal b q × Between a b q
+diagonal_outside : (a b q : ℕ) → IsDiagonal a b → LiesBetween a q b → IsDiagonal a q × IsDiagonal b q × Between a b q
 diagonal_outside a b q s h =
     let f = h.files in
     let r = h.ranks in
@@ -76,10 +76,10 @@ diagonal_outside a b q s h =
     ]
 
 -- the same for lines of either kind
-pub inside : (lines : Lines) (a b q : ℕ) → Along lines a b → Along lines a q → Along lines b q → Between a b q → IsBetween a q b
+pub inside : (lines : Lines) (a b q : ℕ) → Along lines a b → Along lines a q → Along lines b q → Between a b q → LiesBetween a q b
 inside Straight a b q s u v w = straight_inside a b q s u v w
 inside Diagonal a b q s u v w = diagonal_inside a b q s u v w
 
-pub outside : (lines : Lines) (a b q : ℕ) → Along lines a b → IsBetween a q b → Along lines a q × Along lines b q × Between a b q
+pub outside : (lines : Lines) (a b q : ℕ) → Along lines a b → LiesBetween a q b → Along lines a q × Along lines b q × Between a b q
 outside Straight a b q s h = straight_outside a b q s h
 outside Diagonal a b q s h = diagonal_outside a b q s h

@@ -17,7 +17,7 @@ use Rattle.pb_moves.specs.Change.{Changes, Fits, LeadsTo}
 use Rattle.pb_moves.specs.declared.change.Change.{Change}
 use Rattle.pb_moves.specs.declared.change.Change.TheVariants.{Carry, CarryPast, Castle}
 use Rattle.pb_moves.specs.Moved.{Moved, IsMove}
-use Rattle.pb_moves.specs.Successor.{put}
+use Rattle.pb_moves.proofs.Carried.{put}
 use Rattle.pb_moves.proofs.Castlings.{rows}
 use Rattle.pb_moves.proofs.Changing.{castle_changes}
 use Rattle.pb_moves.proofs.Differing.{All-two, carried_put, differs_put, lifted_put, off_one, off_two}

@@ -5,7 +5,8 @@ use Rattle.std.proofs.lemmas.Bool.{and_parts, eqb-true}
 use Rattle.pb_board.specs.declared.castling.Castling.{Castling}
 use Rattle.pb_board.specs.declared.castling.Castling.TheVariants.{WhiteShort, WhiteLong, BlackShort, BlackLong}
 use Rattle.pb_board.specs.Castling.{CastlingRow, castling_from_home, castling_of, castling_row, castlings}
-use Rattle.pb_moves.specs.Attack.{files_apart, IsBetween, IsStraight}
+use Rattle.pb_moves.specs.Attacks.{files_apart}
+use Rattle.pb_moves.specs.Reach.{LiesBetween, IsStraight}
 
 -- the four squares of a row lie on the board and differ, and king and rook go between where they began
 pub record IsRow (row : CastlingRow) : Type 0 where
@@ -20,8 +21,8 @@ pub record IsRow (row : CastlingRow) : Type 0 where
   pub to_rook_to : row.king_to ≢ row.rook_to
   pub rook_moves : row.rook_from ≢ row.rook_to
   pub straight : IsStraight row.rook_from row.king_from
-  pub king_crosses : IsBetween row.king_from row.king_to row.rook_from
-  pub rook_crosses : IsBetween row.king_from row.rook_to row.rook_from
+  pub king_crosses : LiesBetween row.king_from row.king_to row.rook_from
+  pub rook_crosses : LiesBetween row.king_from row.rook_to row.rook_from
 
 pub rows : (c : Castling) → IsRow (castling_row c)
 rows WhiteShort = record {

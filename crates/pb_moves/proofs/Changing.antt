@@ -12,14 +12,14 @@ use Rattle.pb_moves.specs.declared.change.Change.{Change}
 use Rattle.pb_moves.specs.declared.change.Change.TheVariants.{Carry, CarryPast, Castle}
 use Rattle.pb_moves.specs.declared.sight.Sight.{Sight}
 use Rattle.pb_moves.specs.Moved.{Moved, IsMove}
-use Rattle.pb_moves.specs.Attack.{IsAttacked, InCheck}
+use Rattle.pb_moves.specs.Reach.{IsReached, KingInReach}
 use Rattle.pb_moves.specs.Candidate.{HoldsOwn}
 use Rattle.pb_board.specs.Castling.{castling_row}
 use Rattle.pb_moves.specs.Castling.{rook_goes}
-use Rattle.pb_moves.specs.Cases.{Differs, CaseOf, Legal}
+use Rattle.pb_moves.specs.Cases.{Differs, CaseOf, SafeCase}
 use Rattle.pb_moves.specs.Change.{Changes, Fits, LeadsTo}
 use Rattle.pb_moves.specs.Sight.{Sees}
-use Rattle.pb_moves.specs.Successor.{put}
+use Rattle.pb_moves.proofs.Carried.{put}
 use Rattle.pb_moves.proofs.Differing.{All-two, arrived, carried_past_put, carried_put, off_one, off_two, same_or_not}
 use Rattle.pb_moves.proofs.Legality.{not_legal_in_check, legal_out_of_check}
 use Rattle.pb_moves.proofs.Pins.{arrives_own, differ}
@@ -153,20 +153,20 @@ sees_castle s m piece c seen one two ok is own leads sees king_goes rook_goes b 
     rook_goes mid b rook rook after_king (castle_twice s.board mid b m.from m.to row.rook_from row.rook_to king rook moved first) side waits side
 
 -- the king's square is attacked just where the side is in check
-pub check_by_attack : (new : Board) (side enemy : Colour) (king : ℕ) → enemy ≡ opponent side → IsOnlyKing new side king → IsAttacked new enemy king → InCheck new side
+pub check_by_attack : (new : Board) (side enemy : Colour) (king : ℕ) → enemy ≡ opponent side → IsOnlyKing new side king → IsReached new enemy king → KingInReach new side
 check_by_attack new side enemy king e only attack =
-    let P : Colour → Type 0 = λ x. IsAttacked new x king in
+    let P : Colour → Type 0 = λ x. IsReached new x king in
     (king, record { stands = only.here; attacked = subst P e attack })
 
-pub attack_by_check : (new : Board) (side enemy : Colour) (king : ℕ) → enemy ≡ opponent side → IsOnlyKing new side king → InCheck new side → IsAttacked new enemy king
+pub attack_by_check : (new : Board) (side enemy : Colour) (king : ℕ) → enemy ≡ opponent side → IsOnlyKing new side king → KingInReach new side → IsReached new enemy king
 attack_by_check new side enemy king e only check =
-    let P : Colour → Type 0 = λ x. IsAttacked new x king in
-    let K : ℕ → Type 0 = λ x. IsAttacked new (opponent side) x in
+    let P : Colour → Type 0 = λ x. IsReached new x king in
+    let K : ℕ → Type 0 = λ x. IsReached new (opponent side) x in
     subst P (sym e) (subst K (only.nowhere_else check.0 check.1.stands) check.1.attacked)
 
 -- the mover is safe, and the move legal, just where the test finds no attack on its king
 test_tells : (s : Position) (m : Moved) (piece : Piece) (new : Board) (enemy : Colour) (king : ℕ) (hit : Bool) → IsSetup s → HoldsOwn s m.from piece → CaseOf s m piece new
-    → enemy ≡ opponent s.turn → IsOnlyKing new s.turn king → (IsTrue hit ↔ IsAttacked new enemy king) → (IsTrue (not hit) ↔ Legal s m)
+    → enemy ≡ opponent s.turn → IsOnlyKing new s.turn king → (IsTrue hit ↔ IsReached new enemy king) → (IsTrue (not hit) ↔ SafeCase s m)
 test_tells s m piece new enemy king true ok own case e only tells = (
   λ h. absurd (false≢true h),
   λ legal. absurd (not_legal_in_check s m new piece ok own case (check_by_attack new s.turn enemy king e only (tells.0 refl)) legal),
@@ -179,7 +179,7 @@ test_tells s m piece new enemy king false ok own case e only tells = (
 pub safe_test : (s : Position) (m : Moved) (piece : Piece) (change : Change) (side enemy : Colour) (king : ℕ) (sight : Sight) (hit : Bool) → IsSetup s → IsMove m
     → HoldsOwn s m.from piece → LeadsTo (CaseOf s m piece) s.board m change → side ≡ s.turn → enemy ≡ opponent side
     → ((b : Board) → CaseOf s m piece b → IsOnlyKing b s.turn king) → ((b : Board) → Changes change m s.board b → Sees b (opponent s.turn) sight)
-    → ((b : Board) → Sees b enemy sight → (IsTrue hit ↔ IsAttacked b enemy king)) → (IsTrue (not hit) ↔ Legal s m)
+    → ((b : Board) → Sees b enemy sight → (IsTrue hit ↔ IsReached b enemy king)) → (IsTrue (not hit) ↔ SafeCase s m)
 safe_test s m piece change side enemy king sight hit ok is own leads same e only sees tells =
     let new = changed_board change m s.board in
     let moved = changes_board change m s.board ok.places is leads.0 in

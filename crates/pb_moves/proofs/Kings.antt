@@ -11,10 +11,10 @@ use Rattle.pb_board.specs.Piece.{opponent, king_of, rook_of}
 use Rattle.pb_board.specs.Board.{Board, Place, file, rank, Holds, IsEmpty, IsForward}
 use Rattle.pb_board.specs.Position.{Position, IsSetup, IsOnlyKing, HasOneKing, beyond}
 use Rattle.pb_board.specs.declared.castling.Castling.{Castling}
-use Rattle.pb_moves.specs.Attack.{ReachesBy}
+use Rattle.pb_moves.specs.Reach.{ReachesBy}
 use Rattle.pb_moves.specs.Moved.{Moved}
 use Rattle.pb_board.specs.Castling.{CastlingRow, castling_row}
-use Rattle.pb_moves.specs.Castling.{rook_goes, MayCastle}
+use Rattle.pb_moves.specs.Castling.{rook_goes, RowAllows}
 use Rattle.pb_moves.specs.Cases.{Differs, Becomes, Goes, CaseOf, piece_move, pawn_step, pawn_double, pawn_capture, en_passant, castles, IsPrey}
 use Rattle.pb_moves.proofs.Castlings.{rows}
 use Rattle.pb_moves.proofs.Differing.{All-two, arrived, each_place}
@@ -115,7 +115,7 @@ gone_is_beyond White from to gone forward gone_file gone_rank = omega arith
 gone_is_beyond Black from to gone forward gone_file gone_rank = omega arith
 
 -- where king and rook go nothing stood
-pub castling_free : (c : Castling) (s : Position) → MayCastle (castling_row c) s
+pub castling_free : (c : Castling) (s : Position) → RowAllows (castling_row c) s
     → IsEmpty s.board (castling_row c).king_to × IsEmpty s.board (castling_row c).rook_to
 castling_free c s may =
     let row = castling_row c in
@@ -124,7 +124,7 @@ castling_free c s may =
 
 -- the king that castles stands at home
 pub castling_king : (s : Position) (m : Moved) (p : Piece) (row : CastlingRow) → Holds s.board m.from p → p.colour ≡ s.turn → p.kind ≡ King
-    → m.from ≡ row.king_from → MayCastle row s → (p ≡ king_of row.colour) × Holds s.board row.king_from (king_of row.colour)
+    → m.from ≡ row.king_from → RowAllows row s → (p ≡ king_of row.colour) × Holds s.board row.king_from (king_of row.colour)
 castling_king s m p row stands own king home may =
     let P : Piece → Type 0 = λ z. Holds s.board m.from z in
     let is_king : p ≡ king_of row.colour = piece_is p row.colour King (own ∙ may.side) king in

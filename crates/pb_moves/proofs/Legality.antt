@@ -6,13 +6,13 @@ use Rattle.pb_board.specs.declared.piece.Kind.TheVariants.{Pawn, King}
 use Rattle.pb_board.specs.declared.piece.Piece.{Piece}
 use Rattle.pb_board.specs.Board.{Board, Place, Holds}
 use Rattle.pb_board.specs.Position.{Position, IsSetup, beyond}
-use Rattle.pb_moves.specs.Attack.{InCheck}
+use Rattle.pb_moves.specs.Reach.{KingInReach}
 use Rattle.pb_board.specs.declared.castling.Castling.{Castling}
 use Rattle.pb_moves.specs.declared.change.Change.{Change}
 use Rattle.pb_moves.specs.Moved.{Moved}
 use Rattle.pb_moves.specs.Candidate.{HoldsOwn}
 use Rattle.pb_board.specs.Castling.{castling_row}
-use Rattle.pb_moves.specs.Cases.{Becomes, Goes, PieceMove, PawnStep, PawnDouble, PawnCapture, EnPassant, Castles, CaseOf, piece_move, pawn_step, pawn_double, pawn_capture, en_passant, castles, Case, Legal}
+use Rattle.pb_moves.specs.Cases.{Becomes, Goes, PieceMove, PawnStep, PawnDouble, PawnCapture, EnPassant, Castles, CaseOf, piece_move, pawn_step, pawn_double, pawn_capture, en_passant, castles, Case, SafeCase}
 use Rattle.pb_moves.specs.Change.{Finds}
 use Rattle.pb_moves.proofs.Unique.{case_one}
 
@@ -90,19 +90,19 @@ pub case_by : (s : Position) (m : Moved) (b : Board) (piece : Piece) → HoldsOw
 case_by s m b piece own x = record { piece = piece; stands = own.stands; own = own.own; by_case = x }
 
 -- a move from a square without a piece of the side to move isn't legal
-pub not_legal_without_piece : (s : Position) (m : Moved) → ((p : Piece) → ¬ HoldsOwn s m.from p) → ¬ Legal s m
+pub not_legal_without_piece : (s : Position) (m : Moved) → ((p : Piece) → ¬ HoldsOwn s m.from p) → ¬ SafeCase s m
 not_legal_without_piece s m none legal = none legal.moves.piece (record { stands = legal.moves.stands; own = legal.moves.own })
 
 -- a move without a case isn't legal
-pub not_legal_without_case : (s : Position) (m : Moved) (piece : Piece) → HoldsOwn s m.from piece → ((b : Board) → ¬ CaseOf s m piece b) → ¬ Legal s m
+pub not_legal_without_case : (s : Position) (m : Moved) (piece : Piece) → HoldsOwn s m.from piece → ((b : Board) → ¬ CaseOf s m piece b) → ¬ SafeCase s m
 not_legal_without_case s m piece own none legal = none legal.new (case_at s m legal.new piece own.stands legal.moves)
 
 -- a move whose board leaves the mover in check isn't legal
-pub not_legal_in_check : (s : Position) (m : Moved) (b : Board) (piece : Piece) → IsSetup s → HoldsOwn s m.from piece → CaseOf s m piece b → InCheck b s.turn → ¬ Legal s m
+pub not_legal_in_check : (s : Position) (m : Moved) (b : Board) (piece : Piece) → IsSetup s → HoldsOwn s m.from piece → CaseOf s m piece b → KingInReach b s.turn → ¬ SafeCase s m
 not_legal_in_check s m b piece ok own x check legal =
-    let P : Board → Type 0 = λ y. InCheck y s.turn in
+    let P : Board → Type 0 = λ y. KingInReach y s.turn in
     legal.safe (subst P (case_one s m b legal.new ok (case_by s m b piece own x) legal.moves) check)
 
 -- a move whose board doesn't is
-pub legal_out_of_check : (s : Position) (m : Moved) (b : Board) (piece : Piece) → HoldsOwn s m.from piece → CaseOf s m piece b → ¬ InCheck b s.turn → Legal s m
+pub legal_out_of_check : (s : Position) (m : Moved) (b : Board) (piece : Piece) → HoldsOwn s m.from piece → CaseOf s m piece b → ¬ KingInReach b s.turn → SafeCase s m
 legal_out_of_check s m b piece own x safe = record { new = b; moves = case_by s m b piece own x; safe = safe }

@@ -6,6 +6,7 @@ pub mod Sets
 pub mod ClearWays
 pub mod Seen
 pub mod NearTargets
+pub mod Carried
 pub mod Differing
 pub mod Unique
 pub mod Kings
@@ -14,7 +15,8 @@ pub mod Kept
 pub mod Legality
 pub mod LegalMoves
 pub mod Successors
-pub mod Plies
+pub mod SameAttacks
+pub mod SameMoves
 pub mod Pins
 pub mod Changing
 pub mod Carrying

@@ -13,34 +13,37 @@ use Rattle.pb_board.specs.Piece.{opponent}
 use Rattle.pb_board.specs.Position.{EnPassantHolds, IsSetup, Position}
 use Rattle.pb_board.specs.declared.castling.Castling.{Castling}
 use Rattle.pb_board.specs.declared.castling.Castling.TheVariants.{WhiteShort}
-use Rattle.pb_moves.specs.Attack.{files_apart, ReachesBy}
+use Rattle.pb_moves.specs.Attacks.{files_apart}
+use Rattle.pb_moves.specs.Reach.{ReachesBy}
 use Rattle.std.specs.Int.{bit_at, trailing_zeros}
 use Rattle.pb_moves.proofs.Pins.{differ}
 use Rattle.pb_moves.proofs.Kings.{castling_free, holds_one}
 use Rattle.pb_moves.proofs.Legality.{case_at}
+use Rattle.pb_moves.proofs.SameMoves.{legal_from, legal_to}
+use Rattle.pb_moves.specs.Legal.{Legal}
 use Rattle.pb_moves.proofs.Unique.{goes_of}
 use Rattle.pb_moves.proofs.Rising.{low_bits, zeros_bound, zeros_rise, without, without_other, without_small}
 use Rattle.pb_moves.specs.Moved.{Moved, IsMove, IsPromotion, promotion_number}
 use Rattle.pb_moves.specs.Packed.{promotion_small}
 use Rattle.pb_board.specs.Castling.{castling_row}
-use Rattle.pb_moves.specs.Cases.{Legal, CaseOf, piece_move, pawn_step, pawn_double, pawn_capture, en_passant, castles, Becomes, IsPrey}
+use Rattle.pb_moves.specs.Cases.{SafeCase, CaseOf, piece_move, pawn_step, pawn_double, pawn_capture, en_passant, castles, Becomes, IsPrey}
 use Rattle.pb_moves.specs.Listing.{place, ListsLegal}
 use Rattle.pb_moves.specs.Candidate.{HoldsOwn, MayGo, MayPromote, ListsBelow}
 
 -- a stretch of places with no legal move
 pub lists_skip : (s : Position) (ms : List Moved) (n k : ℕ) → n ≤ k → ListsBelow s ms n
-    → ((m : Moved) → IsMove m → Legal s m → n ≤ place m → place m < k → ⊥) → ListsBelow s ms k
+    → ((m : Moved) → IsMove m → SafeCase s m → n ≤ place m → place m < k → ⊥) → ListsBelow s ms k
 lists_skip s ms n k le lists none = record {
-  legal = All-weaker (λ m. IsMove m × Legal s m × (place m < n)) (λ m. IsMove m × Legal s m × (place m < k)) (λ m h. (h.0, h.1, omega (arith, h.2))) ms lists.legal;
+  legal = All-weaker (λ m. IsMove m × SafeCase s m × (place m < n)) (λ m. IsMove m × SafeCase s m × (place m < k)) (λ m h. (h.0, h.1, omega (arith, h.2))) ms lists.legal;
   every = λ m ok legal below. elim (cases_lt (place m) n) [ inl l ↦ lists.every m ok legal l | inr g ↦ absurd (none m ok legal g below) ];
   ordered = lists.ordered;
 }
 
 -- the next place has this legal move, and no other
-pub lists_push : (s : Position) (ms : List Moved) (n : ℕ) (m : Moved) → ListsBelow s ms n → IsMove m → Legal s m → place m ≡ n
+pub lists_push : (s : Position) (ms : List Moved) (n : ℕ) (m : Moved) → ListsBelow s ms n → IsMove m → SafeCase s m → place m ≡ n
     → ((q : Moved) → IsMove q → place q ≡ n → q ≡ m) → ListsBelow s (ms ++ m ∷ []) (n + 1)
 lists_push s ms n m lists ok legal here only = record {
-  legal = All-push (λ q. IsMove q × Legal s q × (place q < n + 1)) ms m (All-weaker (λ q. IsMove q × Legal s q × (place q < n)) (λ q. IsMove q × Legal s q × (place q < n + 1)) (λ q h. (h.0, h.1, omega (arith, h.2))) ms lists.legal) (ok, legal, omega arith);
+  legal = All-push (λ q. IsMove q × SafeCase s q × (place q < n + 1)) ms m (All-weaker (λ q. IsMove q × SafeCase s q × (place q < n)) (λ q. IsMove q × SafeCase s q × (place q < n + 1)) (λ q h. (h.0, h.1, omega (arith, h.2))) ms lists.legal) (ok, legal, omega arith);
   every = λ q okq legalq below. elim (cases_lt (place q) n) [
     | inl l ↦ Contains-append_left ms (m ∷ []) q (lists.every q okq legalq l)
     | inr g ↦
@@ -49,16 +52,16 @@ lists_push s ms n m lists ok legal here only = record {
         subst P (sym (only q okq at_n)) (Contains-push ms m))
   ];
   ordered = all_pairs_push (λ a b. place a < place b) ms m lists.ordered
-      (λ k d lt. let h = All-get_or (λ q. IsMove q × Legal s q × (place q < n)) ms k d lt lists.legal in omega (arith, h.2));
+      (λ k d lt. let h = All-get_or (λ q. IsMove q × SafeCase s q × (place q < n)) ms k d lt lists.legal in omega (arith, h.2));
 }
 
 pub place_below : (m : Moved) → IsMove m → place m < 20480
 place_below m ok = let a = ok.from_on_board in let b = ok.to_on_board in let c = promotion_small m.promo in omega arith
 
-pub lists_all : (s : Position) (ms : List Moved) → ListsBelow s ms 20480 → ListsLegal s ms
-lists_all s ms lists = record {
-  legal = All-weaker (λ m. IsMove m × Legal s m × (place m < 20480)) (λ m. IsMove m × Legal s m) (λ m h. (h.0, h.1)) ms lists.legal;
-  every = λ m ok legal. lists.every m ok legal (place_below m ok);
+pub lists_all : (s : Position) (ms : List Moved) → IsSetup s → ListsBelow s ms 20480 → ListsLegal s ms
+lists_all s ms ok lists = record {
+  legal = All-weaker (λ m. IsMove m × SafeCase s m × (place m < 20480)) (Legal s) (λ m h. legal_to s m ok h.1) ms lists.legal;
+  every = λ m legal. lists.every m legal.moves.is_move (legal_from s m ok legal) (place_below m legal.moves.is_move);
   ordered = lists.ordered;
 }
 
@@ -94,14 +97,14 @@ move_at from to promo q on_from on_to lawful ok here =
 
 -- one place where no legal move is
 pub lists_pass : (s : Position) (ms : List Moved) (from to : ℕ) (promo : Option Kind) → from < 64 → to < 64 → ((k : Kind) → promo ≡ Some k → IsPromotion k)
-    → (let m : Moved = record { from = from; to = to; promo = promo } in IsMove m → Legal s m → ⊥)
+    → (let m : Moved = record { from = from; to = to; promo = promo } in IsMove m → SafeCase s m → ⊥)
     → ListsBelow s ms (320 * from + 5 * to + promotion_number promo) → ListsBelow s ms (320 * from + 5 * to + promotion_number promo + 1)
 lists_pass s ms from to promo on_from on_to lawful none lists =
     let n = 320 * from + 5 * to + promotion_number promo in
     lists_skip s ms n (n + 1) (omega arith) lists (λ q ok legal lo hi.
     let here : place q ≡ 320 * from + 5 * to + promotion_number promo = omega arith in
     let same = move_at from to promo q on_from on_to lawful ok here in
-    let P : Moved → Type 0 = λ x. IsMove x × Legal s x in
+    let P : Moved → Type 0 = λ x. IsMove x × SafeCase s x in
     let both = subst P same (ok, legal) in
     none both.0 both.1)
 

@@ -3,7 +3,8 @@ use Rattle.std.proofs.Common.{◌≡◌, ℕ, ◌<◌, ◌↔◌, arith, inl, in
 use Rattle.std.specs.Int.{bit_at}
 use Rattle.std.proofs.lemmas.Bool.{eq-eqb, eqb-true}
 use Rattle.pb_board.specs.declared.piece.Colour.TheVariants.{White, Black}
-use Rattle.pb_moves.specs.Attack.{files_apart, ranks_apart, IsKnightsMove}
+use Rattle.pb_moves.specs.Attacks.{files_apart, ranks_apart}
+use Rattle.pb_moves.specs.Reach.{IsKnightsMove}
 use Rattle.pb_moves.specs.Sight.{In, StrikesFrom}
 use Rattle.pb_moves.proofs.Targets.{is_right, bit_tells, bishop_bit, black_pawn_bit, knight_bit, white_pawn_bit}
 use Rattle.pb_moves.specs.declared.piece_targets.TheConstants.{BISHOP, KNIGHT, NEAR}

@@ -9,10 +9,11 @@ use Rattle.pb_board.specs.declared.piece.Piece.{Piece}
 use Rattle.pb_board.specs.Piece.{pawn_of}
 use Rattle.pb_board.specs.Board.{Board, file, rank, Holds, IsEmpty, IsForward}
 use Rattle.pb_board.specs.Position.{Position}
-use Rattle.pb_moves.specs.Attack.{Clear, IsBetween, ranks_apart}
+use Rattle.pb_moves.specs.Attacks.{ranks_apart}
+use Rattle.pb_moves.specs.Reach.{WayIsClear, LiesBetween}
 use Rattle.pb_moves.specs.Moved.{Moved}
 use Rattle.pb_moves.specs.Cases.{CaseOf, piece_move, pawn_step, pawn_double, pawn_capture, en_passant, castles}
-use Rattle.pb_moves.specs.After.{PassesOver}
+use Rattle.pb_moves.specs.Outcome.{PassesOver}
 use Rattle.pb_moves.proofs.Unique.{pawn_files, piece_is, step_ranks}
 use Rattle.pb_moves.proofs.Kings.{holds_one, pawn_reach}
 
@@ -23,7 +24,7 @@ passed_over s m piece new _ = None
 
 -- half way of two ranks lies between, and nothing else does
 pub halfway_between : (side : Colour) (from to : ℕ) → file to ≡ file from → IsForward side 2 from to
-    → IsBetween from ((from + to) / 2) to × (file ((from + to) / 2) ≡ file from) × IsForward side 1 from ((from + to) / 2)
+    → LiesBetween from ((from + to) / 2) to × (file ((from + to) / 2) ≡ file from) × IsForward side 1 from ((from + to) / 2)
 halfway_between White from to same forward = (
   record { not_first = λ e. omega arith; not_last = λ e. omega arith; files = omega arith; ranks = omega arith; on_diagonal = λ d. absurd (omega arith) },
   omega arith,
@@ -35,7 +36,7 @@ halfway_between Black from to same forward = (
   omega arith,
 )
 
-pub between_halfway : (side : Colour) (from to q : ℕ) → file to ≡ file from → IsForward side 2 from to → IsBetween from q to → q ≡ (from + to) / 2
+pub between_halfway : (side : Colour) (from to q : ℕ) → file to ≡ file from → IsForward side 2 from to → LiesBetween from q to → q ≡ (from + to) / 2
 between_halfway White from to q same forward h = let f = h.files in let r = h.ranks in let a = h.not_first in let b = h.not_last in omega arith
 between_halfway Black from to q same forward h = let f = h.files in let r = h.ranks in let a = h.not_first in let b = h.not_last in omega arith
 
@@ -89,7 +90,7 @@ halfway_is White from to half same forward files ranks = omega arith
 halfway_is Black from to half same forward files ranks = omega arith
 
 -- the square that a pawn passes over is empty where the way is clear
-pub halfway_empty : (s : Position) (from to : ℕ) → from < 64 → to < 64 → IsBetween from ((from + to) / 2) to → Clear s.board from to → IsEmpty s.board ((from + to) / 2)
+pub halfway_empty : (s : Position) (from to : ℕ) → from < 64 → to < 64 → LiesBetween from ((from + to) / 2) to → WayIsClear s.board from to → IsEmpty s.board ((from + to) / 2)
 halfway_empty s from to on_from on_to between way = way ((from + to) / 2) (omega arith) between
 
 -- what the code tests: a pawn stays on its file and goes two ranks

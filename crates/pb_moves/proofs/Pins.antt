@@ -8,13 +8,13 @@ use Rattle.pb_board.specs.declared.piece.Piece.{Piece}
 use Rattle.pb_board.specs.Piece.{opponent}
 use Rattle.pb_board.specs.Board.{Board, Holds, IsEmpty}
 use Rattle.pb_board.specs.Position.{Position}
-use Rattle.pb_moves.specs.Attack.{Clear, ReachesBy, IsAttacked}
+use Rattle.pb_moves.specs.Reach.{WayIsClear, ReachesBy, IsReached}
 use Rattle.pb_moves.specs.Moved.{Moved}
 use Rattle.pb_moves.specs.Candidate.{HoldsOwn}
 use Rattle.pb_moves.specs.Free.{IsFree}
-use Rattle.pb_moves.specs.Cases.{Differs, CaseOf, Legal}
+use Rattle.pb_moves.specs.Cases.{Differs, CaseOf, SafeCase}
 use Rattle.pb_moves.specs.Change.{LeadsTo}
-use Rattle.pb_moves.specs.Successor.{put}
+use Rattle.pb_moves.proofs.Carried.{put}
 use Rattle.pb_moves.specs.declared.change.Change.TheVariants.{Carry}
 use Rattle.pb_moves.proofs.Differing.{arrived, carried_put, left, lifted_put, moved_board, off_one, off_two, same_or_not}
 use Rattle.pb_moves.proofs.Unique.{besides_of, goes_of}
@@ -22,7 +22,7 @@ use Rattle.pb_moves.proofs.Kings.{holds_one, holds_at, empty_holds, king_stays, 
 use Rattle.pb_moves.proofs.Legality.{legal_out_of_check}
 
 -- what is clear after a piece has gone elsewhere is clear where the piece is gone for good
-pub clear_lifted : (old new lifted : Board) (from to a b : ℕ) (p : Piece) → Differs old new ((from, None) ∷ (to, Some p) ∷ []) → Differs old lifted ((from, None) ∷ []) → Clear new a b → Clear lifted a b
+pub clear_lifted : (old new lifted : Board) (from to a b : ℕ) (p : Piece) → Differs old new ((from, None) ∷ (to, Some p) ∷ []) → Differs old lifted ((from, None) ∷ []) → WayIsClear new a b → WayIsClear lifted a b
 clear_lifted old new lifted from to a b p moved gone clear q on between =
     let empty = clear q on between in
     let E : ℕ → Type 0 = λ r. IsEmpty lifted r in
@@ -48,7 +48,7 @@ differ Black same = cc
 
 -- an attack on the king after the move is there where the piece is gone for good
 pub attacked_lifted : (old new lifted : Board) (side : Colour) (from to king : ℕ) (p : Piece) → Differs old new ((from, None) ∷ (to, Some p) ∷ []) → Differs old lifted ((from, None) ∷ []) → p.colour ≡ side
-    → IsAttacked new (opponent side) king → IsAttacked lifted (opponent side) king
+    → IsReached new (opponent side) king → IsReached lifted (opponent side) king
 attacked_lifted old new lifted side from to king p moved gone own attack =
     let a = attack.0 in
     let q = attack.1.piece in
@@ -76,7 +76,7 @@ arrives_own s m p q new here case =
 
 -- so the move of a piece that its king doesn't need is legal
 pub legal_free : (s : Position) (m : Moved) (p arriving : Piece) → m.from < 64 → m.to < 64 → m.from ≢ m.to → HoldsOwn s m.from p
-    → LeadsTo (CaseOf s m p) s.board m (Carry arriving) → IsFree s m.from p → Legal s m
+    → LeadsTo (CaseOf s m p) s.board m (Carry arriving) → IsFree s m.from p → SafeCase s m
 legal_free s m p arriving on_from on_to moves own leads free =
     let new = moved_board s.board m.from m.to arriving in
     let lifted = put s.board m.from None in
@@ -87,5 +87,5 @@ legal_free s m p arriving on_from on_to moves own leads free =
     let arrives = arrives_own s m p arriving new (arrived s.board new m.from m.to arriving [] moved) case in
     legal_out_of_check s m new p own case (λ check.
     let here : check.0 ≡ free.king = stays.nowhere_else check.0 check.1.stands in
-    let P : ℕ → Type 0 = λ k. IsAttacked new (opponent s.turn) k in
+    let P : ℕ → Type 0 = λ k. IsReached new (opponent s.turn) k in
     free.covered lifted gone (attacked_lifted s.board new lifted s.turn m.from m.to free.king arriving moved gone arrives (subst P here check.1.attacked)))

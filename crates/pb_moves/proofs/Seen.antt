@@ -7,7 +7,8 @@ use Rattle.pb_board.specs.declared.piece.Kind.TheVariants.{Pawn, Knight, Bishop,
 use Rattle.pb_board.specs.declared.piece.Piece.{Piece}
 use Rattle.pb_board.specs.Board.{Board, at, Holds}
 use Rattle.pb_moves.specs.declared.sight.Sight.{Sight}
-use Rattle.pb_moves.specs.Attack.{Clear, ReachesBy, IsAttacked, IsKnightsMove, files_apart, ranks_apart}
+use Rattle.pb_moves.specs.Attacks.{files_apart, ranks_apart}
+use Rattle.pb_moves.specs.Reach.{WayIsClear, ReachesBy, IsReached, IsKnightsMove}
 use mir.Val.{bits}
 use Rattle.std.proofs.lemmas.Nat.{and_le_l, or_lt}
 use Rattle.std.proofs.lemmas.Nat.Bits.{bit_at_set_same, bit_at_set_other}
@@ -15,7 +16,8 @@ use Rattle.pb_moves.specs.Cases.{Differs}
 use Rattle.pb_moves.proofs.Rising.{without, without_other, without_same}
 use Rattle.pb_moves.proofs.Differing.{All-two, each_place}
 use Rattle.pb_moves.proofs.Unique.{piece_is}
-use Rattle.pb_moves.specs.Sight.{Along, AreOf, AreOfEither, IsTaken, In, Open, Sees, Slides, StrikesFrom, piece_of}
+use Rattle.pb_board.specs.Piece.{piece_of}
+use Rattle.pb_moves.specs.Sight.{Along, AreOf, AreOfEither, IsTaken, In, Open, Sees, Slides, StrikesFrom}
 use Rattle.pb_moves.specs.declared.ways.Lines.{Lines}
 use Rattle.pb_moves.specs.declared.ways.Lines.TheVariants.{Straight, Diagonal}
 use Rattle.pb_moves.proofs.Between.{between_back}
@@ -32,20 +34,20 @@ along_sym Straight a b (inr s) = inr (omega arith, omega arith)
 along_sym Diagonal a b s = (omega arith, omega arith)
 
 -- where nothing of the set stands between, the squares between are empty
-pub clear_if_open : (b : Board) (occ to from : ℕ) → IsTaken occ b → Open occ to from → Clear b from to
+pub clear_if_open : (b : Board) (occ to from : ℕ) → IsTaken occ b → Open occ to from → WayIsClear b from to
 clear_if_open b occ to from taken way q on between =
     elim (empty_or_not (at b q)) [
       | inl e ↦ e
       | inr stands ↦ absurd (way q on (between_back from q to between) ((taken q on).1 stands))
     ]
 
-pub open_if_clear : (b : Board) (occ to from : ℕ) → IsTaken occ b → Clear b from to → Open occ to from
+pub open_if_clear : (b : Board) (occ to from : ℕ) → IsTaken occ b → WayIsClear b from to → Open occ to from
 open_if_clear b occ to from taken clear q on between inside = (taken q on).0 inside (clear q on (between_back to q from between))
 
-clear_by_open : (b : Board) (side : Colour) (sight : Sight) (to from : ℕ) → Sees b side sight → Open sight.occupied to from → Clear b from to
+clear_by_open : (b : Board) (side : Colour) (sight : Sight) (to from : ℕ) → Sees b side sight → Open sight.occupied to from → WayIsClear b from to
 clear_by_open b side sight to from sees way = clear_if_open b sight.occupied to from sees.occupied way
 
-open_by_clear : (b : Board) (side : Colour) (sight : Sight) (to from : ℕ) → Sees b side sight → Clear b from to → Open sight.occupied to from
+open_by_clear : (b : Board) (side : Colour) (sight : Sight) (to from : ℕ) → Sees b side sight → WayIsClear b from to → Open sight.occupied to from
 open_by_clear b side sight to from sees clear = open_if_clear b sight.occupied to from sees.occupied clear
 
 -- what the code looks at: the attackers next to the square, and those along its lines
@@ -56,13 +58,13 @@ AnySees near sight square =
 abbrev pub near_of : ℕ → ℕ → ℕ → Sight → ℕ
 near_of p n k sight = bit_or (bit_or (bit_and p sight.pawns) (bit_and n sight.knights)) (bit_and k sight.kings)
 
-pub attack_by : (b : Board) (side : Colour) (kind : Kind) (a square : ℕ) → Holds b a (piece_of side kind) → ReachesBy side kind b a square → IsAttacked b side square
+pub attack_by : (b : Board) (side : Colour) (kind : Kind) (a square : ℕ) → Holds b a (piece_of side kind) → ReachesBy side kind b a square → IsReached b side square
 attack_by b side kind a square stands reaches = (a, record { piece = piece_of side kind; stands = stands; of_side = refl; reaches = reaches })
 
 pub near_attacks : (b : Board) (side : Colour) (sight : Sight) (square p n k a : ℕ) → Sees b side sight
     → ((q : ℕ) → q < 64 → (In p q ↔ StrikesFrom side q square)) → ((q : ℕ) → q < 64 → (In n q ↔ IsKnightsMove q square))
     → ((q : ℕ) → q < 64 → (In k q ↔ (max (files_apart q square) (ranks_apart q square) ≡ 1)))
-    → a < 64 → In (near_of p n k sight) a → IsAttacked b side square
+    → a < 64 → In (near_of p n k sight) a → IsReached b side square
 near_attacks b side sight square p n k a sees fp fn fk on inside =
     elim (in_or (bit_or (bit_and p sight.pawns) (bit_and n sight.knights)) (bit_and k sight.kings) a inside) [
       | inl h ↦ elim (in_or (bit_and p sight.pawns) (bit_and n sight.knights) a h) [
@@ -72,7 +74,7 @@ near_attacks b side sight square p n k a sees fp fn fk on inside =
       | inr x ↦ (let w = in_and k sight.kings a x in attack_by b side King a square ((sees.kings a on).0 w.1) ((fk a on).0 w.0))
     ]
 
-pub straight_attacks : (b : Board) (side : Colour) (sight : Sight) (square : ℕ) → Sees b side sight → Slides Straight sight.occupied sight.straight square → IsAttacked b side square
+pub straight_attacks : (b : Board) (side : Colour) (sight : Sight) (square : ℕ) → Sees b side sight → Slides Straight sight.occupied sight.straight square → IsReached b side square
 straight_attacks b side sight square sees s =
     let clear = clear_by_open b side sight square s.from sees s.way in
     let line = along_sym Straight square s.from s.line in
@@ -81,7 +83,7 @@ straight_attacks b side sight square sees s =
       | inr queen ↦ attack_by b side Queen s.from square queen (inr line, clear)
     ]
 
-pub diagonal_attacks : (b : Board) (side : Colour) (sight : Sight) (square : ℕ) → Sees b side sight → Slides Diagonal sight.occupied sight.diagonal square → IsAttacked b side square
+pub diagonal_attacks : (b : Board) (side : Colour) (sight : Sight) (square : ℕ) → Sees b side sight → Slides Diagonal sight.occupied sight.diagonal square → IsReached b side square
 diagonal_attacks b side sight square sees s =
     let clear = clear_by_open b side sight square s.from sees s.way in
     let line = along_sym Diagonal square s.from s.line in
@@ -90,7 +92,7 @@ diagonal_attacks b side sight square sees s =
       | inr queen ↦ attack_by b side Queen s.from square queen (inl line, clear)
     ]
 
-slides_by : (lines : Lines) (b : Board) (side : Colour) (sight : Sight) (sliders square a : ℕ) → Sees b side sight → a < 64 → In sliders a → Along lines a square → Clear b a square
+slides_by : (lines : Lines) (b : Board) (side : Colour) (sight : Sight) (sliders square a : ℕ) → Sees b side sight → a < 64 → In sliders a → Along lines a square → WayIsClear b a square
     → Slides lines sight.occupied sliders square
 slides_by lines b side sight sliders square a sees on inside line clear = record {
   from = a;
@@ -124,7 +126,7 @@ seen_kind b side Queen sight square p n k a sees fp fn fk on stands r =
 pub seen_attack : (b : Board) (side : Colour) (sight : Sight) (square p n k : ℕ) → Sees b side sight
     → ((q : ℕ) → q < 64 → (In p q ↔ StrikesFrom side q square)) → ((q : ℕ) → q < 64 → (In n q ↔ IsKnightsMove q square))
     → ((q : ℕ) → q < 64 → (In k q ↔ (max (files_apart q square) (ranks_apart q square) ≡ 1)))
-    → IsAttacked b side square → AnySees (near_of p n k sight) sight square
+    → IsReached b side square → AnySees (near_of p n k sight) sight square
 seen_attack b side sight square p n k sees fp fn fk attack =
     let a = attack.0 in
     let q = attack.1.piece in

@@ -1,4 +1,4 @@
--- The total function `after` is the setup of `After`, and its only one.
+-- The function `carried_on` gives the setup of `Outcome`, which has no other.
 use Rattle.std.proofs.Common.{◌≡◌, ◌≢◌, ℕ, ◌+◌, ◌*◌, ◌/◌, ◌≤◌, ◌↔◌, refl, arith, inl, inr, sym, ap, subst, ◌∙◌, Option, Some, None, [], ◌∷◌, length, Bool, true, false, not, ◌&&◌, ◌||◌, eqb, IsTrue}
 use Rattle.std.specs.Prelude.{MatchOption}
 use Rattle.std.proofs.lemmas.List.Elements.{All-nil, All-cons}
@@ -14,21 +14,21 @@ use Rattle.pb_board.specs.Board.{Board, Place, file, rank, at, Holds, IsForward}
 use Rattle.pb_board.specs.Position.{Position, position_of, IsSetup, beyond}
 use Rattle.pb_board.specs.declared.castling.Castling.{Castling}
 use Rattle.pb_board.specs.declared.castling.Castling.TheVariants.{WhiteShort, WhiteLong, BlackShort, BlackLong}
-use Rattle.pb_moves.specs.Attack.{files_apart, ranks_apart}
+use Rattle.pb_moves.specs.Attacks.{files_apart, ranks_apart}
 use Rattle.pb_moves.specs.Moved.{Moved, moved_of, IsMove}
 use Rattle.pb_board.specs.Castling.{CastlingRow, castling_row, IsHome}
 use Rattle.pb_moves.specs.Castling.{rook_goes}
-use Rattle.pb_moves.specs.Cases.{Differs, Becomes, Goes, Castles, CaseOf, piece_move, pawn_step, pawn_double, pawn_capture, en_passant, castles, Case, Legal}
-use Rattle.pb_moves.specs.After.{PassesOver, Touches, KeepsFlag, After}
-use Rattle.pb_moves.specs.Successor.{put, with_rook, arriving, beside, board_of, carried, keeps, rights_of, ep_of_kind, ep_of, after}
-use Rattle.pb_moves.specs.MoveLaws.{AfterIs, OneAfter, AfterIsSetup}
+use Rattle.pb_moves.specs.Cases.{Differs, Becomes, Goes, Castles, CaseOf, piece_move, pawn_step, pawn_double, pawn_capture, en_passant, castles, Case}
+use Rattle.pb_moves.specs.Outcome.{PassesOver, Touches, KeepsFlag, Outcome}
+use Rattle.pb_moves.specs.Successor.{keeps_right, rights_after}
+use Rattle.pb_moves.proofs.Carried.{put, with_rook, arriving, beside, board_of, carried, ep_of_kind, ep_of, carried_on}
 use Rattle.pb_moves.proofs.Castlings.{IsRow, near_is_none, rows}
 use Rattle.pb_moves.proofs.Differing.{All-two, carried_past_put, carried_put, differs_one, differs_put, moved_board, off_two}
 use Rattle.pb_moves.proofs.Unique.{piece_is, case_one, king_near, pawn_files, step_ranks, en_passant_at}
 use Rattle.pb_moves.proofs.Kings.{becomes_king, castling_king, gone_is_beyond, pawn_reach}
 use Rattle.pb_moves.proofs.Passing.{passed_over, passes, passes_is}
 use Rattle.pb_moves.proofs.Kept.{setup_by_parts}
-use Rattle.pb_moves.proofs.LegalMoves.{legal_is_move}
+use Rattle.pb_moves.proofs.LegalMoves.{case_is_move}
 
 -- the board on which a king was carried, and then a rook
 abbrev pub castled_board : CastlingRow → Board → Board
@@ -225,7 +225,7 @@ pub test_fails : (a b : ℕ) → a ≢ b → eqb a b ≡ false
 test_fails a b ne = elim (eqb_tells a b) [ inl e ↦ absurd (ne e.1) | inr e ↦ e.0 ]
 
 -- a flag is kept as the function says
-pub keeps_is : (r : Rights) (m : Moved) (c : Castling) → KeepsFlag ((castling_row c).right r) (keeps r m c) m (castling_row c)
+pub keeps_is : (r : Rights) (m : Moved) (c : Castling) → KeepsFlag ((castling_row c).right r) (keeps_right r m c) m (castling_row c)
 keeps_is r m c =
     let row = castling_row c in
     let flag = row.right r in (
@@ -249,9 +249,9 @@ each_castling P a b x y WhiteLong = b
 each_castling P a b x y BlackShort = x
 each_castling P a b x y BlackLong = y
 
-pub rights_is : (r : Rights) (m : Moved) (c : Castling) → KeepsFlag ((castling_row c).right r) ((castling_row c).right (rights_of r m)) m (castling_row c)
+pub rights_is : (r : Rights) (m : Moved) (c : Castling) → KeepsFlag ((castling_row c).right r) ((castling_row c).right (rights_after r m)) m (castling_row c)
 rights_is r m c =
-    each_castling (λ k. KeepsFlag ((castling_row k).right r) ((castling_row k).right (rights_of r m)) m (castling_row k))
+    each_castling (λ k. KeepsFlag ((castling_row k).right r) ((castling_row k).right (rights_after r m)) m (castling_row k))
     (keeps_is r m WhiteShort) (keeps_is r m WhiteLong) (keeps_is r m BlackShort) (keeps_is r m BlackLong) c
 
 -- two flags that are set in the same case are equal
@@ -261,29 +261,29 @@ same_flag false false P x y = refl
 same_flag true false P x y = absurd (let e = y.1 (x.0 refl) in cc)
 same_flag false true P x y = absurd (let e = x.1 (y.0 refl) in cc)
 
-pub after_is : AfterIs
-unfolding after
-after_is s m ok legal =
-    let case = legal.moves in
-    let same : board_of s.board m (at s.board m.from) ≡ legal.new =
-    ap (board_of s.board m) case.stands ∙ board_is s m case.piece legal.new ok (legal_is_move s m ok legal) case.stands case.own case.by_case in
+pub case_after : (s : Position) (m : Moved) (new : Board) → IsSetup s → Case s m new → Outcome s m (carried_on s m)
+unfolding carried_on
+case_after s m new ok case =
+    let same : board_of s.board m (at s.board m.from) ≡ new =
+    ap (board_of s.board m) case.stands ∙ board_is s m case.piece new ok (case_is_move s m new ok case) case.stands case.own case.by_case in
     let P : Board → Type 0 = λ b. Case s m b in
     let moves = subst P (sym same) case in
-    let new = board_of s.board m (at s.board m.from) in
+    let made = board_of s.board m (at s.board m.from) in
     let E : Option ℕ → Type 0 = λ o. MatchOption o ((q : ℕ) → ¬ PassesOver s m q) (PassesOver s m) in
     record {
       moves = moves;
       turn = refl;
       rights = rights_is s.rights m;
-      ep = subst E (sym (ep_of_case s m new moves)) (passes s m moves.piece new moves.stands moves.own moves.by_case);
+      ep = subst E (sym (ep_of_case s m made moves)) (passes s m moves.piece made moves.stands moves.own moves.by_case);
     }
 
 -- the en passant square after a move is the one that the function gives
-ep_after : (s : Position) (m : Moved) (t : Position) → After s m t → t.ep ≡ ep_of m (at s.board m.from)
+ep_after : (s : Position) (m : Moved) (t : Position) → Outcome s m t → t.ep ≡ ep_of m (at s.board m.from)
 ep_after s m t x = passes_is s m x.moves.piece t.board t.ep x.moves.stands x.moves.own x.moves.by_case x.ep ∙ sym (ep_of_case s m t.board x.moves)
 
-pub one_after : OneAfter
-one_after s m t u ok x y =
+-- there is one setup after a move
+pub one_outcome : (s : Position) (m : Moved) (t u : Position) → IsSetup s → Outcome s m t → Outcome s m u → t ≡ u
+one_outcome s m t u ok x y =
     let B : Board → Position = λ b. position_of b t.turn t.rights t.ep in
     let T : Colour → Position = λ c. position_of u.board c t.rights t.ep in
     let R : Rights → Position = λ r. position_of u.board u.turn r t.ep in
@@ -299,13 +299,14 @@ one_after s m t u ok x y =
     let ep : t.ep ≡ u.ep = ep_after s m t x ∙ sym (ep_after s m u y) in
     ap B (case_one s m t.board u.board ok x.moves y.moves) ∙ (ap T (x.turn ∙ sym y.turn) ∙ (ap R rights ∙ ap E ep))
 
-pub after_is_setup : AfterIsSetup
-unfolding after
-after_is_setup s m ok legal =
-    let x = after_is s m ok legal in
-    setup_by_parts s m x.moves.piece (after s m).board (after s m).rights (after s m).ep ok x.moves.stands x.moves.own x.moves.by_case
-    (ep_after s m (after s m) x ∙ ep_of_case s m (after s m).board x.moves)
+-- it meets the rules for setups again
+pub carried_is_setup : (s : Position) (m : Moved) (new : Board) → IsSetup s → Case s m new → IsSetup (carried_on s m)
+unfolding carried_on
+carried_is_setup s m new ok case =
+    let x = case_after s m new ok case in
+    setup_by_parts s m x.moves.piece (carried_on s m).board (carried_on s m).rights (carried_on s m).ep ok x.moves.stands x.moves.own x.moves.by_case
+    (ep_after s m (carried_on s m) x ∙ ep_of_case s m (carried_on s m).board x.moves)
 
--- the setup after a legal move is the one that the function gives
-pub after_one : (s : Position) (m : Moved) (t : Position) → IsSetup s → Legal s m → After s m t → t ≡ after s m
-after_one s m t ok legal x = one_after s m t (after s m) ok x (after_is s m ok legal)
+-- and it is the one that the function gives
+pub outcome_is : (s : Position) (m : Moved) (t : Position) → IsSetup s → Outcome s m t → t ≡ carried_on s m
+outcome_is s m t ok x = one_outcome s m t (carried_on s m) ok x (case_after s m t.board ok x.moves)

@@ -11,7 +11,8 @@ use Rattle.pb_moves.specs.declared.piece_targets.TheConstants.{KNIGHT, BISHOP, R
 use Rattle.pb_board.specs.declared.piece.Kind.{Kind}
 use Rattle.pb_board.specs.declared.piece.Kind.TheVariants.{Pawn, Knight, Bishop, Rook, Queen, King}
 use Rattle.pb_moves.specs.Candidate.{MayGo}
-use Rattle.pb_moves.specs.Attack.{files_apart, ranks_apart, IsKnightsMove, IsDiagonal, IsStraight}
+use Rattle.pb_moves.specs.Attacks.{files_apart, ranks_apart}
+use Rattle.pb_moves.specs.Reach.{IsKnightsMove, IsDiagonal, IsStraight}
 use Rattle.pb_moves.proofs.Below.{all_below, all_below_at}
 use Rattle.pb_moves.proofs.Differing.{same_or_not}
 

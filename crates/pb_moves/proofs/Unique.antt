@@ -8,7 +8,8 @@ use Rattle.pb_board.specs.declared.piece.Piece.{Piece}
 use Rattle.pb_board.specs.Piece.{opponent}
 use Rattle.pb_board.specs.Board.{Board, Place, at, IsForward}
 use Rattle.pb_board.specs.Position.{Position, IsSetup, EnPassantHolds, OnEnPassantRank, IsEnPassantSquare, beyond}
-use Rattle.pb_moves.specs.Attack.{files_apart, ranks_apart, ReachesBy}
+use Rattle.pb_moves.specs.Attacks.{files_apart, ranks_apart}
+use Rattle.pb_moves.specs.Reach.{ReachesBy}
 use Rattle.pb_board.specs.declared.castling.Castling.{Castling}
 use Rattle.pb_moves.specs.Moved.{Moved}
 use Rattle.pb_board.specs.Castling.{castling_row}

@@ -6,9 +6,10 @@ use Rattle.pb_board.specs.declared.piece.Kind.TheVariants.{Pawn, Knight, Bishop,
 use Rattle.pb_board.specs.declared.piece.Piece.{Piece}
 use Rattle.pb_board.specs.Board.{Holds, rank, IsForward}
 use Rattle.pb_board.specs.Position.{Position}
-use Rattle.pb_moves.specs.Attack.{files_apart, ranks_apart, IsKnightsMove, IsDiagonal, IsStraight}
+use Rattle.pb_moves.specs.Attacks.{files_apart, ranks_apart}
+use Rattle.pb_moves.specs.Reach.{IsKnightsMove, IsDiagonal, IsStraight}
 use Rattle.pb_moves.specs.Moved.{Moved, IsMove}
-use Rattle.pb_moves.specs.Cases.{Legal}
+use Rattle.pb_moves.specs.Cases.{SafeCase}
 use Rattle.pb_moves.specs.Listing.{place}
 use Rattle.pb_moves.specs.Sight.{In}
 
@@ -38,6 +39,6 @@ MayPromote kind to = (kind ≡ Pawn) × ((rank to ≡ 0) ⊎ (rank to ≡ 7))
 
 -- the legal moves whose place is below n, each once, in order
 pub record ListsBelow (s : Position) (ms : List Moved) (n : ℕ) : Type 0 where
-  pub legal : All (λ m. IsMove m × Legal s m × (place m < n)) ms
-  pub every : (m : Moved) → IsMove m → Legal s m → place m < n → Contains ms m
+  pub legal : All (λ m. IsMove m × SafeCase s m × (place m < n)) ms
+  pub every : (m : Moved) → IsMove m → SafeCase s m → place m < n → Contains ms m
   pub ordered : AllPairs (λ a b. place a < place b) ms

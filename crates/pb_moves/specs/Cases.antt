@@ -1,4 +1,5 @@
--- The moves of chess: which board a move of a piece of the side to move leads to, case by case.
+-- Which board a move of a piece of the side to move leads to, case by case, as the private functions and the proofs of this crate
+-- speak of it. Its public functions speak of `Legal`, which is shown to say the same (proofs/SameMoves).
 --
 --   case          who              from, to                              besides
 --   piece_move    not a pawn       it attacks `to`                       `to` is empty or holds an enemy, not the king
@@ -19,9 +20,9 @@ use Rattle.pb_board.specs.Position.{Position, beyond}
 use Rattle.pb_board.specs.Piece.{opponent}
 use Rattle.pb_board.specs.Board.{Board, Place, file, rank, at, Holds, IsEmpty, IsForward}
 use Rattle.pb_board.specs.declared.castling.Castling.{Castling}
-use Rattle.pb_moves.specs.Attack.{Clear, Reaches, InCheck}
+use Rattle.pb_moves.specs.Reach.{WayIsClear, Reaches, KingInReach}
 use Rattle.pb_board.specs.Castling.{CastlingRow, castling_row}
-use Rattle.pb_moves.specs.Castling.{rook_goes, MayCastle}
+use Rattle.pb_moves.specs.Castling.{rook_goes, RowAllows}
 use Rattle.pb_moves.specs.Moved.{Moved, IsPromotion}
 
 -- the new board has 64 places, on each named square it holds what is named, and every other square is as it was
@@ -79,7 +80,7 @@ pub record PawnDouble (s : Position) (m : Moved) (piece : Piece) (new : Board) :
   pub begins : rank m.from ≡ pawn_rank s.turn
   pub same_file : file m.to ≡ file m.from
   pub forward : IsForward s.turn 2 m.from m.to
-  pub way : Clear s.board m.from m.to
+  pub way : WayIsClear s.board m.from m.to
   pub empty : IsEmpty s.board m.to
   pub after : Goes s m piece [] new
 
@@ -102,7 +103,7 @@ pub record Castles (row : CastlingRow) (s : Position) (m : Moved) (piece : Piece
   pub king : piece.kind ≡ King
   pub from_home : m.from ≡ row.king_from
   pub to_table : m.to ≡ row.king_to
-  pub allowed : MayCastle row s
+  pub allowed : RowAllows row s
   pub after : Goes s m piece (rook_goes row) new
 
 -- one of the cases relates the two boards
@@ -122,7 +123,7 @@ pub record Case (s : Position) (m : Moved) (new : Board) : Type 0 where
   pub by_case : CaseOf s m piece new
 
 -- one of the cases holds, and afterwards the mover isn't in check
-pub record Legal (s : Position) (m : Moved) : Type 0 where
+pub record SafeCase (s : Position) (m : Moved) : Type 0 where
   pub new : Board
   pub moves : Case s m new
-  pub safe : ¬ InCheck new s.turn
+  pub safe : ¬ KingInReach new s.turn

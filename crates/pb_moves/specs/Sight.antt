@@ -4,19 +4,17 @@ use Rattle.std.specs.Int.{bit_at}
 use Rattle.pb_board.specs.declared.piece.Colour.{Colour}
 use Rattle.pb_board.specs.declared.piece.Kind.{Kind}
 use Rattle.pb_board.specs.declared.piece.Kind.TheVariants.{Pawn, Knight, Bishop, Rook, Queen, King}
-use Rattle.pb_board.specs.declared.piece.Piece.{Piece}
+use Rattle.pb_board.specs.Piece.{piece_of}
 use Rattle.pb_board.specs.Board.{Board, IsEmpty, Holds, IsForward}
 use Rattle.pb_moves.specs.declared.sight.Sight.{Sight}
 use Rattle.pb_moves.specs.declared.ways.Lines.{Lines}
 use Rattle.pb_moves.specs.declared.ways.Lines.TheVariants.{Straight, Diagonal}
-use Rattle.pb_moves.specs.Attack.{IsBetween, IsDiagonal, IsStraight, files_apart}
+use Rattle.pb_moves.specs.Attacks.{files_apart}
+use Rattle.pb_moves.specs.Reach.{LiesBetween, IsDiagonal, IsStraight}
 
 -- the square is among those that the number stands for
 abbrev pub In : ℕ → ℕ → Type 0
 In mask q = bit_at mask q ≡ 1
-
-abbrev pub piece_of : Colour → Kind → Piece
-piece_of side kind = record { colour = side; kind = kind }
 
 -- the index of q lies between those of a and b
 abbrev pub Between : ℕ → ℕ → ℕ → Type 0
@@ -48,7 +46,7 @@ pub record Sees (board : Board) (side : Colour) (sight : Sight) : Type 0 where
 
 -- the way from a to b is clear where nothing of the set stands between
 abbrev pub Open : ℕ → ℕ → ℕ → Type 0
-Open occupied a b = (q : ℕ) → q < 64 → IsBetween a q b → ¬ In occupied q
+Open occupied a b = (q : ℕ) → q < 64 → LiesBetween a q b → ¬ In occupied q
 
 -- the two squares lie on one line of this kind
 abbrev pub Along : Lines → ℕ → ℕ → Type 0

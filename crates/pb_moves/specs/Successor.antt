@@ -1,70 +1,59 @@
--- The setup after a move as a function of the two. It is the setup of `After` wherever the move is legal, and
--- means nothing elsewhere.
-use Rattle.std.specs.Prelude.{ℕ, ◌+◌, ◌*◌, ◌/◌, Bool, not, ◌&&◌, ◌||◌, ◌==◌, Option, Some, None, is_none, if◌then◌else◌, slice_set}
+-- The setup after a move as a function of the two, which means nothing where the move isn't legal.
+use Rattle.std.specs.Prelude.{ℕ, ◌+◌, ◌*◌, ◌/◌, Bool, not, ◌&&◌, ◌||◌, ◌==◌, List, [], ◌∷◌, fold, Option, Some, None, is_none, unwrap_or, if◌then◌else◌, slice_set}
 use Rattle.pb_board.specs.declared.piece.Kind.{Kind}
 use Rattle.pb_board.specs.declared.piece.Kind.TheVariants.{Pawn, King}
-use Rattle.pb_board.specs.declared.piece.Piece.{Piece}
 use Rattle.pb_board.specs.declared.setup.Rights.{Rights}
-use Rattle.pb_board.specs.Position.{Position}
-use Rattle.pb_board.specs.Piece.{opponent}
-use Rattle.pb_board.specs.Board.{Board, file, rank, at}
 use Rattle.pb_board.specs.declared.castling.Castling.{Castling}
 use Rattle.pb_board.specs.declared.castling.Castling.TheVariants.{WhiteShort, WhiteLong, BlackShort, BlackLong}
-use Rattle.pb_moves.specs.Attack.{ranks_apart}
-use Rattle.pb_board.specs.Castling.{castling_of, castling_row}
+use Rattle.pb_board.specs.Piece.{opponent, piece_of, kind_number}
+use Rattle.pb_board.specs.Board.{Board, Place, file, rank, at}
+use Rattle.pb_board.specs.Position.{Position}
+use Rattle.pb_board.specs.Castling.{CastlingRow, castling_of, castling_row}
+use Rattle.pb_moves.specs.Attacks.{ranks_apart}
 use Rattle.pb_moves.specs.Moved.{Moved}
 
-abbrev pub put : Board → ℕ → Option Piece → Board
-put board square place = slice_set board square place
+-- what castling changes besides the king's two squares: the rook moves
+abbrev pub rook_moves : Board → CastlingRow → List (ℕ × Place)
+rook_moves board row = (row.rook_from, None) ∷ (row.rook_to, at board row.rook_from) ∷ []
 
--- the piece, or what it becomes
-abbrev pub arriving : Piece → Option Kind → Piece
-arriving piece None = piece
-arriving piece (Some kind) = record { colour = piece.colour; kind = kind }
+-- what changes besides `from` and `to`: the pawn that is captured en passant goes, or the rook moves
+abbrev pub besides : Board → Moved → Kind → Option Castling → List (ℕ × Place)
+besides board m Pawn castling = if not (file m.to == file m.from) && is_none (at board m.to)
+    then (8 * rank m.from + file m.to, None) ∷ []
+    else []
+besides board m King (Some c) = rook_moves board (castling_row c)
+besides board m _ _ = []
 
--- en passant: a pawn goes to an empty square of another file, and the pawn beside it is gone
-abbrev pub without_taken : Board → Board → Moved → Board
-without_taken old new m =
-    if not (file m.to == file m.from) && is_none (at old m.to) then put new (8 * rank m.from + file m.to) None else new
+-- all that changes where this piece moves: it leaves `from`, and it stands on `to`, or the piece does that it is promoted to
+abbrev pub changes : Board → Moved → Place → List (ℕ × Place)
+changes board m None = []
+changes board m (Some p) = (m.from, None) ∷ (m.to, Some (piece_of p.colour (unwrap_or m.promo p.kind)))
+    ∷ besides board m p.kind (castling_of m.from m.to)
 
--- castling: the rook goes too
-abbrev pub with_rook : Board → Board → Option Castling → Board
-with_rook old new None = new
-with_rook old new (Some c) = let row = castling_row c in put (put new row.rook_from None) row.rook_to (at old row.rook_from)
-
-abbrev pub beside : Kind → Board → Board → Moved → Board
-beside Pawn old new m = without_taken old new m
-beside King old new m = with_rook old new (castling_of m.from m.to)
-beside _ old new m = new
-
-abbrev pub carried : Board → Moved → Piece → Board
-carried board m piece = beside piece.kind board (put (put board m.from None) m.to (Some (arriving piece m.promo))) m
-
-abbrev pub board_of : Board → Moved → Option Piece → Board
-board_of board m None = board
-board_of board m (Some piece) = carried board m piece
-
--- a flag is kept where the move touches neither of its two squares
-abbrev pub keeps : Rights → Moved → Castling → Bool
-keeps r m castling =
-    let row = castling_row castling in
+-- a castling right is kept where the move leaves and reaches neither the king's square nor the rook's
+abbrev pub keeps_right : Rights → Moved → Castling → Bool
+keeps_right r m c = let row = castling_row c in
     row.right r && not (m.from == row.king_from || m.to == row.king_from || (m.from == row.rook_from || m.to == row.rook_from))
 
-abbrev pub rights_of : Rights → Moved → Rights
-rights_of r m = record { white_short = keeps r m WhiteShort; white_long = keeps r m WhiteLong; black_short = keeps r m BlackShort; black_long = keeps r m BlackLong }
+abbrev pub rights_after : Rights → Moved → Rights
+rights_after r m = record {
+  white_short = keeps_right r m WhiteShort;
+  white_long = keeps_right r m WhiteLong;
+  black_short = keeps_right r m BlackShort;
+  black_long = keeps_right r m BlackLong;
+}
 
-abbrev pub ep_of_kind : Kind → Moved → Option ℕ
-ep_of_kind Pawn m = if ranks_apart m.from m.to == 2 then Some ((m.from + m.to) / 2) else None
-ep_of_kind _ m = None
-
-abbrev pub ep_of : Moved → Option Piece → Option ℕ
-ep_of m None = None
-ep_of m (Some piece) = ep_of_kind piece.kind m
+-- the en passant square: the one that a pawn's double step has crossed
+abbrev pub en_passant_after : Moved → Place → Option ℕ
+en_passant_after m None = None
+en_passant_after m (Some p) = if kind_number p.kind == 0 && ranks_apart m.from m.to == 2
+    then Some ((m.from + m.to) / 2)
+    else None
 
 unfoldable pub after : Position → Moved → Position
 after s m = record {
-  board = board_of s.board m (at s.board m.from);
+  board = fold (λ board c. slice_set board c.0 c.1) s.board (changes s.board m (at s.board m.from));
   turn = opponent s.turn;
-  rights = rights_of s.rights m;
-  ep = ep_of m (at s.board m.from);
+  rights = rights_after s.rights m;
+  ep = en_passant_after m (at s.board m.from);
 }

@@ -2,7 +2,7 @@
 
 ghost use Rattle.std.specs.Prelude.{◌≡◌, ◌<◌, ◌↔◌, IsTrue};
 ghost use Rattle.pb_board.specs.Board.{IsForward};
-ghost use Rattle.pb_moves.specs.Attack.{Clear, Reaches};
+ghost use Rattle.pb_moves.specs.Reach.{WayIsClear, Reaches};
 ghost use Rattle.pb_moves.specs.Sight.{Along};
 
 use crate::sight::{kings_from, knights_from};
@@ -24,7 +24,7 @@ pub(crate) fn is_forward(colour: Colour, ranks: u8, from: Square, to: Square) ->
 /// Whether a piece on `from` that slides along these lines attacks `to`.
 #[inline(always)]
 fn slider_reaches(lines: Lines, setup: &Setup, from: Square, to: Square) -> bool
-    ensures { IsTrue result ↔ (Along lines from to × Clear setup.now.board from to) }
+    ensures { IsTrue result ↔ (Along lines from to × WayIsClear setup.now.board from to) }
 {
     has(lines.through(from), to) && lines.is_open(setup.occupied(), to, from)
 }

@@ -6,7 +6,7 @@ ghost use Rattle.pb_board.specs.Position.{IsSetup};
 ghost use Rattle.pb_board.specs.declared.castling.Castling.{Castling};
 ghost use Rattle.pb_board.specs.Castling.{castling_row};
 ghost use Rattle.pb_moves.specs.Cases.{CaseOf};
-ghost use Rattle.pb_moves.specs.After.{PassesOver, KeepsFlag};
+ghost use Rattle.pb_moves.specs.Outcome.{PassesOver, KeepsFlag};
 ghost use Rattle.pb_moves.specs.Candidate.{HoldsOwn};
 ghost use Rattle.pb_moves.specs.Beside.{Completes};
 

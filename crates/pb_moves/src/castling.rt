@@ -5,8 +5,9 @@ ghost use Rattle.pb_board.specs.declared.castling.Castling.{Castling};
 ghost use Rattle.pb_board.specs.declared.piece.Kind.TheVariants.{King};
 ghost use Rattle.pb_board.specs.Piece.{opponent};
 ghost use Rattle.pb_board.specs.Castling.{castling_row};
-ghost use Rattle.pb_moves.specs.Attack.{Clear, IsAttacked};
-ghost use Rattle.pb_moves.specs.Castling.{MayCastle};
+ghost use Rattle.pb_moves.specs.Attacks.{IsAttacked};
+ghost use Rattle.pb_moves.specs.Reach.{WayIsClear};
+ghost use Rattle.pb_moves.specs.Castling.{RowAllows};
 ghost use Rattle.pb_moves.specs.Cases.{Castles};
 ghost use Rattle.pb_moves.specs.Change.{Finds};
 
@@ -19,7 +20,7 @@ use pb_board::{Castling, Kind, Piece, Setup};
 
 /// Whether nothing stands between king and rook.
 fn way_is_clear(castling: Castling, setup: &Setup) -> bool
-    ensures { let row = castling_row castling in IsTrue result ↔ Clear setup.now.board row.king_from row.rook_from }
+    ensures { let row = castling_row castling in IsTrue result ↔ WayIsClear setup.now.board row.king_from row.rook_from }
 {
     let squares = castling.squares();
     Lines::Straight.is_open(setup.occupied(), squares.rook_from, squares.king_from)
@@ -37,7 +38,7 @@ fn way_is_safe(castling: Castling, setup: &Setup) -> bool
 
 /// Whether all that this castling needs holds, but for the square that the king reaches.
 fn may_castle(castling: Castling, setup: &Setup) -> bool
-    ensures { IsTrue result ↔ MayCastle (castling_row castling) setup.now }
+    ensures { IsTrue result ↔ RowAllows (castling_row castling) setup.now }
 {
     let colour = castling.colour();
     let rook = Piece {

@@ -2,7 +2,7 @@
 
 ghost use Rattle.std.specs.Prelude.{◌≡◌, ◌<◌, ◌↔◌, IsTrue};
 ghost use Rattle.pb_board.specs.Piece.{opponent};
-ghost use Rattle.pb_moves.specs.Attack.{IsAttacked, InCheck, Playable};
+ghost use Rattle.pb_moves.specs.Attacks.{IsAttacked, InCheck, NoOppositeCheck};
 
 use crate::sight::{is_attacked, sight_of};
 use pb_board::{Colour, Setup, Square};
@@ -23,7 +23,7 @@ pub fn in_check(setup: &Setup, side: Colour) -> bool
 
 /// Whether the side that isn't to move isn't in check: then the setup can have come about by a legal move.
 pub fn playable(setup: &Setup) -> bool
-    ensures { IsTrue result ↔ Playable setup.now }
+    ensures { IsTrue result ↔ NoOppositeCheck setup.now }
 {
     !in_check(setup, setup.turn().opponent())
 }

@@ -1,10 +1,10 @@
 //! Playing a move of a record, with its clocks.
 
-ghost use Rattle.std.specs.Prelude.{◌≡◌, ◌<◌, ◌↔◌, IsTrue, IfSome, MatchOption};
+ghost use Rattle.std.specs.Prelude.{◌≡◌, ◌<◌, IfSome};
+ghost use Rattle.std.specs.Option.{SomeIff};
 ghost use Rattle.pb_board.specs.Position.{IsRecord};
-ghost use Rattle.pb_moves.specs.AfterRecord.{AfterRecord, Resets, full_after, one_more};
-ghost use Rattle.pb_moves.specs.Cases.{Legal};
-ghost use Rattle.pb_moves.specs.Successor.{after};
+ghost use Rattle.pb_moves.specs.Clocks.{full_after, half_after, record_after, resets};
+ghost use Rattle.pb_moves.specs.Legal.{Legal};
 
 use crate::board::{holds, is_empty};
 use crate::moves::Move;
@@ -13,7 +13,7 @@ use pb_board::{Colour, Fen, Kind, Piece, Setup};
 
 /// Whether the move sets the half-move clock to 0: a pawn moves, or something is taken.
 fn resets(setup: &Setup, m: Move) -> bool
-    ensures { IsTrue result ↔ Resets setup.now m }
+    ensures { result ≡ resets setup.now m }
 {
     let pawn = Piece {
         colour: setup.turn(),
@@ -24,8 +24,7 @@ fn resets(setup: &Setup, m: Move) -> bool
 
 /// The half-move clock after the move.
 fn half_after(fen: &Fen, m: Move) -> u16
-    ensures reset { Resets fen.now.setup m → result ≡ 0 }
-    ensures counted { ¬ Resets fen.now.setup m → result ≡ one_more fen.now.half }
+    ensures { result ≡ half_after fen.now m }
 {
     if resets(&fen.setup(), m) {
         0
@@ -50,10 +49,8 @@ fn full_after(fen: &Fen) -> u16
 /// The half-move clock is 0 after a pawn's move or a capture, and one more otherwise; the full move number is one
 /// more after Black's move (PGN Standard 16.1.3.5 and 16.1.3.6). Either stays at 65,535 once it is there.
 pub fn advance(fen: &Fen, m: Move) -> Option<Fen>
-    ensures played { MatchOption result
-        (¬ Legal fen.now.setup m)
-        (λ g. Legal fen.now.setup m × AfterRecord fen.now m g × IsRecord g) }
-    ensures is { IfSome result (λ g. g.setup ≡ after fen.now.setup m) }
+    ensures played { SomeIff result (Legal fen.now.setup m) (record_after fen.now m) }
+    ensures record { IfSome result IsRecord }
 {
     let next = play(&fen.setup(), m)?;
     Some(Fen::with_clocks(next, half_after(fen, m), full_after(fen)))

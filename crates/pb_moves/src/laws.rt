@@ -1,37 +1,18 @@
-//! Laws of moves and of the plies of a game, for the crates above, and of equality (`==`) between moves. Most of their
-//! statements stand in `specs/`, and each of these functions is proved to keep them.
+//! Laws of moves, for the crates above, and of equality (`==`) between moves. Each of these functions is proved to keep them.
 
 ghost use Rattle.std.specs.Prelude.{◌≡◌, ℕ, List};
 ghost use Rattle.std.specs.Bool.{Decides};
-ghost use Rattle.pb_moves.specs.MoveLaws.{AfterIs, OneAfter, AfterIsSetup, LegalIsMove};
+ghost use Rattle.pb_board.specs.Position.{IsSetup, Position};
+ghost use Rattle.pb_moves.specs.Legal.{Legal};
 ghost use Rattle.pb_moves.specs.Moved.{Moved, IsMove};
-ghost use Rattle.pb_moves.specs.Played.{PliesAre, PliesAreOne};
+ghost use Rattle.pb_moves.specs.Successor.{after};
 
 use crate::moves::Move;
 use crate::text::MoveText;
 
-/// After a legal move of a setup, the function `after` gives the setup that the rules describe, and the rules describe
-/// no other.
-pub fn one_after()
-    ensures is { AfterIs }
-    ensures only { OneAfter }
-{}
-
 /// The setup after a legal move of a setup meets the rules for setups.
 pub fn after_is_setup()
-    ensures { AfterIsSetup }
-{}
-
-/// A legal move joins two squares of the board that differ, and promotes to nothing but a knight, bishop, rook or
-/// queen.
-pub fn legal_is_move()
-    ensures { LegalIsMove }
-{}
-
-/// The plies of moves that are legal one after the other are those that `plies_from` gives, and no others.
-pub fn one_list_of_plies()
-    ensures are { PliesAre }
-    ensures only { PliesAreOne }
+    ensures { (s : Position) (m : Moved) → IsSetup s → Legal s m → IsSetup (after s m) }
 {}
 
 /// Moves are equal (`==`) exactly where squares and promotion are the same, and their texts where the bytes are.

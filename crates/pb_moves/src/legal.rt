@@ -7,9 +7,10 @@ ghost use Rattle.pb_board.specs.Board.{Board};
 ghost use Rattle.pb_board.specs.Piece.{opponent};
 ghost use Rattle.pb_board.specs.Position.{IsOnlyKing};
 ghost use Rattle.pb_moves.specs.Candidate.{HoldsOwn};
-ghost use Rattle.pb_moves.specs.Cases.{CaseOf, Legal};
+ghost use Rattle.pb_moves.specs.Cases.{CaseOf, SafeCase};
 ghost use Rattle.pb_moves.specs.Change.{Changes, Finds, LeadsTo};
 ghost use Rattle.pb_moves.specs.declared.change.Change.TheVariants.{Carry};
+ghost use Rattle.pb_moves.specs.Legal.{Legal};
 ghost use Rattle.pb_moves.specs.Moved.{Moved};
 ghost use Rattle.pb_moves.specs.Sight.{Sees};
 ghost use Rattle.pb_moves.specs.Free.{IsFree};
@@ -157,7 +158,7 @@ pub(crate) fn is_free(setup: &Setup, enemy: &Sight, from: Square, piece: Piece) 
 pub(crate) fn is_safe(setup: &Setup, m: Move, piece: Piece, arriving: Piece) -> bool
     requires own { HoldsOwn setup.now m.from piece }
     requires leads { LeadsTo (CaseOf setup.now m piece) setup.now.board m (Carry arriving) }
-    ensures { IsTrue result ↔ Legal setup.now m }
+    ensures { IsTrue result ↔ SafeCase setup.now m }
 {
     let (from, to) = (m.from(), m.to());
     let enemy = setup.turn().opponent();
@@ -171,7 +172,7 @@ pub(crate) fn is_safe(setup: &Setup, m: Move, piece: Piece, arriving: Piece) -> 
 pub(crate) fn is_safe_after(setup: &Setup, m: Move, piece: Piece, change: &Change) -> bool
     requires own { HoldsOwn setup.now m.from piece }
     requires leads { LeadsTo (CaseOf setup.now m piece) setup.now.board m change.now }
-    ensures { IsTrue result ↔ Legal setup.now m }
+    ensures { IsTrue result ↔ SafeCase setup.now m }
 {
     // The reader tells that the move meets its rules.
     let _from = m.from();
@@ -186,7 +187,7 @@ pub(crate) fn is_safe_after(setup: &Setup, m: Move, piece: Piece, change: &Chang
 pub(crate) fn is_legal_for(setup: &Setup, m: Move, piece: Piece, free: bool) -> bool
     requires own { HoldsOwn setup.now m.from piece }
     requires free { IsTrue free → IsFree setup.now m.from piece }
-    ensures { IsTrue result ↔ Legal setup.now m }
+    ensures { IsTrue result ↔ SafeCase setup.now m }
 {
     // The reader tells that the move meets its rules.
     let _from = m.from();
@@ -203,6 +204,8 @@ pub(crate) fn is_legal_for(setup: &Setup, m: Move, piece: Piece, free: bool) -> 
 pub fn is_legal(setup: &Setup, m: Move) -> bool
     ensures { IsTrue result ↔ Legal setup.now m }
 {
+    // The reader tells that the setup meets its rules.
+    let _turn = setup.turn();
     match own_piece(setup, m.from()) {
         Some(piece) => is_legal_for(setup, m, piece, false),
         None => false,

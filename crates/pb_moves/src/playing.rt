@@ -1,9 +1,10 @@
 //! Playing a move.
 
-ghost use Rattle.std.specs.Prelude.{◌≡◌, ◌↔◌, IsTrue, IfSome, MatchOption};
+ghost use Rattle.std.specs.Prelude.{◌≡◌, ◌↔◌, IsTrue, IfSome};
+ghost use Rattle.std.specs.Option.{SomeIff};
 ghost use Rattle.pb_board.specs.Position.{IsSetup};
-ghost use Rattle.pb_moves.specs.Cases.{CaseOf, Legal};
-ghost use Rattle.pb_moves.specs.After.{After};
+ghost use Rattle.pb_moves.specs.Cases.{CaseOf, SafeCase};
+ghost use Rattle.pb_moves.specs.Legal.{Legal};
 ghost use Rattle.pb_moves.specs.Successor.{after};
 ghost use Rattle.pb_moves.specs.Candidate.{HoldsOwn};
 ghost use Rattle.pb_moves.specs.Change.{LeadsTo};
@@ -21,6 +22,8 @@ pub fn play_on(setup: &mut Setup, m: Move) -> bool
     ensures played { IsTrue result → (setup.new ≡ after setup.old m) }
     ensures refused { ¬ IsTrue result → (setup.new ≡ setup.old) }
 {
+    // The reader tells that the setup meets its rules.
+    let _turn = setup.turn();
     let Some(piece) = own_piece(setup, m.from()) else {
         return false;
     };
@@ -36,7 +39,7 @@ pub fn play_on(setup: &mut Setup, m: Move) -> bool
 fn carry(setup: &mut Setup, m: Move, piece: Piece, arriving: Piece) -> bool
     requires own { HoldsOwn setup.old m.from piece }
     requires leads { LeadsTo (CaseOf setup.old m piece) setup.old.board m (Carry arriving) }
-    ensures legal { IsTrue result ↔ Legal setup.old m }
+    ensures legal { IsTrue result ↔ SafeCase setup.old m }
     ensures played { IsTrue result → (setup.new ≡ after setup.old m) }
     ensures refused { ¬ IsTrue result → (setup.new ≡ setup.old) }
 {
@@ -54,7 +57,7 @@ fn carry(setup: &mut Setup, m: Move, piece: Piece, arriving: Piece) -> bool
 fn carry_twice(setup: &mut Setup, m: Move, piece: Piece, change: Change) -> bool
     requires own { HoldsOwn setup.old m.from piece }
     requires leads { LeadsTo (CaseOf setup.old m piece) setup.old.board m change }
-    ensures legal { IsTrue result ↔ Legal setup.old m }
+    ensures legal { IsTrue result ↔ SafeCase setup.old m }
     ensures played { IsTrue result → (setup.new ≡ after setup.old m) }
     ensures refused { ¬ IsTrue result → (setup.new ≡ setup.old) }
 {
@@ -72,10 +75,8 @@ fn carry_twice(setup: &mut Setup, m: Move, piece: Piece, change: Change) -> bool
 /// A castling right is lost for good once its king or its rook has moved or its rook was taken, and an en passant
 /// square stands after each double step of a pawn, whether or not an enemy pawn can use it (PGN Standard 16.1.3.4).
 pub fn play(setup: &Setup, m: Move) -> Option<Setup>
-    ensures played { MatchOption result
-        (¬ Legal setup.now m)
-        (λ t. Legal setup.now m × After setup.now m t × IsSetup t) }
-    ensures is { IfSome result (λ t. t ≡ after setup.now m) }
+    ensures played { SomeIff result (Legal setup.now m) (after setup.now m) }
+    ensures setup { IfSome result IsSetup }
 {
     // The reader tells that the setup meets its rules.
     let _turn = setup.turn();

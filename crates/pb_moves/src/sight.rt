@@ -5,7 +5,8 @@ ghost use Rattle.pb_board.specs.Board.{Board, Holds};
 ghost use Rattle.pb_board.specs.declared.piece.Colour.{Colour};
 ghost use Rattle.pb_board.specs.declared.piece.Piece.{Piece};
 ghost use Rattle.pb_moves.specs.Cases.{Differs};
-ghost use Rattle.pb_moves.specs.Attack.{IsAttacked, IsKnightsMove, files_apart, ranks_apart};
+ghost use Rattle.pb_moves.specs.Attacks.{files_apart, ranks_apart};
+ghost use Rattle.pb_moves.specs.Reach.{IsReached, IsKnightsMove};
 ghost use Rattle.pb_moves.specs.Sight.{In, Sees, StrikesFrom};
 
 use crate::pawn_targets::{BLACK_PAWN, WHITE_PAWN};
@@ -92,7 +93,7 @@ pub(crate) fn kings_from(square: Square) -> u64
 /// Whether some piece of the side attacks the square.
 #[inline(always)]
 pub(crate) fn is_attacked(sight: &Sight, square: Square, by: Colour) -> bool
-    ensures { (b : Board) → Sees b by sight.now → (IsTrue result ↔ IsAttacked b by square) }
+    ensures { (b : Board) → Sees b by sight.now → (IsTrue result ↔ IsReached b by square) }
 {
     let near = pawns_from(by, square) & sight.pawns
         | knights_from(square) & sight.knights
@@ -109,7 +110,7 @@ pub(crate) fn is_attacked(sight: &Sight, square: Square, by: Colour) -> bool
 /// The same out of line.
 #[inline(never)]
 pub(crate) fn is_attacked_out_of_line(sight: &Sight, square: Square, by: Colour) -> bool
-    ensures { (b : Board) → Sees b by sight.now → (IsTrue result ↔ IsAttacked b by square) }
+    ensures { (b : Board) → Sees b by sight.now → (IsTrue result ↔ IsReached b by square) }
 {
     is_attacked(sight, square, by)
 }

@@ -6,28 +6,30 @@ use Rattle.pb_board.specs.declared.piece.Kind.{Kind}
 use Rattle.pb_board.specs.declared.piece.Kind.TheVariants.{King}
 use Rattle.pb_board.specs.declared.piece.Piece.{Piece}
 use Rattle.pb_board.specs.Position.{Position}
-use Rattle.pb_board.specs.Board.{Board, Place, at, is_piece}
+use Rattle.pb_board.specs.Board.{Place, at, is_piece}
 use Rattle.pb_board.proofs.PieceTests.{is_piece-is}
-use Rattle.pb_board.specs.Piece.{colour_number, king_of}
+use Rattle.pb_board.specs.Piece.{colour_number, king_of, piece_of}
 use Rattle.pb_board.specs.declared.castling.Castling.{Castling}
 use Rattle.pb_board.specs.Castling.{castling_from_home, castling_of, castling_row}
-use Rattle.pb_moves.specs.Attack.{files_apart}
+use Rattle.pb_moves.specs.Attacks.{Pattern, files_apart, ranks_apart}
 use Rattle.pb_moves.specs.Moved.{Moved, IsPromotion, moved_of, promotion_number, promotion_of}
 use Rattle.pb_moves.specs.Packed.{promotion_back}
-use Rattle.pb_moves.specs.Cases.{CaseOf, piece_move, pawn_step, pawn_double, pawn_capture, en_passant, castles, Legal}
+use Rattle.pb_moves.specs.Legal.{Legal, MayMove, captures, castles, en_passant, pushes, quiet}
 use Rattle.pb_moves.proofs.Castlings.{castling_found, class_of_castling, home_found, home_is, home_is_far, rows}
-use Rattle.pb_moves.proofs.Unique.{king_near}
 use Rattle.pb_poly.specs.Code.{HasCode, coded_to, rook_or, CodeIsOne}
 use Rattle.pb_poly.specs.Decoding.{king_or, reached}
 
 -- a king goes two files at most
-king_files : (s : Position) (m : Moved) (piece : Piece) (new : Board) → CaseOf s m piece new → piece.kind ≡ King → files_apart m.from m.to ≤ 2
-king_files s m piece new (piece_move x) king = omega (arith, king_near piece.colour piece.kind s.board m.from m.to x.reaches king)
-king_files s m piece new (castles castling x) king = omega (arith, class_of_castling castling m.from m.to x.from_home x.to_table)
-king_files s m piece new (pawn_step x) king = let pawn = x.pawn in absurd (cc)
-king_files s m piece new (pawn_double x) king = let pawn = x.pawn in absurd (cc)
-king_files s m piece new (pawn_capture x) king = let pawn = x.pawn in absurd (cc)
-king_files s m piece new (en_passant x) king = let pawn = x.pawn in absurd (cc)
+pub king_pattern : (k : Kind) (files ranks : ℕ) → Pattern k files ranks → k ≡ King → files ≤ 1
+king_pattern King files ranks h king = omega (arith, h)
+king_pattern k files ranks h king = absurd (cc)
+
+king_files : (s : Position) (m : Moved) (k : Kind) → MayMove s m k → k ≡ King → files_apart m.from m.to ≤ 2
+king_files s m k (quiet no_pawn attacks empty) king = omega (arith, king_pattern k (files_apart m.from m.to) (ranks_apart m.from m.to) attacks.0 king)
+king_files s m k (captures attacks taken) king = omega (arith, king_pattern k (files_apart m.from m.to) (ranks_apart m.from m.to) attacks.0 king)
+king_files s m k (castles castling is x) king = omega (arith, class_of_castling castling m.from m.to x.from_home x.to_table)
+king_files s m k (pushes pawn x) king = absurd (cc)
+king_files s m k (en_passant pawn attacks square) king = absurd (cc)
 
 -- a king that goes two files at most doesn't go to where a rook begins
 no_rook_square : (side : Colour) (from to : ℕ) (found : Option Castling) → castling_from_home from to ≡ found → files_apart from to ≤ 2 → king_or side to found ≡ to
@@ -61,17 +63,17 @@ back_if : (s : Position) (m : Moved) (king : Bool) → (king ≡ true → files_
 back_if s m true near = castling_back s.turn m.from m.to (near refl)
 back_if s m false near = refl
 
-king_goes_near : (s : Position) (m : Moved) (piece : Piece) (new : Board) (place : Place) → place ≡ Some piece → CaseOf s m piece new → is_piece (king_of s.turn) place ≡ true → files_apart m.from m.to ≤ 2
-king_goes_near s m piece new None stands x king = absurd (cc)
-king_goes_near s m piece new (Some other) stands x king =
-    let same : other ≡ piece = cc in
+king_goes_near : (s : Position) (m : Moved) (k : Kind) (place : Place) → place ≡ Some (piece_of s.turn k) → MayMove s m k → is_piece (king_of s.turn) place ≡ true → files_apart m.from m.to ≤ 2
+king_goes_near s m k None stands x king = absurd (cc)
+king_goes_near s m k (Some other) stands x king =
+    let same : other ≡ piece_of s.turn k = cc in
     let is : other.kind ≡ King = (let there = is_piece-is (king_of s.turn) (Some other) king in cc) in
-    king_files s m piece new x (ap (λ (p : Piece). p.kind) (sym same) ∙ is)
+    king_files s m k x (ap (λ (p : Piece). p.kind) (sym same) ∙ is)
 
 reached_back : (s : Position) (m : Moved) → Legal s m → reached s m.from (coded_to s m) ≡ m.to
 reached_back s m legal =
-    let case = legal.moves in
-    back_if s m (is_piece (king_of s.turn) (at s.board m.from)) (king_goes_near s m case.piece legal.new (at s.board m.from) case.stands case.by_case)
+    let moves = legal.moves in
+    back_if s m (is_piece (king_of s.turn) (at s.board m.from)) (king_goes_near s m moves.kind (at s.board m.from) moves.stands moves.by_case)
 
 rook_on_board : (own : Bool) (c : Castling) (to : ℕ) → to < 64 → cond own (castling_row c).rook_from to < 64
 rook_on_board true c to near = (rows c).rook_from
@@ -101,10 +103,10 @@ apart_again to from promo number low high is =
 pub parts : (s : Position) (m : Moved) (number : ℕ) → HasCode s m number
     → (m.from ≡ (number / 64) % 64) × (m.to ≡ reached s ((number / 64) % 64) (number % 64)) × (m.promo ≡ promotion_of (number / 4096))
 parts s m number has =
-    let p = apart_again (coded_to s m) m.from (promotion_number m.promo) number (coded_on_board s m has.is_move.to_on_board) has.is_move.from_on_board has.code_is in (
+    let p = apart_again (coded_to s m) m.from (promotion_number m.promo) number (coded_on_board s m has.legal.moves.is_move.to_on_board) has.legal.moves.is_move.from_on_board has.code_is in (
       sym p.1,
       sym (reached_back s m has.legal) ∙ ap (λ to. reached s m.from to) (sym p.0) ∙ ap (λ from. reached s from (number % 64)) (sym p.1),
-      sym (promotion_back m.promo has.is_move.promotes) ∙ ap promotion_of (sym p.2),
+      sym (promotion_back m.promo has.legal.moves.is_move.promotes) ∙ ap promotion_of (sym p.2),
     )
 
 same_moves : (m n : Moved) → m.from ≡ n.from → m.to ≡ n.to → m.promo ≡ n.promo → m ≡ n
@@ -125,7 +127,7 @@ made_of_parts s number from to promo None from_is to_is promo_is made m has =
     let same_from : m.from ≡ from = p.0 ∙ sym from_is in
     let same_to : m.to ≡ to = p.1 ∙ ap (λ q. reached s q (number % 64)) (sym from_is) ∙ sym to_is in
     let same_promo : promo ≡ m.promo = promo_is ∙ sym p.2 in
-    absurd (made (λ same. has.is_move.moves (same_from ∙ same ∙ sym same_to), λ kind is. has.is_move.promotes kind (sym same_promo ∙ is)))
+    absurd (made (λ same. has.legal.moves.is_move.moves (same_from ∙ same ∙ sym same_to), λ kind is. has.legal.moves.is_move.promotes kind (sym same_promo ∙ is)))
 made_of_parts s number from to promo (Some n) from_is to_is promo_is made m has =
     let p = parts s m number has in
     let same_from : m.from ≡ from = p.0 ∙ sym from_is in

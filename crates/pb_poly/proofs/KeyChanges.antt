@@ -10,11 +10,11 @@ use Rattle.pb_board.specs.declared.piece.Kind.TheVariants.{Pawn, Knight, Bishop,
 use Rattle.pb_board.specs.declared.piece.Piece.{Piece}
 use Rattle.pb_board.specs.Board.{Board, Place, at, file, rank, Holds, IsForward}
 use Rattle.pb_board.specs.Position.{Position, IsSetup, beyond}
-use Rattle.pb_moves.specs.Attack.{files_apart}
+use Rattle.pb_moves.specs.Attacks.{files_apart}
 use Rattle.pb_moves.specs.Moved.{Moved, IsMove}
 use Rattle.pb_board.specs.Castling.{castling_of, castling_row}
 use Rattle.pb_moves.specs.Cases.{Goes, EnPassant, CaseOf, piece_move, pawn_step, pawn_double, pawn_capture, en_passant, castles}
-use Rattle.pb_moves.specs.Successor.{arriving, beside, put, with_rook}
+use Rattle.pb_moves.proofs.Carried.{arriving, beside, put, with_rook}
 use Rattle.pb_moves.proofs.Differing.{All-two, at_put_other, at_put_same, length_put, off_one, off_two, same_boards, same_lists, same_or_not}
 use Rattle.pb_moves.proofs.Kings.{gone_is_beyond, pawn_reach}
 use Rattle.pb_moves.proofs.Successors.{board_is}

@@ -1,6 +1,7 @@
 -- What a move changes, by what stood before it.
 use Rattle.std.proofs.Common.{◌≡◌, ◌≢◌, ℕ, ◌+◌, ◌-◌, ◌*◌, ◌/◌, Bool, true, false, not, Some, None, Option, List, [], ◌∷◌, ◌++◌, refl, sym, ap, ◌∙◌, subst, append-nil, arith}
 use Rattle.std.specs.Bool.{beq}
+use Rattle.std.specs.Prelude.{unwrap_or}
 use Rattle.pb_board.specs.declared.castling.Castling.{Castling}
 use Rattle.pb_board.specs.declared.castling.Castling.TheVariants.{WhiteShort, WhiteLong, BlackShort, BlackLong}
 use Rattle.pb_board.specs.declared.piece.Colour.{Colour}
@@ -8,21 +9,22 @@ use Rattle.pb_board.specs.declared.piece.Colour.TheVariants.{White, Black}
 use Rattle.pb_board.specs.declared.piece.Kind.TheVariants.{Pawn, King}
 use Rattle.pb_board.specs.declared.piece.Piece.{Piece}
 use Rattle.pb_board.specs.declared.setup.Rights.{Rights}
-use Rattle.pb_board.specs.Piece.{opponent, rook_of}
+use Rattle.pb_board.specs.Piece.{opponent, piece_of, rook_of}
 use Rattle.pb_board.specs.Board.{Board, at, file, rank, Holds, IsForward}
 use Rattle.pb_board.specs.Castling.{IsHome, castling_of, castling_row}
 use Rattle.pb_board.specs.Position.{Position, IsSetup, beyond, position_of}
-use Rattle.pb_moves.specs.After.{After}
-use Rattle.pb_moves.specs.Attack.{ranks_apart}
+use Rattle.pb_moves.specs.Outcome.{Outcome}
+use Rattle.pb_moves.specs.Attacks.{ranks_apart}
 use Rattle.pb_moves.specs.Cases.{Case, CaseOf, Castles, PawnDouble, pawn_rank, piece_move, pawn_step, pawn_double, pawn_capture, en_passant, castles}
 use Rattle.pb_moves.specs.Moved.{Moved}
-use Rattle.pb_moves.specs.Successor.{arriving, keeps, rights_of}
+use Rattle.pb_moves.specs.Successor.{keeps_right, rights_after}
 use Rattle.pb_moves.proofs.Castlings.{castling_is, near_is_none}
 use Rattle.pb_moves.proofs.Differing.{arrived, left}
 use Rattle.pb_moves.proofs.Kings.{castling_free, pawn_reach}
 use Rattle.pb_moves.proofs.Legality.{case_at}
 use Rattle.pb_moves.proofs.Passing.{passes_is}
-use Rattle.pb_moves.proofs.Successors.{arriving_becomes, castles_differs, keeps_is, kept_elsewhere, one_after, rights_is, same_flag}
+use Rattle.pb_moves.proofs.SameMoves.{arriving_is}
+use Rattle.pb_moves.proofs.Successors.{arriving_becomes, castles_differs, keeps_is, kept_elsewhere, one_outcome, rights_is, same_flag}
 use Rattle.pb_moves.proofs.Unique.{besides_of, goes_of, king_near, step_ranks}
 use Rattle.pb_poly.specs.Key.{has_taker, joined, en_passant_places, piece_place, place_if}
 use Rattle.pb_poly.specs.KeyChange.{beside_kind, changed_places, lost_places, rook_squares, square_places}
@@ -40,15 +42,15 @@ own_at s m p new stands case =
 
 -- the one is left empty, and on the other the piece arrives in the place of what stood there
 pub carried_places : (s : Position) (m : Moved) (p : Piece) (new : Board) → Holds s.board m.from p → Case s m new
-    → changed_places s.board new (m.from ∷ m.to ∷ []) ≡ piece_place p m.from ∷ (square_places (at s.board m.to) m.to ++ (piece_place (arriving p m.promo) m.to ∷ []))
+    → changed_places s.board new (m.from ∷ m.to ∷ []) ≡ piece_place p m.from ∷ (square_places (at s.board m.to) m.to ++ (piece_place (piece_of p.colour (unwrap_or m.promo p.kind)) m.to ∷ []))
 carried_places s m p new stands case =
     let x = case_at s m new p stands case in
     let goes = goes_of s m p new x in
     let q : Piece = record { colour = s.turn; kind = goes.kind } in
     let free : at new m.from ≡ None = left s.board new m.from m.to q (besides_of s m p new x) goes.board in
-    let comes : at new m.to ≡ Some (arriving p m.promo) =
+    let comes : at new m.to ≡ Some (piece_of p.colour (unwrap_or m.promo p.kind)) =
     arrived s.board new m.from m.to q (besides_of s m p new x) goes.board
-    ∙ ap (λ (z : Piece). Some z) (sym (arriving_becomes s.turn m goes.kind p (own_at s m p new stands case) goes.becomes)) in
+    ∙ ap (λ (z : Piece). Some z) (sym (arriving_is p m.promo ∙ arriving_becomes s.turn m goes.kind p (own_at s m p new stands case) goes.becomes)) in
     rw (stands, free, comes) refl
 
 -- one word, those of a list, and one more
@@ -115,22 +117,22 @@ kept_place true false place same = absurd (cc)
 kept_place false true place same = absurd (cc)
 
 -- where no home is touched no right is lost
-pub none_lost : (r : Rights) (m : Moved) → ¬ IsHome m.from → ¬ IsHome m.to → lost_places r (rights_of r m) ≡ []
+pub none_lost : (r : Rights) (m : Moved) → ¬ IsHome m.from → ¬ IsHome m.to → lost_places r (rights_after r m) ≡ []
 none_lost r m from to =
-    let kept : (c : Castling) → keeps r m c ≡ (castling_row c).right r = λ c.
-    same_flag (keeps r m c) ((castling_row c).right r) _ (keeps_is r m c) (kept_elsewhere m c ((castling_row c).right r) from to) in
-    let a : keeps r m WhiteShort ≡ r.white_short = kept WhiteShort in
-    let b : keeps r m WhiteLong ≡ r.white_long = kept WhiteLong in
-    let x : keeps r m BlackShort ≡ r.black_short = kept BlackShort in
-    let y : keeps r m BlackLong ≡ r.black_long = kept BlackLong in
-    rw (kept_place r.white_short (keeps r m WhiteShort) 768 a, kept_place r.white_long (keeps r m WhiteLong) 769 b, kept_place r.black_short (keeps r m BlackShort) 770 x, kept_place r.black_long (keeps r m BlackLong) 771 y) refl
+    let kept : (c : Castling) → keeps_right r m c ≡ (castling_row c).right r = λ c.
+    same_flag (keeps_right r m c) ((castling_row c).right r) _ (keeps_is r m c) (kept_elsewhere m c ((castling_row c).right r) from to) in
+    let a : keeps_right r m WhiteShort ≡ r.white_short = kept WhiteShort in
+    let b : keeps_right r m WhiteLong ≡ r.white_long = kept WhiteLong in
+    let x : keeps_right r m BlackShort ≡ r.black_short = kept BlackShort in
+    let y : keeps_right r m BlackLong ≡ r.black_long = kept BlackLong in
+    rw (kept_place r.white_short (keeps_right r m WhiteShort) 768 a, kept_place r.white_long (keeps_right r m WhiteLong) 769 b, kept_place r.black_short (keeps_right r m BlackShort) 770 x, kept_place r.black_long (keeps_right r m BlackLong) 771 y) refl
 
 -- the rights after a move are those that the function gives
-pub rights_after : (s : Position) (m : Moved) (t : Position) → IsSetup s → After s m t → t.rights ≡ rights_of s.rights m
-rights_after s m t ok x =
-    let u : Position = position_of t.board t.turn (rights_of s.rights m) t.ep in
+pub rights_are : (s : Position) (m : Moved) (t : Position) → IsSetup s → Outcome s m t → t.rights ≡ rights_after s.rights m
+rights_are s m t ok x =
+    let u : Position = position_of t.board t.turn (rights_after s.rights m) t.ep in
     let R : Position → Rights = λ p. p.rights in
-    ap R (one_after s m t u ok x (record { moves = x.moves; turn = x.turn; rights = rights_is s.rights m; ep = x.ep }))
+    ap R (one_outcome s m t u ok x (record { moves = x.moves; turn = x.turn; rights = rights_is s.rights m; ep = x.ep }))
 
 -- ---- the en passant square
 
@@ -165,7 +167,7 @@ double_places s t m p turn ep x =
     ∙ ap (λ f. place_if (has_taker s.board (opponent s.turn) m.to) (772 + f)) is.1
 
 -- a pawn's step of two ranks is a double step
-pub stepped_places : (s t : Position) (m : Moved) (p : Piece) → Holds s.board m.from p → After s m t → p.kind ≡ Pawn → ranks_apart m.from m.to ≡ 2
+pub stepped_places : (s t : Position) (m : Moved) (p : Piece) → Holds s.board m.from p → Outcome s m t → p.kind ≡ Pawn → ranks_apart m.from m.to ≡ 2
     → en_passant_places t t.ep ≡ place_if (has_taker s.board (opponent s.turn) m.to) (772 + file m.to)
 stepped_places s t m p stands x pawn two =
     let own = own_at s m p t.board stands x.moves in
@@ -180,7 +182,7 @@ stepped_places s t m p stands x pawn two =
     ]
 
 -- no other move passes over a square
-pub no_step : (s t : Position) (m : Moved) (p : Piece) → Holds s.board m.from p → After s m t → (p.kind ≡ Pawn → ranks_apart m.from m.to ≢ 2) → en_passant_places t t.ep ≡ []
+pub no_step : (s t : Position) (m : Moved) (p : Piece) → Holds s.board m.from p → Outcome s m t → (p.kind ≡ Pawn → ranks_apart m.from m.to ≢ 2) → en_passant_places t t.ep ≡ []
 no_step s t m p stands x other =
     let own = own_at s m p t.board stands x.moves in
     let none : t.ep ≡ None → en_passant_places t t.ep ≡ [] = λ e. ap (λ (o : Option ℕ). en_passant_places t o) e in

@@ -16,7 +16,7 @@ use Rattle.pb_board.specs.Piece.{pawn_of}
 use Rattle.pb_board.specs.Board.{Board, Place, at, file, rank, is_piece}
 use Rattle.pb_board.specs.Position.{Position, IsSetup, beyond}
 use Rattle.pb_board.proofs.PieceTests.{is_piece-is, is_piece-passes}
-use Rattle.pb_moves.specs.Attack.{files_apart}
+use Rattle.pb_moves.specs.Attacks.{files_apart}
 use Rattle.pb_poly.specs.Key.{ArePlaces, HasPlace, of_piece, of_right, en_passant, white_to_move, HasTaker, castling_place, castling_places, has_taker, number_of, en_passant_places, piece_place, piece_places, place_if, places, rights_places, turn_places}
 use Rattle.pb_poly.proofs.Among.{Among, Distinct, among_contained, among_either, among_left, among_right, contains_among, distinct_append, distinct_pairs}
 

@@ -7,8 +7,8 @@ use Rattle.pb_board.specs.Piece.{colour_number, king_of}
 use Rattle.pb_board.specs.Castling.{castling_of, castling_row}
 use Rattle.pb_board.specs.Position.{Position, IsSetup}
 use Rattle.pb_board.specs.Board.{file, rank, at, is_piece}
-use Rattle.pb_moves.specs.Moved.{Moved, IsMove, promotion_number}
-use Rattle.pb_moves.specs.Cases.{Legal}
+use Rattle.pb_moves.specs.Moved.{Moved, promotion_number}
+use Rattle.pb_moves.specs.Legal.{Legal}
 
 -- the square of the rook with which this side castles, and else the one that its king reaches
 abbrev pub rook_or : Colour → ℕ → Option Castling → ℕ
@@ -24,7 +24,6 @@ code s m = file (coded_to s m) + 8 * rank (coded_to s m) + 64 * file m.from + 51
 
 -- a legal move with this code
 pub record HasCode (s : Position) (m : Moved) (number : ℕ) : Type 0 where
-  pub is_move : IsMove m
   pub legal : Legal s m
   pub code_is : code s m ≡ number
 

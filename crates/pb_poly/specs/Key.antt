@@ -12,7 +12,7 @@ use Rattle.pb_board.specs.Piece.{kind_number, pawn_of}
 use Rattle.pb_board.specs.Position.{Position, IsSetup, beyond}
 use Rattle.pb_board.specs.Castling.{castling_row, castlings}
 use Rattle.pb_board.specs.Board.{Board, file, rank, at, Holds, is_piece}
-use Rattle.pb_moves.specs.Attack.{files_apart}
+use Rattle.pb_moves.specs.Attacks.{files_apart}
 use Rattle.pb_poly.specs.Table.{IsTable}
 
 -- the pieces in the table's order: black pawn, white pawn, black knight, ..

@@ -1,15 +1,16 @@
 //! Keys by what a move changes.
 
-ghost use Rattle.std.specs.Prelude.{◌≡◌, not, [], ◌∷◌, Some};
+ghost use Rattle.std.specs.Prelude.{◌≡◌, not, [], ◌∷◌, Some, unwrap_or};
 ghost use Rattle.std.specs.Bool.{beq};
 ghost use Rattle.pb_board.specs.declared.piece.Kind.TheVariants.{Pawn};
-ghost use Rattle.pb_board.specs.Piece.{rook_of};
+ghost use Rattle.pb_board.specs.Piece.{piece_of, rook_of};
 ghost use Rattle.pb_board.specs.Castling.{castling_row};
 ghost use Rattle.pb_board.specs.Board.{Board, Holds};
 ghost use Rattle.pb_board.specs.Position.{Position};
-ghost use Rattle.pb_moves.specs.Cases.{Case, Legal};
-ghost use Rattle.pb_moves.specs.After.{After};
-ghost use Rattle.pb_moves.specs.Successor.{after, arriving, keeps, rights_of};
+ghost use Rattle.pb_moves.specs.Cases.{Case};
+ghost use Rattle.pb_moves.specs.Legal.{PseudoLegal};
+ghost use Rattle.pb_moves.specs.Outcome.{Outcome};
+ghost use Rattle.pb_moves.specs.Successor.{after as setup_after, keeps_right, rights_after};
 ghost use Rattle.pb_poly.specs.Key.{IsKey, joined, key as key_by, en_passant_places, piece_place as piece_place_by};
 ghost use Rattle.pb_poly.specs.KeyChange.{beside_kind, changed_places, lost_places, square_places};
 
@@ -43,7 +44,7 @@ fn with_place(table: &Table, key: u64, place: Option<Piece>, square: Square) -> 
 /// The key, joined by the word of what arrives: the piece, or what the move names in its place.
 #[inline(always)]
 fn with_arriving(table: &Table, key: u64, piece: Piece, m: Move) -> u64
-    ensures { result ≡ joined table.now key (piece_place_by (arriving piece m.promo) m.to ∷ []) }
+    ensures { result ≡ joined table.now key (piece_place_by (piece_of piece.colour (unwrap_or m.promo piece.kind)) m.to ∷ []) }
 {
     match m.promo() {
         Some(kind) => {
@@ -121,7 +122,7 @@ fn with_beside(table: &Table, key: u64, before: &Setup, m: Move, piece: Piece) -
 /// Whether the move loses a castling right that is there.
 #[inline(always)]
 fn is_lost(rights: Rights, m: Move, castling: Castling) -> bool
-    ensures { result ≡ not (beq ((castling_row castling).right rights) (keeps rights m castling)) }
+    ensures { result ≡ not (beq ((castling_row castling).right rights) (keeps_right rights m castling)) }
 {
     castling.is_allowed(rights) && castling.is_touched(m.from(), m.to())
 }
@@ -129,7 +130,7 @@ fn is_lost(rights: Rights, m: Move, castling: Castling) -> bool
 /// The key, joined by the words of the castling rights that the move loses.
 #[inline(always)]
 fn with_lost(table: &Table, key: u64, rights: Rights, m: Move) -> u64
-    ensures { result ≡ joined table.now key (lost_places rights (rights_of rights m)) }
+    ensures { result ≡ joined table.now key (lost_places rights (rights_after rights m)) }
 {
     // Most moves touch none of these squares.
     if !Castling::is_home(m.from()) && !Castling::is_home(m.to()) {
@@ -148,7 +149,7 @@ fn with_lost(table: &Table, key: u64, rights: Rights, m: Move) -> u64
 #[inline(always)]
 fn with_stepped(table: &Table, key: u64, before: &Setup, m: Move, piece: Piece) -> u64
     requires { Holds before.now.board m.from piece }
-    ensures { (t : Position) → After before.now m t → result ≡ joined table.now key (en_passant_places t t.ep) }
+    ensures { (t : Position) → Outcome before.now m t → result ≡ joined table.now key (en_passant_places t t.ep) }
 {
     let (from, to) = (m.from(), m.to());
     let enemy = before.turn().opponent();
@@ -160,15 +161,14 @@ fn with_stepped(table: &Table, key: u64, before: &Setup, m: Move, piece: Piece) 
     with_flag(table, key, flag, en_passant_place(to))
 }
 
-/// The key of the setup after a legal move, made of the setup before it and its key alone.
+/// The key of the setup after a move that is legal, check apart, made of the setup before it and its key alone.
 ///
-/// It may be made before it is known whether the move is legal: where it isn't, the number means nothing. The key is joined
+/// It may be made before it is known whether the move is so: where it isn't, the number means nothing. The key is joined
 /// by the words of what the move changes, on four squares at most, without going over the board.
 pub fn key_next(table: &Table, key: u64, before: &Setup, m: Move) -> u64
     requires key { key ≡ key_by table.now before.now }
-    ensures parity { Legal before.now m → IsKey table.now (after before.now m) result }
-    ensures value { Legal before.now m → result ≡ key_by table.now (after before.now m) }
-    ensures only { (t : Position) → After before.now m t → result ≡ key_by table.now t }
+    ensures parity { PseudoLegal before.now m → IsKey table.now (setup_after before.now m) result }
+    ensures value { PseudoLegal before.now m → result ≡ key_by table.now (setup_after before.now m) }
 {
     // The readers tell that the table and the setup meet their rules.
     let (_words, _turn) = (table.words(), before.turn());
@@ -188,7 +188,8 @@ pub fn key_next(table: &Table, key: u64, before: &Setup, m: Move) -> u64
 /// The key is joined by the words of what the move changes, on four squares at most, without going over the board.
 pub fn key_after(table: &Table, key: u64, before: &Setup, m: Move, after: &Setup) -> u64
     requires key { key ≡ key_by table.now before.now }
-    requires after { After before.now m after.now }
+    requires moves { PseudoLegal before.now m }
+    requires after { after.now ≡ setup_after before.now m }
     ensures parity { IsKey table.now after.now result }
     ensures value { result ≡ key_by table.now after.now }
 {

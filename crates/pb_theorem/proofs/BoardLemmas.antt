@@ -4,11 +4,10 @@ use Rattle.std.specs.Prelude.{IfSome}
 use Rattle.pb_board.specs.declared.piece.Colour.{Colour}
 use Rattle.pb_board.specs.declared.piece.Colour.TheVariants.{White, Black}
 use Rattle.pb_board.specs.Piece.{king_of}
-use Rattle.pb_board.specs.Board.{Board, Holds}
+use Rattle.pb_board.specs.Board.{Board, Holds, rank_for}
 use Rattle.pb_board.specs.Position as lower
 use Rattle.pb_board.specs.Position.{Position, Record}
 use Rattle.pb_theorem.specs.Board as board
-use Rattle.pb_theorem.specs.Board.{piece_of, rank_for}
 
 pub king_to : (b : Board) (side : Colour) → lower.HasOneKing b side → board.HasOneKing b side
 king_to b side (k, h) =

@@ -9,13 +9,12 @@ use Rattle.std.proofs.Common.{fold}
 use Rattle.std.proofs.lemmas.Bool.Decides.{nat_tests}
 use Rattle.std.proofs.lemmas.List.Elements.{All-head, All-tail, length_all_zip}
 use Rattle.std.proofs.lemmas.List.Sums.{sum_by-append, sum_by-cons}
-use Rattle.pb_board.specs.Position.{IsSetup, Position}
+use Rattle.pb_board.specs.Position.{Position}
 use Rattle.pb_io.specs.Lines.{lines}
-use Rattle.pb_moves.specs.Cases.{Legal}
+use Rattle.pb_moves.specs.Legal.{Legal}
 use Rattle.pb_moves.specs.Moved.{Moved}
 use Rattle.pb_moves.specs.Played.{AreLegal, Ply, plies_from}
 use Rattle.pb_moves.specs.Successor.{after}
-use Rattle.pb_moves.proofs.Successors.{after_is_setup}
 use Rattle.pb_poly.specs.declared.entry.Entry.{Entry}
 use Rattle.pb_poly.specs.Key.{key}
 use Rattle.pb_poly.specs.Table as table
@@ -28,10 +27,8 @@ use Rattle.pb_accepted.specs.Counting.{credit}
 use Rattle.pb_accepted.specs.Rules.{CountingRules}
 use Rattle.pb_theorem.specs.Book as books
 use Rattle.pb_theorem.specs.Key as keys
-use Rattle.pb_theorem.specs.Moves as chess
 use Rattle.pb_theorem.proofs.CutLemmas.{lines_are, stripped_is}
 use Rattle.pb_theorem.proofs.KeyLemmas.{code_is, key_is}
-use Rattle.pb_theorem.proofs.MoveLemmas.{same_plies}
 
 -- ---- table files
 
@@ -114,11 +111,11 @@ table_from words bytes h = record {
 
 abbrev ArePlayed : List Ply → Type 0
 ArePlayed [] = Unit {0}
-ArePlayed (p ∷ ps) = (IsSetup p.0 × Legal p.0 p.1) × ArePlayed ps
+ArePlayed (p ∷ ps) = Legal p.0 p.1 × ArePlayed ps
 
-are_played : (s : Position) (ms : List Moved) → IsSetup s → AreLegal s ms → ArePlayed (plies_from s ms)
-are_played s [] ok h = tt
-are_played s (m ∷ ms) ok h = ((ok, h.0), are_played (after s m) ms (after_is_setup s m ok h.0) h.1)
+are_played : (s : Position) (ms : List Moved) → AreLegal s ms → ArePlayed (plies_from s ms)
+are_played s [] h = tt
+are_played s (m ∷ ms) h = (h.0, are_played (after s m) ms h.1)
 
 played_front : (n : ℕ) (ps : List Ply) → ArePlayed ps → ArePlayed (take n ps)
 played_front zero [] h = h
@@ -130,20 +127,20 @@ played_front (suc n) (p ∷ ps) h = (h.0, played_front n ps h.1)
 
 -- the plies that count of one game
 abbrev plies_of : List ℕ → CountingRules → Submission → List books.PlyPoints
-plies_of words rules s = map (λ p. (keys.key words p.0, keys.encode_move p.0 p.1, credit s.1.outcome p.0.turn)) (take rules.plies (chess.plies_from s.1.start.setup s.1.moves))
+plies_of words rules s = map (λ p. (keys.key words p.0, keys.encode_move p.0 p.1, credit s.1.outcome p.0.turn)) (take rules.plies (plies_from s.1.start.setup s.1.moves))
 
 module _ (words : List ℕ) (k c : ℕ) where
-  one_ply : (p : Ply) → IsSetup p.0 → Legal p.0 p.1 → is_pair (keys.key words p.0) (keys.encode_move p.0 p.1) k c ≡ lower.is_of words k c p
-  one_ply p ok legal =
-      ap (λ (n : ℕ). is_pair n (keys.encode_move p.0 p.1) k c) (key_is words p.0) ∙ ap (λ (n : ℕ). is_pair (key words p.0) n k c) (code_is p.0 p.1 ok legal)
+  one_ply : (p : Ply) → Legal p.0 p.1 → is_pair (keys.key words p.0) (keys.encode_move p.0 p.1) k c ≡ lower.is_of words k c p
+  one_ply p legal =
+      ap (λ (n : ℕ). is_pair n (keys.encode_move p.0 p.1) k c) (key_is words p.0) ∙ ap (λ (n : ℕ). is_pair (key words p.0) n k c) (code_is p.0 p.1 legal)
 
   -- what is summed of a ply that counts is what is summed of the ply
-  module _ (points : Ply → ℕ) (worth : books.PlyPoints → ℕ) (value : Ply → ℕ) (same : (p : Ply) → IsSetup p.0 → Legal p.0 p.1 → worth (keys.key words p.0, keys.encode_move p.0 p.1, points p) ≡ value p) where
+  module _ (points : Ply → ℕ) (worth : books.PlyPoints → ℕ) (value : Ply → ℕ) (same : (p : Ply) → Legal p.0 p.1 → worth (keys.key words p.0, keys.encode_move p.0 p.1, points p) ≡ value p) where
     sums_are : (ps : List Ply) → ArePlayed ps → sum_by worth (map (λ p. (keys.key words p.0, keys.encode_move p.0 p.1, points p)) ps) ≡ sum_by value ps
     sums_are [] h = refl
     sums_are (p ∷ ps) h =
         let H : Ply → books.PlyPoints = λ p. (keys.key words p.0, keys.encode_move p.0 p.1, points p) in
-        let first = same p h.0.0 h.0.1 in
+        let first = same p h.0 in
         let rest = sums_are ps h.1 in
         sum_by-cons worth (H p) (map H ps) ∙ ap (λ (n : ℕ). n + sum_by worth (map H ps)) first ∙ ap (λ (n : ℕ). value p + n) rest ∙ sym (sum_by-cons value p ps)
 
@@ -158,21 +155,19 @@ module _ (words : List ℕ) (rules : CountingRules) (k c : ℕ) where
   once_at g = cond (is_pair g.0 g.1 k c) 1 0
 
   played : (s : Submission) → IsSubmission s → ArePlayed (take rules.plies (plies_from s.1.start.setup s.1.moves))
-  played s h = played_front rules.plies (plies_from s.1.start.setup s.1.moves) (are_played s.1.start.setup s.1.moves h.game.start.setup h.legal.legal)
+  played s h = played_front rules.plies (plies_from s.1.start.setup s.1.moves) (are_played s.1.start.setup s.1.moves h.legal.legal)
 
   game_points : (s : Submission) → IsSubmission s → sum_by points_at (plies_of words rules s) ≡ lower.points T s.1 k c
   game_points s h =
       let points : Ply → ℕ = λ p. credit s.1.outcome p.0.turn in
-      ap (λ (ps : List Ply). sum_by points_at (map (λ p. (keys.key words p.0, keys.encode_move p.0 p.1, points p)) (take rules.plies ps))) (same_plies s.1.start.setup s.1.moves)
-      ∙ sums_are words k c points points_at (λ p. cond (lower.is_of words k c p) (points p) 0)
-      (λ p ok legal. ap (λ (b : Bool). cond b (points p) 0) (one_ply words k c p ok legal)) (take rules.plies (plies_from s.1.start.setup s.1.moves)) (played s h)
+      sums_are words k c points points_at (λ p. cond (lower.is_of words k c p) (points p) 0)
+      (λ p legal. ap (λ (b : Bool). cond b (points p) 0) (one_ply words k c p legal)) (take rules.plies (plies_from s.1.start.setup s.1.moves)) (played s h)
 
   game_times : (s : Submission) → IsSubmission s → sum_by once_at (plies_of words rules s) ≡ lower.occurrences T s.1 k c
   game_times s h =
       let points : Ply → ℕ = λ p. credit s.1.outcome p.0.turn in
-      ap (λ (ps : List Ply). sum_by once_at (map (λ p. (keys.key words p.0, keys.encode_move p.0 p.1, points p)) (take rules.plies ps))) (same_plies s.1.start.setup s.1.moves)
-      ∙ sums_are words k c points once_at (λ p. cond (lower.is_of words k c p) 1 0)
-      (λ p ok legal. ap (λ (b : Bool). cond b 1 0) (one_ply words k c p ok legal)) (take rules.plies (plies_from s.1.start.setup s.1.moves)) (played s h)
+      sums_are words k c points once_at (λ p. cond (lower.is_of words k c p) 1 0)
+      (λ p legal. ap (λ (b : Bool). cond b 1 0) (one_ply words k c p legal)) (take rules.plies (plies_from s.1.start.setup s.1.moves)) (played s h)
 
   all_games : (worth : books.PlyPoints → ℕ) (value : Submission → ℕ) → ((s : Submission) → IsSubmission s → sum_by worth (plies_of words rules s) ≡ value s)
       → (S : List Submission) → All IsSubmission S → sum_by worth (books.counted_plies words rules S) ≡ sum_by value S

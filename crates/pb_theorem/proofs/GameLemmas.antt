@@ -5,9 +5,9 @@ use Rattle.std.specs.List.{join_with_byte}
 use Rattle.std.proofs.lemmas.List.Elements.{All-nil, All-cons}
 use Rattle.pb_board.proofs.LineEnds.{cases_return}
 use Rattle.pb_board.specs.LineEnd.{without_return}
-use Rattle.pb_board.specs.Piece.{opponent}
 use Rattle.pb_board.specs.Position.{Position}
-use Rattle.pb_moves.specs.Attack.{Playable}
+use Rattle.pb_moves.specs.Played.{AreLegal}
+use Rattle.pb_moves.specs.Successor.{after}
 use Rattle.pb_moves.specs.Moved.{IsMove, Moved}
 use Rattle.pb_moves.specs.Spelling.{spelling}
 use Rattle.pb_games.specs.Ids.{IsId}
@@ -16,12 +16,9 @@ use Rattle.pb_games.specs.Submissions as lower
 use Rattle.pb_games.specs.Submissions.{Submission, moves_text}
 use Rattle.pb_games.proofs.Texts.{text_back}
 use Rattle.pb_theorem.specs.Game as game
-use Rattle.pb_theorem.specs.Moves as chess
 use Rattle.pb_theorem.specs.Texts as texts
-use Rattle.pb_theorem.proofs.AttackLemmas.{check_to, check_from}
 use Rattle.pb_theorem.proofs.BoardLemmas.{record_to, record_from}
 use Rattle.pb_theorem.proofs.CutLemmas.{stripped_is}
-use Rattle.pb_theorem.proofs.MoveLemmas.{are_legal_to, are_legal_from, move_from}
 use Rattle.pb_theorem.proofs.TextLemmas.{fen_to, fen_from, spelling_is}
 
 pub spellings_are : (ms : List Moved) → map spelling ms ≡ map texts.spelling ms
@@ -43,15 +40,9 @@ text_is s fen e =
     ap (joined s) e
     ∙ ap (λ (ws : List (List ℕ)). join_with_byte 9 (s.0 ∷ outcome_text s.1.outcome ∷ texts.fen_text s.1.start ∷ join_with_byte 32 ws ∷ [])) (spellings_are s.1.moves)
 
-pub moves_are : (s : Position) (ms : List Moved) → chess.AreLegal s ms → All IsMove ms
+pub moves_are : (s : Position) (ms : List Moved) → AreLegal s ms → All IsMove ms
 moves_are s [] h = All-nil IsMove
-moves_are s (m ∷ ms) h = All-cons IsMove m ms (move_from m h.0.is_move) (moves_are (chess.after s m) ms h.1)
-
-pub check_free_to : (s : Position) → Playable s → chess.NoOppositeCheck s
-check_free_to s h check = h (check_from s.board (opponent s.turn) check)
-
-pub check_free_from : (s : Position) → chess.NoOppositeCheck s → Playable s
-check_free_from s h check = h (check_to s.board (opponent s.turn) check)
+moves_are s (m ∷ ms) h = All-cons IsMove m ms h.0.moves.is_move (moves_are (after s m) ms h.1)
 
 pub lawful_to : (line : List ℕ) (s : Submission) → lower.IsLawful line s → game.IsLawful line s
 lawful_to line s h =
@@ -59,9 +50,9 @@ lawful_to line s h =
       text = stripped_is line ∙ text_back line s submits ∙ submits.spells.2 ∙ text_is s submits.spells.0 (fen_to s.1.start submits.spells.0 submits.spells.1);
       id = id_to s.0 submits.id;
       start = record_to s.1.start submits.game.start;
-      no_opposite_check = check_free_to s.1.start.setup h.legal.playable;
+      no_opposite_check = h.legal.playable;
       few = submits.game.few;
-      legal = are_legal_to s.1.start.setup s.1.moves submits.game.start.setup h.legal.legal;
+      legal = h.legal.legal;
     }
 
 pub lawful_from : (line : List ℕ) (s : Submission) → game.IsLawful line s → lower.IsLawful line s
@@ -78,5 +69,5 @@ lawful_from line s h =
         spells = (fen, fen_from s.1.start fen refl, refl);
         is = subst E is (cases_return line);
       };
-      legal = record { playable = check_free_from s.1.start.setup h.no_opposite_check; legal = are_legal_from s.1.start.setup s.1.moves start.setup h.legal };
+      legal = record { playable = h.no_opposite_check; legal = h.legal };
     }

@@ -8,17 +8,16 @@ use Rattle.pb_board.specs.declared.piece.Kind.{Kind}
 use Rattle.pb_board.specs.declared.piece.Kind.TheVariants.{Pawn, Knight, Bishop, Rook, Queen, King}
 use Rattle.pb_board.specs.declared.piece.Piece.{Piece}
 use Rattle.pb_board.specs.declared.castling.Castling.{Castling}
-use Rattle.pb_board.specs.Piece.{colour_number, kind_number, king_of}
+use Rattle.pb_board.specs.Piece.{colour_number, kind_number, king_of, piece_of}
 use Rattle.pb_board.specs.Board.{Board, Place, at, file, is_piece, rank}
 use Rattle.pb_board.specs.Castling.{castling_of, castling_row}
-use Rattle.pb_board.specs.Position.{IsSetup, Position, beyond}
+use Rattle.pb_board.specs.Position.{Position, beyond}
 use Rattle.pb_board.proofs.PieceTests.{is_piece-is}
-use Rattle.pb_moves.specs.Attack.{files_apart}
-use Rattle.pb_moves.specs.Cases.{CaseOf, Legal, piece_move, pawn_step, pawn_double, pawn_capture, en_passant, castles}
+use Rattle.pb_moves.specs.Attacks.{Attacks, files_apart, ranks_apart}
+use Rattle.pb_moves.specs.Legal.{Legal, MayMove, captures, castles, en_passant, pushes, quiet}
 use Rattle.pb_moves.specs.Moved.{IsPromotion, Moved, promotion_number}
 use Rattle.pb_moves.proofs.Castlings.{castling_found, castling_one, class_of_castling}
-use Rattle.pb_moves.proofs.LegalMoves.{legal_is_move}
-use Rattle.pb_moves.proofs.Unique.{king_near}
+use Rattle.pb_poly.proofs.Codes.{king_pattern}
 use Rattle.pb_poly.specs.Code as code
 use Rattle.pb_poly.specs.Key as lower
 use Rattle.pb_poly.specs.Key.{joined, key}
@@ -70,22 +69,25 @@ promotion_is (Some Rook) lawful = refl
 promotion_is (Some Queen) lawful = refl
 promotion_is (Some King) lawful = absurd ((lawful King refl).1 refl)
 
--- a castling by which a king of the side to move goes is one of its side
-own_castling : (s : Position) (m : Moved) (p : Piece) (new : Board) (c : Castling) → CaseOf s m p new → p.kind ≡ King → castling_of m.from m.to ≡ Some c → (castling_row c).colour ≡ s.turn
-own_castling s m p new c (piece_move x) king is =
+-- a king attacks no square two files off
+far_attack : (side : Colour) (s : Position) (m : Moved) (k : Kind) (c : Castling) → Attacks side k s.board m.from m.to → k ≡ King → castling_of m.from m.to ≡ Some c → ⊥
+far_attack side s m k c attacks king is =
     let squares = castling_found m.from m.to c is in
     let two : files_apart m.from m.to ≡ 2 = class_of_castling c m.from m.to squares.0 squares.1 in
-    let near : files_apart m.from m.to ≤ 1 = king_near p.colour p.kind s.board m.from m.to x.reaches king in
-    absurd (omega (arith, two, near))
-own_castling s m p new c (pawn_step x) king is = absurd (let pawn = x.pawn in cc)
-own_castling s m p new c (pawn_double x) king is = absurd (let pawn = x.pawn in cc)
-own_castling s m p new c (pawn_capture x) king is = absurd (let pawn = x.pawn in cc)
-own_castling s m p new c (en_passant x) king is = absurd (let pawn = x.pawn in cc)
-own_castling s m p new c (castles d x) king is =
+    let near : files_apart m.from m.to ≤ 1 = king_pattern k (files_apart m.from m.to) (ranks_apart m.from m.to) attacks.0 king in
+    omega (arith, two, near)
+
+-- a castling by which a king of the side to move goes is one of its side
+own_castling : (s : Position) (m : Moved) (k : Kind) (c : Castling) → MayMove s m k → k ≡ King → castling_of m.from m.to ≡ Some c → (castling_row c).colour ≡ s.turn
+own_castling s m k c (quiet no_pawn attacks empty) king is = absurd (far_attack s.turn s m k c attacks king is)
+own_castling s m k c (captures attacks taken) king is = absurd (far_attack s.turn s m k c attacks king is)
+own_castling s m k c (pushes pawn x) king is = absurd (cc)
+own_castling s m k c (en_passant pawn attacks square) king is = absurd (cc)
+own_castling s m k c (castles d own x) king is =
     let squares = castling_found m.from m.to c is in
     let same : d ≡ c = castling_one d c (sym x.to_table ∙ squares.1) in
     let P : Castling → Type 0 = λ z. (castling_row z).colour ≡ s.turn in
-    subst P same (sym x.allowed.side)
+    subst P same (sym x.side)
 
 coded_by : (side : Colour) (to : ℕ) (found : Option Castling) → ((c : Castling) → found ≡ Some c → (castling_row c).colour ≡ side)
     → option_map_or (λ c. (castling_row c).rook_from) found to ≡ code.rook_or side to found
@@ -106,12 +108,13 @@ king_kind p side place stands king =
     let same : p ≡ king_of side = cc in
     ap K same
 
-pub code_is : (s : Position) (m : Moved) → IsSetup s → Legal s m → keys.encode_move s m ≡ code.code s m
-code_is s m ok legal =
-    let case = legal.moves in
+pub code_is : (s : Position) (m : Moved) → Legal s m → keys.encode_move s m ≡ code.code s m
+code_is s m legal =
+    let moves = legal.moves in
+    let piece = piece_of s.turn moves.kind in
     let to : keys.encoded_to s m ≡ code.coded_to s m =
     coded_if s m (is_piece (king_of s.turn) (at s.board m.from))
-    (λ king c is. own_castling s m case.piece legal.new c case.by_case (king_kind case.piece s.turn (at s.board m.from) case.stands king) is) in
-    let promo : option_map_or kind_number m.promo 0 ≡ promotion_number m.promo = promotion_is m.promo (legal_is_move s m ok legal).promotes in
+    (λ king c is. own_castling s m moves.kind c moves.by_case (king_kind piece s.turn (at s.board m.from) moves.stands king) is) in
+    let promo : option_map_or kind_number m.promo 0 ≡ promotion_number m.promo = promotion_is m.promo moves.is_move.promotes in
     ap (λ (q : ℕ). file q + 8 * rank q + 64 * file m.from + 512 * rank m.from + 4096 * option_map_or kind_number m.promo 0) to
     ∙ ap (λ (n : ℕ). file (code.coded_to s m) + 8 * rank (code.coded_to s m) + 64 * file m.from + 512 * rank m.from + 4096 * n) promo

@@ -1,4 +1,3 @@
-pub mod AttackLemmas
 pub mod BoardLemmas
 pub mod BookLemmas
 pub mod ByteLemmas
@@ -8,7 +7,6 @@ pub mod GameLemmas
 pub mod HeadlineLemmas
 pub mod KeyLemmas
 pub mod LedgerLemmas
-pub mod MoveLemmas
 pub mod RefusalLemmas
 pub mod ReplyLemmas
 pub mod TextLemmas

@@ -6,7 +6,7 @@ use Rattle.pb_board.specs.declared.piece.Colour.{Colour}
 use Rattle.pb_board.specs.declared.piece.Colour.TheVariants.{White, Black}
 use Rattle.pb_board.specs.declared.refusal.FenError.{FenError}
 use Rattle.pb_board.specs.declared.refusal.FenError.TheVariants as fen
-use Rattle.pb_board.specs.Board.{Board}
+use Rattle.pb_board.specs.Board.{Board, rank_for}
 use Rattle.pb_board.specs.Position.{IsEnPassantSquare, OnEnPassantRank, Record}
 use Rattle.pb_board.specs.Refusal as lower
 use Rattle.pb_moves.specs.Moved.{Moved}
@@ -22,8 +22,7 @@ use Rattle.pb_theorem.specs.Lines as cut
 use Rattle.pb_theorem.specs.Refusals as refusals
 use Rattle.pb_theorem.proofs.BoardLemmas.{fifth_to, fifth_from, king_to, king_from, stepped_to, stepped_from, record_to, record_from}
 use Rattle.pb_theorem.proofs.CutLemmas.{fields_are, words_are}
-use Rattle.pb_theorem.proofs.GameLemmas.{id_to, id_from, check_free_to, check_free_from, spellings_are}
-use Rattle.pb_theorem.proofs.MoveLemmas.{are_legal_to, are_legal_from, move_to, move_from}
+use Rattle.pb_theorem.proofs.GameLemmas.{id_to, id_from, spellings_are}
 use Rattle.pb_theorem.proofs.TextLemmas.{castling_is, fen_to, fen_from, placement_to, placement_from, spelling_is, square_is, turn_is}
 
 -- ---- the first of a list
@@ -44,11 +43,11 @@ module _ (parts : List (List ℕ)) where
   board_from : (b : Board) → refusals.SpellsBoard parts b → lower.SpellsBoard parts b
   board_from b h = record { places = h.0; placement = placement_from b (lower.field parts 0) h.1 }
 
-  rank_to : (turn : Colour) (ep : Option ℕ) → IfSome ep (λ q. OnEnPassantRank turn q) → IfSome ep (λ q. board.rank_for turn q ≡ 5)
+  rank_to : (turn : Colour) (ep : Option ℕ) → IfSome ep (λ q. OnEnPassantRank turn q) → IfSome ep (λ q. rank_for turn q ≡ 5)
   rank_to turn None h = h
   rank_to turn (Some q) h = fifth_to turn q h
 
-  rank_from : (turn : Colour) (ep : Option ℕ) → IfSome ep (λ q. board.rank_for turn q ≡ 5) → IfSome ep (λ q. OnEnPassantRank turn q)
+  rank_from : (turn : Colour) (ep : Option ℕ) → IfSome ep (λ q. rank_for turn q ≡ 5) → IfSome ep (λ q. OnEnPassantRank turn q)
   rank_from turn None h = h
   rank_from turn (Some q) h = fifth_from turn q h
 
@@ -87,10 +86,10 @@ module _ (parts : List (List ℕ)) where
 -- ---- a line
 
 spelled_to : (word : List ℕ) → played.IsSpelled word → refusals.IsSpelled word
-spelled_to word (m, h) = (m, move_to m h.is_move, h.is ∙ spelling_is m)
+spelled_to word (m, h) = (m, h.is_move, h.is ∙ spelling_is m)
 
 spelled_from : (word : List ℕ) → refusals.IsSpelled word → played.IsSpelled word
-spelled_from word (m, is, e) = (m, record { is_move = move_from m is; is = e ∙ sym (spelling_is m) })
+spelled_from word (m, is, e) = (m, record { is_move = is; is = e ∙ sym (spelling_is m) })
 
 all_to : (words : List (List ℕ)) → All played.IsSpelled words → All refusals.IsSpelled words
 all_to words h k d lt = spelled_to _ (h k d lt)
@@ -109,10 +108,10 @@ module _ (line : List ℕ) where
   start_from f h = record { bounds = record_from f h.0; text = fen_from f (field_of line 2) h.1 }
 
   moves_to : (ms : List Moved) → refusing.SpellsMoves line ms → refusals.SpellsMoves parts_of ms
-  moves_to ms h = ((λ k d lt. move_to _ (h.bounds k d lt)), sym (spellings_are ms) ∙ h.words ∙ sym (words_are (field_of line 3)))
+  moves_to ms h = (h.bounds, sym (spellings_are ms) ∙ h.words ∙ sym (words_are (field_of line 3)))
 
   moves_from : (ms : List Moved) → refusals.SpellsMoves parts_of ms → refusing.SpellsMoves line ms
-  moves_from ms h = record { bounds = λ k d lt. move_from _ (h.0 k d lt); words = spellings_are ms ∙ h.1 ∙ words_are (field_of line 3) }
+  moves_from ms h = record { bounds = h.0; words = spellings_are ms ∙ h.1 ∙ words_are (field_of line 3) }
 
   breaks_to : (n : ℕ) → lower.BreaksAt (All played.IsSpelled) (words_of (field_of line 3)) n → refusals.BreaksAt (All refusals.IsSpelled) (cut.words_of (cut.field parts_of 3)) n
   breaks_to n h =
@@ -135,8 +134,8 @@ module _ (line : List ℕ) where
     first_from lower.of_record (λ d. lower.IsDue d (lower.fields (field_of line 2))) (refusals.IsDueFen (lower.fields (field_of line 2))) (fen_due (lower.fields (field_of line 2))) e,
   )
   due_at refusal.Start = (
-    (λ h. (h.0, start_to h.0 h.1, λ x. h.2 (check_free_from h.0.setup x))),
-    λ h. (h.0, start_from h.0 h.1, λ x. h.2 (check_free_to h.0.setup x)),
+    (λ h. (h.0, start_to h.0 h.1, λ x. h.2 x)),
+    λ h. (h.0, start_from h.0 h.1, λ x. h.2 x),
   )
   due_at (refusal.Spelling n) = (breaks_to n, breaks_from n)
   due_at refusal.Plies = (
@@ -144,13 +143,8 @@ module _ (line : List ℕ) where
     λ h. subst (λ (ws : List (List ℕ)). most_plies < length ws) (words_are (field_of line 3)) h,
   )
   due_at (refusal.Illegal n) = (
-    (λ h.
-        let ok = h.2.bounds.setup in
-        (h.0, h.1, start_to h.0 h.2, moves_to h.1 h.3, (are_legal_to h.0.setup _ ok h.4.0, λ x. h.4.1 (are_legal_from h.0.setup _ ok x)))),
-    λ h.
-        let start = start_from h.0 h.2 in
-        let ok = start.bounds.setup in
-        (h.0, h.1, start, moves_from h.1 h.3, (are_legal_from h.0.setup _ ok h.4.0, λ x. h.4.1 (are_legal_to h.0.setup _ ok x))),
+    (λ h. (h.0, h.1, start_to h.0 h.2, moves_to h.1 h.3, h.4)),
+    λ h. (h.0, h.1, start_from h.0 h.2, moves_from h.1 h.3, h.4),
   )
   due_at (refusal.Conflict n) = (λ h. h, λ h. h)
   due_at refusal.Full = (λ h. h, λ h. h)

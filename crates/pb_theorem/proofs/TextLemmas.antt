@@ -10,7 +10,7 @@ use Rattle.pb_board.specs.declared.piece.Kind.{Kind}
 use Rattle.pb_board.specs.declared.piece.Kind.TheVariants.{Pawn, Knight, Bishop, Rook, Queen, King}
 use Rattle.pb_board.specs.declared.piece.Piece.{Piece}
 use Rattle.pb_board.specs.declared.setup.Rights.{Rights}
-use Rattle.pb_board.specs.Piece.{colour_number, kind_number}
+use Rattle.pb_board.specs.Piece.{colour_number, kind_number, piece_of}
 use Rattle.pb_board.specs.Board.{Place}
 use Rattle.pb_board.specs.Position.{Position, Record}
 use Rattle.pb_board.specs.Text as lower
@@ -18,7 +18,6 @@ use Rattle.pb_board.specs.Fen.{AreFields, FenText}
 use Rattle.pb_moves.specs.Moved.{Moved}
 use Rattle.pb_moves.specs.Spelling as moves
 use Rattle.pb_theorem.specs.Texts as printed
-use Rattle.pb_theorem.specs.Board.{piece_of}
 use Rattle.pb_board.proofs.Unique.{placement_one_text}
 
 -- ---- letters

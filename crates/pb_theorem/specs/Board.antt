@@ -1,22 +1,12 @@
 -- Which positions are setups, over the board of pb_board: 64 squares from a1 to h8, each empty or with a piece.
-use Rattle.std.specs.Prelude.{◌≡◌, ◌↔◌, ℕ, ◌-◌, ◌<◌, length, IfSome}
+use Rattle.std.specs.Prelude.{◌≡◌, ◌↔◌, ℕ, ◌<◌, length, IfSome}
 use Rattle.pb_board.specs.declared.piece.Colour.{Colour}
 use Rattle.pb_board.specs.declared.piece.Colour.TheVariants.{White, Black}
-use Rattle.pb_board.specs.declared.piece.Kind.{Kind}
 use Rattle.pb_board.specs.declared.piece.Kind.TheVariants.{Pawn, King}
-use Rattle.pb_board.specs.declared.piece.Piece.{Piece}
-use Rattle.pb_board.specs.Piece.{opponent}
-use Rattle.pb_board.specs.Board.{Board, rank, Holds, IsEmpty}
+use Rattle.pb_board.specs.Piece.{opponent, piece_of}
+use Rattle.pb_board.specs.Board.{Board, rank, rank_for, Holds, IsEmpty}
 use Rattle.pb_board.specs.Position.{Position, Record, beyond}
 use Rattle.pb_theorem.specs.Limits.{clock_bound}
-
-abbrev pub piece_of : Colour → Kind → Piece
-piece_of side kind = record { colour = side; kind = kind }
-
--- the rank as this side counts it, from 0 for its own first
-abbrev pub rank_for : Colour → ℕ → ℕ
-rank_for White square = rank square
-rank_for Black square = 7 - rank square
 
 abbrev pub HasOneKing : Board → Colour → Type 0
 HasOneKing board side = (king : ℕ) × ((q : ℕ) → Holds board q (piece_of side King) ↔ (q ≡ king))

@@ -3,6 +3,7 @@ use Rattle.std.specs.Prelude.{◌≡◌, ℕ, ◌*◌, ◌/◌, ◌≤◌, ◌�
 use Rattle.std.specs.List.{AllZip}
 use Rattle.std.specs.Str.Lines.{strip_carriage_return}
 use Rattle.std.specs.Str.Parse.{IsNumeral, digits_value}
+use Rattle.pb_moves.specs.Played.{plies_from}
 use Rattle.pb_poly.specs.declared.entry.Entry.{Entry}
 use Rattle.pb_games.specs.Submissions.{Submission}
 use Rattle.pb_points.specs.Tally.{is_pair}
@@ -12,7 +13,6 @@ use Rattle.pb_accepted.specs.Rules.{CountingRules}
 use Rattle.pb_theorem.specs.Key.{key, encode_move}
 use Rattle.pb_theorem.specs.Limits.{most_weight, table_length, table_limit}
 use Rattle.pb_theorem.specs.Lines.{lines}
-use Rattle.pb_theorem.specs.Moves.{plies_from}
 
 -- the line, without one final CR, is 16 hexadecimal digits of either case that write the number
 abbrev pub SpellsRandom : List ℕ → ℕ → Type 0

@@ -2,12 +2,13 @@
 use Rattle.std.specs.Prelude.{◌≡◌, ℕ, ◌≤◌, List, [], ◌∷◌, length, map, All}
 use Rattle.std.specs.List.{join_with_byte}
 use Rattle.std.specs.Str.Lines.{strip_carriage_return}
+use Rattle.pb_moves.specs.Attacks.{NoOppositeCheck}
+use Rattle.pb_moves.specs.Played.{AreLegal}
 use Rattle.pb_games.specs.Results.{outcome_text}
 use Rattle.pb_games.specs.Submissions.{Submission}
 use Rattle.pb_theorem.specs.Board.{IsRecord}
 use Rattle.pb_theorem.specs.Limits.{id_limit, most_plies}
 use Rattle.pb_theorem.specs.Lines.{space, tab}
-use Rattle.pb_theorem.specs.Moves.{AreLegal, NoOppositeCheck}
 use Rattle.pb_theorem.specs.Texts.{fen_text, spelling}
 
 -- 1 to 64 printable bytes, and no space

@@ -2,7 +2,6 @@ pub mod Headline
 pub mod Ledger
 pub mod Game
 pub mod Board
-pub mod Moves
 pub mod Texts
 pub mod Lines
 pub mod Refusals

@@ -7,18 +7,19 @@ use Rattle.pb_board.specs.declared.piece.Colour.TheVariants.{White, Black}
 use Rattle.pb_board.specs.declared.setup.Rights.{Rights}
 use Rattle.pb_board.specs.declared.refusal.FenError.{FenError}
 use Rattle.pb_board.specs.declared.refusal.FenError.TheVariants as fen
-use Rattle.pb_board.specs.Board.{Board}
+use Rattle.pb_board.specs.Board.{Board, rank_for}
 use Rattle.pb_board.specs.Position.{Record}
-use Rattle.pb_moves.specs.Moved.{Moved}
+use Rattle.pb_moves.specs.Attacks.{NoOppositeCheck}
+use Rattle.pb_moves.specs.Moved.{IsMove, Moved}
+use Rattle.pb_moves.specs.Played.{AreLegal}
 use Rattle.pb_games.specs.declared.outcome.Outcome.{Outcome}
 use Rattle.pb_games.specs.declared.refusal.Refusal.{Refusal}
 use Rattle.pb_games.specs.declared.refusal.Refusal.TheVariants as refusal
 use Rattle.pb_games.specs.Results.{outcome_text}
-use Rattle.pb_theorem.specs.Board.{HasNoEdgePawn, HasOneKing, IsRecord, WasSteppedOver, rank_for}
+use Rattle.pb_theorem.specs.Board.{HasNoEdgePawn, HasOneKing, IsRecord, WasSteppedOver}
 use Rattle.pb_theorem.specs.Game.{IsId}
 use Rattle.pb_theorem.specs.Limits.{clock_bound, line_limit, most_plies}
 use Rattle.pb_theorem.specs.Lines.{field, fields, space, tab, words_of}
-use Rattle.pb_theorem.specs.Moves.{AreLegal, IsMove, NoOppositeCheck}
 use Rattle.pb_theorem.specs.Texts.{castling_text, fen_text, placement_text, spelling, square_text, turn_text}
 
 -- this one of the list is due, and none before it

@@ -6,12 +6,11 @@ use Rattle.pb_board.specs.declared.piece.Colour.{Colour}
 use Rattle.pb_board.specs.declared.piece.Colour.TheVariants.{White, Black}
 use Rattle.pb_board.specs.declared.piece.Piece.{Piece}
 use Rattle.pb_board.specs.declared.setup.Rights.{Rights}
-use Rattle.pb_board.specs.Piece.{colour_number, kind_number}
+use Rattle.pb_board.specs.Piece.{colour_number, kind_number, piece_of}
 use Rattle.pb_board.specs.Board.{Place, file, rank}
 use Rattle.pb_board.specs.Castling.{castlings, castling_row}
 use Rattle.pb_board.specs.Position.{Position, Record}
 use Rattle.pb_moves.specs.Moved.{Moved}
-use Rattle.pb_theorem.specs.Board.{piece_of}
 use Rattle.pb_theorem.specs.Lines.{space}
 
 -- White's pieces have capital letters

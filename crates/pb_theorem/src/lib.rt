@@ -5,14 +5,13 @@
 ghost use Rattle.std.specs.Prelude.{◌≡◌, ◌↔◌, ◌⊎◌, ℕ, List, All, Ok, Err};
 ghost use Rattle.std.specs.Prelude.{IfErr, IfNone, IfOk, IfSome};
 ghost use Rattle.pb_board.specs.Fen.{FenText};
-ghost use Rattle.pb_board.specs.Position.{IsRecord, IsSetup, Position, Record};
+ghost use Rattle.pb_board.specs.Position.{IsRecord, Position, Record};
 ghost use Rattle.pb_io.specs.Lines.{lines};
 ghost use Rattle.pb_io.specs.Source.{SourceState};
 ghost use Rattle.pb_io.specs.declared.lines.TheConstants.{LINE_LIMIT};
 ghost use Rattle.pb_io.specs.declared.source.TheConstants.{CHUNK_LEN as BYTES_AT_ONCE};
-ghost use Rattle.pb_moves.specs.Cases.{Legal};
+ghost use Rattle.pb_moves.specs.Legal.{Legal};
 ghost use Rattle.pb_moves.specs.Moved.{Moved};
-ghost use Rattle.pb_moves.specs.Successor.{after};
 ghost use Rattle.pb_poly.specs.Code.{code};
 ghost use Rattle.pb_poly.specs.Key.{key};
 ghost use Rattle.pb_poly.specs.Reading as books_read;
@@ -43,7 +42,6 @@ ghost use Rattle.pb_theorem.specs.Key as keys;
 ghost use Rattle.pb_theorem.specs.Ledger as ledger;
 ghost use Rattle.pb_theorem.specs.Limits as limit;
 ghost use Rattle.pb_theorem.specs.Lines as texts_of;
-ghost use Rattle.pb_theorem.specs.Moves as chess;
 ghost use Rattle.pb_theorem.specs.Refusals as refusals;
 ghost use Rattle.pb_theorem.specs.Replies as reply;
 ghost use Rattle.pb_theorem.specs.Same.{SameHeadline};
@@ -144,12 +142,6 @@ pub fn limits()
     ensures chunk { BYTES_AT_ONCE ≡ limit.chunk_len }
 {}
 
-/// Equates the setup after a move with that of pb_moves, whatever the move, and so the legal moves.
-pub fn same_moves()
-    ensures after { (s : Position) (m : Moved) → chess.after s m ≡ after s m }
-    ensures legal { (s : Position) (m : Moved) → IsSetup s → chess.Legal s m ↔ Legal s m }
-{}
-
 /// Equates records, their FEN texts and the lines of a text with those of pb_board and pb_io.
 pub fn same_texts()
     ensures records { (f : Record) → board.IsRecord f ↔ IsRecord f }
@@ -178,8 +170,7 @@ pub fn same_runs()
 /// Equates keys with those of pb_poly, and the codes of legal moves with its codes.
 pub fn same_keys()
     ensures keys { (randoms : List ℕ) (s : Position) → keys.key randoms s ≡ key randoms s }
-    ensures codes { (s : Position) (m : Moved) → IsSetup s → Legal s m
-        → keys.encode_move s m ≡ code s m }
+    ensures codes { (s : Position) (m : Moved) → Legal s m → keys.encode_move s m ≡ code s m }
 {}
 
 /// Equates table files with those of pb_poly, and the book of lawful submissions with that of

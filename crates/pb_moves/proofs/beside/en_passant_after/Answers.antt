@@ -1,7 +1,7 @@
 use Rattle.std.proofs.Common.{◌≡◌, ◌≢◌, rules, arith}
 use Rattle.pb_board.specs.declared.piece.Kind.TheVariants.{Pawn}
 use Rattle.pb_board.specs.Board.{file}
-use Rattle.pb_moves.specs.Attack.{ranks_apart}
+use Rattle.pb_moves.specs.Attacks.{ranks_apart}
 use Rattle.pb_moves.proofs.Passing.{test_passes, test_fails}
 use Rattle.pb_moves.proofs.beside.en_passant_after.Goals.{else-eq-via-then-eq+then-file+else-abs_diff-eq2, else-eq-via-then-eq+else-file, else-eq-via-else-eq}
 use Rattle.pb_moves.proofs.beside.en_passant_after.Goals as goal

@@ -1,6 +1,6 @@
 use Rattle.pb_board.specs.declared.setup.Rights.{Rights}
 use Rattle.pb_board.specs.Castling.{castling_row}
-use Rattle.pb_moves.specs.After.{KeepsFlag}
+use Rattle.pb_moves.specs.Outcome.{KeepsFlag}
 use Rattle.pb_moves.proofs.Successors.{each_castling}
 use Rattle.pb_moves.proofs.beside.kept_rights.Goals as goal
 

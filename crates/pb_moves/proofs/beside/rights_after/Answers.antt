@@ -2,7 +2,7 @@ use Rattle.std.proofs.Common.{ℕ, subst}
 use Rattle.pb_board.specs.declared.setup.Rights.{Rights}
 use Rattle.pb_board.specs.declared.castling.Castling.{Castling}
 use Rattle.pb_board.specs.Castling.{castling_row, IsHome}
-use Rattle.pb_moves.specs.After.{KeepsFlag}
+use Rattle.pb_moves.specs.Outcome.{KeepsFlag}
 use Rattle.pb_moves.proofs.Successors.{kept_elsewhere}
 use Rattle.pb_moves.proofs.beside.rights_after.Goals as goal
 

@@ -3,11 +3,14 @@ use Rattle.pb_board.specs.Board.{Board, Holds}
 use Rattle.pb_board.specs.declared.piece.Colour.{Colour}
 use Rattle.pb_board.specs.declared.piece.Kind.TheVariants.{Rook}
 use Rattle.pb_board.specs.Castling.{castling_row}
+use Rattle.pb_board.specs.Piece.{opponent}
+use Rattle.pb_moves.proofs.SameAttacks.{attacked_from, attacked_to}
 use Rattle.pb_moves.proofs.castling.may_castle.Goals as goal
 
 pub returns-then-way_is_clear : goal.returns-then-way_is_clear
 returns-then-way_is_clear c =
     let row = castling_row c.args.castling in
+    let enemy = opponent row.colour in
     let board = c.board.ensures.value in
     let HasRook : Colour → ℕ → Board → Type 0 = λ colour q b. Holds b q (record { colour = colour; kind = Rook }) in
     let square = c.squares.ensures.rook_from in (
@@ -19,8 +22,8 @@ returns-then-way_is_clear c =
             (subst (λ (x : ℕ). HasRook row.colour x c.board.result.now) square
             (subst (λ (x : Colour). HasRook x c.squares.result.rook_from c.board.result.now) c.colour-colour.ensures (c.holds.ensures.0 c.if-not-holds.false)));
         way = c.way_is_clear.ensures.0 c.if-way_is_clear.true;
-        unchecked = (c.way_is_safe.ensures.0 safe).0;
-        crosses = (c.way_is_safe.ensures.0 safe).1;
+        unchecked = λ x. (c.way_is_safe.ensures.0 safe).0 (attacked_to c.args.setup.now.board enemy row.king_from x);
+        crosses = λ x. (c.way_is_safe.ensures.0 safe).1 (attacked_to c.args.setup.now.board enemy row.rook_to x);
       },
-      λ m. c.way_is_safe.ensures.1 (m.unchecked, m.crosses),
+      λ m. c.way_is_safe.ensures.1 ((λ x. m.unchecked (attacked_from c.args.setup.now.board enemy row.king_from x)), λ x. m.crosses (attacked_from c.args.setup.now.board enemy row.rook_to x)),
     )

@@ -1,5 +1,5 @@
-use Rattle.pb_moves.proofs.Successors as successors
+use Rattle.pb_moves.proofs.SameMoves as same
 use Rattle.pb_moves.proofs.laws.after_is_setup.Goals as goal
 
 pub returns : goal.returns
-returns c = successors.after_is_setup
+returns c = λ s m ok legal. same.after_is_setup s m ok legal.moves

@@ -4,7 +4,7 @@ use Rattle.pb_board.specs.declared.piece.Colour.{Colour}
 use Rattle.pb_board.specs.declared.piece.Kind.TheVariants.{King}
 use Rattle.pb_board.specs.Piece.{opponent}
 use Rattle.pb_board.specs.Position.{IsOnlyKing}
-use Rattle.pb_moves.specs.Attack.{IsAttacked}
+use Rattle.pb_moves.specs.Reach.{IsReached}
 use Rattle.pb_moves.specs.Sight.{Sees}
 use Rattle.pb_moves.proofs.Changing.{own_differs}
 use Rattle.pb_moves.proofs.legal.is_free.Goals as goal
@@ -24,7 +24,7 @@ returns c = λ unseen.
       covered = λ b gone attack.
           (let other = own_differs s.turn enemy c.args.piece.colour refl c.requires.own.own in
           let sees = c.lifted_sight-seen.ensures s.board b enemy c.args.piece c.requires.seen gone c.requires.own.stands other in
-          let A : Colour → Type 0 = λ side. IsAttacked b side c.king.result in
+          let A : Colour → Type 0 = λ side. IsReached b side c.king.result in
           let S : Colour → Type 0 = λ side. Sees b side c.lifted_sight-seen.result in
           let found = (c.is_attacked.ensures b (subst S (sym by) sees)).1 (subst A (sym by) attack) in
           false≢true (cc (unseen, found)));

@@ -4,7 +4,7 @@ use Rattle.pb_board.specs.declared.piece.Kind.TheVariants.{Pawn, Knight, Bishop,
 use Rattle.pb_board.specs.declared.piece.Piece.{Piece}
 use Rattle.pb_board.specs.Board.{Holds}
 use Rattle.pb_moves.specs.Candidate.{HoldsOwn}
-use Rattle.pb_moves.specs.Sight.{piece_of}
+use Rattle.pb_board.specs.Piece.{piece_of}
 use Rattle.pb_moves.proofs.Seen.{own_in}
 use Rattle.pb_moves.proofs.Sets.{in_or}
 use Rattle.pb_moves.proofs.Unique.{piece_is}

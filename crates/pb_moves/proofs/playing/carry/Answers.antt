@@ -1,8 +1,8 @@
-use Rattle.std.proofs.Common.{rules, subst, sym}
+use Rattle.std.proofs.Common.{subst, sym}
 use Rattle.pb_board.specs.Position.{Position, carried_board}
-use Rattle.pb_moves.specs.After.{After}
+use Rattle.pb_moves.specs.Outcome.{Outcome}
 use Rattle.pb_moves.proofs.Changing.{carry_case}
-use Rattle.pb_moves.proofs.Successors.{after_one}
+use Rattle.pb_moves.proofs.SameMoves.{outcome_moves}
 use Rattle.pb_moves.proofs.playing.carry.Goals as goal
 
 pub carry-requires : goal.carry-requires
@@ -22,6 +22,6 @@ returns-clause-played c = λ _.
     let new = carried_board s.board c.from-from.result c.to-to.result c.args.arriving in
     let case = carry_case s m c.args.piece c.args.arriving c.from-from.result c.to-to.result c.from-from.ensures.value c.to-to.ensures.value
     c.beside_after-beside.ensures.rules c.from-from.ensures.rules c.requires.leads in
-    let A : Position → Type 0 = λ t. After s m t in
-    after_one s m c.carry.new.self c.beside_after-beside.ensures.rules (c.is_safe.ensures.0 (search rules))
-    (subst A (sym c.carry.ensures) (c.beside_after-beside.ensures.completes new case).after)
+    let A : Position → Type 0 = λ t. Outcome s m t in
+    (outcome_moves s m c.carry.new.self c.beside_after-beside.ensures.rules
+    (subst A (sym c.carry.ensures) (c.beside_after-beside.ensures.completes new case).after)).1

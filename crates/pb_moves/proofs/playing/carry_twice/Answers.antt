@@ -1,8 +1,8 @@
 use Rattle.std.proofs.Common.{rules, subst, sym}
 use Rattle.pb_board.specs.Position.{Position}
-use Rattle.pb_moves.specs.After.{After}
+use Rattle.pb_moves.specs.Outcome.{Outcome}
 use Rattle.pb_moves.proofs.Carrying.{completed}
-use Rattle.pb_moves.proofs.Successors.{after_one}
+use Rattle.pb_moves.proofs.SameMoves.{outcome_moves}
 use Rattle.pb_moves.proofs.playing.carry_twice.Goals as goal
 
 pub carry_twice-requires : goal.carry_twice-requires
@@ -21,8 +21,8 @@ returns-clause-played c = λ _.
     let carried = c.carried-first in
     let parts = completed s m c.args.piece c.args.change carried.result.0 carried.result.1 beside.result.rights beside.result.ep
     beside.ensures.rules c.requires.leads carried.ensures beside.ensures.completes in
-    let A : Position → Type 0 = λ t. After s m t in
-    after_one s m c.carry_twice.new.self beside.ensures.rules (c.is_safe_after.ensures.0 (search rules)) (subst A (sym c.carry_twice.ensures) parts.after)
+    let A : Position → Type 0 = λ t. Outcome s m t in
+    (outcome_moves s m c.carry_twice.new.self beside.ensures.rules (subst A (sym c.carry_twice.ensures) parts.after)).1
 
 pub returns-then-not-is_safe_after-clause-refused : goal.returns-then-not-is_safe_after-clause-refused
 returns-then-not-is_safe_after-clause-refused c = search rules

@@ -1,6 +1,6 @@
 use Rattle.std.proofs.Common.{ℕ, ◌≡◌, ◌↔◌, max, subst, get_or}
 use Rattle.pb_moves.specs.declared.piece_targets.TheConstants.{NEAR}
-use Rattle.pb_moves.specs.Attack.{files_apart, ranks_apart}
+use Rattle.pb_moves.specs.Attacks.{files_apart, ranks_apart}
 use Rattle.pb_moves.specs.Sight.{In}
 use Rattle.pb_moves.proofs.NearTargets.{near_back}
 use Rattle.pb_moves.proofs.sight.kings_from.Goals as goal

@@ -1,6 +1,6 @@
 use Rattle.std.proofs.Common.{ℕ, ◌↔◌, subst, get_or}
 use Rattle.pb_moves.specs.declared.piece_targets.TheConstants.{KNIGHT}
-use Rattle.pb_moves.specs.Attack.{IsKnightsMove}
+use Rattle.pb_moves.specs.Reach.{IsKnightsMove}
 use Rattle.pb_moves.specs.Sight.{In}
 use Rattle.pb_moves.proofs.NearTargets.{knight_back}
 use Rattle.pb_moves.proofs.sight.knights_from.Goals as goal

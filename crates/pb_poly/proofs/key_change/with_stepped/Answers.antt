@@ -3,7 +3,7 @@ use Rattle.pb_board.specs.declared.piece.Colour.{Colour}
 use Rattle.pb_board.specs.declared.piece.Kind.TheVariants.{Pawn}
 use Rattle.pb_board.specs.Board.{file}
 use Rattle.pb_board.specs.Piece.{opponent}
-use Rattle.pb_moves.specs.Attack.{ranks_apart}
+use Rattle.pb_moves.specs.Attacks.{ranks_apart}
 use Rattle.pb_poly.specs.Key.{has_taker, joined, en_passant_places, place_if}
 use Rattle.pb_poly.proofs.KeyMoves.{no_step, stepped_places}
 use Rattle.pb_poly.proofs.key_change.with_stepped.Goals.{then-ne-via-then-ne, then-ne-via-else-ne+then-abs_diff-ne2}

@@ -2,7 +2,7 @@ use Rattle.std.proofs.Common.{ℕ, ◌↔◌, subst, sym, get_or}
 use Rattle.pb_board.specs.declared.piece.Colour.TheVariants.{White}
 use Rattle.pb_moves.specs.declared.piece_targets.TheConstants.{BISHOP, ROOK}
 use Rattle.pb_moves.specs.declared.ways.Lines.{Lines}
-use Rattle.pb_moves.specs.Attack.{IsDiagonal, IsStraight}
+use Rattle.pb_moves.specs.Reach.{IsDiagonal, IsStraight}
 use Rattle.pb_moves.specs.Sight.{Along, In}
 use Rattle.pb_moves.proofs.Targets.{bishop_bit, rook_bit}
 use Rattle.pb_moves.proofs.ways.Lines.through.Goals as goal

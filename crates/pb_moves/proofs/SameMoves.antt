@@ -1,4 +1,4 @@
--- The setup after a move and the legal moves are those of pb_moves.
+-- The function `after` is `carried_on`, and the moves of `Legal` are those of `Cases`.
 use Rattle.std.proofs.Common.{◌≡◌, ◌≢◌, ℕ, ◌+◌, ◌*◌, ◌/◌, ◌⊎◌, ◌↔◌, refl, arith, inl, inr, sym, ap, subst, ◌∙◌, Option, Some, None, List, [], ◌∷◌, Bool, true, false, not, ◌&&◌, ◌==◌, is_none}
 use Rattle.std.specs.Prelude.{IsSome, unwrap_or, fold, if◌then◌else◌}
 use Rattle.pb_board.specs.declared.piece.Colour.{Colour}
@@ -7,26 +7,28 @@ use Rattle.pb_board.specs.declared.piece.Kind.{Kind}
 use Rattle.pb_board.specs.declared.piece.Kind.TheVariants.{Pawn, Knight, Bishop, Rook, Queen, King}
 use Rattle.pb_board.specs.declared.piece.Piece.{Piece}
 use Rattle.pb_board.specs.declared.castling.Castling.{Castling}
-use Rattle.pb_board.specs.Piece.{opponent, king_of, kind_number}
-use Rattle.pb_board.specs.Board.{Board, Place, file, rank, at, Holds}
+use Rattle.pb_board.specs.Piece.{opponent, king_of, kind_number, piece_of}
+use Rattle.pb_board.specs.Board.{Board, Place, file, rank, rank_for, at, Holds}
 use Rattle.pb_board.specs.Position.{Position, IsSetup, beyond, position_of}
 use Rattle.pb_board.specs.Castling.{CastlingRow, castling_row, castling_of}
-use Rattle.pb_moves.specs.Attack.{files_apart, ranks_apart, InCheck, IsStraight, Reaches, ReachesBy}
+use Rattle.pb_moves.specs.Attacks.{Attacks, files_apart, ranks_apart}
+use Rattle.pb_moves.specs.Reach.{IsStraight, KingInReach, Reaches, ReachesBy}
 use Rattle.pb_moves.specs.Moved.{Moved, IsMove, IsPromotion}
 use Rattle.pb_moves.specs.Castling as table
 use Rattle.pb_moves.specs.Castling.{rook_goes}
 use Rattle.pb_moves.specs.Cases as lower
-use Rattle.pb_moves.specs.Played.{Ply, plies_from, AreLegal}
-use Rattle.pb_moves.specs.Successor.{put, arriving, beside, carried, board_of, ep_of, ep_of_kind, rights_of, after}
-use Rattle.pb_theorem.specs.Board.{piece_of, rank_for}
-use Rattle.pb_theorem.specs.Moves as chess
-use Rattle.pb_theorem.specs.Moves.{after as own_after}
+use Rattle.pb_moves.specs.Legal as chess
+use Rattle.pb_moves.specs.Legal.{Legal, PseudoLegal}
+use Rattle.pb_moves.specs.Outcome.{Outcome}
+use Rattle.pb_moves.specs.Successor as successor
+use Rattle.pb_moves.specs.Successor.{after, rights_after}
+use Rattle.pb_moves.proofs.Carried.{put, arriving, beside, carried, board_of, ep_of, ep_of_kind, carried_on}
 use Rattle.pb_moves.proofs.Castlings.{rows}
-use Rattle.pb_theorem.proofs.AttackLemmas.{attacks_to, attacks_from, clear_to, clear_from, no_near, attacked_to, attacked_from, check_to, check_from}
+use Rattle.pb_moves.proofs.SameAttacks.{attacks_to, attacks_from, clear_to, clear_from, no_near, attacked_to, attacked_from, check_to, check_from}
 use Rattle.pb_moves.proofs.Differing.{moved_board, carried_put, carried_past_put}
 use Rattle.pb_moves.proofs.Kings.{pawn_reach, gone_is_beyond}
-use Rattle.pb_moves.proofs.LegalMoves.{legal_is_move}
-use Rattle.pb_moves.proofs.Successors.{after_is, after_is_setup, beside_piece, beside_straight, beside_taking, beside_passing, castled_board, castled_put, castle_is}
+use Rattle.pb_moves.proofs.LegalMoves.{case_is_move}
+use Rattle.pb_moves.proofs.Successors.{case_after, carried_is_setup, outcome_is, beside_piece, beside_straight, beside_taking, beside_passing, castled_board, castled_put, castle_is}
 use Rattle.pb_moves.proofs.Unique.{goes_of, case_one, en_passant_at, piece_is, pawn_files, king_near, step_ranks}
 
 -- ---- the setup after a move
@@ -38,8 +40,8 @@ taken_is : (new : Board) (test : Bool) (gone : ℕ) → puts new (if test then (
 taken_is new true gone = refl
 taken_is new false gone = refl
 
--- what changes besides changes as pb_moves says
-besides_is : (board new : Board) (m : Moved) (k : Kind) (c : Option Castling) → castling_of m.from m.to ≡ c → puts new (chess.besides board m k c) ≡ beside k board new m
+-- what changes besides changes as `carried_on` says
+besides_is : (board new : Board) (m : Moved) (k : Kind) (c : Option Castling) → castling_of m.from m.to ≡ c → puts new (successor.besides board m k c) ≡ beside k board new m
 besides_is board new m Pawn c is = taken_is new (not (file m.to == file m.from) && is_none (at board m.to)) (8 * rank m.from + file m.to)
 besides_is board new m King (Some c) is = rw is refl
 besides_is board new m King None is = rw is refl
@@ -48,14 +50,14 @@ besides_is board new m Bishop c is = refl
 besides_is board new m Rook c is = refl
 besides_is board new m Queen c is = refl
 
-arriving_is : (p : Piece) (promo : Option Kind) → piece_of p.colour (unwrap_or promo p.kind) ≡ arriving p promo
+pub arriving_is : (p : Piece) (promo : Option Kind) → piece_of p.colour (unwrap_or promo p.kind) ≡ arriving p promo
 arriving_is p None = refl
 arriving_is p (Some k) = refl
 
-board_after : (board : Board) (m : Moved) (place : Place) → puts board (chess.changes board m place) ≡ board_of board m place
+board_after : (board : Board) (m : Moved) (place : Place) → puts board (successor.changes board m place) ≡ board_of board m place
 board_after board m None = refl
 board_after board m (Some p) =
-    let F : Piece → Board = λ q. puts (moved_board board m.from m.to q) (chess.besides board m p.kind (castling_of m.from m.to)) in
+    let F : Piece → Board = λ q. puts (moved_board board m.from m.to q) (successor.besides board m p.kind (castling_of m.from m.to)) in
     ap F (arriving_is p m.promo) ∙ besides_is board (moved_board board m.from m.to (arriving p m.promo)) m p.kind (castling_of m.from m.to) refl
 
 crossed_kind : (k : Kind) (m : Moved) → (if kind_number k == 0 && ranks_apart m.from m.to == 2 then Some ((m.from + m.to) / 2) else None) ≡ ep_of_kind k m
@@ -66,21 +68,21 @@ crossed_kind Rook m = refl
 crossed_kind Queen m = refl
 crossed_kind King m = refl
 
-crossed_is : (m : Moved) (place : Place) → chess.en_passant_after m place ≡ ep_of m place
+crossed_is : (m : Moved) (place : Place) → successor.en_passant_after m place ≡ ep_of m place
 crossed_is m None = refl
 crossed_is m (Some p) = crossed_kind p.kind m
 
-pub same_after : (s : Position) (m : Moved) → chess.after s m ≡ after s m
-unfolding own_after after
+pub same_after : (s : Position) (m : Moved) → after s m ≡ carried_on s m
+unfolding after carried_on
 same_after s m =
     let place = at s.board m.from in
-    let B : Board → Position = λ b. position_of b (opponent s.turn) (rights_of s.rights m) (chess.en_passant_after m place) in
-    let E : Option ℕ → Position = λ e. position_of (board_of s.board m place) (opponent s.turn) (rights_of s.rights m) e in
+    let B : Board → Position = λ b. position_of b (opponent s.turn) (rights_after s.rights m) (successor.en_passant_after m place) in
+    let E : Option ℕ → Position = λ e. position_of (board_of s.board m place) (opponent s.turn) (rights_after s.rights m) e in
     ap B (board_after s.board m place) ∙ ap E (crossed_is m place)
 
--- ---- a case by these words is one by those of pb_moves
+-- ---- a case of `Cases` is one of `Legal`
 
-may_to : (row : CastlingRow) (s : Position) (m : Moved) → m.from ≡ row.king_from → m.to ≡ row.king_to → table.MayCastle row s → chess.MayCastle row s m
+may_to : (row : CastlingRow) (s : Position) (m : Moved) → m.from ≡ row.king_from → m.to ≡ row.king_to → table.RowAllows row s → chess.MayCastle row s m
 may_to row s m from to h = record {
   from_home = from;
   to_table = to;
@@ -96,7 +98,7 @@ straight_back : (a b : ℕ) → IsStraight a b → IsStraight b a
 straight_back a b (inl h) = inl (omega (arith, h.0), omega (arith, h.1))
 straight_back a b (inr h) = inr (omega (arith, h.0), omega (arith, h.1))
 
-may_from : (c : Castling) (s : Position) (m : Moved) → chess.MayCastle (castling_row c) s m → table.MayCastle (castling_row c) s
+may_from : (c : Castling) (s : Position) (m : Moved) → chess.MayCastle (castling_row c) s m → table.RowAllows (castling_row c) s
 may_from c s m h =
     let row = castling_row c in
     record {
@@ -128,10 +130,10 @@ pawn_or_not : (k : Kind) → (k ≡ Pawn) ⊎ (k ≢ Pawn)
 pawn_or_not Pawn = inl refl
 pawn_or_not k = inr (λ e. cc)
 
-own_reach : (p : Piece) (side : Colour) (board : Board) (a b : ℕ) → p.colour ≡ side → Reaches p board a b → chess.Attacks side p.kind board a b
-own_reach p side board a b own h = let R : Colour → Type 0 = λ c. chess.Attacks c p.kind board a b in subst R own (attacks_to p.colour p.kind board a b h)
+own_reach : (p : Piece) (side : Colour) (board : Board) (a b : ℕ) → p.colour ≡ side → Reaches p board a b → Attacks side p.kind board a b
+own_reach p side board a b own h = let R : Colour → Type 0 = λ c. Attacks c p.kind board a b in subst R own (attacks_to p.colour p.kind board a b h)
 
-case_to : (s : Position) (m : Moved) (p : Piece) (new : Board) → p.colour ≡ s.turn → lower.CaseOf s m p new → chess.PseudoLegal s m p.kind
+case_to : (s : Position) (m : Moved) (p : Piece) (new : Board) → p.colour ≡ s.turn → lower.CaseOf s m p new → chess.MayMove s m p.kind
 case_to s m p new own (lower.piece_move x) =
     elim x.target [
       | inl empty ↦ chess.quiet x.no_pawn (own_reach p s.turn s.board m.from m.to own x.reaches) empty
@@ -205,7 +207,7 @@ module _ (s : Position) (m : Moved) (kind : Kind) (ok : IsSetup s) (is : IsMove 
   pawn_takes : kind ≡ Pawn → (prey : chess.IsCapturable s.board s.turn m.to) → lower.Goes s m piece [] new_board
   pawn_takes pawn prey = going (beside_taking kind s.board (moved_board s.board m.from m.to (arriving piece m.promo)) m _ pawn prey.2)
 
-  case_from : chess.PseudoLegal s m kind → lower.CaseOf s m piece new_board
+  case_from : chess.MayMove s m kind → lower.CaseOf s m piece new_board
   case_from (chess.quiet no_pawn reaches empty) =
       let attacks = attacks_from s.turn kind s.board m.from m.to reaches in
       lower.piece_move (record { no_pawn = no_pawn; reaches = attacks; target = inl empty; after = piece_goes no_pawn attacks })
@@ -271,63 +273,60 @@ module _ (s : Position) (m : Moved) (kind : Kind) (ok : IsSetup s) (is : IsMove 
 
 -- ---- legal moves
 
-pub move_to : (m : Moved) → IsMove m → chess.IsMove m
-move_to m h = record { from_on_board = h.from_on_board; to_on_board = h.to_on_board; moves = h.moves; promotes = h.promotes }
-
-pub move_from : (m : Moved) → chess.IsMove m → IsMove m
-move_from m h = record { from_on_board = h.from_on_board; to_on_board = h.to_on_board; moves = h.moves; promotes = h.promotes }
-
-pub legal_to : (s : Position) (m : Moved) → IsSetup s → lower.Legal s m → chess.Legal s m
-legal_to s m ok h =
-    let case = h.moves in
-    let after_board = after_is s m ok h in
-    let same : (chess.after s m).board ≡ h.new = ap (λ (t : Position). t.board) (same_after s m) ∙ sym (case_one s m h.new (after s m).board ok case after_board.moves) in
+-- what a case leads to is the setup after a move that is legal but for check
+pub case_moves : (s : Position) (m : Moved) (new : Board) → IsSetup s → lower.Case s m new → PseudoLegal s m
+case_moves s m new ok case =
     let H : Piece → Type 0 = λ p. Holds s.board m.from p in
-    let C : Board → Type 0 = λ b. InCheck b s.turn in
     record {
-      is_move = move_to m (legal_is_move s m ok h);
+      is_move = case_is_move s m new ok case;
       kind = case.piece.kind;
       stands = subst H (piece_is case.piece s.turn case.piece.kind case.own refl) case.stands;
-      by_case = case_to s m case.piece h.new case.own case.by_case;
-      promotes = names_to s.turn m case.piece.kind _ (goes_of s m case.piece h.new case.by_case).becomes;
-      safe = λ check. h.safe (subst C same (check_from (chess.after s m).board s.turn check));
+      by_case = case_to s m case.piece new case.own case.by_case;
+      promotes = names_to s.turn m case.piece.kind _ (goes_of s m case.piece new case.by_case).becomes;
     }
 
-carried_is : (s : Position) (m : Moved) (p : Piece) → Holds s.board m.from p → (chess.after s m).board ≡ carried s.board m p
-unfolding after
+pub case_leads : (s : Position) (m : Moved) (new : Board) → IsSetup s → lower.Case s m new → Outcome s m (after s m)
+case_leads s m new ok case = let P : Position → Type 0 = λ t. Outcome s m t in subst P (sym (same_after s m)) (case_after s m new ok case)
+
+board_after_case : (s : Position) (m : Moved) (new : Board) → IsSetup s → lower.Case s m new → (after s m).board ≡ new
+board_after_case s m new ok case = sym (case_one s m new (after s m).board ok case (case_leads s m new ok case).moves)
+
+carried_is : (s : Position) (m : Moved) (p : Piece) → Holds s.board m.from p → (after s m).board ≡ carried s.board m p
+unfolding carried_on
 carried_is s m p stands = ap (λ (t : Position). t.board) (same_after s m) ∙ ap (board_of s.board m) stands
 
-pub legal_from : (s : Position) (m : Moved) → IsSetup s → chess.Legal s m → lower.Legal s m
-legal_from s m ok h =
+-- and back
+pub moves_case : (s : Position) (m : Moved) → IsSetup s → PseudoLegal s m → lower.Case s m (after s m).board
+moves_case s m ok h =
     let p = piece_of s.turn h.kind in
-    let C : Board → Type 0 = λ b. chess.InCheck b s.turn in
+    let C : Board → Type 0 = λ b. lower.Case s m b in
+    subst C (sym (carried_is s m p h.stands)) (record { piece = p; stands = h.stands; own = refl; by_case = case_from s m h.kind ok h.is_move h.promotes h.by_case })
+
+-- a move has an outcome where it is legal but for check, and the outcome is the setup after it
+pub moves_after : (s : Position) (m : Moved) → IsSetup s → PseudoLegal s m → Outcome s m (after s m)
+moves_after s m ok h = case_leads s m (after s m).board ok (moves_case s m ok h)
+
+pub outcome_moves : (s : Position) (m : Moved) (t : Position) → IsSetup s → Outcome s m t → PseudoLegal s m × (t ≡ after s m)
+outcome_moves s m t ok x = (case_moves s m t.board ok x.moves, outcome_is s m t ok x ∙ sym (same_after s m))
+
+-- the setup after it meets the rules for setups
+pub after_is_setup : (s : Position) (m : Moved) → IsSetup s → PseudoLegal s m → IsSetup (after s m)
+after_is_setup s m ok h =
+    let P : Position → Type 0 = λ t. IsSetup t in
+    subst P (sym (same_after s m)) (carried_is_setup s m (after s m).board ok (moves_case s m ok h))
+
+-- the legal moves are those of the cases that leave the mover out of check
+pub legal_to : (s : Position) (m : Moved) → IsSetup s → lower.SafeCase s m → Legal s m
+legal_to s m ok h =
+    let C : Board → Type 0 = λ b. KingInReach b s.turn in
     record {
-      new = carried s.board m p;
-      moves = record { piece = p; stands = h.stands; own = refl; by_case = case_from s m h.kind ok (move_from m h.is_move) h.promotes h.by_case };
-      safe = λ check. h.safe (subst C (sym (carried_is s m p h.stands)) (check_to (carried s.board m p) s.turn check));
+      moves = case_moves s m h.new ok h.moves;
+      safe = λ check. h.safe (subst C (board_after_case s m h.new ok h.moves) (check_from (after s m).board s.turn check));
     }
 
-pub same_legal : (s : Position) (m : Moved) → IsSetup s → chess.Legal s m ↔ lower.Legal s m
-same_legal s m ok = (legal_from s m ok, legal_to s m ok)
+pub legal_from : (s : Position) (m : Moved) → IsSetup s → Legal s m → lower.SafeCase s m
+legal_from s m ok h = record { new = (after s m).board; moves = moves_case s m ok h.moves; safe = λ check. h.safe (check_to (after s m).board s.turn check) }
 
--- ---- moves one after another
-
-pub same_plies : (s : Position) (ms : List Moved) → chess.plies_from s ms ≡ plies_from s ms
-same_plies s [] = refl
-same_plies s (m ∷ ms) =
-    let rest = same_plies (chess.after s m) ms in
-    let P : List Ply → List Ply = λ ps. (s, m) ∷ ps in
-    ap P rest ∙ ap (λ (t : Position). P (plies_from t ms)) (same_after s m)
-
-pub are_legal_to : (s : Position) (ms : List Moved) → IsSetup s → AreLegal s ms → chess.AreLegal s ms
-are_legal_to s [] ok h = tt
-are_legal_to s (m ∷ ms) ok h =
-    let P : Position → Type 0 = λ t. chess.AreLegal t ms in
-    (legal_to s m ok h.0, subst P (sym (same_after s m)) (are_legal_to (after s m) ms (after_is_setup s m ok h.0) h.1))
-
-pub are_legal_from : (s : Position) (ms : List Moved) → IsSetup s → chess.AreLegal s ms → AreLegal s ms
-are_legal_from s [] ok h = tt
-are_legal_from s (m ∷ ms) ok h =
-    let legal = legal_from s m ok h.0 in
-    let P : Position → Type 0 = λ t. chess.AreLegal t ms in
-    (legal, are_legal_from (after s m) ms (after_is_setup s m ok legal) (subst P (same_after s m) h.1))
+-- as a test tells it
+pub told : (s : Position) (m : Moved) (P : Type 0) → IsSetup s → (P ↔ lower.SafeCase s m) → (P ↔ Legal s m)
+told s m P ok h = ((λ p. legal_to s m ok (h.0 p)), λ legal. h.1 (legal_from s m ok legal))

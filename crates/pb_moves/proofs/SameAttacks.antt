@@ -1,17 +1,16 @@
--- A piece attacks just what it attacks by the words of pb_moves.
-use Rattle.std.proofs.Common.{◌≡◌, ◌≢◌, ℕ, zero, suc, ◌+◌, ◌*◌, ◌/◌, ◌<◌, ◌≤◌, ◌⊎◌, refl, arith, inl, inr, sym, ap, subst, ◌∙◌}
+-- A piece attacks by `Attacks` just what it reaches by `Reach`, and a side is in check where its king is in reach.
+use Rattle.std.proofs.Common.{◌≡◌, ◌≢◌, ℕ, zero, suc, ◌+◌, ◌*◌, ◌/◌, ◌<◌, ◌≤◌, ◌⊎◌, ◌↔◌, Bool, true, false, not, IsTrue, refl, arith, inl, inr, sym, ap, subst, ◌∙◌}
 use Rattle.std.proofs.Math.Nat.{mul-div_cancel}
 use Rattle.std.proofs.lemmas.Bool.{cases_lt}
 use Rattle.pb_board.specs.declared.piece.Colour.{Colour}
 use Rattle.pb_board.specs.declared.piece.Kind.{Kind}
 use Rattle.pb_board.specs.declared.piece.Kind.TheVariants.{Pawn, Knight, Bishop, Rook, Queen, King}
 use Rattle.pb_board.specs.declared.piece.Piece.{Piece}
-use Rattle.pb_board.specs.Piece.{opponent}
+use Rattle.pb_board.specs.Piece.{opponent, piece_of}
 use Rattle.pb_board.specs.Board.{Board, Holds}
-use Rattle.pb_moves.specs.Attack as lower
-use Rattle.pb_moves.specs.Attack.{files_apart, ranks_apart}
-use Rattle.pb_theorem.specs.Board.{piece_of}
-use Rattle.pb_theorem.specs.Moves as chess
+use Rattle.pb_moves.specs.Reach as lower
+use Rattle.pb_moves.specs.Attacks as chess
+use Rattle.pb_moves.specs.Attacks.{files_apart, ranks_apart}
 use Rattle.pb_moves.proofs.Unique.{piece_is, step_ranks}
 
 -- ---- squares between
@@ -39,7 +38,7 @@ positive n some = elim (cases_lt 0 n) [ inl l ↦ l | inr g ↦ absurd (some (om
 apart_some : (a q : ℕ) → q ≢ a → 0 < files_apart a q + ranks_apart a q
 apart_some a q ne = positive (files_apart a q + ranks_apart a q) (λ none. ne (omega arith))
 
-pub between_to : (a q b : ℕ) → IsLine a b → lower.IsBetween a q b → chess.IsBetween a q b
+pub between_to : (a q b : ℕ) → IsLine a b → lower.LiesBetween a q b → chess.IsBetween a q b
 between_to a q b (inl d) h =
     let slant = h.on_diagonal d in
     record { not_first = h.not_first; not_last = h.not_last; files = h.files; ranks = h.ranks; line = rw (slant.0, d.0) refl }
@@ -61,7 +60,7 @@ between_to a q b (inr (inr s)) h = record {
 slants : (f r n m : ℕ) → f * m ≡ r * n → (n ≡ m) × (0 < n) → 0 < f + r → (f ≡ r) × (0 < f)
 slants f r n m line d some = let same : f ≡ r = cancels f r n m line d.0 d.1 in (same, omega arith)
 
-pub between_from : (a q b : ℕ) → chess.IsBetween a q b → lower.IsBetween a q b
+pub between_from : (a q b : ℕ) → chess.IsBetween a q b → lower.LiesBetween a q b
 between_from a q b h = record {
   not_first = h.not_first;
   not_last = h.not_last;
@@ -70,10 +69,10 @@ between_from a q b h = record {
   on_diagonal = λ d. slants (files_apart a q) (ranks_apart a q) (files_apart a b) (ranks_apart a b) h.line d (apart_some a q h.not_first);
 }
 
-pub clear_to : (board : Board) (a b : ℕ) → lower.Clear board a b → chess.Clear board a b
+pub clear_to : (board : Board) (a b : ℕ) → lower.WayIsClear board a b → chess.Clear board a b
 clear_to board a b clear q on h = clear q on (between_from a q b h)
 
-pub clear_from : (board : Board) (a b : ℕ) → IsLine a b → chess.Clear board a b → lower.Clear board a b
+pub clear_from : (board : Board) (a b : ℕ) → IsLine a b → chess.Clear board a b → lower.WayIsClear board a b
 clear_from board a b line clear q on h = clear q on (between_to a q b line h)
 
 -- nothing lies between squares that are one step apart, or a knight's move
@@ -115,18 +114,30 @@ attacks_from side Rook board a b h = (h.0, clear_from board a b (inr h.0) h.2)
 attacks_from side Queen board a b h = (h.0, clear_from board a b h.0 h.2)
 attacks_from side King board a b h = h.0
 
-pub attacked_to : (board : Board) (side : Colour) (square : ℕ) → lower.IsAttacked board side square → chess.IsAttacked board side square
+pub attacked_to : (board : Board) (side : Colour) (square : ℕ) → lower.IsReached board side square → chess.IsAttacked board side square
 attacked_to board side square (a, h) =
     let H : Piece → Type 0 = λ p. Holds board a p in
     let R : Colour → Type 0 = λ c. lower.ReachesBy c h.piece.kind board a square in
     (a, h.piece.kind, subst H (piece_is h.piece side h.piece.kind h.of_side refl) h.stands, attacks_to side h.piece.kind board a square (subst R h.of_side h.reaches))
 
-pub attacked_from : (board : Board) (side : Colour) (square : ℕ) → chess.IsAttacked board side square → lower.IsAttacked board side square
+pub attacked_from : (board : Board) (side : Colour) (square : ℕ) → chess.IsAttacked board side square → lower.IsReached board side square
 attacked_from board side square (a, kind, stands, reaches) =
     (a, record { piece = piece_of side kind; stands = stands; of_side = refl; reaches = attacks_from side kind board a square reaches })
 
-pub check_to : (board : Board) (side : Colour) → lower.InCheck board side → chess.InCheck board side
+pub check_to : (board : Board) (side : Colour) → lower.KingInReach board side → chess.InCheck board side
 check_to board side (king, h) = (king, h.stands, attacked_to board (opponent side) king h.attacked)
 
-pub check_from : (board : Board) (side : Colour) → chess.InCheck board side → lower.InCheck board side
+pub check_from : (board : Board) (side : Colour) → chess.InCheck board side → lower.KingInReach board side
 check_from board side (king, stands, attacked) = (king, record { stands = stands; attacked = attacked_from board (opponent side) king attacked })
+
+-- ---- what a test tells
+
+pub untold : (b : Bool) (P : Type 0) → (IsTrue b ↔ P) → (IsTrue (not b) ↔ ¬ P)
+untold true P h = ((λ n. absurd cc), λ none. absurd (none (h.0 refl)))
+untold false P h = ((λ n p. let t = h.1 p in cc), λ none. refl)
+
+pub attacked_at : (hit : Bool) (board : Board) (by enemy : Colour) (q square : ℕ) → (IsTrue hit ↔ chess.IsAttacked board by q) → by ≡ enemy → q ≡ square → (IsTrue hit ↔ chess.IsAttacked board enemy square)
+attacked_at hit board by enemy q square h e k =
+    let A : Colour → Type 0 = λ x. IsTrue hit ↔ chess.IsAttacked board x q in
+    let Q : ℕ → Type 0 = λ x. IsTrue hit ↔ chess.IsAttacked board enemy x in
+    subst Q k (subst A e h)

@@ -1,22 +1,13 @@
--- Which squares a piece attacks, and when a side is in check.
-use Rattle.std.specs.Prelude.{◌≡◌, ◌≢◌, ℕ, ◌+◌, ◌-◌, ◌<◌, ◌⊎◌, max}
+-- Which squares a piece attacks, and when a side is in check, as the private functions and the proofs of this crate speak of it.
+-- Its public functions speak of `Attacks`, which is shown to say the same (proofs/SameAttacks).
+use Rattle.std.specs.Prelude.{◌≡◌, ◌≢◌, ℕ, ◌+◌, ◌<◌, ◌⊎◌, max}
 use Rattle.pb_board.specs.declared.piece.Colour.{Colour}
 use Rattle.pb_board.specs.declared.piece.Kind.{Kind}
 use Rattle.pb_board.specs.declared.piece.Kind.TheVariants.{Pawn, Knight, Bishop, Rook, Queen, King}
 use Rattle.pb_board.specs.declared.piece.Piece.{Piece}
-use Rattle.pb_board.specs.Position.{Position}
 use Rattle.pb_board.specs.Piece.{opponent, king_of}
-use Rattle.pb_board.specs.Board.{Board, file, rank, Holds, IsEmpty, IsForward}
-
--- how far apart two numbers are
-abbrev pub apart : ℕ → ℕ → ℕ
-apart x y = (x - y) + (y - x)
-
-abbrev pub files_apart : ℕ → ℕ → ℕ
-files_apart a b = apart (file a) (file b)
-
-abbrev pub ranks_apart : ℕ → ℕ → ℕ
-ranks_apart a b = apart (rank a) (rank b)
+use Rattle.pb_board.specs.Board.{Board, Holds, IsEmpty, IsForward}
+use Rattle.pb_moves.specs.Attacks.{files_apart, ranks_apart}
 
 -- the absolute differences are equal and not 0
 abbrev pub IsDiagonal : ℕ → ℕ → Type 0
@@ -28,7 +19,7 @@ IsStraight a b =
     ((files_apart a b ≡ 0) × (0 < ranks_apart a b)) ⊎ ((0 < files_apart a b) × (ranks_apart a b ≡ 0))
 
 -- q lies strictly between a and b, which are on one file, rank or diagonal
-pub record IsBetween (a q b : ℕ) : Type 0 where
+pub record LiesBetween (a q b : ℕ) : Type 0 where
   pub not_first : q ≢ a
   pub not_last : q ≢ b
   pub files : files_apart a q + files_apart q b ≡ files_apart a b
@@ -36,8 +27,8 @@ pub record IsBetween (a q b : ℕ) : Type 0 where
   pub on_diagonal : IsDiagonal a b → IsDiagonal a q
 
 -- the way from a to b is clear: each square between them is empty
-abbrev pub Clear : Board → ℕ → ℕ → Type 0
-Clear board a b = (q : ℕ) → q < 64 → IsBetween a q b → IsEmpty board q
+abbrev pub WayIsClear : Board → ℕ → ℕ → Type 0
+WayIsClear board a b = (q : ℕ) → q < 64 → LiesBetween a q b → IsEmpty board q
 
 -- the absolute differences are 1 and 2
 abbrev pub IsKnightsMove : ℕ → ℕ → Type 0
@@ -48,9 +39,9 @@ IsKnightsMove a b =
 abbrev pub ReachesBy : Colour → Kind → Board → ℕ → ℕ → Type 0
 ReachesBy colour Pawn board a b = (files_apart a b ≡ 1) × IsForward colour 1 a b
 ReachesBy colour Knight board a b = IsKnightsMove a b
-ReachesBy colour Bishop board a b = IsDiagonal a b × Clear board a b
-ReachesBy colour Rook board a b = IsStraight a b × Clear board a b
-ReachesBy colour Queen board a b = (IsDiagonal a b ⊎ IsStraight a b) × Clear board a b
+ReachesBy colour Bishop board a b = IsDiagonal a b × WayIsClear board a b
+ReachesBy colour Rook board a b = IsStraight a b × WayIsClear board a b
+ReachesBy colour Queen board a b = (IsDiagonal a b ⊎ IsStraight a b) × WayIsClear board a b
 ReachesBy colour King board a b = max (files_apart a b) (ranks_apart a b) ≡ 1
 
 -- this piece on a attacks b
@@ -58,25 +49,21 @@ abbrev pub Reaches : Piece → Board → ℕ → ℕ → Type 0
 Reaches piece board a b = ReachesBy piece.colour piece.kind board a b
 
 -- a piece of this side stands on a and attacks b
-pub record Attacks (board : Board) (side : Colour) (a b : ℕ) : Type 0 where
+pub record ReachesFrom (board : Board) (side : Colour) (a b : ℕ) : Type 0 where
   pub piece : Piece
   pub stands : Holds board a piece
   pub of_side : piece.colour ≡ side
   pub reaches : Reaches piece board a b
 
 -- some piece of this side attacks the square
-abbrev pub IsAttacked : Board → Colour → ℕ → Type 0
-IsAttacked board side square = (a : ℕ) × Attacks board side a square
+abbrev pub IsReached : Board → Colour → ℕ → Type 0
+IsReached board side square = (a : ℕ) × ReachesFrom board side a square
 
 -- the king of this side stands on the square, and some enemy piece attacks it
-pub record KingAttacked (board : Board) (side : Colour) (king : ℕ) : Type 0 where
+pub record KingReached (board : Board) (side : Colour) (king : ℕ) : Type 0 where
   pub stands : Holds board king (king_of side)
-  pub attacked : IsAttacked board (opponent side) king
+  pub attacked : IsReached board (opponent side) king
 
 -- some enemy piece attacks the king's square
-abbrev pub InCheck : Board → Colour → Type 0
-InCheck board side = (king : ℕ) × KingAttacked board side king
-
--- the side that isn't to move isn't in check
-abbrev pub Playable : Position → Type 0
-Playable s = ¬ InCheck s.board (opponent s.turn)
+abbrev pub KingInReach : Board → Colour → Type 0
+KingInReach board side = (king : ℕ) × KingReached board side king

@@ -1,0 +1,53 @@
+-- What a piece attacks, and when a side is in check.
+use Rattle.std.specs.Prelude.{◌≡◌, ◌≢◌, ℕ, ◌+◌, ◌*◌, ◌<◌, ◌⊎◌, max}
+use Rattle.std.specs.Int.{abs_diff}
+use Rattle.pb_board.specs.declared.piece.Colour.{Colour}
+use Rattle.pb_board.specs.declared.piece.Kind.{Kind}
+use Rattle.pb_board.specs.declared.piece.Kind.TheVariants.{Pawn, Knight, Bishop, Rook, Queen, King}
+use Rattle.pb_board.specs.Piece.{opponent, piece_of}
+use Rattle.pb_board.specs.Board.{Board, file, rank, Holds, IsEmpty, IsForward}
+use Rattle.pb_board.specs.Position.{Position}
+
+abbrev pub files_apart : ℕ → ℕ → ℕ
+files_apart a b = abs_diff (file a) (file b)
+
+abbrev pub ranks_apart : ℕ → ℕ → ℕ
+ranks_apart a b = abs_diff (rank a) (rank b)
+
+-- by so many files and ranks a piece of this kind attacks
+abbrev pub Pattern : Kind → ℕ → ℕ → Type 0
+Pattern Pawn files ranks = (files ≡ 1) × (ranks ≡ 1)
+Pattern Knight files ranks = ((files ≡ 1) × (ranks ≡ 2)) ⊎ ((files ≡ 2) × (ranks ≡ 1))
+Pattern Bishop files ranks = (files ≡ ranks) × (0 < files)
+Pattern Rook files ranks = ((files ≡ 0) × (0 < ranks)) ⊎ ((0 < files) × (ranks ≡ 0))
+Pattern Queen files ranks = ((files ≡ ranks) × (0 < files)) ⊎ (((files ≡ 0) × (0 < ranks)) ⊎ ((0 < files) × (ranks ≡ 0)))
+Pattern King files ranks = max files ranks ≡ 1
+
+-- q lies strictly between a and b, on the line through them
+pub record IsBetween (a q b : ℕ) : Type 0 where
+  pub not_first : q ≢ a
+  pub not_last : q ≢ b
+  pub files : files_apart a q + files_apart q b ≡ files_apart a b
+  pub ranks : ranks_apart a q + ranks_apart q b ≡ ranks_apart a b
+  pub line : files_apart a q * ranks_apart a b ≡ ranks_apart a q * files_apart a b
+
+-- each square between is empty, of which there are none for a pawn, a knight or a king
+abbrev pub Clear : Board → ℕ → ℕ → Type 0
+Clear board a b = (q : ℕ) → q < 64 → IsBetween a q b → IsEmpty board q
+
+-- a piece of this side and kind on a attacks b
+abbrev pub Attacks : Colour → Kind → Board → ℕ → ℕ → Type 0
+Attacks side kind board a b = Pattern kind (files_apart a b) (ranks_apart a b)
+    × (kind ≡ Pawn → IsForward side 1 a b) × Clear board a b
+
+-- some piece of this side attacks the square
+abbrev pub IsAttacked : Board → Colour → ℕ → Type 0
+IsAttacked board side square = (a : ℕ) × (kind : Kind) × Holds board a (piece_of side kind) × Attacks side kind board a square
+
+-- some enemy piece attacks the king's square
+abbrev pub InCheck : Board → Colour → Type 0
+InCheck board side = (king : ℕ) × Holds board king (piece_of side King) × IsAttacked board (opponent side) king
+
+-- the side that isn't to move isn't in check
+abbrev pub NoOppositeCheck : Position → Type 0
+NoOppositeCheck s = ¬ InCheck s.board (opponent s.turn)
