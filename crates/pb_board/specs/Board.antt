@@ -1,5 +1,5 @@
 -- A board, by what stands on each of its squares. A square is its index, 8 * rank + file, with a1 at 0 and h8 at 63.
-use Rattle.std.specs.Prelude.{◌≡◌, ℕ, ◌/◌, ◌%◌, ◌+◌, Bool, false, ◌&&◌, ◌==◌, List, Option, Some, None, slice_index_or}
+use Rattle.std.specs.Prelude.{◌≡◌, ℕ, ◌/◌, ◌%◌, ◌+◌, ◌-◌, Bool, false, ◌&&◌, ◌==◌, List, Option, Some, None, slice_index_or}
 use Rattle.pb_board.specs.declared.piece.Colour.{Colour}
 use Rattle.pb_board.specs.declared.piece.Colour.TheVariants.{White, Black}
 use Rattle.pb_board.specs.declared.piece.Piece.{Piece}
@@ -20,6 +20,11 @@ file square = square % 8
 -- the rank, from 0 for rank 1
 abbrev pub rank : ℕ → ℕ
 rank square = square / 8
+
+-- the rank as this side counts it, from 0 for its own first
+abbrev pub rank_for : Colour → ℕ → ℕ
+rank_for White square = rank square
+rank_for Black square = 7 - rank square
 
 -- what stands on a square; off the board, nothing
 abbrev pub at : Board → ℕ → Place

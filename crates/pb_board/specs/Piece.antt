@@ -10,6 +10,9 @@ abbrev pub opponent : Colour → Colour
 opponent White = Black
 opponent Black = White
 
+abbrev pub piece_of : Colour → Kind → Piece
+piece_of side kind = record { colour = side; kind = kind }
+
 abbrev pub king_of : Colour → Piece
 king_of colour = record { colour = colour; kind = King }
 
