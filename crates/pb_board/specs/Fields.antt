@@ -2,6 +2,9 @@
 use Rattle.std.specs.Prelude.{ℕ, ◌==◌, List, [], slice_index_or}
 use Rattle.std.specs.List.{slice_split}
 
+abbrev pub tab : ℕ
+tab = 9
+
 abbrev pub space : ℕ
 space = 32
 
