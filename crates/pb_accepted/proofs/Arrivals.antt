@@ -3,18 +3,19 @@ use Rattle.std.proofs.Common.{◌≡◌, ◌≢◌, ℕ, ◌+◌, List, [], Bool
 use Rattle.std.specs.List.{All}
 use Rattle.std.proofs.lemmas.Option.{slice_get_within, get_or_from_slice_get}
 use Rattle.pb_games.specs.declared.game.Game.{Game}
-use Rattle.pb_games.specs.Refusing.{field_of}
+use Rattle.pb_board.specs.Fields.{field}
+use Rattle.pb_games.specs.Header.{fields_of}
 use Rattle.pb_games.specs.Submissions.{IsLawful, IsSubmission, Submission}
-use Rattle.pb_games.proofs.Texts.{fields_back}
+use Rattle.pb_games.proofs.Texts.{fields_back, lawful_submission}
 use Rattle.pb_accepted.specs.Accepting.{IsNumber}
 
 -- a legal game that a line submits is within the bounds
 pub submitted : (line : List ℕ) (s : Submission) → IsLawful line s → IsSubmission s
-submitted line s lawful = record { id = lawful.submits.id; game = lawful.submits.game; legal = lawful.legal }
+submitted line s lawful = lawful_submission line s lawful
 
 -- the first field of a line is the id that it submits under
-pub first_is_id : (line : List ℕ) (s : Submission) → IsLawful line s → field_of line 0 ≡ s.0
-first_is_id line s lawful = ap (λ (w : List (List ℕ)). slice_index_or w 0 []) (fields_back line s lawful.submits)
+pub first_is_id : (line : List ℕ) (s : Submission) → IsLawful line s → field (fields_of line) 0 ≡ s.0
+first_is_id line s lawful = ap (λ (w : List (List ℕ)). slice_index_or w 0 []) (fields_back line s lawful)
 
 -- what stands at a place of the list is a submission
 pub submission_at : (A : List Submission) (k : ℕ) (s : Submission) → All IsSubmission A → slice_get A k ≡ Some s → IsSubmission s

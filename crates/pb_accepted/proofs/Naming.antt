@@ -4,7 +4,9 @@ use Rattle.std.specs.Prelude.{slice_index_or}
 use Rattle.std.proofs.lemmas.Bool.{cases_lt}
 use Rattle.pb_games.specs.declared.refusal.Refusal.{Refusal}
 use Rattle.pb_games.specs.declared.refusal.Refusal.TheVariants as refusal
-use Rattle.pb_games.specs.Refusing.{Refuses, field_of}
+use Rattle.pb_board.specs.Fields.{field}
+use Rattle.pb_games.specs.Header.{fields_of}
+use Rattle.pb_games.specs.Refusing.{Refuses}
 use Rattle.pb_games.specs.Submissions.{IsLawful, Submission}
 use Rattle.pb_games.proofs.Dues.{none_before, order}
 use Rattle.pb_games.proofs.Texts.{fields_back}
@@ -15,7 +17,7 @@ use Rattle.pb_accepted.proofs.Allowing.{Allowed}
 abbrev IsNamedShort : List ℕ → Answer → Type 0
 IsNamedShort line r = length (named line r) ≤ 64
 
-named_field : (line : List ℕ) (r : Answer) → length (field_of line 0) ≤ 64 → IsNamedShort line r
+named_field : (line : List ℕ) (r : Answer) → length (field (fields_of line) 0) ≤ 64 → IsNamedShort line r
 named_field line (Ok n) short = short
 named_field line (Err refusal.Long) short = omega arith
 named_field line (Err refusal.Shape) short = omega arith
@@ -24,13 +26,13 @@ named_field line (Err e) short = short
 
 named_lawful : (line : List ℕ) (s : Submission) (r : Answer) → IsLawful line s → IsNamedShort line r
 named_lawful line s r h =
-    let is : field_of line 0 ≡ s.0 = ap (λ (parts : List (List ℕ)). slice_index_or parts 0 []) (fields_back line s h.submits) in
-    named_field line r (omega (arith, ap length is, h.submits.id.few))
+    let is : field (fields_of line) 0 ≡ s.0 = ap (λ (parts : List (List ℕ)). slice_index_or parts 0 []) (fields_back line s h) in
+    named_field line r (omega (arith, ap length is, h.id.few))
 
 -- a line that is refused after its id was judged has a short id
-judged_id : (line : List ℕ) (e : Refusal) → 3 < order e → Refuses line e → length (field_of line 0) ≤ 64
+judged_id : (line : List ℕ) (e : Refusal) → 3 < order e → Refuses line e → length (field (fields_of line) 0) ≤ 64
 judged_id line e after refuses =
-    elim (cases_lt 64 (length (field_of line 0))) [
+    elim (cases_lt 64 (length (field (fields_of line) 0))) [
       | inl long ↦ absurd (none_before line e refuses refusal.Id after (λ id. omega (arith, id.few)))
       | inr short ↦ short
     ]

@@ -28,7 +28,7 @@ game_of s = s.1
 
 -- a line submits one legal game at most
 pub one_submission : (b : List ℕ) (s t : Submission) → IsLawful b s → IsLawful b t → s ≡ t
-one_submission b s t h k = line.one_submission b s t h.submits k.submits
+one_submission b s t h k = line.one_lawful b s t h k
 
 -- ---- places of the list
 

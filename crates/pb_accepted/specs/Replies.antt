@@ -1,9 +1,10 @@
 -- The reply lines: a line for each submission, with its LF.
 use Rattle.std.specs.Prelude.{ℕ, List, [], ◌∷◌, ◌++◌, Ok, Err, codes, decimal}
+use Rattle.std.specs.Str.Lines.{strip_carriage_return}
+use Rattle.pb_board.specs.Fields.{field, fields, tab}
 use Rattle.pb_board.specs.LineEnd.{with_end}
 use Rattle.pb_games.specs.declared.refusal.Refusal.{Refusal}
 use Rattle.pb_games.specs.declared.refusal.Refusal.TheVariants as refusal
-use Rattle.pb_games.specs.Refusing.{field_of}
 use Rattle.pb_accepted.specs.Accepting.{Answer}
 
 -- why a line is refused
@@ -26,7 +27,7 @@ abbrev pub named : List ℕ → Answer → List ℕ
 named line (Err refusal.Long) = codes "-"
 named line (Err refusal.Shape) = codes "-"
 named line (Err refusal.Id) = codes "-"
-named line r = field_of line 0
+named line r = field (fields tab (strip_carriage_return line)) 0
 
 -- what the reply says of the line with this id
 abbrev pub reply_text : List ℕ → Answer → List ℕ

@@ -1,7 +1,8 @@
 //! Reply lines.
 
 ghost use Rattle.std.specs.Prelude.{◌≡◌, ◌≢◌, ◌+◌, ◌≤◌, ◌++◌, decimal, length};
-ghost use Rattle.pb_games.specs.Refusing.{field_of};
+ghost use Rattle.std.specs.Str.Lines.{strip_carriage_return};
+ghost use Rattle.pb_board.specs.Fields.{field, fields, tab};
 ghost use Rattle.pb_accepted.specs.Replies.{named, reason, reply_line};
 
 use arrayvec::ArrayVec;
@@ -113,7 +114,7 @@ fn id_beside(line: &[u8], refusal: Refusal) -> &[u8]
 
 /// The first field of a line that is cut at every TAB.
 pub(crate) fn first_field(line: &[u8]) -> &[u8]
-    ensures { result.now ≡ field_of line.now 0 }
+    ensures { result.now ≡ field (fields tab (strip_carriage_return line.now)) 0 }
 {
     let line = without_return(line);
     match cut_once(line, b'\t') {

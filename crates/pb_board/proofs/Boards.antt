@@ -5,7 +5,8 @@ use Rattle.std.proofs.lemmas.List.{length-drop, length-take, length-append, take
 use Rattle.std.proofs.lemmas.List.Splits.{join_with_byte-slice_split}
 use borrow.Rule.Slice.PartMut.{put_mid, post_of}
 use Rattle.pb_board.specs.Board.{Place}
-use Rattle.pb_board.specs.Text.{RankText, PlacementText, rank_of, ranks_down}
+use Rattle.pb_board.specs.Ranks.{RankText}
+use Rattle.pb_board.proofs.Placements.{PlacementText, rank_of, ranks_down}
 use Rattle.pb_board.proofs.Letters.{letter_above}
 use Rattle.pb_board.proofs.Joins.{Above, AllAbove, split_join, split_one}
 use Rattle.pb_board.proofs.Ranks.{same_front}

@@ -1,7 +1,7 @@
 -- What was read of the six fields of a record, and what follows for the whole.
 use Rattle.std.proofs.Common.{◌≡◌, ℕ, ◌^◌, ◌<◌, ◌↔◌, List, [], ◌∷◌, ◌++◌, length, take, drop, get_or, Option, Some, None, refl, sym, ap, subst, ◌∙◌, arith}
 use Rattle.std.proofs.lemmas.List.Elements.{All-nil, All-cons, All-append}
-use Rattle.std.specs.Prelude.{All, IfSome, IfOk, IfErr, MatchResult, Result, Ok, Err, map}
+use Rattle.std.specs.Prelude.{All, IfSome, IfOk, IfErr, MatchResult, Result, Ok, Err, decimal, map}
 use Rattle.std.specs.Borrow.{Bor}
 use Rattle.std.specs.List.{join_with_byte}
 use Rattle.std.proofs.lemmas.List.Splits.{join_with_byte-slice_split}
@@ -13,26 +13,27 @@ use Rattle.pb_board.specs.declared.refusal.FenError.{FenError}
 use Rattle.pb_board.specs.declared.refusal.FenError.TheVariants as refusal
 use Rattle.pb_board.specs.Board.{Place}
 use Rattle.pb_board.specs.Position.{Position, Record, IsSetup, HasOneKing, HasNoEdgePawn, EnPassantHolds, OnEnPassantRank, IsEnPassantSquare}
-use Rattle.pb_board.specs.Text.{PlacementText, turn_text, castling_text, en_passant_text, number_text}
-use Rattle.pb_board.specs.Fen.{AreFields, FenText}
+use Rattle.pb_board.specs.Fields.{field, fields}
+use Rattle.pb_board.specs.Parts.{AreParts, IsRefusedAs, refusal_of}
+use Rattle.pb_board.specs.Text.{castling_text, en_passant_text, fen_text, placement_text, setup_fields, turn_text}
 use Rattle.pb_board.specs.Position.{IsRecord, record_of}
-use Rattle.pb_board.specs.Refusal.{IsDue, IsFirstDue, of_record, of_setup, AreParts, IsRefusedAs, IsFault, IsFirstFault, field, fields, SpellsBoard, SpellsEnPassant, refusal_of}
-use Rattle.pb_board.proofs.Unique.{placement_one_board, turn_injective, en_passant_injective, fields_of_text, on_rank, one_record, one_setup}
-use Rattle.pb_board.proofs.Dues.{first_here, first_later, first_front, first_behind, first_map, none_first}
+use Rattle.pb_board.specs.Refusal.{IsDueFen, IsFault, IsFirstFault, SpellsBoard, SpellsSquare, fen_errors, of_setup}
+use Rattle.pb_board.proofs.Unique.{placement_injective, turn_injective, en_passant_injective, fields_of_text, on_rank, one_record, one_setup}
+use Rattle.pb_board.proofs.Dues.{IsFirstDue, first_here, first_later, first_front, first_behind, first_map, none_first}
 
-en_passant_holds : (board : List Place) (turn : Colour) (ep : Option ℕ) → IfSome ep (λ q. OnEnPassantRank turn q) → IfSome ep (λ q. IsEnPassantSquare board turn q) → EnPassantHolds board turn ep
+en_passant_holds : (board : List Place) (turn : Colour) (ep : Option ℕ) → IfSome ep (OnEnPassantRank turn) → IfSome ep (IsEnPassantSquare board turn) → EnPassantHolds board turn ep
 en_passant_holds board turn None h k = h
 en_passant_holds board turn (Some q) h k = (h, k)
 
 -- the first four pieces of a text are these
-pub record Begins (pieces : List (List ℕ)) (placement turn castling en_passant : List ℕ) : Type 0 where
-  pub first : field pieces 0 ≡ placement
-  pub second : field pieces 1 ≡ turn
-  pub third : field pieces 2 ≡ castling
-  pub fourth : field pieces 3 ≡ en_passant
+pub record Begins (pieces four : List (List ℕ)) : Type 0 where
+  pub first : field pieces 0 ≡ field four 0
+  pub second : field pieces 1 ≡ field four 1
+  pub third : field pieces 2 ≡ field four 2
+  pub fourth : field pieces 3 ≡ field four 3
 
 abbrev NotDue : List (List ℕ) → FenError → Type 0
-NotDue pieces d = ¬ IsDue d pieces
+NotDue pieces d = ¬ IsDueFen pieces d
 
 -- the refusals of the four texts, and those of the setup that they spell
 abbrev of_texts : List FenError
@@ -50,49 +51,61 @@ all_three P x y z h k l = All-cons P x (y ∷ z ∷ []) h (all_two P y z k l)
 all_four : {A : Type 0} (P : A → Type 0) (w x y z : A) → P w → P x → P y → P z → All P (w ∷ x ∷ y ∷ z ∷ [])
 all_four P w x y z g h k l = All-cons P w (x ∷ y ∷ z ∷ []) g (all_three P x y z h k l)
 
-is_en_passant : (board : List Place) (turn : Colour) (ep : Option ℕ) → EnPassantHolds board turn ep → IfSome ep (λ q. IsEnPassantSquare board turn q)
+is_en_passant : (board : List Place) (turn : Colour) (ep : Option ℕ) → EnPassantHolds board turn ep → IfSome ep (IsEnPassantSquare board turn)
 is_en_passant board turn None h = h
 is_en_passant board turn (Some q) h = h.1
 
-module _ (pieces : List (List ℕ)) (p : Position) (a b c d : List ℕ) (cut : Begins pieces a b c d) (h : AreParts p a b c d) where
+module _ (pieces four : List (List ℕ)) (p : Position) (cut : Begins pieces four) (h : AreParts p four) where
+  placement_is : field pieces 0 ≡ placement_text p.board
+  placement_is = cut.first ∙ ap (λ w. field w 0) h.fields_are
+
+  turn_is : field pieces 1 ≡ turn_text p.turn
+  turn_is = cut.second ∙ ap (λ w. field w 1) h.fields_are
+
+  castling_is : field pieces 2 ≡ castling_text p.rights
+  castling_is = cut.third ∙ ap (λ w. field w 2) h.fields_are
+
+  square_is : field pieces 3 ≡ en_passant_text p.ep
+  square_is = cut.fourth ∙ ap (λ w. field w 3) h.fields_are
+
   spells_board : SpellsBoard pieces p.board
-  spells_board = record { places = h.places; placement = subst (PlacementText p.board) (sym cut.first) ((h.board_is p.board h.places).1 refl) }
+  spells_board = (h.places, placement_is)
 
   only_board : (x : List Place) → SpellsBoard pieces x → x ≡ p.board
-  only_board x s = (h.board_is x s.places).0 (subst (PlacementText x) cut.first s.placement)
+  only_board x s = placement_injective x p.board s.0 h.places (sym s.1 ∙ placement_is)
 
-  spells_en_passant : SpellsEnPassant pieces p.turn p.ep
-  spells_en_passant = record { side = cut.second ∙ h.turn_is; square = cut.fourth ∙ h.en_passant_is; rank = h.rank_is }
+  spells_square : SpellsSquare pieces p.turn p.ep
+  spells_square = (turn_is, square_is, h.rank_is)
 
   -- none of the refusals of the four texts is due
   no_text_due : All (NotDue pieces) of_texts
   no_text_due =
       all_four (NotDue pieces) refusal.Placement refusal.Turn refusal.Castling refusal.EnPassantText
-      (λ due. due p.board spells_board) (λ due. due p.turn (cut.second ∙ h.turn_is)) (λ due. due p.rights (cut.third ∙ h.rights_is)) (λ due. due p.turn p.ep spells_en_passant)
+      (λ due. due p.board spells_board) (λ due. due p.turn turn_is) (λ due. due p.rights castling_is) (λ due. due p.turn p.ep spells_square)
 
-  kings_due : IsFault fault.Kings p → IsDue refusal.Kings pieces
+  kings_due : IsFault fault.Kings p → IsDueFen pieces refusal.Kings
   kings_due bad x s white black =
       let same = only_board x s in
       bad (subst (λ w. HasOneKing w White) same white) (subst (λ w. HasOneKing w Black) same black)
 
-  pawns_due : IsFault fault.Pawns p → IsDue refusal.Pawns pieces
+  pawns_due : IsFault fault.Pawns p → IsDueFen pieces refusal.Pawns
   pawns_due bad x s none = bad (subst HasNoEdgePawn (only_board x s) none)
 
-  en_passant_due : IsFault fault.EnPassant p → IsDue refusal.EnPassantPawn pieces
+  en_passant_due : IsFault fault.EnPassant p → IsDueFen pieces refusal.EnPassantPawn
   en_passant_due bad x t q s sp holds =
       let same = only_board x s in
-      let side : t ≡ p.turn = turn_injective t p.turn (sym sp.side ∙ cut.second ∙ h.turn_is) in
-      let square : q ≡ p.ep = en_passant_injective t q p.ep sp.rank (subst (λ w. IfSome p.ep (λ y. OnEnPassantRank w y)) (sym side) h.rank_is) (sym sp.square ∙ cut.fourth ∙ h.en_passant_is) in
-      bad (en_passant_holds p.board p.turn p.ep h.rank_is (subst (λ w. IfSome w (λ y. IsEnPassantSquare p.board p.turn y)) square (subst (λ w. IfSome q (λ y. IsEnPassantSquare p.board w y)) side (subst (λ w. IfSome q (λ y. IsEnPassantSquare w t y)) same holds))))
+      let side : t ≡ p.turn = turn_injective t p.turn (sym sp.0 ∙ turn_is) in
+      let square : q ≡ p.ep = en_passant_injective t q p.ep sp.2 (subst (λ w. IfSome p.ep (OnEnPassantRank w)) (sym side) h.rank_is) (sym sp.1 ∙ square_is) in
+      bad (en_passant_holds p.board p.turn p.ep h.rank_is (subst (λ w. IfSome w (IsEnPassantSquare p.board p.turn)) square (subst (λ w. IfSome q (IsEnPassantSquare p.board w)) side (subst (λ w. IfSome q (IsEnPassantSquare w t)) same holds))))
 
   -- the parts break a rule exactly where the refusal of that rule is due
-  fault_is : (e : SetupError) → IsFault e p ↔ IsDue (refusal_of e) pieces
+  fault_is : (e : SetupError) → IsFault e p ↔ IsDueFen pieces (refusal_of e)
   fault_is fault.Kings = (kings_due, λ due white black. due p.board spells_board white black)
   fault_is fault.Pawns = (pawns_due, λ due none. due p.board spells_board none)
-  fault_is fault.EnPassant = (en_passant_due, λ due holds. due p.board p.turn p.ep spells_board spells_en_passant (is_en_passant p.board p.turn p.ep holds))
+  fault_is fault.EnPassant = (en_passant_due, λ due holds. due p.board p.turn p.ep spells_board spells_square (is_en_passant p.board p.turn p.ep holds))
 
   fault_due : (e : SetupError) → IsFirstFault e p → IsFirstDue of_parts (refusal_of e) pieces
-  fault_due e f = first_map refusal_of (λ x. IsFault x p) (λ x. IsDue x pieces) (fault.Kings ∷ fault.Pawns ∷ fault.EnPassant ∷ []) e (λ i x lt. fault_is _) f
+  fault_due e f = first_map refusal_of (λ x. IsFault x p) (IsDueFen pieces) (fault.Kings ∷ fault.Pawns ∷ fault.EnPassant ∷ []) e (λ i x lt. fault_is _) f
 
   no_fault_due : IsSetup p → All (NotDue pieces) of_parts
   no_fault_due lawful =
@@ -101,25 +114,14 @@ module _ (pieces : List (List ℕ)) (p : Position) (a b c d : List ℕ) (cut : B
 
 -- ---- four texts
 
-pub setup_found : (p : Position) (a b c d : List ℕ) → AreParts p a b c d → AreFields p (a ∷ b ∷ c ∷ d ∷ [])
-setup_found p a b c d h = record {
-  placement = a;
-  placement_is = (h.board_is p.board h.places).1 refl;
-  are = ap (λ x. a ∷ x ∷ c ∷ d ∷ []) h.turn_is ∙ ap (λ x. a ∷ turn_text p.turn ∷ x ∷ d ∷ []) h.rights_is ∙ ap (λ x. a ∷ turn_text p.turn ∷ castling_text p.rights ∷ x ∷ []) h.en_passant_is;
-}
-
-pub four_begin : (a b c d : List ℕ) → Begins (a ∷ b ∷ c ∷ d ∷ []) a b c d
-four_begin a b c d = record { first = refl; second = refl; third = refl; fourth = refl }
+pub setup_fault : (e : FenError) (p : Position) (four : List (List ℕ)) → AreParts p four → IsRefusedAs e p → IsFirstDue of_setup e four
+setup_fault e p four h r =
+    let cut : Begins four four = record { first = refl; second = refl; third = refl; fourth = refl } in
+    subst (λ x. IsFirstDue of_setup x four) (sym r.is)
+    (first_behind (IsDueFen four) of_texts of_parts (refusal_of r.cause) (no_text_due four four p cut h) (fault_due four four p cut h r.cause r.first))
 
 pub texts_refused : (e : FenError) (four : List (List ℕ)) (a b c d : List ℕ) → four ≡ a ∷ b ∷ c ∷ d ∷ [] → IsFirstDue (take 4 of_setup) e (a ∷ b ∷ c ∷ d ∷ []) → IsFirstDue of_setup e four
-texts_refused e four a b c d is h = subst (IsFirstDue of_setup e) (sym is) (first_front (λ x. IsDue x (a ∷ b ∷ c ∷ d ∷ [])) of_texts of_parts e h)
-
-pub setup_fault : (e : FenError) (p : Position) (a b c d : List ℕ) → AreParts p a b c d → IsRefusedAs e p → IsFirstDue of_setup e (a ∷ b ∷ c ∷ d ∷ [])
-setup_fault e p a b c d h r =
-    let pieces = a ∷ b ∷ c ∷ d ∷ [] in
-    let cut = four_begin a b c d in
-    subst (λ x. IsFirstDue of_setup x pieces) (sym r.is)
-    (first_behind (λ x. IsDue x pieces) of_texts of_parts (refusal_of r.cause) (no_text_due pieces p a b c d cut h) (fault_due pieces p a b c d cut h r.cause r.first))
+texts_refused e four a b c d is h = subst (IsFirstDue of_setup e) (sym is) (first_front (IsDueFen (a ∷ b ∷ c ∷ d ∷ [])) of_texts of_parts e h)
 
 -- a list of four
 pub four_cells : {A : Type 0} (xs : List A) (d : A) → length xs ≡ 4 → xs ≡ get_or xs 0 d ∷ get_or xs 1 d ∷ get_or xs 2 d ∷ get_or xs 3 d ∷ []
@@ -133,126 +135,108 @@ four_cells (w ∷ x ∷ y ∷ z ∷ v ∷ vs) d e = absurd (omega (arith, e))
 -- ---- six texts
 
 -- what a refusal of one of the four texts asks is the same of all six
-four_of_six : (a b c d e f : List ℕ) → All (λ x. IsDue x (a ∷ b ∷ c ∷ d ∷ []) ↔ IsDue x (a ∷ b ∷ c ∷ d ∷ e ∷ f ∷ [])) of_texts
+four_of_six : (a b c d e f : List ℕ) → All (λ x. IsDueFen (a ∷ b ∷ c ∷ d ∷ []) x ↔ IsDueFen (a ∷ b ∷ c ∷ d ∷ e ∷ f ∷ []) x) of_texts
 four_of_six a b c d e f =
-    let Same : FenError → Type 0 = λ x. IsDue x (a ∷ b ∷ c ∷ d ∷ []) ↔ IsDue x (a ∷ b ∷ c ∷ d ∷ e ∷ f ∷ []) in
-    all_four Same refusal.Placement refusal.Turn refusal.Castling refusal.EnPassantText
-    (λ h board s. h board (record { places = s.places; placement = s.placement }), λ h board s. h board (record { places = s.places; placement = s.placement }))
-    (λ h. h, λ h. h) (λ h. h, λ h. h)
-    (λ h t q s. h t q (record { side = s.side; square = s.square; rank = s.rank }), λ h t q s. h t q (record { side = s.side; square = s.square; rank = s.rank }))
+    let Same : FenError → Type 0 = λ x. IsDueFen (a ∷ b ∷ c ∷ d ∷ []) x ↔ IsDueFen (a ∷ b ∷ c ∷ d ∷ e ∷ f ∷ []) x in
+    all_four Same refusal.Placement refusal.Turn refusal.Castling refusal.EnPassantText (λ h. h, λ h. h) (λ h. h, λ h. h) (λ h. h, λ h. h) (λ h. h, λ h. h)
 
-module _ (text a b c d e f : List ℕ) (cut : fields text ≡ a ∷ b ∷ c ∷ d ∷ e ∷ f ∷ []) where
-  six_begin : Begins (fields text) a b c d
+module _ (text a b c d e f : List ℕ) (cut : fields 32 text ≡ a ∷ b ∷ c ∷ d ∷ e ∷ f ∷ []) where
+  six_begin : Begins (fields 32 text) (a ∷ b ∷ c ∷ d ∷ [])
   six_begin = record { first = ap (λ p. field p 0) cut; second = ap (λ p. field p 1) cut; third = ap (λ p. field p 2) cut; fourth = ap (λ p. field p 3) cut }
 
-  are_six : NotDue (fields text) refusal.Fields
+  are_six : NotDue (fields 32 text) refusal.Fields
   are_six due = due (ap length cut)
 
   -- a refusal of one of the first four fields
-  pub four_refused : (x : FenError) → IsFirstDue (take 4 of_setup) x (a ∷ b ∷ c ∷ d ∷ []) → IsFirstDue of_record x (fields text)
+  pub four_refused : (x : FenError) → IsFirstDue (take 4 of_setup) x (a ∷ b ∷ c ∷ d ∷ []) → IsFirstDue fen_errors x (fields 32 text)
   four_refused x h =
       let six = a ∷ b ∷ c ∷ d ∷ e ∷ f ∷ [] in
-      let here : IsFirstDue of_texts x six = first_map (λ y. y) (λ y. IsDue y (a ∷ b ∷ c ∷ d ∷ [])) (λ y. IsDue y six) of_texts x (four_of_six a b c d e f) h in
-      first_later (λ y. IsDue y (fields text)) refusal.Fields x _ are_six
-      (first_front (λ y. IsDue y (fields text)) of_texts (refusal.Half ∷ refusal.Full ∷ of_parts) x (subst (IsFirstDue of_texts x) (sym cut) here))
+      let here : IsFirstDue of_texts x six = first_map (λ y. y) (IsDueFen (a ∷ b ∷ c ∷ d ∷ [])) (IsDueFen six) of_texts x (four_of_six a b c d e f) h in
+      first_later (IsDueFen (fields 32 text)) refusal.Fields x _ are_six
+      (first_front (IsDueFen (fields 32 text)) of_texts (refusal.Half ∷ refusal.Full ∷ of_parts) x (subst (IsFirstDue of_texts x) (sym cut) here))
 
-  module _ (p : Position) (h : AreParts p a b c d) where
+  module _ (p : Position) (h : AreParts p (a ∷ b ∷ c ∷ d ∷ [])) where
     -- the fields before the fifth are no cause
-    no_field_due : All (NotDue (fields text)) (refusal.Fields ∷ of_texts)
-    no_field_due = All-cons (NotDue (fields text)) refusal.Fields of_texts are_six (no_text_due (fields text) p a b c d six_begin h)
+    no_field_due : All (NotDue (fields 32 text)) (refusal.Fields ∷ of_texts)
+    no_field_due = All-cons (NotDue (fields 32 text)) refusal.Fields of_texts are_six (no_text_due (fields 32 text) (a ∷ b ∷ c ∷ d ∷ []) p six_begin h)
 
-    no_half_due : (half : ℕ) → (half < 2 ^ 16) × (e ≡ number_text half) → NotDue (fields text) refusal.Half
+    no_half_due : (half : ℕ) → (half < 2 ^ 16) × (e ≡ decimal half) → NotDue (fields 32 text) refusal.Half
     no_half_due half is due = due half is.0 (ap (λ w. field w 4) cut ∙ is.1)
 
     -- nor are the clocks
-    no_clock_due : (half full : ℕ) → (half < 2 ^ 16) × (e ≡ number_text half) → (0 < full) × (full < 2 ^ 16) × (f ≡ number_text full) → All (NotDue (fields text)) (refusal.Fields ∷ (of_texts ++ refusal.Half ∷ refusal.Full ∷ []))
+    no_clock_due : (half full : ℕ) → (half < 2 ^ 16) × (e ≡ decimal half) → (0 < full) × (full < 2 ^ 16) × (f ≡ decimal full) → All (NotDue (fields 32 text)) (refusal.Fields ∷ (of_texts ++ refusal.Half ∷ refusal.Full ∷ []))
     no_clock_due half full is count =
-        All-append (NotDue (fields text)) (refusal.Fields ∷ of_texts) (refusal.Half ∷ refusal.Full ∷ []) no_field_due
-        (all_two (NotDue (fields text)) refusal.Half refusal.Full (no_half_due half is) (λ due. due full count.0 count.1 (ap (λ w. field w 5) cut ∙ count.2)))
+        All-append (NotDue (fields 32 text)) (refusal.Fields ∷ of_texts) (refusal.Half ∷ refusal.Full ∷ []) no_field_due
+        (all_two (NotDue (fields 32 text)) refusal.Half refusal.Full (no_half_due half is) (λ due. due full count.0 count.1 (ap (λ w. field w 5) cut ∙ count.2)))
 
-    pub half_refused : ((n : ℕ) → n < 2 ^ 16 → e ≡ number_text n → ⊥) → IsFirstDue of_record refusal.Half (fields text)
+    pub half_refused : ((n : ℕ) → n < 2 ^ 16 → e ≡ decimal n → ⊥) → IsFirstDue fen_errors refusal.Half (fields 32 text)
     half_refused bad =
-        first_behind (λ y. IsDue y (fields text)) (refusal.Fields ∷ of_texts) (refusal.Half ∷ refusal.Full ∷ of_parts) refusal.Half no_field_due
-        (first_here (λ y. IsDue y (fields text)) refusal.Half (refusal.Full ∷ of_parts) (λ n lt is. bad n lt (sym (ap (λ w. field w 4) cut) ∙ is)))
+        first_behind (IsDueFen (fields 32 text)) (refusal.Fields ∷ of_texts) (refusal.Half ∷ refusal.Full ∷ of_parts) refusal.Half no_field_due
+        (first_here (IsDueFen (fields 32 text)) refusal.Half (refusal.Full ∷ of_parts) (λ n lt is. bad n lt (sym (ap (λ w. field w 4) cut) ∙ is)))
 
-    pub full_refused : (half : ℕ) → (half < 2 ^ 16) × (e ≡ number_text half) → ((n : ℕ) → 0 < n → n < 2 ^ 16 → f ≡ number_text n → ⊥) → IsFirstDue of_record refusal.Full (fields text)
+    pub full_refused : (half : ℕ) → (half < 2 ^ 16) × (e ≡ decimal half) → ((n : ℕ) → 0 < n → n < 2 ^ 16 → f ≡ decimal n → ⊥) → IsFirstDue fen_errors refusal.Full (fields 32 text)
     full_refused half number bad =
-        first_behind (λ y. IsDue y (fields text)) (refusal.Fields ∷ of_texts) (refusal.Half ∷ refusal.Full ∷ of_parts) refusal.Full no_field_due
-        (first_later (λ y. IsDue y (fields text)) refusal.Half refusal.Full (refusal.Full ∷ of_parts) (no_half_due half number)
-        (first_here (λ y. IsDue y (fields text)) refusal.Full of_parts (λ n low lt is. bad n low lt (sym (ap (λ w. field w 5) cut) ∙ is))))
+        first_behind (IsDueFen (fields 32 text)) (refusal.Fields ∷ of_texts) (refusal.Half ∷ refusal.Full ∷ of_parts) refusal.Full no_field_due
+        (first_later (IsDueFen (fields 32 text)) refusal.Half refusal.Full (refusal.Full ∷ of_parts) (no_half_due half number)
+        (first_here (IsDueFen (fields 32 text)) refusal.Full of_parts (λ n low lt is. bad n low lt (sym (ap (λ w. field w 5) cut) ∙ is))))
 
-    pub setup_refused : (x : FenError) (half full : ℕ) → (half < 2 ^ 16) × (e ≡ number_text half) → (0 < full) × (full < 2 ^ 16) × (f ≡ number_text full) → IsRefusedAs x p → IsFirstDue of_record x (fields text)
+    pub setup_refused : (x : FenError) (half full : ℕ) → (half < 2 ^ 16) × (e ≡ decimal half) → (0 < full) × (full < 2 ^ 16) × (f ≡ decimal full) → IsRefusedAs x p → IsFirstDue fen_errors x (fields 32 text)
     setup_refused x half full is count r =
-        subst (λ w. IsFirstDue of_record w (fields text)) (sym r.is)
-        (first_behind (λ y. IsDue y (fields text)) (refusal.Fields ∷ (of_texts ++ refusal.Half ∷ refusal.Full ∷ [])) of_parts (refusal_of r.cause) (no_clock_due half full is count) (fault_due (fields text) p a b c d six_begin h r.cause r.first))
+        subst (λ w. IsFirstDue fen_errors w (fields 32 text)) (sym r.is)
+        (first_behind (IsDueFen (fields 32 text)) (refusal.Fields ∷ (of_texts ++ refusal.Half ∷ refusal.Full ∷ [])) of_parts (refusal_of r.cause) (no_clock_due half full is count) (fault_due (fields 32 text) (a ∷ b ∷ c ∷ d ∷ []) p six_begin h r.cause r.first))
 
-    pub text_found : (half full : ℕ) → (half < 2 ^ 16) × (e ≡ number_text half) → (0 < full) × (full < 2 ^ 16) × (f ≡ number_text full) → IsSetup p → IsRecord (record_of p half full) × FenText (record_of p half full) text
+    pub text_found : (half full : ℕ) → (half < 2 ^ 16) × (e ≡ decimal half) → (0 < full) × (full < 2 ^ 16) × (f ≡ decimal full) → IsSetup p → IsRecord (record_of p half full) × (text ≡ fen_text (record_of p half full))
     text_found half full number count lawful = (
       record { setup = lawful; half = number.0; low = count.0; full = count.1 },
-      record {
-        four = a ∷ b ∷ c ∷ d ∷ [];
-        fields = setup_found p a b c d h;
-        joined =
-            sym (join_with_byte-slice_split 32 text) ∙ ap (join_with_byte 32) cut ∙ ap (λ x. join_with_byte 32 (a ∷ b ∷ c ∷ d ∷ x ∷ f ∷ [])) number.1 ∙ ap (λ x. join_with_byte 32 (a ∷ b ∷ c ∷ d ∷ number_text half ∷ x ∷ [])) count.2;
-      },
+      sym (join_with_byte-slice_split 32 text) ∙ ap (join_with_byte 32) cut ∙ ap (λ x. join_with_byte 32 (a ∷ b ∷ c ∷ d ∷ x ∷ f ∷ [])) number.1
+          ∙ ap (λ x. join_with_byte 32 (a ∷ b ∷ c ∷ d ∷ decimal half ∷ x ∷ [])) count.2 ∙ ap (λ (four : List (List ℕ)). join_with_byte 32 (four ++ decimal half ∷ decimal full ∷ [])) h.fields_are,
     )
 
 -- ---- the other way: a text of a record
 
 -- the fields of a setup are its parts
-parts_of : (p : Position) (placement : List ℕ) → IsSetup p → PlacementText p.board placement → AreParts p placement (turn_text p.turn) (castling_text p.rights) (en_passant_text p.ep)
-parts_of p placement lawful h = record {
-  places = lawful.places;
-  board_is = λ x len. (λ k. placement_one_board x p.board placement len lawful.places k h, λ e. subst (λ w. PlacementText w placement) (sym e) h);
-  turn_is = refl;
-  rights_is = refl;
-  en_passant_is = refl;
-  rank_is = on_rank p.board p.turn p.ep lawful.en_passant;
-}
+parts_of : (p : Position) → IsSetup p → AreParts p (setup_fields p)
+parts_of p lawful = record { places = lawful.places; fields_are = refl; rank_is = on_rank p.board p.turn p.ep lawful.en_passant }
 
 -- where the text spells a record, no refusal is due
-pub record_never_due : (f : Record) (text : List ℕ) (e : FenError) → IsRecord f → FenText f text → IsFirstDue of_record e (fields text) → ⊥
+pub record_never_due : (f : Record) (text : List ℕ) (e : FenError) → IsRecord f → text ≡ fen_text f → IsFirstDue fen_errors e (fields 32 text) → ⊥
 record_never_due f text e lawful h =
     let p = f.setup in
-    let a = h.fields.placement in
+    let a = placement_text p.board in
     let b = turn_text p.turn in
     let c = castling_text p.rights in
     let d = en_passant_text p.ep in
-    let cut = fields_of_text f text lawful h in
-    let parts = parts_of p a lawful.setup h.fields.placement_is in
-    let clocks = no_clock_due text a b c d (number_text f.half) (number_text f.full) cut p parts f.half f.full (lawful.half, refl) (lawful.low, lawful.full, refl) in
-    let setup = no_fault_due (fields text) p a b c d (six_begin text a b c d (number_text f.half) (number_text f.full) cut) parts lawful.setup in
-    none_first (λ x. IsDue x (fields text)) of_record e (All-append (NotDue (fields text)) (refusal.Fields ∷ (of_texts ++ refusal.Half ∷ refusal.Full ∷ [])) of_parts clocks setup)
+    let cut = ap (fields 32) h ∙ fields_of_text f lawful in
+    let parts = parts_of p lawful.setup in
+    let clocks = no_clock_due text a b c d (decimal f.half) (decimal f.full) cut p parts f.half f.full (lawful.half, refl) (lawful.low, lawful.full, refl) in
+    let setup = no_fault_due (fields 32 text) (a ∷ b ∷ c ∷ d ∷ []) p (six_begin text a b c d (decimal f.half) (decimal f.full) cut) parts lawful.setup in
+    none_first (IsDueFen (fields 32 text)) fen_errors e (All-append (NotDue (fields 32 text)) (refusal.Fields ∷ (of_texts ++ refusal.Half ∷ refusal.Full ∷ [])) of_parts clocks setup)
 
 -- what `read_fen` answers for a text of the record f
-pub only_record : (r : Result Record FenError) (f : Record) (text : List ℕ) → IfOk r (λ g. IsRecord g × FenText g text) → IfErr r (λ e. IsFirstDue of_record e (fields text)) → IsRecord f → FenText f text → r ≡ Ok f
+pub only_record : (r : Result Record FenError) (f : Record) (text : List ℕ) → IfOk r (λ g. IsRecord g × (text ≡ fen_text g)) → IfErr r (λ e. IsFirstDue fen_errors e (fields 32 text)) → IsRecord f → text ≡ fen_text f → r ≡ Ok f
 only_record (Ok g) f text found refused lawful h = ap (λ x. Ok x) (one_record g f text found.0 lawful found.1 h)
 only_record (Err e) f text found refused lawful h = absurd (record_never_due f text e lawful h refused)
 
-pub setup_never_due : (p : Position) (four : List (List ℕ)) (e : FenError) → IsSetup p → AreFields p four → IsFirstDue of_setup e four → ⊥
+pub setup_never_due : (p : Position) (four : List (List ℕ)) (e : FenError) → IsSetup p → four ≡ setup_fields p → IsFirstDue of_setup e four → ⊥
 setup_never_due p four e lawful h refused =
-    let a = h.placement in
-    let b = turn_text p.turn in
-    let c = castling_text p.rights in
-    let d = en_passant_text p.ep in
-    let pieces = a ∷ b ∷ c ∷ d ∷ [] in
-    let parts = parts_of p a lawful h.placement_is in
-    let texts = no_text_due pieces p a b c d (four_begin a b c d) parts in
-    let setup = no_fault_due pieces p a b c d (four_begin a b c d) parts lawful in
-    none_first (λ x. IsDue x pieces) of_setup e (All-append (NotDue pieces) of_texts of_parts texts setup) (subst (IsFirstDue of_setup e) h.are refused)
+    let pieces = setup_fields p in
+    let begins : Begins pieces pieces = record { first = refl; second = refl; third = refl; fourth = refl } in
+    let parts = parts_of p lawful in
+    let texts = no_text_due pieces pieces p begins parts in
+    let setup = no_fault_due pieces pieces p begins parts lawful in
+    none_first (IsDueFen pieces) of_setup e (All-append (NotDue pieces) of_texts of_parts texts setup) (subst (IsFirstDue of_setup e) h refused)
 
-pub only_setup : (r : Result Position FenError) (p : Position) (four : List (List ℕ)) → IfOk r (λ s. IsSetup s × AreFields s four) → IfErr r (λ e. IsFirstDue of_setup e four) → IsSetup p → AreFields p four → r ≡ Ok p
+pub only_setup : (r : Result Position FenError) (p : Position) (four : List (List ℕ)) → IfOk r (λ s. IsSetup s × (four ≡ setup_fields s)) → IfErr r (λ e. IsFirstDue of_setup e four) → IsSetup p → four ≡ setup_fields p → r ≡ Ok p
 only_setup (Ok s) p four found refused lawful h = ap (λ x. Ok x) (one_setup s p four found.0 lawful found.1 h)
 only_setup (Err e) p four found refused lawful h = absurd (setup_never_due p four e lawful h refused)
 
 pub four_texts : (four : List (Bor (List ℕ))) (d : Bor (List ℕ)) → length four ≡ 4 → map (λ t. t.now) four ≡ (get_or four 0 d).now ∷ (get_or four 1 d).now ∷ (get_or four 2 d).now ∷ (get_or four 3 d).now ∷ []
 four_texts four d e = ap (λ (w : List (Bor (List ℕ))). map (λ t. t.now) w) (four_cells four d e)
 
-pub built_found : (r : Result Position FenError) (p : Position) (four : List (List ℕ)) (a b c d : List ℕ) → four ≡ a ∷ b ∷ c ∷ d ∷ [] → AreParts p a b c d → MatchResult r (λ s. (s ≡ p) × IsSetup p) (λ e. IsRefusedAs e p) → IfOk r (λ s. IsSetup s × AreFields s four)
-built_found (Ok s) p four a b c d is h built =
-    (subst IsSetup (sym built.0) built.1, subst (λ w. AreFields s w) (sym is) (subst (λ w. AreFields w (a ∷ b ∷ c ∷ d ∷ [])) (sym built.0) (setup_found p a b c d h)))
+pub built_found : (r : Result Position FenError) (p : Position) (four : List (List ℕ)) (a b c d : List ℕ) → four ≡ a ∷ b ∷ c ∷ d ∷ [] → AreParts p (a ∷ b ∷ c ∷ d ∷ []) → MatchResult r (λ s. (s ≡ p) × IsSetup p) (λ e. IsRefusedAs e p) → IfOk r (λ s. IsSetup s × (four ≡ setup_fields s))
+built_found (Ok s) p four a b c d is h built = (subst IsSetup (sym built.0) built.1, is ∙ h.fields_are ∙ ap setup_fields (sym built.0))
 built_found (Err e) p four a b c d is h built = tt
 
-pub built_refused : (r : Result Position FenError) (p : Position) (four : List (List ℕ)) (a b c d : List ℕ) → four ≡ a ∷ b ∷ c ∷ d ∷ [] → AreParts p a b c d → MatchResult r (λ s. (s ≡ p) × IsSetup p) (λ e. IsRefusedAs e p) → IfErr r (λ e. IsFirstDue of_setup e four)
+pub built_refused : (r : Result Position FenError) (p : Position) (four : List (List ℕ)) (a b c d : List ℕ) → four ≡ a ∷ b ∷ c ∷ d ∷ [] → AreParts p (a ∷ b ∷ c ∷ d ∷ []) → MatchResult r (λ s. (s ≡ p) × IsSetup p) (λ e. IsRefusedAs e p) → IfErr r (λ e. IsFirstDue of_setup e four)
 built_refused (Ok s) p four a b c d is h built = tt
-built_refused (Err e) p four a b c d is h built = subst (IsFirstDue of_setup e) (sym is) (setup_fault e p a b c d h built)
+built_refused (Err e) p four a b c d is h built = subst (IsFirstDue of_setup e) (sym is) (setup_fault e p (a ∷ b ∷ c ∷ d ∷ []) h built)

@@ -13,7 +13,11 @@ use Rattle.pb_board.specs.declared.piece.Kind.TheVariants.{Pawn, Knight, Bishop,
 use Rattle.pb_board.specs.declared.setup.Rights.{Rights}
 use Rattle.pb_board.specs.Board.{Place, Board, file, rank}
 use Rattle.pb_board.specs.Position.{OnEnPassantRank}
-use Rattle.pb_board.specs.Text.{letter_of, RankText, PlacementText, rank_of, ranks_down, turn_text, castling_text, flag_letters, letter_if, or_dash, en_passant_text, number_text}
+use Rattle.pb_board.specs.Piece.{piece_of}
+use Rattle.pb_board.specs.Ranks.{RankText}
+use Rattle.pb_board.specs.Text.{castling_text, en_passant_text, piece_letter, placement_text, turn_text}
+use Rattle.pb_board.proofs.Placements.{PlacementText, rank_of, ranks_down}
+use Rattle.pb_board.proofs.Spelled.{castling_is, flag_letters, letter_if, or_dash, placement_is}
 use Rattle.pb_board.proofs.Numbers.{clock_numeral}
 use Rattle.pb_board.proofs.Joins.{Above}
 
@@ -42,7 +46,7 @@ above_space (b ∷ text) h = (omega (arith, (All-head IsFieldByte b text h).low)
 
 -- ---- the placement
 
-letter_byte : (c : Colour) (k : Kind) → IsFieldByte (letter_of c k)
+letter_byte : (c : Colour) (k : Kind) → IsFieldByte (piece_letter (piece_of c k))
 letter_byte White Pawn = high_byte 80 (omega arith) (omega arith)
 letter_byte White Knight = high_byte 78 (omega arith) (omega arith)
 letter_byte White Bishop = high_byte 66 (omega arith) (omega arith)
@@ -86,7 +90,7 @@ ranks_bytes (suc n) board (t ∷ u ∷ ts) h =
     (All-cons IsFieldByte 47 (join_with_byte 47 (u ∷ ts)) (byte 47 (omega arith) (omega arith)) (ranks_bytes n board (u ∷ ts) h.1))
 
 -- n ranks have at most eight bytes each, and a slash between two
-pub ranks_length : (n : ℕ) (board : Board) (texts : List (List ℕ)) → AllZip RankText (ranks_down board n) texts → (n ≤ length (join_with_byte 47 texts) + 1) × (length (join_with_byte 47 texts) ≤ 9 * n)
+ranks_length : (n : ℕ) (board : Board) (texts : List (List ℕ)) → AllZip RankText (ranks_down board n) texts → (n ≤ length (join_with_byte 47 texts) + 1) × (length (join_with_byte 47 texts) ≤ 9 * n)
 ranks_length zero board [] h = (omega arith, omega arith)
 ranks_length zero board (t ∷ ts) h = absurd h
 ranks_length (suc n) board [] h = absurd h
@@ -102,8 +106,19 @@ ranks_length (suc n) board (t ∷ u ∷ ts) h =
 
 -- ---- the other fields
 
-pub placement_bytes : (board : Board) (text : List ℕ) → PlacementText board text → AreFieldBytes text
-placement_bytes board text h = All-same IsFieldByte text (join_with_byte 47 h.0) h.2 (ranks_bytes 8 board h.0 h.1)
+placement_bytes_of : (board : Board) (text : List ℕ) → PlacementText board text → AreFieldBytes text
+placement_bytes_of board text h = All-same IsFieldByte text (join_with_byte 47 h.0) h.2 (ranks_bytes 8 board h.0 h.1)
+
+pub placement_bytes : (board : Board) → AreFieldBytes (placement_text board)
+placement_bytes board = placement_bytes_of board (placement_text board) (placement_is board)
+
+placement_length_of : (board : Board) (text : List ℕ) → PlacementText board text → (8 ≤ length text + 1) × (length text ≤ 72)
+placement_length_of board text h =
+    let lengths = ranks_length 8 board h.0 h.1 in
+    (omega (arith, lengths.0, ap length h.2), omega (arith, lengths.1, ap length h.2))
+
+pub placement_length : (board : Board) → (8 ≤ length (placement_text board) + 1) × (length (placement_text board) ≤ 72)
+placement_length board = placement_length_of board (placement_text board) (placement_is board)
 
 pub turn_bytes : (turn : Colour) → AreFieldBytes (turn_text turn)
 turn_bytes White = one 119 (high_byte 119 (omega arith) (omega arith))
@@ -119,20 +134,20 @@ dash_bytes (c ∷ text) h = h
 
 pub castling_bytes : (r : Rights) → AreFieldBytes (castling_text r)
 castling_bytes r =
-    dash_bytes (flag_letters r) (All-append IsFieldByte (letter_if r.white_short 75) _ (flag_bytes r.white_short 75 (omega arith) (omega arith))
+    subst AreFieldBytes (castling_is r) (dash_bytes (flag_letters r) (All-append IsFieldByte (letter_if r.white_short 75) _ (flag_bytes r.white_short 75 (omega arith) (omega arith))
     (All-append IsFieldByte (letter_if r.white_long 81) _ (flag_bytes r.white_long 81 (omega arith) (omega arith))
     (All-append IsFieldByte (letter_if r.black_short 107) _ (flag_bytes r.black_short 107 (omega arith) (omega arith))
-    (flag_bytes r.black_long 113 (omega arith) (omega arith)))))
+    (flag_bytes r.black_long 113 (omega arith) (omega arith))))))
 
 en_passant_bytes_at : (turn : Colour) (q : ℕ) → OnEnPassantRank turn q → IsFieldByte (49 + rank q)
 en_passant_bytes_at White q h = byte (49 + rank q) (omega arith) (omega (arith, h))
 en_passant_bytes_at Black q h = byte (49 + rank q) (omega arith) (omega (arith, h))
 
-pub en_passant_bytes : (turn : Colour) (ep : Option ℕ) → IfSome ep (λ q. OnEnPassantRank turn q) → AreFieldBytes (en_passant_text ep)
+pub en_passant_bytes : (turn : Colour) (ep : Option ℕ) → IfSome ep (OnEnPassantRank turn) → AreFieldBytes (en_passant_text ep)
 en_passant_bytes turn None h = one 45 (byte 45 (omega arith) (omega arith))
 en_passant_bytes turn (Some q) h = All-cons IsFieldByte (97 + file q) ((49 + rank q) ∷ []) (high_byte (97 + file q) (omega arith) (omega arith)) (one (49 + rank q) (en_passant_bytes_at turn q h))
 
-pub number_bytes : (n : ℕ) → n < 2 ^ 16 → AreFieldBytes (number_text n)
+pub number_bytes : (n : ℕ) → n < 2 ^ 16 → AreFieldBytes (decimal n)
 number_bytes n lt =
     All-from_get_or IsFieldByte (decimal n) 0 (λ i within.
     let digit = (clock_numeral n lt).digits i within in

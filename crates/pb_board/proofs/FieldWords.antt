@@ -1,5 +1,5 @@
 -- Each of the first four fields of a record is a word: 1 to 255 bytes that are no space, no quotation mark and no semicolon.
-use Rattle.std.proofs.Common.{◌≢◌, ℕ, ◌≤◌, Bool, true, false, List, [], ◌∷◌, ◌++◌, length, Option, Some, None, ap, arith}
+use Rattle.std.proofs.Common.{◌≢◌, ℕ, ◌≤◌, Bool, true, false, ◌≡◌, List, [], ◌∷◌, ◌++◌, length, Option, Some, None, subst, arith}
 use Rattle.std.specs.List.{All}
 use Rattle.std.proofs.lemmas.List.{length-append}
 use Rattle.std.proofs.lemmas.List.Elements.{All-nil, All-cons, All-weaker, All-same}
@@ -8,9 +8,9 @@ use Rattle.pb_board.specs.declared.piece.Colour.TheVariants.{White, Black}
 use Rattle.pb_board.specs.declared.setup.Rights.{Rights}
 use Rattle.pb_board.specs.Board.{Board}
 use Rattle.pb_board.specs.Position.{Position, IsSetup}
-use Rattle.pb_board.specs.Text.{PlacementText, turn_text, castling_text, flag_letters, letter_if, or_dash, en_passant_text}
-use Rattle.pb_board.specs.Fen.{AreFields}
-use Rattle.pb_board.proofs.FieldBytes.{IsFieldByte, AreFieldBytes, ranks_length, placement_bytes, turn_bytes, castling_bytes, en_passant_bytes}
+use Rattle.pb_board.specs.Text.{castling_text, en_passant_text, placement_text, setup_fields, turn_text}
+use Rattle.pb_board.proofs.FieldBytes.{IsFieldByte, AreFieldBytes, placement_length, placement_bytes, turn_bytes, castling_bytes, en_passant_bytes}
+use Rattle.pb_board.proofs.Spelled.{castling_is, flag_letters, letter_if, or_dash}
 use Rattle.pb_board.proofs.Unique.{on_rank}
 
 abbrev pub IsPlainByte : ℕ → Type 0
@@ -55,26 +55,27 @@ dash_length (c ∷ text) short = (omega arith, omega (arith, short))
 
 castling_word : (r : Rights) → IsWord (castling_text r)
 castling_word r =
-    let lengths = dash_length (flag_letters r) (flags_short r) in
+    let Fits : List ℕ → Type 0 = λ t. (1 ≤ length t) × (length t ≤ 255) in
+    let lengths = subst Fits (castling_is r) (dash_length (flag_letters r) (flags_short r)) in
     word (castling_text r) lengths.0 lengths.1 (castling_bytes r)
 
 en_passant_length : (ep : Option ℕ) → (1 ≤ length (en_passant_text ep)) × (length (en_passant_text ep) ≤ 255)
 en_passant_length None = (omega arith, omega arith)
 en_passant_length (Some q) = (omega arith, omega arith)
 
-placement_word : (board : Board) (text : List ℕ) → PlacementText board text → IsWord text
-placement_word board text h =
-    let lengths = ranks_length 8 board h.0 h.1 in
-    word text (omega (arith, lengths.0, ap length h.2)) (omega (arith, lengths.1, ap length h.2)) (placement_bytes board text h)
+placement_word : (board : Board) → IsWord (placement_text board)
+placement_word board =
+    let lengths = placement_length board in
+    word (placement_text board) (omega (arith, lengths.0)) (omega (arith, lengths.1)) (placement_bytes board)
 
-pub setup_words : (p : Position) (four : List (List ℕ)) → IsSetup p → AreFields p four → All IsWord four
+pub setup_words : (p : Position) (four : List (List ℕ)) → IsSetup p → four ≡ setup_fields p → All IsWord four
 setup_words p four lawful h =
     let turn = turn_text p.turn in
     let castling = castling_text p.rights in
     let en_passant = en_passant_text p.ep in
     let lengths = en_passant_length p.ep in
-    All-same IsWord four (h.placement ∷ turn ∷ castling ∷ en_passant ∷ []) h.are
-    (All-cons IsWord h.placement (turn ∷ castling ∷ en_passant ∷ []) (placement_word p.board h.placement h.placement_is)
+    All-same IsWord four (setup_fields p) h
+    (All-cons IsWord (placement_text p.board) (turn ∷ castling ∷ en_passant ∷ []) (placement_word p.board)
     (All-cons IsWord turn (castling ∷ en_passant ∷ []) (turn_word p.turn)
     (All-cons IsWord castling (en_passant ∷ []) (castling_word p.rights)
     (All-cons IsWord en_passant [] (word en_passant lengths.0 lengths.1 (en_passant_bytes p.turn p.ep (on_rank p.board p.turn p.ep lawful.en_passant)))

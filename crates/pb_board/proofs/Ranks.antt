@@ -5,7 +5,8 @@ use Rattle.std.proofs.Math.Seq.{take-add}
 use Rattle.std.proofs.lemmas.Bool.{false≢true}
 use Rattle.pb_board.specs.declared.piece.Piece.{Piece}
 use Rattle.pb_board.specs.Board.{Place}
-use Rattle.pb_board.specs.Text.{letter, BeginsOccupied, RankText}
+use Rattle.pb_board.specs.Ranks.{BeginsOccupied, RankText}
+use Rattle.pb_board.specs.Text.{piece_letter}
 use Rattle.pb_board.proofs.Letters.{letter_injective, letter_above}
 
 -- the text of squares that follow a digit, or don't
@@ -15,7 +16,7 @@ pub record RankFrom (after : Bool) (s : List Place) (t : List ℕ) : Type 0 wher
 
 -- ---- the first byte of a text
 
-pub piece_first : (after : Bool) (p : Piece) (c : ℕ) (x : Place) (r : List Place) (t : List ℕ) → c ≡ letter p → RankFrom after (x ∷ r) (c ∷ t) → (x ≡ Some p) × RankFrom false r t
+pub piece_first : (after : Bool) (p : Piece) (c : ℕ) (x : Place) (r : List Place) (t : List ℕ) → c ≡ piece_letter p → RankFrom after (x ∷ r) (c ∷ t) → (x ≡ Some p) × RankFrom false r t
 piece_first after p c x r t is h =
     elim h.text.1 [
       | inl q ↦
@@ -26,7 +27,7 @@ piece_first after p c x r t is h =
       | inr q ↦ absurd (omega (arith, letter_above p, is, q.3, q.2))
     ]
 
-pub piece_again : (after : Bool) (p : Piece) (c : ℕ) (r : List Place) (t : List ℕ) → c ≡ letter p → RankFrom false r t → RankFrom after (Some p ∷ r) (c ∷ t)
+pub piece_again : (after : Bool) (p : Piece) (c : ℕ) (r : List Place) (t : List ℕ) → c ≡ piece_letter p → RankFrom false r t → RankFrom after (Some p ∷ r) (c ∷ t)
 piece_again after p c r t is h = record { start = λ _. tt; text = (r, inl (p, is, refl), h.text) }
 
 pub digit_first : (n c : ℕ) (s : List Place) (t : List ℕ) → c ≡ 48 + n → n ≤ 8 → RankText s (c ∷ t) → (rest : List Place) × (s ≡ replicate n None ++ rest) × RankFrom true rest t
@@ -51,7 +52,7 @@ digit_twice n c s t is low high h =
     let d = digit_first n c s t is high h.text in
     begins_empty n s d.0 low d.1 (h.start refl)
 
-pub no_first : (c : ℕ) (s : List Place) (t : List ℕ) → ((p : Piece) → letter p ≡ c → ⊥) → ((49 ≤ c) × (c ≤ 56) → ⊥) → RankText s (c ∷ t) → ⊥
+pub no_first : (c : ℕ) (s : List Place) (t : List ℕ) → ((p : Piece) → piece_letter p ≡ c → ⊥) → ((49 ≤ c) × (c ≤ 56) → ⊥) → RankText s (c ∷ t) → ⊥
 no_first c s t letters digits h =
     elim h.1 [
       | inl q ↦ letters q.0 (sym q.1)
@@ -116,7 +117,7 @@ blank_more : (squares : List Place) (file n : ℕ) → file + n ≤ 8 → drop f
 blank_more squares file n fits h =
     sym (drop-drop n file squares) ∙ ap (drop n) h ∙ drop-blank n (8 - file) (8 - (file + n)) (omega arith)
 
-pub rank_piece : (text : List ℕ) (squares : List Place) (file : ℕ) (after : Bool) (c : ℕ) (t : List ℕ) (p : Piece) → InRank text squares file after (c ∷ t) → c ≡ letter p → file < 8 → InRank text (set squares file (Some p)) (file + 1) false t
+pub rank_piece : (text : List ℕ) (squares : List Place) (file : ℕ) (after : Bool) (c : ℕ) (t : List ℕ) (p : Piece) → InRank text squares file after (c ∷ t) → c ≡ piece_letter p → file < 8 → InRank text (set squares file (Some p)) (file + 1) false t
 rank_piece text squares file after c t p h is lt = record {
   fits = omega arith;
   size = length-set squares file (Some p) ∙ h.size;

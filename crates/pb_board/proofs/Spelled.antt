@@ -1,61 +1,75 @@
--- Each record has a text.
-use Rattle.std.proofs.Common.{ℕ, zero, suc, ◌+◌, ◌*◌, ◌≤◌, List, [], ◌∷◌, ◌++◌, length, drop, replicate, Some, None, refl, sym, ap, subst, inl, inr, arith}
-use Rattle.std.specs.List.{AllZip, join_with_byte}
-use Rattle.std.proofs.lemmas.List.{length-append, length-replicate, length-take}
+-- The texts of ranks, boards and castling rights are those that the relations tell.
+use Rattle.std.proofs.Common.{◌≡◌, ℕ, zero, suc, ◌+◌, ◌*◌, ◌≤◌, Bool, true, false, eqb, List, [], ◌∷◌, ◌++◌, length, drop, replicate, Some, None, refl, ap, subst, inl, inr, arith}
+use Rattle.std.proofs.lemmas.List.{length-take}
+use Rattle.pb_board.specs.declared.setup.Rights.{Rights}
 use Rattle.pb_board.specs.Board.{Place}
-use Rattle.pb_board.specs.Position.{Position, Record}
-use Rattle.pb_board.specs.Text.{letter, BeginsOccupied, RankText, PlacementText, rank_of, ranks_down, turn_text, castling_text, en_passant_text, number_text}
-use Rattle.pb_board.specs.Fen.{AreFields, FenText}
+use Rattle.pb_board.specs.Ranks.{RankText}
+use Rattle.pb_board.specs.Text.{castling_text, empty_squares, placement_text, rank_text}
+use Rattle.pb_board.proofs.Placements.{PlacementText, rank_of}
 
 -- ---- ranks
 
--- an empty square before squares that have a text: their first digit grows by one, or a 1 comes before it
-empty_before : (squares : List Place) (text : List ℕ) → length squares ≤ 7 → RankText squares text → (longer : List ℕ) × RankText (None ∷ squares) longer
-empty_before squares [] short h = (49 ∷ [], ([], inr (1, omega arith, omega arith, refl, ap (λ (w : List Place). None ∷ w) h, tt), refl))
-empty_before squares (c ∷ text) short h =
-    elim h.1 [
-      | inl q ↦ (49 ∷ c ∷ text, (squares, inr (1, omega arith, omega arith, refl, refl, subst BeginsOccupied (sym q.2) tt), h))
-      | inr q ↦
-          let fits : suc q.0 ≤ 8 = omega (arith, short, ap length q.4, length-append (replicate q.0 None) h.0, length-replicate {A = Place} q.0 None) in
-          ((48 + suc q.0) ∷ text, (h.0, inr (suc q.0, omega arith, fits, refl, ap (λ (w : List Place). None ∷ w) q.4, q.5), h.2))
-    ]
+push_blank : (n : ℕ) (s : List Place) → replicate (n + 1) None ++ s ≡ replicate n None ++ None ∷ s
+push_blank zero s = refl
+push_blank (suc n) s = let e : suc n + 1 ≡ suc (n + 1) = omega arith in rw e (ap (λ (w : List Place). None ∷ w) (push_blank n s))
 
--- at most eight squares in a row have a text
-pub rank_spelled : (squares : List Place) → length squares ≤ 8 → (text : List ℕ) × RankText squares text
-rank_spelled [] short = ([], refl)
-rank_spelled (Some p ∷ squares) short =
-    let rest = rank_spelled squares (omega (arith, short)) in
-    (letter p ∷ rest.0, (squares, inl (p, refl, refl), rest.1))
-rank_spelled (None ∷ squares) short =
-    let rest = rank_spelled squares (omega (arith, short)) in
-    empty_before squares rest.0 (omega (arith, short)) rest.1
+pub run_is : (n : ℕ) → empty_squares (suc n) ≡ (48 + suc n) ∷ []
+run_is n = let e : eqb (suc n) 0 ≡ false = grind arith in rw e refl
 
--- ---- placements
+pub rank_is : (n : ℕ) (squares : List Place) → n + length squares ≤ 8 → RankText (replicate n None ++ squares) (rank_text n squares)
+rank_is zero [] few = refl
+rank_is (suc n) [] few = rw (run_is n) ([], inr (suc n, omega arith, omega (arith, few), refl, refl, tt), refl)
+rank_is n (None ∷ squares) few =
+    subst (λ (s : List Place). RankText s (rank_text (n + 1) squares)) (push_blank n squares) (rank_is (n + 1) squares (omega (arith, few)))
+rank_is zero (Some p ∷ squares) few = (squares, inl (p, refl, refl), rank_is 0 squares (omega (arith, few)))
+rank_is (suc n) (Some p ∷ squares) few =
+    rw (run_is n) (Some p ∷ squares, inr (suc n, omega arith, omega (arith, few), refl, refl, tt), (squares, inl (p, refl, refl), rank_is 0 squares (omega (arith, few))))
 
-ranks_spelled : (board : List Place) (n : ℕ) → (texts : List (List ℕ)) × AllZip RankText (ranks_down board n) texts
-ranks_spelled board zero = ([], tt)
-ranks_spelled board (suc n) =
-    let first = rank_spelled (rank_of board n) (omega (arith, length-take 8 (drop (8 * n) board))) in
-    let rest = ranks_spelled board n in
-    (first.0 ∷ rest.0, (first.1, rest.1))
+rank_at : (board : List Place) (r : ℕ) → RankText (rank_of board r) (rank_text 0 (rank_of board r))
+rank_at board r = rank_is 0 (rank_of board r) (omega (arith, length-take 8 (drop (8 * r) board)))
 
-pub placement_spelled : (board : List Place) → (text : List ℕ) × PlacementText board text
-placement_spelled board =
-    let ranks = ranks_spelled board 8 in
-    (join_with_byte 47 ranks.0, (ranks.0, ranks.1, refl))
+-- ---- boards
 
--- ---- records
+pub placement_is : (board : List Place) → PlacementText board (placement_text board)
+placement_is board = (
+  rank_text 0 (rank_of board 7) ∷ rank_text 0 (rank_of board 6) ∷ rank_text 0 (rank_of board 5) ∷ rank_text 0 (rank_of board 4)
+      ∷ rank_text 0 (rank_of board 3) ∷ rank_text 0 (rank_of board 2) ∷ rank_text 0 (rank_of board 1) ∷ rank_text 0 (rank_of board 0) ∷ [],
+  (rank_at board 7, (rank_at board 6, (rank_at board 5, (rank_at board 4, (rank_at board 3, (rank_at board 2, (rank_at board 1, (rank_at board 0, tt)))))))),
+  refl,
+)
 
-pub fields_spelled : (p : Position) → (four : List (List ℕ)) × AreFields p four
-fields_spelled p =
-    let placement = placement_spelled p.board in (
-      placement.0 ∷ turn_text p.turn ∷ castling_text p.rights ∷ en_passant_text p.ep ∷ [],
-      record { placement = placement.0; placement_is = placement.1; are = refl },
-    )
+-- ---- castling rights
 
-pub fen_spelled : (f : Record) → (text : List ℕ) × FenText f text
-fen_spelled f =
-    let four = fields_spelled f.setup in (
-      join_with_byte 32 (four.0 ++ number_text f.half ∷ number_text f.full ∷ []),
-      record { four = four.0; fields = four.1; joined = refl },
-    )
+abbrev pub letter_if : Bool → ℕ → List ℕ
+letter_if true c = c ∷ []
+letter_if false c = []
+
+-- the letters of the flags that are set, in the order K Q k q
+abbrev pub flag_letters : Rights → List ℕ
+flag_letters r = letter_if r.white_short 75 ++ (letter_if r.white_long 81 ++ (letter_if r.black_short 107 ++ letter_if r.black_long 113))
+
+-- a - in the place of an empty text
+abbrev pub or_dash : List ℕ → List ℕ
+or_dash [] = 45 ∷ []
+or_dash (c ∷ text) = c ∷ text
+
+castling_at : (a b c d : Bool) → (let r : Rights = record { white_short = a; white_long = b; black_short = c; black_long = d } in or_dash (flag_letters r) ≡ castling_text r)
+castling_at true true true true = refl
+castling_at true true true false = refl
+castling_at true true false true = refl
+castling_at true true false false = refl
+castling_at true false true true = refl
+castling_at true false true false = refl
+castling_at true false false true = refl
+castling_at true false false false = refl
+castling_at false true true true = refl
+castling_at false true true false = refl
+castling_at false true false true = refl
+castling_at false true false false = refl
+castling_at false false true true = refl
+castling_at false false true false = refl
+castling_at false false false true = refl
+castling_at false false false false = refl
+
+pub castling_is : (r : Rights) → or_dash (flag_letters r) ≡ castling_text r
+castling_is r = castling_at r.white_short r.white_long r.black_short r.black_long

@@ -11,7 +11,7 @@ use Rattle.pb_board.specs.Piece.{king_of, pawn_of}
 use Rattle.pb_board.specs.Board.{Place, Board, at, Holds}
 use Rattle.pb_board.specs.Kept.{KeepsMasks}
 use Rattle.pb_board.specs.Position.{HasNoEdgePawn, IsOnlyKing, position_of}
-use Rattle.pb_board.specs.Text.{letter}
+use Rattle.pb_board.specs.Text.{piece_letter}
 use Rattle.pb_board.specs.Initial.{initial_board}
 use Rattle.pb_board.specs.Mask.{masks_of}
 
@@ -36,7 +36,7 @@ all_from_at test i (y ∷ ys) (suc k) piece e holds =
 -- the place holds this piece, told by its letter
 is_it : Piece → Place → Bool
 is_it piece None = false
-is_it piece (Some other) = eqb (letter other) (letter piece)
+is_it piece (Some other) = eqb (piece_letter other) (piece_letter piece)
 
 king_test : Colour → ℕ → ℕ → Place → Bool
 king_test side k i place = not (is_it (king_of side) place) || eqb i k

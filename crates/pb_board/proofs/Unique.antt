@@ -1,6 +1,6 @@
 -- No record has two texts, and no text has two records.
 use Rattle.std.proofs.Common.{◌≡◌, ℕ, zero, suc, ◌+◌, ◌*◌, ◌%◌, ◌≤◌, Bool, true, false, cond, eqb, List, [], ◌∷◌, ◌++◌, length, take, get_or, replicate, Option, Some, None, refl, sym, ap, subst, ◌∙◌, inl, inr, arith, lit<}
-use Rattle.std.specs.Prelude.{IfSome}
+use Rattle.std.specs.Prelude.{IfSome, decimal}
 use Rattle.std.specs.List.{AllZip, join_with_byte}
 use Rattle.std.proofs.Math.Seq.{take-add}
 use Rattle.std.proofs.lemmas.List.{take_all}
@@ -11,15 +11,17 @@ use Rattle.pb_board.specs.declared.piece.Piece.{Piece}
 use Rattle.pb_board.specs.declared.setup.Rights.{Rights}
 use Rattle.pb_board.specs.Board.{Place}
 use Rattle.pb_board.specs.Position.{Position, Record, IsSetup, OnEnPassantRank, EnPassantHolds, position_of}
-use Rattle.pb_board.specs.Text.{letter, BeginsOccupied, RankText, PlacementText, rank_of, ranks_down, turn_text, castling_text, en_passant_text, number_text}
-use Rattle.pb_board.specs.Fen.{AreFields, FourFields, FenText}
+use Rattle.pb_board.specs.Ranks.{BeginsOccupied, RankText}
+use Rattle.pb_board.specs.Text.{castling_text, en_passant_text, fen_text, piece_letter, placement_text, setup_fields, turn_text}
 use Rattle.pb_board.specs.Position.{IsRecord, record_of}
-use Rattle.pb_board.specs.Refusal.{fields}
+use Rattle.pb_board.specs.Fields.{fields}
 use Rattle.pb_board.proofs.Letters.{letter_injective, letter_above}
 use Rattle.pb_board.proofs.Joins.{Above, split_join}
 use Rattle.pb_board.proofs.FieldBytes.{above_space, placement_bytes, turn_bytes, castling_bytes, en_passant_bytes, number_bytes}
 use Rattle.pb_board.proofs.Ranks.{nothing_left}
 use Rattle.pb_board.proofs.Boards.{placement_rows, rows}
+use Rattle.pb_board.proofs.Placements.{PlacementText, rank_of, ranks_down}
+use Rattle.pb_board.proofs.Spelled.{placement_is}
 
 -- ---- one rank for a text
 
@@ -69,7 +71,7 @@ rank_one_text (c ∷ t) (d ∷ u) s h k =
             let head : p.0 ≡ q.0 = cc (both) in
             let tail : h.0 ≡ k.0 = cc (both) in
             let more = rank_one_text t u k.0 (subst (λ w. RankText w t) tail h.2) k.2 in
-            ap (λ x. x ∷ t) (p.1 ∙ ap letter head ∙ sym q.1) ∙ ap (λ w. d ∷ w) more
+            ap (λ x. x ∷ t) (p.1 ∙ ap piece_letter head ∙ sym q.1) ∙ ap (λ w. d ∷ w) more
         | inr q ↦ absurd (piece_or_run q.0 p.0 h.0 k.0 q.1 (sym p.2 ∙ q.4))
       ]
       | inr p ↦ elim k.1 [
@@ -92,7 +94,7 @@ ranks_one_text (r ∷ rs) (t ∷ ts) [] h k = absurd k
 ranks_one_text (r ∷ rs) (t ∷ ts) (u ∷ us) h k =
     ap (λ x. x ∷ ts) (rank_one_text t u r h.0 k.0) ∙ ap (λ w. u ∷ w) (ranks_one_text rs ts us h.1 k.1)
 
-pub placement_one_text : (b : List Place) (x y : List ℕ) → PlacementText b x → PlacementText b y → x ≡ y
+placement_one_text : (b : List Place) (x y : List ℕ) → PlacementText b x → PlacementText b y → x ≡ y
 placement_one_text b x y h k = h.2 ∙ ap (join_with_byte 47) (ranks_one_text (ranks_down b 8) h.0 k.0 h.1 k.1) ∙ sym k.2
 
 ranks_one_board : (n : ℕ) (a b : List Place) (ts : List (List ℕ)) → AllZip RankText (ranks_down a n) ts → AllZip RankText (ranks_down b n) ts → take (8 * n) a ≡ take (8 * n) b
@@ -102,31 +104,39 @@ ranks_one_board (suc n) a b (t ∷ ts) h k =
     let step : 8 * suc n ≡ 8 * n + 8 = omega arith in
     rw step (take-add (8 * n) 8 a ∙ ap (λ w. w ++ rank_of a n) (ranks_one_board n a b ts h.1 k.1) ∙ ap (λ w. take (8 * n) b ++ w) (rank_one_board t (rank_of a n) (rank_of b n) h.0 k.0) ∙ sym (take-add (8 * n) 8 b))
 
-pub placement_one_board : (a b : List Place) (x : List ℕ) → length a ≡ 64 → length b ≡ 64 → PlacementText a x → PlacementText b x → a ≡ b
+-- the text of a board is the one that the function gives
+pub placement_to : (board : List Place) (text : List ℕ) → PlacementText board text → text ≡ placement_text board
+placement_to board text h = placement_one_text board text (placement_text board) h (placement_is board)
+
+placement_from : (board : List Place) (text : List ℕ) → text ≡ placement_text board → PlacementText board text
+placement_from board text e = subst (PlacementText board) (sym e) (placement_is board)
+
+placement_one_board : (a b : List Place) (x : List ℕ) → length a ≡ 64 → length b ≡ 64 → PlacementText a x → PlacementText b x → a ≡ b
 placement_one_board a b x la lb h k =
     let same : take 64 a ≡ take 64 b = ranks_one_board 8 a b (rows x) (placement_rows a x h) (placement_rows b x k) in
     sym (take_all 64 a (omega arith)) ∙ same ∙ take_all 64 b (omega arith)
 
+-- a text that is no board's
+pub none_spelled : (text : List ℕ) → ((b : List Place) → length b ≡ 64 → PlacementText b text → ⊥) → (b : List Place) → length b ≡ 64 → text ≡ placement_text b → ⊥
+none_spelled text none b len e = none b len (placement_from b text e)
+
+pub placement_injective : (a b : List Place) → length a ≡ 64 → length b ≡ 64 → placement_text a ≡ placement_text b → a ≡ b
+placement_injective a b la lb e = placement_one_board a b (placement_text a) la lb (placement_is a) (placement_from b (placement_text a) e)
+
 -- ---- the pieces of a record's text
 
-pub on_rank : (board : List Place) (turn : Colour) (ep : Option ℕ) → EnPassantHolds board turn ep → IfSome ep (λ q. OnEnPassantRank turn q)
+pub on_rank : (board : List Place) (turn : Colour) (ep : Option ℕ) → EnPassantHolds board turn ep → IfSome ep (OnEnPassantRank turn)
 on_rank board turn None h = h
 on_rank board turn (Some q) h = h.0
 
 above_en_passant : (p : Position) → IsSetup p → Above 32 (en_passant_text p.ep)
 above_en_passant p lawful = above_space (en_passant_text p.ep) (en_passant_bytes p.turn p.ep (on_rank p.board p.turn p.ep lawful.en_passant))
 
--- the text, field by field
-pub joined_fields : (f : Record) (t : List ℕ) → (h : FenText f t)
-    → t ≡ join_with_byte 32 (h.fields.placement ∷ turn_text f.setup.turn ∷ castling_text f.setup.rights ∷ en_passant_text f.setup.ep ∷ number_text f.half ∷ number_text f.full ∷ [])
-joined_fields f t h = h.joined ∙ ap (λ (four : List (List ℕ)). join_with_byte 32 (four ++ number_text f.half ∷ number_text f.full ∷ [])) h.fields.are
-
-pub fields_of_text : (f : Record) (t : List ℕ) → IsRecord f → (h : FenText f t)
-    → fields t ≡ h.fields.placement ∷ turn_text f.setup.turn ∷ castling_text f.setup.rights ∷ en_passant_text f.setup.ep ∷ number_text f.half ∷ number_text f.full ∷ []
-fields_of_text f t lawful h =
+pub fields_of_text : (f : Record) → IsRecord f → fields 32 (fen_text f) ≡ setup_fields f.setup ++ decimal f.half ∷ decimal f.full ∷ []
+fields_of_text f lawful =
     let p = f.setup in
-    ap fields (joined_fields f t h) ∙ split_join 32 (h.fields.placement ∷ turn_text p.turn ∷ castling_text p.rights ∷ en_passant_text p.ep ∷ number_text f.half ∷ number_text f.full ∷ []) (
-      above_space h.fields.placement (placement_bytes p.board h.fields.placement h.fields.placement_is),
+    split_join 32 (placement_text p.board ∷ turn_text p.turn ∷ castling_text p.rights ∷ en_passant_text p.ep ∷ decimal f.half ∷ decimal f.full ∷ []) (
+      above_space _ (placement_bytes p.board),
       (
         above_space _ (turn_bytes p.turn),
         (
@@ -173,7 +183,7 @@ turn_injective White Black e = let h : ◌≡◌ {A = ℕ} 119 98 = ap (λ (t : 
 turn_injective Black White e = let h : ◌≡◌ {A = ℕ} 98 119 = ap (λ (t : List ℕ). get_or t 0 0) e in absurd (omega (arith, h))
 turn_injective Black Black e = refl
 
-pub en_passant_injective : (turn : Colour) (p q : Option ℕ) → IfSome p (λ x. OnEnPassantRank turn x) → IfSome q (λ x. OnEnPassantRank turn x) → en_passant_text p ≡ en_passant_text q → p ≡ q
+pub en_passant_injective : (turn : Colour) (p q : Option ℕ) → IfSome p (OnEnPassantRank turn) → IfSome q (OnEnPassantRank turn) → en_passant_text p ≡ en_passant_text q → p ≡ q
 en_passant_injective turn None None h k e = refl
 en_passant_injective turn None (Some y) h k e = absurd (omega (arith, ap length e))
 en_passant_injective turn (Some x) None h k e = absurd (omega (arith, ap length e))
@@ -182,33 +192,21 @@ en_passant_injective turn (Some x) (Some y) h k e =
     let same : x ≡ y = omega (arith, file, h, k) in
     ap (λ n. Some n) same
 
-one_list_of_fields : (p : Position) (s t : List (List ℕ)) → AreFields p s → AreFields p t → s ≡ t
-one_list_of_fields p s t h k =
-    h.are ∙ ap (λ x. x ∷ turn_text p.turn ∷ castling_text p.rights ∷ en_passant_text p.ep ∷ []) (placement_one_text p.board h.placement k.placement h.placement_is k.placement_is) ∙ sym k.are
-
-pub one_text : (f : Record) (t u : List ℕ) → FenText f t → FenText f u → t ≡ u
-one_text f t u h k =
-    h.joined ∙ ap (λ (four : List (List ℕ)). join_with_byte 32 (four ++ number_text f.half ∷ number_text f.full ∷ [])) (one_list_of_fields f.setup h.four k.four h.fields k.fields) ∙ sym k.joined
-
-pub one_setup_text : (p : Position) (t u : List ℕ) → FourFields p t → FourFields p u → t ≡ u
-one_setup_text p t u h k = h.joined ∙ ap (join_with_byte 32) (one_list_of_fields p h.four k.four h.fields k.fields) ∙ sym k.joined
-
-pub one_setup : (p q : Position) (four : List (List ℕ)) → IsSetup p → IsSetup q → AreFields p four → AreFields q four → p ≡ q
+pub one_setup : (p q : Position) (four : List (List ℕ)) → IsSetup p → IsSetup q → four ≡ setup_fields p → four ≡ setup_fields q → p ≡ q
 one_setup p q four lp lq h k =
-    let cells = sym h.are ∙ k.are in
+    let cells = sym h ∙ k in
     let cell = λ (i : ℕ). ap (λ (w : List (List ℕ)). get_or w i []) cells in
-    let boards : p.board ≡ q.board = placement_one_board p.board q.board h.placement lp.places lq.places h.placement_is (subst (PlacementText q.board) (sym (cell 0)) k.placement_is) in
+    let boards : p.board ≡ q.board = placement_injective p.board q.board lp.places lq.places (cell 0) in
     let turns : p.turn ≡ q.turn = turn_injective p.turn q.turn (cell 1) in
     let rights : p.rights ≡ q.rights = castling_injective p.rights q.rights (cell 2) in
-    let eps : p.ep ≡ q.ep = en_passant_injective p.turn p.ep q.ep (on_rank p.board p.turn p.ep lp.en_passant) (subst (λ x. IfSome q.ep (λ y. OnEnPassantRank x y)) (sym turns) (on_rank q.board q.turn q.ep lq.en_passant)) (cell 3) in
+    let eps : p.ep ≡ q.ep = en_passant_injective p.turn p.ep q.ep (on_rank p.board p.turn p.ep lp.en_passant) (subst (λ x. IfSome q.ep (OnEnPassantRank x)) (sym turns) (on_rank q.board q.turn q.ep lq.en_passant)) (cell 3) in
     ap (λ x. position_of x p.turn p.rights p.ep) boards ∙ ap (λ x. position_of q.board x p.rights p.ep) turns ∙ ap (λ x. position_of q.board q.turn x p.ep) rights ∙ ap (λ x. position_of q.board q.turn q.rights x) eps
 
-pub one_record : (f g : Record) (t : List ℕ) → IsRecord f → IsRecord g → FenText f t → FenText g t → f ≡ g
+pub one_record : (f g : Record) (t : List ℕ) → IsRecord f → IsRecord g → t ≡ fen_text f → t ≡ fen_text g → f ≡ g
 one_record f g t lf lg h k =
-    let cells = sym (fields_of_text f t lf h) ∙ fields_of_text g t lg k in
+    let cells = sym (fields_of_text f lf) ∙ ap (fields 32) (sym h ∙ k) ∙ fields_of_text g lg in
     let cell = λ (i : ℕ). ap (λ (w : List (List ℕ)). get_or w i []) cells in
-    let fields : AreFields g.setup h.four = record { placement = k.fields.placement; placement_is = k.fields.placement_is; are = h.fields.are ∙ ap (take 4) cells } in
-    let setups : f.setup ≡ g.setup = one_setup f.setup g.setup h.four lf.setup lg.setup h.fields fields in
+    let setups : f.setup ≡ g.setup = one_setup f.setup g.setup (setup_fields f.setup) lf.setup lg.setup refl (ap (take 4) cells) in
     let halves : f.half ≡ g.half = decimal_injective f.half g.half (omega (arith, lf.half)) (omega (arith, lg.half)) (cell 4) in
     let fulls : f.full ≡ g.full = decimal_injective f.full g.full (omega (arith, lf.full)) (omega (arith, lg.full)) (cell 5) in
     ap (λ x. record_of x f.half f.full) setups ∙ ap (λ x. record_of g.setup x f.full) halves ∙ ap (λ x. record_of g.setup g.half x) fulls

@@ -4,14 +4,15 @@ pub mod Board
 pub mod Position
 pub mod Carried
 pub mod Padded
+pub mod Fields
 pub mod Text
+pub mod Ranks
 pub mod First
-pub mod Fen
 pub mod Numeral
-pub mod Written
 pub mod Mask
 pub mod Kept
 pub mod Initial
 pub mod Refusal
+pub mod Parts
 pub mod Words
 pub mod LineEnd

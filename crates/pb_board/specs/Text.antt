@@ -1,85 +1,46 @@
--- The texts of the parts of a FEN record (PGN Standard 1994, section 16.1).
-use Rattle.std.specs.Prelude.{◌≡◌, ℕ, zero, suc, ◌+◌, ◌-◌, ◌*◌, ◌≤◌, ◌⊎◌, Bool, true, false, List, [], ◌∷◌, ◌++◌, take, drop, replicate, Option, Some, None}
-use Rattle.std.specs.List.{AllZip, join_with_byte}
-use Rattle.std.specs.Fmt.{decimal}
+-- The texts of FEN records and of their parts (PGN Standard 1994, section 16.1).
+use Rattle.std.specs.Prelude.{ℕ, ◌+◌, ◌*◌, ◌==◌, List, [], ◌∷◌, ◌++◌, length, map, filter, take, drop, codes, decimal, slice_index, Option, Some, None, if◌then◌else◌}
+use Rattle.std.specs.List.{join_with_byte}
+use Rattle.std.specs.Option.{option_map_or}
 use Rattle.pb_board.specs.declared.piece.Colour.{Colour}
 use Rattle.pb_board.specs.declared.piece.Colour.TheVariants.{White, Black}
-use Rattle.pb_board.specs.declared.piece.Kind.{Kind}
-use Rattle.pb_board.specs.declared.piece.Kind.TheVariants.{Pawn, Knight, Bishop, Rook, Queen, King}
 use Rattle.pb_board.specs.declared.piece.Piece.{Piece}
 use Rattle.pb_board.specs.declared.setup.Rights.{Rights}
+use Rattle.pb_board.specs.Piece.{colour_number, kind_number}
 use Rattle.pb_board.specs.Board.{Place, file, rank}
-
--- the small letters p n b r q k
-abbrev pub kind_letter : Kind → ℕ
-kind_letter Pawn = 112
-kind_letter Knight = 110
-kind_letter Bishop = 98
-kind_letter Rook = 114
-kind_letter Queen = 113
-kind_letter King = 107
+use Rattle.pb_board.specs.Castling.{castlings, castling_row}
+use Rattle.pb_board.specs.Fields.{space}
+use Rattle.pb_board.specs.Position.{Position, Record}
 
 -- White's pieces have capital letters
-abbrev pub letter_of : Colour → Kind → ℕ
-letter_of White k = kind_letter k - 32
-letter_of Black k = kind_letter k
+abbrev pub piece_letter : Piece → ℕ
+piece_letter p = slice_index (codes "PNBRQKpnbrqk") (6 * colour_number p.colour + kind_number p.kind)
 
-abbrev pub letter : Piece → ℕ
-letter p = letter_of p.colour p.kind
+-- the digit of so many empty squares
+abbrev pub empty_squares : ℕ → List ℕ
+empty_squares n = if n == 0 then [] else (48 + n) ∷ []
 
--- no empty square begins the list: it is at its end, or a piece stands there
-abbrev pub BeginsOccupied : List Place → Type 0
-BeginsOccupied [] = Unit {0}
-BeginsOccupied (Some p ∷ squares) = Unit {0}
-BeginsOccupied (None ∷ squares) = ⊥
+-- squares in a row, from file a on, after n empty ones
+abbrev pub rank_text : ℕ → List Place → List ℕ
+rank_text n [] = empty_squares n
+rank_text n (None ∷ squares) = rank_text (n + 1) squares
+rank_text n (Some p ∷ squares) = empty_squares n ++ piece_letter p ∷ rank_text 0 squares
 
--- the squares begin with a piece, whose letter is c, and go on with rest
-abbrev pub PieceThen : ℕ → List Place → List Place → Type 0
-PieceThen c squares rest = (p : Piece) × (c ≡ letter p) × (squares ≡ Some p ∷ rest)
+-- eight ranks, from rank 8 to rank 1, joined by a slash
+abbrev pub placement_text : List Place → List ℕ
+placement_text board = join_with_byte 47
+    (map (λ r. rank_text 0 (take 8 (drop (8 * r) board))) (7 ∷ 6 ∷ 5 ∷ 4 ∷ 3 ∷ 2 ∷ 1 ∷ 0 ∷ []))
 
--- the squares begin with 1 to 8 empty ones and no more, whose number is the digit c, and go on with rest
-abbrev pub EmptyThen : ℕ → List Place → List Place → Type 0
-EmptyThen c squares rest =
-    (n : ℕ) × (1 ≤ n) × (n ≤ 8) × (c ≡ 48 + n) × (squares ≡ replicate n None ++ rest) × BeginsOccupied rest
-
--- squares in a row, from file a on, and their text
-abbrev pub RankText : List Place → List ℕ → Type 0
-RankText squares [] = squares ≡ []
-RankText squares (c ∷ text) = (rest : List Place) × (PieceThen c squares rest ⊎ EmptyThen c squares rest) × RankText rest text
-
--- a rank, from 0, from file a to file h
-abbrev pub rank_of : List Place → ℕ → List Place
-rank_of board r = take 8 (drop (8 * r) board)
-
--- the lowest n ranks, from the highest of them down
-abbrev pub ranks_down : List Place → ℕ → List (List Place)
-ranks_down board zero = []
-ranks_down board (suc n) = rank_of board n ∷ ranks_down board n
-
--- eight ranks, from rank 8 to rank 1, joined by /
-abbrev pub PlacementText : List Place → List ℕ → Type 0
-PlacementText board text = (texts : List (List ℕ)) × AllZip RankText (ranks_down board 8) texts × (text ≡ join_with_byte 47 texts)
-
--- w or b
 abbrev pub turn_text : Colour → List ℕ
-turn_text White = 119 ∷ []
-turn_text Black = 98 ∷ []
+turn_text White = codes "w"
+turn_text Black = codes "b"
 
-abbrev pub letter_if : Bool → ℕ → List ℕ
-letter_if true c = c ∷ []
-letter_if false c = []
-
--- the letters of the flags that are set, in the order K Q k q
-abbrev pub flag_letters : Rights → List ℕ
-flag_letters r = letter_if r.white_short 75 ++ (letter_if r.white_long 81 ++ (letter_if r.black_short 107 ++ letter_if r.black_long 113))
-
--- a - in the place of an empty text
-abbrev pub or_dash : List ℕ → List ℕ
-or_dash [] = 45 ∷ []
-or_dash (c ∷ text) = c ∷ text
-
+-- the letters of the castling rights, or a -
 abbrev pub castling_text : Rights → List ℕ
-castling_text r = or_dash (flag_letters r)
+castling_text r =
+    let kept = filter (λ c. (castling_row c).right r) castlings in
+    let letters = map (λ c. slice_index (codes "KQkq") (castling_row c).number) kept in
+    if length letters == 0 then codes "-" else letters
 
 -- the letter of the file and the digit of the rank
 abbrev pub square_text : ℕ → List ℕ
@@ -87,9 +48,17 @@ square_text q = (97 + file q) ∷ (49 + rank q) ∷ []
 
 -- a square, or a - for none
 abbrev pub en_passant_text : Option ℕ → List ℕ
-en_passant_text None = 45 ∷ []
-en_passant_text (Some q) = square_text q
+en_passant_text ep = option_map_or square_text ep (codes "-")
 
--- decimal, without leading zeros
-abbrev pub number_text : ℕ → List ℕ
-number_text n = decimal n
+-- the first four fields
+abbrev pub setup_fields : Position → List (List ℕ)
+setup_fields p =
+    placement_text p.board ∷ turn_text p.turn ∷ castling_text p.rights ∷ en_passant_text p.ep ∷ []
+
+-- the text of a setup: the first four fields
+abbrev pub setup_text : Position → List ℕ
+setup_text p = join_with_byte space (setup_fields p)
+
+-- the text of a record: six fields
+abbrev pub fen_text : Record → List ℕ
+fen_text f = join_with_byte space (setup_fields f.setup ++ decimal f.half ∷ decimal f.full ∷ [])

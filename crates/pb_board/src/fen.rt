@@ -80,8 +80,8 @@ impl FenBytes {
 }
 
 impl Fen {
-    ghost use Rattle.pb_board.specs.Fen.{FenText};
     ghost use Rattle.pb_board.specs.Position.{IsRecord, record_of};
+    ghost use Rattle.pb_board.specs.Text.{fen_text};
 
     /// The record of a setup and its clocks, where the full move number is known not to be 0.
     pub fn with_clocks(setup: Setup, half: u16, full: u16) -> Fen
@@ -128,7 +128,7 @@ impl Fen {
 
     /// The one text of the record.
     pub fn text(&self) -> FenBytes
-        ensures { FenText self.now result }
+        ensures { result ≡ fen_text self.now }
     {
         fen_text(self)
     }

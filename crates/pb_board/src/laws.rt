@@ -5,8 +5,9 @@ ghost use Rattle.std.specs.Bool.{Decides};
 ghost use Rattle.std.specs.Ordering.{nat_cmp, ordering_then};
 ghost use Rattle.pb_board.specs.Position.{Position, Record, IsSetup, IsRecord};
 ghost use Rattle.pb_board.specs.Piece.{colour_number, kind_number};
-ghost use Rattle.pb_board.specs.Fen.{AreFields, FourFields, FenText};
-ghost use Rattle.pb_board.specs.Refusal.{IsFirstDue, of_record, fields};
+ghost use Rattle.pb_board.specs.Fields.{fields, space};
+ghost use Rattle.pb_board.specs.Refusal.{IsDueFen, IsFirstOf, fen_errors};
+ghost use Rattle.pb_board.specs.Text.{fen_text, setup_fields};
 ghost use Rattle.pb_board.specs.declared.castling.Castling.{Castling};
 ghost use Rattle.pb_board.specs.declared.castling.CastlingSquares.{CastlingSquares};
 ghost use Rattle.pb_board.specs.declared.piece.Colour.{Colour};
@@ -24,29 +25,19 @@ use crate::refusal::{FenError, SetupError};
 use crate::setup::{Carried, Rights, Setup};
 use crate::square::Square;
 
-/// No record has two texts.
-pub fn one_text()
-    ensures { (f : Record) (t u : List ℕ) → FenText f t → FenText f u → t ≡ u }
-{}
-
-/// No setup has two texts.
-pub fn one_setup_text()
-    ensures { (p : Position) (t u : List ℕ) → FourFields p t → FourFields p u → t ≡ u }
-{}
-
 /// No text has two records.
 pub fn one_record()
-    ensures { (f g : Record) (t : List ℕ) → IsRecord f → IsRecord g → FenText f t → FenText g t → f ≡ g }
+    ensures { (f g : Record) (t : List ℕ) → IsRecord f → IsRecord g → t ≡ fen_text f → t ≡ fen_text g → f ≡ g }
 {}
 
 /// No four texts have two setups.
 pub fn one_setup()
-    ensures { (p q : Position) (four : List (List ℕ)) → IsSetup p → IsSetup q → AreFields p four → AreFields q four → p ≡ q }
+    ensures { (p q : Position) (four : List (List ℕ)) → IsSetup p → IsSetup q → four ≡ setup_fields p → four ≡ setup_fields q → p ≡ q }
 {}
 
 /// No refusal is due for a text of a record.
 pub fn none_due()
-    ensures { (f : Record) (t : List ℕ) (e : FenError) → IsRecord f → FenText f t → ¬ IsFirstDue of_record e (fields t) }
+    ensures { (f : Record) (t : List ℕ) (e : FenError) → IsRecord f → t ≡ fen_text f → ¬ IsFirstOf fen_errors (IsDueFen (fields space t)) e }
 {}
 
 /// Setups are equal (`==`) exactly where they are one position, and castling rights where each flag is the same.

@@ -1,8 +1,8 @@
 //! The first field of a FEN record.
 
-ghost use Rattle.std.specs.Prelude.{◌≡◌, ◌↔◌, List, length, MatchOption};
+ghost use Rattle.std.specs.Prelude.{◌≡◌, ◌≢◌, List, length, MatchOption};
 ghost use Rattle.pb_board.specs.Board.{Place};
-ghost use Rattle.pb_board.specs.Text.{PlacementText};
+ghost use Rattle.pb_board.specs.Text.{placement_text};
 
 use crate::cut::cut_once;
 use crate::piece::Piece;
@@ -10,8 +10,8 @@ use crate::rank::read_rank;
 
 /// The board that the text spells.
 pub(crate) fn read_placement(text: &[u8]) -> Option<[Option<Piece>; 64]>
-    ensures { MatchOption result ((b : List Place) → length b ≡ 64 → ¬ PlacementText b text.now)
-        (λ board. (length board ≡ 64) × ((b : List Place) → length b ≡ 64 → (PlacementText b text.now ↔ b ≡ board))) }
+    ensures { MatchOption result ((b : List Place) → length b ≡ 64 → text.now ≢ placement_text b)
+        (λ board. (length board ≡ 64) × (text.now ≡ placement_text board)) }
 {
     let mut board = [None; 64];
     let mut rest = text;

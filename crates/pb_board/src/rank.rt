@@ -2,7 +2,8 @@
 
 ghost use Rattle.std.specs.Prelude.{◌≡◌, ◌≢◌, ◌↔◌, ◌≤◌, ◌+◌, ◌-◌, ◌<◌, List, length, MatchOption, SomeIff};
 ghost use Rattle.pb_board.specs.Board.{Place};
-ghost use Rattle.pb_board.specs.Text.{RankText, letter as piece_letter};
+ghost use Rattle.pb_board.specs.Ranks.{RankText};
+ghost use Rattle.pb_board.specs.Text.{piece_letter};
 ghost use Rattle.pb_board.specs.declared.piece.Piece.{Piece};
 
 use crate::piece::{Colour, Kind, Piece};

@@ -2,9 +2,11 @@
 
 ghost use Rattle.std.specs.Prelude.{◌≡◌, ◌∷◌, [], map, take, Ok, IfOk, IfErr, MatchResult};
 ghost use Rattle.pb_board.specs.Position.{Position, Record, IsSetup, position_of};
-ghost use Rattle.pb_board.specs.Fen.{AreFields, FenText};
+ghost use Rattle.pb_board.specs.Fields.{fields, space};
+ghost use Rattle.pb_board.specs.Parts.{AreParts, IsRefusedAs, refusal_of};
 ghost use Rattle.pb_board.specs.Position.{IsRecord};
-ghost use Rattle.pb_board.specs.Refusal.{IsFirstDue, of_record, of_setup, AreParts, IsRefusedAs, fields, refusal_of};
+ghost use Rattle.pb_board.specs.Refusal.{IsDueFen, IsFirstOf, fen_errors, of_setup};
+ghost use Rattle.pb_board.specs.Text.{fen_text, setup_fields};
 
 use crate::fen::Fen;
 use crate::fields::cut_fields;
@@ -26,15 +28,14 @@ struct Parts {
 }
 
 /// What the first four fields spell, or the first refusal that is due among theirs.
-#[tactic(auto, using(crate::proofs::Firsts::placement_first, crate::proofs::Firsts::turn_first))]
 fn read_parts(
     placement: &[u8],
     turn: &[u8],
     castling: &[u8],
     en_passant: &[u8],
 ) -> Result<Parts, FenError>
-    ensures { MatchResult result (λ p. AreParts (position_of p.board p.turn p.rights p.ep) placement.now turn.now castling.now en_passant.now)
-        (λ e. IsFirstDue (take 4 of_setup) e (placement.now ∷ turn.now ∷ castling.now ∷ en_passant.now ∷ [])) }
+    ensures { MatchResult result (λ p. AreParts (position_of p.board p.turn p.rights p.ep) (placement.now ∷ turn.now ∷ castling.now ∷ en_passant.now ∷ []))
+        (IsFirstOf (take 4 of_setup) (IsDueFen (placement.now ∷ turn.now ∷ castling.now ∷ en_passant.now ∷ []))) }
 {
     let Some(board) = read_placement(placement) else {
         return Err(FenError::Placement);
@@ -91,19 +92,19 @@ fn refusal_of(error: SetupError) -> FenError
 /// `Pawns` and `EnPassantPawn`, where the parts are no setup.
 pub fn read_setup(four: [&[u8]; 4]) -> Result<Setup, FenError>
     // What is read is a setup, and the texts spell it.
-    ensures found { IfOk result (λ s. IsSetup s × AreFields s (map (λ t. t.now) four.entry)) }
+    ensures found { IfOk result (λ s. IsSetup s × (map (λ t. t.now) four.entry ≡ setup_fields s)) }
     // The texts of a setup are read.
-    ensures only { (p : Position) → IsSetup p → AreFields p (map (λ t. t.now) four.entry) → result ≡ Ok p }
+    ensures only { (p : Position) → IsSetup p → map (λ t. t.now) four.entry ≡ setup_fields p → result ≡ Ok p }
     // A refusal is the first whose condition holds.
-    ensures refused { IfErr result (λ e. IsFirstDue of_setup e (map (λ t. t.now) four.entry)) }
+    ensures refused { IfErr result (IsFirstOf of_setup (IsDueFen (map (λ t. t.now) four.entry))) }
 {
     judge_setup(&four)
 }
 
 /// The setup that the four texts spell, or the first refusal that is due.
 fn judge_setup(four: &[&[u8]; 4]) -> Result<Setup, FenError>
-    ensures found { IfOk result (λ s. IsSetup s × AreFields s (map (λ t. t.now) four.now)) }
-    ensures refused { IfErr result (λ e. IsFirstDue of_setup e (map (λ t. t.now) four.now)) }
+    ensures found { IfOk result (λ s. IsSetup s × (map (λ t. t.now) four.now ≡ setup_fields s)) }
+    ensures refused { IfErr result (IsFirstOf of_setup (IsDueFen (map (λ t. t.now) four.now))) }
 {
     let parts = read_parts(four[0], four[1], four[2], four[3])?;
     build(parts.board, parts.turn, parts.rights, parts.ep)
@@ -116,19 +117,19 @@ fn judge_setup(four: &[&[u8]; 4]) -> Result<Setup, FenError>
 /// The first that is due, in the order of `FenError`'s variants.
 pub fn read_fen(text: &[u8]) -> Result<Fen, FenError>
     // What is read is a record, and the text spells it.
-    ensures found { IfOk result (λ f. IsRecord f × FenText f text.now) }
+    ensures found { IfOk result (λ f. IsRecord f × (text.now ≡ fen_text f)) }
     // The text of a record is read.
-    ensures only { (f : Record) → IsRecord f → FenText f text.now → result ≡ Ok f }
+    ensures only { (f : Record) → IsRecord f → text.now ≡ fen_text f → result ≡ Ok f }
     // A refusal is the first whose condition holds.
-    ensures refused { IfErr result (λ e. IsFirstDue of_record e (fields text.now)) }
+    ensures refused { IfErr result (IsFirstOf fen_errors (IsDueFen (fields space text.now))) }
 {
     judge(text)
 }
 
 /// The record that the text spells, or the first refusal that is due.
 fn judge(text: &[u8]) -> Result<Fen, FenError>
-    ensures found { IfOk result (λ f. IsRecord f × FenText f text.now) }
-    ensures refused { IfErr result (λ e. IsFirstDue of_record e (fields text.now)) }
+    ensures found { IfOk result (λ f. IsRecord f × (text.now ≡ fen_text f)) }
+    ensures refused { IfErr result (IsFirstOf fen_errors (IsDueFen (fields space text.now))) }
 {
     let Some(fields) = cut_fields(text) else {
         return Err(FenError::Fields);

@@ -98,7 +98,6 @@ impl Setup {
     /// # Errors
     ///
     /// The first of `Kings`, `Pawns` and `EnPassant` whose rule the parts break.
-    #[tactic(auto, using(crate::proofs::Firsts::kings_first, crate::proofs::Firsts::pawns_first))]
     pub fn build(
         board: [Option<Piece>; 64],
         turn: Colour,

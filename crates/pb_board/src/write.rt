@@ -1,9 +1,8 @@
 //! Writing a FEN record.
 
-ghost use Rattle.std.specs.Prelude.{◌≡◌, ◌≤◌, ◌<◌, ◌+◌, ◌++◌, ◌∷◌, [], ◌==◌, if◌then◌else◌, IfOk, length};
-ghost use Rattle.pb_board.specs.Fen.{FenText, FourFields};
-ghost use Rattle.pb_board.specs.Text.{letter as piece_letter, number_text, turn_text, castling_text, en_passant_text};
-ghost use Rattle.pb_board.specs.Written.{AppendsRank, AppendsPlacement, AppendsSetup};
+ghost use Rattle.std.specs.Prelude.{◌≡◌, ◌≤◌, ◌<◌, ◌+◌, ◌++◌, IfOk, decimal, length};
+ghost use Rattle.pb_board.specs.Text.{piece_letter, empty_squares, rank_text, placement_text, turn_text, castling_text};
+ghost use Rattle.pb_board.specs.Text.{en_passant_text, setup_text, fen_text};
 
 use crate::fen::{Fen, FenBytes};
 use crate::piece::{Colour, Piece};
@@ -26,7 +25,8 @@ fn letter_of(piece: Piece) -> u8
 fn put_rank(out: &mut FenBytes, squares: &[Option<Piece>])
     requires room { length out.old + length squares.now ≤ 93 }
     requires eight { length squares.now ≤ 8 }
-    ensures { AppendsRank out.old out.new squares.now }
+    ensures short { length (rank_text 0 squares.now) ≤ length squares.now }
+    ensures text { out.new ≡ out.old ++ rank_text 0 squares.now }
 {
     let mut run = 0;
     for place in squares {
@@ -46,7 +46,7 @@ fn put_rank(out: &mut FenBytes, squares: &[Option<Piece>])
 fn put_run(out: &mut FenBytes, run: u8)
     requires room { length out.old + run ≤ 93 }
     requires small { run ≤ 8 }
-    ensures { out.new ≡ out.old ++ (if run == 0 then [] else (48 + run) ∷ []) }
+    ensures { out.new ≡ out.old ++ empty_squares run }
 {
     if run > 0 {
         out.push(b'0' + run);
@@ -55,8 +55,8 @@ fn put_run(out: &mut FenBytes, run: u8)
 
 /// Writes a number.
 fn put_number(out: &mut FenBytes, number: u16)
-    requires { length out.old + length (number_text number) ≤ 93 }
-    ensures { out.new ≡ out.old ++ number_text number }
+    requires { length out.old + length (decimal number) ≤ 93 }
+    ensures { out.new ≡ out.old ++ decimal number }
 {
     if number >= 10 {
         put_number(out, number / 10);
@@ -67,8 +67,8 @@ fn put_number(out: &mut FenBytes, number: u16)
 /// Writes a clock, of at most five digits.
 fn put_clock(out: &mut FenBytes, number: u16)
     requires { length out.old + 5 ≤ 93 }
-    ensures short { length (number_text number) ≤ 5 }
-    ensures text { out.new ≡ out.old ++ number_text number }
+    ensures short { length (decimal number) ≤ 5 }
+    ensures text { out.new ≡ out.old ++ decimal number }
 {
     put_number(out, number);
 }
@@ -76,7 +76,8 @@ fn put_clock(out: &mut FenBytes, number: u16)
 /// Writes the text of a board.
 fn put_placement(out: &mut FenBytes, board: &[Option<Piece>; 64])
     requires { length out.old ≡ 0 }
-    ensures { AppendsPlacement out.old out.new board.now }
+    ensures short { length (placement_text board.now) ≤ 71 }
+    ensures text { out.new ≡ out.old ++ placement_text board.now }
 {
     put_rank(out, &board[56..]);
     for row in 1..8 {
@@ -139,7 +140,8 @@ fn put_turn(out: &mut FenBytes, turn: Colour)
 /// Writes the first four fields.
 pub(crate) fn put_setup(out: &mut FenBytes, setup: &Setup)
     requires { length out.old ≡ 0 }
-    ensures { AppendsSetup out.old out.new setup.now }
+    ensures short { length (setup_text setup.now) ≤ 81 }
+    ensures text { out.new ≡ out.old ++ setup_text setup.now }
 {
     put_placement(out, setup.board());
     out.push(b' ');
@@ -156,7 +158,7 @@ pub(crate) fn put_setup(out: &mut FenBytes, setup: &Setup)
 ///
 /// There was no memory for the text.
 pub fn write_fen(alloc: Global, fen: &Fen) -> Result<Vec<u8>, AllocError>
-    ensures { IfOk result (λ v. FenText fen.now v.items) }
+    ensures { IfOk result (λ v. v.items ≡ fen_text fen.now) }
 {
     fen.text().as_bytes().to_vec(alloc)
 }
@@ -167,7 +169,7 @@ pub fn write_fen(alloc: Global, fen: &Fen) -> Result<Vec<u8>, AllocError>
 ///
 /// There was no memory for the text.
 pub fn write_setup(alloc: Global, setup: &Setup) -> Result<Vec<u8>, AllocError>
-    ensures { IfOk result (λ v. FourFields setup.now v.items) }
+    ensures { IfOk result (λ v. v.items ≡ setup_text setup.now) }
 {
     let mut out = FenBytes::new();
     put_setup(&mut out, setup);
@@ -176,7 +178,7 @@ pub fn write_setup(alloc: Global, setup: &Setup) -> Result<Vec<u8>, AllocError>
 
 /// The text of a record.
 pub(crate) fn fen_text(fen: &Fen) -> FenBytes
-    ensures { FenText fen.now result }
+    ensures { result ≡ fen_text fen.now }
 {
     let mut out = FenBytes::new();
     put_setup(&mut out, &fen.setup());

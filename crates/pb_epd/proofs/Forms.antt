@@ -1,13 +1,12 @@
 -- Forms of a record: each is a text of it, and no text has two records.
-use Rattle.std.proofs.Common.{◌≡◌, ◌≢◌, ℕ, List, [], ◌∷◌, ◌++◌, length, Result, Ok, Err, refl, sym, ap, subst, ◌∙◌, inl, inr, arith}
+use Rattle.std.proofs.Common.{◌≡◌, ◌≢◌, ℕ, List, [], ◌∷◌, ◌++◌, Result, Ok, Err, refl, sym, ap, subst, ◌∙◌, inl, inr, arith}
 use Rattle.std.specs.Prelude.{All, Contains, IfOk, IfErr, MatchResult, map, flat_map}
-use Rattle.std.specs.List.{slice_split, join_with_byte}
+use Rattle.std.specs.List.{slice_split}
 use Rattle.std.proofs.lemmas.List.{append_assoc, append-nil, same_from_push}
 use Rattle.std.proofs.lemmas.List.Elements.{All-head, All-tail, All-cons, All-weaker}
 use Rattle.pb_board.specs.Position.{Position}
-use Rattle.pb_board.specs.Text.{turn_text, castling_text, en_passant_text}
-use Rattle.pb_board.specs.Fen.{AreFields}
-use Rattle.pb_board.proofs.Unique.{one_setup, one_setup_text}
+use Rattle.pb_board.specs.Text.{castling_text, en_passant_text, placement_text, setup_fields, turn_text}
+use Rattle.pb_board.proofs.Unique.{one_setup}
 use Rattle.pb_board.proofs.FieldWords.{IsPlainByte, IsWord, setup_words}
 use Rattle.pb_epd.specs.declared.operand.Operand.{Operand}
 use Rattle.pb_epd.specs.declared.operand.Operand.TheVariants as operand
@@ -15,13 +14,13 @@ use Rattle.pb_epd.specs.declared.refusal.EpdError.{EpdError}
 use Rattle.pb_epd.specs.declared.refusal.EpdError.TheVariants as epd
 use Rattle.pb_epd.specs.Token.{Token, word, end_mark, IsToken, IsWordByte, TokensAfter, token_text}
 use Rattle.pb_epd.specs.Operation.{Operation, IsLetter, IsNameByte, IsOpcode, IsOperand, IsOperation, operand_token, operation_tokens, operation_text}
-use Rattle.pb_epd.specs.Epd.{EpdRecord, IsEpd, EpdText, EpdForm}
+use Rattle.pb_epd.specs.Epd.{EpdRecord, IsEpd, EpdText, epd_form}
 use Rattle.pb_epd.specs.Refusal.{is_end, IsFirstDueEpd}
 use Rattle.pb_epd.proofs.Lists.{map_injective}
 use Rattle.pb_epd.proofs.TokenLists.{tokens_one}
 use Rattle.pb_epd.proofs.Groups.{group_of, operations_cut}
 use Rattle.pb_epd.proofs.Order.{distinct_in_order, same_in_order}
-use Rattle.pb_epd.proofs.Texts.{four_are, text_tokens, text_not_due}
+use Rattle.pb_epd.proofs.Texts.{four_are, text_not_due}
 use Rattle.pb_epd.proofs.Writing.{spaced, operation_put}
 
 -- ---- no text has two records
@@ -47,9 +46,10 @@ operations_one os ps e =
 
 pub record_is_one : (e f : EpdRecord) (bytes : List ℕ) → IsEpd e → IsEpd f → EpdText e bytes → EpdText f bytes → e ≡ f
 record_is_one e f bytes he hf h k =
-    let tokens = tokens_one end_mark (map word k.four ++ flat_map operation_tokens k.operations) _ bytes k.tokens (text_tokens e bytes h) in
-    let four = four_are _ _ _ _ (flat_map operation_tokens h.operations) k.four (flat_map operation_tokens k.operations) (ap length k.fields.are) tokens in
-    let setups = one_setup e.setup f.setup h.four he.setup hf.setup h.fields (subst (AreFields f.setup) (four.0 ∙ sym h.fields.are) k.fields) in
+    let ops = λ (os : List Operation). flat_map operation_tokens os in
+    let tokens = tokens_one end_mark (map word (setup_fields f.setup) ++ ops k.operations) (map word (setup_fields e.setup) ++ ops h.operations) bytes k.tokens h.tokens in
+    let four = four_are _ _ _ _ (ops h.operations) (setup_fields f.setup) (ops k.operations) refl tokens in
+    let setups = one_setup e.setup f.setup (setup_fields e.setup) he.setup hf.setup refl (sym four.0) in
     let same = operations_one k.operations h.operations four.1 in
     let operations = same_in_order e.operations f.operations he.ordered hf.ordered (λ o. (
       λ m. (k.same o).0 (subst (λ w. Contains w o) (sym same) ((h.same o).1 m)),
@@ -132,16 +132,17 @@ plain_word b h = record { low = h.0; high = h.1; no_end = h.2; no_quote = h.3 }
 word_token : (bytes : List ℕ) → IsWord bytes → IsToken (word bytes)
 word_token bytes h = (h.0, h.1, All-weaker IsPlainByte IsWordByte plain_word bytes h.2)
 
-pub form_is_text : (e : EpdRecord) (bytes : List ℕ) → IsEpd e → EpdForm e bytes → EpdText e bytes
-form_is_text e bytes lawful form =
+whole_form : (p t c e rest : List ℕ) → (p ++ 32 ∷ (t ++ 32 ∷ (c ++ 32 ∷ e))) ++ rest ≡ p ++ 32 ∷ (t ++ 32 ∷ (c ++ 32 ∷ (e ++ rest)))
+whole_form p t c e rest = simp append_assoc
+
+pub form_is_text : (e : EpdRecord) → IsEpd e → EpdText e (epd_form e)
+form_is_text e lawful =
     let p = e.setup in
-    let s = form.spells in
-    let placement = s.fields.placement in
+    let placement = placement_text p.board in
     let turn = turn_text p.turn in
     let castling = castling_text p.rights in
     let en_passant = en_passant_text p.ep in
-    let fields : AreFields p (placement ∷ turn ∷ castling ∷ en_passant ∷ []) = record { placement = placement; placement_is = s.fields.placement_is; are = refl } in
-    let words = setup_words p (placement ∷ turn ∷ castling ∷ en_passant ∷ []) lawful.setup fields in
+    let words = setup_words p (setup_fields p) lawful.setup refl in
     let after1 = All-tail IsWord placement (turn ∷ castling ∷ en_passant ∷ []) words in
     let after2 = All-tail IsWord turn (castling ∷ en_passant ∷ []) after1 in
     let after3 = All-tail IsWord castling (en_passant ∷ []) after2 in
@@ -150,17 +151,17 @@ form_is_text e bytes lawful form =
     let four = spaced_token (word castling) (word en_passant) ops rest (word_token en_passant (All-head IsWord en_passant [] after3)) (operations_stand (word en_passant) e.operations lawful.lawful) in
     let three = spaced_token (word turn) (word castling) (word en_passant ∷ ops) (32 ∷ (en_passant ++ rest)) (word_token castling (All-head IsWord castling (en_passant ∷ []) after2)) four in
     let two = spaced_token (word placement) (word turn) (word castling ∷ word en_passant ∷ ops) (32 ∷ (castling ++ 32 ∷ (en_passant ++ rest))) (word_token turn (All-head IsWord turn (castling ∷ en_passant ∷ []) after1)) three in
-    let whole : bytes ≡ placement ++ 32 ∷ (turn ++ 32 ∷ (castling ++ 32 ∷ (en_passant ++ rest))) = form.is ∙ ap (λ w. w ++ rest) (s.joined ∙ ap (join_with_byte 32) s.fields.are) ∙ simp append_assoc in
     record {
-      four = placement ∷ turn ∷ castling ∷ en_passant ∷ [];
-      fields = fields;
       operations = e.operations;
       lawful = lawful.lawful;
       distinct = distinct_in_order e.operations lawful.ordered;
       same = λ o. (λ k. k, λ k. k);
-      tokens = (0, 32 ∷ (turn ++ 32 ∷ (castling ++ 32 ∷ (en_passant ++ rest))), word_token placement (All-head IsWord placement (turn ∷ castling ∷ en_passant ∷ []) words), λ no. absurd (no refl), whole, two);
+      tokens = (
+        0,
+        32 ∷ (turn ++ 32 ∷ (castling ++ 32 ∷ (en_passant ++ rest))),
+        word_token placement (All-head IsWord placement (turn ∷ castling ∷ en_passant ∷ []) words),
+        λ no. absurd (no refl),
+        whole_form placement turn castling en_passant rest,
+        two,
+      );
     }
-
-pub form_is_one : (e : EpdRecord) (b c : List ℕ) → EpdForm e b → EpdForm e c → b ≡ c
-form_is_one e b c h k =
-    h.is ∙ ap (λ w. w ++ flat_map (λ o. 32 ∷ operation_text o) e.operations) (one_setup_text e.setup h.fields k.fields h.spells k.spells) ∙ sym k.is

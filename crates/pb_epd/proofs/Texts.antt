@@ -4,11 +4,11 @@ use Rattle.std.specs.Prelude.{All, AllPairs, IfOk, IfErr, map, flat_map}
 use Rattle.std.specs.List.{slice_split}
 use Rattle.std.proofs.lemmas.List.{append-nil, same_from_push}
 use Rattle.pb_board.specs.Position.{Position, IsSetup}
-use Rattle.pb_board.specs.Text.{turn_text, castling_text, en_passant_text}
-use Rattle.pb_board.specs.Fen.{AreFields}
-use Rattle.pb_board.specs.Refusal.{IsFirstDue, of_setup}
+use Rattle.pb_board.specs.Refusal.{of_setup}
+use Rattle.pb_board.specs.Text.{setup_fields}
 use Rattle.pb_board.specs.declared.refusal.FenError.{FenError}
 use Rattle.pb_board.proofs.Breaks.{all_unbroken}
+use Rattle.pb_board.proofs.Dues.{IsFirstDue}
 use Rattle.pb_board.proofs.Fens.{setup_never_due}
 use Rattle.pb_epd.specs.declared.refusal.EpdError.{EpdError}
 use Rattle.pb_epd.specs.declared.refusal.EpdError.TheVariants as epd
@@ -78,7 +78,7 @@ module _ (bytes a b c d : List ℕ) (others : List Token) (tokens : Tokens (word
   pub fields_not_due : NotDue epd.Fields bytes
   fields_not_due due = due some_cut
 
-  pub setup_not_due : (p : Position) (e : FenError) → IsSetup p → AreFields p (a ∷ b ∷ c ∷ d ∷ []) → NotDue (epd.Setup e) bytes
+  pub setup_not_due : (p : Position) (e : FenError) → IsSetup p → a ∷ b ∷ c ∷ d ∷ [] ≡ setup_fields p → NotDue (epd.Setup e) bytes
   setup_not_due p e lawful spells due = setup_never_due p (a ∷ b ∷ c ∷ d ∷ []) e lawful spells (subst (IsFirstDue of_setup e) (cut_is due.0).0 due.1)
 
   pub opcode_not_due : (n : ℕ) (ended : List (List Token)) (unended : List Token) → AreNamed others ended unended → NotDue (epd.Opcode n) bytes
@@ -100,7 +100,7 @@ module _ (bytes a b c d : List ℕ) (others : List Token) (tokens : Tokens (word
   pub setup_first : (e : FenError) → IsFirstDue of_setup e (a ∷ b ∷ c ∷ d ∷ []) → IsFirstDueEpd (epd.Setup e) bytes
   setup_first e h = first_epd (epd.Setup e) bytes (some_cut, h) none_before_setup
 
-  module _ (p : Position) (lawful : IsSetup p) (spells : AreFields p (a ∷ b ∷ c ∷ d ∷ [])) where
+  module _ (p : Position) (lawful : IsSetup p) (spells : a ∷ b ∷ c ∷ d ∷ [] ≡ setup_fields p) where
     none_before_opcode : (y : EpdError) → epd_place y < 4 → NotDue y bytes
     none_before_opcode (epd.Setup e) lt = setup_not_due p e lawful spells
     none_before_opcode (epd.Token at) lt = none_before_setup (epd.Token at) (omega arith)
@@ -142,22 +142,16 @@ fields_first bytes ts tokens none = first_epd epd.Fields bytes (λ k. none k.fou
 
 -- ---- a record that was read
 
-pub text_found : (e : EpdRecord) (bytes a b c d : List ℕ) (ts us : List Token) (p : Position) → Tokens ts bytes → ts ≡ word a ∷ word b ∷ word c ∷ word d ∷ us → AreFields p (a ∷ b ∷ c ∷ d ∷ []) → e.setup ≡ p → AreOperations us e.operations → EpdText e bytes
+pub text_found : (e : EpdRecord) (bytes a b c d : List ℕ) (ts us : List Token) (p : Position) → Tokens ts bytes → ts ≡ word a ∷ word b ∷ word c ∷ word d ∷ us → a ∷ b ∷ c ∷ d ∷ [] ≡ setup_fields p → e.setup ≡ p → AreOperations us e.operations → EpdText e bytes
 text_found e bytes a b c d ts us p tokens is fields same h = record {
-  four = a ∷ b ∷ c ∷ d ∷ [];
-  fields = subst (λ q. AreFields q (a ∷ b ∷ c ∷ d ∷ [])) (sym same) fields;
   operations = h.operations;
   lawful = h.lawful;
   distinct = h.distinct;
   same = h.same;
-  tokens = subst (λ w. Tokens w bytes) (is ∙ ap (λ w. word a ∷ word b ∷ word c ∷ word d ∷ w) h.is) tokens;
+  tokens = subst (λ w. Tokens w bytes) (is ∙ ap (λ w. word a ∷ word b ∷ word c ∷ word d ∷ w) h.is ∙ ap (λ four. map word four ++ flat_map operation_tokens h.operations) (fields ∙ ap setup_fields (sym same))) tokens;
 }
 
 -- ---- the text of a record
-
-pub text_tokens : (e : EpdRecord) (bytes : List ℕ) → (h : EpdText e bytes)
-    → Tokens (word h.fields.placement ∷ word (turn_text e.setup.turn) ∷ word (castling_text e.setup.rights) ∷ word (en_passant_text e.setup.ep) ∷ flat_map operation_tokens h.operations) bytes
-text_tokens e bytes h = subst (λ four. Tokens (map word four ++ flat_map operation_tokens h.operations) bytes) h.fields.are h.tokens
 
 module _ (e : EpdRecord) (bytes : List ℕ) (lawful : IsEpd e) (h : EpdText e bytes) where
   text_named : AreNamed (flat_map operation_tokens h.operations) (map group_of h.operations) []
@@ -169,24 +163,24 @@ module _ (e : EpdRecord) (bytes : List ℕ) (lawful : IsEpd e) (h : EpdText e by
   no_repeat : (n : ℕ) → NotDue (epd.Repeated n) bytes
   no_repeat n due =
       let k = due.0 in
-      let f = cut_is bytes _ _ _ _ _ (text_tokens e bytes h) k in
+      let f = cut_is bytes _ _ _ _ _ h.tokens k in
       let same = same_from_push (map group_of h.operations) k.ended [] k.unended (sym text_named.cut ∙ f.1) in
       pairs_unbroken BeginOtherwise k.ended n (subst (AllPairs BeginOtherwise) same.0 (begin_otherwise h.operations h.distinct)) due.1
 
   -- no refusal but want of memory is due
   pub text_not_due : (x : EpdError) → x ≢ epd.Memory → NotDue x bytes
-  text_not_due (epd.Token at) other = token_not_due bytes _ at h.tokens
-  text_not_due epd.Fields other = fields_not_due bytes _ _ _ _ _ (text_tokens e bytes h)
-  text_not_due (epd.Setup f) other = setup_not_due bytes _ _ _ _ _ (text_tokens e bytes h) e.setup f lawful.setup (subst (AreFields e.setup) h.fields.are h.fields)
-  text_not_due (epd.Opcode n) other = opcode_not_due bytes _ _ _ _ _ (text_tokens e bytes h) n (map group_of h.operations) [] text_named
-  text_not_due epd.Unended other = unended_not_due bytes _ _ _ _ _ (text_tokens e bytes h) (map group_of h.operations) text_named
+  text_not_due (epd.Token at) other = token_not_due bytes (map word (setup_fields e.setup) ++ flat_map operation_tokens h.operations) at h.tokens
+  text_not_due epd.Fields other = fields_not_due bytes _ _ _ _ _ h.tokens
+  text_not_due (epd.Setup f) other = setup_not_due bytes _ _ _ _ _ h.tokens e.setup f lawful.setup refl
+  text_not_due (epd.Opcode n) other = opcode_not_due bytes _ _ _ _ _ h.tokens n (map group_of h.operations) [] text_named
+  text_not_due epd.Unended other = unended_not_due bytes _ _ _ _ _ h.tokens (map group_of h.operations) text_named
   text_not_due (epd.Repeated n) other = no_repeat n
   text_not_due epd.Memory other = absurd (other refl)
 
 -- want of memory may come at the text of a record
 pub text_memory : (e : EpdRecord) (bytes : List ℕ) → IsEpd e → EpdText e bytes → IsFirstDueEpd epd.Memory bytes
-text_memory e bytes lawful h = memory_first bytes (some_cut bytes _ _ _ _ _ (text_tokens e bytes h))
-    (e.setup, lawful.setup, subst (AreFields e.setup) h.fields.are h.fields)
+text_memory e bytes lawful h = memory_first bytes (some_cut bytes _ _ _ _ _ h.tokens)
+    (e.setup, lawful.setup, refl)
 
 -- ---- what the reader answers
 
@@ -196,7 +190,7 @@ module _ (bytes a b c d rest : List ℕ) (next : (ts : List Token) → Tokens ts
       let f = next ts tokens in
       setup_first bytes a b c d f.others (subst (λ w. Tokens w bytes) f.is tokens) e h
 
-  module _ (p : Position) (lawful : IsSetup p) (spells : AreFields p (a ∷ b ∷ c ∷ d ∷ [])) where
+  module _ (p : Position) (lawful : IsSetup p) (spells : a ∷ b ∷ c ∷ d ∷ [] ≡ setup_fields p) where
     pub found_all : (HasTokens (word d) rest → HasTokens end_mark bytes) → (r : Result EpdRecord EpdError) → IfOk r (λ e. (e.setup ≡ p) × IsEpd e × HasTokens (word d) rest × ((vs : List Token) → TokensAfter (word d) vs rest → AreOperations vs e.operations)) → IfOk r (λ e. IsEpd e × EpdText e bytes)
     found_all back (Ok e) h =
         let whole = back h.2 in

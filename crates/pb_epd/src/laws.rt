@@ -2,20 +2,15 @@
 
 ghost use Rattle.std.specs.Prelude.{◌≡◌};
 ghost use Rattle.std.specs.Bool.{Decides};
-ghost use Rattle.pb_epd.specs.Laws.{FormIsText, FormIsOne, RecordIsOne, BadIsOne, NoneDue};
+ghost use Rattle.pb_epd.specs.Laws.{FormIsText, RecordIsOne, BadIsOne, NoneDue};
 ghost use Rattle.pb_epd.specs.declared.refusal.EpdError.{EpdError};
 ghost use Rattle.pb_epd.specs.declared.refusal.PutError.{PutError};
 
 use crate::refusal::{EpdError, PutError};
 
-/// Each form is a text of its record.
+/// The form of a record is a text of it.
 pub fn form_is_text()
     ensures { FormIsText }
-{}
-
-/// No record has two forms.
-pub fn one_form()
-    ensures { FormIsOne }
 {}
 
 /// No text has two records.

@@ -1,7 +1,7 @@
 //! Writing an EPD record.
 
 ghost use Rattle.std.specs.Prelude.{◌≡◌, ◌∷◌, ◌++◌, IfOk, OnOk};
-ghost use Rattle.pb_epd.specs.Epd.{EpdForm};
+ghost use Rattle.pb_epd.specs.Epd.{epd_form};
 ghost use Rattle.pb_epd.specs.Token.{token_text};
 ghost use Rattle.pb_epd.specs.Operation.{operand_token, operation_text};
 
@@ -46,7 +46,7 @@ fn put_operation(out: &mut Vec<u8>, opcode: &[u8], operands: &[Operand]) -> Resu
 ///
 /// There was no memory for the text.
 pub fn write_epd(alloc: Global, epd: &Epd) -> Result<Vec<u8>, AllocError>
-    ensures { IfOk result (λ v. EpdForm epd.now v.items) }
+    ensures { IfOk result (λ v. v.items ≡ epd_form epd.now) }
 {
     let mut out = write_setup(alloc, &epd.setup())?;
     for (opcode, operands) in epd.operations() {

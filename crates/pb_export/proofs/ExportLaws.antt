@@ -1,8 +1,7 @@
 -- Laws of the export of a list of games.
 use Rattle.std.proofs.Common.{◌≡◌, ◌≢◌, ℕ, List, [], map, get_or, AllPairs, sym, ap, subst, ◌∙◌, arith}
 use Rattle.std.proofs.lemmas.List.Elements.{Contains-get_or}
-use Rattle.pb_board.proofs.Unique.{one_setup_text}
-use Rattle.pb_board.specs.Fen.{FourFields}
+use Rattle.pb_board.specs.Text.{setup_text}
 use Rattle.pb_board.specs.Position.{Position}
 use Rattle.pb_epd.specs.ByteOrder.{IsBytesBelow}
 use Rattle.pb_epd.proofs.Order.{below_itself, both_below}
@@ -41,7 +40,7 @@ listed_once T S book xs h i j d lt within e =
     let y = get_or xs j d in
     let first = (h.members x).0 (Contains-get_or xs i d (omega arith)) in
     let second = (h.members y).0 (Contains-get_or xs j d within) in
-    let same : x.fields ≡ y.fields = one_setup_text x.setup x.fields y.fields first.1 (subst (λ s. FourFields s y.fields) (sym e) second.1) in
+    let same : x.fields ≡ y.fields = first.1 ∙ ap setup_text e ∙ sym second.1 in
     below_itself y.fields (subst (λ w. IsBytesBelow w y.fields) same (h.ordered i j d lt within))
 
 -- ---- lists with the same members

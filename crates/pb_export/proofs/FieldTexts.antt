@@ -1,6 +1,6 @@
 -- The text of a setup's four fields: written as the beginning of a record's, and cut into its fields.
 use Rattle.std.proofs.Common.{◌≡◌, ℕ, zero, suc, ◌-◌, ◌<◌, ◌≤◌, eqb, List, [], ◌∷◌, ◌++◌, Option, Some, None, Result, Ok, Err, Bor, append_assoc, length, take, refl, sym, ap, subst, ◌∙◌, arith}
-use Rattle.std.specs.Prelude.{All, IsOk, IsSome, IsUtf8, MatchOption, MatchResult}
+use Rattle.std.specs.Prelude.{All, decimal, IsOk, IsSome, IsUtf8, MatchOption, MatchResult}
 use Rattle.std.specs.List.{join_with_byte, slice_split}
 use Rattle.std.specs.Str.{IsAscii}
 use Rattle.std.proofs.lemmas.List.{length-append, take-append-le, take_all}
@@ -8,13 +8,12 @@ use Rattle.std.proofs.lemmas.List.Elements.{All-append, All-cons, All-head, All-
 use Rattle.std.proofs.lemmas.List.Splits.{join_with_byte-slice_split}
 use Rattle.std.proofs.lemmas.Fmt.{decimal_digit}
 use Rattle.std.proofs.lemmas.Str.{IsUtf8-from_ascii}
-use Rattle.pb_board.specs.Fen.{AreFields, FenText, FourFields}
 use Rattle.pb_board.specs.Position.{IsSetup, Position, record_of}
-use Rattle.pb_board.specs.Text.{castling_text, number_text, en_passant_text, turn_text}
+use Rattle.pb_board.specs.Text.{castling_text, en_passant_text, fen_text, placement_text, setup_fields, setup_text, turn_text}
 use Rattle.pb_board.proofs.FieldBytes.{above_space, castling_bytes, en_passant_bytes, placement_bytes, turn_bytes}
 use Rattle.pb_board.proofs.FieldWords.{IsPlainByte, IsWord, setup_words}
 use Rattle.pb_board.proofs.Joins.{split_join}
-use Rattle.pb_board.proofs.Unique.{joined_fields, on_rank}
+use Rattle.pb_board.proofs.Unique.{on_rank}
 
 -- ---- the beginning of a record's text
 
@@ -34,15 +33,16 @@ front_of fields text e =
     let n : length text - 4 ≡ length fields = omega (arith, ap length e, length-append fields clocks) in
     ap (λ k. take k text) n ∙ ap (take (length fields)) e ∙ take-append-le (length fields) fields clocks (omega arith) ∙ take_all (length fields) fields (omega arith)
 
-numbers : number_text 0 ∷ number_text 1 ∷ [] ≡ (48 ∷ []) ∷ (49 ∷ []) ∷ []
+numbers : decimal 0 ∷ decimal 1 ∷ [] ≡ (48 ∷ []) ∷ (49 ∷ []) ∷ []
 numbers = λ i. decimal_digit 0 (omega arith) i ∷ decimal_digit 1 (omega arith) i ∷ []
 
-pub four_in_record : (p : Position) (text : List ℕ) → FenText (record_of p 0 1) text → (4 ≤ length text) × FourFields p (take (length text - 4) text)
+pub four_in_record : (p : Position) (text : List ℕ) → text ≡ fen_text (record_of p 0 1) → (4 ≤ length text) × (take (length text - 4) text ≡ setup_text p)
 four_in_record p text h =
-    let a = h.fields.placement in
-    let joined = joined_fields (record_of p 0 1) text h ∙ ap (λ (w : List (List ℕ)). join_with_byte 32 (a ∷ turn_text p.turn ∷ castling_text p.rights ∷ en_passant_text p.ep ∷ w)) numbers ∙ with_clocks a (turn_text p.turn) (castling_text p.rights) (en_passant_text p.ep) in
-    let four : text ≡ join_with_byte 32 h.four ++ clocks = joined ∙ ap (λ (w : List (List ℕ)). join_with_byte 32 w ++ clocks) (sym h.fields.are) in
-    (omega (arith, ap length four, length-append (join_with_byte 32 h.four) clocks), record { four = h.four; fields = h.fields; joined = front_of (join_with_byte 32 h.four) text four })
+    let a = placement_text p.board in
+    let four : text ≡ setup_text p ++ clocks =
+    h ∙ ap (λ (w : List (List ℕ)). join_with_byte 32 (a ∷ turn_text p.turn ∷ castling_text p.rights ∷ en_passant_text p.ep ∷ w)) numbers
+    ∙ with_clocks a (turn_text p.turn) (castling_text p.rights) (en_passant_text p.ep) in
+    (omega (arith, ap length four, length-append (setup_text p) clocks), front_of (setup_text p) text four)
 
 -- ---- its bytes
 
@@ -58,17 +58,17 @@ ascii [] h i = omega arith
 ascii (b ∷ bytes) h zero = All-head (λ b. b < 128) b bytes h
 ascii (b ∷ bytes) h (suc i) = ascii bytes (All-tail (λ b. b < 128) b bytes h) i
 
-pub is_utf8 : (p : Position) (text : List ℕ) → IsSetup p → FourFields p text → IsUtf8 text
+pub is_utf8 : (p : Position) (text : List ℕ) → IsSetup p → text ≡ setup_text p → IsUtf8 text
 is_utf8 p text rules h =
-    IsUtf8-from_ascii text (ascii text (subst (All (λ b. b < 128)) (sym h.joined) (joined_below h.four (setup_words p h.four rules h.fields))))
+    IsUtf8-from_ascii text (ascii text (subst (All (λ b. b < 128)) (sym h) (joined_below (setup_fields p) (setup_words p (setup_fields p) rules refl))))
 
 -- ---- its pieces
 
-pub pieces : (p : Position) (text : List ℕ) → IsSetup p → (h : FourFields p text) → slice_split (λ b. eqb b 32) text ≡ h.fields.placement ∷ turn_text p.turn ∷ castling_text p.rights ∷ en_passant_text p.ep ∷ []
+pub pieces : (p : Position) (text : List ℕ) → IsSetup p → text ≡ setup_text p → slice_split (λ b. eqb b 32) text ≡ setup_fields p
 pieces p text rules h =
-    ap (slice_split (λ b. eqb b 32)) (h.joined ∙ ap (join_with_byte 32) h.fields.are)
-    ∙ split_join 32 (h.fields.placement ∷ turn_text p.turn ∷ castling_text p.rights ∷ en_passant_text p.ep ∷ []) (
-      above_space h.fields.placement (placement_bytes p.board h.fields.placement h.fields.placement_is),
+    ap (slice_split (λ b. eqb b 32)) h
+    ∙ split_join 32 (placement_text p.board ∷ turn_text p.turn ∷ castling_text p.rights ∷ en_passant_text p.ep ∷ []) (
+      above_space _ (placement_bytes p.board),
       (above_space _ (turn_bytes p.turn), (above_space _ (castling_bytes p.rights), (above_space _ (en_passant_bytes p.turn p.ep (on_rank p.board p.turn p.ep rules.en_passant)), tt))),
     ) (omega arith)
 
@@ -88,12 +88,8 @@ cut_piece pieces others left x front are cut =
 pub last_piece : (text d : List ℕ) → slice_split (λ b. eqb b 32) text ≡ d ∷ [] → d ≡ text
 last_piece text d e = sym (ap (join_with_byte 32) e) ∙ join_with_byte-slice_split 32 text
 
-pub pieces_are : (p : Position) (text : List ℕ) → (h : FourFields p text) → (a b c d : List ℕ) → h.fields.placement ≡ a → turn_text p.turn ≡ b → castling_text p.rights ≡ c → en_passant_text p.ep ≡ d → AreFields p (a ∷ b ∷ c ∷ d ∷ [])
-pieces_are p text h a b c d ea eb ec ed = record {
-  placement = h.fields.placement;
-  placement_is = h.fields.placement_is;
-  are = λ i. sym ea i ∷ sym eb i ∷ sym ec i ∷ sym ed i ∷ [];
-}
+pub pieces_are : (p : Position) (a b c d : List ℕ) → placement_text p.board ≡ a → turn_text p.turn ≡ b → castling_text p.rights ≡ c → en_passant_text p.ep ≡ d → a ∷ b ∷ c ∷ d ∷ [] ≡ setup_fields p
+pieces_are p a b c d ea eb ec ed = λ i. sym ea i ∷ sym eb i ∷ sym ec i ∷ sym ed i ∷ []
 
 pub is_text : {E : Type 0} (r : Result (Bor (List ℕ)) E) (bytes : List ℕ) (P : Bor (List ℕ) → Type 0) (Q : E → Type 0) → IsUtf8 bytes → MatchResult r P (λ e. ¬ (IsUtf8 bytes) × Q e) → IsOk r
 is_text (Ok s) bytes P Q h cases = refl

@@ -8,8 +8,7 @@ use Rattle.std.proofs.lemmas.List.Elements.{Contains-append_left, Contains-get_o
 use Rattle.std.proofs.lemmas.List.Quantifiers.{all_pairs_push}
 use Rattle.pb_board.specs.Position.{IsSetup, Position}
 use Rattle.pb_epd.specs.ByteOrder.{IsBytesBelow}
-use Rattle.pb_epd.specs.Epd.{EpdForm}
-use Rattle.pb_epd.proofs.Forms.{form_is_one}
+use Rattle.pb_epd.specs.Epd.{epd_form}
 use Rattle.pb_epd.proofs.Lists.{contains_none, pairs_none, pairs_split}
 use Rattle.pb_moves.specs.Moved.{Moved}
 use Rattle.pb_poly.specs.Found.{Found}
@@ -81,8 +80,7 @@ module _ (words : List ℕ) (book : List Entry) where
           let text : t ≡ x.fields = ap (λ (y : Named). y.0) e in
           let setup : s ≡ x.setup = ap (λ (y : Named). y.1) e in
           let played : moves ≡ x.moves = sym (found_here x moves setup says.found k.1.found) in
-          let own = subst (λ (p : Position × List (Moved × ℕ)). EpdForm (with_book_moves p.0 p.1) line) (λ i. (setup i, played i)) says.says in
-          let lines : line ≡ x.line = form_is_one (with_book_moves x.setup x.moves) line x.line own k.1.says in
+          let lines : line ≡ x.line = says.says ∙ (λ i. epd_form (with_book_moves (setup i) (played i))) ∙ sym k.1.says in
           λ i. record { setup = setup i; fields = text i; moves = played i; line = lines i }
 
       -- one for which it has moves

@@ -2,10 +2,10 @@
 use Rattle.std.proofs.Common.{◌≡◌, ℕ, ◌+◌, ◌<◌, List, [], ◌∷◌, ◌++◌, append_assoc, append-nil, decimal, get_or, length, take, sym, ap, ◌∙◌}
 use Rattle.std.specs.Prelude.{codes, flat_map}
 use Rattle.std.proofs.lemmas.List.{flat_map_more, take_more}
-use Rattle.pb_board.specs.Fen.{FourFields}
+use Rattle.pb_board.specs.Text.{setup_text}
 use Rattle.pb_board.specs.Position.{Position}
 use Rattle.pb_epd.proofs.Writing.{operation_put, operations_text, spaced}
-use Rattle.pb_epd.specs.Epd.{EpdForm}
+use Rattle.pb_epd.specs.Epd.{epd_form}
 use Rattle.pb_epd.specs.Operation.{operation_text}
 use Rattle.pb_moves.specs.Moved.{Moved}
 use Rattle.pb_moves.specs.Spelling.{spelling}
@@ -31,8 +31,8 @@ are_operands (p ∷ moves) = ap (λ xs. 32 ∷ xs) (append_assoc (spelling p.0) 
 abbrev pub line_text : Position → List ℕ → List (Moved × ℕ) → List ℕ
 line_text s fields moves = fields ++ operations_text (with_book_moves s moves).operations
 
-pub line_form : (s : Position) (fields : List ℕ) (moves : List (Moved × ℕ)) → FourFields s fields → EpdForm (with_book_moves s moves) (line_text s fields moves)
-line_form s fields moves spells = record { fields = fields; spells = spells; is = λ i. line_text s fields moves }
+pub line_form : (s : Position) (fields : List ℕ) (moves : List (Moved × ℕ)) → fields ≡ setup_text s → line_text s fields moves ≡ epd_form (with_book_moves s moves)
+line_form s fields moves spells = ap (λ w. line_text s w moves) spells
 
 -- the fields, the opcode, the moves and the end are it
 pub line_written : (s : Position) (fields : List ℕ) (moves : List (Moved × ℕ)) → ((fields ++ codes " bkm") ++ flat_map spaced_move moves) ++ codes ";\n" ≡ line_text s fields moves ++ 10 ∷ []

@@ -6,9 +6,8 @@ use Rattle.std.proofs.lemmas.List.{drop_more, flat_map_more, length-append, leng
 use Rattle.std.proofs.lemmas.Option.{get_or_from_slice_get, slice_get_within}
 use Rattle.std.proofs.lemmas.List.Elements.{All-contains, All-nil, All-push, Contains-append_left, Contains-push, Contains-push_cases}
 use Rattle.arrayvec.specs.ArrayString.{ArrayString}
-use Rattle.pb_board.specs.Fen.{FourFields}
 use Rattle.pb_board.specs.Position.{Position, IsSetup}
-use Rattle.pb_board.proofs.Unique.{one_setup_text}
+use Rattle.pb_board.specs.Text.{setup_text}
 use Rattle.pb_moves.specs.Legal.{Legal}
 use Rattle.pb_moves.specs.Moved.{Moved}
 use Rattle.pb_moves.specs.Successor.{after}
@@ -34,10 +33,10 @@ bare p = record { setup = p; operations = [] }
 is_epd : (p : Position) → IsSetup p → IsEpd (bare p)
 is_epd p rules = record { setup = rules; lawful = All-nil IsOperation; ordered = pairs_none (λ (o q : Operation). IsBytesBelow o.0 q.0) }
 
-bare_text : (p : Position) (t : List ℕ) → IsSetup p → FourFields p t → EpdText (bare p) t
-bare_text p t rules h = form_is_text (bare p) t (is_epd p rules) (record { fields = t; spells = h; is = sym (append-nil t) })
+bare_text : (p : Position) (t : List ℕ) → IsSetup p → t ≡ setup_text p → EpdText (bare p) t
+bare_text p t rules h = subst (EpdText (bare p)) (append-nil (setup_text p) ∙ sym h) (form_is_text (bare p) (is_epd p rules))
 
-pub setup_of_text : (p q : Position) (t : List ℕ) → IsSetup p → IsSetup q → FourFields p t → FourFields q t → p ≡ q
+pub setup_of_text : (p q : Position) (t : List ℕ) → IsSetup p → IsSetup q → t ≡ setup_text p → t ≡ setup_text q → p ≡ q
 setup_of_text p q t hp hq ht hu = ap (λ (e : EpdRecord). e.setup) (record_is_one (bare p) (bare q) t (is_epd p hp) (is_epd q hq) (bare_text p t hp ht) (bare_text q t hq hu))
 
 -- ---- one setup more
@@ -50,17 +49,17 @@ HoldsTexts-none = record {
 }
 
 module _ (known : List Position) (texts : List (List ℕ)) (h : HoldsTexts known texts) where
-  pub HoldsTexts-more : (s : Position) (t : List ℕ) → IsSetup s → FourFields s t → HoldsTexts (known ++ s ∷ []) (texts ++ t ∷ [])
+  pub HoldsTexts-more : (s : Position) (t : List ℕ) → IsSetup s → t ≡ setup_text s → HoldsTexts (known ++ s ∷ []) (texts ++ t ∷ [])
   HoldsTexts-more s t rules spells = record {
     setups = All-push IsSetup known s h.setups rules;
     members = λ u. (
       λ c. elim (Contains-push_cases texts t u c) [
         | inl old ↦ let m = (h.members u).0 old in (m.0, Contains-append_left known (s ∷ []) m.0 m.1, m.2)
-        | inr e ↦ (s, Contains-push known s, subst (FourFields s) e spells)
+        | inr e ↦ (s, Contains-push known s, sym e ∙ spells)
       ],
       λ k. elim (Contains-push_cases known s k.0 k.1) [
         | inl old ↦ Contains-append_left texts (t ∷ []) u ((h.members u).1 (k.0, old, k.2))
-        | inr e ↦ subst (Contains (texts ++ t ∷ [])) (one_setup_text s t u spells (subst (λ p. FourFields p u) (sym e) k.2)) (Contains-push texts t)
+        | inr e ↦ subst (Contains (texts ++ t ∷ [])) (spells ∙ ap setup_text e ∙ sym k.2) (Contains-push texts t)
       ],
     );
     few = omega (arith, h.few, length_push known s, length_push texts t);

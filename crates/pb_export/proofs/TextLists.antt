@@ -14,7 +14,7 @@ use Rattle.std.proofs.lemmas.List.Kept.{Any-dedup, Contains-from_dedup, IsStrict
 use Rattle.std.proofs.lemmas.List.Sorted.{Contains-permutation, IsPermutation-sym}
 use Rattle.std.proofs.lemmas.Map.Lookups.{exact_bytes}
 use Rattle.arrayvec.specs.ArrayString.{ArrayString}
-use Rattle.pb_board.specs.Fen.{FourFields}
+use Rattle.pb_board.specs.Text.{setup_text}
 use Rattle.pb_board.specs.Position.{IsSetup, Position}
 use Rattle.pb_epd.specs.ByteOrder.{IsBytesBelow}
 use Rattle.pb_epd.proofs.Lists.{contains_head, contains_map, contains_there, contains_unmap, pairs_cons, pairs_head, pairs_none, pairs_tail}
@@ -66,9 +66,9 @@ pub record Naming (known : List Position) (texts : List (List ℕ)) : Type 0 whe
 
 module _ (known : List Position) where
   abbrev IsKnown : Named → Type 0
-  IsKnown x = Contains known x.1 × FourFields x.1 x.0
+  IsKnown x = Contains known x.1 × (x.0 ≡ setup_text x.1)
 
-  name_each : (texts : List (List ℕ)) → ((t : List ℕ) → Contains texts t → (s : Position) × Contains known s × FourFields s t) → (named : List Named) × (texts ≡ map (λ x. x.0) named) × All IsKnown named
+  name_each : (texts : List (List ℕ)) → ((t : List ℕ) → Contains texts t → (s : Position) × Contains known s × (t ≡ setup_text s)) → (named : List Named) × (texts ≡ map (λ x. x.0) named) × All IsKnown named
   name_each [] f = ([], refl, All-nil IsKnown)
   name_each (t ∷ texts) f =
       let s = f t (contains_head t texts) in
@@ -89,7 +89,7 @@ names_setups known texts h ordered =
     let rises = unmapped named (subst (AllPairs IsBytesBelow) each.1 ordered) in
     record {
       named = named;
-      are = record { texts_are = each.1; setups = All-weaker (IsKnown known) (λ x. IsSetup x.1 × FourFields x.1 x.0) (λ x k. (All-contains IsSetup known x.1 h.setups k.0, k.1)) named each.2; ordered = rises };
+      are = record { texts_are = each.1; setups = All-weaker (IsKnown known) (λ x. IsSetup x.1 × (x.0 ≡ setup_text x.1)) (λ x k. (All-contains IsSetup known x.1 h.setups k.0, k.1)) named each.2; ordered = rises };
       holds = record {
         setups = h.setups;
         ordered = rises;
@@ -99,7 +99,7 @@ names_setups known texts h ordered =
               let there = subst (λ w. Contains w x.0) each.1 ((h.members x.0).1 (x.1, k.0, k.1)) in
               let y = contains_unmap (λ (z : Named). z.0) named x.0 there in
               let own = All-contains (IsKnown known) named y.0 each.2 y.1 in
-              let spells = subst (FourFields y.0.1) y.2 own.1 in
+              let spells = sym y.2 ∙ own.1 in
               let setup : y.0.1 ≡ x.1 = setup_of_text y.0.1 x.1 x.0 (All-contains IsSetup known y.0.1 h.setups own.0) (All-contains IsSetup known x.1 h.setups k.0) spells k.1 in
               let is : y.0 ≡ x = ap (λ (t : List ℕ). (t, y.0.1)) y.2 ∙ ap (λ (s : Position). (x.0, s)) setup in
               subst (Contains named) is y.1,
@@ -112,14 +112,14 @@ named_length named texts are = omega (arith, ap length are.texts_are, length-map
 
 -- the texts from a place on, under each its setup
 pub named_from : (named : List Named) (texts : List ArrayString) (i : ℕ) (t : ArrayString) (s : Position) → AreNamed named (texts_of texts) → i < length texts → t ≡ get_or texts i t
-    → IsSetup s → FourFields s t.bytes → drop i named ≡ (t.bytes, s) ∷ drop (i + 1) named
+    → IsSetup s → t.bytes ≡ setup_text s → drop i named ≡ (t.bytes, s) ∷ drop (i + 1) named
 named_from named texts i t s are lt here rules spells =
     let d : Named = (t.bytes, s) in
     let within : i < length named = omega (arith, lt, named_length named texts are) in
     let x = get_or named i d in
     let own = are.setups i d within in
     let text : x.0 ≡ t.bytes = sym (get_or-map (λ (y : Named). y.0) named i d t.bytes within) ∙ ap (λ (w : List (List ℕ)). get_or w i t.bytes) (sym are.texts_are) ∙ get_or-map (λ (y : ArrayString). y.bytes) texts i t t.bytes lt ∙ ap (λ (y : ArrayString). y.bytes) (sym here) in
-    let setup : x.1 ≡ s = setup_of_text x.1 s t.bytes own.0 rules (subst (FourFields x.1) text own.1) spells in
+    let setup : x.1 ≡ s = setup_of_text x.1 s t.bytes own.0 rules (sym text ∙ own.1) spells in
     let is : x ≡ d = ap (λ (u : List ℕ). (u, x.1)) text ∙ ap (λ (p : Position). (t.bytes, p)) setup in
     drop_more named i d within ∙ ap (λ (y : Named). y ∷ drop (i + 1) named) is
 

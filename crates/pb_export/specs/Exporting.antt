@@ -1,11 +1,11 @@
 -- The book of games as EPD (PGN Standard 1994, section 16.2): a line for each setup of the games that the book has moves for.
 use Rattle.std.specs.Prelude.{◌≡◌, ◌≢◌, ◌↔◌, ℕ, true, false, List, [], ◌∷◌, ◌++◌, length, map, flat_map, AllPairs, Contains, codes, decimal}
 use Rattle.std.specs.Io.KnownBytes.{Appends}
-use Rattle.pb_board.specs.Fen.{FourFields}
 use Rattle.pb_board.specs.Position.{Position}
 use Rattle.pb_board.specs.LineEnd.{with_end}
+use Rattle.pb_board.specs.Text.{setup_text}
 use Rattle.pb_epd.specs.ByteOrder.{IsBytesBelow}
-use Rattle.pb_epd.specs.Epd.{EpdForm, EpdRecord}
+use Rattle.pb_epd.specs.Epd.{EpdRecord, epd_form}
 use Rattle.pb_epd.specs.declared.operand.Operand.{Operand}
 use Rattle.pb_epd.specs.declared.operand.Operand.TheVariants.{Word}
 use Rattle.pb_games.specs.Submissions.{Submission, plies}
@@ -44,11 +44,11 @@ pub record Listed : Type 0 where
 pub record SaysMoves (words : List ℕ) (book : List Entry) (s : Position) (moves : List (Moved × ℕ)) (line : List ℕ) : Type 0 where
   pub found : Found book words s moves
   pub some : moves ≢ []
-  pub says : EpdForm (with_book_moves s moves) line
+  pub says : line ≡ epd_form (with_book_moves s moves)
 
 -- the setup stands before a ply, with these four fields, and the line says what the book has for it
 abbrev pub IsListed : Basis → List Submission → List Entry → Listed → Type 0
-IsListed T S book x = StandsBefore S x.setup × FourFields x.setup x.fields × SaysMoves T.words book x.setup x.moves x.line
+IsListed T S book x = StandsBefore S x.setup × (x.fields ≡ setup_text x.setup) × SaysMoves T.words book x.setup x.moves x.line
 
 -- those of which this is so, each once, in byte order of their four fields
 pub record IsListing (is : Listed → Type 0) (listed : List Listed) : Type 0 where

@@ -1,8 +1,8 @@
 //! The setups that stand before the moves of games, as the texts of their four fields.
 
 ghost use Rattle.std.specs.Prelude.{◌≡◌, ◌↔◌, ◌≤◌, ◌<◌, ◌^◌, ◌∷◌, ◌++◌, [], ℕ, List, AllPairs, Contains, IfOk, OnOk, length};
-ghost use Rattle.pb_board.specs.Fen.{FourFields};
 ghost use Rattle.pb_board.specs.Position.{IsSetup, Position};
+ghost use Rattle.pb_board.specs.Text.{setup_text};
 ghost use Rattle.pb_epd.specs.ByteOrder.{IsBytesBelow};
 ghost use Rattle.pb_games.specs.Submissions.{IsLegalGame};
 ghost use Rattle.pb_export.specs.Setups.{HoldsTexts, IsSetupText, all_setups, setups_before, texts_of};
@@ -89,7 +89,7 @@ fn put_in_order(texts: &mut Vec<SetupText>)
 
 /// The text of a setup: the first four fields of any record of it.
 fn text_of(setup: &Setup) -> SetupText
-    ensures { FourFields setup.now result.bytes }
+    ensures { result.bytes ≡ setup_text setup.now }
 {
     // The reader tells that the setup meets its rules.
     let _turn = setup.turn();
@@ -105,7 +105,7 @@ fn text_of(setup: &Setup) -> SetupText
 pub(crate) fn setup_of(text: &SetupText) -> Setup
     requires { IsSetupText text.now.bytes }
     ensures rules { IsSetup result }
-    ensures text { FourFields result text.now.bytes }
+    ensures text { text.now.bytes ≡ setup_text result }
 {
     let text = text.as_str().as_bytes();
     let (placement, rest) = cut_once(text, b' ').unwrap();

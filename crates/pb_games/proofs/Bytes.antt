@@ -1,21 +1,25 @@
 -- The bytes of the parts of a text, and how many they are.
-use Rattle.std.proofs.Common.{ℕ, ◌-◌, ◌*◌, ◌<◌, ◌≤◌, Bool, true, false, List, [], ◌∷◌, ◌++◌, length, length-append, map, Option, Some, None, sym, ap, subst, arith, lit<}
+use Rattle.std.proofs.Common.{ℕ, ◌-◌, ◌*◌, ◌<◌, ◌≤◌, Bool, true, false, List, [], ◌∷◌, ◌++◌, length, length-append, map, Option, Some, None, subst, arith, lit<}
 use Rattle.std.specs.List.{All, join_with_byte}
+use Rattle.std.specs.Prelude.{decimal, option_to_list}
 use Rattle.std.proofs.lemmas.List.Elements.{All-head, All-tail}
 use Rattle.pb_board.specs.declared.piece.Colour.{Colour}
 use Rattle.pb_board.specs.declared.piece.Colour.TheVariants.{White, Black}
 use Rattle.pb_board.specs.declared.piece.Kind.{Kind}
 use Rattle.pb_board.specs.declared.piece.Kind.TheVariants.{Pawn, Knight, Bishop, Rook, Queen, King}
 use Rattle.pb_board.specs.declared.setup.Rights.{Rights}
-use Rattle.pb_board.specs.Fen.{FenText}
 use Rattle.pb_board.specs.Position.{Record, IsRecord}
-use Rattle.pb_board.specs.Text.{turn_text, castling_text, flag_letters, letter_if, or_dash, en_passant_text, number_text}
-use Rattle.pb_board.proofs.FieldBytes.{AreFieldBytes, above_space, ranks_length, placement_bytes, turn_bytes, castling_bytes, en_passant_bytes, number_bytes}
+use Rattle.pb_board.specs.Text.{castling_text, en_passant_text, fen_text, placement_text, turn_text}
+use Rattle.pb_board.proofs.FieldBytes.{AreFieldBytes, above_space, placement_length, placement_bytes, turn_bytes, castling_bytes, en_passant_bytes, number_bytes}
 use Rattle.pb_board.proofs.Joins.{Above, AllAbove}
 use Rattle.pb_board.proofs.Numbers.{clock_numeral}
-use Rattle.pb_board.proofs.Unique.{on_rank, joined_fields}
+use Rattle.pb_board.proofs.Spelled.{castling_is, flag_letters, letter_if, or_dash}
+use Rattle.pb_board.proofs.Unique.{on_rank}
 use Rattle.pb_moves.specs.Moved.{Moved}
-use Rattle.pb_moves.specs.Spelling.{spelling, promotion_text}
+use Rattle.pb_board.specs.declared.piece.Colour.TheVariants as side
+use Rattle.pb_board.specs.Piece.{piece_of}
+use Rattle.pb_board.specs.Text.{piece_letter}
+use Rattle.pb_moves.specs.Spelling.{spelling}
 use Rattle.pb_games.specs.declared.outcome.Outcome.{Outcome}
 use Rattle.pb_games.specs.declared.outcome.Outcome.TheVariants as outcome
 use Rattle.pb_games.specs.Ids.{IsId, IsPrintable}
@@ -60,16 +64,16 @@ result_short outcome.Draw = omega arith
 field_above : (text : List ℕ) → AreFieldBytes text → Above 31 text
 field_above text h = Above-weaker 31 32 text (omega arith) (above_space text h)
 
-pub fen_above : (f : Record) (text : List ℕ) → IsRecord f → FenText f text → Above 31 text
-fen_above f text lawful h =
+pub fen_above : (f : Record) → IsRecord f → Above 31 (fen_text f)
+fen_above f lawful =
     let p = f.setup in
     let en_passant = en_passant_bytes p.turn p.ep (on_rank p.board p.turn p.ep lawful.setup.en_passant) in
     let half = field_above _ (number_bytes f.half lawful.half) in
     let full = field_above _ (number_bytes f.full lawful.full) in
-    subst (Above 31) (sym (joined_fields f text h)) (join_above 31 32 (h.fields.placement ∷ turn_text p.turn ∷ castling_text p.rights ∷ en_passant_text p.ep ∷ number_text f.half ∷ number_text f.full ∷ []) (lit< tt) (
-      field_above h.fields.placement (placement_bytes p.board h.fields.placement h.fields.placement_is),
+    join_above 31 32 (placement_text p.board ∷ turn_text p.turn ∷ castling_text p.rights ∷ en_passant_text p.ep ∷ decimal f.half ∷ decimal f.full ∷ []) (lit< tt) (
+      field_above _ (placement_bytes p.board),
       (field_above _ (turn_bytes p.turn), (field_above _ (castling_bytes p.rights), (field_above _ en_passant, (half, (full, tt))))),
-    ))
+    )
 
 letter_short : (flag : Bool) (c : ℕ) → length (letter_if flag c) ≤ 1
 letter_short true c = omega arith
@@ -84,7 +88,8 @@ castling_short r =
     let last = letter_if r.black_long 113 in
     let two = letter_if r.black_short 107 ++ last in
     let three = letter_if r.white_long 81 ++ two in
-    dash_short (flag_letters r) (omega (
+    let Short : List ℕ → Type 0 = λ t. length t ≤ 4 in
+    subst Short (castling_is r) (dash_short (flag_letters r) (omega (
       arith,
       length-append (letter_if r.white_short 75) three,
       length-append (letter_if r.white_long 81) two,
@@ -93,7 +98,7 @@ castling_short r =
       letter_short r.white_long 81,
       letter_short r.black_short 107,
       letter_short r.black_long 113,
-    ))
+    )))
 
 turn_short : (turn : Colour) → length (turn_text turn) ≤ 1
 turn_short White = omega arith
@@ -115,16 +120,16 @@ six_short p t c e a b hp ht hc he ha hb =
     )
 
 -- a rough bound: none has more than 93
-pub fen_short : (f : Record) (text : List ℕ) → IsRecord f → FenText f text → length text ≤ 94
-fen_short f text lawful h =
+pub fen_short : (f : Record) → IsRecord f → length (fen_text f) ≤ 94
+fen_short f lawful =
     let p = f.setup in
-    let board = h.fields.placement_is in
-    let ranks = (ranks_length 8 p.board board.0 board.1).1 in
-    let whole = six_short h.fields.placement (turn_text p.turn) (castling_text p.rights) (en_passant_text p.ep) (number_text f.half) (number_text f.full) (omega (arith, ranks, ap length board.2))
-    (turn_short p.turn) (castling_short p.rights) (en_passant_short p.ep) (clock_numeral f.half lawful.half).short (clock_numeral f.full lawful.full).short in
-    omega (arith, whole, ap length (joined_fields f text h))
+    six_short (placement_text p.board) (turn_text p.turn) (castling_text p.rights) (en_passant_text p.ep) (decimal f.half) (decimal f.full) (placement_length p.board).1
+    (turn_short p.turn) (castling_short p.rights) (en_passant_short p.ep) (clock_numeral f.half lawful.half).short (clock_numeral f.full lawful.full).short
 
 -- ---- the moves
+
+abbrev promotion_text : Option Kind → List ℕ
+promotion_text promo = map (λ kind. piece_letter (piece_of side.Black kind)) (option_to_list promo)
 
 promotion_above : (promo : Option Kind) → Above 32 (promotion_text promo)
 promotion_above None = tt

@@ -8,7 +8,13 @@ use Rattle.pb_board.specs.declared.refusal.FenError.{FenError}
 use Rattle.pb_board.specs.declared.refusal.FenError.TheVariants as fen
 use Rattle.pb_games.specs.declared.refusal.Refusal.{Refusal}
 use Rattle.pb_games.specs.declared.refusal.Refusal.TheVariants as refusal
-use Rattle.pb_games.specs.Refusing.{IsDue, Refuses, in_order}
+use Rattle.pb_games.specs.Header.{fields_of}
+use Rattle.pb_games.specs.Refusing as refusing
+use Rattle.pb_games.specs.Refusing.{Refuses, in_order}
+
+-- this refusal of the line is due
+abbrev pub IsDue : Refusal → List ℕ → Type 0
+IsDue r line = refusing.IsDue line (fields_of line) r
 
 -- ---- places in the order
 

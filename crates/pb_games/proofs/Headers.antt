@@ -1,12 +1,15 @@
 -- Which refusal a line gets before its moves are looked at.
 use Rattle.std.proofs.Common.{◌≡◌, ◌≢◌, ◌≤◌, ℕ, List, [], ◌∷◌, length, slice_index_or, sym, ap, subst, ◌∙◌, arith}
 use Rattle.pb_board.specs.declared.refusal.FenError.{FenError}
-use Rattle.pb_board.specs.Refusal.{IsFirstDue, of_record, fields}
+use Rattle.pb_board.specs.Fields.{field, fields}
+use Rattle.pb_board.specs.Refusal.{fen_errors}
+use Rattle.pb_board.proofs.Dues.{IsFirstDue}
 use Rattle.pb_games.specs.declared.outcome.Outcome.{Outcome}
 use Rattle.pb_games.specs.declared.refusal.Refusal.TheVariants as refusal
 use Rattle.pb_games.specs.Ids.{IsId}
 use Rattle.pb_games.specs.declared.header.TheConstants.{MAX_BYTES}
-use Rattle.pb_games.specs.Refusing.{Refuses, field_of, fields_of}
+use Rattle.pb_games.specs.Header.{fields_of}
+use Rattle.pb_games.specs.Refusing.{Refuses}
 use Rattle.pb_games.specs.Results.{outcome_text}
 use Rattle.pb_games.proofs.Dues.{NoneBefore, none_at_first, none_more, first_due}
 
@@ -18,13 +21,13 @@ module _ (line : List ℕ) (short : length line ≤ MAX_BYTES) where
   shape_refused bad = first_due refusal.Shape line none_before_shape bad
 
   module _ (a b c d : List ℕ) (cut : fields_of line ≡ a ∷ b ∷ c ∷ d ∷ []) where
-    id_at : field_of line 0 ≡ a
+    id_at : field (fields_of line) 0 ≡ a
     id_at = ap (λ (w : List (List ℕ)). slice_index_or w 0 []) cut
 
-    result_at : field_of line 1 ≡ b
+    result_at : field (fields_of line) 1 ≡ b
     result_at = ap (λ (w : List (List ℕ)). slice_index_or w 1 []) cut
 
-    fen_at : field_of line 2 ≡ c
+    fen_at : field (fields_of line) 2 ≡ c
     fen_at = ap (λ (w : List (List ℕ)). slice_index_or w 2 []) cut
 
     none_before_id : NoneBefore 3 line
@@ -44,5 +47,5 @@ module _ (line : List ℕ) (short : length line ≤ MAX_BYTES) where
         pub none_before_fen : NoneBefore 5 line
         none_before_fen = none_more 4 line none_before_result (λ due. due o (result_at ∙ is))
 
-        pub fen_refused : (e : FenError) → IsFirstDue of_record e (fields c) → Refuses line (refusal.Fen e)
-        fen_refused e bad = first_due (refusal.Fen e) line none_before_fen (subst (λ t. IsFirstDue of_record e (fields t)) (sym fen_at) bad)
+        pub fen_refused : (e : FenError) → IsFirstDue fen_errors e (fields 32 c) → Refuses line (refusal.Fen e)
+        fen_refused e bad = first_due (refusal.Fen e) line none_before_fen (subst (λ t. IsFirstDue fen_errors e (fields 32 t)) (sym fen_at) bad)

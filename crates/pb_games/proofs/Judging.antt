@@ -3,44 +3,46 @@ use Rattle.std.proofs.Common.{◌≡◌, ℕ, ◌<◌, ◌≤◌, List, [], ◌�
 use Rattle.std.specs.List.{All, join_with_byte}
 use Rattle.std.proofs.lemmas.List.{length-map}
 use Rattle.std.proofs.lemmas.List.Splits.{join_with_byte-slice_split}
-use Rattle.pb_board.specs.Fen.{FenText}
+use Rattle.pb_board.specs.Fields.{field, fields}
+use Rattle.pb_board.specs.Text.{fen_text}
 use Rattle.pb_board.specs.Position.{Record}
-use Rattle.pb_board.specs.Refusal.{BreaksAt, IsFirstDue, of_record, fields}
+use Rattle.pb_board.specs.Refusal.{BreaksAt, fen_errors}
 use Rattle.pb_board.proofs.Breaks.{all_unbroken}
+use Rattle.pb_board.proofs.Dues.{IsFirstDue}
 use Rattle.pb_board.proofs.Fens.{record_never_due}
 use Rattle.pb_board.proofs.Unique.{one_record}
-use Rattle.pb_board.specs.LineEnd.{without_return}
+use Rattle.std.specs.Str.Lines.{strip_carriage_return}
 use Rattle.pb_moves.specs.Attacks.{NoOppositeCheck}
 use Rattle.pb_moves.specs.Played.{AreLegal, IsSpelled}
 use Rattle.pb_games.specs.declared.outcome.Outcome.{Outcome}
 use Rattle.pb_games.specs.declared.refusal.Refusal.{Refusal}
 use Rattle.pb_games.specs.declared.refusal.Refusal.TheVariants as refusal
-use Rattle.pb_games.specs.Header.{IsHeader}
+use Rattle.pb_games.specs.Header.{IsHeader, fields_of}
 use Rattle.pb_games.specs.LineFields.{submission_of, IsChecked}
 use Rattle.pb_games.specs.Reading.{AreRead, AreRefused}
-use Rattle.pb_games.specs.Refusing.{Refuses, SpellsStart, field_of}
+use Rattle.pb_games.specs.Refusing.{Refuses, SpellsStart}
 use Rattle.pb_games.specs.Results.{outcome_text}
-use Rattle.pb_games.specs.Submissions.{IsLawful, IsGame, moves_text}
+use Rattle.pb_games.specs.Submissions.{IsLawful, IsGame, moves_text, submission_text}
 use Rattle.pb_games.specs.Words.{words_of, move_named, moves_named}
 use Rattle.pb_games.proofs.Dues.{NoneBefore, none_more, first_due}
 use Rattle.pb_games.proofs.Headers.{none_before_fen}
-use Rattle.pb_board.proofs.LineEnds.{cases_return}
+use Rattle.pb_games.proofs.Texts.{lawful_submission}
 use Rattle.pb_games.proofs.WordLemmas.{spellings_back, named_are_moves, words-back}
 
 module _ (line a d : List ℕ) (o : Outcome) (f : Record) (h : IsHeader line a o f d) where
-  fen_at : field_of line 2 ≡ h.fen
+  fen_at : field (fields_of line) 2 ≡ fen_text f
   fen_at = ap (λ (w : List (List ℕ)). slice_index_or w 2 []) h.cut
 
-  moves_at : field_of line 3 ≡ d
+  moves_at : field (fields_of line) 3 ≡ d
   moves_at = ap (λ (w : List (List ℕ)). slice_index_or w 3 []) h.cut
 
   none_before_start : NoneBefore 6 line
   none_before_start =
-      none_more 5 line (none_before_fen line h.short a (outcome_text o) h.fen d h.cut h.id_is o refl)
-      (λ due. record_never_due f h.fen due.0 h.bounds h.text (subst (λ t. IsFirstDue of_record due.0 (fields t)) fen_at due.1))
+      none_more 5 line (none_before_fen line h.short a (outcome_text o) (fen_text f) d h.cut h.id_is o refl)
+      (λ due. record_never_due f (fen_text f) due.0 h.bounds refl (subst (λ t. IsFirstDue fen_errors due.0 (fields 32 t)) fen_at due.1))
 
-  spells_start : SpellsStart line f
-  spells_start = record { bounds = h.bounds; text = subst (FenText f) (sym fen_at) h.text }
+  spells_start : SpellsStart (fields_of line) f
+  spells_start = (h.bounds, fen_at)
 
   pub start_refused : ¬ NoOppositeCheck f.setup → Refuses line refusal.Start
   start_refused bad = first_due refusal.Start line none_before_start (f, spells_start, bad)
@@ -49,7 +51,7 @@ module _ (line a d : List ℕ) (o : Outcome) (f : Record) (h : IsHeader line a o
     none_before_words : NoneBefore 7 line
     none_before_words =
         none_more 6 line none_before_start (λ due.
-        let same : due.0 ≡ f = one_record due.0 f (field_of line 2) due.1.bounds h.bounds due.1.text spells_start.text in
+        let same : due.0 ≡ f = one_record due.0 f (field (fields_of line) 2) due.1.0 h.bounds due.1.1 fen_at in
         due.2 (subst (λ g. NoOppositeCheck g.setup) (sym same) playable))
 
     pub misspelt_refused : (n : ℕ) → BreaksAt (All IsSpelled) (words_of d) n → Refuses line (refusal.Spelling n)
@@ -75,10 +77,7 @@ module _ (line a d : List ℕ) (o : Outcome) (f : Record) (h : IsHeader line a o
               f,
               moves_named d,
               spells_start,
-              record {
-                bounds = named_are_moves (words_of d) spelt;
-                words = spellings_back (words_of d) spelt ∙ ap words_of (sym moves_at);
-              },
+              (named_are_moves (words_of d) spelt, spellings_back (words_of d) spelt ∙ ap words_of (sym moves_at)),
               bad,
             )
 
@@ -88,15 +87,19 @@ module _ (line a d : List ℕ) (o : Outcome) (f : Record) (h : IsHeader line a o
         moves_back : d ≡ moves_text (moves_named d)
         moves_back = sym (ap (join_with_byte 32) (spellings_back (words_of d) spelt) ∙ words-back d)
 
-        text_is : without_return line ≡ join_with_byte 9 (a ∷ outcome_text o ∷ h.fen ∷ moves_text (moves_named d) ∷ [])
+        text_is : strip_carriage_return line ≡ submission_text (submission_of a f o d)
         text_is =
-            sym (join_with_byte-slice_split 9 (without_return line)) ∙ ap (join_with_byte 9) h.cut
-            ∙ ap (λ t. join_with_byte 9 (a ∷ outcome_text o ∷ h.fen ∷ t ∷ [])) moves_back
+            sym (join_with_byte-slice_split 9 (strip_carriage_return line)) ∙ ap (join_with_byte 9) h.cut
+            ∙ ap (λ t. join_with_byte 9 (a ∷ outcome_text o ∷ fen_text f ∷ t ∷ [])) moves_back
 
         pub lawful : AreLegal f.setup (moves_named d) → IsLawful line (submission_of a f o d)
         lawful legal = record {
-          submits = record { id = h.id_is; game = is_game; text = without_return line; spells = (h.fen, h.text, text_is); is = cases_return line };
-          legal = record { playable = playable; legal = legal };
+          text = text_is;
+          id = h.id_is;
+          start = h.bounds;
+          no_opposite_check = playable;
+          few = is_game.few;
+          legal = legal;
         }
 
 -- the refusal that the words get is the line's
@@ -121,4 +124,4 @@ moves_lawful line a d o f n h playable read = lawful line a d o f h playable rea
 pub moves_checked : (line a d : List ℕ) (o : Outcome) (f : Record) (n : ℕ) → IsHeader line a o f d → NoOppositeCheck f.setup → AreRead f.setup d n → IsChecked (submission_of a f o d) d n
 moves_checked line a d o f n h playable read =
     let all = moves_lawful line a d o f n h playable read in
-    record { rules = record { id = all.submits.id; game = all.submits.game; legal = all.legal }; spelt = read.spelt; number = read.number }
+    record { rules = lawful_submission line (submission_of a f o d) all; spelt = read.spelt; number = read.number }

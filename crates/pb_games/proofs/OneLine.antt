@@ -1,8 +1,9 @@
--- No line has two submissions, and no submission two texts.
-use Rattle.std.proofs.Common.{◌≡◌, ℕ, List, [], ◌∷◌, length, map, get_or, ◌==◌, if◌then◌else◌, refl, sym, ap, subst, ◌∙◌, arith, lit<}
-use Rattle.std.specs.List.{All, join_with_byte}
+-- No text has two submissions, and so no line.
+use Rattle.std.proofs.Common.{◌≡◌, ℕ, List, [], ◌∷◌, length, map, get_or, ◌==◌, if◌then◌else◌, refl, sym, ap, ◌∙◌, arith, lit<}
+use Rattle.std.specs.List.{All}
 use Rattle.std.proofs.lemmas.List.Elements.{All-head, All-tail}
-use Rattle.pb_board.specs.Fen.{FenText}
+use Rattle.pb_board.specs.Text.{fen_text}
+use Rattle.pb_board.specs.Fields.{fields}
 use Rattle.pb_board.specs.Position.{Record}
 use Rattle.pb_board.proofs.Joins.{split_join}
 use Rattle.pb_board.proofs.Unique as unique
@@ -12,16 +13,12 @@ use Rattle.pb_games.specs.declared.game.Game.{Game}
 use Rattle.pb_games.specs.declared.outcome.Outcome.{Outcome}
 use Rattle.pb_games.specs.declared.outcome.Outcome.TheVariants as outcome
 use Rattle.pb_games.specs.Results.{outcome_text}
-use Rattle.pb_games.specs.Submissions.{Submission, moves_text}
+use Rattle.pb_games.specs.Submissions.{IsLawful, Submission, moves_text}
 use Rattle.pb_games.specs.Words.{words_of}
-use Rattle.pb_games.specs.Laws.{OneSubmission, OneText}
+use Rattle.pb_games.specs.Laws.{OneSubmission}
 use Rattle.pb_games.proofs.Bytes.{spellings_above}
-use Rattle.pb_games.proofs.Texts.{fields_back}
+use Rattle.pb_games.proofs.Texts.{four_parts, lawful_game}
 use Rattle.pb_games.proofs.WordLemmas.{spelling_injective}
-
-pub one_text : OneText
-one_text s a b h k =
-    h.2 ∙ ap (λ fen. join_with_byte 9 (s.0 ∷ outcome_text s.1.outcome ∷ fen ∷ moves_text s.1.moves ∷ [])) (unique.one_text s.1.start h.0 k.0 h.1 k.1) ∙ sym k.2
 
 outcome_from : List ℕ → Outcome
 outcome_from text = if length text == 7 then outcome.Draw else (if get_or text 0 0 == 49 then outcome.White else outcome.Black)
@@ -56,16 +53,19 @@ game_of start o moves = record { start = start; outcome = o; moves = moves }
 
 pub one_submission : OneSubmission
 unfolding game_of
-one_submission line s t h k =
-    let cells = sym (fields_back line s h) ∙ fields_back line t k in
+one_submission s t s-id s-game t-id t-game same =
+    let cells = sym (four_parts s s-id s-game) ∙ ap (fields 9) same ∙ four_parts t t-id t-game in
     let cell = λ (i : ℕ). ap (λ (w : List (List ℕ)). get_or w i []) cells in
     let ids : s.0 ≡ t.0 = cell 0 in
     let outcomes : s.1.outcome ≡ t.1.outcome = outcome_injective s.1.outcome t.1.outcome (cell 1) in
-    let starts : s.1.start ≡ t.1.start = unique.one_record s.1.start t.1.start h.spells.0 h.game.start k.game.start h.spells.1 (subst (FenText t.1.start) (sym (cell 2)) k.spells.1) in
+    let starts : s.1.start ≡ t.1.start = unique.one_record s.1.start t.1.start (fen_text s.1.start) s-game.start t-game.start refl (cell 2) in
     let words : map spelling s.1.moves ≡ map spelling t.1.moves = sym (words_of_text s.1.moves) ∙ ap words_of (cell 3) ∙ words_of_text t.1.moves in
-    let moves : s.1.moves ≡ t.1.moves = spellings_injective s.1.moves t.1.moves h.game.moves k.game.moves words in
+    let moves : s.1.moves ≡ t.1.moves = spellings_injective s.1.moves t.1.moves s-game.moves t-game.moves words in
     let P : List ℕ → Game → Submission = λ id g. (id, g) in
     ap (λ id. P id s.1) ids
     ∙ ap (λ f. P t.0 (game_of f s.1.outcome s.1.moves)) starts
     ∙ ap (λ o. P t.0 (game_of t.1.start o s.1.moves)) outcomes
     ∙ ap (λ ms. P t.0 (game_of t.1.start t.1.outcome ms)) moves
+
+pub one_lawful : (line : List ℕ) (s t : Submission) → IsLawful line s → IsLawful line t → s ≡ t
+one_lawful line s t h k = one_submission s t h.id (lawful_game line s h) k.id (lawful_game line t k) (sym h.text ∙ k.text)

@@ -4,17 +4,18 @@ use Rattle.std.proofs.lemmas.Bool.{cases_lt}
 use Rattle.pb_board.specs.declared.refusal.FenError.{FenError}
 use Rattle.pb_board.specs.declared.refusal.FenError.TheVariants as fen
 use Rattle.pb_board.specs.Position.{Record}
-use Rattle.pb_board.specs.Refusal.{BreaksAt, of_record, fields}
-use Rattle.pb_board.specs.Refusal.{IsDue as IsFenDue}
+use Rattle.pb_board.specs.Fields.{field, fields}
+use Rattle.pb_board.specs.Refusal.{BreaksAt, IsDueFen, fen_errors}
 use Rattle.pb_board.proofs.Breaks.{one_all_break, one_break}
 use Rattle.pb_board.proofs.Dues.{one_first}
 use Rattle.pb_board.proofs.Unique.{one_record}
 use Rattle.pb_moves.specs.Played.{AreLegal, IsSpelled}
 use Rattle.pb_games.specs.declared.refusal.Refusal.{Refusal}
 use Rattle.pb_games.specs.declared.refusal.Refusal.TheVariants as refusal
-use Rattle.pb_games.specs.Refusing.{IsDue, Refuses, field_of}
+use Rattle.pb_games.specs.Header.{fields_of}
+use Rattle.pb_games.specs.Refusing.{Refuses}
 use Rattle.pb_games.specs.Laws.{OneRefusal}
-use Rattle.pb_games.proofs.Dues.{none_before, order}
+use Rattle.pb_games.proofs.Dues.{IsDue, none_before, order}
 use Rattle.pb_games.proofs.OneLine.{spellings_injective}
 use Rattle.pb_games.proofs.Played.{legal_fronts}
 
@@ -53,8 +54,8 @@ back line refusal.Memory due = absurd due
 
 illegal_is : (line : List ℕ) (m n : ℕ) → IsDue (refusal.Illegal m) line → IsDue (refusal.Illegal n) line → m ≡ n
 illegal_is line m n h k =
-    let starts : h.0 ≡ k.0 = one_record h.0 k.0 (field_of line 2) h.2.bounds k.2.bounds h.2.text k.2.text in
-    let moves : h.1 ≡ k.1 = spellings_injective h.1 k.1 h.3.bounds k.3.bounds (h.3.words ∙ sym k.3.words) in
+    let starts : h.0 ≡ k.0 = one_record h.0 k.0 (field (fields_of line) 2) h.2.0 k.2.0 h.2.1 k.2.1 in
+    let moves : h.1 ≡ k.1 = spellings_injective h.1 k.1 h.3.0 k.3.0 (h.3.1 ∙ sym k.3.1) in
     let here : BreaksAt (AreLegal k.0.setup) k.1 m =
     subst (λ ms. BreaksAt (AreLegal k.0.setup) ms m) moves (subst (λ (f : Record). BreaksAt (AreLegal f.setup) h.1 m) starts h.4) in
     one_break (AreLegal k.0.setup) (legal_fronts k.0.setup) k.1 m n here k.4
@@ -65,7 +66,7 @@ one_cause line (suc zero) m n d e h j = refl
 one_cause line (suc (suc zero)) m n d e h j = refl
 one_cause line (suc (suc (suc zero))) m n d e h j = refl
 one_cause line (suc (suc (suc (suc zero)))) m n d e h j = refl
-one_cause line (suc (suc (suc (suc (suc zero))))) m n d e h j = ap (λ x. refusal.Fen x) (one_first (λ x. IsFenDue x (fields (field_of line 2))) of_record d e h j)
+one_cause line (suc (suc (suc (suc (suc zero))))) m n d e h j = ap (λ x. refusal.Fen x) (one_first (IsDueFen (fields 32 (field (fields_of line) 2))) fen_errors d e h j)
 one_cause line (suc (suc (suc (suc (suc (suc zero)))))) m n d e h j = refl
 one_cause line (suc (suc (suc (suc (suc (suc (suc zero))))))) m n d e h j = ap (λ x. refusal.Spelling x) (one_all_break IsSpelled _ m n h j)
 one_cause line (suc (suc (suc (suc (suc (suc (suc (suc zero)))))))) m n d e h j = refl

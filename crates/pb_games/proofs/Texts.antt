@@ -1,28 +1,34 @@
 -- The text of a submission: its bytes, its length, and the parts that a cut at every TAB gives back.
-use Rattle.std.proofs.Common.{◌≡◌, ◌≢◌, ℕ, ◌<◌, ◌≤◌, eqb, List, [], ◌∷◌, ◌++◌, length, length-append, get_or, ap, ◌∙◌, inl, inr, arith, lit<}
+use Rattle.std.proofs.Common.{◌≡◌, ◌≢◌, ◌⊎◌, ℕ, ◌<◌, ◌≤◌, eqb, List, [], ◌∷◌, ◌++◌, length, length-append, get_or, ap, ◌∙◌, inl, inr, arith, lit<}
 use Rattle.std.specs.List.{All, join_with_byte, slice_split}
 use Rattle.std.proofs.Math.Seq.{get_or-append_seam}
-use Rattle.std.proofs.lemmas.List.Elements.{All-nil, All-cons, All-append, All-same}
+use Rattle.std.proofs.lemmas.List.Elements.{All-nil, All-cons, All-append}
 use Rattle.pb_board.proofs.Joins.{Above, AllAbove, split_join}
-use Rattle.pb_board.specs.LineEnd.{without_return}
-use Rattle.pb_games.specs.Refusing.{fields_of}
+use Rattle.std.specs.Str.Lines.{strip_carriage_return}
+use Rattle.pb_board.specs.Text.{fen_text}
+use Rattle.pb_games.specs.Header.{fields_of}
+use Rattle.pb_moves.specs.Moved.{IsMove, Moved}
+use Rattle.pb_moves.specs.Played.{AreLegal}
+use Rattle.pb_moves.specs.Successor.{after}
+use Rattle.pb_moves.proofs.LegalMoves.{legal_is_move}
+use Rattle.pb_moves.proofs.Successors.{after_is_setup}
+use Rattle.pb_board.specs.Position.{IsSetup, Position}
 use Rattle.pb_games.specs.Results.{outcome_text}
-use Rattle.pb_games.specs.Submissions.{Submission, Submits, moves_text}
+use Rattle.pb_games.specs.Submissions.{IsGame, IsLawful, IsSubmission, Submission, moves_text, submission_text}
 use Rattle.pb_games.specs.Laws.{TextIsShort, TextIsOneLine, PartsHaveNoTab}
 use Rattle.pb_games.proofs.Bytes.{Above-weaker, id_above, result_above, result_short, fen_above, fen_short, moves_above, moves_short}
-use Rattle.pb_board.proofs.LineEnds.{without_return-push, without_return-same}
+use Rattle.pb_board.proofs.LineEnds.{cases_return, strip_push, strip_same}
 
 no_tab : (xs : List ℕ) → Above 31 xs → Above 9 xs
 no_tab xs h = Above-weaker 9 31 xs (omega arith) h
 
 pub four_parts : PartsHaveNoTab
-four_parts s text id game h =
-    let Cut : List ℕ → List (List ℕ) = λ t. slice_split (λ b. eqb b 9) t in
-    ap Cut h.2 ∙ split_join 9 (s.0 ∷ outcome_text s.1.outcome ∷ h.0 ∷ moves_text s.1.moves ∷ []) (
+four_parts s id game =
+    split_join 9 (s.0 ∷ outcome_text s.1.outcome ∷ fen_text s.1.start ∷ moves_text s.1.moves ∷ []) (
       no_tab s.0 (id_above s.0 id),
       (
         no_tab (outcome_text s.1.outcome) (result_above s.1.outcome),
-        (no_tab h.0 (fen_above s.1.start h.0 game.start h.1), (no_tab (moves_text s.1.moves) (moves_above s.1.moves), tt)),
+        (no_tab (fen_text s.1.start) (fen_above s.1.start game.start), (no_tab (moves_text s.1.moves) (moves_above s.1.moves), tt)),
       ),
     ) (lit< tt)
 
@@ -41,19 +47,17 @@ plain_join (t ∷ u ∷ ts) h =
     All-append IsPlain t (9 ∷ rest) (plain_part t h.0) (All-cons IsPlain 9 rest (λ e. omega (arith, e), λ e. omega (arith, e)) (plain_join (u ∷ ts) h.1))
 
 pub one_line : TextIsOneLine
-one_line s text id game h =
-    let parts = s.0 ∷ outcome_text s.1.outcome ∷ h.0 ∷ moves_text s.1.moves ∷ [] in
-    All-same IsPlain text (join_with_byte 9 parts) h.2
-    (plain_join parts (id_above s.0 id, (result_above s.1.outcome, (fen_above s.1.start h.0 game.start h.1, (moves_above s.1.moves, tt)))))
+one_line s id game =
+    plain_join (s.0 ∷ outcome_text s.1.outcome ∷ fen_text s.1.start ∷ moves_text s.1.moves ∷ [])
+    (id_above s.0 id, (result_above s.1.outcome, (fen_above s.1.start game.start, (moves_above s.1.moves, tt))))
 
 four_short : (a b c d : List ℕ) → length a ≤ 64 → length b ≤ 7 → length c ≤ 94 → length d ≤ 6143 → length (join_with_byte 9 (a ∷ b ∷ c ∷ d ∷ [])) ≤ 6311
 four_short a b c d ha hb hc hd =
     omega (arith, length-append a (9 ∷ (b ++ 9 ∷ (c ++ 9 ∷ d))), length-append b (9 ∷ (c ++ 9 ∷ d)), length-append c (9 ∷ d))
 
 pub short_text : TextIsShort
-short_text s text id game h =
-    let whole = four_short s.0 (outcome_text s.1.outcome) h.0 (moves_text s.1.moves) id.few (result_short s.1.outcome) (fen_short s.1.start h.0 game.start h.1) (omega (arith, moves_short s.1.moves, game.few)) in
-    omega (arith, whole, ap length h.2)
+short_text s id game =
+    four_short s.0 (outcome_text s.1.outcome) (fen_text s.1.start) (moves_text s.1.moves) id.few (result_short s.1.outcome) (fen_short s.1.start game.start) (omega (arith, moves_short s.1.moves, game.few))
 
 -- ---- lines
 
@@ -62,24 +66,41 @@ no_final_cr text h front e =
     let within : length front < length text = omega (arith, ap length e, length-append front (13 ∷ [])) in
     (h (length front) 0 within).1 (ap (λ (t : List ℕ). get_or t (length front) 0) e ∙ get_or-append_seam front 13 [] 0)
 
--- the line without one final CR is the text
-pub text_back : (line : List ℕ) (s : Submission) (h : Submits line s) → without_return line ≡ h.text
-text_back line s h =
-    elim h.is [
-      | inl same ↦ ap without_return same ∙ without_return-same h.text (no_final_cr h.text (one_line s h.text h.id h.game h.spells))
-      | inr more ↦ ap without_return more ∙ without_return-push h.text
-    ]
+-- moves that are legal one after another are moves
+legal_moves : (s : Position) (ms : List Moved) → IsSetup s → AreLegal s ms → All IsMove ms
+legal_moves s [] ok h = All-nil IsMove
+legal_moves s (m ∷ ms) ok h = All-cons IsMove m ms (legal_is_move s m ok h.0) (legal_moves (after s m) ms (after_is_setup s m ok h.0) h.1)
+
+pub lawful_game : (line : List ℕ) (s : Submission) → IsLawful line s → IsGame s.1
+lawful_game line s h = record { start = h.start; moves = legal_moves s.1.start.setup s.1.moves h.start.setup h.legal; few = h.few }
+
+pub lawful_submission : (line : List ℕ) (s : Submission) → IsLawful line s → IsSubmission s
+lawful_submission line s h = record { id = h.id; game = lawful_game line s h; legal = record { playable = h.no_opposite_check; legal = h.legal } }
+
+-- a line that is the text of a submission, or that text and a CR, submits it
+pub submits : (line : List ℕ) (s : Submission) → IsSubmission s → (line ≡ submission_text s) ⊎ (line ≡ submission_text s ++ 13 ∷ []) → IsLawful line s
+submits line s h is = record {
+  text = elim is [
+    | inl same ↦ ap strip_carriage_return same ∙ strip_same (submission_text s) (no_final_cr (submission_text s) (one_line s h.id h.game))
+    | inr more ↦ ap strip_carriage_return more ∙ strip_push (submission_text s)
+  ];
+  id = h.id;
+  start = h.game.start;
+  no_opposite_check = h.legal.playable;
+  few = h.game.few;
+  legal = h.legal.legal;
+}
 
 -- the fields of a line are the parts of what it submits
-pub fields_back : (line : List ℕ) (s : Submission) (h : Submits line s) → fields_of line ≡ s.0 ∷ outcome_text s.1.outcome ∷ h.spells.0 ∷ moves_text s.1.moves ∷ []
+pub fields_back : (line : List ℕ) (s : Submission) (h : IsLawful line s) → fields_of line ≡ s.0 ∷ outcome_text s.1.outcome ∷ fen_text s.1.start ∷ moves_text s.1.moves ∷ []
 fields_back line s h =
     let Cut : List ℕ → List (List ℕ) = λ t. slice_split (λ b. eqb b 9) t in
-    ap Cut (text_back line s h) ∙ four_parts s h.text h.id h.game h.spells
+    ap Cut h.text ∙ four_parts s h.id (lawful_game line s h)
 
-pub short_line : (line : List ℕ) (s : Submission) → Submits line s → length line ≤ 6312
+pub short_line : (line : List ℕ) (s : Submission) → IsLawful line s → length line ≤ 6312
 short_line line s h =
-    let short = short_text s h.text h.id h.game h.spells in
-    elim h.is [
-      | inl same ↦ omega (arith, short, ap length same)
-      | inr more ↦ omega (arith, short, ap length more, length-append h.text (13 ∷ []))
+    let short = short_text s h.id (lawful_game line s h) in
+    elim (cases_return line) [
+      | inl same ↦ omega (arith, short, ap length same, ap length h.text)
+      | inr more ↦ omega (arith, short, ap length more, ap length h.text, length-append (strip_carriage_return line) (13 ∷ []))
     ]

@@ -1,5 +1,6 @@
 -- Words, and the moves that they spell.
-use Rattle.std.proofs.Common.{◌≡◌, ℕ, ◌+◌, ◌≤◌, eqb, List, [], ◌∷◌, length, map, get_or, Option, Some, None, refl, sym, ap, subst, ◌∙◌, arith}
+use Rattle.std.proofs.Common.{◌≡◌, ◌≢◌, ℕ, ◌+◌, ◌≤◌, eqb, List, [], ◌∷◌, length, map, get_or, Option, Some, None, MatchOption, refl, sym, ap, subst, ◌∙◌, arith}
+use Rattle.std.specs.Iterator.{YieldsFirst}
 use Rattle.std.specs.List.{All, join_with_byte}
 use Rattle.std.proofs.lemmas.List.Elements.{All-head, All-tail, All-map, All-weaker}
 use Rattle.std.proofs.lemmas.List.Splits.{length-slice_split, join_with_byte-slice_split}
@@ -9,7 +10,11 @@ use Rattle.pb_board.specs.declared.piece.Kind.TheVariants.{Pawn, Knight, Bishop,
 use Rattle.pb_board.specs.Board.{file, rank}
 use Rattle.pb_moves.specs.Moved.{Moved, IsMove, IsPromotion, moved_of}
 use Rattle.pb_moves.specs.Played.{Spells, IsSpelled}
-use Rattle.pb_moves.specs.Spelling.{promotion_text, spelling}
+use Rattle.std.specs.Prelude.{option_to_list}
+use Rattle.pb_board.specs.declared.piece.Colour.TheVariants as side
+use Rattle.pb_board.specs.Piece.{piece_of}
+use Rattle.pb_board.specs.Text.{piece_letter}
+use Rattle.pb_moves.specs.Spelling.{spelling}
 use Rattle.pb_games.specs.Words.{words_of, square_named, promotion_named, move_named}
 
 -- a field has no more words than bytes, and one
@@ -21,6 +26,9 @@ few_words (c ∷ cs) = omega (arith, length-slice_split (λ b. eqb b 32) (c ∷ 
 
 square_back : (q : ℕ) → square_named (97 + file q) (49 + rank q) ≡ q
 square_back q = omega arith
+
+abbrev promotion_text : Option Kind → List ℕ
+promotion_text promo = map (λ kind. piece_letter (piece_of side.Black kind)) (option_to_list promo)
 
 kind_back : (kind : Kind) (a b c d : ℕ) → IsPromotion kind → promotion_named (get_or (a ∷ b ∷ c ∷ d ∷ promotion_text (Some kind)) 4 0) ≡ Some kind
 kind_back Pawn a b c d h = absurd (h.0 refl)
@@ -68,6 +76,15 @@ spellings_back (w ∷ ws) h =
 
 pub named_are_moves : (words : List (List ℕ)) → All IsSpelled words → All IsMove (map move_named words)
 named_are_moves words h = All-map IsMove move_named words (All-weaker IsSpelled (λ w. IsMove (move_named w)) (λ w s. (spells_named w s).is_move) words h)
+
+-- the first of words that spell moves gives the first move
+pub next_move : (word : List ℕ) (r : Option Moved) (now : List Moved) (words rest : List (List ℕ)) → now ≡ map move_named words → words ≡ word ∷ rest → All IsSpelled words
+    → MatchOption r ((m : Moved) → IsMove m → word ≢ spelling m) (λ m. IsMove m × (word ≡ spelling m)) → YieldsFirst (λ s. s) now r (map move_named rest)
+next_move word None now words rest view cut spelt h =
+    let first : IsSpelled word = All-head IsSpelled word rest (subst (All IsSpelled) cut spelt) in
+    absurd (h first.0 first.1.is_move first.1.is)
+next_move word (Some m) now words rest view cut spelt h =
+    view ∙ ap (map move_named) cut ∙ ap (λ x. x ∷ map move_named rest) (named_spelt word m (record { is_move = h.0; is = h.1 }))
 
 -- a field is its words, with a space between each two
 pub words-back : (field : List ℕ) → join_with_byte 32 (words_of field) ≡ field

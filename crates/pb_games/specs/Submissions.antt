@@ -1,8 +1,10 @@
 -- Submissions and the lines that spell them.
-use Rattle.std.specs.Prelude.{◌≡◌, ℕ, ◌≤◌, ◌⊎◌, List, [], ◌∷◌, ◌++◌, length, map, All}
+use Rattle.std.specs.Prelude.{◌≡◌, ℕ, ◌≤◌, List, [], ◌∷◌, length, map, All}
 use Rattle.std.specs.List.{join_with_byte}
-use Rattle.pb_board.specs.Fen.{FenText}
+use Rattle.std.specs.Str.Lines.{strip_carriage_return}
+use Rattle.pb_board.specs.Fields.{space, tab}
 use Rattle.pb_board.specs.Position.{IsRecord, Position}
+use Rattle.pb_board.specs.Text.{fen_text}
 use Rattle.pb_moves.specs.Attacks.{NoOppositeCheck}
 use Rattle.pb_moves.specs.Moved.{Moved, IsMove}
 use Rattle.pb_moves.specs.Played.{Ply, plies_from, AreLegal}
@@ -18,7 +20,7 @@ Submission = List ℕ × Game
 
 -- the spellings of the moves, joined by single spaces
 abbrev pub moves_text : List Moved → List ℕ
-moves_text moves = join_with_byte 32 (map spelling moves)
+moves_text moves = join_with_byte space (map spelling moves)
 
 -- the bounds of a game's parts
 pub record IsGame (g : Game) : Type 0 where
@@ -26,20 +28,10 @@ pub record IsGame (g : Game) : Type 0 where
   pub moves : All IsMove g.moves
   pub few : length g.moves ≤ 1024
 
--- the text of a submission: the id, the result, the record that the game starts from and the moves, with a TAB
--- between each two
-abbrev pub SubmissionText : Submission → List ℕ → Type 0
-SubmissionText s text =
-    (fen : List ℕ) × FenText s.1.start fen
-    × (text ≡ join_with_byte 9 (s.0 ∷ outcome_text s.1.outcome ∷ fen ∷ moves_text s.1.moves ∷ []))
-
--- the line is the text of the submission, or that text and a CR
-pub record Submits (line : List ℕ) (s : Submission) : Type 0 where
-  pub id : IsId s.0
-  pub game : IsGame s.1
-  pub text : List ℕ
-  pub spells : SubmissionText s text
-  pub is : (line ≡ text) ⊎ (line ≡ text ++ 13 ∷ [])
+-- the id, the result, the FEN record that the game starts from and the UCI texts of its moves, with a TAB between each two
+abbrev pub submission_text : Submission → List ℕ
+submission_text s =
+    join_with_byte tab (s.0 ∷ outcome_text s.1.outcome ∷ fen_text s.1.start ∷ moves_text s.1.moves ∷ [])
 
 -- the moves of the game, each with the setup before it
 abbrev pub plies : Game → List Ply
@@ -59,10 +51,14 @@ pub record IsLegalGame (g : Game) : Type 0 where
   pub playable : NoOppositeCheck g.start.setup
   pub legal : AreLegal g.start.setup g.moves
 
--- the line submits this legal game under this id
+-- the line, without one final CR, is the text of this legal game under this id
 pub record IsLawful (line : List ℕ) (s : Submission) : Type 0 where
-  pub submits : Submits line s
-  pub legal : IsLegalGame s.1
+  pub text : strip_carriage_return line ≡ submission_text s
+  pub id : IsId s.0
+  pub start : IsRecord s.1.start
+  pub no_opposite_check : NoOppositeCheck s.1.start.setup
+  pub few : length s.1.moves ≤ 1024
+  pub legal : AreLegal s.1.start.setup s.1.moves
 
 -- an id and a legal game within the bounds
 pub record IsSubmission (s : Submission) : Type 0 where

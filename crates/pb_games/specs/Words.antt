@@ -1,7 +1,7 @@
 -- The words of a field, and the moves that they spell.
 use Rattle.std.specs.Prelude.{ℕ, ◌+◌, ◌-◌, ◌*◌, List, [], ◌∷◌, map, slice_index, Option, Some, None, ◌==◌, if◌then◌else◌}
 use Rattle.std.specs.Borrow.{Bor}
-use Rattle.std.specs.List.{slice_split}
+use Rattle.pb_board.specs.Fields.{fields, space}
 use Rattle.pb_board.specs.declared.piece.Kind.{Kind}
 use Rattle.pb_board.specs.declared.piece.Kind.TheVariants.{Knight, Bishop, Rook, Queen}
 use Rattle.pb_moves.specs.Moved.{Moved, moved_of}
@@ -9,12 +9,12 @@ use Rattle.pb_moves.specs.Moved.{Moved, moved_of}
 -- the words of a field: what stands between its spaces; an empty field has none
 abbrev pub words_of : List ℕ → List (List ℕ)
 words_of [] = []
-words_of (c ∷ cs) = slice_split (λ b. b == 32) (c ∷ cs)
+words_of (c ∷ cs) = fields space (c ∷ cs)
 
 -- the words of a text that is still to be cut, if there is one
 abbrev pub words_left : Option (Bor (List ℕ)) → List (List ℕ)
 words_left None = []
-words_left (Some text) = slice_split (λ b. b == 32) text.now
+words_left (Some text) = fields space text.now
 
 -- ---- the move of a word, which means nothing where the word spells no move
 

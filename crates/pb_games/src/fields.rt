@@ -1,8 +1,8 @@
 //! The four fields of a line.
 
-ghost use Rattle.std.specs.Prelude.{◌≡◌, ◌≢◌, ◌≤◌, ◌∷◌, [], ◌==◌, length, MatchOption, IfSome};
-ghost use Rattle.std.specs.List.{slice_split};
-ghost use Rattle.pb_games.specs.Refusing.{fields_of};
+ghost use Rattle.std.specs.Prelude.{◌≡◌, ◌≢◌, ◌≤◌, ◌∷◌, [], length, MatchOption, IfSome};
+ghost use Rattle.pb_board.specs.Fields.{fields, tab};
+ghost use Rattle.pb_games.specs.Header.{fields_of};
 
 use memchr::memchr;
 use pb_board::without_return;
@@ -38,8 +38,8 @@ pub(crate) fn cut_fields(line: &[u8]) -> Option<LineFields<'_>>
 
 /// Cuts a text at its first TAB, into what stands before it and what stands after it. None exactly where it has none.
 fn cut_at_tab(text: &[u8]) -> Option<(&[u8], &[u8])>
-    ensures { MatchOption result (slice_split (λ b. b == 9) text.now ≡ text.now ∷ [])
-        (λ cut. slice_split (λ b. b == 9) text.now ≡ cut.0.now ∷ slice_split (λ b. b == 9) cut.1.now) }
+    ensures { MatchOption result (fields tab text.now ≡ text.now ∷ [])
+        (λ cut. fields tab text.now ≡ cut.0.now ∷ fields tab cut.1.now) }
 {
     // A line can be long, and `memchr` looks at many bytes at a time.
     let at = memchr(b'\t', text)?;

@@ -1,7 +1,7 @@
 //! The initial record: the initial array before the first move.
 
 ghost use Rattle.std.specs.Prelude.{◌≡◌, ◌↔◌, IsTrue};
-ghost use Rattle.pb_board.specs.Fen.{FenText};
+ghost use Rattle.pb_board.specs.Text.{fen_text};
 ghost use Rattle.pb_games.specs.Starts.{initial_record};
 
 use pb_board::{Fen, Setup};
@@ -18,7 +18,7 @@ pub(crate) fn initial_record() -> Fen
 
 /// Whether the text is that of the initial record.
 pub(crate) fn is_initial_text(text: &[u8]) -> bool
-    ensures { IsTrue result ↔ FenText initial_record text.now }
+    ensures { IsTrue result ↔ (text.now ≡ fen_text initial_record) }
 {
     text == INITIAL_TEXT
 }

@@ -5,21 +5,16 @@ ghost use Rattle.std.specs.Prelude.{◌≡◌, ℕ, List};
 ghost use Rattle.std.specs.Bool.{Decides};
 ghost use Rattle.pb_games.specs.declared.outcome.Outcome.{Outcome};
 ghost use Rattle.pb_games.specs.declared.refusal.Refusal.{Refusal};
-ghost use Rattle.pb_games.specs.Laws.{OneRefusal, OneSubmission, OneText, PartsHaveNoTab, RefusedByItself, RefusedIsUnlawful, TextIsOneLine, TextIsShort};
+ghost use Rattle.pb_games.specs.Laws.{OneRefusal, OneSubmission, PartsHaveNoTab, RefusedByItself, RefusedIsUnlawful, TextIsOneLine, TextIsShort};
 
 use crate::id::Id;
 use crate::outcome::Outcome;
 use crate::refusal::Refusal;
 use std::hash::Hash;
 
-/// No line has two submissions.
+/// No text has two submissions, and so no line: two lines that submit one differ by a final CR at most.
 pub fn one_submission()
     ensures { OneSubmission }
-{}
-
-/// No submission has two texts: two lines that submit it differ by a final CR at most.
-pub fn one_text()
-    ensures { OneText }
 {}
 
 /// A text is short, has no end of a line in it, and no TAB but the three between its parts.

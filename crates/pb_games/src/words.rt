@@ -1,7 +1,7 @@
 //! The words of a field.
 
-ghost use Rattle.std.specs.Prelude.{◌≡◌, ◌∷◌, [], ◌==◌, MatchOption};
-ghost use Rattle.std.specs.List.{slice_split};
+ghost use Rattle.std.specs.Prelude.{◌≡◌, ◌∷◌, [], MatchOption};
+ghost use Rattle.pb_board.specs.Fields.{fields, space};
 ghost use Rattle.std.specs.Iterator.{YieldsFirstRef, item_count};
 ghost use Rattle.pb_games.specs.Words.{words_of};
 
@@ -61,8 +61,8 @@ impl<'a> Iterator for Words<'a> {
 /// Cuts a text at its first space, into what stands before it and what stands after it.
 #[inline(always)]
 fn cut_word(text: &[u8]) -> Option<(&[u8], &[u8])>
-    ensures { MatchOption result (slice_split (λ b. b == 32) text.now ≡ text.now ∷ [])
-        (λ cut. slice_split (λ b. b == 32) text.now ≡ cut.0.now ∷ slice_split (λ b. b == 32) cut.1.now) }
+    ensures { MatchOption result (fields space text.now ≡ text.now ∷ [])
+        (λ cut. fields space text.now ≡ cut.0.now ∷ fields space cut.1.now) }
 {
     // Most words are moves of four bytes.
     if let [a, b, c, d, b' ', rest @ ..] = text {

@@ -23,3 +23,4 @@ pub mod Carrying
 pub mod Listed
 pub mod Castlings
 pub mod Equal
+pub mod Spellings

@@ -3,7 +3,9 @@
 ghost use Rattle.std.specs.Prelude.{◌≡◌, ◌≢◌, ℕ, ◌<◌, [], ◌∷◌, ◌++◌, MatchOption};
 ghost use Rattle.std.specs.Option.{ForSome};
 ghost use Rattle.pb_board.specs.declared.piece.Kind.{Kind};
-ghost use Rattle.pb_board.specs.Text.{kind_letter, square_text};
+ghost use Rattle.pb_board.specs.declared.piece.Colour.TheVariants.{Black};
+ghost use Rattle.pb_board.specs.Piece.{piece_of};
+ghost use Rattle.pb_board.specs.Text.{piece_letter, square_text};
 ghost use Rattle.pb_moves.specs.Moved.{Moved, IsMove, IsPromotion};
 ghost use Rattle.pb_moves.specs.Spelling.{spelling};
 
@@ -23,8 +25,8 @@ fn read_square(letter: u8, digit: u8) -> Option<Square>
 /// The kind that a promotion's letter names.
 fn read_promotion(byte: u8) -> Option<Kind>
     ensures { MatchOption result
-        ((kind : Kind) → IsPromotion kind → kind_letter kind ≢ byte)
-        (λ kind. IsPromotion kind × (kind_letter kind ≡ byte)) }
+        ((kind : Kind) → IsPromotion kind → piece_letter (piece_of Black kind) ≢ byte)
+        (λ kind. IsPromotion kind × (piece_letter (piece_of Black kind) ≡ byte)) }
 {
     match byte {
         b'n' => Some(Kind::Knight),

@@ -4,7 +4,7 @@ use Rattle.std.specs.List.{AllZip}
 use Rattle.std.proofs.lemmas.List.{append-nil}
 use Rattle.std.proofs.lemmas.List.Elements.{All-append, All-cons, All-head, All-nil, All-tail}
 use Rattle.std.specs.Prelude.{IsSome, MatchOption, Option, Some, None, is_none, false, true}
-use Rattle.pb_board.specs.LineEnd.{without_return}
+use Rattle.std.specs.Str.Lines.{strip_carriage_return}
 use Rattle.pb_board.proofs.Breaks.{all_unbroken}
 use Rattle.pb_io.specs.Lines.{lines}
 use Rattle.pb_io.proofs.LineLemmas.{IsLineFeedAt, IsQuiet, length-lines, lines-ended, lines-quiet as line-quiet}
@@ -23,7 +23,7 @@ lines-quiet [] quiet some = absurd (omega arith)
 lines-quiet (b ∷ bs) quiet some = line-quiet b bs quiet
 
 -- what the digits of a line write is what the line spells
-pub word_of_line : (line digits : List ℕ) (o : Option ℕ) → digits ≡ without_return line
+pub word_of_line : (line digits : List ℕ) (o : Option ℕ) → digits ≡ strip_carriage_return line
     → MatchOption o ((word : ℕ) → ¬ WritesWord digits word) (WritesWord digits) → MatchOption o (¬ IsWordLine line) (SpellsWord line)
 word_of_line line digits (Some word) is h = subst (λ (d : List ℕ). WritesWord d word) is h
 word_of_line line digits None is h = λ s. h s.0 (subst (λ (d : List ℕ). WritesWord d s.0) (sym is) s.1)
@@ -36,7 +36,7 @@ words_are_one [] [] (b ∷ w) x y = absurd y
 words_are_one (l ∷ ls) [] w x y = absurd x
 words_are_one (l ∷ ls) (a ∷ v) [] x y = absurd y
 words_are_one (l ∷ ls) (a ∷ v) (b ∷ w) x y =
-    let first : a ≡ b = word_is_one (without_return l) a b x.0 y.0 in
+    let first : a ≡ b = word_is_one (strip_carriage_return l) a b x.0 y.0 in
     let more = words_are_one ls v w x.1 y.1 in
     cc
 
@@ -118,7 +118,7 @@ words_small : (ls : List (List ℕ)) (words : List ℕ) → AllZip SpellsWord ls
 words_small [] [] zip = All-nil (λ word. word < 2 ^ 64)
 words_small [] (w ∷ words) zip = absurd zip
 words_small (l ∷ ls) [] zip = absurd zip
-words_small (l ∷ ls) (w ∷ words) zip = All-cons (λ word. word < 2 ^ 64) w words (word_small (without_return l) w zip.0) (words_small ls words zip.1)
+words_small (l ∷ ls) (w ∷ words) zip = All-cons (λ word. word < 2 ^ 64) w words (word_small (strip_carriage_return l) w zip.0) (words_small ls words zip.1)
 
 -- what a table's text spells is a table
 pub is_table : (words : List ℕ) (bytes : List ℕ) → TableText words bytes → IsTable words

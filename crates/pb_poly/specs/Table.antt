@@ -1,7 +1,7 @@
 -- Table files: 781 lines of 16 hexadecimal digits, one for each word of the table.
 use Rattle.std.specs.Prelude.{◌≡◌, ◌≢◌, ℕ, ◌+◌, ◌*◌, ◌^◌, ◌<◌, ◌≤◌, ◌⊎◌, List, length, fold, All}
 use Rattle.std.specs.List.{AllZip}
-use Rattle.pb_board.specs.LineEnd.{without_return}
+use Rattle.std.specs.Str.Lines.{strip_carriage_return}
 use Rattle.pb_board.specs.Refusal.{BreaksAt}
 use Rattle.pb_io.specs.Lines.{lines}
 use Rattle.pb_poly.specs.declared.table.TableError.{TableError}
@@ -30,7 +30,7 @@ pub record WritesWord (digits : List ℕ) (word : ℕ) : Type 0 where
 
 -- the line, without one final CR, writes the word
 abbrev pub SpellsWord : List ℕ → ℕ → Type 0
-SpellsWord line word = WritesWord (without_return line) word
+SpellsWord line word = WritesWord (strip_carriage_return line) word
 
 abbrev pub IsWordLine : List ℕ → Type 0
 IsWordLine line = (word : ℕ) × SpellsWord line word

@@ -1,6 +1,6 @@
-use Rattle.std.proofs.Common.{◌≡◌, ◌∙◌, ◌++◌, [], ◌∷◌, List, sym, ap, subst}
+use Rattle.std.proofs.Common.{◌≡◌, ℕ, ◌∙◌, ◌++◌, [], ◌∷◌, List, sym, ap}
 use Rattle.std.proofs.lemmas.List.{append-nil}
-use Rattle.pb_board.specs.Fen.{FourFields}
+use Rattle.pb_board.specs.Text.{setup_text}
 use Rattle.pb_epd.specs.Operation.{Operation}
 use Rattle.pb_epd.specs.Epd.{operations_of}
 use Rattle.pb_epd.proofs.Maps.{Entry}
@@ -22,8 +22,5 @@ loop-opcode-preserved c =
 pub returns : goal.returns
 returns c =
     let done : c.loop-opcode.opcode-iterator ≡ [] = c.in-None.ensures.steps.0 in
-    record {
-      fields = c.in_ok-out.out.items;
-      spells = subst (λ p. FourFields p c.in_ok-out.out.items) c.setup.ensures.value c.in_ok-out.ensures;
-      is = sym (append-nil c.loop-opcode.out.items) ∙ (rw done at c.loop-opcode.invariant);
-    }
+    sym (append-nil c.loop-opcode.out.items) ∙ (rw done at c.loop-opcode.invariant)
+    ∙ ap (λ (w : List ℕ). w ++ operations_text c.args.epd.now.operations) (c.in_ok-out.ensures ∙ ap setup_text c.setup.ensures.value)

@@ -1,8 +1,8 @@
 use Rattle.std.proofs.Common.{◌≡◌, ◌∷◌, [], ℕ, List, eqb, sym, ap, ◌∙◌, arith}
 use Rattle.std.specs.List.{slice_split}
-use Rattle.pb_board.specs.LineEnd.{without_return}
-use Rattle.pb_games.specs.Refusing.{fields_of}
-use Rattle.pb_board.proofs.LineEnds.{length-without_return}
+use Rattle.std.specs.Str.Lines.{strip_carriage_return}
+use Rattle.pb_board.proofs.LineEnds.{length-strip}
+use Rattle.pb_games.specs.Header.{fields_of}
 use Rattle.pb_games.proofs.Pieces.{fifth, fourth_short}
 use Rattle.pb_games.proofs.fields.cut_fields.Goals as goal
 
@@ -23,4 +23,4 @@ returns-clause-short c =
     ap cut_at_tabs (sym c.without_return.ensures) ∙ c.in_ok-id.ensures ∙ ap (λ ws. c.in_ok-id.id.now ∷ ws) c.in_ok-outcome.ensures
     ∙ ap (λ ws. c.in_ok-id.id.now ∷ c.in_ok-outcome.outcome.now ∷ ws) c.in_ok-start.ensures
     ∙ ap (λ ws. c.in_ok-id.id.now ∷ c.in_ok-outcome.outcome.now ∷ c.in_ok-start.start.now ∷ ws) c.in-None.ensures in
-    omega (arith, fourth_short 9 (without_return line) _ _ _ _ cut, length-without_return line)
+    omega (arith, fourth_short 9 (strip_carriage_return line) _ _ _ _ cut, length-strip line)

@@ -7,7 +7,7 @@ use Rattle.pb_accepted.proofs.ledger.Ledger.arrival.Goals as goal
 
 pub returns-in_default-clause-arrives : goal.returns-in_default-clause-arrives
 returns-in_default-clause-arrives g c = λ s lawful.
-    absurd (c.in_default.ensures (subst IsId (sym (c.first_field.ensures ∙ first_is_id c.args.line.now s lawful)) lawful.submits.id))
+    absurd (c.in_default.ensures (subst IsId (sym (c.first_field.ensures ∙ first_is_id c.args.line.now s lawful)) lawful.id))
 
 pub returns-in_default-get_full-clause-arrives : goal.returns-in_default-get_full-clause-arrives
 returns-in_default-get_full-clause-arrives g c =

@@ -1,6 +1,19 @@
 use Rattle.std.proofs.Common.{rules}
-use Rattle.pb_board.proofs.Firsts.{en_passant_first}
+use Rattle.pb_board.specs.Position.{position_of}
+use Rattle.pb_board.proofs.Firsts.{en_passant_first, kings_first, pawns_first}
 use Rattle.pb_board.proofs.setup.Setup.build.Goals as goal
+
+pub returns-in_default : goal.returns-in_default
+returns-in_default c = kings_first (position_of c.args.board c.args.turn c.args.rights c.args.ep) (search rules)
+
+pub returns-in_default-one_king : goal.returns-in_default-one_king
+returns-in_default-one_king c = kings_first (position_of c.args.board c.args.turn c.args.rights c.args.ep) (search rules)
+
+pub returns-then-not-has_no_edge_pawn : goal.returns-then-not-has_no_edge_pawn
+returns-then-not-has_no_edge_pawn c =
+    let white = c.in-Some.ensures c.args.board c.masks_of-masks.ensures in
+    let black = c.in-Some-one_king.ensures c.args.board c.masks_of-masks.ensures in
+    pawns_first (position_of c.args.board c.args.turn c.args.rights c.args.ep) (_, white) (_, black) (search rules)
 
 pub returns : goal.returns
 returns c =
