@@ -231,3 +231,7 @@ module _ (rules : CountingRules) (fills : ℕ) (t t' s s' : SourceState) (sink s
 
   pub has_headline : CollectsBook rules fills t t' s s' sink sink' entries → HasHeadline rules t.to_come s.to_come sink sink' entries
   has_headline h = both h t.to_come s.to_come h.games.takes.is_table h.games.takes.all_came
+
+  -- of whatever sources, it is so of the bytes that came
+  pub headline_came : (h : CollectsBook rules fills t t' s s' sink sink' entries) → HasHeadline rules (Some h.games.takes.table.came) (Some h.games.takes.came) sink sink' entries
+  headline_came h = both h (Some h.games.takes.table.came) (Some h.games.takes.came) h.games.takes.table.is refl
