@@ -25,6 +25,6 @@ mod JournalSurvives
 mod KeepClauses
 mod KeepRuns
 pub mod OneTexts
-mod RunLemmas
+pub mod RunLemmas
 mod Takings
 pub mod ToldRuns
