@@ -27,7 +27,7 @@ use Rattle.pb_accepted.specs.Counting.{credit}
 use Rattle.pb_accepted.specs.Rules.{CountingRules}
 use Rattle.pb_theorem.specs.Book as books
 use Rattle.pb_theorem.specs.Key as keys
-use Rattle.pb_theorem.proofs.CutLemmas.{lines_are, stripped_is}
+use Rattle.pb_theorem.proofs.CutLemmas.{stripped_is}
 use Rattle.pb_theorem.proofs.KeyLemmas.{code_is, key_is}
 
 -- ---- table files
@@ -95,7 +95,7 @@ pub table_to : (words bytes : List ℕ) → table.IsTableFile words bytes → bo
 table_to words bytes h = record {
   few = h.few;
   all = h.text.all;
-  each = subst (λ (ls : List (List ℕ)). AllZip books.SpellsRandom ls words) (sym (lines_are bytes)) (words_to (lines bytes) words h.text.each);
+  each = words_to (lines bytes) words h.text.each;
 }
 
 pub table_from : (words bytes : List ℕ) → books.IsTableFile words bytes → table.IsTableFile words bytes
@@ -103,7 +103,7 @@ table_from words bytes h = record {
   few = h.few;
   text = record {
     all = h.all;
-    each = words_from (lines bytes) words (subst (λ (ls : List (List ℕ)). AllZip books.SpellsRandom ls words) (lines_are bytes) h.each);
+    each = words_from (lines bytes) words h.each;
   };
 }
 

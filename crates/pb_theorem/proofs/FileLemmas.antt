@@ -14,20 +14,18 @@ use Rattle.pb_poly.specs.declared.table_file.TableFault.{TableFault}
 use Rattle.pb_poly.specs.declared.table_file.TableFault.TheVariants.{Long, Line, Count, Read, Endless, Memory}
 use Rattle.pb_theorem.specs.Files as files
 use Rattle.pb_theorem.specs.Files.{IsRandomLine}
-use Rattle.pb_theorem.specs.Lines as cut
 use Rattle.pb_theorem.specs.Refusals.{BreaksAt}
 use Rattle.pb_theorem.specs.Streams.{Came, Reads, Way, at_end, at_fault, at_no_end, just_so_far, so_far}
 use Rattle.pb_theorem.proofs.BookLemmas as tables_of
-use Rattle.pb_theorem.proofs.CutLemmas.{lines_are}
 
 -- ---- how far a source was read
 
 module _ (room fills : ℕ) (old new : SourceState) where
   came_to : (bytes : List ℕ) → reads.Reads room fills old new bytes → Came room fills old new bytes
-  came_to bytes h = record { first = h.bytes; at_most = h.at_most; no_empty_fill = h.no_empty_fill; few = h.few }
+  came_to bytes h = record { first = h.bytes; handed = h.handed; at_most = h.at_most; no_empty_fill = h.no_empty_fill; few = h.few }
 
   came_from : (bytes : List ℕ) → Came room fills old new bytes → reads.Reads room fills old new bytes
-  came_from bytes h = record { bytes = h.first; at_most = h.at_most; no_empty_fill = h.no_empty_fill; few = h.few }
+  came_from bytes h = record { bytes = h.first; handed = h.handed; at_most = h.at_most; no_empty_fill = h.no_empty_fill; few = h.few }
 
   pub end_to : (bytes : List ℕ) → reads.ReadsAll room fills old new bytes → Reads at_end room fills old new bytes
   end_to bytes h = (came_to bytes h.some.reads, h.some.made, h.some.works, h.ended, h.answered)
@@ -77,25 +75,20 @@ all_to ls h k d lt = line_to (get_or ls k d) (h k d lt)
 all_from : (ls : List (List ℕ)) → All IsRandomLine ls → All IsWordLine ls
 all_from ls h k d lt = line_from (get_or ls k d) (h k d lt)
 
-abbrev Breaks : ℕ → List (List ℕ) → Type 0
-Breaks n ls = BreaksAt (All IsRandomLine) ls n
+breaks_to : (bytes : List ℕ) (n : ℕ) → BreaksAt (All IsWordLine) (lines bytes) n → BreaksAt (All IsRandomLine) (lines bytes) n
+breaks_to bytes n h = (all_to _ h.0, λ x. h.1 (all_from _ x))
 
-breaks_to : (bytes : List ℕ) (n : ℕ) → BreaksAt (All IsWordLine) (lines bytes) n → BreaksAt (All IsRandomLine) (cut.lines bytes) n
-breaks_to bytes n h = subst (Breaks n) (sym (lines_are bytes)) (all_to _ h.0, λ x. h.1 (all_from _ x))
-
-breaks_from : (bytes : List ℕ) (n : ℕ) → BreaksAt (All IsRandomLine) (cut.lines bytes) n → BreaksAt (All IsWordLine) (lines bytes) n
-breaks_from bytes n h =
-    let k = subst (Breaks n) (lines_are bytes) h in
-    (all_from _ k.0, λ x. k.1 (all_to _ x))
+breaks_from : (bytes : List ℕ) (n : ℕ) → BreaksAt (All IsRandomLine) (lines bytes) n → BreaksAt (All IsWordLine) (lines bytes) n
+breaks_from bytes n h = (all_from _ h.0, λ x. h.1 (all_to _ x))
 
 abbrev Counts : ℕ → List (List ℕ) → Type 0
 Counts n ls = (n ≡ length ls) × (n ≢ 781) × All IsRandomLine ls
 
-counts_to : (bytes : List ℕ) (n : ℕ) → (n ≡ length (lines bytes)) × (n ≢ 781) × All IsWordLine (lines bytes) → Counts n (cut.lines bytes)
-counts_to bytes n h = subst (Counts n) (sym (lines_are bytes)) (h.0, h.1, all_to _ h.2)
+counts_to : (bytes : List ℕ) (n : ℕ) → (n ≡ length (lines bytes)) × (n ≢ 781) × All IsWordLine (lines bytes) → Counts n (lines bytes)
+counts_to bytes n h = (h.0, h.1, all_to _ h.2)
 
-counts_from : (bytes : List ℕ) (n : ℕ) → Counts n (cut.lines bytes) → (n ≡ length (lines bytes)) × (n ≢ 781) × All IsWordLine (lines bytes)
-counts_from bytes n h = let k = subst (Counts n) (lines_are bytes) h in (k.0, k.1, all_from _ k.2)
+counts_from : (bytes : List ℕ) (n : ℕ) → Counts n (lines bytes) → (n ≡ length (lines bytes)) × (n ≢ 781) × All IsWordLine (lines bytes)
+counts_from bytes n h = (h.0, h.1, all_from _ h.2)
 
 module _ (fills : ℕ) (old new : SourceState) where
   pub table_to : (words : List ℕ) → tables.ReadsTable fills old new words → files.ReadsTable fills old new (Ok words)

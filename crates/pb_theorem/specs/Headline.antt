@@ -1,8 +1,9 @@
 -- The theorem of `pbook collect`, for the bytes of a table file, of submissions and of the replies. Read this file first:
 -- nothing is assumed of the submissions, and a list is counted from 0.
-use Rattle.std.specs.Prelude.{◌≡◌, ◌≢◌, ◌↔◌, ℕ, ◌<◌, List, [], AllPairs, Option, Some, Ok, IfSome, slice_get}
+use Rattle.std.specs.Prelude.{◌≡◌, ◌≢◌, ◌↔◌, ℕ, ◌<◌, true, List, [], ◌++◌, AllPairs, Some, Ok, IfSome, slice_get}
 use Rattle.std.specs.Io.KnownBytes.{Appends}
 use Rattle.pb_io.specs.Sink.{SinkState}
+use Rattle.pb_io.specs.Source.{SourceState}
 use Rattle.pb_poly.specs.Book.{BookBytes}
 use Rattle.pb_poly.specs.declared.entry.Entry.{Entry}
 use Rattle.pb_games.specs.Submissions.{Submission}
@@ -48,7 +49,22 @@ pub record Headline (rules : CountingRules) (file bytes put : List ℕ) (entries
   pub only : (others : List Entry) (b : List ℕ) → IsBook (counted_plies randoms rules games) rules.least others
       → BookBytes others b → (others ≡ entries) × (b ≡ text)
 
--- where the two sources tell their bytes, it is so of what was put on the sink
-abbrev pub HasHeadline : CountingRules → Option (List ℕ) → Option (List ℕ) → SinkState → SinkState → List Entry → Type 0
-HasHeadline rules file bytes sink sink' entries = IfSome file (λ f. IfSome bytes (λ b.
-    (put : List ℕ) × Appends sink.bytes sink'.bytes put × Headline rules f b put entries))
+-- so it is of what was put on a sink from one of its states to the other
+abbrev pub HeadlineOn : CountingRules → List ℕ → List ℕ → SinkState → SinkState → List Entry → Type 0
+HeadlineOn rules file bytes sink sink' entries =
+    (put : List ℕ) × Appends sink.bytes sink'.bytes put × Headline rules file bytes put entries
+
+-- Between two states a source handed out these bytes, up to its end: all that were to come, where it told them.
+pub record HandsOut (old new : SourceState) (bytes : List ℕ) : Type 0 where
+  pub handed : new.handed ≡ old.handed ++ bytes
+  pub ended : new.ended ≡ true
+  pub told : IfSome old.to_come (λ all. bytes ≡ all)
+
+-- So it is of the bytes that two sources, of the table file and of the submissions, handed out up to their ends, whatever they are
+-- and whatever is known of them before, and of those that were put on the sink meanwhile.
+pub record HasHeadline (rules : CountingRules) (t t' s s' : SourceState) (sink sink' : SinkState) (entries : List Entry) : Type 0 where
+  pub file : List ℕ
+  pub table : HandsOut t t' file
+  pub bytes : List ℕ
+  pub submissions : HandsOut s s' bytes
+  pub holds : HeadlineOn rules file bytes sink sink' entries

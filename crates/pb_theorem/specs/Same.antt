@@ -1,12 +1,18 @@
 -- What the words of this crate are to those of the crates below: the theorem says what theirs does.
-use Rattle.std.specs.Prelude.{◌↔◌, ℕ, List, Option}
+use Rattle.std.specs.Prelude.{◌↔◌, ℕ, List, Some, IfSome}
 use Rattle.pb_io.specs.Sink.{SinkState}
+use Rattle.pb_io.specs.Source.{SourceState}
 use Rattle.pb_poly.specs.declared.entry.Entry.{Entry}
 use Rattle.pb_accepted.specs.Rules.{AreRules, CountingRules}
 use Rattle.pb_collecting.specs.Headline as collecting
 use Rattle.pb_theorem.specs.Headline as theorem
 
 abbrev pub SameHeadline : Type 0
-SameHeadline = (rules : CountingRules) (file bytes : Option (List ℕ)) (sink sink' : SinkState) (entries : List Entry)
-    → AreRules rules
-    → theorem.HasHeadline rules file bytes sink sink' entries ↔ collecting.HasHeadline rules file bytes sink sink' entries
+SameHeadline = (rules : CountingRules) (file bytes : List ℕ) (sink sink' : SinkState) (entries : List Entry) → AreRules rules
+    → theorem.HeadlineOn rules file bytes sink sink' entries ↔ collecting.HasHeadline rules (Some file) (Some bytes) sink sink' entries
+
+-- of sources that tell their bytes it is so of just these
+abbrev pub ToldHeadline : Type 0
+ToldHeadline = (rules : CountingRules) (t t' s s' : SourceState) (sink sink' : SinkState) (entries : List Entry)
+    → theorem.HasHeadline rules t t' s s' sink sink' entries
+    → IfSome t.to_come (λ file. IfSome s.to_come (λ bytes. theorem.HeadlineOn rules file bytes sink sink' entries))

@@ -14,6 +14,7 @@ pub data Way : Type 0 where
 -- these bytes came, each time into a slice with room
 pub record Came (room fills : ℕ) (old new : SourceState) (bytes : List ℕ) : Type 0 where
   pub first : Consumes old.to_come new.to_come bytes
+  pub handed : new.handed ≡ old.handed ++ bytes
   pub at_most : new.fills ≤ old.fills + fills
   pub no_empty_fill : new.empty_fills ≡ old.empty_fills
   pub few : length bytes ≤ fills * room

@@ -6,7 +6,6 @@ ghost use Rattle.std.specs.Prelude.{◌≡◌, ◌↔◌, ◌⊎◌, ℕ, List, 
 ghost use Rattle.std.specs.Prelude.{IfErr, IfNone, IfOk, IfSome};
 ghost use Rattle.pb_board.specs.Fen.{FenText};
 ghost use Rattle.pb_board.specs.Position.{IsRecord, Position, Record};
-ghost use Rattle.pb_io.specs.Lines.{lines};
 ghost use Rattle.pb_io.specs.Source.{SourceState};
 ghost use Rattle.pb_io.specs.declared.lines.TheConstants.{LINE_LIMIT};
 ghost use Rattle.pb_io.specs.declared.source.TheConstants.{CHUNK_LEN as BYTES_AT_ONCE};
@@ -41,10 +40,9 @@ ghost use Rattle.pb_theorem.specs.Headline.{HasHeadline, Headline};
 ghost use Rattle.pb_theorem.specs.Key as keys;
 ghost use Rattle.pb_theorem.specs.Ledger as ledger;
 ghost use Rattle.pb_theorem.specs.Limits as limit;
-ghost use Rattle.pb_theorem.specs.Lines as texts_of;
 ghost use Rattle.pb_theorem.specs.Refusals as refusals;
 ghost use Rattle.pb_theorem.specs.Replies as reply;
-ghost use Rattle.pb_theorem.specs.Same.{SameHeadline};
+ghost use Rattle.pb_theorem.specs.Same.{SameHeadline, ToldHeadline};
 ghost use Rattle.pb_theorem.specs.Texts as texts;
 
 use pb_accepted::Rules;
@@ -102,7 +100,9 @@ pub fn collect_bytes(
 }
 
 /// The opening book of the games that are accepted, of a table and submissions that come from any
-/// sources; the replies are put on a sink. None where the line was put that refuses the table.
+/// sources, files and pipes among them; the replies are put on a sink. The theorem is of the bytes
+/// that the two sources hand out during the call, and of those that the sink takes. None where the
+/// line was put that refuses the table.
 ///
 /// # Errors
 ///
@@ -116,8 +116,8 @@ pub fn collect<T: Source, S: Source, K: Sink>(
     fills: u32,
 ) -> Result<Option<Book>, Fault>
     ensures headline { IfOk result (λ answer. IfSome answer (HasHeadline rules
-        (T.state table_source.old).to_come (S.state source.old).to_come
-        (K.state sink.old) (K.state sink.new))) }
+        (T.state table_source.old) (T.state table_source.new)
+        (S.state source.old) (S.state source.new) (K.state sink.old) (K.state sink.new))) }
     // Of a source that tells its bytes, the line says why they are no table file.
     ensures told { IfOk result (λ answer. IfNone answer (RefusesTold
         (T.state table_source.old).to_come (K.state sink.old) (K.state sink.new))) }
@@ -142,11 +142,10 @@ pub fn limits()
     ensures chunk { BYTES_AT_ONCE ≡ limit.chunk_len }
 {}
 
-/// Equates records, their FEN texts and the lines of a text with those of pb_board and pb_io.
+/// Equates records and their FEN texts with those of pb_board.
 pub fn same_texts()
     ensures records { (f : Record) → board.IsRecord f ↔ IsRecord f }
     ensures fen { (f : Record) (text : List ℕ) → FenText f text ↔ (text ≡ texts.fen_text f) }
-    ensures lines { (bytes : List ℕ) → texts_of.lines bytes ≡ lines bytes }
 {}
 
 /// Equates the lines that submit a legal game with those of pb_games.
@@ -184,9 +183,11 @@ pub fn same_books()
         ↔ IsBook (record { words = randoms; rules = rules }) S E }
 {}
 
-/// Equates the theorem with that of pb_collecting, for all rules within their bounds.
+/// Equates the theorem with that of pb_collecting, for all rules within their bounds; and what
+/// sources tell that they will hand out is what the theorem is of.
 pub fn same_headline()
-    ensures { SameHeadline }
+    ensures same { SameHeadline }
+    ensures told { ToldHeadline }
 {}
 
 /// Equates what reading a table file and a book gives, and why none is read, with what pb_poly
