@@ -1,8 +1,8 @@
 //! Moves, by pb_board and pb_moves: the legal moves of a position, and the record after one of them.
 
 ghost use Rattle.std.specs.Prelude.{◌≡◌, ◌≢◌, ◌⊎◌, ◌↔◌, Contains, IfOk, MatchOption};
-ghost use Rattle.pb_moves.specs.AfterRecord.{AfterRecord};
-ghost use Rattle.pb_moves.specs.Cases.{Legal};
+ghost use Rattle.pb_moves.specs.Clocks.{record_after};
+ghost use Rattle.pb_moves.specs.Legal.{Legal};
 ghost use Rattle.pb_moves.specs.Moved.{Moved, IsMove};
 ghost use Rattle.pb_moves.specs.Spelling.{spelling};
 
@@ -17,7 +17,7 @@ const STUDY: &[u8] = b"7K/8/k1P5/7p/8/8/8/8 w - - 0 1";
 
 /// The moves that may be played: a move is among them exactly if it is legal.
 fn choices(alloc: Global, fen: &Fen) -> Result<Vec<Move>, AllocError>
-    ensures { IfOk result (λ moves. (m : Moved) → Contains moves.items m ↔ (IsMove m × Legal fen.now.setup m)) }
+    ensures { IfOk result (λ moves. (m : Moved) → Contains moves.items m ↔ Legal fen.now.setup m) }
 {
     legal_moves(alloc, &fen.setup())
 }
@@ -26,7 +26,7 @@ fn choices(alloc: Global, fen: &Fen) -> Result<Vec<Move>, AllocError>
 fn after(fen: &Fen, text: &[u8]) -> Option<Fen>
     ensures { MatchOption result
         (((m : Moved) → IsMove m → text.now ≢ spelling m) ⊎ ((m : Moved) × (text.now ≡ spelling m) × ¬ Legal fen.now.setup m))
-        (λ next. (m : Moved) × (text.now ≡ spelling m) × AfterRecord fen.now m next) }
+        (λ next. (m : Moved) × (text.now ≡ spelling m) × Legal fen.now.setup m × (next ≡ record_after fen.now m)) }
 {
     advance(fen, read_move(text)?)
 }
