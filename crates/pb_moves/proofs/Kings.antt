@@ -155,8 +155,8 @@ king_stays s m p new side k ok stands own other only (en_passant x) =
     let Safe : ℕ × Place → Type 0 = λ c. (c.1 ≢ Some (king_of side)) × ¬ Holds s.board c.0 (king_of side) in
     let square = en_passant_at s m.to ok x.square in
     let F : Piece → Kind = λ z. z.kind in
-    king_stays_going s m p new side k ((beyond s.turn m.to, None) ∷ []) stands own other (open_no_king s.board s.turn m.to side (inl square.1.empty))
-    (All-cons Safe (beyond s.turn m.to, None) [] ((λ e. absurd cc), λ h. let same = ap F (holds_one s.board (beyond s.turn m.to) _ _ square.1.pawn h) in cc) (All-nil Safe)) only x.after
+    king_stays_going s m p new side k ((beyond s.turn m.to, None) ∷ []) stands own other (open_no_king s.board s.turn m.to side (inl square.1.0))
+    (All-cons Safe (beyond s.turn m.to, None) [] ((λ e. absurd cc), λ h. let same = ap F (holds_one s.board (beyond s.turn m.to) _ _ square.1.1 h) in cc) (All-nil Safe)) only x.after
 king_stays s m p new side k ok stands own other only (castles c x) =
     let row = castling_row c in
     let Safe : ℕ × Place → Type 0 = λ c. (c.1 ≢ Some (king_of side)) × ¬ Holds s.board c.0 (king_of side) in

@@ -124,7 +124,7 @@ classes s m piece new ok (pawn_capture x) =
 classes s m piece new ok (en_passant x) =
     let kind = x.pawn in
     let files : files_apart m.from m.to ≡ 1 = pawn_files piece.colour piece.kind s.board m.from m.to x.reaches x.pawn in
-    let free : at s.board m.to ≡ None = (en_passant_at s m.to ok x.square).1.empty in
+    let free : at s.board m.to ≡ None = (en_passant_at s m.to ok x.square).1.0 in
     cc
 classes s m piece new ok (castles c x) =
     let kind = x.king in
