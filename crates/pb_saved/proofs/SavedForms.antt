@@ -9,7 +9,7 @@ use Rattle.pb_moves.specs.Moved.{Moved}
 use Rattle.pb_moves.specs.Spelling.{spelling}
 use Rattle.pb_games.specs.Submissions.{Submission, moves_text, submission_text}
 use Rattle.pb_accepted.specs.Accepting.{IsNumber}
-use Rattle.pb_saved.specs.Saving.{header}
+use Rattle.pb_saved.specs.Saving.{Saved, header}
 
 -- ---- a game's moves
 
@@ -89,3 +89,7 @@ module _ (texts : List (List ℕ)) (i : ℕ) (text : List ℕ) (is : text ≡ ge
       (ap (λ xs. flat_map with_end (take i texts) ++ xs) (sym (append-nil (with_end text)))
       ∙ sym (flat_map-append with_end (take i texts) (text ∷ []))
       ∙ ap (λ t. flat_map with_end (take i texts ++ t ∷ [])) is ∙ ap (flat_map with_end) (sym (take_more texts i [] below)))
+
+-- each list of submissions has a saved form
+pub saved_form : (A : List Submission) → (bytes : List ℕ) × Saved A bytes
+saved_form A = (flat_map with_end (header ∷ map submission_text A), refl)
