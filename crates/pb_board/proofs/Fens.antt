@@ -12,7 +12,7 @@ use Rattle.pb_board.specs.declared.refusal.SetupError.TheVariants as fault
 use Rattle.pb_board.specs.declared.refusal.FenError.{FenError}
 use Rattle.pb_board.specs.declared.refusal.FenError.TheVariants as refusal
 use Rattle.pb_board.specs.Board.{Place}
-use Rattle.pb_board.specs.Position.{Position, Record, IsSetup, HasOneKing, HasNoEdgePawn, EnPassantHolds, OnEnPassantRank, IsEnPassantSquare}
+use Rattle.pb_board.specs.Position.{Position, Record, IsSetup, HasOneKing, HasNoEdgePawn, EnPassantHolds, OnEnPassantRank, WasSteppedOver}
 use Rattle.pb_board.specs.Fields.{field, fields}
 use Rattle.pb_board.specs.Parts.{AreParts, IsRefusedAs, refusal_of}
 use Rattle.pb_board.specs.Text.{castling_text, en_passant_text, fen_text, placement_text, setup_fields, turn_text}
@@ -21,7 +21,7 @@ use Rattle.pb_board.specs.Refusal.{IsDueFen, IsFault, IsFirstFault, SpellsBoard,
 use Rattle.pb_board.proofs.Unique.{placement_injective, turn_injective, en_passant_injective, fields_of_text, on_rank, one_record, one_setup}
 use Rattle.pb_board.proofs.Dues.{IsFirstDue, first_here, first_later, first_front, first_behind, first_map, none_first}
 
-en_passant_holds : (board : List Place) (turn : Colour) (ep : Option ℕ) → IfSome ep (OnEnPassantRank turn) → IfSome ep (IsEnPassantSquare board turn) → EnPassantHolds board turn ep
+en_passant_holds : (board : List Place) (turn : Colour) (ep : Option ℕ) → IfSome ep (OnEnPassantRank turn) → IfSome ep (WasSteppedOver board turn) → EnPassantHolds board turn ep
 en_passant_holds board turn None h k = h
 en_passant_holds board turn (Some q) h k = (h, k)
 
@@ -51,7 +51,7 @@ all_three P x y z h k l = All-cons P x (y ∷ z ∷ []) h (all_two P y z k l)
 all_four : {A : Type 0} (P : A → Type 0) (w x y z : A) → P w → P x → P y → P z → All P (w ∷ x ∷ y ∷ z ∷ [])
 all_four P w x y z g h k l = All-cons P w (x ∷ y ∷ z ∷ []) g (all_three P x y z h k l)
 
-is_en_passant : (board : List Place) (turn : Colour) (ep : Option ℕ) → EnPassantHolds board turn ep → IfSome ep (IsEnPassantSquare board turn)
+is_en_passant : (board : List Place) (turn : Colour) (ep : Option ℕ) → EnPassantHolds board turn ep → IfSome ep (WasSteppedOver board turn)
 is_en_passant board turn None h = h
 is_en_passant board turn (Some q) h = h.1
 
@@ -96,7 +96,7 @@ module _ (pieces four : List (List ℕ)) (p : Position) (cut : Begins pieces fou
       let same = only_board x s in
       let side : t ≡ p.turn = turn_injective t p.turn (sym sp.0 ∙ turn_is) in
       let square : q ≡ p.ep = en_passant_injective t q p.ep sp.2 (subst (λ w. IfSome p.ep (OnEnPassantRank w)) (sym side) h.rank_is) (sym sp.1 ∙ square_is) in
-      bad (en_passant_holds p.board p.turn p.ep h.rank_is (subst (λ w. IfSome w (IsEnPassantSquare p.board p.turn)) square (subst (λ w. IfSome q (IsEnPassantSquare p.board w)) side (subst (λ w. IfSome q (IsEnPassantSquare w t)) same holds))))
+      bad (en_passant_holds p.board p.turn p.ep h.rank_is (subst (λ w. IfSome w (WasSteppedOver p.board p.turn)) square (subst (λ w. IfSome q (WasSteppedOver p.board w)) side (subst (λ w. IfSome q (WasSteppedOver w t)) same holds))))
 
   -- the parts break a rule exactly where the refusal of that rule is due
   fault_is : (e : SetupError) → IsFault e p ↔ IsDueFen pieces (refusal_of e)

@@ -1,5 +1,5 @@
 -- Where a king stands alone, told by a number of one bit, and pawns at the edge, square by square.
-use Rattle.std.proofs.Common.{◌≡◌, ℕ, ◌+◌, ◌-◌, ◌<◌, ◌≤◌, ◌^◌, ◌↔◌, false, length, None, ap, sym, subst, ◌∙◌, inl, inr, arith, IsTrue, w64}
+use Rattle.std.proofs.Common.{◌≡◌, ℕ, ◌+◌, ◌-◌, ◌<◌, ◌≤◌, ◌^◌, ◌↔◌, false, length, None, ap, refl, sym, subst, ◌∙◌, inl, inr, arith, IsTrue, w64}
 use Rattle.std.proofs.Math.Pow.{pow-lt}
 use Rattle.std.specs.Int.{bit_at, trailing_zeros}
 use Rattle.std.proofs.lemmas.Bool.{cases_lt, false≢true}
@@ -21,21 +21,23 @@ holds_on_board board q piece holds =
       | inr past ↦ absurd cc (get_or_past board q None past, holds)
     ]
 
+-- a king stands alone who stands here, and nowhere else
+pub only_king : (board : Board) (side : Colour) (k : ℕ) → Holds board k (king_of side) → ((q : ℕ) → Holds board q (king_of side) → q ≡ k) → IsOnlyKing board side k
+only_king board side k here nowhere_else q = (nowhere_else q, λ e. subst (λ x. Holds board x (king_of side)) (sym e) here)
+
 module _ (board : Board) (side : Colour) (kings : ℕ) (told : (q : ℕ) → (bit_at kings q ≡ 1) ↔ Holds board q (king_of side)) where
   -- a number with the one bit of a square is that of a king who stands there alone
   pub stands_alone : (square : ℕ) → kings ≡ 2 ^ square → IsOnlyKing board side square
-  stands_alone square e = record {
-    here = (told square).0 (ap (λ n. bit_at n square) e ∙ bit_at-pow_same square);
-    nowhere_else = λ q h. elim (same_or_not q square) [
-      | inl is ↦ is
-      | inr apart ↦ absurd (omega (arith, (told q).1 h, ap (λ n. bit_at n q) e, bit_at-pow_other square q apart))
-    ];
-  }
+  stands_alone square e =
+      only_king board side square ((told square).0 (ap (λ n. bit_at n square) e ∙ bit_at-pow_same square)) (λ q h. elim (same_or_not q square) [
+        | inl is ↦ is
+        | inr apart ↦ absurd (omega (arith, (told q).1 h, ap (λ n. bit_at n q) e, bit_at-pow_other square q apart))
+      ])
 
   -- the bit of a king who stands alone is the only one
   alone_is_a_bit : kings < 2 ^ 64 → (square : ℕ) → IsOnlyKing board side square → (square < 64) × (kings ≡ 2 ^ square)
   alone_is_a_bit small square only =
-      let here = (told square).1 only.here in
+      let here = (told square).1 ((only square).1 refl) in
       let on : square < 64 = elim (cases_lt square 64) [
         | inl less ↦ less
         | inr past ↦ absurd (omega (arith, here, bit_at_above kings 64 square small past))
@@ -45,7 +47,7 @@ module _ (board : Board) (side : Colour) (kings : ℕ) (told : (q : ℕ) → (bi
           | inl is ↦ subst (λ k. bit_at kings k ≡ bit_at (2 ^ square) k) (sym is) (here ∙ sym (bit_at-pow_same square))
           | inr apart ↦ elim (cases_lt (bit_at kings q) 1) [
             | inl none ↦ omega (arith, none, bit_at-pow_other square q apart)
-            | inr one ↦ absurd (apart (only.nowhere_else q ((told q).0 (omega (arith, one, bit_at-lt kings q)))))
+            | inr one ↦ absurd (apart ((only q).0 ((told q).0 (omega (arith, one, bit_at-lt kings q)))))
           ]
         ]),
       )
@@ -55,7 +57,7 @@ module _ (board : Board) (side : Colour) (kings : ℕ) (told : (q : ℕ) → (bi
   one_king_bit small h =
       let bit = alone_is_a_bit small h.0 h.1 in
       let lowest = bit_at-trailing_zeros w64 kings (subst (λ n. 0 < n) (sym bit.1) (pow_pos h.0)) small in
-      let is : trailing_zeros w64 kings ≡ h.0 = h.1.nowhere_else (trailing_zeros w64 kings) ((told (trailing_zeros w64 kings)).0 lowest.1) in
+      let is : trailing_zeros w64 kings ≡ h.0 = (h.1 (trailing_zeros w64 kings)).0 ((told (trailing_zeros w64 kings)).0 lowest.1) in
       (lowest.0, bit.1 ∙ ap (λ k. 2 ^ k) (sym is))
 
 -- no pawn stands on the first n files of rank 1 and of rank 8

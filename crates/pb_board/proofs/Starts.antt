@@ -14,6 +14,7 @@ use Rattle.pb_board.specs.Position.{HasNoEdgePawn, IsOnlyKing, position_of}
 use Rattle.pb_board.specs.Text.{piece_letter}
 use Rattle.pb_board.specs.Initial.{initial_board}
 use Rattle.pb_board.specs.Mask.{masks_of}
+use Rattle.pb_board.proofs.Kings.{only_king}
 
 -- each place passes the test at its index
 abbrev pub all_from : (ℕ → Place → Bool) → ℕ → List Place → Bool
@@ -60,13 +61,10 @@ edge_at side q e =
     let h : (leb 8 q && ltb q 56) ≡ true = rw itself at e in
     grind (arith, nat_tests, both)
 
-only_king : (board : Board) (side : Colour) (k : ℕ) → Holds board k (king_of side) → all_from (king_test side k) 0 board ≡ true → IsOnlyKing board side k
-only_king board side k here all = record {
-  here = here;
-  nowhere_else = λ q h.
-      let passes = all_from_at (king_test side k) 0 board q (king_of side) all h in
-      king_at side k q (subst (λ n. king_test side k n (Some (king_of side)) ≡ true) (zero-add q) passes);
-}
+tested_king : (board : Board) (side : Colour) (k : ℕ) → Holds board k (king_of side) → all_from (king_test side k) 0 board ≡ true → IsOnlyKing board side k
+tested_king board side k here all = only_king board side k here (λ q h.
+    let passes = all_from_at (king_test side k) 0 board q (king_of side) all h in
+    king_at side k q (subst (λ n. king_test side k n (Some (king_of side)) ≡ true) (zero-add q) passes))
 
 no_edge_pawn : (board : Board) → ((side : Colour) → all_from (edge_test side) 0 board ≡ true) → HasNoEdgePawn board
 no_edge_pawn board all q side h =
@@ -81,11 +79,11 @@ edges Black = refl
 
 white_king : IsOnlyKing initial_board White 4
 unfolding initial_board king_test is_it
-white_king = only_king initial_board White 4 refl refl
+white_king = tested_king initial_board White 4 refl refl
 
 black_king : IsOnlyKing initial_board Black 60
 unfolding initial_board king_test is_it
-black_king = only_king initial_board Black 60 refl refl
+black_king = tested_king initial_board Black 60 refl refl
 
 pub initial_keeps : (rights : Rights) → KeepsMasks (position_of initial_board White rights None) (masks_of initial_board)
 unfolding initial_board

@@ -1,5 +1,5 @@
 -- No record has two texts, and no text has two records.
-use Rattle.std.proofs.Common.{◌≡◌, ℕ, zero, suc, ◌+◌, ◌*◌, ◌%◌, ◌≤◌, Bool, true, false, cond, eqb, List, [], ◌∷◌, ◌++◌, length, take, get_or, replicate, Option, Some, None, refl, sym, ap, subst, ◌∙◌, inl, inr, arith, lit<}
+use Rattle.std.proofs.Common.{◌≡◌, ℕ, zero, suc, ◌+◌, ◌/◌, ◌*◌, ◌%◌, ◌≤◌, Bool, true, false, cond, eqb, List, [], ◌∷◌, ◌++◌, length, take, get_or, replicate, Option, Some, None, refl, sym, ap, subst, ◌∙◌, inl, inr, arith, lit<}
 use Rattle.std.specs.Prelude.{IfSome, decimal}
 use Rattle.std.specs.List.{AllZip, join_with_byte}
 use Rattle.std.proofs.Math.Seq.{take-add}
@@ -183,13 +183,17 @@ turn_injective White Black e = let h : ◌≡◌ {A = ℕ} 119 98 = ap (λ (t : 
 turn_injective Black White e = let h : ◌≡◌ {A = ℕ} 98 119 = ap (λ (t : List ℕ). get_or t 0 0) e in absurd (omega (arith, h))
 turn_injective Black Black e = refl
 
+same_rank : (turn : Colour) (x y : ℕ) → OnEnPassantRank turn x → OnEnPassantRank turn y → x / 8 ≡ y / 8
+same_rank White x y h k = omega (arith, h, k)
+same_rank Black x y h k = omega (arith, h, k)
+
 pub en_passant_injective : (turn : Colour) (p q : Option ℕ) → IfSome p (OnEnPassantRank turn) → IfSome q (OnEnPassantRank turn) → en_passant_text p ≡ en_passant_text q → p ≡ q
 en_passant_injective turn None None h k e = refl
 en_passant_injective turn None (Some y) h k e = absurd (omega (arith, ap length e))
 en_passant_injective turn (Some x) None h k e = absurd (omega (arith, ap length e))
 en_passant_injective turn (Some x) (Some y) h k e =
     let file : 97 + x % 8 ≡ 97 + y % 8 = ap (λ (t : List ℕ). get_or t 0 0) e in
-    let same : x ≡ y = omega (arith, file, h, k) in
+    let same : x ≡ y = omega (arith, file, same_rank turn x y h k) in
     ap (λ n. Some n) same
 
 pub one_setup : (p q : Position) (four : List (List ℕ)) → IsSetup p → IsSetup q → four ≡ setup_fields p → four ≡ setup_fields q → p ≡ q

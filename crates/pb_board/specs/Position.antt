@@ -1,11 +1,12 @@
 -- Positions and records, and the rules that they meet (PGN Standard 1994, section 16.1).
-use Rattle.std.specs.Prelude.{◌≡◌, ℕ, ◌+◌, ◌-◌, ◌<◌, ◌^◌, length, Option, Some, None, IfSome, slice_set}
+use Rattle.std.specs.Prelude.{◌≡◌, ◌↔◌, ℕ, ◌+◌, ◌-◌, ◌<◌, ◌^◌, length, Option, Some, None, IfSome, slice_set}
 use Rattle.pb_board.specs.declared.piece.Colour.{Colour}
 use Rattle.pb_board.specs.declared.piece.Colour.TheVariants.{White, Black}
 use Rattle.pb_board.specs.declared.piece.Piece.{Piece}
 use Rattle.pb_board.specs.declared.setup.Rights.{Rights}
-use Rattle.pb_board.specs.Piece.{opponent, king_of, pawn_of}
-use Rattle.pb_board.specs.Board.{Board, rank, Holds, IsEmpty}
+use Rattle.pb_board.specs.declared.piece.Kind.TheVariants.{King, Pawn}
+use Rattle.pb_board.specs.Piece.{opponent, piece_of}
+use Rattle.pb_board.specs.Board.{Board, rank, rank_for, Holds, IsEmpty}
 
 -- a board, a side to move, the castling rights and the en passant square
 pub record Position : Type 0 where
@@ -17,40 +18,34 @@ pub record Position : Type 0 where
 abbrev pub position_of : Board → Colour → Rights → Option ℕ → Position
 position_of board turn rights ep = record { board = board; turn = turn; rights = rights; ep = ep }
 
--- the king of this side stands here, and nowhere else
-pub record IsOnlyKing (board : Board) (side : Colour) (square : ℕ) : Type 0 where
-  pub here : Holds board square (king_of side)
-  pub nowhere_else : (q : ℕ) → Holds board q (king_of side) → q ≡ square
+-- the king of this side stands on this square, and on no other
+abbrev pub IsOnlyKing : Board → Colour → ℕ → Type 0
+IsOnlyKing board side king = (q : ℕ) → Holds board q (piece_of side King) ↔ (q ≡ king)
 
 abbrev pub HasOneKing : Board → Colour → Type 0
-HasOneKing board side = (square : ℕ) × IsOnlyKing board side square
+HasOneKing board side = (king : ℕ) × IsOnlyKing board side king
 
 -- no pawn stands on rank 1 or 8
 abbrev pub HasNoEdgePawn : Board → Type 0
-HasNoEdgePawn board = (q : ℕ) (side : Colour) → Holds board q (pawn_of side) → (0 < rank q) × (rank q < 7)
-
--- the rank of the en passant square, by the side to move: the sixth for White, the third for Black
-abbrev pub en_passant_rank : Colour → ℕ
-en_passant_rank White = 5
-en_passant_rank Black = 2
+HasNoEdgePawn board = (q : ℕ) (side : Colour) → Holds board q (piece_of side Pawn) → (0 < rank q) × (rank q < 7)
 
 -- the square directly beyond an en passant square, where the pawn stands that has passed over it
 abbrev pub beyond : Colour → ℕ → ℕ
 beyond White q = q - 8
 beyond Black q = q + 8
 
--- the square is empty, and an enemy pawn has just passed over it
-pub record IsEnPassantSquare (board : Board) (turn : Colour) (q : ℕ) : Type 0 where
-  pub empty : IsEmpty board q
-  pub pawn : Holds board (beyond turn q) (pawn_of (opponent turn))
-
+-- the square is on the sixth rank of the side to move
 abbrev pub OnEnPassantRank : Colour → ℕ → Type 0
-OnEnPassantRank turn q = rank q ≡ en_passant_rank turn
+OnEnPassantRank turn q = rank_for turn q ≡ 5
+
+-- the square is empty, and beyond it stands an enemy pawn, as after a double step
+abbrev pub WasSteppedOver : Board → Colour → ℕ → Type 0
+WasSteppedOver board turn q = IsEmpty board q × Holds board (beyond turn q) (piece_of (opponent turn) Pawn)
 
 abbrev pub EnPassantHolds : Board → Colour → Option ℕ → Type 0
-EnPassantHolds board turn ep = IfSome ep (λ q. OnEnPassantRank turn q × IsEnPassantSquare board turn q)
+EnPassantHolds board turn ep = IfSome ep (λ q. OnEnPassantRank turn q × WasSteppedOver board turn q)
 
--- the rules that every setup meets
+-- The rules that every setup meets. Castling rights are those of the record, wherever the kings and rooks stand.
 pub record IsSetup (p : Position) : Type 0 where
   pub places : length p.board ≡ 64
   pub white_king : HasOneKing p.board White

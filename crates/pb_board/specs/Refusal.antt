@@ -9,7 +9,7 @@ use Rattle.pb_board.specs.declared.refusal.FenError.{FenError}
 use Rattle.pb_board.specs.declared.refusal.FenError.TheVariants as fen
 use Rattle.pb_board.specs.Board.{Board}
 use Rattle.pb_board.specs.Fields.{field}
-use Rattle.pb_board.specs.Position.{Position, HasOneKing, HasNoEdgePawn, EnPassantHolds, OnEnPassantRank, IsEnPassantSquare}
+use Rattle.pb_board.specs.Position.{Position, HasOneKing, HasNoEdgePawn, EnPassantHolds, OnEnPassantRank, WasSteppedOver}
 use Rattle.pb_board.specs.Text.{castling_text, en_passant_text, placement_text, turn_text}
 
 -- this one of the list is due, and none before it
@@ -57,7 +57,7 @@ IsDueFen parts fen.Kings =
     (board : Board) → SpellsBoard parts board → HasOneKing board White → ¬ HasOneKing board Black
 IsDueFen parts fen.Pawns = (board : Board) → SpellsBoard parts board → ¬ HasNoEdgePawn board
 IsDueFen parts fen.EnPassantPawn = (board : Board) (turn : Colour) (ep : Option ℕ)
-    → SpellsBoard parts board → SpellsSquare parts turn ep → ¬ IfSome ep (IsEnPassantSquare board turn)
+    → SpellsBoard parts board → SpellsSquare parts turn ep → ¬ IfSome ep (WasSteppedOver board turn)
 
 -- in the order in which they are looked for
 abbrev pub fen_errors : List FenError

@@ -5,7 +5,7 @@ ghost use Rattle.pb_board.specs.declared.piece.Colour.{Colour};
 ghost use Rattle.pb_board.specs.Board.{Board};
 ghost use Rattle.pb_board.specs.Mask.{masks_of};
 ghost use Rattle.pb_board.specs.Piece.{pawn_of};
-ghost use Rattle.pb_board.specs.Position.{HasOneKing, HasNoEdgePawn, IsOnlyKing, IsEnPassantSquare, OnEnPassantRank};
+ghost use Rattle.pb_board.specs.Position.{HasOneKing, HasNoEdgePawn, IsOnlyKing, WasSteppedOver, OnEnPassantRank};
 
 use crate::masks::{self, Masks};
 use crate::piece::{Colour, Kind, Piece};
@@ -55,7 +55,7 @@ pub(crate) fn is_en_passant_square(
     square: Square,
 ) -> bool
     requires { OnEnPassantRank turn square }
-    ensures { IsTrue result ↔ IsEnPassantSquare board.now turn square }
+    ensures { IsTrue result ↔ WasSteppedOver board.now turn square }
 {
     let square = square.index() as usize;
     let beyond = match turn {

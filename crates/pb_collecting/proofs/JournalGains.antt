@@ -6,7 +6,7 @@ use Rattle.std.proofs.lemmas.List.Elements.{All-drop, All-same}
 use Rattle.std.proofs.lemmas.Option.{get_or_from_slice_get, slice_get-get_or, slice_get_within}
 use Rattle.pb_board.specs.LineEnd.{with_end}
 use Rattle.pb_io.specs.Lines.{ended_lines}
-use Rattle.pb_games.specs.Submissions.{IsLawful, IsSubmission, Submission, SubmissionText}
+use Rattle.pb_games.specs.Submissions.{IsLawful, IsSubmission, Submission, submission_text}
 use Rattle.pb_accepted.specs.Accepting as steps
 use Rattle.pb_accepted.specs.Accepting.{Answer, IsNumber, Run, Step}
 use Rattle.pb_accepted.specs.Holding.{HaveOwnIds}
@@ -91,7 +91,7 @@ module _ (cap : ℕ) (kept : List ℕ) (A B : List Submission) (L : List (List �
   gains_all new text are put =
       journal_grows cap kept text A new holds (games_after new are) (subst HaveOwnIds are own) (subst (λ (X : List Submission). length X ≤ cap) are room) put
 
-  pub gains_torn : (new : List Submission) (game : Submission) (text line : List ℕ) (n : ℕ) → B ≡ A ++ new ++ game ∷ [] → GameLines new text → SubmissionText game line
+  pub gains_torn : (new : List Submission) (game : Submission) (text line : List ℕ) (n : ℕ) → B ≡ A ++ new ++ game ∷ [] → GameLines new text → line ≡ submission_text game
       → Journals cap (kept ++ mending kept ++ text ++ take n (with_end line)) (A ++ new)
       ⊎ Journals cap (kept ++ mending kept ++ text ++ take n (with_end line)) (A ++ new ++ game ∷ [])
   gains_torn new game text line n are put spells =

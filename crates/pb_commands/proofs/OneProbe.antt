@@ -2,7 +2,8 @@
 use Rattle.std.proofs.Common.{◌≡◌, ◌∙◌, ℕ, Bool, List, Result, Ok, Err, ap, arith, refl, subst, sym, true}
 use Rattle.pb_board.specs.declared.refusal.FenError.{FenError}
 use Rattle.pb_board.specs.Position.{IsRecord, Record}
-use Rattle.pb_board.specs.Refusal.{IsDue, of_record, fields}
+use Rattle.pb_board.specs.Fields.{fields}
+use Rattle.pb_board.specs.Refusal.{IsDueFen, fen_errors}
 use Rattle.pb_board.proofs.Breaks.{all_unbroken, one_all_break}
 use Rattle.pb_board.proofs.Dues.{one_first}
 use Rattle.pb_board.proofs.Fens.{record_never_due}
@@ -55,7 +56,7 @@ one_text : (fen : List ℕ) (r x : Result Record FenError) → AsRecord fen r �
 one_text fen (Ok f) (Ok g) h k = ap (λ y. Ok y) (one_record f g fen h.0 k.0 h.1 k.1)
 one_text fen (Ok f) (Err e) h k = absurd (record_never_due f fen e h.0 h.1 k)
 one_text fen (Err d) (Ok g) h k = absurd (record_never_due g fen d k.0 k.1 h)
-one_text fen (Err d) (Err e) h k = ap (λ y. Err y) (one_first (λ y. IsDue y (fields fen)) of_record d e h k)
+one_text fen (Err d) (Err e) h k = ap (λ y. Err y) (one_first (IsDueFen (fields 32 fen)) fen_errors d e h k)
 
 -- ---- all three
 

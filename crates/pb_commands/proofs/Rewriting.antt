@@ -4,7 +4,7 @@ use Rattle.std.specs.Io.KnownBytes.{Appends}
 use Rattle.std.proofs.Math.Seq.{take-append-add, take-length}
 use Rattle.std.proofs.lemmas.List.{append-nil, append_assoc, length-append}
 use Rattle.std.proofs.KnownBytes.{Appends-nil, Appends-trans, Appends-kept}
-use Rattle.pb_board.specs.LineEnd.{without_return}
+use Rattle.std.specs.Str.Lines.{strip_carriage_return}
 use Rattle.pb_epd.specs.declared.refusal.EpdError.{EpdError}
 use Rattle.pb_epd.specs.declared.refusal.EpdError.TheVariants as epd
 use Rattle.pb_epd.specs.Epd.{EpdRecord, EpdText, IsEpd}
@@ -50,7 +50,7 @@ line_shows judges verdict judged sink sink' (Err fault) h =
     until_as (λ v. v ≡ verdict) judges (λ v is. subst (λ (x : Verdict). judges x) (sym is) judged) sink sink' fault h
 
 -- want of memory is the first reason of a record's text, and so of the line that has this text
-pub memory_due : (line text : List ℕ) (e : EpdRecord) → text ≡ without_return line → IsEpd e → EpdText e text → IsFirstDueEpd epd.Memory (without_return line)
+pub memory_due : (line text : List ℕ) (e : EpdRecord) → text ≡ strip_carriage_return line → IsEpd e → EpdText e text → IsFirstDueEpd epd.Memory (strip_carriage_return line)
 memory_due line text e same lawful spells = subst (λ (x : List ℕ). IsFirstDueEpd epd.Memory x) same (text_memory e text lawful spells)
 
 -- no line ends a run as a source does
@@ -66,7 +66,7 @@ no_record_read number epd.Memory fault other is = other (cc is)
 only_memory : (number : ℕ) (line : List ℕ) (fault : Fault) → (fault ≡ Memory → ⊥) → LineShown number line (Err fault) → ⊥
 only_memory number line fault other (LineShown.long past is) = cc is
 only_memory number line fault other (LineShown.blank short blank is) = cc is
-only_memory number line fault other (LineShown.written form e short lawful text written is) = cc is
+only_memory number line fault other (LineShown.written e short lawful text is) = cc is
 only_memory number line fault other (LineShown.no_record x short full due is) = no_record_read number x fault other is
 
 -- ---- flushes

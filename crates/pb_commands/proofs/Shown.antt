@@ -1,8 +1,7 @@
 -- What the command `fen` shows.
-use Rattle.std.proofs.Common.{◌≡◌, ◌∙◌, ℕ, Bool, List, [], ◌++◌, append-nil, refl, subst, sym}
+use Rattle.std.proofs.Common.{◌≡◌, ◌∙◌, ℕ, Bool, List, [], ◌++◌, append-nil, refl, subst, sym, true}
 use Rattle.std.specs.Prelude.{Err, IfErr, IfOk, Ok, OnOk, Result}
-use Rattle.pb_board.specs.Fen.{FenText}
-use Rattle.pb_board.specs.Position.{Record}
+use Rattle.pb_board.specs.LineEnd.{with_end}
 use Rattle.pb_io.specs.Sink.{SinkState}
 use Rattle.pb_commands.specs.FenShown.{FenShown}
 use Rattle.pb_commands.specs.Judged.{HandedOnOnce, PutsFront, PutsOrEnds, PutsText}
@@ -10,9 +9,10 @@ use Rattle.pb_commands.specs.declared.fault.Fault.{Fault}
 use Rattle.pb_commands.specs.declared.fault.Fault.TheVariants.{Read, Write, Endless, Memory}
 use Rattle.pb_commands.proofs.Judging.{hands_on, puts_text}
 
--- the bytes of a record's text spell it
-pub spelt_by : (f : Record) (text bytes : List ℕ) → FenText f text → bytes ≡ text → FenText f (bytes ++ [])
-spelt_by f text bytes written same = subst (FenText f) (sym (append-nil bytes ∙ same)) written
+-- the bytes of a text show it
+pub shown_by : (fen : List ℕ) (words : List (List ℕ)) (text bytes : List ℕ) → FenShown fen words (Ok (true, with_end text)) → bytes ≡ text
+    → FenShown fen words (Ok (true, with_end (bytes ++ [])))
+shown_by fen words text bytes shows same = subst (λ w. FenShown fen words (Ok (true, with_end w))) (sym (append-nil bytes ∙ same)) shows
 
 -- what the clauses of the command say, from how it ends
 module _ (fen : List ℕ) (words : List (List ℕ)) (sink sink' : SinkState) where
@@ -24,7 +24,7 @@ module _ (fen : List ℕ) (words : List (List ℕ)) (sink sink' : SinkState) whe
   never fault (FenShown.no_record e h is) = cc is
   never fault (FenShown.misspelt start n h k is) = cc is
   never fault (FenShown.unplayable start n h k is) = cc is
-  never fault (FenShown.played start last text h plays k is) = cc is
+  never fault (FenShown.played start last h plays is) = cc is
 
   pub shown : (result : Result Bool Fault) → Ends result → IfOk result (PutsText (FenShown fen words) sink sink')
   shown = puts_text (FenShown fen words) sink sink'

@@ -1,10 +1,11 @@
 -- What the command `epd` writes: for each line its one ordered form, or why it is refused.
 use Rattle.std.specs.Prelude.{◌≡◌, ℕ, ◌+◌, ◌<◌, ◌≤◌, ◌&&◌, Bool, true, List, [], ◌∷◌, ◌++◌, Ok, Err, length, All, codes, decimal}
 use Rattle.pb_board.specs.Words.{word_of}
-use Rattle.pb_board.specs.LineEnd.{without_return, with_end}
+use Rattle.std.specs.Str.Lines.{strip_carriage_return}
+use Rattle.pb_board.specs.LineEnd.{with_end}
 use Rattle.pb_epd.specs.declared.refusal.EpdError.{EpdError}
 use Rattle.pb_epd.specs.declared.refusal.EpdError.TheVariants as epd
-use Rattle.pb_epd.specs.Epd.{EpdRecord, IsEpd, EpdText, EpdForm}
+use Rattle.pb_epd.specs.Epd.{EpdRecord, IsEpd, EpdText, epd_form}
 use Rattle.pb_epd.specs.Refusal.{IsFirstDueEpd}
 use Rattle.pb_io.specs.Lines.{line_limit}
 use Rattle.pb_commands.specs.declared.fault.Fault.TheVariants.{Memory}
@@ -31,10 +32,10 @@ epd_verdict number epd.Memory = Err Memory
 -- what the line of this number gives, and whether it was taken
 pub data LineShown (number : ℕ) (line : List ℕ) (verdict : Verdict) : Type 0 where
   long : line_limit < length line → verdict ≡ refused_line number (codes "long") → LineShown number line verdict
-  blank : length line ≤ line_limit → IsBlank (without_return line) → verdict ≡ Ok (true, []) → LineShown number line verdict
-  written : (form : List ℕ) (e : EpdRecord) → length line ≤ line_limit → IsEpd e → EpdText e (without_return line) → EpdForm e form
-      → verdict ≡ Ok (true, with_end form) → LineShown number line verdict
-  no_record : (x : EpdError) → length line ≤ line_limit → ¬ IsBlank (without_return line) → IsFirstDueEpd x (without_return line)
+  blank : length line ≤ line_limit → IsBlank (strip_carriage_return line) → verdict ≡ Ok (true, []) → LineShown number line verdict
+  written : (e : EpdRecord) → length line ≤ line_limit → IsEpd e → EpdText e (strip_carriage_return line)
+      → verdict ≡ Ok (true, with_end (epd_form e)) → LineShown number line verdict
+  no_record : (x : EpdError) → length line ≤ line_limit → ¬ IsBlank (strip_carriage_return line) → IsFirstDueEpd x (strip_carriage_return line)
       → verdict ≡ epd_verdict number x → LineShown number line verdict
 
 -- the lines in order, the first of this number

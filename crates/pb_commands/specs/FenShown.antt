@@ -3,9 +3,9 @@ use Rattle.std.specs.Prelude.{◌≡◌, ℕ, ◌+◌, true, List, ◌∷◌, �
 use Rattle.std.specs.List.{AllZip}
 use Rattle.pb_board.specs.declared.refusal.FenError.{FenError}
 use Rattle.pb_board.specs.Position.{Record}
-use Rattle.pb_board.specs.Fen.{FenText}
 use Rattle.pb_board.specs.LineEnd.{with_end}
 use Rattle.pb_board.specs.Refusal.{BreaksAt}
+use Rattle.pb_board.specs.Text.{fen_text}
 use Rattle.pb_moves.specs.Moved.{Moved}
 use Rattle.pb_moves.specs.Legal.{Legal}
 use Rattle.pb_moves.specs.Played.{Spells, IsSpelled, Plays}
@@ -31,5 +31,5 @@ pub data FenShown (fen : List ℕ) (words : List (List ℕ)) (verdict : Verdict)
       → verdict ≡ refused (codes "spelling " ++ decimal n) → FenShown fen words verdict
   unplayable : (start : Record) (n : ℕ) → AsRecord fen (Ok start) → Unplayable start words n
       → verdict ≡ refused (codes "illegal " ++ decimal n) → FenShown fen words verdict
-  played : (start last : Record) (text : List ℕ) → AsRecord fen (Ok start) → PlaysWords start words last → FenText last text
-      → verdict ≡ Ok (true, with_end text) → FenShown fen words verdict
+  played : (start last : Record) → AsRecord fen (Ok start) → PlaysWords start words last
+      → verdict ≡ Ok (true, with_end (fen_text last)) → FenShown fen words verdict

@@ -1,9 +1,10 @@
 -- What is a FEN record and what is none, and what is put of it then.
-use Rattle.std.specs.Prelude.{ℕ, List, ◌++◌, Result, Ok, Err, codes}
+use Rattle.std.specs.Prelude.{◌≡◌, ℕ, List, ◌++◌, Result, Ok, Err, codes}
 use Rattle.pb_board.specs.declared.refusal.FenError.{FenError}
-use Rattle.pb_board.specs.Fen.{FenText}
+use Rattle.pb_board.specs.Fields.{fields, space}
 use Rattle.pb_board.specs.Position.{IsRecord, Record}
-use Rattle.pb_board.specs.Refusal.{IsFirstDue, fields, of_record}
+use Rattle.pb_board.specs.Refusal.{IsDueFen, IsFirstOf, fen_errors}
+use Rattle.pb_board.specs.Text.{fen_text}
 use Rattle.pb_board.specs.Words.{word_of}
 use Rattle.pb_commands.specs.Judged.{Verdict, refused}
 
@@ -13,5 +14,5 @@ record_verdict e = refused (codes "fen " ++ word_of e)
 
 -- the text is this record, or no record for this reason
 abbrev pub AsRecord : List ℕ → Result Record FenError → Type 0
-AsRecord fen (Ok f) = IsRecord f × FenText f fen
-AsRecord fen (Err e) = IsFirstDue of_record e (fields fen)
+AsRecord fen (Ok f) = IsRecord f × (fen ≡ fen_text f)
+AsRecord fen (Err e) = IsFirstOf fen_errors (IsDueFen (fields space fen)) e

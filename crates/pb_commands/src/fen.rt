@@ -1,9 +1,9 @@
 //! The command `fen`: moves are played from a FEN record, and the record after them is written.
 ghost use Rattle.std.specs.Prelude.{◌≡◌, ℕ, ◌+◌, ◌↔◌, List, All, IfErr, IfOk, IsTrue, MatchOption, MatchResult, Ok, OnOk, true};
-ghost use Rattle.pb_board.specs.Fen.{FenText};
 ghost use Rattle.pb_board.specs.Position.{IsRecord};
 ghost use Rattle.pb_board.specs.LineEnd.{with_end};
 ghost use Rattle.pb_board.specs.Refusal.{BreaksAt};
+ghost use Rattle.pb_board.specs.Text.{fen_text};
 ghost use Rattle.pb_moves.specs.Clocks.{record_after as next_record};
 ghost use Rattle.pb_moves.specs.Legal.{Legal};
 ghost use Rattle.pb_moves.specs.Moved.{Moved};
@@ -72,7 +72,7 @@ fn show_record<K: Sink>(fen: &[u8], moves: &[&str], sink: &mut K) -> Result<bool
 /// The record after the moves.
 fn record_after(fen: &[u8], moves: &[&str]) -> Result<Fen, Refusal>
     ensures { MatchResult result
-        (λ last. (text : List ℕ) → FenText last text → FenShown fen.now (texts moves.now) (Ok (true, with_end text)))
+        (λ last. FenShown fen.now (texts moves.now) (Ok (true, with_end (fen_text last))))
         (λ refusal. FenShown fen.now (texts moves.now) (refusal_verdict refusal)) }
 {
     let start = match read_fen(fen) {

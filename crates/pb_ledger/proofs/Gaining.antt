@@ -1,15 +1,15 @@
 -- How a journal gains the lines of new games.
-use Rattle.std.proofs.Common.{◌≡◌, ◌≢◌, ℕ, ◌<◌, List, [], ◌∷◌, ◌++◌, length, Ok, Err, refl, sym, ap, subst, ◌∙◌, append_assoc, arith, inl, inr}
-use Rattle.std.specs.List.{AllZip, flat_map}
+use Rattle.std.proofs.Common.{◌≡◌, ◌≢◌, ℕ, ◌<◌, List, [], ◌∷◌, ◌++◌, length, map, Ok, Err, refl, sym, ap, subst, ◌∙◌, append_assoc, arith, inl, inr}
+use Rattle.std.specs.List.{flat_map}
 use Rattle.std.proofs.KnownBytes.{Appends-nil, Appends-trans}
 use Rattle.std.proofs.lemmas.Grind.{flat_map-append}
-use Rattle.std.proofs.lemmas.List.{append-nil, length-append, length_push}
-use Rattle.pb_board.specs.LineEnd.{with_end, without_return}
+use Rattle.std.proofs.lemmas.List.{append-nil, length-append, length_push, map-append}
+use Rattle.std.specs.Str.Lines.{strip_carriage_return}
+use Rattle.pb_board.specs.LineEnd.{with_end}
 use Rattle.pb_io.specs.Sink.{HandedOn, SinkState}
 use Rattle.pb_io.specs.Writes.{Writes}
 use Rattle.pb_io.specs.declared.source.Failed.{Failed}
-use Rattle.pb_games.specs.Submissions.{Submission, SubmissionText}
-use Rattle.pb_games.proofs.Texts.{text_back}
+use Rattle.pb_games.specs.Submissions.{Submission, submission_text}
 use Rattle.pb_accepted.specs.Accepting.{Answer, Step}
 use Rattle.pb_accepted.proofs.Steps.{refusal_step, step_to}
 use Rattle.pb_saved.specs.Journal.{GameLines}
@@ -17,18 +17,10 @@ use Rattle.pb_ledger.specs.Journaling.{Gains, HandedOnEach}
 
 -- ---- the lines of games
 
-texts_append : (F G : List Submission) (ts us : List (List ℕ)) → AllZip SubmissionText F ts → AllZip SubmissionText G us → AllZip SubmissionText (F ++ G) (ts ++ us)
-texts_append [] G [] us h k = k
-texts_append [] G (t ∷ ts) us h k = absurd h
-texts_append (g ∷ F) G [] us h k = absurd h
-texts_append (g ∷ F) G (t ∷ ts) us h k = (h.0, texts_append F G ts us h.1 k)
-
 GameLines-append : (F G : List Submission) (a b : List ℕ) → GameLines F a → GameLines G b → GameLines (F ++ G) (a ++ b)
-GameLines-append F G a b h k = (
-  h.0 ++ k.0,
-  texts_append F G h.0 k.0 h.1 k.1,
-  ap (λ xs. xs ++ b) h.2 ∙ ap (λ xs. flat_map with_end h.0 ++ xs) k.2 ∙ sym (flat_map-append with_end h.0 k.0),
-)
+GameLines-append F G a b h k =
+    ap (λ xs. xs ++ b) h ∙ ap (λ xs. flat_map with_end (map submission_text F) ++ xs) k ∙ sym (flat_map-append with_end (map submission_text F) (map submission_text G))
+    ∙ ap (flat_map with_end) (sym (map-append submission_text F G))
 
 -- ---- the game that a line brings
 
@@ -38,17 +30,11 @@ pub record Brings (A : List Submission) (line : List ℕ) (r : Answer) (B : List
   pub answered : r ≡ Ok number
   pub game : Submission
   pub games : B ≡ A ++ game ∷ []
-  pub spells : SubmissionText game (without_return line)
+  pub spells : strip_carriage_return line ≡ submission_text game
 
 pub brought : (cap : ℕ) (A : List Submission) (line : List ℕ) (r : Answer) (B : List Submission) → Step cap A line r B → length A < length B → Brings A line r B
 brought most A line (Ok n) B step more = elim (step_to most A line (Ok n) B step).1 [
-  | inl adds ↦ let submits = adds.1.submits in record {
-    number = n;
-    answered = refl;
-    game = adds.0;
-    games = adds.4;
-    spells = subst (SubmissionText adds.0) (sym (text_back line adds.0 submits)) submits.spells;
-  }
+  | inl adds ↦ record { number = n; answered = refl; game = adds.0; games = adds.4; spells = adds.1.text }
   | inr keeps ↦ absurd (omega (arith, more, ap length keeps.1))
 ]
 brought most A line (Err e) B step more = absurd (omega (arith, more, ap length (refusal_step most A line e B step)))
@@ -67,7 +53,7 @@ Gains-none journal A = record {
   new = [];
   are = sym (append-nil A);
   text = [];
-  lines = ([], tt, refl);
+  lines = refl;
   put = Appends-nil journal.bytes;
   untouched = λ none. refl;
   handed_on = λ some. absurd (some refl);
@@ -80,13 +66,13 @@ pub Gains-kept : (journal : SinkState) (A B : List Submission) → B ≡ A → G
 Gains-kept journal A B same = subst (λ (G : List Submission). Gains journal journal A G) (sym same) (Gains-none journal A)
 
 -- the line of a game was written
-pub Gains-one : (journal journal' : SinkState) (A B : List Submission) (game : Submission) (text : List ℕ) (u : Unit {0}) → B ≡ A ++ game ∷ [] → SubmissionText game text
+pub Gains-one : (journal journal' : SinkState) (A B : List Submission) (game : Submission) (text : List ℕ) (u : Unit {0}) → B ≡ A ++ game ∷ [] → text ≡ submission_text game
     → Writes {E = Failed} journal journal' (Ok u) (with_end text) → Gains journal journal' A B
 Gains-one journal journal' A B game text u are spells writes = record {
   new = game ∷ [];
   are = are;
   text = with_end text;
-  lines = (text ∷ [], (spells, tt), sym (append-nil (with_end text)));
+  lines = ap with_end spells ∙ sym (append-nil (with_end (submission_text game)));
   put = writes.all;
   untouched = λ none. cc;
   handed_on = λ some. (writes.failed, writes.flushed);

@@ -2,7 +2,8 @@
 use Rattle.std.proofs.Common.{◌≡◌, ℕ, ◌<◌, Bool, true, false, List, [], ◌∷◌, length, MutBor, Result, Ok, Err, MatchResult, sym, ap, ◌∙◌, subst, true≢false}
 use Rattle.std.specs.Prelude.{IsErrAnd}
 use Rattle.std.proofs.lemmas.Bool.{lt-ltb, ltb-true}
-use Rattle.pb_board.specs.LineEnd.{with_end, without_return}
+use Rattle.std.specs.Str.Lines.{strip_carriage_return}
+use Rattle.pb_board.specs.LineEnd.{with_end}
 use Rattle.pb_io.specs.Sink.{SinkState}
 use Rattle.pb_io.specs.Writes.{Writes}
 use Rattle.pb_games.specs.Submissions.{Submission}
@@ -31,7 +32,7 @@ module _ {T K J : Type 0} (state : K → SinkState) (kept : J → SinkState) (s 
 
 -- what writing the line to the journal did
 abbrev pub Wrote : SinkState → SinkState → List ℕ → Result (Unit {0}) Failed → Type 0
-Wrote journal journal' line answer = Writes journal journal' answer (with_end (without_return line))
+Wrote journal journal' line answer = Writes journal journal' answer (with_end (strip_carriage_return line))
 
 module _ {T K J : Type 0} (state : K → SinkState) (kept : J → SinkState) (s : Journaler T K J) (line : List ℕ) (m : Collector T K) (journal : MutBor J) (answer : Answer) (is_new : Bool)
     (submitted : Submitted s.collector m line answer is_new) where
@@ -56,7 +57,7 @@ module _ {T K J : Type 0} (state : K → SinkState) (kept : J → SinkState) (s 
         leads = subst (λ (r : Answer). Leads s.collector.ledger.now m.ledger.now (line ∷ []) (r ∷ [])) came.answered submitted.leads;
         game = came.game;
         games = came.games;
-        text = without_return line;
+        text = strip_carriage_return line;
         spells = came.spells;
         count = wrote.front.0;
         put = wrote.front.1;
@@ -71,7 +72,7 @@ module _ {T K J : Type 0} (state : K → SinkState) (kept : J → SinkState) (s 
   pub gained_so : (put : Result (Unit {0}) Failed) (r : Result (Unit {0}) Unanswered) (u : Unit {0}) → MatchResult put (λ x. r ≡ Ok x) (λ f. IsErrAnd r (λ e. e ≡ Journal f)) → r ≡ Ok u
       → is_new ≡ true → Wrote (kept s.journal.now) (kept journal.now) line put → Gains (kept s.journal.now) (kept journal.now) A B
   gained_so (Ok x) r u cases was new wrote =
-      let came = game_brought new in Gains-one (kept s.journal.now) (kept journal.now) A B came.game (without_return line) x came.games came.spells wrote
+      let came = game_brought new in Gains-one (kept s.journal.now) (kept journal.now) A B came.game (strip_carriage_return line) x came.games came.spells wrote
   gained_so (Err f) r u cases was new wrote = absurd (subst (λ (q : Result (Unit {0}) Unanswered). IsErrAnd q (λ e. e ≡ Journal f)) was cases)
 
   -- no game has come

@@ -6,7 +6,7 @@ use Rattle.pb_io.specs.Sink.{Lasts, SinkState}
 use Rattle.pb_io.specs.declared.lines.LinesFault.{LinesFault}
 use Rattle.pb_io.specs.declared.lines.LinesFault.TheVariants as lines
 use Rattle.pb_io.specs.declared.source.Failed.{Failed}
-use Rattle.pb_games.specs.Submissions.{Submission, SubmissionText}
+use Rattle.pb_games.specs.Submissions.{Submission, submission_text}
 use Rattle.pb_ledger.specs.Collecting.{Leads}
 use Rattle.pb_ledger.specs.Collector as collector
 use Rattle.pb_ledger.specs.Collector.{collect_fault}
@@ -29,7 +29,7 @@ pub record Unkept {T K J : Type 0} (kept : J → SinkState) (s : Journaler T K J
   pub game : Submission
   pub games : t.collector.ledger.now.accepted ≡ s.collector.ledger.now.accepted ++ game ∷ []
   pub text : List ℕ
-  pub spells : SubmissionText game text
+  pub spells : text ≡ submission_text game
   pub count : ℕ
   pub put : Appends (kept s.journal.now).bytes (kept t.journal.now).bytes (take count (with_end text))
   pub lasts : Lasts (kept s.journal.now).lasting (kept t.journal.now).lasting

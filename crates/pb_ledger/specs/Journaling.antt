@@ -6,7 +6,7 @@ use Rattle.pb_board.specs.LineEnd.{with_end}
 use Rattle.pb_io.specs.LineTask.{AtLine}
 use Rattle.pb_io.specs.Sink.{AllLasts, AwaitsFlush, HandedOn, LastsFirst, SinkState}
 use Rattle.pb_io.specs.Source.{SourceState}
-use Rattle.pb_games.specs.Submissions.{Submission, SubmissionText}
+use Rattle.pb_games.specs.Submissions.{Submission, submission_text}
 use Rattle.pb_accepted.specs.Accepting.{Answer}
 use Rattle.pb_accepted.specs.Ledger.{LedgerState}
 use Rattle.pb_accepted.specs.Replies.{replies}
@@ -51,7 +51,7 @@ pub record CollectsUnkept (sink sink' journal journal' : SinkState) (ledger ledg
   pub text : List ℕ
   pub lines : GameLines new text
   pub last : List ℕ
-  pub spells : SubmissionText game last
+  pub spells : last ≡ submission_text game
   pub count : ℕ
   pub kept : Appends journal.bytes journal'.bytes (text ++ take count (with_end last))
   pub lasts : AllLasts journal → LastsFirst journal journal' text

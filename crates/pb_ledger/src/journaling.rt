@@ -1,7 +1,8 @@
 //! Submissions in, new games to a journal, replies out.
 
 ghost use Rattle.std.specs.Prelude.{◌≡◌, IfErr, IfOk, OnOk};
-ghost use Rattle.pb_board.specs.LineEnd.{with_end, without_return};
+ghost use Rattle.std.specs.Str.Lines.{strip_carriage_return};
+ghost use Rattle.pb_board.specs.LineEnd.{with_end};
 ghost use Rattle.pb_io.specs.Sink.{Put};
 ghost use Rattle.pb_io.specs.Writes.{Writes};
 ghost use Rattle.pb_ledger.specs.Journaler.{journal_fault};
@@ -103,7 +104,7 @@ impl<T: Tally, K: Sink, J: Sink> Journaler<'_, '_, '_, T, K, J> {
 
 /// Puts a line that brought a game on the journal, and hands it on. It is the game's one text, but for a CR at its end.
 fn journal_line<J: Sink>(journal: &mut J, line: &[u8]) -> Result<(), Failed>
-    ensures { Writes (J.state journal.old) (J.state journal.new) result (with_end (without_return line.now)) }
+    ensures { Writes (J.state journal.old) (J.state journal.new) result (with_end (strip_carriage_return line.now)) }
 {
     put_line(journal, line)?;
     journal.flush()
@@ -111,7 +112,7 @@ fn journal_line<J: Sink>(journal: &mut J, line: &[u8]) -> Result<(), Failed>
 
 /// Puts a line without its CR, and an LF.
 fn put_line<J: Sink>(journal: &mut J, line: &[u8]) -> Result<(), Failed>
-    ensures { Put (J.state journal.old) (J.state journal.new) result (with_end (without_return line.now)) }
+    ensures { Put (J.state journal.old) (J.state journal.new) result (with_end (strip_carriage_return line.now)) }
 {
     put_parts(journal, &[without_return(line)], b"\n")
 }

@@ -156,13 +156,13 @@ sees_castle s m piece c seen one two ok is own leads sees king_goes rook_goes b 
 pub check_by_attack : (new : Board) (side enemy : Colour) (king : ℕ) → enemy ≡ opponent side → IsOnlyKing new side king → IsReached new enemy king → KingInReach new side
 check_by_attack new side enemy king e only attack =
     let P : Colour → Type 0 = λ x. IsReached new x king in
-    (king, record { stands = only.here; attacked = subst P e attack })
+    (king, record { stands = (only king).1 refl; attacked = subst P e attack })
 
 pub attack_by_check : (new : Board) (side enemy : Colour) (king : ℕ) → enemy ≡ opponent side → IsOnlyKing new side king → KingInReach new side → IsReached new enemy king
 attack_by_check new side enemy king e only check =
     let P : Colour → Type 0 = λ x. IsReached new x king in
     let K : ℕ → Type 0 = λ x. IsReached new (opponent side) x in
-    subst P (sym e) (subst K (only.nowhere_else check.0 check.1.stands) check.1.attacked)
+    subst P (sym e) (subst K ((only check.0).0 check.1.stands) check.1.attacked)
 
 -- the mover is safe, and the move legal, just where the test finds no attack on its king
 test_tells : (s : Position) (m : Moved) (piece : Piece) (new : Board) (enemy : Colour) (king : ℕ) (hit : Bool) → IsSetup s → HoldsOwn s m.from piece → CaseOf s m piece new

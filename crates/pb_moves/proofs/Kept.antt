@@ -124,10 +124,10 @@ keeps s m p new ok stands own (pawn_double x) =
       pawns = pawns_going s m p new [] ok x.after (λ is_pawn. inside) no_pawns;
       en_passant_holds = (
         fits.0,
-        record {
-          empty = x.after.board.others halfway (off_two halfway (m.from, None) (m.to, Some q) fits.2 fits.3) ∙ halfway_empty s m.from m.to on_from on_to half.0 x.way;
-          pawn = holds_at new m.to (beyond (opponent s.turn) halfway) _ fits.1 pawn;
-        },
+        (
+          x.after.board.others halfway (off_two halfway (m.from, None) (m.to, Some q) fits.2 fits.3) ∙ halfway_empty s m.from m.to on_from on_to half.0 x.way,
+          holds_at new m.to (beyond (opponent s.turn) halfway) _ fits.1 pawn,
+        ),
       );
     }
 keeps s m p new ok stands own (pawn_capture x) =

@@ -11,6 +11,7 @@ use Rattle.pb_board.specs.Piece.{opponent, king_of, rook_of}
 use Rattle.pb_board.specs.Board.{Board, Place, file, rank, Holds, IsEmpty, IsForward}
 use Rattle.pb_board.specs.Position.{Position, IsSetup, IsOnlyKing, HasOneKing, beyond}
 use Rattle.pb_board.specs.declared.castling.Castling.{Castling}
+use Rattle.pb_board.proofs.Kings.{only_king}
 use Rattle.pb_moves.specs.Reach.{ReachesBy}
 use Rattle.pb_moves.specs.Moved.{Moved}
 use Rattle.pb_board.specs.Castling.{CastlingRow, castling_row}
@@ -36,10 +37,9 @@ pub king_stays_differs : (old new : Board) (now : List (ℕ × Place)) (k : ℕ)
     → All (λ c. (c.1 ≢ Some (king_of side)) × ¬ Holds old c.0 (king_of side)) now → IsOnlyKing old side k → IsOnlyKing new side k
 king_stays_differs old new now k side moved safe only =
     let H : ℕ → Type 0 = λ q. Holds old q (king_of side) in
-    record {
-      here = moved.others k (λ i d lt same. (safe i d lt).1 (subst H same only.here)) ∙ only.here;
-      nowhere_else = each_place old new now (λ q place. place ≡ Some (king_of side) → q ≡ k) moved (λ i d lt e. absurd ((safe i d lt).0 e)) (λ q off. only.nowhere_else q);
-    }
+    let here = (only k).1 refl in
+    only_king new side k (moved.others k (λ i d lt same. (safe i d lt).1 (subst H same here)) ∙ here)
+    (each_place old new now (λ q place. place ≡ Some (king_of side) → q ≡ k) moved (λ i d lt e. absurd ((safe i d lt).0 e)) (λ q off. (only q).0))
 
 -- a king that goes stands where it arrives
 pub king_goes_differs : (old new : Board) (from to k : ℕ) (side : Colour) (besides : List (ℕ × Place))
@@ -48,12 +48,10 @@ pub king_goes_differs : (old new : Board) (from to k : ℕ) (side : Colour) (bes
 king_goes_differs old new from to k side besides moved safe stands only =
     let now : List (ℕ × Place) = (from, None) ∷ (to, Some (king_of side)) ∷ besides in
     let F : ℕ × Place → Type 0 = λ c. c.1 ≡ Some (king_of side) → c.0 ≡ to in
-    record {
-      here = arrived old new from to (king_of side) besides moved;
-      nowhere_else = each_place old new now (λ q place. place ≡ Some (king_of side) → q ≡ to) moved
-          (All-two F (from, None) (to, Some (king_of side)) besides (λ e. absurd cc) (λ e. refl) (λ i d lt e. absurd (safe i d lt e)))
-          (λ q off e. absurd (off 0 (0, None) (omega arith) (only.nowhere_else q e ∙ sym (only.nowhere_else from stands))));
-    }
+    only_king new side to (arrived old new from to (king_of side) besides moved)
+    (each_place old new now (λ q place. place ≡ Some (king_of side) → q ≡ to) moved
+    (All-two F (from, None) (to, Some (king_of side)) besides (λ e. absurd cc) (λ e. refl) (λ i d lt e. absurd (safe i d lt e)))
+    (λ q off e. absurd (off 0 (0, None) (omega arith) ((only q).0 e ∙ sym ((only from).0 stands)))))
 
 pub rook_no_king : (colour side : Colour) → rook_of colour ≢ king_of side
 rook_no_king colour side same = let F : Piece → Kind = λ x. x.kind in let e = ap F same in cc
@@ -157,8 +155,8 @@ king_stays s m p new side k ok stands own other only (en_passant x) =
     let Safe : ℕ × Place → Type 0 = λ c. (c.1 ≢ Some (king_of side)) × ¬ Holds s.board c.0 (king_of side) in
     let square = en_passant_at s m.to ok x.square in
     let F : Piece → Kind = λ z. z.kind in
-    king_stays_going s m p new side k ((beyond s.turn m.to, None) ∷ []) stands own other (open_no_king s.board s.turn m.to side (inl square.1.empty))
-    (All-cons Safe (beyond s.turn m.to, None) [] ((λ e. absurd cc), λ h. let same = ap F (holds_one s.board (beyond s.turn m.to) _ _ square.1.pawn h) in cc) (All-nil Safe)) only x.after
+    king_stays_going s m p new side k ((beyond s.turn m.to, None) ∷ []) stands own other (open_no_king s.board s.turn m.to side (inl square.1.0))
+    (All-cons Safe (beyond s.turn m.to, None) [] ((λ e. absurd cc), λ h. let same = ap F (holds_one s.board (beyond s.turn m.to) _ _ square.1.1 h) in cc) (All-nil Safe)) only x.after
 king_stays s m p new side k ok stands own other only (castles c x) =
     let row = castling_row c in
     let Safe : ℕ × Place → Type 0 = λ c. (c.1 ≢ Some (king_of side)) × ¬ Holds s.board c.0 (king_of side) in

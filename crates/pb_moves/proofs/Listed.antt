@@ -177,7 +177,7 @@ free_of_own s m p b r ok (pawn_double x) own = not_empty s m.to r x.empty own
 free_of_own s m p b r ok (pawn_capture x) own = no_prey s m.to r x.target own
 free_of_own s m p b r ok (en_passant x) own =
     let square = subst (EnPassantHolds s.board s.turn) x.square ok.en_passant in
-    not_empty s m.to r square.1.empty own
+    not_empty s m.to r square.1.0 own
 free_of_own s m p b r ok (castles c x) own = not_empty s m.to r (subst (λ q. IsEmpty s.board q) (sym x.to_table) (castling_free c s x.allowed).0) own
 
 -- the bits of the squares from one on, to which a piece may go and on which no piece of its own side stands

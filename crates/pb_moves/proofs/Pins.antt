@@ -86,6 +86,6 @@ legal_free s m p arriving on_from on_to moves own leads free =
     let stays = king_stays s m p new s.turn free.king free.rules own.stands own.own (no_king p s.turn free.no_king) free.only case in
     let arrives = arrives_own s m p arriving new (arrived s.board new m.from m.to arriving [] moved) case in
     legal_out_of_check s m new p own case (λ check.
-    let here : check.0 ≡ free.king = stays.nowhere_else check.0 check.1.stands in
+    let here : check.0 ≡ free.king = (stays check.0).0 check.1.stands in
     let P : ℕ → Type 0 = λ k. IsReached new (opponent s.turn) k in
     free.covered lifted gone (attacked_lifted s.board new lifted s.turn m.from m.to free.king arriving moved gone arrives (subst P here check.1.attacked)))

@@ -248,7 +248,7 @@ module _ (s : Position) (m : Moved) (kind : Kind) (ok : IsSetup s) (is : IsMove 
         reaches = attacks;
         square = square;
         after = goes_by ((beyond s.turn m.to, None) ∷ []) (put (moved_board s.board m.from m.to becoming) gone None)
-            (beside_passing kind s.board (moved_board s.board m.from m.to (arriving piece m.promo)) m pawn (λ e. omega arith) (en_passant_at s m.to ok square).1.empty
+            (beside_passing kind s.board (moved_board s.board m.from m.to (arriving piece m.promo)) m pawn (λ e. omega arith) (en_passant_at s m.to ok square).1.0
             ∙ ap B (sym (arriving_is piece m.promo)))
             (subst D same (carried_past_put s.board m.from m.to gone becoming ok.places on_from is.to_on_board (omega arith) is.moves (λ e. omega arith) (λ e. omega arith)));
       })

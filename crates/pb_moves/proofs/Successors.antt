@@ -165,7 +165,7 @@ board_is s m p new ok is stands own (en_passant x) =
     let on_from = is.from_on_board in
     let D : ℕ → Type 0 = λ g. Differs s.board new ((m.from, None) ∷ (m.to, Some q) ∷ (g, None) ∷ []) in
     let B : Piece → Board = λ z. put (moved_board s.board m.from m.to z) gone None in
-    beside_passing p.kind s.board (moved_board s.board m.from m.to (arriving p m.promo)) m x.pawn (λ e. omega arith) (en_passant_at s m.to ok x.square).1.empty
+    beside_passing p.kind s.board (moved_board s.board m.from m.to (arriving p m.promo)) m x.pawn (λ e. omega arith) (en_passant_at s m.to ok x.square).1.0
     ∙ ap B (arriving_becomes s.turn m x.after.kind p own x.after.becomes)
     ∙ differs_one s.board _ new ((m.from, None) ∷ (m.to, Some q) ∷ (gone, None) ∷ [])
     (carried_past_put s.board m.from m.to gone q ok.places on_from is.to_on_board (omega arith) is.moves (λ e. omega arith) (λ e. omega arith))

@@ -7,7 +7,7 @@ use Rattle.pb_board.specs.declared.piece.Kind.TheVariants.{Pawn, Knight, Bishop,
 use Rattle.pb_board.specs.declared.piece.Piece.{Piece}
 use Rattle.pb_board.specs.Piece.{opponent}
 use Rattle.pb_board.specs.Board.{Board, Place, at, IsForward}
-use Rattle.pb_board.specs.Position.{Position, IsSetup, EnPassantHolds, OnEnPassantRank, IsEnPassantSquare, beyond}
+use Rattle.pb_board.specs.Position.{Position, IsSetup, EnPassantHolds, OnEnPassantRank, WasSteppedOver, beyond}
 use Rattle.pb_moves.specs.Attacks.{files_apart, ranks_apart}
 use Rattle.pb_moves.specs.Reach.{ReachesBy}
 use Rattle.pb_board.specs.declared.castling.Castling.{Castling}
@@ -57,7 +57,7 @@ goes_of s m piece new (en_passant x) = x.after
 goes_of s m piece new (castles c x) = x.after
 
 -- the en passant square of a setup is empty, and the pawn that passed over it stands beyond
-pub en_passant_at : (s : Position) (q : ℕ) → IsSetup s → s.ep ≡ Some q → OnEnPassantRank s.turn q × IsEnPassantSquare s.board s.turn q
+pub en_passant_at : (s : Position) (q : ℕ) → IsSetup s → s.ep ≡ Some q → OnEnPassantRank s.turn q × WasSteppedOver s.board s.turn q
 en_passant_at s q ok here =
     let P : Option ℕ → Type 0 = λ ep. EnPassantHolds s.board s.turn ep in
     subst P here ok.en_passant
@@ -124,7 +124,7 @@ classes s m piece new ok (pawn_capture x) =
 classes s m piece new ok (en_passant x) =
     let kind = x.pawn in
     let files : files_apart m.from m.to ≡ 1 = pawn_files piece.colour piece.kind s.board m.from m.to x.reaches x.pawn in
-    let free : at s.board m.to ≡ None = (en_passant_at s m.to ok x.square).1.empty in
+    let free : at s.board m.to ≡ None = (en_passant_at s m.to ok x.square).1.0 in
     cc
 classes s m piece new ok (castles c x) =
     let kind = x.king in

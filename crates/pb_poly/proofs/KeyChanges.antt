@@ -241,7 +241,7 @@ covers s m p new ok is stands own (en_passant x) =
     let P : List ℕ → Type 0 = λ beside. Covers s.board new (m.from ∷ m.to ∷ beside) in
     let apart = slant p.colour m.from m.to (pawn_files p.colour p.kind s.board m.from m.to x.reaches x.pawn) (pawn_reach p.colour p.kind s.board m.from m.to x.reaches x.pawn) in
     let G : ℕ → Type 0 = λ q. Goes s m p ((q, None) ∷ []) new in
-    subst P (sym (beside_passing p.kind s.board m x.pawn apart.0 (en_passant_at s m.to ok x.square).1.empty))
+    subst P (sym (beside_passing p.kind s.board m x.pawn apart.0 (en_passant_at s m.to ok x.square).1.0))
     (covers_three s.board new m.from m.to (8 * rank m.from + file m.to) is.moves apart.1 apart.2
     (others_three s m p new (8 * rank m.from + file m.to) (subst G (sym (gone_is s m p new own x)) x.after)))
 covers s m p new ok is stands own (castles c x) =

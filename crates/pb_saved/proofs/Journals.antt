@@ -1,21 +1,24 @@
 -- A journal's games: one list, which grows by the lines of new games, whether its last line is torn or not.
 use Rattle.std.proofs.Common.{◌≡◌, ◌≢◌, ◌∙◌, ℕ, ◌<◌, ◌≤◌, ◌⊎◌, true, false, cond, eqb, List, [], ◌∷◌, ◌++◌, Ok, Err, All, IsOk, length, take, drop, refl, sym, ap, subst, inl, inr, arith, append-nil, append_assoc}
-use Rattle.std.specs.List.{AllZip, count_by, flat_map, slice_split}
+use Rattle.std.specs.List.{count_by, flat_map, slice_split}
 use Rattle.std.specs.Prelude.{Bool, nat_lt, if◌then◌else◌}
 use Rattle.std.proofs.Math.Seq.{drop-append_seam, take-append_seam}
 use Rattle.std.proofs.lemmas.Bool.{cases_Bool, cases_lt, ltb-false}
 use Rattle.std.proofs.lemmas.Grind.{flat_map-append}
-use Rattle.std.proofs.lemmas.List.{length-append, take-append-le, take_all}
+use Rattle.std.proofs.lemmas.List.{length-append, map-append, same_from_push, take-append-le, take_all}
 use Rattle.std.proofs.lemmas.List.Elements.{All-append, All-cons, All-drop, All-from_recursion, All-head, All-nil, All-same, All-tail, All-take, All-weaker}
 use Rattle.std.proofs.lemmas.List.Sums.{sum_by-append}
 use Rattle.std.proofs.lemmas.List.Splits.{length-slice_split}
-use Rattle.pb_board.specs.LineEnd.{with_end, without_return}
+use Rattle.pb_board.specs.LineEnd.{with_end}
 use Rattle.pb_io.specs.Lines.{ended_lines, is_torn, last_piece, line_limit}
 use Rattle.pb_io.proofs.LineLemmas.{IsQuiet, is_line_feed, ended-first, ended_lines-ended, ended_lines-quiet, last_piece-ended}
 use Rattle.pb_games.specs.declared.refusal.Refusal.{Refusal}
 use Rattle.pb_games.specs.declared.refusal.Refusal.TheVariants.{Long, Memory, Shape}
-use Rattle.pb_games.specs.Refusing.{Refuses, fields_of}
-use Rattle.pb_games.specs.Submissions.{IsSubmission, Submission, SubmissionText}
+use Rattle.std.specs.Str.Lines.{strip_carriage_return}
+use Rattle.pb_board.proofs.LineEnds.{strip_same}
+use Rattle.pb_games.specs.Header.{fields_of}
+use Rattle.pb_games.specs.Refusing.{Refuses}
+use Rattle.pb_games.specs.Submissions.{IsSubmission, Submission, submission_text}
 use Rattle.pb_games.proofs.Dues.{first_due, none_at_first}
 use Rattle.pb_games.proofs.Headers.{shape_refused}
 use Rattle.pb_accepted.specs.Accepting as steps
@@ -26,7 +29,7 @@ use Rattle.pb_accepted.proofs.Runs.{HaveOwnIds-nil}
 use Rattle.pb_accepted.proofs.Steps.{one_step, runs_join, step_to}
 use Rattle.pb_saved.specs.Journal.{GameLines, Journals, Replays, mending, seal}
 use Rattle.pb_saved.specs.JournalLaws.{JournalGoesOn, JournalGrows, JournalIsOne, JournalMayTear}
-use Rattle.pb_saved.proofs.SavedLoading.{Given, HaveOwnIds-front, given, quiet_text}
+use Rattle.pb_saved.proofs.SavedLoading.{Given, HaveOwnIds-front, given, quiet_text, texts_of}
 
 -- ---- a journal is of one list
 
@@ -87,10 +90,10 @@ tabs = 9 ∷ 9 ∷ 9 ∷ 9 ∷ []
 tabs_quiet : IsQuiet tabs
 tabs_quiet = All-from_recursion (λ b. is_line_feed b ≡ false) tabs (refl, (refl, (refl, (refl, tt))))
 
-no_return : (p : List ℕ) → without_return (p ++ tabs) ≡ p ++ tabs
-no_return [] = refl
-no_return (b ∷ []) = refl
-no_return (b ∷ c ∷ p) = ap (λ (w : List ℕ). b ∷ w) (no_return (c ∷ p))
+no_return : (p : List ℕ) → strip_carriage_return (p ++ tabs) ≡ p ++ tabs
+no_return p = strip_same (p ++ tabs) (λ front e.
+    let last : 9 ≡ 13 = (same_from_push (p ++ 9 ∷ 9 ∷ 9 ∷ []) front 9 13 (append_assoc p (9 ∷ 9 ∷ 9 ∷ []) (9 ∷ []) ∙ e)).1 in
+    omega (arith, last))
 
 four_tabs : (p : List ℕ) → 4 ≤ count_by (λ b. eqb b 9) (p ++ tabs)
 four_tabs p = let parts = sum_by-append (λ b. cond (eqb b 9) 1 0) p tabs in omega (arith, parts)
@@ -113,15 +116,15 @@ kept_refusal e other is = other (cc)
 -- ---- lines that are put on
 
 -- texts with their LFs after an LF are the next lines
-lines_put : (front : List ℕ) (G : List Submission) (texts : List (List ℕ)) → last_piece front ≡ [] → All IsSubmission G → AllZip SubmissionText G texts
-    → ended_lines (front ++ flat_map with_end texts) ≡ ended_lines front ++ texts
-lines_put front [] [] ended games zip = ap ended_lines (append-nil front) ∙ sym (append-nil (ended_lines front))
-lines_put front [] (t ∷ texts) ended games zip = absurd zip
-lines_put front (s ∷ G) [] ended games zip = absurd zip
-lines_put front (s ∷ G) (t ∷ texts) ended games zip =
-    let quiet = quiet_text s t (All-head IsSubmission s G games) zip.0 in
+lines_put : (front : List ℕ) (G : List Submission) → last_piece front ≡ [] → All IsSubmission G
+    → ended_lines (front ++ flat_map with_end (texts_of G)) ≡ ended_lines front ++ texts_of G
+lines_put front [] ended games = ap ended_lines (append-nil front) ∙ sym (append-nil (ended_lines front))
+lines_put front (s ∷ G) ended games =
+    let t = submission_text s in
+    let texts = texts_of G in
+    let quiet = quiet_text s (All-head IsSubmission s G games) in
     ap ended_lines (sym (append_assoc front (with_end t) (flat_map with_end texts)))
-    ∙ lines_put (front ++ with_end t) G texts (last_piece-ended front t quiet) (All-tail IsSubmission s G games) zip.1
+    ∙ lines_put (front ++ with_end t) G (last_piece-ended front t quiet) (All-tail IsSubmission s G games)
     ∙ ap (λ ls. ls ++ texts) (ended_lines-ended front t quiet ∙ ap (λ p. ended_lines front ++ (p ++ t) ∷ []) ended) ∙ append_assoc (ended_lines front) (t ∷ []) texts
 
 replays_on : (cap : ℕ) (A B : List Submission) (ls more : List (List ℕ)) (R : List Answer) → Replays cap ls A → Run cap A more R B → All Kept R
@@ -165,12 +168,12 @@ mended cap bytes A h =
 
 put_on : (cap : ℕ) (bytes text : List ℕ) (A G : List Submission) → IsWhole cap bytes A → All IsSubmission G → HaveOwnIds (A ++ G) → length (A ++ G) ≤ cap → GameLines G text
     → Journals cap (bytes ++ text) (A ++ G)
-put_on cap bytes text A G h games own room put = by (given cap A G put.0 put.1 games own (omega (arith, room, length-append A G)))
+put_on cap bytes text A G h games own room put = by (given cap A G games own (omega (arith, room, length-append A G)))
   where
-    by : Given cap A G put.0 → Journals cap (bytes ++ text) (A ++ G)
+    by : Given cap A G (texts_of G) → Journals cap (bytes ++ text) (A ++ G)
     by k =
-        subst (λ ls. Replays cap ls (A ++ G)) (sym (ap (λ t. ended_lines (bytes ++ t)) put.2 ∙ lines_put bytes G put.0 h.ended games put.1))
-        (replays_on cap A (A ++ G) (ended_lines bytes) put.0 k.answers h.holds k.run (All-weaker IsOk Kept remembered k.answers k.taken))
+        subst (λ ls. Replays cap ls (A ++ G)) (sym (ap (λ t. ended_lines (bytes ++ t)) put ∙ lines_put bytes G h.ended games))
+        (replays_on cap A (A ++ G) (ended_lines bytes) (texts_of G) k.answers h.holds k.run (All-weaker IsOk Kept remembered k.answers k.taken))
       where
         remembered : (r : Answer) → IsOk r → Kept r
         remembered (Ok n) ok = λ is. (cc)
@@ -182,20 +185,13 @@ journal_grows cap bytes text A G h games own room put =
 
 -- ---- the last of which may be torn
 
-texts_push : (G : List Submission) (texts : List (List ℕ)) (g : Submission) (line : List ℕ) → AllZip SubmissionText G texts → SubmissionText g line
-    → AllZip SubmissionText (G ++ g ∷ []) (texts ++ line ∷ [])
-texts_push [] [] g line zip text = (text, tt)
-texts_push [] (t ∷ texts) g line zip text = absurd zip
-texts_push (s ∷ G) [] g line zip text = absurd zip
-texts_push (s ∷ G) (t ∷ texts) g line zip text = (zip.0, texts_push G texts g line zip.1 text)
-
 -- the line of one more game
-pub GameLines-push : (G : List Submission) (text : List ℕ) (g : Submission) (line : List ℕ) → GameLines G text → SubmissionText g line → GameLines (G ++ g ∷ []) (text ++ with_end line)
-GameLines-push G text g line put spells = (
-  put.0 ++ line ∷ [],
-  texts_push G put.0 g line put.1 spells,
-  ap (λ bs. bs ++ with_end line) put.2 ∙ ap (λ bs. flat_map with_end put.0 ++ bs) (sym (append-nil (with_end line))) ∙ sym (flat_map-append with_end put.0 (line ∷ [])),
-)
+pub GameLines-push : (G : List Submission) (text : List ℕ) (g : Submission) (line : List ℕ) → GameLines G text → line ≡ submission_text g → GameLines (G ++ g ∷ []) (text ++ with_end line)
+GameLines-push G text g line put spells =
+    let t = submission_text g in
+    ap (λ bs. bs ++ with_end line) put ∙ ap (λ l. flat_map with_end (texts_of G) ++ with_end l) spells
+    ∙ ap (λ bs. flat_map with_end (texts_of G) ++ bs) (sym (append-nil (with_end t))) ∙ sym (flat_map-append with_end (texts_of G) (t ∷ []))
+    ∙ ap (flat_map with_end) (sym (map-append submission_text G (g ∷ [])))
 
 pub journal_may_tear : JournalMayTear
 journal_may_tear cap bytes text line A G g n h games own room put spells =
@@ -232,7 +228,7 @@ journal_may_tear cap bytes text line A G g n h games own room put spells =
     unseen : n ≤ length line → ended_lines (whole ++ take n (with_end line)) ≡ ended_lines whole
     unseen within =
         ap (λ bs. ended_lines (whole ++ bs)) (take-append-le n line (10 ∷ []) within)
-        ∙ ended_lines-quiet whole (take n line) (All-take (λ b. is_line_feed b ≡ false) n line (quiet_text g line lawful spells))
+        ∙ ended_lines-quiet whole (take n line) (All-take (λ b. is_line_feed b ≡ false) n line (subst IsQuiet (sym spells) (quiet_text g lawful)))
 
 -- a front of what mends a journal changes nothing
 pub mending_may_tear : (cap : ℕ) (bytes : List ℕ) (A : List Submission) (n : ℕ) → Journals cap bytes A → Journals cap (bytes ++ take n (mending bytes)) A

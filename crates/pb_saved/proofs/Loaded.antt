@@ -7,7 +7,7 @@ use Rattle.std.proofs.lemmas.List.{length_push}
 use Rattle.std.proofs.lemmas.Option.{slice_get_within}
 use Rattle.std.proofs.lemmas.Bool.{false_from_ne_true}
 use Rattle.std.proofs.lemmas.Slice.Eq.{bytes_eq-Decides}
-use Rattle.pb_board.specs.LineEnd.{without_return}
+use Rattle.std.specs.Str.Lines.{strip_carriage_return}
 use Rattle.pb_board.proofs.LineEnds.{cases_return}
 use Rattle.pb_io.specs.Source.{SourceState}
 use Rattle.pb_io.specs.Lines.{ended_lines, line_limit, lines}
@@ -42,9 +42,9 @@ same_or_longer most A line r B h = elim (step_to most A line r B h).1 [
 
 -- a long line is no header
 pub long_line : (line : List ℕ) → line_limit < length line → is_header line ≡ false
-long_line line long = false_from_ne_true _ (λ is. short ((bytes_eq-Decides (without_return line) saving.header).0 is))
+long_line line long = false_from_ne_true _ (λ is. short ((bytes_eq-Decides (strip_carriage_return line) saving.header).0 is))
   where
-    short : without_return line ≡ saving.header → ⊥
+    short : strip_carriage_return line ≡ saving.header → ⊥
     short same =
         elim (cases_return line) [
           | inl whole ↦ omega (arith, long, ap length (whole ∙ same))

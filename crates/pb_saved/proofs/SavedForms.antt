@@ -1,15 +1,13 @@
 -- The saved form of a ledger, as it is put part by part.
-use Rattle.std.proofs.Common.{zero, suc, ◌≡◌, ◌∙◌, ℕ, ◌+◌, ◌<◌, ◌≤◌, List, [], ◌∷◌, ◌++◌, Some, None, length, drop, take, get_or, slice_get, refl, sym, ap, subst, arith, append-nil, append_assoc}
-use Rattle.std.specs.List.{AllZip, flat_map, join_with_byte}
+use Rattle.std.proofs.Common.{zero, suc, ◌≡◌, ◌∙◌, ℕ, ◌+◌, ◌<◌, ◌≤◌, List, [], ◌∷◌, ◌++◌, Some, None, length, drop, take, get_or, slice_get, map, refl, sym, ap, subst, arith, append-nil, append_assoc}
+use Rattle.std.specs.List.{flat_map, join_with_byte}
 use Rattle.std.proofs.Math.ListN.{drop_of_length-le}
 use Rattle.std.proofs.lemmas.Grind.{flat_map-append}
 use Rattle.std.proofs.lemmas.List.{drop_more, take-append-drop, take_more}
 use Rattle.pb_board.specs.LineEnd.{with_end}
-use Rattle.pb_board.proofs.Spelled.{fen_spelled}
 use Rattle.pb_moves.specs.Moved.{Moved}
 use Rattle.pb_moves.specs.Spelling.{spelling}
-use Rattle.pb_games.specs.Results.{outcome_text}
-use Rattle.pb_games.specs.Submissions.{Submission, SubmissionText, moves_text}
+use Rattle.pb_games.specs.Submissions.{Submission, moves_text, submission_text}
 use Rattle.pb_accepted.specs.Accepting.{IsNumber}
 use Rattle.pb_saved.specs.Saving.{Saved, header}
 
@@ -62,26 +60,16 @@ game_line a b c d id outcome fen ha hb hc =
 
 -- ---- all games' lines
 
--- each list of submissions has texts
-pub texts_of : (A : List Submission) → (texts : List (List ℕ)) × AllZip SubmissionText A texts
-texts_of [] = ([], tt)
-texts_of (s ∷ A) =
-    let fen = fen_spelled s.1.start in
-    let rest = texts_of A in
-    (join_with_byte 9 (s.0 ∷ outcome_text s.1.outcome ∷ fen.0 ∷ moves_text s.1.moves ∷ []) ∷ rest.0, ((fen.0, fen.1, refl), rest.1))
-
 -- the text of one of them stands in its place
-text_at : (A : List Submission) (texts : List (List ℕ)) (i : ℕ) (s : Submission) → AllZip SubmissionText A texts → slice_get A i ≡ Some s
-    → SubmissionText s (get_or texts i []) × (i < length texts)
-text_at [] [] i s zip at = let bad : None ≡ Some s = at in cc
-text_at [] (t ∷ texts) i s zip at = absurd zip
-text_at (x ∷ A) [] i s zip at = absurd zip
-text_at (x ∷ A) (t ∷ texts) zero s zip at = let here : Some x ≡ Some s = at in let same : x ≡ s = cc in (subst (λ (y : Submission). SubmissionText y t) same zip.0, omega arith)
-text_at (x ∷ A) (t ∷ texts) (suc i) s zip at = let rest = text_at A texts i s zip.1 at in (rest.0, omega (arith, rest.1))
+text_at : (A : List Submission) (i : ℕ) (s : Submission) → slice_get A i ≡ Some s
+    → (submission_text s ≡ get_or (map submission_text A) i []) × (i < length (map submission_text A))
+text_at [] i s at = let bad : None ≡ Some s = at in cc
+text_at (x ∷ A) zero s at = let here : Some x ≡ Some s = at in let same : x ≡ s = cc in (ap submission_text (sym same), omega arith)
+text_at (x ∷ A) (suc i) s at = let rest = text_at A i s at in (rest.0, omega (arith, rest.1))
 
-pub numbered_text : (A : List Submission) (texts : List (List ℕ)) (i : ℕ) (s : Submission) → AllZip SubmissionText A texts → IsNumber A (i + 1) s
-    → SubmissionText s (get_or texts i []) × (i < length texts)
-numbered_text A texts i s zip at = text_at A texts i s zip (subst (λ k. slice_get A k ≡ Some s) (omega (arith, at.1)) at.2)
+pub numbered_text : (A : List Submission) (i : ℕ) (s : Submission) → IsNumber A (i + 1) s
+    → (submission_text s ≡ get_or (map submission_text A) i []) × (i < length (map submission_text A))
+numbered_text A i s at = text_at A i s (subst (λ k. slice_get A k ≡ Some s) (omega (arith, at.1)) at.2)
 
 module _ (texts : List (List ℕ)) (i : ℕ) (text : List ℕ) (is : text ≡ get_or texts i []) (below : i < length texts) where
   -- the lines up to one, that one, and those after it
@@ -104,4 +92,4 @@ module _ (texts : List (List ℕ)) (i : ℕ) (text : List ℕ) (is : text ≡ ge
 
 -- each list of submissions has a saved form
 pub saved_form : (A : List Submission) → (bytes : List ℕ) × Saved A bytes
-saved_form A = let texts = texts_of A in (flat_map with_end (header ∷ texts.0), (texts.0, texts.1, refl))
+saved_form A = (flat_map with_end (header ∷ map submission_text A), refl)

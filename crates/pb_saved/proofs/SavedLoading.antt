@@ -1,12 +1,11 @@
 -- A saved ledger loads as what was saved.
-use Rattle.std.proofs.Common.{◌≡◌, ◌≢◌, ◌∙◌, ℕ, ◌+◌, ◌<◌, ◌≤◌, true, false, List, [], ◌∷◌, ◌++◌, Result, Ok, Err, All, IsOk, IsErr, length, get_or, refl, sym, ap, subst, inl, inr, arith, append-nil, append_assoc}
+use Rattle.std.proofs.Common.{◌≡◌, ◌≢◌, ◌∙◌, ℕ, ◌+◌, ◌<◌, ◌≤◌, true, false, List, [], ◌∷◌, ◌++◌, Result, Ok, Err, All, IsOk, length, get_or, map, refl, sym, ap, subst, inl, inr, arith, append-nil, append_assoc}
 use Rattle.std.specs.Prelude.{IfErr, IfOk}
-use Rattle.std.specs.List.{AllZip, flat_map}
+use Rattle.std.specs.List.{flat_map}
 use Rattle.std.proofs.Math.Seq.{get_or-append_seam}
 use Rattle.std.proofs.lemmas.Bool.{eqb-true, false_from_ne_true}
-use Rattle.std.proofs.lemmas.List.{get_or_append_left, get_or_default, length-append, length_push}
+use Rattle.std.proofs.lemmas.List.{get_or_append_left, get_or_default, length-append, length-map, length_push}
 use Rattle.std.proofs.lemmas.List.Elements.{All-cons, All-from_recursion, All-head, All-nil, All-tail}
-use Rattle.std.proofs.lemmas.Slice.Zip.{AllZip-long}
 use Rattle.pb_board.specs.LineEnd.{with_end}
 use Rattle.pb_io.specs.Source.{SourceState}
 use Rattle.pb_io.specs.Lines.{ended_lines, lines}
@@ -14,10 +13,8 @@ use Rattle.pb_io.specs.Reads.{chunk_len}
 use Rattle.pb_io.proofs.LineLemmas.{IsQuiet, is_line_feed, lines-begin, lines-ended}
 use Rattle.pb_poly.specs.Reading.{Tells}
 use Rattle.pb_poly.proofs.ToldReads.{all_came, came_first, no_endless, no_fault}
-use Rattle.pb_games.specs.Submissions.{IsLawful, IsSubmission, Submission, SubmissionText}
-use Rattle.pb_games.proofs.OneLine.{one_text}
-use Rattle.pb_games.proofs.Texts.{one_line}
-use Rattle.pb_games.specs.declared.refusal.Refusal.TheVariants as refusal
+use Rattle.pb_games.specs.Submissions.{IsLawful, IsSubmission, Submission, submission_text}
+use Rattle.pb_games.proofs.Texts.{one_line, submits}
 use Rattle.pb_accepted.specs.Accepting as steps
 use Rattle.pb_accepted.specs.Accepting.{Answer, IsNewId, Run, Step}
 use Rattle.pb_accepted.specs.Holding.{HaveOwnIds}
@@ -31,29 +28,25 @@ use Rattle.pb_saved.specs.declared.loading.LoadError.TheVariants.{Line, Read, En
 
 -- ---- no submission has two saved forms
 
-one_zip : (A : List Submission) (ts us : List (List ℕ)) → AllZip SubmissionText A ts → AllZip SubmissionText A us → ts ≡ us
-one_zip [] [] [] h k = refl
-one_zip [] [] (u ∷ us) h k = absurd k
-one_zip [] (t ∷ ts) us h k = absurd h
-one_zip (s ∷ A) [] us h k = absurd h
-one_zip (s ∷ A) (t ∷ ts) [] h k = absurd k
-one_zip (s ∷ A) (t ∷ ts) (u ∷ us) h k = ap (λ x. x ∷ ts) (one_text s t u h.0 k.0) ∙ ap (λ xs. u ∷ xs) (one_zip A ts us h.1 k.1)
-
 pub saved_is_one : (A : List Submission) (a b : List ℕ) → Saved A a → Saved A b → a ≡ b
-saved_is_one A a b h k = h.2 ∙ ap (λ ts. flat_map with_end (header ∷ ts)) (one_zip A h.0 k.0 h.1 k.1) ∙ sym k.2
+saved_is_one A a b h k = h ∙ sym k
 
 -- ---- the lines of a saved form
 
-pub quiet_text : (s : Submission) (text : List ℕ) → IsSubmission s → SubmissionText s text → IsQuiet text
-quiet_text s text lawful h k d lt = false_from_ne_true _ (λ is. (one_line s text lawful.id lawful.game h k d lt).0 (eqb-true _ 10 is))
+-- the texts of submissions
+abbrev pub texts_of : List Submission → List (List ℕ)
+texts_of A = map submission_text A
 
-lines_of_texts : (A : List Submission) (texts : List (List ℕ)) → All IsSubmission A → AllZip SubmissionText A texts → lines (flat_map with_end texts) ≡ texts
-lines_of_texts [] [] games h = refl
-lines_of_texts [] (t ∷ texts) games h = absurd h
-lines_of_texts (s ∷ A) [] games h = absurd h
-lines_of_texts (s ∷ A) (t ∷ texts) games h =
-    ap lines (append_assoc t (10 ∷ []) (flat_map with_end texts)) ∙ lines-ended t (flat_map with_end texts) (quiet_text s t (All-head IsSubmission s A games) h.0)
-    ∙ ap (λ ts. t ∷ ts) (lines_of_texts A texts (All-tail IsSubmission s A games) h.1)
+pub quiet_text : (s : Submission) → IsSubmission s → IsQuiet (submission_text s)
+quiet_text s lawful k d lt = false_from_ne_true _ (λ is. (one_line s lawful.id lawful.game k d lt).0 (eqb-true _ 10 is))
+
+lines_of_texts : (A : List Submission) → All IsSubmission A → lines (flat_map with_end (texts_of A)) ≡ texts_of A
+lines_of_texts [] games = refl
+lines_of_texts (s ∷ A) games =
+    let t = submission_text s in
+    let rest = flat_map with_end (texts_of A) in
+    ap lines (append_assoc t (10 ∷ []) rest) ∙ lines-ended t rest (quiet_text s (All-head IsSubmission s A games))
+    ∙ ap (λ ts. t ∷ ts) (lines_of_texts A (All-tail IsSubmission s A games))
 
 header_quiet : IsQuiet header
 header_quiet = All-from_recursion (λ b. is_line_feed b ≡ false) header (refl, (refl, (refl, (refl, (refl, (refl, (refl, (refl, (refl, (refl, (refl, (refl, (refl, (refl, tt))))))))))))))
@@ -61,15 +54,15 @@ header_quiet = All-from_recursion (λ b. is_line_feed b ≡ false) header (refl,
 header_is : is_header header ≡ true
 header_is = refl
 
-pub lines_of_saved : (A : List Submission) (bytes : List ℕ) → All IsSubmission A → (h : Saved A bytes) → lines bytes ≡ header ∷ h.0
+pub lines_of_saved : (A : List Submission) (bytes : List ℕ) → All IsSubmission A → Saved A bytes → lines bytes ≡ header ∷ texts_of A
 lines_of_saved A bytes games h =
-    ap lines h.2 ∙ ap lines (append_assoc header (10 ∷ []) (flat_map with_end h.0)) ∙ lines-ended header (flat_map with_end h.0) header_quiet
-    ∙ ap (λ ts. header ∷ ts) (lines_of_texts A h.0 games h.1)
+    let texts = flat_map with_end (texts_of A) in
+    ap lines h ∙ ap lines (append_assoc header (10 ∷ []) texts) ∙ lines-ended header texts header_quiet ∙ ap (λ ts. header ∷ ts) (lines_of_texts A games)
 
 -- ---- texts as lines that are submitted
 
-lawful_text : (s : Submission) (text : List ℕ) → IsSubmission s → SubmissionText s text → IsLawful text s
-lawful_text s text h spells = record { submits = record { id = h.id; game = h.game; text = text; spells = spells; is = inl refl }; legal = h.legal }
+lawful_text : (s : Submission) → IsSubmission s → IsLawful (submission_text s) s
+lawful_text s h = submits (submission_text s) s h (inl refl)
 
 module _ (A B : List Submission) (s : Submission) (own : HaveOwnIds (A ++ s ∷ B)) where
   -- one that comes after others has another id
@@ -97,33 +90,31 @@ pub record Given (cap : ℕ) (A S : List Submission) (texts : List (List ℕ)) :
   pub run : Run cap A texts answers (A ++ S)
   pub taken : All IsOk answers
 
-pub given : (cap : ℕ) (A S : List Submission) (texts : List (List ℕ)) → AllZip SubmissionText S texts → All IsSubmission S → HaveOwnIds (A ++ S) → length A + length S ≤ cap → Given cap A S texts
-given cap A [] [] zip games own room = record { answers = []; run = append-nil A; taken = All-nil IsOk }
-given cap A [] (t ∷ texts) zip games own room = absurd zip
-given cap A (s ∷ S) [] zip games own room = absurd zip
-given cap A (s ∷ S) (t ∷ texts) zip games own room =
-    let law = lawful_text s t (All-head IsSubmission s S games) zip.0 in
+pub given : (cap : ℕ) (A S : List Submission) → All IsSubmission S → HaveOwnIds (A ++ S) → length A + length S ≤ cap → Given cap A S (texts_of S)
+given cap A [] games own room = record { answers = []; run = append-nil A; taken = All-nil IsOk }
+given cap A (s ∷ S) games own room =
+    let t = submission_text s in
+    let texts = texts_of S in
+    let law = lawful_text s (All-head IsSubmission s S games) in
     let fresh = new_after A S s own in
     let after : List Submission = A ++ s ∷ [] in
     let joined : after ++ S ≡ A ++ s ∷ S = append_assoc A (s ∷ []) S in
-    let rest = given cap after S texts zip.1 (All-tail IsSubmission s S games) (subst HaveOwnIds (sym joined) own) (omega (arith, room, length_push A s)) in record {
+    let rest = given cap after S (All-tail IsSubmission s S games) (subst HaveOwnIds (sym joined) own) (omega (arith, room, length_push A s)) in record {
       answers = Ok (length A + 1) ∷ rest.answers;
       run = (after, steps.new s law fresh (omega (arith, room)) refl refl, subst (λ B. Run cap after texts rest.answers B) joined rest.run);
       taken = All-cons IsOk (Ok (length A + 1)) rest.answers refl rest.taken;
     }
 
 -- and nothing else is added where none is refused
-only : (cap : ℕ) (A S B : List Submission) (texts : List (List ℕ)) (R : List Answer) → AllZip SubmissionText S texts → All IsSubmission S → HaveOwnIds (A ++ S) → All IsOk R → Run cap A texts R B → B ≡ A ++ S
-only most A [] B [] [] zip games own taken h = h ∙ sym (append-nil A)
-only most A [] B [] (r ∷ R) zip games own taken h = absurd h
-only most A [] B (t ∷ texts) R zip games own taken h = absurd zip
-only most A (s ∷ S) B [] R zip games own taken h = absurd zip
-only most A (s ∷ S) B (t ∷ texts) [] zip games own taken h = absurd h
-only most A (s ∷ S) B (t ∷ texts) (r ∷ R) zip games own taken h =
-    let law = lawful_text s t (All-head IsSubmission s S games) zip.0 in
+only : (cap : ℕ) (A S B : List Submission) (R : List Answer) → All IsSubmission S → HaveOwnIds (A ++ S) → All IsOk R → Run cap A (texts_of S) R B → B ≡ A ++ S
+only most A [] B [] games own taken h = h ∙ sym (append-nil A)
+only most A [] B (r ∷ R) games own taken h = absurd h
+only most A (s ∷ S) B [] games own taken h = absurd h
+only most A (s ∷ S) B (r ∷ R) games own taken h =
+    let law = lawful_text s (All-head IsSubmission s S games) in
     let joined : (A ++ s ∷ []) ++ S ≡ A ++ s ∷ S = append_assoc A (s ∷ []) S in
-    let next : h.0 ≡ A ++ s ∷ [] = added most A t s r h.0 law (new_after A S s own) (All-head IsOk r R taken) h.1 in
-    only most (A ++ s ∷ []) S B texts R zip.1 (All-tail IsSubmission s S games) (subst HaveOwnIds (sym joined) own) (All-tail IsOk r R taken) (subst (λ M. Run most M texts R B) next h.2) ∙ joined
+    let next : h.0 ≡ A ++ s ∷ [] = added most A (submission_text s) s r h.0 law (new_after A S s own) (All-head IsOk r R taken) h.1 in
+    only most (A ++ s ∷ []) S B R (All-tail IsSubmission s S games) (subst HaveOwnIds (sym joined) own) (All-tail IsOk r R taken) (subst (λ M. Run most M (texts_of S) R B) next h.2) ∙ joined
 
 -- the submission whose text stands after these texts, and those before it
 record Cut (S : List Submission) (xs : List (List ℕ)) (y : List ℕ) : Type 0 where
@@ -133,22 +124,26 @@ record Cut (S : List Submission) (xs : List (List ℕ)) (y : List ℕ) : Type 0 
   are : S ≡ front ++ this ∷ back
   games : All IsSubmission front
   lawful : IsSubmission this
-  before : AllZip SubmissionText front xs
-  here : SubmissionText this y
+  before : xs ≡ texts_of front
+  here : y ≡ submission_text this
 
-cut_at : (S : List Submission) (xs ys : List (List ℕ)) (y : List ℕ) → All IsSubmission S → AllZip SubmissionText S (xs ++ y ∷ ys) → Cut S xs y
-cut_at [] [] ys y games zip = absurd zip
-cut_at [] (x ∷ xs) ys y games zip = absurd zip
-cut_at (s ∷ S) [] ys y games zip = record { front = []; this = s; back = S; are = refl; games = All-nil IsSubmission; lawful = All-head IsSubmission s S games; before = tt; here = zip.0 }
-cut_at (s ∷ S) (x ∷ xs) ys y games zip =
-    let rest = cut_at S xs ys y (All-tail IsSubmission s S games) zip.1 in record {
+cut_at : (S : List Submission) (xs ys : List (List ℕ)) (y : List ℕ) → All IsSubmission S → texts_of S ≡ xs ++ y ∷ ys → Cut S xs y
+cut_at [] [] ys y games is = absurd cc
+cut_at [] (x ∷ xs) ys y games is = absurd cc
+cut_at (s ∷ S) [] ys y games is =
+    let here : submission_text s ≡ y = cc in
+    record { front = []; this = s; back = S; are = refl; games = All-nil IsSubmission; lawful = All-head IsSubmission s S games; before = refl; here = sym here }
+cut_at (s ∷ S) (x ∷ xs) ys y games is =
+    let head : submission_text s ≡ x = cc in
+    let tails : texts_of S ≡ xs ++ y ∷ ys = cc in
+    let rest = cut_at S xs ys y (All-tail IsSubmission s S games) tails in record {
       front = s ∷ rest.front;
       this = rest.this;
       back = rest.back;
       are = ap (λ (X : List Submission). s ∷ X) rest.are;
       games = All-cons IsSubmission s rest.front (All-head IsSubmission s S games) rest.games;
       lawful = rest.lawful;
-      before = (zip.0, rest.before);
+      before = ap (λ w. w ∷ xs) (sym head) ∙ ap (λ (ws : List (List ℕ)). submission_text s ∷ ws) rest.before;
       here = rest.here;
     }
 
@@ -156,16 +151,16 @@ cut_at (s ∷ S) (x ∷ xs) ys y games zip =
 
 module _ (cap : ℕ) (A : List Submission) (bytes : List ℕ) (games : All IsSubmission A) (own : HaveOwnIds A) (room : length A ≤ cap) (saved : Saved A bytes) where
   pub loads_saved : Loads cap (lines bytes) A
-  loads_saved = subst (λ (xs : List (List ℕ)). Loads cap xs A) (sym (lines_of_saved A bytes games saved)) (by (given cap [] A saved.0 saved.1 games own (omega (arith, room))))
+  loads_saved = subst (λ (xs : List (List ℕ)). Loads cap xs A) (sym (lines_of_saved A bytes games saved)) (by (given cap [] A games own (omega (arith, room))))
     where
-      by : Given cap [] A saved.0 → Loads cap (header ∷ saved.0) A
-      by h = record { answers = h.answers; run = h.run; taken = h.taken; new = λ _. sym (AllZip-long SubmissionText A saved.0 saved.1) }
+      by : Given cap [] A (texts_of A) → Loads cap (header ∷ texts_of A) A
+      by h = record { answers = h.answers; run = h.run; taken = h.taken; new = λ _. sym (length-map A submission_text) }
 
   pub loads_only : (B : List Submission) → Loads cap (lines bytes) B → B ≡ A
   loads_only B h = by (subst (λ (xs : List (List ℕ)). Loads cap xs B) (lines_of_saved A bytes games saved) h)
     where
-      by : Loads cap (header ∷ saved.0) B → B ≡ A
-      by k = only cap [] A B saved.0 k.answers saved.1 games own k.taken k.run
+      by : Loads cap (header ∷ texts_of A) B → B ≡ A
+      by k = only cap [] A B k.answers games own k.taken k.run
 
   -- ---- no line of it breaks the loading
 
@@ -178,8 +173,8 @@ module _ (cap : ℕ) (A : List Submission) (bytes : List ℕ) (games : All IsSub
           let own_first = HaveOwnIds-front cut.front (cut.this ∷ cut.back) own_front in
           let long : length A ≡ length (cut.front ++ cut.this ∷ cut.back) = ap length cut.are in
           let loads : Loads cap (header ∷ before) B = subst (λ (xs : List (List ℕ)). Loads cap xs B) is h.but_one.loads in
-          let same : B ≡ cut.front = only cap [] cut.front B before loads.answers cut.before cut.games own_first loads.taken loads.run in
-          let law = lawful_text cut.this h.but_one.line cut.lawful cut.here in
+          let same : B ≡ cut.front = only cap [] cut.front B loads.answers cut.games own_first loads.taken (subst (λ (ts : List (List ℕ)). Run cap [] ts loads.answers B) cut.before loads.run) in
+          let law = subst (λ l. IsLawful l cut.this) (sym cut.here) (lawful_text cut.this cut.lawful) in
           let fresh = new_after cut.front cut.back cut.this own_front in
           let room_for : length cut.front < cap = omega (arith, room, long, length-append cut.front (cut.this ∷ cut.back)) in
           let due : Step cap cut.front h.but_one.line (Ok (length cut.front + 1)) (cut.front ++ cut.this ∷ []) = steps.new cut.this law fresh room_for refl refl in
@@ -187,12 +182,12 @@ module _ (cap : ℕ) (A : List Submission) (bytes : List ℕ) (games : All IsSub
           let one = one_step cap cut.front h.but_one.line h.answer (Ok (length cut.front + 1)) cut.front (cut.front ++ cut.this ∷ []) own_first made due h.other (λ q. (cc)) in
           absurd (omega (arith, ap length one.1, length_push cut.front cut.this))
 
-      by : (before : List (List ℕ)) → h.but_one.before ≡ before → header ∷ saved.0 ≡ before ++ h.but_one.line ∷ later → ⊥
+      by : (before : List (List ℕ)) → h.but_one.before ≡ before → header ∷ texts_of A ≡ before ++ h.but_one.line ∷ later → ⊥
       by [] none are = let line : header ≡ h.but_one.line = cc in let no : false ≡ true = sym (h.but_one.no_header none) ∙ sym (ap is_header line) ∙ header_is in cc
       by (x ∷ before) is are =
           let head : x ≡ header = cc in
-          let tail : saved.0 ≡ before ++ h.but_one.line ∷ later = cc in
-          next before (is ∙ ap (λ (y : List ℕ). y ∷ before) head) (cut_at A before later h.but_one.line games (subst (AllZip SubmissionText A) tail saved.1))
+          let tail : texts_of A ≡ before ++ h.but_one.line ∷ later = cc in
+          next before (is ∙ ap (λ (y : List ℕ). y ∷ before) head) (cut_at A before later h.but_one.line games tail)
 
   module _ (fills : ℕ) (source source' : SourceState) (tells : Tells fills source source' bytes) (old new : LedgerState) (fits : old.cap ≡ cap) where
     only_memory : (e : LoadError) → LoadsUntil fills source source' old new e → e ≡ Memory

@@ -1,15 +1,14 @@
 -- A journal: the lines of games, each put there before its reply, of which the last line may be torn.
-use Rattle.std.specs.Prelude.{◌≡◌, ◌≢◌, ℕ, if◌then◌else◌, List, [], ◌∷◌, All, Err, flat_map}
-use Rattle.std.specs.List.{AllZip}
+use Rattle.std.specs.Prelude.{◌≡◌, ◌≢◌, ℕ, if◌then◌else◌, List, [], ◌∷◌, All, Err, flat_map, map}
 use Rattle.pb_board.specs.LineEnd.{with_end}
 use Rattle.pb_io.specs.Lines.{ended_lines, is_torn}
-use Rattle.pb_games.specs.Submissions.{Submission, SubmissionText}
+use Rattle.pb_games.specs.Submissions.{Submission, submission_text}
 use Rattle.pb_games.specs.declared.refusal.Refusal.TheVariants.{Memory}
 use Rattle.pb_accepted.specs.Accepting.{Answer, Run}
 
 -- the text of each game in order, with an LF after each
 abbrev pub GameLines : List Submission → List ℕ → Type 0
-GameLines G bytes = (texts : List (List ℕ)) × AllZip SubmissionText G texts × (bytes ≡ flat_map with_end texts)
+GameLines G bytes = bytes ≡ flat_map with_end (map submission_text G)
 
 -- these lines, submitted from no games on and none refused for want of memory, leave A
 pub record Replays (cap : ℕ) (ls : List (List ℕ)) (A : List Submission) : Type 0 where

@@ -1,7 +1,7 @@
 -- Laws of journals, over the definitions alone.
 use Rattle.std.specs.Prelude.{◌≡◌, ℕ, ◌≤◌, ◌⊎◌, List, [], ◌∷◌, ◌++◌, length, All, take}
 use Rattle.pb_board.specs.LineEnd.{with_end}
-use Rattle.pb_games.specs.Submissions.{Submission, IsSubmission, SubmissionText}
+use Rattle.pb_games.specs.Submissions.{Submission, IsSubmission, submission_text}
 use Rattle.pb_accepted.specs.Holding.{HaveOwnIds}
 use Rattle.pb_saved.specs.Journal.{GameLines, Journals, mending}
 
@@ -27,6 +27,6 @@ JournalGrows = (cap : ℕ) (bytes text : List ℕ) (A G : List Submission) → J
 -- and where a front of one more line comes after them, that game is there as a whole or not at all
 abbrev pub JournalMayTear : Type 0
 JournalMayTear = (cap : ℕ) (bytes text line : List ℕ) (A G : List Submission) (g : Submission) (n : ℕ) → Journals cap bytes A
-    → All IsSubmission (G ++ g ∷ []) → HaveOwnIds (A ++ G ++ g ∷ []) → length (A ++ G ++ g ∷ []) ≤ cap → GameLines G text → SubmissionText g line
+    → All IsSubmission (G ++ g ∷ []) → HaveOwnIds (A ++ G ++ g ∷ []) → length (A ++ G ++ g ∷ []) ≤ cap → GameLines G text → line ≡ submission_text g
     → Journals cap (bytes ++ mending bytes ++ text ++ take n (with_end line)) (A ++ G)
     ⊎ Journals cap (bytes ++ mending bytes ++ text ++ take n (with_end line)) (A ++ G ++ g ∷ [])

@@ -1,7 +1,7 @@
 -- What the lines of a saved ledger, or of an old list of submission lines, make of a ledger without games.
 use Rattle.std.specs.Prelude.{◌≡◌, ◌≢◌, ℕ, ◌+◌, ◌≤◌, ◌⊎◌, Bool, false, if◌then◌else◌, List, [], ◌∷◌, ◌++◌, length, All, Err, IsOk, IsErr, IsTrue, Result, MatchResult}
 use Rattle.std.specs.Str.{bytes_eq}
-use Rattle.pb_board.specs.LineEnd.{without_return}
+use Rattle.std.specs.Str.Lines.{strip_carriage_return}
 use Rattle.pb_io.specs.LineTask.{AtEnd, AtFault, AtLine, AtNoEnd}
 use Rattle.pb_io.specs.Source.{SourceState}
 use Rattle.pb_poly.specs.Reading.{Tells}
@@ -16,7 +16,7 @@ use Rattle.pb_saved.specs.Saving.{Saved, header}
 
 -- the line is the header, maybe with a CR
 abbrev pub is_header : List ℕ → Bool
-is_header line = bytes_eq (without_return line) header
+is_header line = bytes_eq (strip_carriage_return line) header
 
 -- the lines are those of a saved ledger, and not of an old list
 abbrev pub has_header : List (List ℕ) → Bool

@@ -2,7 +2,7 @@
 
 ghost use Rattle.std.specs.Prelude.{◌≡◌, [], ◌∷◌, ◌++◌, ℕ, List};
 ghost use Rattle.pb_board.specs.LineEnd.{with_end};
-ghost use Rattle.pb_games.specs.Submissions.{SubmissionText, moves_text};
+ghost use Rattle.pb_games.specs.Submissions.{moves_text, submission_text};
 ghost use Rattle.pb_io.specs.Sink.{Put};
 ghost use Rattle.pb_io.specs.Writes.{Writes};
 ghost use Rattle.pb_moves.specs.Spelling.{spelling};
@@ -40,7 +40,7 @@ pub fn save<T: Tally, K: Sink>(ledger: &Ledger<T>, sink: &mut K) -> Result<(), F
 ///
 /// The sink has failed. A front of the line may have been put then.
 pub fn put_game<K: Sink>(sink: &mut K, id: &Id, game: &Game) -> Result<(), Failed>
-    ensures { (text : List ℕ) × SubmissionText (id.now, game.now) text × Put (K.state sink.old) (K.state sink.new) result (with_end text) }
+    ensures { Put (K.state sink.old) (K.state sink.new) result (with_end (submission_text (id.now, game.now))) }
 {
     let start = game.start.text();
     put_field(sink, id.as_bytes())?;

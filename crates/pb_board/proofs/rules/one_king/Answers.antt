@@ -1,5 +1,7 @@
-use Rattle.std.proofs.Common.{◌^◌, ◌∙◌, ap, sym}
+use Rattle.std.proofs.Common.{ℕ, ◌^◌, ◌∙◌, Option, ap, subst, sym}
+use Rattle.std.specs.Option.{MatchOption}
 use Rattle.std.proofs.lemmas.Nat.{one_shl}
+use Rattle.pb_board.specs.Position.{HasOneKing, IsOnlyKing}
 use Rattle.pb_board.proofs.Kings.{one_king_bit, stands_alone}
 use Rattle.pb_board.proofs.rules.one_king.Goals as goal
 
@@ -13,3 +15,9 @@ returns-else-kings-index c = λ b e h.
     let bit = one_king_bit b c.args.colour c.standing-kings.result (λ q. c.standing-kings.ensures b q e) c.standing-kings.type_inv h in
     let lowest = c.in_ok-square.ensures.1 in
     c.if-kings-index.false (bit.1 ∙ sym (one_shl c.index.result 64 c.index.ensures.below ∙ ap (λ k. 2 ^ k) (c.index.ensures.value ∙ lowest)))
+
+pub returns-in_err-square : goal.returns-in_err-square
+returns-in_err-square c = λ b e.
+    let P : Option ℕ → Type 0 = λ r. MatchOption r (¬ HasOneKing b c.args.colour) (IsOnlyKing b c.args.colour) in
+    subst P (sym c.from_residual.ensures) (λ h.
+    c.in_err-square.ensures (one_king_bit b c.args.colour c.standing-kings.result (λ q. c.standing-kings.ensures b q e) c.standing-kings.type_inv h).0)

@@ -1,9 +1,11 @@
-use Rattle.std.proofs.Common.{inl, refl, sym, true, ◌∙◌, subst, append-nil, ◌++◌, []}
+use Rattle.std.proofs.Common.{ap, inl, refl, sym, true, ◌∙◌, subst, append-nil, []}
 use Rattle.std.proofs.KnownBytes.{Appends-nil}
 use Rattle.std.proofs.lemmas.Bool.{false≢true}
 use Rattle.std.proofs.lemmas.Result.{err_from_is_err_and}
+use Rattle.std.specs.Prelude.{Ok}
+use Rattle.pb_board.specs.LineEnd.{with_end}
 use Rattle.pb_epd.specs.declared.refusal.EpdError.TheVariants as epd
-use Rattle.pb_epd.specs.Epd.{EpdForm, EpdText}
+use Rattle.pb_epd.specs.Epd.{EpdText}
 use Rattle.pb_epd.specs.Refusal.{IsFirstDueEpd}
 use Rattle.pb_commands.specs.EpdShown.{IsBlank, LineShown, blank, epd_verdict, no_record, written}
 use Rattle.pb_commands.proofs.Rewriting.{line_shows, memory_due, put_as, stops_as}
@@ -23,15 +25,15 @@ pub returns-in_err-put-in-Ok : goal.returns-in_err-put-in-Ok
 returns-in_err-put-in-Ok g c =
     let p = err_from_is_err_and c.from_residual.result c.from_residual.ensures.1 in
     rw (p.1, p.2) (stops_as (LineShown c.args.number c.args.line.now) _ _ true _
-    (written (c.as_slice.result.now ++ []) c.in-Ok.record c.requires c.in-Ok.ensures.found.0 (subst (EpdText c.in-Ok.record) c.without_return-text.ensures c.in-Ok.ensures.found.1)
-    (subst (EpdForm c.in-Ok.record) (sym (append-nil c.as_slice.result.now ∙ c.as_slice.ensures.value)) c.in-Ok-write_epd.ensures) refl)
+    (written c.in-Ok.record c.requires c.in-Ok.ensures.found.0 (subst (EpdText c.in-Ok.record) c.without_return-text.ensures c.in-Ok.ensures.found.1)
+    (ap (λ w. Ok (true, with_end w)) (append-nil c.as_slice.result.now ∙ c.as_slice.ensures.value ∙ c.in-Ok-write_epd.ensures)))
     _ c.in_err-put-in-Ok.ensures)
 
 pub returns-in_ok-put-in-Ok : goal.returns-in_ok-put-in-Ok
 returns-in_ok-put-in-Ok g c =
     put_as (LineShown c.args.number c.args.line.now) _ _ true _
-    (written (c.as_slice.result.now ++ []) c.in-Ok.record c.requires c.in-Ok.ensures.found.0 (subst (EpdText c.in-Ok.record) c.without_return-text.ensures c.in-Ok.ensures.found.1)
-    (subst (EpdForm c.in-Ok.record) (sym (append-nil c.as_slice.result.now ∙ c.as_slice.ensures.value)) c.in-Ok-write_epd.ensures) refl)
+    (written c.in-Ok.record c.requires c.in-Ok.ensures.found.0 (subst (EpdText c.in-Ok.record) c.without_return-text.ensures c.in-Ok.ensures.found.1)
+    (ap (λ w. Ok (true, with_end w)) (append-nil c.as_slice.result.now ∙ c.as_slice.ensures.value ∙ c.in-Ok-write_epd.ensures)))
     _ c.in_ok-put-in-Ok.ensures
 
 pub returns-in-Err : goal.returns-in-Err

@@ -9,8 +9,7 @@ pub returns-in-Some : goal.returns-in-Some
 returns-in-Some c = misspelt c.in-Ok.start c.in-Some.number c.in-Ok.ensures.found c.in-Some.ensures refl
 
 pub returns-in-Ok-play_words : goal.returns-in-Ok-play_words
-returns-in-Ok-play_words c = λ text written.
-    played c.in-Ok.start c.in-Ok-play_words.last text c.in-Ok.ensures.found c.in-Ok-play_words.ensures written refl
+returns-in-Ok-play_words c = played c.in-Ok.start c.in-Ok-play_words.last c.in-Ok.ensures.found c.in-Ok-play_words.ensures refl
 
 pub returns-in-Err-play_words : goal.returns-in-Err-play_words
 returns-in-Err-play_words c = unplayable c.in-Ok.start c.in-Err-play_words.number c.in-Ok.ensures.found c.in-Err-play_words.ensures refl

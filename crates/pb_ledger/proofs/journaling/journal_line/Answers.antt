@@ -1,4 +1,5 @@
-use Rattle.pb_board.specs.LineEnd.{with_end, without_return}
+use Rattle.std.specs.Str.Lines.{strip_carriage_return}
+use Rattle.pb_board.specs.LineEnd.{with_end}
 use Rattle.pb_io.proofs.PutLemmas.{put_failed}
 use Rattle.pb_io.proofs.WritesLemmas.{Writes-flushed, Writes-stopped}
 use Rattle.pb_ledger.proofs.journaling.journal_line.Goals as goal
@@ -8,7 +9,7 @@ returns-in_err-put_line g c =
     let line = c.in_err-put_line.ensures in
     let answer = c.from_residual.result in
     let failing = c.from_residual.ensures.0 in
-    Writes-stopped _ _ answer _ failing (put_failed _ _ answer (with_end (without_return c.args.line.now)) failing line.front line.failed line.lasts line.flushed line.flushes)
+    Writes-stopped _ _ answer _ failing (put_failed _ _ answer (with_end (strip_carriage_return c.args.line.now)) failing line.front line.failed line.lasts line.flushed line.flushes)
 
 pub returns : goal.returns
 returns g c =

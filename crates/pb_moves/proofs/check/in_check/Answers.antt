@@ -11,4 +11,4 @@ returns c =
     let king = c.king.result in
     let A : ℕ → Type 0 = λ q. IsAttacked board enemy q in
     let hit = attacked_at c.attacked.result board c.opponent.result enemy king king c.attacked.ensures c.opponent.ensures refl in
-    ((λ h. (king, c.king.ensures.here, hit.0 h)), λ check. hit.1 (subst A (c.king.ensures.nowhere_else check.0 check.1) check.2))
+    ((λ h. (king, (c.king.ensures king).1 refl, hit.0 h)), λ check. hit.1 (subst A ((c.king.ensures check.0).0 check.1) check.2))
