@@ -4,7 +4,7 @@ use Rattle.pb_board.specs.declared.piece.Colour.{Colour}
 use Rattle.pb_board.specs.declared.piece.Colour.TheVariants as side
 use Rattle.pb_moves.specs.Played.{Ply}
 use Rattle.pb_poly.specs.Key.{key}
-use Rattle.pb_poly.specs.Code.{code}
+use Rattle.pb_poly.specs.Code.{encode_move}
 use Rattle.pb_poly.specs.declared.entry.Entry.{Entry}
 use Rattle.pb_games.specs.declared.game.Game.{Game}
 use Rattle.pb_games.specs.declared.outcome.Outcome.{Outcome}
@@ -28,7 +28,7 @@ counted T g = take T.rules.plies (plies g)
 
 -- a ply's setup has this key, and its move this code
 abbrev pub is_of : List ℕ → ℕ → ℕ → Ply → Bool
-is_of words k c p = is_pair (key words p.0) (code p.0 p.1) k c
+is_of words k c p = is_pair (key words p.0) (encode_move p.0 p.1) k c
 
 -- the points that a game gives to a key and a code: those of its plies that count and have them
 abbrev pub points : Basis → Game → ℕ → ℕ → ℕ

@@ -2,7 +2,7 @@
 use Rattle.std.specs.Prelude.{ℕ, ◌+◌, List, map, sum_by, count_by, if◌then◌else◌}
 use Rattle.pb_moves.specs.Played.{Ply}
 use Rattle.pb_poly.specs.Key.{key}
-use Rattle.pb_poly.specs.Code.{code}
+use Rattle.pb_poly.specs.Code.{encode_move}
 use Rattle.pb_games.specs.declared.game.Game.{Game}
 use Rattle.pb_games.specs.declared.outcome.Outcome.{Outcome}
 use Rattle.pb_points.specs.Tally.{Held, is_pair}
@@ -12,7 +12,7 @@ use Rattle.pb_accepted.specs.Counting.{counted, credit}
 
 -- a ply's key, code and points
 abbrev pub gift_of : List ℕ → Outcome → Ply → Gift
-gift_of words o p = record { key = key words p.0; code = code p.0 p.1; points = credit o p.0.turn }
+gift_of words o p = record { key = key words p.0; code = encode_move p.0 p.1; points = credit o p.0.turn }
 
 -- what the plies of a game that count give
 abbrev pub gifts_of : Basis → Game → List Gift

@@ -1,22 +1,23 @@
 -- Move codes can be taken apart again.
-use Rattle.std.proofs.Common.{◌≡◌, ◌≢◌, ◌≤◌, ◌<◌, ◌+◌, ◌*◌, ◌/◌, ◌%◌, ℕ, Bool, true, false, Option, Some, None, refl, sym, ◌∙◌, ap, arith, cond, ◌==◌}
-use Rattle.std.specs.Option.{SomeIff, ForSome}
+use Rattle.std.proofs.Common.{◌≡◌, ◌≢◌, ◌≤◌, ◌<◌, ◌+◌, ◌*◌, ◌/◌, ◌%◌, ℕ, Bool, true, false, Option, Some, None, refl, sym, ◌∙◌, ap, arith, cond, subst, ◌==◌}
+use Rattle.std.specs.Option.{SomeIff, ForSome, option_map_or}
+use Rattle.std.proofs.lemmas.Bool.{eq-eqb}
 use Rattle.pb_board.specs.declared.piece.Colour.{Colour}
 use Rattle.pb_board.specs.declared.piece.Kind.{Kind}
-use Rattle.pb_board.specs.declared.piece.Kind.TheVariants.{King}
+use Rattle.pb_board.specs.declared.piece.Kind.TheVariants.{Pawn, Knight, Bishop, Rook, Queen, King}
 use Rattle.pb_board.specs.declared.piece.Piece.{Piece}
 use Rattle.pb_board.specs.Position.{Position}
 use Rattle.pb_board.specs.Board.{Place, at, is_piece}
 use Rattle.pb_board.proofs.PieceTests.{is_piece-is}
-use Rattle.pb_board.specs.Piece.{colour_number, king_of, piece_of}
+use Rattle.pb_board.specs.Piece.{colour_number, kind_number, king_of, piece_of}
 use Rattle.pb_board.specs.declared.castling.Castling.{Castling}
 use Rattle.pb_board.specs.Castling.{castling_from_home, castling_of, castling_row}
-use Rattle.pb_moves.specs.Attacks.{Pattern, files_apart, ranks_apart}
+use Rattle.pb_moves.specs.Attacks.{Attacks, Pattern, files_apart, ranks_apart}
 use Rattle.pb_moves.specs.Moved.{Moved, IsPromotion, moved_of, promotion_number, promotion_of}
 use Rattle.pb_moves.specs.Packed.{promotion_back}
 use Rattle.pb_moves.specs.Legal.{Legal, MayMove, captures, castles, en_passant, pushes, quiet}
-use Rattle.pb_moves.proofs.Castlings.{castling_found, class_of_castling, home_found, home_is, home_is_far, rows}
-use Rattle.pb_poly.specs.Code.{HasCode, coded_to, rook_or, CodeIsOne}
+use Rattle.pb_moves.proofs.Castlings.{castling_found, castling_one, class_of_castling, home_found, home_is, home_is_far, rows}
+use Rattle.pb_poly.specs.Code.{HasCode, encoded_to, CodeIsOne}
 use Rattle.pb_poly.specs.Decoding.{king_or, reached}
 
 -- a king goes two files at most
@@ -31,6 +32,37 @@ king_files s m k (castles castling is x) king = omega (arith, class_of_castling 
 king_files s m k (pushes pawn x) king = absurd (cc)
 king_files s m k (en_passant pawn attacks square) king = absurd (cc)
 
+-- ---- a king castles by its own side's castlings alone
+
+-- a king attacks no square two files off
+far_attack : (side : Colour) (s : Position) (m : Moved) (k : Kind) (c : Castling) → Attacks side k s.board m.from m.to → k ≡ King → castling_of m.from m.to ≡ Some c → ⊥
+far_attack side s m k c attacks king is =
+    let squares = castling_found m.from m.to c is in
+    let two : files_apart m.from m.to ≡ 2 = class_of_castling c m.from m.to squares.0 squares.1 in
+    let near : files_apart m.from m.to ≤ 1 = king_pattern k (files_apart m.from m.to) (ranks_apart m.from m.to) attacks.0 king in
+    omega (arith, two, near)
+
+-- a castling by which a king of the side to move goes is one of its side
+own_castling : (s : Position) (m : Moved) (k : Kind) (c : Castling) → MayMove s m k → k ≡ King → castling_of m.from m.to ≡ Some c → (castling_row c).colour ≡ s.turn
+own_castling s m k c (quiet no_pawn attacks empty) king is = absurd (far_attack s.turn s m k c attacks king is)
+own_castling s m k c (captures attacks taken) king is = absurd (far_attack s.turn s m k c attacks king is)
+own_castling s m k c (pushes pawn x) king is = absurd (cc)
+own_castling s m k c (en_passant pawn attacks square) king is = absurd (cc)
+own_castling s m k c (castles d own x) king is =
+    let squares = castling_found m.from m.to c is in
+    let same : d ≡ c = castling_one d c (sym x.to_table ∙ squares.1) in
+    let P : Castling → Type 0 = λ z. (castling_row z).colour ≡ s.turn in
+    subst P same (sym x.side)
+
+king_kind : (p : Piece) (side : Colour) (place : Place) → place ≡ Some p → is_piece (king_of side) place ≡ true → p.kind ≡ King
+king_kind p side place stands king =
+    let there : place ≡ Some (king_of side) = is_piece-is (king_of side) place king in
+    let K : Piece → Kind = λ z. z.kind in
+    let same : p ≡ king_of side = cc in
+    ap K same
+
+-- ---- codes taken apart
+
 -- a king that goes two files at most doesn't go to where a rook begins
 no_rook_square : (side : Colour) (from to : ℕ) (found : Option Castling) → castling_from_home from to ≡ found → files_apart from to ≤ 2 → king_or side to found ≡ to
 no_rook_square side from to None is near = refl
@@ -38,57 +70,48 @@ no_rook_square side from to (Some c) is near =
     let home = home_found from to c is in
     absurd (let far = home_is_far c from to home.0 home.1 in omega arith)
 
-back_by_side : (side : Colour) (c : Castling) (from to : ℕ) (own : Bool) → own ≡ (colour_number (castling_row c).colour == colour_number side) → from ≡ (castling_row c).king_from → to ≡ (castling_row c).king_to
-    → king_or side (cond own (castling_row c).rook_from to) (castling_from_home from (cond own (castling_row c).rook_from to)) ≡ to
-back_by_side side c from to true own home reaches =
+back_by : (side : Colour) (from to : ℕ) (found : Option Castling) → castling_of from to ≡ found → ((c : Castling) → found ≡ Some c → (castling_row c).colour ≡ side) → files_apart from to ≤ 2
+    → (let named = option_map_or (λ c. (castling_row c).rook_from) found to in king_or side named (castling_from_home from named)) ≡ to
+back_by side from to None is own near = no_rook_square side from to (castling_from_home from to) refl near
+back_by side from to (Some c) is own near =
     let row = castling_row c in
-    ap (king_or side row.rook_from) (home_is c from home) ∙ ap (λ o. cond o row.king_to row.rook_from) (sym own) ∙ sym reaches
-back_by_side side c from to false own home reaches =
-    no_rook_square side from to (castling_from_home from to) refl (let two = class_of_castling c from to home reaches in omega arith)
-
-back_by : (side : Colour) (from to : ℕ) (found : Option Castling) → castling_of from to ≡ found → files_apart from to ≤ 2
-    → king_or side (rook_or side to found) (castling_from_home from (rook_or side to found)) ≡ to
-back_by side from to None is near = no_rook_square side from to (castling_from_home from to) refl near
-back_by side from to (Some c) is near =
     let squares = castling_found from to c is in
-    back_by_side side c from to (colour_number (castling_row c).colour == colour_number side) refl squares.0 squares.1
-
-castling_back : (side : Colour) (from to : ℕ) → files_apart from to ≤ 2
-    → king_or side (rook_or side to (castling_of from to)) (castling_from_home from (rook_or side to (castling_of from to))) ≡ to
-castling_back side from to near = back_by side from to (castling_of from to) refl near
+    let e : (colour_number row.colour == colour_number side) ≡ true = eq-eqb (colour_number row.colour) (colour_number side) (ap colour_number (own c refl)) in
+    ap (king_or side row.rook_from) (home_is c from squares.0) ∙ ap (λ o. cond o row.king_to row.rook_from) e ∙ sym squares.1
 
 -- the king castles by its own move alone, so the code's square gives back the one that the move reaches
-back_if : (s : Position) (m : Moved) (king : Bool) → (king ≡ true → files_apart m.from m.to ≤ 2)
-    → (let named = cond king (rook_or s.turn m.to (castling_of m.from m.to)) m.to in cond king (king_or s.turn named (castling_from_home m.from named)) named) ≡ m.to
-back_if s m true near = castling_back s.turn m.from m.to (near refl)
-back_if s m false near = refl
+back_if : (s : Position) (m : Moved) (king : Bool) → (king ≡ true → ((c : Castling) → castling_of m.from m.to ≡ Some c → (castling_row c).colour ≡ s.turn) × (files_apart m.from m.to ≤ 2))
+    → (let named = cond king (option_map_or (λ c. (castling_row c).rook_from) (castling_of m.from m.to) m.to) m.to in
+    cond king (king_or s.turn named (castling_from_home m.from named)) named) ≡ m.to
+back_if s m true own = let x = own refl in back_by s.turn m.from m.to (castling_of m.from m.to) refl x.0 x.1
+back_if s m false own = refl
 
-king_goes_near : (s : Position) (m : Moved) (k : Kind) (place : Place) → place ≡ Some (piece_of s.turn k) → MayMove s m k → is_piece (king_of s.turn) place ≡ true → files_apart m.from m.to ≤ 2
-king_goes_near s m k None stands x king = absurd (cc)
-king_goes_near s m k (Some other) stands x king =
-    let same : other ≡ piece_of s.turn k = cc in
-    let is : other.kind ≡ King = (let there = is_piece-is (king_of s.turn) (Some other) king in cc) in
-    king_files s m k x (ap (λ (p : Piece). p.kind) (sym same) ∙ is)
-
-reached_back : (s : Position) (m : Moved) → Legal s m → reached s m.from (coded_to s m) ≡ m.to
+reached_back : (s : Position) (m : Moved) → Legal s m → reached s m.from (encoded_to s m) ≡ m.to
 reached_back s m legal =
     let moves = legal.moves in
-    back_if s m (is_piece (king_of s.turn) (at s.board m.from)) (king_goes_near s m moves.kind (at s.board m.from) moves.stands moves.by_case)
+    back_if s m (is_piece (king_of s.turn) (at s.board m.from)) (λ king.
+    let is = king_kind (piece_of s.turn moves.kind) s.turn (at s.board m.from) moves.stands king in
+    ((λ c found. own_castling s m moves.kind c moves.by_case is found), king_files s m moves.kind moves.by_case is))
 
-rook_on_board : (own : Bool) (c : Castling) (to : ℕ) → to < 64 → cond own (castling_row c).rook_from to < 64
-rook_on_board true c to near = (rows c).rook_from
-rook_on_board false c to near = near
+promotion_is : (o : Option Kind) → ((k : Kind) → o ≡ Some k → IsPromotion k) → option_map_or kind_number o 0 ≡ promotion_number o
+promotion_is None lawful = refl
+promotion_is (Some Pawn) lawful = refl
+promotion_is (Some Knight) lawful = refl
+promotion_is (Some Bishop) lawful = refl
+promotion_is (Some Rook) lawful = refl
+promotion_is (Some Queen) lawful = refl
+promotion_is (Some King) lawful = absurd ((lawful King refl).1 refl)
 
-castling_on_board : (side : Colour) (to : ℕ) (found : Option Castling) → to < 64 → rook_or side to found < 64
-castling_on_board side to None near = near
-castling_on_board side to (Some c) near = rook_on_board (colour_number (castling_row c).colour == colour_number side) c to near
+rook_on_board : (to : ℕ) (found : Option Castling) → to < 64 → option_map_or (λ c. (castling_row c).rook_from) found to < 64
+rook_on_board to None near = near
+rook_on_board to (Some c) near = (rows c).rook_from
 
-on_board_if : (king : Bool) (side : Colour) (from to : ℕ) → to < 64 → cond king (rook_or side to (castling_of from to)) to < 64
-on_board_if true side from to near = castling_on_board side to (castling_of from to) near
-on_board_if false side from to near = near
+on_board_if : (king : Bool) (to : ℕ) (found : Option Castling) → to < 64 → cond king (option_map_or (λ c. (castling_row c).rook_from) found to) to < 64
+on_board_if true to found near = rook_on_board to found near
+on_board_if false to found near = near
 
-coded_on_board : (s : Position) (m : Moved) → m.to < 64 → coded_to s m < 64
-coded_on_board s m near = on_board_if (is_piece (king_of s.turn) (at s.board m.from)) s.turn m.from m.to near
+encoded_on_board : (s : Position) (m : Moved) → m.to < 64 → encoded_to s m < 64
+encoded_on_board s m near = on_board_if (is_piece (king_of s.turn) (at s.board m.from)) m.to (castling_of m.from m.to) near
 
 -- the three parts of a code
 apart_again : (to from promo number : ℕ) → to < 64 → from < 64 → to % 8 + 8 * (to / 8) + 64 * (from % 8) + 512 * (from / 8) + 4096 * promo ≡ number
@@ -103,10 +126,10 @@ apart_again to from promo number low high is =
 pub parts : (s : Position) (m : Moved) (number : ℕ) → HasCode s m number
     → (m.from ≡ (number / 64) % 64) × (m.to ≡ reached s ((number / 64) % 64) (number % 64)) × (m.promo ≡ promotion_of (number / 4096))
 parts s m number has =
-    let p = apart_again (coded_to s m) m.from (promotion_number m.promo) number (coded_on_board s m has.legal.moves.is_move.to_on_board) has.legal.moves.is_move.from_on_board has.code_is in (
+    let p = apart_again (encoded_to s m) m.from (option_map_or kind_number m.promo 0) number (encoded_on_board s m has.legal.moves.is_move.to_on_board) has.legal.moves.is_move.from_on_board has.code_is in (
       sym p.1,
       sym (reached_back s m has.legal) ∙ ap (λ to. reached s m.from to) (sym p.0) ∙ ap (λ from. reached s from (number % 64)) (sym p.1),
-      sym (promotion_back m.promo has.legal.moves.is_move.promotes) ∙ ap promotion_of (sym p.2),
+      sym (promotion_back m.promo has.legal.moves.is_move.promotes) ∙ ap promotion_of (sym (p.2 ∙ promotion_is m.promo has.legal.moves.is_move.promotes)),
     )
 
 same_moves : (m n : Moved) → m.from ≡ n.from → m.to ≡ n.to → m.promo ≡ n.promo → m ≡ n

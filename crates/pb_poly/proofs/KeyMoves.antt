@@ -26,10 +26,11 @@ use Rattle.pb_moves.proofs.Passing.{passes_is}
 use Rattle.pb_moves.proofs.SameMoves.{arriving_is}
 use Rattle.pb_moves.proofs.Successors.{arriving_becomes, castles_differs, keeps_is, kept_elsewhere, one_outcome, rights_is, same_flag}
 use Rattle.pb_moves.proofs.Unique.{besides_of, goes_of, king_near, step_ranks}
-use Rattle.pb_poly.specs.Key.{has_taker, joined, en_passant_places, piece_place, place_if}
-use Rattle.pb_poly.specs.KeyChange.{beside_kind, changed_places, lost_places, rook_squares, square_places}
+use Rattle.pb_poly.specs.Key.{has_taker, en_passant_places, piece_place, place_if}
+use Rattle.pb_poly.specs.KeyChange.{beside_kind, changed_places, joined, lost_places, rook_squares, square_places}
 use Rattle.pb_poly.proofs.KeyChanges.{beside_castling, beside_passing, gone_is, others_two}
 use Rattle.pb_poly.proofs.Keys.{joined-append}
+use Rattle.pb_poly.proofs.Places.{passing_places}
 
 -- ---- a move's own two squares
 
@@ -156,11 +157,11 @@ takers_stay s m p new side x =
     rw (below, above) refl
 
 double_places : (s t : Position) (m : Moved) (p : Piece) → t.turn ≡ opponent s.turn → t.ep ≡ Some ((m.from + m.to) / 2) → PawnDouble s m p t.board
-    → en_passant_places t t.ep ≡ place_if (has_taker s.board (opponent s.turn) m.to) (772 + file m.to)
+    → en_passant_places t ≡ place_if (has_taker s.board (opponent s.turn) m.to) (772 + file m.to)
 double_places s t m p turn ep x =
     let halfway = (m.from + m.to) / 2 in
     let is = step_beyond s.turn m.from m.to x.same_file x.forward in
-    ap (λ (o : Option ℕ). en_passant_places t o) ep
+    ap (λ (o : Option ℕ). passing_places t o) ep
     ∙ ap (λ (side : Colour). place_if (has_taker t.board side (beyond side halfway)) (772 + file halfway)) turn
     ∙ ap (λ q. place_if (has_taker t.board (opponent s.turn) q) (772 + file halfway)) is.0
     ∙ ap (λ flag. place_if flag (772 + file halfway)) (takers_stay s m p t.board (opponent s.turn) x)
@@ -168,7 +169,7 @@ double_places s t m p turn ep x =
 
 -- a pawn's step of two ranks is a double step
 pub stepped_places : (s t : Position) (m : Moved) (p : Piece) → Holds s.board m.from p → Outcome s m t → p.kind ≡ Pawn → ranks_apart m.from m.to ≡ 2
-    → en_passant_places t t.ep ≡ place_if (has_taker s.board (opponent s.turn) m.to) (772 + file m.to)
+    → en_passant_places t ≡ place_if (has_taker s.board (opponent s.turn) m.to) (772 + file m.to)
 stepped_places s t m p stands x pawn two =
     let own = own_at s m p t.board stands x.moves in
     let one : (side : Colour) → IsForward side 1 m.from m.to → ⊥ = λ side forward. let ranks = step_ranks side 1 m.from m.to forward in omega arith in
@@ -182,10 +183,10 @@ stepped_places s t m p stands x pawn two =
     ]
 
 -- no other move passes over a square
-pub no_step : (s t : Position) (m : Moved) (p : Piece) → Holds s.board m.from p → Outcome s m t → (p.kind ≡ Pawn → ranks_apart m.from m.to ≢ 2) → en_passant_places t t.ep ≡ []
+pub no_step : (s t : Position) (m : Moved) (p : Piece) → Holds s.board m.from p → Outcome s m t → (p.kind ≡ Pawn → ranks_apart m.from m.to ≢ 2) → en_passant_places t ≡ []
 no_step s t m p stands x other =
     let own = own_at s m p t.board stands x.moves in
-    let none : t.ep ≡ None → en_passant_places t t.ep ≡ [] = λ e. ap (λ (o : Option ℕ). en_passant_places t o) e in
+    let none : t.ep ≡ None → en_passant_places t ≡ [] = λ e. ap (λ (o : Option ℕ). passing_places t o) e in
     elim (case_at s m t.board p stands x.moves) [
       | piece_move y ↦ none (passes_is s m p t.board t.ep stands own (piece_move y) x.ep)
       | pawn_step y ↦ none (passes_is s m p t.board t.ep stands own (pawn_step y) x.ep)

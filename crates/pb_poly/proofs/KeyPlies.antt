@@ -14,13 +14,14 @@ use Rattle.pb_board.specs.Castling.{castling_row, castlings}
 use Rattle.pb_board.specs.Board.{Board}
 use Rattle.pb_board.specs.Position.{Position}
 use Rattle.pb_moves.specs.Moved.{Moved}
-use Rattle.pb_poly.specs.Key.{castling_place, joined, key, en_passant_places, piece_places, place_if, places, rights_places, turn_places}
-use Rattle.pb_poly.specs.KeyChange.{changed_places, lost_places}
+use Rattle.pb_poly.specs.Key.{castling_place, key, en_passant_places, piece_places, place_if, places, rights_places}
+use Rattle.pb_poly.specs.KeyChange.{changed_places, joined, lost_places}
 use Rattle.pb_poly.specs.Table.{IsTable}
 use Rattle.pb_poly.proofs.Among.{total}
 use Rattle.pb_poly.proofs.KeyChanges.{Covers, changed_are, some_squares, total-append}
 use Rattle.pb_poly.proofs.Keys.{joined-append}
 use Rattle.pb_poly.proofs.Parity.{joined_below, joined_bit}
+use Rattle.pb_poly.proofs.Places.{turn_places}
 
 -- ---- the parts of a key
 
@@ -67,8 +68,8 @@ turn_changes : (f : ℕ → ℕ) (side : Colour) → (total f (turn_places side)
 turn_changes f White = omega arith
 turn_changes f Black = omega arith
 
-places_total : (f : ℕ → ℕ) (s : Position) → total f (places s) ≡ total f (piece_places s.board 0) + total f (rights_places s.rights) + total f (en_passant_places s s.ep) + total f (turn_places s.turn)
-places_total f s = four_lists f (piece_places s.board 0) (rights_places s.rights) (en_passant_places s s.ep) (turn_places s.turn)
+places_total : (f : ℕ → ℕ) (s : Position) → total f (places s) ≡ total f (piece_places s.board 0) + total f (rights_places s.rights) + total f (en_passant_places s) + total f (turn_places s.turn)
+places_total f s = four_lists f (piece_places s.board 0) (rights_places s.rights) (en_passant_places s) (turn_places s.turn)
 
 -- ---- the key
 
@@ -80,8 +81,8 @@ pub record IsJoined (words : List ℕ) (s t : Position) (squares : List ℕ) (k 
   pub stepped : ℕ
   pub pieces_is : pieces ≡ joined words k (changed_places s.board t.board squares)
   pub rights_is : rights ≡ joined words pieces (lost_places s.rights t.rights)
-  pub cleared_is : cleared ≡ joined words rights (en_passant_places s s.ep)
-  pub stepped_is : stepped ≡ joined words cleared (en_passant_places t t.ep)
+  pub cleared_is : cleared ≡ joined words rights (en_passant_places s)
+  pub stepped_is : stepped ≡ joined words cleared (en_passant_places t)
   pub turn : t.turn ≡ opponent s.turn
   pub is : l ≡ joined words stepped (780 ∷ [])
 
@@ -116,8 +117,8 @@ key_follows words s t squares k l table full full_new covers before below joins 
     let end = key_bit words t bit (key words t) refl in
     let a = next_bit words bit k joins.pieces (changed_places s.board t.board squares) joins.pieces_is in
     let b = next_bit words bit joins.pieces joins.rights (lost_places s.rights t.rights) joins.rights_is in
-    let c = next_bit words bit joins.rights joins.cleared (en_passant_places s s.ep) joins.cleared_is in
-    let d = next_bit words bit joins.cleared joins.stepped (en_passant_places t t.ep) joins.stepped_is in
+    let c = next_bit words bit joins.rights joins.cleared (en_passant_places s) joins.cleared_is in
+    let d = next_bit words bit joins.cleared joins.stepped (en_passant_places t) joins.stepped_is in
     let e = next_bit words bit joins.stepped l (780 ∷ []) joins.is in
     let turn = turn_changes f s.turn in
     let turned = ap (λ (c : Colour). total f (turn_places c)) joins.turn in

@@ -6,20 +6,22 @@ use Rattle.pb_board.specs.declared.piece.Colour.{Colour}
 use Rattle.pb_board.specs.declared.setup.Rights.{Rights}
 use Rattle.pb_board.specs.Board.{Board}
 use Rattle.pb_board.specs.Position.{Position}
-use Rattle.pb_poly.specs.Key.{joined, key, en_passant_places, piece_places, rights_places, turn_places}
+use Rattle.pb_poly.specs.Key.{key, en_passant_places, piece_places, rights_places}
+use Rattle.pb_poly.specs.KeyChange.{joined}
+use Rattle.pb_poly.proofs.Places.{turn_places}
 
 pub joined-append : (words : List ℕ) (k : ℕ) (xs ys : List ℕ) → joined words k (xs ++ ys) ≡ joined words (joined words k xs) ys
 joined-append words k xs ys = fold-append (λ n place. bit_xor n (slice_index words place)) k xs ys
 
 -- the parts of the code, one after the other
 pub key_in_parts : (words : List ℕ) (s : Position) (board : Board) (rights : Rights) (turn : Colour) (a b c d : ℕ) → board ≡ s.board → rights ≡ s.rights → turn ≡ s.turn
-    → a ≡ joined words 0 (piece_places board 0) → b ≡ joined words a (rights_places rights) → c ≡ joined words b (en_passant_places s s.ep) → d ≡ joined words c (turn_places turn)
+    → a ≡ joined words 0 (piece_places board 0) → b ≡ joined words a (rights_places rights) → c ≡ joined words b (en_passant_places s) → d ≡ joined words c (turn_places turn)
     → d ≡ key words s
 unfolding key
 key_in_parts words s board rights turn a b c d same_board same_rights same_turn pieces flags en_passant side =
     let ps = piece_places s.board 0 in
     let rs = rights_places s.rights in
-    let es = en_passant_places s s.ep in
+    let es = en_passant_places s in
     let ts = turn_places s.turn in
     let a_is : a ≡ joined words 0 ps = pieces ∙ ap (λ x. joined words 0 (piece_places x 0)) same_board in
     let b_is : b ≡ joined words (joined words 0 ps) rs = flags ∙ ap (λ (x : Rights). joined words a (rights_places x)) same_rights ∙ ap (λ k. joined words k rs) a_is in

@@ -1,13 +1,14 @@
 -- A key, bit by bit, is the parity of the words at the setup's places, and no other number is.
 use Rattle.std.proofs.Common.{◌≡◌, ℕ, ◌+◌, ◌%◌, ◌^◌, ◌<◌, inl, inr, List, [], ◌∷◌, length, sym, ap, ◌∙◌, arith}
-use Rattle.std.specs.Prelude.{bit_xor, slice_index}
+use Rattle.std.specs.Prelude.{bit_xor, slice_index, sum_by}
 use Rattle.std.specs.Int.{bit_at}
 use Rattle.std.proofs.lemmas.Bool.{cases_lt}
 use Rattle.std.proofs.lemmas.List.{get_or_past}
 use Rattle.std.proofs.lemmas.Nat.{xor_lt}
 use Rattle.std.proofs.lemmas.Nat.Bits.{bit_at-lt, bit_at-zero, bit_at_xor, same_from_bits_below}
 use Rattle.pb_board.specs.Position.{Position}
-use Rattle.pb_poly.specs.Key.{ArePlaces, KeyIsOne, KeyIsParity, joined, key, places, words_with}
+use Rattle.pb_poly.specs.Key.{ArePlaces, KeyIsOne, KeyIsParity, key, places}
+use Rattle.pb_poly.specs.KeyChange.{joined}
 use Rattle.pb_poly.specs.Table.{IsTable}
 use Rattle.pb_poly.proofs.Among.{among_contained, contains_among, pairs_distinct, sum_is_total, total, total_same}
 use Rattle.pb_poly.proofs.Places.{are_places}
@@ -41,6 +42,10 @@ key_is_parity words s table setup = record {
       let sum = sum_is_total (λ place. bit_at (slice_index words place) bit) (places s) in
       omega (arith, is, none, sum);
 }
+
+-- how many of the numbers at these places have this bit
+abbrev words_with : List ℕ → ℕ → List ℕ → ℕ
+words_with words bit places = sum_by (λ place. bit_at (slice_index words place) bit) places
 
 same_sums : (words : List ℕ) (s : Position) (ps qs : List ℕ) (bit : ℕ) → ArePlaces s ps → ArePlaces s qs → words_with words bit ps ≡ words_with words bit qs
 same_sums words s ps qs bit x y =

@@ -4,6 +4,7 @@ use Rattle.std.specs.Prelude.{IsTrue}
 use Rattle.std.proofs.lemmas.Bool.{and_parts, cases_lt}
 use Rattle.std.proofs.lemmas.Bool.Decides.{nat_tests}
 use Rattle.std.specs.List.{flat_map}
+use Rattle.std.specs.Option.{option_map_or}
 use Rattle.pb_board.specs.declared.castling.Castling.{Castling}
 use Rattle.pb_board.specs.declared.castling.Castling.TheVariants.{WhiteShort, WhiteLong, BlackShort, BlackLong}
 use Rattle.pb_board.specs.Castling.{castling_row, castlings}
@@ -12,12 +13,12 @@ use Rattle.pb_board.specs.declared.piece.Colour.TheVariants.{White, Black}
 use Rattle.pb_board.specs.declared.piece.Kind.{Kind}
 use Rattle.pb_board.specs.declared.piece.Kind.TheVariants.{Pawn, Knight, Bishop, Rook, Queen, King}
 use Rattle.pb_board.specs.declared.piece.Piece.{Piece}
-use Rattle.pb_board.specs.Piece.{pawn_of}
+use Rattle.pb_board.specs.Piece.{colour_number, kind_number, pawn_of}
 use Rattle.pb_board.specs.Board.{Board, Place, at, file, rank, is_piece}
 use Rattle.pb_board.specs.Position.{Position, IsSetup, beyond}
 use Rattle.pb_board.proofs.PieceTests.{is_piece-is, is_piece-passes}
 use Rattle.pb_moves.specs.Attacks.{files_apart}
-use Rattle.pb_poly.specs.Key.{ArePlaces, HasPlace, of_piece, of_right, en_passant, white_to_move, HasTaker, castling_place, castling_places, has_taker, number_of, en_passant_places, piece_place, piece_places, place_if, places, rights_places, turn_places}
+use Rattle.pb_poly.specs.Key.{ArePlaces, HasPlace, of_piece, of_right, en_passant, white_to_move, HasTaker, castling_place, has_taker, number_of, en_passant_places, piece_place, piece_places, place_if, places, rights_places, en_passant_offset, turn_offset}
 use Rattle.pb_poly.proofs.Among.{Among, Distinct, among_contained, among_either, among_left, among_right, contains_among, distinct_append, distinct_pairs}
 
 -- ---- the pieces
@@ -54,23 +55,20 @@ among_pieces (Some x ∷ board) square (suc offset) p h =
     let e : square + 1 + offset ≡ square + suc offset = omega arith in
     inr (subst P e (among_pieces board (square + 1) offset p h))
 
-number_below : (colour : Colour) (kind : Kind) → number_of colour kind < 12
-number_below White Pawn = omega arith
-number_below White Knight = omega arith
-number_below White Bishop = omega arith
-number_below White Rook = omega arith
-number_below White Queen = omega arith
-number_below White King = omega arith
-number_below Black Pawn = omega arith
-number_below Black Knight = omega arith
-number_below Black Bishop = omega arith
-number_below Black Rook = omega arith
-number_below Black Queen = omega arith
-number_below Black King = omega arith
+kind_below : (kind : Kind) → kind_number kind < 6
+kind_below Pawn = omega arith
+kind_below Knight = omega arith
+kind_below Bishop = omega arith
+kind_below Rook = omega arith
+kind_below Queen = omega arith
+kind_below King = omega arith
+
+number_below : (p : Piece) → number_of p < 12
+number_below p = let few = kind_below p.kind in omega (arith, few)
 
 low_square : (board : Board) (square place : ℕ) → square + length board ≤ 64 → IsPlaceOn board square place → (square ≤ place % 64) × (place < 768)
 low_square board square place fits h =
-    let few = number_below h.piece.colour h.piece.kind in
+    let few = number_below h.piece in
     let within = h.on_board in
     let is = h.is in
     (omega (arith, few, within, is), omega (arith, few, within, is))
@@ -99,6 +97,10 @@ flag_among false place n set is = absurd (cc)
 distinct_flag : (flag : Bool) (place : ℕ) → Distinct (place_if flag place)
 distinct_flag true place = (λ h. h, tt)
 distinct_flag false place = tt
+
+-- the place of the side to move
+abbrev pub turn_places : Colour → List ℕ
+turn_places turn = place_if (colour_number turn == 0) turn_offset
 
 among_turn : (turn : Colour) (n : ℕ) → Among (turn_places turn) n → (turn ≡ White) × (n ≡ 780)
 among_turn White n (inl e) = (refl, e)
@@ -184,18 +186,22 @@ of_taker s square h =
       | inr r ↦ true_right left right (both_true (not (file pawn == 7)) (is_piece (pawn_of s.turn) (at s.board (pawn + 1))) (tells_other (file pawn) 7 r.1) (subst P r.0 stands))
     ]
 
-among_en_passant : (s : Position) (ep : Option ℕ) (n : ℕ) → Among (en_passant_places s ep) n → (square : ℕ) × (ep ≡ Some square) × HasTaker s square × (n ≡ 772 + file square)
+-- the place of such an en passant square
+abbrev pub passing_places : Position → Option ℕ → List ℕ
+passing_places s ep = option_map_or (λ q. place_if (has_taker s.board s.turn (beyond s.turn q)) (en_passant_offset + file q)) ep []
+
+among_en_passant : (s : Position) (ep : Option ℕ) (n : ℕ) → Among (passing_places s ep) n → (square : ℕ) × (ep ≡ Some square) × HasTaker s square × (n ≡ 772 + file square)
 among_en_passant s None n h = absurd h
 among_en_passant s (Some square) n h =
     let flag = among_flag (has_taker s.board s.turn (beyond s.turn square)) (772 + file square) n h in
     (square, refl, taker_of s square flag.0, flag.1)
 
-en_passant_among : (s : Position) (ep : Option ℕ) (square n : ℕ) → ep ≡ Some square → HasTaker s square → n ≡ 772 + file square → Among (en_passant_places s ep) n
+en_passant_among : (s : Position) (ep : Option ℕ) (square n : ℕ) → ep ≡ Some square → HasTaker s square → n ≡ 772 + file square → Among (passing_places s ep) n
 en_passant_among s ep square n is taker place =
-    let P : Option ℕ → Type 0 = λ o. Among (en_passant_places s o) n in
+    let P : Option ℕ → Type 0 = λ o. Among (passing_places s o) n in
     subst P (sym is) (flag_among (has_taker s.board s.turn (beyond s.turn square)) (772 + file square) n (of_taker s square taker) place)
 
-distinct_en_passant : (s : Position) (ep : Option ℕ) → Distinct (en_passant_places s ep)
+distinct_en_passant : (s : Position) (ep : Option ℕ) → Distinct (passing_places s ep)
 distinct_en_passant s None = tt
 distinct_en_passant s (Some square) = distinct_flag (has_taker s.board s.turn (beyond s.turn square)) (772 + file square)
 
@@ -220,7 +226,7 @@ among_castlings : (has : Castling → Bool) (cs : List Castling) (n : ℕ) → A
 among_castlings has [] n h = absurd h
 among_castlings has (c ∷ cs) n h = elim (flag_or_later (has c) (castling_place c) (some_places has cs) n h) [ inl here ↦ (c, here.0, here.1) | inr later ↦ among_castlings has cs n later ]
 
-castling_among : (has : Castling → Bool) (c : Castling) (n : ℕ) → IsTrue (has c) → n ≡ castling_place c → Among (castling_places has) n
+castling_among : (has : Castling → Bool) (c : Castling) (n : ℕ) → IsTrue (has c) → n ≡ castling_place c → Among (some_places has castlings) n
 castling_among has WhiteShort n set is = among_left (place_if (has WhiteShort) 768) _ n (flag_among (has WhiteShort) 768 n set is)
 castling_among has WhiteLong n set is = among_right (place_if (has WhiteShort) 768) _ n (among_left (place_if (has WhiteLong) 769) _ n (flag_among (has WhiteLong) 769 n set is))
 castling_among has BlackShort n set is =
@@ -268,12 +274,12 @@ right_place s n h =
     let low = castling_places_low is.0 in
     (omega (arith, is.2, low.0), omega (arith, is.2, low.1))
 
-en_passant_place : (s : Position) (ep : Option ℕ) (n : ℕ) → Among (en_passant_places s ep) n → (772 ≤ n) × (n < 780)
+en_passant_place : (s : Position) (ep : Option ℕ) (n : ℕ) → Among (passing_places s ep) n → (772 ≤ n) × (n < 780)
 en_passant_place s ep n h = let p = among_en_passant s ep n h in let is = p.3 in (omega (arith, is), omega (arith, is))
 
-distinct_rest : (s : Position) → Distinct (rights_places s.rights ++ (en_passant_places s s.ep ++ turn_places s.turn))
+distinct_rest : (s : Position) → Distinct (rights_places s.rights ++ (en_passant_places s ++ turn_places s.turn))
 distinct_rest s =
-    let es = en_passant_places s s.ep in
+    let es = en_passant_places s in
     let ts = turn_places s.turn in
     let tail = distinct_append es ts (distinct_en_passant s s.ep) (distinct_turn s.turn) (λ n x y. let a = en_passant_place s s.ep n x in let b = (among_turn s.turn n y).1 in omega (arith, a.1)) in
     distinct_append (rights_places s.rights) (es ++ ts) (distinct_castlings (rights_of s) castlings castlings_rise) tail (λ n x y.
@@ -283,10 +289,10 @@ distinct_rest s =
       | inr t ↦ let b = (among_turn s.turn n t).1 in omega (arith, a.1)
     ])
 
-rest_high : (s : Position) (n : ℕ) → Among (rights_places s.rights ++ (en_passant_places s s.ep ++ turn_places s.turn)) n → 768 ≤ n
-rest_high s n h = elim (among_either (rights_places s.rights) (en_passant_places s s.ep ++ turn_places s.turn) n h) [
+rest_high : (s : Position) (n : ℕ) → Among (rights_places s.rights ++ (en_passant_places s ++ turn_places s.turn)) n → 768 ≤ n
+rest_high s n h = elim (among_either (rights_places s.rights) (en_passant_places s ++ turn_places s.turn) n h) [
   | inl a ↦ (right_place s n a).0
-  | inr b ↦ elim (among_either (en_passant_places s s.ep) (turn_places s.turn) n b) [
+  | inr b ↦ elim (among_either (en_passant_places s) (turn_places s.turn) n b) [
     | inl e ↦ let p = en_passant_place s s.ep n e in omega (arith, p.0)
     | inr t ↦ let is = (among_turn s.turn n t).1 in omega arith
   ]
@@ -294,19 +300,19 @@ rest_high s n h = elim (among_either (rights_places s.rights) (en_passant_places
 
 distinct_places : (s : Position) → length s.board ≡ 64 → Distinct (places s)
 distinct_places s full =
-    distinct_append (piece_places s.board 0) (rights_places s.rights ++ (en_passant_places s s.ep ++ turn_places s.turn)) (distinct_pieces s.board 0 (omega arith)) (distinct_rest s) (λ n x y.
+    distinct_append (piece_places s.board 0) (rights_places s.rights ++ (en_passant_places s ++ turn_places s.turn)) (distinct_pieces s.board 0 (omega arith)) (distinct_rest s) (λ n x y.
     let low = low_square s.board 0 n (omega arith) (place_on s.board 0 n x) in
     let high = rest_high s n y in
     omega (arith, low.1))
 
 has_place : (s : Position) (n : ℕ) → Among (places s) n → HasPlace s n
 has_place s n h =
-    let rest = rights_places s.rights ++ (en_passant_places s s.ep ++ turn_places s.turn) in
+    let rest = rights_places s.rights ++ (en_passant_places s ++ turn_places s.turn) in
     elim (among_either (piece_places s.board 0) rest n h) [
       | inl p ↦ let at_board = place_on s.board 0 n p in of_piece at_board.offset at_board.piece at_board.stands (at_board.is ∙ ap (λ q. piece_place at_board.piece q) (omega arith))
-      | inr r ↦ elim (among_either (rights_places s.rights) (en_passant_places s s.ep ++ turn_places s.turn) n r) [
+      | inr r ↦ elim (among_either (rights_places s.rights) (en_passant_places s ++ turn_places s.turn) n r) [
         | inl a ↦ (let is = among_castlings (rights_of s) castlings n a in of_right is.0 is.1 is.2)
-        | inr b ↦ elim (among_either (en_passant_places s s.ep) (turn_places s.turn) n b) [
+        | inr b ↦ elim (among_either (en_passant_places s) (turn_places s.turn) n b) [
           | inl e ↦ let p = among_en_passant s s.ep n e in en_passant p.0 p.1 p.2 p.3
           | inr t ↦ let p = among_turn s.turn n t in white_to_move p.0 p.1
         ]
@@ -315,16 +321,16 @@ has_place s n h =
 
 among_places : (s : Position) (n : ℕ) → HasPlace s n → Among (places s) n
 among_places s n (of_piece square p stands is) =
-    let rest = rights_places s.rights ++ (en_passant_places s s.ep ++ turn_places s.turn) in
+    let rest = rights_places s.rights ++ (en_passant_places s ++ turn_places s.turn) in
     let P : ℕ → Type 0 = λ m. Among (piece_places s.board 0) m in
     let e : piece_place p (0 + square) ≡ n = ap (λ q. piece_place p q) (omega arith) ∙ sym is in
     among_left (piece_places s.board 0) rest n (subst P e (among_pieces s.board 0 square p stands))
 among_places s n (of_right c set is) =
     among_right (piece_places s.board 0) _ n (among_left (rights_places s.rights) _ n (castling_among (rights_of s) c n set is))
 among_places s n (en_passant square here taker is) =
-    among_right (piece_places s.board 0) _ n (among_right (rights_places s.rights) _ n (among_left (en_passant_places s s.ep) _ n (en_passant_among s s.ep square n here taker is)))
+    among_right (piece_places s.board 0) _ n (among_right (rights_places s.rights) _ n (among_left (en_passant_places s) _ n (en_passant_among s s.ep square n here taker is)))
 among_places s n (white_to_move white is) =
-    among_right (piece_places s.board 0) _ n (among_right (rights_places s.rights) _ n (among_right (en_passant_places s s.ep) _ n (turn_among s.turn n white is)))
+    among_right (piece_places s.board 0) _ n (among_right (rights_places s.rights) _ n (among_right (en_passant_places s) _ n (turn_among s.turn n white is)))
 
 pub are_places : (s : Position) → IsSetup s → ArePlaces s (places s)
 are_places s setup = record {

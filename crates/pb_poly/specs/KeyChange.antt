@@ -1,14 +1,19 @@
--- The places of the table whose words a move joins to a key.
-use Rattle.std.specs.Prelude.{ℕ, ◌+◌, ◌*◌, ◌==◌, ◌&&◌, not, Option, Some, None, List, [], ◌∷◌, ◌++◌, is_none, if◌then◌else◌}
+-- The places of the table whose numbers a move joins to a key.
+use Rattle.std.specs.Prelude.{ℕ, ◌+◌, ◌*◌, ◌==◌, ◌&&◌, not, Option, Some, None, List, [], ◌∷◌, ◌++◌, is_none, if◌then◌else◌, fold, slice_index, bit_xor}
 use Rattle.std.specs.Bool.{beq}
+use Rattle.std.specs.List.{flat_map}
 use Rattle.pb_board.specs.declared.castling.Castling.{Castling}
 use Rattle.pb_board.specs.declared.piece.Kind.{Kind}
 use Rattle.pb_board.specs.declared.piece.Kind.TheVariants.{Pawn, King}
 use Rattle.pb_board.specs.declared.setup.Rights.{Rights}
-use Rattle.pb_board.specs.Castling.{castling_of, castling_row}
+use Rattle.pb_board.specs.Castling.{castling_of, castling_row, castlings}
 use Rattle.pb_board.specs.Board.{Board, Place, file, rank, at}
 use Rattle.pb_moves.specs.Moved.{Moved}
-use Rattle.pb_poly.specs.Key.{castling_places, piece_place}
+use Rattle.pb_poly.specs.Key.{castling_place, piece_place, place_if}
+
+-- a key and the numbers at these places, joined by exclusive or
+abbrev pub joined : List ℕ → ℕ → List ℕ → ℕ
+joined randoms key places = fold (λ k place. bit_xor k (slice_index randoms place)) key places
 
 -- the place of what stands on the square
 abbrev pub square_places : Place → ℕ → List ℕ
@@ -33,4 +38,4 @@ beside_kind _ old m = []
 
 -- the places of the rights that one of the two has
 abbrev pub lost_places : Rights → Rights → List ℕ
-lost_places old new = castling_places (λ c. let row = castling_row c in not (beq (row.right old) (row.right new)))
+lost_places old new = flat_map (λ c. let row = castling_row c in place_if (not (beq (row.right old) (row.right new))) (castling_place c)) castlings

@@ -3,9 +3,10 @@
 ghost use Rattle.std.specs.Prelude.{◌≡◌, MatchOption, Some};
 ghost use Rattle.pb_board.specs.Piece.{king_of};
 ghost use Rattle.pb_board.specs.Board.{at, is_piece};
+ghost use Rattle.pb_moves.specs.Legal.{PseudoLegal};
 ghost use Rattle.pb_moves.specs.Moved.{Moved};
 ghost use Rattle.pb_poly.specs.Decoding.{reached as reached_by};
-ghost use Rattle.pb_poly.specs.Code.{HasCode, code as code_by, coded_to as coded_to_by};
+ghost use Rattle.pb_poly.specs.Code.{HasCode, encode_move, encoded_to};
 
 use pb_board::{Castling, Kind, Setup, Square};
 use pb_moves::{Move, is_legal, promotion_number, promotion_of};
@@ -22,7 +23,7 @@ fn has_own_king(setup: &Setup, square: Square) -> bool
 
 /// The square that the code names as the one that the move reaches.
 fn coded_to(setup: &Setup, m: Move) -> Square
-    ensures { result ≡ coded_to_by setup.now m }
+    ensures { PseudoLegal setup.now m → result ≡ encoded_to setup.now m }
 {
     match Castling::of(m.from(), m.to()) {
         Some(castling) if castling.colour() == setup.turn() && has_own_king(setup, m.from()) => {
@@ -34,9 +35,10 @@ fn coded_to(setup: &Setup, m: Move) -> Square
 
 /// The code of a move in a PolyGlot book, below 2^15: the square that it reaches, 64 times the square that it leaves, and
 /// 4,096 times the promotion (none, knight, bishop, rook, queen from 0). Castling counts as the king's move to its
-/// rook, as e1h1.
+/// rook, as e1h1. It may be made before it is known whether the move is legal: where it isn't so, check apart, the
+/// number means nothing.
 pub fn code_of(setup: &Setup, m: Move) -> u16
-    ensures { result ≡ code_by setup.now m }
+    ensures { PseudoLegal setup.now m → result ≡ encode_move setup.now m }
 {
     let to = u16::from(coded_to(setup, m).index());
     let from = u16::from(m.from().index());

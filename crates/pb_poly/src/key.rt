@@ -1,12 +1,12 @@
 //! Keys of setups.
 
-ghost use Rattle.std.specs.Prelude.{◌≡◌, ◌<◌, ◌+◌};
-ghost use Rattle.pb_board.specs.declared.piece.Colour.TheVariants.{Black};
-ghost use Rattle.pb_board.specs.Piece.{pawn_of};
+ghost use Rattle.std.specs.Prelude.{◌≡◌, ◌<◌, ◌+◌, ◌*◌, ◌==◌};
+ghost use Rattle.pb_board.specs.Piece.{colour_number, kind_number, pawn_of};
 ghost use Rattle.pb_board.specs.Castling.{castling_row};
 ghost use Rattle.pb_board.specs.Board.{at, file, is_piece};
 ghost use Rattle.pb_board.specs.Position.{OnEnPassantRank, beyond as beyond_by};
-ghost use Rattle.pb_poly.specs.Key.{IsKey, castling_place as castling_place_by, has_taker as has_taker_by, joined, key as key_by, number_of as number_of_by, en_passant_places, piece_place as piece_place_by, piece_places, place_if, rights_places, turn_places};
+ghost use Rattle.pb_poly.specs.Key.{IsKey, castling_place as castling_place_by, has_taker as has_taker_by, key as key_by, en_passant_offset, en_passant_places, piece_place as piece_place_by, piece_places, place_if, rights_places, turn_offset};
+ghost use Rattle.pb_poly.specs.KeyChange.{joined};
 
 use crate::table::Table;
 use pb_board::{Castling, Colour, Kind, Piece, Rights, Setup, Square};
@@ -16,7 +16,7 @@ pub(crate) const WHITE_TO_MOVE: usize = 780;
 
 /// The number of the black pieces of a kind in the table's order; that of the white ones is one more.
 fn number_of_black(kind: Kind) -> usize
-    ensures value { result ≡ number_of_by Black kind }
+    ensures value { result ≡ 2 * kind_number kind }
     ensures few { result < 11 }
 {
     match kind {
@@ -132,7 +132,7 @@ pub(crate) fn has_taker(setup: &Setup, side: Colour, pawn: u8) -> bool
 /// The place of the word of an en passant square on the file of this square.
 #[inline(always)]
 pub(crate) fn en_passant_place(square: Square) -> usize
-    ensures value { result ≡ 772 + file square }
+    ensures value { result ≡ en_passant_offset + file square }
     ensures few { result < 780 }
 {
     772 + square.file() as usize
@@ -141,7 +141,7 @@ pub(crate) fn en_passant_place(square: Square) -> usize
 /// The key, joined by the word of the en passant square where a pawn stands beside the pawn that has passed over it.
 #[inline(always)]
 pub(crate) fn with_en_passant(table: &Table, key: u64, setup: &Setup) -> u64
-    ensures { result ≡ joined table.now key (en_passant_places setup.now setup.now.ep) }
+    ensures { result ≡ joined table.now key (en_passant_places setup.now) }
 {
     let turn = setup.turn();
     match setup.ep() {
@@ -155,7 +155,7 @@ pub(crate) fn with_en_passant(table: &Table, key: u64, setup: &Setup) -> u64
 
 /// The key, joined by the word for White to move.
 fn with_turn(table: &Table, key: u64, turn: Colour) -> u64
-    ensures { result ≡ joined table.now key (turn_places turn) }
+    ensures { result ≡ joined table.now key (place_if (colour_number turn == 0) turn_offset) }
 {
     match turn {
         Colour::White => key ^ table.word(WHITE_TO_MOVE),

@@ -11,8 +11,8 @@ ghost use Rattle.pb_moves.specs.Cases.{Case};
 ghost use Rattle.pb_moves.specs.Legal.{PseudoLegal};
 ghost use Rattle.pb_moves.specs.Outcome.{Outcome};
 ghost use Rattle.pb_moves.specs.Successor.{after as setup_after, keeps_right, rights_after};
-ghost use Rattle.pb_poly.specs.Key.{IsKey, joined, key as key_by, en_passant_places, piece_place as piece_place_by};
-ghost use Rattle.pb_poly.specs.KeyChange.{beside_kind, changed_places, lost_places, square_places};
+ghost use Rattle.pb_poly.specs.Key.{IsKey, key as key_by, en_passant_places, piece_place as piece_place_by};
+ghost use Rattle.pb_poly.specs.KeyChange.{beside_kind, changed_places, joined, lost_places, square_places};
 
 use crate::key::{
     WHITE_TO_MOVE, en_passant_place, has_taker, piece_place, with_en_passant, with_flag,
@@ -149,7 +149,7 @@ fn with_lost(table: &Table, key: u64, rights: Rights, m: Move) -> u64
 #[inline(always)]
 fn with_stepped(table: &Table, key: u64, before: &Setup, m: Move, piece: Piece) -> u64
     requires { Holds before.now.board m.from piece }
-    ensures { (t : Position) → Outcome before.now m t → result ≡ joined table.now key (en_passant_places t t.ep) }
+    ensures { (t : Position) → Outcome before.now m t → result ≡ joined table.now key (en_passant_places t) }
 {
     let (from, to) = (m.from(), m.to());
     let enemy = before.turn().opponent();

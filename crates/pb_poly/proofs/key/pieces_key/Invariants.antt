@@ -1,5 +1,6 @@
 use Rattle.std.proofs.Common.{◌≡◌, drop}
-use Rattle.pb_poly.specs.Key.{joined, piece_places}
+use Rattle.pb_poly.specs.Key.{piece_places}
+use Rattle.pb_poly.specs.KeyChange.{joined}
 use Rattle.pb_poly.proofs.key.pieces_key.Given as goal
 
 -- the pieces from this square on make the key whole

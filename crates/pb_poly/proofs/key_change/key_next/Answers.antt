@@ -10,8 +10,8 @@ use Rattle.pb_moves.specs.Successor.{after, rights_after}
 use Rattle.pb_moves.proofs.Legality.{case_at}
 use Rattle.pb_moves.proofs.SameMoves.{after_is_setup, moves_after}
 use Rattle.pb_moves.proofs.Unique.{goes_of}
-use Rattle.pb_poly.specs.Key.{IsKey, joined, key}
-use Rattle.pb_poly.specs.KeyChange.{beside_kind, lost_places}
+use Rattle.pb_poly.specs.Key.{IsKey, key}
+use Rattle.pb_poly.specs.KeyChange.{beside_kind, joined, lost_places}
 use Rattle.pb_poly.proofs.KeyChanges.{covers}
 use Rattle.pb_poly.proofs.KeyMoves.{own_at, rights_are}
 use Rattle.pb_poly.proofs.KeyPlies.{all_squares, key_follows}

@@ -1,6 +1,6 @@
 use Rattle.std.proofs.Common.{◌≡◌, Some, sym, ap, ◌∙◌}
 use Rattle.pb_board.specs.Castling.{castling_of}
-use Rattle.pb_poly.specs.Key.{joined}
+use Rattle.pb_poly.specs.KeyChange.{joined}
 use Rattle.pb_poly.proofs.KeyMoves.{rook_places}
 use Rattle.pb_poly.proofs.key_change.with_beside.Goals as goal
 

@@ -2,8 +2,8 @@ use Rattle.std.proofs.Common.{◌≡◌, [], ◌∷◌, sym, ap, ◌∙◌}
 use Rattle.std.specs.Prelude.{unwrap_or}
 use Rattle.pb_board.specs.Board.{Place, at}
 use Rattle.pb_board.specs.Piece.{piece_of}
-use Rattle.pb_poly.specs.Key.{joined, piece_place}
-use Rattle.pb_poly.specs.KeyChange.{square_places}
+use Rattle.pb_poly.specs.Key.{piece_place}
+use Rattle.pb_poly.specs.KeyChange.{joined, square_places}
 use Rattle.pb_poly.proofs.KeyMoves.{carried_places, joined_between}
 use Rattle.pb_poly.proofs.key_change.with_carried.Goals as goal
 

@@ -1,7 +1,6 @@
 use Rattle.std.proofs.Common.{◌≡◌, ◌≢◌, ◌+◌, ◌*◌, None, sym, ap, ◌∙◌, arith, rules}
 use Rattle.pb_board.specs.Board.{Place, at, file, rank}
-use Rattle.pb_poly.specs.Key.{joined}
-use Rattle.pb_poly.specs.KeyChange.{square_places}
+use Rattle.pb_poly.specs.KeyChange.{joined, square_places}
 use Rattle.pb_poly.proofs.KeyMoves.{gone_places}
 use Rattle.pb_poly.proofs.key_change.with_gone.Goals as goal
 

@@ -1,6 +1,6 @@
 use Rattle.std.proofs.Common.{ℕ, sym, ap, subst}
 use Rattle.pb_board.specs.Castling.{IsHome}
-use Rattle.pb_poly.specs.Key.{joined}
+use Rattle.pb_poly.specs.KeyChange.{joined}
 use Rattle.pb_poly.proofs.KeyMoves.{none_lost}
 use Rattle.pb_poly.proofs.key_change.with_lost.Goals as goal
 
