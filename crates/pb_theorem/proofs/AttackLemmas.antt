@@ -10,7 +10,7 @@ use Rattle.pb_board.specs.Piece.{opponent}
 use Rattle.pb_board.specs.Board.{Board, Holds}
 use Rattle.pb_moves.specs.Attack as lower
 use Rattle.pb_moves.specs.Attack.{files_apart, ranks_apart}
-use Rattle.pb_theorem.specs.Board.{piece_of}
+use Rattle.pb_board.specs.Piece.{piece_of}
 use Rattle.pb_theorem.specs.Moves as chess
 use Rattle.pb_moves.proofs.Unique.{piece_is, step_ranks}
 

@@ -29,7 +29,7 @@ use Rattle.pb_accepted.specs.Rules.{CountingRules}
 use Rattle.pb_theorem.specs.Book as books
 use Rattle.pb_theorem.specs.Key as keys
 use Rattle.pb_theorem.specs.Moves as chess
-use Rattle.pb_theorem.proofs.CutLemmas.{lines_are, stripped_is}
+use Rattle.pb_theorem.proofs.CutLemmas.{lines_are}
 use Rattle.pb_theorem.proofs.KeyLemmas.{code_is, key_is}
 use Rattle.pb_theorem.proofs.MoveLemmas.{same_plies}
 
@@ -77,10 +77,10 @@ writes_from digits word h =
     }
 
 pub word_to : (line : List ℕ) (word : ℕ) → table.SpellsWord line word → books.SpellsRandom line word
-word_to line word h = writes_to (strip_carriage_return line) word (subst (λ (d : List ℕ). WritesWord d word) (sym (stripped_is line)) h)
+word_to line word h = writes_to (strip_carriage_return line) word h
 
 pub word_from : (line : List ℕ) (word : ℕ) → books.SpellsRandom line word → table.SpellsWord line word
-word_from line word h = subst (λ (d : List ℕ). WritesWord d word) (stripped_is line) (writes_from (strip_carriage_return line) word h)
+word_from line word h = writes_from (strip_carriage_return line) word h
 
 words_to : (ls : List (List ℕ)) (words : List ℕ) → AllZip table.SpellsWord ls words → AllZip books.SpellsRandom ls words
 words_to [] [] h = tt

@@ -1,11 +1,8 @@
 -- The lines of a text are those of pb_io.
-use Rattle.std.proofs.Common.{◌≡◌, ℕ, suc, ◌-◌, Bool, true, false, cond, List, [], ◌∷◌, ◌++◌, length, take, get_or, append-nil, eqb, arith, refl, sym, ap, ◌∙◌}
+use Rattle.std.proofs.Common.{◌≡◌, ℕ, suc, ◌-◌, true, cond, List, [], ◌∷◌, ◌++◌, length, take, get_or, append-nil, arith, refl, sym, ap, ◌∙◌}
 use Rattle.std.specs.Prelude.{nat_lt}
-use Rattle.std.specs.Str.Lines.{strip_carriage_return}
-use Rattle.pb_board.specs.LineEnd.{without_return}
 use Rattle.pb_io.specs.Lines as lower
-use Rattle.pb_games.specs.Refusing.{fields_of}
-use Rattle.pb_games.specs.Words.{words_of}
+use Rattle.pb_board.specs.Fields.{fields}
 use Rattle.pb_theorem.specs.Lines as cut
 use Rattle.pb_io.proofs.LineLemmas.{pieces-nonempty}
 
@@ -41,29 +38,9 @@ lines_of (x ∷ ys) h = by_last x ys (lower.last_of (x ∷ ys)) refl
 
 pub lines_are : (bytes : List ℕ) → cut.lines bytes ≡ lower.lines bytes
 lines_are bytes =
-    let ps = cut.fields 10 bytes in
+    let ps = fields 10 bytes in
     let front = front_is ps in
     let end = end_is ps in
     ap (λ p. cond (nat_lt 0 (length p)) ps (take (length ps - 1) ps)) end
     ∙ ap (λ f. cond (nat_lt 0 (length (lower.last_of ps))) ps f) front
     ∙ lines_of ps (pieces-nonempty bytes)
-
--- ---- the end of a line, and its parts
-
-under : (c : ℕ) (cs : List ℕ) (test : Bool) → cond test (c ∷ take (length cs - 1) cs) (c ∷ cs) ≡ c ∷ cond test (take (length cs - 1) cs) cs
-under c cs true = refl
-under c cs false = refl
-
-pub stripped_is : (line : List ℕ) → strip_carriage_return line ≡ without_return line
-stripped_is [] = refl
-stripped_is (c ∷ []) = refl
-stripped_is (c ∷ d ∷ cs) =
-    let e : length (c ∷ d ∷ cs) - 1 ≡ suc (length (d ∷ cs) - 1) = omega arith in
-    rw e (under c (d ∷ cs) (eqb (get_or (d ∷ cs) (length (d ∷ cs) - 1) 0) 13) ∙ ap (λ l. c ∷ l) (stripped_is (d ∷ cs)))
-
-pub fields_are : (line : List ℕ) → cut.fields 9 (strip_carriage_return line) ≡ fields_of line
-fields_are line = ap (λ l. cut.fields 9 l) (stripped_is line)
-
-pub words_are : (text : List ℕ) → cut.words_of text ≡ words_of text
-words_are [] = refl
-words_are (c ∷ cs) = let e : eqb (length (c ∷ cs)) 0 ≡ false = grind arith in rw e refl

@@ -15,7 +15,7 @@ use Rattle.pb_poly.specs.declared.table_file.TableFault.TheVariants.{Long, Line,
 use Rattle.pb_theorem.specs.Files as files
 use Rattle.pb_theorem.specs.Files.{IsRandomLine}
 use Rattle.pb_theorem.specs.Lines as cut
-use Rattle.pb_theorem.specs.Refusals.{BreaksAt}
+use Rattle.pb_board.specs.Refusal.{BreaksAt}
 use Rattle.pb_theorem.specs.Streams.{Came, Reads, Way, at_end, at_fault, at_no_end, just_so_far, so_far}
 use Rattle.pb_theorem.proofs.BookLemmas as tables_of
 use Rattle.pb_theorem.proofs.CutLemmas.{lines_are}

@@ -22,16 +22,15 @@ use Rattle.pb_theorem.specs.Replies as reply
 use Rattle.pb_theorem.specs.Same.{SameHeadline}
 use Rattle.pb_theorem.proofs.BookLemmas.{book_to, book_from, table_to, table_from}
 use Rattle.pb_theorem.proofs.CutLemmas.{lines_are}
-use Rattle.pb_theorem.proofs.GameLemmas.{lawful_to, lawful_from}
 use Rattle.pb_theorem.proofs.LedgerLemmas.{run_to, run_from}
 use Rattle.pb_theorem.proofs.ReplyLemmas.{replies_are}
 
 module _ (L : List (List ℕ)) (R : List Answer) where
   arrives_to : (i : ℕ) (s : Submission) → collecting.Arrives L i s → theorem.Arrives L i s
-  arrives_to i s h = (h.0, h.1, lawful_to h.0 s h.2)
+  arrives_to i s h = h
 
   arrives_from : (i : ℕ) (s : Submission) → theorem.Arrives L i s → collecting.Arrives L i s
-  arrives_from i s h = (h.0, h.1, lawful_from h.0 s h.2)
+  arrives_from i s h = h
 
   accepted_to : (i : ℕ) (s : Submission) (n : ℕ) → collecting.IsAccepted L R i s n → theorem.IsAccepted L R i s n
   accepted_to i s n h = (arrives_to i s h.0, h.1)

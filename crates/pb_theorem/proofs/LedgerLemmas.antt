@@ -7,8 +7,6 @@ use Rattle.pb_accepted.specs.Accepting.{Accepted, Allowed, Answer, IsNumber, Run
 use Rattle.pb_accepted.proofs.Replies.{Answered, answered, held, new, other, full, Allowed-full, Allowed-new, Allowed-memory, Allowed-refused, Takes-held, Takes-new, Takes-refused, Takes-full, Takes-memory, Takes-unique}
 use Rattle.pb_theorem.specs.Ledger as steps
 use Rattle.pb_theorem.specs.Ledger.{Step}
-use Rattle.pb_theorem.proofs.GameLemmas.{lawful_to, lawful_from}
-use Rattle.pb_theorem.proofs.RefusalLemmas.{refuses_to, refuses_from}
 
 -- ---- from a step
 
@@ -20,23 +18,17 @@ by_equal cap A line r q B C e f h = subst (λ x. Both cap A line x B) (sym e) (s
 
 step_to : (cap : ℕ) (A : List Submission) (line : List ℕ) (r : Answer) (B : List Submission) → Step cap A line r B → Both cap A line r B
 step_to cap A line r B (steps.new s brings fresh room e f) =
-    let law = lawful_from line s brings in
-    by_equal cap A line r _ B _ e f (Allowed-new cap A line s law fresh room, Takes-new cap A line s law (length A + 1) fresh)
+    by_equal cap A line r _ B _ e f (Allowed-new cap A line s brings fresh room, Takes-new cap A line s brings (length A + 1) fresh)
 step_to cap A line r B (steps.full s brings fresh many e f) =
-    let law = lawful_from line s brings in
-    by_equal cap A line r _ B _ e f (Allowed-full cap A line s law fresh many, Takes-full A line)
+    by_equal cap A line r _ B _ e f (Allowed-full cap A line s brings fresh many, Takes-full A line)
 step_to cap A line r B (steps.memory s brings fresh room e f) =
-    let law = lawful_from line s brings in
-    by_equal cap A line r _ B _ e f (Allowed-memory cap A line s law fresh room, Takes-memory A line)
+    by_equal cap A line r _ B _ e f (Allowed-memory cap A line s brings fresh room, Takes-memory A line)
 step_to cap A line r B (steps.repeat s n brings at e f) =
-    let law = lawful_from line s brings in
-    by_equal cap A line r (Ok n) B A e f (inl (inl (s, law, inl at)), Takes-held cap A line s law at.0 s.1 (Ok n) at.2)
+    by_equal cap A line r (Ok n) B A e f (inl (inl (s, brings, inl at)), Takes-held cap A line s brings at.0 s.1 (Ok n) at.2)
 step_to cap A line r B (steps.conflict s g n brings at differs e f) =
-    let law = lawful_from line s brings in
-    by_equal cap A line r (Err (Conflict n)) B A e f (inl (inl (s, law, (g, at, differs))), Takes-held cap A line s law at.0 g (Err (Conflict n)) at.2)
+    by_equal cap A line r (Err (Conflict n)) B A e f (inl (inl (s, brings, (g, at, differs))), Takes-held cap A line s brings at.0 g (Err (Conflict n)) at.2)
 step_to cap A line r B (steps.refused x brings e f) =
-    let why = refuses_from line x brings in
-    by_equal cap A line r _ B _ e f (Allowed-refused cap A line x why, Takes-refused A line x why)
+    by_equal cap A line r _ B _ e f (Allowed-refused cap A line x brings, Takes-refused A line x brings)
 
 -- ---- to a step
 
@@ -47,22 +39,22 @@ next_is_free A s at = omega (arith, slice_get_within A at.0 s at.2, at.1)
 module _ (cap : ℕ) (A : List Submission) (line : List ℕ) (B : List Submission) where
   lawful_step : (r : Answer) (s : Submission) → IsLawful line s → Answered cap A s r → Takes A line r B → Step cap A line r B
   lawful_step r s law (held n e at) takes =
-      steps.repeat s n (lawful_to line s law) at e (Takes-unique A line r B A takes (Takes-held cap A line s law at.0 s.1 r at.2))
+      steps.repeat s n law at e (Takes-unique A line r B A takes (Takes-held cap A line s law at.0 s.1 r at.2))
   lawful_step r s law (new e fresh room) takes =
-      steps.new s (lawful_to line s law) fresh room e
+      steps.new s law fresh room e
       (Takes-unique A line r B (A ++ s ∷ []) takes (subst (λ x. Takes A line x (A ++ s ∷ [])) (sym e) (Takes-new cap A line s law (length A + 1) fresh)))
   lawful_step r s law (other n g e at differs) takes =
-      steps.conflict s g n (lawful_to line s law) at differs e (Takes-unique A line r B A takes (Takes-held cap A line s law at.0 g r at.2))
+      steps.conflict s g n law at differs e (Takes-unique A line r B A takes (Takes-held cap A line s law at.0 g r at.2))
   lawful_step r s law (full e fresh many) takes =
-      steps.full s (lawful_to line s law) fresh many e (Takes-unique A line r B A takes (subst (λ x. Takes A line x A) (sym e) (Takes-full A line)))
+      steps.full s law fresh many e (Takes-unique A line r B A takes (subst (λ x. Takes A line x A) (sym e) (Takes-full A line)))
 
   step_from : (r : Answer) → Allowed cap A line r → Takes A line r B → Step cap A line r B
   step_from r (inl (inl h)) takes = lawful_step r h.0 h.1 (answered cap A h.0 r h.2) takes
   step_from r (inl (inr h)) takes =
-      steps.refused h.0 (refuses_to line h.0 h.2) h.1 (Takes-unique A line r B A takes (subst (λ x. Takes A line x A) (sym h.1) (Takes-refused A line h.0 h.2)))
+      steps.refused h.0 h.2 h.1 (Takes-unique A line r B A takes (subst (λ x. Takes A line x A) (sym h.1) (Takes-refused A line h.0 h.2)))
   step_from r (inr (e, inl (s, law, inl at))) takes = absurd (next_is_free A s at)
   step_from r (inr (e, inl (s, law, inr (fresh, room, _)))) takes =
-      steps.memory s (lawful_to line s law) fresh room e (Takes-unique A line r B A takes (subst (λ x. Takes A line x A) (sym e) (Takes-memory A line)))
+      steps.memory s law fresh room e (Takes-unique A line r B A takes (subst (λ x. Takes A line x A) (sym e) (Takes-memory A line)))
   step_from r (inr (e, inr h)) takes = absurd (let no = h.1 in cc)
 
 -- ---- runs

@@ -1,14 +1,10 @@
 pub mod AttackLemmas
-pub mod BoardLemmas
 pub mod BookLemmas
 pub mod ByteLemmas
 pub mod CutLemmas
 pub mod FileLemmas
-pub mod GameLemmas
 pub mod HeadlineLemmas
 pub mod KeyLemmas
 pub mod LedgerLemmas
 pub mod MoveLemmas
-pub mod RefusalLemmas
 pub mod ReplyLemmas
-pub mod TextLemmas

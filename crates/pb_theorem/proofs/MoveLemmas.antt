@@ -18,7 +18,8 @@ use Rattle.pb_moves.specs.Castling.{rook_goes}
 use Rattle.pb_moves.specs.Cases as lower
 use Rattle.pb_moves.specs.Played.{Ply, plies_from, AreLegal}
 use Rattle.pb_moves.specs.Successor.{put, arriving, beside, carried, board_of, ep_of, ep_of_kind, rights_of, after}
-use Rattle.pb_theorem.specs.Board.{piece_of, rank_for}
+use Rattle.pb_board.specs.Board.{rank_for}
+use Rattle.pb_board.specs.Piece.{piece_of}
 use Rattle.pb_theorem.specs.Moves as chess
 use Rattle.pb_theorem.specs.Moves.{after as own_after}
 use Rattle.pb_moves.proofs.Castlings.{rows}

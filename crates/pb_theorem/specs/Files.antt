@@ -1,5 +1,6 @@
 -- What the bytes of a table file and of a book come to, and what reading them gives.
 use Rattle.std.specs.Prelude.{◌≡◌, ◌≢◌, ℕ, ◌+◌, ◌<◌, ◌≤◌, ◌⊎◌, List, [], ◌∷◌, ◌++◌, length, All, Result, Ok, Err}
+use Rattle.pb_board.specs.Refusal.{BreaksAt}
 use Rattle.pb_io.specs.Source.{SourceState}
 use Rattle.pb_poly.specs.Book.{BookBytes, NeverFall, book_bytes}
 use Rattle.pb_poly.specs.Entry.{IsEntry}
@@ -11,7 +12,6 @@ use Rattle.pb_poly.specs.declared.table_file.TableFault.TheVariants.{Long, Line,
 use Rattle.pb_theorem.specs.Book.{IsTableFile, SpellsRandom}
 use Rattle.pb_theorem.specs.Limits.{chunk_len, table_length, table_limit}
 use Rattle.pb_theorem.specs.Lines.{lines}
-use Rattle.pb_theorem.specs.Refusals.{BreaksAt}
 use Rattle.pb_theorem.specs.Streams.{Reads, Way, at_end, at_fault, at_no_end, just_so_far, so_far}
 
 -- the line may stand in a table file

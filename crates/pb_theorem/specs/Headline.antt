@@ -5,11 +5,10 @@ use Rattle.std.specs.Io.KnownBytes.{Appends}
 use Rattle.pb_io.specs.Sink.{SinkState}
 use Rattle.pb_poly.specs.Book.{BookBytes}
 use Rattle.pb_poly.specs.declared.entry.Entry.{Entry}
-use Rattle.pb_games.specs.Submissions.{Submission}
+use Rattle.pb_games.specs.Submissions.{IsLawful, Submission}
 use Rattle.pb_accepted.specs.Accepting.{Answer, IsNumber}
 use Rattle.pb_accepted.specs.Rules.{AreRules, CountingRules}
 use Rattle.pb_theorem.specs.Book.{IsBook, IsTableFile, counted_plies}
-use Rattle.pb_theorem.specs.Game.{IsLawful}
 use Rattle.pb_theorem.specs.Ledger.{Run}
 use Rattle.pb_theorem.specs.Limits.{most_games}
 use Rattle.pb_theorem.specs.Lines.{lines}

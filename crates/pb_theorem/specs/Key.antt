@@ -5,12 +5,11 @@ use Rattle.std.specs.Option.{option_map_or}
 use Rattle.pb_board.specs.declared.piece.Colour.{Colour}
 use Rattle.pb_board.specs.declared.piece.Kind.TheVariants.{Pawn, King}
 use Rattle.pb_board.specs.declared.piece.Piece.{Piece}
-use Rattle.pb_board.specs.Piece.{colour_number, kind_number}
+use Rattle.pb_board.specs.Piece.{colour_number, kind_number, piece_of}
 use Rattle.pb_board.specs.Position.{Position, beyond}
 use Rattle.pb_board.specs.Castling.{castling_of, castling_row, castlings}
 use Rattle.pb_board.specs.Board.{Board, file, rank, at, is_piece}
 use Rattle.pb_moves.specs.Moved.{Moved}
-use Rattle.pb_theorem.specs.Board.{piece_of}
 
 -- where the numbers of castling rights begin, those of en passant files, and that of White to move
 abbrev pub castling_offset : ℕ

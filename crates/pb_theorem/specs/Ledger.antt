@@ -12,10 +12,9 @@ use Rattle.std.specs.Prelude.{◌≡◌, ◌≢◌, ℕ, ◌+◌, ◌<◌, ◌�
 use Rattle.pb_games.specs.declared.game.Game.{Game}
 use Rattle.pb_games.specs.declared.refusal.Refusal.{Refusal}
 use Rattle.pb_games.specs.declared.refusal.Refusal.TheVariants.{Conflict, Full, Memory}
-use Rattle.pb_games.specs.Submissions.{Submission}
+use Rattle.pb_games.specs.Refusing.{Refuses}
+use Rattle.pb_games.specs.Submissions.{IsLawful, Submission}
 use Rattle.pb_accepted.specs.Accepting.{Answer, IsNewId, IsNumber}
-use Rattle.pb_theorem.specs.Game.{IsLawful}
-use Rattle.pb_theorem.specs.Refusals.{Refuses}
 
 -- A line is answered r, where the list A may have at most cap members, and it becomes B.
 pub data Step (cap : ℕ) (A : List Submission) (line : List ℕ) (r : Answer) (B : List Submission) : Type 0 where

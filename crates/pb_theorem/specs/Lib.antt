@@ -1,11 +1,7 @@
 pub mod Headline
 pub mod Ledger
-pub mod Game
-pub mod Board
 pub mod Moves
-pub mod Texts
 pub mod Lines
-pub mod Refusals
 pub mod Replies
 pub mod Key
 pub mod Book

@@ -1,5 +1,5 @@
 -- The limits that the definitions name. `limits` ties each to the constant of the code that bears it, where that is public.
-use Rattle.std.specs.Prelude.{ℕ, ◌^◌}
+use Rattle.std.specs.Prelude.{ℕ}
 -- 1,000,000 games in a ledger
 pub use Rattle.pb_accepted.specs.Holding.{most_games}
 -- 1,000,000 occurrences that a move may be asked for
@@ -15,10 +15,6 @@ pub use Rattle.pb_poly.specs.Table.{table_limit}
 abbrev pub most_plies : ℕ
 most_plies = 1024
 
--- bytes of an id
-abbrev pub id_limit : ℕ
-id_limit = 64
-
 -- numbers of a table, of 64 bits each: PolyGlot's Random64
 abbrev pub table_length : ℕ
 table_length = 781
@@ -26,7 +22,3 @@ table_length = 781
 -- the greatest weight that 16 bits hold
 abbrev pub most_weight : ℕ
 most_weight = 65535
-
--- what the two clocks of a record stay below, each of 16 bits
-abbrev pub clock_bound : ℕ
-clock_bound = 2 ^ 16

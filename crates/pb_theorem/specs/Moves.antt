@@ -14,12 +14,11 @@ use Rattle.pb_board.specs.declared.piece.Kind.TheVariants.{Pawn, Knight, Bishop,
 use Rattle.pb_board.specs.declared.setup.Rights.{Rights}
 use Rattle.pb_board.specs.declared.castling.Castling.{Castling}
 use Rattle.pb_board.specs.declared.castling.Castling.TheVariants.{WhiteShort, WhiteLong, BlackShort, BlackLong}
-use Rattle.pb_board.specs.Piece.{opponent, kind_number}
-use Rattle.pb_board.specs.Board.{Board, Place, file, rank, at, Holds, IsEmpty, IsForward}
+use Rattle.pb_board.specs.Piece.{opponent, piece_of, kind_number}
+use Rattle.pb_board.specs.Board.{Board, Place, file, rank, rank_for, at, Holds, IsEmpty, IsForward}
 use Rattle.pb_board.specs.Position.{Position}
 use Rattle.pb_board.specs.Castling.{CastlingRow, castling_of, castling_row}
 use Rattle.pb_moves.specs.Moved.{Moved}
-use Rattle.pb_theorem.specs.Board.{piece_of, rank_for}
 
 -- ---- what a piece attacks
 

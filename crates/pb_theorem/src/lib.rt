@@ -4,8 +4,7 @@
 
 ghost use Rattle.std.specs.Prelude.{◌≡◌, ◌↔◌, ◌⊎◌, ℕ, List, All, Ok, Err};
 ghost use Rattle.std.specs.Prelude.{IfErr, IfNone, IfOk, IfSome};
-ghost use Rattle.pb_board.specs.Fen.{FenText};
-ghost use Rattle.pb_board.specs.Position.{IsRecord, IsSetup, Position, Record};
+ghost use Rattle.pb_board.specs.Position.{IsSetup, Position};
 ghost use Rattle.pb_io.specs.Lines.{lines};
 ghost use Rattle.pb_io.specs.Source.{SourceState};
 ghost use Rattle.pb_io.specs.declared.lines.TheConstants.{LINE_LIMIT};
@@ -21,10 +20,8 @@ ghost use Rattle.pb_poly.specs.TableReading as tables_read;
 ghost use Rattle.pb_poly.specs.declared.entry.Entry.{Entry};
 ghost use Rattle.pb_poly.specs.declared.reading.BookError.{BookError};
 ghost use Rattle.pb_poly.specs.declared.table_file.TableFault.{TableFault};
-ghost use Rattle.pb_games.specs.Refusing.{Refuses};
-ghost use Rattle.pb_games.specs.Submissions.{IsLawful, IsSubmission, Submission};
+ghost use Rattle.pb_games.specs.Submissions.{IsSubmission, Submission};
 ghost use Rattle.pb_games.specs.declared.check.TheConstants.{MAX_PLIES};
-ghost use Rattle.pb_games.specs.declared.refusal.Refusal.{Refusal};
 ghost use Rattle.pb_accepted.specs.Accepting.{Accepted, Answer, Run};
 ghost use Rattle.pb_accepted.specs.Counting.{IsBook};
 ghost use Rattle.pb_accepted.specs.Replies.{replies};
@@ -34,20 +31,16 @@ ghost use Rattle.pb_accepted.specs.declared.rules.TheConstants.{MAX_LEAST};
 ghost use Rattle.pb_commands.specs.declared.fault.Fault.TheVariants.{Endless, Memory};
 ghost use Rattle.pb_collecting.specs.CollectRun.{RefusesTold};
 ghost use Rattle.pb_collecting.specs.Runs.{CollectRun};
-ghost use Rattle.pb_theorem.specs.Board as board;
 ghost use Rattle.pb_theorem.specs.Book as book;
 ghost use Rattle.pb_theorem.specs.Files as files;
-ghost use Rattle.pb_theorem.specs.Game as game;
 ghost use Rattle.pb_theorem.specs.Headline.{HasHeadline, Headline};
 ghost use Rattle.pb_theorem.specs.Key as keys;
 ghost use Rattle.pb_theorem.specs.Ledger as ledger;
 ghost use Rattle.pb_theorem.specs.Limits as limit;
 ghost use Rattle.pb_theorem.specs.Lines as texts_of;
 ghost use Rattle.pb_theorem.specs.Moves as chess;
-ghost use Rattle.pb_theorem.specs.Refusals as refusals;
 ghost use Rattle.pb_theorem.specs.Replies as reply;
 ghost use Rattle.pb_theorem.specs.Same.{SameHeadline};
-ghost use Rattle.pb_theorem.specs.Texts as texts;
 
 use pb_accepted::Rules;
 use pb_collecting::run_collect;
@@ -150,21 +143,9 @@ pub fn same_moves()
     ensures legal { (s : Position) (m : Moved) → IsSetup s → chess.Legal s m ↔ Legal s m }
 {}
 
-/// Equates records, their FEN texts and the lines of a text with those of pb_board and pb_io.
-pub fn same_texts()
-    ensures records { (f : Record) → board.IsRecord f ↔ IsRecord f }
-    ensures fen { (f : Record) (text : List ℕ) → FenText f text ↔ (text ≡ texts.fen_text f) }
-    ensures lines { (bytes : List ℕ) → texts_of.lines bytes ≡ lines bytes }
-{}
-
-/// Equates the lines that submit a legal game with those of pb_games.
-pub fn same_games()
-    ensures { (line : List ℕ) (s : Submission) → game.IsLawful line s ↔ IsLawful line s }
-{}
-
-/// Equates why a line is refused by itself with the reasons of pb_games.
-pub fn same_refusals()
-    ensures { (line : List ℕ) (r : Refusal) → refusals.Refuses line r ↔ Refuses line r }
+/// Equates the lines of a text with those of pb_io.
+pub fn same_lines()
+    ensures { (bytes : List ℕ) → texts_of.lines bytes ≡ lines bytes }
 {}
 
 /// Equates the steps of a ledger with the answers that pb_accepted allows and the games that they
