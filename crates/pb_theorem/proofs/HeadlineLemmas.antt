@@ -24,7 +24,7 @@ use Rattle.pb_collecting.proofs.CollectParts.{CollectsOrEnds}
 use Rattle.pb_collecting.proofs.RunLemmas.{collect_from}
 use Rattle.pb_collecting.proofs.OneTexts.{has_one_text}
 use Rattle.pb_theorem.specs.Headline as theorem
-use Rattle.pb_theorem.specs.Same.{SameHeadline, ToldHeadline}
+use Rattle.pb_theorem.specs.Same.{RunsHeadline, SameHeadline, ToldHeadline}
 use Rattle.pb_theorem.proofs.BookLemmas.{book_to, book_from, table_to, table_from}
 use Rattle.pb_theorem.proofs.GameLemmas.{lawful_to, lawful_from}
 use Rattle.pb_theorem.proofs.LedgerLemmas.{run_to, run_from}
@@ -161,6 +161,9 @@ module _ (rules : CountingRules) (t t' s s' : SourceState) (sink sink' : SinkSta
   told_by entries (Some f) None h is all = tt
   told_by entries (Some f) (Some b) h is all =
       subst (λ (x : List ℕ). theorem.HeadlineOn rules x b sink sink' entries) is (subst (λ (x : List ℕ). theorem.HeadlineOn rules h.file x sink sink' entries) all h.holds)
+
+pub runs_headline : RunsHeadline
+runs_headline rules fills t t' s s' sink sink' entries bounds ends = carried rules t t' s s' sink sink' fills (Ok (Some entries)) bounds ends
 
 pub told_headline : ToldHeadline
 told_headline rules t t' s s' sink sink' entries h = told_by rules t t' s s' sink sink' entries t.to_come s.to_come h h.table.told h.submissions.told

@@ -44,7 +44,7 @@ ghost use Rattle.pb_theorem.specs.Limits as limit;
 ghost use Rattle.pb_theorem.specs.Moves as chess;
 ghost use Rattle.pb_theorem.specs.Refusals as refusals;
 ghost use Rattle.pb_theorem.specs.Replies as reply;
-ghost use Rattle.pb_theorem.specs.Same.{SameHeadline, ToldHeadline};
+ghost use Rattle.pb_theorem.specs.Same.{RunsHeadline, SameHeadline, ToldHeadline};
 ghost use Rattle.pb_theorem.specs.Texts as texts;
 
 use pb_accepted::Rules;
@@ -192,10 +192,11 @@ pub fn same_books()
         ↔ IsBook (record { words = randoms; rules = rules }) S E }
 {}
 
-/// Equates the theorem with that of pb_collecting, for all rules within their bounds; and what
-/// sources tell that they will hand out is what the theorem is of.
+/// Equates the theorem with that of pb_collecting, for all rules within their bounds. It is so of
+/// each run that gives a book, the program's too; of sources that tell their bytes, of just these.
 pub fn same_headline()
     ensures same { SameHeadline }
+    ensures runs { RunsHeadline }
     ensures told { ToldHeadline }
 {}
 
