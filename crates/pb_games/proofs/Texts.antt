@@ -10,8 +10,7 @@ use Rattle.pb_games.specs.Header.{fields_of}
 use Rattle.pb_moves.specs.Moved.{IsMove, Moved}
 use Rattle.pb_moves.specs.Played.{AreLegal}
 use Rattle.pb_moves.specs.Successor.{after}
-use Rattle.pb_moves.proofs.LegalMoves.{legal_is_move}
-use Rattle.pb_moves.proofs.Successors.{after_is_setup}
+use Rattle.pb_moves.proofs.SameMoves.{after_is_setup}
 use Rattle.pb_board.specs.Position.{IsSetup, Position}
 use Rattle.pb_games.specs.Results.{outcome_text}
 use Rattle.pb_games.specs.Submissions.{IsGame, IsLawful, IsSubmission, Submission, moves_text, submission_text}
@@ -69,7 +68,7 @@ no_final_cr text h front e =
 -- moves that are legal one after another are moves
 legal_moves : (s : Position) (ms : List Moved) → IsSetup s → AreLegal s ms → All IsMove ms
 legal_moves s [] ok h = All-nil IsMove
-legal_moves s (m ∷ ms) ok h = All-cons IsMove m ms (legal_is_move s m ok h.0) (legal_moves (after s m) ms (after_is_setup s m ok h.0) h.1)
+legal_moves s (m ∷ ms) ok h = All-cons IsMove m ms h.0.moves.is_move (legal_moves (after s m) ms (after_is_setup s m ok h.0.moves) h.1)
 
 pub lawful_game : (line : List ℕ) (s : Submission) → IsLawful line s → IsGame s.1
 lawful_game line s h = record { start = h.start; moves = legal_moves s.1.start.setup s.1.moves h.start.setup h.legal; few = h.few }
