@@ -3,6 +3,7 @@ use Rattle.std.proofs.Common.{◌≡◌, ◌∙◌, ℕ, List, [], ◌++◌, All
 use Rattle.pb_io.specs.Lines.{lines}
 use Rattle.pb_io.specs.Sink.{SinkState}
 use Rattle.pb_io.specs.Source.{SourceState}
+use Rattle.pb_poly.proofs.ToldReads.{handed_out}
 use Rattle.pb_poly.specs.Entry.{IsEntry}
 use Rattle.pb_poly.specs.declared.entry.Entry.{Entry}
 use Rattle.pb_accepted.specs.Accepting.{Run}
@@ -28,17 +29,14 @@ pub has_headline : (rules : CountingRules) (fills : ℕ) (t t' v v' s s' : Sourc
 has_headline rules fills t t' v v' s s' sink sink' loaded left entries totals first stream book bounds =
     let h = subst (λ (m : LedgerState). CollectsStream fills s s' sink sink' m left totals) first.is stream in
     let collects = h.0.done.0 in
-    let leads = collects.leads in
-    let file = first.table.reads in
-    let saved = first.loads.reads in
-    let bytes = h.0.reads in (
+    let leads = collects.leads in (
       first.table.came,
       first.loads.came,
       h.0.came,
       replies (lines h.0.came) collects.answers,
-      (file.some.reads.handed, file.answered),
-      (saved.some.reads.handed, saved.answered),
-      (bytes.some.reads.handed, bytes.answered),
+      handed_out _ _ _ _ _ first.table.reads,
+      handed_out _ _ _ _ _ first.loads.reads,
+      handed_out _ _ _ _ _ h.0.reads,
       collects.put,
       record {
         randoms = first.words;

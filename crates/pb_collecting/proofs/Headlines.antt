@@ -3,6 +3,7 @@ use Rattle.std.proofs.Common.{◌≡◌, ℕ, List, [], All, ap, refl, subst}
 use Rattle.pb_io.specs.Source.{SourceState}
 use Rattle.pb_io.specs.Sink.{SinkState}
 use Rattle.pb_io.specs.Lines.{lines}
+use Rattle.pb_poly.proofs.ToldReads.{handed_out}
 use Rattle.pb_poly.specs.Entry.{IsEntry}
 use Rattle.pb_poly.specs.declared.entry.Entry.{Entry}
 use Rattle.pb_games.specs.Submissions.{Submission}
@@ -37,14 +38,12 @@ effect L R games run T entries bounds book = record {
 pub has_headline : (rules : CountingRules) (fills : ℕ) (t t' s s' : SourceState) (sink sink' : SinkState) (entries : List Entry)
     → AreRules rules → All IsEntry entries → CollectsBook rules fills t t' s s' sink sink' entries → HasHeadline rules t t' s s' sink sink' entries
 has_headline rules fills t t' s s' sink sink' entries counting bounds h =
-    let g = h.games.takes in
-    let file = g.table.reads in
-    let bytes = g.reads in (
+    let g = h.games.takes in (
       g.table.came,
       g.came,
       replies (lines g.came) g.answers,
-      (file.some.reads.handed, file.answered),
-      (bytes.some.reads.handed, bytes.answered),
+      handed_out _ _ _ _ _ g.table.reads,
+      handed_out _ _ _ _ _ g.reads,
       h.games.put,
       record {
         counting = counting;

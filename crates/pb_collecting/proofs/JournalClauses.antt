@@ -3,6 +3,7 @@ use Rattle.std.proofs.Common.{◌≡◌, ℕ, ◌⊎◌, List, Option, Some, Non
 use Rattle.std.specs.Prelude.{IfOk, IfSome}
 use Rattle.pb_io.specs.Source.{HandsOut, SourceState}
 use Rattle.pb_io.specs.Sink.{AllLasts, SinkState}
+use Rattle.pb_poly.proofs.ToldReads.{handed_out}
 use Rattle.pb_poly.specs.declared.entry.Entry.{Entry}
 use Rattle.pb_accepted.specs.Ledger.{LedgerState}
 use Rattle.pb_accepted.specs.Rules.{CountingRules}
@@ -38,8 +39,7 @@ module _ (rules : CountingRules) (fills : ℕ) (t t' v v' s s' : SourceState) (j
   safe : (mended : SinkState) (held : LedgerState) (first : ReplaysFirst rules fills t t' v v' j mended held) → (s' ≡ s) ⊎ IsSafe first.replays.came → Unless IsSafe
   safe mended held first (inl unread) = inl unread
   safe mended held first (inr h) =
-      let reads = first.replays.reads in
-      inr (first.replays.came, (reads.some.reads.handed, reads.answered), h)
+      inr (first.replays.came, handed_out _ _ _ _ _ first.replays.reads, h)
 
   weaker : (P : List ℕ → Type 0) → ((bytes : List ℕ) → IsSafe bytes → P bytes) → Unless IsSafe → Unless P
   weaker P follows (inl unread) = inl unread

@@ -4,6 +4,7 @@ use Rattle.std.proofs.KnownBytes.{Appends-trans}
 use Rattle.pb_io.specs.Source.{SourceState}
 use Rattle.pb_io.specs.Sink.{SinkState}
 use Rattle.pb_io.specs.Lines.{ended_lines, lines}
+use Rattle.pb_poly.proofs.ToldReads.{handed_out}
 use Rattle.pb_poly.specs.Entry.{IsEntry}
 use Rattle.pb_poly.specs.declared.entry.Entry.{Entry}
 use Rattle.pb_games.specs.Submissions.{Submission}
@@ -36,8 +37,6 @@ has_headline rules fills t t' v v' s s' j j' sink sink' entries bounds h =
     let kept = first.replays.came in
     let bytes = stream.came in
     let holds = first.replays.holds in
-    let table = first.table.reads in
-    let journal = first.replays.reads in
     let run : Run most_games held (lines bytes) answers h.left.accepted = collects.leads.run in
     let both = one_run most_games kept held h.left.accepted (lines bytes) answers holds run in
     let all : Effect T (ended_lines kept ++ lines bytes) (holds.answers ++ answers) h.left.accepted entries =
@@ -48,9 +47,9 @@ has_headline rules fills t t' v v' s s' j j' sink sink' entries bounds h =
       bytes,
       replies (lines bytes) answers,
       mending kept ++ gains.text,
-      (table.some.reads.handed, table.answered),
-      (journal.some.reads.handed, journal.answered),
-      (stream.reads.some.reads.handed, stream.reads.answered),
+      handed_out _ _ _ _ _ first.table.reads,
+      handed_out _ _ _ _ _ first.replays.reads,
+      handed_out _ _ _ _ _ stream.reads,
       collects.put,
       Appends-trans _ _ _ _ _ first.replays.mends.put gains.put,
       record {

@@ -1,3 +1,4 @@
+mod Bytes
 mod CollectClauses
 mod CollectRuns
 mod ContinueClauses

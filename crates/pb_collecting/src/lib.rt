@@ -2,6 +2,7 @@
 //! where a ledger and its book are kept. Nothing here knows the command line or a file.
 #![tactic(auto)]
 
+mod bytes;
 mod collect;
 mod continuing;
 mod continuing_into;
@@ -14,6 +15,7 @@ mod place;
 mod taking;
 mod text;
 
+pub use bytes::collect_bytes;
 pub use collect::run_collect;
 pub use continuing::{Continued, run_continue};
 pub use continuing_into::{NotContinued, continue_into};

@@ -10,7 +10,6 @@ use Rattle.pb_games.specs.Header.{fields_of}
 use Rattle.pb_moves.specs.Moved.{IsMove, Moved}
 use Rattle.pb_moves.specs.Played.{AreLegal}
 use Rattle.pb_moves.specs.Successor.{after}
-use Rattle.pb_moves.proofs.SameMoves.{after_is_setup}
 use Rattle.pb_board.specs.Position.{IsSetup, Position}
 use Rattle.pb_games.specs.Results.{outcome_text}
 use Rattle.pb_games.specs.Submissions.{IsGame, IsLawful, IsSubmission, Submission, moves_text, submission_text}
@@ -66,12 +65,12 @@ no_final_cr text h front e =
     (h (length front) 0 within).1 (ap (λ (t : List ℕ). get_or t (length front) 0) e ∙ get_or-append_seam front 13 [] 0)
 
 -- moves that are legal one after another are moves
-legal_moves : (s : Position) (ms : List Moved) → IsSetup s → AreLegal s ms → All IsMove ms
-legal_moves s [] ok h = All-nil IsMove
-legal_moves s (m ∷ ms) ok h = All-cons IsMove m ms h.0.moves.is_move (legal_moves (after s m) ms (after_is_setup s m ok h.0.moves) h.1)
+legal_moves : (s : Position) (ms : List Moved) → AreLegal s ms → All IsMove ms
+legal_moves s [] h = All-nil IsMove
+legal_moves s (m ∷ ms) h = All-cons IsMove m ms h.0.moves.is_move (legal_moves (after s m) ms h.1)
 
 pub lawful_game : (line : List ℕ) (s : Submission) → IsLawful line s → IsGame s.1
-lawful_game line s h = record { start = h.start; moves = legal_moves s.1.start.setup s.1.moves h.start.setup h.legal; few = h.few }
+lawful_game line s h = record { start = h.start; moves = legal_moves s.1.start.setup s.1.moves h.legal; few = h.few }
 
 pub lawful_submission : (line : List ℕ) (s : Submission) → IsLawful line s → IsSubmission s
 lawful_submission line s h = record { id = h.id; game = lawful_game line s h; legal = record { playable = h.no_opposite_check; legal = h.legal } }

@@ -1,0 +1,1 @@
+use Rattle.pb_collecting.proofs.bytes.collect_bytes.Goals as goal

@@ -1,0 +1,56 @@
+//! The theorem of `pbook collect` on bytes in memory, in which nothing is said of sources and sinks.
+
+ghost use Rattle.std.specs.Prelude.{◌≡◌, ◌⊎◌, ℕ, IfErr, IfNone, IfOk, IfSome, List};
+ghost use Rattle.pb_poly.specs.Table.{IsTableFile};
+ghost use Rattle.pb_commands.specs.declared.fault.Fault.TheVariants.{Endless, Memory};
+ghost use Rattle.pb_collecting.specs.Headline.{Headline};
+
+use crate::collect::run_collect;
+use pb_commands::Fault;
+use pb_ledger::Rules;
+use pb_poly::{Book, CHUNK_LEN, MemSink, MemSource};
+use std::alloc::Global;
+
+/// The replies to these submissions, and the opening book of the games that are accepted, whose keys come of the random numbers that the
+/// table's bytes write. The rules say which plies count. None where the bytes write no table.
+///
+/// # Errors
+///
+/// `Memory` comes where a growth of the ledger, of the replies or of the book found no memory, and `Endless` where there are more bytes
+/// than can be asked for.
+pub fn collect_bytes(
+    alloc: Global,
+    rules: Rules,
+    table: &[u8],
+    submissions: &[u8],
+) -> Result<Option<(Vec<u8>, Book)>, Fault>
+    ensures headline { IfOk result (λ answer. IfSome answer (λ made.
+        Headline rules table.now submissions.now made.0.items made.1)) }
+    // Without a book, the bytes are no table file, whatever the numbers.
+    ensures refused { IfOk result (λ answer. IfNone answer
+        ((randoms : List ℕ) → ¬ IsTableFile randoms table.now)) }
+    ensures fault { IfErr result (λ fault. (fault ≡ Memory) ⊎ (fault ≡ Endless)) }
+{
+    let mut table_source = MemSource::new(table, CHUNK_LEN);
+    let mut source = MemSource::new(submissions, CHUNK_LEN);
+    let mut sink = MemSink::new(alloc);
+    let made = run_collect(
+        alloc,
+        rules,
+        &mut table_source,
+        &mut source,
+        &mut sink,
+        u32::MAX,
+    );
+    let book = match made {
+        Ok(Some(book)) => book,
+        Ok(None) => return Ok(None),
+        // A sink in memory fails for want of it alone.
+        Err(Fault::Write) => return Err(Fault::Memory),
+        Err(fault) => return Err(fault),
+    };
+    match sink.as_bytes().to_vec(alloc) {
+        Ok(replies) => Ok(Some((replies, book))),
+        Err(_) => Err(Fault::Memory),
+    }
+}

@@ -1,5 +1,0 @@
-use Rattle.pb_theorem.proofs.HeadlineLemmas as headlines
-use Rattle.pb_theorem.proofs.same_headline.Goals as goal
-
-pub returns : goal.returns
-returns c = record { same = headlines.same_headline; told = headlines.told_headline }
