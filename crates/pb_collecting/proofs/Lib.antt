@@ -1,4 +1,4 @@
-mod Bytes
+mod ByteLemmas
 mod CollectClauses
 mod CollectRuns
 mod ContinueClauses

@@ -7,8 +7,9 @@ ghost use Rattle.pb_collecting.specs.Headline.{Headline};
 
 use crate::collect::run_collect;
 use pb_commands::Fault;
+use pb_io::{CHUNK_LEN, MemSink, MemSource};
 use pb_ledger::Rules;
-use pb_poly::{Book, CHUNK_LEN, MemSink, MemSource};
+use pb_poly::Book;
 use std::alloc::Global;
 
 /// The replies to these submissions, and the opening book of the games that are accepted, whose keys come of the random numbers that the

@@ -1,5 +1,6 @@
 -- The theorem of `pbook collect` on bytes in memory.
-use Rattle.std.proofs.Common.{◌≡◌, ◌∙◌, ℕ, List, [], Option, Some, None, Result, Ok, Err, arith, subst, sym}
+use Rattle.std.proofs.Common.{◌≡◌, ◌∙◌, ℕ, List, [], ◌++◌, Option, Some, None, Result, Ok, Err, arith, subst, sym}
+use Rattle.std.proofs.lemmas.Option.{same_Some}
 use Rattle.std.specs.Prelude.{IfSome}
 use Rattle.std.specs.Io.KnownBytes.{Appends}
 use Rattle.pb_io.specs.Sink.{SinkState}
@@ -23,7 +24,10 @@ all_of (Some x) bytes all is h = let same : x ≡ all = cc in h ∙ same
 
 put_all : (old new : Option (List ℕ)) (put all : List ℕ) → old ≡ Some [] → new ≡ Some all → Appends old new put → put ≡ all
 put_all None new put all none is h = absurd (cc)
-put_all (Some x) new put all none is h = ?
+put_all (Some x) new put all none is h =
+    let e : x ≡ [] = same_Some x [] none in
+    let f : x ++ put ≡ all = same_Some (x ++ put) all (sym h ∙ is) in
+    subst (λ y. y ++ put ≡ all) e f
 
 module _ (rules : CountingRules) (t t' s s' : SourceState) (sink sink' : SinkState) (file bytes put : List ℕ)
     (told_t : t.to_come ≡ Some file) (told_s : s.to_come ≡ Some bytes) (empty : sink.bytes ≡ Some []) (all : sink'.bytes ≡ Some put) where
