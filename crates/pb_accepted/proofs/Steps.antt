@@ -1,19 +1,11 @@
 -- A step of the table is an answer that is allowed and the list that it leaves; so are runs. The laws of steps follow.
-use Rattle.std.proofs.Common.{◌≡◌, ◌≢◌, ℕ, ◌+◌, ◌<◌, ◌≤◌, ◌⊎◌, ◌↔◌, List, [], ◌∷◌, ◌++◌, All, length, take, Ok, Err, Some, slice_get, sym, subst, ap, inl, inr, arith}
+use Rattle.std.proofs.Common.{◌≡◌, ◌≢◌, ℕ, ◌+◌, List, [], ◌∷◌, ◌++◌, length, take, Ok, Err, sym, subst, inl, inr, arith}
 use Rattle.std.proofs.lemmas.Option.{slice_get_within}
-use Rattle.pb_poly.specs.declared.entry.Entry.{Entry}
-use Rattle.pb_poly.specs.Book.{BookBytes}
-use Rattle.pb_games.specs.declared.refusal.Refusal.{Refusal}
-use Rattle.pb_games.specs.declared.refusal.Refusal.TheVariants.{Conflict, Full, Memory}
+use Rattle.pb_games.specs.declared.refusal.Refusal.TheVariants.{Conflict, Memory}
 use Rattle.pb_games.specs.Submissions.{Submission, IsLawful}
 use Rattle.pb_accepted.specs.Accepting as steps
-use Rattle.pb_accepted.specs.Accepting.{Answer, IsNewId, IsNumber, OneGame, Run, Step, Taken}
-use Rattle.pb_accepted.specs.Basis.{Basis}
-use Rattle.pb_accepted.specs.Counting.{IsBook}
-use Rattle.pb_accepted.specs.Holding.{HaveOwnIds}
+use Rattle.pb_accepted.specs.Accepting.{Answer, IsNumber, Run, Step}
 use Rattle.pb_accepted.specs.Laws as laws
-use Rattle.pb_accepted.specs.Laws.{SameMembers}
-use Rattle.pb_accepted.specs.Replies.{named}
 use Rattle.pb_accepted.proofs.Allowing.{Accepted, Allowed, AllowedRun, Reply, Takes}
 use Rattle.pb_accepted.proofs.BookLaws.{same_bytes}
 use Rattle.pb_accepted.proofs.Distinct.{accepts_the_taken, lawful_arrives, no_conflict}

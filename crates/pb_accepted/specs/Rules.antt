@@ -1,5 +1,6 @@
 -- What of the games counts.
 use Rattle.std.specs.Prelude.{ℕ, ◌≤◌}
+use Rattle.pb_games.specs.Limits.{most_plies}
 
 -- so many first plies of each game count, and a move that occurs less often in them is left out
 pub record CountingRules : Type 0 where
@@ -13,10 +14,10 @@ most_occurrences = 1000000
 -- the numbers lie in their ranges
 pub record AreRules (rules : CountingRules) : Type 0 where
   pub some : 1 ≤ rules.plies
-  pub within_a_game : rules.plies ≤ 1024
+  pub within_a_game : rules.plies ≤ most_plies
   pub once : 1 ≤ rules.least
   pub not_above : rules.least ≤ most_occurrences
 
 -- all plies of each game count, and no move that occurs is left out for that
 abbrev pub all_plies : CountingRules
-all_plies = record { plies = 1024; least = 1 }
+all_plies = record { plies = most_plies; least = 1 }

@@ -1,5 +1,5 @@
 -- How a run of the command `collect` ends, from what its parts do.
-use Rattle.std.proofs.Common.{◌≡◌, ℕ, Bool, List, ap, Option, Some, None, Result, Ok, Err, false, refl, subst, sym}
+use Rattle.std.proofs.Common.{◌≡◌, ℕ, Bool, List, ap, Result, Ok, Err, false, refl, subst, sym}
 use Rattle.pb_io.specs.Source.{SourceState}
 use Rattle.pb_io.specs.Sink.{SinkState}
 use Rattle.pb_poly.specs.declared.entry.Entry.{Entry}

@@ -1,5 +1,5 @@
 -- The theorem of a run that goes on from a saved ledger, from what it does.
-use Rattle.std.proofs.Common.{◌≡◌, ◌∙◌, ℕ, List, [], ◌++◌, All, ap, refl, subst, sym}
+use Rattle.std.proofs.Common.{◌∙◌, ℕ, List, [], ◌++◌, All, ap, refl, subst, sym}
 use Rattle.pb_io.specs.Lines.{lines}
 use Rattle.pb_io.specs.Sink.{SinkState}
 use Rattle.pb_io.specs.Source.{SourceState}
@@ -18,7 +18,7 @@ use Rattle.pb_accepted.proofs.Steps.{runs_join}
 use Rattle.pb_ledger.specs.Collecting.{CollectsStream}
 use Rattle.pb_ledger.specs.declared.totals.Totals.{Totals}
 use Rattle.pb_saved.proofs.Continued.{continued, loaded_back}
-use Rattle.pb_collecting.specs.ContinueHeadline.{ContinuesBytes, HasHeadlineOfBoth}
+use Rattle.pb_collecting.specs.ContinueHeadline.{HasHeadlineOfBoth}
 use Rattle.pb_collecting.specs.Continuing.{LoadsFirst}
 use Rattle.pb_collecting.specs.Laws.{GoesOnAsOneRun}
 use Rattle.pb_collecting.specs.Taking.{ledger_of}

@@ -1,5 +1,5 @@
 -- What the clauses of the command `export` say, from how its run ends.
-use Rattle.std.proofs.Common.{◌≡◌, ◌∙◌, ◌≢◌, ℕ, Bool, Result, Ok, Err, ap, false, refl, sym, true}
+use Rattle.std.proofs.Common.{◌≡◌, ◌∙◌, ◌≢◌, ℕ, Bool, Result, Ok, Err, ap, false, refl, sym}
 use Rattle.std.specs.Prelude.{IfErr}
 use Rattle.pb_io.specs.Source.{SourceState}
 use Rattle.pb_io.specs.Sink.{SinkState}

@@ -1,5 +1,5 @@
 -- The theorem of `pbook collect`, from what a run does.
-use Rattle.std.proofs.Common.{◌≡◌, ℕ, List, [], All, ap, refl, subst}
+use Rattle.std.proofs.Common.{ℕ, List, [], All, ap, refl}
 use Rattle.pb_io.specs.Source.{SourceState}
 use Rattle.pb_io.specs.Sink.{SinkState}
 use Rattle.pb_io.specs.Lines.{lines}

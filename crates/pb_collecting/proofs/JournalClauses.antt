@@ -1,5 +1,5 @@
 -- What the clauses of the command `collect` with a journal say, from how its run ends.
-use Rattle.std.proofs.Common.{◌≡◌, ℕ, ◌⊎◌, List, Option, Some, None, Result, Ok, Err, inl, inr, refl}
+use Rattle.std.proofs.Common.{◌≡◌, ℕ, ◌⊎◌, List, Option, Some, None, Result, Ok, Err, inl, inr}
 use Rattle.std.specs.Prelude.{IfOk, IfSome}
 use Rattle.pb_io.specs.Source.{HandsOut, SourceState}
 use Rattle.pb_io.specs.Sink.{AllLasts, SinkState}

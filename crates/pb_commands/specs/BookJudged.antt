@@ -1,5 +1,5 @@
 -- What is a book and what is none, and what is put of it then.
-use Rattle.std.specs.Prelude.{◌≡◌, ℕ, List, ◌++◌, Result, Ok, Err, codes, decimal}
+use Rattle.std.specs.Prelude.{◌≡◌, ℕ, List, ◌++◌, Result, Err, codes, decimal}
 use Rattle.pb_poly.specs.Reading.{BookIs}
 use Rattle.pb_poly.specs.Streams.{at_end, so_far}
 use Rattle.pb_poly.specs.declared.entry.Entry.{Entry}

@@ -1,5 +1,5 @@
 -- Lemmas on the lines that come first in what a kill and a crash leave.
-use Rattle.std.proofs.Common.{◌≡◌, ◌∙◌, ℕ, ◌≤◌, List, [], ◌∷◌, ◌++◌, ap, append-nil, arith, length, length-append, length-take, refl, subst, sym}
+use Rattle.std.proofs.Common.{◌≡◌, ◌∙◌, ℕ, ◌≤◌, List, [], ◌∷◌, ◌++◌, ap, append-nil, arith, length, length-append, length-take, subst, sym}
 use Rattle.pb_io.specs.Lines.{ended_lines}
 use Rattle.pb_io.proofs.LineLemmas.{ended-first}
 use Rattle.pb_files.specs.Begins.{BeginsWith}

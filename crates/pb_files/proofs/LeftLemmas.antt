@@ -3,8 +3,8 @@ use Rattle.std.proofs.Common.{◌≡◌, ◌∙◌, ◌⊎◌, ℕ, Bool, true, 
 use Rattle.std.specs.Option.{ForSome}
 use Rattle.std.specs.Io.KnownBytes.{Appends}
 use Rattle.pb_io.specs.Sink.{AllLasts, SinkState}
-use Rattle.pb_io.specs.Source.{SourceState}
-use Rattle.pb_collecting.specs.JournalTold.{HoldsAnswered, Outlives}
+use Rattle.pb_io.specs.Source.{HandsOut, SourceState}
+use Rattle.pb_collecting.specs.JournalHeadline.{HoldsAnswered, Outlives}
 use Rattle.pb_files.specs.Begins.{BeginsWith}
 use Rattle.pb_files.specs.Disk.{Disk, Grows, IsOnDisk}
 use Rattle.pb_files.specs.Journaling.{IsStarted, LeavesAnswered, MayBeLeft}
@@ -15,7 +15,7 @@ use Rattle.pb_files.proofs.FileLemmas.{crash-first, lasting_all}
 begins-first : (all part first rest : List ℕ) → BeginsWith all part → part ≡ first ++ rest → BeginsWith all first
 begins-first all part first rest begins is = (rest ++ begins.0, begins.1 ∙ ap (λ bs. bs ++ begins.0) is ∙ append_assoc first rest begins.0)
 
-module _ (sync : Bool) (disk : Disk) (old new : EndState) (reader s s' : SourceState) (j j' sink sink' : SinkState) (started : IsStarted sync disk old reader)
+module _ (sync : Bool) (disk : Disk) (old new : EndState) (reader reader' s s' : SourceState) (j j' sink sink' : SinkState) (started : IsStarted sync disk old reader)
     (put : j.bytes ≡ bytes_put old.told old.waits) (lasting : j.lasting ≡ bytes_lasting sync old.told) (lasting' : j'.lasting ≡ bytes_lasting sync new.told) where
   on_disk : sync ≡ true → ForSome old.told IsOnDisk
   on_disk synced known is =
@@ -38,7 +38,7 @@ module _ (sync : Bool) (disk : Disk) (old new : EndState) (reader s s' : SourceS
       begins-first left now.found (disk.found ++ gained) behind (grows.0, leaves ∙ grows.1.found) (lasts ∙ sym (append_assoc disk.found gained behind))
 
   left_of : (known : Option Disk) → new.told ≡ known → (gained behind : List ℕ) → Appends (Some disk.found) (bytes_lasting sync known) (gained ++ behind)
-      → HoldsAnswered (disk.found ++ gained) s.to_come sink sink' → LeavesAnswered sync disk new s.to_come sink sink'
+      → HoldsAnswered (disk.found ++ gained) s s' sink sink' → LeavesAnswered sync disk new s s' sink sink'
   left_of None is_told gained behind lasts holds = absurd lasts
   left_of (Some now) is_told gained behind lasts holds = record {
     disk = now;
@@ -48,14 +48,17 @@ module _ (sync : Bool) (disk : Disk) (old new : EndState) (reader s s' : SourceS
     first = left_first now gained behind sync lasts;
   }
 
-  pub leaves : (AllLasts j → (s' ≡ s) ⊎ IfSome reader.to_come (λ kept. Outlives kept s.to_come j j' sink sink')) → (s' ≡ s) ⊎ LeavesAnswered sync disk new s.to_come sink sink'
+  pub leaves : (AllLasts j → (s' ≡ s) ⊎ ((kept : List ℕ) × HandsOut reader reader' kept × Outlives kept s s' j j' sink sink'))
+      → (s' ≡ s) ⊎ LeavesAnswered sync disk new s s' sink sink'
   leaves outlives =
       elim (outlives all_lasts) [
         | inl unread ↦ inl unread
-        | inr h ↦ inr (by (subst (λ (known : Option (List ℕ)). IfSome known (λ kept. Outlives kept s.to_come j j' sink sink')) started.reads h))
+        | inr h ↦
+          let whole : h.0 ≡ disk.found = subst (λ (known : Option (List ℕ)). IfSome known (λ all. h.0 ≡ all)) started.reads h.1.told in
+          inr (by (subst (λ (kept : List ℕ). Outlives kept s s' j j' sink sink') whole h.2))
       ]
     where
-      by : Outlives disk.found s.to_come j j' sink sink' → LeavesAnswered sync disk new s.to_come sink sink'
+      by : Outlives disk.found s s' j j' sink sink' → LeavesAnswered sync disk new s s' sink sink'
       by o =
           left_of new.told refl o.gained o.lasts.0
           (subst (λ (known : Option (List ℕ)). Appends (Some disk.found) known (o.gained ++ o.lasts.0)) lasting'

@@ -1,6 +1,5 @@
 -- What is known of a name in a folder whose file is made anew by way of a draft beside it, and what a crash leaves under it.
 use Rattle.std.specs.Prelude.{◌≡◌, ◌⊎◌, ℕ, Bool, false, true, List, [], ◌∷◌, ◌++◌, Option, Some, Result, Ok, Err}
-use Rattle.std.specs.Option.{option_map}
 use Rattle.pb_io.specs.Sink.{SinkState}
 use Rattle.pb_collecting.specs.declared.place.NotKept.{NotKept}
 use Rattle.pb_files.specs.declared.desk.NotMade.{NotMade}
@@ -48,9 +47,9 @@ is_refused_name (Ok done) = false
 is_refused_name (Err named.Refused) = true
 is_refused_name (Err named.Failed) = false
 
--- An end into an empty file, which tells its bytes where the desk tells what it knows.
-pub record Begins (told : Option Shelf) (end : SinkState) : Type 0 where
-  pub empty : end.bytes ≡ option_map (λ _. []) told
+-- An end into an empty file.
+pub record Begins (end : SinkState) : Type 0 where
+  pub empty : end.bytes ≡ Some []
   pub works : end.failed ≡ false
 
 -- A reader finds this content. A crash may leave it, or what it may have left before, and so it might up to now: no part of it.

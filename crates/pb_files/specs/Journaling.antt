@@ -1,8 +1,8 @@
 -- What is left of a journal's file once a run has ended, and whatever comes then.
-use Rattle.std.specs.Prelude.{◌≡◌, Bool, true, false, List, [], ◌++◌, ℕ, Option, Some}
+use Rattle.std.specs.Prelude.{◌≡◌, Bool, true, false, List, [], ◌++◌, ℕ, Some}
 use Rattle.pb_io.specs.Sink.{SinkState}
 use Rattle.pb_io.specs.Source.{SourceState}
-use Rattle.pb_collecting.specs.JournalTold.{HoldsAnswered}
+use Rattle.pb_collecting.specs.JournalHeadline.{HoldsAnswered}
 use Rattle.pb_files.specs.Begins.{BeginsWith}
 use Rattle.pb_files.specs.Disk.{Disk, Grows, IsOnDisk, Leaves}
 use Rattle.pb_files.specs.JournalSink.{EndState}
@@ -21,9 +21,9 @@ MayBeLeft false disk left = left ≡ disk.found
 
 -- Whatever is added later, what may be left then begins with the journal as it was and what it gained: this holds each game that a reply
 -- calls `ok`.
-pub record LeavesAnswered (sync : Bool) (before : Disk) (end : EndState) (submitted : Option (List ℕ)) (sink sink' : SinkState) : Type 0 where
+pub record LeavesAnswered (sync : Bool) (before : Disk) (end : EndState) (s s' : SourceState) (sink sink' : SinkState) : Type 0 where
   pub disk : Disk
   pub told : end.told ≡ Some disk
   pub gained : List ℕ
-  pub holds : HoldsAnswered (before.found ++ gained) submitted sink sink'
+  pub holds : HoldsAnswered (before.found ++ gained) s s' sink sink'
   pub first : (later : Disk) → Grows disk later → (left : List ℕ) → MayBeLeft sync later left → BeginsWith left (before.found ++ gained)

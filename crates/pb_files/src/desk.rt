@@ -72,7 +72,7 @@ pub trait Desk {
     /// what stands under the name.
     fn make(&mut self, number: u32) -> Result<Self::End, NotMade>
         requires { (state self.old).refused ≡ false }
-        ensures begins { IfOk result (λ end. Begins (state self.new).told (Self.End.state end)) }
+        ensures begins { IfOk result (λ end. Begins (Self.End.state end)) }
         ensures refused { (state self.new).refused ≡ is_refused_draft result }
         ensures drafted { OnOk result ((state self.new).drafted ≡ true) }
         ensures not_drafted { OnErr result ((state self.new).drafted ≡ (state self.old).drafted) }
@@ -122,7 +122,7 @@ pub trait Desk {
     fn open_in_place(&mut self) -> Result<Self::End, NotKept>
         requires { (state self.old).refused ≡ true }
         ensures refused { (state self.new).refused ≡ true }
-        ensures begins { IfOk result (λ end. Begins (state self.new).told (Self.End.state end)) }
+        ensures begins { IfOk result (λ end. Begins (Self.End.state end)) }
         ensures emptied { OnOk result (Steps Empties (state self.old).told (state self.new).told) }
         ensures same { OnErr result ((state self.new).told ≡ (state self.old).told) };
 }

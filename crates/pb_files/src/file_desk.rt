@@ -203,7 +203,7 @@ impl<'a, 'f> FileDesk<'a, 'f> {
     /// An end into the draft of this name.
     fn end_into(&mut self, file: File, name: PathBuf) -> Result<ToWrite<FileWriter<'a>>, NotMade>
         requires { (⟦<FileDesk<'a, 'f> as Desk>⟧.state self.now).refused ≡ false }
-        ensures begins { IfOk result (λ end. Begins None (⟦<ToWrite<FileWriter<'a>> as Sink>⟧.state end)) }
+        ensures begins { IfOk result (λ end. Begins (⟦<ToWrite<FileWriter<'a>> as Sink>⟧.state end)) }
         ensures refused { (⟦<FileDesk<'a, 'f> as Desk>⟧.state self.exit.now).refused ≡ is_refused_draft result }
         ensures drafted { OnOk result ((⟦<FileDesk<'a, 'f> as Desk>⟧.state self.exit.now).drafted ≡ true) }
         ensures not_drafted { OnErr result ((⟦<FileDesk<'a, 'f> as Desk>⟧.state self.exit.now).drafted ≡ (⟦<FileDesk<'a, 'f> as Desk>⟧.state self.entry.now).drafted) }

@@ -44,7 +44,8 @@ pub fn journal_to_file<
         (K.state sink.old) (K.state sink.new) (P.state place.old) (P.state place.new) result }
     // No submission was read, or each game that was acknowledged is in what is left of the file.
     ensures leaves { (disk : Disk) → IsStarted D.syncs disk (⟦<JournalSink<J, D> as FileEnd>⟧.end journal.old) (V.state kept.old)
-        → (S.state source.new ≡ S.state source.old) ⊎ LeavesAnswered D.syncs disk (⟦<JournalSink<J, D> as FileEnd>⟧.end journal.new) (S.state source.old).to_come (K.state sink.old) (K.state sink.new) }
+        → (S.state source.new ≡ S.state source.old) ⊎ LeavesAnswered D.syncs disk (⟦<JournalSink<J, D> as FileEnd>⟧.end journal.new)
+        (S.state source.old) (S.state source.new) (K.state sink.old) (K.state sink.new) }
 {
     journal_into(
         alloc,

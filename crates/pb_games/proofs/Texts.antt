@@ -10,7 +10,7 @@ use Rattle.pb_games.specs.Header.{fields_of}
 use Rattle.pb_moves.specs.Moved.{IsMove, Moved}
 use Rattle.pb_moves.specs.Played.{AreLegal}
 use Rattle.pb_moves.specs.Successor.{after}
-use Rattle.pb_board.specs.Position.{IsSetup, Position}
+use Rattle.pb_board.specs.Position.{Position}
 use Rattle.pb_games.specs.Results.{outcome_text}
 use Rattle.pb_games.specs.Submissions.{IsGame, IsLawful, IsSubmission, Submission, moves_text, submission_text}
 use Rattle.pb_games.specs.Laws.{TextIsShort, TextIsOneLine, PartsHaveNoTab}

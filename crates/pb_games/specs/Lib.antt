@@ -1,4 +1,5 @@
 pub mod Ids
+pub mod Limits
 pub mod Words
 pub mod Results
 pub mod Submissions

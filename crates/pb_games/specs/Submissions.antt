@@ -10,6 +10,7 @@ use Rattle.pb_moves.specs.Moved.{Moved, IsMove}
 use Rattle.pb_moves.specs.Played.{Ply, plies_from, AreLegal}
 use Rattle.pb_moves.specs.Spelling.{spelling}
 use Rattle.pb_moves.specs.Successor.{after}
+use Rattle.pb_games.specs.Limits.{most_plies}
 use Rattle.pb_games.specs.declared.game.Game.{Game}
 use Rattle.pb_games.specs.Ids.{IsId}
 use Rattle.pb_games.specs.Results.{outcome_text}
@@ -26,7 +27,7 @@ moves_text moves = join_with_byte space (map spelling moves)
 pub record IsGame (g : Game) : Type 0 where
   pub start : IsRecord g.start
   pub moves : All IsMove g.moves
-  pub few : length g.moves ≤ 1024
+  pub few : length g.moves ≤ most_plies
 
 -- the id, the result, the FEN record that the game starts from and the UCI texts of its moves, with a TAB between each two
 abbrev pub submission_text : Submission → List ℕ
@@ -57,7 +58,7 @@ pub record IsLawful (line : List ℕ) (s : Submission) : Type 0 where
   pub id : IsId s.0
   pub start : IsRecord s.1.start
   pub no_opposite_check : NoOppositeCheck s.1.start.setup
-  pub few : length s.1.moves ≤ 1024
+  pub few : length s.1.moves ≤ most_plies
   pub legal : AreLegal s.1.start.setup s.1.moves
 
 -- an id and a legal game within the bounds

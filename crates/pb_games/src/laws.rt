@@ -3,6 +3,10 @@
 
 ghost use Rattle.std.specs.Prelude.{◌≡◌, ℕ, List};
 ghost use Rattle.std.specs.Bool.{Decides};
+ghost use Rattle.pb_games.specs.Limits.{id_limit, line_limit, most_plies};
+ghost use Rattle.pb_games.specs.declared.check.TheConstants.{MAX_PLIES};
+ghost use Rattle.pb_games.specs.declared.header.TheConstants.{MAX_BYTES};
+ghost use Rattle.pb_games.specs.declared.id.TheConstants.{MAX_LEN};
 ghost use Rattle.pb_games.specs.declared.outcome.Outcome.{Outcome};
 ghost use Rattle.pb_games.specs.declared.refusal.Refusal.{Refusal};
 ghost use Rattle.pb_games.specs.Laws.{OneRefusal, OneSubmission, PartsHaveNoTab, RefusedByItself, RefusedIsUnlawful, TextIsOneLine, TextIsShort};
@@ -11,6 +15,13 @@ use crate::id::Id;
 use crate::outcome::Outcome;
 use crate::refusal::Refusal;
 use std::hash::Hash;
+
+/// The limits of submissions are the numbers that the definitions have.
+pub fn limits()
+    ensures line { MAX_BYTES ≡ line_limit }
+    ensures id { MAX_LEN ≡ id_limit }
+    ensures plies { MAX_PLIES ≡ most_plies }
+{}
 
 /// No text has two submissions, and so no line: two lines that submit one differ by a final CR at most.
 pub fn one_submission()

@@ -1,4 +1,5 @@
-//! A list that only contracts know.
+//! What was handed on, kept for contracts alone.
+
 ghost use Rattle.std.specs.Prelude.{ℕ, ◌≡◌, List, [], ◌++◌};
 ghost use Rattle.std.specs.Borrow.{ftrue};
 ghost use Rattle.pb_io.specs.Sink.{told_or_none};
@@ -6,12 +7,14 @@ ghost use Rattle.pb_io.specs.Sink.{told_or_none};
 use std::io::Write;
 use std::marker::{Model, PhantomData};
 
-/// What was handed on so far, byte by byte, of which nothing is kept.
+/// The bytes that were handed on so far, of which nothing is kept: a list that only contracts know.
 ///
-/// No memory holds the list, and so the proofs of `new`, `of` and `add` alone say what it becomes: an empty body could set it to
-/// anything. It stays true only while nothing else is proved by hand over it, so the type is this crate's own, and `marker`, which
-/// only this module can give, is private: elsewhere a list begins with no bytes or with those that a writer tells, and grows by what
-/// is added, and nothing else.
+/// No memory holds the list, so the proofs of `new`, `of` and `add` alone say what it becomes, and
+/// they are written by hand. One more such proof could let an empty body set the list to anything.
+/// So none is to be written, of this type or of one that holds it. The type is of this crate alone,
+/// and a field that holds one is private: elsewhere a list begins empty or with what a writer tells,
+/// and grows by what is added. That just what was handed on is added is for the contract of the
+/// caller to say.
 #[derive(Drop)]
 pub(crate) struct History {
     marker: PhantomData<u8>,
@@ -23,6 +26,7 @@ impl Model for History {
 }
 
 impl History {
+    /// Nothing was handed on yet.
     #[inline(always)]
     pub(crate) fn new() -> History
         ensures { result.bytes ≡ [] }
@@ -32,7 +36,7 @@ impl History {
         }
     }
 
-    /// What the writer holds, where it tells that.
+    /// The writer was handed what it holds, where it tells that.
     #[inline(always)]
     pub(crate) fn of<W: Write>(_writer: &W) -> History
         ensures { result.bytes ≡ told_or_none (W.contents _writer.now) }
@@ -42,6 +46,7 @@ impl History {
         }
     }
 
+    /// Notes that the bytes were handed on. Nothing is done with them.
     #[inline(always)]
     pub(crate) fn add(&mut self, _bytes: &[u8])
         ensures { self.new.bytes ≡ self.old.bytes ++ _bytes.now }

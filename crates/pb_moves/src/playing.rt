@@ -3,7 +3,7 @@
 ghost use Rattle.std.specs.Prelude.{◌≡◌, ◌↔◌, IsTrue, IfSome};
 ghost use Rattle.std.specs.Option.{SomeIff};
 ghost use Rattle.pb_board.specs.Position.{IsSetup};
-ghost use Rattle.pb_moves.specs.Cases.{CaseOf, SafeCase};
+ghost use Rattle.pb_moves.specs.Cases.{CaseOf};
 ghost use Rattle.pb_moves.specs.Legal.{Legal};
 ghost use Rattle.pb_moves.specs.Successor.{after};
 ghost use Rattle.pb_moves.specs.Candidate.{HoldsOwn};
@@ -39,10 +39,12 @@ pub fn play_on(setup: &mut Setup, m: Move) -> bool
 fn carry(setup: &mut Setup, m: Move, piece: Piece, arriving: Piece) -> bool
     requires own { HoldsOwn setup.old m.from piece }
     requires leads { LeadsTo (CaseOf setup.old m piece) setup.old.board m (Carry arriving) }
-    ensures legal { IsTrue result ↔ SafeCase setup.old m }
+    ensures legal { IsTrue result ↔ Legal setup.old m }
     ensures played { IsTrue result → (setup.new ≡ after setup.old m) }
     ensures refused { ¬ IsTrue result → (setup.new ≡ setup.old) }
 {
+    // The reader tells that the setup meets its rules.
+    let _turn = setup.turn();
     if !is_safe(setup, m, piece, arriving) {
         return false;
     }
@@ -57,10 +59,12 @@ fn carry(setup: &mut Setup, m: Move, piece: Piece, arriving: Piece) -> bool
 fn carry_twice(setup: &mut Setup, m: Move, piece: Piece, change: Change) -> bool
     requires own { HoldsOwn setup.old m.from piece }
     requires leads { LeadsTo (CaseOf setup.old m piece) setup.old.board m change }
-    ensures legal { IsTrue result ↔ SafeCase setup.old m }
+    ensures legal { IsTrue result ↔ Legal setup.old m }
     ensures played { IsTrue result → (setup.new ≡ after setup.old m) }
     ensures refused { ¬ IsTrue result → (setup.new ≡ setup.old) }
 {
+    // The reader tells that the setup meets its rules.
+    let _turn = setup.turn();
     if !is_safe_after(setup, m, piece, &change) {
         return false;
     }

@@ -1,5 +1,5 @@
 -- What reading a table file and a book gives, a row for each answer, and apart for each answer.
-use Rattle.std.proofs.Common.{ℕ, ◌≡◌, List, ◌++◌, ◌∷◌, [], Result, Ok, Err, arith, refl, sym, subst, inl, inr}
+use Rattle.std.proofs.Common.{ℕ, List, Result, Ok, Err, arith, refl, sym, subst, inl, inr}
 use Rattle.std.specs.Prelude.{IfErr, IfOk}
 use Rattle.pb_io.specs.Reads.{chunk_len}
 use Rattle.pb_io.specs.Source.{SourceState}

@@ -22,7 +22,7 @@ use Rattle.pb_games.specs.Submissions.{IsSubmission, Submission, submission_text
 use Rattle.pb_games.proofs.Dues.{first_due, none_at_first}
 use Rattle.pb_games.proofs.Headers.{shape_refused}
 use Rattle.pb_accepted.specs.Accepting as steps
-use Rattle.pb_accepted.specs.Accepting.{Answer, Run, Step}
+use Rattle.pb_accepted.specs.Accepting.{Answer, Run}
 use Rattle.pb_accepted.specs.Holding.{HaveOwnIds}
 use Rattle.pb_accepted.proofs.Replies.{HaveOwnIds-Takes}
 use Rattle.pb_accepted.proofs.Runs.{HaveOwnIds-nil}

@@ -1,5 +1,5 @@
 -- How the replay of a journal into a ledger without games ends, over the states of the journal as a source and as a sink.
-use Rattle.std.specs.Prelude.{◌≡◌, ℕ, ◌+◌, ◌⊎◌, false, true, List, [], ◌∷◌, ◌++◌, length, take, Err}
+use Rattle.std.specs.Prelude.{◌≡◌, ℕ, ◌+◌, ◌⊎◌, false, true, List, [], ◌∷◌, ◌++◌, take, Err}
 use Rattle.std.specs.Io.KnownBytes.{Appends}
 use Rattle.pb_io.specs.Count.{next_count}
 use Rattle.pb_io.specs.LineTask.{AtEndedLine, AtFault, AtNoEnd}

@@ -1,1 +1,0 @@
-use Rattle.pb_collecting.proofs.bytes.collect_bytes.Goals as goal

@@ -1,9 +1,8 @@
-use Rattle.std.proofs.Common.{ℕ, subst}
-use Rattle.std.specs.Prelude.{IsTrue}
+use Rattle.std.proofs.Common.{rules, ℕ, subst}
 use Rattle.pb_board.specs.declared.piece.Piece.{Piece}
 use Rattle.pb_moves.specs.Candidate.{HoldsOwn}
 use Rattle.pb_moves.proofs.Legality.{not_legal_without_case, not_legal_without_piece}
-use Rattle.pb_moves.proofs.SameMoves.{legal_from, told}
+use Rattle.pb_moves.proofs.SameMoves.{legal_from}
 use Rattle.pb_moves.proofs.playing.play_on.Goals as goal
 
 pub returns-in_default-clause-legal : goal.returns-in_default-clause-legal
@@ -23,12 +22,5 @@ returns-in-None-clause-legal c =
 pub carry-requires-clause-leads : goal.carry-requires-clause-leads
 carry-requires-clause-leads c = rw c.in-Some-Carry.field-0-is at c.in-Some-Carry.ensures
 
-pub returns-in-Some-Carry-clause-legal : goal.returns-in-Some-Carry-clause-legal
-returns-in-Some-Carry-clause-legal c = told c.args.setup.now c.args.m (IsTrue c.carry.result) c.turn-turn.ensures.rules c.carry.ensures.legal
-
 pub returns-in-Some-change_of : goal.returns-in-Some-change_of
-returns-in-Some-change_of c = record {
-  legal = told c.args.setup.now c.args.m (IsTrue c.carry_twice.result) c.turn-turn.ensures.rules c.carry_twice.ensures.legal;
-  played = c.carry_twice.ensures.played;
-  refused = c.carry_twice.ensures.refused;
-}
+returns-in-Some-change_of c = search rules

@@ -1,7 +1,6 @@
 use Rattle.std.proofs.Common.{Ok, Err, ap, refl, ◌∙◌}
 use Rattle.std.proofs.lemmas.Result.{err_from_is_err_and}
 use Rattle.pb_games.specs.declared.refusal.Refusal.TheVariants.{Conflict}
-use Rattle.pb_accepted.specs.Accepting.{Step}
 use Rattle.pb_accepted.specs.Accepting as steps
 use Rattle.pb_accepted.proofs.Steps.{held_step}
 use Rattle.pb_accepted.proofs.ledger.Ledger.submit.Goals as goal

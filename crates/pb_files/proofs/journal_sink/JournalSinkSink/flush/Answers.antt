@@ -1,4 +1,4 @@
-use Rattle.std.proofs.Common.{◌≡◌, ◌∙◌, ℕ, ap, arith, length, List, [], ◌++◌, Option, append-nil, drop, refl, rules, subst, sym, take, take-append-drop, true, Bool}
+use Rattle.std.proofs.Common.{◌≡◌, ◌∙◌, ℕ, ap, arith, length, List, [], Option, append-nil, drop, refl, rules, subst, sym, take, take-append-drop, true, Bool}
 use Rattle.std.proofs.Math.ListN.{drop_of_length-le}
 use Rattle.std.specs.Option.{ForSome}
 use Rattle.std.specs.Io.KnownBytes.{Keeps}
