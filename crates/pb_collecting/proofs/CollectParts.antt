@@ -14,7 +14,7 @@ use Rattle.pb_commands.specs.declared.fault.Fault.{Fault}
 use Rattle.pb_commands.specs.declared.fault.Fault.TheVariants.{Memory}
 use Rattle.pb_poly.specs.declared.table_file.TableFault.{TableFault}
 use Rattle.pb_commands.specs.Judged.{HandedOnOnce, PutsText, PutsUntil, Verdict}
-use Rattle.pb_poly.specs.TableReading.{FindsNoTable}
+use Rattle.pb_poly.specs.TableReading.{ReadsTable}
 use Rattle.pb_commands.specs.TableJudged.{table_verdict}
 use Rattle.pb_collecting.specs.Taking.{CollectsGames, StopsTaking, fault_of}
 
@@ -28,7 +28,7 @@ pub record CollectsBook (rules : CountingRules) (fills : ℕ) (t t' s s' : Sourc
 -- there is no table, this comes of it, and no submission was read
 pub record JudgesTable (fills : ℕ) (t t' s s' : SourceState) (verdict : Verdict) : Type 0 where
   pub cause : TableFault
-  pub found : FindsNoTable fills t t' cause
+  pub found : ReadsTable fills t t' (Err cause)
   pub is : verdict ≡ table_verdict cause
   pub unread : s' ≡ s
 

@@ -8,7 +8,7 @@ use Rattle.pb_accepted.specs.Ledger.{LedgerState}
 use Rattle.pb_accepted.specs.Rules.{CountingRules}
 use Rattle.pb_commands.specs.Judged.{HandedOnOnce, PutsOrEnds, PutsText, Verdict}
 use Rattle.pb_commands.specs.TableJudged.{table_verdict}
-use Rattle.pb_poly.specs.TableReading.{FindsNoTable}
+use Rattle.pb_poly.specs.TableReading.{ReadsTable}
 use Rattle.pb_commands.specs.declared.fault.Fault.{Fault}
 use Rattle.pb_poly.specs.declared.table_file.TableFault.{TableFault}
 use Rattle.pb_poly.specs.declared.table_file.TableFault.TheVariants as table
@@ -39,7 +39,7 @@ module _ (rules : CountingRules) (fills : ℕ) (t t' s s' : SourceState) (sink s
   abbrev judges : Verdict → Type 0
   judges = JudgesTable fills t t' s s'
 
-  pub table_ends : s' ≡ s → (result : Result Bool Fault) (e : TableFault) → FindsNoTable fills t t' e
+  pub table_ends : s' ≡ s → (result : Result Bool Fault) (e : TableFault) → ReadsTable fills t t' (Err e)
       → PutsOrEnds (λ verdict. verdict ≡ table_verdict e) sink sink' result → PutsOrEnds judges sink sink' result
   table_ends same result e h r = shows judges (table_verdict e) (record { cause = e; found = h; is = refl; unread = same }) sink sink' result r
 
@@ -48,7 +48,7 @@ module _ (rules : CountingRules) (fills : ℕ) (t t' s s' : SourceState) (sink s
   put_refused answer h = let j = h.judged in subst (λ a. PutsText judges sink sink' a) (refused_no j.cause answer h.out j.is) h
 
   -- the line that refuses the table was put and handed on
-  pub refused : s' ≡ s → (answer : Bool) (e : TableFault) → FindsNoTable fills t t' e → PutsOrEnds (λ verdict. verdict ≡ table_verdict e) sink sink' (Ok answer)
+  pub refused : s' ≡ s → (answer : Bool) (e : TableFault) → ReadsTable fills t t' (Err e) → PutsOrEnds (λ verdict. verdict ≡ table_verdict e) sink sink' (Ok answer)
       → PutsText judges sink sink' false × HandedOnOnce sink sink'
   refused same answer e h r = let ends = table_ends same (Ok answer) e h r in (put_refused answer ends.0, ends.1)
 

@@ -6,6 +6,7 @@ use Rattle.pb_io.specs.Source.{SourceState}
 use Rattle.pb_poly.proofs.ToldReads.{handed_out}
 use Rattle.pb_poly.specs.Entry.{IsEntry}
 use Rattle.pb_poly.specs.declared.entry.Entry.{Entry}
+use Rattle.pb_poly.proofs.ReadRows.{found_table}
 use Rattle.pb_accepted.specs.Accepting.{Run}
 use Rattle.pb_accepted.specs.Basis.{Basis}
 use Rattle.pb_accepted.specs.Counting.{IsBook}
@@ -29,18 +30,19 @@ pub has_headline : (rules : CountingRules) (fills : ℕ) (t t' v v' s s' : Sourc
 has_headline rules fills t t' v v' s s' sink sink' loaded left entries totals first stream book bounds =
     let h = subst (λ (m : LedgerState). CollectsStream fills s s' sink sink' m left totals) first.is stream in
     let collects = h.0.done.0 in
-    let leads = collects.leads in (
-      first.table.came,
+    let leads = collects.leads in
+    let table = found_table fills t t' first.words first.table in (
+      table.came,
       first.loads.came,
       h.0.came,
       replies (lines h.0.came) collects.answers,
-      handed_out _ _ _ _ _ first.table.reads,
+      handed_out _ _ _ _ _ table.reads,
       handed_out _ _ _ _ _ first.loads.reads,
       handed_out _ _ _ _ _ h.0.reads,
       collects.put,
       record {
         randoms = first.words;
-        table = first.table.is;
+        table = table.is;
         held = first.held;
         loads = first.loads.done;
         answers = collects.answers;

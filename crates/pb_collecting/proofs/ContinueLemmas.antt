@@ -61,7 +61,7 @@ module _ (rules : CountingRules) (fills : ℕ) (t t' v v' s s' : SourceState) (s
 
   abbrev Judges : Verdict → Type 0
   Judges verdict = (runs.LacksTable fills t t' verdict × (v' ≡ v) × (s' ≡ s)) ⊎ ((words : List ℕ) × (left : LedgerState) × (e : LoadError)
-      × ReadsTable fills t t' words × LoadsUntil fills v v' (new_ledger rules words) left e × (verdict ≡ saved_verdict e) × (s' ≡ s))
+      × ReadsTable fills t t' (Ok words) × LoadsUntil fills v v' (new_ledger rules words) left e × (verdict ≡ saved_verdict e) × (s' ≡ s))
 
   judges_to : (verdict : Verdict) → LowerJudges verdict → Judges verdict
   judges_to verdict (no_table e found is a b) = inl ((e, found, is), a, b)

@@ -3,7 +3,7 @@
 use Rattle.std.specs.Prelude.{◌≡◌, ℕ, false, Option, Some, None, Result, Ok, Err}
 use Rattle.pb_io.specs.Source.{SourceState}
 use Rattle.pb_io.specs.Sink.{SinkState}
-use Rattle.pb_poly.specs.TableReading.{FindsNoTable}
+use Rattle.pb_poly.specs.TableReading.{ReadsTable}
 use Rattle.pb_poly.specs.declared.table_file.TableFault.{TableFault}
 use Rattle.pb_accepted.specs.Ledger.{LedgerState}
 use Rattle.pb_accepted.specs.Rules.{CountingRules}
@@ -16,7 +16,7 @@ use Rattle.pb_collecting.specs.Continuing.{saved_verdict, LoadsFirst, LoadsNot, 
 
 -- there is no table, or no saved ledger, this comes of it, and no submission was read
 pub data JudgesSaved (rules : CountingRules) (fills : ℕ) (t t' v v' s s' : SourceState) (verdict : Verdict) : Type 0 where
-  no_table : (e : TableFault) → FindsNoTable fills t t' e → verdict ≡ table_verdict e → v' ≡ v → s' ≡ s → JudgesSaved rules fills t t' v v' s s' verdict
+  no_table : (e : TableFault) → ReadsTable fills t t' (Err e) → verdict ≡ table_verdict e → v' ≡ v → s' ≡ s → JudgesSaved rules fills t t' v v' s s' verdict
   no_ledger : (e : LoadError) → LoadsNot rules fills t t' v v' e → verdict ≡ saved_verdict e → s' ≡ s → JudgesSaved rules fills t t' v v' s s' verdict
 
 -- how a run ends: it went on, the line that refuses the table or the saved ledger was put, or a fault came before a submission was read

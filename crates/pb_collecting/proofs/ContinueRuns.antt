@@ -19,7 +19,7 @@ use Rattle.pb_collecting.specs.declared.continuing.NoLedger.TheVariants.{Saved, 
 use Rattle.pb_collecting.proofs.CollectRuns.{answer_of, refused_no}
 use Rattle.pb_collecting.proofs.ContinueParts.{JudgesSaved, no_ledger, no_table}
 
-module _ (rules : CountingRules) (fills : ℕ) (t t' v v' : SourceState) (words : List ℕ) (l l' : LedgerState) (is : l ≡ new_ledger rules words) (read : ReadsTable fills t t' words) where
+module _ (rules : CountingRules) (fills : ℕ) (t t' v v' : SourceState) (words : List ℕ) (l l' : LedgerState) (is : l ≡ new_ledger rules words) (read : ReadsTable fills t t' (Ok words)) where
   pub loaded : (n : ℕ) → LoadsStream fills v v' l l' n → l'.basis ≡ l.basis → l'.cap ≡ l.cap → LoadsFirst rules fills t t' v v' l'
   loaded n h basis cap = record {
     words = words;

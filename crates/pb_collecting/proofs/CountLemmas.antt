@@ -37,8 +37,8 @@ counted_step most A M B line r R step h =
     let both = step_to most A line r M step in
     elim both.1 [
       | inl t ↦
-        let next = new_is_next most A line t.0 r t.1 t.2 t.3 both.0 in
-        subst (λ x. Counted A B (x ∷ R)) (sym next.0) (one_more A M B t.0 (length A + 1) R t.4 h)
+          let next = new_is_next most A line t.0 r t.1 t.2 t.3 both.0 in
+          subst (λ x. Counted A B (x ∷ R)) (sym next.0) (one_more A M B t.0 (length A + 1) R t.4 h)
       | inr t ↦ same_many A M B r R t.1 h
     ]
 

@@ -8,7 +8,7 @@ use Rattle.pb_export.specs.Exporting.{Exports, ExportsUntil}
 use Rattle.pb_export.specs.declared.exporting.ExportFault.{ExportFault}
 use Rattle.pb_commands.specs.Judged.{PutsOrEnds}
 use Rattle.pb_commands.specs.TableJudged.{table_verdict}
-use Rattle.pb_poly.specs.TableReading.{FindsNoTable}
+use Rattle.pb_poly.specs.TableReading.{ReadsTable}
 use Rattle.pb_commands.specs.declared.fault.Fault.{Fault}
 use Rattle.pb_poly.specs.declared.table_file.TableFault.{TableFault}
 use Rattle.pb_collecting.specs.ExportRun.{fault_of_export}
@@ -20,7 +20,7 @@ use Rattle.pb_collecting.proofs.ExportParts.{ExportsAnswered, ExportsOrStops, St
 
 module _ (rules : CountingRules) (fills : ℕ) (t t' s s' : SourceState) (d d' sink sink' : SinkState) where
   -- the table is refused, or a fault ended its reading
-  module _ (same : s' ≡ s) (no_reply : d' ≡ d) (e : TableFault) (h : FindsNoTable fills t t' e) where
+  module _ (same : s' ≡ s) (no_reply : d' ≡ d) (e : TableFault) (h : ReadsTable fills t t' (Err e)) where
     no_table : (result : Result Bool Fault) → PutsOrEnds (λ verdict. verdict ≡ table_verdict e) sink sink' result → ExportsOrStops rules fills t t' s s' d d' sink sink' result
     no_table (Ok true) r =
         let text = r.0 in absurd (cc (refused_no e true text.out text.judged))

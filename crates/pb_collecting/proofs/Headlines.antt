@@ -6,6 +6,7 @@ use Rattle.pb_io.specs.Lines.{lines}
 use Rattle.pb_poly.proofs.ToldReads.{handed_out}
 use Rattle.pb_poly.specs.Entry.{IsEntry}
 use Rattle.pb_poly.specs.declared.entry.Entry.{Entry}
+use Rattle.pb_poly.proofs.ReadRows.{found_table}
 use Rattle.pb_games.specs.Submissions.{Submission}
 use Rattle.pb_accepted.specs.Accepting.{Answer, Run}
 use Rattle.pb_accepted.specs.Basis.{Basis}
@@ -38,17 +39,18 @@ effect L R games run T entries bounds book = record {
 pub has_headline : (rules : CountingRules) (fills : ℕ) (t t' s s' : SourceState) (sink sink' : SinkState) (entries : List Entry)
     → AreRules rules → All IsEntry entries → CollectsBook rules fills t t' s s' sink sink' entries → HasHeadline rules t t' s s' sink sink' entries
 has_headline rules fills t t' s s' sink sink' entries counting bounds h =
-    let g = h.games.takes in (
-      g.table.came,
+    let g = h.games.takes in
+    let table = found_table fills t t' h.words g.table in (
+      table.came,
       g.came,
       replies (lines g.came) g.answers,
-      handed_out _ _ _ _ _ g.table.reads,
+      handed_out _ _ _ _ _ table.reads,
       handed_out _ _ _ _ _ g.reads,
       h.games.put,
       record {
         counting = counting;
         randoms = h.words;
-        table = g.table.is;
+        table = table.is;
         answers = g.answers;
         games = h.held;
         effect = effect (lines g.came) g.answers h.held g.run (record { words = h.words; rules = rules }) entries bounds h.book;

@@ -7,6 +7,7 @@ use Rattle.pb_io.specs.Lines.{ended_lines, lines}
 use Rattle.pb_poly.proofs.ToldReads.{handed_out}
 use Rattle.pb_poly.specs.Entry.{IsEntry}
 use Rattle.pb_poly.specs.declared.entry.Entry.{Entry}
+use Rattle.pb_poly.proofs.ReadRows.{found_table}
 use Rattle.pb_games.specs.Submissions.{Submission}
 use Rattle.pb_accepted.specs.Accepting.{Run}
 use Rattle.pb_accepted.specs.Basis.{Basis}
@@ -35,6 +36,7 @@ has_headline rules fills t t' v v' s s' j j' sink sink' entries bounds h =
     let gains = h.collects.1 in
     let answers = collects.answers in
     let kept = first.replays.came in
+    let table = found_table fills t t' randoms first.table in
     let bytes = stream.came in
     let holds = first.replays.holds in
     let run : Run most_games held (lines bytes) answers h.left.accepted = collects.leads.run in
@@ -42,19 +44,19 @@ has_headline rules fills t t' v v' s s' j j' sink sink' entries bounds h =
     let all : Effect T (ended_lines kept ++ lines bytes) (holds.answers ++ answers) h.left.accepted entries =
     effect (ended_lines kept ++ lines bytes) (holds.answers ++ answers) h.left.accepted both T entries bounds
     (subst (λ (X : Basis). IsBook X h.left.accepted entries) collects.leads.basis h.book) in (
-      first.table.came,
+      table.came,
       kept,
       bytes,
       replies (lines bytes) answers,
       mending kept ++ gains.text,
-      handed_out _ _ _ _ _ first.table.reads,
+      handed_out _ _ _ _ _ table.reads,
       handed_out _ _ _ _ _ first.replays.reads,
       handed_out _ _ _ _ _ stream.reads,
       collects.put,
       Appends-trans _ _ _ _ _ first.replays.mends.put gains.put,
       record {
         randoms = randoms;
-        table = first.table.is;
+        table = table.is;
         held = held;
         holds = holds;
         answers = answers;

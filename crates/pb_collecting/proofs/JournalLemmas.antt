@@ -73,7 +73,7 @@ module _ (rules : CountingRules) (fills : ℕ) (t t' v v' s s' : SourceState) (j
   -- ---- to its parts
 
   abbrev First : Mid → Type 0
-  First m = (words : List ℕ) × ReadsTable fills t t' words × ReplaysAll fills v v' j m.1 (new_ledger rules words) m.0 × (m.0 ≡ ledger_of rules words m.0.accepted)
+  First m = (words : List ℕ) × ReadsTable fills t t' (Ok words) × ReplaysAll fills v v' j m.1 (new_ledger rules words) m.0 × (m.0 ≡ ledger_of rules words m.0.accepted)
 
   first_from : (m : Mid) → First m → ReplaysFirst rules fills t t' v v' j m.1 m.0
   first_from m (words, table, replays, is) = record { words = words; table = table; replays = replays; is = is }

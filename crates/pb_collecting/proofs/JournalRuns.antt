@@ -2,7 +2,7 @@
 use Rattle.std.proofs.Common.{◌≡◌, ◌∙◌, ℕ, Bool, List, Option, None, Result, Ok, Err, ap, refl, subst, sym}
 use Rattle.pb_io.specs.Source.{SourceState}
 use Rattle.pb_io.specs.Sink.{SinkState}
-use Rattle.pb_poly.specs.TableReading.{FindsNoTable, ReadsTable}
+use Rattle.pb_poly.specs.TableReading.{ReadsTable}
 use Rattle.pb_poly.specs.declared.entry.Entry.{Entry}
 use Rattle.pb_poly.specs.declared.table_file.TableFault.{TableFault}
 use Rattle.pb_accepted.specs.Basis.{Basis}
@@ -22,7 +22,7 @@ use Rattle.pb_collecting.proofs.CollectRuns.{refused, table_ends}
 use Rattle.pb_collecting.proofs.JournalLemmas.{journal_to}
 use Rattle.pb_collecting.proofs.JournalParts.{at_journal, at_table}
 
-module _ (rules : CountingRules) (fills : ℕ) (t t' v v' : SourceState) (j j' : SinkState) (words : List ℕ) (l l' : LedgerState) (is : l ≡ new_ledger rules words) (read : ReadsTable fills t t' words) where
+module _ (rules : CountingRules) (fills : ℕ) (t t' v v' : SourceState) (j j' : SinkState) (words : List ℕ) (l l' : LedgerState) (is : l ≡ new_ledger rules words) (read : ReadsTable fills t t' (Ok words)) where
   pub replayed : ReplaysAll fills v v' j j' l l' → l'.basis ≡ l.basis → l'.cap ≡ l.cap → ReplaysFirst rules fills t t' v v' j j' l'
   replayed h basis cap = record {
     words = words;
@@ -48,7 +48,7 @@ module _ (rules : CountingRules) (fills : ℕ) (t t' v v' s : SourceState) (j j'
 
   -- the table is refused, or a fault ended its reading
   module _ (e shown : TableFault) (is : why ≡ Table e) (shown_is : shown ≡ e) where
-    stopped : FindsNoTable fills t t' shown × (v' ≡ v) × (j' ≡ j)
+    stopped : ReadsTable fills t t' (Err shown) × (v' ≡ v) × (j' ≡ j)
     stopped = subst Stops (is ∙ ap Table (sym shown_is)) stops
 
     pub refusal_put : (answer : Bool) → PutsOrEnds (λ verdict. verdict ≡ table_verdict shown) sink sink' (Ok answer) → Run (Ok None)

@@ -95,7 +95,7 @@ module _ (rules : CountingRules) (fills : ℕ) (t t' s s' : SourceState) (sink s
 
   -- ---- to its parts
 
-  pub took_from : (words : List ℕ) (left : LedgerState) → ReadsTable fills t t' words → runs.Takes fills s s' sink sink' (new_ledger rules words) left → CollectsGames fills t t' s s' sink sink' words left.accepted
+  pub took_from : (words : List ℕ) (left : LedgerState) → ReadsTable fills t t' (Ok words) → runs.Takes fills s s' sink sink' (new_ledger rules words) left → CollectsGames fills t t' s s' sink sink' words left.accepted
   took_from words left read h =
       let collects = h.0.done in
       record {

@@ -1,5 +1,5 @@
 -- What taking submissions gives, from what its parts do.
-use Rattle.std.proofs.Common.{◌≡◌, ◌∙◌, ℕ, List, ap, subst}
+use Rattle.std.proofs.Common.{◌≡◌, ◌∙◌, ℕ, List, Ok, ap, subst}
 use Rattle.pb_io.specs.Source.{SourceState}
 use Rattle.pb_io.specs.Sink.{SinkState}
 use Rattle.pb_accepted.specs.Basis.{Basis}
@@ -11,7 +11,7 @@ use Rattle.pb_ledger.specs.declared.collecting.CollectFault.{CollectFault}
 use Rattle.pb_poly.specs.TableReading.{ReadsTable}
 use Rattle.pb_collecting.specs.Taking.{FillsLedger, StopsTaking, ledger_of, new_ledger}
 
-module _ (rules : CountingRules) (fills : ℕ) (t t' s s' : SourceState) (sink sink' : SinkState) (words : List ℕ) (l l' : LedgerState) (is : l ≡ new_ledger rules words) (read : ReadsTable fills t t' words) where
+module _ (rules : CountingRules) (fills : ℕ) (t t' s s' : SourceState) (sink sink' : SinkState) (words : List ℕ) (l l' : LedgerState) (is : l ≡ new_ledger rules words) (read : ReadsTable fills t t' (Ok words)) where
   pub took_all : (totals : Totals) → CollectsStream fills s s' sink sink' l l' totals → FillsLedger rules fills t t' s s' sink sink' l'
   took_all totals g =
       let h = subst (λ m. CollectsStream fills s s' sink sink' m l' totals) is g in

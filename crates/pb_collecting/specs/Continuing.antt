@@ -7,7 +7,7 @@ use Rattle.pb_io.specs.LineTask.{AtEnd}
 use Rattle.pb_poly.specs.Book.{NeverFall}
 use Rattle.pb_poly.specs.Entry.{IsEntry}
 use Rattle.pb_poly.specs.declared.entry.Entry.{Entry}
-use Rattle.pb_poly.specs.TableReading.{FindsNoTable, ReadsTable}
+use Rattle.pb_poly.specs.TableReading.{ReadsTable}
 use Rattle.pb_games.specs.Submissions.{Submission}
 use Rattle.pb_accepted.specs.Counting.{IsBook}
 use Rattle.pb_accepted.specs.Holding.{most_games}
@@ -39,7 +39,7 @@ saved_verdict load.Memory = Err Memory
 -- the table was read, and all lines of the saved ledger were loaded into a ledger of its words, which is this one
 pub record LoadsFirst (rules : CountingRules) (fills : ℕ) (t t' v v' : SourceState) (loaded : LedgerState) : Type 0 where
   pub words : List ℕ
-  pub table : ReadsTable fills t t' words
+  pub table : ReadsTable fills t t' (Ok words)
   pub held : List Submission
   pub loads : AtEnd fills v v' (λ ls. Loads most_games ls held)
   pub is : loaded ≡ ledger_of rules words held
@@ -47,14 +47,14 @@ pub record LoadsFirst (rules : CountingRules) (fills : ℕ) (t t' v v' : SourceS
 -- the table was read, and the saved ledger wasn't loaded for this reason
 pub record LoadsNot (rules : CountingRules) (fills : ℕ) (t t' v v' : SourceState) (e : LoadError) : Type 0 where
   pub words : List ℕ
-  pub table : ReadsTable fills t t' words
+  pub table : ReadsTable fills t t' (Ok words)
   pub left : LedgerState
   pub until : LoadsUntil fills v v' (new_ledger rules words) left e
 
 -- how it ends to read the table and to load the saved ledger
 abbrev pub LoadsOrStops : CountingRules → ℕ → SourceState → SourceState → SourceState → SourceState → Result LedgerState NoLedger → Type 0
 LoadsOrStops rules fills t t' v v' (Ok loaded) = LoadsFirst rules fills t t' v v' loaded
-LoadsOrStops rules fills t t' v v' (Err (Table e)) = FindsNoTable fills t t' e × (v' ≡ v)
+LoadsOrStops rules fills t t' v v' (Err (Table e)) = ReadsTable fills t t' (Err e) × (v' ≡ v)
 LoadsOrStops rules fills t t' v v' (Err (Saved e)) = LoadsNot rules fills t t' v v' e
 
 -- what comes of it where there is no ledger

@@ -3,7 +3,7 @@
 use Rattle.std.specs.Prelude.{◌≡◌, ℕ, List, Result, Ok, Err}
 use Rattle.pb_io.specs.Source.{SourceState}
 use Rattle.pb_io.specs.Sink.{SinkState}
-use Rattle.pb_poly.specs.TableReading.{FindsNoTable, ReadsTable}
+use Rattle.pb_poly.specs.TableReading.{ReadsTable}
 use Rattle.pb_accepted.specs.Ledger.{LedgerState}
 use Rattle.pb_accepted.specs.Rules.{CountingRules}
 use Rattle.pb_saved.specs.Replaying.{ReplaysAll, ReplaysUntil}
@@ -22,21 +22,21 @@ use Rattle.pb_collecting.specs.declared.journaling.NoJournal.TheVariants.{Table,
 -- the table was read, and the journal was replayed into a new ledger of its words, and its end mended
 pub record ReplaysFirst (rules : CountingRules) (fills : ℕ) (t t' v v' : SourceState) (j j' : SinkState) (held : LedgerState) : Type 0 where
   pub words : List ℕ
-  pub table : ReadsTable fills t t' words
+  pub table : ReadsTable fills t t' (Ok words)
   pub replays : ReplaysAll fills v v' j j' (new_ledger rules words) held
   pub is : held ≡ ledger_of rules words held.accepted
 
 -- the table was read, and the journal wasn't replayed for this reason
 pub record ReplaysNot (rules : CountingRules) (fills : ℕ) (t t' v v' : SourceState) (j j' : SinkState) (e : ReplayError) : Type 0 where
   pub words : List ℕ
-  pub table : ReadsTable fills t t' words
+  pub table : ReadsTable fills t t' (Ok words)
   pub left : LedgerState
   pub until : ReplaysUntil fills v v' j j' (new_ledger rules words) left e
 
 -- how it ends to read the table and to replay the journal
 abbrev pub ReplaysOrStops : CountingRules → ℕ → SourceState → SourceState → SourceState → SourceState → SinkState → SinkState → Result LedgerState NoJournal → Type 0
 ReplaysOrStops rules fills t t' v v' j j' (Ok held) = ReplaysFirst rules fills t t' v v' j j' held
-ReplaysOrStops rules fills t t' v v' j j' (Err (Table e)) = FindsNoTable fills t t' e × (v' ≡ v) × (j' ≡ j)
+ReplaysOrStops rules fills t t' v v' j j' (Err (Table e)) = ReadsTable fills t t' (Err e) × (v' ≡ v) × (j' ≡ j)
 ReplaysOrStops rules fills t t' v v' j j' (Err (Replay e)) = ReplaysNot rules fills t t' v v' j j' e
 
 -- what a fault of the replay is to the run

@@ -8,7 +8,7 @@ use Rattle.pb_io.specs.Sink.{SinkState}
 use Rattle.pb_io.specs.Source.{SourceState}
 use Rattle.pb_poly.specs.Book.{NeverFall}
 use Rattle.pb_poly.specs.Entry.{IsEntry}
-use Rattle.pb_poly.specs.TableReading.{FindsNoTable, ReadsTable}
+use Rattle.pb_poly.specs.TableReading.{ReadsTable}
 use Rattle.pb_poly.specs.declared.entry.Entry.{Entry}
 use Rattle.pb_poly.specs.declared.table_file.TableFault.{TableFault}
 use Rattle.pb_accepted.specs.Counting.{IsBook}
@@ -66,10 +66,10 @@ OnlyOk holds (Err fault) = ⊥
 -- the table was read, and this is a ledger of its random numbers without games; or there is no table, and this comes of it
 abbrev pub TakesTable : CountingRules → ℕ → SourceState → SourceState → LedgerState → Type 0
 TakesTable rules fills t t' ledger =
-    (randoms : List ℕ) × ReadsTable fills t t' randoms × (ledger ≡ new_ledger rules randoms)
+    (randoms : List ℕ) × ReadsTable fills t t' (Ok randoms) × (ledger ≡ new_ledger rules randoms)
 
 abbrev pub LacksTable : ℕ → SourceState → SourceState → Verdict → Type 0
-LacksTable fills t t' verdict = (e : TableFault) × FindsNoTable fills t t' e × (verdict ≡ table_verdict e)
+LacksTable fills t t' verdict = (e : TableFault) × ReadsTable fills t t' (Err e) × (verdict ≡ table_verdict e)
 
 -- all submissions were taken and answered from one ledger to the other, and the replies handed on; or that broke off
 abbrev pub Takes : ℕ → SourceState → SourceState → SinkState → SinkState → LedgerState → LedgerState → Type 0
@@ -98,10 +98,10 @@ CollectRun rules fills t t' s s' sink sink' = RunEnds (TakesTable rules fills t 
 abbrev pub ContinueRun : CountingRules → ℕ → SourceState → SourceState → SourceState → SourceState
     → SourceState → SourceState → SinkState → SinkState → Result (Option Continued) Fault → Type 0
 ContinueRun rules fills t t' v v' s s' sink sink' = RunEnds
-    (λ loaded. (randoms : List ℕ) × (held : List Submission) × ReadsTable fills t t' randoms
+    (λ loaded. (randoms : List ℕ) × (held : List Submission) × ReadsTable fills t t' (Ok randoms)
     × AtEnd fills v v' (λ ls. Loads most_games ls held) × (loaded ≡ ledger_of rules randoms held))
     (λ verdict. (LacksTable fills t t' verdict × (v' ≡ v) × (s' ≡ s))
-    ⊎ ((randoms : List ℕ) × (left : LedgerState) × (e : LoadError) × ReadsTable fills t t' randoms
+    ⊎ ((randoms : List ℕ) × (left : LedgerState) × (e : LoadError) × ReadsTable fills t t' (Ok randoms)
     × LoadsUntil fills v v' (new_ledger rules randoms) left e × (verdict ≡ saved_verdict e) × (s' ≡ s)))
     (λ loaded. OnlyOk (λ run. MakesBook
     (λ left. Takes fills s s' sink sink' loaded left × (left ≡ run.ledger))
@@ -113,10 +113,10 @@ ContinueRun rules fills t t' v v' s s' sink sink' = RunEnds
 abbrev pub JournalRun : CountingRules → ℕ → SourceState → SourceState → SourceState → SourceState → SourceState → SourceState
     → SinkState → SinkState → SinkState → SinkState → Result (Option (List Entry)) Fault → Type 0
 JournalRun rules fills t t' v v' s s' j j' sink sink' = RunEnds {M = LedgerState × SinkState}
-    (λ m. (randoms : List ℕ) × ReadsTable fills t t' randoms
+    (λ m. (randoms : List ℕ) × ReadsTable fills t t' (Ok randoms)
     × ReplaysAll fills v v' j m.1 (new_ledger rules randoms) m.0 × (m.0 ≡ ledger_of rules randoms m.0.accepted))
     (λ verdict. (LacksTable fills t t' verdict × (v' ≡ v) × (j' ≡ j) × (s' ≡ s))
-    ⊎ ((randoms : List ℕ) × (left : LedgerState) × (e : ReplayError) × ReadsTable fills t t' randoms
+    ⊎ ((randoms : List ℕ) × (left : LedgerState) × (e : ReplayError) × ReadsTable fills t t' (Ok randoms)
     × ReplaysUntil fills v v' j j' (new_ledger rules randoms) left e × (verdict ≡ Err (fault_of_replay e)) × (s' ≡ s)))
     (λ m. MakesBook (λ left. Takes fills s s' sink sink' m.0 left × Gains m.1 j' m.0.accepted left.accepted)
     (λ fault. (e : JournalFault) × (left : LedgerState)

@@ -19,7 +19,7 @@ use Rattle.pb_commands.specs.Judged.{HandedOnOnce, PutsOrEnds}
 use Rattle.pb_commands.specs.TableJudged.{table_verdict}
 use Rattle.pb_commands.specs.declared.fault.Fault.{Fault}
 use Rattle.pb_commands.specs.declared.fault.Fault.TheVariants.{Read, Write, Endless, Memory}
-use Rattle.pb_poly.specs.TableReading.{FindsNoTable, ReadsTable}
+use Rattle.pb_poly.specs.TableReading.{ReadsTable}
 use Rattle.pb_collecting.specs.declared.taking.NoGames.{NoGames}
 use Rattle.pb_collecting.specs.declared.taking.NoGames.TheVariants.{Table, Submissions}
 
@@ -34,13 +34,13 @@ new_ledger rules words = ledger_of rules words []
 -- the table was read, and the ledger is a new one of its words
 pub record IsEmptyLedger (rules : CountingRules) (fills : ℕ) (t t' : SourceState) (ledger : LedgerState) : Type 0 where
   pub words : List ℕ
-  pub table : ReadsTable fills t t' words
+  pub table : ReadsTable fills t t' (Ok words)
   pub is : ledger ≡ new_ledger rules words
 
 -- the table of these words was read, and all lines of the stream were submitted, from no games on, and answered; these games are
 -- held
 pub record TakesGames (fills : ℕ) (t t' s s' : SourceState) (words : List ℕ) (held : List Submission) : Type 0 where
-  pub table : ReadsTable fills t t' words
+  pub table : ReadsTable fills t t' (Ok words)
   pub came : List ℕ
   pub reads : ReadsAll chunk_len fills s s' came
   pub answers : List Answer
@@ -62,14 +62,14 @@ pub record FillsLedger (rules : CountingRules) (fills : ℕ) (t t' s s' : Source
 -- the table was read, and then not all submissions were taken and answered
 pub record StopsTaking (rules : CountingRules) (fills : ℕ) (t t' s s' : SourceState) (sink sink' : SinkState) (e : CollectFault) : Type 0 where
   pub words : List ℕ
-  pub table : ReadsTable fills t t' words
+  pub table : ReadsTable fills t t' (Ok words)
   pub ledger : LedgerState
   pub until : CollectsUntil fills s s' sink sink' (new_ledger rules words) ledger e
 
 -- how taking ends; without a table no submission is read, and no reply is put
 abbrev pub TakesOrStops : CountingRules → ℕ → SourceState → SourceState → SourceState → SourceState → SinkState → SinkState → Result LedgerState NoGames → Type 0
 TakesOrStops rules fills t t' s s' sink sink' (Ok ledger) = FillsLedger rules fills t t' s s' sink sink' ledger
-TakesOrStops rules fills t t' s s' sink sink' (Err (Table e)) = FindsNoTable fills t t' e × (s' ≡ s) × (sink' ≡ sink)
+TakesOrStops rules fills t t' s s' sink sink' (Err (Table e)) = ReadsTable fills t t' (Err e) × (s' ≡ s) × (sink' ≡ sink)
 TakesOrStops rules fills t t' s s' sink sink' (Err (Submissions e)) = StopsTaking rules fills t t' s s' sink sink' e
 
 -- what a fault of collecting is to the run

@@ -1,6 +1,6 @@
 //! Games out of submissions.
-ghost use Rattle.std.specs.Prelude.{◌≡◌, MatchResult};
-ghost use Rattle.pb_poly.specs.TableReading.{FindsNoTable};
+ghost use Rattle.std.specs.Prelude.{◌≡◌, Err, MatchResult};
+ghost use Rattle.pb_poly.specs.TableReading.{ReadsTable};
 ghost use Rattle.pb_collecting.specs.Taking.{IsEmptyLedger, RefusesGames, TakesOrStops, fault_of};
 
 use pb_commands::{Fault, TableFault, refuse_table, take_table};
@@ -26,7 +26,7 @@ pub(crate) fn empty_ledger<T: Source>(
     fills: u32,
 ) -> Result<Ledger<MapTally>, TableFault>
     ensures { MatchResult result (IsEmptyLedger rules fills (T.state table_source.old) (T.state table_source.new))
-        (FindsNoTable fills (T.state table_source.old) (T.state table_source.new)) }
+        (λ e. ReadsTable fills (T.state table_source.old) (T.state table_source.new) (Err e)) }
 {
     let table = take_table(alloc, table_source, fills)?;
     match Ledger::with_rules(alloc, &table, MAX_CAP, rules) {

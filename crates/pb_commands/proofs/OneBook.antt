@@ -5,12 +5,13 @@ use Rattle.pb_board.specs.Refusal.{BreaksAt}
 use Rattle.pb_board.proofs.Breaks.{breaks_more, one_break}
 use Rattle.pb_poly.specs.declared.entry.Entry.{Entry}
 use Rattle.pb_poly.specs.Entry.{IsEntry}
-use Rattle.pb_poly.specs.Book.{NeverFall, book_bytes}
-use Rattle.pb_poly.specs.Reading.{BookDue, Splits}
+use Rattle.pb_poly.specs.Book.{IsBookFile, NeverFall, book_bytes}
+use Rattle.pb_poly.specs.BookFinds.{BookDue}
+use Rattle.pb_poly.specs.Reading.{Splits}
 use Rattle.pb_poly.proofs.EntryBytes.{NeverFall-front, none_falls, begins, book_is_one, length-book_bytes}
 use Rattle.pb_poly.specs.declared.reading.BookError.{BookError}
 use Rattle.pb_poly.specs.declared.reading.BookError.TheVariants as book
-use Rattle.pb_commands.specs.BookJudged.{AsBook, FallsAt, IsBookFile, book_verdict}
+use Rattle.pb_commands.specs.BookJudged.{AsBook, book_verdict}
 use Rattle.pb_commands.specs.BookShown.{BookShown, show_text}
 use Rattle.pb_commands.specs.Judged.{Verdict}
 
@@ -31,6 +32,16 @@ fewer_begin front entries x y h k is few =
     let less : length (book_bytes front) ≤ length (book_bytes entries) = omega (arith, length-book_bytes front, length-book_bytes entries) in
     let p = shorter_begins (book_bytes front) x (book_bytes entries) y is less in
     let c = begins entries front p.0 k h p.1 in (c.0, c.1)
+
+-- the bytes begin with whole entries of which the key of this one, counted from 1, is the first that falls
+record FallsAt (number : ℕ) (bytes : List ℕ) : Type 0 where
+  pub front : List ℕ
+  pub rest : List ℕ
+  pub cut : bytes ≡ front ++ rest
+  pub due : BookDue (book.Unsorted number) front
+
+falls_at : (n : ℕ) (bytes : List ℕ) → AsBook bytes (Err (book.Unsorted n)) → FallsAt n bytes
+falls_at n bytes (front, rest, cut, due) = record { front = front; rest = rest; cut = cut; due = due }
 
 module _ (bytes : List ℕ) where
   -- the bytes begin with entries at one of which the keys fall, so with no more of them whose keys never do
@@ -78,13 +89,13 @@ module _ (bytes : List ℕ) where
   -- bytes are one book, or no book for one reason
   pub one_book : (r x : Result (List Entry) BookError) → AsBook bytes r → AsBook bytes x → r ≡ x
   one_book (Ok entries) (Ok others) h k = ap (λ es. Ok es) (book_is_one entries others bytes h.are k.are)
-  one_book (Ok entries) (Err (book.Unsorted m)) h k = absurd (no_fall m k entries [] (whole entries h))
+  one_book (Ok entries) (Err (book.Unsorted m)) h k = absurd (no_fall m (falls_at m bytes k) entries [] (whole entries h))
   one_book (Ok entries) (Err (book.Cut m)) h k = absurd (not_cut entries m h k)
-  one_book (Err (book.Unsorted n)) (Ok others) h k = absurd (no_fall n h others [] (whole others k))
-  one_book (Err (book.Unsorted n)) (Err (book.Unsorted m)) h k = ap (λ number. Err (book.Unsorted number)) (one_fall n m h k)
-  one_book (Err (book.Unsorted n)) (Err (book.Cut m)) h k = absurd (no_fall n h k.0 k.1 k.2)
+  one_book (Err (book.Unsorted n)) (Ok others) h k = absurd (no_fall n (falls_at n bytes h) others [] (whole others k))
+  one_book (Err (book.Unsorted n)) (Err (book.Unsorted m)) h k = ap (λ number. Err (book.Unsorted number)) (one_fall n m (falls_at n bytes h) (falls_at m bytes k))
+  one_book (Err (book.Unsorted n)) (Err (book.Cut m)) h k = absurd (no_fall n (falls_at n bytes h) k.0 k.1 k.2)
   one_book (Err (book.Cut n)) (Ok others) h k = absurd (not_cut others n k h)
-  one_book (Err (book.Cut n)) (Err (book.Unsorted m)) h k = absurd (no_fall m k h.0 h.1 h.2)
+  one_book (Err (book.Cut n)) (Err (book.Unsorted m)) h k = absurd (no_fall m (falls_at m bytes k) h.0 h.1 h.2)
   one_book (Err (book.Cut n)) (Err (book.Cut m)) h k = ap (λ extra. Err (book.Cut extra)) (one_cut n m h k)
   one_book (Err book.Read) x h k = absurd h
   one_book (Err book.Endless) x h k = absurd h

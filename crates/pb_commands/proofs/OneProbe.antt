@@ -10,7 +10,7 @@ use Rattle.pb_board.proofs.Fens.{record_never_due}
 use Rattle.pb_board.proofs.Unique.{one_record}
 use Rattle.pb_io.specs.Lines.{lines}
 use Rattle.pb_poly.proofs.Tables.{only_memory}
-use Rattle.pb_poly.specs.Table.{IsWordLine}
+use Rattle.pb_poly.specs.Table.{IsRandomLine}
 use Rattle.pb_poly.specs.declared.entry.Entry.{Entry}
 use Rattle.pb_poly.specs.declared.table.TableError.TheVariants as poly
 use Rattle.pb_poly.specs.declared.table_file.TableFault.{TableFault}
@@ -37,11 +37,11 @@ one_table bytes (Err table_fault.Long) (Err (table_fault.Line m)) h k = absurd (
 one_table bytes (Err table_fault.Long) (Err (table_fault.Count m)) h k = absurd (omega (arith, h, k.0))
 one_table bytes (Err (table_fault.Line n)) (Ok others) h k = absurd (cc (only_memory others bytes (poly.Line n) k.text h.1))
 one_table bytes (Err (table_fault.Line n)) (Err table_fault.Long) h k = absurd (omega (arith, k, h.0))
-one_table bytes (Err (table_fault.Line n)) (Err (table_fault.Line m)) h k = ap (λ number. Err (table_fault.Line number)) (one_all_break IsWordLine (lines bytes) n m h.1 k.1)
-one_table bytes (Err (table_fault.Line n)) (Err (table_fault.Count m)) h k = absurd (all_unbroken IsWordLine (lines bytes) n k.1.2 h.1)
+one_table bytes (Err (table_fault.Line n)) (Err (table_fault.Line m)) h k = ap (λ number. Err (table_fault.Line number)) (one_all_break IsRandomLine (lines bytes) n m h.1 k.1)
+one_table bytes (Err (table_fault.Line n)) (Err (table_fault.Count m)) h k = absurd (all_unbroken IsRandomLine (lines bytes) n k.1.2 h.1)
 one_table bytes (Err (table_fault.Count n)) (Ok others) h k = absurd (cc (only_memory others bytes (poly.Count n) k.text h.1))
 one_table bytes (Err (table_fault.Count n)) (Err table_fault.Long) h k = absurd (omega (arith, k, h.0))
-one_table bytes (Err (table_fault.Count n)) (Err (table_fault.Line m)) h k = absurd (all_unbroken IsWordLine (lines bytes) m h.1.2 k.1)
+one_table bytes (Err (table_fault.Count n)) (Err (table_fault.Line m)) h k = absurd (all_unbroken IsRandomLine (lines bytes) m h.1.2 k.1)
 one_table bytes (Err (table_fault.Count n)) (Err (table_fault.Count m)) h k = ap (λ count. Err (table_fault.Count count)) (h.1.0 ∙ sym k.1.0)
 one_table bytes (Err table_fault.Read) x h k = absurd h
 one_table bytes (Err table_fault.Endless) x h k = absurd h

@@ -8,11 +8,12 @@ use Rattle.pb_moves.specs.Moved.{Moved}
 use Rattle.pb_poly.specs.Found.{Found}
 use Rattle.pb_io.specs.Sink.{SinkState}
 use Rattle.pb_io.specs.Source.{SourceState}
-use Rattle.pb_poly.specs.Reading.{FindsNoBook, ReadsBook, Tells}
+use Rattle.pb_poly.specs.Reading.{ReadsBook, Tells}
+use Rattle.pb_poly.proofs.ReadRows.{found_no_table}
 use Rattle.pb_poly.specs.declared.entry.Entry.{Entry}
 use Rattle.pb_poly.specs.declared.reading.BookError.{BookError}
 use Rattle.pb_poly.specs.Table.{table_limit}
-use Rattle.pb_poly.specs.TableReading.{FindsNoTable, ReadsTable}
+use Rattle.pb_poly.specs.TableReading.{ReadsTable}
 use Rattle.pb_poly.specs.declared.table_file.TableFault.{TableFault}
 use Rattle.pb_poly.specs.declared.table_file.TableFault.TheVariants as table_fault
 use Rattle.pb_poly.proofs.ToldReads.{no_endless, no_fault}
@@ -31,20 +32,20 @@ use Rattle.pb_commands.proofs.Told.{told_book, told_no_book, told_no_table, told
 
 -- a source that tells its bytes, doesn't fail and ends within the fills gives no fault of reading
 module _ (fills : ℕ) (t t' : SourceState) (bytes : List ℕ) (tells : Tells fills t t' bytes) where
-  no_table_fault : (e : TableFault) → FindsNoTable fills t t' e → Err Read ≡ table_verdict e → ⊥
+  no_table_fault : (e : TableFault) → ReadsTable fills t t' (Err e) → Err Read ≡ table_verdict e → ⊥
   no_table_fault table_fault.Long h is = cc is
   no_table_fault (table_fault.Line n) h is = cc is
   no_table_fault (table_fault.Count n) h is = cc is
-  no_table_fault table_fault.Read h is = no_fault table_limit fills t t' bytes tells h.came h.reads
+  no_table_fault table_fault.Read read is = let h = found_no_table fills t t' table_fault.Read read in no_fault table_limit fills t t' bytes tells h.came h.reads
   no_table_fault table_fault.Endless h is = cc is
   no_table_fault table_fault.Memory h is = cc is
 
-  no_table_end : (e : TableFault) → FindsNoTable fills t t' e → Err Endless ≡ table_verdict e → ⊥
+  no_table_end : (e : TableFault) → ReadsTable fills t t' (Err e) → Err Endless ≡ table_verdict e → ⊥
   no_table_end table_fault.Long h is = cc is
   no_table_end (table_fault.Line n) h is = cc is
   no_table_end (table_fault.Count n) h is = cc is
   no_table_end table_fault.Read h is = cc
-  no_table_end table_fault.Endless h is = no_endless table_limit fills t t' bytes tells h.came h.reads
+  no_table_end table_fault.Endless read is = let h = found_no_table fills t t' table_fault.Endless read in no_endless table_limit fills t t' bytes tells h.came h.reads
   no_table_end table_fault.Memory h is = cc is
 
 module _ (fills : ℕ) (t t' b b' : SourceState) (fen : List ℕ) (sink sink' : SinkState) where
@@ -54,16 +55,16 @@ module _ (fills : ℕ) (t t' b b' : SourceState) (fen : List ℕ) (sink sink' : 
   abbrev Ends : Result Bool Fault → Type 0
   Ends = PutsOrEnds judges sink sink'
 
-  pub at_table : b' ≡ b → (result : Result Bool Fault) (e : TableFault) → FindsNoTable fills t t' e
+  pub at_table : b' ≡ b → (result : Result Bool Fault) (e : TableFault) → ReadsTable fills t t' (Err e)
       → PutsOrEnds (λ verdict. verdict ≡ table_verdict e) sink sink' result → Ends result
   at_table same result e h r = shows judges (table_verdict e) (ProbeShown.no_table e (h, same) refl) sink sink' result r
 
-  module _ (words : List ℕ) (read : ReadsTable fills t t' words) where
-    pub at_book : (result : Result Bool Fault) (e : BookError) → FindsNoBook fills b b' e
+  module _ (words : List ℕ) (read : ReadsTable fills t t' (Ok words)) where
+    pub at_book : (result : Result Bool Fault) (e : BookError) → ReadsBook fills b b' (Err e)
         → PutsOrEnds (λ verdict. verdict ≡ book_verdict e) sink sink' result → Ends result
     at_book result e h r = shows judges (book_verdict e) (ProbeShown.no_book words e (read, tt) h refl) sink sink' result r
 
-    module _ (entries : List Entry) (read_too : ReadsBook fills b b' entries) where
+    module _ (entries : List Entry) (read_too : ReadsBook fills b b' (Ok entries)) where
       pub at_record : (result : Result Bool Fault) (e : FenError) → AsRecord fen (Err e) → (line : Verdict) → line ≡ record_verdict e
           → PutsOrEnds (λ verdict. verdict ≡ line) sink sink' result → Ends result
       at_record result e due line same r = shows judges line (ProbeShown.no_record words entries e (read, tt) read_too due same) sink sink' result r

@@ -5,12 +5,13 @@ use Rattle.std.specs.Io.KnownBytes.{Appends}
 use Rattle.pb_io.specs.Reads.{chunk_len}
 use Rattle.pb_io.specs.Sink.{SinkState}
 use Rattle.pb_io.specs.Source.{SourceState}
-use Rattle.pb_poly.specs.Reading.{FindsNoBook, ReadsBook, Tells}
+use Rattle.pb_poly.specs.Reading.{ReadsBook, Tells}
+use Rattle.pb_poly.proofs.ReadRows.{found_no_book}
 use Rattle.pb_poly.specs.declared.entry.Entry.{Entry}
 use Rattle.pb_poly.specs.declared.reading.BookError.{BookError}
 use Rattle.pb_poly.specs.declared.reading.BookError.TheVariants as book_error
 use Rattle.pb_poly.proofs.ToldReads.{no_endless, no_fault}
-use Rattle.pb_commands.specs.BookJudged.{AsBook, ReadAsBook, book_verdict}
+use Rattle.pb_commands.specs.BookJudged.{AsBook, book_verdict}
 use Rattle.pb_commands.specs.BookShown.{BookShown, show_text}
 use Rattle.pb_commands.specs.Judged.{HandedOnOnce, PutsOrEnds, PutsText, PutsUntil, Verdict}
 use Rattle.pb_commands.specs.Shows.{Shows}
@@ -22,39 +23,39 @@ use Rattle.pb_commands.proofs.Told.{told_shown}
 
 -- a source that tells its bytes, doesn't fail and ends within the fills gives no fault of reading
 module _ (fills : ℕ) (s s' : SourceState) (bytes : List ℕ) (tells : Tells fills s s' bytes) where
-  pub no_book_fault : (e : BookError) → FindsNoBook fills s s' e → Err Read ≡ book_verdict e → ⊥
+  pub no_book_fault : (e : BookError) → ReadsBook fills s s' (Err e) → Err Read ≡ book_verdict e → ⊥
   no_book_fault (book_error.Unsorted n) h is = cc is
   no_book_fault (book_error.Cut n) h is = cc is
-  no_book_fault book_error.Read h is = no_fault chunk_len fills s s' bytes tells h.came h.reads
+  no_book_fault book_error.Read read is = let h = found_no_book fills s s' book_error.Read read in no_fault chunk_len fills s s' bytes tells h.came h.reads
   no_book_fault book_error.Endless h is = cc is
   no_book_fault book_error.Memory h is = cc is
 
-  pub no_book_end : (e : BookError) → FindsNoBook fills s s' e → Err Endless ≡ book_verdict e → ⊥
+  pub no_book_end : (e : BookError) → ReadsBook fills s s' (Err e) → Err Endless ≡ book_verdict e → ⊥
   no_book_end (book_error.Unsorted n) h is = cc is
   no_book_end (book_error.Cut n) h is = cc is
   no_book_end book_error.Read h is = cc
-  no_book_end book_error.Endless h is = no_endless chunk_len fills s s' bytes tells h.came h.reads
+  no_book_end book_error.Endless read is = let h = found_no_book fills s s' book_error.Endless read in no_endless chunk_len fills s s' bytes tells h.came h.reads
   no_book_end book_error.Memory h is = cc is
 
-  no_fault_shown : BookShown (ReadAsBook fills s s') (Err Read) → ⊥
+  no_fault_shown : BookShown (ReadsBook fills s s') (Err Read) → ⊥
   no_fault_shown (BookShown.shown entries h is) = cc is
   no_fault_shown (BookShown.no_book e h is) = no_book_fault e h is
 
-  no_end_shown : BookShown (ReadAsBook fills s s') (Err Endless) → ⊥
+  no_end_shown : BookShown (ReadsBook fills s s') (Err Endless) → ⊥
   no_end_shown (BookShown.shown entries h is) = cc is
   no_end_shown (BookShown.no_book e h is) = no_book_end e h is
 
 module _ (fills : ℕ) (s s' : SourceState) (sink sink' : SinkState) where
   abbrev judges : Verdict → Type 0
-  judges = BookShown (ReadAsBook fills s s')
+  judges = BookShown (ReadsBook fills s s')
 
   abbrev Ends : Result Bool Fault → Type 0
   Ends = PutsOrEnds judges sink sink'
 
   -- the book was read, and these are its entries
-  module _ (book entries : List Entry) (read : ReadsBook fills s s' book) (same : entries ≡ book) where
+  module _ (book entries : List Entry) (read : ReadsBook fills s s' (Ok book)) (same : entries ≡ book) where
     shown : judges (Ok (true, show_text entries))
-    shown = BookShown.shown entries (subst (λ (es : List Entry). ReadsBook fills s s' es) (sym same) read) refl
+    shown = BookShown.shown entries (subst (λ (es : List Entry). ReadsBook fills s s' (Ok es)) (sym same) read) refl
 
     pub at_entries : {A : Type 0} (v : A) → Shows {A = A} sink sink' (Ok v) (show_text entries) → Ends (Ok true)
     at_entries = text_shown judges sink sink' true (show_text entries) shown
@@ -62,7 +63,7 @@ module _ (fills : ℕ) (s s' : SourceState) (sink sink' : SinkState) where
     pub at_fault : {A : Type 0} (e : Fault) → Shows {A = A} sink sink' (Err e) (show_text entries) → Ends (Err e)
     at_fault = text_not_shown judges sink sink' true (show_text entries) shown
 
-  pub at_refusal : (result : Result Bool Fault) (e : BookError) → FindsNoBook fills s s' e → PutsOrEnds (λ verdict. verdict ≡ book_verdict e) sink sink' result → Ends result
+  pub at_refusal : (result : Result Bool Fault) (e : BookError) → ReadsBook fills s s' (Err e) → PutsOrEnds (λ verdict. verdict ≡ book_verdict e) sink sink' result → Ends result
   at_refusal result e h r = shows judges (book_verdict e) (BookShown.no_book e h refl) sink sink' result r
 
   -- what the clauses of the command say, from how it ends

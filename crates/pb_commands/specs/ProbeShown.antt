@@ -10,11 +10,13 @@ use Rattle.pb_poly.specs.declared.entry.Entry.{Entry}
 use Rattle.pb_poly.specs.declared.reading.BookError.{BookError}
 use Rattle.pb_poly.specs.declared.table_file.TableFault.{TableFault}
 use Rattle.pb_poly.specs.Found.{Found}
+use Rattle.pb_poly.specs.Reading.{ReadsBook}
+use Rattle.pb_poly.specs.TableReading.{ReadsTable}
 use Rattle.pb_commands.specs.declared.fault.Fault.TheVariants.{Memory}
-use Rattle.pb_commands.specs.BookJudged.{ReadAsBook, book_verdict}
+use Rattle.pb_commands.specs.BookJudged.{book_verdict}
 use Rattle.pb_commands.specs.Judged.{Verdict}
 use Rattle.pb_commands.specs.RecordJudged.{AsRecord, record_verdict}
-use Rattle.pb_commands.specs.TableJudged.{ReadAsTable, table_verdict}
+use Rattle.pb_commands.specs.TableJudged.{table_verdict}
 
 -- the move and its weight, a space between
 abbrev pub found_line : Moved × ℕ → List ℕ
@@ -39,4 +41,4 @@ pub data ProbeShown (table : Result (List ℕ) TableFault → Type 0) (book : Re
 
 -- the same over the states of the table's source and of the book's, which is left alone where there is no table
 abbrev pub ProbesSources : ℕ → SourceState → SourceState → SourceState → SourceState → List ℕ → Verdict → Type 0
-ProbesSources fills t t' b b' fen = ProbeShown (λ r. ReadAsTable fills t t' r × OnErr r (b' ≡ b)) (ReadAsBook fills b b') fen
+ProbesSources fills t t' b b' fen = ProbeShown (λ r. ReadsTable fills t t' r × OnErr r (b' ≡ b)) (ReadsBook fills b b') fen

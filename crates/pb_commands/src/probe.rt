@@ -85,7 +85,7 @@ fn show_under<K: Sink>(
     sink: &mut K,
 ) -> Result<bool, Fault>
     // However the two were read, the command ends so.
-    ensures { (fills : ℕ) (t t' b b' : SourceState) → ReadsTable fills t t' table.now → ReadsBook fills b b' book.now
+    ensures { (fills : ℕ) (t t' b b' : SourceState) → ReadsTable fills t t' (Ok table.now) → ReadsBook fills b b' (Ok book.now)
         → PutsOrEnds (ProbesSources fills t t' b b' fen.now) (K.state sink.old) (K.state sink.new) result }
 {
     let record = match read_fen(fen) {

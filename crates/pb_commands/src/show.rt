@@ -1,9 +1,9 @@
 //! The command `show`: a line for each entry of a book.
 ghost use Rattle.std.specs.Prelude.{◌≡◌, ℕ, Bool, IfErr, IfOk, IfSome, List, MatchResult, Ok, OnOk, false, true};
 ghost use Rattle.std.specs.Io.KnownBytes.{Appends};
-ghost use Rattle.pb_poly.specs.Reading.{Tells};
+ghost use Rattle.pb_poly.specs.Reading.{ReadsBook, Tells};
 ghost use Rattle.pb_io.specs.Sink.{Put};
-ghost use Rattle.pb_commands.specs.BookJudged.{AsBook, ReadAsBook};
+ghost use Rattle.pb_commands.specs.BookJudged.{AsBook};
 ghost use Rattle.pb_commands.specs.BookShown.{BookShown, entry_line, show_text};
 ghost use Rattle.pb_commands.specs.Judged.{HandedOnOnce, PutsOrEnds, PutsText, PutsUntil};
 ghost use Rattle.pb_commands.specs.Shows.{Shows};
@@ -29,12 +29,12 @@ pub fn run_show<S: Source, K: Sink>(
     sink: &mut K,
     fills: u32,
 ) -> Result<bool, Fault>
-    ensures shown { IfOk result (PutsText (BookShown (ReadAsBook fills (S.state source.old) (S.state source.new)))
+    ensures shown { IfOk result (PutsText (BookShown (ReadsBook fills (S.state source.old) (S.state source.new)))
         (K.state sink.old) (K.state sink.new)) }
     ensures told { IfOk result (λ answer. IfSome (S.state source.old).to_come (λ bytes.
         PutsText (BookShown (AsBook bytes)) (K.state sink.old) (K.state sink.new) answer)) }
     ensures handed_on { OnOk result (HandedOnOnce (K.state sink.old) (K.state sink.new)) }
-    ensures fault { IfErr result (PutsUntil (BookShown (ReadAsBook fills (S.state source.old) (S.state source.new)))
+    ensures fault { IfErr result (PutsUntil (BookShown (ReadsBook fills (S.state source.old) (S.state source.new)))
         (K.state sink.old) (K.state sink.new)) }
     ensures only { (bytes : List ℕ) (answer : Bool) (out : List ℕ) → Tells fills (S.state source.old) (S.state source.new) bytes
         → (K.state sink.new).failed ≡ false → BookShown (AsBook bytes) (Ok (answer, out))
@@ -50,7 +50,7 @@ fn show_book<S: Source, K: Sink>(
     sink: &mut K,
     fills: u32,
 ) -> Result<bool, Fault>
-    ensures { PutsOrEnds (BookShown (ReadAsBook fills (S.state source.old) (S.state source.new))) (K.state sink.old) (K.state sink.new) result }
+    ensures { PutsOrEnds (BookShown (ReadsBook fills (S.state source.old) (S.state source.new))) (K.state sink.old) (K.state sink.new) result }
 {
     match read_book(alloc, source, fills) {
         Ok(book) => {

@@ -54,8 +54,8 @@ module _ (sync : Bool) (disk : Disk) (old new : EndState) (reader reader' s s' :
       elim (outlives all_lasts) [
         | inl unread ↦ inl unread
         | inr h ↦
-          let whole : h.0 ≡ disk.found = subst (λ (known : Option (List ℕ)). IfSome known (λ all. h.0 ≡ all)) started.reads h.1.told in
-          inr (by (subst (λ (kept : List ℕ). Outlives kept s s' j j' sink sink') whole h.2))
+            let whole : h.0 ≡ disk.found = subst (λ (known : Option (List ℕ)). IfSome known (λ all. h.0 ≡ all)) started.reads h.1.told in
+            inr (by (subst (λ (kept : List ℕ). Outlives kept s s' j j' sink sink') whole h.2))
       ]
     where
       by : Outlives disk.found s s' j j' sink sink' → LeavesAnswered sync disk new s s' sink sink'

@@ -49,11 +49,11 @@ pub grows : (cap : ℕ) (A : List Submission) (line : List ℕ) (r : Answer) (B 
     → length B ≡ length A + added r (nat_lt (length A) (length B))
 grows most A line (Ok n) B step = elim (step_to most A line (Ok n) B step).1 [
   | inl adds ↦
-    let more : length B ≡ length A + 1 = ap length adds.4 ∙ length-append A (adds.0 ∷ []) in
-    rw (lt-ltb (length A) (length B) (omega (arith, more))) more
+      let more : length B ≡ length A + 1 = ap length adds.4 ∙ length-append A (adds.0 ∷ []) in
+      rw (lt-ltb (length A) (length B) (omega (arith, more))) more
   | inr keeps ↦
-    let same : length B ≡ length A = ap length keeps.1 in
-    rw (le-ltb (length A) (length B) (omega (arith, same))) (omega (arith, same))
+      let same : length B ≡ length A = ap length keeps.1 in
+      rw (le-ltb (length A) (length B) (omega (arith, same))) (omega (arith, same))
 ]
 grows most A line (Err e) B step = omega (arith, ap length (refusal_step most A line e B step))
 

@@ -1,7 +1,9 @@
 -- Hexadecimal digits, and the words that they write.
-use Rattle.std.proofs.Common.{◌≡◌, ℕ, ◌+◌, ◌*◌, ◌^◌, ◌<◌, ◌%◌, List, [], ◌∷◌, length, fold, Option, Some, None, is_some, true, Result, Ok, Err, refl, sym, ap, ◌∙◌, subst, arith}
+use Rattle.std.proofs.Common.{◌≡◌, ℕ, ◌+◌, ◌*◌, ◌^◌, ◌<◌, ◌≤◌, ◌⊎◌, ◌%◌, List, [], ◌∷◌, length, fold, Option, Some, None, is_some, true, Result, Ok, Err, refl, sym, ap, ◌∙◌, subst, arith}
 use Rattle.std.specs.Prelude.{MatchResult, is_ok}
+use Rattle.std.specs.Char.{digit_value}
 use Rattle.std.specs.List.{AllPass, AllZip}
+use Rattle.std.specs.Str.Parse.{AllDigits, digits_value_after}
 use Rattle.std.specs.Int.{w64, from_be_bytes}
 use Rattle.std.specs.Result.{result_unwrap_or}
 use Rattle.std.proofs.lemmas.Bool.Decides.{nat_tests}
@@ -10,7 +12,62 @@ use Rattle.hex.specs.Hex.{IsBytes, decode_pairs, decode_sized, digit_or_error, h
 use Rattle.hex.specs.declared.error.FromHexError.{FromHexError}
 use Rattle.hex.proofs.HexLemmas.{IsOk-decode_sized, decode_pairs-ok}
 use Rattle.hex.proofs.Pairs.{cons_byte, decode_pairs-ok_pair, decode_sized-pairs}
-use Rattle.pb_poly.specs.Table.{IsDigit, WritesWord, number_of_digits}
+use Rattle.pb_poly.specs.Table.{WritesRandom}
+
+-- ---- digits by their values
+
+-- a byte is a hexadecimal digit of this value, of either case
+abbrev IsDigit : ℕ → ℕ → Type 0
+IsDigit byte value =
+    ((value < 10) × (byte ≡ 48 + value)) ⊎ ((10 ≤ value) × (value < 16) × ((byte ≡ 87 + value) ⊎ (byte ≡ 55 + value)))
+
+-- the number of these digits' values, the first one counting most, after n
+abbrev digits_after : ℕ → List ℕ → ℕ
+digits_after n values = fold (λ m v. 16 * m + v) n values
+
+-- these are 16 digits that write the word
+record WritesWord (digits : List ℕ) (word : ℕ) : Type 0 where
+  pub values : List ℕ
+  pub sixteen : length values ≡ 16
+  pub are : AllZip IsDigit digits values
+  pub word_is : word ≡ digits_after 0 values
+
+digit_to : (b v : ℕ) → IsDigit b v → (digit_value b ≡ v) × (digit_value b < 16)
+digit_to b v h = grind (arith, nat_tests)
+
+digit_from : (b : ℕ) → digit_value b < 16 → IsDigit b (digit_value b)
+digit_from b h = grind (arith, nat_tests)
+
+digits_to : (text values : List ℕ) (n : ℕ) → AllZip IsDigit text values → AllDigits 16 text × (digits_after n values ≡ digits_value_after 16 n text)
+digits_to [] [] n h = (tt, refl)
+digits_to [] (v ∷ values) n h = absurd h
+digits_to (b ∷ text) [] n h = absurd h
+digits_to (b ∷ text) (v ∷ values) n h =
+    let digit = digit_to b v h.0 in
+    let rest = digits_to text values (16 * n + v) h.1 in
+    let same : 16 * n + v ≡ n * 16 + digit_value b = omega (arith, digit.0) in
+    ((digit.1, rest.0), rest.1 ∙ ap (λ m. digits_value_after 16 m text) same)
+
+digits_from : (text : List ℕ) → AllDigits 16 text → (values : List ℕ) × AllZip IsDigit text values
+digits_from [] h = ([], tt)
+digits_from (b ∷ text) h = let rest = digits_from text h.1 in (digit_value b ∷ rest.0, (digit_from b h.0, rest.1))
+
+writes_to : (digits : List ℕ) (word : ℕ) → WritesWord digits word → WritesRandom digits word
+writes_to digits word h =
+    let all = digits_to digits h.values 0 h.are in
+    let long : length digits ≡ 16 = length_all_zip IsDigit digits h.values h.are ∙ h.sixteen in
+    (long, (omega (arith, long), all.0), h.word_is ∙ all.1)
+
+writes_from : (digits : List ℕ) (word : ℕ) → WritesRandom digits word → WritesWord digits word
+writes_from digits word h =
+    let values = digits_from digits h.1.1 in record {
+      values = values.0;
+      sixteen = sym (length_all_zip IsDigit digits values.0 values.1) ∙ h.0;
+      are = values.1;
+      word_is = h.2 ∙ sym (digits_to digits values.0 0 values.1).1;
+    }
+
+-- ---- digits that `hex` decodes
 
 -- a digit of a value is one that `hex` reads as that value
 digit_is : (b v : ℕ) → IsDigit b v → hex_digit_value b ≡ Some v
@@ -33,9 +90,6 @@ digits_of (b ∷ rest) all =
 -- the number of these bytes, the first one counting most, after n
 abbrev number_after : ℕ → List ℕ → ℕ
 number_after n bytes = fold (λ m b. 256 * m + b) n bytes
-
-abbrev digits_after : ℕ → List ℕ → ℕ
-digits_after n values = fold (λ m v. 16 * m + v) n values
 
 pairs_of : (i : ℕ) (text values : List ℕ) → AllZip IsDigit text values → length text % 2 ≡ 0
     → (bytes : List ℕ) × (decode_pairs i text ≡ Ok bytes) × (length text ≡ 2 * length bytes) × ((n : ℕ) → digits_after n values ≡ number_after n bytes)
@@ -86,20 +140,20 @@ decoded_err : (decoded : Result (List ℕ) FromHexError) (e : FromHexError) (out
 decoded_err (Ok bytes) e out h = absurd (cc h.0)
 decoded_err (Err d) e out h = let same : e ≡ d = cc in ap Err (sym same)
 
-pub written : (digits out : List ℕ) (word : ℕ) → Decoded (decode_sized digits 8) (Ok tt) out → word ≡ from_be_bytes w64 out → WritesWord digits word
+pub written : (digits out : List ℕ) (word : ℕ) → Decoded (decode_sized digits 8) (Ok tt) out → word ≡ from_be_bytes w64 out → WritesRandom digits word
 written digits out word h word_is =
     let is = decoded_ok (decode_sized digits 8) out h in
     let passes = (IsOk-decode_sized digits 8).0 (ap is_ok is) in
     let v = digits_of digits passes.1 in
     let sixteen : length v.0 ≡ 16 = sym (length_all_zip IsDigit digits v.0 v.1) ∙ passes.0 in
-    let p = decoded_digits digits (number_of_digits v.0) (record { values = v.0; sixteen = sixteen; are = v.1; word_is = refl }) in
+    let p = decoded_digits digits (digits_after 0 v.0) (record { values = v.0; sixteen = sixteen; are = v.1; word_is = refl }) in
     let same : p.0 ≡ out = ap (λ (r : Result (List ℕ) FromHexError). result_unwrap_or r []) (sym p.1 ∙ is) in
-    record { values = v.0; sixteen = sixteen; are = v.1; word_is = word_is ∙ ap (λ bytes. from_be_bytes w64 bytes) (sym same) ∙ sym p.2 }
+    writes_to digits word (record { values = v.0; sixteen = sixteen; are = v.1; word_is = word_is ∙ ap (λ bytes. from_be_bytes w64 bytes) (sym same) ∙ sym p.2 })
 
-pub unwritten : (digits : List ℕ) (e : FromHexError) (out : List ℕ) → Decoded (decode_sized digits 8) (Err e) out → (word : ℕ) → ¬ WritesWord digits word
+pub unwritten : (digits : List ℕ) (e : FromHexError) (out : List ℕ) → Decoded (decode_sized digits 8) (Err e) out → (word : ℕ) → ¬ WritesRandom digits word
 unwritten digits e out h word writes =
     let is = decoded_err (decode_sized digits 8) e out h in
-    let p = decoded_digits digits word writes in
+    let p = decoded_digits digits word (writes_from digits word writes) in
     absurd (cc (sym is ∙ p.1))
 
 eight_small : (bytes : List ℕ) → length bytes ≡ 8 → IsBytes bytes → from_be_bytes w64 bytes < 2 ^ 64
@@ -107,20 +161,16 @@ eight_small (a ∷ b ∷ c ∷ d ∷ e ∷ f ∷ g ∷ h ∷ []) long small = om
 eight_small bytes long small = absurd (omega arith)
 
 -- Sixteen digits write a word of 64 bits.
-pub word_small : (digits : List ℕ) (word : ℕ) → WritesWord digits word → word < 2 ^ 64
+pub word_small : (digits : List ℕ) (word : ℕ) → WritesRandom digits word → word < 2 ^ 64
 word_small digits word h =
-    let long : length digits ≡ 16 = length_all_zip IsDigit digits h.values h.are ∙ h.sixteen in
-    let p = decoded_digits digits word h in
-    let pairs = decode_pairs-ok 0 digits p.0 (sym (decode_sized-pairs digits 8 (omega arith) (omega arith)) ∙ p.1) in
+    let long = h.0 in
+    let p = decoded_digits digits word (writes_from digits word h) in
+    let pairs = decode_pairs-ok 0 digits p.0 (sym (decode_sized-pairs digits 8 (omega (arith, long)) (omega (arith, long))) ∙ p.1) in
     let half = pairs.1 in
-    let below = eight_small p.0 (omega (arith, half)) pairs.2 in
+    let below = eight_small p.0 (omega (arith, half, long)) pairs.2 in
     let is = p.2 in
     subst (λ (n : ℕ). n < 2 ^ 64) (sym is) below
 
 -- Digits write one word.
-pub word_is_one : (digits : List ℕ) (v w : ℕ) → WritesWord digits v → WritesWord digits w → v ≡ w
-word_is_one digits v w x y =
-    let p = decoded_digits digits v x in
-    let q = decoded_digits digits w y in
-    let same : p.0 ≡ q.0 = ap (λ (r : Result (List ℕ) FromHexError). result_unwrap_or r []) (sym p.1 ∙ q.1) in
-    p.2 ∙ ap (λ bytes. from_be_bytes w64 bytes) same ∙ sym q.2
+pub word_is_one : (digits : List ℕ) (v w : ℕ) → WritesRandom digits v → WritesRandom digits w → v ≡ w
+word_is_one digits v w x y = x.2 ∙ sym y.2

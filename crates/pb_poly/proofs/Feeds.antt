@@ -11,7 +11,8 @@ use Rattle.pb_poly.specs.declared.reading.BookError.TheVariants.{Unsorted, Cut, 
 use Rattle.pb_poly.specs.Entry.{IsEntry, entry_bytes}
 use Rattle.pb_poly.specs.Book.{NeverFall, book_bytes}
 use Rattle.pb_poly.specs.Feeding.{FailsWithin, MeetsWithin, RefusesEntry}
-use Rattle.pb_poly.specs.Reading.{FindsNoBook, Splits}
+use Rattle.pb_poly.specs.BookFinds.{FindsNoBook}
+use Rattle.pb_poly.specs.Reading.{Splits}
 use Rattle.pb_poly.proofs.Entries.{book_bytes-push, bounds-push}
 
 -- the part is whole with these bytes

@@ -12,6 +12,7 @@ pub mod Keys
 pub mod OnlyTables
 pub mod Parity
 pub mod Places
+pub mod ReadRows
 pub mod Runs
 pub mod TableFills
 pub mod Tables

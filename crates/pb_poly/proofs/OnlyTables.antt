@@ -10,14 +10,14 @@ use Rattle.pb_poly.specs.declared.table.TableError.TheVariants as poly
 use Rattle.pb_poly.proofs.Tables.{only_memory, words_are_one}
 use Rattle.pb_poly.specs.declared.table_file.TableFault.{TableFault}
 use Rattle.pb_poly.specs.declared.table_file.TableFault.TheVariants.{Long, Line, Count, Read, Endless, Memory}
-use Rattle.pb_poly.specs.TableReading.{FindsNoTable, ReadsTable}
+use Rattle.pb_poly.specs.TableFinds.{FindsNoTable, FindsTable}
 use Rattle.pb_poly.proofs.ToldReads.{all_came, came_first, no_endless, no_fault}
 
 pub tables_are_one : (words others bytes : List ℕ) → IsTableFile words bytes → IsTableFile others bytes → words ≡ others
 tables_are_one words others bytes h k = words_are_one (lines bytes) words others h.text.each k.text.each
 
 module _ (fills : ℕ) (old new : SourceState) (words bytes : List ℕ) (tells : Tells fills old new bytes) (is : IsTableFile words bytes) where
-  found : (others : List ℕ) → ReadsTable fills old new others → others ≡ words
+  found : (others : List ℕ) → FindsTable fills old new others → others ≡ words
   found others h =
       let all = all_came table_limit fills old new bytes tells.told h.came h.reads in
       tables_are_one others words h.came h.is (subst (λ (xs : List ℕ). IsTableFile words xs) all is)
@@ -37,6 +37,6 @@ module _ (fills : ℕ) (old new : SourceState) (words bytes : List ℕ) (tells :
   refused Endless h = absurd (no_endless table_limit fills old new bytes tells h.came h.reads)
   refused Memory h = refl
 
-  pub only_table : (result : Result (List ℕ) TableFault) → IfOk result (ReadsTable fills old new) → IfErr result (FindsNoTable fills old new) → MatchResult result (λ table. table ≡ words) (λ e. e ≡ Memory)
+  pub only_table : (result : Result (List ℕ) TableFault) → IfOk result (FindsTable fills old new) → IfErr result (FindsNoTable fills old new) → MatchResult result (λ table. table ≡ words) (λ e. e ≡ Memory)
   only_table (Ok table) h k = found table h
   only_table (Err e) h k = refused e k

@@ -7,7 +7,7 @@ use Rattle.pb_io.proofs.ReadsLemmas.{ReadsAll-more, ReadsOn-more, ReadsSome-more
 use Rattle.pb_poly.specs.declared.table_file.TableFault.{TableFault}
 use Rattle.pb_poly.specs.declared.table_file.TableFault.TheVariants.{Long, Line, Count, Read, Endless, Memory}
 use Rattle.pb_poly.specs.TableFilling.{FillsTable, HoldsMore}
-use Rattle.pb_poly.specs.TableReading.{FindsNoTable}
+use Rattle.pb_poly.specs.TableFinds.{FindsNoTable}
 use Rattle.pb_poly.specs.Table.{table_limit}
 
 -- after n fills these bytes are held

@@ -8,7 +8,8 @@ use Rattle.pb_poly.specs.declared.entry.Entry.{Entry}
 use Rattle.pb_poly.specs.declared.reading.BookError.{BookError}
 use Rattle.pb_poly.specs.declared.reading.BookError.TheVariants.{Unsorted, Cut, Read, Endless, Memory}
 use Rattle.pb_poly.specs.Book.{BookBytes, NeverFall, book_bytes}
-use Rattle.pb_poly.specs.Reading.{FindsNoBook, ReadsBook, Tells}
+use Rattle.pb_poly.specs.BookFinds.{FindsBook, FindsNoBook}
+use Rattle.pb_poly.specs.Reading.{Tells}
 use Rattle.pb_poly.proofs.EntryBytes.{NeverFall-front, none_falls, begins, book_is_one, length-book_bytes}
 
 -- what came is a front of what was told
@@ -27,7 +28,7 @@ all_came old new bytes came told h ended =
     c.2 ∙ ap (λ xs. came ++ xs) (at_end new c.0 c.1 ended) ∙ append-nil came
 
 module _ (fills : ℕ) (old new : SourceState) (entries : List Entry) (bytes : List ℕ) (tells : Tells fills old new bytes) (are : BookBytes entries bytes) (ordered : NeverFall entries) where
-  found : (others : List Entry) → ReadsBook fills old new others → others ≡ entries
+  found : (others : List Entry) → FindsBook fills old new others → others ≡ entries
   found others h =
       let all : bytes ≡ h.came = all_came old.to_come new.to_come bytes h.came tells.told h.reads.some.reads.bytes h.reads.ended in
       book_is_one others entries h.came h.bytes (record { bounds = are.bounds; are = sym all ∙ are.are })
@@ -55,6 +56,6 @@ module _ (fills : ℕ) (old new : SourceState) (entries : List Entry) (bytes : L
       absurd (omega arith)
   refused Memory h = refl
 
-  pub only : (result : Result (List Entry) BookError) → IfOk result (ReadsBook fills old new) → IfErr result (FindsNoBook fills old new) → MatchResult result (λ book. book ≡ entries) (λ e. e ≡ Memory)
+  pub only : (result : Result (List Entry) BookError) → IfOk result (FindsBook fills old new) → IfErr result (FindsNoBook fills old new) → MatchResult result (λ book. book ≡ entries) (λ e. e ≡ Memory)
   only (Ok book) h k = found book h
   only (Err e) h k = refused e k

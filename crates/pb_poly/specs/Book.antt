@@ -25,6 +25,11 @@ pub record BookBytes (entries : List Entry) (bytes : List ℕ) : Type 0 where
   pub bounds : All IsEntry entries
   pub are : bytes ≡ book_bytes entries
 
+-- and whose keys never fall
+pub record IsBookFile (entries : List Entry) (bytes : List ℕ) : Type 0 where
+  pub are : BookBytes entries bytes
+  pub ordered : NeverFall entries
+
 -- ---- laws
 
 -- no two books have the same bytes

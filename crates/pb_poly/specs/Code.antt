@@ -11,7 +11,9 @@ use Rattle.pb_moves.specs.Legal.{Legal}
 
 -- the square that an encoded move names as reached: castling goes to the rook's square
 abbrev pub encoded_to : Position → Moved → ℕ
-encoded_to s m = if is_piece (king_of s.turn) (at s.board m.from) then option_map_or (λ c. (castling_row c).rook_from) (castling_of m.from m.to) m.to else m.to
+encoded_to s m = if is_piece (king_of s.turn) (at s.board m.from)
+    then option_map_or (λ c. (castling_row c).rook_from) (castling_of m.from m.to) m.to
+    else m.to
 
 abbrev pub encode_move : Position → Moved → ℕ
 encode_move s m =

@@ -48,7 +48,8 @@ place_if flag place = if flag then place ∷ [] else []
 
 -- a pawn of the side to move stands directly beside the square, one file lower or higher
 abbrev pub has_taker : Board → Colour → ℕ → Bool
-has_taker board turn q = (not (file q == 0) && is_piece (pawn_of turn) (at board (q - 1))) || (not (file q == 7) && is_piece (pawn_of turn) (at board (q + 1)))
+has_taker board turn q =
+    (not (file q == 0) && is_piece (pawn_of turn) (at board (q - 1))) || (not (file q == 7) && is_piece (pawn_of turn) (at board (q + 1)))
 
 -- the places of castling rights, and of an en passant square whose pawn may be taken
 abbrev pub rights_places : Rights → List ℕ

@@ -38,4 +38,5 @@ beside_kind _ old m = []
 
 -- the places of the rights that one of the two has
 abbrev pub lost_places : Rights → Rights → List ℕ
-lost_places old new = flat_map (λ c. let row = castling_row c in place_if (not (beq (row.right old) (row.right new))) (castling_place c)) castlings
+lost_places old new =
+    flat_map (λ c. let row = castling_row c in place_if (not (beq (row.right old) (row.right new))) (castling_place c)) castlings

@@ -1,4 +1,5 @@
 pub mod Book
+pub mod BookFinds
 pub mod Code
 pub mod Decoding
 pub mod Entry
@@ -8,8 +9,10 @@ pub mod Key
 pub mod KeyChange
 pub mod Ordered
 pub mod Reading
+pub mod Streams
 pub mod Table
 pub mod TableFilling
+pub mod TableFinds
 pub mod TableReading
 pub use Rattle.pb_io.specs.Count
 pub use Rattle.pb_io.specs.LineTask

@@ -1,13 +1,14 @@
 -- What reading a book gives.
-use Rattle.std.specs.Prelude.{◌≡◌, ℕ, ◌<◌, ◌⊎◌, List, [], ◌∷◌, ◌++◌, All, length, Some, false}
+use Rattle.std.specs.Prelude.{◌≡◌, ℕ, ◌<◌, ◌⊎◌, List, [], ◌∷◌, ◌++◌, All, Result, Ok, Err, length, Some, false}
 use Rattle.pb_board.specs.Refusal.{BreaksAt}
 use Rattle.pb_io.specs.Source.{SourceState}
-use Rattle.pb_io.specs.Reads.{ReadsAll, ReadsFront, ReadsOn, ReadsToFault, chunk_len}
+use Rattle.pb_io.specs.Reads.{chunk_len}
 use Rattle.pb_poly.specs.declared.entry.Entry.{Entry}
 use Rattle.pb_poly.specs.declared.reading.BookError.{BookError}
 use Rattle.pb_poly.specs.declared.reading.BookError.TheVariants.{Unsorted, Cut, Read, Endless, Memory}
 use Rattle.pb_poly.specs.Entry.{IsEntry}
-use Rattle.pb_poly.specs.Book.{BookBytes, NeverFall, book_bytes}
+use Rattle.pb_poly.specs.Book.{BookBytes, IsBookFile, NeverFall, book_bytes}
+use Rattle.pb_poly.specs.Streams.{Reads, Way, at_end, at_fault, at_no_end, so_far}
 
 -- the bytes are those of these entries, whose keys never fall, and less than a whole entry
 pub record Splits (came : List ℕ) (entries : List Entry) (part : List ℕ) : Type 0 where
@@ -16,39 +17,21 @@ pub record Splits (came : List ℕ) (entries : List Entry) (part : List ℕ) : T
   pub partial : length part < 16
   pub ordered : NeverFall entries
 
--- the stream is these entries and no more
-pub record ReadsBook (fills : ℕ) (old new : SourceState) (entries : List Entry) : Type 0 where
-  pub came : List ℕ
-  pub reads : ReadsAll chunk_len fills old new came
-  pub bytes : BookBytes entries came
-  pub ordered : NeverFall entries
+-- the bytes of a book, read in this way, come to these entries or to this fault
+abbrev pub BookIs : Way → List ℕ → Result (List Entry) BookError → Type 0
+BookIs at_end bytes (Ok entries) = IsBookFile entries bytes
+BookIs so_far bytes (Err (Unsorted n)) = (entries : List Entry) × BookBytes entries bytes × BreaksAt NeverFall entries n
+BookIs at_end bytes (Err (Cut n)) = (entries : List Entry) × (part : List ℕ) × Splits bytes entries part × (0 < n) × (n ≡ length part)
+BookIs at_fault bytes (Err Read) = (entries : List Entry) × (part : List ℕ) × Splits bytes entries part
+BookIs at_no_end bytes (Err Endless) = (entries : List Entry) × (part : List ℕ) × Splits bytes entries part
+BookIs so_far bytes (Err Memory) = (before : List Entry) × (entry : Entry) × IsBookFile (before ++ entry ∷ []) bytes
+BookIs way bytes result = ⊥
 
--- how far a stream was read that gave no book for this reason
-abbrev pub BookRead : BookError → ℕ → ℕ → SourceState → SourceState → List ℕ → Type 0
-BookRead (Unsorted number) = ReadsFront
-BookRead (Cut extra) = ReadsAll
-BookRead Read = ReadsToFault
-BookRead Endless = ReadsOn
-BookRead Memory = ReadsFront
-
--- what is so of the bytes that came: the key of an entry falls, less than an entry is left, or an entry came in order for which
--- memory was wanting
-abbrev pub BookDue : BookError → List ℕ → Type 0
-BookDue (Unsorted number) came = (entries : List Entry) × BookBytes entries came × BreaksAt NeverFall entries number
-BookDue (Cut extra) came = (entries : List Entry) × (part : List ℕ) × Splits came entries part × (0 < extra) × (extra ≡ length part)
-BookDue Memory came = (before : List Entry) × (entry : Entry) × BookBytes (before ++ entry ∷ []) came × NeverFall (before ++ entry ∷ [])
-BookDue fault came = (entries : List Entry) × (part : List ℕ) × Splits came entries part
-
--- bytes came that give no book for this reason
-pub record MeetsNoBook (fills : ℕ) (old new : SourceState) (e : BookError) : Type 0 where
-  pub came : List ℕ
-  pub reads : BookRead e chunk_len fills old new came
-  pub due : BookDue e came
-
--- why no book was read
-abbrev pub FindsNoBook : ℕ → SourceState → SourceState → BookError → Type 0
-FindsNoBook fills old new Memory = (new ≡ old) ⊎ MeetsNoBook fills old new Memory
-FindsNoBook fills old new e = MeetsNoBook fills old new e
+-- reading a book gives this; for want of memory at the start nothing is read
+abbrev pub ReadsBook : ℕ → SourceState → SourceState → Result (List Entry) BookError → Type 0
+ReadsBook fills old new result =
+    ((way : Way) × (bytes : List ℕ) × Reads way chunk_len fills old new bytes × BookIs way bytes result)
+    ⊎ ((result ≡ Err Memory) × (new ≡ old))
 
 -- the source tells that just these bytes come, it doesn't fail, and the fills are more than the bytes
 pub record Tells (fills : ℕ) (old new : SourceState) (bytes : List ℕ) : Type 0 where

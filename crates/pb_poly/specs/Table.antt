@@ -1,56 +1,48 @@
--- Table files: 781 lines of 16 hexadecimal digits, one for each word of the table.
-use Rattle.std.specs.Prelude.{◌≡◌, ◌≢◌, ℕ, ◌+◌, ◌*◌, ◌^◌, ◌<◌, ◌≤◌, ◌⊎◌, List, length, fold, All}
+-- Table files: 781 lines of 16 hexadecimal digits, one for each random number of the table.
+use Rattle.std.specs.Prelude.{◌≡◌, ◌≢◌, ℕ, ◌^◌, ◌<◌, ◌≤◌, List, length, All}
 use Rattle.std.specs.List.{AllZip}
 use Rattle.std.specs.Str.Lines.{strip_carriage_return}
+use Rattle.std.specs.Str.Parse.{IsNumeral, digits_value}
 use Rattle.pb_board.specs.Refusal.{BreaksAt}
 use Rattle.pb_io.specs.Lines.{lines}
 use Rattle.pb_poly.specs.declared.table.TableError.{TableError}
 use Rattle.pb_poly.specs.declared.table.TableError.TheVariants.{Line, Count, Memory}
 
--- 781 words of 64 bits
-pub record IsTable (words : List ℕ) : Type 0 where
-  pub all : length words ≡ 781
-  pub fit : All (λ word. word < 2 ^ 64) words
+-- numbers of a table, of 64 bits each: PolyGlot's Random64
+abbrev pub table_length : ℕ
+table_length = 781
 
--- a byte is a hexadecimal digit of this value, of either case
-abbrev pub IsDigit : ℕ → ℕ → Type 0
-IsDigit byte value =
-    ((value < 10) × (byte ≡ 48 + value)) ⊎ ((10 ≤ value) × (value < 16) × ((byte ≡ 87 + value) ⊎ (byte ≡ 55 + value)))
+pub record IsTable (randoms : List ℕ) : Type 0 where
+  pub all : length randoms ≡ table_length
+  pub fit : All (λ random. random < 2 ^ 64) randoms
 
--- the number of these digits' values, the first one counting most
-abbrev pub number_of_digits : List ℕ → ℕ
-number_of_digits values = fold (λ n v. 16 * n + v) 0 values
+-- these are 16 hexadecimal digits of either case that write the number
+abbrev pub WritesRandom : List ℕ → ℕ → Type 0
+WritesRandom digits random = (length digits ≡ 16) × IsNumeral 16 digits × (random ≡ digits_value 16 digits)
 
--- these are 16 digits that write the word
-pub record WritesWord (digits : List ℕ) (word : ℕ) : Type 0 where
-  pub values : List ℕ
-  pub sixteen : length values ≡ 16
-  pub are : AllZip IsDigit digits values
-  pub word_is : word ≡ number_of_digits values
+-- the line does so, without one final CR
+abbrev pub SpellsRandom : List ℕ → ℕ → Type 0
+SpellsRandom line random = WritesRandom (strip_carriage_return line) random
 
--- the line, without one final CR, writes the word
-abbrev pub SpellsWord : List ℕ → ℕ → Type 0
-SpellsWord line word = WritesWord (strip_carriage_return line) word
+abbrev pub IsRandomLine : List ℕ → Type 0
+IsRandomLine line = (random : ℕ) × SpellsRandom line random
 
-abbrev pub IsWordLine : List ℕ → Type 0
-IsWordLine line = (word : ℕ) × SpellsWord line word
-
--- the bytes are the table file of these words
-pub record TableText (words : List ℕ) (bytes : List ℕ) : Type 0 where
-  pub all : length words ≡ 781
-  pub each : AllZip SpellsWord (lines bytes) words
+-- each line of the bytes spells one of the numbers of a table
+pub record TableText (randoms bytes : List ℕ) : Type 0 where
+  pub all : length randoms ≡ table_length
+  pub each : AllZip SpellsRandom (lines bytes) randoms
 
 -- the most bytes that a table file may have
 abbrev pub table_limit : ℕ
 table_limit = 16384
 
--- the same where a table is read from a source
-pub record IsTableFile (words bytes : List ℕ) : Type 0 where
+-- the bytes are a table file of these random numbers
+pub record IsTableFile (randoms bytes : List ℕ) : Type 0 where
   pub few : length bytes ≤ table_limit
-  pub text : TableText words bytes
+  pub text : TableText randoms bytes
 
 -- when each refusal is due
 abbrev pub IsDueTable : TableError → List ℕ → Type 0
-IsDueTable (Line number) bytes = BreaksAt (All IsWordLine) (lines bytes) number
-IsDueTable (Count number) bytes = (number ≡ length (lines bytes)) × (number ≢ 781) × All IsWordLine (lines bytes)
-IsDueTable Memory bytes = (words : List ℕ) × TableText words bytes
+IsDueTable (Line number) bytes = BreaksAt (All IsRandomLine) (lines bytes) number
+IsDueTable (Count number) bytes = (number ≡ length (lines bytes)) × (number ≢ table_length) × All IsRandomLine (lines bytes)
+IsDueTable Memory bytes = (randoms : List ℕ) × TableText randoms bytes

@@ -1,42 +1,26 @@
 -- What reading a table file from a source gives.
-use Rattle.std.specs.Prelude.{◌≡◌, ℕ, ◌+◌, ◌<◌, ◌≤◌, ◌⊎◌, List, length}
+use Rattle.std.specs.Prelude.{◌≡◌, ℕ, ◌+◌, ◌≤◌, ◌⊎◌, List, Result, Ok, Err, length}
 use Rattle.pb_io.specs.Source.{SourceState}
-use Rattle.pb_io.specs.Reads.{ReadsAll, ReadsOn, ReadsSome, ReadsToFault}
+use Rattle.pb_poly.specs.Streams.{Reads, Way, at_end, at_fault, at_no_end, just_so_far}
 use Rattle.pb_poly.specs.Table.{IsDueTable, IsTableFile, table_limit}
 use Rattle.pb_poly.specs.declared.table.TableError.TheVariants as poly
 use Rattle.pb_poly.specs.declared.table_file.TableFault.{TableFault}
 use Rattle.pb_poly.specs.declared.table_file.TableFault.TheVariants.{Long, Line, Count, Read, Endless, Memory}
 
--- the stream is the table file of these words and no more
-pub record ReadsTable (fills : ℕ) (old new : SourceState) (words : List ℕ) : Type 0 where
-  pub came : List ℕ
-  pub reads : ReadsAll table_limit fills old new came
-  pub is : IsTableFile words came
+-- the bytes of a table file, read in this way, come to these random numbers or to this fault; where they are too many, just one too
+-- many was read
+abbrev pub TableIs : Way → List ℕ → Result (List ℕ) TableFault → Type 0
+TableIs at_end bytes (Ok randoms) = IsTableFile randoms bytes
+TableIs just_so_far bytes (Err Long) = length bytes ≡ table_limit + 1
+TableIs at_end bytes (Err (Line n)) = (length bytes ≤ table_limit) × IsDueTable (poly.Line n) bytes
+TableIs at_end bytes (Err (Count n)) = (length bytes ≤ table_limit) × IsDueTable (poly.Count n) bytes
+TableIs at_end bytes (Err Memory) = (randoms : List ℕ) × IsTableFile randoms bytes
+TableIs at_fault bytes (Err Read) = length bytes ≤ table_limit
+TableIs at_no_end bytes (Err Endless) = length bytes ≤ table_limit
+TableIs way bytes result = ⊥
 
--- how far a stream was read that gave no table for this reason
-abbrev pub TableRead : TableFault → ℕ → ℕ → SourceState → SourceState → List ℕ → Type 0
-TableRead Long = ReadsSome
-TableRead Read = ReadsToFault
-TableRead Endless = ReadsOn
-TableRead due = ReadsAll
-
--- what is so of the bytes that came; how many may come is judged first
-abbrev pub TableDue : TableFault → List ℕ → Type 0
-TableDue Long came = table_limit < length came
-TableDue (Line number) came = (length came ≤ table_limit) × IsDueTable (poly.Line number) came
-TableDue (Count count) came = (length came ≤ table_limit) × IsDueTable (poly.Count count) came
-TableDue Memory came = (length came ≤ table_limit) × IsDueTable poly.Memory came
-TableDue fault came = length came ≤ table_limit
-
--- bytes came that give no table for this reason
-pub record MeetsNoTable (fills : ℕ) (old new : SourceState) (e : TableFault) : Type 0 where
-  pub came : List ℕ
-  pub reads : TableRead e table_limit fills old new came
-  pub due : TableDue e came
-  -- no more than the first byte too many is asked for
-  pub few : length came ≤ table_limit + 1
-
--- why no table was read
-abbrev pub FindsNoTable : ℕ → SourceState → SourceState → TableFault → Type 0
-FindsNoTable fills old new Memory = (new ≡ old) ⊎ MeetsNoTable fills old new Memory
-FindsNoTable fills old new e = MeetsNoTable fills old new e
+-- reading a table file gives this; for want of memory at the start nothing is read
+abbrev pub ReadsTable : ℕ → SourceState → SourceState → Result (List ℕ) TableFault → Type 0
+ReadsTable fills old new result =
+    ((way : Way) × (bytes : List ℕ) × Reads way table_limit fills old new bytes × TableIs way bytes result)
+    ⊎ ((result ≡ Err Memory) × (new ≡ old))

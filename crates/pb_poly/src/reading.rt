@@ -5,7 +5,8 @@ ghost use Rattle.pb_io.specs.Reads.{chunk_len};
 ghost use Rattle.pb_poly.specs.Book.{BookBytes, NeverFall};
 ghost use Rattle.pb_poly.specs.Entry.{IsEntry, entry_bytes};
 ghost use Rattle.pb_poly.specs.Feeding.{FailsWithin, RefusesEntry};
-ghost use Rattle.pb_poly.specs.Reading.{FindsNoBook, ReadsBook, Splits, Tells};
+ghost use Rattle.pb_poly.specs.BookFinds.{FindsBook, FindsNoBook};
+ghost use Rattle.pb_poly.specs.Reading.{ReadsBook, Splits, Tells};
 ghost use Rattle.pb_poly.specs.declared.reading.BookError.TheVariants.{Cut, Memory};
 ghost use Rattle.pb_poly.specs.declared.entry.Entry.{Entry};
 
@@ -184,7 +185,7 @@ impl Reading {
     ) -> Result<Book, BookError>
         requires empty { self ≡ ([], []) }
         requires room { length chunk.old ≡ chunk_len }
-        ensures found { IfOk result (ReadsBook fills (S.state source.old) (S.state source.new)) }
+        ensures found { IfOk result (FindsBook fills (S.state source.old) (S.state source.new)) }
         ensures err { IfErr result (FindsNoBook fills (S.state source.old) (S.state source.new)) }
     {
         for _made in 0..fills {
@@ -210,10 +211,9 @@ impl Reading {
 /// What the stream meets first: an entry is judged once its 16 bytes are there, and `Cut` at the end of input. `Memory` may
 /// come at any whole entry, and before the first fill.
 pub fn read_book<S: Source>(alloc: Global, source: &mut S, fills: u32) -> Result<Book, BookError>
-    ensures found { IfOk result (ReadsBook fills (S.state source.old) (S.state source.new)) }
+    ensures reads { ReadsBook fills (S.state source.old) (S.state source.new) result }
     ensures only { (entries : List Entry) (bytes : List ℕ) → Tells fills (S.state source.old) (S.state source.new) bytes → BookBytes entries bytes → NeverFall entries
         → MatchResult result (λ book. book ≡ entries) (λ e. e ≡ Memory) }
-    ensures err { IfErr result (FindsNoBook fills (S.state source.old) (S.state source.new)) }
 {
     let Ok(mut chunk) = vec![in alloc; 0; CHUNK_LEN] else {
         return Err(BookError::Memory);

@@ -3,7 +3,7 @@
 ghost use Rattle.std.specs.Prelude.{◌≡◌, ◌+◌, ◌<◌, ℕ, List, ◌∷◌, All, IfOk, IfErr, MatchOption, MatchResult, length, slice_index};
 ghost use Rattle.std.specs.List.{AllZip};
 ghost use Rattle.pb_io.specs.Lines.{lines};
-ghost use Rattle.pb_poly.specs.Table.{IsDueTable, IsWordLine, IsTable, SpellsWord, TableText, WritesWord};
+ghost use Rattle.pb_poly.specs.Table.{IsDueTable, IsRandomLine, IsTable, SpellsRandom, TableText, WritesRandom};
 ghost use Rattle.pb_poly.specs.declared.table.TableError.TheVariants.{Memory};
 
 use memchr::memchr;
@@ -78,7 +78,7 @@ fn first_line(bytes: &[u8]) -> (&[u8], &[u8])
 
 /// The word that these digits write.
 fn word_of_digits(digits: &[u8]) -> Option<u64>
-    ensures { MatchOption result ((word : ℕ) → ¬ WritesWord digits.now word) (WritesWord digits.now) }
+    ensures { MatchOption result ((word : ℕ) → ¬ WritesRandom digits.now word) (WritesRandom digits.now) }
 {
     let mut bytes = [0; 8];
     match hex::decode_to_slice(digits, &mut bytes) {
@@ -89,14 +89,14 @@ fn word_of_digits(digits: &[u8]) -> Option<u64>
 
 /// The word that the line spells.
 fn word_of(line: &[u8]) -> Option<u64>
-    ensures { MatchOption result (¬ IsWordLine line.now) (SpellsWord line.now) }
+    ensures { MatchOption result (¬ IsRandomLine line.now) (SpellsRandom line.now) }
 {
     word_of_digits(without_return(line))
 }
 
 /// How many lines there are, where each of them spells a word.
 fn count_lines(bytes: &[u8]) -> Result<usize, TableError>
-    ensures ok { IfOk result (λ count. (count ≡ length (lines bytes.now)) × All IsWordLine (lines bytes.now)) }
+    ensures ok { IfOk result (λ count. (count ≡ length (lines bytes.now)) × All IsRandomLine (lines bytes.now)) }
     ensures err { IfErr result (λ e. IsDueTable e bytes.now) }
 {
     let mut rest = bytes;
@@ -114,8 +114,8 @@ fn count_lines(bytes: &[u8]) -> Result<usize, TableError>
 
 /// The words that the lines spell.
 fn words_of(alloc: Global, bytes: &[u8]) -> Result<Vec<u64>, AllocError>
-    requires { All IsWordLine (lines bytes.now) }
-    ensures { IfOk result (λ words. AllZip SpellsWord (lines bytes.now) words.items) }
+    requires { All IsRandomLine (lines bytes.now) }
+    ensures { IfOk result (λ words. AllZip SpellsRandom (lines bytes.now) words.items) }
 {
     let mut words = Vec::with_capacity(alloc, TABLE_LEN)?;
     let mut rest = bytes;

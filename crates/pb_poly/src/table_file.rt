@@ -4,7 +4,8 @@ ghost use Rattle.pb_poly.specs.Reading.{Tells};
 ghost use Rattle.pb_io.specs.Reads.{ReadsAll};
 ghost use Rattle.pb_poly.specs.Table.{IsTableFile, table_limit};
 ghost use Rattle.pb_poly.specs.TableFilling.{FillsTable};
-ghost use Rattle.pb_poly.specs.TableReading.{FindsNoTable, ReadsTable};
+ghost use Rattle.pb_poly.specs.TableFinds.{FindsNoTable, FindsTable};
+ghost use Rattle.pb_poly.specs.TableReading.{ReadsTable};
 ghost use Rattle.pb_poly.specs.declared.table_file.TableFault.TheVariants.{Memory};
 
 use crate::table::{Table, TableError, read_table};
@@ -115,7 +116,7 @@ impl TableBytes {
         fills: u32,
     ) -> Result<Table, TableFault>
         requires { self ≡ [] }
-        ensures found { IfOk result (ReadsTable fills (S.state source.old) (S.state source.new)) }
+        ensures found { IfOk result (FindsTable fills (S.state source.old) (S.state source.new)) }
         ensures err { IfErr result (FindsNoTable fills (S.state source.old) (S.state source.new)) }
     {
         self.drain(source, fills)?;
@@ -151,8 +152,7 @@ fn expect_end<S: Source>(source: &mut S) -> Result<usize, TableFault>
 /// `Long` once more than 16,384 bytes are there, and at the end of input `Line` or `Count`. `Memory` comes before the first
 /// fill, or where the bytes are a table.
 pub fn take_table<S: Source>(alloc: Global, source: &mut S, fills: u32) -> Result<Table, TableFault>
-    ensures found { IfOk result (ReadsTable fills (S.state source.old) (S.state source.new)) }
-    ensures err { IfErr result (FindsNoTable fills (S.state source.old) (S.state source.new)) }
+    ensures reads { ReadsTable fills (S.state source.old) (S.state source.new) result }
     ensures only { (words bytes : List ℕ) → Tells fills (S.state source.old) (S.state source.new) bytes → IsTableFile words bytes
         → MatchResult result (λ table. table ≡ words) (λ e. e ≡ Memory) }
 {

@@ -2,7 +2,7 @@ use Rattle.std.proofs.Common.{rules, arith, length, ◌+◌, ◌++◌, ◌∷◌
 use Rattle.std.proofs.lemmas.Bool.{eqb-true}
 use Rattle.pb_board.proofs.Breaks.{all_breaks}
 use Rattle.pb_io.specs.Lines.{lines}
-use Rattle.pb_poly.specs.Table.{IsWordLine}
+use Rattle.pb_poly.specs.Table.{IsRandomLine}
 use Rattle.pb_poly.proofs.Tables.{all_before, before_more, length_before, spelled_found, spelled_more, unspelled_found}
 use Rattle.pb_poly.proofs.table.count_lines.Goals as goal
 
@@ -33,6 +33,6 @@ pub returns-then-is_none-clause-err : goal.returns-then-is_none-clause-err
 returns-then-is_none-clause-err c =
     let now = c.loop-rest.invariant in
     let line = c.first_line.result.0.now in
-    all_breaks IsWordLine (lines c.args.bytes.now) now.0 line (lines c.first_line.result.1.now) (c.loop-rest.count + 1)
+    all_breaks IsRandomLine (lines c.args.bytes.now) now.0 line (lines c.first_line.result.1.now) (c.loop-rest.count + 1)
     (now.1 ∙ ap (λ ls. now.0 ++ ls) c.first_line.ensures.cut) (omega (arith, now.3)) now.2
     (unspelled_found c.word_of.result line c.word_of.ensures (search rules))
