@@ -1,5 +1,5 @@
 -- The theorem of `pbook collect` on bytes in memory.
-use Rattle.std.proofs.Common.{◌≡◌, ◌∙◌, ℕ, List, [], ◌++◌, Option, Some, None, Ok, Err, arith, subst, sym}
+use Rattle.std.proofs.Common.{◌≡◌, ◌≢◌, ◌⊎◌, ◌∙◌, ℕ, true, false, List, [], ◌++◌, Option, Some, None, Result, Ok, Err, arith, inl, inr, subst, sym}
 use Rattle.std.proofs.lemmas.Option.{same_Some}
 use Rattle.std.specs.Prelude.{IfSome}
 use Rattle.std.specs.Io.KnownBytes.{Appends}
@@ -13,8 +13,19 @@ use Rattle.pb_poly.specs.declared.table_file.TableFault.{TableFault}
 use Rattle.pb_poly.specs.declared.table_file.TableFault.TheVariants as table
 use Rattle.pb_accepted.specs.Rules.{CountingRules}
 use Rattle.pb_commands.proofs.Told.{told_no_table}
-use Rattle.pb_commands.specs.TableJudged.{AsTable}
+use Rattle.pb_commands.specs.Judged.{Verdict}
+use Rattle.pb_commands.specs.TableJudged.{AsTable, table_verdict}
+use Rattle.pb_commands.specs.declared.fault.Fault.{Fault}
+use Rattle.pb_commands.specs.declared.fault.Fault.TheVariants.{Write, Endless, Memory}
+use Rattle.pb_accepted.specs.Ledger.{LedgerState}
+use Rattle.pb_ledger.specs.Collecting.{CollectsUntil}
+use Rattle.pb_ledger.specs.declared.collecting.CollectFault.{CollectFault}
+use Rattle.pb_ledger.specs.declared.collecting.CollectFault.TheVariants as collect
+use Rattle.pb_poly.proofs.ReadRows.{found_no_table}
+use Rattle.pb_poly.specs.TableReading.{ReadsTable}
+use Rattle.pb_collecting.specs.Taking.{fault_of}
 use Rattle.pb_collecting.specs.Headline.{HasHeadline, Headline}
+use Rattle.pb_collecting.specs.Runs as runs
 use Rattle.pb_collecting.specs.Runs.{CollectRun}
 use Rattle.pb_collecting.proofs.RunLemmas.{collect_from}
 
@@ -24,10 +35,11 @@ all_of (Some x) bytes all is h = let same : x ≡ all = cc in h ∙ same
 
 put_all : (old new : Option (List ℕ)) (put all : List ℕ) → old ≡ Some [] → new ≡ Some all → Appends old new put → put ≡ all
 put_all None new put all none is h = absurd (cc)
-put_all (Some x) new put all none is h =
+put_all (Some x) None put all none is h = absurd (cc)
+put_all (Some x) (Some y) put all none is h =
     let e : x ≡ [] = same_Some x [] none in
-    let f : x ++ put ≡ all = same_Some (x ++ put) all (sym h ∙ is) in
-    subst (λ y. y ++ put ≡ all) e f
+    let f : x ++ put ≡ all = sym h ∙ same_Some y all is in
+    subst (λ z. z ++ put ≡ all) e f
 
 module _ (rules : CountingRules) (t t' s s' : SourceState) (sink sink' : SinkState) (file bytes put : List ℕ)
     (told_t : t.to_come ≡ Some file) (told_s : s.to_come ≡ Some bytes) (empty : sink.bytes ≡ Some []) (all : sink'.bytes ≡ Some put) where
@@ -47,8 +59,45 @@ no_table file randoms table.Read is h = h
 no_table file randoms table.Endless is h = h
 no_table file randoms table.Memory is h = h
 
-pub never_refused : (rules : CountingRules) (fills : ℕ) (t t' s s' : SourceState) (sink sink' : SinkState) (file : List ℕ) → t.to_come ≡ Some file
-    → CollectRun rules fills t t' s s' sink sink' (Ok None) → (randoms : List ℕ) → IsTableFile randoms file → ⊥
-never_refused rules fills t t' s s' sink sink' file told run randoms is =
+pub never_refused : (rules : CountingRules) (fills : ℕ) (t t' s s' : SourceState) (sink sink' : SinkState) (file : List ℕ) (answer : Option (List Entry)) → t.to_come ≡ Some file → answer ≡ None
+    → CollectRun rules fills t t' s s' sink sink' (Ok answer) → (randoms : List ℕ) → IsTableFile randoms file → ⊥
+never_refused rules fills t t' s s' sink sink' file (Some entries) told none run randoms is = absurd (cc)
+never_refused rules fills t t' s s' sink sink' file None told none run randoms is =
     let judged = (collect_from rules fills t t' s s' sink sink' (Ok None) run).0.judged in
     no_table file randoms judged.cause is (told_no_table fills t t' file told judged.cause _ judged.is judged.found)
+
+-- ---- faults of a run whose sources can't fail
+
+table_fault : (fills : ℕ) (t t' : SourceState) (e : TableFault) (fault : Fault) → t'.failed ≡ false → ReadsTable fills t t' (Err e) → Err fault ≡ table_verdict e
+    → (fault ≡ Memory) ⊎ (fault ≡ Endless)
+table_fault fills t t' table.Long fault works read is = absurd (cc)
+table_fault fills t t' (table.Line n) fault works read is = absurd (cc)
+table_fault fills t t' (table.Count n) fault works read is = absurd (cc)
+table_fault fills t t' table.Read fault works read is =
+    let h = found_no_table fills t t' table.Read read in let fails : t'.failed ≡ true = h.reads.fails in absurd (cc)
+table_fault fills t t' table.Endless fault works read is = inr (cc)
+table_fault fills t t' table.Memory fault works read is = inl (cc)
+
+stop_fault : (fills : ℕ) (s s' : SourceState) (sink sink' : SinkState) (ledger left : LedgerState) (e : CollectFault) (fault : Fault) → s'.failed ≡ false → fault ≢ Write
+    → CollectsUntil fills s s' sink sink' ledger left e → fault ≡ fault_of e → (fault ≡ Memory) ⊎ (fault ≡ Endless)
+stop_fault fills s s' sink sink' ledger left collect.Read fault works other h is = let fails : s'.failed ≡ true = h.0.reads.fails in absurd (cc)
+stop_fault fills s s' sink sink' ledger left collect.Write fault works other h is = absurd (other is)
+stop_fault fills s s' sink sink' ledger left collect.Endless fault works other h is = inr is
+stop_fault fills s s' sink sink' ledger left collect.Memory fault works other h is = inl is
+
+same_fault : {X : Type 0} {f g : Fault} → (let r : Result X Fault = Err f in r) ≡ Err g → f ≡ g
+same_fault is = cc
+
+is_judged : {X : Type 0} {f g : Fault} {v : Verdict} → (let r : Result X Fault = Err f in r) ≡ Err g → Err g ≡ v → Err f ≡ v
+is_judged is verdict = cc
+
+pub faults : (rules : CountingRules) (fills : ℕ) (t t' s s' : SourceState) (sink sink' : SinkState) (fault : Fault) → t'.failed ≡ false → s'.failed ≡ false → fault ≢ Write
+    → CollectRun rules fills t t' s s' sink sink' (Err fault) → (fault ≡ Memory) ⊎ (fault ≡ Endless)
+faults rules fills t t' s s' sink sink' fault table works other (runs.went m x first goes is) = absurd (cc)
+faults rules fills t t' s s' sink sink' fault table works other (runs.broke m f first (inl (left, (e, until, same))) is) =
+    stop_fault fills s s' sink sink' m left e fault works other until (same_fault is ∙ same)
+faults rules fills t t' s s' sink sink' fault table works other (runs.broke m f first (inr (memory, left)) is) = inl (same_fault is ∙ memory)
+faults rules fills t t' s s' sink sink' fault table works other (runs.told out judged put handed is) = absurd (cc)
+faults rules fills t t' s s' sink sink' fault table works other (runs.untold out count judged put fails flushes is) = absurd (other (same_fault is))
+faults rules fills t t' s s' sink sink' fault table works other (runs.stopped f ((e, read, verdict), unread) kept is) =
+    table_fault fills t t' e fault table read (is_judged is verdict)

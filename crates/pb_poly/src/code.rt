@@ -3,7 +3,6 @@
 ghost use Rattle.std.specs.Prelude.{◌≡◌, MatchOption, Some};
 ghost use Rattle.pb_board.specs.Piece.{king_of};
 ghost use Rattle.pb_board.specs.Board.{at, is_piece};
-ghost use Rattle.pb_moves.specs.Legal.{PseudoLegal};
 ghost use Rattle.pb_moves.specs.Moved.{Moved};
 ghost use Rattle.pb_poly.specs.Decoding.{reached as reached_by};
 ghost use Rattle.pb_poly.specs.Code.{HasCode, encode_move, encoded_to};
@@ -23,22 +22,19 @@ fn has_own_king(setup: &Setup, square: Square) -> bool
 
 /// The square that the code names as the one that the move reaches.
 fn coded_to(setup: &Setup, m: Move) -> Square
-    ensures { PseudoLegal setup.now m → result ≡ encoded_to setup.now m }
+    ensures { result ≡ encoded_to setup.now m }
 {
     match Castling::of(m.from(), m.to()) {
-        Some(castling) if castling.colour() == setup.turn() && has_own_king(setup, m.from()) => {
-            castling.squares().rook_from
-        }
+        Some(castling) if has_own_king(setup, m.from()) => castling.squares().rook_from,
         _ => m.to(),
     }
 }
 
 /// The code of a move in a PolyGlot book, below 2^15: the square that it reaches, 64 times the square that it leaves, and
 /// 4,096 times the promotion (none, knight, bishop, rook, queen from 0). Castling counts as the king's move to its
-/// rook, as e1h1. It may be made before it is known whether the move is legal: where it isn't so, check apart, the
-/// number means nothing.
+/// rook, as e1h1. It means something of legal moves alone.
 pub fn code_of(setup: &Setup, m: Move) -> u16
-    ensures { PseudoLegal setup.now m → result ≡ encode_move setup.now m }
+    ensures { result ≡ encode_move setup.now m }
 {
     let to = u16::from(coded_to(setup, m).index());
     let from = u16::from(m.from().index());
