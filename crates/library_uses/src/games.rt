@@ -1,7 +1,7 @@
 //! Games, by pb_ledger: submissions, the replies to them, and the book of the games that were accepted.
 
 ghost use Rattle.std.specs.Prelude.{◌≡◌};
-ghost use Rattle.pb_accepted.specs.Accepting.{Allowed, Answer, Takes};
+ghost use Rattle.pb_accepted.specs.Accepting.{Answer, Step};
 ghost use Rattle.pb_accepted.specs.Replies.{reply_line};
 
 use pb_ledger::laws::one_line;
@@ -19,9 +19,8 @@ const LINES: [&[u8]; 4] = [
 
 /// Submits a line, and makes the reply to it.
 fn reply_to<T: Tally>(ledger: &mut Ledger<T>, line: &[u8]) -> Reply
-    // The reply is that of an answer which the games held allow, and what is held afterwards goes by the same answer.
-    ensures { (answer : Answer) × Allowed ledger.old.cap ledger.old.accepted line.now answer
-        × Takes ledger.old.accepted line.now answer ledger.new.accepted
+    // The reply is that of the answer by which the ledger steps on.
+    ensures { (answer : Answer) × Step ledger.old.cap ledger.old.accepted line.now answer ledger.new.accepted
         × (result ≡ reply_line line.now answer) }
 {
     let answer = ledger.submit(line);
