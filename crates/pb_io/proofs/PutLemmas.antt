@@ -1,5 +1,5 @@
 -- Bytes that are put part by part.
-use Rattle.std.proofs.Common.{◌≡◌, ◌∙◌, ℕ, ◌+◌, ◌<◌, ◌≤◌, List, [], ◌++◌, Option, Result, Ok, Err, Bor, ap, append-nil, append_assoc, drop, false, get_or, length, refl, subst, sym, take, take-append-drop, true}
+use Rattle.std.proofs.Common.{◌≡◌, ◌∙◌, ℕ, ◌+◌, ◌<◌, ◌≤◌, List, [], ◌++◌, Option, None, Some, Result, Ok, Err, Bor, ap, append-nil, append_assoc, drop, false, get_or, length, refl, subst, sym, take, take-append-drop, true}
 use Rattle.std.proofs.KnownBytes.{Appends-kept, Appends-nil, Appends-trans}
 use Rattle.std.proofs.Math.ListN.{drop_of_length-le}
 use Rattle.std.proofs.Math.Seq.{take-append_seam, take-length}
@@ -11,10 +11,16 @@ use Rattle.pb_io.specs.Parts.{parts_joined}
 
 -- what lasts, by two steps
 pub Lasts-trans : (old mid new : Option (List ℕ)) → Lasts old mid → Lasts mid new → Lasts old new
-Lasts-trans old mid new first next = (first.0 ++ next.0, Appends-trans old mid new first.0 next.0 first.1 next.1)
+Lasts-trans None None new first next = next
+Lasts-trans None (Some b) new first next = cc
+Lasts-trans (Some a) None new first next = absurd first.1
+Lasts-trans (Some a) (Some b) None first next = absurd next.1
+Lasts-trans (Some a) (Some b) (Some c) first next =
+    (first.0 ++ next.0, next.1 ∙ ap (λ bytes. bytes ++ next.0) first.1 ∙ append_assoc a first.0 next.0)
 
 pub Lasts-refl : (known : Option (List ℕ)) → Lasts known known
-Lasts-refl known = ([], Appends-nil known)
+Lasts-refl None = refl
+Lasts-refl (Some bytes) = ([], sym (append-nil bytes))
 
 module _ (old mid new : Option (List ℕ)) (done part rest whole : List ℕ) (written : Appends old mid done) (is : done ++ (part ++ rest) ≡ whole) where
   -- what was put, and one part more
@@ -53,14 +59,6 @@ put_failed old new (Err e) bytes failing front failed lasts flushed flushes = re
   flushed = flushed;
   flushes = flushes;
 }
-
--- a put that failed, of a sink whose bytes all last
-pub put_stopped : {E : Type 0} (old new : SinkState) (answer : Result (Unit {0}) E) (bytes : List ℕ) → IsErr answer
-    → old.lasting ≡ old.bytes → new.lasting ≡ new.bytes → (count : ℕ) × Appends old.bytes new.bytes (take count bytes)
-    → new.failed ≡ true → new.flushed ≡ false → new.flushes ≡ old.flushes → Put old new answer bytes
-put_stopped old new answer bytes failing before after front failed flushed flushes =
-    let lasts : Lasts old.lasting new.lasting = rw (before, after) (take front.0 bytes, front.1) in
-    put_failed old new answer bytes failing front failed lasts flushed flushes
 
 -- the last part of what is put
 pub put_last : {E : Type 0} (old mid new : SinkState) (answer : Result (Unit {0}) E) (done part whole : List ℕ)

@@ -2,6 +2,7 @@
 //! of a file and of no file's name.
 #![tactic(auto)]
 
+mod fault;
 mod fuse;
 mod history;
 pub mod laws;
@@ -11,8 +12,9 @@ mod parts;
 mod sink;
 mod source;
 
+pub use fault::{Fault, ReadFault};
 pub use fuse::{FuseSink, FuseSource, NeverSource};
-pub use lines::{LINE_LIMIT, LineTask, LinesFault, take_ended_lines, take_lines};
+pub use lines::{LINE_LIMIT, LineTask, take_ended_lines, take_lines};
 pub use parts::put_parts;
 pub use sink::{MemSink, Sink, ToWrite};
 pub use source::{CHUNK_LEN, Failed, FromRead, MemSource, Source};
