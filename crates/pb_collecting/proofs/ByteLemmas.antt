@@ -15,8 +15,8 @@ use Rattle.pb_accepted.specs.Rules.{CountingRules}
 use Rattle.pb_commands.proofs.Told.{told_no_table}
 use Rattle.pb_commands.specs.Judged.{Verdict}
 use Rattle.pb_commands.specs.TableJudged.{AsTable, table_verdict}
-use Rattle.pb_commands.specs.declared.fault.Fault.{Fault}
-use Rattle.pb_commands.specs.declared.fault.Fault.TheVariants.{Write, Endless, Memory}
+use Rattle.pb_io.specs.declared.fault.Fault.{Fault}
+use Rattle.pb_io.specs.declared.fault.Fault.TheVariants.{Write, Endless, Memory}
 use Rattle.pb_accepted.specs.Ledger.{LedgerState}
 use Rattle.pb_ledger.specs.Collecting.{CollectsUntil}
 use Rattle.pb_ledger.specs.declared.collecting.CollectFault.{CollectFault}

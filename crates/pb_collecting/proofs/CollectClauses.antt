@@ -5,7 +5,7 @@ use Rattle.pb_io.specs.Source.{SourceState}
 use Rattle.pb_io.specs.Sink.{SinkState}
 use Rattle.pb_poly.specs.declared.entry.Entry.{Entry}
 use Rattle.pb_accepted.specs.Rules.{AreRules, CountingRules}
-use Rattle.pb_commands.specs.declared.fault.Fault.{Fault}
+use Rattle.pb_io.specs.declared.fault.Fault.{Fault}
 use Rattle.pb_collecting.specs.Headline.{HasHeadline}
 use Rattle.pb_collecting.specs.Runs.{CollectRun}
 use Rattle.pb_collecting.proofs.CollectParts.{CollectsOrEnds}

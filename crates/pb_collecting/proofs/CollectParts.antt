@@ -10,8 +10,8 @@ use Rattle.pb_games.specs.Submissions.{Submission}
 use Rattle.pb_accepted.specs.Counting.{IsBook}
 use Rattle.pb_ledger.specs.declared.collecting.CollectFault.{CollectFault}
 use Rattle.pb_accepted.specs.Rules.{CountingRules}
-use Rattle.pb_commands.specs.declared.fault.Fault.{Fault}
-use Rattle.pb_commands.specs.declared.fault.Fault.TheVariants.{Memory}
+use Rattle.pb_io.specs.declared.fault.Fault.{Fault}
+use Rattle.pb_io.specs.declared.fault.Fault.TheVariants.{Memory}
 use Rattle.pb_poly.specs.declared.table_file.TableFault.{TableFault}
 use Rattle.pb_commands.specs.Judged.{HandedOnOnce, PutsText, PutsUntil, Verdict}
 use Rattle.pb_poly.specs.TableReading.{ReadsTable}

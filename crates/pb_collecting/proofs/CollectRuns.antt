@@ -9,7 +9,7 @@ use Rattle.pb_accepted.specs.Rules.{CountingRules}
 use Rattle.pb_commands.specs.Judged.{HandedOnOnce, PutsOrEnds, PutsText, Verdict}
 use Rattle.pb_commands.specs.TableJudged.{table_verdict}
 use Rattle.pb_poly.specs.TableReading.{ReadsTable}
-use Rattle.pb_commands.specs.declared.fault.Fault.{Fault}
+use Rattle.pb_io.specs.declared.fault.Fault.{Fault}
 use Rattle.pb_poly.specs.declared.table_file.TableFault.{TableFault}
 use Rattle.pb_poly.specs.declared.table_file.TableFault.TheVariants as table
 use Rattle.pb_commands.proofs.Judging.{shows}

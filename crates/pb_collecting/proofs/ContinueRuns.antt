@@ -10,7 +10,7 @@ use Rattle.pb_saved.specs.Loading.{LoadsStream, LoadsUntil}
 use Rattle.pb_saved.specs.declared.loading.LoadError.{LoadError}
 use Rattle.pb_saved.specs.declared.loading.LoadError.TheVariants as load
 use Rattle.pb_commands.specs.Judged.{HandedOnOnce, PutsOrEnds, PutsText, PutsUntil, Verdict}
-use Rattle.pb_commands.specs.declared.fault.Fault.{Fault}
+use Rattle.pb_io.specs.declared.fault.Fault.{Fault}
 use Rattle.pb_commands.proofs.Judging.{shows}
 use Rattle.pb_collecting.specs.Continuing.{LoadsFirst, LoadsNot, LoadsOrStops, saved_verdict, verdict_of}
 use Rattle.pb_collecting.specs.Taking.{ledger_of, new_ledger}

@@ -13,8 +13,8 @@ use Rattle.pb_ledger.specs.declared.collecting.CollectFault.TheVariants as colle
 use Rattle.pb_export.specs.declared.exporting.ExportFault.{ExportFault}
 use Rattle.pb_export.specs.declared.exporting.ExportFault.TheVariants as export
 use Rattle.pb_commands.specs.Judged.{PutsUntil, Verdict}
-use Rattle.pb_commands.specs.declared.fault.Fault.{Fault}
-use Rattle.pb_commands.specs.declared.fault.Fault.TheVariants.{Read, Write, Endless, Memory}
+use Rattle.pb_io.specs.declared.fault.Fault.{Fault}
+use Rattle.pb_io.specs.declared.fault.Fault.TheVariants.{Read, Write, Endless, Memory}
 use Rattle.pb_collecting.specs.ExportRun.{BlamesSink, fault_of_export}
 use Rattle.pb_collecting.specs.Runs.{ExportRun}
 use Rattle.pb_collecting.specs.Taking.{fault_of, new_ledger}

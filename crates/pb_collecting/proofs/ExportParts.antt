@@ -8,7 +8,7 @@ use Rattle.pb_games.specs.Submissions.{Submission}
 use Rattle.pb_export.specs.Exporting.{ExportLines, ExportsUntil, text_of_lines}
 use Rattle.pb_ledger.specs.declared.collecting.CollectFault.{CollectFault}
 use Rattle.pb_export.specs.declared.exporting.ExportFault.{ExportFault}
-use Rattle.pb_commands.specs.declared.fault.Fault.{Fault}
+use Rattle.pb_io.specs.declared.fault.Fault.{Fault}
 use Rattle.pb_commands.specs.Judged.{HandedOnOnce, PutsText, PutsUntil}
 use Rattle.pb_accepted.specs.Rules.{CountingRules}
 use Rattle.pb_collecting.specs.Taking.{CollectsGames, StopsTaking, fault_of, ledger_of}

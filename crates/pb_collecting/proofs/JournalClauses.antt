@@ -8,8 +8,8 @@ use Rattle.pb_poly.specs.declared.entry.Entry.{Entry}
 use Rattle.pb_accepted.specs.Ledger.{LedgerState}
 use Rattle.pb_accepted.specs.Rules.{CountingRules}
 use Rattle.pb_commands.specs.Judged.{PutsUntil}
-use Rattle.pb_commands.specs.declared.fault.Fault.{Fault}
-use Rattle.pb_commands.specs.declared.fault.Fault.TheVariants as fault
+use Rattle.pb_io.specs.declared.fault.Fault.{Fault}
+use Rattle.pb_io.specs.declared.fault.Fault.TheVariants as fault
 use Rattle.pb_collecting.specs.JournalHeadline.{HasHeadlineOfJournal, Outlives, Survives}
 use Rattle.pb_collecting.specs.JournalRun.{ReplaysFirst}
 use Rattle.pb_collecting.specs.Runs.{JournalRun}

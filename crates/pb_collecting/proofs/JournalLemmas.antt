@@ -7,8 +7,8 @@ use Rattle.pb_poly.specs.TableReading.{ReadsTable}
 use Rattle.pb_accepted.specs.Ledger.{LedgerState}
 use Rattle.pb_accepted.specs.Rules.{CountingRules}
 use Rattle.pb_commands.specs.Judged.{PutsUntil, Verdict}
-use Rattle.pb_commands.specs.declared.fault.Fault.{Fault}
-use Rattle.pb_commands.specs.declared.fault.Fault.TheVariants.{Read, Write, Endless, Memory}
+use Rattle.pb_io.specs.declared.fault.Fault.{Fault}
+use Rattle.pb_io.specs.declared.fault.Fault.TheVariants.{Read, Write, Endless, Memory}
 use Rattle.pb_ledger.specs.Collecting.{CollectsStream}
 use Rattle.pb_ledger.specs.declared.totals.Totals.{Totals}
 use Rattle.pb_saved.specs.Replaying.{ReplaysAll}

@@ -15,8 +15,8 @@ use Rattle.pb_ledger.specs.Journaling.{JournalsStream, JournalsUntil}
 use Rattle.pb_ledger.specs.declared.journaling.JournalFault.{JournalFault}
 use Rattle.pb_ledger.specs.declared.totals.Totals.{Totals}
 use Rattle.pb_commands.specs.Judged.{HandedOnOnce, PutsText, PutsUntil}
-use Rattle.pb_commands.specs.declared.fault.Fault.{Fault}
-use Rattle.pb_commands.specs.declared.fault.Fault.TheVariants.{Memory}
+use Rattle.pb_io.specs.declared.fault.Fault.{Fault}
+use Rattle.pb_io.specs.declared.fault.Fault.TheVariants.{Memory}
 use Rattle.pb_collecting.specs.JournalRun.{ReplaysFirst, ReplaysNot, fault_of_replay, fault_of_journal}
 use Rattle.pb_collecting.proofs.CollectParts.{JudgesTable}
 

@@ -12,7 +12,7 @@ use Rattle.pb_saved.specs.Replaying.{ReplaysAll, ReplaysUntil}
 use Rattle.pb_saved.specs.declared.replaying.ReplayError.{ReplayError}
 use Rattle.pb_commands.specs.Judged.{PutsOrEnds}
 use Rattle.pb_commands.specs.TableJudged.{table_verdict}
-use Rattle.pb_commands.specs.declared.fault.Fault.{Fault}
+use Rattle.pb_io.specs.declared.fault.Fault.{Fault}
 use Rattle.pb_collecting.specs.JournalRun.{ReplaysFirst, ReplaysNot, ReplaysOrStops, fault_of_replay}
 use Rattle.pb_collecting.specs.Runs.{JournalRun}
 use Rattle.pb_collecting.specs.declared.journaling.NoJournal.{NoJournal}

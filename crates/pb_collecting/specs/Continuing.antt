@@ -21,8 +21,8 @@ use Rattle.pb_ledger.specs.declared.totals.Totals.{Totals}
 use Rattle.pb_ledger.specs.declared.collecting.CollectFault.TheVariants as collect
 use Rattle.pb_commands.specs.Judged.{Verdict, refused}
 use Rattle.pb_commands.specs.TableJudged.{table_verdict}
-use Rattle.pb_commands.specs.declared.fault.Fault.{Fault}
-use Rattle.pb_commands.specs.declared.fault.Fault.TheVariants.{Read, Write, Endless, Memory}
+use Rattle.pb_io.specs.declared.fault.Fault.{Fault}
+use Rattle.pb_io.specs.declared.fault.Fault.TheVariants.{Read, Write, Endless, Memory}
 use Rattle.pb_collecting.specs.Taking.{ledger_of, new_ledger}
 use Rattle.pb_collecting.specs.declared.continuing.NoLedger.{NoLedger}
 use Rattle.pb_collecting.specs.declared.continuing.NoLedger.TheVariants.{Table, Saved}

@@ -3,8 +3,8 @@ use Rattle.std.specs.Prelude.{◌≡◌, true, false}
 use Rattle.pb_io.specs.Sink.{SinkState}
 use Rattle.pb_export.specs.declared.exporting.ExportFault.{ExportFault}
 use Rattle.pb_export.specs.declared.exporting.ExportFault.TheVariants as export
-use Rattle.pb_commands.specs.declared.fault.Fault.{Fault}
-use Rattle.pb_commands.specs.declared.fault.Fault.TheVariants.{Write, Memory}
+use Rattle.pb_io.specs.declared.fault.Fault.{Fault}
+use Rattle.pb_io.specs.declared.fault.Fault.TheVariants.{Write, Memory}
 
 -- what a fault of exporting is to the run
 abbrev pub fault_of_export : ExportFault → Fault

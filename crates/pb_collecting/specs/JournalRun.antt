@@ -11,8 +11,8 @@ use Rattle.pb_saved.specs.declared.replaying.ReplayError.{ReplayError}
 use Rattle.pb_saved.specs.declared.replaying.ReplayError.TheVariants as replay
 use Rattle.pb_ledger.specs.declared.journaling.JournalFault.{JournalFault}
 use Rattle.pb_ledger.specs.declared.journaling.JournalFault.TheVariants as journal
-use Rattle.pb_commands.specs.declared.fault.Fault.{Fault}
-use Rattle.pb_commands.specs.declared.fault.Fault.TheVariants.{Read, Write, Endless, Memory}
+use Rattle.pb_io.specs.declared.fault.Fault.{Fault}
+use Rattle.pb_io.specs.declared.fault.Fault.TheVariants.{Read, Write, Endless, Memory}
 use Rattle.pb_collecting.specs.Taking.{fault_of, ledger_of, new_ledger}
 use Rattle.pb_collecting.specs.declared.journaling.NoJournal.{NoJournal}
 use Rattle.pb_collecting.specs.declared.journaling.NoJournal.TheVariants.{Table, Replay}

@@ -26,8 +26,8 @@ use Rattle.pb_saved.specs.Replaying.{ReplaysAll, ReplaysUntil}
 use Rattle.pb_saved.specs.declared.replaying.ReplayError.{ReplayError}
 use Rattle.pb_commands.specs.Judged.{HandedOnOnce, Verdict}
 use Rattle.pb_commands.specs.TableJudged.{table_verdict}
-use Rattle.pb_commands.specs.declared.fault.Fault.{Fault}
-use Rattle.pb_commands.specs.declared.fault.Fault.TheVariants.{Write, Memory}
+use Rattle.pb_io.specs.declared.fault.Fault.{Fault}
+use Rattle.pb_io.specs.declared.fault.Fault.TheVariants.{Write, Memory}
 use Rattle.pb_games.specs.Submissions.{Submission}
 use Rattle.pb_collecting.specs.Continuing.{saved_verdict}
 use Rattle.pb_collecting.specs.declared.continuing.Continued.{Continued}

@@ -2,7 +2,7 @@
 
 ghost use Rattle.std.specs.Prelude.{◌≡◌, ◌⊎◌, ℕ, IfErr, IfNone, IfOk, IfSome, List};
 ghost use Rattle.pb_poly.specs.Table.{IsTableFile};
-ghost use Rattle.pb_commands.specs.declared.fault.Fault.TheVariants.{Endless, Memory};
+ghost use Rattle.pb_io.specs.declared.fault.Fault.TheVariants.{Endless, Memory};
 ghost use Rattle.pb_collecting.specs.Headline.{Headline};
 
 use crate::collect::run_collect;

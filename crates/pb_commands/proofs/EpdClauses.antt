@@ -8,7 +8,7 @@ use Rattle.pb_io.proofs.EndLemmas.{told_of}
 use Rattle.pb_commands.specs.EpdRun.{RewritesOrEnds, RewritesStream, RewritesUntil}
 use Rattle.pb_commands.specs.EpdShown.{EpdShown}
 use Rattle.pb_commands.specs.Judged.{HandedOnOnce, PutsText}
-use Rattle.pb_commands.specs.declared.fault.Fault.{Fault}
+use Rattle.pb_io.specs.declared.fault.Fault.{Fault}
 
 module _ (fills : ℕ) (source source' : SourceState) (sink sink' : SinkState) where
   abbrev Ends : Result Bool Fault → Type 0

@@ -9,7 +9,7 @@ use Rattle.pb_io.specs.Count.{next_count}
 use Rattle.pb_io.specs.Sink.{Flush, Put, SinkState}
 use Rattle.pb_io.specs.declared.source.Failed.{Failed}
 use Rattle.pb_commands.specs.Shows.{Shows}
-use Rattle.pb_commands.specs.declared.fault.Fault.TheVariants.{Write}
+use Rattle.pb_io.specs.declared.fault.Fault.TheVariants.{Write}
 use Rattle.pb_io.proofs.PutLemmas.{front_all, front_more, put_more}
 
 -- the lines before one have been put, and not handed on

@@ -23,8 +23,8 @@ use Rattle.pb_commands.specs.ProbeShown.{FoundShown, ProbeShown, ProbesSources, 
 use Rattle.pb_commands.specs.RecordJudged.{AsRecord, record_verdict}
 use Rattle.pb_commands.specs.Shows.{Shows}
 use Rattle.pb_commands.specs.TableJudged.{AsTable, table_verdict}
-use Rattle.pb_commands.specs.declared.fault.Fault.{Fault}
-use Rattle.pb_commands.specs.declared.fault.Fault.TheVariants.{Read, Endless, Memory}
+use Rattle.pb_io.specs.declared.fault.Fault.{Fault}
+use Rattle.pb_io.specs.declared.fault.Fault.TheVariants.{Read, Endless, Memory}
 use Rattle.pb_commands.proofs.Judging.{hands_on, only_text, puts_text, puts_until, shows, text_as, text_not_shown, text_shown}
 use Rattle.pb_commands.proofs.OneProbe.{probe_is_one}
 use Rattle.pb_commands.proofs.Showing.{no_book_end, no_book_fault}

@@ -20,8 +20,8 @@ use Rattle.pb_io.specs.Count.{next_count}
 use Rattle.pb_io.proofs.FlushLemmas.{AwaitsFlush-trans, not_flushed}
 use Rattle.pb_io.proofs.EndLemmas.{AtEnd-weaker, AtFault-weaker, AtLine-weaker, AtNoEnd-weaker}
 use Rattle.pb_commands.specs.declared.epd.Rewriter.{Rewriter}
-use Rattle.pb_commands.specs.declared.fault.Fault.{Fault}
-use Rattle.pb_commands.specs.declared.fault.Fault.TheVariants.{Read, Write, Endless, Memory}
+use Rattle.pb_io.specs.declared.fault.Fault.{Fault}
+use Rattle.pb_io.specs.declared.fault.Fault.TheVariants.{Read, Write, Endless, Memory}
 use Rattle.pb_commands.specs.EpdShown.{EpdShown, LineShown, epd_verdict}
 use Rattle.pb_commands.specs.EpdRun.{PutsButLast, PutsLines, RewritesStream, RewritesUntil}
 use Rattle.pb_commands.specs.Judged.{HandedOnOnce, PutsFront, PutsText, Verdict}

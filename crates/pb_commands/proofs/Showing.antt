@@ -15,8 +15,8 @@ use Rattle.pb_commands.specs.BookJudged.{AsBook, book_verdict}
 use Rattle.pb_commands.specs.BookShown.{BookShown, show_text}
 use Rattle.pb_commands.specs.Judged.{HandedOnOnce, PutsOrEnds, PutsText, PutsUntil, Verdict}
 use Rattle.pb_commands.specs.Shows.{Shows}
-use Rattle.pb_commands.specs.declared.fault.Fault.{Fault}
-use Rattle.pb_commands.specs.declared.fault.Fault.TheVariants.{Read, Endless, Memory}
+use Rattle.pb_io.specs.declared.fault.Fault.{Fault}
+use Rattle.pb_io.specs.declared.fault.Fault.TheVariants.{Read, Endless, Memory}
 use Rattle.pb_commands.proofs.Judging.{hands_on, only_text, puts_text, puts_until, shows, text_not_shown, text_shown, told_as}
 use Rattle.pb_commands.proofs.OneBook.{shown_is_one}
 use Rattle.pb_commands.proofs.Told.{told_shown}

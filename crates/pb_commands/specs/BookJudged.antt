@@ -5,7 +5,7 @@ use Rattle.pb_poly.specs.Streams.{at_end, so_far}
 use Rattle.pb_poly.specs.declared.entry.Entry.{Entry}
 use Rattle.pb_poly.specs.declared.reading.BookError.{BookError}
 use Rattle.pb_poly.specs.declared.reading.BookError.TheVariants as book
-use Rattle.pb_commands.specs.declared.fault.Fault.TheVariants.{Read, Endless, Memory}
+use Rattle.pb_io.specs.declared.fault.Fault.TheVariants.{Read, Endless, Memory}
 use Rattle.pb_commands.specs.Judged.{Verdict, refused}
 
 -- what comes of a file for this reason why there is no book

@@ -8,7 +8,7 @@ use Rattle.pb_epd.specs.declared.refusal.EpdError.TheVariants as epd
 use Rattle.pb_epd.specs.Epd.{EpdRecord, IsEpd, EpdText, epd_form}
 use Rattle.pb_epd.specs.Refusal.{IsFirstDueEpd}
 use Rattle.pb_io.specs.Lines.{line_limit}
-use Rattle.pb_commands.specs.declared.fault.Fault.TheVariants.{Memory}
+use Rattle.pb_io.specs.declared.fault.Fault.TheVariants.{Memory}
 use Rattle.pb_commands.specs.Judged.{Verdict, refused}
 
 -- no byte but spaces

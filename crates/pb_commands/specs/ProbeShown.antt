@@ -12,7 +12,7 @@ use Rattle.pb_poly.specs.declared.table_file.TableFault.{TableFault}
 use Rattle.pb_poly.specs.Found.{Found}
 use Rattle.pb_poly.specs.Reading.{ReadsBook}
 use Rattle.pb_poly.specs.TableReading.{ReadsTable}
-use Rattle.pb_commands.specs.declared.fault.Fault.TheVariants.{Memory}
+use Rattle.pb_io.specs.declared.fault.Fault.TheVariants.{Memory}
 use Rattle.pb_commands.specs.BookJudged.{book_verdict}
 use Rattle.pb_commands.specs.Judged.{Verdict}
 use Rattle.pb_commands.specs.RecordJudged.{AsRecord, record_verdict}

@@ -6,8 +6,8 @@ use Rattle.pb_io.specs.declared.lines.LinesFault.{LinesFault}
 use Rattle.pb_io.specs.declared.lines.LinesFault.TheVariants as lines
 use Rattle.pb_io.specs.Count.{next_count}
 use Rattle.pb_commands.specs.declared.epd.Rewriter.{Rewriter}
-use Rattle.pb_commands.specs.declared.fault.Fault.{Fault}
-use Rattle.pb_commands.specs.declared.fault.Fault.TheVariants.{Read, Write, Endless, Memory}
+use Rattle.pb_io.specs.declared.fault.Fault.{Fault}
+use Rattle.pb_io.specs.declared.fault.Fault.TheVariants.{Read, Write, Endless, Memory}
 use Rattle.pb_commands.specs.EpdShown.{LineShown}
 use Rattle.pb_commands.specs.Judged.{PutsText, PutsUntil, Verdict}
 

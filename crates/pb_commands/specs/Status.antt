@@ -1,7 +1,7 @@
 -- The exit statuses of the program, and the words of its faults.
 use Rattle.std.specs.Prelude.{ℕ, List, codes, Bool, true, false, Result, Ok, Err}
-use Rattle.pb_commands.specs.declared.fault.Fault.{Fault}
-use Rattle.pb_commands.specs.declared.fault.Fault.TheVariants.{Read, Write, Endless, Memory}
+use Rattle.pb_io.specs.declared.fault.Fault.{Fault}
+use Rattle.pb_io.specs.declared.fault.Fault.TheVariants.{Read, Write, Endless, Memory}
 
 -- 0 where the input was taken, 1 where it was refused, 3 where the command stopped before its end
 abbrev pub status_of : Result Bool Fault → ℕ

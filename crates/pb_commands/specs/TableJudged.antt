@@ -5,7 +5,7 @@ use Rattle.pb_poly.specs.Table.{table_limit}
 use Rattle.pb_poly.specs.TableReading.{TableIs}
 use Rattle.pb_poly.specs.declared.table_file.TableFault.{TableFault}
 use Rattle.pb_poly.specs.declared.table_file.TableFault.TheVariants as table
-use Rattle.pb_commands.specs.declared.fault.Fault.TheVariants.{Read, Endless, Memory}
+use Rattle.pb_io.specs.declared.fault.Fault.TheVariants.{Read, Endless, Memory}
 use Rattle.pb_commands.specs.Judged.{Verdict, refused}
 
 -- what comes of a file for this reason why there is no table

@@ -22,7 +22,7 @@ pub enum Fault {
 }
 
 impl Fault {
-    ghost use Rattle.pb_commands.specs.Status.{fault_word};
+    ghost use Rattle.pb_io.specs.Fault.{fault_word};
 
     /// The word that stands for the fault in the program's line `fault ..`.
     pub fn word(self) -> &'static str

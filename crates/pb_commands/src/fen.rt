@@ -13,7 +13,7 @@ ghost use Rattle.pb_commands.specs.FenShown.{FenShown, Unplayable};
 ghost use Rattle.pb_commands.specs.Judged.{HandedOnOnce, PutsFront, PutsOrEnds, PutsText};
 ghost use Rattle.pb_commands.specs.Plays.{PlaysWords};
 ghost use Rattle.pb_commands.specs.Refused.{refusal_verdict};
-ghost use Rattle.pb_commands.specs.declared.fault.Fault.TheVariants.{Write};
+ghost use Rattle.pb_io.specs.declared.fault.Fault.TheVariants.{Write};
 
 use crate::fault::Fault;
 use crate::output::show_line;

@@ -2,7 +2,7 @@
 
 ghost use Rattle.std.specs.Prelude.{◌≡◌};
 ghost use Rattle.std.specs.Bool.{Decides};
-ghost use Rattle.pb_commands.specs.declared.fault.Fault.{Fault};
+ghost use Rattle.pb_io.specs.declared.fault.Fault.{Fault};
 
 use crate::fault::Fault;
 

@@ -10,7 +10,7 @@ ghost use Rattle.pb_commands.specs.BookJudged.{AsBook};
 ghost use Rattle.pb_commands.specs.ProbeShown.{ProbeShown, ProbesSources, found_line, probe_text};
 ghost use Rattle.pb_commands.specs.Shows.{Shows};
 ghost use Rattle.pb_commands.specs.TableJudged.{AsTable};
-ghost use Rattle.pb_commands.specs.declared.fault.Fault.TheVariants.{Memory};
+ghost use Rattle.pb_io.specs.declared.fault.Fault.TheVariants.{Memory};
 
 use crate::fault::Fault;
 use crate::output::put_line;

@@ -7,7 +7,7 @@ ghost use Rattle.pb_commands.specs.BookJudged.{AsBook};
 ghost use Rattle.pb_commands.specs.BookShown.{BookShown, entry_line, show_text};
 ghost use Rattle.pb_commands.specs.Judged.{HandedOnOnce, PutsOrEnds, PutsText, PutsUntil};
 ghost use Rattle.pb_commands.specs.Shows.{Shows};
-ghost use Rattle.pb_commands.specs.declared.fault.Fault.TheVariants.{Memory};
+ghost use Rattle.pb_io.specs.declared.fault.Fault.TheVariants.{Memory};
 
 use crate::fault::Fault;
 use crate::hexadecimal::digits_of;

@@ -1,7 +1,7 @@
 -- Which stop of a run each reason is, and the word that its line has.
 use Rattle.std.specs.Prelude.{ℕ, List, codes}
-use Rattle.pb_commands.specs.Status.{fault_word}
-use Rattle.pb_commands.specs.declared.fault.Fault.{Fault}
+use Rattle.pb_io.specs.Fault.{fault_word}
+use Rattle.pb_io.specs.declared.fault.Fault.{Fault}
 use Rattle.pb_collecting.specs.declared.continuing_into.NotContinued.{NotContinued}
 use Rattle.pb_collecting.specs.declared.keeping.NoBook.{NoBook}
 use Rattle.pb_collecting.specs.declared.place.NotKept.{NotKept}

@@ -22,21 +22,37 @@ pub enum ReadFault {
     Memory,
 }
 
-/// Why a run from a source to a sink stopped.
+/// Why a run over sources and sinks could not go on to its end.
 #[derive(Clone, Copy, Debug, PartialEq, Eq, Error)]
 pub enum Fault {
-    /// The source has failed.
-    #[error("the input has failed")]
+    /// A source of bytes failed.
+    #[error("a source of bytes failed")]
     Read,
-    /// The sink has failed.
-    #[error("the output has failed")]
+    /// A sink of bytes failed.
+    #[error("a sink of bytes failed")]
     Write,
-    /// The fills were used up, and none was the end or a fault.
-    #[error("the input has no end")]
+    /// A source gave bytes as often as it could be asked, and still had not ended.
+    #[error("a source of bytes didn't end")]
     Endless,
-    /// A growth was refused.
-    #[error("no memory")]
+    /// A growth of the run's own found no memory.
+    #[error("no memory was found")]
     Memory,
+}
+
+impl Fault {
+    ghost use Rattle.pb_io.specs.Fault.{fault_word};
+
+    /// The word that stands for the fault: `read`, `write`, `endless` or `memory`.
+    pub fn word(self) -> &'static str
+        ensures { result.now ≡ fault_word self }
+    {
+        match self {
+            Fault::Read => "read",
+            Fault::Write => "write",
+            Fault::Endless => "endless",
+            Fault::Memory => "memory",
+        }
+    }
 }
 
 impl From<ReadFault> for Fault {

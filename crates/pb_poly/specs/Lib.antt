@@ -21,5 +21,4 @@ pub use Rattle.pb_io.specs.Reads
 pub use Rattle.pb_io.specs.Sink
 pub use Rattle.pb_io.specs.Source
 pub use Rattle.pb_io.specs.Writes
-pub use Rattle.pb_io.specs.declared.lines.LinesFault
 pub use Rattle.pb_io.specs.declared.source.Failed

@@ -25,8 +25,8 @@ pub use found::probe;
 pub use key::key_of;
 pub use key_change::{key_after, key_next};
 pub use pb_io::{
-    Failed, FromRead, FuseSink, FuseSource, LINE_LIMIT, LineTask, LinesFault, MemSink, MemSource,
-    NeverSource, Sink, Source, ToWrite, take_lines,
+    Failed, FromRead, FuseSink, FuseSource, LINE_LIMIT, LineTask, MemSink, MemSource, NeverSource,
+    Sink, Source, ToWrite, take_lines,
 };
 pub use reading::{BookError, read_book};
 pub use table::{Table, TableError, read_table};

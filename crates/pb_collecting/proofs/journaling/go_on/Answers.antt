@@ -1,5 +1,5 @@
 use Rattle.std.proofs.Common.{Some, Ok, Err, refl}
-use Rattle.pb_commands.specs.declared.fault.Fault.TheVariants.{Memory}
+use Rattle.pb_io.specs.declared.fault.Fault.TheVariants.{Memory}
 use Rattle.pb_collecting.proofs.JournalLemmas.{journal_to}
 use Rattle.pb_collecting.proofs.JournalParts.{at_book, at_submissions}
 use Rattle.pb_collecting.proofs.journaling.go_on.Goals as goal
