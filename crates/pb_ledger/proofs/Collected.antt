@@ -1,5 +1,5 @@
--- From the lines that the collector took to what was collected.
-use Rattle.std.proofs.Common.{◌≡◌, ℕ, ◌+◌, ◌^◌, ◌<◌, Bool, true, false, cond, List, [], ◌∷◌, ◌++◌, length, take, Result, Ok, Err, OnOk, IfErr, refl, sym, ap, ◌∙◌, subst, arith, inl, inr}
+-- From the lines that the collector took to what was collected, and to what the journal gained.
+use Rattle.std.proofs.Common.{◌≡◌, ℕ, ◌+◌, ◌^◌, ◌<◌, Bool, true, false, cond, List, [], ◌∷◌, ◌++◌, length, take, MutBor, Option, None, Some, Result, Ok, Err, IfSome, refl, sym, ap, ◌∙◌, subst, arith, inl, inr}
 use Rattle.std.specs.Prelude.{count_by, is_err}
 use Rattle.std.specs.Io.KnownBytes.{Appends}
 use Rattle.std.proofs.lemmas.List.{append_assoc}
@@ -7,24 +7,30 @@ use Rattle.std.proofs.lemmas.List.Sums.{sum_by-cons}
 use Rattle.std.proofs.KnownBytes.{Appends-nil, Appends-trans, Appends-kept}
 use Rattle.pb_io.specs.Count.{next_count}
 use Rattle.pb_io.specs.Source.{SourceState}
-use Rattle.pb_io.specs.Sink.{AwaitsFlush, Flush, SinkState}
+use Rattle.pb_io.specs.Sink.{AllLasts, AwaitsFlush, Flush, Lasts, LastsFirst, SinkState}
 use Rattle.pb_io.proofs.FlushLemmas.{AwaitsFlush-put, AwaitsFlush-trans, not_flushed}
 use Rattle.pb_io.specs.Lines.{lines, ended_lines}
-use Rattle.pb_io.specs.LineTask.{AtEnd, StopsAtLast, TakesAll, TakesStream, TakesUntil}
-use Rattle.pb_io.specs.declared.lines.LinesFault.{LinesFault}
-use Rattle.pb_io.specs.declared.lines.LinesFault.TheVariants.{Memory, Read, Endless, Stop}
+use Rattle.pb_io.specs.Fault.{fault_of}
+use Rattle.pb_io.specs.LineTask.{AtEnd, AtLine, ReadUntil, StopsAtLast, TakesAll, TakesStream, TakesUntil}
+use Rattle.pb_io.specs.declared.fault.Fault.TheVariants as fault
+use Rattle.pb_io.specs.declared.fault.ReadFault.{ReadFault}
+use Rattle.pb_io.specs.declared.fault.ReadFault.TheVariants.{Memory, Read, Endless}
 use Rattle.pb_io.specs.declared.source.Failed.{Failed}
 use Rattle.pb_io.proofs.EndLemmas.{AtEnd-weaker, AtFault-weaker, AtLine-weaker, AtNoEnd-weaker}
 use Rattle.pb_accepted.specs.Accepting.{Answer, Run}
 use Rattle.pb_accepted.specs.Ledger.{LedgerState}
 use Rattle.pb_accepted.proofs.Steps.{runs_join}
-use Rattle.pb_ledger.specs.declared.totals.Totals.{Totals}
-use Rattle.pb_ledger.specs.declared.collecting.Collector.{Collector}
-use Rattle.pb_ledger.specs.declared.collecting.CollectFault.TheVariants as collect
-use Rattle.pb_ledger.specs.Collecting.{Collects, CollectsButOne, CollectsCounted, CollectsStream, CollectsUntil, Leads}
-use Rattle.pb_ledger.specs.Collector.{TakesLine, collect_fault, with_answer}
-use Rattle.pb_ledger.proofs.Submitting.{added, grows, step_of}
 use Rattle.pb_accepted.specs.Replies.{replies, reply_line}
+use Rattle.pb_games.specs.Submissions.{Submission}
+use Rattle.pb_ledger.specs.Collecting.{Collects, CollectsButOne, CollectsCounted, Leads}
+use Rattle.pb_ledger.specs.Collector.{Answered, KeepsLent, TakesLine, Unkept, with_answer}
+use Rattle.pb_ledger.specs.Journaling.{CollectsUnkept, Gains, JournalsStream, JournalsUntil}
+use Rattle.pb_ledger.specs.declared.collector.Collector.{Collector}
+use Rattle.pb_ledger.specs.declared.journaling.JournalFault.{JournalFault}
+use Rattle.pb_ledger.specs.declared.journaling.JournalFault.TheVariants.{Journal, Lines}
+use Rattle.pb_ledger.specs.declared.totals.Totals.{Totals}
+use Rattle.pb_ledger.proofs.Gaining.{Gains-none, Gains-trans}
+use Rattle.pb_ledger.proofs.Submitting.{added, grows, step_of}
 
 -- ---- counts
 
@@ -69,41 +75,66 @@ Leads-more a b c line answer L R one rest = record {
   cap = rest.cap ∙ one.cap;
 }
 
-pub Leads-then : (a b c : LedgerState) (K L : List (List ℕ)) (Q R : List Answer) → Leads a b K Q → Leads b c L R → Leads a c (K ++ L) (Q ++ R)
+Leads-then : (a b c : LedgerState) (K L : List (List ℕ)) (Q R : List Answer) → Leads a b K Q → Leads b c L R → Leads a c (K ++ L) (Q ++ R)
 Leads-then a b c K L Q R first next = record {
   run = runs_join a.cap a.accepted b.accepted c.accepted K L Q R first.run (subst (λ most. Run most b.accepted L R c.accepted) first.cap next.run);
   basis = next.basis ∙ first.basis;
   cap = next.cap ∙ first.cap;
 }
 
-module _ {T K : Type 0} (state : K → SinkState) where
-  abbrev pub Sink : Collector T K → SinkState
+-- ---- what lasts
+
+-- what all lasted goes on lasting, whatever lasts behind it
+lasts_first : (old mid new : SinkState) (text : List ℕ) → Appends old.bytes mid.bytes text → AllLasts mid → Lasts mid.lasting new.lasting
+    → LastsFirst old new text
+lasts_first old mid new text put all lasts = lasting_first mid.lasting new.lasting all lasts
+  where
+    lasting_first : (known later : Option (List ℕ)) → IfSome known (λ bytes. mid.bytes ≡ Some bytes) → Lasts known later
+        → IfSome later (λ bytes. (behind : List ℕ) × Appends old.bytes (Some bytes) (text ++ behind))
+    lasting_first None None all lasts = tt
+    lasting_first None (Some later) all lasts = cc
+    lasting_first (Some bytes) None all lasts = absurd lasts.1
+    lasting_first (Some bytes) (Some later) all lasts =
+        (lasts.0, Appends-trans old.bytes mid.bytes (Some later) text lasts.0 put (subst (λ (known : Option (List ℕ)). Appends known (Some later) lasts.0) (sym all) lasts.1))
+
+-- what a fault of reading is to the journaling
+abbrev Gives : ReadFault → JournalFault → Type 0
+Gives read e = e ≡ Lines (fault_of read)
+
+module _ {T K J : Type 0} (state : K → SinkState) (kept : J → SinkState) where
+  abbrev Sink : Collector T K J → SinkState
   Sink s = state s.sink.now
 
-  -- the references are the same
-  pub record Same (s t : Collector T K) : Type 0 where
-    pub ledger : t.ledger.ghost_name ≡ s.ledger.ghost_name
-    pub sink : t.sink.ghost_name ≡ s.sink.ghost_name
+  abbrev GainsTo : Collector T K J → Collector T K J → Type 0
+  GainsTo s t = Gains (kept s.journal.now) (kept t.journal.now) s.ledger.now.accepted t.ledger.now.accepted
 
-  -- lines that were taken gave these answers
-  pub record Taken (s t : Collector T K) (ls : List (List ℕ)) : Type 0 where
-    pub collects : Collects (Sink s) (Sink t) s.ledger.now t.ledger.now ls
-    pub number : length collects.answers ≡ length ls
-    pub counts : AddsUp s.totals → s.totals.lines + length ls < 2 ^ 64
+  KeepsLent-trans : (s m t : Collector T K J) → KeepsLent s m → KeepsLent m t → KeepsLent s t
+  KeepsLent-trans s m t first next =
+      record { ledger = next.ledger ∙ first.ledger; sink = next.sink ∙ first.sink; journal = next.journal ∙ first.journal }
+
+  -- ---- lines that were taken
+
+  -- they gave these answers
+  record Taken (s t : Collector T K J) (ls : List (List ℕ)) : Type 0 where
+    collects : Collects (Sink s) (Sink t) s.ledger.now t.ledger.now ls
+    number : length collects.answers ≡ length ls
+    counts : AddsUp s.totals → s.totals.lines + length ls < 2 ^ 64
         → Grows (length s.ledger.now.accepted) (length t.ledger.now.accepted) s.totals t.totals (length ls) (count_by is_err collects.answers)
-    pub awaits : AwaitsFlush (Sink s) (Sink t)
-    pub same : Same s t
+    awaits : AwaitsFlush (Sink s) (Sink t)
+    gains : GainsTo s t
+    same : KeepsLent s t
 
-  pub taken_of : (s t : Collector T K) (ls : List (List ℕ)) → TakesAll (TakesLine state) s ls t → Taken s t ls
-  taken_of s t [] h = let P : Collector T K → Type 0 = λ x. Taken s x [] in subst P (sym h) (record {
+  taken_of : (s t : Collector T K J) (ls : List (List ℕ)) → TakesAll (TakesLine state kept) s ls t → Taken s t ls
+  taken_of s t [] h = let P : Collector T K J → Type 0 = λ x. Taken s x [] in subst P (sym h) (record {
     collects = record { answers = []; leads = Leads-none s.ledger.now; put = Appends-nil (Sink s).bytes };
     number = refl;
     counts = λ sum few. record { all = omega arith; refused = omega arith; new_games = omega arith; adds_up = sum };
     awaits = inl refl;
-    same = record { ledger = refl; sink = refl };
+    gains = Gains-none (kept s.journal.now) s.ledger.now.accepted;
+    same = record { ledger = refl; sink = refl; journal = refl };
   })
   taken_of s t (line ∷ ls) h =
-      let m : Collector T K = h.0 in let one = h.1 in let rest = taken_of m t ls h.2 in record {
+      let m : Collector T K J = h.0 in let one = h.1 in let rest = taken_of m t ls h.2 in record {
         collects = record {
           answers = one.answer ∷ rest.collects.answers;
           leads = Leads-more s.ledger.now m.ledger.now t.ledger.now line one.answer ls rest.collects.answers one.leads rest.collects.leads;
@@ -121,55 +152,39 @@ module _ {T K : Type 0} (state : K → SinkState) where
               adds_up = others.adds_up;
             };
         awaits = AwaitsFlush-trans (Sink s) (Sink m) (Sink t) (AwaitsFlush-put (Sink s) (Sink m) tt (reply_line line one.answer) one.put) rest.awaits;
-        same = record { ledger = rest.same.ledger ∙ one.same_ledger; sink = rest.same.sink ∙ one.same_sink };
+        gains = Gains-trans _ _ _ _ _ _ one.gains rest.gains;
+        same = KeepsLent-trans s m t one.same rest.same;
       }
 
-  -- lines that were taken, and one more whose reply couldn't be put
-  record Stopped (s t : Collector T K) (before : List (List ℕ)) (line : List ℕ) : Type 0 where
+  -- ---- lines that were taken, and one more whose reply couldn't be put
+
+  record Stopped (s t : Collector T K J) (before : List (List ℕ)) (line : List ℕ) : Type 0 where
     answers : List Answer
     answer : Answer
     leads : Leads s.ledger.now t.ledger.now (before ++ line ∷ []) (answers ++ answer ∷ [])
     count : ℕ
     put : Appends (Sink s).bytes (Sink t).bytes (replies before answers ++ take count (reply_line line answer))
+
+  stopped_of : (s m t : Collector T K J) (before : List (List ℕ)) (line : List ℕ) (e : JournalFault) → Taken s m before → Answered state kept m line (Err e) t → Stopped s t before line
+  stopped_of s m t before line e taken last = record {
+    answers = taken.collects.answers;
+    answer = last.answer;
+    leads = Leads-then s.ledger.now m.ledger.now t.ledger.now before (line ∷ []) taken.collects.answers (last.answer ∷ []) taken.collects.leads last.leads;
+    count = last.put.front.0;
+    put = Appends-trans _ _ _ _ _ taken.collects.put last.put.front.1;
+  }
+
+  record StoppedAt (s t : Collector T K J) (ls : List (List ℕ)) : Type 0 where
+    collects : CollectsButOne (Sink s) (Sink t) s.ledger.now t.ledger.now ls
     fails : (Sink t).failed ≡ true
     flushes : (Sink t).flushes ≡ (Sink s).flushes
-    same : Same s t
+    gains : GainsTo s t
+    same : KeepsLent s t
 
-  stopped_of : (s m t : Collector T K) (before : List (List ℕ)) (line : List ℕ) (e : Failed)
-      → TakesAll (TakesLine state) s before m → TakesLine state m line (Err e) t → Stopped s t before line
-  stopped_of s m t [] line e taken last = let P : Collector T K → Type 0 = λ x. Stopped x t [] line in subst P taken (record {
-    answers = [];
-    answer = last.answer;
-    leads = Leads-more m.ledger.now t.ledger.now t.ledger.now line last.answer [] [] last.leads (Leads-none t.ledger.now);
-    count = last.put.front.0;
-    put = last.put.front.1;
-    fails = last.put.failed;
-    flushes = last.put.flushes;
-    same = record { ledger = last.same_ledger; sink = last.same_sink };
-  })
-  stopped_of s m t (first ∷ before) line e taken last =
-      let next : Collector T K = taken.0 in let one = taken.1 in let rest = stopped_of next m t before line e taken.2 last in record {
-        answers = one.answer ∷ rest.answers;
-        answer = rest.answer;
-        leads = Leads-more s.ledger.now next.ledger.now t.ledger.now first one.answer (before ++ line ∷ []) (rest.answers ++ rest.answer ∷ []) one.leads rest.leads;
-        count = rest.count;
-        put = let P : List ℕ → Type 0 = λ bytes. Appends (Sink s).bytes (Sink t).bytes bytes in
-            subst P (sym (append_assoc (reply_line first one.answer) (replies before rest.answers) (take rest.count (reply_line line rest.answer))))
-            (Appends-trans _ _ _ _ _ one.put.all rest.put);
-        fails = rest.fails;
-        flushes = rest.flushes ∙ one.put.flushes;
-        same = record { ledger = rest.same.ledger ∙ one.same_ledger; sink = rest.same.sink ∙ one.same_sink };
-      }
-
-  pub record StoppedAt (s t : Collector T K) (ls : List (List ℕ)) : Type 0 where
-    pub collects : CollectsButOne (Sink s) (Sink t) s.ledger.now t.ledger.now ls
-    pub fails : (Sink t).failed ≡ true
-    pub flushes : (Sink t).flushes ≡ (Sink s).flushes
-    pub same : Same s t
-
-  pub stopped_at : (s t : Collector T K) (ls : List (List ℕ)) (e : Failed) → StopsAtLast (TakesLine state) s ls e t → StoppedAt s t ls
-  stopped_at s t ls e h =
-      let stopped = stopped_of s h.2 t h.0 h.1 e h.4 h.5 in record {
+  reply_stops : (s t : Collector T K J) (ls : List (List ℕ)) → StopsAtLast (TakesLine state kept) s ls (Lines fault.Write) t → StoppedAt s t ls
+  reply_stops s t ls h =
+      let m : Collector T K J = h.2 in let taken = taken_of s m h.0 h.4 in
+      let last : Answered state kept m h.1 (Err (Lines fault.Write)) t = h.5 in let stopped = stopped_of s m t h.0 h.1 (Lines fault.Write) taken last in record {
         collects = record {
           before = h.0;
           line = h.1;
@@ -180,20 +195,64 @@ module _ {T K : Type 0} (state : K → SinkState) where
           count = stopped.count;
           put = stopped.put;
         };
-        fails = stopped.fails;
-        flushes = stopped.flushes;
-        same = stopped.same;
+        fails = last.put.failed;
+        flushes = last.put.flushes ∙ not_flushed (Sink s) (Sink m) taken.awaits;
+        gains = Gains-trans _ _ _ _ _ _ taken.gains last.gains;
+        same = KeepsLent-trans s m t taken.same last.same;
+      }
+
+  -- ---- lines of which the last one brought a game that the journal didn't take
+
+  record Unjournaled (s t : Collector T K J) (ls : List (List ℕ)) : Type 0 where
+    unkept : CollectsUnkept (Sink s) (Sink t) (kept s.journal.now) (kept t.journal.now) s.ledger.now t.ledger.now ls
+    awaits : AwaitsFlush (Sink s) (Sink t)
+    fails : (kept t.journal.now).failed ≡ true
+    same : KeepsLent s t
+
+  journal_stops : (s t : Collector T K J) (ls : List (List ℕ)) → StopsAtLast (TakesLine state kept) s ls Journal t → Unjournaled s t ls
+  journal_stops s t ls h =
+      let m : Collector T K J = h.2 in let before = h.0 in let line = h.1 in
+      let taken = taken_of s m before h.4 in let last : Unkept kept m line t = h.5 in
+      let answers = taken.collects.answers in let gains = taken.gains in record {
+        unkept = record {
+          before = before;
+          line = line;
+          are = h.3;
+          answers = answers;
+          number = last.number;
+          leads = subst (λ (L : List (List ℕ)). Leads s.ledger.now t.ledger.now L (answers ++ Ok last.number ∷ [])) (sym h.3)
+              (Leads-then s.ledger.now m.ledger.now t.ledger.now before (line ∷ []) answers (Ok last.number ∷ []) taken.collects.leads last.leads);
+          put = subst (λ (x : MutBor K). Appends (Sink s).bytes (state x.now).bytes (replies before answers)) (sym last.same_sink) taken.collects.put;
+          new = gains.new;
+          game = last.game;
+          games = last.games ∙ ap (λ (G : List Submission). G ++ last.game ∷ []) gains.are;
+          middle = m.ledger.now;
+          leads_before = taken.collects.leads;
+          held_before = gains.are;
+          text = gains.text;
+          lines = gains.lines;
+          last = last.text;
+          spells = last.spells;
+          count = last.count;
+          kept = Appends-trans _ _ _ _ _ gains.put last.put;
+          lasts = λ before. lasts_first (kept s.journal.now) (kept m.journal.now) (kept t.journal.now) gains.text gains.put (gains.all_lasts before) last.lasts;
+          each = λ below. let same = last.flushes in let earlier = gains.each (omega (arith, below, same)) in omega (arith, same, earlier);
+        };
+        awaits = subst (λ (x : MutBor K). AwaitsFlush (Sink s) (state x.now)) (sym last.same_sink) taken.awaits;
+        fails = last.fails;
+        same = KeepsLent-trans s m t taken.same last.same;
       }
 
   -- ---- the whole of a stream
 
-  module _ (fills : ℕ) (old new : SourceState) (s t : Collector T K) where
-    -- no reply was handed on before the end
-    unflushed_of : TakesStream (TakesLine state) fills old new s t → (Sink t).flushes ≡ (Sink s).flushes
-    unflushed_of h = not_flushed (Sink s) (Sink t) (taken_of s t (lines h.came) h.done).awaits
+  module _ (fills : ℕ) (old new : SourceState) (s t : Collector T K J) where
+    -- what is so of any lines at which the stream was left
+    at_line : (P : List (List ℕ) → Type 0) (Q : Type 0) → ((ls : List (List ℕ)) → P ls → Q) → AtLine fills old new P → Q
+    at_line P Q follows (inl h) = follows (ended_lines h.came) h.done
+    at_line P Q follows (inr h) = follows (lines h.came) h.done
 
     stream_of : fills < 2 ^ 32 → s.totals ≡ record { lines = 0; new = 0; repeats = 0; refused = 0 }
-        → TakesStream (TakesLine state) fills old new s t → AtEnd fills old new (CollectsCounted (Sink s) (Sink t) s.ledger.now t.ledger.now t.totals)
+        → TakesStream (TakesLine state kept) fills old new s t → AtEnd fills old new (CollectsCounted (Sink s) (Sink t) s.ledger.now t.ledger.now t.totals)
     stream_of small fresh h = AtEnd-weaker fills old new _ _ (λ ls few taken.
         let all_taken = taken_of s t ls taken in
         let all = ap (λ (x : Totals). x.lines) fresh in let new_games = ap (λ (x : Totals). x.new) fresh in
@@ -208,64 +267,90 @@ module _ {T K : Type 0} (state : K → SinkState) where
           },
         )) h
 
-    pub handed_on : (sink' : SinkState) (u : Unit {0}) → fills < 2 ^ 32 → s.totals ≡ record { lines = 0; new = 0; repeats = 0; refused = 0 }
-        → TakesStream (TakesLine state) fills old new s t → Flush {E = Failed} (Sink t) sink' (Ok u) → CollectsStream fills old new (Sink s) sink' s.ledger.now t.ledger.now t.totals
-    handed_on sink' u small fresh h flush = (
-      AtEnd-weaker fills old new _ _ (λ ls few c. (record { answers = c.0.answers; leads = c.0.leads; put = Appends-kept _ _ _ _ c.0.put flush.bytes }, c.1)) (stream_of small fresh h),
-      (flush.failed, flush.flushed),
-      flush.flushes ∙ ap next_count (unflushed_of h),
+    -- no reply was handed on before the end
+    unflushed_of : TakesStream (TakesLine state kept) fills old new s t → (Sink t).flushes ≡ (Sink s).flushes
+    unflushed_of h = not_flushed (Sink s) (Sink t) (taken_of s t (lines h.came) h.done).awaits
+
+    pub journaled : (sink' : SinkState) (u : Unit {0}) → fills < 2 ^ 32 → s.totals ≡ record { lines = 0; new = 0; repeats = 0; refused = 0 }
+        → TakesStream (TakesLine state kept) fills old new s t → Flush {E = Failed} (Sink t) sink' (Ok u)
+        → JournalsStream fills old new (Sink s) sink' (kept s.journal.now) (kept t.journal.now) s.ledger.now t.ledger.now t.totals
+    journaled sink' u small fresh h flush = (
+      (
+        AtEnd-weaker fills old new _ _ (λ ls few c. (record { answers = c.0.answers; leads = c.0.leads; put = Appends-kept _ _ _ _ c.0.put flush.bytes }, c.1)) (stream_of small fresh h),
+        (flush.failed, flush.flushed),
+        flush.flushes ∙ ap next_count (unflushed_of h),
+      ),
+      (taken_of s t (lines h.came) h.done).gains,
     )
 
     -- all lines were taken, and the replies couldn't be handed on
-    pub unflushed : (sink' : SinkState) (e : Failed) → TakesStream (TakesLine state) fills old new s t → Flush {E = Failed} (Sink t) sink' (Err e)
-        → CollectsUntil fills old new (Sink s) sink' s.ledger.now t.ledger.now collect.Write
+    pub unflushed : (sink' : SinkState) (e : Failed) → TakesStream (TakesLine state kept) fills old new s t → Flush {E = Failed} (Sink t) sink' (Err e)
+        → JournalsUntil fills old new (Sink s) sink' (kept s.journal.now) (kept t.journal.now) s.ledger.now t.ledger.now (Lines fault.Write)
     unflushed sink' e h flush = (
-      inr (AtEnd-weaker fills old new _ _ (λ ls few taken. let c = (taken_of s t ls taken).collects in record { answers = c.answers; leads = c.leads; put = Appends-kept _ _ _ _ c.put flush.bytes }) h),
-      flush.failed,
-      flush.flushes ∙ unflushed_of h,
+      (
+        inr (AtEnd-weaker fills old new _ _ (λ ls few taken. let c = (taken_of s t ls taken).collects in record { answers = c.answers; leads = c.leads; put = Appends-kept _ _ _ _ c.put flush.bytes }) h),
+        flush.failed,
+        flush.flushes ∙ unflushed_of h,
+      ),
+      (taken_of s t (lines h.came) h.done).gains,
     )
 
     -- how the lines ended
-    pub until_memory : TakesUntil (TakesLine state) fills old new s t Memory → CollectsUntil fills old new (Sink s) (Sink t) s.ledger.now t.ledger.now collect.Memory
-    until_memory h = (h.0, ap (λ (x : Collector T K). Sink x) h.1, ap (λ (x : Collector T K). x.ledger.now) h.1)
 
-    pub until_fault : TakesUntil (TakesLine state) fills old new s t Read → CollectsUntil fills old new (Sink s) (Sink t) s.ledger.now t.ledger.now collect.Read
-    until_fault h = (AtFault-weaker fills old new _ _ (λ ls few taken. (taken_of s t ls taken).collects) h, (taken_of s t (ended_lines h.came) h.done).awaits)
+    abbrev Until : JournalFault → Type 0
+    Until e = JournalsUntil fills old new (Sink s) (Sink t) (kept s.journal.now) (kept t.journal.now) s.ledger.now t.ledger.now e
 
-    pub until_endless : TakesUntil (TakesLine state) fills old new s t Endless → CollectsUntil fills old new (Sink s) (Sink t) s.ledger.now t.ledger.now collect.Endless
-    until_endless h = (AtNoEnd-weaker fills old new _ _ (λ ls few taken. (taken_of s t ls taken).collects) h, (taken_of s t (ended_lines h.came) h.done).awaits)
+    until_read : (read : ReadFault) → ReadUntil (TakesLine state kept) fills old new s t read → Until (Lines (fault_of read))
+    until_read Memory h = (
+      (h.0, ap (λ (x : Collector T K J). Sink x) h.1, ap (λ (x : Collector T K J). x.ledger.now) h.1),
+      subst (λ (x : Collector T K J). GainsTo s x) (sym h.1) (Gains-none (kept s.journal.now) s.ledger.now.accepted),
+    )
+    until_read Read h =
+        let taken = taken_of s t (ended_lines h.came) h.done in
+        ((AtFault-weaker fills old new _ _ (λ ls few taken. (taken_of s t ls taken).collects) h, taken.awaits), taken.gains)
+    until_read Endless h =
+        let taken = taken_of s t (ended_lines h.came) h.done in
+        ((AtNoEnd-weaker fills old new _ _ (λ ls few taken. (taken_of s t ls taken).collects) h, taken.awaits), taken.gains)
 
-    stop_fails : (e : Failed) → TakesUntil (TakesLine state) fills old new s t (Stop e) → ((Sink t).failed ≡ true) × ((Sink t).flushes ≡ (Sink s).flushes)
-    stop_fails e (inl h) = let stopped = stopped_at s t (ended_lines h.came) e h.done in (stopped.fails, stopped.flushes)
-    stop_fails e (inr h) = let stopped = stopped_at s t (lines h.came) e h.done in (stopped.fails, stopped.flushes)
+    until_line : (e : JournalFault) → AtLine fills old new (λ ls. StopsAtLast (TakesLine state kept) s ls e t) → Until e
+    until_line (Lines fault.Write) h = (
+      (
+        inl (AtLine-weaker fills old new _ _ (λ ls few stops. (reply_stops s t ls stops).collects) h),
+        at_line _ ((Sink t).failed ≡ true) (λ ls stops. (reply_stops s t ls stops).fails) h,
+        at_line _ ((Sink t).flushes ≡ (Sink s).flushes) (λ ls stops. (reply_stops s t ls stops).flushes) h,
+      ),
+      at_line _ (GainsTo s t) (λ ls stops. (reply_stops s t ls stops).gains) h,
+    )
+    until_line Journal h = (
+      AtLine-weaker fills old new _ _ (λ ls few stops. (journal_stops s t ls stops).unkept) h,
+      at_line _ (AwaitsFlush (Sink s) (Sink t)) (λ ls stops. (journal_stops s t ls stops).awaits) h,
+      at_line _ ((kept t.journal.now).failed ≡ true) (λ ls stops. (journal_stops s t ls stops).fails) h,
+    )
+    until_line (Lines fault.Read) h = absurd (at_line _ ⊥ (λ ls stops. stops.5) h)
+    until_line (Lines fault.Endless) h = absurd (at_line _ ⊥ (λ ls stops. stops.5) h)
+    until_line (Lines fault.Memory) h = absurd (at_line _ ⊥ (λ ls stops. stops.5) h)
 
-    pub until_stop : (e : Failed) → TakesUntil (TakesLine state) fills old new s t (Stop e) → CollectsUntil fills old new (Sink s) (Sink t) s.ledger.now t.ledger.now collect.Write
-    until_stop e h =
-        let fails = stop_fails e h in (inl (AtLine-weaker fills old new _ _ (λ ls few stops. (stopped_at s t ls e stops).collects) h), fails.0, fails.1)
+    pub journals_until : (e : JournalFault) → TakesUntil Gives (TakesLine state kept) fills old new s t e → Until e
+    journals_until e (inl h) = subst Until (sym h.1) (until_read h.0 h.2)
+    journals_until e (inr h) = until_line e h
 
-    pub collects_until : (f : LinesFault Failed) → TakesUntil (TakesLine state) fills old new s t f
-        → CollectsUntil fills old new (Sink s) (Sink t) s.ledger.now t.ledger.now (collect_fault f)
-    collects_until Memory h = until_memory h
-    collects_until Read h = until_fault h
-    collects_until Endless h = until_endless h
-    collects_until (Stop e) h = until_stop e h
+    -- the ledger, the sink and the journal are the same, however the lines ended
 
-  same_of : (fills : ℕ) (old new : SourceState) (s t : Collector T K) (r : Result (Unit {0}) (LinesFault Failed))
-      → OnOk r (TakesStream (TakesLine state) fills old new s t) → IfErr r (TakesUntil (TakesLine state) fills old new s t) → Same s t
-  same_of fills old new s t (Ok tt) h k = (taken_of s t (lines h.came) h.done).same
-  same_of fills old new s t (Err Memory) h k =
-      record { ledger = ap (λ (x : Collector T K). x.ledger.ghost_name) k.1; sink = ap (λ (x : Collector T K). x.sink.ghost_name) k.1 }
-  same_of fills old new s t (Err Read) h k = (taken_of s t (ended_lines k.came) k.done).same
-  same_of fills old new s t (Err Endless) h k = (taken_of s t (ended_lines k.came) k.done).same
-  same_of fills old new s t (Err (Stop e)) h (inl k) = (stopped_at s t (ended_lines k.came) e k.done).same
-  same_of fills old new s t (Err (Stop e)) h (inr k) = (stopped_at s t (lines k.came) e k.done).same
+    pub kept_stream : TakesStream (TakesLine state kept) fills old new s t → KeepsLent s t
+    kept_stream h = (taken_of s t (lines h.came) h.done).same
 
-  pub same_ledger_of : (fills : ℕ) (old new : SourceState) (s t : Collector T K) (r : Result (Unit {0}) (LinesFault Failed))
-      → OnOk r (TakesStream (TakesLine state) fills old new s t) → IfErr r (TakesUntil (TakesLine state) fills old new s t)
-      → t.ledger.ghost_name ≡ s.ledger.ghost_name
-  same_ledger_of fills old new s t r h k = (same_of fills old new s t r h k).ledger
+    kept_read : (read : ReadFault) → ReadUntil (TakesLine state kept) fills old new s t read → KeepsLent s t
+    kept_read Memory h = subst (λ (x : Collector T K J). KeepsLent s x) (sym h.1) (record { ledger = refl; sink = refl; journal = refl })
+    kept_read Read h = (taken_of s t (ended_lines h.came) h.done).same
+    kept_read Endless h = (taken_of s t (ended_lines h.came) h.done).same
 
-  pub same_sink_of : (fills : ℕ) (old new : SourceState) (s t : Collector T K) (r : Result (Unit {0}) (LinesFault Failed))
-      → OnOk r (TakesStream (TakesLine state) fills old new s t) → IfErr r (TakesUntil (TakesLine state) fills old new s t)
-      → t.sink.ghost_name ≡ s.sink.ghost_name
-  same_sink_of fills old new s t r h k = (same_of fills old new s t r h k).sink
+    kept_line : (e : JournalFault) → AtLine fills old new (λ ls. StopsAtLast (TakesLine state kept) s ls e t) → KeepsLent s t
+    kept_line (Lines fault.Write) h = at_line _ (KeepsLent s t) (λ ls stops. (reply_stops s t ls stops).same) h
+    kept_line Journal h = at_line _ (KeepsLent s t) (λ ls stops. (journal_stops s t ls stops).same) h
+    kept_line (Lines fault.Read) h = absurd (at_line _ ⊥ (λ ls stops. stops.5) h)
+    kept_line (Lines fault.Endless) h = absurd (at_line _ ⊥ (λ ls stops. stops.5) h)
+    kept_line (Lines fault.Memory) h = absurd (at_line _ ⊥ (λ ls stops. stops.5) h)
+
+    pub kept_until : (e : JournalFault) → TakesUntil Gives (TakesLine state kept) fills old new s t e → KeepsLent s t
+    kept_until e (inl h) = kept_read h.0 h.2
+    kept_until e (inr h) = kept_line e h

@@ -8,7 +8,6 @@ use Rattle.std.specs.Str.Lines.{strip_carriage_return}
 use Rattle.pb_board.specs.LineEnd.{with_end}
 use Rattle.pb_io.specs.Sink.{HandedOn, SinkState}
 use Rattle.pb_io.specs.Writes.{Writes}
-use Rattle.pb_io.specs.declared.source.Failed.{Failed}
 use Rattle.pb_games.specs.Submissions.{Submission, submission_text}
 use Rattle.pb_accepted.specs.Accepting.{Answer, Step}
 use Rattle.pb_accepted.proofs.Steps.{refusal_step, step_to}
@@ -66,8 +65,8 @@ pub Gains-kept : (journal : SinkState) (A B : List Submission) → B ≡ A → G
 Gains-kept journal A B same = subst (λ (G : List Submission). Gains journal journal A G) (sym same) (Gains-none journal A)
 
 -- the line of a game was written
-pub Gains-one : (journal journal' : SinkState) (A B : List Submission) (game : Submission) (text : List ℕ) (u : Unit {0}) → B ≡ A ++ game ∷ [] → text ≡ submission_text game
-    → Writes {E = Failed} journal journal' (Ok u) (with_end text) → Gains journal journal' A B
+pub Gains-one : {E : Type 0} (journal journal' : SinkState) (A B : List Submission) (game : Submission) (text : List ℕ) (u : Unit {0}) → B ≡ A ++ game ∷ [] → text ≡ submission_text game
+    → Writes {E = E} journal journal' (Ok u) (with_end text) → Gains journal journal' A B
 Gains-one journal journal' A B game text u are spells writes = record {
   new = game ∷ [];
   are = are;

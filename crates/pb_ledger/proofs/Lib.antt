@@ -1,5 +1,4 @@
 mod Collected
+mod CollectorLine
 mod Gaining
-mod Journaled
-mod JournaledLine
 mod Submitting

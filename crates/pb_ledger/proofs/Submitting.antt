@@ -1,10 +1,8 @@
--- A line and its answer: how many games it adds, and how it is taken.
-use Rattle.std.proofs.Common.{◌≡◌, ℕ, ◌+◌, ◌<◌, Bool, true, false, nat_lt, List, [], ◌∷◌, length, MutBor, Result, Ok, Err, refl, sym, ap, subst, ◌∙◌, arith, inl, inr}
+-- A line and its answer: what it leads to, and how many games it adds.
+use Rattle.std.proofs.Common.{◌≡◌, ℕ, ◌+◌, ◌<◌, Bool, true, false, nat_lt, List, [], ◌∷◌, length, Ok, Err, refl, sym, ap, subst, ◌∙◌, arith, inl, inr}
 use Rattle.std.proofs.lemmas.Bool.{lt-ltb, le-ltb}
 use Rattle.std.proofs.lemmas.List.{length-append}
 use Rattle.pb_io.specs.Lines.{line_limit}
-use Rattle.pb_io.specs.Sink.{Put, SinkState}
-use Rattle.pb_io.specs.declared.source.Failed.{Failed}
 use Rattle.pb_games.specs.declared.refusal.Refusal.TheVariants as refusal
 use Rattle.pb_games.specs.Refusing.{Refuses}
 use Rattle.pb_games.specs.Submissions.{Submission}
@@ -13,11 +11,7 @@ use Rattle.pb_accepted.specs.Accepting as steps
 use Rattle.pb_accepted.specs.Accepting.{Answer, Step}
 use Rattle.pb_accepted.proofs.Steps.{refusal_step, step_to}
 use Rattle.pb_accepted.specs.Ledger.{LedgerState}
-use Rattle.pb_ledger.specs.declared.collecting.Collector.{Collector}
-use Rattle.pb_ledger.specs.declared.totals.Totals.{Totals}
 use Rattle.pb_ledger.specs.Collecting.{Leads}
-use Rattle.pb_ledger.specs.Collector.{TakesLine, with_answer}
-use Rattle.pb_accepted.specs.Replies.{reply_line}
 
 -- ---- one line
 
@@ -56,33 +50,3 @@ grows most A line (Ok n) B step = elim (step_to most A line (Ok n) B step).1 [
       rw (le-ltb (length A) (length B) (omega (arith, same))) (omega (arith, same))
 ]
 grows most A line (Err e) B step = omega (arith, ap length (refusal_step most A line e B step))
-
--- ---- a line that is submitted and answered
-
--- what submitting leaves to be counted and answered
-pub record Submitted {T K : Type 0} (s m : Collector T K) (line : List ℕ) (answer : Answer) (is_new : Bool) : Type 0 where
-  pub leads : Leads s.ledger.now m.ledger.now (line ∷ []) (answer ∷ [])
-  pub grown : is_new ≡ nat_lt (length s.ledger.now.accepted) (length m.ledger.now.accepted)
-  pub same_totals : m.totals ≡ s.totals
-  pub same_ledger : m.ledger.ghost_name ≡ s.ledger.ghost_name
-  pub same_sink : m.sink ≡ s.sink
-
--- what counting and answering does
-pub record Replied {T K : Type 0} (state : K → SinkState) (m t : Collector T K) (line : List ℕ) (answer : Answer) (is_new : Bool) (result : Result (Unit {0}) Failed) : Type 0 where
-  pub counted : t.totals ≡ with_answer m.totals answer is_new
-  pub put : Put (state m.sink.now) (state t.sink.now) result (reply_line line answer)
-  pub same : t.ledger.now ≡ m.ledger.now
-  pub same_ledger : t.ledger.ghost_name ≡ m.ledger.ghost_name
-  pub same_sink : t.sink.ghost_name ≡ m.sink.ghost_name
-
-pub taken_so : {T K : Type 0} (state : K → SinkState) (s m t : Collector T K) (line : List ℕ) (answer : Answer) (is_new : Bool) (result : Result (Unit {0}) Failed)
-    → Submitted s m line answer is_new → Replied state m t line answer is_new result → TakesLine state s line result t
-taken_so {T} {K} state s m t line answer is_new result submitted replied = record {
-  answer = answer;
-  leads = subst (λ (x : LedgerState). Leads s.ledger.now x (line ∷ []) (answer ∷ [])) (sym replied.same) submitted.leads;
-  counted = replied.counted ∙ ap (λ (x : Totals). with_answer x answer is_new) submitted.same_totals
-      ∙ ap (λ b. with_answer s.totals answer b) (submitted.grown ∙ ap (λ (x : LedgerState). nat_lt (length s.ledger.now.accepted) (length x.accepted)) (sym replied.same));
-  put = subst (λ (x : MutBor K). Put (state x.now) (state t.sink.now) result (reply_line line answer)) submitted.same_sink replied.put;
-  same_ledger = replied.same_ledger ∙ submitted.same_ledger;
-  same_sink = replied.same_sink ∙ ap (λ (x : MutBor K). x.ghost_name) submitted.same_sink;
-}

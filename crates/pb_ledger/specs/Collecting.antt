@@ -8,8 +8,8 @@ use Rattle.pb_io.specs.LineTask.{AtEnd, AtFault, AtLine, AtNoEnd, IfTold}
 use Rattle.pb_accepted.specs.Accepting.{Answer, Run}
 use Rattle.pb_accepted.specs.Ledger.{LedgerState}
 use Rattle.pb_ledger.specs.declared.totals.Totals.{Totals}
-use Rattle.pb_ledger.specs.declared.collecting.CollectFault.{CollectFault}
-use Rattle.pb_ledger.specs.declared.collecting.CollectFault.TheVariants.{Read, Write, Endless, Memory}
+use Rattle.pb_io.specs.declared.fault.Fault.{Fault}
+use Rattle.pb_io.specs.declared.fault.Fault.TheVariants.{Read, Write, Endless, Memory}
 use Rattle.pb_accepted.specs.Replies.{replies, reply_line}
 
 -- the answers to these lines lead from one ledger to the other, which has the same basis and cap
@@ -57,7 +57,7 @@ CollectsTold source source' sink sink' ledger ledger' totals = IfTold source sou
 
 -- how collecting ends with each fault: the replies that were put await a flush; or the sink fails, at a reply or where the replies to all
 -- lines were to be handed on, and none was
-abbrev pub CollectsUntil : ℕ → SourceState → SourceState → SinkState → SinkState → LedgerState → LedgerState → CollectFault → Type 0
+abbrev pub CollectsUntil : ℕ → SourceState → SourceState → SinkState → SinkState → LedgerState → LedgerState → Fault → Type 0
 CollectsUntil fills source source' sink sink' ledger ledger' Read = AtFault fills source source' (Collects sink sink' ledger ledger') × AwaitsFlush sink sink'
 CollectsUntil fills source source' sink sink' ledger ledger' Endless = AtNoEnd fills source source' (Collects sink sink' ledger ledger') × AwaitsFlush sink sink'
 CollectsUntil fills source source' sink sink' ledger ledger' Write =

@@ -1,17 +1,19 @@
 -- What the collector does with a line.
-use Rattle.std.specs.Prelude.{◌≡◌, ℕ, Bool, true, false, List, [], ◌∷◌, length, nat_lt, Result, Ok, Err}
-use Rattle.pb_io.specs.Sink.{Put, SinkState}
-use Rattle.pb_io.specs.declared.source.Failed.{Failed}
+use Rattle.std.specs.Prelude.{◌≡◌, ℕ, Bool, true, false, List, [], ◌∷◌, ◌++◌, length, nat_lt, take, Result, Ok, Err}
+use Rattle.std.specs.Io.KnownBytes.{Appends}
+use Rattle.pb_board.specs.LineEnd.{with_end}
 use Rattle.pb_io.specs.Count.{next_count}
+use Rattle.pb_io.specs.Sink.{Lasts, Put, SinkState}
+use Rattle.pb_io.specs.declared.fault.Fault.TheVariants as fault
+use Rattle.pb_games.specs.Submissions.{Submission, submission_text}
 use Rattle.pb_accepted.specs.Accepting.{Answer}
-use Rattle.pb_io.specs.declared.lines.LinesFault.{LinesFault}
-use Rattle.pb_io.specs.declared.lines.LinesFault.TheVariants as lines
-use Rattle.pb_ledger.specs.declared.totals.Totals.{Totals}
-use Rattle.pb_ledger.specs.declared.collecting.CollectFault.{CollectFault}
-use Rattle.pb_ledger.specs.declared.collecting.CollectFault.TheVariants.{Read, Write, Endless, Memory}
-use Rattle.pb_ledger.specs.declared.collecting.Collector.{Collector}
 use Rattle.pb_accepted.specs.Replies.{reply_line}
 use Rattle.pb_ledger.specs.Collecting.{Leads}
+use Rattle.pb_ledger.specs.Journaling.{Gains}
+use Rattle.pb_ledger.specs.declared.collector.Collector.{Collector}
+use Rattle.pb_ledger.specs.declared.journaling.JournalFault.{JournalFault}
+use Rattle.pb_ledger.specs.declared.journaling.JournalFault.TheVariants.{Journal, Lines}
+use Rattle.pb_ledger.specs.declared.totals.Totals.{Totals}
 
 -- the totals with one more answer, to a line that brought a new game or didn't
 abbrev pub with_answer : Totals → Answer → Bool → Totals
@@ -19,18 +21,41 @@ with_answer totals (Ok n) true = record totals { lines = next_count totals.lines
 with_answer totals (Ok n) false = record totals { lines = next_count totals.lines; repeats = next_count totals.repeats }
 with_answer totals (Err e) is_new = record totals { lines = next_count totals.lines; refused = next_count totals.refused }
 
--- the line was submitted, counted as a new game where the ledger has grown, and its reply put, through the same references
-pub record TakesLine {T K : Type 0} (state : K → SinkState) (s : Collector T K) (line : List ℕ) (result : Result (Unit {0}) Failed) (t : Collector T K) : Type 0 where
+-- the same ledger, sink and journal are lent
+pub record KeepsLent {T K J : Type 0} (s t : Collector T K J) : Type 0 where
+  pub ledger : t.ledger.ghost_name ≡ s.ledger.ghost_name
+  pub sink : t.sink.ghost_name ≡ s.sink.ghost_name
+  pub journal : t.journal.ghost_name ≡ s.journal.ghost_name
+
+-- The line was submitted, counted as a new game where the ledger has grown, and its reply put; the game that it brought, if any, is on the
+-- journal.
+pub record Answered {T K J : Type 0} (state : K → SinkState) (kept : J → SinkState) (s : Collector T K J) (line : List ℕ) (result : Result (Unit {0}) JournalFault) (t : Collector T K J) : Type 0 where
   pub answer : Answer
   pub leads : Leads s.ledger.now t.ledger.now (line ∷ []) (answer ∷ [])
   pub counted : t.totals ≡ with_answer s.totals answer (nat_lt (length s.ledger.now.accepted) (length t.ledger.now.accepted))
   pub put : Put (state s.sink.now) (state t.sink.now) result (reply_line line answer)
-  pub same_ledger : t.ledger.ghost_name ≡ s.ledger.ghost_name
-  pub same_sink : t.sink.ghost_name ≡ s.sink.ghost_name
+  pub gains : Gains (kept s.journal.now) (kept t.journal.now) s.ledger.now.accepted t.ledger.now.accepted
+  pub same : KeepsLent s t
 
--- what a fault of taking the lines is to the collecting: a line stops it where its reply couldn't be put
-abbrev pub collect_fault : {E : Type 0} → LinesFault E → CollectFault
-collect_fault lines.Memory = Memory
-collect_fault lines.Read = Read
-collect_fault lines.Endless = Endless
-collect_fault (lines.Stop e) = Write
+-- The line brought a game, of whose line a front was put before the journal failed, and not handed on; and no reply was put.
+pub record Unkept {T K J : Type 0} (kept : J → SinkState) (s : Collector T K J) (line : List ℕ) (t : Collector T K J) : Type 0 where
+  pub number : ℕ
+  pub leads : Leads s.ledger.now t.ledger.now (line ∷ []) (Ok number ∷ [])
+  pub game : Submission
+  pub games : t.ledger.now.accepted ≡ s.ledger.now.accepted ++ game ∷ []
+  pub text : List ℕ
+  pub spells : text ≡ submission_text game
+  pub count : ℕ
+  pub put : Appends (kept s.journal.now).bytes (kept t.journal.now).bytes (take count (with_end text))
+  pub lasts : Lasts (kept s.journal.now).lasting (kept t.journal.now).lasting
+  pub fails : (kept t.journal.now).failed ≡ true
+  pub flushes : (kept t.journal.now).flushes ≡ (kept s.journal.now).flushes
+  pub same_sink : t.sink ≡ s.sink
+  pub same : KeepsLent s t
+
+-- what became of the line: it stops the collector where its reply couldn't be put, or the line of its game
+abbrev pub TakesLine : {T K J : Type 0} → (K → SinkState) → (J → SinkState) → Collector T K J → List ℕ → Result (Unit {0}) JournalFault → Collector T K J → Type 0
+TakesLine state kept s line (Ok u) t = Answered state kept s line (Ok u) t
+TakesLine state kept s line (Err (Lines fault.Write)) t = Answered state kept s line (Err (Lines fault.Write)) t
+TakesLine state kept s line (Err Journal) t = Unkept kept s line t
+TakesLine state kept s line (Err other) t = ⊥

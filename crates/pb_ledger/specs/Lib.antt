@@ -1,6 +1,5 @@
 pub mod Collecting
 pub mod Collector
-pub mod Journaler
 pub mod Journaling
 pub use Rattle.pb_accepted.specs.Accepting
 pub use Rattle.pb_accepted.specs.Arriving

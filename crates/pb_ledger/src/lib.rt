@@ -10,6 +10,7 @@
 #![tactic(auto)]
 
 mod collecting;
+mod collector;
 mod journaling;
 pub mod laws;
 mod totals;
@@ -21,5 +22,5 @@ pub use pb_accepted::{
     Plies, Refusal, Reply, Row, Rules, Tally, check_line, scale,
 };
 pub use pb_export::{ExportFault, export};
-pub use pb_saved::{LoadError, PassedLines, ReplayError, load, replay, save};
+pub use pb_saved::{LoadError, PassedLines, load, replay, save};
 pub use totals::Totals;

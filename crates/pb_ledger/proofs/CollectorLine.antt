@@ -1,0 +1,143 @@
+-- One line that the collector takes.
+use Rattle.std.proofs.Common.{◌≡◌, ℕ, ◌<◌, Bool, true, false, List, [], ◌∷◌, length, nat_lt, MutBor, Result, Ok, Err, IfErr, sym, ap, ◌∙◌, subst, true≢false}
+use Rattle.std.proofs.lemmas.Bool.{lt-ltb, ltb-true}
+use Rattle.std.specs.Str.Lines.{strip_carriage_return}
+use Rattle.pb_board.specs.LineEnd.{with_end}
+use Rattle.pb_io.specs.Lines.{line_limit}
+use Rattle.pb_io.specs.Sink.{Put, SinkState}
+use Rattle.pb_io.specs.Writes.{Writes}
+use Rattle.pb_io.specs.declared.fault.Fault.TheVariants.{Write}
+use Rattle.pb_games.specs.Submissions.{Submission}
+use Rattle.pb_games.specs.declared.refusal.Refusal.TheVariants.{Long}
+use Rattle.pb_accepted.specs.Accepting.{Answer}
+use Rattle.pb_accepted.specs.Ledger.{LedgerState}
+use Rattle.pb_accepted.specs.Replies.{reply_line}
+use Rattle.pb_ledger.specs.Collecting.{Leads}
+use Rattle.pb_ledger.specs.Collector.{Answered, TakesLine, Unkept, with_answer}
+use Rattle.pb_ledger.specs.Journaling.{Gains}
+use Rattle.pb_ledger.specs.declared.collector.Collector.{Collector}
+use Rattle.pb_ledger.specs.declared.journaling.JournalFault.{JournalFault}
+use Rattle.pb_ledger.specs.declared.journaling.JournalFault.TheVariants.{Journal, Lines}
+use Rattle.pb_ledger.specs.declared.totals.Totals.{Totals}
+use Rattle.pb_ledger.proofs.Gaining.{Brings, Gains-kept, Gains-one, brought, unchanged}
+use Rattle.pb_ledger.proofs.Submitting.{Leads-long, step_of}
+
+-- what submitting leaves to be journaled, counted and answered
+pub record Submitted {T K J : Type 0} (s m : Collector T K J) (line : List ℕ) (answer : Answer) (is_new : Bool) : Type 0 where
+  pub leads : Leads s.ledger.now m.ledger.now (line ∷ []) (answer ∷ [])
+  pub grown : is_new ≡ nat_lt (length s.ledger.now.accepted) (length m.ledger.now.accepted)
+  pub ledger : m.ledger.ghost_name ≡ s.ledger.ghost_name
+  pub sink : m.sink ≡ s.sink
+  pub journal : m.journal ≡ s.journal
+  pub totals : m.totals ≡ s.totals
+
+-- what counting and answering does
+pub record Replied {T K J : Type 0} (state : K → SinkState) (m t : Collector T K J) (line : List ℕ) (answer : Answer) (is_new : Bool) (result : Result (Unit {0}) JournalFault) : Type 0 where
+  pub counted : t.totals ≡ with_answer m.totals answer is_new
+  pub put : Put (state m.sink.now) (state t.sink.now) result (reply_line line answer)
+  pub stops : IfErr result (λ (e : JournalFault). e ≡ Lines Write)
+  pub sink : t.sink.ghost_name ≡ m.sink.ghost_name
+  pub ledger : t.ledger ≡ m.ledger
+  pub journal : t.journal ≡ m.journal
+
+-- a line that was answered, or whose reply couldn't be put, was taken
+pub takes_answered : {T K J : Type 0} (state : K → SinkState) (kept : J → SinkState) (s t : Collector T K J) (line : List ℕ) (result : Result (Unit {0}) JournalFault)
+    → IfErr result (λ (e : JournalFault). e ≡ Lines Write) → Answered state kept s line result t → TakesLine state kept s line result t
+takes_answered state kept s t line (Ok u) stops h = h
+takes_answered state kept s t line (Err e) stops h =
+    let now : Answered state kept s line (Err (Lines Write)) t = subst (λ (x : JournalFault). Answered state kept s line (Err x) t) stops h in
+    subst (λ (x : JournalFault). TakesLine state kept s line (Err x) t) (sym stops) now
+
+-- a line too long to be kept was answered, or its reply couldn't be put
+pub answered_long : {T K J : Type 0} (state : K → SinkState) (kept : J → SinkState) (s t : Collector T K J) (line : List ℕ) (result : Result (Unit {0}) JournalFault)
+    → line_limit < length line → Replied state s t line (Err Long) false result → TakesLine state kept s line result t
+answered_long {T} {K} {J} state kept s t line result long replied =
+    let same = ap (λ (x : MutBor LedgerState). x.now) replied.ledger in
+    takes_answered state kept s t line result replied.stops (record {
+      answer = Err Long;
+      leads = Leads-long s.ledger.now t.ledger.now line long same;
+      counted = replied.counted;
+      put = replied.put;
+      gains = subst (λ (x : MutBor J). Gains (kept s.journal.now) (kept x.now) s.ledger.now.accepted t.ledger.now.accepted) (sym replied.journal)
+          (Gains-kept (kept s.journal.now) s.ledger.now.accepted t.ledger.now.accepted (ap (λ (x : LedgerState). x.accepted) same));
+      same = record {
+        ledger = ap (λ (x : MutBor LedgerState). x.ghost_name) replied.ledger;
+        sink = replied.sink;
+        journal = ap (λ (x : MutBor J). x.ghost_name) replied.journal;
+      };
+    })
+
+module _ {T K J : Type 0} (state : K → SinkState) (kept : J → SinkState) (s m : Collector T K J) (line : List ℕ) (journal : MutBor J) (answer : Answer) (is_new : Bool)
+    (submitted : Submitted s m line answer is_new) where
+  abbrev A : List Submission
+  A = s.ledger.now.accepted
+
+  abbrev B : List Submission
+  B = m.ledger.now.accepted
+
+  -- what writing the line to the journal did
+  abbrev Wrote : Result (Unit {0}) JournalFault → Type 0
+  Wrote result = Writes (kept m.journal.now) (kept journal.now) result (with_end (strip_carriage_return line))
+
+  -- it did so to the journal as it was before the line
+  wrote_to : (result : Result (Unit {0}) JournalFault) → Wrote result → Writes (kept s.journal.now) (kept journal.now) result (with_end (strip_carriage_return line))
+  wrote_to result wrote =
+      subst (λ (x : MutBor J). Writes (kept x.now) (kept journal.now) result (with_end (strip_carriage_return line))) submitted.journal wrote
+
+  game_brought : is_new ≡ true → Brings A line answer B
+  game_brought new =
+      brought s.ledger.now.cap A line answer B (step_of s.ledger.now m.ledger.now line answer submitted.leads) (ltb-true (length A) (length B) (sym submitted.grown ∙ new))
+
+  -- the game is on the journal
+  pub gained_so : (u : Unit {0}) → is_new ≡ true → Wrote (Ok u) → Gains (kept s.journal.now) (kept journal.now) A B
+  gained_so u new wrote =
+      let came = game_brought new in Gains-one (kept s.journal.now) (kept journal.now) A B came.game (strip_carriage_return line) u came.games came.spells (wrote_to (Ok u) wrote)
+
+  -- no game has come
+  pub nothing_gained : is_new ≡ false → journal ≡ m.journal → Gains (kept s.journal.now) (kept journal.now) A B
+  nothing_gained old untouched =
+      subst (λ (x : MutBor J). Gains (kept s.journal.now) (kept x.now) A B) (sym (untouched ∙ submitted.journal)) (Gains-kept (kept s.journal.now) A B
+      (unchanged s.ledger.now.cap A line answer B (step_of s.ledger.now m.ledger.now line answer submitted.leads) (λ more. true≢false (sym (lt-ltb (length A) (length B) more) ∙ sym submitted.grown ∙ old))))
+
+  -- the journal has failed at the game
+  pub takes_unkept : (e : JournalFault) → e ≡ Journal → is_new ≡ true → Wrote (Err e) → journal.ghost_name ≡ m.journal.ghost_name
+      → TakesLine state kept s line (Err e) (record m { journal = journal })
+  takes_unkept e is new written lent =
+      let came = game_brought new in let wrote = wrote_to (Err e) written in
+      let unkept : Unkept kept s line (record m { journal = journal }) = record {
+        number = came.number;
+        leads = subst (λ (r : Answer). Leads s.ledger.now m.ledger.now (line ∷ []) (r ∷ [])) came.answered submitted.leads;
+        game = came.game;
+        games = came.games;
+        text = strip_carriage_return line;
+        spells = came.spells;
+        count = wrote.front.0;
+        put = wrote.front.1;
+        lasts = wrote.lasts;
+        fails = wrote.failed;
+        flushes = wrote.flushes;
+        same_sink = submitted.sink;
+        same = record { ledger = submitted.ledger; sink = ap (λ (x : MutBor K). x.ghost_name) submitted.sink; journal = lent ∙ ap (λ (x : MutBor J). x.ghost_name) submitted.journal };
+      } in
+      subst (λ (x : JournalFault). TakesLine state kept s line (Err x) (record m { journal = journal })) (sym is) unkept
+
+  -- the line was answered, or its reply couldn't be put
+  pub takes_so : (now t : Collector T K J) (result : Result (Unit {0}) JournalFault) → now ≡ record m { journal = journal } → Gains (kept s.journal.now) (kept journal.now) A B
+      → journal.ghost_name ≡ m.journal.ghost_name → Replied state now t line answer is_new result → TakesLine state kept s line result t
+  takes_so now t result is gains lent reply =
+      let replied : Replied state (record m { journal = journal }) t line answer is_new result = subst (λ (x : Collector T K J). Replied state x t line answer is_new result) is reply in
+      takes_answered state kept s t line result replied.stops (record {
+        answer = answer;
+        leads = subst (λ (x : MutBor LedgerState). Leads s.ledger.now x.now (line ∷ []) (answer ∷ [])) (sym replied.ledger) submitted.leads;
+        counted = replied.counted ∙ ap (λ (x : Totals). with_answer x answer is_new) submitted.totals
+            ∙ ap (λ b. with_answer s.totals answer b)
+            (submitted.grown ∙ ap (λ (x : MutBor LedgerState). nat_lt (length s.ledger.now.accepted) (length x.now.accepted)) (sym replied.ledger));
+        put = subst (λ (x : MutBor K). Put (state x.now) (state t.sink.now) result (reply_line line answer)) submitted.sink replied.put;
+        gains = subst (λ (x : MutBor J). Gains (kept s.journal.now) (kept x.now) A t.ledger.now.accepted) (sym replied.journal)
+            (subst (λ (x : MutBor LedgerState). Gains (kept s.journal.now) (kept journal.now) A x.now.accepted) (sym replied.ledger) gains);
+        same = record {
+          ledger = ap (λ (x : MutBor LedgerState). x.ghost_name) replied.ledger ∙ submitted.ledger;
+          sink = replied.sink ∙ ap (λ (x : MutBor K). x.ghost_name) submitted.sink;
+          journal = ap (λ (x : MutBor J). x.ghost_name) replied.journal ∙ lent ∙ ap (λ (x : MutBor J). x.ghost_name) submitted.journal;
+        };
+      })
