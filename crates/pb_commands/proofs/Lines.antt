@@ -12,6 +12,17 @@ use Rattle.pb_commands.specs.Shows.{Shows}
 use Rattle.pb_io.specs.declared.fault.Fault.TheVariants.{Write}
 use Rattle.pb_io.proofs.PutLemmas.{front_all, front_more, put_more}
 
+-- bytes that were put, and couldn't be handed on
+pub not_handed_on : (old mid new : SinkState) (bytes : List ℕ) (e : Failed) → Appends old.bytes mid.bytes bytes → mid.flushes ≡ old.flushes
+    → Flush {E = Failed} mid new (Err e) → Shows {A = Unit {0}} old new (Err Write) bytes
+not_handed_on old mid new bytes e put same flush = record {
+  all = tt;
+  handed_on = tt;
+  fault = (refl, flush.failed);
+  front = front_all _ _ _ _ put flush.bytes;
+  flushes = flush.flushes ∙ same;
+}
+
 -- the lines before one have been put, and not handed on
 pub record PutsLines {X : Type 0} (line : X → List ℕ) (xs : List X) (i : ℕ) (old now : SinkState) : Type 0 where
   pub done : List ℕ
@@ -47,13 +58,7 @@ module _ {X : Type 0} (line : X → List ℕ) (xs : List X) (i : ℕ) (old mid n
 
   -- all lines, which couldn't be handed on
   pub flush_fails : (e : Failed) → length xs ≤ i → Flush {E = Failed} mid new (Err e) → Shows {A = Unit {0}} old new (Err Write) (flat_map line xs)
-  flush_fails e past flush = record {
-    all = tt;
-    handed_on = tt;
-    fault = (refl, flush.failed);
-    front = front_all _ _ _ _ (all_put past) flush.bytes;
-    flushes = flush.flushes ∙ before.flushes;
-  }
+  flush_fails e past flush = not_handed_on old mid new (flat_map line xs) e (all_put past) before.flushes flush
 
   -- all lines, and they were handed on
   pub lines_shown : length xs ≤ i → Flush {E = Failed} mid new (Ok tt) → Shows {A = Unit {0}} old new (Ok tt) (flat_map line xs)

@@ -11,10 +11,11 @@ use Rattle.pb_epd.specs.Epd.{EpdRecord, EpdText, IsEpd}
 use Rattle.pb_epd.specs.Refusal.{IsFirstDueEpd}
 use Rattle.pb_epd.proofs.Texts.{text_memory}
 use Rattle.pb_io.specs.Source.{SourceState}
-use Rattle.pb_io.specs.Sink.{AwaitsFlush, Flush, SinkState}
-use Rattle.pb_io.specs.LineTask.{AtLine, StopsAtLast, TakesAll, TakesStream, TakesUntil, chunk_len}
-use Rattle.pb_io.specs.declared.lines.LinesFault.{LinesFault}
-use Rattle.pb_io.specs.declared.lines.LinesFault.TheVariants as lines
+use Rattle.pb_io.specs.Fault.{fault_of}
+use Rattle.pb_io.specs.Sink.{AwaitsFlush, Flush, Put, SinkState}
+use Rattle.pb_io.specs.LineTask.{AtLine, ReadUntil, StopsAtLast, TakesAll, TakesStream, TakesUntil, chunk_len}
+use Rattle.pb_io.specs.declared.fault.ReadFault.{ReadFault}
+use Rattle.pb_io.specs.declared.fault.ReadFault.TheVariants as read
 use Rattle.pb_io.specs.declared.source.Failed.{Failed}
 use Rattle.pb_io.specs.Count.{next_count}
 use Rattle.pb_io.proofs.FlushLemmas.{AwaitsFlush-trans, not_flushed}
@@ -25,21 +26,18 @@ use Rattle.pb_io.specs.declared.fault.Fault.TheVariants.{Read, Write, Endless, M
 use Rattle.pb_commands.specs.EpdShown.{EpdShown, LineShown, epd_verdict}
 use Rattle.pb_commands.specs.EpdRun.{PutsButLast, PutsLines, RewritesStream, RewritesUntil}
 use Rattle.pb_commands.specs.Judged.{HandedOnOnce, PutsFront, PutsText, Verdict}
-use Rattle.pb_commands.specs.Rewriter.{Puts, PutsOrStops, RewritesLine, fault_of}
+use Rattle.pb_commands.specs.Rewriter.{PutsOrStops, RewritesLine}
 use Rattle.pb_commands.proofs.Judging.{until_as}
 
 -- ---- one line
 
 -- bytes that were put are what comes of the line
 module _ (judges : Verdict → Type 0) (sink sink' : SinkState) (taken : Bool) (out : List ℕ) (judged : judges (Ok (taken, out))) where
-  pub put_as : (v : Unit {0}) → Puts sink sink' out (Ok v) → PutsOrStops judges sink sink' (Ok taken)
-  put_as v h = (record { out = out; judged = judged; put = h.0 }, h.1)
+  pub put_as : (v : Unit {0}) → Put {E = Failed} sink sink' (Ok v) out → PutsOrStops judges sink sink' (Ok taken)
+  put_as v h = (record { out = out; judged = judged; put = h.all }, inr (h.failed, h.flushed, h.flushes))
 
-  pub stops_as : (fault : Fault) → Puts sink sink' out (Err fault) → PutsOrStops judges sink sink' (Err fault)
-  stops_as Write h = record { answer = taken; out = out; judged = judged; count = h.0.0; put = h.0.1; fails = h.1; flushes = h.2 }
-  stops_as Read h = absurd h
-  stops_as Endless h = absurd h
-  stops_as Memory h = absurd h
+  pub stops_as : (e : Failed) → Put {E = Failed} sink sink' (Err e) out → PutsOrStops judges sink sink' (Err Write)
+  stops_as e h = record { answer = taken; out = out; judged = judged; count = h.front.0; put = h.front.1; fails = h.failed; flushes = h.flushes }
 
 -- the same of a verdict that was put
 pub line_shows : (judges : Verdict → Type 0) (verdict : Verdict) → judges verdict → (sink sink' : SinkState) (result : Result Bool Fault)
@@ -252,7 +250,7 @@ module _ {K : Type 0} (state : K → SinkState) where
         let answer : t.all_taken ≡ run.answer = run.answered ∙ ap (λ b. b && run.answer) fresh in
         subst (λ b. PutsText (EpdShown 1 ls) sink sink' b) (sym answer) (text_from_one ls sink' run.answer run.puts))
 
-    pub awaits_of : (r : Result (Unit {0}) (LinesFault Fault)) → OnOk r (TakesStream (RewritesLine state) fills old new s t) → OnOk r (AwaitsFlush sink sink')
+    pub awaits_of : (r : Result (Unit {0}) Fault) → OnOk r (TakesStream (RewritesLine state) fills old new s t) → OnOk r (AwaitsFlush sink sink')
     awaits_of (Ok tt) h =
         (AtEnd-weaker fills old new (λ ls. TakesAll (RewritesLine state) s ls t) (λ ls. AwaitsFlush sink sink') (λ ls some h. (run_of s t ls (few ls some) h).awaits) h).done
     awaits_of (Err e) h = tt
@@ -267,15 +265,24 @@ module _ {K : Type 0} (state : K → SinkState) where
     never : (e : Fault) → ((ls : List (List ℕ)) → length ls ≤ fills * chunk_len → Stopped e ls → ⊥) → AtLine fills old new (Stopped e) → ⊥
     never e impossible h = elim (AtLine-weaker fills old new (Stopped e) (λ ls. ⊥) impossible h) [ inl x ↦ x.done | inr x ↦ x.done ]
 
-    pub until_of : (e : LinesFault Fault) → TakesUntil (RewritesLine state) fills old new s t e → RewritesUntil fills old new sink sink' (fault_of e)
-    until_of lines.Memory h = inl (h.0, ap (λ (x : Rewriter K). state x.sink.now) h.1)
-    until_of lines.Read h = AtFault-weaker fills old new (λ ls. TakesAll (RewritesLine state) s ls t) (PutsLines sink sink') all_lines h
-    until_of lines.Endless h = AtNoEnd-weaker fills old new (λ ls. TakesAll (RewritesLine state) s ls t) (PutsLines sink sink') all_lines h
-    until_of (lines.Stop Write) h =
+    read_until : (fault : ReadFault) → ReadUntil (RewritesLine state) fills old new s t fault → RewritesUntil fills old new sink sink' (fault_of fault)
+    read_until read.Memory h = inl (h.0, ap (λ (x : Rewriter K). state x.sink.now) h.1)
+    read_until read.Read h = AtFault-weaker fills old new (λ ls. TakesAll (RewritesLine state) s ls t) (PutsLines sink sink') all_lines h
+    read_until read.Endless h = AtNoEnd-weaker fills old new (λ ls. TakesAll (RewritesLine state) s ls t) (PutsLines sink sink') all_lines h
+
+    stopped_until : (e : Fault) → AtLine fills old new (Stopped e) → RewritesUntil fills old new sink sink' e
+    stopped_until Write h =
         AtLine-weaker fills old new (Stopped Write) (λ ls. PutsFront (EpdShown 1 ls) sink sink') (λ ls some x. front_from_one ls (cut_of s t ls (few ls some) x)) h
-    until_of (lines.Stop Memory) h = inr (AtLine-weaker fills old new (Stopped Memory) (PutsButLast sink sink') but_last h)
-    until_of (lines.Stop Read) h = absurd (never Read (λ ls some x. never_stops s t ls (few ls some) Read x (λ is. cc is) x.5.shows.0) h)
-    until_of (lines.Stop Endless) h = absurd (never Endless (λ ls some x. never_stops s t ls (few ls some) Endless x (λ is. cc is) x.5.shows.0) h)
+    stopped_until Memory h = inr (AtLine-weaker fills old new (Stopped Memory) (PutsButLast sink sink') but_last h)
+    stopped_until Read h = absurd (never Read (λ ls some x. never_stops s t ls (few ls some) Read x (λ is. cc is) x.5.shows.0) h)
+    stopped_until Endless h = absurd (never Endless (λ ls some x. never_stops s t ls (few ls some) Endless x (λ is. cc is) x.5.shows.0) h)
+
+    abbrev Until : Fault → Type 0
+    Until = TakesUntil (λ fault e. e ≡ fault_of fault) (RewritesLine state) fills old new s t
+
+    pub until_of : (e : Fault) → Until e → RewritesUntil fills old new sink sink' e
+    until_of e (inl h) = subst (RewritesUntil fills old new sink sink') (sym h.1) (read_until h.0 h.2)
+    until_of e (inr h) = stopped_until e h
 
     same_all : (ls : List (List ℕ)) → length ls ≤ fills * chunk_len → TakesAll (RewritesLine state) s ls t → t.sink.ghost_name ≡ s.sink.ghost_name
     same_all ls some h = (run_of s t ls (few ls some) h).same
@@ -283,13 +290,15 @@ module _ {K : Type 0} (state : K → SinkState) where
     abbrev Same : List (List ℕ) → Type 0
     Same ls = t.sink.ghost_name ≡ s.sink.ghost_name
 
-    pub same_of : (r : Result (Unit {0}) (LinesFault Fault)) → OnOk r (TakesStream (RewritesLine state) fills old new s t) → IfErr r (TakesUntil (RewritesLine state) fills old new s t)
-        → t.sink.ghost_name ≡ s.sink.ghost_name
+    same_read : (fault : ReadFault) → ReadUntil (RewritesLine state) fills old new s t fault → t.sink.ghost_name ≡ s.sink.ghost_name
+    same_read read.Memory h = ap (λ (x : Rewriter K). x.sink.ghost_name) h.1
+    same_read read.Read h = (AtFault-weaker fills old new (λ ls. TakesAll (RewritesLine state) s ls t) Same same_all h).done
+    same_read read.Endless h = (AtNoEnd-weaker fills old new (λ ls. TakesAll (RewritesLine state) s ls t) Same same_all h).done
+
+    pub same_of : (r : Result (Unit {0}) Fault) → OnOk r (TakesStream (RewritesLine state) fills old new s t) → IfErr r Until → t.sink.ghost_name ≡ s.sink.ghost_name
     same_of (Ok tt) h k = (AtEnd-weaker fills old new (λ ls. TakesAll (RewritesLine state) s ls t) Same same_all h).done
-    same_of (Err lines.Memory) h k = ap (λ (x : Rewriter K). x.sink.ghost_name) k.1
-    same_of (Err lines.Read) h k = (AtFault-weaker fills old new (λ ls. TakesAll (RewritesLine state) s ls t) Same same_all k).done
-    same_of (Err lines.Endless) h k = (AtNoEnd-weaker fills old new (λ ls. TakesAll (RewritesLine state) s ls t) Same same_all k).done
-    same_of (Err (lines.Stop e)) h k =
+    same_of (Err e) h (inl k) = same_read k.0 k.2
+    same_of (Err e) h (inr k) =
         elim (AtLine-weaker fills old new (Stopped e) Same (λ ls some x. same_at_stop s t ls (few ls some) e x) k) [ inl x ↦ x.done | inr x ↦ x.done ]
 
 -- all lines were rewritten, and what was put couldn't be handed on

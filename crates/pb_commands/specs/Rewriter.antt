@@ -1,22 +1,11 @@
 -- What the rewriter of EPD lines does with lines.
-use Rattle.std.specs.Prelude.{◌≡◌, ℕ, ◌&&◌, Bool, List, take, true, Result, Ok, Err}
-use Rattle.std.specs.Io.KnownBytes.{Appends}
+use Rattle.std.specs.Prelude.{◌≡◌, ℕ, ◌&&◌, Bool, List, Result, Ok, Err}
 use Rattle.pb_io.specs.Sink.{AwaitsFlush, SinkState}
-use Rattle.pb_io.specs.declared.lines.LinesFault.{LinesFault}
-use Rattle.pb_io.specs.declared.lines.LinesFault.TheVariants as lines
 use Rattle.pb_io.specs.Count.{next_count}
 use Rattle.pb_commands.specs.declared.epd.Rewriter.{Rewriter}
 use Rattle.pb_io.specs.declared.fault.Fault.{Fault}
-use Rattle.pb_io.specs.declared.fault.Fault.TheVariants.{Read, Write, Endless, Memory}
 use Rattle.pb_commands.specs.EpdShown.{LineShown}
 use Rattle.pb_commands.specs.Judged.{PutsText, PutsUntil, Verdict}
-
--- these bytes were put, or the sink has failed and a front of them was; nothing was handed on
-abbrev pub Puts : SinkState → SinkState → List ℕ → Result (Unit {0}) Fault → Type 0
-Puts sink sink' bytes (Ok _) = Appends sink.bytes sink'.bytes bytes × AwaitsFlush sink sink'
-Puts sink sink' bytes (Err Write) =
-    ((count : ℕ) × Appends sink.bytes sink'.bytes (take count bytes)) × (sink'.failed ≡ true) × (sink'.flushes ≡ sink.flushes)
-Puts sink sink' bytes (Err fault) = ⊥
 
 -- what comes of a line was put, or a fault came
 abbrev pub PutsOrStops : (Verdict → Type 0) → SinkState → SinkState → Result Bool Fault → Type 0
@@ -34,10 +23,3 @@ pub record RewritesLine {K : Type 0} (state : K → SinkState) (s : Rewriter K) 
   pub shows : LineCounted (state s.sink.now) (state t.sink.now) (next_count s.lines) line s.all_taken t.all_taken result
   pub counted : t.lines ≡ next_count s.lines
   pub same_sink : t.sink.ghost_name ≡ s.sink.ghost_name
-
--- what the end of the lines is to the run
-abbrev pub fault_of : LinesFault Fault → Fault
-fault_of lines.Memory = Memory
-fault_of lines.Read = Read
-fault_of lines.Endless = Endless
-fault_of (lines.Stop fault) = fault

@@ -8,14 +8,13 @@ ghost use Rattle.pb_commands.specs.EpdRun.{RewritesOrEnds, RewritesStream, Rewri
 ghost use Rattle.pb_commands.specs.EpdShown.{EpdShown, IsBlank, LineShown, epd_verdict, refused_line};
 ghost use Rattle.pb_commands.specs.Judged.{HandedOnOnce, PutsText};
 ghost use Rattle.pb_io.specs.Parts.{parts_joined};
-ghost use Rattle.pb_commands.specs.Rewriter.{Puts, PutsOrStops, fault_of};
+ghost use Rattle.pb_commands.specs.Rewriter.{PutsOrStops};
 
-use crate::fault::Fault;
 use crate::output::put_line;
 use itoa::Buffer;
 use pb_board::without_return;
 use pb_epd::{EpdError, read_epd, write_epd};
-use pb_poly::{Failed, LineTask, LinesFault, Sink, Source, take_lines};
+use pb_io::{Failed, Fault, LineTask, Sink, Source, take_lines};
 use std::alloc::Global;
 
 /// Rewrites lines one after the other.
@@ -53,13 +52,13 @@ impl<K: Sink> LineTask for Rewriter<'_, K> {
 
 impl<K: Sink> Rewriter<'_, K> {
     /// Takes the lines of the source.
-    fn take_all<S: Source>(&mut self, source: &mut S, fills: u32) -> Result<(), LinesFault<Fault>>
+    fn take_all<S: Source>(&mut self, source: &mut S, fills: u32) -> Result<(), Fault>
         requires first { self.old.lines ≡ 0 }
         requires none_refused { self.old.all_taken ≡ true }
         ensures ok { OnOk result (RewritesStream fills (S.state source.old) (S.state source.new)
             (K.state self.old.sink.now) (K.state self.new.sink.now) self.new.all_taken) }
-        ensures err { IfErr result (λ e. RewritesUntil fills (S.state source.old) (S.state source.new)
-            (K.state self.old.sink.now) (K.state self.new.sink.now) (fault_of e)) }
+        ensures err { IfErr result (RewritesUntil fills (S.state source.old) (S.state source.new)
+            (K.state self.old.sink.now) (K.state self.new.sink.now)) }
         ensures awaits { OnOk result (AwaitsFlush (K.state self.old.sink.now) (K.state self.new.sink.now)) }
         ensures same_sink { self.new.sink.ghost_name ≡ self.old.sink.ghost_name }
     {
@@ -111,16 +110,9 @@ fn rewrite_stream<S: Source, K: Sink>(
         all_taken,
         ..
     } = rewriter;
-    match ended {
-        Ok(()) => match sink.flush() {
-            Ok(()) => Ok(all_taken),
-            Err(_) => Err(Fault::Write),
-        },
-        Err(LinesFault::Memory) => Err(Fault::Memory),
-        Err(LinesFault::Read) => Err(Fault::Read),
-        Err(LinesFault::Endless) => Err(Fault::Endless),
-        Err(LinesFault::Stop(fault)) => Err(fault),
-    }
+    ended?;
+    sink.flush()?;
+    Ok(all_taken)
 }
 
 /// Puts what the line of this number gives, and answers whether it was taken.
@@ -139,10 +131,8 @@ fn rewrite_line<K: Sink>(
     }
     match read_epd(alloc, text) {
         Ok(record) => {
-            let Ok(form) = write_epd(alloc, &record) else {
-                return Err(Fault::Memory);
-            };
-            put(sink, &[form.as_slice()])?;
+            let form = write_epd(alloc, &record)?;
+            put_line(sink, &[form.as_slice()])?;
             Ok(true)
         }
         Err(error) => put_refusal(sink, number, error),
@@ -187,10 +177,8 @@ fn refuse_at<K: Sink>(sink: &mut K, number: u64, word: &[u8], place: usize) -> R
 fn refuse_line<K: Sink>(sink: &mut K, number: u64, why: &[&[u8]]) -> Result<bool, Fault>
     ensures { PutsOrStops (λ verdict. verdict ≡ refused_line number (parts_joined why.now)) (K.state sink.old) (K.state sink.new) result }
 {
-    match put_refused(sink, number, why) {
-        Ok(()) => Ok(false),
-        Err(_) => Err(Fault::Write),
-    }
+    put_refused(sink, number, why)?;
+    Ok(false)
 }
 
 /// Puts the line that refuses the line of this number.
@@ -202,14 +190,4 @@ fn put_refused<K: Sink>(sink: &mut K, number: u64, why: &[&[u8]]) -> Result<(), 
     sink.put(buffer.format(number).as_bytes())?;
     sink.put(b" ")?;
     put_line(sink, why)
-}
-
-/// Puts the parts of a line in turn, and its end.
-fn put<K: Sink>(sink: &mut K, parts: &[&[u8]]) -> Result<(), Fault>
-    ensures { Puts (K.state sink.old) (K.state sink.new) (with_end (parts_joined parts.now)) result }
-{
-    match put_line(sink, parts) {
-        Ok(()) => Ok(()),
-        Err(_) => Err(Fault::Write),
-    }
 }

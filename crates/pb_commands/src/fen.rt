@@ -15,12 +15,11 @@ ghost use Rattle.pb_commands.specs.Plays.{PlaysWords};
 ghost use Rattle.pb_commands.specs.Refused.{refusal_verdict};
 ghost use Rattle.pb_io.specs.declared.fault.Fault.TheVariants.{Write};
 
-use crate::fault::Fault;
 use crate::output::show_line;
 use crate::refusal::{refuse, refuse_with};
 use pb_board::{Fen, FenError, read_fen};
+use pb_io::{Fault, Sink};
 use pb_moves::{advance, read_move};
-use pb_poly::Sink;
 use std::alloc::Global;
 
 /// Why a FEN record and its moves give no record.

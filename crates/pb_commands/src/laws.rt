@@ -4,7 +4,7 @@ ghost use Rattle.std.specs.Prelude.{◌≡◌};
 ghost use Rattle.std.specs.Bool.{Decides};
 ghost use Rattle.pb_io.specs.declared.fault.Fault.{Fault};
 
-use crate::fault::Fault;
+use pb_io::Fault;
 
 /// Faults are equal (`==`) exactly where they are one.
 pub fn equal_faults()

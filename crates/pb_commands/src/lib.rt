@@ -3,7 +3,7 @@
 #![tactic(auto)]
 
 mod epd;
-mod fault;
+mod exit;
 mod fen;
 mod hexadecimal;
 pub mod laws;
@@ -13,8 +13,9 @@ mod refusal;
 mod show;
 
 pub use epd::run_epd;
-pub use fault::{Fault, STOPPED, status};
+pub use exit::{STOPPED, status};
 pub use fen::run_fen;
+pub use pb_io::Fault;
 pub use pb_poly::{TableFault, take_table};
 pub use probe::run_probe;
 pub use refusal::{refuse_table, refuse_with};

@@ -5,9 +5,7 @@ ghost use Rattle.pb_io.specs.Sink.{Put};
 ghost use Rattle.pb_io.specs.Parts.{parts_joined};
 ghost use Rattle.pb_commands.specs.Shows.{Shows};
 
-use crate::fault::Fault;
-use pb_io::put_parts;
-use pb_poly::{Failed, Sink};
+use pb_io::{Failed, Fault, Sink, put_parts};
 
 /// Puts the parts of a line in turn, and its end.
 pub(crate) fn put_line<K: Sink>(sink: &mut K, parts: &[&[u8]]) -> Result<(), Failed>
@@ -20,11 +18,7 @@ pub(crate) fn put_line<K: Sink>(sink: &mut K, parts: &[&[u8]]) -> Result<(), Fai
 pub(crate) fn show_line<K: Sink>(sink: &mut K, parts: &[&[u8]]) -> Result<(), Fault>
     ensures { Shows (K.state sink.old) (K.state sink.new) result (with_end (parts_joined parts.now)) }
 {
-    let Ok(()) = put_line(sink, parts) else {
-        return Err(Fault::Write);
-    };
-    let Ok(()) = sink.flush() else {
-        return Err(Fault::Write);
-    };
+    put_line(sink, parts)?;
+    sink.flush()?;
     Ok(())
 }

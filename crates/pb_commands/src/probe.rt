@@ -12,13 +12,13 @@ ghost use Rattle.pb_commands.specs.Shows.{Shows};
 ghost use Rattle.pb_commands.specs.TableJudged.{AsTable};
 ghost use Rattle.pb_io.specs.declared.fault.Fault.TheVariants.{Memory};
 
-use crate::fault::Fault;
 use crate::output::put_line;
 use crate::refusal::{refuse, refuse_book, refuse_table};
 use itoa::Buffer;
 use pb_board::read_fen;
+use pb_io::{Failed, Fault, Sink, Source};
 use pb_moves::Move;
-use pb_poly::{Book, Failed, Sink, Source, Table, probe, read_book, take_table};
+use pb_poly::{Book, Table, probe, read_book, take_table};
 use std::alloc::Global;
 
 /// Shows the moves that a book has for a record's setup, each with its weight in decimal, in the book's order. The table of
@@ -92,9 +92,7 @@ fn show_under<K: Sink>(
         Ok(record) => record,
         Err(error) => return refuse(sink, &[b"refused fen ", error.word().as_bytes()]),
     };
-    let Ok(found) = probe(alloc, book, table, &record.setup()) else {
-        return Err(Fault::Memory);
-    };
+    let found = probe(alloc, book, table, &record.setup())?;
     show_found(sink, found.as_slice())?;
     Ok(true)
 }
@@ -104,13 +102,9 @@ fn show_found<K: Sink>(sink: &mut K, found: &[(Move, u16)]) -> Result<(), Fault>
     ensures { Shows (K.state sink.old) (K.state sink.new) result (probe_text found.now) }
 {
     for (m, weight) in found {
-        let Ok(()) = put_found(sink, m, *weight) else {
-            return Err(Fault::Write);
-        };
+        put_found(sink, m, *weight)?;
     }
-    let Ok(()) = sink.flush() else {
-        return Err(Fault::Write);
-    };
+    sink.flush()?;
     Ok(())
 }
 

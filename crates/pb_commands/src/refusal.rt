@@ -6,10 +6,10 @@ ghost use Rattle.pb_commands.specs.BookJudged.{book_verdict};
 ghost use Rattle.pb_commands.specs.Judged.{PutsOrEnds};
 ghost use Rattle.pb_commands.specs.TableJudged.{table_verdict};
 
-use crate::fault::Fault;
 use crate::output::show_line;
 use itoa::Buffer;
-use pb_poly::{BookError, Sink, TableFault};
+use pb_io::{Fault, Sink};
+use pb_poly::{BookError, TableFault};
 
 /// Shows the line of these parts and answers that the input was refused.
 pub(crate) fn refuse<K: Sink>(sink: &mut K, parts: &[&[u8]]) -> Result<bool, Fault>

@@ -9,11 +9,11 @@ ghost use Rattle.pb_commands.specs.Judged.{HandedOnOnce, PutsOrEnds, PutsText, P
 ghost use Rattle.pb_commands.specs.Shows.{Shows};
 ghost use Rattle.pb_io.specs.declared.fault.Fault.TheVariants.{Memory};
 
-use crate::fault::Fault;
 use crate::hexadecimal::digits_of;
 use crate::output::put_line;
 use crate::refusal::refuse_book;
-use pb_poly::{Entry, Failed, Sink, Source, read_book};
+use pb_io::{Failed, Fault, Sink, Source};
+use pb_poly::{Entry, read_book};
 use std::alloc::Global;
 
 /// Shows a book: a line for each entry, with its key, code, weight and learn value as 16, 4, 4 and 8 lower-case hexadecimal
@@ -66,13 +66,9 @@ fn show_entries<K: Sink>(sink: &mut K, entries: &[Entry]) -> Result<(), Fault>
     ensures { Shows (K.state sink.old) (K.state sink.new) result (show_text entries.now) }
 {
     for entry in entries {
-        let Ok(()) = put_entry(sink, entry) else {
-            return Err(Fault::Write);
-        };
+        put_entry(sink, entry)?;
     }
-    let Ok(()) = sink.flush() else {
-        return Err(Fault::Write);
-    };
+    sink.flush()?;
     Ok(())
 }
 

@@ -21,20 +21,20 @@ returns-then-is_blank g c = (
   inl refl,
 )
 
-pub returns-in_err-put-in-Ok : goal.returns-in_err-put-in-Ok
-returns-in_err-put-in-Ok g c =
-    let p = err_from_is_err_and c.from_residual.result c.from_residual.ensures.1 in
+pub returns-in_err-put_line-in-Ok : goal.returns-in_err-put_line-in-Ok
+returns-in_err-put_line-in-Ok g c =
+    let p = err_from_is_err_and c.from_residual-in_err-put_line-in-Ok.result c.from_residual-in_err-put_line-in-Ok.ensures.1 in
     rw (p.1, p.2) (stops_as (LineShown c.args.number c.args.line.now) _ _ true _
     (written c.in-Ok.record c.requires c.in-Ok.ensures.found.0 (subst (EpdText c.in-Ok.record) c.without_return-text.ensures c.in-Ok.ensures.found.1)
-    (ap (λ w. Ok (true, with_end w)) (append-nil c.as_slice.result.now ∙ c.as_slice.ensures.value ∙ c.in-Ok-write_epd.ensures)))
-    _ c.in_err-put-in-Ok.ensures)
+    (ap (λ w. Ok (true, with_end w)) (append-nil c.as_slice.result.now ∙ c.as_slice.ensures.value ∙ c.in_ok-form-in-Ok.ensures)))
+    _ c.in_err-put_line-in-Ok.ensures)
 
-pub returns-in_ok-put-in-Ok : goal.returns-in_ok-put-in-Ok
-returns-in_ok-put-in-Ok g c =
+pub returns-in_ok-put_line-in-Ok : goal.returns-in_ok-put_line-in-Ok
+returns-in_ok-put_line-in-Ok g c =
     put_as (LineShown c.args.number c.args.line.now) _ _ true _
     (written c.in-Ok.record c.requires c.in-Ok.ensures.found.0 (subst (EpdText c.in-Ok.record) c.without_return-text.ensures c.in-Ok.ensures.found.1)
-    (ap (λ w. Ok (true, with_end w)) (append-nil c.as_slice.result.now ∙ c.as_slice.ensures.value ∙ c.in-Ok-write_epd.ensures)))
-    _ c.in_ok-put-in-Ok.ensures
+    (ap (λ w. Ok (true, with_end w)) (append-nil c.as_slice.result.now ∙ c.as_slice.ensures.value ∙ c.in_ok-form-in-Ok.ensures)))
+    _ c.in_ok-put_line-in-Ok.ensures
 
 pub returns-in-Err : goal.returns-in-Err
 returns-in-Err g c =
@@ -42,9 +42,11 @@ returns-in-Err g c =
     (no_record c.in-Err.error c.requires (λ blank. false≢true (c.if-is_blank.ensures.1 (subst IsBlank (sym c.without_return-text.ensures) blank)))
     (subst (IsFirstDueEpd c.in-Err.error) c.without_return-text.ensures c.in-Err.ensures.refused) refl) _ _ c.put_refusal.result c.put_refusal.ensures
 
-pub returns-in_default : goal.returns-in_default
-returns-in_default g c = (
-  no_record epd.Memory c.requires (λ blank. false≢true (c.if-is_blank.ensures.1 (subst IsBlank (sym c.without_return-text.ensures) blank)))
-      (memory_due c.args.line.now _ c.in-Ok.record c.without_return-text.ensures c.in-Ok.ensures.found.0 c.in-Ok.ensures.found.1) refl,
-  refl,
-)
+pub returns-in_err-form-in-Ok : goal.returns-in_err-form-in-Ok
+returns-in_err-form-in-Ok g c =
+    let p = err_from_is_err_and c.from_residual.result c.from_residual.ensures.1 in
+    rw (p.1, p.2) (
+      no_record epd.Memory c.requires (λ blank. false≢true (c.if-is_blank.ensures.1 (subst IsBlank (sym c.without_return-text.ensures) blank)))
+          (memory_due c.args.line.now _ c.in-Ok.record c.without_return-text.ensures c.in-Ok.ensures.found.0 c.in-Ok.ensures.found.1) refl,
+      refl,
+    )

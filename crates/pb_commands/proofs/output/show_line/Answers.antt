@@ -1,13 +1,8 @@
-use Rattle.std.proofs.Common.{◌∙◌, refl}
-use Rattle.pb_io.proofs.PutLemmas.{front_all}
+use Rattle.std.proofs.lemmas.Result.{err_from_is_err_and}
+use Rattle.pb_commands.proofs.Lines.{not_handed_on}
 use Rattle.pb_commands.proofs.output.show_line.Goals as goal
 
-pub returns-in_default-flush : goal.returns-in_default-flush
-returns-in_default-flush g c =
-    let flush = c.in_default-flush.ensures in record {
-      all = tt;
-      handed_on = tt;
-      fault = (refl, flush.failed);
-      front = front_all _ _ _ _ c.in-Ok.ensures.all flush.bytes;
-      flushes = flush.flushes ∙ c.in-Ok.ensures.flushes;
-    }
+pub returns-in_err-flush : goal.returns-in_err-flush
+returns-in_err-flush g c =
+    let p = err_from_is_err_and c.from_residual-in_err-flush.result c.from_residual-in_err-flush.ensures.1 in
+    rw (p.1, p.2) (not_handed_on _ _ _ _ _ c.in_ok-put_line.ensures.all c.in_ok-put_line.ensures.flushes c.in_err-flush.ensures)

@@ -11,15 +11,16 @@ returns-in-Err g c fills t t' b b' read read_too =
 
 pub returns-in_err-show_found : goal.returns-in_err-show_found
 returns-in_err-show_found g c fills t t' b b' read read_too =
-    let p = err_from_is_err_and c.from_residual.result c.from_residual.ensures.1 in
-    rw (p.1, p.2) (at_fault _ _ _ _ _ _ _ _ _ read _ read_too c.in-Ok.record c.in-Ok.ensures.found _ c.setup.ensures.value _ c.in-Ok-probe.ensures
+    let p = err_from_is_err_and c.from_residual-in_err-show_found.result c.from_residual-in_err-show_found.ensures.1 in
+    rw (p.1, p.2) (at_fault _ _ _ _ _ _ _ _ _ read _ read_too c.in-Ok.record c.in-Ok.ensures.found _ c.setup.ensures.value _ c.in_ok-found.ensures
     c.as_slice.result.now c.as_slice.ensures.value c.in_err-show_found.field-0.0 c.in_err-show_found.ensures)
 
 pub returns : goal.returns
 returns g c fills t t' b b' read read_too =
-    at_moves _ _ _ _ _ _ _ _ _ read _ read_too c.in-Ok.record c.in-Ok.ensures.found _ c.setup.ensures.value _ c.in-Ok-probe.ensures
+    at_moves _ _ _ _ _ _ _ _ _ read _ read_too c.in-Ok.record c.in-Ok.ensures.found _ c.setup.ensures.value _ c.in_ok-found.ensures
     c.as_slice.result.now c.as_slice.ensures.value _ c.in_ok-show_found.ensures
 
-pub returns-in_default : goal.returns-in_default
-returns-in_default g c fills t t' b b' read read_too =
-    at_memory _ _ _ _ _ _ _ _ _ read _ read_too c.in-Ok.record c.in-Ok.ensures.found refl
+pub returns-in_err-found : goal.returns-in_err-found
+returns-in_err-found g c fills t t' b b' read read_too =
+    let p = err_from_is_err_and c.from_residual.result c.from_residual.ensures.1 in
+    rw (p.1, p.2) (at_memory _ _ _ _ _ _ _ _ _ read _ read_too c.in-Ok.record c.in-Ok.ensures.found refl)

@@ -1,5 +1,5 @@
 use Rattle.std.proofs.Common.{rules}
-use Rattle.pb_commands.proofs.fault.status.Goals as goal
+use Rattle.pb_commands.proofs.exit.status.Goals as goal
 
 pub returns-in-Err : goal.returns-in-Err
 returns-in-Err c = search rules
