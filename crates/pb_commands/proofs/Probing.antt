@@ -1,7 +1,6 @@
 -- What the command `probe` puts, from what its parts do.
-use Rattle.std.proofs.Common.{◌≡◌, ℕ, Bool, List, Option, Some, None, Result, Ok, Err, false, refl, subst, sym, true}
-use Rattle.std.specs.Prelude.{IfErr, IfOk, IfSome, MatchResult, OnOk}
-use Rattle.std.specs.Io.KnownBytes.{Appends}
+use Rattle.std.proofs.Common.{◌≡◌, ℕ, Bool, List, Option, Some, None, Result, Ok, Err, refl, subst, sym, true}
+use Rattle.std.specs.Prelude.{IfOk, IfSome}
 use Rattle.pb_board.specs.declared.refusal.FenError.{FenError}
 use Rattle.pb_board.specs.Position.{Position, Record}
 use Rattle.pb_moves.specs.Moved.{Moved}
@@ -18,7 +17,8 @@ use Rattle.pb_poly.specs.declared.table_file.TableFault.{TableFault}
 use Rattle.pb_poly.specs.declared.table_file.TableFault.TheVariants as table_fault
 use Rattle.pb_poly.proofs.ToldReads.{no_endless, no_fault}
 use Rattle.pb_commands.specs.BookJudged.{AsBook, book_verdict}
-use Rattle.pb_commands.specs.Judged.{HandedOnOnce, PutsOrEnds, PutsText, PutsUntil, Verdict}
+use Rattle.pb_commands.specs.Judged.{PutsOrEnds, PutsText, Verdict}
+use Rattle.pb_commands.specs.Laws.{ProbeEnds}
 use Rattle.pb_commands.specs.ProbeShown.{FoundShown, ProbeShown, ProbesSources, probe_text}
 use Rattle.pb_commands.specs.RecordJudged.{AsRecord, record_verdict}
 use Rattle.pb_commands.specs.Shows.{Shows}
@@ -87,19 +87,9 @@ module _ (fills : ℕ) (t t' b b' : SourceState) (fen : List ℕ) (sink sink' : 
           pub at_fault : {A : Type 0} (e : Fault) → Shows {A = A} sink sink' (Err e) (probe_text others) → Ends (Err e)
           at_fault = text_not_shown judges sink sink' true (probe_text others) shown
 
-  -- what the clauses of the command say, from how it ends
-  pub put : (result : Result Bool Fault) → Ends result → IfOk result (PutsText judges sink sink')
-  put = puts_text judges sink sink'
-
-  pub handed_on : (result : Result Bool Fault) → Ends result → OnOk result (HandedOnOnce sink sink')
-  handed_on = hands_on judges sink sink'
-
-  pub ended : (result : Result Bool Fault) → Ends result → IfErr result (PutsUntil judges sink sink')
-  ended = puts_until judges sink sink'
-
   -- where both sources tell their bytes
   module _ (table book : List ℕ) (told_t : t.to_come ≡ Some table) (told_b : b.to_come ≡ Some book) where
-    pub told_probed : (answer : Bool) (out : List ℕ) → judges (Ok (answer, out)) → ProbeShown (AsTable table) (AsBook book) fen (Ok (answer, out))
+    told_probed : (answer : Bool) (out : List ℕ) → judges (Ok (answer, out)) → ProbeShown (AsTable table) (AsBook book) fen (Ok (answer, out))
     told_probed answer out (ProbeShown.no_table e h is) = ProbeShown.no_table e (told_no_table fills t t' table told_t e (answer, out) is h.0) is
     told_probed answer out (ProbeShown.no_book words e h k is) =
         ProbeShown.no_book words e (told_table fills t t' table told_t words h.0) (told_no_book fills b b' book told_b e (answer, out) is k) is
@@ -117,7 +107,7 @@ module _ (fills : ℕ) (t t' b b' : SourceState) (fen : List ℕ) (sink sink' : 
   told_both (Some table) (Some book) is_t is_b answer h =
       text_as judges (ProbeShown (AsTable table) (AsBook book) fen) sink sink' answer (told_probed table book is_t is_b answer) h
 
-  pub told_text : (result : Result Bool Fault) → IfOk result (PutsText judges sink sink') → IfOk result (Told t.to_come b.to_come)
+  told_text : (result : Result Bool Fault) → IfOk result (PutsText judges sink sink') → IfOk result (Told t.to_come b.to_come)
   told_text (Ok answer) h = told_both t.to_come b.to_come refl refl answer h
   told_text (Err e) h = tt
 
@@ -139,9 +129,14 @@ module _ (fills : ℕ) (t t' b b' : SourceState) (fen : List ℕ) (sink sink' : 
     no_end (ProbeShown.no_record words entries e h k r is) = cc is
     no_end (ProbeShown.probed words entries f h k r x) = found_no_fault words entries f Endless (λ is. cc is) x
 
-    pub only_probed : sink'.failed ≡ false → (answer : Bool) (out : List ℕ) → ProbeShown (AsTable table) (AsBook book) fen (Ok (answer, out))
-        → (result : Result Bool Fault) → Ends result
-        → MatchResult result (λ taken. (taken ≡ answer) × Appends sink.bytes sink'.bytes out) (λ e. e ≡ Memory)
-    only_probed works answer out is result ends =
+  -- what more is known of an end
+  pub probe_ends : (result : Result Bool Fault) → Ends result → ProbeEnds fills t t' b b' fen sink sink' result
+  probe_ends result ends = record {
+    shown = puts_text judges sink sink' result ends;
+    told = told_text result (puts_text judges sink sink' result ends);
+    handed_on = hands_on judges sink sink' result ends;
+    fault = puts_until judges sink sink' result ends;
+    only = λ table book answer out tells_t tells_b works is.
         only_text judges (ProbeShown (AsTable table) (AsBook book) fen) sink sink' works (told_probed table book tells_t.told tells_b.told) (probe_is_one table book fen)
-        no_read no_end answer out is result ends
+        (no_read table book tells_t tells_b) (no_end table book tells_t tells_b) answer out is result ends;
+  }

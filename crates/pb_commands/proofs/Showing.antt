@@ -1,7 +1,5 @@
 -- What the command `show` puts, from what its parts do.
-use Rattle.std.proofs.Common.{◌≡◌, ℕ, Bool, List, Result, Ok, Err, false, refl, subst, sym, true}
-use Rattle.std.specs.Prelude.{IfErr, IfOk, IfSome, MatchResult, OnOk}
-use Rattle.std.specs.Io.KnownBytes.{Appends}
+use Rattle.std.proofs.Common.{◌≡◌, ℕ, Bool, List, Result, Ok, Err, refl, subst, sym, true}
 use Rattle.pb_io.specs.Reads.{chunk_len}
 use Rattle.pb_io.specs.Sink.{SinkState}
 use Rattle.pb_io.specs.Source.{SourceState}
@@ -13,10 +11,11 @@ use Rattle.pb_poly.specs.declared.reading.BookError.TheVariants as book_error
 use Rattle.pb_poly.proofs.ToldReads.{no_endless, no_fault}
 use Rattle.pb_commands.specs.BookJudged.{AsBook, book_verdict}
 use Rattle.pb_commands.specs.BookShown.{BookShown, show_text}
-use Rattle.pb_commands.specs.Judged.{HandedOnOnce, PutsOrEnds, PutsText, PutsUntil, Verdict}
+use Rattle.pb_commands.specs.Judged.{PutsOrEnds, Verdict}
+use Rattle.pb_commands.specs.Laws.{ShowEnds}
 use Rattle.pb_commands.specs.Shows.{Shows}
 use Rattle.pb_io.specs.declared.fault.Fault.{Fault}
-use Rattle.pb_io.specs.declared.fault.Fault.TheVariants.{Read, Endless, Memory}
+use Rattle.pb_io.specs.declared.fault.Fault.TheVariants.{Read, Endless}
 use Rattle.pb_commands.proofs.Judging.{hands_on, only_text, puts_text, puts_until, shows, text_not_shown, text_shown, told_as}
 use Rattle.pb_commands.proofs.OneBook.{shown_is_one}
 use Rattle.pb_commands.proofs.Told.{told_shown}
@@ -66,25 +65,15 @@ module _ (fills : ℕ) (s s' : SourceState) (sink sink' : SinkState) where
   pub at_refusal : (result : Result Bool Fault) (e : BookError) → ReadsBook fills s s' (Err e) → PutsOrEnds (λ verdict. verdict ≡ book_verdict e) sink sink' result → Ends result
   at_refusal result e h r = shows judges (book_verdict e) (BookShown.no_book e h refl) sink sink' result r
 
-  -- what the clauses of the command say, from how it ends
-  pub put : (result : Result Bool Fault) → Ends result → IfOk result (PutsText judges sink sink')
-  put = puts_text judges sink sink'
-
-  pub handed_on : (result : Result Bool Fault) → Ends result → OnOk result (HandedOnOnce sink sink')
-  handed_on = hands_on judges sink sink'
-
-  pub ended : (result : Result Bool Fault) → Ends result → IfErr result (PutsUntil judges sink sink')
-  ended = puts_until judges sink sink'
-
-  -- where the source tells its bytes
-  pub told_text : (result : Result Bool Fault) → IfOk result (PutsText judges sink sink')
-      → IfOk result (λ answer. IfSome s.to_come (λ bytes. PutsText (BookShown (AsBook bytes)) sink sink' answer))
-  told_text result h = told_as judges (λ bytes. BookShown (AsBook bytes)) sink sink' s.to_come result (λ bytes told. told_shown fills s s' bytes told) h
-
-  -- where it tells its bytes, doesn't fail and ends within the fills
-  pub only_shown : (bytes : List ℕ) → Tells fills s s' bytes → sink'.failed ≡ false → (answer : Bool) (out : List ℕ) → BookShown (AsBook bytes) (Ok (answer, out))
-      → (result : Result Bool Fault) → Ends result
-      → MatchResult result (λ taken. (taken ≡ answer) × Appends sink.bytes sink'.bytes out) (λ e. e ≡ Memory)
-  only_shown bytes tells works answer out is result ends =
-      only_text judges (BookShown (AsBook bytes)) sink sink' works (told_shown fills s s' bytes tells.told) (shown_is_one bytes)
-      (no_fault_shown fills s s' bytes tells) (no_end_shown fills s s' bytes tells) answer out is result ends
+  -- what more is known of an end
+  pub show_ends : (result : Result Bool Fault) → Ends result → ShowEnds fills s s' sink sink' result
+  show_ends result ends = record {
+    shown = puts_text judges sink sink' result ends;
+    told = told_as judges (λ bytes. BookShown (AsBook bytes)) sink sink' s.to_come result (λ bytes told. told_shown fills s s' bytes told)
+        (puts_text judges sink sink' result ends);
+    handed_on = hands_on judges sink sink' result ends;
+    fault = puts_until judges sink sink' result ends;
+    only = λ bytes answer out tells works is.
+        only_text judges (BookShown (AsBook bytes)) sink sink' works (told_shown fills s s' bytes tells.told) (shown_is_one bytes)
+        (no_fault_shown fills s s' bytes tells) (no_end_shown fills s s' bytes tells) answer out is result ends;
+  }

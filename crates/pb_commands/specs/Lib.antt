@@ -5,6 +5,7 @@ pub mod EpdShown
 pub mod FenShown
 pub mod Hexadecimal
 pub mod Judged
+pub mod Laws
 pub mod Line
 pub mod Plays
 pub mod ProbeShown

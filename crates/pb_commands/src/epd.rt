@@ -89,7 +89,7 @@ pub fn run_epd<S: Source, K: Sink>(
     rewrite_stream(alloc, source, sink, fills)
 }
 
-/// The same, told in one clause.
+/// Rewrites the lines of the source from the first on, and hands on what was put.
 fn rewrite_stream<S: Source, K: Sink>(
     alloc: Global,
     source: &mut S,

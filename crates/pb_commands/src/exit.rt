@@ -7,7 +7,7 @@ use pb_io::Fault;
 /// The status of a command that stopped before its end.
 pub const STOPPED: u8 = 3;
 
-/// The exit status for what a command answers: 0 where the input was taken, 1 where it was
+/// Gives the exit status for what a command answers: 0 where the input was taken, 1 where it was
 /// refused, 3 where the command met a fault.
 pub fn status(answer: Result<bool, Fault>) -> u8
     ensures { result ≡ status_of answer }

@@ -55,7 +55,7 @@ pub fn run_fen<K: Sink>(
     show_record(fen, moves, sink)
 }
 
-/// The same, told in one clause.
+/// Shows the record after the moves, or why there is none.
 fn show_record<K: Sink>(fen: &[u8], moves: &[&str], sink: &mut K) -> Result<bool, Fault>
     ensures { PutsOrEnds (FenShown fen.now (texts moves.now)) (K.state sink.old) (K.state sink.new) result }
 {
@@ -68,7 +68,7 @@ fn show_record<K: Sink>(fen: &[u8], moves: &[&str], sink: &mut K) -> Result<bool
     }
 }
 
-/// The record after the moves.
+/// Plays the moves from the record, and gives the record after them or the refusal that is due.
 fn record_after(fen: &[u8], moves: &[&str]) -> Result<Fen, Refusal>
     ensures { MatchResult result
         (λ last. FenShown fen.now (texts moves.now) (Ok (true, with_end (fen_text last))))
@@ -87,7 +87,7 @@ fn record_after(fen: &[u8], moves: &[&str]) -> Result<Fen, Refusal>
     }
 }
 
-/// The number of the first word that spells no move, from 1.
+/// Finds the first word that spells no move, and gives its number, from 1.
 fn misspelt(words: &[&str]) -> Option<usize>
     ensures { MatchOption result (All IsSpelled (texts words.now)) (BreaksAt (All IsSpelled) (texts words.now)) }
 {
@@ -125,7 +125,7 @@ fn play_words(start: Fen, words: &[&str]) -> Result<Fen, usize>
     Ok(record)
 }
 
-/// The record after the move that the word spells. None where the word spells no legal move.
+/// Plays the move that the word spells. None where the word spells no legal move.
 fn play_word(before: &Fen, word: &str) -> Option<Fen>
     ensures { MatchOption result
         (IsSpelled word.now → (m : Moved) × Spells word.now m × ¬ Legal before.now.setup m)

@@ -5,7 +5,7 @@ ghost use Rattle.pb_commands.specs.Hexadecimal.{hexadecimal};
 
 use hex::encode_to_slice;
 
-/// The digits of the number that has these bytes, the highest first: two of each byte.
+/// Writes the number that has these bytes, the highest first, in digits: two of each byte.
 pub(crate) fn digits_of<const DIGITS: usize>(bytes: &[u8]) -> [u8; DIGITS]
     requires { DIGITS ≡ 2 * length bytes.now }
     ensures { (number : ℕ) → bytes.now ≡ bytes_high_first (length bytes.now) number → result ≡ hexadecimal DIGITS number }

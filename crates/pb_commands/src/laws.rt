@@ -1,10 +1,33 @@
-//! Laws of equality (`==`) between faults. Each is the contract of a function that does nothing.
+//! Laws of how commands end, and of equality (`==`) between faults. Each is the contract of a
+//! function that does nothing, over the definitions alone.
 
-ghost use Rattle.std.specs.Prelude.{◌≡◌};
+ghost use Rattle.std.specs.Prelude.{◌≡◌, ℕ, Bool, List, Result};
 ghost use Rattle.std.specs.Bool.{Decides};
+ghost use Rattle.pb_io.specs.Sink.{SinkState};
+ghost use Rattle.pb_io.specs.Source.{SourceState};
 ghost use Rattle.pb_io.specs.declared.fault.Fault.{Fault};
+ghost use Rattle.pb_poly.specs.Reading.{ReadsBook};
+ghost use Rattle.pb_commands.specs.BookShown.{BookShown};
+ghost use Rattle.pb_commands.specs.Judged.{PutsOrEnds};
+ghost use Rattle.pb_commands.specs.Laws.{ProbeEnds, ShowEnds};
+ghost use Rattle.pb_commands.specs.ProbeShown.{ProbesSources};
 
 use pb_io::Fault;
+
+/// However `run_show` ends: the whole text was put and handed on once, or the fault tells what was
+/// put; and where the source tells its bytes, what was put is what they show.
+pub fn show_ends()
+    ensures { (fills : ℕ) (s s' : SourceState) (k k' : SinkState) (result : Result Bool Fault)
+        → PutsOrEnds (BookShown (ReadsBook fills s s')) k k' result
+        → ShowEnds fills s s' k k' result }
+{}
+
+/// However `run_probe` ends, the same of its two sources.
+pub fn probe_ends()
+    ensures { (fills : ℕ) (t t' b b' : SourceState) (fen : List ℕ) (k k' : SinkState)
+        (result : Result Bool Fault) → PutsOrEnds (ProbesSources fills t t' b b' fen) k k' result
+        → ProbeEnds fills t t' b b' fen k k' result }
+{}
 
 /// Faults are equal (`==`) exactly where they are one.
 pub fn equal_faults()

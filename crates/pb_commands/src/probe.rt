@@ -1,16 +1,12 @@
 //! The command `probe`: the moves that a book has for a position.
-ghost use Rattle.std.specs.Prelude.{◌≡◌, ℕ, Bool, IfErr, IfOk, IfSome, List, MatchResult, Ok, OnOk, false, true};
-ghost use Rattle.std.specs.Io.KnownBytes.{Appends};
-ghost use Rattle.pb_poly.specs.Reading.{ReadsBook, Tells};
+ghost use Rattle.std.specs.Prelude.{ℕ, Ok};
+ghost use Rattle.pb_poly.specs.Reading.{ReadsBook};
 ghost use Rattle.pb_poly.specs.TableReading.{ReadsTable};
 ghost use Rattle.pb_io.specs.Sink.{Put};
 ghost use Rattle.pb_io.specs.Source.{SourceState};
-ghost use Rattle.pb_commands.specs.Judged.{HandedOnOnce, PutsOrEnds, PutsText, PutsUntil};
-ghost use Rattle.pb_commands.specs.BookJudged.{AsBook};
-ghost use Rattle.pb_commands.specs.ProbeShown.{ProbeShown, ProbesSources, found_line, probe_text};
+ghost use Rattle.pb_commands.specs.Judged.{PutsOrEnds};
+ghost use Rattle.pb_commands.specs.ProbeShown.{ProbesSources, found_line, probe_text};
 ghost use Rattle.pb_commands.specs.Shows.{Shows};
-ghost use Rattle.pb_commands.specs.TableJudged.{AsTable};
-ghost use Rattle.pb_io.specs.declared.fault.Fault.TheVariants.{Memory};
 
 use crate::output::put_line;
 use crate::refusal::{refuse, refuse_book, refuse_table};
@@ -21,14 +17,16 @@ use pb_moves::Move;
 use pb_poly::{Book, Table, probe, read_book, take_table};
 use std::alloc::Global;
 
-/// Shows the moves that a book has for a record's setup, each with its weight in decimal, in the book's order. The table of
-/// words that keys are made of, the book and the record are judged in this order, and the first that is refused is told:
-/// `refused table` and `long`, `line` or `count`, `refused book` and `unsorted` or `cut`, or `refused fen` and the word of the
-/// record's refusal. Nothing later is read then, nor after a fault. What was put is handed on once, at the end. Answers whether all three
-/// were taken.
+/// Shows the moves that a book has for a record's setup, each with its weight in decimal, in the
+/// book's order. The table of words that keys are made of, the book and the record are judged in
+/// this order, and the first that is refused is told: `refused table` and `long`, `line` or
+/// `count`, `refused book` and `unsorted` or `cut`, or `refused fen` and the word of the record's
+/// refusal. Nothing later is read then, nor after a fault. What was put is handed on once, at the
+/// end. Answers whether all three were taken.
 ///
-/// Where both sources tell bytes, don't fail and end within the fills, what is put is what those bytes show, a fault of the
-/// sink and want of memory aside.
+/// Where both sources tell bytes, don't fail and end within the fills, what is put is what those
+/// bytes show, a fault of the sink and want of memory aside: that follows from the clause, by the
+/// law `probe_ends`.
 pub fn run_probe<T: Source, B: Source, K: Sink>(
     alloc: Global,
     table_source: &mut T,
@@ -37,33 +35,8 @@ pub fn run_probe<T: Source, B: Source, K: Sink>(
     sink: &mut K,
     fills: u32,
 ) -> Result<bool, Fault>
-    ensures shown { IfOk result (PutsText (ProbesSources fills (T.state table_source.old) (T.state table_source.new)
-        (B.state book_source.old) (B.state book_source.new) fen.now) (K.state sink.old) (K.state sink.new)) }
-    ensures told { IfOk result (λ answer. IfSome (T.state table_source.old).to_come (λ table. IfSome (B.state book_source.old).to_come (λ book.
-        PutsText (ProbeShown (AsTable table) (AsBook book) fen.now) (K.state sink.old) (K.state sink.new) answer))) }
-    ensures handed_on { OnOk result (HandedOnOnce (K.state sink.old) (K.state sink.new)) }
-    ensures fault { IfErr result (PutsUntil
-        (ProbesSources fills (T.state table_source.old) (T.state table_source.new) (B.state book_source.old) (B.state book_source.new) fen.now)
-        (K.state sink.old) (K.state sink.new)) }
-    ensures only { (table book : List ℕ) (answer : Bool) (out : List ℕ) → Tells fills (T.state table_source.old) (T.state table_source.new) table
-        → Tells fills (B.state book_source.old) (B.state book_source.new) book
-        → (K.state sink.new).failed ≡ false → ProbeShown (AsTable table) (AsBook book) fen.now (Ok (answer, out))
-        → MatchResult result (λ taken. (taken ≡ answer) × Appends (K.state sink.old).bytes (K.state sink.new).bytes out) (λ e. e ≡ Memory) }
-{
-    show_moves(alloc, table_source, book_source, fen, sink, fills)
-}
-
-/// The same, told in one clause.
-fn show_moves<T: Source, B: Source, K: Sink>(
-    alloc: Global,
-    table_source: &mut T,
-    book_source: &mut B,
-    fen: &[u8],
-    sink: &mut K,
-    fills: u32,
-) -> Result<bool, Fault>
-    ensures { PutsOrEnds
-        (ProbesSources fills (T.state table_source.old) (T.state table_source.new) (B.state book_source.old) (B.state book_source.new) fen.now)
+    ensures { PutsOrEnds (ProbesSources fills (T.state table_source.old) (T.state table_source.new)
+        (B.state book_source.old) (B.state book_source.new) fen.now)
         (K.state sink.old) (K.state sink.new) result }
 {
     let table = match take_table(alloc, table_source, fills) {

@@ -1,13 +1,9 @@
 //! The command `show`: a line for each entry of a book.
-ghost use Rattle.std.specs.Prelude.{◌≡◌, ℕ, Bool, IfErr, IfOk, IfSome, List, MatchResult, Ok, OnOk, false, true};
-ghost use Rattle.std.specs.Io.KnownBytes.{Appends};
-ghost use Rattle.pb_poly.specs.Reading.{ReadsBook, Tells};
+ghost use Rattle.pb_poly.specs.Reading.{ReadsBook};
 ghost use Rattle.pb_io.specs.Sink.{Put};
-ghost use Rattle.pb_commands.specs.BookJudged.{AsBook};
 ghost use Rattle.pb_commands.specs.BookShown.{BookShown, entry_line, show_text};
-ghost use Rattle.pb_commands.specs.Judged.{HandedOnOnce, PutsOrEnds, PutsText, PutsUntil};
+ghost use Rattle.pb_commands.specs.Judged.{PutsOrEnds};
 ghost use Rattle.pb_commands.specs.Shows.{Shows};
-ghost use Rattle.pb_io.specs.declared.fault.Fault.TheVariants.{Memory};
 
 use crate::hexadecimal::digits_of;
 use crate::output::put_line;
@@ -16,41 +12,24 @@ use pb_io::{Failed, Fault, Sink, Source};
 use pb_poly::{Entry, read_book};
 use std::alloc::Global;
 
-/// Shows a book: a line for each entry, with its key, code, weight and learn value as 16, 4, 4 and 8 lower-case hexadecimal
-/// digits. Where the source gives no book, shows `refused book unsorted` and the number, from 1, of the first entry whose key
-/// is below the key before it, or `refused book cut` and the number of bytes after the last whole entry. Answers whether the
-/// book was taken. The whole book is read before a line is put, and the lines are handed on once, at the end.
+/// Shows a book: a line for each entry, with its key, code, weight and learn value as 16, 4, 4 and
+/// 8 lower-case hexadecimal digits. Where the source gives no book, shows `refused book unsorted`
+/// and the number, from 1, of the first entry whose key is below the key before it, or
+/// `refused book cut` and the number of bytes after the last whole entry. Answers whether the book
+/// was taken. The whole book is read before a line is put, and the lines are handed on once, at the
+/// end.
 ///
-/// Where the source tells bytes, doesn't fail and ends within the fills, what is put is what those bytes show, a fault of the
-/// sink and want of memory aside. `Memory` comes where a growth of the book found no memory.
+/// Where the source tells bytes, doesn't fail and ends within the fills, what is put is what those
+/// bytes show, a fault of the sink and want of memory aside: that follows from the clause, by the
+/// law `show_ends`. `Memory` comes where a growth of the book found no memory.
 pub fn run_show<S: Source, K: Sink>(
     alloc: Global,
     source: &mut S,
     sink: &mut K,
     fills: u32,
 ) -> Result<bool, Fault>
-    ensures shown { IfOk result (PutsText (BookShown (ReadsBook fills (S.state source.old) (S.state source.new)))
-        (K.state sink.old) (K.state sink.new)) }
-    ensures told { IfOk result (λ answer. IfSome (S.state source.old).to_come (λ bytes.
-        PutsText (BookShown (AsBook bytes)) (K.state sink.old) (K.state sink.new) answer)) }
-    ensures handed_on { OnOk result (HandedOnOnce (K.state sink.old) (K.state sink.new)) }
-    ensures fault { IfErr result (PutsUntil (BookShown (ReadsBook fills (S.state source.old) (S.state source.new)))
-        (K.state sink.old) (K.state sink.new)) }
-    ensures only { (bytes : List ℕ) (answer : Bool) (out : List ℕ) → Tells fills (S.state source.old) (S.state source.new) bytes
-        → (K.state sink.new).failed ≡ false → BookShown (AsBook bytes) (Ok (answer, out))
-        → MatchResult result (λ taken. (taken ≡ answer) × Appends (K.state sink.old).bytes (K.state sink.new).bytes out) (λ e. e ≡ Memory) }
-{
-    show_book(alloc, source, sink, fills)
-}
-
-/// The same, told in one clause.
-fn show_book<S: Source, K: Sink>(
-    alloc: Global,
-    source: &mut S,
-    sink: &mut K,
-    fills: u32,
-) -> Result<bool, Fault>
-    ensures { PutsOrEnds (BookShown (ReadsBook fills (S.state source.old) (S.state source.new))) (K.state sink.old) (K.state sink.new) result }
+    ensures { PutsOrEnds (BookShown (ReadsBook fills (S.state source.old) (S.state source.new)))
+        (K.state sink.old) (K.state sink.new) result }
 {
     match read_book(alloc, source, fills) {
         Ok(book) => {

@@ -1,18 +1,15 @@
-use Rattle.pb_commands.proofs.Probing.{ended, handed_on, only_probed, put, told_text}
+use Rattle.std.proofs.Common.{refl}
+use Rattle.pb_commands.proofs.Probing.{at_book, at_table}
 use Rattle.pb_commands.proofs.probe.run_probe.Goals as goal
 
-pub returns-clause-shown : goal.returns-clause-shown
-returns-clause-shown g c = put _ _ _ _ _ _ _ _ c.show_moves.result c.show_moves.ensures
+pub returns-in-Err : goal.returns-in-Err
+returns-in-Err g c =
+    let b = g.B.Source.state in
+    at_table _ _ _ (b c.args.book_source.now) (b c.args.book_source.now) _ _ _ refl c.refuse_table.result c.in-Err.error c.in-Err.ensures.reads c.refuse_table.ensures
 
-pub returns-clause-told : goal.returns-clause-told
-returns-clause-told g c = told_text _ _ _ _ _ _ _ _ c.show_moves.result (returns-clause-shown g c)
+pub returns-in-Ok-read_book : goal.returns-in-Ok-read_book
+returns-in-Ok-read_book g c = c.show_under.ensures _ _ _ _ _ c.in-Ok.ensures.reads c.in-Ok-read_book.ensures.reads
 
-pub returns-clause-handed_on : goal.returns-clause-handed_on
-returns-clause-handed_on g c = handed_on _ _ _ _ _ _ _ _ c.show_moves.result c.show_moves.ensures
-
-pub returns-clause-fault : goal.returns-clause-fault
-returns-clause-fault g c = ended _ _ _ _ _ _ _ _ c.show_moves.result c.show_moves.ensures
-
-pub returns-clause-only : goal.returns-clause-only
-returns-clause-only g c table book answer out tells_t tells_b works is =
-    only_probed _ _ _ _ _ _ _ _ table book tells_t tells_b works answer out is c.show_moves.result c.show_moves.ensures
+pub returns : goal.returns
+returns g c =
+    at_book _ _ _ _ _ _ _ _ c.in-Ok.table c.in-Ok.ensures.reads c.refuse_book.result c.in-Err-read_book.error c.in-Err-read_book.ensures.reads c.refuse_book.ensures
