@@ -1,8 +1,7 @@
-//! Laws of how commands end, and of equality (`==`) between faults. Each is the contract of a
-//! function that does nothing, over the definitions alone.
+//! Laws of how commands end. Each is the contract of a function that does nothing, over the
+//! definitions alone.
 
-ghost use Rattle.std.specs.Prelude.{◌≡◌, ℕ, Bool, List, Result};
-ghost use Rattle.std.specs.Bool.{Decides};
+ghost use Rattle.std.specs.Prelude.{ℕ, Bool, List, Result};
 ghost use Rattle.pb_io.specs.Sink.{SinkState};
 ghost use Rattle.pb_io.specs.Source.{SourceState};
 ghost use Rattle.pb_io.specs.declared.fault.Fault.{Fault};
@@ -11,8 +10,6 @@ ghost use Rattle.pb_commands.specs.BookShown.{BookShown};
 ghost use Rattle.pb_commands.specs.Judged.{PutsOrEnds};
 ghost use Rattle.pb_commands.specs.Laws.{ProbeEnds, ShowEnds};
 ghost use Rattle.pb_commands.specs.ProbeShown.{ProbesSources};
-
-use pb_io::Fault;
 
 /// However `run_show` ends: the whole text was put and handed on once, or the fault tells what was
 /// put; and where the source tells its bytes, what was put is what they show.
@@ -27,9 +24,4 @@ pub fn probe_ends()
     ensures { (fills : ℕ) (t t' b b' : SourceState) (fen : List ℕ) (k k' : SinkState)
         (result : Result Bool Fault) → PutsOrEnds (ProbesSources fills t t' b b' fen) k k' result
         → ProbeEnds fills t t' b b' fen k k' result }
-{}
-
-/// Faults are equal (`==`) exactly where they are one.
-pub fn equal_faults()
-    ensures { (e f : Fault) → Decides (⟦<Fault as PartialEq>⟧.eq e f) (e ≡ f) }
 {}
