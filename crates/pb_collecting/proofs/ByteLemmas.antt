@@ -1,5 +1,5 @@
 -- The theorem of `pbook collect` on bytes in memory.
-use Rattle.std.proofs.Common.{◌≡◌, ◌≢◌, ◌⊎◌, ◌∙◌, ℕ, true, false, List, [], ◌++◌, Option, Some, None, Result, Ok, Err, arith, inl, inr, subst, sym}
+use Rattle.std.proofs.Common.{◌≡◌, ◌≢◌, ◌⊎◌, ◌∙◌, ℕ, true, false, List, [], ◌++◌, Option, Some, None, Result, Ok, Err, arith, inl, inr, refl, subst, sym}
 use Rattle.std.proofs.lemmas.Option.{same_Some}
 use Rattle.std.specs.Prelude.{IfSome}
 use Rattle.std.specs.Io.KnownBytes.{Appends}
@@ -16,18 +16,14 @@ use Rattle.pb_commands.proofs.Told.{told_no_table}
 use Rattle.pb_commands.specs.Judged.{Verdict}
 use Rattle.pb_commands.specs.TableJudged.{AsTable, table_verdict}
 use Rattle.pb_io.specs.declared.fault.Fault.{Fault}
-use Rattle.pb_io.specs.declared.fault.Fault.TheVariants.{Write, Endless, Memory}
+use Rattle.pb_io.specs.declared.fault.Fault.TheVariants.{Read, Write, Endless, Memory}
 use Rattle.pb_accepted.specs.Ledger.{LedgerState}
 use Rattle.pb_ledger.specs.Collecting.{CollectsUntil}
-use Rattle.pb_ledger.specs.declared.collecting.CollectFault.{CollectFault}
-use Rattle.pb_ledger.specs.declared.collecting.CollectFault.TheVariants as collect
 use Rattle.pb_poly.proofs.ReadRows.{found_no_table}
 use Rattle.pb_poly.specs.TableReading.{ReadsTable}
-use Rattle.pb_collecting.specs.Taking.{fault_of}
 use Rattle.pb_collecting.specs.Headline.{HasHeadline, Headline}
 use Rattle.pb_collecting.specs.Runs as runs
 use Rattle.pb_collecting.specs.Runs.{CollectRun}
-use Rattle.pb_collecting.proofs.RunLemmas.{collect_from}
 
 all_of : (told : Option (List ℕ)) (bytes all : List ℕ) → told ≡ Some all → IfSome told (λ x. bytes ≡ x) → bytes ≡ all
 all_of None bytes all is h = absurd (cc)
@@ -63,8 +59,15 @@ pub never_refused : (rules : CountingRules) (fills : ℕ) (t t' s s' : SourceSta
     → CollectRun rules fills t t' s s' sink sink' (Ok answer) → (randoms : List ℕ) → IsTableFile randoms file → ⊥
 never_refused rules fills t t' s s' sink sink' file (Some entries) told none run randoms is = absurd (cc)
 never_refused rules fills t t' s s' sink sink' file None told none run randoms is =
-    let judged = (collect_from rules fills t t' s s' sink sink' (Ok None) run).0.judged in
-    no_table file randoms judged.cause is (told_no_table fills t t' file told judged.cause _ judged.is judged.found)
+    no_book run
+  where
+    no_book : CollectRun rules fills t t' s s' sink sink' (Ok None) → ⊥
+    no_book (runs.went ledger entries first goes same) = absurd (cc)
+    no_book (runs.broke ledger fault first goes same) = absurd (cc)
+    no_book (runs.told out judged put handed same) =
+        no_table file randoms judged.0.cause is (told_no_table fills t t' file told judged.0.cause _ judged.0.is judged.0.found)
+    no_book (runs.untold out count judged put fails flushes same) = absurd (cc)
+    no_book (runs.stopped fault judged kept same) = absurd (cc)
 
 -- ---- faults of a run whose sources can't fail
 
@@ -78,12 +81,12 @@ table_fault fills t t' table.Read fault works read is =
 table_fault fills t t' table.Endless fault works read is = inr (cc)
 table_fault fills t t' table.Memory fault works read is = inl (cc)
 
-stop_fault : (fills : ℕ) (s s' : SourceState) (sink sink' : SinkState) (ledger left : LedgerState) (e : CollectFault) (fault : Fault) → s'.failed ≡ false → fault ≢ Write
-    → CollectsUntil fills s s' sink sink' ledger left e → fault ≡ fault_of e → (fault ≡ Memory) ⊎ (fault ≡ Endless)
-stop_fault fills s s' sink sink' ledger left collect.Read fault works other h is = let fails : s'.failed ≡ true = h.0.reads.fails in absurd (cc)
-stop_fault fills s s' sink sink' ledger left collect.Write fault works other h is = absurd (other is)
-stop_fault fills s s' sink sink' ledger left collect.Endless fault works other h is = inr is
-stop_fault fills s s' sink sink' ledger left collect.Memory fault works other h is = inl is
+stop_fault : (fills : ℕ) (s s' : SourceState) (sink sink' : SinkState) (ledger left : LedgerState) (fault : Fault) → s'.failed ≡ false → fault ≢ Write
+    → CollectsUntil fills s s' sink sink' ledger left fault → (fault ≡ Memory) ⊎ (fault ≡ Endless)
+stop_fault fills s s' sink sink' ledger left Read works other h = let fails : s'.failed ≡ true = h.0.reads.fails in absurd (cc)
+stop_fault fills s s' sink sink' ledger left Write works other h = absurd (other refl)
+stop_fault fills s s' sink sink' ledger left Endless works other h = inr refl
+stop_fault fills s s' sink sink' ledger left Memory works other h = inl refl
 
 same_fault : {X : Type 0} {f g : Fault} → (let r : Result X Fault = Err f in r) ≡ Err g → f ≡ g
 same_fault is = cc
@@ -94,10 +97,10 @@ is_judged is verdict = cc
 pub faults : (rules : CountingRules) (fills : ℕ) (t t' s s' : SourceState) (sink sink' : SinkState) (fault : Fault) → t'.failed ≡ false → s'.failed ≡ false → fault ≢ Write
     → CollectRun rules fills t t' s s' sink sink' (Err fault) → (fault ≡ Memory) ⊎ (fault ≡ Endless)
 faults rules fills t t' s s' sink sink' fault table works other (runs.went m x first goes is) = absurd (cc)
-faults rules fills t t' s s' sink sink' fault table works other (runs.broke m f first (inl (left, (e, until, same))) is) =
-    stop_fault fills s s' sink sink' m left e fault works other until (same_fault is ∙ same)
+faults rules fills t t' s s' sink sink' fault table works other (runs.broke m f first (inl (left, until)) is) =
+    stop_fault fills s s' sink sink' m left fault works other (subst (CollectsUntil fills s s' sink sink' m left) (sym (same_fault is)) until)
 faults rules fills t t' s s' sink sink' fault table works other (runs.broke m f first (inr (memory, left)) is) = inl (same_fault is ∙ memory)
 faults rules fills t t' s s' sink sink' fault table works other (runs.told out judged put handed is) = absurd (cc)
 faults rules fills t t' s s' sink sink' fault table works other (runs.untold out count judged put fails flushes is) = absurd (other (same_fault is))
-faults rules fills t t' s s' sink sink' fault table works other (runs.stopped f ((e, read, verdict), unread) kept is) =
-    table_fault fills t t' e fault table read (is_judged is verdict)
+faults rules fills t t' s s' sink sink' fault table works other (runs.stopped f (lacks, unread) kept is) =
+    table_fault fills t t' lacks.cause fault table lacks.found (is_judged is lacks.is)

@@ -15,23 +15,20 @@ use Rattle.pb_accepted.specs.Ledger.{LedgerState}
 use Rattle.pb_accepted.specs.Replies.{replies}
 use Rattle.pb_accepted.specs.Rules.{CountingRules}
 use Rattle.pb_accepted.proofs.Steps.{runs_join}
-use Rattle.pb_ledger.specs.Collecting.{CollectsStream}
-use Rattle.pb_ledger.specs.declared.totals.Totals.{Totals}
 use Rattle.pb_saved.proofs.Continued.{continued, loaded_back}
 use Rattle.pb_collecting.specs.ContinueHeadline.{HasHeadlineOfBoth}
-use Rattle.pb_collecting.specs.Continuing.{LoadsFirst}
 use Rattle.pb_collecting.specs.Laws.{GoesOnAsOneRun}
-use Rattle.pb_collecting.specs.Taking.{ledger_of}
+use Rattle.pb_collecting.specs.Runs.{LoadsFirst, Takes, ledger_of}
 use Rattle.pb_collecting.proofs.Headlines.{effect}
 
-pub has_headline : (rules : CountingRules) (fills : ℕ) (t t' v v' s s' : SourceState) (sink sink' : SinkState) (loaded left : LedgerState) (entries : List Entry) (totals : Totals)
-    → LoadsFirst rules fills t t' v v' loaded → CollectsStream fills s s' sink sink' loaded left totals → IsBook left.basis left.accepted entries → All IsEntry entries
+pub has_headline : (rules : CountingRules) (fills : ℕ) (t t' v v' s s' : SourceState) (sink sink' : SinkState) (loaded left : LedgerState) (entries : List Entry)
+    → LoadsFirst rules fills t t' v v' loaded → Takes fills s s' sink sink' loaded left → IsBook left.basis left.accepted entries → All IsEntry entries
     → HasHeadlineOfBoth rules t t' v v' s s' sink sink' left entries
-has_headline rules fills t t' v v' s s' sink sink' loaded left entries totals first stream book bounds =
-    let h = subst (λ (m : LedgerState). CollectsStream fills s s' sink sink' m left totals) first.is stream in
-    let collects = h.0.done.0 in
+has_headline rules fills t t' v v' s s' sink sink' loaded left entries first takes book bounds =
+    let h = subst (λ (m : LedgerState). Takes fills s s' sink sink' m left) first.is takes in
+    let collects = h.0.done in
     let leads = collects.leads in
-    let table = found_table fills t t' first.words first.table in (
+    let table = found_table fills t t' first.randoms first.table in (
       table.came,
       first.loads.came,
       h.0.came,
@@ -41,13 +38,13 @@ has_headline rules fills t t' v v' s s' sink sink' loaded left entries totals fi
       handed_out _ _ _ _ _ h.0.reads,
       collects.put,
       record {
-        randoms = first.words;
+        randoms = first.randoms;
         table = table.is;
         held = first.held;
         loads = first.loads.done;
         answers = collects.answers;
         run = leads.run;
-        is = ap (λ (T : Basis). record left { basis = T }) leads.basis ∙ ap (λ n. record (ledger_of rules first.words left.accepted) { cap = n }) leads.cap;
+        is = ap (λ (T : Basis). record left { basis = T }) leads.basis ∙ ap (λ n. record (ledger_of rules first.randoms left.accepted) { cap = n }) leads.cap;
         replied = refl;
         book = book;
         effect = λ K Q run.

@@ -1,5 +1,5 @@
 -- The theorem of `pbook collect`, from what a run does.
-use Rattle.std.proofs.Common.{ℕ, List, [], All, ap, refl}
+use Rattle.std.proofs.Common.{ℕ, List, [], All, ap, refl, subst}
 use Rattle.pb_io.specs.Source.{SourceState}
 use Rattle.pb_io.specs.Sink.{SinkState}
 use Rattle.pb_io.specs.Lines.{lines}
@@ -12,12 +12,13 @@ use Rattle.pb_accepted.specs.Accepting.{Answer, Run}
 use Rattle.pb_accepted.specs.Basis.{Basis}
 use Rattle.pb_accepted.specs.Counting.{IsBook}
 use Rattle.pb_accepted.specs.Holding.{most_games}
+use Rattle.pb_accepted.specs.Ledger.{LedgerState}
 use Rattle.pb_accepted.specs.Replies.{replies}
 use Rattle.pb_accepted.specs.Rules.{AreRules, CountingRules}
 use Rattle.pb_accepted.proofs.Replies.{id_of}
 use Rattle.pb_accepted.proofs.Steps.{distinct_ids, numbers_kept, numbers_of_run}
 use Rattle.pb_collecting.specs.Headline.{Effect, HasHeadline}
-use Rattle.pb_collecting.proofs.CollectParts.{CollectsBook}
+use Rattle.pb_collecting.specs.Runs.{Takes, TakesTable}
 use Rattle.pb_collecting.proofs.OneTexts.{has_one_text}
 
 -- the effect of lines that were answered as a ledger answers them, wherever they came from
@@ -36,24 +37,28 @@ effect L R games run T entries bounds book = record {
   text = has_one_text T games entries bounds book;
 }
 
-pub has_headline : (rules : CountingRules) (fills : ℕ) (t t' s s' : SourceState) (sink sink' : SinkState) (entries : List Entry)
-    → AreRules rules → All IsEntry entries → CollectsBook rules fills t t' s s' sink sink' entries → HasHeadline rules t t' s s' sink sink' entries
-has_headline rules fills t t' s s' sink sink' entries counting bounds h =
-    let g = h.games.takes in
-    let table = found_table fills t t' h.words g.table in (
+pub has_headline : (rules : CountingRules) (fills : ℕ) (t t' s s' : SourceState) (sink sink' : SinkState) (ledger left : LedgerState) (entries : List Entry) → AreRules rules → All IsEntry entries
+    → TakesTable rules fills t t' ledger → Takes fills s s' sink sink' ledger left → IsBook left.basis left.accepted entries → HasHeadline rules t t' s s' sink sink' entries
+has_headline rules fills t t' s s' sink sink' ledger left entries counting bounds first takes book =
+    let table = found_table fills t t' first.randoms first.table in
+    let took = subst (λ (l : LedgerState). Takes fills s s' sink sink' l left) first.is takes in
+    let collects = took.0.done in
+    let bytes = took.0.came in
+    let T : Basis = record { words = first.randoms; rules = rules } in (
       table.came,
-      g.came,
-      replies (lines g.came) g.answers,
+      bytes,
+      replies (lines bytes) collects.answers,
       handed_out _ _ _ _ _ table.reads,
-      handed_out _ _ _ _ _ g.reads,
-      h.games.put,
+      handed_out _ _ _ _ _ took.0.reads,
+      collects.put,
       record {
         counting = counting;
-        randoms = h.words;
+        randoms = first.randoms;
         table = table.is;
-        answers = g.answers;
-        games = h.held;
-        effect = effect (lines g.came) g.answers h.held g.run (record { words = h.words; rules = rules }) entries bounds h.book;
+        answers = collects.answers;
+        games = left.accepted;
+        effect = effect (lines bytes) collects.answers left.accepted collects.leads.run T entries bounds
+            (subst (λ (X : Basis). IsBook X left.accepted entries) collects.leads.basis book);
         replied = refl;
       },
     )

@@ -17,33 +17,32 @@ use Rattle.pb_accepted.specs.Ledger.{LedgerState}
 use Rattle.pb_accepted.specs.Replies.{replies}
 use Rattle.pb_accepted.specs.Rules.{CountingRules}
 use Rattle.pb_saved.specs.Journal.{Journals, mending}
-use Rattle.pb_ledger.specs.Collecting.{CollectsStream}
+use Rattle.pb_ledger.specs.Journaling.{Gains}
 use Rattle.pb_collecting.specs.Headline.{Effect}
 use Rattle.pb_collecting.specs.JournalHeadline.{HasHeadlineOfJournal}
 use Rattle.pb_collecting.proofs.Headlines.{effect}
 use Rattle.pb_collecting.proofs.JournalGains.{gains_all, one_run}
-use Rattle.pb_collecting.proofs.JournalParts.{JournalsBook}
+use Rattle.pb_collecting.specs.Runs.{ReplaysFirst, Takes}
 
-pub has_headline : (rules : CountingRules) (fills : ℕ) (t t' v v' s s' : SourceState) (j j' sink sink' : SinkState) (entries : List Entry)
-    → All IsEntry entries → JournalsBook rules fills t t' v v' s s' j j' sink sink' entries → HasHeadlineOfJournal rules t t' v v' s s' j j' sink sink' entries
-has_headline rules fills t t' v v' s s' j j' sink sink' entries bounds h =
-    let first = h.first in
-    let randoms = first.words in
+pub has_headline : (rules : CountingRules) (fills : ℕ) (t t' v v' s s' : SourceState) (j j' sink sink' : SinkState) (ledger left : LedgerState) (mended : SinkState) (entries : List Entry)
+    → All IsEntry entries → ReplaysFirst rules fills t t' v v' j mended ledger → Takes fills s s' sink sink' ledger left → Gains mended j' ledger.accepted left.accepted
+    → IsBook left.basis left.accepted entries → HasHeadlineOfJournal rules t t' v v' s s' j j' sink sink' entries
+has_headline rules fills t t' v v' s s' j j' sink sink' ledger left mended entries bounds first takes gains book =
+    let randoms = first.randoms in
     let T : Basis = record { words = randoms; rules = rules } in
-    let held = h.held.accepted in
-    let stream = (subst (λ (m : LedgerState). CollectsStream fills s s' sink sink' m h.left h.totals) first.is h.collects.0).0 in
-    let collects = stream.done.0 in
-    let gains = h.collects.1 in
+    let held = ledger.accepted in
+    let stream = (subst (λ (m : LedgerState). Takes fills s s' sink sink' m left) first.is takes).0 in
+    let collects = stream.done in
     let answers = collects.answers in
     let kept = first.replays.came in
     let table = found_table fills t t' randoms first.table in
     let bytes = stream.came in
     let holds = first.replays.holds in
-    let run : Run most_games held (lines bytes) answers h.left.accepted = collects.leads.run in
-    let both = one_run most_games kept held h.left.accepted (lines bytes) answers holds run in
-    let all : Effect T (ended_lines kept ++ lines bytes) (holds.answers ++ answers) h.left.accepted entries =
-    effect (ended_lines kept ++ lines bytes) (holds.answers ++ answers) h.left.accepted both T entries bounds
-    (subst (λ (X : Basis). IsBook X h.left.accepted entries) collects.leads.basis h.book) in (
+    let run : Run most_games held (lines bytes) answers left.accepted = collects.leads.run in
+    let both = one_run most_games kept held left.accepted (lines bytes) answers holds run in
+    let all : Effect T (ended_lines kept ++ lines bytes) (holds.answers ++ answers) left.accepted entries =
+    effect (ended_lines kept ++ lines bytes) (holds.answers ++ answers) left.accepted both T entries bounds
+    (subst (λ (X : Basis). IsBook X left.accepted entries) collects.leads.basis book) in (
       table.came,
       kept,
       bytes,
@@ -68,6 +67,6 @@ has_headline rules fills t t' v v' s s' j j' sink sink' entries bounds h =
         are = gains.lines;
         grows = refl;
         holds_all = subst (λ (journal : List ℕ). Journals most_games journal (held ++ gains.new)) (append_assoc kept (mending kept) gains.text)
-            (gains_all most_games kept held h.left.accepted (lines bytes) answers holds run gains.new gains.text gains.are gains.lines);
+            (gains_all most_games kept held left.accepted (lines bytes) answers holds run gains.new gains.text gains.are gains.lines);
       },
     )

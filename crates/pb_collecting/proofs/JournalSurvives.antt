@@ -1,5 +1,5 @@
 -- However a run with a journal ends, no acknowledged game is lost.
-use Rattle.std.proofs.Common.{◌≡◌, ◌∙◌, ℕ, ◌+◌, ◌⊎◌, List, ◌∷◌, [], ◌++◌, Some, Ok, append_assoc, ap, inl, inr, length, slice_get, subst, sym, take, Option, append-nil}
+use Rattle.std.proofs.Common.{◌≡◌, ◌∙◌, ℕ, ◌+◌, ◌⊎◌, List, ◌∷◌, [], ◌++◌, Some, Ok, append_assoc, ap, inl, inr, length, slice_get, subst, sym, take, Option, None, IfSome, append-nil}
 use Rattle.std.specs.Io.KnownBytes.{Appends}
 use Rattle.std.proofs.KnownBytes.{Appends-trans}
 use Rattle.std.proofs.Math.Seq.{take-append-add, take-length}
@@ -18,14 +18,13 @@ use Rattle.pb_accepted.specs.Replies.{replies, reply_line}
 use Rattle.pb_accepted.specs.Rules.{CountingRules}
 use Rattle.pb_saved.specs.Journal.{GameLines, Journals, mending}
 use Rattle.pb_ledger.specs.Collecting.{Collects, CollectsButOne, Leads}
-use Rattle.pb_ledger.specs.Journaling.{CollectsUnkept, Gains, JournalsStream, JournalsUntil}
-use Rattle.pb_ledger.specs.declared.collecting.CollectFault.TheVariants as collect
+use Rattle.pb_ledger.specs.Journaling.{CollectsUnkept, Gains, JournalsUntil}
+use Rattle.pb_io.specs.declared.fault.Fault.TheVariants as collect
 use Rattle.pb_ledger.specs.declared.journaling.JournalFault.{JournalFault}
 use Rattle.pb_ledger.specs.declared.journaling.JournalFault.TheVariants as journal
-use Rattle.pb_ledger.specs.declared.totals.Totals.{Totals}
 use Rattle.pb_collecting.specs.Headline.{Arrives}
 use Rattle.pb_collecting.specs.JournalHeadline.{AreFirst, HoldsAnswered, Outlives, Survives}
-use Rattle.pb_collecting.specs.JournalRun.{ReplaysFirst}
+use Rattle.pb_collecting.specs.Runs.{ReplaysFirst, Takes}
 use Rattle.pb_collecting.proofs.JournalGains.{IsNumber-front, gains_all, gains_torn, has_numbers, replies-push}
 
 -- ---- the first lines of the submissions
@@ -61,7 +60,7 @@ module _ (rules : CountingRules) (fills : ℕ) (t t' v v' s s' : SourceState) (j
   holds = first.replays.holds
 
   leads_on : (left : LedgerState) (L : List (List ℕ)) (R : List Answer) → Leads held left L R
-      → Leads (record { basis = record { words = first.words; rules = rules }; cap = most_games; accepted = held.accepted }) left L R
+      → Leads (record { basis = record { words = first.randoms; rules = rules }; cap = most_games; accepted = held.accepted }) left L R
   leads_on left L R h = subst (λ (m : LedgerState). Leads m left L R) first.is h
 
   gained : (text : List ℕ) → Appends mended.bytes j'.bytes text → Appends j.bytes j'.bytes (mending kept ++ text)
@@ -69,11 +68,16 @@ module _ (rules : CountingRules) (fills : ℕ) (t t' v v' s s' : SourceState) (j
 
   -- what was put, where all of it lasts
   all_last : (bytes : List ℕ) → Appends j.bytes j'.bytes bytes → AllLasts j' → LastsFirst j j' bytes
-  all_last bytes put all =
-      ([], subst (λ (known : Option (List ℕ)). Appends j.bytes known (bytes ++ [])) (sym all) (subst (Appends j.bytes j'.bytes) (sym (append-nil bytes)) put))
+  all_last bytes put all = lasting j'.lasting all
+    where
+      lasting : (known : Option (List ℕ)) → IfSome known (λ lasts. j'.bytes ≡ Some lasts)
+          → IfSome known (λ lasts. (behind : List ℕ) × Appends j.bytes (Some lasts) (bytes ++ behind))
+      lasting None all = tt
+      lasting (Some lasts) all =
+          ([], subst (λ (known : Option (List ℕ)). Appends j.bytes known (bytes ++ [])) all (subst (Appends j.bytes j'.bytes) (sym (append-nil bytes)) put))
 
   -- the journal with the lines of new games
-  holds_all : (left : LedgerState) (L : List (List ℕ)) (R : List Answer) (on : Leads (record { basis = record { words = first.words; rules = rules }; cap = most_games; accepted = held.accepted }) left L R)
+  holds_all : (left : LedgerState) (L : List (List ℕ)) (R : List Answer) (on : Leads (record { basis = record { words = first.randoms; rules = rules }; cap = most_games; accepted = held.accepted }) left L R)
       (new : List Submission) (text : List ℕ) → left.accepted ≡ held.accepted ++ new → GameLines new text → Journals most_games (kept ++ (mending kept ++ text)) (held.accepted ++ new)
   holds_all left L R on new text are lines_of =
       subst (λ (bytes : List ℕ). Journals most_games bytes (held.accepted ++ new)) (append_assoc kept (mending kept) text)
@@ -132,13 +136,13 @@ module _ (rules : CountingRules) (fills : ℕ) (t t' v v' s s' : SourceState) (j
     },
   )
     where
-      on : Leads (record { basis = record { words = first.words; rules = rules }; cap = most_games; accepted = held.accepted }) left L (h.answers ++ Ok h.number ∷ [])
+      on : Leads (record { basis = record { words = first.randoms; rules = rules }; cap = most_games; accepted = held.accepted }) left L (h.answers ++ Ok h.number ∷ [])
       on = leads_on left L (h.answers ++ Ok h.number ∷ []) h.leads
 
       Has : List Submission → Type 0
       Has games = (i n : ℕ) → slice_get h.answers i ≡ Some (Ok n) → (s : Submission) × Arrives h.before i s × IsNumber games n s
 
-      led : Leads (record { basis = record { words = first.words; rules = rules }; cap = most_games; accepted = held.accepted }) h.middle h.before h.answers
+      led : Leads (record { basis = record { words = first.randoms; rules = rules }; cap = most_games; accepted = held.accepted }) h.middle h.before h.answers
       led = leads_on h.middle h.before h.answers h.leads_before
 
       before : Has (held.accepted ++ h.new)
@@ -153,11 +157,16 @@ module _ (rules : CountingRules) (fills : ℕ) (t t' v v' s s' : SourceState) (j
 
       -- the journal was mended before it took the lines
       lasts_so : LastsFirst mended j' h.text → LastsFirst j j' (mending kept ++ h.text)
-      lasts_so lasts = (
-        lasts.0,
-        subst (Appends j.bytes j'.lasting) (sym (append_assoc (mending kept) h.text lasts.0))
-            (Appends-trans _ _ _ _ _ first.replays.mends.put lasts.1),
-      )
+      lasts_so lasts = lasting j'.lasting lasts
+        where
+          lasting : (known : Option (List ℕ)) → IfSome known (λ bytes. (behind : List ℕ) × Appends mended.bytes (Some bytes) (h.text ++ behind))
+              → IfSome known (λ bytes. (behind : List ℕ) × Appends j.bytes (Some bytes) ((mending kept ++ h.text) ++ behind))
+          lasting None lasts = tt
+          lasting (Some bytes) lasts = (
+            lasts.0,
+            subst (Appends j.bytes (Some bytes)) (sym (append_assoc (mending kept) h.text lasts.0))
+                (Appends-trans _ _ _ _ _ first.replays.mends.put lasts.1),
+          )
 
       answered : (gains : List ℕ) (games : List Submission) → Journals most_games (kept ++ gains) games → Has games → HoldsAnswered (kept ++ gains) s s' sink sink'
       answered gains games journals has = record {
@@ -186,8 +195,8 @@ module _ (rules : CountingRules) (fills : ℕ) (t t' v v' s s' : SourceState) (j
     at_line P follows (inl h) = follows (ended_lines h.came) (front_read fills s s' h.came h.reads) h.done
     at_line P follows (inr h) = follows (lines h.came) (all_read fills s s' h.came h.reads) h.done
 
-    pub stream_survives : (totals : Totals) → JournalsStream fills s s' sink sink' mended j' held left totals → (s' ≡ s) ⊎ Safe
-    stream_survives totals h = inr (collected left (lines h.0.0.came) (all_read fills s s' h.0.0.came h.0.0.reads) h.0.0.done.0 h.1)
+    pub stream_survives : Takes fills s s' sink sink' held left → Gains mended j' held.accepted left.accepted → (s' ≡ s) ⊎ Safe
+    stream_survives takes gains = inr (collected left (lines takes.0.came) (all_read fills s s' takes.0.came takes.0.reads) takes.0.done gains)
 
     pub until_survives : (e : JournalFault) → JournalsUntil fills s s' sink sink' mended j' held left e → (s' ≡ s) ⊎ Safe
     until_survives (journal.Lines collect.Read) h = inr (collected left (ended_lines h.0.0.came) (first_read fills s s' h.0.0.came h.0.0.reads.reads) h.0.0.done h.1)

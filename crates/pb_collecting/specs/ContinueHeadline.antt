@@ -16,7 +16,7 @@ use Rattle.pb_accepted.specs.Replies.{replies}
 use Rattle.pb_accepted.specs.Rules.{CountingRules}
 use Rattle.pb_saved.specs.Loading.{Loads}
 use Rattle.pb_collecting.specs.Headline.{Effect}
-use Rattle.pb_collecting.specs.Taking.{ledger_of}
+use Rattle.pb_collecting.specs.Runs.{ledger_of}
 
 -- The games of the saved ledger were held first, the lines of the submissions were answered from there, and this ledger is left; the
 -- replies were put in order, and the entries are the book of the games that are held then.

@@ -5,10 +5,9 @@ pub mod ExportRun
 pub mod Headline
 pub mod JournalHeadline
 pub mod JournalInto
-pub mod JournalRun
 pub mod Keeping
 pub mod Laws
 pub mod OneText
+pub mod Opening
 pub mod Place
 pub mod Runs
-pub mod Taking

@@ -1,40 +1,35 @@
 -- How runs end that take submissions: one form for all, by what comes before the submissions and what is made of them. Below, `t`
 -- and `t'` are the states of the table's source before and after, `v` and `v'` those of a saved ledger or a journal, `s` and `s'`
 -- those of the submissions.
-use Rattle.std.specs.Prelude.{◌≡◌, ◌⊎◌, ℕ, All, Bool, false, true, List, Option, Some, None, Result, Ok, Err, take}
+use Rattle.std.specs.Prelude.{◌≡◌, ◌⊎◌, ℕ, All, Bool, false, true, List, [], Option, Some, None, Result, Ok, Err, take}
 use Rattle.std.specs.Io.KnownBytes.{Appends}
 use Rattle.pb_io.specs.LineTask.{AtEnd}
 use Rattle.pb_io.specs.Sink.{SinkState}
 use Rattle.pb_io.specs.Source.{SourceState}
+use Rattle.pb_io.specs.declared.fault.Fault.{Fault}
+use Rattle.pb_io.specs.declared.fault.Fault.TheVariants.{Write, Memory}
 use Rattle.pb_poly.specs.Book.{NeverFall}
 use Rattle.pb_poly.specs.Entry.{IsEntry}
 use Rattle.pb_poly.specs.TableReading.{ReadsTable}
 use Rattle.pb_poly.specs.declared.entry.Entry.{Entry}
 use Rattle.pb_poly.specs.declared.table_file.TableFault.{TableFault}
+use Rattle.pb_games.specs.Submissions.{Submission}
 use Rattle.pb_accepted.specs.Counting.{IsBook}
+use Rattle.pb_accepted.specs.Holding.{most_games}
 use Rattle.pb_accepted.specs.Ledger.{LedgerState}
 use Rattle.pb_accepted.specs.Rules.{CountingRules}
-use Rattle.pb_export.specs.Exporting.{ExportLines, ExportsUntil, text_of_lines}
+use Rattle.pb_export.specs.Exporting.{ExportLines, ExportsUntil, fault_of_export, text_of_lines}
 use Rattle.pb_export.specs.declared.exporting.ExportFault.{ExportFault}
-use Rattle.pb_ledger.specs.Collecting.{Collects, CollectsUntil}
-use Rattle.pb_ledger.specs.Journaling.{Gains, JournalsUntil}
-use Rattle.pb_ledger.specs.declared.collecting.CollectFault.{CollectFault}
-use Rattle.pb_ledger.specs.declared.journaling.JournalFault.{JournalFault}
 use Rattle.pb_saved.specs.Loading.{Loads, LoadsUntil}
-use Rattle.pb_saved.specs.declared.loading.LoadError.{LoadError}
 use Rattle.pb_saved.specs.Replaying.{ReplaysAll, ReplaysUntil}
-use Rattle.pb_saved.specs.declared.replaying.ReplayError.{ReplayError}
+use Rattle.pb_saved.specs.declared.loading.LoadError.{LoadError}
+use Rattle.pb_ledger.specs.Collecting.{Collects, CollectsUntil}
+use Rattle.pb_ledger.specs.Journaling.{Gains, JournalsUntil, fault_of_journal}
+use Rattle.pb_ledger.specs.declared.journaling.JournalFault.{JournalFault}
 use Rattle.pb_commands.specs.Judged.{HandedOnOnce, Verdict}
 use Rattle.pb_commands.specs.TableJudged.{table_verdict}
-use Rattle.pb_io.specs.declared.fault.Fault.{Fault}
-use Rattle.pb_io.specs.declared.fault.Fault.TheVariants.{Write, Memory}
-use Rattle.pb_games.specs.Submissions.{Submission}
 use Rattle.pb_collecting.specs.Continuing.{saved_verdict}
 use Rattle.pb_collecting.specs.declared.continuing.Continued.{Continued}
-use Rattle.pb_collecting.specs.ExportRun.{fault_of_export}
-use Rattle.pb_collecting.specs.JournalRun.{fault_of_journal, fault_of_replay}
-use Rattle.pb_collecting.specs.Taking.{fault_of, ledger_of, new_ledger}
-use Rattle.pb_accepted.specs.Holding.{most_games}
 
 -- A run begins with `first`, which leaves an M, and goes on from there to an X or a fault. Or nothing was begun: `judges` says
 -- what comes of that, a line that is put, or a fault, and then nothing is.
@@ -63,26 +58,62 @@ OnlyOk holds (Err fault) = ⊥
 
 -- ---- steps
 
--- the table was read, and this is a ledger of its random numbers without games; or there is no table, and this comes of it
-abbrev pub TakesTable : CountingRules → ℕ → SourceState → SourceState → LedgerState → Type 0
-TakesTable rules fills t t' ledger =
-    (randoms : List ℕ) × ReadsTable fills t t' (Ok randoms) × (ledger ≡ new_ledger rules randoms)
+-- a ledger of a table with these random numbers, and with these games
+abbrev pub ledger_of : CountingRules → List ℕ → List Submission → LedgerState
+ledger_of rules randoms held = record { basis = record { words = randoms; rules = rules }; cap = most_games; accepted = held }
 
-abbrev pub LacksTable : ℕ → SourceState → SourceState → Verdict → Type 0
-LacksTable fills t t' verdict = (e : TableFault) × ReadsTable fills t t' (Err e) × (verdict ≡ table_verdict e)
+-- the same without games
+abbrev pub new_ledger : CountingRules → List ℕ → LedgerState
+new_ledger rules randoms = ledger_of rules randoms []
+
+-- the table was read, and this is a ledger of its random numbers without games; or there is no table, and this comes of it
+pub record TakesTable (rules : CountingRules) (fills : ℕ) (t t' : SourceState) (ledger : LedgerState) : Type 0 where
+  pub randoms : List ℕ
+  pub table : ReadsTable fills t t' (Ok randoms)
+  pub is : ledger ≡ new_ledger rules randoms
+
+pub record LacksTable (fills : ℕ) (t t' : SourceState) (verdict : Verdict) : Type 0 where
+  pub cause : TableFault
+  pub found : ReadsTable fills t t' (Err cause)
+  pub is : verdict ≡ table_verdict cause
+
+-- the table was read, and all lines of the saved ledger were loaded into a ledger of its random numbers, which is this one; or it wasn't
+-- loaded for this reason
+pub record LoadsFirst (rules : CountingRules) (fills : ℕ) (t t' v v' : SourceState) (loaded : LedgerState) : Type 0 where
+  pub randoms : List ℕ
+  pub table : ReadsTable fills t t' (Ok randoms)
+  pub held : List Submission
+  pub loads : AtEnd fills v v' (λ ls. Loads most_games ls held)
+  pub is : loaded ≡ ledger_of rules randoms held
+
+pub record LoadsNot (rules : CountingRules) (fills : ℕ) (t t' v v' : SourceState) (e : LoadError) : Type 0 where
+  pub randoms : List ℕ
+  pub table : ReadsTable fills t t' (Ok randoms)
+  pub left : LedgerState
+  pub until : LoadsUntil fills v v' (new_ledger rules randoms) left e
+
+-- the table was read, and the journal was replayed into a ledger of its random numbers, and its end mended; or it wasn't replayed for this
+-- reason
+pub record ReplaysFirst (rules : CountingRules) (fills : ℕ) (t t' v v' : SourceState) (j j' : SinkState) (held : LedgerState) : Type 0 where
+  pub randoms : List ℕ
+  pub table : ReadsTable fills t t' (Ok randoms)
+  pub replays : ReplaysAll fills v v' j j' (new_ledger rules randoms) held
+  pub is : held ≡ ledger_of rules randoms held.accepted
+
+pub record ReplaysNot (rules : CountingRules) (fills : ℕ) (t t' v v' : SourceState) (j j' : SinkState) (fault : Fault) : Type 0 where
+  pub randoms : List ℕ
+  pub table : ReadsTable fills t t' (Ok randoms)
+  pub left : LedgerState
+  pub until : ReplaysUntil fills v v' j j' (new_ledger rules randoms) left fault
 
 -- all submissions were taken and answered from one ledger to the other, and the replies handed on; or that broke off
 abbrev pub Takes : ℕ → SourceState → SourceState → SinkState → SinkState → LedgerState → LedgerState → Type 0
 Takes fills s s' sink sink' ledger left =
     AtEnd fills s s' (Collects sink sink' ledger left) × HandedOnOnce sink sink'
 
-abbrev pub BreaksOffAt : ℕ → SourceState → SourceState → SinkState → SinkState → LedgerState → LedgerState → Fault → Type 0
-BreaksOffAt fills s s' sink sink' ledger left fault =
-    (e : CollectFault) × CollectsUntil fills s s' sink sink' ledger left e × (fault ≡ fault_of e)
-
 abbrev pub BreaksOff : ℕ → SourceState → SourceState → SinkState → SinkState → LedgerState → Fault → Type 0
 BreaksOff fills s s' sink sink' ledger fault =
-    (left : LedgerState) × BreaksOffAt fills s s' sink sink' ledger left fault
+    (left : LedgerState) × CollectsUntil fills s s' sink sink' ledger left fault
 
 -- ---- runs
 
@@ -97,15 +128,12 @@ CollectRun rules fills t t' s s' sink sink' = RunEnds (TakesTable rules fills t 
 -- a run that goes on from a saved ledger, and gives its own with the book, or with the fault that came
 abbrev pub ContinueRun : CountingRules → ℕ → SourceState → SourceState → SourceState → SourceState
     → SourceState → SourceState → SinkState → SinkState → Result (Option Continued) Fault → Type 0
-ContinueRun rules fills t t' v v' s s' sink sink' = RunEnds
-    (λ loaded. (randoms : List ℕ) × (held : List Submission) × ReadsTable fills t t' (Ok randoms)
-    × AtEnd fills v v' (λ ls. Loads most_games ls held) × (loaded ≡ ledger_of rules randoms held))
+ContinueRun rules fills t t' v v' s s' sink sink' = RunEnds (LoadsFirst rules fills t t' v v')
     (λ verdict. (LacksTable fills t t' verdict × (v' ≡ v) × (s' ≡ s))
-    ⊎ ((randoms : List ℕ) × (left : LedgerState) × (e : LoadError) × ReadsTable fills t t' (Ok randoms)
-    × LoadsUntil fills v v' (new_ledger rules randoms) left e × (verdict ≡ saved_verdict e) × (s' ≡ s)))
+    ⊎ ((e : LoadError) × LoadsNot rules fills t t' v v' e × (verdict ≡ saved_verdict e) × (s' ≡ s)))
     (λ loaded. OnlyOk (λ run. MakesBook
     (λ left. Takes fills s s' sink sink' loaded left × (left ≡ run.ledger))
-    (BreaksOffAt fills s s' sink sink' loaded run.ledger) run.book))
+    (CollectsUntil fills s s' sink sink' loaded run.ledger) run.book))
     sink sink'
 
 -- A run with a journal, whose sink's states are `j` and `j'`: what is left first is a ledger of the journal's games, and the
@@ -113,11 +141,9 @@ ContinueRun rules fills t t' v v' s s' sink sink' = RunEnds
 abbrev pub JournalRun : CountingRules → ℕ → SourceState → SourceState → SourceState → SourceState → SourceState → SourceState
     → SinkState → SinkState → SinkState → SinkState → Result (Option (List Entry)) Fault → Type 0
 JournalRun rules fills t t' v v' s s' j j' sink sink' = RunEnds {M = LedgerState × SinkState}
-    (λ m. (randoms : List ℕ) × ReadsTable fills t t' (Ok randoms)
-    × ReplaysAll fills v v' j m.1 (new_ledger rules randoms) m.0 × (m.0 ≡ ledger_of rules randoms m.0.accepted))
+    (λ m. ReplaysFirst rules fills t t' v v' j m.1 m.0)
     (λ verdict. (LacksTable fills t t' verdict × (v' ≡ v) × (j' ≡ j) × (s' ≡ s))
-    ⊎ ((randoms : List ℕ) × (left : LedgerState) × (e : ReplayError) × ReadsTable fills t t' (Ok randoms)
-    × ReplaysUntil fills v v' j j' (new_ledger rules randoms) left e × (verdict ≡ Err (fault_of_replay e)) × (s' ≡ s)))
+    ⊎ ((fault : Fault) × ReplaysNot rules fills t t' v v' j j' fault × (verdict ≡ Err fault) × (s' ≡ s)))
     (λ m. MakesBook (λ left. Takes fills s s' sink sink' m.0 left × Gains m.1 j' m.0.accepted left.accepted)
     (λ fault. (e : JournalFault) × (left : LedgerState)
     × JournalsUntil fills s s' sink sink' m.1 j' m.0 left e × (fault ≡ fault_of_journal e)))

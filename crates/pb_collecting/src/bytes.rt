@@ -6,8 +6,7 @@ ghost use Rattle.pb_io.specs.declared.fault.Fault.TheVariants.{Endless, Memory};
 ghost use Rattle.pb_collecting.specs.Headline.{Headline};
 
 use crate::collect::run_collect;
-use pb_commands::Fault;
-use pb_io::{CHUNK_LEN, MemSink, MemSource};
+use pb_io::{CHUNK_LEN, Fault, MemSink, MemSource};
 use pb_ledger::Rules;
 use pb_poly::Book;
 use std::alloc::Global;

@@ -1,16 +1,12 @@
 //! The command `collect`: submissions are answered, and the book of the games that are held then is made.
-ghost use Rattle.std.specs.Prelude.{ℕ, IfOk, IfSome};
-ghost use Rattle.pb_io.specs.Source.{SourceState};
-ghost use Rattle.pb_io.specs.Sink.{SinkState};
-ghost use Rattle.pb_accepted.specs.Rules.{CountingRules};
+ghost use Rattle.std.specs.Prelude.{IfOk, IfSome};
 ghost use Rattle.pb_collecting.specs.Headline.{HasHeadline};
 ghost use Rattle.pb_collecting.specs.Runs.{CollectRun};
-ghost use Rattle.pb_collecting.specs.Taking.{FillsLedger};
 
-use crate::taking::{refuse_games, take_games};
-use pb_commands::Fault;
-use pb_ledger::{Ledger, MapTally, Rules};
-use pb_poly::{Book, Sink, Source};
+use crate::run::{finish, open};
+use pb_io::{Fault, NullSink, Sink, Source};
+use pb_ledger::Rules;
+use pb_poly::Book;
 use std::alloc::Global;
 
 /// Takes submission lines, puts the reply to each, and makes the opening book of the games that are held at the end: at most
@@ -45,42 +41,10 @@ pub fn run_collect<T: Source, S: Source, K: Sink>(
 {
     // The reader tells that the numbers lie in their ranges.
     let _plies = rules.plies();
-    collect_submissions(alloc, rules, table_source, source, sink, fills)
-}
-
-/// The same, of which one clause says how it ends.
-pub(crate) fn collect_submissions<T: Source, S: Source, K: Sink>(
-    alloc: Global,
-    rules: Rules,
-    table_source: &mut T,
-    source: &mut S,
-    sink: &mut K,
-    fills: u32,
-) -> Result<Option<Book>, Fault>
-    ensures { CollectRun rules fills
-        (T.state table_source.old) (T.state table_source.new) (S.state source.old) (S.state source.new)
-        (K.state sink.old) (K.state sink.new) result }
-{
-    match take_games(alloc, rules, table_source, source, sink, fills) {
-        Ok(ledger) => book_of(alloc, &ledger),
-        Err(why) => {
-            refuse_games(sink, why)?;
-            Ok(None)
-        }
-    }
-}
-
-/// Makes the book of the games that were taken.
-fn book_of(alloc: Global, ledger: &Ledger<MapTally>) -> Result<Option<Book>, Fault>
-    // Whatever submissions were taken, the run ends so.
-    ensures { (rules : CountingRules) (fills : ℕ) (t t' s s' : SourceState) (sink sink' : SinkState)
-        → FillsLedger rules fills t t' s s' sink sink' ledger.now
-        → CollectRun rules fills t t' s s' sink sink' result }
-{
-    let Ok(book) = ledger.make_book(alloc) else {
-        return Err(Fault::Memory);
+    let Some(mut ledger) = open(alloc, rules, table_source, sink, fills)? else {
+        return Ok(None);
     };
-    // The proof reads from this use that the keys never fall.
-    let _ = book.entries();
+    let mut no_journal = NullSink::default();
+    let book = finish(alloc, source, sink, &mut no_journal, &mut ledger, fills)?;
     Ok(Some(book))
 }

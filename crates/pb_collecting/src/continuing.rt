@@ -3,13 +3,14 @@
 ghost use Rattle.std.specs.Prelude.{◌≡◌, IfOk, IfSome};
 ghost use Rattle.pb_commands.specs.Judged.{PutsOrEnds};
 ghost use Rattle.pb_collecting.specs.ContinueHeadline.{HasHeadlineOfBoth};
-ghost use Rattle.pb_collecting.specs.Continuing.{GoesOn, LoadsOrStops, saved_verdict, verdict_of};
+ghost use Rattle.pb_collecting.specs.Continuing.{saved_verdict};
 ghost use Rattle.pb_collecting.specs.Runs.{ContinueRun};
 
-use crate::taking::{collect_fault, empty_ledger};
-use pb_commands::{Fault, TableFault, refuse_table, refuse_with};
-use pb_ledger::{Ledger, LoadError, MapTally, Rules, collect, load};
-use pb_poly::{Book, Sink, Source};
+use crate::run::{finish, open};
+use pb_commands::refuse_with;
+use pb_io::{Fault, NullSink, Sink, Source};
+use pb_ledger::{Ledger, LoadError, MapTally, Rules, load};
+use pb_poly::Book;
 use std::alloc::Global;
 
 /// A run that went on from a saved ledger.
@@ -19,15 +20,6 @@ pub struct Continued {
     pub ledger: Ledger<MapTally>,
     /// The book of these games; or the fault that ended the run, and then the ledger holds what the lines so far brought.
     pub book: Result<Book, Fault>,
-}
-
-/// Why no submission was read.
-#[derive(Clone, Copy)]
-enum NoLedger {
-    /// There is no table, or there was no memory for a ledger.
-    Table(TableFault),
-    /// The saved ledger was not loaded.
-    Saved(LoadError),
 }
 
 /// Goes on from a saved ledger: its games are held from the start, submission lines are taken, the
@@ -63,65 +55,19 @@ pub fn run_continue<T: Source, V: Source, S: Source, K: Sink>(
         (T.state table_source.old) (T.state table_source.new) (V.state saved.old) (V.state saved.new)
         (S.state source.old) (S.state source.new) (K.state sink.old) (K.state sink.new) run.ledger))) }
 {
-    continue_from(alloc, rules, table_source, saved, source, sink, fills)
-}
-
-/// The same, of which one clause says how it ends.
-fn continue_from<T: Source, V: Source, S: Source, K: Sink>(
-    alloc: Global,
-    rules: Rules,
-    table_source: &mut T,
-    saved: &mut V,
-    source: &mut S,
-    sink: &mut K,
-    fills: u32,
-) -> Result<Option<Continued>, Fault>
-    ensures { ContinueRun rules fills
-        (T.state table_source.old) (T.state table_source.new) (V.state saved.old) (V.state saved.new)
-        (S.state source.old) (S.state source.new) (K.state sink.old) (K.state sink.new) result }
-{
-    let mut ledger = match load_games(alloc, rules, table_source, saved, fills) {
-        Ok(ledger) => ledger,
-        Err(why) => {
-            refuse_saved(sink, why)?;
-            return Ok(None);
-        }
+    let Some(mut ledger) = open(alloc, rules, table_source, sink, fills)? else {
+        return Ok(None);
     };
-    let book = go_on(alloc, &mut ledger, source, sink, fills);
+    if let Err(error) = load(alloc, saved, &mut ledger, fills) {
+        refuse_ledger(sink, error)?;
+        return Ok(None);
+    }
+    let mut no_journal = NullSink::default();
+    let book = finish(alloc, source, sink, &mut no_journal, &mut ledger, fills);
     Ok(Some(Continued { ledger, book }))
 }
 
-/// Reads the table, then loads the saved ledger into a new ledger of these rules.
-fn load_games<T: Source, V: Source>(
-    alloc: Global,
-    rules: Rules,
-    table_source: &mut T,
-    saved: &mut V,
-    fills: u32,
-) -> Result<Ledger<MapTally>, NoLedger>
-    ensures { LoadsOrStops rules fills (T.state table_source.old) (T.state table_source.new) (V.state saved.old) (V.state saved.new) result }
-{
-    let mut ledger = match empty_ledger(alloc, rules, table_source, fills) {
-        Ok(ledger) => ledger,
-        Err(error) => return Err(NoLedger::Table(error)),
-    };
-    match load(alloc, saved, &mut ledger, fills) {
-        Ok(_) => Ok(ledger),
-        Err(error) => Err(NoLedger::Saved(error)),
-    }
-}
-
-/// Shows why the table or the saved ledger is refused and answers false, or puts nothing and answers the fault that ended its reading.
-fn refuse_saved<K: Sink>(sink: &mut K, why: NoLedger) -> Result<bool, Fault>
-    ensures { PutsOrEnds (λ verdict. verdict ≡ verdict_of why) (K.state sink.old) (K.state sink.new) result }
-{
-    match why {
-        NoLedger::Table(error) => refuse_table(sink, error),
-        NoLedger::Saved(error) => refuse_ledger(sink, error),
-    }
-}
-
-/// The same of a saved ledger.
+/// Shows that the saved ledger is refused and answers false, or puts nothing and answers the fault that ended its reading.
 fn refuse_ledger<K: Sink>(sink: &mut K, error: LoadError) -> Result<bool, Fault>
     ensures { PutsOrEnds (λ verdict. verdict ≡ saved_verdict error) (K.state sink.old) (K.state sink.new) result }
 {
@@ -131,25 +77,4 @@ fn refuse_ledger<K: Sink>(sink: &mut K, error: LoadError) -> Result<bool, Fault>
         LoadError::Endless => Err(Fault::Endless),
         LoadError::Memory => Err(Fault::Memory),
     }
-}
-
-/// Takes the submissions into a ledger that may hold games, and makes the book of all that it holds then.
-fn go_on<S: Source, K: Sink>(
-    alloc: Global,
-    ledger: &mut Ledger<MapTally>,
-    source: &mut S,
-    sink: &mut K,
-    fills: u32,
-) -> Result<Book, Fault>
-    ensures { GoesOn fills (S.state source.old) (S.state source.new) (K.state sink.old) (K.state sink.new) ledger.old ledger.new result }
-{
-    if let Err(fault) = collect(alloc, source, sink, ledger, fills) {
-        return Err(collect_fault(fault));
-    }
-    let Ok(book) = ledger.make_book(alloc) else {
-        return Err(Fault::Memory);
-    };
-    // The proof reads from this use that the keys never fall.
-    let _ = book.entries();
-    Ok(book)
 }

@@ -10,9 +10,8 @@ ghost use Rattle.pb_collecting.specs.Runs.{ContinueRun};
 
 use crate::continuing::{Continued, run_continue};
 use crate::place::{NotKept, Place};
-use pb_commands::Fault;
+use pb_io::{Fault, Sink, Source};
 use pb_ledger::Rules;
-use pb_poly::{Sink, Source};
 use std::alloc::Global;
 use thiserror::Error;
 

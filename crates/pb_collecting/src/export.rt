@@ -1,53 +1,12 @@
 //! The command `export`: the book of submissions as EPD lines.
-ghost use Rattle.std.specs.Prelude.{◌≡◌, ℕ, IfErr, None, false};
-ghost use Rattle.pb_io.specs.Source.{SourceState};
-ghost use Rattle.pb_io.specs.Sink.{SinkState};
-ghost use Rattle.pb_accepted.specs.Rules.{CountingRules};
-ghost use Rattle.pb_collecting.specs.ExportRun.{BlamesSink, fault_of_export};
+ghost use Rattle.std.specs.Prelude.{IfErr};
+ghost use Rattle.pb_collecting.specs.ExportRun.{BlamesSink};
 ghost use Rattle.pb_collecting.specs.Runs.{ExportRun, SilentExportRun};
-ghost use Rattle.pb_collecting.specs.Taking.{FillsLedger};
 
-use crate::taking::{refuse_games, take_games};
-use pb_commands::Fault;
-use pb_ledger::{ExportFault, Ledger, MapTally, Rules, export};
-use pb_poly::{Failed, Sink, Source};
+use crate::run::open;
+use pb_io::{Fault, NullSink, Sink, Source};
+use pb_ledger::{Rules, collect, export};
 use std::alloc::Global;
-
-/// A sink that drops what is put. It never fails.
-#[derive(Default, Drop)]
-struct Dropped {
-    flushed: bool,
-    flushes: u64,
-}
-
-impl Sink for Dropped {
-    ghost state = { λ s. record { bytes = None; lasting = None; failed = false; flushed = s.flushed; flushes = s.flushes } };
-
-    fn put(&mut self, _bytes: &[u8]) -> Result<(), Failed> {
-        self.flushed = false;
-        Ok(())
-    }
-
-    fn flush(&mut self) -> Result<(), Failed> {
-        self.flushed = true;
-        self.flushes = self.flushes.saturating_add(1);
-        Ok(())
-    }
-
-    fn failed(&self) -> bool {
-        false
-    }
-}
-
-/// What a fault of exporting is to the run.
-fn export_fault(fault: ExportFault) -> Fault
-    ensures { result ≡ fault_of_export fault }
-{
-    match fault {
-        ExportFault::Write => Fault::Write,
-        ExportFault::Memory => Fault::Memory,
-    }
-}
 
 /// Takes submission lines and puts the opening book of the games that are held at the end, at most
 /// 1,000,000, as EPD lines: for each setup before a move of a game, also past the plies that count by
@@ -77,7 +36,7 @@ pub fn run_export<T: Source, S: Source, K: Sink>(
     // The sink is blamed only where it has failed, and always where it has failed since.
     ensures blame { IfErr result (BlamesSink (K.state sink.old) (K.state sink.new)) }
 {
-    let mut replies = Dropped::default();
+    let mut replies = NullSink::default();
     export_submissions(
         alloc,
         rules,
@@ -108,25 +67,10 @@ pub fn export_submissions<T: Source, S: Source, D: Sink, K: Sink>(
         (T.state table_source.old) (T.state table_source.new) (S.state source.old) (S.state source.new)
         (D.state replies.old) (D.state replies.new) (K.state sink.old) (K.state sink.new) result }
 {
-    match take_games(alloc, rules, table_source, source, replies, fills) {
-        Ok(ledger) => export_games(alloc, &ledger, sink),
-        Err(why) => refuse_games(sink, why),
-    }
-}
-
-/// Puts the export of the games that were taken.
-fn export_games<K: Sink>(
-    alloc: Global,
-    ledger: &Ledger<MapTally>,
-    sink: &mut K,
-) -> Result<bool, Fault>
-    // Whatever submissions were taken, the run ends so.
-    ensures { (rules : CountingRules) (fills : ℕ) (t t' s s' : SourceState) (d d' : SinkState)
-        → FillsLedger rules fills t t' s s' d d' ledger.now
-        → ExportRun rules fills t t' s s' d d' (K.state sink.old) (K.state sink.new) result }
-{
-    match export(alloc, ledger, sink) {
-        Ok(_) => Ok(true),
-        Err(fault) => Err(export_fault(fault)),
-    }
+    let Some(mut ledger) = open(alloc, rules, table_source, sink, fills)? else {
+        return Ok(false);
+    };
+    collect(alloc, source, replies, &mut ledger, fills)?;
+    export(alloc, &ledger, sink)?;
+    Ok(true)
 }

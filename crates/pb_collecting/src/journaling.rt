@@ -1,33 +1,17 @@
 //! The command `collect` with a journal.
 
 ghost use Rattle.std.specs.Prelude.{◌≡◌, ◌⊎◌, ℕ, IfOk, IfSome, List};
-ghost use Rattle.pb_io.specs.Source.{HandsOut, SourceState};
-ghost use Rattle.pb_io.specs.Sink.{AllLasts, SinkState};
-ghost use Rattle.pb_accepted.specs.Rules.{CountingRules};
+ghost use Rattle.pb_io.specs.Source.{HandsOut};
+ghost use Rattle.pb_io.specs.Sink.{AllLasts};
 ghost use Rattle.pb_collecting.specs.JournalHeadline.{HasHeadlineOfJournal, Outlives, Survives};
-ghost use Rattle.pb_collecting.specs.JournalRun.{
-  ReplaysFirst,
-  ReplaysOrStops,
-  fault_of_journal,
-  fault_of_replay,
-};
 ghost use Rattle.pb_collecting.specs.Runs.{JournalRun};
 
-use crate::taking::{collect_fault, empty_ledger};
-use pb_commands::{Fault, TableFault, refuse_table};
-use pb_ledger::{JournalFault, Ledger, MapTally, Rules, collect_journaled};
-use pb_poly::{Book, Sink, Source};
-use pb_saved::{PassedLines, ReplayError, replay};
+use crate::run::{finish, open};
+use pb_io::{Fault, Sink, Source};
+use pb_ledger::Rules;
+use pb_poly::Book;
+use pb_saved::{PassedLines, replay};
 use std::alloc::Global;
-
-/// Why no submission was read.
-#[derive(Clone, Copy)]
-enum NoJournal {
-    /// There is no table, or there was no memory for a ledger.
-    Table(TableFault),
-    /// The journal was not replayed.
-    Replay(ReplayError),
-}
 
 /// Takes submission lines as `run_collect` does, from the games of a journal on, and puts the line of
 /// each game that is new on the journal, and hands it on, before its reply is put: so no game that was
@@ -83,113 +67,10 @@ pub fn run_journaled<T: Source, V: Source, J: Sink, W: PassedLines, S: Source, K
         × Outlives bytes (S.state source.old) (S.state source.new) (J.state journal.old) (J.state journal.new)
         (K.state sink.old) (K.state sink.new)) }
 {
-    journal_submissions(
-        alloc,
-        rules,
-        table_source,
-        kept,
-        journal,
-        passed,
-        source,
-        sink,
-        fills,
-    )
-}
-
-/// The same, of which one clause says how it ends.
-fn journal_submissions<T: Source, V: Source, J: Sink, W: PassedLines, S: Source, K: Sink>(
-    alloc: Global,
-    rules: Rules,
-    table_source: &mut T,
-    kept: &mut V,
-    journal: &mut J,
-    passed: &mut W,
-    source: &mut S,
-    sink: &mut K,
-    fills: u32,
-) -> Result<Option<Book>, Fault>
-    ensures { JournalRun rules fills
-        (T.state table_source.old) (T.state table_source.new) (V.state kept.old) (V.state kept.new)
-        (S.state source.old) (S.state source.new) (J.state journal.old) (J.state journal.new)
-        (K.state sink.old) (K.state sink.new) result }
-{
-    match replay_games(alloc, rules, table_source, kept, journal, passed, fills) {
-        Ok(mut ledger) => go_on(alloc, &mut ledger, journal, source, sink, fills),
-        Err(NoJournal::Table(error)) => {
-            refuse_table(sink, error)?;
-            Ok(None)
-        }
-        Err(NoJournal::Replay(error)) => Err(replay_fault(error)),
-    }
-}
-
-/// Takes the submissions into the ledger that holds the journal's games, and makes the book of all that it holds then.
-fn go_on<J: Sink, S: Source, K: Sink>(
-    alloc: Global,
-    ledger: &mut Ledger<MapTally>,
-    journal: &mut J,
-    source: &mut S,
-    sink: &mut K,
-    fills: u32,
-) -> Result<Option<Book>, Fault>
-    // Whatever journal was replayed, the run ends so.
-    ensures { (rules : CountingRules) (t t' v v' : SourceState) (j : SinkState)
-        → ReplaysFirst rules fills t t' v v' j (J.state journal.old) ledger.old
-        → JournalRun rules fills t t' v v' (S.state source.old) (S.state source.new)
-        j (J.state journal.new) (K.state sink.old) (K.state sink.new) result }
-{
-    if let Err(fault) = collect_journaled(alloc, source, sink, journal, ledger, fills) {
-        return Err(journal_fault(fault));
-    }
-    let Ok(book) = ledger.make_book(alloc) else {
-        return Err(Fault::Memory);
+    let Some(mut ledger) = open(alloc, rules, table_source, sink, fills)? else {
+        return Ok(None);
     };
-    // The proof reads from this use that the keys never fall.
-    let _ = book.entries();
+    replay(alloc, kept, journal, &mut ledger, passed, fills)?;
+    let book = finish(alloc, source, sink, journal, &mut ledger, fills)?;
     Ok(Some(book))
-}
-
-/// Reads the table, then replays the journal into a new ledger of these rules.
-fn replay_games<T: Source, V: Source, J: Sink, W: PassedLines>(
-    alloc: Global,
-    rules: Rules,
-    table_source: &mut T,
-    kept: &mut V,
-    journal: &mut J,
-    passed: &mut W,
-    fills: u32,
-) -> Result<Ledger<MapTally>, NoJournal>
-    ensures { ReplaysOrStops rules fills (T.state table_source.old) (T.state table_source.new) (V.state kept.old) (V.state kept.new)
-        (J.state journal.old) (J.state journal.new) result }
-{
-    let mut ledger = match empty_ledger(alloc, rules, table_source, fills) {
-        Ok(ledger) => ledger,
-        Err(error) => return Err(NoJournal::Table(error)),
-    };
-    match replay(alloc, kept, journal, &mut ledger, passed, fills) {
-        Ok(()) => Ok(ledger),
-        Err(error) => Err(NoJournal::Replay(error)),
-    }
-}
-
-/// What a fault of the replay is to the run.
-fn replay_fault(error: ReplayError) -> Fault
-    ensures { result ≡ fault_of_replay error }
-{
-    match error {
-        ReplayError::Read => Fault::Read,
-        ReplayError::Write => Fault::Write,
-        ReplayError::Endless => Fault::Endless,
-        ReplayError::Memory => Fault::Memory,
-    }
-}
-
-/// What a fault of taking the submissions is to the run.
-fn journal_fault(fault: JournalFault) -> Fault
-    ensures { result ≡ fault_of_journal fault }
-{
-    match fault {
-        JournalFault::Lines(fault) => collect_fault(fault),
-        JournalFault::Journal => Fault::Write,
-    }
 }

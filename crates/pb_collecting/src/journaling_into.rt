@@ -9,8 +9,8 @@ ghost use Rattle.pb_collecting.specs.JournalInto.{JournalsInto};
 use crate::journaling::run_journaled;
 use crate::keeping::NoBook;
 use crate::place::Place;
+use pb_io::{Sink, Source};
 use pb_ledger::Rules;
-use pb_poly::{Sink, Source};
 use pb_saved::PassedLines;
 use std::alloc::Global;
 

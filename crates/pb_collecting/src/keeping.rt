@@ -1,13 +1,11 @@
 //! The command `collect` up to the place where its book is kept.
 
-ghost use Rattle.std.specs.Prelude.{◌≡◌, IfErr, IfOk, Ok, false, true};
-ghost use Rattle.pb_collecting.specs.Keeping.{EndsKeeping, KeepsBook, KeepsOrEnds, RefusesBook};
+ghost use Rattle.pb_collecting.specs.Keeping.{KeepsOrEnds};
 
-use crate::collect::collect_submissions;
+use crate::collect::run_collect;
 use crate::place::{NotKept, Place};
-use pb_commands::Fault;
+use pb_io::{Fault, Sink, Source};
 use pb_ledger::Rules;
-use pb_poly::{Sink, Source};
 use std::alloc::Global;
 use thiserror::Error;
 
@@ -39,35 +37,12 @@ pub fn collect_into<T: Source, S: Source, K: Sink, P: Place>(
     place: &mut P,
     fills: u32,
 ) -> Result<bool, NoBook>
-    // Where the answer is true, the place holds the bytes of the book of the games that are held, and all that is promised of it is so.
-    ensures kept { IfOk result (λ kept. kept ≡ true → KeepsBook rules fills (T.state table_source.old) (T.state table_source.new)
-        (S.state source.old) (S.state source.new) (K.state sink.old) (K.state sink.new) (P.state place.old) (P.state place.new) (Ok tt)) }
-    // Where it is false, the line that says why the table is refused was put.
-    ensures refused { IfOk result (λ kept. kept ≡ false → RefusesBook rules fills (T.state table_source.old) (T.state table_source.new)
-        (S.state source.old) (S.state source.new) (K.state sink.old) (K.state sink.new) (P.state place.old) (P.state place.new)) }
-    // What was done before a fault, where the fault lies, and what it leaves at the place.
-    ensures fault { IfErr result (EndsKeeping rules fills (T.state table_source.old) (T.state table_source.new)
-        (S.state source.old) (S.state source.new) (K.state sink.old) (K.state sink.new) (P.state place.old) (P.state place.new)) }
-{
-    collect_and_keep(alloc, rules, table_source, source, sink, place, fills)
-}
-
-/// The same, told in one clause.
-fn collect_and_keep<T: Source, S: Source, K: Sink, P: Place>(
-    alloc: Global,
-    rules: Rules,
-    table_source: &mut T,
-    source: &mut S,
-    sink: &mut K,
-    place: &mut P,
-    fills: u32,
-) -> Result<bool, NoBook>
+    // The place holds the bytes of the book of the games that are held, and all that is promised of it is so; or the line
+    // that refuses the table was put; or this was done before the fault, and this is left at the place.
     ensures { KeepsOrEnds rules fills (T.state table_source.old) (T.state table_source.new) (S.state source.old) (S.state source.new)
         (K.state sink.old) (K.state sink.new) (P.state place.old) (P.state place.new) result }
 {
-    // The reader tells that the numbers lie in their ranges.
-    let _plies = rules.plies();
-    let book = match collect_submissions(alloc, rules, table_source, source, sink, fills) {
+    let book = match run_collect(alloc, rules, table_source, source, sink, fills) {
         Ok(Some(book)) => book,
         Ok(None) => return Ok(false),
         Err(fault) => return Err(NoBook::Run(fault)),

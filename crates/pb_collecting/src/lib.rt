@@ -12,7 +12,7 @@ mod journaling_into;
 mod keeping;
 pub mod laws;
 mod place;
-mod taking;
+mod run;
 mod text;
 
 pub use bytes::collect_bytes;

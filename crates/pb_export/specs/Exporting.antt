@@ -14,6 +14,8 @@ use Rattle.pb_moves.specs.Spelling.{spelling}
 use Rattle.pb_poly.specs.Found.{Found}
 use Rattle.pb_io.specs.Count.{next_count}
 use Rattle.pb_io.specs.Sink.{AwaitsFlush, HandedOn, SinkState}
+use Rattle.pb_io.specs.declared.fault.Fault.{Fault}
+use Rattle.pb_io.specs.declared.fault.Fault.TheVariants as run
 use Rattle.pb_poly.specs.declared.entry.Entry.{Entry}
 use Rattle.pb_accepted.specs.Basis.{Basis}
 use Rattle.pb_accepted.specs.Counting.{IsBook}
@@ -93,3 +95,8 @@ pub record ExportsUntil (ledger : LedgerState) (sink sink' : SinkState) (e : Exp
   pub put : Appends sink.bytes sink'.bytes some
   pub front : (text : List ℕ) → ExportText ledger.basis ledger.accepted text → (rest : List ℕ) × (text ≡ some ++ rest)
   pub cause : FaultOf e sink sink'
+
+-- what a fault of exporting is to a run
+abbrev pub fault_of_export : ExportFault → Fault
+fault_of_export fault.Write = run.Write
+fault_of_export fault.Memory = run.Memory

@@ -1,7 +1,7 @@
 //! The book of a ledger as EPD lines.
 
 ghost use Rattle.std.specs.Prelude.{◌≡◌, ◌<◌, ◌^◌, All, IfErr, IfOk, List, length};
-ghost use Rattle.pb_export.specs.Exporting.{Exports, ExportsUntil};
+ghost use Rattle.pb_export.specs.Exporting.{Exports, ExportsUntil, fault_of_export};
 ghost use Rattle.pb_export.specs.Listing.{PutsFront, PutsListing};
 ghost use Rattle.pb_export.specs.Setups.{AreNamed, IsSetupText, Named, texts_of};
 ghost use Rattle.pb_export.specs.declared.exporting.ExportFault.TheVariants as fault;
@@ -9,8 +9,9 @@ ghost use Rattle.pb_export.specs.declared.exporting.ExportFault.TheVariants as f
 use crate::book_moves::line_of;
 use crate::setups::{SetupText, setup_of, setups_of};
 use pb_accepted::Ledger;
+use pb_io::{Failed, Fault, Sink};
 use pb_points::Tally;
-use pb_poly::{Book, Failed, Sink, Table};
+use pb_poly::{Book, Table};
 use std::alloc::{AllocError, Global};
 use thiserror::Error;
 
@@ -38,6 +39,17 @@ impl From<Failed> for ExportFault {
 
     fn from(_: Failed) -> ExportFault {
         ExportFault::Write
+    }
+}
+
+impl From<ExportFault> for Fault {
+    ghost from_gives = { λ fault gives. gives ≡ fault_of_export fault };
+
+    fn from(fault: ExportFault) -> Fault {
+        match fault {
+            ExportFault::Write => Fault::Write,
+            ExportFault::Memory => Fault::Memory,
+        }
     }
 }
 

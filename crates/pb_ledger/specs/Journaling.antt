@@ -12,6 +12,8 @@ use Rattle.pb_accepted.specs.Ledger.{LedgerState}
 use Rattle.pb_accepted.specs.Replies.{replies}
 use Rattle.pb_saved.specs.Journal.{GameLines}
 use Rattle.pb_ledger.specs.Collecting.{CollectsStream, CollectsUntil, Leads}
+use Rattle.pb_io.specs.declared.fault.Fault.{Fault}
+use Rattle.pb_io.specs.declared.fault.Fault.TheVariants.{Write}
 use Rattle.pb_ledger.specs.declared.journaling.JournalFault.{JournalFault}
 use Rattle.pb_ledger.specs.declared.journaling.JournalFault.TheVariants.{Journal, Lines}
 use Rattle.pb_ledger.specs.declared.totals.Totals.{Totals}
@@ -68,3 +70,8 @@ JournalsUntil fills source source' sink sink' journal journal' ledger ledger' (L
     CollectsUntil fills source source' sink sink' ledger ledger' e × Gains journal journal' ledger.accepted ledger'.accepted
 JournalsUntil fills source source' sink sink' journal journal' ledger ledger' Journal =
     AtLine fills source source' (CollectsUnkept sink sink' journal journal' ledger ledger') × AwaitsFlush sink sink' × (journal'.failed ≡ true)
+
+-- what a fault of journaling is to a run that tells only what kind of end has failed: a journal is written
+abbrev pub fault_of_journal : JournalFault → Fault
+fault_of_journal (Lines fault) = fault
+fault_of_journal Journal = Write

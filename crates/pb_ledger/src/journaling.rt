@@ -3,7 +3,7 @@
 ghost use Rattle.std.specs.Prelude.{◌≡◌, IfErr, IfOk};
 ghost use Rattle.pb_io.specs.Fault.{fault_of};
 ghost use Rattle.pb_io.specs.declared.fault.Fault.TheVariants.{Write};
-ghost use Rattle.pb_ledger.specs.Journaling.{JournalsStream, JournalsUntil};
+ghost use Rattle.pb_ledger.specs.Journaling.{JournalsStream, JournalsUntil, fault_of_journal};
 ghost use Rattle.pb_ledger.specs.declared.journaling.JournalFault.TheVariants.{Lines};
 
 use crate::collector::Collector;
@@ -39,6 +39,18 @@ impl From<Failed> for JournalFault {
 
     fn from(_: Failed) -> JournalFault {
         JournalFault::Lines(Fault::Write)
+    }
+}
+
+/// A journal is written as the replies are.
+impl From<JournalFault> for Fault {
+    ghost from_gives = { λ fault gives. gives ≡ fault_of_journal fault };
+
+    fn from(fault: JournalFault) -> Fault {
+        match fault {
+            JournalFault::Lines(fault) => fault,
+            JournalFault::Journal => Fault::Write,
+        }
     }
 }
 
