@@ -1,6 +1,5 @@
 -- From the lines that the loader took to what was loaded.
 use Rattle.std.proofs.Common.{if◌then◌else◌, ◌≡◌, ℕ, ◌+◌, ◌*◌, ◌^◌, ◌<◌, ◌≤◌, ◌⊎◌, Bool, true, false, List, [], ◌∷◌, ◌++◌, length, Result, Ok, Err, All, IsOk, IsTrue, OnOk, IfErr, refl, sym, ap, subst, ◌∙◌, inl, inr, arith}
-use Rattle.std.specs.Prelude.{IsErrAnd, MatchResult}
 use Rattle.std.specs.Borrow.{MutBor}
 use Rattle.std.proofs.lemmas.List.Elements.{All-cons, All-nil}
 use Rattle.std.proofs.lemmas.List.{length_push}
@@ -11,9 +10,9 @@ use Rattle.pb_board.proofs.LineEnds.{cases_return}
 use Rattle.pb_io.specs.Source.{SourceState}
 use Rattle.pb_io.specs.Lines.{ended_lines, line_limit, lines}
 use Rattle.pb_io.specs.Reads.{chunk_len}
-use Rattle.pb_io.specs.LineTask.{AtLine, StopsAtLast, TakesAll, TakesStream, TakesUntil}
-use Rattle.pb_io.specs.declared.lines.LinesFault.{LinesFault}
-use Rattle.pb_io.specs.declared.lines.LinesFault.TheVariants as fault
+use Rattle.pb_io.specs.LineTask.{AtLine, ReadUntil, StopsAtLast, TakesAll, TakesStream, TakesUntil}
+use Rattle.pb_io.specs.declared.fault.ReadFault.{ReadFault}
+use Rattle.pb_io.specs.declared.fault.ReadFault.TheVariants as fault
 use Rattle.pb_io.proofs.EndLemmas.{AtEnd-weaker, AtFault-weaker, AtLine-weaker, AtNoEnd-weaker}
 use Rattle.pb_games.specs.Submissions.{Submission}
 use Rattle.pb_games.specs.declared.refusal.Refusal.{Refusal}
@@ -173,13 +172,13 @@ module _ {T : Type 0} where
         by (submission other one) = Whole-old t line ls (other fresh.0) (Taken-more s h.0 t line ls one (later h.0 t ls (omega (arith, one.lines)) h.2))
 
   -- lines that were taken, and one more that stopped the loader
-  module _ (s t : Loader T) (ls : List (List ℕ)) (fresh : IsFresh s) (few : length ls < 2 ^ 64) where
-    abbrev pub Stopped : LoadError → Type 0
-    Stopped error.Memory = WantsMemory s.ledger.now.cap t.ledger.now.accepted ls
-    Stopped (error.Line n) = EndsAtLine s.ledger.now.cap n t.ledger.now.accepted ls
-    Stopped error.Read = ⊥
-    Stopped error.Endless = ⊥
+  abbrev Stopped : Loader T → Loader T → LoadError → List (List ℕ) → Type 0
+  Stopped s t error.Memory ls = WantsMemory s.ledger.now.cap t.ledger.now.accepted ls
+  Stopped s t (error.Line n) ls = EndsAtLine s.ledger.now.cap n t.ledger.now.accepted ls
+  Stopped s t error.Read ls = ⊥
+  Stopped s t error.Endless ls = ⊥
 
+  module _ (s t : Loader T) (ls : List (List ℕ)) (fresh : IsFresh s) (few : length ls < 2 ^ 64) where
     module _ (before : List (List ℕ)) (line : List ℕ) (m : Loader T) (are : ls ≡ before ++ line ∷ []) (w : Whole s m before)
         (other : m.lines ≡ 0 → is_header line ≡ false) where
       short : length before < 2 ^ 64
@@ -201,7 +200,7 @@ module _ {T : Type 0} where
           subst (λ B. Step s.ledger.now.cap B line answer t.ledger.now.accepted) (sym same)
           (subst (λ most. Step most m.ledger.now.accepted line answer t.ledger.now.accepted) w.keeps.cap h)
 
-      stopped_so : (e : LoadError) → Submits (one_more m) line (Err e) t → Stopped e
+      stopped_so : (e : LoadError) → Submits (one_more m) line (Err e) t → Stopped s t e ls
       unfolding but_one
       stopped_so error.Read sub = absurd sub.judged
       stopped_so error.Endless sub = absurd sub.judged
@@ -224,57 +223,64 @@ module _ {T : Type 0} where
             ];
           }
 
-    stopped_by : (e : LoadError) (before : List (List ℕ)) (line : List ℕ) (m : Loader T) → ls ≡ before ++ line ∷ [] → Whole s m before → TakesLine m line (Err e) t → Stopped e × KeepsLedger s.ledger t.ledger
+    stopped_by : (e : LoadError) (before : List (List ℕ)) (line : List ℕ) (m : Loader T) → ls ≡ before ++ line ∷ [] → Whole s m before → TakesLine m line (Err e) t → Stopped s t e ls × KeepsLedger s.ledger t.ledger
     stopped_by e before line m are w (header zero is answer same) = let no : Err e ≡ Ok tt = answer in cc
     stopped_by e before line m are w (submission other sub) =
         (stopped_so before line m are w other e sub, KeepsLedger-then s.ledger m.ledger t.ledger w.keeps sub.keeps)
 
-    pub stopped : (e : LoadError) → StopsAtLast TakesLine s ls e t → Stopped e × KeepsLedger s.ledger t.ledger
+    pub stopped : (e : LoadError) → StopsAtLast TakesLine s ls e t → Stopped s t e ls × KeepsLedger s.ledger t.ledger
     stopped e h = stopped_by e h.0 h.1 h.2 h.3 (whole s fresh h.2 h.0 h.4) h.5
 
   -- ---- the whole of a stream
 
   module _ (fills : ℕ) (old new : SourceState) (s t : Loader T) (fresh : IsFresh s) (small : fills < 2 ^ 32) where
-    pub all_loaded : TakesStream TakesLine fills old new s t → LoadsAll fills old new s.ledger.now t.ledger.now
-    all_loaded = AtEnd-weaker fills old new _ _ (λ ls few taken. (whole s fresh t ls taken).loads)
+    abbrev gives : ReadFault → LoadError → Type 0
+    gives fault e = e ≡ load_error fault
 
-    few_of : (ls : List (List ℕ)) → length ls ≤ fills * chunk_len → length ls < 2 ^ 64
-    few_of ls few = omega (arith, small, few)
+    abbrev Ends : LoadError → Type 0
+    Ends = LoadsUntil fills old new s.ledger.now t.ledger.now
 
-    pub loaded_until : (fault : LinesFault LoadError) → TakesUntil TakesLine fills old new s t fault → LoadsUntil fills old new s.ledger.now t.ledger.now (load_error fault)
-    loaded_until fault.Memory h = inl (h.0, ap (λ (x : Loader T). x.ledger.now) h.1)
-    loaded_until fault.Read h = AtFault-weaker fills old new _ _ (λ ls few taken. (whole s fresh t ls taken).loads) h
-    loaded_until fault.Endless h = AtNoEnd-weaker fills old new _ _ (λ ls few taken. (whole s fresh t ls taken).loads) h
-    loaded_until (fault.Stop error.Memory) h = inr (AtLine-weaker fills old new _ _ (λ ls few stops. (stopped s t ls fresh (few_of ls few) error.Memory stops).0) h)
-    loaded_until (fault.Stop (error.Line n)) h = AtLine-weaker fills old new _ _ (λ ls few stops. (stopped s t ls fresh (few_of ls few) (error.Line n) stops).0) h
-    loaded_until (fault.Stop error.Read) h = absurd (done_at (AtLine-weaker fills old new _ (λ _. ⊥) (λ ls few stops. (stopped s t ls fresh (few_of ls few) error.Read stops).0) h))
-    loaded_until (fault.Stop error.Endless) h = absurd (done_at (AtLine-weaker fills old new _ (λ _. ⊥) (λ ls few stops. (stopped s t ls fresh (few_of ls few) error.Endless stops).0) h))
+    last_of : (e : LoadError) (ls : List (List ℕ)) → length ls ≤ fills * chunk_len
+        → StopsAtLast TakesLine s ls e t → Stopped s t e ls × KeepsLedger s.ledger t.ledger
+    last_of e ls few = stopped s t ls fresh (omega (arith, small, few)) e
 
-    pub keeps_all : TakesStream TakesLine fills old new s t → KeepsLedger s.ledger t.ledger
-    keeps_all h = (whole s fresh t (lines h.came) h.done).keeps
+    unread : (fault : ReadFault) → ReadUntil TakesLine fills old new s t fault
+        → Ends (load_error fault) × KeepsLedger s.ledger t.ledger
+    unread fault.Read h = (
+      AtFault-weaker fills old new _ _ (λ ls few taken. (whole s fresh t ls taken).loads) h,
+      (whole s fresh t (ended_lines h.came) h.done).keeps,
+    )
+    unread fault.Endless h = (
+      AtNoEnd-weaker fills old new _ _ (λ ls few taken. (whole s fresh t ls taken).loads) h,
+      (whole s fresh t (ended_lines h.came) h.done).keeps,
+    )
+    unread fault.Memory h = (
+      inl (h.0, ap (λ (x : Loader T). x.ledger.now) h.1),
+      subst (λ (x : Loader T). KeepsLedger s.ledger x.ledger) (sym h.1) (KeepsLedger-same s.ledger),
+    )
 
-    pub keeps_until : (fault : LinesFault LoadError) → TakesUntil TakesLine fills old new s t fault → KeepsLedger s.ledger t.ledger
-    keeps_until fault.Memory h = subst (λ (x : Loader T). KeepsLedger s.ledger x.ledger) (sym h.1) (KeepsLedger-same s.ledger)
-    keeps_until fault.Read h = (whole s fresh t (ended_lines h.came) h.done).keeps
-    keeps_until fault.Endless h = (whole s fresh t (ended_lines h.came) h.done).keeps
-    keeps_until (fault.Stop e) h = done_at (AtLine-weaker fills old new _ (λ _. KeepsLedger s.ledger t.ledger) (λ ls few stops. (stopped s t ls fresh (few_of ls few) e stops).1) h)
+    ends_at : (e : LoadError) → AtLine fills old new (Stopped s t e) → Ends e
+    ends_at (error.Line n) h = h
+    ends_at error.Memory h = inr h
+    ends_at error.Read h = absurd (done_at h)
+    ends_at error.Endless h = absurd (done_at h)
 
-    -- ---- the answer
-
-    pub loaded_of : (answer : Result (Unit {0}) (LinesFault LoadError)) (result : Result (Unit {0}) LoadError) → OnOk answer (TakesStream TakesLine fills old new s t)
-        → MatchResult answer (λ x. result ≡ Ok x) (λ e. IsErrAnd result (λ f. f ≡ load_error e)) → OnOk result (LoadsAll fills old new s.ledger.now t.ledger.now)
-    loaded_of (Ok x) (Ok y) h is = all_loaded h
-    loaded_of (Ok x) (Err f) h is = cc
-    loaded_of (Err e) (Ok y) h is = absurd is
-    loaded_of (Err e) (Err f) h is = tt
-
-    pub unloaded_of : (answer : Result (Unit {0}) (LinesFault LoadError)) (result : Result (Unit {0}) LoadError) → IfErr answer (TakesUntil TakesLine fills old new s t)
-        → MatchResult answer (λ x. result ≡ Ok x) (λ e. IsErrAnd result (λ f. f ≡ load_error e)) → IfErr result (LoadsUntil fills old new s.ledger.now t.ledger.now)
-    unloaded_of (Ok x) (Ok y) h is = tt
-    unloaded_of (Ok x) (Err f) h is = cc
-    unloaded_of (Err e) (Ok y) h is = absurd is
-    unloaded_of (Err e) (Err f) h is = subst (LoadsUntil fills old new s.ledger.now t.ledger.now) (sym is) (loaded_until e h)
-
-    pub keeps_of : (answer : Result (Unit {0}) (LinesFault LoadError)) → OnOk answer (TakesStream TakesLine fills old new s t) → IfErr answer (TakesUntil TakesLine fills old new s t) → KeepsLedger s.ledger t.ledger
-    keeps_of (Ok x) h k = keeps_all h
-    keeps_of (Err e) h k = keeps_until e k
+    -- how the call ends
+    pub ends_of : (result : Result (Unit {0}) LoadError)
+        → OnOk result (TakesStream TakesLine fills old new s t)
+        → IfErr result (TakesUntil gives TakesLine fills old new s t)
+        → OnOk result (LoadsAll fills old new s.ledger.now t.ledger.now)
+        × IfErr result Ends × KeepsLedger s.ledger t.ledger
+    ends_of (Ok x) h k = (
+      AtEnd-weaker fills old new _ _ (λ ls few taken. (whole s fresh t ls taken).loads) h,
+      tt,
+      (whole s fresh t (lines h.came) h.done).keeps,
+    )
+    ends_of (Err e) h (inl k) =
+        let ends = unread k.0 k.2 in (tt, subst Ends (sym k.1) ends.0, ends.1)
+    ends_of (Err e) h (inr k) = (
+      tt,
+      ends_at e (AtLine-weaker fills old new _ _ (λ ls few stops. (last_of e ls few stops).0) k),
+      done_at (AtLine-weaker fills old new _ (λ _. KeepsLedger s.ledger t.ledger)
+          (λ ls few stops. (last_of e ls few stops).1) k),
+    )

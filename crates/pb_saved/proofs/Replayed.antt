@@ -1,32 +1,24 @@
 -- From the lines that the replayer took to what was replayed.
 use Rattle.std.proofs.Common.{◌≡◌, ◌≢◌, ℕ, Bool, List, [], ◌∷◌, Result, Ok, Err, All, IfErr, IfOk, ap, inl, inr, refl, subst, sym}
-use Rattle.std.specs.Prelude.{IsErrAnd, MatchResult}
-use Rattle.std.specs.declared.alloc.AllocError.{AllocError}
 use Rattle.std.proofs.lemmas.List.Elements.{All-cons, All-nil}
 use Rattle.pb_io.specs.Sink.{SinkState}
 use Rattle.pb_io.specs.Source.{SourceState}
 use Rattle.pb_io.specs.Lines.{ended_lines}
-use Rattle.pb_io.specs.LineTask.{StopsAtLast, TakesAll, TakesEnded, TakesEndedUntil}
-use Rattle.pb_io.specs.declared.lines.LinesFault.{LinesFault}
-use Rattle.pb_io.specs.declared.lines.LinesFault.TheVariants as fault
+use Rattle.pb_io.specs.LineTask.{ReadUntil, StopsAtLast, TakesAll, TakesEnded, TakesEndedUntil}
+use Rattle.pb_io.specs.Fault.{fault_of}
+use Rattle.pb_io.specs.declared.fault.Fault.{Fault}
+use Rattle.pb_io.specs.declared.fault.ReadFault.{ReadFault}
+use Rattle.pb_io.specs.declared.fault.ReadFault.TheVariants as read
 use Rattle.pb_io.proofs.EndLemmas.{AtEndedLine-weaker, AtFault-weaker, AtNoEnd-weaker}
-use Rattle.pb_games.specs.declared.refusal.Refusal.{Refusal}
 use Rattle.pb_games.specs.declared.refusal.Refusal.TheVariants as refusal
 use Rattle.pb_accepted.specs.Accepting.{Answer, Run, Step}
 use Rattle.pb_accepted.proofs.Steps.{refusal_step}
 use Rattle.pb_saved.specs.Journal.{Replays}
 use Rattle.pb_saved.specs.Lending.{KeepsLedger}
 use Rattle.pb_saved.specs.declared.replaying.Replayer.{Replayer}
-use Rattle.pb_saved.specs.declared.replaying.ReplayError.{ReplayError}
-use Rattle.pb_saved.specs.Replayer.{HoldsGames, TakesLine, replay_error}
+use Rattle.pb_saved.specs.Replayer.{HoldsGames, TakesLine}
 use Rattle.pb_saved.specs.Replaying.{ReplaysUntil, WantsMemoryFor}
 use Rattle.pb_saved.proofs.Loaded.{KeepsLedger-same, KeepsLedger-then}
-
--- a line that is refused stops the replayer as its refusal does
-pub stops_of : (answer : Answer) (why : Refusal) (result : Result (Unit {0}) AllocError) → answer ≡ Err why → MatchResult result (λ _. why ≢ refusal.Memory) (λ _. why ≡ refusal.Memory)
-    → MatchResult result (λ _. answer ≢ Err refusal.Memory) (λ _. answer ≡ Err refusal.Memory)
-stops_of answer why (Ok x) is h = λ wants. let same : why ≡ refusal.Memory = cc in h same
-stops_of answer why (Err e) is h = cc
 
 module _ {T W : Type 0} where
   -- lines that were submitted, none of them refused for want of memory
@@ -63,14 +55,14 @@ module _ {T W : Type 0} where
         }
 
   -- the line that stopped the replayer brings a new game, and no memory was left for it
-  module _ (s t : Replayer T W) (fresh : s.ledger.now.accepted ≡ []) (ls : List (List ℕ)) (e : AllocError) (h : StopsAtLast TakesLine s ls e t) where
+  module _ (s t : Replayer T W) (fresh : s.ledger.now.accepted ≡ []) (ls : List (List ℕ)) (e : Fault) (h : StopsAtLast TakesLine s ls e t) where
     stopped : WantsMemoryFor s.ledger.now.cap t.ledger.now.accepted ls
     stopped =
         let m = h.2 in
         let line = h.1 in
         let one = h.5 in
         let keeps = (taken s m h.0 h.4).keeps in
-        let step = subst (λ r. Step m.ledger.now.cap m.ledger.now.accepted line r t.ledger.now.accepted) one.stops one.step in
+        let step = subst (λ r. Step m.ledger.now.cap m.ledger.now.accepted line r t.ledger.now.accepted) one.stops.0 one.step in
         let same : t.ledger.now.accepted ≡ m.ledger.now.accepted = refusal_step m.ledger.now.cap m.ledger.now.accepted line refusal.Memory t.ledger.now.accepted step in
         let here = subst (λ most. Step most m.ledger.now.accepted line (Err refusal.Memory) t.ledger.now.accepted) keeps.cap step in record {
           before = h.0;
@@ -86,40 +78,42 @@ module _ {T W : Type 0} where
   -- ---- the whole of a stream
 
   module _ (fills : ℕ) (old new : SourceState) (s t : Replayer T W) (fresh : s.ledger.now.accepted ≡ []) where
-    all_held : (torn : Bool) → TakesEnded TakesLine fills old new s t torn → HoldsGames fills old new s.ledger.now t.ledger.now torn
-    all_held torn h = record { came = h.came; reads = h.reads; holds = replayed s t fresh (ended_lines h.came) h.taken; left = h.left }
+    abbrev gives : ReadFault → Fault → Type 0
+    gives read fault = fault ≡ fault_of read
 
-    replayed_until : (fault : LinesFault AllocError) → TakesEndedUntil TakesLine fills old new s t fault
-        → (j : SinkState) → ReplaysUntil fills old new j j s.ledger.now t.ledger.now (replay_error fault)
-    replayed_until fault.Memory h j = (inl (h.0, ap (λ (x : Replayer T W). x.ledger.now) h.1), refl)
-    replayed_until fault.Read h j = (AtFault-weaker fills old new _ _ (λ ls few all. replayed s t fresh ls all) h, refl)
-    replayed_until fault.Endless h j = (AtNoEnd-weaker fills old new _ _ (λ ls few all. replayed s t fresh ls all) h, refl)
-    replayed_until (fault.Stop e) h j = (inr (AtEndedLine-weaker fills old new _ _ (λ ls few stops. stopped s t fresh ls e stops) h), refl)
+    abbrev Ends : Fault → Type 0
+    Ends fault = (j : SinkState) → ReplaysUntil fills old new j j s.ledger.now t.ledger.now fault
 
-    keeps_until : (fault : LinesFault AllocError) → TakesEndedUntil TakesLine fills old new s t fault → KeepsLedger s.ledger t.ledger
-    keeps_until fault.Memory h = subst (λ (x : Replayer T W). KeepsLedger s.ledger x.ledger) (sym h.1) (KeepsLedger-same s.ledger)
-    keeps_until fault.Read h = (taken s t (ended_lines h.came) h.done).keeps
-    keeps_until fault.Endless h = (taken s t (ended_lines h.came) h.done).keeps
-    keeps_until (fault.Stop e) h = (AtEndedLine-weaker fills old new _ (λ _. KeepsLedger s.ledger t.ledger) (λ ls few stops. stopped_keeps s t fresh ls e stops) h).done
+    unread : (read : ReadFault) → ReadUntil TakesLine fills old new s t read
+        → Ends (fault_of read) × KeepsLedger s.ledger t.ledger
+    unread read.Read h = (
+      λ j. (AtFault-weaker fills old new _ _ (λ ls few. replayed s t fresh ls) h, refl),
+      (taken s t (ended_lines h.came) h.done).keeps,
+    )
+    unread read.Endless h = (
+      λ j. (AtNoEnd-weaker fills old new _ _ (λ ls few. replayed s t fresh ls) h, refl),
+      (taken s t (ended_lines h.came) h.done).keeps,
+    )
+    unread read.Memory h = (
+      λ j. (inl (h.0, ap (λ (x : Replayer T W). x.ledger.now) h.1), refl),
+      subst (λ (x : Replayer T W). KeepsLedger s.ledger x.ledger) (sym h.1) (KeepsLedger-same s.ledger),
+    )
 
-    -- ---- the answer
-
-    pub held_of : (answer : Result Bool (LinesFault AllocError)) (result : Result Bool ReplayError) → IfOk answer (TakesEnded TakesLine fills old new s t)
-        → MatchResult answer (λ x. result ≡ Ok x) (λ e. IsErrAnd result (λ f. f ≡ replay_error e)) → IfOk result (HoldsGames fills old new s.ledger.now t.ledger.now)
-    held_of (Ok x) (Ok y) h is = let same : y ≡ x = cc in subst (HoldsGames fills old new s.ledger.now t.ledger.now) (sym same) (all_held x h)
-    held_of (Ok x) (Err f) h is = cc
-    held_of (Err e) (Ok y) h is = absurd is
-    held_of (Err e) (Err f) h is = tt
-
-    pub unheld_of : (answer : Result Bool (LinesFault AllocError)) (result : Result Bool ReplayError) → IfErr answer (TakesEndedUntil TakesLine fills old new s t)
-        → MatchResult answer (λ x. result ≡ Ok x) (λ e. IsErrAnd result (λ f. f ≡ replay_error e))
-        → IfErr result (λ e. (j : SinkState) → ReplaysUntil fills old new j j s.ledger.now t.ledger.now e)
-    unheld_of (Ok x) (Ok y) h is = tt
-    unheld_of (Ok x) (Err f) h is = cc
-    unheld_of (Err e) (Ok y) h is = absurd is
-    unheld_of (Err e) (Err f) h is = subst (λ q. (j : SinkState) → ReplaysUntil fills old new j j s.ledger.now t.ledger.now q) (sym is) (replayed_until e h)
-
-    pub keeps_of : (answer : Result Bool (LinesFault AllocError)) → IfOk answer (TakesEnded TakesLine fills old new s t) → IfErr answer (TakesEndedUntil TakesLine fills old new s t)
-        → KeepsLedger s.ledger t.ledger
-    keeps_of (Ok x) h k = (taken s t (ended_lines h.came) h.taken).keeps
-    keeps_of (Err e) h k = keeps_until e k
+    -- how the call ends
+    pub ends_of : (result : Result Bool Fault)
+        → IfOk result (TakesEnded TakesLine fills old new s t)
+        → IfErr result (TakesEndedUntil gives TakesLine fills old new s t)
+        → IfOk result (HoldsGames fills old new s.ledger.now t.ledger.now)
+        × IfErr result Ends × KeepsLedger s.ledger t.ledger
+    ends_of (Ok torn) h k =
+        let all = taken s t (ended_lines h.came) h.taken in
+        let holds = replayed s t fresh (ended_lines h.came) h.taken in
+        (record { came = h.came; reads = h.reads; holds = holds; left = h.left }, tt, all.keeps)
+    ends_of (Err fault) h (inl k) =
+        let ends = unread k.0 k.2 in (tt, subst Ends (sym k.1) ends.0, ends.1)
+    ends_of (Err fault) h (inr k) =
+        let wants = AtEndedLine-weaker fills old new _ _ (λ ls few. stopped s t fresh ls fault) k in (
+          tt,
+          subst Ends (sym k.done.5.stops.1) (λ j. (inr wants, refl)),
+          stopped_keeps s t fresh (ended_lines k.came) fault k.done,
+        )

@@ -1,6 +1,5 @@
 -- A saved ledger loads as what was saved.
-use Rattle.std.proofs.Common.{◌≡◌, ◌≢◌, ◌∙◌, ℕ, ◌+◌, ◌<◌, ◌≤◌, true, false, List, [], ◌∷◌, ◌++◌, Result, Ok, Err, All, IsOk, length, get_or, map, refl, sym, ap, subst, inl, inr, arith, append-nil, append_assoc}
-use Rattle.std.specs.Prelude.{IfErr, IfOk}
+use Rattle.std.proofs.Common.{◌≡◌, ◌≢◌, ◌∙◌, ℕ, ◌+◌, ◌<◌, ◌≤◌, true, false, List, [], ◌∷◌, ◌++◌, Ok, Err, All, IsOk, length, get_or, map, refl, sym, ap, subst, inl, inr, arith, append-nil, append_assoc}
 use Rattle.std.specs.List.{flat_map}
 use Rattle.std.proofs.Math.Seq.{get_or-append_seam}
 use Rattle.std.proofs.lemmas.Bool.{eqb-true, false_from_ne_true}
@@ -22,7 +21,7 @@ use Rattle.pb_accepted.specs.Ledger.{LedgerState}
 use Rattle.pb_accepted.proofs.Replies.{id_of, one_submission}
 use Rattle.pb_accepted.proofs.Steps.{one_step, step_to}
 use Rattle.pb_saved.specs.Saving.{Saved, header}
-use Rattle.pb_saved.specs.Loading.{EndsAtLine, Loads, LoadsSaved, LoadsStream, LoadsUntil, is_header}
+use Rattle.pb_saved.specs.Loading.{EndsAtLine, Loads, LoadsStream, LoadsUntil, is_header}
 use Rattle.pb_saved.specs.declared.loading.LoadError.{LoadError}
 use Rattle.pb_saved.specs.declared.loading.LoadError.TheVariants.{Line, Read, Endless, Memory}
 
@@ -190,7 +189,7 @@ module _ (cap : ℕ) (A : List Submission) (bytes : List ℕ) (games : All IsSub
           next before (is ∙ ap (λ (y : List ℕ). y ∷ before) head) (cut_at A before later h.but_one.line games tail)
 
   module _ (fills : ℕ) (source source' : SourceState) (tells : Tells fills source source' bytes) (old new : LedgerState) (fits : old.cap ≡ cap) where
-    only_memory : (e : LoadError) → LoadsUntil fills source source' old new e → e ≡ Memory
+    pub only_memory : (e : LoadError) → LoadsUntil fills source source' old new e → e ≡ Memory
     only_memory Memory h = refl
     only_memory Read h = absurd (no_fault chunk_len fills source source' bytes tells h.came h.reads)
     only_memory Endless h = absurd (no_endless chunk_len fills source source' bytes tells h.came h.reads)
@@ -203,13 +202,8 @@ module _ (cap : ℕ) (A : List Submission) (bytes : List ℕ) (games : All IsSub
         let told = all_came chunk_len fills source source' bytes tells.told h.came h.reads in
         absurd (no_break n new.accepted (lines h.came) [] (subst (λ c. EndsAtLine c n new.accepted (lines h.came)) fits h.done) (ap lines told ∙ sym (append-nil (lines h.came))))
 
-    loaded_whole : (n : ℕ) → LoadsStream fills source source' old new n → (n ≡ length A) × (new.accepted ≡ A)
+    pub loaded_whole : (n : ℕ) → LoadsStream fills source source' old new n → (n ≡ length A) × (new.accepted ≡ A)
     loaded_whole n h =
         let told = all_came chunk_len fills source source' bytes tells.told h.0.came h.0.reads in
         let same = loads_only new.accepted (subst (λ (xs : List (List ℕ)). Loads cap xs new.accepted) (ap lines (sym told)) (subst (λ c. Loads c (lines h.0.came) new.accepted) fits h.0.done)) in
         (h.1 ∙ ap length same, same)
-
-pub loads_the_saved : (fills : ℕ) (source source' : SourceState) (old new : LedgerState) (result : Result ℕ LoadError) → IfOk result (LoadsStream fills source source' old new)
-    → IfErr result (LoadsUntil fills source source' old new) → LoadsSaved fills source source' old new result
-loads_the_saved fills source source' old new (Ok n) h k A bytes games own room saved tells = loaded_whole old.cap A bytes games own room saved fills source source' tells old new refl n h
-loads_the_saved fills source source' old new (Err e) h k A bytes games own room saved tells = only_memory old.cap A bytes games own room saved fills source source' tells old new refl e k

@@ -1,8 +1,8 @@
 -- What the loader does with a line.
 use Rattle.std.specs.Prelude.{◌≡◌, ◌≢◌, ℕ, ◌+◌, ◌⊎◌, Bool, true, false, List, length, IsErr, IsOk, IsTrue, Result, Ok, Err}
 use Rattle.pb_io.specs.Count.{next_count}
-use Rattle.pb_io.specs.declared.lines.LinesFault.{LinesFault}
-use Rattle.pb_io.specs.declared.lines.LinesFault.TheVariants as lines
+use Rattle.pb_io.specs.declared.fault.ReadFault.{ReadFault}
+use Rattle.pb_io.specs.declared.fault.ReadFault.TheVariants as fault
 use Rattle.pb_games.specs.Submissions.{Submission}
 use Rattle.pb_games.specs.declared.refusal.Refusal.{Refusal}
 use Rattle.pb_games.specs.declared.refusal.Refusal.TheVariants as refusal
@@ -43,9 +43,8 @@ abbrev pub error_at : ℕ → Refusal → LoadError
 error_at n refusal.Memory = Memory
 error_at n e = Line n
 
--- what a fault of taking the lines is to the loading
-abbrev pub load_error : LinesFault LoadError → LoadError
-load_error lines.Memory = Memory
-load_error lines.Read = Read
-load_error lines.Endless = Endless
-load_error (lines.Stop e) = e
+-- what a fault of reading is to the loading
+abbrev pub load_error : ReadFault → LoadError
+load_error fault.Read = Read
+load_error fault.Endless = Endless
+load_error fault.Memory = Memory

@@ -1,5 +1,5 @@
 -- How the replay of a journal into a ledger without games ends, over the states of the journal as a source and as a sink.
-use Rattle.std.specs.Prelude.{◌≡◌, ℕ, ◌+◌, ◌⊎◌, false, true, List, [], ◌∷◌, ◌++◌, take, Err}
+use Rattle.std.specs.Prelude.{◌≡◌, ℕ, ◌⊎◌, false, true, List, [], ◌∷◌, ◌++◌, take, Err}
 use Rattle.std.specs.Io.KnownBytes.{Appends}
 use Rattle.pb_io.specs.Count.{next_count}
 use Rattle.pb_io.specs.LineTask.{AtEndedLine, AtFault, AtNoEnd}
@@ -7,13 +7,13 @@ use Rattle.pb_io.specs.Lines.{is_torn}
 use Rattle.pb_io.specs.Reads.{ReadsAll, chunk_len}
 use Rattle.pb_io.specs.Sink.{AllLasts, HandedOn, SinkState}
 use Rattle.pb_io.specs.Source.{SourceState}
+use Rattle.pb_io.specs.declared.fault.Fault.{Fault}
+use Rattle.pb_io.specs.declared.fault.Fault.TheVariants.{Read, Write, Endless, Memory}
 use Rattle.pb_games.specs.Submissions.{Submission}
 use Rattle.pb_games.specs.declared.refusal.Refusal.TheVariants as refusal
 use Rattle.pb_accepted.specs.Accepting.{Step}
 use Rattle.pb_accepted.specs.Ledger.{LedgerState}
 use Rattle.pb_saved.specs.Journal.{Journals, Replays, mending, seal}
-use Rattle.pb_saved.specs.declared.replaying.ReplayError.{ReplayError}
-use Rattle.pb_saved.specs.declared.replaying.ReplayError.TheVariants.{Read, Write, Endless, Memory}
 
 -- a torn end was sealed, and that was handed on, once; where the end isn't torn the journal is as it was
 pub record Mends (came : List ℕ) (journal journal' : SinkState) : Type 0 where
@@ -49,8 +49,8 @@ pub record WantsMemoryFor (cap : ℕ) (B : List Submission) (ls : List (List ℕ
   pub replays : Replays cap before B
   pub wants : Step cap B line (Err refusal.Memory) B
 
--- how the replay ends with each error; the journal gains nothing but what mends it
-abbrev pub ReplaysUntil : ℕ → SourceState → SourceState → SinkState → SinkState → LedgerState → LedgerState → ReplayError → Type 0
+-- how the replay ends with each fault; the journal gains nothing but what mends it
+abbrev pub ReplaysUntil : ℕ → SourceState → SourceState → SinkState → SinkState → LedgerState → LedgerState → Fault → Type 0
 ReplaysUntil fills source source' journal journal' old new Read = AtFault fills source source' (λ ls. Replays old.cap ls new.accepted) × (journal' ≡ journal)
 ReplaysUntil fills source source' journal journal' old new Endless = AtNoEnd fills source source' (λ ls. Replays old.cap ls new.accepted) × (journal' ≡ journal)
 ReplaysUntil fills source source' journal journal' old new Write = MendsNot fills source source' journal journal' old new

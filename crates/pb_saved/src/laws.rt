@@ -1,15 +1,13 @@
-//! Laws of saved ledgers, and of equality (`==`) between errors. Each is the contract of a function
-//! that does nothing, over the definitions alone.
+//! Laws of saved ledgers, and of equality (`==`) between errors of loading. Each is the contract of a
+//! function that does nothing, over the definitions alone.
 
 ghost use Rattle.std.specs.Bool.{Decides};
 ghost use Rattle.std.specs.Prelude.{◌≡◌};
 ghost use Rattle.pb_saved.specs.JournalLaws.{JournalGoesOn, JournalGrows, JournalIsOne, JournalMayTear, JournalMendingMayTear};
 ghost use Rattle.pb_saved.specs.Laws.{ContinuedIsOneRun, SavedIsOne, SavedLoads};
 ghost use Rattle.pb_saved.specs.declared.loading.LoadError.{LoadError};
-ghost use Rattle.pb_saved.specs.declared.replaying.ReplayError.{ReplayError};
 
 use crate::loading::LoadError;
-use crate::replaying::ReplayError;
 
 /// The games that are held have one saved form, and what is saved loads as these games and as no others.
 pub fn saved()
@@ -32,8 +30,7 @@ pub fn journaled()
     ensures tears { JournalMayTear }
 {}
 
-/// Errors of loading, and of replaying, are equal (`==`) exactly where they are one value.
+/// Errors of loading are equal (`==`) exactly where they are one value.
 pub fn equal_errors()
-    ensures load { (e f : LoadError) → Decides (⟦<LoadError as PartialEq>⟧.eq e f) (e ≡ f) }
-    ensures replay { (e f : ReplayError) → Decides (⟦<ReplayError as PartialEq>⟧.eq e f) (e ≡ f) }
+    ensures { (e f : LoadError) → Decides (⟦<LoadError as PartialEq>⟧.eq e f) (e ≡ f) }
 {}

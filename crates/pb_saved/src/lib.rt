@@ -11,5 +11,5 @@ mod saving;
 
 pub use loading::{LoadError, load};
 pub use passed::PassedLines;
-pub use replaying::{ReplayError, replay};
+pub use replaying::replay;
 pub use saving::{put_game, save};

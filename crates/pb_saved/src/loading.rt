@@ -9,7 +9,7 @@ use crate::saving::HEADER;
 use pb_accepted::Ledger;
 use pb_board::without_return;
 use pb_games::Refusal;
-use pb_io::{LineTask, LinesFault, Source, take_lines};
+use pb_io::{LineTask, ReadFault, Source, take_lines};
 use pb_points::Tally;
 use std::alloc::Global;
 use thiserror::Error;
@@ -30,6 +30,18 @@ pub enum LoadError {
     /// No memory for the buffers, and then nothing was read; or for a new game, and then the ledger holds those before it.
     #[error("no memory is left")]
     Memory,
+}
+
+impl From<ReadFault> for LoadError {
+    ghost from_gives = { λ fault gives. gives ≡ load_error fault };
+
+    fn from(fault: ReadFault) -> LoadError {
+        match fault {
+            ReadFault::Read => LoadError::Read,
+            ReadFault::Endless => LoadError::Endless,
+            ReadFault::Memory => LoadError::Memory,
+        }
+    }
 }
 
 /// Submits the lines of a file and counts them.
@@ -93,7 +105,7 @@ impl<T: Tally> Loader<'_, T> {
         ensures err { IfErr result (LoadsUntil fills (S.state source.old) (S.state source.new) self.old.ledger.now self.new.ledger.now) }
         ensures same { KeepsLedger self.old.ledger self.new.ledger }
     {
-        take_lines(alloc, source, self, fills).map_err(error_of)
+        take_lines(alloc, source, self, fills)
     }
 }
 
@@ -104,18 +116,6 @@ fn refused_at(number: u64, refusal: Refusal) -> LoadError
     match refusal {
         Refusal::Memory => LoadError::Memory,
         _ => LoadError::Line(number),
-    }
-}
-
-/// What a fault of taking the lines is to the loading.
-fn error_of(fault: LinesFault<LoadError>) -> LoadError
-    ensures { result ≡ load_error fault }
-{
-    match fault {
-        LinesFault::Memory => LoadError::Memory,
-        LinesFault::Read => LoadError::Read,
-        LinesFault::Endless => LoadError::Endless,
-        LinesFault::Stop(error) => error,
     }
 }
 
@@ -144,32 +144,11 @@ pub fn load<T: Tally, S: Source>(
     ensures basis { ledger.new.basis ≡ ledger.old.basis }
     ensures cap { ledger.new.cap ≡ ledger.old.cap }
 {
-    load_lines(alloc, source, ledger, fills)
-}
-
-/// The same, told of the lines alone.
-fn load_lines<T: Tally, S: Source>(
-    alloc: Global,
-    source: &mut S,
-    ledger: &mut Ledger<T>,
-    fills: u32,
-) -> Result<u32, LoadError>
-    requires { ledger.old.accepted ≡ [] }
-    ensures ok { IfOk result (LoadsStream fills (S.state source.old) (S.state source.new) ledger.old ledger.new) }
-    ensures fault { IfErr result (LoadsUntil fills (S.state source.old) (S.state source.new) ledger.old ledger.new) }
-    ensures basis { ledger.new.basis ≡ ledger.old.basis }
-    ensures cap { ledger.new.cap ≡ ledger.old.cap }
-{
     let mut loader = Loader {
         ledger,
         lines: 0,
         is_saved: false,
     };
-    let ended = loader.take_all(alloc, source, fills);
-    let held = loader.ledger.len();
-    let Loader { ledger, .. } = loader;
-    // The proof reads what the reference holds from this use.
-    let _ = &*ledger;
-    ended?;
-    Ok(held)
+    loader.take_all(alloc, source, fills)?;
+    Ok(loader.ledger.len())
 }

@@ -1,12 +1,11 @@
 //! A ledger from the lines of a journal.
 
-ghost use Rattle.std.specs.Prelude.{◌≡◌, ◌≢◌, [], IfErr, IfOk, MatchResult, OnOk};
-ghost use Rattle.pb_games.specs.declared.refusal.Refusal.TheVariants.{Memory};
+ghost use Rattle.std.specs.Prelude.{◌≡◌, [], Err, IfErr, IfOk, OnOk};
 ghost use Rattle.pb_io.specs.Sink.{SinkState};
 ghost use Rattle.pb_io.specs.Writes.{Writes};
 ghost use Rattle.pb_saved.specs.Journal.{seal};
 ghost use Rattle.pb_saved.specs.Lending.{KeepsLedger};
-ghost use Rattle.pb_saved.specs.Replayer.{HoldsGames, replay_error};
+ghost use Rattle.pb_saved.specs.Replayer.{HoldsGames, Stops};
 ghost use Rattle.pb_saved.specs.Replaying.{ReplaysAll, ReplaysUntil};
 
 use crate::passed::PassedLines;
@@ -14,33 +13,15 @@ use crate::saving::HEADER;
 use pb_accepted::Ledger;
 use pb_board::without_return;
 use pb_games::Refusal;
-use pb_io::{Failed, LineTask, LinesFault, Sink, Source, take_ended_lines};
+use pb_io::{Failed, Fault, LineTask, Sink, Source, take_ended_lines};
 use pb_points::Tally;
-use std::alloc::{AllocError, Global};
-use thiserror::Error;
+use std::alloc::Global;
 
 /// What ends a torn line so that it never is a submission: a TAB more than a submission has, and LF.
 const SEAL: &[u8] = b"\t\t\t\t\n";
 
 /// The end of a line that was sealed, without its LF.
 const SEALED: &[u8] = b"\t\t\t\t";
-
-/// Why a journal was not replayed.
-#[derive(Clone, Copy, Debug, PartialEq, Eq, Error)]
-pub enum ReplayError {
-    /// The source has failed. The ledger holds the games of the lines that an LF ended before that.
-    #[error("the journal can't be read")]
-    Read,
-    /// The sink has failed when the torn end was to be sealed. The ledger holds all games of the journal.
-    #[error("the journal can't be written")]
-    Write,
-    /// The fills were used up, and none was the end or a fault. The ledger holds the games of the lines that an LF ended.
-    #[error("the journal doesn't end")]
-    Endless,
-    /// No memory for the buffers, and then nothing was read; or for a game, and then the ledger holds those before it.
-    #[error("no memory is left")]
-    Memory,
-}
 
 /// Submits the lines of a journal and counts them.
 #[derive(Drop)]
@@ -54,12 +35,12 @@ impl<T: Tally, W: PassedLines> Replayer<'_, T, W> {
     /// Passes over the line that was counted last and is refused so, which changed nothing, and
     /// tells its number where it is neither sealed nor a header. Where memory was wanting, it can't
     /// be passed over.
-    fn pass_over(&mut self, line: &[u8], refusal: Refusal) -> Result<(), AllocError>
+    fn pass_over(&mut self, line: &[u8], refusal: Refusal) -> Result<(), Fault>
         ensures ledger { self.new.ledger ≡ self.old.ledger }
-        ensures stops { MatchResult result (λ _. refusal ≢ Memory) (λ _. refusal ≡ Memory) }
+        ensures stops { Stops (Err refusal) result }
     {
         if refusal == Refusal::Memory {
-            return Err(AllocError);
+            return Err(Fault::Memory);
         }
         let is_header = self.lines == 1 && without_return(line) == HEADER;
         if !is_header && !line.ends_with(SEALED) {
@@ -70,13 +51,13 @@ impl<T: Tally, W: PassedLines> Replayer<'_, T, W> {
 }
 
 impl<T: Tally, W: PassedLines> LineTask for Replayer<'_, T, W> {
-    type Stop = AllocError;
+    type Stop = Fault;
 
     ghost use Rattle.pb_saved.specs.Replayer.{TakesLine};
 
     ghost takes = { TakesLine };
 
-    fn take(&mut self, line: &[u8]) -> Result<(), AllocError> {
+    fn take(&mut self, line: &[u8]) -> Result<(), Fault> {
         self.lines = self.lines.saturating_add(1);
         match self.ledger.submit(line) {
             Ok(_) => Ok(()),
@@ -84,7 +65,7 @@ impl<T: Tally, W: PassedLines> LineTask for Replayer<'_, T, W> {
         }
     }
 
-    fn take_long(&mut self) -> Result<(), AllocError> {
+    fn take_long(&mut self) -> Result<(), Fault> {
         self.lines = self.lines.saturating_add(1);
         // It is refused for its length.
         self.passed.tell(self.lines);
@@ -99,24 +80,13 @@ impl<T: Tally, W: PassedLines> Replayer<'_, T, W> {
         alloc: Global,
         source: &mut S,
         fills: u32,
-    ) -> Result<bool, ReplayError>
+    ) -> Result<bool, Fault>
         requires { self.old.ledger.now.accepted ≡ [] }
         ensures ok { IfOk result (HoldsGames fills (S.state source.old) (S.state source.new) self.old.ledger.now self.new.ledger.now) }
         ensures err { IfErr result (λ e. (j : SinkState) → ReplaysUntil fills (S.state source.old) (S.state source.new) j j self.old.ledger.now self.new.ledger.now e) }
         ensures same { KeepsLedger self.old.ledger self.new.ledger }
     {
-        take_ended_lines(alloc, source, self, fills).map_err(error_of)
-    }
-}
-
-/// What a fault of taking the lines is to the replay.
-fn error_of(fault: LinesFault<AllocError>) -> ReplayError
-    ensures { result ≡ replay_error fault }
-{
-    match fault {
-        LinesFault::Memory | LinesFault::Stop(_) => ReplayError::Memory,
-        LinesFault::Read => ReplayError::Read,
-        LinesFault::Endless => ReplayError::Endless,
+        take_ended_lines(alloc, source, self, fills)
     }
 }
 
@@ -132,9 +102,18 @@ fn error_of(fault: LinesFault<AllocError>) -> ReplayError
 ///
 /// # Errors
 ///
-/// `Memory` comes before the first fill, or where a new game finds none; `Read` where the source fails, and `Endless` where it doesn't end
-/// within the fills. The ledger then holds the games of the lines before, and nothing was put on the sink. `Write` comes where the sink
-/// fails: the ledger holds all games of the journal, and a front of the TABs and the LF may have been put.
+/// `Read`: the source has failed. The ledger holds the games of the lines that an LF ended before
+/// that.
+///
+/// `Endless`: the fills were used up, and none was the end or a fault. The ledger holds the games of
+/// the lines that an LF ended.
+///
+/// `Memory`: no memory for the buffers, and then nothing was read; or for a game, and then the ledger
+/// holds those before it.
+///
+/// `Write`: the sink has failed when the torn end was to be sealed. The ledger holds all games of the
+/// journal, and a front of the TABs and the LF may have been put. With the other errors nothing was
+/// put on the sink.
 pub fn replay<T: Tally, S: Source, J: Sink, W: PassedLines>(
     alloc: Global,
     source: &mut S,
@@ -142,7 +121,7 @@ pub fn replay<T: Tally, S: Source, J: Sink, W: PassedLines>(
     ledger: &mut Ledger<T>,
     passed: &mut W,
     fills: u32,
-) -> Result<(), ReplayError>
+) -> Result<(), Fault>
     requires { ledger.old.accepted ≡ [] }
     // The games of all lines that an LF ended were taken, and the end was mended.
     ensures ok { OnOk result (ReplaysAll fills (S.state source.old) (S.state source.new) (J.state journal.old) (J.state journal.new) ledger.old ledger.new) }
@@ -151,38 +130,16 @@ pub fn replay<T: Tally, S: Source, J: Sink, W: PassedLines>(
     ensures basis { ledger.new.basis ≡ ledger.old.basis }
     ensures cap { ledger.new.cap ≡ ledger.old.cap }
 {
-    let is_torn = take_games(alloc, source, ledger, passed, fills)?;
-    if is_torn && put_seal(journal).is_err() {
-        return Err(ReplayError::Write);
-    }
-    Ok(())
-}
-
-/// Takes the games of a journal. The answer is whether its end is torn.
-fn take_games<T: Tally, S: Source, W: PassedLines>(
-    alloc: Global,
-    source: &mut S,
-    ledger: &mut Ledger<T>,
-    passed: &mut W,
-    fills: u32,
-) -> Result<bool, ReplayError>
-    requires { ledger.old.accepted ≡ [] }
-    ensures ok { IfOk result (HoldsGames fills (S.state source.old) (S.state source.new) ledger.old ledger.new) }
-    // Whatever the journal is as a sink, it is as it was.
-    ensures fault { IfErr result (λ e. (j : SinkState) → ReplaysUntil fills (S.state source.old) (S.state source.new) j j ledger.old ledger.new e) }
-    ensures basis { ledger.new.basis ≡ ledger.old.basis }
-    ensures cap { ledger.new.cap ≡ ledger.old.cap }
-{
     let mut replayer = Replayer {
         ledger,
         passed,
         lines: 0,
     };
-    let taken = replayer.take_all(alloc, source, fills);
-    let Replayer { ledger, .. } = replayer;
-    // The proof reads what the reference holds from this use.
-    let _ = &*ledger;
-    taken
+    let is_torn = replayer.take_all(alloc, source, fills)?;
+    if is_torn {
+        put_seal(journal)?;
+    }
+    Ok(())
 }
 
 /// Seals the torn end of a journal.

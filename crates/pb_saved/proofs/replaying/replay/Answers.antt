@@ -5,10 +5,5 @@ use Rattle.pb_saved.proofs.replaying.replay.Goals as goal
 pub returns-in_err-is_torn-clause-fault : goal.returns-in_err-is_torn-clause-fault
 returns-in_err-is_torn-clause-fault g c =
     let is = err_from_is_err_and c.from_residual.result c.from_residual.ensures.1 in
-    rw (is.1, is.2) (c.in_err-is_torn.ensures.fault (g.J.Sink.state c.args.journal.now))
-
-pub returns-clause-ok : goal.returns-clause-ok
-returns-clause-ok g c = search rules
-
-pub returns-then-is_err-clause-ok : goal.returns-then-is_err-clause-ok
-returns-then-is_err-clause-ok g c = search rules
+    let until = c.in_err-is_torn.ensures.err (g.J.Sink.state c.args.journal.now) in
+    rw (is.1, is.2) (search rules)

@@ -1,7 +1,7 @@
 use Rattle.std.proofs.Common.{refl, subst, sym}
 use Rattle.pb_accepted.specs.Accepting.{Step}
 use Rattle.pb_saved.specs.Lending.{KeepsLedger}
-use Rattle.pb_saved.proofs.Replayed.{stops_of}
+use Rattle.pb_saved.specs.Replayer.{Stops}
 use Rattle.pb_saved.proofs.replaying.ReplayerLineTask.take.Goals as goal
 
 pub returns-in-Err : goal.returns-in-Err
@@ -10,7 +10,7 @@ returns-in-Err g c =
     let same = sym c.pass_over.ensures.ledger in record {
       answer = c.submit.result;
       step = subst (λ l. Step old.now.cap old.now.accepted c.args.line.now c.submit.result l.now.accepted) same c.submit.ensures.step;
-      stops = stops_of c.submit.result c.in-Err.refusal c.pass_over.result c.in-Err.is c.pass_over.ensures.stops;
+      stops = subst (λ r. Stops r c.pass_over.result) (sym c.in-Err.is) c.pass_over.ensures.stops;
       keeps = subst (λ l. KeepsLedger old l) same (record { lent = refl; basis = c.submit.ensures.basis; cap = c.submit.ensures.cap });
     }
 
