@@ -12,6 +12,7 @@ use Rattle.pb_ledger.specs.Collecting.{CollectsStream, CollectsUntil}
 use Rattle.pb_ledger.specs.declared.totals.Totals.{Totals}
 use Rattle.pb_collecting.specs.Runs as runs
 use Rattle.pb_collecting.specs.Runs.{ExportRun, Takes, TakesTable}
+use Rattle.pb_collecting.proofs.Finishings.{no_totals}
 
 module _ (rules : CountingRules) (fills : ℕ) (t t' s s' : SourceState) (d d' sink sink' : SinkState) (ledger left : LedgerState) (first : TakesTable rules fills t t' ledger) where
   -- not all submissions were taken, and nothing was exported
@@ -20,7 +21,7 @@ module _ (rules : CountingRules) (fills : ℕ) (t t' s s' : SourceState) (d d' s
 
   module _ (totals : Totals) (stream : CollectsStream fills s s' d d' ledger left totals) where
     takes : Takes fills s s' d d' ledger left
-    takes = (record { came = stream.0.came; reads = stream.0.reads; done = stream.0.done.0 }, (stream.1, stream.2))
+    takes = no_totals fills s s' d d' ledger left totals stream
 
     -- the games are held; `mid` is the state of the sink before the export
     module _ (mid : SinkState) (same : mid ≡ sink) where

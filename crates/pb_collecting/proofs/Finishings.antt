@@ -5,12 +5,18 @@ use Rattle.pb_io.specs.Source.{SourceState}
 use Rattle.pb_io.specs.declared.fault.Fault.{Fault}
 use Rattle.pb_poly.specs.declared.entry.Entry.{Entry}
 use Rattle.pb_accepted.specs.Ledger.{LedgerState}
-use Rattle.pb_ledger.specs.Collecting.{CollectsUntil}
+use Rattle.pb_ledger.specs.Collecting.{CollectsStream, CollectsUntil}
 use Rattle.pb_ledger.specs.Journaling.{Gains, JournalsUntil, fault_of_journal}
 use Rattle.pb_ledger.specs.declared.journaling.JournalFault.{JournalFault}
 use Rattle.pb_ledger.specs.declared.journaling.JournalFault.TheVariants.{Journal, Lines}
+use Rattle.pb_ledger.specs.declared.totals.Totals.{Totals}
 use Rattle.pb_collecting.specs.Opening.{Finishes}
 use Rattle.pb_collecting.specs.Runs.{BreaksOff, MakesBook, Takes}
+
+-- the totals are counted and dropped
+pub no_totals : (fills : ℕ) (s s' : SourceState) (sink sink' : SinkState) (ledger left : LedgerState) (totals : Totals) → CollectsStream fills s s' sink sink' ledger left totals
+    → Takes fills s s' sink sink' ledger left
+no_totals fills s s' sink sink' ledger left totals h = (record { came = h.0.came; reads = h.0.reads; done = h.0.done.0 }, (h.1, h.2))
 
 module _ (fills : ℕ) (s s' : SourceState) (j j' sink sink' : SinkState) (ledger left : LedgerState) where
   abbrev Ends : Result (List Entry) Fault → Type 0

@@ -85,17 +85,6 @@ pub fn collect_journaled<T: Tally, S: Source, K: Sink, J: Sink>(
         journal,
         totals: Totals::default(),
     };
-    let ended = collector.take_all(alloc, source, fills);
-    let Collector {
-        ledger,
-        sink,
-        journal,
-        totals,
-    } = collector;
-    // The proof reads what the references hold from these uses.
-    let _ = &*ledger;
-    let _ = &*sink;
-    let _ = &*journal;
-    ended?;
-    Ok(totals)
+    collector.take_all(alloc, source, fills)?;
+    Ok(collector.totals)
 }

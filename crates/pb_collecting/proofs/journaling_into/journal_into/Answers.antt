@@ -10,8 +10,8 @@ returns-in-Err-clause-ends g c = (c.in-Err.ensures.ends, refl)
 
 pub returns-in-Ok-clause-ends : goal.returns-in-Ok-clause-ends
 returns-in-Ok-clause-ends g c =
-    made_book _ _ _ _ _ _ _ _ _ _ _ _ _ _ c.in-Ok-Some.book c.in-Ok-Some.field-0 c.in-Ok-Some.field-0-is c.in-Ok-Some.ensures.ends _ c.in-Ok.ensures
+    made_book _ _ _ _ _ _ _ _ _ _ _ _ _ _ c.in-Ok-Some.book c.in-Ok-Some.field-0 c.in-Ok-Some.field-0-is c.in-Ok-Some.ensures.ends c.in-Ok-Some.ensures.headline _ c.in-Ok.ensures
 
 pub returns-clause-ends : goal.returns-clause-ends
 returns-clause-ends g c =
-    made_book _ _ _ _ _ _ _ _ _ _ _ _ _ _ c.in-Ok-Some.book c.in-Ok-Some.field-0 c.in-Ok-Some.field-0-is c.in-Ok-Some.ensures.ends _ c.in-Err-keep.ensures
+    made_book _ _ _ _ _ _ _ _ _ _ _ _ _ _ c.in-Ok-Some.book c.in-Ok-Some.field-0 c.in-Ok-Some.field-0-is c.in-Ok-Some.ensures.ends c.in-Ok-Some.ensures.headline _ c.in-Err-keep.ensures

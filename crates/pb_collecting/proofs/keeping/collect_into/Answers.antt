@@ -1,11 +1,15 @@
-use Rattle.pb_collecting.proofs.KeepClauses.{ends, kept, refused}
+use Rattle.std.proofs.Common.{refl}
+use Rattle.pb_collecting.proofs.KeepRuns.{made_book, no_book}
 use Rattle.pb_collecting.proofs.keeping.collect_into.Goals as goal
 
-pub returns-clause-kept : goal.returns-clause-kept
-returns-clause-kept g c = kept _ _ _ _ _ _ _ _ _ _ c.collect_and_keep.result c.collect_and_keep.ensures
+pub returns-in-Ok-None : goal.returns-in-Ok-None
+returns-in-Ok-None g c = no_book _ _ _ _ _ _ _ _ _ c.in-Ok-None.field-0 c.in-Ok-None.field-0-is c.in-Ok-None.ensures.ends
 
-pub returns-clause-refused : goal.returns-clause-refused
-returns-clause-refused g c = refused _ _ _ _ _ _ _ _ _ _ c.collect_and_keep.result c.collect_and_keep.ensures
+pub returns-in-Err : goal.returns-in-Err
+returns-in-Err g c = (c.in-Err.ensures.ends, refl)
 
-pub returns-clause-fault : goal.returns-clause-fault
-returns-clause-fault g c = ends _ _ _ _ _ _ _ _ _ _ c.collect_and_keep.result c.collect_and_keep.ensures
+pub returns-in-Ok : goal.returns-in-Ok
+returns-in-Ok g c = made_book _ _ _ _ _ _ _ _ _ _ c.in-Ok-Some.book c.in-Ok-Some.field-0 c.in-Ok-Some.field-0-is c.in-Ok-Some.ensures.ends c.in-Ok-Some.ensures.headline _ c.in-Ok.ensures
+
+pub returns : goal.returns
+returns g c = made_book _ _ _ _ _ _ _ _ _ _ c.in-Ok-Some.book c.in-Ok-Some.field-0 c.in-Ok-Some.field-0-is c.in-Ok-Some.ensures.ends c.in-Ok-Some.ensures.headline _ c.in-Err-keep.ensures
