@@ -24,17 +24,11 @@ pub struct Entry {
 
 impl Entry {
     /// The key, with the ranges of all parts.
-    pub(crate) fn key(&self) -> u64
-        ensures value { result ≡ self.now.key }
-        ensures rules { IsEntry self.now }
+    pub(crate) fn key(self) -> u64
+        ensures value { result ≡ self.key }
+        ensures rules { IsEntry self }
     {
-        let Entry {
-            key,
-            code: _code,
-            weight: _weight,
-            learn: _learn,
-        } = *self;
-        key
+        self.key
     }
 
     /// The sixteen bytes of the entry.
