@@ -168,8 +168,6 @@ pub fn key_next(table: &Table, key: u64, before: &Setup, m: Move) -> u64
     ensures parity { PseudoLegal before.now m → IsKey table.now (setup_after before.now m) result }
     ensures value { PseudoLegal before.now m → result ≡ key_by table.now (setup_after before.now m) }
 {
-    // The readers tell that the table and the setup meet their rules.
-    let (_words, _turn) = (table.words(), before.turn());
     let Some(piece) = before.at(m.from()) else {
         return key;
     };

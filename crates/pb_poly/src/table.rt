@@ -58,7 +58,8 @@ impl Table {
     /// The word at a place.
     pub fn word(&self, place: usize) -> u64
         requires { place < 781 }
-        ensures { result ≡ slice_index self.now place }
+        ensures value { result ≡ slice_index self.now place }
+        ensures rules { IsTable self.now }
     {
         self.words[place]
     }
