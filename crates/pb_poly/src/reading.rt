@@ -89,13 +89,6 @@ impl Reading {
         }
     }
 
-    /// How many bytes of the next entry are there.
-    fn part_len(&self) -> usize
-        ensures { result ≡ length self.now.1 }
-    {
-        self.part[..self.len].len()
-    }
-
     /// The entry that the whole part spells.
     fn part_entry(&self) -> Entry
         requires { length self.now.1 ≡ 16 }
@@ -135,12 +128,12 @@ impl Reading {
         ensures err { (came : List ℕ) → Splits came self.old.0 self.old.1 → IfErr result (FailsWithin came bytes.now) }
     {
         // An entry that stands whole in the bytes isn't copied.
-        if self.part_len() == 0 && bytes.len() >= ENTRY_LEN {
+        if self.len == 0 && bytes.len() >= ENTRY_LEN {
             self.add(Entry::from_bytes(&bytes[..ENTRY_LEN]))?;
             return Ok(ENTRY_LEN);
         }
         let count = self.hold(bytes);
-        if self.part_len() == ENTRY_LEN {
+        if self.len == ENTRY_LEN {
             let entry = self.part_entry();
             self.clear_part();
             self.add(entry)?;
@@ -168,7 +161,7 @@ impl Reading {
         ensures ok { IfOk result (λ book. (book ≡ self.0) × (self.1 ≡ [])) }
         ensures err { IfErr result (λ e. (e ≡ Cut (length self.1)) × (0 < length self.1)) }
     {
-        let extra = self.part_len();
+        let extra = self.len;
         if extra > 0 {
             return Err(BookError::Cut(extra));
         }
