@@ -89,22 +89,6 @@ impl Reading {
         }
     }
 
-    /// The entry that the whole part spells.
-    fn part_entry(&self) -> Entry
-        requires { length self.now.1 ≡ 16 }
-        ensures bytes { entry_bytes result ≡ self.now.1 }
-        ensures rules { IsEntry result }
-    {
-        Entry::from_bytes(&self.part[..self.len])
-    }
-
-    /// Forgets the part.
-    fn clear_part(&mut self)
-        ensures { self.new ≡ (self.old.0, []) }
-    {
-        self.len = 0;
-    }
-
     /// Takes as many bytes as the part has room for, and answers how many.
     fn hold(&mut self, bytes: &[u8]) -> usize
         ensures count { result ≡ min (16 - length self.old.1) (length bytes.now) }
@@ -134,8 +118,8 @@ impl Reading {
         }
         let count = self.hold(bytes);
         if self.len == ENTRY_LEN {
-            let entry = self.part_entry();
-            self.clear_part();
+            let entry = Entry::from_bytes(&self.part);
+            self.len = 0;
             self.add(entry)?;
         }
         Ok(count)
@@ -161,12 +145,10 @@ impl Reading {
         ensures ok { IfOk result (λ book. (book ≡ self.0) × (self.1 ≡ [])) }
         ensures err { IfErr result (λ e. (e ≡ Cut (length self.1)) × (0 < length self.1)) }
     {
-        let extra = self.len;
-        if extra > 0 {
-            return Err(BookError::Cut(extra));
+        if self.len > 0 {
+            return Err(BookError::Cut(self.len));
         }
-        let Reading { entries, .. } = self;
-        Ok(Book::of_ordered(entries))
+        Ok(Book::of_ordered(self.entries))
     }
 
     /// Reads the source to its end, into the chunk.
