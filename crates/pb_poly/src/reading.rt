@@ -93,7 +93,6 @@ impl Reading {
     fn hold(&mut self, bytes: &[u8]) -> usize
         ensures count { result ≡ min (16 - length self.old.1) (length bytes.now) }
         ensures held { self.new ≡ (self.old.0, self.old.1 ++ take result bytes.now) }
-        ensures room { length self.new.1 ≤ 16 }
     {
         let count = (ENTRY_LEN - self.len).min(bytes.len());
         let end = self.len + count;
