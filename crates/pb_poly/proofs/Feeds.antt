@@ -1,6 +1,6 @@
 -- Entries out of bytes that come in pieces.
 use Rattle.std.proofs.Common.{Ok, take-append-drop, ◌≡◌, ℕ, ◌-◌, ◌<◌, ◌≤◌, List, [], ◌∷◌, ◌++◌, length, take, drop, refl, sym, ap, inr, ◌∙◌, subst, append_assoc, arith}
-use Rattle.std.proofs.lemmas.List.{append-nil, nil_from_length, take_rest}
+use Rattle.std.proofs.lemmas.List.{append-nil, nil_from_length, take_all, take_rest}
 use Rattle.pb_board.proofs.Breaks.{breaks_from}
 use Rattle.pb_io.specs.Source.{Fill, SourceState}
 use Rattle.pb_io.specs.Reads.{ReadsFront, ReadsOn, ReadsSome, chunk_len}
@@ -48,20 +48,22 @@ Fails-whole came entries part bytes n entry e h whole one refuses = (
 abbrev Front : Type 0
 Front = List Entry × List ℕ
 
-pub Fails-held : (came bytes : List ℕ) (old held cleared : Front) (n : ℕ) (entry : Entry) (e : BookError) → Splits came old.0 old.1 → held ≡ (old.0, old.1 ++ take n bytes)
-    → entry_bytes entry ≡ held.1 → IsEntry entry → cleared ≡ (held.0, []) → RefusesEntry cleared.0 entry e → FailsWithin came bytes e
-Fails-held came bytes old held cleared n entry e h is whole one none refuses =
-    Fails-whole came old.0 old.1 bytes n entry e h (sym (whole ∙ ap (λ (x : Front). x.1) is)) one
-    (subst (λ (es : List Entry). RefusesEntry es entry e) (ap (λ (x : Front). x.0) none ∙ ap (λ (x : Front). x.0) is) refuses)
+-- a part that fills the array is all of it
+pub held_whole : (entries : List Entry) (part : List ℕ) (len : ℕ) (front : Front) → length part ≤ len → (entries, take len part) ≡ front → (entries, part) ≡ front
+held_whole entries part len front full is = ap (λ (bytes : List ℕ). (entries, bytes)) (sym (take_all len part full)) ∙ is
 
-pub Splits-held : (came bytes : List ℕ) (old held cleared new : Front) (n : ℕ) (entry : Entry) → Splits came old.0 old.1 → held ≡ (old.0, old.1 ++ take n bytes)
-    → entry_bytes entry ≡ held.1 → IsEntry entry → cleared ≡ (held.0, []) → new.0 ≡ cleared.0 ++ entry ∷ [] → new.1 ≡ cleared.1 → NeverFall new.0 → Splits (came ++ take n bytes) new.0 new.1
-Splits-held came bytes old held cleared new n entry h is whole one none added same ordered =
-    let entries : new.0 ≡ old.0 ++ entry ∷ [] = added ∙ ap (λ es. es ++ entry ∷ []) (ap (λ (x : Front). x.0) none ∙ ap (λ (x : Front). x.0) is) in
-    let part : new.1 ≡ [] = same ∙ ap (λ (x : Front). x.1) none in
+pub Fails-held : (came bytes : List ℕ) (old held : Front) (n : ℕ) (entry : Entry) (e : BookError) → Splits came old.0 old.1 → held ≡ (old.0, old.1 ++ take n bytes)
+    → entry_bytes entry ≡ held.1 → IsEntry entry → RefusesEntry held.0 entry e → FailsWithin came bytes e
+Fails-held came bytes old held n entry e h is whole one refuses =
+    Fails-whole came old.0 old.1 bytes n entry e h (sym (whole ∙ ap (λ (x : Front). x.1) is)) one
+    (subst (λ (es : List Entry). RefusesEntry es entry e) (ap (λ (x : Front). x.0) is) refuses)
+
+pub Splits-held : (came bytes : List ℕ) (old held new : Front) (n : ℕ) (entry : Entry) → Splits came old.0 old.1 → held ≡ (old.0, old.1 ++ take n bytes)
+    → entry_bytes entry ≡ held.1 → IsEntry entry → new.0 ≡ held.0 ++ entry ∷ [] → new.1 ≡ [] → NeverFall new.0 → Splits (came ++ take n bytes) new.0 new.1
+Splits-held came bytes old held new n entry h is whole one added none ordered =
+    let entries : new.0 ≡ old.0 ++ entry ∷ [] = added ∙ ap (λ (x : Front). x.0 ++ entry ∷ []) is in
     let ordered' : NeverFall (old.0 ++ entry ∷ []) = subst (λ (es : List Entry). NeverFall es) entries ordered in
-    let at_old : Splits (came ++ take n bytes) (old.0 ++ entry ∷ []) [] = Splits-whole came old.0 old.1 (take n bytes) entry h (sym (whole ∙ ap (λ (x : Front). x.1) is)) one ordered' in
-    subst (λ (p : List ℕ). Splits (came ++ take n bytes) new.0 p) (sym part) (subst (λ (es : List Entry). Splits (came ++ take n bytes) es []) (sym entries) at_old)
+    rw (entries, none) (Splits-whole came old.0 old.1 (take n bytes) entry h (sym (whole ∙ ap (λ (x : Front). x.1) is)) one ordered')
 
 -- where no part is held, the first sixteen bytes are an entry
 pub whole_alone : (part bytes : List ℕ) (entry : Entry) → length part ≡ 0 → entry_bytes entry ≡ bytes → part ++ bytes ≡ entry_bytes entry

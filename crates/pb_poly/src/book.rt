@@ -89,12 +89,11 @@ fn first_fall(entries: &[Entry]) -> Option<usize>
     ensures { MatchOption result (NeverFall entries.now × All IsEntry entries.now) (BreaksAt NeverFall entries.now) }
 {
     let mut last = 0;
-    for (before, entry) in entries.iter().enumerate() {
-        let key = entry.key();
-        if key < last {
+    for (before, &entry) in entries.iter().enumerate() {
+        if entry.key < last {
             return Some(before + 1);
         }
-        last = key;
+        last = entry.key;
     }
     None
 }

@@ -23,20 +23,6 @@ pub struct Entry {
 }
 
 impl Entry {
-    /// The key, with the ranges of all parts.
-    pub(crate) fn key(&self) -> u64
-        ensures value { result ≡ self.now.key }
-        ensures rules { IsEntry self.now }
-    {
-        let Entry {
-            key,
-            code: _code,
-            weight: _weight,
-            learn: _learn,
-        } = *self;
-        key
-    }
-
     /// The sixteen bytes of the entry.
     pub(crate) fn to_bytes(self) -> [u8; 16]
         ensures { result ≡ entry_bytes self }

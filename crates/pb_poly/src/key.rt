@@ -4,9 +4,10 @@ ghost use Rattle.std.specs.Prelude.{◌≡◌, ◌<◌, ◌+◌, ◌*◌, ◌==�
 ghost use Rattle.pb_board.specs.Piece.{colour_number, kind_number, pawn_of};
 ghost use Rattle.pb_board.specs.Castling.{castling_row};
 ghost use Rattle.pb_board.specs.Board.{at, file, is_piece};
-ghost use Rattle.pb_board.specs.Position.{OnEnPassantRank, beyond as beyond_by};
+ghost use Rattle.pb_board.specs.Position.{IsSetup, OnEnPassantRank, beyond as beyond_by};
 ghost use Rattle.pb_poly.specs.Key.{IsKey, castling_place as castling_place_by, has_taker as has_taker_by, key as key_by, en_passant_offset, en_passant_places, piece_place as piece_place_by, piece_places, place_if, rights_places, turn_offset};
 ghost use Rattle.pb_poly.specs.KeyChange.{joined};
+ghost use Rattle.pb_poly.specs.Table.{IsTable};
 
 use crate::table::Table;
 use pb_board::{Castling, Colour, Kind, Piece, Rights, Setup, Square};
@@ -45,12 +46,14 @@ pub(crate) fn piece_place(piece: Piece, square: usize) -> usize
 
 /// The words of the pieces, joined.
 fn pieces_key(table: &Table, board: &[Option<Piece>; 64]) -> u64
-    ensures { result ≡ joined table.now 0 (piece_places board.now 0) }
+    ensures value { result ≡ joined table.now 0 (piece_places board.now 0) }
+    ensures rules { IsTable table.now }
 {
+    let words = table.words();
     let mut key = 0;
     for (square, place) in board.iter().enumerate() {
         if let Some(piece) = place {
-            key ^= table.word(piece_place(*piece, square));
+            key ^= words[piece_place(*piece, square)];
         }
     }
     key
@@ -141,7 +144,8 @@ pub(crate) fn en_passant_place(square: Square) -> usize
 /// The key, joined by the word of the en passant square where a pawn stands beside the pawn that has passed over it.
 #[inline(always)]
 pub(crate) fn with_en_passant(table: &Table, key: u64, setup: &Setup) -> u64
-    ensures { result ≡ joined table.now key (en_passant_places setup.now) }
+    ensures value { result ≡ joined table.now key (en_passant_places setup.now) }
+    ensures rules { IsSetup setup.now }
 {
     let turn = setup.turn();
     match setup.ep() {
@@ -157,10 +161,7 @@ pub(crate) fn with_en_passant(table: &Table, key: u64, setup: &Setup) -> u64
 fn with_turn(table: &Table, key: u64, turn: Colour) -> u64
     ensures { result ≡ joined table.now key (place_if (colour_number turn == 0) turn_offset) }
 {
-    match turn {
-        Colour::White => key ^ table.word(WHITE_TO_MOVE),
-        Colour::Black => key,
-    }
+    with_flag(table, key, turn == Colour::White, WHITE_TO_MOVE)
 }
 
 /// The key of a setup in PolyGlot books: the exclusive or of the table's words for each piece on its square, for each
@@ -172,8 +173,6 @@ pub fn key_of(table: &Table, setup: &Setup) -> u64
     ensures parity { IsKey table.now setup.now result }
     ensures value { result ≡ key_by table.now setup.now }
 {
-    // The reader tells that the table meets its rules.
-    let _words = table.words();
     let pieces = pieces_key(table, setup.board());
     let rights = with_rights(table, pieces, setup.rights());
     let en_passant = with_en_passant(table, rights, setup);

@@ -79,8 +79,6 @@ fn with_gone(table: &Table, key: u64, before: &Setup, m: Move, pawn: Piece) -> u
     ensures { (new : Board) → Case before.now m new → result ≡ joined table.now key (changed_places before.now.board new (beside_kind pawn.kind before.now.board m)) }
 {
     let (from, to) = (m.from(), m.to());
-    // The reader tells that the setup meets its rules.
-    let _turn = before.turn();
     if to.file() == from.file() || before.at(to).is_some() {
         return key;
     }
@@ -170,8 +168,6 @@ pub fn key_next(table: &Table, key: u64, before: &Setup, m: Move) -> u64
     ensures parity { PseudoLegal before.now m → IsKey table.now (setup_after before.now m) result }
     ensures value { PseudoLegal before.now m → result ≡ key_by table.now (setup_after before.now m) }
 {
-    // The readers tell that the table and the setup meet their rules.
-    let (_words, _turn) = (table.words(), before.turn());
     let Some(piece) = before.at(m.from()) else {
         return key;
     };
@@ -193,7 +189,5 @@ pub fn key_after(table: &Table, key: u64, before: &Setup, m: Move, after: &Setup
     ensures parity { IsKey table.now after.now result }
     ensures value { result ≡ key_by table.now after.now }
 {
-    // The readers tell that the table and the setup meet their rules.
-    let (_words, _turned) = (table.words(), after.turn());
     key_next(table, key, before, m)
 }

@@ -89,34 +89,10 @@ impl Reading {
         }
     }
 
-    /// How many bytes of the next entry are there.
-    fn part_len(&self) -> usize
-        ensures { result ≡ length self.now.1 }
-    {
-        self.part[..self.len].len()
-    }
-
-    /// The entry that the whole part spells.
-    fn part_entry(&self) -> Entry
-        requires { length self.now.1 ≡ 16 }
-        ensures bytes { entry_bytes result ≡ self.now.1 }
-        ensures rules { IsEntry result }
-    {
-        Entry::from_bytes(&self.part[..self.len])
-    }
-
-    /// Forgets the part.
-    fn clear_part(&mut self)
-        ensures { self.new ≡ (self.old.0, []) }
-    {
-        self.len = 0;
-    }
-
     /// Takes as many bytes as the part has room for, and answers how many.
     fn hold(&mut self, bytes: &[u8]) -> usize
         ensures count { result ≡ min (16 - length self.old.1) (length bytes.now) }
         ensures held { self.new ≡ (self.old.0, self.old.1 ++ take result bytes.now) }
-        ensures room { length self.new.1 ≤ 16 }
     {
         let count = (ENTRY_LEN - self.len).min(bytes.len());
         let end = self.len + count;
@@ -135,14 +111,14 @@ impl Reading {
         ensures err { (came : List ℕ) → Splits came self.old.0 self.old.1 → IfErr result (FailsWithin came bytes.now) }
     {
         // An entry that stands whole in the bytes isn't copied.
-        if self.part_len() == 0 && bytes.len() >= ENTRY_LEN {
+        if self.len == 0 && bytes.len() >= ENTRY_LEN {
             self.add(Entry::from_bytes(&bytes[..ENTRY_LEN]))?;
             return Ok(ENTRY_LEN);
         }
         let count = self.hold(bytes);
-        if self.part_len() == ENTRY_LEN {
-            let entry = self.part_entry();
-            self.clear_part();
+        if self.len == ENTRY_LEN {
+            let entry = Entry::from_bytes(&self.part);
+            self.len = 0;
             self.add(entry)?;
         }
         Ok(count)
@@ -168,12 +144,10 @@ impl Reading {
         ensures ok { IfOk result (λ book. (book ≡ self.0) × (self.1 ≡ [])) }
         ensures err { IfErr result (λ e. (e ≡ Cut (length self.1)) × (0 < length self.1)) }
     {
-        let extra = self.part_len();
-        if extra > 0 {
-            return Err(BookError::Cut(extra));
+        if self.len > 0 {
+            return Err(BookError::Cut(self.len));
         }
-        let Reading { entries, .. } = self;
-        Ok(Book::of_ordered(entries))
+        Ok(Book::of_ordered(self.entries))
     }
 
     /// Reads the source to its end, into the chunk.

@@ -58,7 +58,8 @@ impl Table {
     /// The word at a place.
     pub fn word(&self, place: usize) -> u64
         requires { place < 781 }
-        ensures { result ≡ slice_index self.now place }
+        ensures value { result ≡ slice_index self.now place }
+        ensures rules { IsTable self.now }
     {
         self.words[place]
     }
@@ -76,55 +77,43 @@ fn first_line(bytes: &[u8]) -> (&[u8], &[u8])
     }
 }
 
-/// The word that these digits write.
-fn word_of_digits(digits: &[u8]) -> Option<u64>
-    ensures { MatchOption result ((word : ℕ) → ¬ WritesRandom digits.now word) (WritesRandom digits.now) }
+/// Reads the word that the line spells.
+fn word_of(line: &[u8]) -> Option<u64>
+    ensures { MatchOption result (¬ IsRandomLine line.now) (SpellsRandom line.now) }
 {
     let mut bytes = [0; 8];
-    match hex::decode_to_slice(digits, &mut bytes) {
+    match hex::decode_to_slice(without_return(line), &mut bytes) {
         Ok(()) => Some(u64::from_be_bytes(bytes)),
         Err(_) => None,
     }
 }
 
-/// The word that the line spells.
-fn word_of(line: &[u8]) -> Option<u64>
-    ensures { MatchOption result (¬ IsRandomLine line.now) (SpellsRandom line.now) }
-{
-    word_of_digits(without_return(line))
-}
-
-/// How many lines there are, where each of them spells a word.
-fn count_lines(bytes: &[u8]) -> Result<usize, TableError>
-    ensures ok { IfOk result (λ count. (count ≡ length (lines bytes.now)) × All IsRandomLine (lines bytes.now)) }
+/// Reads the words that the lines spell.
+fn words_of(bytes: &[u8]) -> Result<[u64; TABLE_LEN], TableError>
+    ensures ok { IfOk result (λ words. TableText words bytes.now) }
     ensures err { IfErr result (λ e. IsDueTable e bytes.now) }
 {
+    // An array, so that no memory is taken for bytes that are no table.
+    let mut words = [0; TABLE_LEN];
     let mut rest = bytes;
     let mut count = 0;
     while !rest.is_empty() {
         let (line, after) = first_line(rest);
-        count += 1;
-        if word_of(line).is_none() {
-            return Err(TableError::Line(count));
+        let Some(word) = word_of(line) else {
+            return Err(TableError::Line(count + 1));
+        };
+        // Lines beyond the table's are judged too, and counted.
+        if count < TABLE_LEN {
+            words[count] = word;
         }
+        count += 1;
         rest = after;
     }
-    Ok(count)
-}
-
-/// The words that the lines spell.
-fn words_of(alloc: Global, bytes: &[u8]) -> Result<Vec<u64>, AllocError>
-    requires { All IsRandomLine (lines bytes.now) }
-    ensures { IfOk result (λ words. AllZip SpellsRandom (lines bytes.now) words.items) }
-{
-    let mut words = Vec::with_capacity(alloc, TABLE_LEN)?;
-    let mut rest = bytes;
-    while !rest.is_empty() {
-        let (line, after) = first_line(rest);
-        words.push(word_of(line).unwrap())?;
-        rest = after;
+    if count == TABLE_LEN {
+        Ok(words)
+    } else {
+        Err(TableError::Count(count))
     }
-    Ok(words)
 }
 
 /// The table of a file: 781 lines of 16 hexadecimal digits of either case, one for each word. LF ends a line, the last LF
@@ -139,11 +128,8 @@ pub fn read_table(alloc: Global, bytes: &[u8]) -> Result<Table, TableError>
     ensures only { (words : List ℕ) → TableText words bytes.now → MatchResult result (λ t. t ≡ words) (λ e. e ≡ Memory) }
     ensures refused { IfErr result (λ e. IsDueTable e bytes.now) }
 {
-    let count = count_lines(bytes)?;
-    if count != TABLE_LEN {
-        return Err(TableError::Count(count));
-    }
-    match words_of(alloc, bytes) {
+    let words = words_of(bytes)?;
+    match Vec::from_array(alloc, words) {
         Ok(words) => Ok(Table { words }),
         Err(_) => Err(TableError::Memory),
     }

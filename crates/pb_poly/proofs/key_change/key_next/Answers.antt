@@ -24,8 +24,8 @@ returns c =
     let s = c.args.before.now in
     let m = c.args.m in
     let p = c.in-Some.piece in
-    let ok = c.turn-turn.ensures.rules in
-    let table = c.words-words.ensures.rules in
+    let ok = c.with_en_passant-cleared.ensures.rules in
+    let table = c.word.ensures.rules in
     let carried = c.with_carried-carried.result in
     let pieces = c.with_beside-pieces.result in
     let stepped = c.with_stepped-stepped.result in
@@ -44,10 +44,10 @@ returns c =
       pieces_is = all_squares words s.board t.board m squares c.args.key carried pieces (c.with_carried-carried.ensures t.board x.moves) (c.with_beside-pieces.ensures t.board x.moves);
       rights_is = c.with_lost-rights.ensures ∙ ap (λ (r : Rights). joined words pieces (lost_places r (rights_after r m))) c.rights.ensures
           ∙ ap (λ (r : Rights). joined words pieces (lost_places s.rights r)) (sym (rights_are s m t ok x));
-      cleared_is = c.with_en_passant-cleared.ensures;
+      cleared_is = c.with_en_passant-cleared.ensures.value;
       stepped_is = c.with_stepped-stepped.ensures t x;
       turn = x.turn;
-      is = ap (λ n. bit_xor stepped n) c.word.ensures;
+      is = ap (λ n. bit_xor stepped n) c.word.ensures.value;
     }) in
     let value : PseudoLegal s m → l ≡ key words (after s m) = λ moves. only (after s m) (moves_after s m ok moves) in
     let P : ℕ → Type 0 = λ k. IsKey words (after s m) k in

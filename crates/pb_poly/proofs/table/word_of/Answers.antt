@@ -1,5 +1,9 @@
-use Rattle.pb_poly.proofs.Tables.{word_of_line}
+use Rattle.pb_poly.proofs.Digits.{unwritten, written}
 use Rattle.pb_poly.proofs.table.word_of.Goals as goal
 
-pub returns : goal.returns
-returns c = word_of_line c.args.line.now c.without_return.result.now c.word_of_digits.result c.without_return.ensures c.word_of_digits.ensures
+pub returns-in-Ok : goal.returns-in-Ok
+returns-in-Ok c =
+    written _ c.decode_to_slice.new.out c.from_be_bytes.result (rw (← c.without_return.ensures) c.in-Ok.ensures.value) c.from_be_bytes.ensures
+
+pub returns-in-Err : goal.returns-in-Err
+returns-in-Err c = λ s. unwritten _ c.in-Err.field-0 c.decode_to_slice.new.out (rw (← c.without_return.ensures) c.in-Err.ensures.value) s.0 s.1
