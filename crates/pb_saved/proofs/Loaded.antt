@@ -244,6 +244,7 @@ module _ {T : Type 0} where
         → StopsAtLast TakesLine s ls e t → Stopped s t e ls × KeepsLedger s.ledger t.ledger
     last_of e ls few = stopped s t ls fresh (omega (arith, small, few)) e
 
+    -- by a fault of reading
     unread : (fault : ReadFault) → ReadUntil TakesLine fills old new s t fault
         → Ends (load_error fault) × KeepsLedger s.ledger t.ledger
     unread fault.Read h = (
@@ -259,6 +260,7 @@ module _ {T : Type 0} where
       subst (λ (x : Loader T). KeepsLedger s.ledger x.ledger) (sym h.1) (KeepsLedger-same s.ledger),
     )
 
+    -- at a line
     ends_at : (e : LoadError) → AtLine fills old new (Stopped s t e) → Ends e
     ends_at (error.Line n) h = h
     ends_at error.Memory h = inr h

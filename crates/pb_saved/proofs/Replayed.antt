@@ -3,7 +3,8 @@ use Rattle.std.proofs.Common.{◌≡◌, ◌≢◌, ℕ, Bool, List, [], ◌∷�
 use Rattle.std.proofs.lemmas.List.Elements.{All-cons, All-nil}
 use Rattle.pb_io.specs.Sink.{SinkState}
 use Rattle.pb_io.specs.Source.{SourceState}
-use Rattle.pb_io.specs.Lines.{ended_lines}
+use Rattle.pb_io.specs.Lines.{ended_lines, is_torn}
+use Rattle.pb_io.specs.Reads.{ReadsAll, chunk_len}
 use Rattle.pb_io.specs.LineTask.{ReadUntil, StopsAtLast, TakesAll, TakesEnded, TakesEndedUntil}
 use Rattle.pb_io.specs.Fault.{fault_of}
 use Rattle.pb_io.specs.declared.fault.Fault.{Fault}
@@ -12,13 +13,21 @@ use Rattle.pb_io.specs.declared.fault.ReadFault.TheVariants as read
 use Rattle.pb_io.proofs.EndLemmas.{AtEndedLine-weaker, AtFault-weaker, AtNoEnd-weaker}
 use Rattle.pb_games.specs.declared.refusal.Refusal.TheVariants as refusal
 use Rattle.pb_accepted.specs.Accepting.{Answer, Run, Step}
+use Rattle.pb_accepted.specs.Ledger.{LedgerState}
 use Rattle.pb_accepted.proofs.Steps.{refusal_step}
-use Rattle.pb_saved.specs.Journal.{Replays}
+use Rattle.pb_saved.specs.Journal.{Journals, Replays}
 use Rattle.pb_saved.specs.Lending.{KeepsLedger}
 use Rattle.pb_saved.specs.declared.replaying.Replayer.{Replayer}
-use Rattle.pb_saved.specs.Replayer.{HoldsGames, TakesLine}
+use Rattle.pb_saved.specs.Replayer.{TakesLine}
 use Rattle.pb_saved.specs.Replaying.{ReplaysUntil, WantsMemoryFor}
 use Rattle.pb_saved.proofs.Loaded.{KeepsLedger-same, KeepsLedger-then}
+
+-- all bytes of the journal came, the ledger holds its games, and this is whether its end is torn
+pub record HoldsGames (fills : ℕ) (source source' : SourceState) (old new : LedgerState) (torn : Bool) : Type 0 where
+  pub came : List ℕ
+  pub reads : ReadsAll chunk_len fills source source' came
+  pub holds : Journals old.cap came new.accepted
+  pub left : torn ≡ is_torn came
 
 module _ {T W : Type 0} where
   -- lines that were submitted, none of them refused for want of memory
@@ -84,6 +93,7 @@ module _ {T W : Type 0} where
     abbrev Ends : Fault → Type 0
     Ends fault = (j : SinkState) → ReplaysUntil fills old new j j s.ledger.now t.ledger.now fault
 
+    -- by a fault of reading
     unread : (read : ReadFault) → ReadUntil TakesLine fills old new s t read
         → Ends (fault_of read) × KeepsLedger s.ledger t.ledger
     unread read.Read h = (

@@ -1,14 +1,9 @@
 -- What the replayer does with a line.
-use Rattle.std.specs.Prelude.{◌≡◌, ◌≢◌, ℕ, Bool, List, Result, Ok, Err}
-use Rattle.pb_io.specs.Lines.{is_torn}
-use Rattle.pb_io.specs.Reads.{ReadsAll, chunk_len}
-use Rattle.pb_io.specs.Source.{SourceState}
+use Rattle.std.specs.Prelude.{◌≡◌, ◌≢◌, ℕ, List, Result, Ok, Err}
 use Rattle.pb_io.specs.declared.fault.Fault.{Fault}
 use Rattle.pb_io.specs.declared.fault.Fault.TheVariants.{Memory}
 use Rattle.pb_games.specs.declared.refusal.Refusal.TheVariants as refusal
 use Rattle.pb_accepted.specs.Accepting.{Answer, Step}
-use Rattle.pb_accepted.specs.Ledger.{LedgerState}
-use Rattle.pb_saved.specs.Journal.{Journals}
 use Rattle.pb_saved.specs.Lending.{KeepsLedger}
 use Rattle.pb_saved.specs.declared.replaying.Replayer.{Replayer}
 
@@ -23,10 +18,3 @@ pub record TakesLine {T W : Type 0} (s : Replayer T W) (line : List ℕ) (result
   pub step : Step s.ledger.now.cap s.ledger.now.accepted line answer t.ledger.now.accepted
   pub stops : Stops answer result
   pub keeps : KeepsLedger s.ledger t.ledger
-
--- all bytes of the journal came, the ledger holds its games, and this is whether its end is torn
-pub record HoldsGames (fills : ℕ) (source source' : SourceState) (old new : LedgerState) (torn : Bool) : Type 0 where
-  pub came : List ℕ
-  pub reads : ReadsAll chunk_len fills source source' came
-  pub holds : Journals old.cap came new.accepted
-  pub left : torn ≡ is_torn came

@@ -1,9 +1,8 @@
 //! A ledger from the lines of a file.
 
-ghost use Rattle.std.specs.Prelude.{◌≡◌, [], false, IfErr, IfOk, OnOk};
-ghost use Rattle.pb_saved.specs.Lending.{KeepsLedger};
+ghost use Rattle.std.specs.Prelude.{◌≡◌, [], IfErr, IfOk};
 ghost use Rattle.pb_saved.specs.Loader.{Submits, error_at, load_error};
-ghost use Rattle.pb_saved.specs.Loading.{LoadsAll, LoadsSaved, LoadsStream, LoadsUntil};
+ghost use Rattle.pb_saved.specs.Loading.{LoadsSaved, LoadsStream, LoadsUntil};
 
 use crate::saving::HEADER;
 use pb_accepted::Ledger;
@@ -90,25 +89,6 @@ impl<T: Tally> LineTask for Loader<'_, T> {
     }
 }
 
-impl<T: Tally> Loader<'_, T> {
-    /// Takes the lines of the source.
-    fn take_all<S: Source>(
-        &mut self,
-        alloc: Global,
-        source: &mut S,
-        fills: u32,
-    ) -> Result<(), LoadError>
-        requires first { self.old.lines ≡ 0 }
-        requires unsaved { self.old.is_saved ≡ false }
-        requires empty { self.old.ledger.now.accepted ≡ [] }
-        ensures ok { OnOk result (LoadsAll fills (S.state source.old) (S.state source.new) self.old.ledger.now self.new.ledger.now) }
-        ensures err { IfErr result (LoadsUntil fills (S.state source.old) (S.state source.new) self.old.ledger.now self.new.ledger.now) }
-        ensures same { KeepsLedger self.old.ledger self.new.ledger }
-    {
-        take_lines(alloc, source, self, fills)
-    }
-}
-
 /// What a refusal of the line with this number is to the loading.
 fn refused_at(number: u64, refusal: Refusal) -> LoadError
     ensures { result ≡ error_at number refusal }
@@ -149,6 +129,6 @@ pub fn load<T: Tally, S: Source>(
         lines: 0,
         is_saved: false,
     };
-    loader.take_all(alloc, source, fills)?;
+    take_lines(alloc, source, &mut loader, fills)?;
     Ok(loader.ledger.len())
 }

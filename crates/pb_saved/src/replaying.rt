@@ -1,11 +1,9 @@
 //! A ledger from the lines of a journal.
 
-ghost use Rattle.std.specs.Prelude.{◌≡◌, [], Err, IfErr, IfOk, OnOk};
-ghost use Rattle.pb_io.specs.Sink.{SinkState};
+ghost use Rattle.std.specs.Prelude.{◌≡◌, [], Err, IfErr, OnOk};
 ghost use Rattle.pb_io.specs.Writes.{Writes};
 ghost use Rattle.pb_saved.specs.Journal.{seal};
-ghost use Rattle.pb_saved.specs.Lending.{KeepsLedger};
-ghost use Rattle.pb_saved.specs.Replayer.{HoldsGames, Stops};
+ghost use Rattle.pb_saved.specs.Replayer.{Stops};
 ghost use Rattle.pb_saved.specs.Replaying.{ReplaysAll, ReplaysUntil};
 
 use crate::passed::PassedLines;
@@ -73,23 +71,6 @@ impl<T: Tally, W: PassedLines> LineTask for Replayer<'_, T, W> {
     }
 }
 
-impl<T: Tally, W: PassedLines> Replayer<'_, T, W> {
-    /// Takes the lines of the source that an LF ended. The answer is whether bytes are left after the last.
-    fn take_all<S: Source>(
-        &mut self,
-        alloc: Global,
-        source: &mut S,
-        fills: u32,
-    ) -> Result<bool, Fault>
-        requires { self.old.ledger.now.accepted ≡ [] }
-        ensures ok { IfOk result (HoldsGames fills (S.state source.old) (S.state source.new) self.old.ledger.now self.new.ledger.now) }
-        ensures err { IfErr result (λ e. (j : SinkState) → ReplaysUntil fills (S.state source.old) (S.state source.new) j j self.old.ledger.now self.new.ledger.now e) }
-        ensures same { KeepsLedger self.old.ledger self.new.ledger }
-    {
-        take_ended_lines(alloc, source, self, fills)
-    }
-}
-
 /// Takes the games of a journal into a ledger that holds none, and mends the journal's end.
 ///
 /// Each line that an LF ended is submitted. One that is refused changes nothing, and want of memory ends the replay, since the game of that
@@ -135,7 +116,7 @@ pub fn replay<T: Tally, S: Source, J: Sink, W: PassedLines>(
         passed,
         lines: 0,
     };
-    let is_torn = replayer.take_all(alloc, source, fills)?;
+    let is_torn = take_ended_lines(alloc, source, &mut replayer, fills)?;
     if is_torn {
         put_seal(journal)?;
     }

@@ -1,21 +1,39 @@
-use Rattle.std.proofs.Common.{rules, refl}
+use Rattle.std.proofs.Common.{rules, refl, Ok, Err}
 use Rattle.std.proofs.lemmas.Result.{err_from_is_err_and}
+use Rattle.pb_saved.proofs.Loaded.{ends_of}
 use Rattle.pb_saved.proofs.SavedLoading.{loaded_whole, only_memory}
 use Rattle.pb_saved.proofs.loading.load.Goals as goal
 
-pub returns-in_err-take_all-clause-saved : goal.returns-in_err-take_all-clause-saved
-returns-in_err-take_all-clause-saved g c A bytes games own room saved tells =
-    let state = g.S.Source.state in
+pub returns-in_err-take_lines : goal.returns-in_err-take_lines
+returns-in_err-take_lines g c =
+    let old = c.args.ledger.now in
+    let made = c.take_lines.new.task in
     let is = err_from_is_err_and c.from_residual.result c.from_residual.ensures.1 in
-    rw (is.1, is.2) (
-    only_memory c.args.ledger.now.cap A bytes games own room saved c.args.fills
-    (state c.args.source.now) (state c.take_all.new.source) tells
-    c.args.ledger.now c.take_all.new.self.ledger.now refl c.in_err-take_all.field-0.0 c.in_err-take_all.ensures.err)
+    let error = c.in_err-take_lines.field-0.0 in
+    let ends = ends_of _ _ _ _ made (refl, refl, c.requires) c.ranges.fills.fits (Err error) tt
+    c.in_err-take_lines.ensures.err in
+    rw (is.1, is.2) (record {
+      ok = tt;
+      fault = search rules;
+      saved = λ A bytes games own room saved tells.
+          only_memory _ A bytes games own room saved _ _ _ tells old made.ledger.now refl error ends.1;
+      basis = search rules;
+      cap = search rules;
+    })
 
-pub returns-clause-saved : goal.returns-clause-saved
-returns-clause-saved g c A bytes games own room saved tells =
-    let state = g.S.Source.state in
-    let whole = loaded_whole c.args.ledger.now.cap A bytes games own room saved c.args.fills
-    (state c.args.source.now) (state c.take_all.new.source) tells
-    c.args.ledger.now c.take_all.new.self.ledger.now refl c.len.result (c.in_ok-take_all.ensures.ok, c.len.ensures.value) in
-    search rules
+pub returns : goal.returns
+returns g c =
+    let old = c.args.ledger.now in
+    let made = c.take_lines.new.task in
+    let ends = ends_of _ _ _ _ made (refl, refl, c.requires) c.ranges.fills.fits (Ok tt)
+    c.in_ok-take_lines.ensures.ok tt in
+    record {
+      ok = search rules;
+      fault = tt;
+      saved = λ A bytes games own room saved tells.
+          let whole = loaded_whole _ A bytes games own room saved _ _ _ tells old made.ledger.now refl
+          c.len.result (ends.0, c.len.ensures.value) in
+          search rules;
+      basis = search rules;
+      cap = search rules;
+    }
