@@ -67,7 +67,7 @@ module _ (rules : CountingRules) (fills : ℕ) (t t' s s' : SourceState) (d d' s
   fails_blamed fault (runs.broke ledger f first (inr (left, e, takes, until, is)) same) = subst Blames (cc) (blame_export left sink sink' f e until is)
   fails_blamed fault (runs.untold out count judged put fails flushes same) =
       subst Blames (cc) (record { only = λ is. fails; always = λ works fails. refl })
-  fails_blamed fault (runs.stopped f (lacks, rest) kept same) =
+  fails_blamed fault (runs.stopped f (lacks, unread, quiet) kept same) =
       subst Blames (cc) (no_blame sink sink' f (λ is. never_writes lacks.cause (sym (ap (λ (x : Fault). Err x) is) ∙ lacks.is)) kept)
 
   pub blame : (result : Result Bool Fault) → ExportRun rules fills t t' s s' d d' sink sink' result → IfErr result Blames

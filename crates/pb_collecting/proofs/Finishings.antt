@@ -22,18 +22,22 @@ module _ (fills : ℕ) (s s' : SourceState) (j j' sink sink' : SinkState) (ledge
   abbrev Ends : Result (List Entry) Fault → Type 0
   Ends = Finishes fills s s' j j' sink sink' ledger left
 
+  -- the sink was left as it was before
+  pub from_sink : (before : SinkState) → sink ≡ before → (result : Result (List Entry) Fault) → Ends result → Finishes fills s s' j j' before sink' ledger left result
+  from_sink before same result h = subst (λ (m : SinkState). Finishes fills s s' j j' m sink' ledger left result) same h
+
   -- with a journal that never fails, in which nobody looks
   pub unjournaled : j'.failed ≡ false → (result : Result (List Entry) Fault) → Ends result
       → MakesBook (λ l. Takes fills s s' sink sink' ledger l × (l ≡ left)) (CollectsUntil fills s s' sink sink' ledger left) result
-  unjournaled works (Ok entries) (l, (takes, gains, same), book) = (l, (takes, same), book)
+  unjournaled works (Ok entries) (l, (takes, gains, same), book, ordered, bounds) = (l, (takes, same), book, ordered, bounds)
   unjournaled works (Err fault) (inl (Lines e, until, is)) = inl (subst (CollectsUntil fills s s' sink sink' ledger left) (sym is) until.0)
   unjournaled works (Err fault) (inl (Journal, until, is)) = absurd (cc (sym until.2 ∙ works))
-  unjournaled works (Err fault) (inr (memory, l, (takes, gains, same))) = inr (memory, (l, (takes, same)))
+  unjournaled works (Err fault) (inr (memory, (l, (takes, gains, same)))) = inr (memory, (l, (takes, same)))
 
   -- the same, whatever ledger is left
   pub collected : j'.failed ≡ false → (result : Result (List Entry) Fault) → Ends result
       → MakesBook (Takes fills s s' sink sink' ledger) (BreaksOff fills s s' sink sink' ledger) result
-  collected works (Ok entries) (l, (takes, gains, same), book) = (l, takes, book)
+  collected works (Ok entries) (l, (takes, gains, same), book, ordered, bounds) = (l, takes, book, ordered, bounds)
   collected works (Err fault) h = elim (unjournaled works (Err fault) h) [
     | inl until ↦ inl (left, until)
     | inr memory ↦ inr (memory.0, (memory.1.0, memory.1.1.0))
@@ -43,9 +47,9 @@ module _ (fills : ℕ) (s s' : SourceState) (j j' sink sink' : SinkState) (ledge
   pub journaled : (result : Result (List Entry) Fault) → Ends result
       → MakesBook (λ l. Takes fills s s' sink sink' ledger l × Gains j j' ledger.accepted l.accepted)
       (λ fault. (e : JournalFault) × (l : LedgerState) × JournalsUntil fills s s' sink sink' j j' ledger l e × (fault ≡ fault_of_journal e)) result
-  journaled (Ok entries) (l, (takes, gains, same), book) = (l, (takes, gains), book)
+  journaled (Ok entries) (l, (takes, gains, same), book, ordered, bounds) = (l, (takes, gains), book, ordered, bounds)
   journaled (Err fault) (inl (e, until, is)) = inl (e, left, until, is)
-  journaled (Err fault) (inr (memory, l, (takes, gains, same))) = inr (memory, (l, (takes, gains)))
+  journaled (Err fault) (inr (memory, (l, (takes, gains, same)))) = inr (memory, (l, (takes, gains)))
 
   -- from what the two calls do
   pub broke_off : (e : JournalFault) → JournalsUntil fills s s' sink sink' j j' ledger left e → Ends (Err (fault_of_journal e))

@@ -41,7 +41,7 @@ module _ (rules : CountingRules) (fills : ℕ) (t t' v v' s s' : SourceState) (j
 
   unread : (verdict : Verdict) → (LacksTable fills t t' verdict × (v' ≡ v) × (j' ≡ j) × (s' ≡ s))
       ⊎ ((fault : Fault) × ReplaysNot rules fills t t' v v' j j' fault × (verdict ≡ Err fault) × (s' ≡ s)) → Unless IsSafe
-  unread verdict (inl h) = inl h.1.2.1
+  unread verdict (inl h) = inl h.3
   unread verdict (inr h) = inl h.3
 
   module _ (result : Result (Option (List Entry)) Fault) where
@@ -54,11 +54,11 @@ module _ (rules : CountingRules) (fills : ℕ) (t t' v v' s s' : SourceState) (j
     headline (runs.stopped fault judged kept same) = subst Heads (sym same) tt
 
     is_safe : JournalRun rules fills t t' v v' s s' j j' sink sink' result → Unless IsSafe
-    is_safe (runs.went m entries first (left, (takes, gains), book) same) =
+    is_safe (runs.went m entries first (left, (takes, gains), book, ordered, bounds) same) =
         safe m.1 m.0 first (stream_survives rules fills t t' v v' s s' j m.1 j' sink sink' m.0 first left takes gains)
     is_safe (runs.broke m fault first (inl (e, left, until, is)) same) =
         safe m.1 m.0 first (until_survives rules fills t t' v v' s s' j m.1 j' sink sink' m.0 first left e until)
-    is_safe (runs.broke m fault first (inr (memory, left, (takes, gains))) same) =
+    is_safe (runs.broke m fault first (inr (memory, (left, (takes, gains)))) same) =
         safe m.1 m.0 first (stream_survives rules fills t t' v v' s s' j m.1 j' sink sink' m.0 first left takes gains)
     is_safe (runs.told out judged put handed same) = unread _ judged
     is_safe (runs.untold out count judged put fails flushes same) = unread _ judged

@@ -39,17 +39,22 @@ saved_no load.Endless = refl
 saved_no load.Memory = refl
 
 says_no : (verdict : Verdict) → answers verdict ≡ false → (answer : Bool) (out : List ℕ) → Ok (answer, out) ≡ verdict → Ok (false, out) ≡ verdict
-says_no verdict no answer out is =
-    let said : answer ≡ false = ap answers is ∙ no in ap (λ (b : Bool). let v : Verdict = Ok (b, out) in v) (sym said) ∙ is
+says_no verdict denies answer out is =
+    let said : answer ≡ false = ap answers is ∙ denies in ap (λ (b : Bool). let v : Verdict = Ok (b, out) in v) (sym said) ∙ is
+
+-- an X is what was made
+abbrev pub made_of : {X : Type 0} → Result X Fault → Result (Option X) Fault
+made_of (Ok x) = Ok (Some x)
+made_of (Err fault) = Err fault
 
 module _ {M X : Type 0} (first : M → Type 0) (judges : Verdict → Type 0) (goes : M → Result X Fault → Type 0) (sink sink' : SinkState) where
   abbrev Ends : Result (Option X) Fault → Type 0
   Ends = RunEnds first judges goes sink sink'
 
   -- the line of a refusal was put, or a fault came
-  module _ (verdict : Verdict) (no : answers verdict ≡ false) (judged : judges verdict) where
+  module _ (verdict : Verdict) (denies : answers verdict ≡ false) (judged : judges verdict) where
     judged_no : (answer : Bool) (out : List ℕ) → Ok (answer, out) ≡ verdict → judges (Ok (false, out))
-    judged_no answer out is = subst judges (sym (says_no verdict no answer out is)) judged
+    judged_no answer out is = subst judges (sym (says_no verdict denies answer out is)) judged
 
     pub refused : (answer : Bool) → PutsOrEnds (λ v. v ≡ verdict) sink sink' (Ok answer) → Ends (Ok None)
     refused answer h = runs.told h.0.out (judged_no answer h.0.out h.0.judged) h.0.put h.1 refl
@@ -62,26 +67,31 @@ module _ {M X : Type 0} (first : M → Type 0) (judges : Verdict → Type 0) (go
 
   -- what comes of a run that wasn't opened
   module _ (rules : CountingRules) (fills : ℕ) (t t' : SourceState) (weaker : (verdict : Verdict) → LacksTable fills t t' verdict → judges verdict) where
-    pub unopened : Opens rules fills t t' sink sink' (Ok None) → Ends (Ok None)
-    unopened (runs.went m x first goes same) = absurd (cc)
-    unopened (runs.broke m fault first goes same) = absurd (cc)
-    unopened (runs.told out judged put handed same) = runs.told out (weaker _ judged) put handed refl
-    unopened (runs.untold out count judged put fails flushes same) = absurd (cc)
-    unopened (runs.stopped fault judged kept same) = absurd (cc)
+    pub unopened : (made : Option LedgerState) → made ≡ None → Opens rules fills t t' sink sink' (Ok made) → Ends (Ok None)
+    unopened made none (runs.went m x first goes same) = absurd (cc)
+    unopened made none (runs.broke m fault first goes same) = absurd (cc)
+    unopened made none (runs.told out judged put handed same) = runs.told out (weaker _ judged) put handed refl
+    unopened made none (runs.untold out count judged put fails flushes same) = absurd (cc)
+    unopened made none (runs.stopped fault judged kept same) = absurd (cc)
 
     pub not_opened : (fault : Fault) → Opens rules fills t t' sink sink' (Err fault) → Ends (Err fault)
     not_opened fault (runs.went m x first goes same) = absurd (cc)
     not_opened fault (runs.broke m f first goes same) = absurd (cc goes.0)
     not_opened fault (runs.told out judged put handed same) = absurd (cc)
-    not_opened fault (runs.untold out count judged put fails flushes same) = runs.untold out count (weaker _ judged) put fails flushes same
-    not_opened fault (runs.stopped f judged kept same) = runs.stopped f (weaker _ judged) kept same
+    not_opened fault (runs.untold out count judged put fails flushes same) = runs.untold out count (weaker _ judged) put fails flushes (cc)
+    not_opened fault (runs.stopped f judged kept same) = runs.stopped f (weaker _ judged) kept (cc)
+
+  -- it was begun, and went on to an X or a fault
+  pub begun : (m : M) → first m → (result : Result X Fault) → goes m result → Ends (made_of result)
+  begun m start (Ok x) h = runs.went m x start h refl
+  begun m start (Err fault) h = runs.broke m fault start h refl
 
 -- a run that was opened has a ledger without games, and the sink is as it was
-pub opened : (rules : CountingRules) (fills : ℕ) (t t' : SourceState) (sink sink' : SinkState) (ledger : LedgerState) → Opens rules fills t t' sink sink' (Ok (Some ledger))
-    → TakesTable rules fills t t' ledger × (sink' ≡ sink)
-opened rules fills t t' sink sink' ledger (runs.went m x first goes same) =
-    let is : ledger ≡ m = cc (same, goes.0) in (subst (TakesTable rules fills t t') (sym is) first, goes.1)
-opened rules fills t t' sink sink' ledger (runs.broke m fault first goes same) = absurd (cc)
-opened rules fills t t' sink sink' ledger (runs.told out judged put handed same) = absurd (cc)
-opened rules fills t t' sink sink' ledger (runs.untold out count judged put fails flushes same) = absurd (cc)
-opened rules fills t t' sink sink' ledger (runs.stopped fault judged kept same) = absurd (cc)
+pub opened : (rules : CountingRules) (fills : ℕ) (t t' : SourceState) (sink sink' : SinkState) (made : Option LedgerState) (ledger : LedgerState) → made ≡ Some ledger
+    → Opens rules fills t t' sink sink' (Ok made) → TakesTable rules fills t t' ledger × (sink' ≡ sink)
+opened rules fills t t' sink sink' made ledger some (runs.went m x first goes same) =
+    let is : ledger ≡ m = cc (some, same, goes.0) in (subst (TakesTable rules fills t t') (sym is) first, goes.1)
+opened rules fills t t' sink sink' made ledger some (runs.broke m fault first goes same) = absurd (cc)
+opened rules fills t t' sink sink' made ledger some (runs.told out judged put handed same) = absurd (cc)
+opened rules fills t t' sink sink' made ledger some (runs.untold out count judged put fails flushes same) = absurd (cc)
+opened rules fills t t' sink sink' made ledger some (runs.stopped fault judged kept same) = absurd (cc)

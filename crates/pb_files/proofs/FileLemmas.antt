@@ -1,5 +1,5 @@
 -- Lemmas on the steps of a file that is added to, and on what they leave.
-use Rattle.std.proofs.Common.{◌≡◌, ◌∙◌, ℕ, Bool, true, false, ◌+◌, ◌-◌, min, List, [], ◌++◌, Option, None, Some, Result, Ok, Err, IsErr, length, take, drop, refl, rules, sym, ap, subst, append_assoc, append-nil, arith}
+use Rattle.std.proofs.Common.{◌≡◌, ◌∙◌, ℕ, Bool, true, false, ◌+◌, ◌-◌, min, List, [], ◌++◌, Option, None, Some, Result, Ok, Err, IsErr, IfSome, length, take, drop, refl, rules, sym, ap, subst, append_assoc, append-nil, arith}
 use Rattle.std.specs.Option.{ForSome}
 use Rattle.std.specs.Prelude.{IfSome}
 use Rattle.std.specs.Io.KnownBytes.{Keeps}
@@ -114,7 +114,7 @@ told_on_disk_outlives (Some disk) on_disk = outlives disk (on_disk disk refl)
 -- ---- what lasts of a sink at the end of a file
 
 pub lasting_grows : (sync : Bool) (old new : Option Disk) → Steps Grows old new → Lasts (bytes_lasting sync old) (bytes_lasting sync new)
-lasting_grows sync None None grows = ([], tt)
+lasting_grows sync None None grows = refl
 lasting_grows sync None (Some new) grows = absurd grows
 lasting_grows sync (Some old) None grows = absurd grows
 lasting_grows true (Some old) (Some new) grows = kept-first old new grows
@@ -124,6 +124,11 @@ pub lasting_all : (sync : Bool) (told : Option Disk) → (sync ≡ true → ForS
 lasting_all sync None on_disk = refl
 lasting_all true (Some disk) on_disk = ap (λ (bytes : List ℕ). Some bytes) (on_disk refl disk refl ∙ sym (append-nil disk.found))
 lasting_all false (Some disk) on_disk = ap (λ (bytes : List ℕ). Some bytes) (sym (append-nil disk.found))
+
+-- where what lasts is what was put, all of it lasts
+pub all_last : (lasting bytes : Option (List ℕ)) → lasting ≡ bytes → IfSome lasting (λ last. bytes ≡ Some last)
+all_last None bytes is = tt
+all_last (Some last) bytes is = sym is
 
 -- a flush that failed
 pub flush_failed : {E : Type 0} (old new : SinkState) (answer : Result (Unit {0}) E) → IsErr answer → Keeps old.bytes new.bytes → Lasts old.lasting new.lasting

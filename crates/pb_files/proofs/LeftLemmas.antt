@@ -4,19 +4,19 @@ use Rattle.std.specs.Option.{ForSome}
 use Rattle.std.specs.Io.KnownBytes.{Appends}
 use Rattle.pb_io.specs.Sink.{AllLasts, SinkState}
 use Rattle.pb_io.specs.Source.{HandsOut, SourceState}
-use Rattle.pb_collecting.specs.JournalHeadline.{HoldsAnswered, Outlives}
+use Rattle.pb_collecting.specs.JournalHeadline.{HoldsAnswered, Outlives, Survives}
 use Rattle.pb_files.specs.Begins.{BeginsWith}
 use Rattle.pb_files.specs.Disk.{Disk, Grows, IsOnDisk}
 use Rattle.pb_files.specs.Journaling.{IsStarted, LeavesAnswered, MayBeLeft}
 use Rattle.pb_files.specs.JournalSink.{EndState, bytes_lasting, bytes_put}
-use Rattle.pb_files.proofs.FileLemmas.{crash-first, lasting_all}
+use Rattle.pb_files.proofs.FileLemmas.{all_last, crash-first, lasting_all}
 
 -- what comes first of what comes first
 begins-first : (all part first rest : List ℕ) → BeginsWith all part → part ≡ first ++ rest → BeginsWith all first
 begins-first all part first rest begins is = (rest ++ begins.0, begins.1 ∙ ap (λ bs. bs ++ begins.0) is ∙ append_assoc first rest begins.0)
 
 module _ (sync : Bool) (disk : Disk) (old new : EndState) (reader reader' s s' : SourceState) (j j' sink sink' : SinkState) (started : IsStarted sync disk old reader)
-    (put : j.bytes ≡ bytes_put old.told old.waits) (lasting : j.lasting ≡ bytes_lasting sync old.told) (lasting' : j'.lasting ≡ bytes_lasting sync new.told) where
+    (put : j.bytes ≡ bytes_put old.told old.waits) (put' : j'.bytes ≡ bytes_put new.told new.waits) (lasting : j.lasting ≡ bytes_lasting sync old.told) (lasting' : j'.lasting ≡ bytes_lasting sync new.told) where
   on_disk : sync ≡ true → ForSome old.told IsOnDisk
   on_disk synced known is =
       let same : Some disk ≡ Some known = sym started.told ∙ is in
@@ -24,42 +24,56 @@ module _ (sync : Bool) (disk : Disk) (old new : EndState) (reader reader' s s' :
       subst IsOnDisk one (started.on_disk synced)
 
   all_lasts : AllLasts j
-  all_lasts = lasting ∙ lasting_all sync old.told on_disk ∙ sym (put ∙ ap (bytes_put old.told) started.none_waits)
+  all_lasts = all_last j.lasting j.bytes (lasting ∙ lasting_all sync old.told on_disk ∙ sym (put ∙ ap (bytes_put old.told) started.none_waits))
 
   found : j.bytes ≡ Some disk.found
   found = put ∙ ap (bytes_put old.told) started.none_waits ∙ ap (λ (known : Option Disk). bytes_put known []) started.told ∙ ap (λ (bytes : List ℕ). Some bytes) (append-nil disk.found)
 
-  -- what lasts begins with what it did, and so does what is left
-  left_first : (now : Disk) (gained behind : List ℕ) (mode : Bool) → Appends (Some disk.found) (bytes_lasting mode (Some now)) (gained ++ behind)
-      → (later : Disk) → Grows now later → (left : List ℕ) → MayBeLeft mode later left → BeginsWith left (disk.found ++ gained)
-  left_first now gained behind true lasts later grows left leaves =
-      begins-first left _ (disk.found ++ gained) behind (crash-first now later grows left leaves) (lasts ∙ sym (append_assoc disk.found gained behind))
-  left_first now gained behind false lasts later grows left leaves =
-      begins-first left now.found (disk.found ++ gained) behind (grows.0, leaves ∙ grows.1.found) (lasts ∙ sym (append_assoc disk.found gained behind))
+  -- the old bytes and then these last, whatever lasts behind them
+  abbrev LastBehind : Option (List ℕ) → List ℕ → Type 0
+  LastBehind known gained = IfSome known (λ lasting. (behind : List ℕ) × Appends (Some disk.found) (Some lasting) (gained ++ behind))
 
-  left_of : (known : Option Disk) → new.told ≡ known → (gained behind : List ℕ) → Appends (Some disk.found) (bytes_lasting sync known) (gained ++ behind)
-      → HoldsAnswered (disk.found ++ gained) s s' sink sink' → LeavesAnswered sync disk new s s' sink sink'
-  left_of None is_told gained behind lasts holds = absurd lasts
-  left_of (Some now) is_told gained behind lasts holds = record {
+  -- what lasts begins with what it did, and so does what is left
+  left_first : (now : Disk) (gained : List ℕ) (mode : Bool) → LastBehind (bytes_lasting mode (Some now)) gained
+      → (later : Disk) → Grows now later → (left : List ℕ) → MayBeLeft mode later left → BeginsWith left (disk.found ++ gained)
+  left_first now gained true lasts later grows left leaves =
+      begins-first left _ (disk.found ++ gained) lasts.0 (crash-first now later grows left leaves) (lasts.1 ∙ sym (append_assoc disk.found gained lasts.0))
+  left_first now gained false lasts later grows left leaves =
+      begins-first left now.found (disk.found ++ gained) lasts.0 (grows.0, leaves ∙ grows.1.found) (lasts.1 ∙ sym (append_assoc disk.found gained lasts.0))
+
+  -- a file that told of itself goes on doing so
+  left_of : (known : Option Disk) → new.told ≡ known → (gained more : List ℕ) → Appends (Some disk.found) (bytes_put known new.waits) more
+      → LastBehind (bytes_lasting sync known) gained → HoldsAnswered (disk.found ++ gained) s s' sink sink' → LeavesAnswered sync disk new s s' sink sink'
+  left_of None is_told gained more put lasts holds = absurd put
+  left_of (Some now) is_told gained more put lasts holds = record {
     disk = now;
     told = is_told;
     gained = gained;
     holds = holds;
-    first = left_first now gained behind sync lasts;
+    first = left_first now gained sync lasts;
   }
 
-  pub leaves : (AllLasts j → (s' ≡ s) ⊎ ((kept : List ℕ) × HandsOut reader reader' kept × Outlives kept s s' j j' sink sink'))
+  -- no submission was read, or this is so of the bytes that the file handed out
+  abbrev Unless : (List ℕ → Type 0) → Type 0
+  Unless P = (s' ≡ s) ⊎ ((kept : List ℕ) × HandsOut reader reader' kept × P kept)
+
+  pub leaves : Unless (λ kept. Survives kept s s' j j' sink sink') → (AllLasts j → Unless (λ kept. Outlives kept s s' j j' sink sink'))
       → (s' ≡ s) ⊎ LeavesAnswered sync disk new s s' sink sink'
-  leaves outlives =
-      elim (outlives all_lasts) [
+  leaves survives outlives =
+      elim survives [
         | inl unread ↦ inl unread
-        | inr h ↦
-            let whole : h.0 ≡ disk.found = subst (λ (known : Option (List ℕ)). IfSome known (λ all. h.0 ≡ all)) started.reads h.1.told in
-            inr (by (subst (λ (kept : List ℕ). Outlives kept s s' j j' sink sink') whole h.2))
+        | inr k ↦ elim (outlives all_lasts) [
+          | inl unread ↦ inl unread
+          | inr h ↦
+              let whole : h.0 ≡ disk.found = subst (λ (known : Option (List ℕ)). IfSome known (λ all. h.0 ≡ all)) started.reads h.1.told in
+              inr (by k.2.gained k.2.put (subst (λ (kept : List ℕ). Outlives kept s s' j j' sink sink') whole h.2))
+        ]
       ]
     where
-      by : Outlives disk.found s s' j j' sink sink' → LeavesAnswered sync disk new s s' sink sink'
-      by o =
-          left_of new.told refl o.gained o.lasts.0
-          (subst (λ (known : Option (List ℕ)). Appends (Some disk.found) known (o.gained ++ o.lasts.0)) lasting'
-          (subst (λ (known : Option (List ℕ)). Appends known j'.lasting (o.gained ++ o.lasts.0)) found o.lasts.1)) o.holds
+      by : (more : List ℕ) → Appends j.bytes j'.bytes more → Outlives disk.found s s' j j' sink sink' → LeavesAnswered sync disk new s s' sink sink'
+      by more gains o =
+          left_of new.told refl o.gained more
+          (subst (λ (known : Option (List ℕ)). Appends (Some disk.found) known more) put' (subst (λ (known : Option (List ℕ)). Appends known j'.bytes more) found gains))
+          (subst (λ (known : Option (List ℕ)). LastBehind known o.gained) lasting'
+          (subst (λ (known : Option (List ℕ)). IfSome j'.lasting (λ lasting. (behind : List ℕ) × Appends known (Some lasting) (o.gained ++ behind))) found o.lasts))
+          o.holds

@@ -6,7 +6,7 @@ use crate::kit::{Due, Kit, Ones};
 use crate::text::Text;
 use crate::values::in_memory;
 use pb_ledger::{
-    CollectFault, ExportFault, Ledger, LoadError, Refusal, ReplayError, Row, Tally, Totals,
+    CollectFault, ExportFault, Ledger, LoadError, Refusal, Row, Tally, Totals,
     collect, export, load, replay, save,
 };
 use pb_poly::{MemSink, MemSource, Sink};
@@ -222,8 +222,8 @@ pub(crate) fn replaying<T: Tally>(kit: &Kit) -> Answer {
     match answer {
         Ok(()) => Ok(holds_all && sink.as_bytes() == b"\t\t\t\t\n".as_slice()),
         Err(why) => Err(Want::once(match why {
-            ReplayError::Memory => ledger.len() < 5 && sink.as_bytes().is_empty(),
-            ReplayError::Write => holds_all && sink.failed(),
+            CollectFault::Memory => ledger.len() < 5 && sink.as_bytes().is_empty(),
+            CollectFault::Write => holds_all && sink.failed(),
             _ => false,
         })),
     }

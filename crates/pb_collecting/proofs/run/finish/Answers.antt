@@ -12,7 +12,7 @@ pub returns-in_err-book : goal.returns-in_err-book
 returns-in_err-book g c =
     let p = err_from_is_err_and c.from_residual-in_err-book.result c.from_residual-in_err-book.ensures.1 in rw (p.1, p.2) (
     let stream = c.in_ok-collect_journaled.ensures.ok in
-    inr (refl, _, (no_totals _ _ _ _ _ _ _ c.in_ok-collect_journaled.field-0 stream.0, stream.1, refl)))
+    inr (refl, (_, (no_totals _ _ _ _ _ _ _ c.in_ok-collect_journaled.field-0 stream.0, stream.1, refl))))
 
 pub returns : goal.returns
 returns g c =

@@ -6,7 +6,7 @@ use Rattle.pb_io.specs.Sink.{Lasts}
 use Rattle.pb_files.specs.Disk.{Adds, Disk, IsOnDisk}
 use Rattle.pb_files.specs.JournalSink.{bytes_lasting, bytes_put}
 use Rattle.pb_files.specs.Steps.{Steps}
-use Rattle.pb_files.proofs.FileLemmas.{flush_failed, lasting_all, lasting_grows, told_bytes, told_grows, told_on_disk, told_sync, told_then}
+use Rattle.pb_files.proofs.FileLemmas.{all_last, flush_failed, lasting_all, lasting_grows, told_bytes, told_grows, told_on_disk, told_sync, told_then}
 use Rattle.pb_files.proofs.journal_sink.JournalSinkSink.flush.Goals as goal
 use Rattle.pb_files.proofs.journal_sink.JournalSinkSink.flush.Goals.{then-syncs+in_ok-sync, else-syncs}
 
@@ -68,7 +68,7 @@ returns-clause-flush g c =
     record {
       bytes = keeps sync now.waiting.items _ _ wrote.result _ _ c.as_slice.ensures.value c.remove_front.ensures added;
       lasts = lasts sync now.waiting.items _ _ wrote.result _ _ c.as_slice.ensures.value c.remove_front.ensures added;
-      all_lasts = lasting_all sync (state file).told on_disk ∙ ap (bytes_put (state file).told) (sym none);
+      all_lasts = all_last _ _ (lasting_all sync (state file).told on_disk ∙ ap (bytes_put (state file).told) (sym none));
       failed = search (ready, rules);
       stays_failed = search rules;
       flushed = refl;
