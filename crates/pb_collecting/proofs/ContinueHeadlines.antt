@@ -15,7 +15,7 @@ use Rattle.pb_accepted.specs.Ledger.{LedgerState}
 use Rattle.pb_accepted.specs.Replies.{replies}
 use Rattle.pb_accepted.specs.Rules.{CountingRules}
 use Rattle.pb_accepted.proofs.Steps.{runs_join}
-use Rattle.pb_saved.proofs.Continued.{continued, loaded_back}
+use Rattle.pb_ledger.proofs.Continued.{continued, loaded_back}
 use Rattle.pb_collecting.specs.ContinueHeadline.{HasHeadlineOfBoth}
 use Rattle.pb_collecting.specs.Laws.{GoesOnAsOneRun}
 use Rattle.pb_collecting.specs.Runs.{LoadsFirst, Takes, ledger_of}

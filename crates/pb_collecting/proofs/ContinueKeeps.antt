@@ -6,7 +6,7 @@ use Rattle.pb_io.specs.Sink.{SinkState}
 use Rattle.pb_poly.specs.Book.{book_bytes}
 use Rattle.pb_poly.specs.declared.entry.Entry.{Entry}
 use Rattle.pb_accepted.specs.Rules.{CountingRules}
-use Rattle.pb_saved.specs.Saving.{Saved}
+use Rattle.pb_ledger.specs.Saving.{Saved}
 use Rattle.pb_io.specs.declared.fault.Fault.{Fault}
 use Rattle.pb_collecting.specs.ContinuingInto.{KeepsLedger}
 use Rattle.pb_collecting.specs.ContinueHeadline.{HasHeadlineOfBoth}

@@ -4,8 +4,8 @@ use Rattle.pb_io.specs.Source.{SourceState}
 use Rattle.pb_accepted.specs.Basis.{Basis}
 use Rattle.pb_accepted.specs.Ledger.{LedgerState}
 use Rattle.pb_accepted.specs.Rules.{CountingRules}
-use Rattle.pb_saved.specs.Loading.{LoadsStream, LoadsUntil}
-use Rattle.pb_saved.specs.declared.loading.LoadError.{LoadError}
+use Rattle.pb_ledger.specs.Loading.{LoadsStream, LoadsUntil}
+use Rattle.pb_ledger.specs.declared.loading.LoadError.{LoadError}
 use Rattle.pb_collecting.specs.Runs.{LoadsFirst, LoadsNot, TakesTable, ledger_of}
 
 module _ (rules : CountingRules) (fills : ℕ) (t t' v v' : SourceState) (l l' : LedgerState) (new : TakesTable rules fills t t' l) where

@@ -13,9 +13,9 @@ use Rattle.pb_accepted.specs.Holding.{HaveOwnIds}
 use Rattle.pb_accepted.specs.Replies.{replies, reply_line}
 use Rattle.pb_accepted.proofs.Numbers.{IsNumber-Accepted, slice_get-push}
 use Rattle.pb_accepted.proofs.Steps.{distinct_ids, run_to, runs_join}
-use Rattle.pb_saved.specs.Journal.{GameLines, Journals, mending}
-use Rattle.pb_saved.proofs.Continued.{are_submissions, has_room}
-use Rattle.pb_saved.proofs.Journals.{journal_grows, journal_may_tear}
+use Rattle.pb_ledger.specs.Journal.{GameLines, Journals, mending}
+use Rattle.pb_ledger.proofs.Continued.{are_submissions, has_room}
+use Rattle.pb_ledger.proofs.Journals.{journal_grows, journal_may_tear}
 use Rattle.pb_collecting.specs.Headline.{Arrives}
 
 -- ---- runs

@@ -16,7 +16,7 @@ use Rattle.pb_accepted.specs.Holding.{most_games}
 use Rattle.pb_accepted.specs.Ledger.{LedgerState}
 use Rattle.pb_accepted.specs.Replies.{replies}
 use Rattle.pb_accepted.specs.Rules.{CountingRules}
-use Rattle.pb_saved.specs.Journal.{Journals, mending}
+use Rattle.pb_ledger.specs.Journal.{Journals, mending}
 use Rattle.pb_ledger.specs.Journaling.{Gains}
 use Rattle.pb_collecting.specs.Headline.{Effect}
 use Rattle.pb_collecting.specs.JournalHeadline.{HasHeadlineOfJournal}

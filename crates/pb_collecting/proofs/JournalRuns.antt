@@ -6,7 +6,7 @@ use Rattle.pb_io.specs.declared.fault.Fault.{Fault}
 use Rattle.pb_accepted.specs.Basis.{Basis}
 use Rattle.pb_accepted.specs.Ledger.{LedgerState}
 use Rattle.pb_accepted.specs.Rules.{CountingRules}
-use Rattle.pb_saved.specs.Replaying.{ReplaysAll, ReplaysUntil}
+use Rattle.pb_ledger.specs.Replaying.{ReplaysAll, ReplaysUntil}
 use Rattle.pb_collecting.specs.Runs.{ReplaysFirst, ReplaysNot, TakesTable, ledger_of}
 
 module _ (rules : CountingRules) (fills : ℕ) (t t' v v' : SourceState) (j j' : SinkState) (l l' : LedgerState) (new : TakesTable rules fills t t' l) where

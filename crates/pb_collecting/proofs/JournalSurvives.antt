@@ -16,7 +16,7 @@ use Rattle.pb_accepted.specs.Holding.{most_games}
 use Rattle.pb_accepted.specs.Ledger.{LedgerState}
 use Rattle.pb_accepted.specs.Replies.{replies, reply_line}
 use Rattle.pb_accepted.specs.Rules.{CountingRules}
-use Rattle.pb_saved.specs.Journal.{GameLines, Journals, mending}
+use Rattle.pb_ledger.specs.Journal.{GameLines, Journals, mending}
 use Rattle.pb_ledger.specs.Collecting.{Collects, CollectsButOne, Leads}
 use Rattle.pb_ledger.specs.Journaling.{CollectsUnkept, Gains, JournalsUntil}
 use Rattle.pb_io.specs.declared.fault.Fault.TheVariants as collect

@@ -8,8 +8,8 @@ use Rattle.pb_poly.specs.declared.table_file.TableFault.{TableFault}
 use Rattle.pb_poly.specs.declared.table_file.TableFault.TheVariants as table
 use Rattle.pb_accepted.specs.Ledger.{LedgerState}
 use Rattle.pb_accepted.specs.Rules.{CountingRules}
-use Rattle.pb_saved.specs.declared.loading.LoadError.{LoadError}
-use Rattle.pb_saved.specs.declared.loading.LoadError.TheVariants as load
+use Rattle.pb_ledger.specs.declared.loading.LoadError.{LoadError}
+use Rattle.pb_ledger.specs.declared.loading.LoadError.TheVariants as load
 use Rattle.pb_commands.specs.Judged.{PutsOrEnds, Verdict}
 use Rattle.pb_commands.specs.TableJudged.{table_verdict}
 use Rattle.pb_collecting.specs.Continuing.{saved_verdict}

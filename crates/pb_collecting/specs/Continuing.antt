@@ -1,8 +1,8 @@
 -- What comes of a saved ledger that isn't loaded.
 use Rattle.std.specs.Prelude.{◌++◌, Err, codes, decimal}
 use Rattle.pb_io.specs.declared.fault.Fault.TheVariants.{Read, Endless, Memory}
-use Rattle.pb_saved.specs.declared.loading.LoadError.{LoadError}
-use Rattle.pb_saved.specs.declared.loading.LoadError.TheVariants as load
+use Rattle.pb_ledger.specs.declared.loading.LoadError.{LoadError}
+use Rattle.pb_ledger.specs.declared.loading.LoadError.TheVariants as load
 use Rattle.pb_commands.specs.Judged.{Verdict, refused}
 
 -- where it isn't for this reason, the line that refuses it or a fault

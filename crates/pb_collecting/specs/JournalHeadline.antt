@@ -12,7 +12,7 @@ use Rattle.pb_accepted.specs.Accepting.{Answer, IsNumber, Run}
 use Rattle.pb_accepted.specs.Holding.{most_games}
 use Rattle.pb_accepted.specs.Replies.{replies}
 use Rattle.pb_accepted.specs.Rules.{CountingRules}
-use Rattle.pb_saved.specs.Journal.{GameLines, Journals, mending}
+use Rattle.pb_ledger.specs.Journal.{GameLines, Journals, mending}
 use Rattle.pb_collecting.specs.Headline.{Arrives, Effect}
 
 -- The lines of the journal and then those of the submissions were answered as the lines of one run, whose effect this is, and the replies

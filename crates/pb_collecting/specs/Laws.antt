@@ -13,7 +13,7 @@ use Rattle.pb_accepted.specs.Laws.{ArrivalsAreNumbered, NoRepeats, SameMembers}
 use Rattle.pb_accepted.specs.Ledger.{LedgerState}
 use Rattle.pb_accepted.specs.Replies.{replies}
 use Rattle.pb_accepted.specs.Rules.{CountingRules}
-use Rattle.pb_saved.specs.Saving.{Saved}
+use Rattle.pb_ledger.specs.Saving.{Saved}
 use Rattle.pb_collecting.specs.ContinueHeadline.{ContinuesBytes}
 use Rattle.pb_collecting.specs.Headline.{Effect}
 use Rattle.pb_collecting.specs.OneText.{HasOneText}

@@ -20,9 +20,9 @@ use Rattle.pb_accepted.specs.Ledger.{LedgerState}
 use Rattle.pb_accepted.specs.Rules.{CountingRules}
 use Rattle.pb_export.specs.Exporting.{ExportLines, ExportsUntil, fault_of_export, text_of_lines}
 use Rattle.pb_export.specs.declared.exporting.ExportFault.{ExportFault}
-use Rattle.pb_saved.specs.Loading.{Loads, LoadsUntil}
-use Rattle.pb_saved.specs.Replaying.{ReplaysAll, ReplaysUntil}
-use Rattle.pb_saved.specs.declared.loading.LoadError.{LoadError}
+use Rattle.pb_ledger.specs.Loading.{Loads, LoadsUntil}
+use Rattle.pb_ledger.specs.Replaying.{ReplaysAll, ReplaysUntil}
+use Rattle.pb_ledger.specs.declared.loading.LoadError.{LoadError}
 use Rattle.pb_ledger.specs.Collecting.{Collects, CollectsUntil}
 use Rattle.pb_ledger.specs.Journaling.{Gains, JournalsUntil, fault_of_journal}
 use Rattle.pb_ledger.specs.declared.journaling.JournalFault.{JournalFault}

@@ -8,9 +8,8 @@ ghost use Rattle.pb_collecting.specs.Runs.{JournalRun};
 
 use crate::run::{finish, open};
 use pb_io::{Fault, Sink, Source};
-use pb_ledger::Rules;
+use pb_ledger::{PassedLines, Rules, replay};
 use pb_poly::Book;
-use pb_saved::{PassedLines, replay};
 use std::alloc::Global;
 
 /// Takes submission lines as `run_collect` does, from the games of a journal on, and puts the line of

@@ -10,8 +10,7 @@ use crate::journaling::run_journaled;
 use crate::keeping::NoBook;
 use crate::place::Place;
 use pb_io::{Sink, Source};
-use pb_ledger::Rules;
-use pb_saved::PassedLines;
+use pb_ledger::{PassedLines, Rules};
 use std::alloc::Global;
 
 /// Takes submission lines as `run_journaled` does, and keeps the book of the games that are held at the end. Where the table is refused, the

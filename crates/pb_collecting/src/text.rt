@@ -3,7 +3,7 @@
 ghost use Rattle.std.specs.Prelude.{◌≡◌, ℕ, List};
 ghost use Rattle.pb_io.specs.Writes.{Writes};
 ghost use Rattle.pb_poly.specs.Book.{book_bytes};
-ghost use Rattle.pb_saved.specs.Saving.{Saved};
+ghost use Rattle.pb_ledger.specs.Saving.{Saved};
 
 use pb_ledger::{Ledger, Tally, save};
 use pb_poly::{Book, Failed, Sink, write_book};

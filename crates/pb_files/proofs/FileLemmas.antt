@@ -1,5 +1,5 @@
 -- Lemmas on the steps of a file that is added to, and on what they leave.
-use Rattle.std.proofs.Common.{◌≡◌, ◌∙◌, ℕ, Bool, true, false, ◌+◌, ◌-◌, min, List, [], ◌++◌, Option, None, Some, Result, Ok, Err, IsErr, IfSome, length, take, drop, refl, rules, sym, ap, subst, append_assoc, append-nil, arith}
+use Rattle.std.proofs.Common.{◌≡◌, ◌∙◌, ℕ, Bool, true, false, ◌+◌, ◌-◌, min, List, [], ◌++◌, Option, None, Some, Result, Ok, Err, IsErr, length, take, drop, refl, rules, sym, ap, subst, append_assoc, append-nil, arith}
 use Rattle.std.specs.Option.{ForSome}
 use Rattle.std.specs.Prelude.{IfSome}
 use Rattle.std.specs.Io.KnownBytes.{Keeps}

@@ -11,7 +11,7 @@ use Rattle.pb_io.specs.Writes.{Writes}
 use Rattle.pb_games.specs.Submissions.{Submission, submission_text}
 use Rattle.pb_accepted.specs.Accepting.{Answer, Step}
 use Rattle.pb_accepted.proofs.Steps.{refusal_step, step_to}
-use Rattle.pb_saved.specs.Journal.{GameLines}
+use Rattle.pb_ledger.specs.Journal.{GameLines}
 use Rattle.pb_ledger.specs.Journaling.{Gains, HandedOnEach}
 
 -- ---- the lines of games

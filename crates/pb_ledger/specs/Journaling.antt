@@ -10,7 +10,7 @@ use Rattle.pb_games.specs.Submissions.{Submission, submission_text}
 use Rattle.pb_accepted.specs.Accepting.{Answer}
 use Rattle.pb_accepted.specs.Ledger.{LedgerState}
 use Rattle.pb_accepted.specs.Replies.{replies}
-use Rattle.pb_saved.specs.Journal.{GameLines}
+use Rattle.pb_ledger.specs.Journal.{GameLines}
 use Rattle.pb_ledger.specs.Collecting.{CollectsStream, CollectsUntil, Leads}
 use Rattle.pb_io.specs.declared.fault.Fault.{Fault}
 use Rattle.pb_io.specs.declared.fault.Fault.TheVariants.{Write}

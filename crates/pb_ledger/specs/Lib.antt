@@ -1,6 +1,15 @@
 pub mod Collecting
 pub mod Collector
+pub mod Journal
+pub mod JournalLaws
 pub mod Journaling
+pub mod Lending
+pub mod Loader
+pub mod Loading
+pub mod Replayer
+pub mod Replaying
+pub mod SavedLaws
+pub mod Saving
 pub use Rattle.pb_accepted.specs.Accepting
 pub use Rattle.pb_accepted.specs.Arriving
 pub use Rattle.pb_accepted.specs.Basis
@@ -24,9 +33,3 @@ pub use Rattle.pb_points.specs.ListTally
 pub use Rattle.pb_points.specs.Rows
 pub use Rattle.pb_points.specs.Tally
 pub use Rattle.pb_points.specs.Weight
-pub use Rattle.pb_saved.specs.Journal
-pub use Rattle.pb_saved.specs.JournalLaws
-pub use Rattle.pb_saved.specs.Laws as SavedLaws
-pub use Rattle.pb_saved.specs.Loading
-pub use Rattle.pb_saved.specs.Replaying
-pub use Rattle.pb_saved.specs.Saving

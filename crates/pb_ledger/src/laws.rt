@@ -1,20 +1,46 @@
-//! Laws of ledgers, of their exports and of their saved forms, as the crates below have them; and of
-//! equality (`==`) between totals and between faults of journaling: the contract of a function that
-//! does nothing.
+//! Laws of ledgers and of their exports, as the crates below have them; of their saved forms and of
+//! journals; and of equality (`==`) between totals and between faults. Each is the contract of a
+//! function that does nothing, over the definitions alone.
 
 ghost use Rattle.std.specs.Bool.{Decides};
 ghost use Rattle.std.specs.Prelude.{◌≡◌};
+ghost use Rattle.pb_ledger.specs.JournalLaws.{JournalGoesOn, JournalGrows, JournalIsOne, JournalMayTear, JournalMendingMayTear};
+ghost use Rattle.pb_ledger.specs.SavedLaws.{ContinuedIsOneRun, SavedIsOne, SavedLoads};
 ghost use Rattle.pb_ledger.specs.declared.journaling.JournalFault.{JournalFault};
+ghost use Rattle.pb_ledger.specs.declared.loading.LoadError.{LoadError};
 ghost use Rattle.pb_ledger.specs.declared.totals.Totals.{Totals};
 
 use crate::journaling::JournalFault;
+use crate::loading::LoadError;
 use crate::totals::Totals;
 pub use pb_accepted::laws::{books, distinct, numbers, one_game, one_line, runs};
 pub use pb_export::laws::exports;
-pub use pb_saved::laws::{continued, journaled, saved};
 
-/// Totals, and faults of journaling, are equal (`==`) exactly where they are one value.
+/// The games that are held have one saved form, and what is saved loads as these games and as no others.
+pub fn saved()
+    ensures one { SavedIsOne }
+    ensures loads { SavedLoads }
+{}
+
+/// A run, what it holds saved and loaded, and a further run from there are one long run: the same answers, replies and games.
+pub fn continued()
+    ensures { ContinuedIsOneRun }
+{}
+
+/// The bytes of a journal hold one list of games, which come first whatever bytes follow; mending its end changes none of them; it gains the
+/// lines of new games; and of a line that is torn the game is there as a whole or not at all.
+pub fn journaled()
+    ensures one { JournalIsOne }
+    ensures goes_on { JournalGoesOn }
+    ensures mends { JournalMendingMayTear }
+    ensures grows { JournalGrows }
+    ensures tears { JournalMayTear }
+{}
+
+/// Totals, faults of journaling and errors of loading are equal (`==`) exactly where they are one
+/// value.
 pub fn equal_values()
     ensures totals { (a b : Totals) → Decides (⟦<Totals as PartialEq>⟧.eq a b) (a ≡ b) }
     ensures journal { (e f : JournalFault) → Decides (⟦<JournalFault as PartialEq>⟧.eq e f) (e ≡ f) }
+    ensures load { (e f : LoadError) → Decides (⟦<LoadError as PartialEq>⟧.eq e f) (e ≡ f) }
 {}

@@ -1,6 +1,7 @@
-//! A stream of submissions to a ledger: each line is submitted, counted and answered by its reply line; where there is a journal, the line
-//! of each new game is on it before the reply. It hands on the accepted games, the export of their book and the saved form of a ledger, knows
-//! no chess itself, and names no file.
+//! Streams of lines over a ledger. Submissions: each is submitted, counted and answered by its reply line; where there is a journal, the
+//! line of each new game is on it before the reply. The saved form of a ledger, written and read back into a new one. A journal, whose last
+//! line may be torn, replayed into a new ledger, and its end mended. It hands on the accepted games and the export of their book, knows no
+//! chess itself, and names no file.
 //!
 //! ```rust
 //! let mut ledger = Ledger::<MapTally>::new(alloc, &table, MAX_CAP)?;
@@ -13,14 +14,21 @@ mod collecting;
 mod collector;
 mod journaling;
 pub mod laws;
+mod loading;
+mod passed;
+mod replaying;
+mod saving;
 mod totals;
 
 pub use collecting::{CollectFault, collect};
 pub use journaling::{JournalFault, collect_journaled};
+pub use loading::{LoadError, load};
+pub use passed::PassedLines;
 pub use pb_accepted::{
     Game, Id, Ledger, Line, ListTally, MAX_CAP, MAX_LEAST, MAX_PLIES, MapTally, MoveList, Outcome,
     Plies, Refusal, Reply, Row, Rules, Tally, check_line, scale,
 };
 pub use pb_export::{ExportFault, export};
-pub use pb_saved::{LoadError, PassedLines, load, replay, save};
+pub use replaying::replay;
+pub use saving::{put_game, save};
 pub use totals::Totals;

@@ -1,5 +1,5 @@
 use Rattle.std.proofs.Common.{Ok, Err, inr, refl}
-use Rattle.pb_saved.proofs.SavedForms.{saved_form}
+use Rattle.pb_ledger.proofs.SavedForms.{saved_form}
 use Rattle.pb_collecting.proofs.ContinueKeeps.{kept_book, kept_ledger}
 use Rattle.pb_collecting.proofs.continuing_into.keep_run.Goals as goal
 

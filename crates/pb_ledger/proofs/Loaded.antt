@@ -1,0 +1,288 @@
+-- From the lines that the loader took to what was loaded.
+use Rattle.std.proofs.Common.{if◌then◌else◌, ◌≡◌, ℕ, ◌+◌, ◌*◌, ◌^◌, ◌<◌, ◌≤◌, ◌⊎◌, Bool, true, false, List, [], ◌∷◌, ◌++◌, length, Result, Ok, Err, All, IsOk, IsTrue, OnOk, IfErr, refl, sym, ap, subst, ◌∙◌, inl, inr, arith}
+use Rattle.std.specs.Borrow.{MutBor}
+use Rattle.std.proofs.lemmas.List.Elements.{All-cons, All-nil}
+use Rattle.std.proofs.lemmas.List.{length_push}
+use Rattle.std.proofs.lemmas.Bool.{false_from_ne_true}
+use Rattle.std.proofs.lemmas.Slice.Eq.{bytes_eq-Decides}
+use Rattle.std.specs.Str.Lines.{strip_carriage_return}
+use Rattle.pb_board.proofs.LineEnds.{cases_return}
+use Rattle.pb_io.specs.Source.{SourceState}
+use Rattle.pb_io.specs.Lines.{ended_lines, line_limit, lines}
+use Rattle.pb_io.specs.Reads.{chunk_len}
+use Rattle.pb_io.specs.LineTask.{AtLine, ReadUntil, StopsAtLast, TakesAll, TakesStream, TakesUntil}
+use Rattle.pb_io.specs.declared.fault.ReadFault.{ReadFault}
+use Rattle.pb_io.specs.declared.fault.ReadFault.TheVariants as fault
+use Rattle.pb_io.proofs.EndLemmas.{AtEnd-weaker, AtFault-weaker, AtLine-weaker, AtNoEnd-weaker}
+use Rattle.pb_games.specs.Submissions.{Submission}
+use Rattle.pb_games.specs.declared.refusal.Refusal.{Refusal}
+use Rattle.pb_games.specs.declared.refusal.Refusal.TheVariants as refusal
+use Rattle.pb_accepted.specs.Accepting.{Answer, Run, Step}
+use Rattle.pb_accepted.specs.Ledger.{LedgerState}
+use Rattle.pb_accepted.proofs.Steps.{refusal_step, step_to}
+use Rattle.pb_ledger.specs.declared.loading.Loader.{Loader}
+use Rattle.pb_ledger.specs.declared.loading.LoadError.{LoadError}
+use Rattle.pb_ledger.specs.declared.loading.LoadError.TheVariants as error
+use Rattle.pb_ledger.specs.Lending.{KeepsLedger}
+use Rattle.pb_ledger.specs.Loader.{Judged, Submits, TakesLine, header, load_error, error_at, one_more, submission}
+use Rattle.pb_ledger.specs.Saving as saving
+use Rattle.pb_ledger.specs.Loading.{EndsAtLine, Loads, LoadsAll, LoadsButOne, LoadsUntil, WantsMemory, has_header, is_header, submission_lines}
+
+-- ---- one line
+
+-- a line leaves the list as it is, or one longer
+pub same_or_longer : (cap : ℕ) (A : List Submission) (line : List ℕ) (r : Answer) (B : List Submission) → Step cap A line r B → (B ≡ A) ⊎ (length B ≡ length A + 1)
+same_or_longer most A line r B h = elim (step_to most A line r B h).1 [
+  | inl adds ↦ inr (ap length adds.4 ∙ length_push A adds.0)
+  | inr keeps ↦ inl keeps.1
+]
+
+-- a long line is no header
+pub long_line : (line : List ℕ) → line_limit < length line → is_header line ≡ false
+long_line line long = false_from_ne_true _ (λ is. short ((bytes_eq-Decides (strip_carriage_return line) saving.header).0 is))
+  where
+    short : strip_carriage_return line ≡ saving.header → ⊥
+    short same =
+        elim (cases_return line) [
+          | inl whole ↦ omega (arith, long, ap length (whole ∙ same))
+          | inr more ↦ omega (arith, long, ap length (more ∙ ap (λ xs. xs ++ 13 ∷ []) same))
+        ]
+
+-- what comes of a line that is refused
+pub judged_refused : (is_saved : Bool) (n : ℕ) (A B : List Submission) (e : Refusal) → B ≡ A → Judged is_saved n A B (Err e) (Err (error_at n e))
+judged_refused is_saved n A B refusal.Memory same = refl
+judged_refused is_saved n A B refusal.Long same = (refl, λ q. (cc), same, inl refl)
+judged_refused is_saved n A B refusal.Shape same = (refl, λ q. (cc), same, inl refl)
+judged_refused is_saved n A B refusal.Id same = (refl, λ q. (cc), same, inl refl)
+judged_refused is_saved n A B refusal.Result same = (refl, λ q. (cc), same, inl refl)
+judged_refused is_saved n A B (refusal.Fen f) same = (refl, λ q. (cc), same, inl refl)
+judged_refused is_saved n A B refusal.Start same = (refl, λ q. (cc), same, inl refl)
+judged_refused is_saved n A B (refusal.Spelling m) same = (refl, λ q. (cc), same, inl refl)
+judged_refused is_saved n A B refusal.Plies same = (refl, λ q. (cc), same, inl refl)
+judged_refused is_saved n A B (refusal.Illegal m) same = (refl, λ q. (cc), same, inl refl)
+judged_refused is_saved n A B (refusal.Conflict m) same = (refl, λ q. (cc), same, inl refl)
+judged_refused is_saved n A B refusal.Full same = (refl, λ q. (cc), same, inl refl)
+
+-- the ledger that is lent
+pub KeepsLedger-same : (s : MutBor LedgerState) → KeepsLedger s s
+KeepsLedger-same s = record { lent = refl; basis = refl; cap = refl }
+
+pub KeepsLedger-then : (s m t : MutBor LedgerState) → KeepsLedger s m → KeepsLedger m t → KeepsLedger s t
+KeepsLedger-then s m t h k = record { lent = k.lent ∙ h.lent; basis = k.basis ∙ h.basis; cap = k.cap ∙ h.cap }
+
+-- what is so at a line whatever the lines are
+done_at : {P : Type 0} {fills : ℕ} {old new : SourceState} → AtLine fills old new (λ _. P) → P
+done_at (inl h) = h.done
+done_at (inr h) = h.done
+
+module _ {T : Type 0} where
+  -- lines that were taken as submissions
+  pub record Taken (s t : Loader T) (ls : List (List ℕ)) : Type 0 where
+    pub answers : List Answer
+    pub run : Run s.ledger.now.cap s.ledger.now.accepted ls answers t.ledger.now.accepted
+    pub taken : All IsOk answers
+    pub new : IsTrue s.is_saved → length t.ledger.now.accepted ≡ length s.ledger.now.accepted + length ls
+    pub saved : t.is_saved ≡ s.is_saved
+    pub lines : s.lines + length ls < 2 ^ 64 → t.lines ≡ s.lines + length ls
+    pub keeps : KeepsLedger s.ledger t.ledger
+
+  Taken-none : (s : Loader T) → Taken s s []
+  Taken-none s = record { answers = []; run = refl; taken = All-nil IsOk; new = λ h. omega arith; saved = refl; lines = λ h. omega arith; keeps = KeepsLedger-same s.ledger }
+
+  Taken-more : (s m t : Loader T) (line : List ℕ) (ls : List (List ℕ)) → Submits (one_more s) line (Ok tt) m → Taken m t ls → Taken s t (line ∷ ls)
+  Taken-more s m t line ls one rest = record {
+    answers = one.answer ∷ rest.answers;
+    run = (m.ledger.now.accepted, one.step, subst (λ most. Run most m.ledger.now.accepted ls rest.answers t.ledger.now.accepted) one.keeps.cap rest.run);
+    taken = All-cons IsOk one.answer rest.answers one.judged.0 rest.taken;
+    new = λ h. let first = one.judged.1 h in let others = rest.new (subst IsTrue (sym one.saved) h) in omega (arith, first, others);
+    saved = rest.saved ∙ one.saved;
+    lines = λ few. let counted = one.lines in let others = rest.lines (omega (arith, few, counted)) in omega (arith, few, counted, others);
+    keeps = KeepsLedger-then s.ledger m.ledger t.ledger one.keeps rest.keeps;
+  }
+
+  -- no line after the first is a header
+  submitted : (s t : Loader T) (line : List ℕ) (answer : Result (Unit {0}) LoadError) → 1 ≤ s.lines → TakesLine s line answer t → Submits (one_more s) line answer t
+  submitted s t line answer some (header zero is _ same) = absurd (omega (arith, zero, some))
+  submitted s t line answer some (submission other one) = one
+
+  later : (s t : Loader T) (ls : List (List ℕ)) → 1 ≤ s.lines → TakesAll TakesLine s ls t → Taken s t ls
+  later s t [] some h = subst (λ (x : Loader T). Taken s x []) (sym h) (Taken-none s)
+  later s t (line ∷ ls) some h =
+      let one = submitted s h.0 line (Ok tt) some h.1 in Taken-more s h.0 t line ls one (later h.0 t ls (omega (arith, one.lines, some)) h.2)
+
+  -- lines that were taken from the first on
+  pub record Whole (s t : Loader T) (ls : List (List ℕ)) : Type 0 where
+    pub loads : Loads s.ledger.now.cap ls t.ledger.now.accepted
+    pub saved : t.is_saved ≡ has_header ls
+    pub lines : length ls < 2 ^ 64 → t.lines ≡ length ls
+    pub keeps : KeepsLedger s.ledger t.ledger
+
+  abbrev pub IsFresh : Loader T → Type 0
+  IsFresh s = (s.lines ≡ 0) × (s.is_saved ≡ false) × (s.ledger.now.accepted ≡ [])
+
+  module _ (s : Loader T) (fresh : IsFresh s) where
+    Whole-none : Whole s s []
+    Whole-none = record {
+      loads = record { answers = []; run = fresh.2; taken = All-nil IsOk; new = λ h. ap length fresh.2 };
+      saved = fresh.1;
+      lines = λ few. fresh.0;
+      keeps = KeepsLedger-same s.ledger;
+    }
+
+    -- where the first line is the header
+    Whole-saved : (t : Loader T) (line : List ℕ) (ls : List (List ℕ)) → is_header line ≡ true → Taken (record s { lines = 1; is_saved = true }) t ls → Whole s t (line ∷ ls)
+    Whole-saved t line ls is h =
+        let start : s.ledger.now.accepted ≡ [] = fresh.2 in
+        let same : submission_lines (line ∷ ls) ≡ ls = ap (λ b. if b then ls else line ∷ ls) is in record {
+          loads = record {
+            answers = h.answers;
+            run = subst (λ L. Run s.ledger.now.cap [] L h.answers t.ledger.now.accepted) (sym same)
+                (subst (λ A. Run s.ledger.now.cap A ls h.answers t.ledger.now.accepted) start h.run);
+            taken = h.taken;
+            new = λ _. omega (arith, h.new refl, ap length start, ap length same);
+          };
+          saved = h.saved ∙ sym is;
+          lines = λ few. omega (arith, h.lines (omega (arith, few)));
+          keeps = h.keeps;
+        }
+
+    -- where it isn't
+    Whole-old : (t : Loader T) (line : List ℕ) (ls : List (List ℕ)) → is_header line ≡ false → Taken s t (line ∷ ls) → Whole s t (line ∷ ls)
+    Whole-old t line ls is h =
+        let start : s.ledger.now.accepted ≡ [] = fresh.2 in
+        let same : submission_lines (line ∷ ls) ≡ line ∷ ls = ap (λ b. if b then ls else line ∷ ls) is in record {
+          loads = record {
+            answers = h.answers;
+            run = subst (λ L. Run s.ledger.now.cap [] L h.answers t.ledger.now.accepted) (sym same)
+                (subst (λ A. Run s.ledger.now.cap A (line ∷ ls) h.answers t.ledger.now.accepted) start h.run);
+            taken = h.taken;
+            new = λ (k : is_header line ≡ true). let no : false ≡ true = sym is ∙ k in cc;
+          };
+          saved = h.saved ∙ fresh.1 ∙ sym is;
+          lines = λ few. let zero = fresh.0 in omega (arith, zero, h.lines (omega (arith, few, zero)));
+          keeps = h.keeps;
+        }
+
+    pub whole : (t : Loader T) (ls : List (List ℕ)) → TakesAll TakesLine s ls t → Whole s t ls
+    whole t [] h = subst (λ (x : Loader T). Whole s x []) (sym h) Whole-none
+    whole t (line ∷ ls) h = by h.1
+      where
+        by : TakesLine s line (Ok tt) h.0 → Whole s t (line ∷ ls)
+        by (header zero is answer same) = Whole-saved t line ls is (subst (λ (m : Loader T). Taken m t ls) same (later h.0 t ls (omega (arith, ap (λ (m : Loader T). m.lines) same)) h.2))
+        by (submission other one) = Whole-old t line ls (other fresh.0) (Taken-more s h.0 t line ls one (later h.0 t ls (omega (arith, one.lines)) h.2))
+
+  -- lines that were taken, and one more that stopped the loader
+  abbrev Stopped : Loader T → Loader T → LoadError → List (List ℕ) → Type 0
+  Stopped s t error.Memory ls = WantsMemory s.ledger.now.cap t.ledger.now.accepted ls
+  Stopped s t (error.Line n) ls = EndsAtLine s.ledger.now.cap n t.ledger.now.accepted ls
+  Stopped s t error.Read ls = ⊥
+  Stopped s t error.Endless ls = ⊥
+
+  module _ (s t : Loader T) (ls : List (List ℕ)) (fresh : IsFresh s) (few : length ls < 2 ^ 64) where
+    module _ (before : List (List ℕ)) (line : List ℕ) (m : Loader T) (are : ls ≡ before ++ line ∷ []) (w : Whole s m before)
+        (other : m.lines ≡ 0 → is_header line ≡ false) where
+      short : length before < 2 ^ 64
+      short = omega (arith, few, ap length are ∙ length_push before line)
+
+      but_one : t.ledger.now.accepted ≡ m.ledger.now.accepted → LoadsButOne s.ledger.now.cap ls t.ledger.now.accepted
+      but_one same = record {
+        before = before;
+        line = line;
+        are = are;
+        loads = subst (λ B. Loads s.ledger.now.cap before B) (sym same) w.loads;
+        no_header = λ none. other (w.lines short ∙ ap length none);
+      }
+
+      -- the same step, from the list as it is afterwards
+      step_after : (answer : Answer) → Step m.ledger.now.cap m.ledger.now.accepted line answer t.ledger.now.accepted → t.ledger.now.accepted ≡ m.ledger.now.accepted
+          → Step s.ledger.now.cap t.ledger.now.accepted line answer t.ledger.now.accepted
+      step_after answer h same =
+          subst (λ B. Step s.ledger.now.cap B line answer t.ledger.now.accepted) (sym same)
+          (subst (λ most. Step most m.ledger.now.accepted line answer t.ledger.now.accepted) w.keeps.cap h)
+
+      stopped_so : (e : LoadError) → Submits (one_more m) line (Err e) t → Stopped s t e ls
+      unfolding but_one
+      stopped_so error.Read sub = absurd sub.judged
+      stopped_so error.Endless sub = absurd sub.judged
+      stopped_so error.Memory sub =
+          let answer : sub.answer ≡ Err refusal.Memory = sub.judged in
+          let step = subst (λ r. Step m.ledger.now.cap m.ledger.now.accepted line r t.ledger.now.accepted) answer sub.step in
+          let same = refusal_step m.ledger.now.cap m.ledger.now.accepted line refusal.Memory t.ledger.now.accepted step in
+          record { but_one = but_one same; wants = step_after (Err refusal.Memory) step same }
+      stopped_so (error.Line n) sub =
+          let judged = sub.judged in
+          let same : t.ledger.now.accepted ≡ m.ledger.now.accepted = judged.2 in record {
+            but_one = but_one same;
+            number = omega (arith, judged.0, w.lines short, short, ap length are ∙ length_push before line);
+            answer = sub.answer;
+            step = step_after sub.answer sub.step same;
+            other = judged.1;
+            breaks = elim judged.3 [
+              | inl refused ↦ inl refused
+              | inr saved ↦ inr (subst IsTrue w.saved saved)
+            ];
+          }
+
+    stopped_by : (e : LoadError) (before : List (List ℕ)) (line : List ℕ) (m : Loader T) → ls ≡ before ++ line ∷ [] → Whole s m before → TakesLine m line (Err e) t → Stopped s t e ls × KeepsLedger s.ledger t.ledger
+    stopped_by e before line m are w (header zero is answer same) = let no : Err e ≡ Ok tt = answer in cc
+    stopped_by e before line m are w (submission other sub) =
+        (stopped_so before line m are w other e sub, KeepsLedger-then s.ledger m.ledger t.ledger w.keeps sub.keeps)
+
+    pub stopped : (e : LoadError) → StopsAtLast TakesLine s ls e t → Stopped s t e ls × KeepsLedger s.ledger t.ledger
+    stopped e h = stopped_by e h.0 h.1 h.2 h.3 (whole s fresh h.2 h.0 h.4) h.5
+
+  -- ---- the whole of a stream
+
+  module _ (fills : ℕ) (old new : SourceState) (s t : Loader T) (fresh : IsFresh s) (small : fills < 2 ^ 32) where
+    abbrev gives : ReadFault → LoadError → Type 0
+    gives fault e = e ≡ load_error fault
+
+    abbrev Ends : LoadError → Type 0
+    Ends = LoadsUntil fills old new s.ledger.now t.ledger.now
+
+    last_of : (e : LoadError) (ls : List (List ℕ)) → length ls ≤ fills * chunk_len
+        → StopsAtLast TakesLine s ls e t → Stopped s t e ls × KeepsLedger s.ledger t.ledger
+    last_of e ls few = stopped s t ls fresh (omega (arith, small, few)) e
+
+    -- by a fault of reading
+    unread : (fault : ReadFault) → ReadUntil TakesLine fills old new s t fault
+        → Ends (load_error fault) × KeepsLedger s.ledger t.ledger
+    unread fault.Read h = (
+      AtFault-weaker fills old new _ _ (λ ls few taken. (whole s fresh t ls taken).loads) h,
+      (whole s fresh t (ended_lines h.came) h.done).keeps,
+    )
+    unread fault.Endless h = (
+      AtNoEnd-weaker fills old new _ _ (λ ls few taken. (whole s fresh t ls taken).loads) h,
+      (whole s fresh t (ended_lines h.came) h.done).keeps,
+    )
+    unread fault.Memory h = (
+      inl (h.0, ap (λ (x : Loader T). x.ledger.now) h.1),
+      subst (λ (x : Loader T). KeepsLedger s.ledger x.ledger) (sym h.1) (KeepsLedger-same s.ledger),
+    )
+
+    -- at a line
+    ends_at : (e : LoadError) → AtLine fills old new (Stopped s t e) → Ends e
+    ends_at (error.Line n) h = h
+    ends_at error.Memory h = inr h
+    ends_at error.Read h = absurd (done_at h)
+    ends_at error.Endless h = absurd (done_at h)
+
+    -- how the call ends
+    pub ends_of : (result : Result (Unit {0}) LoadError)
+        → OnOk result (TakesStream TakesLine fills old new s t)
+        → IfErr result (TakesUntil gives TakesLine fills old new s t)
+        → OnOk result (LoadsAll fills old new s.ledger.now t.ledger.now)
+        × IfErr result Ends × KeepsLedger s.ledger t.ledger
+    ends_of (Ok x) h k = (
+      AtEnd-weaker fills old new _ _ (λ ls few taken. (whole s fresh t ls taken).loads) h,
+      tt,
+      (whole s fresh t (lines h.came) h.done).keeps,
+    )
+    ends_of (Err e) h (inl k) =
+        let ends = unread k.0 k.2 in (tt, subst Ends (sym k.1) ends.0, ends.1)
+    ends_of (Err e) h (inr k) = (
+      tt,
+      ends_at e (AtLine-weaker fills old new _ _ (λ ls few stops. (last_of e ls few stops).0) k),
+      done_at (AtLine-weaker fills old new _ (λ _. KeepsLedger s.ledger t.ledger)
+          (λ ls few stops. (last_of e ls few stops).1) k),
+    )

@@ -1,0 +1,5 @@
+use Rattle.pb_ledger.proofs.Continued.{continued}
+use Rattle.pb_ledger.proofs.laws.continued.Goals as goal
+
+pub returns : goal.returns
+returns c = continued

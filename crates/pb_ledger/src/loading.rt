@@ -1,0 +1,134 @@
+//! A ledger from the lines of a file.
+
+ghost use Rattle.std.specs.Prelude.{◌≡◌, [], IfErr, IfOk};
+ghost use Rattle.pb_ledger.specs.Loader.{Submits, error_at, load_error};
+ghost use Rattle.pb_ledger.specs.Loading.{LoadsSaved, LoadsStream, LoadsUntil};
+
+use crate::saving::HEADER;
+use pb_accepted::Ledger;
+use pb_board::without_return;
+use pb_games::Refusal;
+use pb_io::{LineTask, ReadFault, Source, take_lines};
+use pb_points::Tally;
+use std::alloc::Global;
+use thiserror::Error;
+
+/// Why not all lines of a saved ledger were loaded.
+#[derive(Clone, Copy, Debug, PartialEq, Eq, Error)]
+pub enum LoadError {
+    /// The line with this number, from 1 with the header counted, is the first that a ledger refuses, or that brings no new game
+    /// after a header. The ledger holds the games of the lines before it.
+    #[error("line {0} brings no game that can be held")]
+    Line(u64),
+    /// The source has failed. The ledger holds the games of the lines that an LF ended before that.
+    #[error("the saved ledger can't be read")]
+    Read,
+    /// The fills were used up, and none was the end or a fault. The ledger holds the games of the lines that an LF ended.
+    #[error("the saved ledger doesn't end")]
+    Endless,
+    /// No memory for the buffers, and then nothing was read; or for a new game, and then the ledger holds those before it.
+    #[error("no memory is left")]
+    Memory,
+}
+
+impl From<ReadFault> for LoadError {
+    ghost from_gives = { λ fault gives. gives ≡ load_error fault };
+
+    fn from(fault: ReadFault) -> LoadError {
+        match fault {
+            ReadFault::Read => LoadError::Read,
+            ReadFault::Endless => LoadError::Endless,
+            ReadFault::Memory => LoadError::Memory,
+        }
+    }
+}
+
+/// Submits the lines of a file and counts them.
+#[derive(Drop)]
+struct Loader<'l, T: Tally> {
+    ledger: &'l mut Ledger<T>,
+    lines: u64,
+    // The first line was the header.
+    is_saved: bool,
+}
+
+impl<T: Tally> Loader<'_, T> {
+    /// Submits a line. After a header it has to bring a new game.
+    fn submit(&mut self, line: &[u8]) -> Result<(), LoadError>
+        ensures { Submits self.old line.now result self.new }
+    {
+        let held = self.ledger.len();
+        match self.ledger.submit(line) {
+            Ok(_) if self.is_saved && self.ledger.len() == held => Err(LoadError::Line(self.lines)),
+            Ok(_) => Ok(()),
+            Err(refusal) => Err(refused_at(self.lines, refusal)),
+        }
+    }
+}
+
+impl<T: Tally> LineTask for Loader<'_, T> {
+    type Stop = LoadError;
+
+    ghost use Rattle.pb_ledger.specs.Loader.{TakesLine};
+
+    ghost takes = { TakesLine };
+
+    fn take(&mut self, line: &[u8]) -> Result<(), LoadError> {
+        let is_first = self.lines == 0;
+        self.lines = self.lines.saturating_add(1);
+        if is_first && without_return(line) == HEADER {
+            self.is_saved = true;
+            return Ok(());
+        }
+        self.submit(line)
+    }
+
+    fn take_long(&mut self) -> Result<(), LoadError> {
+        self.lines = self.lines.saturating_add(1);
+        Err(LoadError::Line(self.lines))
+    }
+}
+
+/// What a refusal of the line with this number is to the loading.
+fn refused_at(number: u64, refusal: Refusal) -> LoadError
+    ensures { result ≡ error_at number refusal }
+{
+    match refusal {
+        Refusal::Memory => LoadError::Memory,
+        _ => LoadError::Line(number),
+    }
+}
+
+/// Takes the games of a saved ledger, or of an old list of submission lines without a header, into a ledger that holds none. The answer
+/// is how many are held then.
+///
+/// Lines are cut as by `collect`. After the header each line has to bring a new game; in an old list a game may come again, which changes
+/// nothing. No bytes at all are an old list of no lines.
+///
+/// # Errors
+///
+/// `Memory` comes before the first fill, or where a new game finds none. After an error the ledger holds the games of the lines before.
+pub fn load<T: Tally, S: Source>(
+    alloc: Global,
+    source: &mut S,
+    ledger: &mut Ledger<T>,
+    fills: u32,
+) -> Result<u32, LoadError>
+    requires { ledger.old.accepted ≡ [] }
+    // The games of all lines were taken.
+    ensures ok { IfOk result (LoadsStream fills (S.state source.old) (S.state source.new) ledger.old ledger.new) }
+    // The games of the lines before the fault were taken, and where the fault lies.
+    ensures fault { IfErr result (LoadsUntil fills (S.state source.old) (S.state source.new) ledger.old ledger.new) }
+    // What was saved is loaded, where it fits.
+    ensures saved { LoadsSaved fills (S.state source.old) (S.state source.new) ledger.old ledger.new result }
+    ensures basis { ledger.new.basis ≡ ledger.old.basis }
+    ensures cap { ledger.new.cap ≡ ledger.old.cap }
+{
+    let mut loader = Loader {
+        ledger,
+        lines: 0,
+        is_saved: false,
+    };
+    take_lines(alloc, source, &mut loader, fills)?;
+    Ok(loader.ledger.len())
+}

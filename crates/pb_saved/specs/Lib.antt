@@ -1,9 +1,0 @@
-pub mod Journal
-pub mod JournalLaws
-pub mod Laws
-pub mod Lending
-pub mod Loader
-pub mod Loading
-pub mod Replayer
-pub mod Replaying
-pub mod Saving
