@@ -1,5 +1,5 @@
 -- What the headline of the command `collect` says, from how its run ends.
-use Rattle.std.proofs.Common.{ℕ, List, Option, Result, Err, subst, sym}
+use Rattle.std.proofs.Common.{ℕ, List, Option, Result, subst, sym}
 use Rattle.std.specs.Prelude.{IfOk, IfSome}
 use Rattle.pb_io.specs.Source.{SourceState}
 use Rattle.pb_io.specs.Sink.{SinkState}

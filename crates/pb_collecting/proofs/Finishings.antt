@@ -10,7 +10,7 @@ use Rattle.pb_ledger.specs.Journaling.{Gains, JournalsUntil, fault_of_journal}
 use Rattle.pb_ledger.specs.declared.journaling.JournalFault.{JournalFault}
 use Rattle.pb_ledger.specs.declared.journaling.JournalFault.TheVariants.{Journal, Lines}
 use Rattle.pb_ledger.specs.declared.totals.Totals.{Totals}
-use Rattle.pb_collecting.specs.Opening.{Finishes}
+use Rattle.pb_collecting.specs.Run.{Finishes}
 use Rattle.pb_collecting.specs.Runs.{BreaksOff, MakesBook, Takes}
 
 -- the totals are counted and dropped

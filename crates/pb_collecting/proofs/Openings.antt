@@ -13,7 +13,7 @@ use Rattle.pb_ledger.specs.declared.loading.LoadError.TheVariants as load
 use Rattle.pb_commands.specs.Judged.{PutsOrEnds, Verdict}
 use Rattle.pb_commands.specs.TableJudged.{table_verdict}
 use Rattle.pb_collecting.specs.Continuing.{saved_verdict}
-use Rattle.pb_collecting.specs.Opening.{Opens}
+use Rattle.pb_collecting.specs.Run.{Opens}
 use Rattle.pb_collecting.specs.Runs as runs
 use Rattle.pb_collecting.specs.Runs.{LacksTable, RunEnds, TakesTable}
 

@@ -2,7 +2,7 @@
 
 ghost use Rattle.std.specs.Prelude.{◌≡◌, Err, MatchResult};
 ghost use Rattle.pb_poly.specs.TableReading.{ReadsTable};
-ghost use Rattle.pb_collecting.specs.Opening.{Finishes, Opens};
+ghost use Rattle.pb_collecting.specs.Run.{Finishes, Opens};
 ghost use Rattle.pb_collecting.specs.Runs.{TakesTable};
 
 use pb_commands::{TableFault, refuse_table, take_table};

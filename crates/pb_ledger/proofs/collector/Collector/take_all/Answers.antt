@@ -1,4 +1,3 @@
-use Rattle.std.proofs.Common.{refl}
 use Rattle.std.proofs.lemmas.Result.{err_from_is_err_and}
 use Rattle.pb_ledger.proofs.Collected.{journaled, journals_until, kept_stream, kept_until, unflushed}
 use Rattle.pb_ledger.proofs.collector.Collector.take_all.Goals as goal
