@@ -5,8 +5,9 @@ ghost use Rattle.std.specs.Prelude.{⊤};
 use crate::ends::{Taker, giver_of, named_source};
 use crate::page::{Done, NO_ROW, Page};
 use crate::text::{count_of, fills_of, small_of};
-use pb_poly::{FromRead, FuseSink, LineTask, MemSink, Sink, Source, ToWrite, take_lines};
-use std::alloc::AllocError;
+use pb_io::{
+    Fault, FromRead, FuseSink, LineTask, MemSink, Sink, Source, ToWrite, take_lines,
+};
 use std::io::Cursor;
 
 /// The answer to a call.
@@ -23,27 +24,30 @@ pub fn answer(page: &mut Page, call: &[&str]) -> Done {
     }
 }
 
-/// Writes each line down with a bar after it, and a star for a long one. The line `stop` stops it.
+/// Writes each line down with a bar after it, and a star for a long one. The line `stop` stops it, as
+/// a sink would that fails.
 #[derive(Drop)]
 struct Barred {
     text: Vec<u8>,
 }
 
 impl LineTask for Barred {
-    type Stop = AllocError;
+    type Stop = Fault;
 
     ghost takes = { λ _ _ _ _. ⊤ };
 
-    fn take(&mut self, line: &[u8]) -> Result<(), AllocError> {
+    fn take(&mut self, line: &[u8]) -> Result<(), Fault> {
         if line == b"stop".as_slice() {
-            return Err(AllocError);
+            return Err(Fault::Write);
         }
         self.text.extend_from_slice(line)?;
-        self.text.extend_from_slice(b"|")
+        self.text.extend_from_slice(b"|")?;
+        Ok(())
     }
 
-    fn take_long(&mut self) -> Result<(), AllocError> {
-        self.text.extend_from_slice(b"*|")
+    fn take_long(&mut self) -> Result<(), Fault> {
+        self.text.extend_from_slice(b"*|")?;
+        Ok(())
     }
 }
 
