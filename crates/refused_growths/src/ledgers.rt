@@ -6,8 +6,8 @@ use crate::kit::{Due, Kit, Ones};
 use crate::text::Text;
 use crate::values::in_memory;
 use pb_ledger::{
-    CollectFault, ExportFault, Ledger, LoadError, Refusal, Row, Tally, Totals,
-    collect, export, load, replay, save,
+    CollectFault, ExportFault, Ledger, LoadError, Refusal, Row, Tally, Totals, collect, export,
+    load, replay, save,
 };
 use pb_poly::{MemSink, MemSource, Sink};
 use std::alloc::AllocError;

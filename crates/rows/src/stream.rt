@@ -5,9 +5,7 @@ ghost use Rattle.std.specs.Prelude.{⊤};
 use crate::ends::{Taker, giver_of, named_source};
 use crate::page::{Done, NO_ROW, Page};
 use crate::text::{count_of, fills_of, small_of};
-use pb_io::{
-    Fault, FromRead, FuseSink, LineTask, MemSink, Sink, Source, ToWrite, take_lines,
-};
+use pb_io::{Fault, FromRead, FuseSink, LineTask, MemSink, Sink, Source, ToWrite, take_lines};
 use std::io::Cursor;
 
 /// The answer to a call.
