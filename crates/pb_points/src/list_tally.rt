@@ -51,7 +51,8 @@ fn add_at(rows: &mut Vec<Row>, place: usize, points: u64)
 impl ListTally {
     /// Finds the points and the plies of a key and a code.
     fn held(&self, key: u64, code: u16) -> (u64, u64)
-        ensures { held (list_content self.now) key code ≡ record { points = result.0; times = result.1 } }
+        ensures { held (list_content self.now) key code
+            ≡ record { points = result.0; times = result.1 } }
     {
         match place_of(&self.rows, key, code) {
             Some(place) => {
