@@ -1,6 +1,6 @@
 //! The book of rows of points.
 
-ghost use Rattle.std.specs.Prelude.{◌≡◌, ◌<◌, ◌≤◌, All, AllPairs, Any, MatchOption, OnErr, OnOk, drop, length, take};
+ghost use Rattle.std.specs.Prelude.{◌≡◌, ◌<◌, ◌≤◌, All, AllPairs, Any, MatchOption, OnErr, OnOk, length};
 ghost use Rattle.pb_points.specs.Group.{AddsBook, IsEntryGroup, IsGroup, Orders, entry_with};
 ghost use Rattle.pb_points.specs.Rows.{IsBelow};
 ghost use Rattle.pb_points.specs.TallyBook.{AddsSome};
@@ -42,7 +42,7 @@ fn push_group(entries: &mut Vec<Entry>, group: &[Row]) -> Result<(), AllocError>
             entries.push(entry)?;
         }
     }
-    sort_from(entries, start);
+    sort_group(&mut entries[start..]);
     Ok(())
 }
 
@@ -69,16 +69,6 @@ fn entry_of(row: &Row, greatest: u64) -> Option<Entry>
         weight,
         learn: 0,
     })
-}
-
-/// Puts the entries from a place on, all of one key, in a book's order.
-fn sort_from(entries: &mut Vec<Entry>, start: usize)
-    requires within { start ≤ length entries.old.items }
-    requires group { IsEntryGroup (drop start entries.old.items) }
-    ensures kept { take start entries.new.items ≡ take start entries.old.items }
-    ensures sorted { Orders (drop start entries.old.items) (drop start entries.new.items) }
-{
-    sort_group(&mut entries[start..]);
 }
 
 /// Puts entries of one key in a book's order.

@@ -1,4 +1,5 @@
 use Rattle.std.proofs.Common.{◌+◌, arith, rules, sym, ap, subst, ◌∙◌}
+use Rattle.std.proofs.lemmas.Grind.{common_steps}
 use Rattle.pb_points.specs.Rows.{IsTop, row_at}
 use Rattle.pb_points.specs.TallyBook.{AddsSome}
 use Rattle.pb_points.proofs.Tops.{Contains-row_at}
@@ -32,5 +33,5 @@ returns-in_err-push-clause-err c =
 pub returns-clause-ok : goal.returns-clause-ok
 returns-clause-ok c =
     let rows = c.args.group.now in
-    adds_book rows c.args.entries.now.items c.loop-row.entries.items c.sort_from.new.entries.items c.len-start.result (search rules)
-    (subst (λ n. AddsWeighed rows n c.args.entries.now.items c.loop-row.entries.items) (omega arith) c.loop-row.invariant) c.sort_from.ensures.kept c.sort_from.ensures.sorted
+    adds_book rows c.args.entries.now.items c.loop-row.entries.items _ c.len-start.result (search rules)
+    (subst (λ n. AddsWeighed rows n c.args.entries.now.items c.loop-row.entries.items) (omega arith) c.loop-row.invariant) (grind (arith, common_steps)) (grind (arith, common_steps))
