@@ -12,6 +12,7 @@ use Rattle.pb_poly.specs.Book.{NeverFall, NeverFallsFrom, keys_of}
 use Rattle.pb_points.specs.declared.row.Row.{Row}
 use Rattle.pb_points.specs.Group.{AddsBook, IsGroup}
 use Rattle.pb_points.specs.Rows.{Gives, IsBelow, IsBookOfRows}
+use Rattle.pb_points.specs.TallyBook.{AddsSome}
 use Rattle.pb_points.specs.Weight.{Before}
 use Rattle.pb_points.proofs.Tops.{IsTop-agree}
 use Rattle.pb_points.proofs.Weighing.{one_key}
@@ -93,16 +94,30 @@ module _ (rows others : List Row) (below : KeysBelow rows others) where
 
 -- ---- one key after another
 
--- the entries are the book of the rows before the rest, whose keys are below those of the rest
-pub record IsBookSoFar (rows : List Row) (entries : List Entry) (rest : List Row) : Type 0 where
+pub adds_nothing : (old : List Entry) → AddsBook [] old old
+adds_nothing old = (
+  [],
+  sym (append-nil old),
+  record { ordered = λ i j d lt within. absurd (omega (arith, within)); members = λ e. (λ h. absurd (omega (arith, h.1)), λ h. absurd (omega (arith, h.1.1))) },
+)
+
+pub adds_both : (rows others : List Row) (old mid new : List Entry) → KeysBelow rows others → AddsBook rows old mid → AddsBook others mid new → AddsBook (rows ++ others) old new
+adds_both rows others old mid new below h k = (h.0 ++ k.0, k.1 ∙ ap (λ l. l ++ k.0) h.1 ∙ append_assoc old h.0 k.0, IsBookOfRows-append rows others below h.0 k.0 h.2 k.2)
+
+pub adds_more : (rows : List Row) (old mid new : List Entry) → AddsBook rows old mid → AddsSome mid new → AddsSome old new
+adds_more rows old mid new h more = (h.0 ++ more.0, more.1 ∙ ap (λ l. l ++ more.0) h.1 ∙ append_assoc old h.0 more.0)
+
+-- the book of the rows before the rest, whose keys are below those of the rest, was added
+pub record IsBookSoFar (rows : List Row) (old new : List Entry) (rest : List Row) : Type 0 where
   pub done : List Row
   pub split : rows ≡ done ++ rest
   pub below : KeysBelow done rest
-  pub book : IsBookOfRows done entries
+  pub rise : AllPairs IsBelow rest
+  pub adds : AddsBook done old new
 
-pub so_far_all : (rows rest : List Row) (entries : List Entry) → length rest ≡ 0 → IsBookSoFar rows entries rest → IsBookOfRows rows entries
-so_far_all rows [] entries none h = subst (λ D. IsBookOfRows D entries) (sym (h.split ∙ append-nil h.done)) h.book
-so_far_all rows (r ∷ rest) entries none h = absurd (omega arith)
+pub so_far_all : (rows rest : List Row) (old new : List Entry) → length rest ≡ 0 → IsBookSoFar rows old new rest → AddsBook rows old new
+so_far_all rows [] old new none h = subst (λ D. AddsBook D old new) (sym (h.split ∙ append-nil h.done)) h.adds
+so_far_all rows (r ∷ rest) old new none h = absurd (omega arith)
 
 abbrev pub keys_equal : Row → Row → Bool
 keys_equal r s = r.key == s.key
@@ -188,20 +203,17 @@ module _ (rest group later : List Row) (cut : IsCut rest group later) (rise : Al
         | inr least ↦ let same : 0 ≡ k.0 = omega arith in let is : first ≡ s = ap (λ i. get_or later i s) same ∙ k.2 in subst (λ (x : Row). first.key ≤ x.key) is (omega arith)
       ]
 
-pub so_far_rise : (rows rest : List Row) (entries : List Entry) → IsBookSoFar rows entries rest → AllPairs IsBelow rows → AllPairs IsBelow rest
-so_far_rise rows rest entries h rise = AllPairs-right IsBelow h.done rest (subst (AllPairs IsBelow) h.split rise)
-
 -- the book of one key more
-pub so_far_more : (rows rest group later : List Row) (old new : List Entry) → AllPairs IsBelow rows → IsBookSoFar rows old rest → IsCut rest group later → AddsBook group old new → IsBookSoFar rows new later
-so_far_more rows rest group later old new rise h cut adds = record {
+pub so_far_more : (rows rest group later : List Row) (old mid new : List Entry) → IsBookSoFar rows old mid rest → IsCut rest group later → AddsBook group mid new → IsBookSoFar rows old new later
+so_far_more rows rest group later old mid new h cut adds = record {
   done = h.done ++ group;
   split = h.split ∙ ap (λ l. h.done ++ l) cut.split ∙ sym (append_assoc h.done group later);
   below = λ r s a b. elim (Contains-append_cases h.done group r a) [
     | inl before ↦ h.below r s before (subst (λ l. Contains l s) (sym cut.split) (Contains-append_right group later s b))
-    | inr now ↦ cut_below rest group later cut (so_far_rise rows rest old h rise) r s now b
+    | inr now ↦ cut_below rest group later cut h.rise r s now b
   ];
-  book = subst (IsBookOfRows (h.done ++ group)) (sym adds.1)
-      (IsBookOfRows-append h.done group (λ r s a b. h.below r s a (subst (λ l. Contains l s) (sym cut.split) (Contains-append_left group later s b))) old adds.0 h.book adds.2);
+  rise = cut_rise_later rest group later cut h.rise;
+  adds = adds_both h.done group old mid new (λ r s a b. h.below r s a (subst (λ l. Contains l s) (sym cut.split) (Contains-append_left group later s b))) h.adds adds;
 }
 
 -- ---- keys that never fall

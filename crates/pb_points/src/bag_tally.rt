@@ -4,10 +4,9 @@ ghost use Rattle.std.specs.Prelude.{◌≡◌, ◌<◌, AllPairs, IfOk, length};
 ghost use Rattle.pb_points.specs.BagTally.{HoldsSame, IsAddedUp, SumsFit, bag_content};
 ghost use Rattle.pb_points.specs.Blocks.{rows_of};
 ghost use Rattle.pb_points.specs.Rows.{IsUpTo};
+ghost use Rattle.pb_points.specs.Tally.{held};
 
-use crate::blocks::{
-    Blocks, in_blocks, listed, no_blocks, place_in, place_of, points_of, push_row, times_of,
-};
+use crate::blocks::{Blocks, held_in, in_blocks, listed, no_blocks, place_in, place_of, push_row};
 use crate::row::{Row, sort_rows};
 use crate::tally::Tally;
 use std::alloc::{AllocError, Global};
@@ -80,6 +79,22 @@ fn make_room(alloc: Global, blocks: &mut Blocks) -> Result<(), AllocError>
     Ok(())
 }
 
+impl BagTally {
+    /// Adds up the points and the plies of a key and a code over all blocks.
+    fn held(&self, key: u64, code: u16) -> (u64, u64)
+        ensures { held (bag_content (rows_of self.now.blocks)) key code
+            ≡ record { points = result.0; times = result.1 } }
+    {
+        let (mut points, mut times) = held_in(&self.blocks.last, key, code);
+        for block in &self.blocks.full {
+            let (more_points, more_times) = held_in(block, key, code);
+            points += more_points;
+            times += more_times;
+        }
+        (points, times)
+    }
+}
+
 impl Tally for BagTally {
     ghost content = { λ t. bag_content (rows_of t.blocks) };
 
@@ -114,19 +129,11 @@ impl Tally for BagTally {
     }
 
     fn points(&self, key: u64, code: u16) -> u64 {
-        let mut sum = points_of(&self.blocks.last, key, code);
-        for block in &self.blocks.full {
-            sum += points_of(block, key, code);
-        }
-        sum
+        self.held(key, code).0
     }
 
     fn times(&self, key: u64, code: u16) -> u64 {
-        let mut sum = times_of(&self.blocks.last, key, code);
-        for block in &self.blocks.full {
-            sum += times_of(block, key, code);
-        }
-        sum
+        self.held(key, code).1
     }
 
     fn rows(&self, alloc: Global) -> Result<Vec<Row>, AllocError> {

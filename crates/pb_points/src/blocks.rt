@@ -111,30 +111,19 @@ pub(crate) fn place_of(rows: &[Row], key: u64, code: u16) -> Option<usize>
     None
 }
 
-/// The points of all rows of a key and a code.
-pub(crate) fn points_of(rows: &[Row], key: u64, code: u16) -> u64
-    requires { points rows.now key code ≤ 2 ^ 63 }
-    ensures { result ≡ points rows.now key code }
+/// Adds up the points and the plies of all rows of a key and a code.
+pub(crate) fn held_in(rows: &[Row], key: u64, code: u16) -> (u64, u64)
+    requires points_fit { points rows.now key code ≤ 2 ^ 63 }
+    requires times_fit { times rows.now key code ≤ 2 ^ 63 }
+    ensures points { result.0 ≡ points rows.now key code }
+    ensures times { result.1 ≡ times rows.now key code }
 {
-    let mut sum = 0;
+    let (mut points, mut times) = (0, 0);
     for row in rows {
         if row.key == key && row.code == code {
-            sum += row.points;
+            points += row.points;
+            times += row.times;
         }
     }
-    sum
-}
-
-/// The plies of all rows of a key and a code.
-pub(crate) fn times_of(rows: &[Row], key: u64, code: u16) -> u64
-    requires { times rows.now key code ≤ 2 ^ 63 }
-    ensures { result ≡ times rows.now key code }
-{
-    let mut sum = 0;
-    for row in rows {
-        if row.key == key && row.code == code {
-            sum += row.times;
-        }
-    }
-    sum
+    (points, times)
 }

@@ -1,53 +1,39 @@
 //! The book of rows of points.
 
-ghost use Rattle.std.specs.Prelude.{◌≡◌, ◌<◌, ◌≤◌, All, AllPairs, Any, IfOk, MatchOption, OnErr, OnOk, drop, length, take};
+ghost use Rattle.std.specs.Prelude.{◌≡◌, ◌<◌, ◌≤◌, All, AllPairs, Any, MatchOption, OnErr, OnOk, length};
 ghost use Rattle.pb_points.specs.Group.{AddsBook, IsEntryGroup, IsGroup, Orders, entry_with};
-ghost use Rattle.pb_points.specs.Rows.{IsBelow, IsBookOfRows, frequent};
+ghost use Rattle.pb_points.specs.Rows.{IsBelow};
+ghost use Rattle.pb_points.specs.TallyBook.{AddsSome};
 ghost use Rattle.pb_points.specs.Weight.{Before, scaled};
 
-use crate::row::{Row, keep_frequent};
+use crate::row::Row;
 use crate::weight::scale;
-use pb_poly::{Book, Entry};
-use std::alloc::{AllocError, Global};
+use pb_poly::Entry;
+use std::alloc::AllocError;
 use std::cmp::Reverse;
 
-/// The book of rows of points, one for each key and code, that rise by key and then code. The points of each key are
-/// scaled by the greatest of that key, and moves of weight 0 are left out.
+/// Adds the book of rows, one for each key and code, that rise by key and then code. The points of
+/// each key are scaled by the greatest of that key, and moves of weight 0 are left out.
 ///
 /// # Errors
 ///
-/// The entries needed memory that wasn't there.
-pub(crate) fn book_of(alloc: Global, rows: &[Row]) -> Result<Book, AllocError>
+/// The entries needed memory that wasn't there. Some may have been added then.
+pub(crate) fn push_book(entries: &mut Vec<Entry>, rows: &[Row]) -> Result<(), AllocError>
     requires { AllPairs IsBelow rows.now }
-    ensures { IfOk result (λ b. IsBookOfRows rows.now b) }
+    ensures ok { OnOk result (AddsBook rows.now entries.old.items entries.new.items) }
+    ensures err { OnErr result (AddsSome entries.old.items entries.new.items) }
 {
-    let mut entries = Vec::new(alloc);
     for group in rows.chunk_by(|row, next| row.key == next.key) {
-        push_group(&mut entries, group)?;
+        push_group(entries, group)?;
     }
-    Ok(Book::of(entries).unwrap())
-}
-
-/// Adds the book of the rows to the entries, of the moves that were played at least so many times.
-pub(crate) fn add_frequent(
-    alloc: Global,
-    mut rows: Vec<Row>,
-    least: u64,
-    entries: &mut Vec<Entry>,
-) -> Result<(), AllocError>
-    requires { AllPairs IsBelow rows.items }
-    ensures ok { OnOk result (AddsBook (frequent least rows.items) entries.old.items entries.new.items) }
-    ensures err { OnErr result (entries.new.items ≡ entries.old.items) }
-{
-    keep_frequent(&mut rows, least);
-    let book = book_of(alloc, &rows)?;
-    entries.extend_from_slice(book.entries())
+    Ok(())
 }
 
 /// Adds the book of the rows of one key.
 fn push_group(entries: &mut Vec<Entry>, group: &[Row]) -> Result<(), AllocError>
     requires { IsGroup group.now }
-    ensures { OnOk result (AddsBook group.now entries.old.items entries.new.items) }
+    ensures ok { OnOk result (AddsBook group.now entries.old.items entries.new.items) }
+    ensures err { OnErr result (AddsSome entries.old.items entries.new.items) }
 {
     let start = entries.len();
     let greatest = greatest_of(group);
@@ -56,7 +42,7 @@ fn push_group(entries: &mut Vec<Entry>, group: &[Row]) -> Result<(), AllocError>
             entries.push(entry)?;
         }
     }
-    sort_from(entries, start);
+    sort_group(&mut entries[start..]);
     Ok(())
 }
 
@@ -83,16 +69,6 @@ fn entry_of(row: &Row, greatest: u64) -> Option<Entry>
         weight,
         learn: 0,
     })
-}
-
-/// Puts the entries from a place on, all of one key, in a book's order.
-fn sort_from(entries: &mut Vec<Entry>, start: usize)
-    requires within { start ≤ length entries.old.items }
-    requires group { IsEntryGroup (drop start entries.old.items) }
-    ensures kept { take start entries.new.items ≡ take start entries.old.items }
-    ensures sorted { Orders (drop start entries.old.items) (drop start entries.new.items) }
-{
-    sort_group(&mut entries[start..]);
 }
 
 /// Puts entries of one key in a book's order.

@@ -3,7 +3,7 @@
 ghost use Rattle.std.specs.Prelude.{◌≡◌, ◌<◌, ℕ, IsOk, IsSome, OnErr, OnOk, length, position, slice_set};
 ghost use Rattle.pb_points.specs.ListTally.{list_content, with_more};
 ghost use Rattle.pb_points.specs.Rows.{is_row, row_at};
-ghost use Rattle.pb_points.specs.Tally.{HasRoomFor, MakesRow, held_of};
+ghost use Rattle.pb_points.specs.Tally.{HasRoomFor, MakesRow, held, held_of};
 
 use crate::row::{Row, sort_rows};
 use crate::tally::Tally;
@@ -48,6 +48,22 @@ fn add_at(rows: &mut Vec<Row>, place: usize, points: u64)
     row.times += 1;
 }
 
+impl ListTally {
+    /// Finds the points and the plies of a key and a code.
+    fn held(&self, key: u64, code: u16) -> (u64, u64)
+        ensures { held (list_content self.now) key code
+            ≡ record { points = result.0; times = result.1 } }
+    {
+        match place_of(&self.rows, key, code) {
+            Some(place) => {
+                let row = self.rows[place];
+                (row.points, row.times)
+            }
+            None => (0, 0),
+        }
+    }
+}
+
 impl Tally for ListTally {
     ghost content = { list_content };
 
@@ -82,17 +98,11 @@ impl Tally for ListTally {
     }
 
     fn points(&self, key: u64, code: u16) -> u64 {
-        match place_of(&self.rows, key, code) {
-            Some(place) => self.rows[place].points,
-            None => 0,
-        }
+        self.held(key, code).0
     }
 
     fn times(&self, key: u64, code: u16) -> u64 {
-        match place_of(&self.rows, key, code) {
-            Some(place) => self.rows[place].times,
-            None => 0,
-        }
+        self.held(key, code).1
     }
 
     fn rows(&self, alloc: Global) -> Result<Vec<Row>, AllocError> {

@@ -2,8 +2,8 @@
 
 ghost use Rattle.std.specs.Prelude.{◌≡◌, ℕ, ◌↔◌, Option, None, Some, IsSome, IfOk, OnOk, OnErr, AllPairs, Contains};
 
-use crate::book::add_frequent;
-use crate::row::Row;
+use crate::book::push_book;
+use crate::row::{Row, keep_frequent};
 use pb_poly::Entry;
 use std::alloc::{AllocError, Global};
 
@@ -69,6 +69,8 @@ pub trait Tally: Drop {
         ensures ok { OnOk result (AddsBookOf (content self.now) least entries.old.items entries.new.items) }
         ensures err { OnErr result (AddsSome entries.old.items entries.new.items) }
     {
-        add_frequent(alloc, self.rows(alloc)?, least, entries)
+        let mut rows = self.rows(alloc)?;
+        keep_frequent(&mut rows, least);
+        push_book(entries, &rows)
     }
 }

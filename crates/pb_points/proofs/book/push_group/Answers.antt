@@ -1,5 +1,7 @@
 use Rattle.std.proofs.Common.{◌+◌, arith, rules, sym, ap, subst, ◌∙◌}
+use Rattle.std.proofs.lemmas.Grind.{common_steps}
 use Rattle.pb_points.specs.Rows.{IsTop, row_at}
+use Rattle.pb_points.specs.TallyBook.{AddsSome}
 use Rattle.pb_points.proofs.Tops.{Contains-row_at}
 use Rattle.pb_points.proofs.Weighing.{AddsWeighed, adds_book, adds_keep, adds_push, group_top}
 use Rattle.pb_points.proofs.book.push_group.Goals as goal
@@ -22,8 +24,14 @@ loop-row-preserved c =
           (adds_keep rows c.requires i c.loop-row-test.true M top old new c.loop-row.invariant w.in_default.ensures)
     ]
 
-pub returns : goal.returns
-returns c =
+pub returns-in_err-push-clause-err : goal.returns-in_err-push-clause-err
+returns-in_err-push-clause-err c =
+    let some : AddsSome c.args.entries.now.items c.push.new.self.items =
+    (c.loop-row.invariant.added, c.in_err-push.ensures.items ∙ c.loop-row.invariant.split) in
+    search rules
+
+pub returns-clause-ok : goal.returns-clause-ok
+returns-clause-ok c =
     let rows = c.args.group.now in
-    adds_book rows c.args.entries.now.items c.loop-row.entries.items c.sort_from.new.entries.items c.len-start.result (search rules)
-    (subst (λ n. AddsWeighed rows n c.args.entries.now.items c.loop-row.entries.items) (omega arith) c.loop-row.invariant) c.sort_from.ensures.kept c.sort_from.ensures.sorted
+    adds_book rows c.args.entries.now.items c.loop-row.entries.items _ c.len-start.result (search rules)
+    (subst (λ n. AddsWeighed rows n c.args.entries.now.items c.loop-row.entries.items) (omega arith) c.loop-row.invariant) (grind (arith, common_steps)) (grind (arith, common_steps))

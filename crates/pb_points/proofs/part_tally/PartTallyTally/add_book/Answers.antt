@@ -2,7 +2,8 @@ use Rattle.std.proofs.Common.{rules, ◌≡◌, ◌≤◌, Some, refl, length, a
 use Rattle.std.specs.Prelude.{slice_get}
 use Rattle.std.proofs.lemmas.Option.{slice_get_read}
 use Rattle.pb_points.specs.TallyBook.{AddsSome}
-use Rattle.pb_points.proofs.PartBooks.{adds_all, adds_none, adds_part, adds_some}
+use Rattle.pb_points.proofs.Groups.{adds_more}
+use Rattle.pb_points.proofs.PartBooks.{adds_all, adds_none, adds_part}
 use Rattle.pb_points.proofs.part_tally.PartTallyTally.add_book.Goals as goal
 
 pub loop-part-init : goal.loop-part-init
@@ -19,7 +20,7 @@ loop-part-preserved g c =
 pub returns-in_err-add_book-clause-err : goal.returns-in_err-add_book-clause-err
 returns-in_err-add_book-clause-err g c =
     let some : AddsSome c.args.entries.now.items c.add_book.new.entries.items =
-    adds_some g.T.Tally.content c.args.self.now.parts.items c.args.least c.loop-part.part-index _ _ _ c.loop-part.invariant c.in_err-add_book.ensures.err in
+    adds_more _ _ _ _ c.loop-part.invariant.adds c.in_err-add_book.ensures.err in
     search rules
 
 pub returns-clause-ok : goal.returns-clause-ok
