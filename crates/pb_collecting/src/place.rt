@@ -5,7 +5,7 @@ ghost use Rattle.std.specs.Option.{option_copied};
 ghost use Rattle.pb_collecting.specs.Place.{Keeps, KeepsWhatItHad, PlaceState};
 
 use crate::text::Text;
-use pb_poly::{MemSink, Sink};
+use pb_io::{MemSink, Sink};
 use std::alloc::Global;
 use thiserror::Error;
 

@@ -5,8 +5,9 @@ ghost use Rattle.pb_io.specs.Writes.{Writes};
 ghost use Rattle.pb_poly.specs.Book.{book_bytes};
 ghost use Rattle.pb_ledger.specs.Saving.{Saved};
 
+use pb_io::{Failed, Sink};
 use pb_ledger::{Ledger, Tally, save};
-use pb_poly::{Book, Failed, Sink, write_book};
+use pb_poly::{Book, write_book};
 
 /// What has a text, as a book and a ledger have.
 pub trait Text {

@@ -9,7 +9,7 @@ use crate::apart::NotApart;
 use crate::holding::NotHeld;
 use crate::starting::{NotRead, NotStarted};
 use pb_collecting::{NoBook, NotContinued, NotKept};
-use pb_commands::Fault;
+use pb_io::Fault;
 
 /// Why a run stops.
 #[derive(Clone, Copy)]

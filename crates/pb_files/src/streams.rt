@@ -1,7 +1,7 @@
 //! The standard streams, which have to be open before a file is.
 
 use crate::stop::Stop;
-use pb_commands::Fault;
+use pb_io::Fault;
 use pb_messages::{Message, Messages, is_open};
 
 /// Makes sure that standard output is open, and standard input where it is read.

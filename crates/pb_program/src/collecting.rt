@@ -6,8 +6,8 @@ use pb_files::{
     Durability, FileDesk, JournalSink, KeptFile, Replies, Stop, Submissions, Synced, TellPassed,
     Written, hold_ledger, journal_to_file, keep_apart, start_journal,
 };
+use pb_io::{FromRead, Sink, ToWrite};
 use pb_messages::{LedgerLines, Messages, Named, News, Part, Progress, Told};
-use pb_poly::{FromRead, Sink, ToWrite};
 use std::cell::RefCell;
 
 /// A run of `collect`: its rules, the table that it reads and the book that it makes.

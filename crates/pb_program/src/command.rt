@@ -3,8 +3,8 @@
 use crate::collecting::Collecting;
 use pb_cli::{Order, Rules, run_epd, run_export, run_fen, run_probe, run_show};
 use pb_files::{Stop, expect_open, open};
+use pb_io::{FromRead, Sink};
 use pb_messages::{Messages, Named, News, Progress, Told, Watched};
-use pb_poly::{FromRead, Sink};
 use std::fs::File;
 use std::io::{Input, StdinLock};
 

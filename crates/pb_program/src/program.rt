@@ -6,8 +6,8 @@ use crate::command::answer;
 use crate::stop::tell_stop;
 use pb_cli::{Fault, Keeping, Order, ParseFault, parse, status};
 use pb_files::{PIECE, Stop};
+use pb_io::ToWrite;
 use pb_messages::{Front, Fronted, Message, Messages, Named, Part, RefusedFile, Told};
-use pb_poly::ToWrite;
 use std::cell::RefCell;
 use std::io::{self, BufWriter, IsTerminal};
 

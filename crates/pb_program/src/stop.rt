@@ -4,8 +4,8 @@ ghost use Rattle.std.specs.Prelude.{◌≡◌};
 
 use pb_cli::{Fault, STOPPED};
 use pb_files::Stop;
+use pb_io::{Sink, ToWrite};
 use pb_messages::{Message, Messages};
-use pb_poly::{Sink, ToWrite};
 use std::io::Write;
 
 /// Tells why a command stopped, in a line after what it put, and answers the status. What it put is
