@@ -18,3 +18,4 @@ mod JournalSurvives
 mod KeepRuns
 mod OneTexts
 mod Openings
+mod Unread

@@ -1,6 +1,8 @@
 -- Laws of the theorem of `pbook collect`: what follows from an effect.
-use Rattle.std.specs.Prelude.{◌≡◌, ◌≢◌, ℕ, ◌+◌, ◌++◌, List, [], Some, Err, All, slice_get, take}
+use Rattle.std.specs.Prelude.{◌≡◌, ◌≢◌, ℕ, ◌+◌, ◌++◌, List, [], Some, None, Ok, Err, All, slice_get, take}
 use Rattle.pb_io.specs.Lines.{lines}
+use Rattle.pb_io.specs.Sink.{SinkState}
+use Rattle.pb_io.specs.Source.{SourceState}
 use Rattle.pb_poly.specs.declared.entry.Entry.{Entry}
 use Rattle.pb_games.specs.Submissions.{Submission}
 use Rattle.pb_games.specs.declared.refusal.Refusal.{Refusal}
@@ -17,6 +19,7 @@ use Rattle.pb_ledger.specs.Saving.{Saved}
 use Rattle.pb_collecting.specs.ContinueHeadline.{ContinuesBytes}
 use Rattle.pb_collecting.specs.Headline.{Effect}
 use Rattle.pb_collecting.specs.OneText.{HasOneText}
+use Rattle.pb_collecting.specs.Runs.{CollectRun, ContinueRun, JournalRun}
 
 -- in every run a line that was refused left the games that are held as they were
 abbrev pub RefusalsLeaveTheGames : Type 0
@@ -26,7 +29,8 @@ RefusalsLeaveTheGames = (L : List (List ℕ)) (R : List Answer) (games : List Su
 
 -- What more is so of lines in which no id names two games.
 pub record OneEffect (T : Basis) (L : List (List ℕ)) (R : List Answer) (games : List Submission) (entries : List Entry) : Type 0 where
-  -- the games are the distinct legal submissions that were accepted, and the book is that of these, each of them once
+  -- the games are the distinct legal submissions that were accepted, and the book is that of these,
+  -- each of them once
   pub taken : List Submission
   pub are_taken : Taken [] L R taken
   pub once : NoRepeats taken
@@ -42,8 +46,8 @@ abbrev pub HasOneEffect : Type 0
 HasOneEffect = (T : Basis) (L : List (List ℕ)) (R : List Answer) (games : List Submission) (entries : List Entry)
     → Effect T L R games entries → OneGame L → OneEffect T L R games entries
 
--- What more is so where a run held these games first, went on with lines L and answers R to the games `left`, and an earlier run, of
--- lines K with answers Q, saved these.
+-- What more is so where a run held these games first, went on with lines L and answers R to the
+-- games `left`, and an earlier run, of lines K with answers Q, saved these.
 pub record OneLongRun (T : Basis) (K L : List (List ℕ)) (Q R : List Answer) (saved held left : List Submission) (entries : List Entry) : Type 0 where
   -- what was saved is what was held
   pub held_is_saved : held ≡ saved
@@ -57,3 +61,15 @@ GoesOnAsOneRun = (rules : CountingRules) (file saved bytes put : List ℕ) (left
     (h : ContinuesBytes rules file saved bytes put left entries) (K : List (List ℕ)) (Q : List Answer) (A : List Submission)
     → Run most_games [] K Q A → Saved A saved
     → OneLongRun left.basis K (lines bytes) Q h.answers A h.held left.accepted entries
+
+-- A run that refused its table or its saved ledger read no submission, and left a journal as it
+-- was. Below, `t` and `t'` are the states of the table's source before and after, `v` and `v'`
+-- those of a saved ledger or a journal that is read, `s` and `s'` those of the submissions, `j` and
+-- `j'` those of the journal that is written.
+pub record RefusedIsUnread : Type 0 where
+  pub collect : (rules : CountingRules) (fills : ℕ) (t t' s s' : SourceState) (sink sink' : SinkState)
+      → CollectRun rules fills t t' s s' sink sink' (Ok None) → s' ≡ s
+  pub continued : (rules : CountingRules) (fills : ℕ) (t t' v v' s s' : SourceState) (sink sink' : SinkState)
+      → ContinueRun rules fills t t' v v' s s' sink sink' (Ok None) → s' ≡ s
+  pub journaled : (rules : CountingRules) (fills : ℕ) (t t' v v' s s' : SourceState) (j j' sink sink' : SinkState)
+      → JournalRun rules fills t t' v v' s s' j j' sink sink' (Ok None) → (s' ≡ s) × (v' ≡ v) × (j' ≡ j)

@@ -1,9 +1,9 @@
-//! Laws of the theorem of `pbook collect`, and of equality (`==`) between reasons why nothing is kept. Each is the contract of a function
-//! that does nothing, over the definitions alone.
+//! Laws of the theorem of `pbook collect`, and of equality (`==`) between reasons why nothing is
+//! kept. Each is the contract of a function that does nothing, over the definitions alone.
 
 ghost use Rattle.std.specs.Prelude.{◌≡◌};
 ghost use Rattle.std.specs.Bool.{Decides};
-ghost use Rattle.pb_collecting.specs.Laws.{GoesOnAsOneRun, HasOneEffect, RefusalsLeaveTheGames};
+ghost use Rattle.pb_collecting.specs.Laws.{GoesOnAsOneRun, HasOneEffect, RefusalsLeaveTheGames, RefusedIsUnread};
 ghost use Rattle.pb_collecting.specs.declared.continuing_into.NotContinued.{NotContinued};
 ghost use Rattle.pb_collecting.specs.declared.keeping.NoBook.{NoBook};
 ghost use Rattle.pb_collecting.specs.declared.place.NotKept.{NotKept};
@@ -17,18 +17,27 @@ pub fn every_run()
     ensures { RefusalsLeaveTheGames }
 {}
 
-/// Where no id names two games, the book is that of the distinct legal submissions that were accepted, each counted once, no answer is a
-/// conflict, and every legal arrival is accepted unless room or memory is refused to a new id.
+/// Where no id names two games, the book is that of the distinct legal submissions that were
+/// accepted, each counted once, no answer is a conflict, and every legal arrival is accepted unless
+/// room or memory is refused to a new id.
 pub fn one_game()
     ensures { HasOneEffect }
 {}
 
-/// What an earlier run saved is what a run holds that goes on from it, and the replies and the book of both are those of one long run.
+/// What an earlier run saved is what a run holds that goes on from it, and the replies and the book
+/// of both are those of one long run.
 pub fn goes_on()
     ensures { GoesOnAsOneRun }
 {}
 
-/// Reasons why a text, a book, or a ledger and its book aren't kept are equal (`==`) exactly where they are one.
+/// A run whose table or saved ledger is refused reads no submission, and leaves a journal as it
+/// was.
+pub fn unread()
+    ensures { RefusedIsUnread }
+{}
+
+/// Reasons why a text, a book, or a ledger and its book aren't kept are equal (`==`) exactly where
+/// they are one.
 pub fn equal_values()
     ensures text { (a b : NotKept) → Decides (⟦<NotKept as PartialEq>⟧.eq a b) (a ≡ b) }
     ensures book { (a b : NoBook) → Decides (⟦<NoBook as PartialEq>⟧.eq a b) (a ≡ b) }
