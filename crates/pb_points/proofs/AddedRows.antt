@@ -47,13 +47,13 @@ next_row : (rows all rest : List Row) (sum : Row) (i : ℕ) → Adding rows all 
 next_row rows all rest sum i a = ap (λ l. row_at l (i + 1)) a.cut ∙ ap (row_at (a.first ∷ rest)) (add-one i)
 
 -- a row of the same key and code goes into the sum
-gain_joined : (part : Row → ℕ) (k c : ℕ) (s r : Row) → r.key ≡ s.key → r.code ≡ s.code → part (with_more r.points r.times s) ≡ part s + part r
+pub gain_joined : (part : Row → ℕ) (k c : ℕ) (s r : Row) → r.key ≡ s.key → r.code ≡ s.code → part (with_more r.points r.times s) ≡ part s + part r
     → gain part k c (with_more r.points r.times s) ≡ gain part k c s + gain part k c r
 gain_joined part k c s r key code is =
     let test : is_row k c r ≡ is_row k c s = λ i. is_pair (key i) (code i) k c in
     omega (arith, gain_more part k c (part r) s (with_more r.points r.times s) refl is, ap (λ b. cond b (part r) 0) test)
 
-one_joined : (k c : ℕ) (s r : Row) → r.key ≡ s.key → r.code ≡ s.code → one k c r ≡ one k c s
+pub one_joined : (k c : ℕ) (s r : Row) → r.key ≡ s.key → r.code ≡ s.code → one k c r ≡ one k c s
 one_joined k c s r key code = λ i. cond (is_pair (key i) (code i) k c) 1 0
 
 some_joined : (a n m : ℕ) → nat_lt 0 (a + n + m) ≡ nat_lt 0 (a + n + (n + m))
@@ -80,10 +80,10 @@ adding_joins rows all rest sum i a lt key code =
     }
 
 -- a row of another key or code ends the sum
-below_next : (r s : Row) → IsUpTo r s → (s.key ≡ r.key → s.code ≡ r.code → ⊥) → IsBelow r s
+pub below_next : (r s : Row) → IsUpTo r s → (s.key ≡ r.key → s.code ≡ r.code → ⊥) → IsBelow r s
 below_next r s up other = elim up [ inl below ↦ below | inr same ↦ absurd (other (sym same.0) (sym same.1)) ]
 
-below_trans : (r s t : Row) → IsBelow r s → IsBelow s t → IsBelow r t
+pub below_trans : (r s t : Row) → IsBelow r s → IsBelow s t → IsBelow r t
 below_trans r s t p q = elim p [
   | inl a ↦ elim q [ inl b ↦ inl (omega arith) | inr b ↦ inl (omega (arith, b.0)) ]
   | inr a ↦ elim q [ inl b ↦ inl (omega (arith, a.0)) | inr b ↦ inr (a.0 ∙ b.0, omega (arith, a.1, b.1)) ]

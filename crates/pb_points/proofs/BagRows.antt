@@ -83,7 +83,7 @@ gain_nothing part k c r none = by (is_row k c r)
     by true = none
     by false = refl
 
-total_pushed : (part : Row → ℕ) (rows : List Row) (r : Row) (k c : ℕ) → part r ≡ 0 → total part (rows ++ r ∷ []) k c ≡ total part rows k c
+pub total_pushed : (part : Row → ℕ) (rows : List Row) (r : Row) (k c : ℕ) → part r ≡ 0 → total part (rows ++ r ∷ []) k c ≡ total part rows k c
 total_pushed part rows r k c none = omega (arith, sum_by_push (gain part k c) rows r, gain_nothing part k c r none)
 
 pub makes_pushed : (rows : List Row) (key code : ℕ) → MakesRow (bag_content rows) (bag_content (rows ++ new_row key code ∷ [])) key code

@@ -7,5 +7,7 @@ pub mod Ordering
 pub mod Pairs
 pub mod PartBooks
 pub mod PartRows
+pub mod Pointed
+pub mod SomeSums
 pub mod Tops
 pub mod Weighing

@@ -1,14 +1,16 @@
 //! A tally over rows in blocks, which grow at their end.
 
 ghost use Rattle.std.specs.Prelude.{◌≡◌, ◌<◌, AllPairs, IfOk, length};
-ghost use Rattle.pb_points.specs.BagTally.{HoldsSame, IsAddedUp, SumsFit, bag_content};
+ghost use Rattle.pb_points.specs.BagTally.{ArePlied, HoldsSame, IsAddedUp, SumsFit, bag_content};
 ghost use Rattle.pb_points.specs.Blocks.{rows_of};
-ghost use Rattle.pb_points.specs.Rows.{IsUpTo};
+ghost use Rattle.pb_points.specs.Rows.{IsUpTo, pointed};
 ghost use Rattle.pb_points.specs.Tally.{held};
 
 use crate::blocks::{Blocks, held_in, in_blocks, listed, no_blocks, place_in, place_of, push_row};
-use crate::row::{Row, sort_rows};
+use crate::book::push_book;
+use crate::row::{Row, keep_frequent, keep_pointed, sort_rows};
 use crate::tally::Tally;
+use pb_poly::Entry;
 use std::alloc::{AllocError, Global};
 
 /// The blocks from which on a full list of them is added up before it grows.
@@ -22,6 +24,7 @@ pub struct BagTally {
     alloc: Global,
     blocks: Blocks,
     ghost fit: { SumsFit (rows_of blocks) },
+    ghost plied: { ArePlied (rows_of blocks) },
 }
 
 /// One row for each key and code of the ordered rows.
@@ -54,6 +57,18 @@ fn sums_of(alloc: Global, blocks: &Blocks) -> Result<Vec<Row>, AllocError>
     ensures { IfOk result (λ v. IsAddedUp (rows_of blocks.now) v.items) }
 {
     let mut rows = listed(alloc, blocks)?;
+    sort_rows(&mut rows);
+    added_up(alloc, &rows)
+}
+
+/// One row for each key and code of the blocks that has points, in order, with all its points. The
+/// plies that gave none are left out, so there are fewer rows to sort.
+fn pointed_sums(alloc: Global, blocks: &Blocks) -> Result<Vec<Row>, AllocError>
+    requires { SumsFit (rows_of blocks.now) }
+    ensures { IfOk result (λ v. IsAddedUp (pointed (rows_of blocks.now)) v.items) }
+{
+    let mut rows = listed(alloc, blocks)?;
+    keep_pointed(&mut rows);
     sort_rows(&mut rows);
     added_up(alloc, &rows)
 }
@@ -138,5 +153,22 @@ impl Tally for BagTally {
 
     fn rows(&self, alloc: Global) -> Result<Vec<Row>, AllocError> {
         sums_of(alloc, &self.blocks)
+    }
+
+    fn add_book(
+        &self,
+        alloc: Global,
+        least: u64,
+        entries: &mut Vec<Entry>,
+    ) -> Result<(), AllocError> {
+        if least > 1 {
+            let mut rows = self.rows(alloc)?;
+            keep_frequent(&mut rows, least);
+            return push_book(entries, &rows);
+        }
+        // A move without points has no entry, and one with points was played: so the rows without
+        // points are dropped before they are sorted, and no occurrence is counted.
+        let rows = pointed_sums(alloc, &self.blocks)?;
+        push_book(entries, &rows)
     }
 }
