@@ -8,7 +8,7 @@ use Rattle.std.proofs.lemmas.Bool.Decides.{nat_tests}
 use Rattle.std.proofs.lemmas.List.Sums.{sum_by-cons}
 use Rattle.pb_poly.specs.declared.entry.Entry.{Entry}
 use Rattle.pb_points.specs.declared.row.Row.{Row}
-use Rattle.pb_points.specs.BagTally.{ArePlied, HoldsSame, IsAddedUp, SumsFit, bag_content, count_of, gain, points_of, times_of}
+use Rattle.pb_points.specs.Bag.{ArePlied, HoldsSame, IsAddedUp, SumsFit, bag_content, count_of, gain, points_of, times_of}
 use Rattle.pb_points.specs.Group.{AddsBook}
 use Rattle.pb_points.specs.Rows.{Gives, IsTop, frequent, is_row, pointed}
 use Rattle.pb_points.specs.Tally.{Held, AddsPly, held, is_pair, more, nothing}
@@ -34,10 +34,6 @@ plied_pushed rows key code plied = record {
       let before : times_of rows k c ≡ 0 = omega (arith, total_pushed (λ r. r.times) rows (new_row key code) k c refl, none) in
       omega (arith, total_pushed (λ r. r.points) rows (new_row key code) k c refl, plied.paid k c before);
 }
-
-pub plied_either : (b : Bool) (xs ys : List Row) → ArePlied xs → ArePlied ys → ArePlied (if b then xs else ys)
-plied_either true xs ys x y = x
-plied_either false xs ys x y = y
 
 pub plied_added : (old new : List Row) (key code n : ℕ) → AddsPly (bag_content old) (bag_content new) key code n → ArePlied old → ArePlied new
 plied_added old new key code n adds plied = record { paid = λ k c none. by k c none (is_pair key code k c) refl }

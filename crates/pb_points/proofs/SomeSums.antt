@@ -7,7 +7,7 @@ use Rattle.std.proofs.lemmas.List.Elements.{All-cons, All-head, All-tail, All-we
 use Rattle.std.proofs.lemmas.List.Kept.{AllPairs-cons}
 use Rattle.std.proofs.lemmas.List.Sums.{sum_by-cons}
 use Rattle.pb_points.specs.declared.row.Row.{Row}
-use Rattle.pb_points.specs.BagTally.{IsAddedUp, count_of, gain, points_of, times_of}
+use Rattle.pb_points.specs.Bag.{IsAddedUp, count_of, gain, points_of, times_of}
 use Rattle.pb_points.specs.Rows.{IsBelow}
 use Rattle.pb_points.proofs.AddedRows.{below_trans, gain_joined, one_joined}
 use Rattle.pb_points.proofs.BagRows.{of_sums, one, with_more}
