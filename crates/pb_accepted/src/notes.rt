@@ -43,7 +43,7 @@ impl Notes {
         ensures gifts { self.new.gifts.items ≡ self.old.gifts.items ++ gift ∷ [] }
         ensures moves { self.new.moves.items ≡ self.old.moves.items ++ m ∷ [] }
     {
-        self.gifts.push(gift).unwrap();
-        self.moves.push(m).unwrap();
+        self.gifts.push_reserved(gift);
+        self.moves.push_reserved(m);
     }
 }

@@ -1,5 +1,5 @@
 -- Ordered rows added up, one for each key and code, and listed.
-use Rattle.std.proofs.Common.{◌≡◌, ℕ, ◌+◌, ◌<◌, ◌≤◌, ◌^◌, zero, suc, Bool, true, false, cond, if◌then◌else◌, Some, None, unwrap_or, List, [], ◌∷◌, ◌++◌, length, drop, All, AllPairs, Contains, ◌↔◌, refl, sym, ap, ◌∙◌, inl, inr, arith, subst, add-one}
+use Rattle.std.proofs.Common.{◌≡◌, ℕ, ◌+◌, ◌<◌, ◌≤◌, ◌^◌, zero, suc, Bool, true, false, cond, if◌then◌else◌, Some, None, List, [], ◌∷◌, ◌++◌, length, drop, All, AllPairs, Contains, ◌↔◌, refl, sym, ap, ◌∙◌, inl, inr, arith, subst, add-one}
 use Rattle.std.specs.Prelude.{nat_lt, sum_by}
 use Rattle.std.proofs.lemmas.Bool.{cases_lt}
 use Rattle.std.proofs.lemmas.Bool.Decides.{nat_tests}
@@ -8,11 +8,11 @@ use Rattle.std.proofs.lemmas.List.Elements.{All-push, All-weaker}
 use Rattle.std.proofs.lemmas.List.{drop_all, get_or_default}
 use Rattle.std.proofs.lemmas.List.Quantifiers.{all_pairs_push}
 use Rattle.pb_points.specs.declared.row.Row.{Row}
-use Rattle.pb_points.specs.BagTally.{HoldsSame, IsAddedUp, SumsFit, bag_content, count_of, gain, points_of, times_of, total}
+use Rattle.pb_points.specs.Bag.{HoldsSame, IsAddedUp, SumsFit, bag_content, count_of, gain, points_of, times_of, total}
 use Rattle.pb_points.specs.Rows.{IsBelow, IsUpTo, is_row}
-use Rattle.pb_points.specs.Tally.{Held, MakesRow, held_of, is_pair, nothing}
+use Rattle.pb_points.specs.Tally.{Held, held_of, is_pair}
 use Rattle.pb_points.proofs.Pairs.{is_pair_same, is_pair_itself}
-use Rattle.pb_points.proofs.BagRows.{gain_more, new_row, of_other, of_pair, of_sums, one, one_of, makes_pushed, points_held, row_at, times_held, with_more}
+use Rattle.pb_points.proofs.BagRows.{gain_more, new_row, of_other, of_pair, of_sums, one, one_of, points_held, row_at, times_held, with_more}
 
 -- rows are a first one and the rest; of the rest, i are added up into `all` and the last one, `sum`
 pub record Adding (rows all rest : List Row) (sum : Row) (i : ℕ) : Type 0 where
@@ -47,13 +47,13 @@ next_row : (rows all rest : List Row) (sum : Row) (i : ℕ) → Adding rows all 
 next_row rows all rest sum i a = ap (λ l. row_at l (i + 1)) a.cut ∙ ap (row_at (a.first ∷ rest)) (add-one i)
 
 -- a row of the same key and code goes into the sum
-gain_joined : (part : Row → ℕ) (k c : ℕ) (s r : Row) → r.key ≡ s.key → r.code ≡ s.code → part (with_more r.points r.times s) ≡ part s + part r
+pub gain_joined : (part : Row → ℕ) (k c : ℕ) (s r : Row) → r.key ≡ s.key → r.code ≡ s.code → part (with_more r.points r.times s) ≡ part s + part r
     → gain part k c (with_more r.points r.times s) ≡ gain part k c s + gain part k c r
 gain_joined part k c s r key code is =
     let test : is_row k c r ≡ is_row k c s = λ i. is_pair (key i) (code i) k c in
     omega (arith, gain_more part k c (part r) s (with_more r.points r.times s) refl is, ap (λ b. cond b (part r) 0) test)
 
-one_joined : (k c : ℕ) (s r : Row) → r.key ≡ s.key → r.code ≡ s.code → one k c r ≡ one k c s
+pub one_joined : (k c : ℕ) (s r : Row) → r.key ≡ s.key → r.code ≡ s.code → one k c r ≡ one k c s
 one_joined k c s r key code = λ i. cond (is_pair (key i) (code i) k c) 1 0
 
 some_joined : (a n m : ℕ) → nat_lt 0 (a + n + m) ≡ nat_lt 0 (a + n + (n + m))
@@ -83,7 +83,7 @@ adding_joins rows all rest sum i a lt key code =
 below_next : (r s : Row) → IsUpTo r s → (s.key ≡ r.key → s.code ≡ r.code → ⊥) → IsBelow r s
 below_next r s up other = elim up [ inl below ↦ below | inr same ↦ absurd (other (sym same.0) (sym same.1)) ]
 
-below_trans : (r s t : Row) → IsBelow r s → IsBelow s t → IsBelow r t
+pub below_trans : (r s t : Row) → IsBelow r s → IsBelow s t → IsBelow r t
 below_trans r s t p q = elim p [
   | inl a ↦ elim q [ inl b ↦ inl (omega arith) | inr b ↦ inl (omega (arith, b.0)) ]
   | inr a ↦ elim q [ inl b ↦ inl (omega (arith, a.0)) | inr b ↦ inr (a.0 ∙ b.0, omega (arith, a.1, b.1)) ]
@@ -156,7 +156,7 @@ some_counted rows k c h e = by (nat_lt 0 (count_of rows k c)) refl
         let other : Some h ≡ None = sym e ∙ none in
         cc
 
-sum_none : (f : Row → ℕ) (rows : List Row) → ((j : ℕ) → j < length rows → f (row_at rows j) ≡ 0) → sum_by f rows ≡ 0
+pub sum_none : (f : Row → ℕ) (rows : List Row) → ((j : ℕ) → j < length rows → f (row_at rows j) ≡ 0) → sum_by f rows ≡ 0
 sum_none f [] others = refl
 sum_none f (r ∷ rows) others = omega (arith, sum_by-cons f r rows, others 0 (omega arith), sum_none f rows (λ j lt. others (suc j) (omega arith)))
 
@@ -174,7 +174,7 @@ sum_at f (r ∷ rows) (suc i) lt others =
     )
 
 -- in rows that rise, only one is of a key and a code
-other_row : (rows : List Row) (i j : ℕ) → AllPairs IsBelow rows → i < length rows → j < length rows → (j ≡ i → ⊥)
+pub other_row : (rows : List Row) (i j : ℕ) → AllPairs IsBelow rows → i < length rows → j < length rows → (j ≡ i → ⊥)
     → (row_at rows j).key ≡ (row_at rows i).key → (row_at rows j).code ≡ (row_at rows i).code → ⊥
 other_row rows i j rise lt within other key code = elim (cases_lt i j) [
   | inl up ↦ apart (row_at rows i) (row_at rows j) (rise i j (new_row 0 0) up within) (sym key) (sym code)
@@ -187,7 +187,7 @@ other_row rows i j rise lt within other key code = elim (cases_lt i j) [
     apart : (r s : Row) → IsBelow r s → r.key ≡ s.key → r.code ≡ s.code → ⊥
     apart r s p key code = elim p [ inl a ↦ omega (arith, a, key) | inr a ↦ omega (arith, a.1, code) ]
 
-one_other : (k c : ℕ) (r : Row) → (r.key ≡ k → r.code ≡ c → ⊥) → one k c r ≡ 0
+pub one_other : (k c : ℕ) (r : Row) → (r.key ≡ k → r.code ≡ c → ⊥) → one k c r ≡ 0
 one_other k c r other = by (is_row k c r) refl
   where
     by : (b : Bool) → is_row k c r ≡ b → one k c r ≡ 0
@@ -242,9 +242,3 @@ added_each rows sums added r = (to, from)
         let points : s.points ≡ r.points = ap points_held same in
         let times : s.times ≡ r.times = ap times_held same in
         (place.0, place.1, get_or_default sums place.0 r (new_row 0 0) place.1 ∙ (λ i. record { key = p.0 i; code = p.1 i; points = points i; times = times i }))
-
--- a row made after the rows were added up
-pub makes_same : (old rows new : List Row) (key code : ℕ) → HoldsSame old rows → new ≡ rows ++ new_row key code ∷ [] → MakesRow (bag_content old) (bag_content new) key code
-makes_same old rows new key code same is k c =
-    ap (λ l. bag_content l k c) is ∙ makes_pushed rows key code k c
-    ∙ ap (λ o. if is_pair key code k c then Some (unwrap_or o nothing) else o) (same k c)

@@ -1,13 +1,13 @@
 -- Rows that add up.
-use Rattle.std.proofs.Common.{◌≡◌, ℕ, ◌+◌, ◌<◌, ◌≤◌, ◌^◌, Bool, true, false, cond, if◌then◌else◌, Option, Some, None, unwrap_or, List, [], ◌∷◌, ◌++◌, length, get_or, set, take, IsPermutation, refl, sym, ap, ◌∙◌, arith, subst}
+use Rattle.std.proofs.Common.{◌≡◌, ℕ, ◌+◌, ◌<◌, Bool, true, false, cond, if◌then◌else◌, Option, Some, None, unwrap_or, List, [], ◌∷◌, ◌++◌, length, get_or, set, take, IsPermutation, refl, sym, ap, ◌∙◌, arith, subst}
 use Rattle.std.specs.Prelude.{nat_lt}
 use Rattle.std.proofs.lemmas.Bool.Decides.{nat_tests}
 use Rattle.std.proofs.lemmas.List.Sums.{sum_by-cons, sum_by_push, sum_by-set, get_or-le-sum_by, sum_by_more}
 use Rattle.std.proofs.lemmas.List.Sorted.{sum_by-IsPermutation}
 use Rattle.pb_points.specs.declared.row.Row.{Row}
-use Rattle.pb_points.specs.BagTally.{HoldsSame, SumsFit, bag_content, count_of, gain, points_of, times_of, total}
+use Rattle.pb_points.specs.Bag.{HoldsSame, SumsFit, bag_content, count_of, gain, points_of, times_of, total}
 use Rattle.pb_points.specs.Rows.{is_row}
-use Rattle.pb_points.specs.Tally.{Held, HasRoomFor, MakesRow, AddsPly, held, is_pair, more, nothing}
+use Rattle.pb_points.specs.Tally.{Held, MakesRow, AddsPly, held, is_pair, more, nothing}
 use Rattle.pb_points.proofs.Pairs.{is_pair_same, is_pair_itself}
 
 -- ---- what a count and a sum say together
@@ -83,7 +83,7 @@ gain_nothing part k c r none = by (is_row k c r)
     by true = none
     by false = refl
 
-total_pushed : (part : Row → ℕ) (rows : List Row) (r : Row) (k c : ℕ) → part r ≡ 0 → total part (rows ++ r ∷ []) k c ≡ total part rows k c
+pub total_pushed : (part : Row → ℕ) (rows : List Row) (r : Row) (k c : ℕ) → part r ≡ 0 → total part (rows ++ r ∷ []) k c ≡ total part rows k c
 total_pushed part rows r k c none = omega (arith, sum_by_push (gain part k c) rows r, gain_nothing part k c r none)
 
 pub makes_pushed : (rows : List Row) (key code : ℕ) → MakesRow (bag_content rows) (bag_content (rows ++ new_row key code ∷ [])) key code
@@ -117,10 +117,6 @@ fit_pushed rows key code fit = record {
   points = λ k c. omega (arith, total_pushed (λ r. r.points) rows (new_row key code) k c refl, fit.points k c);
   times = λ k c. omega (arith, total_pushed (λ r. r.times) rows (new_row key code) k c refl, fit.times k c);
 }
-
-pub fit_either : (b : Bool) (xs ys : List Row) → SumsFit xs → SumsFit ys → SumsFit (if b then xs else ys)
-fit_either true xs ys x y = x
-fit_either false xs ys x y = y
 
 -- ---- a ply added to a row
 
@@ -180,28 +176,6 @@ adds_set rows key code i n lt here k c =
         let points : points_of rows k c + 0 ≡ points_of rows k c = omega arith in
         let times : times_of rows k c + 0 ≡ times_of rows k c = omega arith in
         λ i. of_sums (count_of rows k c) (points i) (times i)
-
--- a sum that fits at the row's own key and code fits at all of them
-fits_set : (part : Row → ℕ) (rows : List Row) (key code i n : ℕ) (s : Row) → ((k c : ℕ) → total part rows k c ≤ 2 ^ 63) → i < length rows → is_row key code (row_at rows i) ≡ true
-    → ((k c : ℕ) → is_row k c s ≡ is_row k c (row_at rows i)) → part s ≡ part (row_at rows i) + n → total part rows key code + n ≤ 2 ^ 63 → (k c : ℕ) → total part (set rows i s) k c ≤ 2 ^ 63
-fits_set part rows key code i n s fit lt here test is fits k c = by (is_pair key code k c) refl
-  where
-    by : (b : Bool) → is_pair key code k c ≡ b → total part (set rows i s) k c ≤ 2 ^ 63
-    by true e =
-        let p = is_pair_same key code k c e in
-        let one : total part rows key code ≡ total part rows k c = λ j. total part rows (p.0 j) (p.1 j) in
-        omega (arith, total_set part rows i n s k c lt (test k c) is, ap (λ b. cond b n 0) (same_test key code k c (row_at rows i) here ∙ e), fits, one)
-    by false e = omega (arith, total_set part rows i n s k c lt (test k c) is, ap (λ b. cond b n 0) (same_test key code k c (row_at rows i) here ∙ e), fit k c)
-
-pub fit_set : (rows : List Row) (key code i n : ℕ) → SumsFit rows → i < length rows → is_row key code (row_at rows i) ≡ true
-    → HasRoomFor (held (bag_content rows) key code) n → SumsFit (set rows i (with_more n 1 (row_at rows i)))
-fit_set rows key code i n fit lt here room = record {
-  points = fits_set (λ r. r.points) rows key code i n more_row fit.points lt here (λ k c. refl) refl (omega (arith, held_points rows key code, room.points));
-  times = fits_set (λ r. r.times) rows key code i 1 more_row fit.times lt here (λ k c. refl) refl (omega (arith, held_times rows key code, room.times));
-}
-  where
-    more_row : Row
-    more_row = with_more n 1 (row_at rows i)
 
 -- ---- what follows
 

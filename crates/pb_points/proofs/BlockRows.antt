@@ -1,19 +1,19 @@
 -- Rows in blocks, and what becomes of them where one block changes.
-use Rattle.std.proofs.Common.{◌≡◌, ℕ, ◌+◌, ◌-◌, ◌<◌, ◌≤◌, ◌^◌, zero, suc, Some, unwrap_or, true, cond, if◌then◌else◌, List, [], ◌∷◌, ◌++◌, length, get_or, set, drop, take, refl, sym, ap, ◌∙◌, arith, subst}
-use Rattle.std.specs.Prelude.{slice_get, Vec, Result, Ok, Err, OnOk, OnErr, is_ok}
+use Rattle.std.proofs.Common.{◌≡◌, ℕ, ◌+◌, ◌-◌, ◌<◌, ◌≤◌, ◌^◌, zero, suc, Some, unwrap_or, true, cond, List, [], ◌∷◌, ◌++◌, length, get_or, set, drop, take, refl, sym, ap, ◌∙◌, arith, subst}
+use Rattle.std.specs.Prelude.{slice_get, Vec}
 use Rattle.std.specs.declared.alloc.Global.{Global}
 use Rattle.std.proofs.Math.ListN.{length-append}
-use Rattle.std.proofs.lemmas.List.{take_more, take-append-drop, set-append_left, set-append_right, append-nil, get_or_default, get_or_append_left, get_or-append-add}
+use Rattle.std.proofs.lemmas.List.{take_more, take-append-drop, set-append_left, set-append_right, append-nil, get_or_default, get_or_append_left, get_or-append-add, set-get_or}
 use Rattle.std.proofs.lemmas.List.Concat.{flat_map-append, get_or-flat_map}
 use Rattle.std.proofs.lemmas.List.Folds.{length-flat_map-take}
 use Rattle.std.proofs.lemmas.List.Sums.{sum_by-append, get_or-le-sum_by}
 use Rattle.std.proofs.lemmas.Option.{get_or_from_slice_get, slice_get_within}
 use Rattle.pb_points.specs.declared.row.Row.{Row}
-use Rattle.pb_points.specs.BagTally.{IsRowAt, SumsFit, bag_content, gain, total}
-use Rattle.pb_points.specs.Blocks.{IsRowIn, rows_in}
+use Rattle.pb_points.specs.Bag.{IsRowAt, bag_content, gain, total}
+use Rattle.pb_points.specs.Blocks.{AddsThere, IsRowIn, rows_in}
 use Rattle.pb_points.specs.Rows.{is_row}
-use Rattle.pb_points.specs.Tally.{HasRoomFor, AddsPly, held}
-use Rattle.pb_points.proofs.BagRows.{adds_set, fit_set, held_points, held_times, new_row, row_at, with_more}
+use Rattle.pb_points.specs.Tally.{HasRoomFor, held}
+use Rattle.pb_points.proofs.BagRows.{held_points, held_times, new_row, row_at, with_more}
 
 abbrev pub Block : Type 0
 Block = Vec Row Global
@@ -28,16 +28,6 @@ rows_pushed blocks block = flat_map-append rows_of blocks (block ∷ []) ∙ ap 
 
 pub rows_more : (blocks : List Block) (i : ℕ) (d : Block) → i < length blocks → rows_in (take (i + 1) blocks) ≡ rows_in (take i blocks) ++ (get_or blocks i d).items
 rows_more blocks i d lt = ap rows_in (take_more blocks i d lt) ∙ rows_pushed (take i blocks) (get_or blocks i d)
-
--- a list that has become another where a call succeeded
-module _ {T E : Type 0} {now : List Row} where
-  pub more_on_ok : (r : Result T E) (more old : List Row) → now ≡ (if is_ok r then more else old) → OnOk r (now ≡ more)
-  more_on_ok (Ok x) more old is = is
-  more_on_ok (Err e) more old is = tt
-
-  pub old_on_err : (r : Result T E) (more old : List Row) → now ≡ (if is_ok r then more else old) → OnErr r (now ≡ old)
-  old_on_err (Ok x) more old is = tt
-  old_on_err (Err e) more old is = is
 
 -- ---- sums over blocks
 
@@ -156,11 +146,13 @@ module _ (all : List Row) (at key code : ℕ) (row : Row) (place : IsPlace all a
   test_at : is_row key code (row_at all at) ≡ true
   test_at = ap (λ r. is_row key code r) place.here ∙ place.test
 
-  pub adds_at : (n : ℕ) (new : List Row) → new ≡ set all at (with_more n 1 row) → AddsPly (bag_content all) (bag_content new) key code n
-  adds_at n new is = subst (λ l. AddsPly (bag_content all) (bag_content l) key code n) (ap (λ r. set all at (with_more n 1 r)) place.here ∙ sym is) (adds_set all key code at n place.within test_at)
+  -- it has a ply more
+  pub added_there : (n : ℕ) (new : List Row) → new ≡ set all at (with_more n 1 row) → AddsThere all new key code n
+  added_there n new is = record { place = at; there = (place.within, test_at); added = is ∙ ap (λ r. set all at (with_more n 1 r)) (sym place.here) }
 
-  pub fit_at : (n : ℕ) (new : List Row) → new ≡ set all at (with_more n 1 row) → SumsFit all → HasRoomFor (held (bag_content all) key code) n → SumsFit new
-  fit_at n new is fit room = subst SumsFit (ap (λ r. set all at (with_more n 1 r)) place.here ∙ sym is) (fit_set all key code at n fit place.within test_at room)
+  -- put in its own place it changes nothing
+  pub same_there : (new : List Row) → new ≡ set all at row → new ≡ all
+  same_there new is = is ∙ ap (λ r. set all at r) (sym place.here) ∙ set-get_or all at (new_row 0 0)
 
   part_at : (part : Row → ℕ) → part row ≤ total part all key code
   part_at part = omega (

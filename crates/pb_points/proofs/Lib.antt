@@ -1,11 +1,16 @@
 pub mod AddedRows
 pub mod BagRows
 pub mod BlockRows
+pub mod DistinctRows
 pub mod Groups
 pub mod ListRows
+pub mod NarrowSums
 pub mod Ordering
 pub mod Pairs
 pub mod PartBooks
 pub mod PartRows
+pub mod PartedRows
+pub mod Pointed
+pub mod SomeSums
 pub mod Tops
 pub mod Weighing

@@ -1,5 +1,5 @@
 -- A list of rows as a tally.
-use Rattle.std.proofs.Common.{zero, suc, ◌≡◌, ℕ, ◌<◌, ◌↔◌, Bool, true, false, cond, if◌then◌else◌, Option, Some, None, is_some, unwrap_or, option_map, List, [], ◌∷◌, ◌++◌, length, get_or, set, Contains, IsPermutation, IsSome, position, true≢false, refl, sym, ap, ◌∙◌, inl, inr, arith}
+use Rattle.std.proofs.Common.{zero, suc, ◌≡◌, ℕ, ◌<◌, ◌≤◌, ◌↔◌, Bool, true, false, cond, if◌then◌else◌, Option, Some, None, is_some, unwrap_or, option_map, List, [], ◌∷◌, ◌++◌, length, get_or, set, Contains, IsPermutation, IsSome, position, true≢false, refl, sym, ap, ◌∙◌, inl, inr, arith}
 use Rattle.std.specs.List.{IsDistinct, find, list_any, position_or_len}
 use Rattle.std.specs.Option.{option_or}
 use Rattle.std.proofs.Math.ListN.{length-set}
@@ -48,13 +48,17 @@ is_place rows k c i e =
     let p = position-Some (is_row k c) rows i row_0 e in
     record { within = p.0; here = p.1; before = p.2; found = find_first (is_row k c) rows i p.0 p.1 p.2 }
 
-pub absent : (rows : List Row) (k c : ℕ) → position (is_row k c) rows ≡ None → list_any (is_row k c) rows ≡ false
-absent rows k c none = elim (cases_lt (position_or_len (is_row k c) rows) (length rows)) [
+-- a place that `position` doesn't give lies past the rows
+pub absent_past : (rows : List Row) (k c : ℕ) → position (is_row k c) rows ≡ None → length rows ≤ position_or_len (is_row k c) rows
+absent_past rows k c none = elim (cases_lt (position_or_len (is_row k c) rows) (length rows)) [
   | inl lt ↦
       let e : None ≡ Some (position_or_len (is_row k c) rows) = sym none ∙ ap (λ b. cond b (Some (position_or_len (is_row k c) rows)) None) (lt-ltb (position_or_len (is_row k c) rows) (length rows) lt) in
       cc
-  | inr past ↦ list_any_none (is_row k c) rows (λ j d l. fails_before_first (is_row k c) rows j d (omega arith))
+  | inr past ↦ past
 ]
+
+pub absent : (rows : List Row) (k c : ℕ) → position (is_row k c) rows ≡ None → list_any (is_row k c) rows ≡ false
+absent rows k c none = list_any_none (is_row k c) rows (λ j d l. fails_before_first (is_row k c) rows j d (omega (arith, l, absent_past rows k c none)))
 
 pub absent_found : (rows : List Row) (k c : ℕ) → position (is_row k c) rows ≡ None → find (is_row k c) rows ≡ None
 absent_found rows k c none = find_none (is_row k c) rows (absent rows k c none)
@@ -119,7 +123,7 @@ adds_set rows key code i n h k c = by (is_pair key code k c) refl
         let other : is_row k c r ≡ false = (λ j. is_pair (own.0 j) (own.1 j) k c) ∙ e in
         ap (option_map held_of) (find_past (is_row k c) rows i (with_more n r) row_0 other other)
 
-same_keys : (rows : List Row) (i n j : ℕ) (d : Row) → i < length rows → ((get_or (set rows i (with_more n (row_at rows i))) j d).key ≡ (get_or rows j d).key) × ((get_or (set rows i (with_more n (row_at rows i))) j d).code ≡ (get_or rows j d).code)
+pub same_keys : (rows : List Row) (i n j : ℕ) (d : Row) → i < length rows → ((get_or (set rows i (with_more n (row_at rows i))) j d).key ≡ (get_or rows j d).key) × ((get_or (set rows i (with_more n (row_at rows i))) j d).code ≡ (get_or rows j d).code)
 same_keys [] i n j d lt = absurd (omega arith)
 same_keys (r ∷ rows) zero n zero d lt = (refl, refl)
 same_keys (r ∷ rows) zero n (suc j) d lt = (refl, refl)

@@ -8,7 +8,7 @@ use Rattle.pb_points.specs.Group.{AddsBook}
 use Rattle.pb_points.specs.PartTally.{HoldsOwn, part_of, parts_content}
 use Rattle.pb_points.specs.Rows.{frequent}
 use Rattle.pb_points.specs.Tally.{Content}
-use Rattle.pb_points.specs.TallyBook.{AddsBookOf}
+use Rattle.pb_points.specs.TallyBook.{AddsBookOf, AreRows}
 use Rattle.pb_points.proofs.Groups.{KeysBelow, adds_both, adds_nothing}
 use Rattle.pb_points.proofs.PartRows.{Listing, listing_ends, listing_goes_on, listing_starts, lower_part}
 
@@ -17,6 +17,10 @@ pub frequent_within : (least : ℕ) (rows : List Row) (r : Row) → Contains (fr
 frequent_within least rows r h =
     let often = λ (q : Row). nat_le least q.times in
     All-contains (Contains rows) (frequent least rows) r (All-filter often (Contains rows) rows (All-contains_itself rows)) h
+
+-- the book of the rows of a tally, of what occurs so often, is that of the tally
+pub adds_of_rows : (content : Content) (least : ℕ) (rows : List Row) (old new : List Entry) → AreRows content rows → AddsBook (frequent least rows) old new → AddsBookOf content least old new
+adds_of_rows content least rows old new are adds = record { rows = rows; are = are; book = adds.0; is = adds.2; added = adds.1 }
 
 -- the book of the rows of the first i parts was added
 pub record AddsFirst {T : Type 0} (content : T → Content) (parts : List T) (least i : ℕ) (old new : List Entry) : Type 0 where

@@ -1,7 +1,8 @@
-pub mod BagTally
+pub mod Bag
 pub mod Blocks
 pub mod Group
 pub mod ListTally
+pub mod NarrowTally
 pub mod PartTally
 pub mod Rows
 pub mod Tally

@@ -1,27 +1,31 @@
-//! Rows in blocks: a list that grows by one block more, so that no row moves and little room is left unused.
+//! Narrow rows in blocks: a list that grows by one block more, so that no row moves and little room
+//! is left unused.
 
-ghost use Rattle.std.specs.Prelude.{◌≡◌, ◌≤◌, ◌^◌, ◌++◌, ◌∷◌, [], if◌then◌else◌, is_ok, IfOk, MatchOption};
-ghost use Rattle.pb_points.specs.BagTally.{IsRowAt, count_of, points_of as points, times_of as times};
-ghost use Rattle.pb_points.specs.Blocks.{IsRowIn, rows_in, rows_of};
+ghost use Rattle.std.specs.Prelude.{◌≡◌, ◌≤◌, ◌^◌, ◌+◌, ◌++◌, ◌∷◌, [], if◌then◌else◌, is_ok, false, true, vec_capacity, vec_len, IfOk, MatchOption, OnOk};
+ghost use Rattle.pb_points.specs.Bag.{IsRowAt, count_of, points_of as points, times_of as times};
+ghost use Rattle.pb_points.specs.Blocks.{AddsThere, IsRowIn, rows_in, rows_of};
 
+use crate::narrow::NarrowRow;
 use crate::row::Row;
 use std::alloc::{AllocError, Global};
 use std::mem;
 
-/// The rows that a block has room for.
+/// How many rows a block has room for.
 const BLOCK: usize = 64;
 
-/// Rows in blocks: those that are full, and the last one, to which rows are added. The last one stands beside the list of the others, so
-/// that adding a row reads no block before it.
+/// Narrow rows in blocks: those that are full, and the last one, to which rows are added. The last
+/// one stands beside the list of the others, so that adding a row reads no block before it.
 #[derive(Drop)]
 pub(crate) struct Blocks {
-    pub(crate) full: Vec<Vec<Row>>,
-    pub(crate) last: Vec<Row>,
+    pub(crate) full: Vec<Vec<NarrowRow>>,
+    pub(crate) last: Vec<NarrowRow>,
 }
 
-/// No rows. It takes no memory.
+/// Makes blocks without rows. It takes no memory.
 pub(crate) fn no_blocks(alloc: Global) -> Blocks
-    ensures { rows_of result ≡ [] }
+    ensures rows { rows_of result ≡ [] }
+    ensures none { vec_len result.last ≡ 0 }
+    ensures room { vec_capacity result.last ≡ 0 }
 {
     Blocks {
         full: Vec::new(alloc),
@@ -29,12 +33,20 @@ pub(crate) fn no_blocks(alloc: Global) -> Blocks
     }
 }
 
-/// Puts a row at the end, in a new block.
-fn push_in_new(alloc: Global, blocks: &mut Blocks, row: Row) -> Result<(), AllocError>
-    ensures { rows_of blocks.new ≡ (if is_ok result then rows_of blocks.old ++ row ∷ [] else rows_of blocks.old) }
+/// Makes a block without rows.
+pub(crate) fn new_block(alloc: Global) -> Result<Vec<NarrowRow>, AllocError>
+    ensures none { IfOk result (λ b. b.items ≡ []) }
+    ensures room { IfOk result (λ b. vec_capacity b ≡ 64) }
 {
-    let mut block = Vec::with_capacity(alloc, BLOCK)?;
-    block.push_reserved(row);
+    Vec::with_capacity(alloc, BLOCK)
+}
+
+/// Puts a block behind the last one, or in the place of a last one without rows.
+pub(crate) fn put_block(blocks: &mut Blocks, block: Vec<NarrowRow>) -> Result<(), AllocError>
+    ensures rows { rows_of blocks.new
+        ≡ (if is_ok result then rows_of blocks.old ++ block.items else rows_of blocks.old) }
+    ensures last { blocks.new.last ≡ (if is_ok result then block else blocks.old.last) }
+{
     if blocks.last.is_empty() {
         blocks.last = block;
         return Ok(());
@@ -46,28 +58,30 @@ fn push_in_new(alloc: Global, blocks: &mut Blocks, row: Row) -> Result<(), Alloc
 }
 
 /// Puts a row at the end, in a new block where the last one is full.
-pub(crate) fn push_row(alloc: Global, blocks: &mut Blocks, row: Row) -> Result<(), AllocError>
-    ensures { rows_of blocks.new ≡ (if is_ok result then rows_of blocks.old ++ row ∷ [] else rows_of blocks.old) }
+pub(crate) fn push_row(alloc: Global, blocks: &mut Blocks, row: NarrowRow) -> Result<(), AllocError>
+    ensures { rows_of blocks.new
+        ≡ (if is_ok result then rows_of blocks.old ++ row ∷ [] else rows_of blocks.old) }
 {
-    if blocks.last.len() >= blocks.last.capacity() {
-        return push_in_new(alloc, blocks, row);
+    if blocks.last.len() < blocks.last.capacity() {
+        blocks.last.push_reserved(row);
+        return Ok(());
     }
-    blocks.last.push_reserved(row);
+    let mut block = new_block(alloc)?;
+    block.push_reserved(row);
+    put_block(blocks, block)
+}
+
+/// Puts the rows of a block at the end of a list.
+fn add_rows(rows: &mut Vec<Row>, block: &[NarrowRow]) -> Result<(), AllocError>
+    ensures { OnOk result (rows.new.items ≡ rows.old.items ++ block.now) }
+{
+    for row in block {
+        rows.push(row.row())?;
+    }
     Ok(())
 }
 
-/// The rows in blocks.
-pub(crate) fn in_blocks(alloc: Global, rows: &[Row]) -> Result<Blocks, AllocError>
-    ensures { IfOk result (λ v. rows_of v ≡ rows.now) }
-{
-    let mut blocks = no_blocks(alloc);
-    for row in rows {
-        push_row(alloc, &mut blocks, *row)?;
-    }
-    Ok(blocks)
-}
-
-/// The rows of all blocks in one list.
+/// Lists the rows of all blocks.
 pub(crate) fn listed(alloc: Global, blocks: &Blocks) -> Result<Vec<Row>, AllocError>
     ensures { IfOk result (λ v. v.items ≡ rows_of blocks.now) }
 {
@@ -78,14 +92,15 @@ pub(crate) fn listed(alloc: Global, blocks: &Blocks) -> Result<Vec<Row>, AllocEr
         .saturating_add(blocks.last.len());
     let mut rows = Vec::with_capacity(alloc, many)?;
     for block in &blocks.full {
-        rows.extend_from_slice(block)?;
+        add_rows(&mut rows, block)?;
     }
-    rows.extend_from_slice(&blocks.last)?;
+    add_rows(&mut rows, &blocks.last)?;
     Ok(rows)
 }
 
-/// The block and the place in it of the last row of a key and a code.
-pub(crate) fn place_in(blocks: &[Vec<Row>], key: u64, code: u16) -> Option<(usize, usize)>
+/// Finds the block of the last row of a key and a code, and the place in it. What was ensured last
+/// is soon found, since it goes from the end.
+fn place_in(blocks: &[Vec<NarrowRow>], key: u64, code: u16) -> Option<(usize, usize)>
     ensures { MatchOption result (count_of (rows_in blocks.now) key code ≡ 0)
         (λ p. IsRowIn blocks.now p.0 p.1 key code) }
 {
@@ -97,22 +112,39 @@ pub(crate) fn place_in(blocks: &[Vec<Row>], key: u64, code: u16) -> Option<(usiz
     None
 }
 
-/// The place of the last row of a key and a code.
-pub(crate) fn place_of(rows: &[Row], key: u64, code: u16) -> Option<usize>
+/// Finds the place of the last row of a key and a code.
+fn place_of(rows: &[NarrowRow], key: u64, code: u16) -> Option<usize>
     ensures { MatchOption result (count_of rows.now key code ≡ 0)
         (λ place. IsRowAt rows.now place key code) }
 {
     for place in (0..rows.len()).rev() {
-        let row = rows[place];
-        if row.key == key && row.code == code {
+        if rows[place].is_of(key, code) {
             return Some(place);
         }
     }
     None
 }
 
-/// Adds up the points and the plies of all rows of a key and a code.
-pub(crate) fn held_in(rows: &[Row], key: u64, code: u16) -> (u64, u64)
+/// Adds a ply with its points to the last row of a key and a code, and tells whether it did: there
+/// may be no such row, or no room in it. It takes no memory.
+pub(crate) fn add_ply(blocks: &mut Blocks, key: u64, code: u16, points: u64) -> bool
+    ensures added { result ≡ true
+        → AddsThere (rows_of blocks.old) (rows_of blocks.new) key code points }
+    ensures full { result ≡ false → rows_of blocks.new ≡ rows_of blocks.old }
+    ensures len { vec_len blocks.new.last ≡ vec_len blocks.old.last }
+    ensures room { vec_capacity blocks.new.last ≡ vec_capacity blocks.old.last }
+{
+    if let Some(place) = place_of(&blocks.last, key, code) {
+        return blocks.last[place].add(points);
+    }
+    if let Some((block, place)) = place_in(&blocks.full, key, code) {
+        return blocks.full[block][place].add(points);
+    }
+    false
+}
+
+/// Adds up the points and the plies of all rows of a key and a code in a block.
+fn held_in(rows: &[NarrowRow], key: u64, code: u16) -> (u64, u64)
     requires points_fit { points rows.now key code ≤ 2 ^ 63 }
     requires times_fit { times rows.now key code ≤ 2 ^ 63 }
     ensures points { result.0 ≡ points rows.now key code }
@@ -120,10 +152,27 @@ pub(crate) fn held_in(rows: &[Row], key: u64, code: u16) -> (u64, u64)
 {
     let (mut points, mut times) = (0, 0);
     for row in rows {
-        if row.key == key && row.code == code {
+        if row.is_of(key, code) {
+            let row = row.row();
             points += row.points;
             times += row.times;
         }
+    }
+    (points, times)
+}
+
+/// Adds up the points and the plies of all rows of a key and a code, block by block.
+pub(crate) fn held_in_blocks(blocks: &Blocks, key: u64, code: u16) -> (u64, u64)
+    requires points_fit { points (rows_of blocks.now) key code ≤ 2 ^ 63 }
+    requires times_fit { times (rows_of blocks.now) key code ≤ 2 ^ 63 }
+    ensures points { result.0 ≡ points (rows_of blocks.now) key code }
+    ensures times { result.1 ≡ times (rows_of blocks.now) key code }
+{
+    let (mut points, mut times) = held_in(&blocks.last, key, code);
+    for block in &blocks.full {
+        let (more_points, more_times) = held_in(block, key, code);
+        points += more_points;
+        times += more_times;
     }
     (points, times)
 }

@@ -2,20 +2,23 @@
 //! numbers, and of no setup and no game.
 #![tactic(auto)]
 
-mod bag_tally;
 mod blocks;
 mod book;
 pub mod laws;
 mod list_tally;
 mod map_tally;
+mod narrow;
+mod narrow_tally;
 mod part_tally;
 mod row;
+mod sums;
 mod tally;
 mod weight;
+mod wide;
 
-pub use bag_tally::BagTally;
 pub use list_tally::ListTally;
 pub use map_tally::MapTally;
+pub use narrow_tally::NarrowTally;
 pub use part_tally::PartTally;
 pub use row::Row;
 pub use tally::Tally;

@@ -1,6 +1,6 @@
 //! A tally over a plain list of rows.
 
-ghost use Rattle.std.specs.Prelude.{◌≡◌, ◌<◌, ℕ, IsOk, IsSome, OnErr, OnOk, length, position, slice_set};
+ghost use Rattle.std.specs.Prelude.{◌≡◌, ◌<◌, ℕ, IsOk, IsSome, OnErr, OnOk, length, position, slice_set, vec_capacity};
 ghost use Rattle.pb_points.specs.ListTally.{list_content, with_more};
 ghost use Rattle.pb_points.specs.Rows.{is_row, row_at};
 ghost use Rattle.pb_points.specs.Tally.{HasRoomFor, MakesRow, held, held_of};
@@ -10,7 +10,8 @@ use crate::tally::Tally;
 use std::alloc::{AllocError, Global};
 use std::marker::Model;
 
-/// Points and plies in a plain list of rows, in the order in which they were first made: each call goes along the list.
+/// Points and plies in a plain list of rows, in the order in which they were first made: each call
+/// goes along the list.
 #[derive(Drop)]
 pub struct ListTally {
     rows: Vec<Row>,
@@ -29,8 +30,8 @@ impl Model for ListTally {
     ghost invariant = { λ t. IsDistinct same_pair t.rows.items };
 }
 
-/// The place of the row of a key and a code.
-fn place_of(rows: &[Row], key: u64, code: u16) -> Option<usize>
+/// Finds the place of the row of a key and a code.
+pub(crate) fn place_of(rows: &[Row], key: u64, code: u16) -> Option<usize>
     ensures { result ≡ position (is_row key code) rows.now }
 {
     rows.iter()
@@ -38,14 +39,30 @@ fn place_of(rows: &[Row], key: u64, code: u16) -> Option<usize>
 }
 
 /// Adds a ply with its points to the row at a place.
-fn add_at(rows: &mut Vec<Row>, place: usize, points: u64)
+pub(crate) fn add_at(rows: &mut Vec<Row>, place: usize, points: u64)
     requires within { place < length rows.old.items }
     requires fits { HasRoomFor (held_of (row_at rows.old.items place)) points }
-    ensures { rows.new.items ≡ slice_set rows.old.items place (with_more points (row_at rows.old.items place)) }
+    ensures row { rows.new.items
+        ≡ slice_set rows.old.items place (with_more points (row_at rows.old.items place)) }
+    ensures capacity { vec_capacity rows.new ≡ vec_capacity rows.old }
 {
     let row = &mut rows[place];
     row.points += points;
     row.times += 1;
+}
+
+/// Finds the points and the plies of a key and a code.
+pub(crate) fn held_in(rows: &[Row], key: u64, code: u16) -> (u64, u64)
+    ensures { held (list_content rows.now) key code
+        ≡ record { points = result.0; times = result.1 } }
+{
+    match place_of(rows, key, code) {
+        Some(place) => {
+            let row = rows[place];
+            (row.points, row.times)
+        }
+        None => (0, 0),
+    }
 }
 
 impl ListTally {
@@ -54,13 +71,7 @@ impl ListTally {
         ensures { held (list_content self.now) key code
             ≡ record { points = result.0; times = result.1 } }
     {
-        match place_of(&self.rows, key, code) {
-            Some(place) => {
-                let row = self.rows[place];
-                (row.points, row.times)
-            }
-            None => (0, 0),
-        }
+        held_in(&self.rows, key, code)
     }
 }
 

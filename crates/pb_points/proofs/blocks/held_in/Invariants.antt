@@ -1,5 +1,5 @@
 use Rattle.std.proofs.Common.{◌≡◌, take}
-use Rattle.pb_points.specs.BagTally.{points_of, times_of}
+use Rattle.pb_points.specs.Bag.{points_of, times_of}
 use Rattle.pb_points.proofs.blocks.held_in.Given as goal
 
 abbrev pub invariant-loop-row : goal.invariant-loop-row

@@ -1,6 +1,6 @@
 use Rattle.std.proofs.Common.{◌-◌, length, refl, subst, arith}
 use Rattle.std.proofs.lemmas.Option.{slice_get_read}
-use Rattle.pb_points.specs.BagTally.{IsRowAt}
+use Rattle.pb_points.specs.Bag.{IsRowAt}
 use Rattle.pb_points.proofs.blocks.place_in.Goals as goal
 
 pub returns-in-Some : goal.returns-in-Some

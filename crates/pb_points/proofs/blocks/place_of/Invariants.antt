@@ -1,5 +1,5 @@
 use Rattle.std.proofs.Common.{◌≡◌, drop}
-use Rattle.pb_points.specs.BagTally.{count_of}
+use Rattle.pb_points.specs.Bag.{count_of}
 use Rattle.pb_points.proofs.blocks.place_of.Given as goal
 
 abbrev pub invariant-loop-place : goal.invariant-loop-place

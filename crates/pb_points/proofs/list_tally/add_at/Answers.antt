@@ -2,5 +2,5 @@ use Rattle.std.proofs.Common.{arith}
 use Rattle.std.proofs.lemmas.Grind.{common_steps}
 use Rattle.pb_points.proofs.list_tally.add_at.Goals as goal
 
-pub returns : goal.returns
-returns c = grind (arith, common_steps)
+pub returns-clause-row : goal.returns-clause-row
+returns-clause-row c = grind (arith, common_steps)

@@ -19,13 +19,13 @@ pub invariant_of-self : goal.invariant_of-self
 invariant_of-self c =
     let rows = c.self.inside.rows.items in
     let place = is_place rows c.args.key c.args.code c.in-Some.place (sym (c.in-Some.ensures ∙ ap (position (is_row c.args.key c.args.code)) c.deref.ensures.value)) in
-    subst (IsDistinct same_pair) (sym c.add_at.ensures) (IsDistinct-more rows c.in-Some.place c.args.points place.within c.self.invariant)
+    subst (IsDistinct same_pair) (sym c.add_at.ensures.row) (IsDistinct-more rows c.in-Some.place c.args.points place.within c.self.invariant)
 
 pub returns-in-Some : goal.returns-in-Some
 returns-in-Some c = rw (← c.self.view_is) (λ k d.
     let rows = c.self.inside.rows.items in
     let place = is_place rows c.args.key c.args.code c.in-Some.place (sym (c.in-Some.ensures ∙ ap (position (is_row c.args.key c.args.code)) c.deref.ensures.value)) in
-    ap (λ l. list_content l k d) c.add_at.ensures ∙ adds_set rows c.args.key c.args.code c.in-Some.place c.args.points place k d)
+    ap (λ l. list_content l k d) c.add_at.ensures.row ∙ adds_set rows c.args.key c.args.code c.in-Some.place c.args.points place k d)
 
 pub returns-in_default : goal.returns-in_default
 returns-in_default c =

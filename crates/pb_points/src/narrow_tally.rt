@@ -1,0 +1,211 @@
+//! The tally over narrow rows in blocks.
+
+ghost use Rattle.std.specs.Prelude.{◌≡◌, ◌<◌, ◌≤◌, ◌+◌, AllPairs, length, vec_capacity, vec_len, IfOk, OnOk};
+ghost use Rattle.std.proofs.Props.{props};
+ghost use Rattle.pb_points.specs.Bag.{HoldsSame, SumsFit, bag_content};
+ghost use Rattle.pb_points.specs.Blocks.{rows_of};
+ghost use Rattle.pb_points.specs.NarrowTally.{IsParted, Keeps, all_of};
+ghost use Rattle.pb_points.specs.Rows.{IsBelow};
+ghost use Rattle.pb_points.specs.Tally.{MakesRow, held};
+
+use crate::blocks::{
+    Blocks, add_ply, held_in_blocks, listed, new_block, no_blocks, push_row, put_block,
+};
+use crate::book::push_book;
+use crate::list_tally::held_in;
+use crate::narrow::NarrowRow;
+use crate::row::{Row, keep_frequent, keep_pointed};
+use crate::sums::sums_of;
+use crate::tally::Tally;
+use crate::wide::{add_wide, reserve_wide};
+use pb_poly::Entry;
+use std::alloc::{AllocError, Global};
+
+/// The blocks from which on a full list of them is added up before it grows.
+const MANY: usize = 64;
+
+/// Points and plies in rows, of which a key and a code may have several. `ensure` puts a row at the
+/// end and looks for none; `add` looks from the end, so that it soon finds what was ensured last.
+/// The rows stand in blocks, so that growing moves none of them. A full list of blocks is added up
+/// before it grows: so it takes memory for its keys and codes, and not for each `ensure`.
+///
+/// The rows are narrow, and what one has no room for goes to a wide row beside it. Since `add`
+/// takes no memory, there is always room for as many wide rows as the blocks have room for. That
+/// room is hardly ever used, and the system gives no page of it before it is.
+#[derive(Drop)]
+pub struct NarrowTally {
+    alloc: Global,
+    rows: Blocks,
+    /// How many rows stand before the last block.
+    before: usize,
+    wide: Vec<Row>,
+    ghost keeps: { Keeps (rows_of rows) wide.items } by { Prim.hlevel props },
+    ghost counted: { before + vec_len rows.last ≡ length (rows_of rows) },
+    ghost room: { before + vec_capacity rows.last ≤ vec_capacity wide },
+}
+
+/// Narrow rows, and wide ones beside them.
+#[derive(Drop)]
+struct Parts {
+    rows: Blocks,
+    wide: Vec<Row>,
+}
+
+/// Narrows each row. One that has too much for a narrow row stays wide, beside an empty narrow one.
+fn parted(alloc: Global, sums: &[Row]) -> Result<Parts, AllocError>
+    requires { AllPairs IsBelow sums.now }
+    ensures { IfOk result (λ p. IsParted sums.now (rows_of p.rows) p.wide.items) }
+{
+    let mut rows = no_blocks(alloc);
+    let mut wide = Vec::new(alloc);
+    for sum in sums {
+        match NarrowRow::of(sum) {
+            Some(row) => push_row(alloc, &mut rows, row)?,
+            None => {
+                push_row(alloc, &mut rows, NarrowRow::empty(sum.key, sum.code))?;
+                wide.push(*sum)?;
+            }
+        }
+    }
+    Ok(Parts { rows, wide })
+}
+
+impl NarrowTally {
+    /// Lists the narrow rows and the wide ones.
+    fn all(&self, alloc: Global) -> Result<Vec<Row>, AllocError>
+        ensures { IfOk result (λ v. v.items ≡ all_of self.now.rows self.now.wide) }
+    {
+        let mut rows = listed(alloc, &self.rows)?;
+        rows.extend_from_slice(&self.wide)?;
+        Ok(rows)
+    }
+
+    /// Adds up the points and the plies of a key and a code over all rows.
+    fn held(&self, key: u64, code: u16) -> (u64, u64)
+        ensures { held (bag_content (all_of self.now.rows self.now.wide)) key code
+            ≡ record { points = result.0; times = result.1 } }
+    {
+        let (points, times) = held_in_blocks(&self.rows, key, code);
+        let (more_points, more_times) = held_in(&self.wide, key, code);
+        (points + more_points, times + more_times)
+    }
+
+    /// Puts a row without plies at the end, where the last block has room.
+    #[inline(always)]
+    fn push_empty(&mut self, key: u64, code: u16)
+        requires { vec_len self.old.rows.last < vec_capacity self.old.rows.last }
+        ensures { MakesRow (bag_content (all_of self.old.rows self.old.wide))
+            (bag_content (all_of self.new.rows self.new.wide)) key code }
+    {
+        self.rows.last.push_reserved(NarrowRow::empty(key, code));
+    }
+
+    /// Begins a block, and makes room for as many wide rows as it has room for.
+    fn begin_block(&mut self) -> Result<(), AllocError>
+        ensures same { all_of self.new.rows self.new.wide ≡ all_of self.old.rows self.old.wide }
+        ensures room { OnOk result (vec_len self.new.rows.last < vec_capacity self.new.rows.last) }
+    {
+        let block = new_block(self.alloc)?;
+        let before = self.before + self.rows.last.len();
+        reserve_wide(self.alloc, &mut self.wide, before + block.capacity())?;
+        put_block(&mut self.rows, block)?;
+        self.before = before;
+        Ok(())
+    }
+
+    /// Adds up the rows, so that one is left for each key and code, and makes room for as many
+    /// blocks more as that takes.
+    fn add_up(&mut self) -> Result<(), AllocError>
+        ensures { HoldsSame (all_of self.old.rows self.old.wide)
+            (all_of self.new.rows self.new.wide) }
+    {
+        let sums = sums_of(self.alloc, self.all(self.alloc)?)?;
+        let mut parts = parted(self.alloc, &sums)?;
+        let many = parts.rows.full.len();
+        parts.rows.full.reserve(many)?;
+        let before = sums.len() - parts.rows.last.len();
+        reserve_wide(
+            self.alloc,
+            &mut parts.wide,
+            before + parts.rows.last.capacity(),
+        )?;
+        self.rows = parts.rows;
+        self.before = before;
+        self.wide = parts.wide;
+        Ok(())
+    }
+
+    /// Makes room for a row in a new block. The rows are added up before, where there are many
+    /// blocks and their list has no room for one more.
+    fn make_room(&mut self) -> Result<(), AllocError>
+        ensures same { HoldsSame (all_of self.old.rows self.old.wide)
+            (all_of self.new.rows self.new.wide) }
+        ensures room { OnOk result (vec_len self.new.rows.last < vec_capacity self.new.rows.last) }
+    {
+        if self.rows.full.len() < MANY || self.rows.full.len() < self.rows.full.capacity() {
+            return self.begin_block();
+        }
+        self.add_up()?;
+        self.begin_block()
+    }
+}
+
+impl Tally for NarrowTally {
+    ghost content = { λ t. bag_content (all_of t.rows t.wide) };
+
+    fn new(alloc: Global) -> NarrowTally {
+        NarrowTally {
+            alloc,
+            rows: no_blocks(alloc),
+            before: 0,
+            wide: Vec::new(alloc),
+        }
+    }
+
+    fn ensure(&mut self, key: u64, code: u16) -> Result<(), AllocError> {
+        if self.rows.last.len() < self.rows.last.capacity() {
+            self.push_empty(key, code);
+            return Ok(());
+        }
+        self.make_room()?;
+        self.push_empty(key, code);
+        Ok(())
+    }
+
+    fn add(&mut self, key: u64, code: u16, points: u64) {
+        if !add_ply(&mut self.rows, key, code, points) {
+            add_wide(&mut self.wide, key, code, points);
+        }
+    }
+
+    fn points(&self, key: u64, code: u16) -> u64 {
+        self.held(key, code).0
+    }
+
+    fn times(&self, key: u64, code: u16) -> u64 {
+        self.held(key, code).1
+    }
+
+    fn rows(&self, alloc: Global) -> Result<Vec<Row>, AllocError> {
+        sums_of(alloc, self.all(alloc)?)
+    }
+
+    fn add_book(
+        &self,
+        alloc: Global,
+        least: u64,
+        entries: &mut Vec<Entry>,
+    ) -> Result<(), AllocError> {
+        if least > 1 {
+            let mut rows = self.rows(alloc)?;
+            keep_frequent(&mut rows, least);
+            return push_book(entries, &rows);
+        }
+        // A move without points has no entry, and one with points was played: so the rows without
+        // points are dropped before they are sorted, and no occurrence is counted.
+        let mut rows = self.all(alloc)?;
+        keep_pointed(&mut rows);
+        let sums = sums_of(alloc, rows)?;
+        push_book(entries, &sums)
+    }
+}
