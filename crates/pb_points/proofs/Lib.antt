@@ -7,5 +7,6 @@ pub mod Ordering
 pub mod Pairs
 pub mod PartBooks
 pub mod PartRows
+pub mod Spreads
 pub mod Tops
 pub mod Weighing

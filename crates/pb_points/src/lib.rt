@@ -8,8 +8,10 @@ mod book;
 pub mod laws;
 mod list_tally;
 mod map_tally;
+mod narrow;
 mod part_tally;
 mod row;
+mod spread;
 mod tally;
 mod weight;
 

@@ -1,0 +1,90 @@
+//! Rows of few points and plies, in half the room.
+
+ghost use Rattle.std.specs.Prelude.{◌≡◌, IfSome, if◌then◌else◌};
+ghost use Rattle.pb_points.specs.ListTally.{with_more};
+ghost use Rattle.pb_points.specs.Rows.{is_row};
+
+use crate::row::Row;
+use std::marker::Model;
+
+/// A row whose points and plies are few, so that it takes 16 bytes in place of 32.
+#[derive(Clone, Copy)]
+pub(crate) struct NarrowRow {
+    key: u64,
+    code: u16,
+    points: u16,
+    times: u32,
+}
+
+impl Model for NarrowRow {
+    ghost use Rattle.pb_points.specs.declared.row.Row.{Row};
+
+    ghost Value = { Row };
+
+    ghost view = { λ r. record { key = r.key; code = r.code; points = r.points; times = r.times } };
+
+    ghost inverse = { λ r. record { key = r.key; code = r.code; points = r.points; times = r.times } };
+}
+
+impl NarrowRow {
+    /// A row without plies.
+    #[inline(always)]
+    pub(crate) fn empty(key: u64, code: u16) -> NarrowRow
+        ensures { result ≡ record { key = key; code = code; points = 0; times = 0 } }
+    {
+        NarrowRow {
+            key,
+            code,
+            points: 0,
+            times: 0,
+        }
+    }
+
+    /// The row in little room. None where it has too many points or plies.
+    pub(crate) fn of(row: &Row) -> Option<NarrowRow>
+        ensures { IfSome result (λ narrow. narrow ≡ row.now) }
+    {
+        let points = u16::try_from(row.points).ok()?;
+        let times = u32::try_from(row.times).ok()?;
+        Some(NarrowRow {
+            key: row.key,
+            code: row.code,
+            points,
+            times,
+        })
+    }
+
+    /// The row.
+    #[inline(always)]
+    pub(crate) fn row(&self) -> Row
+        ensures { result ≡ self.now }
+    {
+        Row {
+            key: self.key,
+            code: self.code,
+            points: u64::from(self.points),
+            times: u64::from(self.times),
+        }
+    }
+
+    /// Whether the row is of this key and this code.
+    #[inline(always)]
+    pub(crate) fn is_of(&self, key: u64, code: u16) -> bool
+        ensures { result ≡ is_row key code self.now }
+    {
+        self.key == key && self.code == code
+    }
+
+    /// Adds a ply with its points, where there is room for them. The answer is whether there was.
+    #[inline(always)]
+    pub(crate) fn add(&mut self, points: u64) -> bool
+        ensures { self.new ≡ (if result then with_more points self.old else self.old) }
+    {
+        if points > u64::from(u16::MAX - self.points) || self.times == u32::MAX {
+            return false;
+        }
+        self.points += points as u16;
+        self.times += 1;
+        true
+    }
+}
