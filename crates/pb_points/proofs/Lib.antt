@@ -8,5 +8,6 @@ pub mod Pairs
 pub mod PartBooks
 pub mod PartRows
 pub mod Spreads
+pub mod SumsBook
 pub mod Tops
 pub mod Weighing

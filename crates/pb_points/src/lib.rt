@@ -12,6 +12,7 @@ mod narrow;
 mod part_tally;
 mod row;
 mod spread;
+mod sums_book;
 mod tally;
 mod weight;
 
