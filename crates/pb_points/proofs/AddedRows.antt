@@ -146,7 +146,7 @@ added_same rows all rest sum i a end k c =
 -- ---- the rows listed
 
 -- where something is held there is a row
-some_counted : (rows : List Row) (k c : ℕ) (h : Held) → bag_content rows k c ≡ Some h → 0 < count_of rows k c
+pub some_counted : (rows : List Row) (k c : ℕ) (h : Held) → bag_content rows k c ≡ Some h → 0 < count_of rows k c
 some_counted rows k c h e = by (nat_lt 0 (count_of rows k c)) refl
   where
     by : (b : Bool) → nat_lt 0 (count_of rows k c) ≡ b → 0 < count_of rows k c
@@ -212,7 +212,7 @@ listed rows i rise lt =
         ∙ of_pair part r.key r.code r refl refl
 
 -- a row that is counted is found
-found : (rows : List Row) (k c : ℕ) → 0 < count_of rows k c → (i : ℕ) × (i < length rows) × (is_row k c (row_at rows i) ≡ true)
+pub found : (rows : List Row) (k c : ℕ) → 0 < count_of rows k c → (i : ℕ) × (i < length rows) × (is_row k c (row_at rows i) ≡ true)
 found [] k c some = absurd (omega arith)
 found (r ∷ rows) k c some = by (found rows k c) (is_row k c r) refl
   where

@@ -15,7 +15,7 @@ use Rattle.pb_points.specs.Rows.{Gives, IsBelow, IsBookOfRows}
 use Rattle.pb_points.specs.TallyBook.{AddsSome}
 use Rattle.pb_points.specs.Weight.{Before}
 use Rattle.pb_points.proofs.Tops.{IsTop-agree}
-use Rattle.pb_points.proofs.Weighing.{one_key}
+use Rattle.pb_points.proofs.Weighing.{keys_agree}
 
 -- ---- pairs of a joined list
 
@@ -38,7 +38,7 @@ module _ {X : Type 0} (R : X → X → Type 0) where
       let pair = h a.0 (length xs + b.0) y (omega (arith, a.1)) (omega (arith, b.1, length-append xs ys)) in
       subst (λ z. R z y) (left ∙ get_or_default xs a.0 y x a.1 ∙ a.2) (subst (R (get_or (xs ++ ys) a.0 y)) (right ∙ b.2) pair)
 
-  AllPairs-append : (xs ys : List X) → AllPairs R xs → AllPairs R ys → ((x y : X) → Contains xs x → Contains ys y → R x y) → AllPairs R (xs ++ ys)
+  pub AllPairs-append : (xs ys : List X) → AllPairs R xs → AllPairs R ys → ((x y : X) → Contains xs x → Contains ys y → R x y) → AllPairs R (xs ++ ys)
   AllPairs-append [] ys h k across = k
   AllPairs-append (x ∷ xs) ys h k across =
       AllPairs-cons R x (xs ++ ys)
@@ -134,19 +134,20 @@ key_is r s h = grind (arith, nat_tests)
 key_isnt : (r s : Row) → r.key ≡ s.key → keys_equal r s ≡ false → ⊥
 key_isnt r s e h = grind (arith, nat_tests)
 
-keys_rise : (r s : Row) → IsBelow r s → r.key ≤ s.key
+pub keys_rise : (r s : Row) → IsBelow r s → r.key ≤ s.key
 keys_rise r s (inl h) = omega arith
 keys_rise r s (inr h) = omega arith
 
-module _ (rest group later : List Row) (cut : IsCut rest group later) (rise : AllPairs IsBelow rest) where
-  rise_split : AllPairs IsBelow (group ++ later)
-  rise_split = subst (AllPairs IsBelow) cut.split rise
+-- a group of rows in one or the other order, by which keys never fall
+module _ (R : Row → Row → Type 0) (rises : (r s : Row) → R r s → r.key ≤ s.key) (rest group later : List Row) (cut : IsCut rest group later) (rise : AllPairs R rest) where
+  rise_split : AllPairs R (group ++ later)
+  rise_split = subst (AllPairs R) cut.split rise
 
-  cut_rise : AllPairs IsBelow group
-  cut_rise = AllPairs-left IsBelow group later rise_split
+  pub cut_rise : AllPairs R group
+  cut_rise = AllPairs-left R group later rise_split
 
-  cut_rise_later : AllPairs IsBelow later
-  cut_rise_later = AllPairs-right IsBelow group later rise_split
+  pub cut_rise_later : AllPairs R later
+  cut_rise_later = AllPairs-right R group later rise_split
 
   -- each key is the next
   next_key : (k : ℕ) (d : Row) → k + 1 < length group → (get_or group k d).key ≡ (get_or group (k + 1) d).key
@@ -160,17 +161,14 @@ module _ (rest group later : List Row) (cut : IsCut rest group later) (rise : Al
   keys_from i (suc n) d lt =
       keys_from i n d (omega arith) ∙ next_key (i + n) d (omega arith) ∙ ap (λ m. (get_or group m d).key) (omega arith)
 
-  cut_one : AllPairs (λ r s. r.key ≡ s.key) group
+  pub cut_one : AllPairs (λ r s. r.key ≡ s.key) group
   cut_one i j d lt within = keys_from i (j - i) d (omega arith) ∙ ap (λ m. (get_or group m d).key) (omega arith)
 
-  pub cut_group : IsGroup group
-  cut_group = record { some = cut.some; rise = cut_rise; one = cut_one }
-
   -- the keys of the group are below those that follow
-  cut_below : KeysBelow group later
+  pub cut_below : KeysBelow group later
   cut_below r s h k =
-      let here = one_key group cut_group r last h (Contains-get_or group (length group - 1) s (omega (arith, cut.some))) in
-      let up = keys_rise last first (AllPairs-across IsBelow group later rise_split last first (Contains-get_or group (length group - 1) s (omega (arith, cut.some))) (Contains-get_or later 0 s some)) in
+      let here = keys_agree group cut_one r last h (Contains-get_or group (length group - 1) s (omega (arith, cut.some))) in
+      let up = rises last first (AllPairs-across R group later rise_split last first (Contains-get_or group (length group - 1) s (omega (arith, cut.some))) (Contains-get_or later 0 s some)) in
       elim (cases_lt last.key first.key) [
         | inl lt ↦ omega (arith, here, lt, on)
         | inr ge ↦ absurd (key_isnt (get_or rest (length group - 1) s) (get_or rest (length group) s) (ap (λ (x : Row). x.key) end ∙ omega (arith, up, ge) ∙ ap (λ (x : Row). x.key) (sym start)) (cut.prefix.1 within s))
@@ -199,9 +197,16 @@ module _ (rest group later : List Row) (cut : IsCut rest group later) (rise : Al
 
       on : first.key ≤ s.key
       on = elim (cases_lt 0 k.0) [
-        | inl past ↦ subst (λ (x : Row). first.key ≤ x.key) k.2 (keys_rise first (get_or later k.0 s) (cut_rise_later 0 k.0 s past k.1))
+        | inl past ↦ subst (λ (x : Row). first.key ≤ x.key) k.2 (rises first (get_or later k.0 s) (cut_rise_later 0 k.0 s past k.1))
         | inr least ↦ let same : 0 ≡ k.0 = omega arith in let is : first ≡ s = ap (λ i. get_or later i s) same ∙ k.2 in subst (λ (x : Row). first.key ≤ x.key) is (omega arith)
       ]
+
+pub cut_group : (rest group later : List Row) → IsCut rest group later → AllPairs IsBelow rest → IsGroup group
+cut_group rest group later cut rise = record {
+  some = cut.some;
+  rise = cut_rise IsBelow keys_rise rest group later cut rise;
+  one = cut_one IsBelow keys_rise rest group later cut rise;
+}
 
 -- the book of one key more
 pub so_far_more : (rows rest group later : List Row) (old mid new : List Entry) → IsBookSoFar rows old mid rest → IsCut rest group later → AddsBook group mid new → IsBookSoFar rows old new later
@@ -210,9 +215,9 @@ so_far_more rows rest group later old mid new h cut adds = record {
   split = h.split ∙ ap (λ l. h.done ++ l) cut.split ∙ sym (append_assoc h.done group later);
   below = λ r s a b. elim (Contains-append_cases h.done group r a) [
     | inl before ↦ h.below r s before (subst (λ l. Contains l s) (sym cut.split) (Contains-append_right group later s b))
-    | inr now ↦ cut_below rest group later cut h.rise r s now b
+    | inr now ↦ cut_below IsBelow keys_rise rest group later cut h.rise r s now b
   ];
-  rise = cut_rise_later rest group later cut h.rise;
+  rise = cut_rise_later IsBelow keys_rise rest group later cut h.rise;
   adds = adds_both h.done group old mid new (λ r s a b. h.below r s a (subst (λ l. Contains l s) (sym cut.split) (Contains-append_left group later s b))) h.adds adds;
 }
 

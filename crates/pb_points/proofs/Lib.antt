@@ -12,5 +12,7 @@ pub mod PartRows
 pub mod PartedRows
 pub mod Pointed
 pub mod SomeSums
+pub mod Spreads
+pub mod SumsBook
 pub mod Tops
 pub mod Weighing

@@ -1,5 +1,5 @@
 -- The entries that rows give, one row after another.
-use Rattle.std.proofs.Common.{◌≡◌, ℕ, ◌+◌, ◌<◌, ◌≤◌, ◌↔◌, List, [], ◌∷◌, ◌++◌, take, drop, length, get_or, All, Any, Contains, sym, ap, subst, ◌∙◌, inl, inr, arith, append_assoc}
+use Rattle.std.proofs.Common.{◌≡◌, ℕ, ◌+◌, ◌<◌, ◌≤◌, ◌↔◌, List, [], ◌∷◌, ◌++◌, take, drop, length, get_or, All, AllPairs, Any, Contains, sym, ap, subst, ◌∙◌, inl, inr, arith, append_assoc}
 use Rattle.std.proofs.Math.Seq.{drop-append_seam, take-append_seam, take-length}
 use Rattle.std.proofs.lemmas.Bool.{cases_lt}
 use Rattle.std.proofs.lemmas.List.{get_or-take, length-take-le, take-append-drop, take_more}
@@ -28,28 +28,28 @@ Gives-unique rows r e f g h =
     let learn = g.learn ∙ sym h.learn in
     λ j. record { key = key j; code = code j; weight = weight j; learn = learn j }
 
-module _ (rows : List Row) (group : IsGroup rows) where
-  -- all rows have the key of each
-  pub one_key : (r s : Row) → Contains rows r → Contains rows s → r.key ≡ s.key
-  one_key r s h k =
-      let p = place_of_row rows r h in
-      let q = place_of_row rows s k in
-      ap (λ (x : Row). x.key) (sym p.2) ∙ by_place p.0 q.0 p.1 q.1 ∙ ap (λ (x : Row). x.key) q.2
-    where
-      by_place : (i j : ℕ) → i < length rows → j < length rows → (row_at rows i).key ≡ (row_at rows j).key
-      by_place i j lt within = elim (cases_lt i j) [
-        | inl up ↦ group.one i j (record { key = 0; code = 0; points = 0; times = 0 }) up within
-        | inr le ↦ elim (cases_lt j i) [
-          | inl down ↦ sym (group.one j i (record { key = 0; code = 0; points = 0; times = 0 }) down lt)
-          | inr ge ↦ let e : i ≡ j = omega arith in ap (λ m. (row_at rows m).key) e
-        ]
+-- rows of one key have that of each
+pub keys_agree : (rows : List Row) → AllPairs (λ r s. r.key ≡ s.key) rows → (r s : Row) → Contains rows r → Contains rows s → r.key ≡ s.key
+keys_agree rows one r s h k =
+    let p = place_of_row rows r h in
+    let q = place_of_row rows s k in
+    ap (λ (x : Row). x.key) (sym p.2) ∙ by_place p.0 q.0 p.1 q.1 ∙ ap (λ (x : Row). x.key) q.2
+  where
+    by_place : (i j : ℕ) → i < length rows → j < length rows → (row_at rows i).key ≡ (row_at rows j).key
+    by_place i j lt within = elim (cases_lt i j) [
+      | inl up ↦ one i j (record { key = 0; code = 0; points = 0; times = 0 }) up within
+      | inr le ↦ elim (cases_lt j i) [
+        | inl down ↦ sym (one j i (record { key = 0; code = 0; points = 0; times = 0 }) down lt)
+        | inr ge ↦ let e : i ≡ j = omega arith in ap (λ m. (row_at rows m).key) e
       ]
+    ]
 
+module _ (rows : List Row) (group : IsGroup rows) where
   -- the greatest points of all rows are those of their key
   pub group_top : (M : ℕ) → All (λ r. r.points ≤ M) rows → Any (λ r. r.points ≡ M) rows → (r : Row) → Contains rows r → IsTop rows r.key M
   group_top M above met r h = record {
     above = λ s k e. All-Contains (λ s. s.points ≤ M) rows above s k;
-    met = let there : Contains rows met.1 = (met.0, met.2, met.3) in (met.1, there, one_key met.1 r there h, met.4);
+    met = let there : Contains rows met.1 = (met.0, met.2, met.3) in (met.1, there, keys_agree rows group.one met.1 r there h, met.4);
   }
 
   module _ (i : ℕ) (lt : i < length rows) (entries : List Entry) (h : AreWeighed rows i entries) where

@@ -2,13 +2,20 @@
 use Rattle.std.specs.Prelude.{◌≡◌, ℕ, ◌<◌, List, ◌++◌, length, AllPairs, IsPermutation}
 use Rattle.pb_poly.specs.declared.entry.Entry.{Entry}
 use Rattle.pb_points.specs.declared.row.Row.{Row}
-use Rattle.pb_points.specs.Rows.{IsBelow, IsBookOfRows}
+use Rattle.pb_points.specs.Bag.{IsAddedUp}
+use Rattle.pb_points.specs.Rows.{IsBelow, IsBookOfRows, IsUpTo}
 use Rattle.pb_points.specs.Weight.{Before}
 
 -- rows of one key in order
 pub record IsGroup (rows : List Row) : Type 0 where
   pub some : 0 < length rows
   pub rise : AllPairs IsBelow rows
+  pub one : AllPairs (λ r s. r.key ≡ s.key) rows
+
+-- rows of one key in order, of which a code may have several
+pub record IsBagGroup (rows : List Row) : Type 0 where
+  pub some : 0 < length rows
+  pub ordered : AllPairs IsUpTo rows
   pub one : AllPairs (λ r s. r.key ≡ s.key) rows
 
 -- entries of one key, their codes rising
@@ -27,3 +34,7 @@ pub record Orders (old new : List Entry) : Type 0 where
 -- the book of the rows was added to the entries
 abbrev pub AddsBook : List Row → List Entry → List Entry → Type 0
 AddsBook rows old new = (book : List Entry) × (new ≡ old ++ book) × IsBookOfRows rows book
+
+-- the book of what the rows of each key and code hold together was added to the entries
+abbrev pub AddsBookOfSums : List Row → List Entry → List Entry → Type 0
+AddsBookOfSums rows old new = (sums : List Row) × IsAddedUp rows sums × AddsBook sums old new

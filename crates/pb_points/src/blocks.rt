@@ -4,6 +4,7 @@
 ghost use Rattle.std.specs.Prelude.{◌≡◌, ◌≤◌, ◌^◌, ◌+◌, ◌++◌, ◌∷◌, [], if◌then◌else◌, is_ok, false, true, vec_capacity, vec_len, IfOk, MatchOption, OnOk};
 ghost use Rattle.pb_points.specs.Bag.{IsRowAt, count_of, points_of as points, times_of as times};
 ghost use Rattle.pb_points.specs.Blocks.{AddsThere, IsRowIn, rows_in, rows_of};
+ghost use Rattle.pb_points.specs.Rows.{pointed};
 
 use crate::narrow::NarrowRow;
 use crate::row::Row;
@@ -81,20 +82,48 @@ fn add_rows(rows: &mut Vec<Row>, block: &[NarrowRow]) -> Result<(), AllocError>
     Ok(())
 }
 
+/// Counts the rows, as if each block but the last were full.
+fn room_of(blocks: &Blocks) -> usize {
+    blocks
+        .full
+        .len()
+        .saturating_mul(BLOCK)
+        .saturating_add(blocks.last.len())
+}
+
 /// Lists the rows of all blocks.
 pub(crate) fn listed(alloc: Global, blocks: &Blocks) -> Result<Vec<Row>, AllocError>
     ensures { IfOk result (λ v. v.items ≡ rows_of blocks.now) }
 {
-    let many = blocks
-        .full
-        .len()
-        .saturating_mul(BLOCK)
-        .saturating_add(blocks.last.len());
-    let mut rows = Vec::with_capacity(alloc, many)?;
+    let mut rows = Vec::with_capacity(alloc, room_of(blocks))?;
     for block in &blocks.full {
         add_rows(&mut rows, block)?;
     }
     add_rows(&mut rows, &blocks.last)?;
+    Ok(rows)
+}
+
+/// Puts the rows of a block that have points at the end of a list.
+fn add_pointed(rows: &mut Vec<NarrowRow>, block: &[NarrowRow]) -> Result<(), AllocError>
+    ensures { OnOk result (rows.new.items ≡ rows.old.items ++ pointed block.now) }
+{
+    for row in block {
+        if row.row().points > 0 {
+            rows.push(*row)?;
+        }
+    }
+    Ok(())
+}
+
+/// Lists the rows of all blocks that have points.
+pub(crate) fn pointed_rows(alloc: Global, blocks: &Blocks) -> Result<Vec<NarrowRow>, AllocError>
+    ensures { IfOk result (λ v. v.items ≡ pointed (rows_of blocks.now)) }
+{
+    let mut rows = Vec::with_capacity(alloc, room_of(blocks))?;
+    for block in &blocks.full {
+        add_pointed(&mut rows, block)?;
+    }
+    add_pointed(&mut rows, &blocks.last)?;
     Ok(rows)
 }
 

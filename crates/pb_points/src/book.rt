@@ -30,7 +30,7 @@ pub(crate) fn push_book(entries: &mut Vec<Entry>, rows: &[Row]) -> Result<(), Al
 }
 
 /// Adds the book of the rows of one key.
-fn push_group(entries: &mut Vec<Entry>, group: &[Row]) -> Result<(), AllocError>
+pub(crate) fn push_group(entries: &mut Vec<Entry>, group: &[Row]) -> Result<(), AllocError>
     requires { IsGroup group.now }
     ensures ok { OnOk result (AddsBook group.now entries.old.items entries.new.items) }
     ensures err { OnErr result (AddsSome entries.old.items entries.new.items) }
@@ -55,8 +55,9 @@ fn greatest_of(rows: &[Row]) -> u64
     rows.iter().map(|row| row.points).max().unwrap()
 }
 
-/// The entry of a row, where `greatest` is the greatest points of its key, or none where its weight is 0.
-fn entry_of(row: &Row, greatest: u64) -> Option<Entry>
+/// The entry of a row, where `greatest` is the greatest points of its key, or none where its weight
+/// is 0.
+pub(crate) fn entry_of(row: &Row, greatest: u64) -> Option<Entry>
     requires { row.now.points ≤ greatest }
     ensures { MatchOption result
         (scaled row.now.points greatest ≡ 0)

@@ -1,5 +1,5 @@
-//! Points of moves under keys, kept as games arrive, and the weights and entries that are made of them; it knows keys and codes as
-//! numbers, and of no setup and no game.
+//! Points of moves under keys, kept as games arrive, and the weights and entries that are made of
+//! them; it knows keys and codes as numbers, and of no setup and no game.
 #![tactic(auto)]
 
 mod blocks;
@@ -11,7 +11,9 @@ mod narrow;
 mod narrow_tally;
 mod part_tally;
 mod row;
+mod spread;
 mod sums;
+mod sums_book;
 mod tally;
 mod weight;
 mod wide;

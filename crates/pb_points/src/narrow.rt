@@ -8,7 +8,7 @@ use crate::row::Row;
 use std::marker::Model;
 
 /// A row of few points and plies, as nearly all rows are: it takes 16 bytes, and not 32.
-#[derive(Drop)]
+#[derive(Clone, Copy)]
 pub(crate) struct NarrowRow {
     key: u64,
     code: u16,
@@ -22,6 +22,8 @@ impl Model for NarrowRow {
     ghost Value = { Row };
 
     ghost view = { λ r. record { key = r.key; code = r.code; points = r.points; times = r.times } };
+
+    ghost inverse = { λ r. record { key = r.key; code = r.code; points = r.points; times = r.times } };
 }
 
 impl NarrowRow {

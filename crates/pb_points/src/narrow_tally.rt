@@ -9,13 +9,16 @@ ghost use Rattle.pb_points.specs.Rows.{IsBelow};
 ghost use Rattle.pb_points.specs.Tally.{MakesRow, held};
 
 use crate::blocks::{
-    Blocks, add_ply, held_in_blocks, listed, new_block, no_blocks, push_row, put_block,
+    Blocks, add_ply, held_in_blocks, listed, new_block, no_blocks, pointed_rows, push_row,
+    put_block,
 };
 use crate::book::push_book;
 use crate::list_tally::held_in;
 use crate::narrow::NarrowRow;
-use crate::row::{Row, keep_frequent, keep_pointed};
+use crate::row::{Row, keep_frequent};
+use crate::spread::order_rows;
 use crate::sums::sums_of;
+use crate::sums_book::push_sums;
 use crate::tally::Tally;
 use crate::wide::{add_wide, reserve_wide};
 use pb_poly::Entry;
@@ -196,16 +199,15 @@ impl Tally for NarrowTally {
         least: u64,
         entries: &mut Vec<Entry>,
     ) -> Result<(), AllocError> {
-        if least > 1 {
+        if least > 1 || !self.wide.is_empty() {
             let mut rows = self.rows(alloc)?;
             keep_frequent(&mut rows, least);
             return push_book(entries, &rows);
         }
-        // A move without points has no entry, and one with points was played: so the rows without
-        // points are dropped before they are sorted, and no occurrence is counted.
-        let mut rows = self.all(alloc)?;
-        keep_pointed(&mut rows);
-        let sums = sums_of(alloc, rows)?;
-        push_book(entries, &sums)
+        // A move without points has no entry, and one with points was played: so rows without
+        // points are left out, and no occurrence is counted.
+        let mut rows = pointed_rows(alloc, &self.rows)?;
+        order_rows(alloc, &mut rows)?;
+        push_sums(alloc, entries, &rows)
     }
 }

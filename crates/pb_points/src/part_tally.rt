@@ -11,8 +11,8 @@ use std::alloc::{AllocError, Global};
 /// How many parts there are, one for each value of the upper ten bits of a key.
 const PARTS: usize = 1024;
 
-/// Points and plies in parts by the upper bits of the key, each part a tally of its own, so that what is worked on is small and near. The
-/// parts are made when the first row is.
+/// Points and plies in parts by the upper bits of the key, each part a tally of its own, so that
+/// what is worked on is small and near. The parts are made when the first row is.
 #[derive(Drop)]
 pub struct PartTally<T: Tally> {
     alloc: Global,

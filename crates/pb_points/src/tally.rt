@@ -7,7 +7,8 @@ use crate::row::{Row, keep_frequent};
 use pb_poly::Entry;
 use std::alloc::{AllocError, Global};
 
-/// The points of moves under keys, and the plies that gave them: a finite map from key and code to both, in which an absent row means none.
+/// The points of moves under keys, and the plies that gave them: a finite map from key and code to
+/// both, in which an absent row means none.
 pub trait Tally: Drop {
     ghost use Rattle.pb_points.specs.declared.row.Row.{Row};
     ghost use Rattle.pb_points.specs.Rows.{IsBelow};
@@ -30,7 +31,8 @@ pub trait Tally: Drop {
         ensures ok { OnOk result (MakesRow (content self.old) (content self.new) key code) }
         ensures err { OnErr result ((k c : ℕ) → content self.new k c ≡ content self.old k c) };
 
-    /// Adds a ply with its points to a row that is there, up to 2^63 points and plies in all. It takes no memory.
+    /// Adds a ply with its points to a row that is there, up to 2^63 points and plies in all. It
+    /// takes no memory.
     fn add(&mut self, key: u64, code: u16, points: u64)
         requires row { IsSome (content self.old key code) }
         requires fits { HasRoomFor (held (content self.old) key code) points }
@@ -58,8 +60,8 @@ pub trait Tally: Drop {
     ///
     /// # Errors
     ///
-    /// The rows or the entries needed memory that wasn't there. The entries that stood in the list stand there still, and some may be
-    /// behind them.
+    /// The rows or the entries needed memory that wasn't there. The entries that stood in the list
+    /// stand there still, and some may be behind them.
     fn add_book(
         &self,
         alloc: Global,

@@ -3,8 +3,9 @@
 ghost use Rattle.std.specs.Prelude.{◌≡◌, ◌≤◌};
 ghost use Rattle.pb_points.specs.Weight.{scaled};
 
-/// The weight of a move in a book, where `count` is its points and `greatest` the greatest points under its key. Counts
-/// that fit 16 bits stay as they are; greater ones are scaled so that the greatest becomes 65535, and rounded down.
+/// The weight of a move in a book, where `count` is its points and `greatest` the greatest points
+/// under its key. Counts that fit 16 bits stay as they are; greater ones are scaled so that the
+/// greatest becomes 65535, and rounded down.
 pub fn scale(count: u64, greatest: u64) -> u16
     requires { count ≤ greatest }
     ensures { result ≡ scaled count greatest }

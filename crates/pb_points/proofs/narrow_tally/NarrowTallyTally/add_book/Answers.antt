@@ -1,29 +1,54 @@
-use Rattle.std.proofs.Common.{◌∙◌, AllPairs, ap, sym, subst, rules}
+use Rattle.std.proofs.Common.{◌≡◌, ℕ, ◌<◌, ◌++◌, ◌∙◌, true, All, AllPairs, List, [], nat_lt, ap, sym, subst, rules, arith}
+use Rattle.std.proofs.lemmas.Bool.Decides.{nat_tests}
+use Rattle.std.proofs.lemmas.Grind.{common_steps}
+use Rattle.std.proofs.lemmas.List.{append-nil, nil_from_length}
+use Rattle.std.proofs.lemmas.List.Elements.{filter_passes}
 use Rattle.std.proofs.lemmas.List.Kept.{AllPairs-filter}
 use Rattle.std.proofs.lemmas.Result.{on_ok_weaker}
-use Rattle.pb_points.specs.Bag.{IsAddedUp, SumsFit}
-use Rattle.pb_points.specs.Group.{AddsBook}
+use Rattle.pb_points.specs.declared.row.Row.{Row}
+use Rattle.pb_points.specs.Bag.{HoldsSame}
+use Rattle.pb_points.specs.Blocks.{rows_of}
 use Rattle.pb_points.specs.NarrowTally.{all_of}
 use Rattle.pb_points.specs.Rows.{IsBelow, pointed}
+use Rattle.pb_points.proofs.BagRows.{fit_same, same_sorted}
 use Rattle.pb_points.proofs.Pointed.{fit_pointed, pointed_book}
 use Rattle.pb_points.proofs.narrow_tally.NarrowTallyTally.add_book.Goals as goal
+
+-- rows without wide ones beside them
+alone : (rows wide : List Row) → wide ≡ [] → rows ≡ rows ++ wide
+alone rows wide none = sym (ap (λ l. rows ++ l) none ∙ append-nil rows)
+
+some_points : (n : ℕ) → nat_lt 0 n ≡ true → 0 < n
+some_points n is = grind (arith, nat_tests)
 
 pub push_book-requires : goal.push_book-requires
 push_book-requires c =
     subst (AllPairs IsBelow) (sym (c.deref.ensures.value ∙ c.keep_frequent.ensures)) (AllPairs-filter IsBelow _ _ c.in_ok-rows.ensures.order)
 
-pub sums_of-requires : goal.sums_of-requires
-sums_of-requires c =
+pub order_rows-requires : goal.order_rows-requires
+order_rows-requires c =
+    let rows = rows_of c.args.self.now.rows in
+    subst (All (λ (r : Row). 0 < r.points)) (sym c.in_ok-rows-2.ensures)
+    (λ k d within. some_points _ (filter_passes (λ r. nat_lt 0 r.points) rows k d within))
+
+pub push_sums-requires-clause-fit : goal.push_sums-requires-clause-fit
+push_sums-requires-clause-fit c =
     let was = c.args.self.now in
-    subst SumsFit (sym (c.keep_pointed.ensures ∙ ap pointed c.in_ok-rows-2.ensures)) (fit_pointed (all_of was.rows was.wide) was.keeps.fit)
+    let none : was.wide.items ≡ [] = nil_from_length was.wide.items (grind (arith, common_steps)) in
+    let is = c.in_ok-rows-2.ensures ∙ ap pointed (alone (rows_of was.rows) was.wide.items none) in
+    fit_same (pointed (all_of was.rows was.wide)) c.deref-2.result.now
+    (same_sorted is c.order_rows.ensures.permutation c.deref-2.ensures.value)
+    (fit_pointed (all_of was.rows was.wide) was.keeps.fit)
 
 pub returns-clause-ok : goal.returns-clause-ok
 returns-clause-ok c =
     let was = c.args.self.now in
     let rows = all_of was.rows was.wide in
-    let few = c.in_ok-sums.sums.items in
-    on_ok_weaker c.push_book-2.result
-    (λ adds. pointed_book rows few c.args.least _ _ was.keeps.plied (search rules)
-    (subst (λ l. IsAddedUp l few) (c.keep_pointed.ensures ∙ ap pointed c.in_ok-rows-2.ensures) c.in_ok-sums.ensures)
-    (subst (λ D. AddsBook D c.args.entries.now.items c.push_book-2.new.entries.items) c.deref-2.ensures.value adds))
-    c.push_book-2.ensures.ok
+    let none : was.wide.items ≡ [] = nil_from_length was.wide.items (grind (arith, common_steps)) in
+    let is = c.in_ok-rows-2.ensures ∙ ap pointed (alone (rows_of was.rows) was.wide.items none) in
+    let same : HoldsSame (pointed rows) c.deref-2.result.now =
+    same_sorted is c.order_rows.ensures.permutation c.deref-2.ensures.value in
+    on_ok_weaker c.push_sums.result
+    (λ adds. pointed_book rows adds.0 c.args.least _ _ was.keeps.plied (search rules)
+    (record { rise = adds.1.rise; same = λ k c. adds.1.same k c ∙ same k c }) adds.2)
+    c.push_sums.ensures.ok

@@ -1,0 +1,92 @@
+//! The book of rows of which a key and a code may have several, one key after another, without a
+//! list of all sums.
+
+ghost use Rattle.std.specs.Prelude.{◌∷◌, [], AllPairs, OnErr, OnOk};
+ghost use Rattle.pb_points.specs.Bag.{IsAddedUp, SumsFit};
+ghost use Rattle.pb_points.specs.Group.{AddsBook, AddsBookOfSums, IsBagGroup};
+ghost use Rattle.pb_points.specs.Rows.{IsUpTo};
+ghost use Rattle.pb_points.specs.TallyBook.{AddsSome};
+
+use crate::book::{entry_of, push_group};
+use crate::narrow::NarrowRow;
+use crate::row::Row;
+use pb_poly::Entry;
+use std::alloc::{AllocError, Global};
+
+/// Adds the book of what the rows of each key and code hold together, of rows in order of key and
+/// then code.
+///
+/// # Errors
+///
+/// The entries, or the sums of one key, needed memory that wasn't there. Some entries may have been
+/// added then.
+pub(crate) fn push_sums(
+    alloc: Global,
+    entries: &mut Vec<Entry>,
+    rows: &[NarrowRow],
+) -> Result<(), AllocError>
+    requires ordered { AllPairs IsUpTo rows.now }
+    requires fit { SumsFit rows.now }
+    ensures ok { OnOk result (AddsBookOfSums rows.now entries.old.items entries.new.items) }
+    ensures err { OnErr result (AddsSome entries.old.items entries.new.items) }
+{
+    let mut sums = Vec::new(alloc);
+    for group in rows.chunk_by(|row, next| row.row().key == next.row().key) {
+        push_key(entries, &mut sums, group)?;
+    }
+    Ok(())
+}
+
+/// Adds the book of the rows of one key. Where there are several, the list is used for their sums.
+fn push_key(
+    entries: &mut Vec<Entry>,
+    sums: &mut Vec<Row>,
+    group: &[NarrowRow],
+) -> Result<(), AllocError>
+    requires group { IsBagGroup group.now }
+    requires fit { SumsFit group.now }
+    ensures ok { OnOk result (AddsBookOfSums group.now entries.old.items entries.new.items) }
+    ensures err { OnErr result (AddsSome entries.old.items entries.new.items) }
+{
+    if group.len() == 1 {
+        return push_only(entries, &group[0].row());
+    }
+    add_up(sums, group)?;
+    push_group(entries, sums)
+}
+
+/// Adds the book of the only row of a key.
+fn push_only(entries: &mut Vec<Entry>, row: &Row) -> Result<(), AllocError>
+    ensures ok { OnOk result (AddsBook (row.now ∷ []) entries.old.items entries.new.items) }
+    ensures err { OnErr result (AddsSome entries.old.items entries.new.items) }
+{
+    if let Some(entry) = entry_of(row, row.points) {
+        entries.push(entry)?;
+    }
+    Ok(())
+}
+
+/// Makes of the list one row for each key and code of the ordered rows.
+fn add_up(sums: &mut Vec<Row>, rows: &[NarrowRow]) -> Result<(), AllocError>
+    requires ordered { AllPairs IsUpTo rows.now }
+    requires fit { SumsFit rows.now }
+    ensures { OnOk result (IsAddedUp rows.now sums.new.items) }
+{
+    sums.clear();
+    let Some((first, rest)) = rows.split_first() else {
+        return Ok(());
+    };
+    let mut sum = first.row();
+    for row in rest {
+        let row = row.row();
+        if row.key == sum.key && row.code == sum.code {
+            sum.points += row.points;
+            sum.times += row.times;
+        } else {
+            sums.push(sum)?;
+            sum = row;
+        }
+    }
+    sums.push(sum)?;
+    Ok(())
+}
