@@ -218,7 +218,7 @@ pub there_length : (old new : List Row) (k c n : ℕ) → AddsThere old new k c 
 there_length old new k c n h = ap length h.added ∙ length-set old h.place (with_more n 1 (row_at old h.place))
 
 -- the rows added up and parted keep all that
-same_parted : (rows wide sums new_rows new_wide : List Row) → HoldsSame (rows ++ wide) sums → IsParted sums new_rows new_wide → HoldsSame (rows ++ wide) (new_rows ++ new_wide)
+pub same_parted : (rows wide sums new_rows new_wide : List Row) → HoldsSame (rows ++ wide) sums → IsParted sums new_rows new_wide → HoldsSame (rows ++ wide) (new_rows ++ new_wide)
 same_parted rows wide sums new_rows new_wide added parted k c = parted.same k c ∙ added k c
 
 pub keeps_parted : (rows wide sums new_rows new_wide : List Row) → Keeps rows wide → HoldsSame (rows ++ wide) sums → IsParted sums new_rows new_wide → Keeps new_rows new_wide

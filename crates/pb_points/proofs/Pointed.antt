@@ -5,10 +5,11 @@ use Rattle.std.specs.List.{filter}
 use Rattle.std.proofs.Math.Nat.{zero-div}
 use Rattle.std.proofs.lemmas.Bool.{cases_lt, le-leb}
 use Rattle.std.proofs.lemmas.Bool.Decides.{nat_tests}
+use Rattle.std.proofs.lemmas.List.Elements.{filter-append}
 use Rattle.std.proofs.lemmas.List.Sums.{sum_by-cons}
 use Rattle.pb_poly.specs.declared.entry.Entry.{Entry}
 use Rattle.pb_points.specs.declared.row.Row.{Row}
-use Rattle.pb_points.specs.Bag.{ArePlied, HoldsSame, IsAddedUp, SumsFit, bag_content, count_of, gain, points_of, times_of}
+use Rattle.pb_points.specs.Bag.{ArePlied, HoldsSame, IsAddedUp, SumsFit, bag_content, count_of, gain, points_of, times_of, total}
 use Rattle.pb_points.specs.Group.{AddsBook}
 use Rattle.pb_points.specs.Rows.{Gives, IsTop, frequent, is_row, pointed}
 use Rattle.pb_points.specs.Tally.{Held, AddsPly, held, is_pair, more, nothing}
@@ -51,17 +52,17 @@ plied_added old new key code n adds plied = record { paid = λ k c none. by k c 
 
 -- ---- the sums of the rows that have points
 
-kept : (r : Row) (rows : List Row) (b : Bool) → nat_lt 0 r.points ≡ b → pointed (r ∷ rows) ≡ cond b (r ∷ pointed rows) (pointed rows)
-kept r rows b e = ap (λ b. cond b (r ∷ pointed rows) (pointed rows)) e
+kept : (r : Row) (rows : List Row) (b : Bool) → nat_le 1 r.points ≡ b → pointed 1 (r ∷ rows) ≡ cond b (r ∷ pointed 1 rows) (pointed 1 rows)
+kept r rows b e = ap (λ b. cond b (r ∷ pointed 1 rows) (pointed 1 rows)) e
 
-pointed_points : (rows : List Row) (k c : ℕ) → points_of (pointed rows) k c ≡ points_of rows k c
+pointed_points : (rows : List Row) (k c : ℕ) → points_of (pointed 1 rows) k c ≡ points_of rows k c
 pointed_points [] k c = refl
-pointed_points (r ∷ rows) k c = by (pointed_points rows k c) (nat_lt 0 r.points) refl
+pointed_points (r ∷ rows) k c = by (pointed_points rows k c) (nat_le 1 r.points) refl
   where
-    by : points_of (pointed rows) k c ≡ points_of rows k c → (b : Bool) → nat_lt 0 r.points ≡ b → points_of (pointed (r ∷ rows)) k c ≡ points_of (r ∷ rows) k c
+    by : points_of (pointed 1 rows) k c ≡ points_of rows k c → (b : Bool) → nat_le 1 r.points ≡ b → points_of (pointed 1 (r ∷ rows)) k c ≡ points_of (r ∷ rows) k c
     by rest true e =
         let is = ap (λ l. points_of l k c) (kept r rows true e) in
-        omega (arith, is, sum_by-cons (gain (λ r. r.points) k c) r (pointed rows), sum_by-cons (gain (λ r. r.points) k c) r rows, rest)
+        omega (arith, is, sum_by-cons (gain (λ r. r.points) k c) r (pointed 1 rows), sum_by-cons (gain (λ r. r.points) k c) r rows, rest)
     by rest false e =
         let none : r.points ≡ 0 = grind (arith, nat_tests) in
         let is = ap (λ l. points_of l k c) (kept r rows false e) in
@@ -71,23 +72,32 @@ pointed_points (r ∷ rows) k c = by (pointed_points rows k c) (nat_lt 0 r.point
         nothing_of true none = none
         nothing_of false none = refl
 
-pointed_times : (rows : List Row) (k c : ℕ) → times_of (pointed rows) k c ≤ times_of rows k c
-pointed_times [] k c = omega arith
-pointed_times (r ∷ rows) k c = by (pointed_times rows k c) (nat_lt 0 r.points) refl
+-- rows of which some are left out hold no more
+some_total : (part : Row → ℕ) (p : Row → Bool) (rows : List Row) (k c : ℕ) → total part (filter p rows) k c ≤ total part rows k c
+some_total part p [] k c = omega arith
+some_total part p (r ∷ rows) k c = by (some_total part p rows k c) (p r) refl
   where
-    by : times_of (pointed rows) k c ≤ times_of rows k c → (b : Bool) → nat_lt 0 r.points ≡ b → times_of (pointed (r ∷ rows)) k c ≤ times_of (r ∷ rows) k c
+    by : total part (filter p rows) k c ≤ total part rows k c → (b : Bool) → p r ≡ b → total part (filter p (r ∷ rows)) k c ≤ total part (r ∷ rows) k c
     by rest true e =
-        let is = ap (λ l. times_of l k c) (kept r rows true e) in
-        omega (arith, is, sum_by-cons (gain (λ r. r.times) k c) r (pointed rows), sum_by-cons (gain (λ r. r.times) k c) r rows, rest)
+        let is = ap (λ b. total part (cond b (r ∷ filter p rows) (filter p rows)) k c) e in
+        omega (arith, is, sum_by-cons (gain part k c) r (filter p rows), sum_by-cons (gain part k c) r rows, rest)
     by rest false e =
-        let is = ap (λ l. times_of l k c) (kept r rows false e) in
-        omega (arith, is, sum_by-cons (gain (λ r. r.times) k c) r rows, rest)
+        let is = ap (λ b. total part (cond b (r ∷ filter p rows) (filter p rows)) k c) e in
+        omega (arith, is, sum_by-cons (gain part k c) r rows, rest)
 
-pub fit_pointed : (rows : List Row) → SumsFit rows → SumsFit (pointed rows)
-fit_pointed rows fit = record {
-  points = λ k c. omega (arith, pointed_points rows k c, fit.points k c);
-  times = λ k c. omega (arith, pointed_times rows k c, fit.times k c);
+pub fit_pointed : (least : ℕ) (rows : List Row) → SumsFit rows → SumsFit (pointed least rows)
+fit_pointed least rows fit = record {
+  points = λ k c. omega (arith, some_total (λ r. r.points) (λ r. nat_le least r.points) rows k c, fit.points k c);
+  times = λ k c. omega (arith, some_total (λ r. r.times) (λ r. nat_le least r.points) rows k c, fit.times k c);
 }
+
+-- all rows have no points or more
+pub all_pointed : (rows : List Row) → pointed 0 rows ≡ rows
+all_pointed [] = refl
+all_pointed (r ∷ rows) = ap (λ b. cond b (r ∷ pointed 0 rows) (pointed 0 rows)) (le-leb 0 r.points (omega arith)) ∙ ap (λ l. r ∷ l) (all_pointed rows)
+
+pub pointed_both : (least : ℕ) (xs ys : List Row) → pointed least (xs ++ ys) ≡ pointed least xs ++ pointed least ys
+pointed_both least xs ys = filter-append (λ r. nat_le least r.points) xs ys
 
 -- ---- the book
 
@@ -143,7 +153,7 @@ record Twin (rows : List Row) (r : Row) : Type 0 where
   code : row.code ≡ r.code
   points : row.points ≡ r.points
 
-module _ (rows sums few : List Row) (least : ℕ) (plied : ArePlied rows) (low : least ≤ 1) (all : IsAddedUp rows sums) (some : IsAddedUp (pointed rows) few) where
+module _ (rows sums few : List Row) (least : ℕ) (plied : ArePlied rows) (low : least ≤ 1) (all : IsAddedUp rows sums) (some : IsAddedUp (pointed 1 rows) few) where
   held_in : (of sums : List Row) → IsAddedUp of sums → (r : Row) → Contains sums r → points_of of r.key r.code ≡ r.points
   held_in of sums added r there = sym (held_points of r.key r.code) ∙ ap points_held ((added_each of sums added r).0 there)
 
@@ -152,7 +162,7 @@ module _ (rows sums few : List Row) (least : ℕ) (plied : ArePlied rows) (low :
 
   up : (r : Row) → Contains few r → 1 ≤ r.points → Twin (frequent least sums) r
   up r there much =
-      let points : points_of rows r.key r.code ≡ r.points = sym (pointed_points rows r.key r.code) ∙ held_in (pointed rows) few some r there in
+      let points : points_of rows r.key r.code ≡ r.points = sym (pointed_points rows r.key r.code) ∙ held_in (pointed 1 rows) few some r there in
       let enough : 1 ≤ points_of rows r.key r.code = omega (arith, points) in
       let often : least ≤ times_of rows r.key r.code = elim (cases_lt 0 (times_of rows r.key r.code)) [
         | inl lt ↦ omega arith
@@ -168,10 +178,10 @@ module _ (rows sums few : List Row) (least : ℕ) (plied : ArePlied rows) (low :
 
   down : (r : Row) → Contains (frequent least sums) r → 1 ≤ r.points → Twin few r
   down r there much =
-      let points : points_of (pointed rows) r.key r.code ≡ r.points = pointed_points rows r.key r.code ∙ held_in rows sums all r (frequent_within least sums r there) in
+      let points : points_of (pointed 1 rows) r.key r.code ≡ r.points = pointed_points rows r.key r.code ∙ held_in rows sums all r (frequent_within least sums r there) in
       record {
-        row = record { key = r.key; code = r.code; points = points_of (pointed rows) r.key r.code; times = times_of (pointed rows) r.key r.code };
-        there = row_in (pointed rows) few some r.key r.code (omega (arith, points));
+        row = record { key = r.key; code = r.code; points = points_of (pointed 1 rows) r.key r.code; times = times_of (pointed 1 rows) r.key r.code };
+        there = row_in (pointed 1 rows) few some r.key r.code (omega (arith, points));
         key = refl;
         code = refl;
         points = points;
@@ -206,7 +216,7 @@ gives_by rows others r e to from there g =
     )
 
 -- the book of the rows that have points is that of all rows of what occurs at all
-pub pointed_book : (rows few : List Row) (least : ℕ) (old new : List Entry) → ArePlied rows → least ≤ 1 → IsAddedUp (pointed rows) few
+pub pointed_book : (rows few : List Row) (least : ℕ) (old new : List Entry) → ArePlied rows → least ≤ 1 → IsAddedUp (pointed 1 rows) few
     → AddsBook few old new → AddsBookOf (bag_content rows) least old new
 pointed_book rows few least old new plied low some h =
     let all = some_sums rows in

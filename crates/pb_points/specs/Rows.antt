@@ -1,5 +1,5 @@
 -- Rows of points, at most one for each key and code, and the book that is made of them.
-use Rattle.std.specs.Prelude.{◌≡◌, ℕ, ◌<◌, ◌≤◌, ◌⊎◌, ◌↔◌, Bool, List, AllPairs, Contains, nat_le, nat_lt, slice_index_or}
+use Rattle.std.specs.Prelude.{◌≡◌, ℕ, ◌<◌, ◌≤◌, ◌⊎◌, ◌↔◌, Bool, List, AllPairs, Contains, nat_le, slice_index_or}
 use Rattle.std.specs.List.{filter}
 use Rattle.pb_poly.specs.declared.entry.Entry.{Entry}
 use Rattle.pb_points.specs.declared.row.Row.{Row}
@@ -50,6 +50,6 @@ pub record IsBookOfRows (rows : List Row) (entries : List Entry) : Type 0 where
 abbrev pub frequent : ℕ → List Row → List Row
 frequent least rows = filter (λ r. nat_le least r.times) rows
 
--- the rows that have points
-abbrev pub pointed : List Row → List Row
-pointed rows = filter (λ r. nat_lt 0 r.points) rows
+-- the rows that have so many points
+abbrev pub pointed : ℕ → List Row → List Row
+pointed least rows = filter (λ r. nat_le least r.points) rows

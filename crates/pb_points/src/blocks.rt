@@ -4,6 +4,7 @@
 ghost use Rattle.std.specs.Prelude.{◌≡◌, ◌≤◌, ◌^◌, ◌+◌, ◌++◌, ◌∷◌, [], if◌then◌else◌, is_ok, false, true, vec_capacity, vec_len, IfOk, MatchOption, OnOk};
 ghost use Rattle.pb_points.specs.Bag.{IsRowAt, count_of, points_of as points, times_of as times};
 ghost use Rattle.pb_points.specs.Blocks.{AddsThere, IsRowIn, rows_in, rows_of};
+ghost use Rattle.pb_points.specs.Rows.{pointed};
 
 use crate::narrow::NarrowRow;
 use crate::row::Row;
@@ -71,19 +72,23 @@ pub(crate) fn push_row(alloc: Global, blocks: &mut Blocks, row: NarrowRow) -> Re
     put_block(blocks, block)
 }
 
-/// Puts the rows of a block at the end of a list.
-fn add_rows(rows: &mut Vec<Row>, block: &[NarrowRow]) -> Result<(), AllocError>
-    ensures { OnOk result (rows.new.items ≡ rows.old.items ++ block.now) }
+/// Puts the rows of a block that have at least so many points at the end of a list.
+fn add_rows(rows: &mut Vec<Row>, block: &[NarrowRow], least: u64) -> Result<(), AllocError>
+    ensures { OnOk result (rows.new.items ≡ rows.old.items ++ pointed least block.now) }
 {
+    rows.reserve(block.len())?;
     for row in block {
-        rows.push(row.row())?;
+        let row = row.row();
+        if row.points >= least {
+            rows.push_reserved(row);
+        }
     }
     Ok(())
 }
 
-/// Lists the rows of all blocks.
-pub(crate) fn listed(alloc: Global, blocks: &Blocks) -> Result<Vec<Row>, AllocError>
-    ensures { IfOk result (λ v. v.items ≡ rows_of blocks.now) }
+/// Lists the rows of all blocks that have at least so many points.
+pub(crate) fn listed(alloc: Global, blocks: &Blocks, least: u64) -> Result<Vec<Row>, AllocError>
+    ensures { IfOk result (λ v. v.items ≡ pointed least (rows_of blocks.now)) }
 {
     let many = blocks
         .full
@@ -92,9 +97,9 @@ pub(crate) fn listed(alloc: Global, blocks: &Blocks) -> Result<Vec<Row>, AllocEr
         .saturating_add(blocks.last.len());
     let mut rows = Vec::with_capacity(alloc, many)?;
     for block in &blocks.full {
-        add_rows(&mut rows, block)?;
+        add_rows(&mut rows, block, least)?;
     }
-    add_rows(&mut rows, &blocks.last)?;
+    add_rows(&mut rows, &blocks.last, least)?;
     Ok(rows)
 }
 

@@ -2,10 +2,10 @@
 
 ghost use Rattle.std.specs.Prelude.{◌≡◌, ◌<◌, ◌≤◌, ◌+◌, AllPairs, length, vec_capacity, vec_len, IfOk, OnOk};
 ghost use Rattle.std.proofs.Props.{props};
-ghost use Rattle.pb_points.specs.Bag.{HoldsSame, SumsFit, bag_content};
+ghost use Rattle.pb_points.specs.Bag.{HoldsSame, IsAddedUp, bag_content};
 ghost use Rattle.pb_points.specs.Blocks.{rows_of};
 ghost use Rattle.pb_points.specs.NarrowTally.{IsParted, Keeps, all_of};
-ghost use Rattle.pb_points.specs.Rows.{IsBelow};
+ghost use Rattle.pb_points.specs.Rows.{IsBelow, pointed};
 ghost use Rattle.pb_points.specs.Tally.{MakesRow, held};
 
 use crate::blocks::{
@@ -14,7 +14,7 @@ use crate::blocks::{
 use crate::book::push_book;
 use crate::list_tally::held_in;
 use crate::narrow::NarrowRow;
-use crate::row::{Row, keep_frequent, keep_pointed};
+use crate::row::{Row, keep_frequent};
 use crate::sums::sums_of;
 use crate::tally::Tally;
 use crate::wide::{add_wide, reserve_wide};
@@ -71,13 +71,19 @@ fn parted(alloc: Global, sums: &[Row]) -> Result<Parts, AllocError>
 }
 
 impl NarrowTally {
-    /// Lists the narrow rows and the wide ones.
-    fn all(&self, alloc: Global) -> Result<Vec<Row>, AllocError>
-        ensures { IfOk result (λ v. v.items ≡ all_of self.now.rows self.now.wide) }
+    /// Adds up the rows that have at least so many points: gives one row for each key and code, in
+    /// order.
+    fn sums(&self, alloc: Global, least: u64) -> Result<Vec<Row>, AllocError>
+        ensures { IfOk result
+            (λ v. IsAddedUp (pointed least (all_of self.now.rows self.now.wide)) v.items) }
     {
-        let mut rows = listed(alloc, &self.rows)?;
-        rows.extend_from_slice(&self.wide)?;
-        Ok(rows)
+        let mut rows = listed(alloc, &self.rows, least)?;
+        for row in &self.wide {
+            if row.points >= least {
+                rows.push(*row)?;
+            }
+        }
+        sums_of(alloc, rows)
     }
 
     /// Adds up the points and the plies of a key and a code over all rows.
@@ -119,7 +125,7 @@ impl NarrowTally {
         ensures { HoldsSame (all_of self.old.rows self.old.wide)
             (all_of self.new.rows self.new.wide) }
     {
-        let sums = sums_of(self.alloc, self.all(self.alloc)?)?;
+        let sums = self.sums(self.alloc, 0)?;
         let mut parts = parted(self.alloc, &sums)?;
         let many = parts.rows.full.len();
         parts.rows.full.reserve(many)?;
@@ -187,7 +193,7 @@ impl Tally for NarrowTally {
     }
 
     fn rows(&self, alloc: Global) -> Result<Vec<Row>, AllocError> {
-        sums_of(alloc, self.all(alloc)?)
+        self.sums(alloc, 0)
     }
 
     fn add_book(
@@ -202,10 +208,8 @@ impl Tally for NarrowTally {
             return push_book(entries, &rows);
         }
         // A move without points has no entry, and one with points was played: so the rows without
-        // points are dropped before they are sorted, and no occurrence is counted.
-        let mut rows = self.all(alloc)?;
-        keep_pointed(&mut rows);
-        let sums = sums_of(alloc, rows)?;
+        // points aren't sorted, and no occurrence is counted.
+        let sums = self.sums(alloc, 1)?;
         push_book(entries, &sums)
     }
 }

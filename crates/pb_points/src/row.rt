@@ -1,7 +1,7 @@
 //! Rows of points, and their order.
 
 ghost use Rattle.std.specs.Prelude.{◌≡◌, AllPairs, IsPermutation};
-ghost use Rattle.pb_points.specs.Rows.{IsUpTo, frequent, pointed};
+ghost use Rattle.pb_points.specs.Rows.{IsUpTo, frequent};
 
 /// The points of one move under one key, and how often it was played.
 #[derive(Clone, Copy, Debug, PartialEq, Eq)]
@@ -29,11 +29,4 @@ pub(crate) fn keep_frequent(rows: &mut Vec<Row>, least: u64)
     ensures { rows.new.items ≡ frequent least rows.old.items }
 {
     rows.retain(|row| row.times >= least);
-}
-
-/// Drops the rows that have no points.
-pub(crate) fn keep_pointed(rows: &mut Vec<Row>)
-    ensures { rows.new.items ≡ pointed rows.old.items }
-{
-    rows.retain(|row| row.points > 0);
 }

@@ -3,7 +3,8 @@ use Rattle.std.proofs.Math.ListN.{length-append}
 use Rattle.pb_points.specs.Bag.{HoldsSame}
 use Rattle.pb_points.specs.Blocks.{rows_in, rows_of}
 use Rattle.pb_points.specs.NarrowTally.{IsParted, Keeps}
-use Rattle.pb_points.proofs.NarrowSums.{keeps_parted}
+use Rattle.pb_points.proofs.NarrowSums.{keeps_parted, same_parted}
+use Rattle.pb_points.proofs.Pointed.{all_pointed}
 use Rattle.pb_points.proofs.narrow_tally.NarrowTally.add_up.Goals as goal
 
 pub invariant_of-self-clause-keeps : goal.invariant_of-self-clause-keeps
@@ -14,7 +15,7 @@ invariant_of-self-clause-keeps c =
     let last = c.in_ok-parts.parts.rows.last in
     let wide = c.in_ok-parts.parts.wide.items in
     let parted : IsParted sums rows wide = subst (λ l. IsParted l rows wide) c.deref.ensures.value c.in_ok-parts.ensures in
-    let added : HoldsSame (rows_of was.rows ++ was.wide.items) sums = subst (λ l. HoldsSame l sums) c.in_ok-all.ensures c.in_ok-sums.ensures.same in
+    let added : HoldsSame (rows_of was.rows ++ was.wide.items) sums = subst (λ l. HoldsSame l sums) (all_pointed (rows_of was.rows ++ was.wide.items)) c.in_ok-sums.ensures.same in
     let full : rows_in c.reserve.new.self.items ++ last.items ≡ rows = ap (λ l. rows_in l ++ last.items) c.in_ok-reserve.ensures.items in
     let kept : Keeps rows wide = keeps_parted (rows_of was.rows) was.wide.items sums rows wide was.keeps added parted in
     subst (λ l. Keeps l c.reserve_wide.new.wide.items) (sym full) (subst (Keeps rows) (sym c.reserve_wide.ensures.items) kept)
@@ -25,3 +26,17 @@ invariant_of-self-clause-counted c =
     let many : length (rows_of c.in_ok-parts.parts.rows) ≡ length c.in_ok-sums.sums.items = c.in_ok-parts.ensures.many ∙ ap length c.deref.ensures.value in
     let full = ap (λ l. length (rows_in l ++ last.items)) c.in_ok-reserve.ensures.items in
     omega (arith, many, full, length-append (rows_in c.reserve.new.self.items) last.items, last.ok, c.in_ok-sums.sums.ok)
+
+pub returns : goal.returns
+returns c =
+    let was = c.args.self.now in
+    let all = rows_of was.rows ++ was.wide.items in
+    let sums = c.in_ok-sums.sums.items in
+    let rows = rows_of c.in_ok-parts.parts.rows in
+    let last = c.in_ok-parts.parts.rows.last in
+    let wide = c.in_ok-parts.parts.wide.items in
+    let parted : IsParted sums rows wide = subst (λ l. IsParted l rows wide) c.deref.ensures.value c.in_ok-parts.ensures in
+    let added : HoldsSame all sums = subst (λ l. HoldsSame l sums) (all_pointed all) c.in_ok-sums.ensures.same in
+    let full : rows_in c.reserve.new.self.items ++ last.items ≡ rows = ap (λ l. rows_in l ++ last.items) c.in_ok-reserve.ensures.items in
+    subst (λ l. HoldsSame all (l ++ c.reserve_wide.new.wide.items)) (sym full)
+    (subst (λ l. HoldsSame all (rows ++ l)) (sym c.reserve_wide.ensures.items) (same_parted (rows_of was.rows) was.wide.items sums rows wide added parted))
