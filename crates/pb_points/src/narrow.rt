@@ -1,6 +1,6 @@
 //! Rows of few points and plies, which take half the memory.
 
-ghost use Rattle.std.specs.Prelude.{◌≡◌, IfSome, if◌then◌else◌};
+ghost use Rattle.std.specs.Prelude.{◌≡◌, ◌+◌, ◌≤◌, ◌^◌, ◌&&◌, ◌⊎◌, MatchOption, if◌then◌else◌, nat_lt};
 ghost use Rattle.pb_points.specs.ListTally.{with_more};
 ghost use Rattle.pb_points.specs.Rows.{is_row};
 
@@ -42,7 +42,8 @@ impl NarrowRow {
 
     /// Narrows a row, or gives none where it has too many points or plies.
     pub(crate) fn of(row: &Row) -> Option<NarrowRow>
-        ensures { IfSome result (λ narrow. narrow ≡ row.now) }
+        ensures { MatchOption result ((2 ^ 16 ≤ row.now.points) ⊎ (2 ^ 32 ≤ row.now.times))
+            (λ narrow. narrow ≡ row.now) }
     {
         let points = u16::try_from(row.points).ok()?;
         let times = u32::try_from(row.times).ok()?;
@@ -78,7 +79,9 @@ impl NarrowRow {
     /// Adds a ply with its points where the row has room for them, and tells whether it had.
     #[inline(always)]
     pub(crate) fn add(&mut self, points: u64) -> bool
-        ensures { self.new ≡ (if result then with_more points self.old else self.old) }
+        ensures room { result
+            ≡ (nat_lt (self.old.points + points) (2 ^ 16) && nat_lt (self.old.times + 1) (2 ^ 32)) }
+        ensures added { self.new ≡ (if result then with_more points self.old else self.old) }
     {
         if points > u64::from(u16::MAX - self.points) || self.times == u32::MAX {
             return false;

@@ -35,7 +35,7 @@ fn no_rows<T: Tally>(alloc: Global) -> Result<Vec<T>, AllocError>
 {
     let mut parts = Vec::with_capacity(alloc, PARTS)?;
     for _ in 0..PARTS {
-        parts.push(T::new(alloc))?;
+        parts.push_reserved(T::new(alloc));
     }
     Ok(parts)
 }

@@ -33,10 +33,10 @@ fn added_up(alloc: Global, rows: &[Row]) -> Result<Vec<Row>, AllocError>
             sum.points += row.points;
             sum.times += row.times;
         } else {
-            all.push(sum)?;
+            all.push_reserved(sum);
             sum = *row;
         }
     }
-    all.push(sum)?;
+    all.push_reserved(sum);
     Ok(all)
 }

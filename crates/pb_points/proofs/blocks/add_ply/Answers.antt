@@ -13,7 +13,7 @@ returns-in-Some-clause-added c = λ yes.
     let full = rows_in c.args.blocks.now.full.items in
     let last = c.args.blocks.now.last.items in
     let place = place_last full last c.in-Some.place c.args.key c.args.code row there c.index_mut.ensures.value in
-    let is = c.add.ensures ∙ ap (λ b. if b then with_more c.args.points 1 row else row) yes in
+    let is = c.add.ensures.added ∙ ap (λ b. if b then with_more c.args.points 1 row else row) yes in
     added_there (full ++ last) (length full + c.in-Some.place) c.args.key c.args.code row place c.args.points (full ++ set last c.in-Some.place c.add.new.self)
     (ap (λ r. full ++ set last c.in-Some.place r) is ∙ set_last full last c.in-Some.place (with_more c.args.points 1 row))
 
@@ -44,7 +44,7 @@ returns-in-Some-place_in-clause-added c = λ yes.
     let at = place_among full i c.in-Some-place_in.place in
     let place = place_full full last i c.in-Some-place_in.place c.args.key c.args.code was.result.now row there was.ensures.value row_is in
     let changed = set_full full last i c.in-Some-place_in.place c.args.key c.args.code was.result.now row there was.ensures.value row_is _ _ refl in
-    let is = c.add-in-Some-place_in.ensures ∙ ap (λ b. if b then with_more c.args.points 1 row else row) yes in
+    let is = c.add-in-Some-place_in.ensures.added ∙ ap (λ b. if b then with_more c.args.points 1 row else row) yes in
     added_there (rows_in full ++ last) at c.args.key c.args.code row place c.args.points _ (changed ∙ ap (λ r. set (rows_in full ++ last) at r) is)
 
 pub returns-in-Some-place_in-clause-full : goal.returns-in-Some-place_in-clause-full
@@ -59,5 +59,5 @@ returns-in-Some-place_in-clause-full c = λ no.
     let at = place_among full i c.in-Some-place_in.place in
     let place = place_full full last i c.in-Some-place_in.place c.args.key c.args.code was.result.now row there was.ensures.value row_is in
     let changed = set_full full last i c.in-Some-place_in.place c.args.key c.args.code was.result.now row there was.ensures.value row_is _ _ refl in
-    let is = c.add-in-Some-place_in.ensures ∙ ap (λ b. if b then with_more c.args.points 1 row else row) no in
+    let is = c.add-in-Some-place_in.ensures.added ∙ ap (λ b. if b then with_more c.args.points 1 row else row) no in
     same_there (rows_in full ++ last) at c.args.key c.args.code row place _ (changed ∙ ap (λ r. set (rows_in full ++ last) at r) is)
