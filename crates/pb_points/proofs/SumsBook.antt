@@ -1,26 +1,22 @@
 -- The book of what rows hold together, one key after another.
-use Rattle.std.proofs.Common.{zero, suc, ◌≡◌, ℕ, ◌+◌, ◌<◌, ◌≤◌, Bool, true, false, if◌then◌else◌, Some, None, List, [], ◌∷◌, ◌++◌, length, drop, get_or, All, AllPairs, Contains, refl, sym, ap, subst, ◌∙◌, inl, inr, arith, append-nil, append_assoc, true≢false}
+use Rattle.std.proofs.Common.{◌≡◌, ℕ, ◌+◌, ◌<◌, ◌≤◌, Bool, true, false, if◌then◌else◌, Some, None, List, [], ◌∷◌, ◌++◌, length, get_or, AllPairs, Contains, refl, sym, ap, subst, ◌∙◌, inl, inr, arith, append-nil, append_assoc, true≢false}
 use Rattle.std.specs.Option.{is_some}
 use Rattle.std.specs.Prelude.{nat_lt}
-use Rattle.std.proofs.Math.ListN.{length-append}
 use Rattle.std.proofs.lemmas.Bool.Decides.{nat_tests}
-use Rattle.std.proofs.lemmas.List.{length-drop}
 use Rattle.std.proofs.lemmas.List.Elements.{Contains-append_cases, Contains-append_left, Contains-append_right, Contains-get_or}
-use Rattle.std.proofs.lemmas.List.Sorted.{IsPermutation-refl}
 use Rattle.std.proofs.lemmas.List.Sums.{sum_by-append, sum_by-cons}
 use Rattle.pb_poly.specs.declared.entry.Entry.{Entry}
 use Rattle.pb_points.specs.declared.row.Row.{Row}
 use Rattle.pb_points.specs.Bag.{IsAddedUp, SumsFit, bag_content, count_of, gain, points_of, times_of}
-use Rattle.pb_points.specs.Group.{AddsBook, AddsBookOfSums, IsBagGroup, IsGroup, Orders, entry_with}
-use Rattle.pb_points.specs.Rows.{IsBelow, IsTop, IsUpTo}
+use Rattle.pb_points.specs.Group.{AddsBook, AddsBookOfSums, IsBagGroup, IsGroup}
+use Rattle.pb_points.specs.Rows.{IsBelow, IsUpTo}
 use Rattle.pb_points.specs.Tally.{Held, held_of}
 use Rattle.pb_points.specs.TallyBook.{AddsSome}
-use Rattle.pb_points.specs.Weight.{scaled}
 use Rattle.pb_points.proofs.AddedRows.{added_each, found, some_counted}
 use Rattle.pb_points.proofs.BagRows.{held_points, held_times, new_row, of_sums, one, one_of, points_held, row_at, times_held}
 use Rattle.pb_points.proofs.Groups.{AllPairs-append, IsCut, KeysBelow, adds_both, adds_more, adds_nothing, cut_below, cut_one, cut_rise, cut_rise_later, keys_rise}
 use Rattle.pb_points.proofs.Pairs.{is_pair_itself, is_pair_same}
-use Rattle.pb_points.proofs.Weighing.{AddsWeighed, adds_book, adds_keep, adds_push, group_top, keys_agree}
+use Rattle.pb_points.proofs.Weighing.{keys_agree}
 
 -- ---- what rows hold together
 
@@ -104,50 +100,6 @@ sums_group rows sums group added = record { some = some sums refl; rise = added.
         let p = sum_key rows sums added (get_or sums i d) (Contains-get_or sums i d (omega arith)) in
         let q = sum_key rows sums added (get_or sums j d) (Contains-get_or sums j d within) in
         sym p.2 ∙ keys_agree rows group.one p.0 q.0 p.1 q.1 ∙ q.2
-
--- a row alone is its sum
-pub added_only : (r : Row) → IsAddedUp (r ∷ []) (r ∷ [])
-added_only r = record { rise = λ i j d lt within. absurd (omega arith); same = λ k c. refl }
-
-pub is_only : (rows : List Row) (r : Row) → length rows ≡ 1 → r ≡ get_or rows 0 r → rows ≡ r ∷ []
-is_only [] r one is = absurd (omega arith)
-is_only (s ∷ []) r one is = ap (λ (x : Row). x ∷ []) (sym is)
-is_only (s ∷ t ∷ rows) r one is = absurd (omega arith)
-
-module _ (r : Row) where
-  group : IsGroup (r ∷ [])
-  group = record { some = omega arith; rise = λ i j d lt within. absurd (omega arith); one = λ i j d lt within. absurd (omega arith) }
-
-  top : IsTop (r ∷ []) r.key r.points
-  top = group_top (r ∷ []) group r.points above (0, r, omega arith, refl, refl) r (0, omega arith, refl)
-    where
-      above : All (λ s. s.points ≤ r.points) (r ∷ [])
-      above zero d lt = omega arith
-      above (suc k) d lt = absurd (omega arith)
-
-  nothing_weighed : (old : List Entry) → AddsWeighed (r ∷ []) 0 old old
-  nothing_weighed old = record {
-    added = [];
-    split = sym (append-nil old);
-    weighed = record { group = λ i j d lt within. absurd (omega arith); members = λ e. (λ h. absurd (omega (arith, h.1)), λ h. absurd (omega (arith, h.1.1))) };
-  }
-
-  few_ordered : (entries : List Entry) → length entries ≤ 1 → Orders entries entries
-  few_ordered entries few = record { permutation = IsPermutation-refl entries; ordered = λ i j d lt within. absurd (omega arith) }
-
-  -- the entry of a row alone is its book
-  pub only_pushed : (old : List Entry) (e : Entry) → (1 ≤ e.weight) × (e ≡ entry_with r (scaled r.points r.points)) → AddsBook (r ∷ []) old (old ++ e ∷ [])
-  only_pushed old e is =
-      let new = old ++ e ∷ [] in
-      adds_book (r ∷ []) old new new (length old) refl
-      (adds_push (r ∷ []) group 0 (omega arith) r.points top old old (nothing_weighed old) e is) refl
-      (few_ordered (drop (length old) new) (omega (arith, length-drop (length old) new, length-append old (e ∷ []))))
-
-  pub only_kept : (old : List Entry) → scaled r.points r.points ≡ 0 → AddsBook (r ∷ []) old old
-  only_kept old none =
-      adds_book (r ∷ []) old old old (length old) refl
-      (adds_keep (r ∷ []) group 0 (omega arith) r.points top old old (nothing_weighed old) none) refl
-      (few_ordered (drop (length old) old) (omega (arith, length-drop (length old) old)))
 
 -- ---- one key after another
 

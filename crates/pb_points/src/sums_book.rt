@@ -1,5 +1,5 @@
-//! The book of rows of which a key and a code may have several, one key after another, without a
-//! list of all sums.
+//! The book of rows of which a key and a code may have several, made key by key, so that the sums
+//! of one key alone are listed.
 
 ghost use Rattle.std.specs.Prelude.{◌∷◌, [], AllPairs, OnErr, OnOk};
 ghost use Rattle.pb_points.specs.Bag.{IsAddedUp, SumsFit};
@@ -13,12 +13,12 @@ use crate::row::Row;
 use pb_poly::Entry;
 use std::alloc::{AllocError, Global};
 
-/// Adds the book of what the rows of each key and code hold together, of rows in order of key and
-/// then code.
+/// Adds the book of what the rows of each key and code hold together, where the rows are in order
+/// of key and then code.
 ///
 /// # Errors
 ///
-/// The entries, or the sums of one key, needed memory that wasn't there. Some entries may have been
+/// The entries, or the sums of a key, needed memory that wasn't there. Some entries may have been
 /// added then.
 pub(crate) fn push_sums(
     alloc: Global,
@@ -37,7 +37,8 @@ pub(crate) fn push_sums(
     Ok(())
 }
 
-/// Adds the book of the rows of one key. Where there are several, the list is used for their sums.
+/// Adds the book of the rows of one key. Most keys have one row, and need no sums; those of the
+/// others take the place of what the list held.
 fn push_key(
     entries: &mut Vec<Entry>,
     sums: &mut Vec<Row>,
