@@ -12,11 +12,13 @@ use pb_poly::{BookError, MemSource, Table, key_of, probe, read_book};
 use std::alloc::Global;
 use std::io::{self, Write};
 
-/// A book of two entries, e2e4 with weight 5 and d2d4 with weight 3: 8 bytes of key, 2 of code, 2 of weight and 4 more.
+/// A book of two entries, e2e4 with weight 5 and d2d4 with weight 3: 8 bytes of key, 2 of code, 2
+/// of weight and 4 more.
 const BOOK: &[u8] =
     b"\xff\xff\0\0\0\0\xef\xf0\x03\x1c\0\x05\0\0\0\0\xff\xff\0\0\0\0\xef\xf0\x02\xdb\0\x03\0\0\0\0";
 
-/// The setup's key, and the moves that the book of these bytes has for the setup, each with its weight.
+/// The setup's key, and the moves that the book of these bytes has for the setup, each with its
+/// weight.
 fn look_up(
     alloc: Global,
     table: &Table,
@@ -24,7 +26,8 @@ fn look_up(
     setup: &Setup,
 ) -> Result<(u64, Vec<(Move, u16)>), BookError>
     ensures key { IfOk result (λ r. r.0 ≡ key table.now setup.now) }
-    // The bytes are those of some entries, and the moves are what these have for the setup, so each is legal.
+    // The bytes are those of some entries, and the moves are what these have for the setup, so each
+    // is legal.
     ensures found { IfOk result (λ r. (entries : List Entry) × BookBytes entries bytes.now × Found entries table.now setup.now r.1.items) }
 {
     let mut source = MemSource::new(bytes, 4096);

@@ -1,4 +1,5 @@
-//! Games, by pb_ledger: submissions, the replies to them, and the book of the games that were accepted.
+//! Games, by pb_ledger: submissions, the replies to them, and the book of the games that were
+//! accepted.
 
 ghost use Rattle.std.specs.Prelude.{◌≡◌};
 ghost use Rattle.pb_accepted.specs.Accepting.{Answer, Step};

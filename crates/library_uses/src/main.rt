@@ -1,6 +1,7 @@
-//! The libraries in use, as another program uses them. Each module is one use: a function over the calls of a library, with a contract of
-//! its own that says what its caller may rely on, and a function that prints what comes of it. The file `table.txt` in the folder of the run
-//! is a table of words, of which the keys of positions are made.
+//! The libraries in use, as another program uses them. Each module is one use: a function over the
+//! calls of a library, with a contract of its own that says what its caller may rely on, and a
+//! function that prints what comes of it. The file `table.txt` in the folder of the run is a table
+//! of words, of which the keys of positions are made.
 #![tactic(auto)]
 
 mod books;

@@ -1,4 +1,5 @@
-//! Moves, by pb_board and pb_moves: the legal moves of a position, and the record after one of them.
+//! Moves, by pb_board and pb_moves: the legal moves of a position, and the record after one of
+//! them.
 
 ghost use Rattle.std.specs.Prelude.{◌≡◌, ◌≢◌, ◌⊎◌, ◌↔◌, Contains, IfOk, MatchOption};
 ghost use Rattle.pb_moves.specs.Clocks.{record_after};
@@ -12,7 +13,8 @@ use pb_moves::{Move, advance, legal_moves, read_move};
 use std::alloc::{AllocError, Global};
 use std::io;
 
-/// A study by Réti (1921). White's moves, by hand: the pawn steps to c7, and the king goes to g7, h7 or g8, of which none is attacked.
+/// A study by Réti (1921). White's moves, by hand: the pawn steps to c7, and the king goes to g7,
+/// h7 or g8, of which none is attacked.
 const STUDY: &[u8] = b"7K/8/k1P5/7p/8/8/8/8 w - - 0 1";
 
 /// The moves that may be played: a move is among them exactly if it is legal.
@@ -22,7 +24,8 @@ fn choices(alloc: Global, fen: &Fen) -> Result<Vec<Move>, AllocError>
     legal_moves(alloc, &fen.setup())
 }
 
-/// The record after the move that the text spells. None exactly where it spells no move, or one that isn't legal.
+/// The record after the move that the text spells. None exactly where it spells no move, or one
+/// that isn't legal.
 fn after(fen: &Fen, text: &[u8]) -> Option<Fen>
     ensures { MatchOption result
         (((m : Moved) → IsMove m → text.now ≢ spelling m) ⊎ ((m : Moved) × (text.now ≡ spelling m) × ¬ Legal fen.now.setup m))

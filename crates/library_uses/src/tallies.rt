@@ -1,5 +1,6 @@
 //! A tally of one's own, by pb_ledger: points of moves in a tree, and the book of a ledger that
-//! counts in it. The tally gives the six calls that `Tally` asks for; the book comes with the trait.
+//! counts in it. The tally gives the six calls that `Tally` asks for; the book comes with the
+//! trait.
 
 ghost use Rattle.std.specs.Prelude.{◌≡◌, IfOk, map};
 ghost use Rattle.std.specs.BTreeMap.{IsOrdered, get};

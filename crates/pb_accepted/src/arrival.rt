@@ -5,7 +5,8 @@
 pub(crate) enum Arrival {
     /// No game is held under its id.
     New,
-    /// The game that is held under its id, which has this number, comes again. The line does submit it.
+    /// The game that is held under its id, which has this number, comes again. The line does submit
+    /// it.
     Repeat(u32),
     /// Another game is held under its id, and has this number.
     Other(u32),

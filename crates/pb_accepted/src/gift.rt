@@ -18,7 +18,8 @@ pub(crate) struct Gift {
     pub(crate) key: u64,
     /// The code of the move.
     pub(crate) code: u16,
-    /// Two points for a ply of the side that won, one in a drawn game, none for a ply of the side that lost.
+    /// Two points for a ply of the side that won, one in a drawn game, none for a ply of the side
+    /// that lost.
     pub(crate) points: u8,
 }
 

@@ -1,4 +1,5 @@
-//! Laws of ledgers, and of equality (`==`) between rules. Each is the contract of a function that does nothing, over the definitions alone.
+//! Laws of ledgers, and of equality (`==`) between rules. Each is the contract of a function that
+//! does nothing, over the definitions alone.
 
 ghost use Rattle.std.specs.Prelude.{◌≡◌};
 ghost use Rattle.std.specs.Bool.{Decides};
@@ -10,15 +11,16 @@ ghost use Rattle.pb_accepted.specs.Rules.{CountingRules, most_occurrences};
 
 use crate::rules::Rules;
 
-/// The most games that a ledger may be made for is the number that the definitions have, and so are the most occurrences that a move
-/// may be asked for.
+/// The most games that a ledger may be made for is the number that the definitions have, and so are
+/// the most occurrences that a move may be asked for.
 pub fn limits()
     ensures cap { MAX_CAP ≡ most_games }
     ensures least { MAX_LEAST ≡ most_occurrences }
 {}
 
-/// What one line is answered and does, where no id stands twice: one answer and no other, to a submission that is held its
-/// number, and a refused line changes nothing. The reply names an id that is short, as `Reply::new` asks.
+/// What one line is answered and does, where no id stands twice: one answer and no other, to a
+/// submission that is held its number, and a refused line changes nothing. The reply names an id
+/// that is short, as `Reply::new` asks.
 pub fn one_line()
     ensures one { OneStep }
     ensures held { HeldIsAnswered }
@@ -26,23 +28,25 @@ pub fn one_line()
     ensures named { NamesAreShort }
 {}
 
-/// The lines with their answers fix what is held, and no id stands twice in it; two runs in a row are one.
+/// The lines with their answers fix what is held, and no id stands twice in it; two runs in a row
+/// are one.
 pub fn runs()
     ensures distinct { IdsAreDistinct }
     ensures one { OneRun }
     ensures join { RunsJoin }
 {}
 
-/// A submission has one number; the numbers of what is held, 1 to its length, are those that were answered; and once it was
-/// answered with a number, a submission is answered with that number whenever it comes again.
+/// A submission has one number; the numbers of what is held, 1 to its length, are those that were
+/// answered; and once it was answered with a number, a submission is answered with that number
+/// whenever it comes again.
 pub fn numbers()
     ensures distinct { NumbersAreDistinct }
     ensures given { NumbersAreGiven }
     ensures kept { RepeatsKeepTheirNumber }
 {}
 
-/// Where no id names two games, what is held is the distinct submissions that were taken, no answer is a conflict, and a
-/// lawful arrival is refused only a new number, for want of room or memory.
+/// Where no id names two games, what is held is the distinct submissions that were taken, no answer
+/// is a conflict, and a lawful arrival is refused only a new number, for want of room or memory.
 pub fn one_game()
     ensures taken { AcceptsTheTaken }
     ensures no_conflict { NoConflict }
@@ -55,7 +59,8 @@ pub fn distinct()
     ensures no_repeats { TakenHasNoRepeats }
 {}
 
-/// At most one list of entries is the book of a list of games, and one text its bytes; both depend on the members alone.
+/// At most one list of entries is the book of a list of games, and one text its bytes; both depend
+/// on the members alone.
 pub fn books()
     ensures one { OneBook }
     ensures counts { CountsByMembers }

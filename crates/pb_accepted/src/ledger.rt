@@ -50,7 +50,8 @@ impl<T: Tally> Model for Ledger<T> {
 }
 
 impl<T: Tally> Ledger<T> {
-    /// A ledger without games, for at most `cap` of them, 1 to 1,000,000, of which all plies count. It keeps a copy of the table.
+    /// A ledger without games, for at most `cap` of them, 1 to 1,000,000, of which all plies count.
+    /// It keeps a copy of the table.
     ///
     /// # Errors
     ///
@@ -90,16 +91,17 @@ impl<T: Tally> Ledger<T> {
         })
     }
 
-    /// Takes a line without its LF: a legal game under a new id is held from now on. The answer is the game's number, from 1
-    /// in order of acceptance; a line that submits a game that is held, under its id, gets the number that the game has.
+    /// Takes a line without its LF: a legal game under a new id is held from now on. The answer is
+    /// the game's number, from 1 in order of acceptance; a line that submits a game that is held,
+    /// under its id, gets the number that the game has.
     ///
     /// A line that isn't a new legal game takes no memory.
     ///
     /// # Errors
     ///
-    /// What `check_line` refuses; `Conflict` with the number of the other game that is held under this id; `Full` where the id is
-    /// new and no more games may be held; `Memory` where the game is new and there was no memory for it. Nothing has changed
-    /// then.
+    /// What `check_line` refuses; `Conflict` with the number of the other game that is held under
+    /// this id; `Full` where the id is new and no more games may be held; `Memory` where the game
+    /// is new and there was no memory for it. Nothing has changed then.
     pub fn submit(&mut self, line: &[u8]) -> Result<u32, Refusal>
         // A legal game under a new id is added where there is room and memory, and nothing else is.
         ensures step { Step self.old.cap self.old.accepted line.now result self.new.accepted }
@@ -118,7 +120,8 @@ impl<T: Tally> Ledger<T> {
         }
     }
 
-    /// What the line is to the games that are held. Nothing is played: a game that is held is known to be legal.
+    /// What the line is to the games that are held. Nothing is played: a game that is held is known
+    /// to be legal.
     fn arrival(&self, line: &[u8]) -> Arrival
         ensures arrives { IsArrival self.now.accepted line.now result }
         ensures rules { IsLedger self.now }
@@ -172,7 +175,8 @@ impl<T: Tally> Ledger<T> {
         self.games.len() as u32
     }
 
-    /// The game with this number, from 1, and its id. None exactly where no game has it: for 0, and above `len()`.
+    /// The game with this number, from 1, and its id. None exactly where no game has it: for 0, and
+    /// above `len()`.
     pub fn get(&self, number: u32) -> Option<(&Id, &Game)>
         ensures { MatchOption result
             ((s : Submission) → ¬ IsNumber self.now.accepted number s)
@@ -217,8 +221,8 @@ impl<T: Tally> Ledger<T> {
     }
 }
 
-/// Adds the game of the line that was judged last, under its new id. The insert is the last step that may fail, and only then
-/// its plies that count are added to the tally.
+/// Adds the game of the line that was judged last, under its new id. The insert is the last step
+/// that may fail, and only then its plies that count are added to the tally.
 fn accept<T: Tally>(
     alloc: Global,
     games: &mut IndexMap<Id, Game>,

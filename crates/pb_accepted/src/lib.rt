@@ -1,5 +1,6 @@
-//! The accepted games by id, in which a game that comes again counts once, the points of their moves and the book of them, and the
-//! reply line to a submission; it knows of no stream, of no EPD and of no file.
+//! The accepted games by id, in which a game that comes again counts once, the points of their
+//! moves and the book of them, and the reply line to a submission; it knows of no stream, of no EPD
+//! and of no file.
 #![tactic(auto)]
 
 mod arrival;

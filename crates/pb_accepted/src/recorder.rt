@@ -1,4 +1,5 @@
-//! A player that writes down what each ply gives, so that a line is read once and its moves are played once.
+//! A player that writes down what each ply gives, so that a line is read once and its moves are
+//! played once.
 
 ghost use Rattle.std.specs.Prelude.{◌≡◌, IfErr, IfOk, Ok};
 ghost use Rattle.pb_games.specs.Refusing.{Refuses};
@@ -13,7 +14,8 @@ use pb_moves::{Move, play_on};
 use pb_poly::{Table, code_of, key_next, key_of};
 use std::alloc::{AllocError, Global};
 
-/// Plays the moves of a game, and writes down what each gives. Its buffers are made with it, so that a ply takes no memory.
+/// Plays the moves of a game, and writes down what each gives. Its buffers are made with it, so
+/// that a ply takes no memory.
 #[derive(Drop)]
 pub(crate) struct Recorder {
     table: Table,
@@ -42,7 +44,8 @@ impl Recorder {
         &self.table
     }
 
-    /// Judges a line as `check_line` does. Where it submits a legal game, the game's moves and what they give are written down.
+    /// Judges a line as `check_line` does. Where it submits a legal game, the game's moves and what
+    /// they give are written down.
     pub(crate) fn judge<'a>(&mut self, line: &'a [u8]) -> Result<Line<'a>, Refusal>
         ensures found { IfOk result (λ s. IsLawful line.now s) }
         ensures only { (s : Submission) → IsLawful line.now s → result ≡ Ok s }
@@ -92,7 +95,8 @@ impl Player for Recorder {
             code: code_of(setup, m),
             points: credit(self.outcome, setup.turn()),
         };
-        // The key afterwards is made before the move is played, so that no setup has to be kept for it.
+        // The key afterwards is made before the move is played, so that no setup has to be kept for
+        // it.
         let key = key_next(&self.table, self.key, setup, m);
         if !play_on(setup, m) {
             return false;

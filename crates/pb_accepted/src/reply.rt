@@ -11,8 +11,8 @@ use pb_board::{cut_once, without_return};
 use pb_games::Refusal;
 use std::marker::Model;
 
-/// The reply line to a submission line, with its LF: `ok ID NUMBER`, or `refused ID REASON` with a `-` in place of an id
-/// that isn't there. It has at most 93 bytes and takes no memory of its own.
+/// The reply line to a submission line, with its LF: `ok ID NUMBER`, or `refused ID REASON` with a
+/// `-` in place of an id that isn't there. It has at most 93 bytes and takes no memory of its own.
 #[derive(Drop)]
 pub struct Reply {
     bytes: ArrayVec<u8, 96>,
@@ -27,8 +27,8 @@ impl Model for Reply {
 }
 
 impl Reply {
-    /// The reply to the line, without its LF, that was answered so. Of a line that is refused as `Long`, `Shape` or `Id`
-    /// nothing is looked at.
+    /// The reply to the line, without its LF, that was answered so. Of a line that is refused as
+    /// `Long`, `Shape` or `Id` nothing is looked at.
     pub fn new(line: &[u8], answer: Result<u32, Refusal>) -> Reply
         requires { length (named line.now answer) ≤ 64 }
         ensures { result ≡ reply_line line.now answer }

@@ -9,7 +9,8 @@ use std::marker::Model;
 /// The most occurrences that a move may be asked for.
 pub const MAX_LEAST: u32 = 1_000_000;
 
-/// How many first plies of each game count, and how often a move must occur in them to be in the book.
+/// How many first plies of each game count, and how often a move must occur in them to be in the
+/// book.
 #[derive(Clone, Copy, Debug, PartialEq, Eq)]
 pub struct Rules {
     plies: u32,
@@ -29,7 +30,8 @@ impl Model for Rules {
 }
 
 impl Rules {
-    /// The rules with these numbers. None exactly where `plies` isn't in 1 to 1,024, or `least` not in 1 to 1,000,000.
+    /// The rules with these numbers. None exactly where `plies` isn't in 1 to 1,024, or `least` not
+    /// in 1 to 1,000,000.
     pub fn new(plies: u32, least: u32) -> Option<Rules>
         ensures { SomeIff result (AreRules (record { plies = plies; least = least })) (record { plies = plies; least = least }) }
     {

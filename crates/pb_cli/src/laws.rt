@@ -1,4 +1,5 @@
-//! Laws of equality (`==`) between what is kept. Each is the contract of a function that does nothing.
+//! Laws of equality (`==`) between what is kept. Each is the contract of a function that does
+//! nothing.
 
 ghost use Rattle.std.specs.Bool.{Decides};
 ghost use Rattle.pb_cli.specs.Orders.{KeepsTheSame};
@@ -6,7 +7,8 @@ ghost use Rattle.pb_cli.specs.declared.order.Keeping.{Keeping};
 
 use crate::order::Keeping;
 
-/// What is kept is equal (`==`) exactly where it is of one kind, at paths of the same text, and synced alike.
+/// What is kept is equal (`==`) exactly where it is of one kind, at paths of the same text, and
+/// synced alike.
 pub fn equal_keeping<'a>()
     ensures { (a b : Keeping) → Decides (⟦<Keeping<'a> as PartialEq>⟧.eq a b) (KeepsTheSame a b) }
 {}

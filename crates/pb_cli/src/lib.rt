@@ -1,5 +1,6 @@
-//! The command line of `pbook` as an order, and, handed on from the crates below, a function for each command that it may name, with the
-//! places where a ledger and its book are kept. Nothing here knows what a command does.
+//! The command line of `pbook` as an order, and, handed on from the crates below, a function for
+//! each command that it may name, with the places where a ledger and its book are kept. Nothing
+//! here knows what a command does.
 #![tactic(auto)]
 
 mod grammar;

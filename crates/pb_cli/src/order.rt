@@ -24,7 +24,8 @@ pub enum Keeping<'a> {
     Book,
     /// A saved ledger, which the run goes on from and makes anew at its end.
     Ledger(&'a str),
-    /// A journal, which the run goes on from and adds each new game to before its reply is put; with `sync` the game has reached the disk then.
+    /// A journal, which the run goes on from and adds each new game to before its reply is put;
+    /// with `sync` the game has reached the disk then.
     Journal {
         /// The path of the journal.
         path: &'a str,

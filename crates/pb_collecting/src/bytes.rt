@@ -1,4 +1,5 @@
-//! The theorem of `pbook collect` on bytes in memory, in which nothing is said of sources and sinks.
+//! The theorem of `pbook collect` on bytes in memory, in which nothing is said of sources and
+//! sinks.
 
 ghost use Rattle.std.specs.Prelude.{◌≡◌, ◌⊎◌, ℕ, IfErr, IfNone, IfOk, IfSome, List};
 ghost use Rattle.pb_poly.specs.Table.{IsTableFile};
@@ -11,13 +12,14 @@ use pb_ledger::Rules;
 use pb_poly::Book;
 use std::alloc::Global;
 
-/// The replies to these submissions, and the opening book of the games that are accepted, whose keys come of the random numbers that the
-/// table's bytes write. The rules say which plies count. None where the bytes write no table.
+/// The replies to these submissions, and the opening book of the games that are accepted, whose
+/// keys come of the random numbers that the table's bytes write. The rules say which plies count.
+/// None where the bytes write no table.
 ///
 /// # Errors
 ///
-/// `Memory` comes where a growth of the ledger, of the replies or of the book found no memory, and `Endless` where there are more bytes
-/// than can be asked for.
+/// `Memory` comes where a growth of the ledger, of the replies or of the book found no memory, and
+/// `Endless` where there are more bytes than can be asked for.
 pub fn collect_bytes(
     alloc: Global,
     rules: Rules,

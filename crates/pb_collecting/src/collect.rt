@@ -1,4 +1,5 @@
-//! The command `collect`: submissions are answered, and the book of the games that are held then is made.
+//! The command `collect`: submissions are answered, and the book of the games that are held then is
+//! made.
 ghost use Rattle.std.specs.Prelude.{IfOk, IfSome};
 ghost use Rattle.pb_collecting.specs.Headline.{HasHeadline};
 ghost use Rattle.pb_collecting.specs.Runs.{CollectRun};
@@ -9,17 +10,20 @@ use pb_ledger::Rules;
 use pb_poly::Book;
 use std::alloc::Global;
 
-/// Takes submission lines, puts the reply to each, and makes the opening book of the games that are held at the end: at most
-/// 1,000,000, each counted once however often it comes, by its plies that count by the rules, and of the moves that occur often enough
-/// in them. The table of words that keys are made of is read first. Where it is
-/// refused, `refused table` and `long`, `line` or `count` is put, no submission is read, and there is no book.
+/// Takes submission lines, puts the reply to each, and makes the opening book of the games that are
+/// held at the end: at most 1,000,000, each counted once however often it comes, by its plies that
+/// count by the rules, and of the moves that occur often enough in them. The table of words that
+/// keys are made of is read first. Where it is refused, `refused table` and `long`, `line` or
+/// `count` is put, no submission is read, and there is no book.
 ///
-/// Where no id names two games, the book is that of the distinct legal submissions that were accepted (`laws::one_game`).
+/// Where no id names two games, the book is that of the distinct legal submissions that were
+/// accepted (`laws::one_game`).
 ///
 /// # Errors
 ///
-/// `Memory` comes where a growth of the ledger's or the book's own found no memory; a submission that wants memory is refused
-/// in its reply. At a fault no book is made; the replies to the lines that were taken before have been put.
+/// `Memory` comes where a growth of the ledger's or the book's own found no memory; a submission
+/// that wants memory is refused in its reply. At a fault no book is made; the replies to the lines
+/// that were taken before have been put.
 pub fn run_collect<T: Source, S: Source, K: Sink>(
     alloc: Global,
     rules: Rules,
@@ -28,13 +32,14 @@ pub fn run_collect<T: Source, S: Source, K: Sink>(
     sink: &mut K,
     fills: u32,
 ) -> Result<Option<Book>, Fault>
-    // The table was read, all submissions were taken and answered, and this is the book of the games
-    // that are held; or the line was put that refuses the table; or this was done before the fault.
+    // The table was read, all submissions were taken and answered, and this is the book of the
+    // games that are held; or the line was put that refuses the table; or this was done before the
+    // fault.
     ensures ends { CollectRun rules fills
         (T.state table_source.old) (T.state table_source.new) (S.state source.old) (S.state source.new)
         (K.state sink.old) (K.state sink.new) result }
-    // All that is promised of the bytes that the sources handed out and the sink took: which lines are
-    // accepted, that each game counts once, and that the book has one text.
+    // All that is promised of the bytes that the sources handed out and the sink took: which lines
+    // are accepted, that each game counts once, and that the book has one text.
     ensures headline { IfOk result (λ answer. IfSome answer (HasHeadline rules
         (T.state table_source.old) (T.state table_source.new) (S.state source.old) (S.state source.new)
         (K.state sink.old) (K.state sink.new))) }

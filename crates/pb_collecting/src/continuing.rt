@@ -16,24 +16,26 @@ use std::alloc::Global;
 /// A run that went on from a saved ledger.
 #[derive(Drop)]
 pub struct Continued {
-    /// The games that are held, those of the saved ledger first. They can be saved whatever became of the book.
+    /// The games that are held, those of the saved ledger first. They can be saved whatever became
+    /// of the book.
     pub ledger: Ledger<MapTally>,
-    /// The book of these games; or the fault that ended the run, and then the ledger holds what the lines so far brought.
+    /// The book of these games; or the fault that ended the run, and then the ledger holds what the
+    /// lines so far brought.
     pub book: Result<Book, Fault>,
 }
 
 /// Goes on from a saved ledger: its games are held from the start, submission lines are taken, the
-/// reply to each is put, and the opening book of all games that are held at the end is made, at most
-/// 1,000,000, by the rules as in `run_collect`. The table of words that keys are made of is read first,
-/// then the saved ledger. Where the table is refused, `refused table` and `long`, `line` or `count` is
-/// put, and where the saved ledger is, `refused ledger line` and the number of its first line that is
-/// refused, or that brings no new game after the header; then no submission is read, and the answer is
-/// None.
+/// reply to each is put, and the opening book of all games that are held at the end is made, at
+/// most 1,000,000, by the rules as in `run_collect`. The table of words that keys are made of is
+/// read first, then the saved ledger. Where the table is refused, `refused table` and `long`,
+/// `line` or `count` is put, and where the saved ledger is, `refused ledger line` and the number of
+/// its first line that is refused, or that brings no new game after the header; then no submission
+/// is read, and the answer is None.
 ///
 /// # Errors
 ///
-/// A fault of the table or of the saved ledger, or in telling that one is refused; no submission was
-/// read then. A fault that comes later stands in `book`, beside the games that were taken.
+/// A fault of the table or of the saved ledger, or in telling that one is refused; no submission
+/// was read then. A fault that comes later stands in `book`, beside the games that were taken.
 pub fn run_continue<T: Source, V: Source, S: Source, K: Sink>(
     alloc: Global,
     rules: Rules,
@@ -43,14 +45,14 @@ pub fn run_continue<T: Source, V: Source, S: Source, K: Sink>(
     sink: &mut K,
     fills: u32,
 ) -> Result<Option<Continued>, Fault>
-    // The table was read, the saved ledger was loaded, and the submissions were taken from there, which
-    // left this ledger and its book, or the fault that came then; or the line was put that refuses the
-    // table or the saved ledger, or there was a fault, and no submission was read.
+    // The table was read, the saved ledger was loaded, and the submissions were taken from there,
+    // which left this ledger and its book, or the fault that came then; or the line was put that
+    // refuses the table or the saved ledger, or there was a fault, and no submission was read.
     ensures ends { ContinueRun rules fills
         (T.state table_source.old) (T.state table_source.new) (V.state saved.old) (V.state saved.new)
         (S.state source.old) (S.state source.new) (K.state sink.old) (K.state sink.new) result }
-    // The games of the saved ledger were held first. Whatever run left them, the book is that of the
-    // games that were accepted in both runs, each of them once.
+    // The games of the saved ledger were held first. Whatever run left them, the book is that of
+    // the games that were accepted in both runs, each of them once.
     ensures headline { IfOk result (λ answer. IfSome answer (λ run. IfOk run.book (HasHeadlineOfBoth rules
         (T.state table_source.old) (T.state table_source.new) (V.state saved.old) (V.state saved.new)
         (S.state source.old) (S.state source.new) (K.state sink.old) (K.state sink.new) run.ledger))) }
@@ -67,7 +69,8 @@ pub fn run_continue<T: Source, V: Source, S: Source, K: Sink>(
     Ok(Some(Continued { ledger, book }))
 }
 
-/// Shows that the saved ledger is refused and answers false, or puts nothing and answers the fault that ended its reading.
+/// Shows that the saved ledger is refused and answers false, or puts nothing and answers the fault
+/// that ended its reading.
 fn refuse_ledger<K: Sink>(sink: &mut K, error: LoadError) -> Result<bool, Fault>
     ensures { PutsOrEnds (λ verdict. verdict ≡ saved_verdict error) (K.state sink.old) (K.state sink.new) result }
 {

@@ -1,4 +1,5 @@
-//! The command `collect` that goes on from a saved ledger, up to the places where the ledger and its book are kept.
+//! The command `collect` that goes on from a saved ledger, up to the places where the ledger and
+//! its book are kept.
 
 ghost use Rattle.std.specs.Prelude.{ℕ, IfOk, Ok, Some};
 ghost use Rattle.pb_io.specs.Source.{SourceState};
@@ -18,8 +19,9 @@ use thiserror::Error;
 /// Why not both the ledger and its book are kept.
 #[derive(Clone, Copy, Debug, PartialEq, Eq, Error)]
 pub enum NotContinued {
-    /// The run met a fault. Before a submission was read both places were left alone; later the games that were taken are kept at the
-    /// ledger's place, if that took them, and the book's was left alone.
+    /// The run met a fault. Before a submission was read both places were left alone; later the
+    /// games that were taken are kept at the ledger's place, if that took them, and the book's was
+    /// left alone.
     #[error("there is no book: {0}")]
     Run(Fault),
     /// The ledger was not kept, and the book's place was left alone.
@@ -30,13 +32,15 @@ pub enum NotContinued {
     Book(NotKept),
 }
 
-/// Goes on from a saved ledger as `run_continue` does, keeps the ledger at the one place, also where the run met a fault after a
-/// submission was read, and then its book at the other. Where the table or the saved ledger is refused, the line that says so is put,
-/// nothing is kept, and the answer is false.
+/// Goes on from a saved ledger as `run_continue` does, keeps the ledger at the one place, also
+/// where the run met a fault after a submission was read, and then its book at the other. Where the
+/// table or the saved ledger is refused, the line that says so is put, nothing is kept, and the
+/// answer is false.
 ///
 /// # Errors
 ///
-/// The run's fault comes before that of the ledger's place, and that before the fault of the book's.
+/// The run's fault comes before that of the ledger's place, and that before the fault of the
+/// book's.
 pub fn continue_into<T: Source, V: Source, S: Source, K: Sink, P: Place, Q: Place>(
     alloc: Global,
     rules: Rules,
@@ -59,7 +63,8 @@ pub fn continue_into<T: Source, V: Source, S: Source, K: Sink, P: Place, Q: Plac
     }
 }
 
-/// Keeps the ledger of a run at the one place, also where a fault ended the run, and then its book at the other.
+/// Keeps the ledger of a run at the one place, also where a fault ended the run, and then its book
+/// at the other.
 fn keep_run<P: Place, Q: Place>(
     run: &Continued,
     ledger_place: &mut P,

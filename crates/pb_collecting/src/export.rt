@@ -9,16 +9,16 @@ use pb_ledger::{Rules, collect, export};
 use std::alloc::Global;
 
 /// Takes submission lines and puts the opening book of the games that are held at the end, at most
-/// 1,000,000, as EPD lines: for each setup before a move of a game, also past the plies that count by
-/// the rules, the moves that the book has for it, each with its weight. Replies are dropped. The table
-/// of words that keys are made of is read first. Where it is refused, `refused table` and `long`,
-/// `line` or `count` is put, no submission is read, and the answer is false.
+/// 1,000,000, as EPD lines: for each setup before a move of a game, also past the plies that count
+/// by the rules, the moves that the book has for it, each with its weight. Replies are dropped. The
+/// table of words that keys are made of is read first. Where it is refused, `refused table` and
+/// `long`, `line` or `count` is put, no submission is read, and the answer is false.
 ///
 /// # Errors
 ///
 /// `Memory` comes where a growth of the ledger's or the export's own found no memory; a submission
-/// that wants memory is refused. Nothing is put before all submissions were taken, so a fault of theirs
-/// leaves the sink alone.
+/// that wants memory is refused. Nothing is put before all submissions were taken, so a fault of
+/// theirs leaves the sink alone.
 pub fn run_export<T: Source, S: Source, K: Sink>(
     alloc: Global,
     rules: Rules,

@@ -12,25 +12,25 @@ use pb_ledger::{PassedLines, Rules, replay};
 use pb_poly::Book;
 use std::alloc::Global;
 
-/// Takes submission lines as `run_collect` does, from the games of a journal on, and puts the line of
-/// each game that is new on the journal, and hands it on, before its reply is put: so no game that was
-/// answered `ok` is lost, whatever ends the run. The journal is an end that is read first and one that
-/// is written then, as a file opened for both is. Its lines that an LF ended are submitted, and their
-/// replies dropped; bytes after them are a torn line, which is sealed by four TABs and an LF, and is no
-/// submission. The book is that of all games that are held at the end, at most 1,000,000, by the rules
-/// as in `run_collect`. The table of words that keys are made of is read before the journal. Where it
-/// is refused, `refused table` and `long`, `line` or `count` is put, nothing else is read or written,
-/// and there is no book.
+/// Takes submission lines as `run_collect` does, from the games of a journal on, and puts the line
+/// of each game that is new on the journal, and hands it on, before its reply is put: so no game
+/// that was answered `ok` is lost, whatever ends the run. The journal is an end that is read first
+/// and one that is written then, as a file opened for both is. Its lines that an LF ended are
+/// submitted, and their replies dropped; bytes after them are a torn line, which is sealed by four
+/// TABs and an LF, and is no submission. The book is that of all games that are held at the end, at
+/// most 1,000,000, by the rules as in `run_collect`. The table of words that keys are made of is
+/// read before the journal. Where it is refused, `refused table` and `long`, `line` or `count` is
+/// put, nothing else is read or written, and there is no book.
 ///
 /// `passed` is told the numbers of the journal's lines that are passed over, as by `replay`. No
 /// clause speaks of it: it is for people.
 ///
 /// # Errors
 ///
-/// `Read` and `Endless` come of the table, the journal or the submissions, `Write` of the sink or the
-/// journal. A game whose line the journal didn't take isn't answered. `Memory` comes where a growth of
-/// the ledger's or the book's own found no memory, or a game of the journal; a submission that wants
-/// memory is refused in its reply.
+/// `Read` and `Endless` come of the table, the journal or the submissions, `Write` of the sink or
+/// the journal. A game whose line the journal didn't take isn't answered. `Memory` comes where a
+/// growth of the ledger's or the book's own found no memory, or a game of the journal; a submission
+/// that wants memory is refused in its reply.
 pub fn run_journaled<T: Source, V: Source, J: Sink, W: PassedLines, S: Source, K: Sink>(
     alloc: Global,
     rules: Rules,
@@ -42,9 +42,9 @@ pub fn run_journaled<T: Source, V: Source, J: Sink, W: PassedLines, S: Source, K
     sink: &mut K,
     fills: u32,
 ) -> Result<Option<Book>, Fault>
-    // The table was read, the journal was replayed, all submissions were taken from there, and this is
-    // the book of the games that are held; or the line was put that refuses the table, and neither the
-    // journal nor a submission was read; or this was done before the fault.
+    // The table was read, the journal was replayed, all submissions were taken from there, and this
+    // is the book of the games that are held; or the line was put that refuses the table, and
+    // neither the journal nor a submission was read; or this was done before the fault.
     ensures ends { JournalRun rules fills
         (T.state table_source.old) (T.state table_source.new) (V.state kept.old) (V.state kept.new)
         (S.state source.old) (S.state source.new) (J.state journal.old) (J.state journal.new)
@@ -54,8 +54,8 @@ pub fn run_journaled<T: Source, V: Source, J: Sink, W: PassedLines, S: Source, K
         (T.state table_source.old) (T.state table_source.new) (V.state kept.old) (V.state kept.new)
         (S.state source.old) (S.state source.new) (J.state journal.old) (J.state journal.new)
         (K.state sink.old) (K.state sink.new))) }
-    // No acknowledged game is lost: no submission was read, or the journal was read to its end and holds
-    // each game that a reply calls `ok`.
+    // No acknowledged game is lost: no submission was read, or the journal was read to its end and
+    // holds each game that a reply calls `ok`.
     ensures survives { (S.state source.new ≡ S.state source.old)
         ⊎ ((bytes : List ℕ) × HandsOut (V.state kept.old) (V.state kept.new) bytes
         × Survives bytes (S.state source.old) (S.state source.new) (J.state journal.old) (J.state journal.new)

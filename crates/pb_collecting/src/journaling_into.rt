@@ -13,13 +13,15 @@ use pb_io::{Sink, Source};
 use pb_ledger::{PassedLines, Rules};
 use std::alloc::Global;
 
-/// Takes submission lines as `run_journaled` does, and keeps the book of the games that are held at the end. Where the table is refused, the
-/// line that says so is put, nothing is kept, and the answer is false.
+/// Takes submission lines as `run_journaled` does, and keeps the book of the games that are held at
+/// the end. Where the table is refused, the line that says so is put, nothing is kept, and the
+/// answer is false.
 ///
 /// # Errors
 ///
-/// `Run` is the fault of `run_journaled`, and then the place is as it was; `Keep` is the fault that the place met when it was to keep the
-/// book of this run. The journal has each game that was answered `ok` in both.
+/// `Run` is the fault of `run_journaled`, and then the place is as it was; `Keep` is the fault that
+/// the place met when it was to keep the book of this run. The journal has each game that was
+/// answered `ok` in both.
 pub fn journal_into<T: Source, V: Source, J: Sink, W: PassedLines, S: Source, K: Sink, P: Place>(
     alloc: Global,
     rules: Rules,

@@ -20,14 +20,16 @@ pub enum NoBook {
     Keep(NotKept),
 }
 
-/// Takes submission lines, puts the reply to each, and keeps the opening book of the games that are held at the end: at most
-/// 1,000,000, each counted once however often it comes, by the rules as in `run_collect`. The table of words that keys are made of is read first. Where it is refused,
-/// `refused table` and `long`, `line` or `count` is put, no submission is read, nothing is kept, and the answer is false.
+/// Takes submission lines, puts the reply to each, and keeps the opening book of the games that are
+/// held at the end: at most 1,000,000, each counted once however often it comes, by the rules as in
+/// `run_collect`. The table of words that keys are made of is read first. Where it is refused,
+/// `refused table` and `long`, `line` or `count` is put, no submission is read, nothing is kept,
+/// and the answer is false.
 ///
 /// # Errors
 ///
-/// `Run` is the fault of `run_collect`, and then the place is as it was; `Keep` is the fault that the place met when it was to keep the
-/// book of this run.
+/// `Run` is the fault of `run_collect`, and then the place is as it was; `Keep` is the fault that
+/// the place met when it was to keep the book of this run.
 pub fn collect_into<T: Source, S: Source, K: Sink, P: Place>(
     alloc: Global,
     rules: Rules,
@@ -37,8 +39,9 @@ pub fn collect_into<T: Source, S: Source, K: Sink, P: Place>(
     place: &mut P,
     fills: u32,
 ) -> Result<bool, NoBook>
-    // The place holds the bytes of the book of the games that are held, and all that is promised of it is so; or the line
-    // that refuses the table was put; or this was done before the fault, and this is left at the place.
+    // The place holds the bytes of the book of the games that are held, and all that is promised of
+    // it is so; or the line that refuses the table was put; or this was done before the fault, and
+    // this is left at the place.
     ensures { KeepsOrEnds rules fills (T.state table_source.old) (T.state table_source.new) (S.state source.old) (S.state source.new)
         (K.state sink.old) (K.state sink.new) (P.state place.old) (P.state place.new) result }
 {

@@ -1,5 +1,6 @@
-//! The commands of `pbook` that take games, `collect` and `export`, as functions over the ends that they are handed and over the places
-//! where a ledger and its book are kept. Nothing here knows the command line or a file.
+//! The commands of `pbook` that take games, `collect` and `export`, as functions over the ends that
+//! they are handed and over the places where a ledger and its book are kept. Nothing here knows the
+//! command line or a file.
 #![tactic(auto)]
 
 mod bytes;

@@ -30,7 +30,8 @@ pub trait Place {
 
     /// Puts the text in the place of what was there.
     fn keep<X: Text>(&mut self, text: &X) -> Result<(), NotKept>
-        // There is a text. A place that can't be opened doesn't write it, and so learns this here alone.
+        // There is a text. A place that can't be opened doesn't write it, and so learns this here
+        // alone.
         requires { (bytes : List ℕ) × X.is_text text.now bytes }
         ensures { (bytes : List ℕ) × X.is_text text.now bytes × Keeps (state self.old) (state self.new) result bytes };
 }

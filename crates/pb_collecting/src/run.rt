@@ -11,8 +11,8 @@ use pb_ledger::{Ledger, MAX_CAP, MapTally, Rules, collect_journaled};
 use pb_poly::Book;
 use std::alloc::Global;
 
-/// Reads the table, and makes a ledger of its random numbers and of these rules that holds no games. None where the table is refused, and
-/// then the line that says so was put.
+/// Reads the table, and makes a ledger of its random numbers and of these rules that holds no
+/// games. None where the table is refused, and then the line that says so was put.
 pub(crate) fn open<T: Source, K: Sink>(
     alloc: Global,
     rules: Rules,
@@ -31,7 +31,8 @@ pub(crate) fn open<T: Source, K: Sink>(
     }
 }
 
-/// Reads the table, and makes a ledger without games. Want of memory for the ledger is told as that for the table.
+/// Reads the table, and makes a ledger without games. Want of memory for the ledger is told as that
+/// for the table.
 fn empty_ledger<T: Source>(
     alloc: Global,
     rules: Rules,
@@ -48,8 +49,8 @@ fn empty_ledger<T: Source>(
     }
 }
 
-/// Takes the submissions into a ledger that may hold games, puts each new game on the journal before its reply, and makes the book of all
-/// games that are held then.
+/// Takes the submissions into a ledger that may hold games, puts each new game on the journal
+/// before its reply, and makes the book of all games that are held then.
 pub(crate) fn finish<S: Source, K: Sink, J: Sink>(
     alloc: Global,
     source: &mut S,

@@ -53,14 +53,16 @@ impl From<ExportFault> for Fault {
     }
 }
 
-/// Writes the opening book of the games held as EPD (PGN Standard 16.2): one line for each setup that stands before a move of a
-/// game and that the book has moves for. A line is the setup's four fields and the operation `bkm`, whose operands are the
-/// moves in the book's order, each followed by its weight in decimal. The lines are in byte order of their four fields, and
-/// each ends with an LF. The answer is how many they are.
+/// Writes the opening book of the games held as EPD (PGN Standard 16.2): one line for each setup
+/// that stands before a move of a game and that the book has moves for. A line is the setup's four
+/// fields and the operation `bkm`, whose operands are the moves in the book's order, each followed
+/// by its weight in decimal. The lines are in byte order of their four fields, and each ends with
+/// an LF. The answer is how many they are.
 ///
 /// # Errors
 ///
-/// The first of the sink's fault and want of memory that is met. A front of the text may have been put then, and isn't flushed.
+/// The first of the sink's fault and want of memory that is met. A front of the text may have been
+/// put then, and isn't flushed.
 pub fn export<T: Tally, K: Sink>(
     alloc: Global,
     ledger: &Ledger<T>,

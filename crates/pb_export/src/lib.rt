@@ -1,4 +1,5 @@
-//! The opening book of a ledger as EPD lines; it knows of the games that are held, and not of the lines that brought them.
+//! The opening book of a ledger as EPD lines; it knows of the games that are held, and not of the
+//! lines that brought them.
 #![tactic(auto)]
 
 mod book_moves;

@@ -22,7 +22,8 @@ const MANY: usize = 1_048_576;
 /// The text of a setup's four fields, which takes no memory of its own.
 pub(crate) type SetupText = ArrayString<93>;
 
-/// The texts of the setups that stand before a move of a game that is held, each once, in byte order.
+/// The texts of the setups that stand before a move of a game that is held, each once, in byte
+/// order.
 pub(crate) fn setups_of<T: Tally>(
     alloc: Global,
     ledger: &Ledger<T>,
@@ -65,7 +66,8 @@ fn add_setup(texts: &mut Vec<SetupText>, setup: &Setup) -> Result<(), AllocError
     Ok(())
 }
 
-/// Leaves each text once where there are many and no room for one more, and then room for twice what is left.
+/// Leaves each text once where there are many and no room for one more, and then room for twice
+/// what is left.
 fn make_room(texts: &mut Vec<SetupText>) -> Result<(), AllocError>
     ensures same { (t : List ℕ) → Contains (texts_of texts.new.items) t ↔ Contains (texts_of texts.old.items) t }
     ensures few { length texts.new.items ≤ length texts.old.items }

@@ -86,8 +86,8 @@ impl<J: JournalFile + Drop, D: Durability> JournalSink<J, D> {
         })
     }
 
-    /// Whether all that was put has been handed on, whoever flushed it: a reader finds it, and where
-    /// `D` syncs it outlives each crash.
+    /// Whether all that was put has been handed on, whoever flushed it: a reader finds it, and
+    /// where `D` syncs it outlives each crash.
     #[tactic(auto, using(crate::proofs::FileLemmas::told_on_disk_outlives))]
     pub fn handed_on(&self) -> bool
         ensures flushed { result ≡ (⟦<JournalSink<J, D> as Sink>⟧.state self.now).flushed }

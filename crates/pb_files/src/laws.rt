@@ -38,8 +38,8 @@ pub fn one_run_holds_a_draft()
     ensures { (run other : ℕ) (names : Names) → Holds run names → Holds other names → run ≡ other }
 {}
 
-/// A run that holds a draft holds it on, whatever other runs do and in whatever order: so a run that
-/// has seen that it does may write the draft.
+/// A run that holds a draft holds it on, whatever other runs do and in whatever order: so a run
+/// that has seen that it does may write the draft.
 #[tactic(auto, using(crate::proofs::RunLemmas::still_held))]
 pub fn a_held_draft_stays_held()
     ensures { (run : ℕ) (names : Names) (steps : List Step) → Holds run names → OfOthers run steps → Holds run (after names steps) }

@@ -59,9 +59,9 @@ fn new_draft<D: Desk>(desk: &mut D) -> Result<D::End, NotMade>
     Err(NotMade::Taken)
 }
 
-/// Makes the file under the name anew of the text: a draft is written, put on the disk and given the
-/// name, and then the folder is put on the disk. The answer is the end into the file that has the
-/// name now.
+/// Makes the file under the name anew of the text: a draft is written, put on the disk and given
+/// the name, and then the folder is put on the disk. The answer is the end into the file that has
+/// the name now.
 ///
 /// # Errors
 ///

@@ -11,17 +11,18 @@ use pb_io::{NullSink, Sink, Source};
 use pb_points::Tally;
 use std::alloc::Global;
 
-/// Submits the lines of the source in order, puts the reply to each as it is taken, and flushes at the end. It answers what
-/// became of the lines.
+/// Submits the lines of the source in order, puts the reply to each as it is taken, and flushes at
+/// the end. It answers what became of the lines.
 ///
-/// A line ends at an LF, and a piece that no LF ended is a line at the end of input, and not at a fault. A line of more than
-/// 8,192 bytes is refused as `Long` and not kept.
+/// A line ends at an LF, and a piece that no LF ended is a line at the end of input, and not at a
+/// fault. A line of more than 8,192 bytes is refused as `Long` and not kept.
 ///
 /// # Errors
 ///
-/// `Memory` comes only before the first fill; a submission that wants memory is refused as `Memory` in its reply. After the
-/// other faults the ledger holds what the lines so far brought: at `Read` and `Endless` the lines that an LF ended were
-/// taken and answered, and at `Write` the ledger holds also what the line brought whose reply couldn't be put.
+/// `Memory` comes only before the first fill; a submission that wants memory is refused as `Memory`
+/// in its reply. After the other faults the ledger holds what the lines so far brought: at `Read`
+/// and `Endless` the lines that an LF ended were taken and answered, and at `Write` the ledger
+/// holds also what the line brought whose reply couldn't be put.
 pub fn collect<T: Tally, S: Source, K: Sink>(
     alloc: Global,
     source: &mut S,

@@ -21,7 +21,8 @@ use pb_io::{Failed, LineTask, Sink, Source, put_parts, take_lines};
 use pb_points::Tally;
 use std::alloc::Global;
 
-/// Submits lines and counts them, puts the lines of new games on a journal, and only then their replies.
+/// Submits lines and counts them, puts the lines of new games on a journal, and only then their
+/// replies.
 #[derive(Drop)]
 pub(crate) struct Collector<'l, 's, 'j, T: Tally, K, J> {
     pub(crate) ledger: &'l mut Ledger<T>,
@@ -108,7 +109,8 @@ impl<T: Tally, K: Sink, J: Sink> Collector<'_, '_, '_, T, K, J> {
     }
 }
 
-/// Puts a line that brought a game on the journal, and hands it on. It is the game's one text, but for a CR at its end.
+/// Puts a line that brought a game on the journal, and hands it on. It is the game's one text, but
+/// for a CR at its end.
 fn journal_line<J: Sink>(journal: &mut J, line: &[u8]) -> Result<(), JournalFault>
     ensures written { Writes (J.state journal.old) (J.state journal.new) result (with_end (strip_carriage_return line.now)) }
     ensures stops { IfErr result (λ e. e ≡ Journal) }

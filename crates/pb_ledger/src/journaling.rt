@@ -17,7 +17,8 @@ use thiserror::Error;
 /// Why not all lines of a source were taken, journaled and answered.
 #[derive(Clone, Copy, Debug, PartialEq, Eq, Error)]
 pub enum JournalFault {
-    /// The lines or their replies met a fault. The new games are on the journal, also that of a reply that couldn't be put.
+    /// The lines or their replies met a fault. The new games are on the journal, also that of a
+    /// reply that couldn't be put.
     #[error("not all lines were answered: {0}")]
     Lines(Fault),
     /// The journal has failed at a new game, which wasn't answered. The ledger holds it.
@@ -54,15 +55,17 @@ impl From<JournalFault> for Fault {
     }
 }
 
-/// Takes the lines of the source as `collect` does, and puts the line of each new game on the journal, and hands it on, before its reply is
-/// put. A line that repeats a game, or that is refused, puts nothing there. It answers what became of the lines.
+/// Takes the lines of the source as `collect` does, and puts the line of each new game on the
+/// journal, and hands it on, before its reply is put. A line that repeats a game, or that is
+/// refused, puts nothing there. It answers what became of the lines.
 ///
 /// So each game that a reply acknowledges is on the journal, with whatever answer this ends.
 ///
 /// # Errors
 ///
-/// `Lines` with what `collect` answers: the journal has the games of all lines that were submitted. `Journal` where the journal fails at a new
-/// game: its line has no reply, the ledger holds the game, and its line, or a front of it, may be on the journal. No more lines are taken then.
+/// `Lines` with what `collect` answers: the journal has the games of all lines that were submitted.
+/// `Journal` where the journal fails at a new game: its line has no reply, the ledger holds the
+/// game, and its line, or a front of it, may be on the journal. No more lines are taken then.
 pub fn collect_journaled<T: Tally, S: Source, K: Sink, J: Sink>(
     alloc: Global,
     source: &mut S,
@@ -75,7 +78,8 @@ pub fn collect_journaled<T: Tally, S: Source, K: Sink, J: Sink>(
     // itself.
     ensures ok { IfOk result (JournalsStream fills (S.state source.old) (S.state source.new) (K.state sink.old) (K.state sink.new)
         (J.state journal.old) (J.state journal.new) ledger.old ledger.new) }
-    // The lines taken before a fault, what of their games is on the journal, and where the fault lies.
+    // The lines taken before a fault, what of their games is on the journal, and where the fault
+    // lies.
     ensures fault { IfErr result (JournalsUntil fills (S.state source.old) (S.state source.new) (K.state sink.old) (K.state sink.new)
         (J.state journal.old) (J.state journal.new) ledger.old ledger.new) }
 {

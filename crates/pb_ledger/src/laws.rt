@@ -16,19 +16,22 @@ use crate::totals::Totals;
 pub use pb_accepted::laws::{books, distinct, numbers, one_game, one_line, runs};
 pub use pb_export::laws::exports;
 
-/// The games that are held have one saved form, and what is saved loads as these games and as no others.
+/// The games that are held have one saved form, and what is saved loads as these games and as no
+/// others.
 pub fn saved()
     ensures one { SavedIsOne }
     ensures loads { SavedLoads }
 {}
 
-/// A run, what it holds saved and loaded, and a further run from there are one long run: the same answers, replies and games.
+/// A run, what it holds saved and loaded, and a further run from there are one long run: the same
+/// answers, replies and games.
 pub fn continued()
     ensures { ContinuedIsOneRun }
 {}
 
-/// The bytes of a journal hold one list of games, which come first whatever bytes follow; mending its end changes none of them; it gains the
-/// lines of new games; and of a line that is torn the game is there as a whole or not at all.
+/// The bytes of a journal hold one list of games, which come first whatever bytes follow; mending
+/// its end changes none of them; it gains the lines of new games; and of a line that is torn the
+/// game is there as a whole or not at all.
 pub fn journaled()
     ensures one { JournalIsOne }
     ensures goes_on { JournalGoesOn }

@@ -1,7 +1,8 @@
-//! Streams of lines over a ledger. Submissions: each is submitted, counted and answered by its reply line; where there is a journal, the
-//! line of each new game is on it before the reply. The saved form of a ledger, written and read back into a new one. A journal, whose last
-//! line may be torn, replayed into a new ledger, and its end mended. It hands on the accepted games and the export of their book, knows no
-//! chess itself, and names no file.
+//! Streams of lines over a ledger. Submissions: each is submitted, counted and answered by its
+//! reply line; where there is a journal, the line of each new game is on it before the reply. The
+//! saved form of a ledger, written and read back into a new one. A journal, whose last line may be
+//! torn, replayed into a new ledger, and its end mended. It hands on the accepted games and the
+//! export of their book, knows no chess itself, and names no file.
 //!
 //! ```rust
 //! let mut ledger = Ledger::<MapTally>::new(alloc, &table, MAX_CAP)?;

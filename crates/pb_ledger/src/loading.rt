@@ -16,17 +16,20 @@ use thiserror::Error;
 /// Why not all lines of a saved ledger were loaded.
 #[derive(Clone, Copy, Debug, PartialEq, Eq, Error)]
 pub enum LoadError {
-    /// The line with this number, from 1 with the header counted, is the first that a ledger refuses, or that brings no new game
-    /// after a header. The ledger holds the games of the lines before it.
+    /// The line with this number, from 1 with the header counted, is the first that a ledger
+    /// refuses, or that brings no new game after a header. The ledger holds the games of the lines
+    /// before it.
     #[error("line {0} brings no game that can be held")]
     Line(u64),
     /// The source has failed. The ledger holds the games of the lines that an LF ended before that.
     #[error("the saved ledger can't be read")]
     Read,
-    /// The fills were used up, and none was the end or a fault. The ledger holds the games of the lines that an LF ended.
+    /// The fills were used up, and none was the end or a fault. The ledger holds the games of the
+    /// lines that an LF ended.
     #[error("the saved ledger doesn't end")]
     Endless,
-    /// No memory for the buffers, and then nothing was read; or for a new game, and then the ledger holds those before it.
+    /// No memory for the buffers, and then nothing was read; or for a new game, and then the ledger
+    /// holds those before it.
     #[error("no memory is left")]
     Memory,
 }
@@ -99,15 +102,16 @@ fn refused_at(number: u64, refusal: Refusal) -> LoadError
     }
 }
 
-/// Takes the games of a saved ledger, or of an old list of submission lines without a header, into a ledger that holds none. The answer
-/// is how many are held then.
+/// Takes the games of a saved ledger, or of an old list of submission lines without a header, into
+/// a ledger that holds none. The answer is how many are held then.
 ///
-/// Lines are cut as by `collect`. After the header each line has to bring a new game; in an old list a game may come again, which changes
-/// nothing. No bytes at all are an old list of no lines.
+/// Lines are cut as by `collect`. After the header each line has to bring a new game; in an old
+/// list a game may come again, which changes nothing. No bytes at all are an old list of no lines.
 ///
 /// # Errors
 ///
-/// `Memory` comes before the first fill, or where a new game finds none. After an error the ledger holds the games of the lines before.
+/// `Memory` comes before the first fill, or where a new game finds none. After an error the ledger
+/// holds the games of the lines before.
 pub fn load<T: Tally, S: Source>(
     alloc: Global,
     source: &mut S,

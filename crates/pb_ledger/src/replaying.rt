@@ -15,7 +15,8 @@ use pb_io::{Failed, Fault, LineTask, Sink, Source, take_ended_lines};
 use pb_points::Tally;
 use std::alloc::Global;
 
-/// What ends a torn line so that it never is a submission: a TAB more than a submission has, and LF.
+/// What ends a torn line so that it never is a submission: a TAB more than a submission has, and
+/// LF.
 const SEAL: &[u8] = b"\t\t\t\t\n";
 
 /// The end of a line that was sealed, without its LF.
@@ -73,9 +74,10 @@ impl<T: Tally, W: PassedLines> LineTask for Replayer<'_, T, W> {
 
 /// Takes the games of a journal into a ledger that holds none, and mends the journal's end.
 ///
-/// Each line that an LF ended is submitted. One that is refused changes nothing, and want of memory ends the replay, since the game of that
-/// line was answered `ok` once. Bytes after the last LF are a torn line: they are not taken, and four TABs and an LF are put on the sink and
-/// handed on, so that they never are a submission. A journal whose end isn't torn is left as it was.
+/// Each line that an LF ended is submitted. One that is refused changes nothing, and want of memory
+/// ends the replay, since the game of that line was answered `ok` once. Bytes after the last LF are
+/// a torn line: they are not taken, and four TABs and an LF are put on the sink and handed on, so
+/// that they never are a submission. A journal whose end isn't torn is left as it was.
 ///
 /// `passed` is told the number of each line that is refused, for another cause than want of memory,
 /// but for a sealed one and for the header of a saved ledger as the first line. A line of more than
@@ -86,15 +88,15 @@ impl<T: Tally, W: PassedLines> LineTask for Replayer<'_, T, W> {
 /// `Read`: the source has failed. The ledger holds the games of the lines that an LF ended before
 /// that.
 ///
-/// `Endless`: the fills were used up, and none was the end or a fault. The ledger holds the games of
-/// the lines that an LF ended.
+/// `Endless`: the fills were used up, and none was the end or a fault. The ledger holds the games
+/// of the lines that an LF ended.
 ///
-/// `Memory`: no memory for the buffers, and then nothing was read; or for a game, and then the ledger
-/// holds those before it.
+/// `Memory`: no memory for the buffers, and then nothing was read; or for a game, and then the
+/// ledger holds those before it.
 ///
-/// `Write`: the sink has failed when the torn end was to be sealed. The ledger holds all games of the
-/// journal, and a front of the TABs and the LF may have been put. With the other errors nothing was
-/// put on the sink.
+/// `Write`: the sink has failed when the torn end was to be sealed. The ledger holds all games of
+/// the journal, and a front of the TABs and the LF may have been put. With the other errors nothing
+/// was put on the sink.
 pub fn replay<T: Tally, S: Source, J: Sink, W: PassedLines>(
     alloc: Global,
     source: &mut S,

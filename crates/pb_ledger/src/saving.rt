@@ -17,8 +17,9 @@ use pb_points::Tally;
 /// The first line of a saved ledger, without its LF.
 pub(crate) const HEADER: &[u8] = b"pbook-ledger 1";
 
-/// Writes the saved form of a ledger and flushes: the line `pbook-ledger 1`, and then the submission line of each game that is held, in
-/// order of acceptance. It takes no memory of its own.
+/// Writes the saved form of a ledger and flushes: the line `pbook-ledger 1`, and then the
+/// submission line of each game that is held, in order of acceptance. It takes no memory of its
+/// own.
 ///
 /// # Errors
 ///

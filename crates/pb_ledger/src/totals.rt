@@ -5,7 +5,8 @@ ghost use Rattle.pb_ledger.specs.Collector.{with_answer};
 
 use pb_games::Refusal;
 
-/// How many lines were taken, and what became of them: each brought a new game, repeated one, or was refused.
+/// How many lines were taken, and what became of them: each brought a new game, repeated one, or
+/// was refused.
 #[derive(Clone, Copy, Debug, Default, PartialEq, Eq)]
 pub struct Totals {
     /// All lines.

@@ -33,8 +33,8 @@ pub fn run(rt: &HostRuntime, words: &[&str]) -> u8
     }
 }
 
-/// Puts the text on standard output. The first line of a usage error is told too, where that is sent
-/// to a file. A text that was asked for is none.
+/// Puts the text on standard output. The first line of a usage error is told too, where that is
+/// sent to a file. A text that was asked for is none.
 fn show_usage(rt: &HostRuntime, text: &str) {
     let messages = Messages::new(rt, false);
     if let Err(error) = print!(rt; "{text}") {

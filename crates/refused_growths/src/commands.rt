@@ -38,7 +38,8 @@ pub(crate) fn no_words(kit: &Kit) -> Answer {
     }
 }
 
-/// Whether a fault is want of memory: of the call's own, or, as a write fault, of a sink, which has failed then.
+/// Whether a fault is want of memory: of the call's own, or, as a write fault, of a sink, which has
+/// failed then.
 fn is_want(fault: Fault, has_failed: bool) -> bool {
     match fault {
         Fault::Memory => !has_failed,
@@ -47,7 +48,8 @@ fn is_want(fault: Fault, has_failed: bool) -> bool {
     }
 }
 
-/// A command without a ledger: a record after three moves, EPD lines, the entries of a book, or its moves for the start position.
+/// A command without a ledger: a record after three moves, EPD lines, the entries of a book, or its
+/// moves for the start position.
 pub(crate) fn shown(kit: &Kit, name: &str) -> Answer {
     let mut sink = MemSink::new(kit.alloc);
     let mut table = MemSource::new(kit.table_file.as_bytes(), 1000);
@@ -89,8 +91,9 @@ struct Left {
     book: Option<Text>,
 }
 
-/// Judges a command that takes submissions: the five lines, or those that come after the first two, and one of these. For some of the five
-/// games all that was left has to be what is due where they are held.
+/// Judges a command that takes submissions: the five lines, or those that come after the first two,
+/// and one of these. For some of the five games all that was left has to be what is due where they
+/// are held.
 pub(crate) fn taken(kit: &Kit, name: &str) -> Answer {
     let lines = if is_new(name) {
         lines_of(ALL)
@@ -208,7 +211,8 @@ impl Left {
         }
     }
 
-    /// Whether all that was left is what is due where these games are held. A run that met a fault has put a front of it.
+    /// Whether all that was left is what is due where these games are held. A run that met a fault
+    /// has put a front of it.
     fn is_due(&self, name: &str, due: &Due, lines: &[u8], put: &[u8]) -> bool {
         let replies = replies_of(&due.ledger, lines);
         let all = match name {
@@ -230,7 +234,8 @@ impl Left {
         }
     }
 
-    /// Whether the games that are due were kept. A run that met a fault may have kept none, or a front of one more line on its journal.
+    /// Whether the games that are due were kept. A run that met a fault may have kept none, or a
+    /// front of one more line on its journal.
     fn has_games(&self, name: &str, due: &Due) -> bool {
         let due = due.saved.as_bytes();
         match (&self.games, self.answer) {

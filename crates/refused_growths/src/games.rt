@@ -1,4 +1,5 @@
-//! Five submissions, short enough that the points of their moves can be counted by hand, and what a ledger answers to them.
+//! Five submissions, short enough that the points of their moves can be counted by hand, and what a
+//! ledger answers to them.
 
 use crate::text::Text;
 use pb_ledger::{Ledger, Tally};
@@ -34,7 +35,8 @@ pub(crate) const FIRST: u32 = 0b00011;
 /// The others.
 pub(crate) const LATER: u32 = 0b11100;
 
-/// Those that may be held where one game finds no memory, or all from one on, with the fewest that are missing first.
+/// Those that may be held where one game finds no memory, or all from one on, with the fewest that
+/// are missing first.
 pub(crate) const SETS: [u32; 10] = [
     ALL, 0b11110, 0b11101, 0b11011, 0b10111, 0b01111, 0b00111, FIRST, 0b00001, 0,
 ];

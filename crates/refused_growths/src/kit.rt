@@ -1,4 +1,5 @@
-//! What the judged calls are made over, and what is due of them. It is all made before the first of them.
+//! What the judged calls are made over, and what is due of them. It is all made before the first of
+//! them.
 
 use crate::games::{ALL, GAMES, SETS, lines_of, number_of, saved_of};
 use crate::text::Text;
@@ -10,7 +11,8 @@ use std::alloc::{AllocError, Global};
 /// The four fields of a setup of two kings.
 pub(crate) const KINGS: &[u8] = b"4k3/8/8/8/8/8/8/4K3 w - -";
 
-/// What is due where some of the five games are held: what the library makes of their lines alone, with ample memory.
+/// What is due where some of the five games are held: what the library makes of their lines alone,
+/// with ample memory.
 #[derive(Drop)]
 pub(crate) struct Due {
     pub(crate) ledger: Ledger<MapTally>,

@@ -36,7 +36,8 @@ const REFUSED: [Line; 6] = [
     ([b"g2", b"1-0", b"e2e5"], Err(Refusal::Illegal(1))),
 ];
 
-/// Whether the book and the export of all five, by which other answers are judged, are those that are known.
+/// Whether the book and the export of all five, by which other answers are judged, are those that
+/// are known.
 pub(crate) fn is_counted(kit: &Kit) -> Answer {
     Ok(match kit.due_of(&kit.five) {
         Some(due) => due.book.as_bytes() == BOOK && due.export.as_bytes() == EXPORT,
@@ -74,7 +75,8 @@ fn ensured<T: Tally>(tally: &mut T, code: u16) -> Answer {
     answer.map(|()| is_empty).map_err(|_| Want::once(is_empty))
 }
 
-/// The five submissions to a new ledger in order, each again where it found no memory, and their book.
+/// The five submissions to a new ledger in order, each again where it found no memory, and their
+/// book.
 pub(crate) fn submitting<T: Tally>(kit: &Kit) -> Answer {
     let mut ledger = Ledger::<T>::new(kit.alloc, &kit.table, 1000)?;
     let mut answer = Ok(true);
@@ -100,7 +102,8 @@ fn submitted<T: Tally>(kit: &Kit, ledger: &mut Ledger<T>, line: &[u8]) -> Answer
     }
 }
 
-/// Whether the points of a ledger, of the moves of all five games, are those that are due where its games are held.
+/// Whether the points of a ledger, of the moves of all five games, are those that are due where its
+/// games are held.
 fn has_its_points<T: Tally>(kit: &Kit, ledger: &Ledger<T>) -> bool {
     let Some(due) = kit.due_of(ledger) else {
         return false;
@@ -111,7 +114,8 @@ fn has_its_points<T: Tally>(kit: &Kit, ledger: &Ledger<T>) -> bool {
     })
 }
 
-/// The book of a ledger, made again where it found no memory: the one that is due where its games are held.
+/// The book of a ledger, made again where it found no memory: the one that is due where its games
+/// are held.
 fn book<T: Tally>(kit: &Kit, ledger: &Ledger<T>) -> Answer {
     let Some(due) = kit.due_of(ledger) else {
         return Ok(false);
@@ -122,8 +126,8 @@ fn book<T: Tally>(kit: &Kit, ledger: &Ledger<T>) -> Answer {
     })
 }
 
-/// What ledgers that hold the first of the five games answer without memory: to lines of legal games where there is no room, and to
-/// lines that are refused where there is.
+/// What ledgers that hold the first of the five games answer without memory: to lines of legal
+/// games where there is no room, and to lines that are refused where there is.
 pub(crate) fn without_memory<T: Tally>(ones: &mut Ones<T>) -> Answer {
     let knows_games = answers(&mut ones.full, &LEGAL);
     let knows_rows = answers(&mut ones.roomy, &REFUSED);
@@ -139,7 +143,8 @@ fn answers<T: Tally>(ledger: &mut Ledger<T>, lines: &[Line]) -> bool {
     is_due && ledger.len() == 1
 }
 
-/// Whether a ledger refuses a line whose game can't be played, one of too many moves, and ones at the limit of length and past it.
+/// Whether a ledger refuses a line whose game can't be played, one of too many moves, and ones at
+/// the limit of length and past it.
 fn refuses_long<T: Tally>(ledger: &mut Ledger<T>) -> bool {
     let moves = Text::of(&[b" e2e4".as_slice(); 1025]);
     let many = line_of([b"g2", b"1-0", moves.as_bytes().trim_ascii_start()]);

@@ -1,15 +1,18 @@
-//! Calls of the library that take memory, each judged by what it answers, so that a tool around this program may refuse any growth of
-//! memory. An answer has to be the one with ample memory, or want of memory in the place that the call has for it. All calls are made in
-//! two rounds, and one of all may want memory; those after it have to answer as if that had not been. So what is printed doesn't depend
-//! on which growth was refused: a line for each call, `ok` and its name.
+//! Calls of the library that take memory, each judged by what it answers, so that a tool around
+//! this program may refuse any growth of memory. An answer has to be the one with ample memory, or
+//! want of memory in the place that the call has for it. All calls are made in two rounds, and one
+//! of all may want memory; those after it have to answer as if that had not been. So what is
+//! printed doesn't depend on which growth was refused: a line for each call, `ok` and its name.
 //!
-//! `FAILED` in the place of `ok` tells of an answer that may not be. `wanting in all` in the last line tells that memory was wanting more
-//! than once: it never comes where one growth is refused. Where there is no memory for what the calls are made over, in two attempts,
-//! `want of memory in a preparation` is all that is printed.
+//! `FAILED` in the place of `ok` tells of an answer that may not be. `wanting in all` in the last
+//! line tells that memory was wanting more than once: it never comes where one growth is refused.
+//! Where there is no memory for what the calls are made over, in two attempts, `want of memory in a
+//! preparation` is all that is printed.
 //!
-//! What the answers have to be is written here, from the standards and from games that are short enough to be counted by hand. Where
-//! some of five games found no memory, it is what the library makes of the others alone, in the preparation. The status is 0, 1 where a
-//! line says `FAILED`, and 3 where there was no memory for the preparation.
+//! What the answers have to be is written here, from the standards and from games that are short
+//! enough to be counted by hand. Where some of five games found no memory, it is what the library
+//! makes of the others alone, in the preparation. The status is 0, 1 where a line says `FAILED`,
+//! and 3 where there was no memory for the preparation.
 #![tactic(auto)]
 
 mod answer;

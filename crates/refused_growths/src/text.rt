@@ -6,7 +6,8 @@ use arrayvec::ArrayVec;
 use pb_ledger::{Ledger, Tally, save};
 use pb_poly::{Book, Failed, Sink, write_book};
 
-/// A text of at most 16,384 bytes, and a sink. A part that doesn't fit is left out, so that the text is another one.
+/// A text of at most 16,384 bytes, and a sink. A part that doesn't fit is left out, so that the
+/// text is another one.
 #[derive(Drop)]
 pub(crate) struct Text {
     bytes: ArrayVec<u8, 16_384>,

@@ -102,7 +102,8 @@ fn operands(alloc: Global) -> Result<Vec<Operand>, AllocError> {
     Ok(operands)
 }
 
-/// An operation that is put to a record, and put again where it found no memory; the record has to be as it was then.
+/// An operation that is put to a record, and put again where it found no memory; the record has to
+/// be as it was then.
 pub(crate) fn putting(kit: &Kit) -> Answer {
     let mut record = Epd::new(kit.alloc, kit.kings);
     let answer = attempts(|| match record.put(b"bkm", operands(kit.alloc)?) {
@@ -128,7 +129,8 @@ pub(crate) fn memory(kit: &Kit) -> Answer {
     Ok(!sink.failed() && sink.as_bytes() == due.as_bytes())
 }
 
-/// A put into a fuse that passes, and one that blows it and keeps half of its bytes where there is memory.
+/// A put into a fuse that passes, and one that blows it and keeps half of its bytes where there is
+/// memory.
 pub(crate) fn fuse(kit: &Kit) -> Answer {
     let mut sink = FuseSink::new(kit.alloc, 1);
     if sink.put(BOOK).is_err() {

@@ -22,8 +22,8 @@ pub fn answer(page: &mut Page, call: &[&str]) -> Done {
     }
 }
 
-/// Writes each line down with a bar after it, and a star for a long one. The line `stop` stops it, as
-/// a sink would that fails.
+/// Writes each line down with a bar after it, and a star for a long one. The line `stop` stops it,
+/// as a sink would that fails.
 #[derive(Drop)]
 struct Barred {
     text: Vec<u8>,
