@@ -22,15 +22,15 @@ for file in games.txt table.txt book.bin submissions.awk table_from_polyglot.sh 
     install -D -m 644 "examples/$file" "$top/examples/$file"
 done
 
-# A link to a file of the source, which isn't packed, becomes its text.
+# A link to a file or folder of the source, which isn't packed, becomes its text.
 for text in README.md CHANGELOG.md docs/*.md; do
-    folder=$top/$(dirname "$text")
-    awk -v folder="$folder" '
-        # Whether a link leads to what is packed, or elsewhere.
-        function leads(target) {
-            if (target ~ /^([a-z]+:|#)/) return 1
+    folder=$(dirname "$text")
+    awk -v source="$folder" -v packed="$top/$folder" '
+        # Whether a link leads to what is there and is not packed.
+        function is_left(target) {
+            if (target ~ /^([a-z]+:|#)/) return 0
             sub(/#.*/, "", target)
-            return !system("[ -e \"" folder "/" target "\" ]")
+            return !system("[ -e \"" source "/" target "\" ] && [ ! -e \"" packed "/" target "\" ]")
         }
         {
             rest = $0
@@ -41,7 +41,7 @@ for text in README.md CHANGELOG.md docs/*.md; do
                 rest = substr(rest, RSTART + RLENGTH)
                 between = index(link, "](")
                 target = substr(link, between + 2, length(link) - between - 2)
-                line = line (leads(target) ? link : substr(link, 2, between - 2))
+                line = line (is_left(target) ? substr(link, 2, between - 2) : link)
             }
             print line rest
         }' "$text" > "$top/$text"
