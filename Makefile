@@ -5,6 +5,9 @@ SOURCES := crates.txt $(shell find crates/pb* -path '*/out' -prune -o \( -name '
 
 PREFIX := /usr/local
 
+# What `make install` and `make dist` take, and what the tests try.
+PROGRAM ?= build/pbook
+
 # What is put in place beside the program. It lies where the gate reads it.
 INSTALLED := crates/worked_examples/data/installed
 
@@ -13,7 +16,7 @@ GROWTHS := crates/refused_growths/out/refused_growths
 EXAMPLES := crates/worked_examples/out/worked_examples
 
 .PHONY: build install dist demo test test-hostile test-files test-order test-locks test-messages test-memory test-growths test-io \
-    test-noise test-replies test-journal test-wrong-programs bench clean
+    test-noise test-replies test-dist test-journal test-wrong-programs bench clean
 
 build: build/pbook
 
@@ -21,15 +24,16 @@ build/pbook: $(SOURCES) scripts/build.sh
 	@sh scripts/build.sh
 
 # Puts the program, its manual page and its completions for bash, zsh and fish in place.
-install: build
-	install -D -m 755 build/pbook '$(DESTDIR)$(PREFIX)/bin/pbook'
+install: $(PROGRAM)
+	install -D -m 755 '$(PROGRAM)' '$(DESTDIR)$(PREFIX)/bin/pbook'
 	install -D -m 644 $(INSTALLED)/pbook.1 '$(DESTDIR)$(PREFIX)/share/man/man1/pbook.1'
 	install -D -m 644 $(INSTALLED)/pbook.bash '$(DESTDIR)$(PREFIX)/share/bash-completion/completions/pbook'
 	install -D -m 644 $(INSTALLED)/_pbook '$(DESTDIR)$(PREFIX)/share/zsh/site-functions/_pbook'
 	install -D -m 644 $(INSTALLED)/pbook.fish '$(DESTDIR)$(PREFIX)/share/fish/vendor_completions.d/pbook.fish'
 
-# Packs what `make install` puts in place, with the guide, as build/pbook-VERSION-x86_64-linux.tar.gz, beside its checksum.
-dist: build
+# Packs what `make install` puts in place, with the documents and examples, as
+# build/pbook-VERSION-x86_64-linux.tar.gz, beside its checksum.
+dist: $(PROGRAM)
 	@sh scripts/dist.sh
 
 # The main job on the bundled examples, with all comparisons: by the proved program where it stands,
@@ -44,7 +48,7 @@ test:
 # journal; and what shellcheck says of the scripts. PROGRAM=program tries another than build/pbook.
 # WRONG_PROGRAMS=1 tries too that wrong programs are seen, which takes some minutes more.
 test-hostile: test-files test-order test-locks test-messages test-memory test-growths test-io \
-    test-noise test-replies $(if $(WRONG_PROGRAMS),test-wrong-programs)
+    test-noise test-replies test-dist $(if $(WRONG_PROGRAMS),test-wrong-programs)
 	@sh tests/shellcheck.sh
 
 # Tries what is left of a book's file by full disks, links, missing permissions and runs that are
@@ -94,6 +98,11 @@ test-noise:
 # Tries that each reply has gone out before the next line is waited for.
 test-replies: build
 	@sh tests/replies.sh
+
+# Unpacks what `make dist` packs in an empty folder, follows the links of its documents, and makes
+# a book there.
+test-dist: $(PROGRAM)
+	@sh tests/dist.sh
 
 # Runs the example of two workers, whose collector is killed once; then kills collectors at random
 # moments, starts them again on their journal, and compares what they answered.

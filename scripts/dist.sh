@@ -1,16 +1,53 @@
 #!/bin/sh
-# Packs the program with its manual page, completions and guide for those who have no toolchain, and tells the checksum. The same program
-# gives the same bytes each time.
+# Packs the program with its manual page, completions, documents and examples, for those who have
+# no toolchain, and tells the checksum. The same program gives the same bytes each time.
+# Usage: PROGRAM=program scripts/dist.sh [FOLDER] (at the top of the repository; of build/pbook,
+# into the folder build, where none is given).
 set -eu
-version=$({ build/pbook --version || :; } | cut -d' ' -f2)
+PROGRAM=${PROGRAM:-build/pbook}
+to=${1:-build}
+version=$({ "$PROGRAM" --version || :; } | cut -d' ' -f2)
 name=pbook-$version-x86_64-linux
-rm -rf "build/$name"
-make -s install DESTDIR="$PWD/build/$name" PREFIX=
-for text in docs/GUIDE.md docs/FORMATS.md docs/GLOSSARY.md docs/PERFORMANCE.md CHANGELOG.md; do
-    install -D -m 644 "$text" "build/$name/share/doc/pbook/${text##*/}"
+mkdir -p "$to"
+room=$(mktemp -d)
+trap 'rm -rf "$room"' EXIT
+trap 'exit 1' HUP INT TERM
+top=$room/$name
+
+make -s install PROGRAM="$PROGRAM" DESTDIR="$top" PREFIX=
+for file in README.md CHANGELOG.md docs/*.md docs/*.svg; do
+    install -D -m 644 "$file" "$top/$file"
 done
-cd build
-tar --sort=name --mode='u+rwX,go+rX,go-w' --mtime=@0 --owner=0 --group=0 --numeric-owner --format=ustar -cf - "$name" \
-    | gzip -n -9 > "$name.tar.gz"
-rm -rf "$name"
+for file in games.txt table.txt book.bin submissions.awk table_from_polyglot.sh workers.sh; do
+    install -D -m 644 "examples/$file" "$top/examples/$file"
+done
+
+# A link to a file or folder of the source, which isn't packed, becomes its text.
+for text in README.md CHANGELOG.md docs/*.md; do
+    folder=$(dirname "$text")
+    awk -v source="$folder" -v packed="$top/$folder" '
+        # Whether a link leads to what is there and is not packed.
+        function is_left(target) {
+            if (target ~ /^([a-z]+:|#)/) return 0
+            sub(/#.*/, "", target)
+            return !system("[ -e \"" source "/" target "\" ] && [ ! -e \"" packed "/" target "\" ]")
+        }
+        {
+            rest = $0
+            line = ""
+            while (match(rest, /\[[^][]*\]\([^() ]*\)/)) {
+                link = substr(rest, RSTART, RLENGTH)
+                line = line substr(rest, 1, RSTART - 1)
+                rest = substr(rest, RSTART + RLENGTH)
+                between = index(link, "](")
+                target = substr(link, between + 2, length(link) - between - 2)
+                line = line (is_left(target) ? substr(link, 2, between - 2) : link)
+            }
+            print line rest
+        }' "$text" > "$top/$text"
+done
+
+tar --sort=name --mode='u+rwX,go+rX,go-w' --mtime=@0 --owner=0 --group=0 --numeric-owner \
+    --format=ustar -C "$room" -cf - "$name" | gzip -n -9 > "$to/$name.tar.gz"
+cd "$to"
 sha256sum "$name.tar.gz" | tee "$name.tar.gz.sha256"

@@ -1,0 +1,179 @@
+#!/bin/sh
+# Tries what `make dist` packs, as somebody has it who has nothing else: it is unpacked in an empty
+# folder, each link of its documents leads to a file and a heading there, it needs no newer C
+# library than README says, and books are made there by the commands and the scripts that
+# README names. The first check that doesn't hold ends it.
+# Usage: PROGRAM=program tests/dist.sh (at the top of the repository).
+set -eu
+PROGRAM=${PROGRAM:-build/pbook}
+. tests/lib/harness.sh
+export PROGRAM
+PATH=$PATH:/usr/games
+
+# packed: the archive is made in $work/dist, and its checksum beside it is right
+packed() {
+    sh scripts/dist.sh "$work/dist" > "$work/told"
+    cd "$work/dist"
+    holds cmp "$work/told" ./*.sha256
+    holds sha256sum --quiet -c ./*.sha256
+    note "$(wc -c < "$(echo ./*.gz)") bytes"
+}
+
+# packed_again: a second archive has the same bytes
+packed_again() {
+    sh scripts/dist.sh "$work/again" > "$work/told"
+    holds diff -r "$work/dist" "$work/again"
+}
+
+# unpacked: the archive has one folder, of its own name, with the program
+unpacked() {
+    mkdir "$work/unpacked"
+    cd "$work/unpacked"
+    tar -xzf "$work"/dist/*.gz
+    holds test "$(ls)" = "$(basename "$work"/dist/*.gz .tar.gz)"
+    ln -s ./*/ top
+    holds cmp top/bin/pbook "$PROGRAM"
+}
+
+# anchors FILE: the names by which a link leads to a heading of this document
+anchors() {
+    sed -n 's/^##* //p' "$1" | tr '[:upper:]' '[:lower:]' | tr ' ' '-' |
+        tr -cd '[:alnum:]_\n-'
+}
+
+# is_led FOLDER TARGET: whether a link of a document in this folder leads somewhere
+is_led() {
+    file=$1/${2%%#*}
+    [ -e "$file" ] || return 1
+    case $2 in
+        *'#'*) anchors "$file" | grep -qxF -e "${2#*#}" ;;
+    esac
+}
+
+# links: each link of the documents leads to a file that is packed, and to a heading of it
+links() {
+    cd "$work/unpacked/top"
+    count=0
+    find . -name '*.md' > "$work/documents"
+    while read -r text; do
+        grep -o '](\([^)]*\))' "$text" | sed 's/^](//; s/)$//' | grep -v '^https\{0,1\}:' |
+            sort -u > "$work/links" || true
+        while read -r target; do
+            count=$((count + 1))
+            case $target in
+                '#'*) holds is_led "$(dirname "$text")" "$(basename "$text")$target" ;;
+                *) holds is_led "$(dirname "$text")" "$target" ;;
+            esac
+        done < "$work/links"
+    done < "$work/documents"
+    note "$count links of $(wc -l < "$work/documents") documents"
+    holds test "$count" -gt 0
+}
+
+# needs: the program asks for no newer C library than README says
+needs() {
+    due=$(grep -o 'glibc 2\.[0-9]*' README.md | cut -d' ' -f2)
+    found=$(objdump -T "$work/unpacked/top/bin/pbook" | grep -o 'GLIBC_[0-9.]*' | cut -d_ -f2 |
+        sort -u -V | tail -n 1)
+    holds test -n "$found"
+    holds test "$(printf '%s\n' "$due" "$found" | sort -V | tail -n 1)" = "$due"
+    note "glibc $found"
+}
+
+# first_run: the first commands of README print what stands there. Standard error is no terminal
+# here, so the line of the summary doesn't come.
+first_run() {
+    cd "$work/unpacked/top"
+    awk '/^    / { print substr($0, 5); found = 1; next } found { exit }' README.md > "$work/block"
+    sed -n 's/^\$ //p' "$work/block" > "$work/commands"
+    grep -v '^\$ \|^pbook: ' "$work/block" > "$work/due"
+    holds grep -q '^pbook collect ' "$work/commands"
+    env PATH="$PWD/bin:$PATH" sh -eu "$work/commands" > "$work/printed"
+    holds diff "$work/due" "$work/printed"
+    holds cmp book.bin examples/book.bin
+}
+
+# workers: the example of two workers makes the bundled book by the packed program
+workers() {
+    cd "$work/unpacked/top"
+    PROGRAM=bin/pbook sh examples/workers.sh > "$work/told" 2>&1
+    holds grep -q '^the book is examples/book.bin$' "$work/told"
+}
+
+# printed_games: the games of examples/games.txt as pgn-extract prints them
+printed_games() {
+    awk -F'\t' '{ printf "[Event \"?\"]\r\n[Result \"%s\"]\r\n\r\n", $2 }
+        { sub(/ $/, ""); printf "%s%s%s\r\n\r\n", $4, $4 == "" ? "" : " ", $2 }' examples/games.txt
+}
+
+# refuses COMMAND..: whether this command ends with status 1, and says why in one line
+refuses() {
+    ends 1 "$@" > "$work/printed" 2> "$work/errors"
+    [ ! -s "$work/printed" ] && [ "$(wc -l < "$work/errors")" -eq 1 ]
+}
+
+# submissions: submissions.awk makes the fields of examples/games.txt but for the ids, and counts
+submissions() {
+    cd "$work/unpacked/top"
+    printed_games | awk -v worker=w -f examples/submissions.awk > "$work/lines"
+    cut -f 2- examples/games.txt > "$work/due"
+    cut -f 2- "$work/lines" > "$work/found"
+    holds cmp "$work/due" "$work/found"
+    holds test "$(tail -n 1 "$work/lines" | cut -f 1)" = "w-$(wc -l < examples/games.txt)"
+    printf '[FEN "4k3/7P/8/8/8/8/8/4K3 w - - 0 1"]\n\nh7h8Q e8d7 1-0\n\n1/2-1/2\n' |
+        awk -v worker=w -f examples/submissions.awk > "$work/lines"
+    printf '%s\t%s\t%s\t%s\n' w-1 1-0 '4k3/7P/8/8/8/8/8/4K3 w - - 0 1' 'h7h8q e8d7' \
+        w-2 1/2-1/2 'rnbqkbnr/pppppppp/8/8/8/8/PPPPPPPP/RNBQKBNR w KQkq - 0 1' '' > "$work/due"
+    holds cmp "$work/due" "$work/lines"
+    holds refuses awk -v worker=w -f examples/submissions.awk /dev/null
+    holds refuses awk -f examples/submissions.awk /dev/null
+}
+
+# from_pgn: the commands from PGN to a book, as README has them, make PolyGlot's own entries
+from_pgn() {
+    cd "$work/unpacked/top"
+    sed -n 's/^       \([a-z].*[a-z].* > [a-z.]*\)$/\1/p' README.md > "$work/commands"
+    holds test "$(wc -l < "$work/commands")" -eq 3
+    printed_games | tr -d '\r' > "$work/moves.pgn"
+    pgn-extract -s -Wsan "$work/moves.pgn" > games.pgn 2> "$work/errors"
+    env PATH="$PWD/bin:$PATH" sh -eu "$work/commands" 2>> "$work/errors"
+    polyglot make-book -pgn games.pgn -bin other.bin -max-ply 24 -min-game 3 > "$work/told"
+    for book in book.bin other.bin; do
+        od -An -v -tx1 -w16 "$book" | LC_ALL=C sort > "$work/$book.entries"
+    done
+    holds test -s book.bin
+    holds cmp "$work/book.bin.entries" "$work/other.bin.entries"
+    note "$(wc -l < "$work/book.bin.entries") entries"
+}
+
+# table_refused: other numbers than PolyGlot's are refused, and so are a file of another kind and
+# none
+table_refused() {
+    cd "$work/unpacked/top"
+    sed 's/^/0x/' examples/table.txt > "$work/random.c"
+    for file in "$work/random.c" README.md missing; do
+        holds refuses sh examples/table_from_polyglot.sh "$file"
+    done
+}
+
+has() { command -v "$1" > /dev/null; }
+
+check 'an archive is packed' packed
+check 'a second one has the same bytes' packed_again
+check 'it is unpacked in an empty folder' unpacked
+check 'each link of its documents leads somewhere' links
+if has objdump; then
+    check 'it needs no newer C library than README says' needs
+else
+    leave_out 'objdump is wanted' 'the C library'
+fi
+check "README's first commands print what stands there" first_run
+check 'two workers make the bundled book' workers
+check 'submissions.awk makes submissions' submissions
+check 'another table is refused' table_refused
+if has pgn-extract && has polyglot; then
+    check 'from PGN to a book by the commands of README' from_pgn
+else
+    leave_out 'pgn-extract and polyglot are wanted' 'from PGN to a book'
+fi
+finish
