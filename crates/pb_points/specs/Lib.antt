@@ -4,6 +4,7 @@ pub mod Group
 pub mod ListTally
 pub mod PartTally
 pub mod Rows
+pub mod Spread
 pub mod Tally
 pub mod TallyBook
 pub mod Weight
