@@ -5,6 +5,7 @@ pub mod ListTally
 pub mod NarrowTally
 pub mod PartTally
 pub mod Rows
+pub mod Spread
 pub mod Tally
 pub mod TallyBook
 pub mod Weight

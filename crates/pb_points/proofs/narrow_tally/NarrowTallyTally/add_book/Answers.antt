@@ -1,8 +1,6 @@
-use Rattle.std.proofs.Common.{◌≡◌, ℕ, ◌<◌, ◌++◌, ◌∙◌, true, All, AllPairs, List, [], nat_lt, ap, sym, subst, rules, arith}
-use Rattle.std.proofs.lemmas.Bool.Decides.{nat_tests}
+use Rattle.std.proofs.Common.{◌≡◌, ◌++◌, ◌∙◌, AllPairs, List, [], ap, sym, subst, rules, arith}
 use Rattle.std.proofs.lemmas.Grind.{common_steps}
 use Rattle.std.proofs.lemmas.List.{append-nil, nil_from_length}
-use Rattle.std.proofs.lemmas.List.Elements.{filter_passes}
 use Rattle.std.proofs.lemmas.List.Kept.{AllPairs-filter}
 use Rattle.std.proofs.lemmas.Result.{on_ok_weaker}
 use Rattle.pb_points.specs.declared.row.Row.{Row}
@@ -18,18 +16,9 @@ use Rattle.pb_points.proofs.narrow_tally.NarrowTallyTally.add_book.Goals as goal
 alone : (rows wide : List Row) → wide ≡ [] → rows ≡ rows ++ wide
 alone rows wide none = sym (ap (λ l. rows ++ l) none ∙ append-nil rows)
 
-some_points : (n : ℕ) → nat_lt 0 n ≡ true → 0 < n
-some_points n is = grind (arith, nat_tests)
-
 pub push_book-requires : goal.push_book-requires
 push_book-requires c =
     subst (AllPairs IsBelow) (sym (c.deref.ensures.value ∙ c.keep_frequent.ensures)) (AllPairs-filter IsBelow _ _ c.in_ok-rows.ensures.order)
-
-pub order_rows-requires : goal.order_rows-requires
-order_rows-requires c =
-    let rows = rows_of c.args.self.now.rows in
-    subst (All (λ (r : Row). 0 < r.points)) (sym c.in_ok-rows-2.ensures)
-    (λ k d within. some_points _ (filter_passes (λ r. nat_lt 0 r.points) rows k d within))
 
 pub push_sums-requires-clause-fit : goal.push_sums-requires-clause-fit
 push_sums-requires-clause-fit c =
