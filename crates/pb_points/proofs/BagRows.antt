@@ -7,7 +7,7 @@ use Rattle.std.proofs.lemmas.List.Sorted.{sum_by-IsPermutation}
 use Rattle.pb_points.specs.declared.row.Row.{Row}
 use Rattle.pb_points.specs.Bag.{HoldsSame, SumsFit, bag_content, count_of, gain, points_of, times_of, total}
 use Rattle.pb_points.specs.Rows.{is_row}
-use Rattle.pb_points.specs.Tally.{Held, MakesRow, AddsPly, held, is_pair, more, nothing}
+use Rattle.pb_points.specs.Tally.{Content, Held, MakesRow, AddsPly, held, is_pair, more, nothing}
 use Rattle.pb_points.proofs.Pairs.{is_pair_same, is_pair_itself}
 
 -- ---- what a count and a sum say together
@@ -176,6 +176,11 @@ adds_set rows key code i n lt here k c =
         let points : points_of rows k c + 0 ≡ points_of rows k c = omega arith in
         let times : times_of rows k c + 0 ≡ times_of rows k c = omega arith in
         λ i. of_sums (count_of rows k c) (points i) (times i)
+
+-- what is held of a key and a code after a ply more
+pub held_added : (old new : Content) (key code n : ℕ) → AddsPly old new key code n → (k c : ℕ) (b : Bool) → is_pair key code k c ≡ b → held new k c ≡ (if b then more n (held old k c) else held old k c)
+held_added old new key code n adds k c true e = ap (λ o. unwrap_or o nothing) (adds k c ∙ ap (λ b. if b then Some (more n (held old k c)) else old k c) e)
+held_added old new key code n adds k c false e = ap (λ o. unwrap_or o nothing) (adds k c ∙ ap (λ b. if b then Some (more n (held old k c)) else old k c) e)
 
 -- ---- what follows
 

@@ -1,5 +1,5 @@
 -- What narrow and wide rows hold together, and how it changes.
-use Rattle.std.proofs.Common.{◌≡◌, ℕ, ◌+◌, ◌<◌, ◌≤◌, ◌^◌, ◌⊎◌, Bool, true, false, true≢false, cond, if◌then◌else◌, Option, Some, None, IsSome, is_some, unwrap_or, List, [], ◌∷◌, ◌++◌, length, get_or, set, refl, sym, ap, ◌∙◌, inl, inr, arith, subst, append_assoc}
+use Rattle.std.proofs.Common.{◌≡◌, ℕ, ◌+◌, ◌<◌, ◌≤◌, ◌^◌, ◌⊎◌, Bool, true, false, true≢false, cond, if◌then◌else◌, Option, Some, None, IsSome, is_some, List, [], ◌∷◌, ◌++◌, length, get_or, set, refl, sym, ap, ◌∙◌, inl, inr, arith, subst, append_assoc}
 use Rattle.std.specs.Prelude.{nat_lt, sum_by}
 use Rattle.std.proofs.Math.ListN.{length-append, length-set}
 use Rattle.std.proofs.lemmas.Bool.{cases_lt}
@@ -13,7 +13,7 @@ use Rattle.pb_points.specs.Blocks.{AddsThere}
 use Rattle.pb_points.specs.Rows.{is_row, same_pair}
 use Rattle.pb_points.specs.Tally.{Held, AddsPly, HasRoomFor, MakesRow, held, is_pair, more}
 use Rattle.pb_points.specs.NarrowTally.{AddsWide, IsParted, Keeps, Spills}
-use Rattle.pb_points.proofs.BagRows.{adds_set, count_set, counted, fit_pushed, fit_same, held_points, held_sums, held_times, makes_pushed, new_row, of_sums, one, row_at, with_more}
+use Rattle.pb_points.proofs.BagRows.{adds_set, count_set, counted, fit_pushed, fit_same, held_added, held_points, held_sums, held_times, makes_pushed, new_row, of_sums, one, row_at, with_more}
 use Rattle.pb_points.proofs.BlockRows.{set_last}
 use Rattle.pb_points.proofs.ListRows.{IsDistinct-more, same_keys}
 use Rattle.pb_points.proofs.Pairs.{is_pair_same, same_equiv}
@@ -73,16 +73,14 @@ fit_added old new key code n adds fit room = record { points = λ k c. (by k c (
   where
     by : (k c : ℕ) (b : Bool) → is_pair key code k c ≡ b → (points_of new k c ≤ 2 ^ 63) × (times_of new k c ≤ 2 ^ 63)
     by k c true e =
-        let now : held (bag_content new) k c ≡ more n (held (bag_content old) k c) =
-        ap (λ o. unwrap_or o (record { points = 0; times = 0 })) (adds k c ∙ ap (λ b. if b then Some (more n (held (bag_content old) k c)) else bag_content old k c) e) in
+        let now = held_added (bag_content old) (bag_content new) key code n adds k c true e in
         let p = is_pair_same key code k c e in
         let same : held (bag_content old) key code ≡ held (bag_content old) k c = λ i. held (bag_content old) (p.0 i) (p.1 i) in (
           omega (arith, ap (λ (h : Held). h.points) now, ap (λ (h : Held). h.points) same, held_points new k c, room.points),
           omega (arith, ap (λ (h : Held). h.times) now, ap (λ (h : Held). h.times) same, held_times new k c, room.times),
         )
     by k c false e =
-        let now : held (bag_content new) k c ≡ held (bag_content old) k c =
-        ap (λ o. unwrap_or o (record { points = 0; times = 0 })) (adds k c ∙ ap (λ b. if b then Some (more n (held (bag_content old) k c)) else bag_content old k c) e) in (
+        let now = held_added (bag_content old) (bag_content new) key code n adds k c false e in (
           omega (arith, ap (λ (h : Held). h.points) now, held_points new k c, held_points old k c, fit.points k c),
           omega (arith, ap (λ (h : Held). h.times) now, held_times new k c, held_times old k c, fit.times k c),
         )

@@ -1,5 +1,5 @@
 -- The book of the rows that have points.
-use Rattle.std.proofs.Common.{◌≡◌, ℕ, zero, suc, ◌*◌, ◌/◌, ◌<◌, ◌≤◌, ◌⊎◌, nat_le, Bool, true, false, cond, if◌then◌else◌, Some, None, unwrap_or, List, [], ◌∷◌, ◌++◌, length, get_or, Contains, refl, sym, ap, subst, ◌∙◌, inl, inr, arith}
+use Rattle.std.proofs.Common.{◌≡◌, ℕ, zero, suc, ◌*◌, ◌/◌, ◌<◌, ◌≤◌, ◌⊎◌, nat_le, Bool, true, false, cond, if◌then◌else◌, Some, None, List, [], ◌∷◌, ◌++◌, length, get_or, Contains, refl, sym, ap, subst, ◌∙◌, inl, inr, arith}
 use Rattle.std.specs.Prelude.{nat_lt}
 use Rattle.std.specs.List.{filter}
 use Rattle.std.proofs.Math.Nat.{zero-div}
@@ -11,11 +11,11 @@ use Rattle.pb_points.specs.declared.row.Row.{Row}
 use Rattle.pb_points.specs.Bag.{ArePlied, HoldsSame, IsAddedUp, SumsFit, bag_content, count_of, gain, points_of, times_of}
 use Rattle.pb_points.specs.Group.{AddsBook}
 use Rattle.pb_points.specs.Rows.{Gives, IsTop, frequent, is_row, pointed}
-use Rattle.pb_points.specs.Tally.{Held, AddsPly, held, is_pair, more, nothing}
+use Rattle.pb_points.specs.Tally.{Held, AddsPly, is_pair}
 use Rattle.pb_points.specs.TallyBook.{AddsBookOf}
 use Rattle.pb_points.specs.Weight.{scaled}
 use Rattle.pb_points.proofs.AddedRows.{added_each}
-use Rattle.pb_points.proofs.BagRows.{held_points, held_times, new_row, no_total, points_held, times_held, total_pushed}
+use Rattle.pb_points.proofs.BagRows.{held_added, held_points, held_times, new_row, no_total, points_held, times_held, total_pushed}
 use Rattle.pb_points.proofs.PartBooks.{frequent_within}
 use Rattle.pb_points.proofs.SomeSums.{some_sums}
 
@@ -40,12 +40,10 @@ plied_added old new key code n adds plied = record { paid = λ k c none. by k c 
   where
     by : (k c : ℕ) → times_of new k c ≡ 0 → (b : Bool) → is_pair key code k c ≡ b → points_of new k c ≡ 0
     by k c none true e =
-        let now : held (bag_content new) k c ≡ more n (held (bag_content old) k c) =
-        ap (λ o. unwrap_or o nothing) (adds k c ∙ ap (λ b. if b then Some (more n (held (bag_content old) k c)) else bag_content old k c) e) in
+        let now = held_added (bag_content old) (bag_content new) key code n adds k c true e in
         absurd (omega (arith, ap (λ (h : Held). h.times) now, held_times new k c, none))
     by k c none false e =
-        let now : held (bag_content new) k c ≡ held (bag_content old) k c =
-        ap (λ o. unwrap_or o nothing) (adds k c ∙ ap (λ b. if b then Some (more n (held (bag_content old) k c)) else bag_content old k c) e) in
+        let now = held_added (bag_content old) (bag_content new) key code n adds k c false e in
         let before : times_of old k c ≡ 0 = omega (arith, ap (λ (h : Held). h.times) now, held_times new k c, held_times old k c, none) in
         omega (arith, ap (λ (h : Held). h.points) now, held_points new k c, held_points old k c, plied.paid k c before)
 
