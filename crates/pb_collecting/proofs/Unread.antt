@@ -4,7 +4,7 @@ use Rattle.pb_io.specs.Sink.{SinkState}
 use Rattle.pb_io.specs.Source.{SourceState}
 use Rattle.pb_accepted.specs.Rules.{CountingRules}
 use Rattle.pb_collecting.specs.Laws.{RefusedIsUnread}
-use Rattle.pb_collecting.specs.Runs.{CollectRun, ContinueRun, JournalRun}
+use Rattle.pb_collecting.specs.Runs.{CollectRun, ContinueRun, JournalRun, went, broke, told, untold, stopped}
 
 collect_unread : (rules : CountingRules) (fills : ℕ) (t t' s s' : SourceState) (sink sink' : SinkState)
     → CollectRun rules fills t t' s s' sink sink' (Ok None) → s' ≡ s
