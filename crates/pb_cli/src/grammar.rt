@@ -51,7 +51,31 @@ const QUIET_HELP: &str =
 const GAMES_HELP: &str = "\
 Each line of standard input is a game: its id, its result, the FEN record that it starts from and
 its moves, with a TAB between each two. For example, where <TAB> is one TAB:
-  w1-1<TAB>1-0<TAB>rnbqkbnr/pppppppp/8/8/8/8/PPPPPPPP/RNBQKBNR w KQkq - 0 1<TAB>e2e4 e7e5";
+  w1-1<TAB>1-0<TAB>rnbqkbnr/pppppppp/8/8/8/8/PPPPPPPP/RNBQKBNR w KQkq - 0 1<TAB>e2e4 e7e5
+
+Examples:
+  pbook collect --journal games.log table.txt book.bin < games.txt > replies.txt
+  pbook export table.txt < games.txt > book.epd";
+
+/// A use of `fen`, for its help.
+const FEN_EXAMPLE: &str = "\
+Example:
+  pbook fen 'rnbqkbnr/pppppppp/8/8/8/8/PPPPPPPP/RNBQKBNR w KQkq - 0 1' e2e4 e7e5";
+
+/// A use of `epd`, for its help.
+const EPD_EXAMPLE: &str = "\
+Example:
+  pbook epd < suite.epd > ordered.epd";
+
+/// A use of `show`, for its help.
+const SHOW_EXAMPLE: &str = "\
+Example:
+  pbook show book.bin";
+
+/// A use of `probe`, for its help.
+const PROBE_EXAMPLE: &str = "\
+Example:
+  pbook probe table.txt book.bin 'rnbqkbnr/pppppppp/8/8/8/8/PPPPPPPP/RNBQKBNR w KQkq - 0 1'";
 
 /// The whole command line. Help lists the commands in this order.
 pub(crate) fn command_line<'a>(alloc: Global) -> Result<Command<'a>, AllocError>
@@ -84,9 +108,9 @@ fn program<'a>(alloc: Global) -> Result<Command<'a>, AllocError>
 fn fen<'a>(alloc: Global) -> Result<Command<'a>, AllocError>
     ensures { IfOk result (IsCommand fen_command) }
 {
-    let bare = Command::new(alloc, "fen").about(
-        "Plays moves from a FEN record and prints the record after them",
-    );
+    let bare = Command::new(alloc, "fen")
+        .about("Plays moves from a FEN record and prints the record after them")
+        .after_help(FEN_EXAMPLE);
     let with_record = bare.arg(required(alloc, "FEN", RECORD_HELP))?;
     let whole = with_record.arg(moves(alloc))?;
     Ok(whole)
@@ -96,18 +120,20 @@ fn fen<'a>(alloc: Global) -> Result<Command<'a>, AllocError>
 fn epd<'a>(alloc: Global) -> Command<'a>
     ensures { IsCommand epd_command result }
 {
-    Command::new(alloc, "epd").about(
-        "Rewrites EPD lines from standard input, each in its one ordered form",
-    )
+    Command::new(alloc, "epd")
+        .about("Rewrites EPD lines from standard input, each in its one ordered form")
+        .after_help(EPD_EXAMPLE)
 }
 
 /// `show BOOK`
 fn show<'a>(alloc: Global) -> Result<Command<'a>, AllocError>
     ensures { IfOk result (IsCommand show_command) }
 {
-    let bare = Command::new(alloc, "show").about(
-        "Prints the entries of a book, each as key, code, weight and learn value in hexadecimal digits",
-    );
+    let bare = Command::new(alloc, "show")
+        .about(
+            "Prints the entries of a book, each as key, code, weight and learn value in hexadecimal digits",
+        )
+        .after_help(SHOW_EXAMPLE);
     let whole = bare.arg(required(alloc, "BOOK", BOOK_HELP))?;
     Ok(whole)
 }
@@ -116,9 +142,9 @@ fn show<'a>(alloc: Global) -> Result<Command<'a>, AllocError>
 fn probe<'a>(alloc: Global) -> Result<Command<'a>, AllocError>
     ensures { IfOk result (IsCommand probe_command) }
 {
-    let bare = Command::new(alloc, "probe").about(
-        "Prints the moves that a book has for a FEN record, each with its weight",
-    );
+    let bare = Command::new(alloc, "probe")
+        .about("Prints the moves that a book has for a FEN record, each with its weight")
+        .after_help(PROBE_EXAMPLE);
     let with_table = bare.arg(required(alloc, "TABLE", TABLE_HELP))?;
     let with_book = with_table.arg(required(alloc, "BOOK", BOOK_HELP))?;
     let whole = with_book.arg(required(alloc, "FEN", RECORD_HELP))?;
