@@ -20,18 +20,18 @@ const BOOK_HELP: &str = "A PolyGlot book file";
 
 /// What a table file is, for the help of each command that reads one.
 const TABLE_HELP: &str =
-    "A file of the 781 words that keys are made of, each a line of 16 hexadecimal digits";
+    "A file of the 781 numbers that keys are made of, each a line of 16 hexadecimal digits";
 
 /// What a file of a book that is made is.
 const MADE_HELP: &str = "The file that the book is written to, in place of what it held";
 
 /// What a saved ledger is.
 const LEDGER_HELP: &str =
-    "A saved ledger: its games are held from the start, and it is made anew with those of this run";
+    "A saved ledger: its games are held from the start, and it is replaced by all games at the end";
 
 /// What a journal is.
 const JOURNAL_HELP: &str =
-    "A journal: its games are held from the start, and each new game is added to it before its reply is printed";
+    "A journal: its games are held from the start, and each new game is added before its reply";
 
 /// What syncing a journal is.
 const SYNC_HELP: &str = "Have each game of the journal reach the disk before its reply is printed";
@@ -54,28 +54,36 @@ its moves, with a TAB between each two. For example, where <TAB> is one TAB:
   w1-1<TAB>1-0<TAB>rnbqkbnr/pppppppp/8/8/8/8/PPPPPPPP/RNBQKBNR w KQkq - 0 1<TAB>e2e4 e7e5
 
 Examples:
-  pbook collect --journal games.log table.txt book.bin < games.txt > replies.txt
+  pbook collect --plies 24 --least 3 table.txt book.bin < games.txt > replies
+  pbook collect --journal games.journal table.txt book.bin < games.txt > replies
   pbook export table.txt < games.txt > book.epd";
 
-/// A use of `fen`, for its help.
+/// A call of the command that plays moves, and what it prints.
 const FEN_EXAMPLE: &str = "\
-Example:
-  pbook fen 'rnbqkbnr/pppppppp/8/8/8/8/PPPPPPPP/RNBQKBNR w KQkq - 0 1' e2e4 e7e5";
+For example
+  pbook fen 'rnbqkbnr/pppppppp/8/8/8/8/PPPPPPPP/RNBQKBNR w KQkq - 0 1' e2e4
+prints
+  rnbqkbnr/pppppppp/8/8/4P3/8/PPPP1PPP/RNBQKBNR b KQkq e3 0 1";
 
-/// A use of `epd`, for its help.
+/// A call of the command that rewrites EPD lines, and what it makes of one.
 const EPD_EXAMPLE: &str = "\
-Example:
-  pbook epd < suite.epd > ordered.epd";
+For example
+  pbook epd < positions.epd > ordered.epd
+makes of a line
+  4k3/8/8/8/8/8/4P3/4K3 w - - id \"pawn\";  ce 100;
+the line
+  4k3/8/8/8/8/8/4P3/4K3 w - - ce 100; id \"pawn\";";
 
-/// A use of `show`, for its help.
+/// A call of the command that shows a book.
 const SHOW_EXAMPLE: &str = "\
-Example:
-  pbook show book.bin";
+For example, the first five entries:
+  pbook show book.bin | head -n 5";
 
-/// A use of `probe`, for its help.
+/// A call of the command that looks a position up.
 const PROBE_EXAMPLE: &str = "\
-Example:
-  pbook probe table.txt book.bin 'rnbqkbnr/pppppppp/8/8/8/8/PPPPPPPP/RNBQKBNR w KQkq - 0 1'";
+For example, the moves at the start of a game, the greatest weight first:
+  pbook probe table.txt book.bin \\
+    'rnbqkbnr/pppppppp/8/8/8/8/PPPPPPPP/RNBQKBNR w KQkq - 0 1'";
 
 /// The whole command line. Help lists the commands in this order.
 pub(crate) fn command_line<'a>(alloc: Global) -> Result<Command<'a>, AllocError>
@@ -109,7 +117,7 @@ fn fen<'a>(alloc: Global) -> Result<Command<'a>, AllocError>
     ensures { IfOk result (IsCommand fen_command) }
 {
     let bare = Command::new(alloc, "fen")
-        .about("Plays moves from a FEN record and prints the record after them")
+        .about("Plays moves, and prints the FEN record after them")
         .after_help(FEN_EXAMPLE);
     let with_record = bare.arg(required(alloc, "FEN", RECORD_HELP))?;
     let whole = with_record.arg(moves(alloc))?;
@@ -121,7 +129,7 @@ fn epd<'a>(alloc: Global) -> Command<'a>
     ensures { IsCommand epd_command result }
 {
     Command::new(alloc, "epd")
-        .about("Rewrites EPD lines from standard input, each in its one ordered form")
+        .about("Rewrites EPD lines, each in its one ordered form")
         .after_help(EPD_EXAMPLE)
 }
 
@@ -130,9 +138,7 @@ fn show<'a>(alloc: Global) -> Result<Command<'a>, AllocError>
     ensures { IfOk result (IsCommand show_command) }
 {
     let bare = Command::new(alloc, "show")
-        .about(
-            "Prints the entries of a book, each as key, code, weight and learn value in hexadecimal digits",
-        )
+        .about("Prints the entries of a book in hexadecimal digits")
         .after_help(SHOW_EXAMPLE);
     let whole = bare.arg(required(alloc, "BOOK", BOOK_HELP))?;
     Ok(whole)
@@ -143,7 +149,7 @@ fn probe<'a>(alloc: Global) -> Result<Command<'a>, AllocError>
     ensures { IfOk result (IsCommand probe_command) }
 {
     let bare = Command::new(alloc, "probe")
-        .about("Prints the moves that a book has for a FEN record, each with its weight")
+        .about("Prints the moves that a book has for a FEN record")
         .after_help(PROBE_EXAMPLE);
     let with_table = bare.arg(required(alloc, "TABLE", TABLE_HELP))?;
     let with_book = with_table.arg(required(alloc, "BOOK", BOOK_HELP))?;
@@ -159,7 +165,7 @@ fn collect<'a>(alloc: Global) -> Result<Command<'a>, AllocError>
     let bare = taking_games(
         alloc,
         "collect",
-        "Takes games from standard input, prints the reply to each, and makes the book of those that are held",
+        "Takes games, answers each, and makes their PolyGlot book",
     );
     let keeping = with_keeping(alloc, bare)?;
     let counting = with_counting(alloc, keeping)?;
@@ -176,7 +182,7 @@ fn export<'a>(alloc: Global) -> Result<Command<'a>, AllocError>
     let bare = taking_games(
         alloc,
         "export",
-        "Takes games from standard input and prints the book of those that are held as EPD lines",
+        "Takes games, and prints their book as EPD lines",
     );
     let counting = with_counting(alloc, bare)?;
     let quieted = counting.arg(quiet(alloc))?;
