@@ -288,7 +288,7 @@ case_moves s m new ok case =
 pub case_leads : (s : Position) (m : Moved) (new : Board) → IsSetup s → lower.Case s m new → Outcome s m (after s m)
 case_leads s m new ok case = let P : Position → Type 0 = λ t. Outcome s m t in subst P (sym (same_after s m)) (case_after s m new ok case)
 
-board_after_case : (s : Position) (m : Moved) (new : Board) → IsSetup s → lower.Case s m new → (after s m).board ≡ new
+pub board_after_case : (s : Position) (m : Moved) (new : Board) → IsSetup s → lower.Case s m new → (after s m).board ≡ new
 board_after_case s m new ok case = sym (case_one s m new (after s m).board ok case (case_leads s m new ok case).moves)
 
 carried_is : (s : Position) (m : Moved) (p : Piece) → Holds s.board m.from p → (after s m).board ≡ carried s.board m p

@@ -235,12 +235,20 @@ keeps_is r m c =
           (test_fails m.to row.king_from (λ e. h.1 (inr e))) (test_fails m.from row.rook_from (λ e. h.2 (inl e))) (test_fails m.to row.rook_from (λ e. h.2 (inr e))),
     )
 
--- where no home is touched each flag is kept as it is
-pub kept_elsewhere : (m : Moved) (c : Castling) (flag : Bool) → ¬ IsHome m.from → ¬ IsHome m.to → KeepsFlag flag flag m (castling_row c)
-kept_elsewhere m c flag f t = (
-  λ h. (h, (λ at. elim at [ inl e ↦ f (c, inl e) | inr e ↦ t (c, inl e) ]), λ at. elim at [ inl e ↦ f (c, inr e) | inr e ↦ t (c, inr e) ]),
-  λ h. h.0,
-)
+-- where no home is touched each right is kept as it is
+all_but : (flag : Bool) → (flag && not (false || false || (false || false))) ≡ flag
+all_but true = refl
+all_but false = refl
+
+right_elsewhere : (r : Rights) (m : Moved) (c : Castling) → ¬ IsHome m.from → ¬ IsHome m.to → keeps_right r m c ≡ (castling_row c).right r
+right_elsewhere r m c f t =
+    let row = castling_row c in
+    rw (test_fails m.from row.king_from (λ e. f (c, inl e)), test_fails m.to row.king_from (λ e. t (c, inl e)),
+    test_fails m.from row.rook_from (λ e. f (c, inr e)), test_fails m.to row.rook_from (λ e. t (c, inr e))) (all_but (row.right r))
+
+pub rights_elsewhere : (r : Rights) (m : Moved) → ¬ IsHome m.from → ¬ IsHome m.to → rights_after r m ≡ r
+rights_elsewhere r m f t =
+    rw (right_elsewhere r m WhiteShort f t, right_elsewhere r m WhiteLong f t, right_elsewhere r m BlackShort f t, right_elsewhere r m BlackLong f t) refl
 
 -- what holds of the four castlings holds of each
 pub each_castling : (P : Castling → Type 0) → P WhiteShort → P WhiteLong → P BlackShort → P BlackLong → (c : Castling) → P c

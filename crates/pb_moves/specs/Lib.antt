@@ -12,7 +12,7 @@ pub mod Castling
 pub mod Cases
 pub mod Outcome
 pub mod Sight
-pub mod Change
+pub mod MoveKind
+pub mod Effect
 pub mod Free
 pub mod Candidate
-pub mod Beside
