@@ -15,7 +15,10 @@ use Rattle.pb_moves.specs.MoveKind.{LeadsTo, board_by}
 use Rattle.pb_moves.specs.Moved.{Moved}
 use Rattle.pb_moves.specs.Successor.{after, en_passant_after, rights_after}
 use Rattle.pb_moves.proofs.Legality.{case_at, case_by}
-use Rattle.pb_moves.proofs.SameMoves.{after_is_setup, board_after_case, case_moves, moves_case}
+use Rattle.pb_moves.proofs.SameMoves.{after_is_setup, board_after_case, case_moves, crossed_is, moves_case}
+use Rattle.pb_moves.proofs.Successors.{ep_is}
+use Rattle.pb_moves.proofs.Passing.{passed_over}
+use Rattle.pb_moves.proofs.Carried.{ep_of}
 
 after_parts : (s : Position) (m : Moved) → after s m ≡ position_of (after s m).board (opponent s.turn) (rights_after s.rights m) (en_passant_after m (at s.board m.from))
 unfolding after
@@ -38,7 +41,10 @@ is_effect s m piece kind rights ep ok own leads rights_is ep_is =
       after = after_parts s m ∙ ap B (board_after_case s m new ok case) ∙ ap R (sym rights_is) ∙ ap E (ap (λ (p : Place). en_passant_after m p) own.stands ∙ sym ep_is);
     }
 
--- and back
+-- and back: the piece makes the move by one of its cases
+pub effect_case : (s : Position) (m : Moved) (e : Effect) → IsSetup s → IsEffect s m e → CaseOf s m e.piece (after s m).board
+effect_case s m e ok is = case_at s m (after s m).board e.piece is.stands (moves_case s m ok is.moves)
+
 pub effect_leads : (s : Position) (m : Moved) (e : Effect) → IsSetup s → IsEffect s m e → HoldsOwn s m.from e.piece × LeadsTo (CaseOf s m e.piece) s m e.kind
 effect_leads s m e ok is =
     let same : (after s m).board ≡ board_by e.kind m s.board = ap (λ (t : Position). t.board) is.after in
@@ -46,7 +52,13 @@ effect_leads s m e ok is =
     let piece_is : case.piece ≡ e.piece = cc (case.stands, is.stands) in
     let C : Board → Type 0 = λ b. CaseOf s m e.piece b in
     let O : Piece → Type 0 = λ p. p.colour ≡ s.turn in
-    (record { stands = is.stands; own = subst O piece_is case.own }, (is.fits, subst C same (case_at s m (after s m).board e.piece is.stands case)))
+    (record { stands = is.stands; own = subst O piece_is case.own }, (is.fits, subst C same (effect_case s m e ok is)))
+
+-- the en passant square is the one that the case crosses
+pub effect_ep : (s : Position) (m : Moved) (e : Effect) → IsEffect s m e → (new : Board) (x : CaseOf s m e.piece new) → e.ep ≡ passed_over s m e.piece new x
+effect_ep s m e is new x =
+    sym (ap (λ (t : Position). t.ep) is.after) ∙ ap (λ (t : Position). t.ep) (after_parts s m) ∙ crossed_is m (at s.board m.from) ∙ ap (λ (p : Place). ep_of m p) is.stands
+    ∙ ep_is s m e.piece new x
 
 -- a piece without a case has no move
 pub not_pseudo_legal : (s : Position) (m : Moved) (piece : Piece) → IsSetup s → HoldsOwn s m.from piece → ((b : Board) → ¬ CaseOf s m piece b) → ¬ PseudoLegal s m

@@ -68,7 +68,7 @@ crossed_kind Rook m = refl
 crossed_kind Queen m = refl
 crossed_kind King m = refl
 
-crossed_is : (m : Moved) (place : Place) → successor.en_passant_after m place ≡ ep_of m place
+pub crossed_is : (m : Moved) (place : Place) → successor.en_passant_after m place ≡ ep_of m place
 crossed_is m None = refl
 crossed_is m (Some p) = crossed_kind p.kind m
 

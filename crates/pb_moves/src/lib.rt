@@ -37,6 +37,6 @@ pub use listing::legal_moves;
 pub use move_kind::MoveKind;
 pub use moves::Move;
 pub use playing::{play, play_on};
-pub use promotion::{promotion_number, promotion_of};
+pub use promotion::promotion_of;
 pub use spelling::read_move;
 pub use text::MoveText;
