@@ -7,7 +7,7 @@ use Rattle.pb_board.specs.declared.piece.Kind.{Kind}
 use Rattle.pb_board.specs.declared.piece.Kind.TheVariants.{Pawn, King}
 use Rattle.pb_board.specs.declared.piece.Piece.{Piece}
 use Rattle.pb_board.specs.Piece.{king_of, pawn_of, piece_of, rook_of}
-use Rattle.pb_board.specs.Board.{Board, Place, at, file, rank, Holds, IsForward}
+use Rattle.pb_board.specs.Board.{Board, Place, at, file, rank, IsForward}
 use Rattle.pb_board.specs.declared.setup.Carried.{Carried}
 use Rattle.pb_board.specs.Carried.{carried_on, carried_twice}
 use Rattle.pb_board.specs.Position.{Position, IsSetup, beyond, carried_board}
@@ -18,7 +18,7 @@ use Rattle.pb_moves.specs.Candidate.{HoldsOwn}
 use Rattle.pb_moves.specs.Castling.{RowAllows, rook_goes}
 use Rattle.pb_moves.specs.Cases.{Becomes, Castles, Differs, EnPassant, Goes}
 use Rattle.pb_moves.specs.declared.move_kind.MoveKind.TheVariants.{Double}
-use Rattle.pb_moves.specs.MoveKind.{CanGo, LeadsTo}
+use Rattle.pb_moves.specs.MoveKind.{LeadsTo}
 use Rattle.pb_moves.specs.Moved.{Moved, IsMove}
 use Rattle.pb_moves.specs.Reach.{Reaches}
 use Rattle.pb_moves.proofs.Carried.{put}
@@ -140,24 +140,27 @@ castles_so c s m king rook from to rook_from rook_to ok is own is_king none home
     let off_to : (q : ℕ) → row.king_to ≢ q → q ≢ m.to = λ q ne e. ne (sym (e ∙ target)) in
     let kept : (q : ℕ) → row.king_from ≢ q → row.king_to ≢ q → at (carried_on s.board first) q ≡ at s.board q = λ q f t. stays_at s.board first q (off_from q f) (off_to q t) in
     let new = carried_twice s.board first second in
-    let after : (d : Castling) × Castles (castling_row d) s m king new = (c, record {
-      king = is_king;
-      from_home = home;
-      to_table = target;
-      allowed = may;
-      after = record {
-        kind = King;
-        becomes = inr ((λ pawn. absurd cc), none, sym is_king);
-        board =
-            (let B : ℕ → ℕ → Piece → Type 0 = λ f t p.
-            Differs s.board (carried_twice s.board (going f t p) second) ((f, None) ∷ (t, Some (king_of s.turn)) ∷ rook_goes row) in
-            let side : king_of row.colour ≡ king_of s.turn = ap king_of (sym may.side) in
-            let D : Piece → Type 0 = λ p. Differs s.board (carried_twice s.board (going row.king_from row.king_to (king_of row.colour)) second) ((row.king_from, None) ∷ (row.king_to, Some p) ∷ rook_goes row) in
-            let made : B row.king_from row.king_to (king_of row.colour) = subst D side (castled_writes row s.board squares ok.places) in
-            subst (λ (p : Piece). B m.from m.to p) (sym the_king.0)
-            (subst (λ (t : ℕ). B m.from t (king_of row.colour)) (sym target) (subst (λ (f : ℕ). B f row.king_to (king_of row.colour)) (sym home) made)));
-      };
-    }) in
+    let after : (d : Castling) × Castles (castling_row d) s m king new = (
+      c,
+      record {
+        king = is_king;
+        from_home = home;
+        to_table = target;
+        allowed = may;
+        after = record {
+          kind = King;
+          becomes = inr ((λ pawn. absurd cc), none, sym is_king);
+          board =
+              (let B : ℕ → ℕ → Piece → Type 0 = λ f t p.
+              Differs s.board (carried_twice s.board (going f t p) second) ((f, None) ∷ (t, Some (king_of s.turn)) ∷ rook_goes row) in
+              let side : king_of row.colour ≡ king_of s.turn = ap king_of (sym may.side) in
+              let D : Piece → Type 0 = λ p. Differs s.board (carried_twice s.board (going row.king_from row.king_to (king_of row.colour)) second) ((row.king_from, None) ∷ (row.king_to, Some p) ∷ rook_goes row) in
+              let made : B row.king_from row.king_to (king_of row.colour) = subst D side (castled_writes row s.board squares ok.places) in
+              subst (λ (p : Piece). B m.from m.to p) (sym the_king.0)
+              (subst (λ (t : ℕ). B m.from t (king_of row.colour)) (sym target) (subst (λ (f : ℕ). B f row.king_to (king_of row.colour)) (sym home) made)));
+        };
+      },
+    ) in
     let L : ℕ → ℕ → ℕ → ℕ → Piece → Type 0 = λ f t g u p. LeadsTo (λ b. (d : Castling) × Castles (castling_row d) s m king b) s m (Double (going f t king) (going g u p)) in
     let leads : L m.from m.to row.rook_from row.rook_to (rook_of row.colour) = (
       (

@@ -1,8 +1,8 @@
 -- What a move does, from the case of its piece.
-use Rattle.std.proofs.Common.{◌≡◌, ℕ, refl, sym, ap, subst, ◌∙◌, Option, Some}
+use Rattle.std.proofs.Common.{◌≡◌, ℕ, sym, ap, subst, ◌∙◌, Option, Some}
 use Rattle.pb_board.specs.declared.piece.Piece.{Piece}
 use Rattle.pb_board.specs.declared.setup.Rights.{Rights}
-use Rattle.pb_board.specs.Board.{Board, Place, at, Holds}
+use Rattle.pb_board.specs.Board.{Board, Place, at}
 use Rattle.pb_board.specs.Piece.{opponent}
 use Rattle.pb_board.specs.Position.{Position, IsSetup, position_of}
 use Rattle.pb_moves.specs.declared.effect.Effect.{Effect}
@@ -15,14 +15,8 @@ use Rattle.pb_moves.specs.MoveKind.{LeadsTo, board_by}
 use Rattle.pb_moves.specs.Moved.{Moved}
 use Rattle.pb_moves.specs.Successor.{after, en_passant_after, rights_after}
 use Rattle.pb_moves.proofs.Legality.{case_at, case_by}
-use Rattle.pb_moves.proofs.SameMoves.{after_is_setup, board_after_case, case_moves, crossed_is, moves_case}
-use Rattle.pb_moves.proofs.Successors.{ep_is}
-use Rattle.pb_moves.proofs.Passing.{passed_over}
-use Rattle.pb_moves.proofs.Carried.{ep_of}
-
-after_parts : (s : Position) (m : Moved) → after s m ≡ position_of (after s m).board (opponent s.turn) (rights_after s.rights m) (en_passant_after m (at s.board m.from))
-unfolding after
-after_parts s m = refl
+use Rattle.pb_moves.proofs.SameMoves.{after_is_setup, after_parts, board_after_case, case_moves, crosses, moves_case}
+use Rattle.pb_moves.proofs.Passing.{crossed}
 
 -- the kind of move that leads to a case, with what stands beside the board, is what the move does
 pub is_effect : (s : Position) (m : Moved) (piece : Piece) (kind : MoveKind) (rights : Rights) (ep : Option ℕ) → IsSetup s → HoldsOwn s m.from piece
@@ -55,10 +49,9 @@ effect_leads s m e ok is =
     (record { stands = is.stands; own = subst O piece_is case.own }, (is.fits, subst C same (effect_case s m e ok is)))
 
 -- the en passant square is the one that the case crosses
-pub effect_ep : (s : Position) (m : Moved) (e : Effect) → IsEffect s m e → (new : Board) (x : CaseOf s m e.piece new) → e.ep ≡ passed_over s m e.piece new x
+pub effect_ep : (s : Position) (m : Moved) (e : Effect) → IsEffect s m e → (new : Board) (x : CaseOf s m e.piece new) → e.ep ≡ crossed s m e.piece new x
 effect_ep s m e is new x =
-    sym (ap (λ (t : Position). t.ep) is.after) ∙ ap (λ (t : Position). t.ep) (after_parts s m) ∙ crossed_is m (at s.board m.from) ∙ ap (λ (p : Place). ep_of m p) is.stands
-    ∙ ep_is s m e.piece new x
+    sym (ap (λ (t : Position). t.ep) is.after) ∙ ap (λ (t : Position). t.ep) (after_parts s m) ∙ crosses s m e.piece new is.stands x
 
 -- a piece without a case has no move
 pub not_pseudo_legal : (s : Position) (m : Moved) (piece : Piece) → IsSetup s → HoldsOwn s m.from piece → ((b : Board) → ¬ CaseOf s m piece b) → ¬ PseudoLegal s m

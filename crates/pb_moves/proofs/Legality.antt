@@ -89,10 +89,6 @@ case_at s m b piece stands case =
 pub case_by : (s : Position) (m : Moved) (b : Board) (piece : Piece) → HoldsOwn s m.from piece → CaseOf s m piece b → Case s m b
 case_by s m b piece own x = record { piece = piece; stands = own.stands; own = own.own; by_case = x }
 
--- a move from a square without a piece of the side to move isn't legal
-pub not_legal_without_piece : (s : Position) (m : Moved) → ((p : Piece) → ¬ HoldsOwn s m.from p) → ¬ SafeCase s m
-not_legal_without_piece s m none legal = none legal.moves.piece (record { stands = legal.moves.stands; own = legal.moves.own })
-
 -- a move without a case isn't legal
 pub not_legal_without_case : (s : Position) (m : Moved) (piece : Piece) → HoldsOwn s m.from piece → ((b : Board) → ¬ CaseOf s m piece b) → ¬ SafeCase s m
 not_legal_without_case s m piece own none legal = none legal.new (case_at s m legal.new piece own.stands legal.moves)

@@ -1,12 +1,12 @@
 -- A piece whose king wouldn't be attacked without it can go anywhere.
-use Rattle.std.proofs.Common.{◌≡◌, ◌≢◌, ℕ, ◌<◌, arith, inl, inr, Some, None, [], ◌∷◌, sym, ap, subst, ◌∙◌}
+use Rattle.std.proofs.Common.{◌≡◌, ◌≢◌, ℕ, arith, inl, inr, Some, None, [], ◌∷◌, sym, ap, subst, ◌∙◌}
 use Rattle.pb_board.specs.declared.piece.Colour.{Colour}
 use Rattle.pb_board.specs.declared.piece.Colour.TheVariants.{White, Black}
 use Rattle.pb_board.specs.declared.piece.Kind.{Kind}
 use Rattle.pb_board.specs.declared.piece.Kind.TheVariants.{Pawn, Knight, Bishop, Rook, Queen, King}
 use Rattle.pb_board.specs.declared.piece.Piece.{Piece}
 use Rattle.pb_board.specs.Piece.{opponent}
-use Rattle.pb_board.specs.Board.{Board, Holds, IsEmpty}
+use Rattle.pb_board.specs.Board.{Board, IsEmpty}
 use Rattle.pb_board.specs.Position.{Position}
 use Rattle.pb_moves.specs.Reach.{WayIsClear, ReachesBy, IsReached}
 use Rattle.pb_moves.specs.Moved.{Moved, IsMove}

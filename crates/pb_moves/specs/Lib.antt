@@ -10,7 +10,6 @@ pub mod Packed
 pub mod Reach
 pub mod Castling
 pub mod Cases
-pub mod Outcome
 pub mod Sight
 pub mod MoveKind
 pub mod Effect

@@ -75,7 +75,10 @@ impl Effect {
         // The reader tells that the setup meets its rules.
         let _turn = setup.turn();
         let Effect {
-            kind, rights, ep, ..
+            kind,
+            rights,
+            ep,
+            ..
         } = self;
         match kind {
             MoveKind::Normal(piece) => {

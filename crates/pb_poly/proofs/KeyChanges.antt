@@ -1,5 +1,5 @@
 -- What a move does to the sum over the places of a board's pieces.
-use Rattle.std.proofs.Common.{◌≡◌, ◌≢◌, ℕ, zero, suc, ◌+◌, ◌%◌, ◌<◌, Some, None, List, [], ◌∷◌, ◌++◌, length, refl, sym, ap, ◌∙◌, subst, arith}
+use Rattle.std.proofs.Common.{◌≡◌, ◌≢◌, ℕ, zero, suc, ◌+◌, ◌%◌, ◌<◌, Some, None, List, [], ◌∷◌, ◌++◌, length, refl, sym, ap, ◌∙◌, arith}
 use Rattle.pb_board.specs.declared.piece.Piece.{Piece}
 use Rattle.pb_board.specs.declared.setup.Carried.{Carried}
 use Rattle.pb_board.specs.Board.{Board, Place, at, Holds}

@@ -1,10 +1,10 @@
 -- The en passant square after a move, by what stood before it.
-use Rattle.std.proofs.Common.{◌≡◌, ◌≢◌, ℕ, ◌+◌, ◌-◌, ◌/◌, Some, None, Option, [], ◌∷◌, refl, sym, ap, ◌∙◌, arith}
+use Rattle.std.proofs.Common.{◌≡◌, ◌≢◌, ℕ, ◌+◌, ◌-◌, ◌/◌, Some, None, Option, [], refl, sym, ap, ◌∙◌, arith}
 use Rattle.pb_board.specs.declared.piece.Colour.{Colour}
 use Rattle.pb_board.specs.declared.piece.Colour.TheVariants.{White, Black}
 use Rattle.pb_board.specs.declared.piece.Piece.{Piece}
 use Rattle.pb_board.specs.Piece.{opponent}
-use Rattle.pb_board.specs.Board.{Board, Place, at, file, rank, IsForward}
+use Rattle.pb_board.specs.Board.{Board, at, file, rank, IsForward}
 use Rattle.pb_board.specs.Position.{Position, IsSetup, beyond}
 use Rattle.pb_moves.specs.declared.effect.Effect.{Effect}
 use Rattle.pb_moves.specs.Cases.{CaseOf, Goes, PawnDouble, pawn_rank, piece_move, pawn_step, pawn_double, pawn_capture, en_passant, castles}
@@ -12,7 +12,7 @@ use Rattle.pb_moves.specs.Effect.{IsEffect}
 use Rattle.pb_moves.specs.Moved.{Moved}
 use Rattle.pb_moves.specs.Successor.{after}
 use Rattle.pb_moves.proofs.Differing.{off_two}
-use Rattle.pb_moves.proofs.Passing.{passed_over}
+use Rattle.pb_moves.proofs.Passing.{crossed}
 use Rattle.pb_moves.proofs.Effects.{effect_case, effect_ep}
 use Rattle.pb_poly.specs.Key.{has_taker, en_passant_places, place_if}
 use Rattle.pb_poly.specs.KeyChange.{stepped_places}
@@ -55,17 +55,17 @@ double_places s t m p turn ep x =
     ∙ ap (λ f. place_if (has_taker s.board (opponent s.turn) m.to) (772 + f)) is.1
 
 -- no other move crosses a square
-by_case : (s t : Position) (m : Moved) (p : Piece) (ep : Option ℕ) (x : CaseOf s m p t.board) → t.turn ≡ opponent s.turn → t.ep ≡ ep → ep ≡ passed_over s m p t.board x
+by_case : (s t : Position) (m : Moved) (p : Piece) (ep : Option ℕ) (x : CaseOf s m p t.board) → t.turn ≡ opponent s.turn → t.ep ≡ ep → ep ≡ crossed s m p t.board x
     → en_passant_places t ≡ stepped_places s m.to ep
-by_case s t m p ep (pawn_double x) turn is crossed =
+by_case s t m p ep (pawn_double x) turn is by =
     let aside = step_beyond s.turn m.from m.to x.same_file x.forward in
-    double_places s t m p turn (is ∙ crossed) x
-    ∙ ap (λ n. place_if (has_taker s.board (opponent s.turn) m.to) (772 + n)) (sym aside.1) ∙ sym (ap (λ (o : Option ℕ). stepped_places s m.to o) crossed)
-by_case s t m p ep (piece_move x) turn is crossed = ap (λ (o : Option ℕ). passing_places t o) (is ∙ crossed) ∙ sym (ap (λ (o : Option ℕ). stepped_places s m.to o) crossed)
-by_case s t m p ep (pawn_step x) turn is crossed = ap (λ (o : Option ℕ). passing_places t o) (is ∙ crossed) ∙ sym (ap (λ (o : Option ℕ). stepped_places s m.to o) crossed)
-by_case s t m p ep (pawn_capture x) turn is crossed = ap (λ (o : Option ℕ). passing_places t o) (is ∙ crossed) ∙ sym (ap (λ (o : Option ℕ). stepped_places s m.to o) crossed)
-by_case s t m p ep (en_passant x) turn is crossed = ap (λ (o : Option ℕ). passing_places t o) (is ∙ crossed) ∙ sym (ap (λ (o : Option ℕ). stepped_places s m.to o) crossed)
-by_case s t m p ep (castles c x) turn is crossed = ap (λ (o : Option ℕ). passing_places t o) (is ∙ crossed) ∙ sym (ap (λ (o : Option ℕ). stepped_places s m.to o) crossed)
+    double_places s t m p turn (is ∙ by) x
+    ∙ ap (λ n. place_if (has_taker s.board (opponent s.turn) m.to) (772 + n)) (sym aside.1) ∙ sym (ap (λ (o : Option ℕ). stepped_places s m.to o) by)
+by_case s t m p ep (piece_move x) turn is by = ap (λ (o : Option ℕ). passing_places t o) (is ∙ by) ∙ sym (ap (λ (o : Option ℕ). stepped_places s m.to o) by)
+by_case s t m p ep (pawn_step x) turn is by = ap (λ (o : Option ℕ). passing_places t o) (is ∙ by) ∙ sym (ap (λ (o : Option ℕ). stepped_places s m.to o) by)
+by_case s t m p ep (pawn_capture x) turn is by = ap (λ (o : Option ℕ). passing_places t o) (is ∙ by) ∙ sym (ap (λ (o : Option ℕ). stepped_places s m.to o) by)
+by_case s t m p ep (en_passant x) turn is by = ap (λ (o : Option ℕ). passing_places t o) (is ∙ by) ∙ sym (ap (λ (o : Option ℕ). stepped_places s m.to o) by)
+by_case s t m p ep (castles c x) turn is by = ap (λ (o : Option ℕ). passing_places t o) (is ∙ by) ∙ sym (ap (λ (o : Option ℕ). stepped_places s m.to o) by)
 
 pub steps_after : (s : Position) (m : Moved) (e : Effect) → IsSetup s → IsEffect s m e → en_passant_places (after s m) ≡ stepped_places s m.to e.ep
 steps_after s m e ok is =

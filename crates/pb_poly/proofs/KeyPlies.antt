@@ -1,5 +1,5 @@
 -- The key before a move, with what the move changes toggled, is the key after it.
-use Rattle.std.proofs.Common.{◌≡◌, ℕ, ◌+◌, ◌%◌, ◌^◌, ◌<◌, Bool, true, false, not, List, [], ◌∷◌, ◌++◌, length, refl, sym, ap, ◌∙◌, append_assoc, arith}
+use Rattle.std.proofs.Common.{◌≡◌, ℕ, ◌+◌, ◌%◌, ◌^◌, ◌<◌, Bool, true, false, not, List, [], ◌∷◌, ◌++◌, refl, ap, ◌∙◌, arith}
 use Rattle.std.specs.Prelude.{slice_index}
 use Rattle.std.specs.Bool.{beq}
 use Rattle.std.specs.Int.{bit_at}
@@ -11,9 +11,7 @@ use Rattle.pb_board.specs.declared.piece.Colour.TheVariants.{White, Black}
 use Rattle.pb_board.specs.declared.setup.Rights.{Rights}
 use Rattle.pb_board.specs.Piece.{opponent}
 use Rattle.pb_board.specs.Castling.{castling_row, castlings}
-use Rattle.pb_board.specs.Board.{Board}
 use Rattle.pb_board.specs.Position.{Position}
-use Rattle.pb_moves.specs.Moved.{Moved}
 use Rattle.pb_poly.specs.Key.{castling_place, key, en_passant_places, piece_places, place_if, places, rights_places}
 use Rattle.pb_poly.specs.KeyChange.{changed_places, toggled}
 use Rattle.pb_poly.specs.Table.{IsTable}

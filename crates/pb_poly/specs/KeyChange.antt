@@ -1,5 +1,5 @@
 -- The places of the table whose numbers a move toggles in a key.
-use Rattle.std.specs.Prelude.{◌≡◌, ℕ, ◌+◌, not, Option, Some, None, List, [], ◌∷◌, ◌++◌, fold, slice_index, bit_xor}
+use Rattle.std.specs.Prelude.{ℕ, ◌+◌, not, Option, Some, None, List, [], ◌∷◌, ◌++◌, fold, slice_index, bit_xor}
 use Rattle.std.specs.Bool.{beq}
 use Rattle.std.specs.List.{flat_map}
 use Rattle.std.specs.Option.{option_map_or}

@@ -1,4 +1,4 @@
-use Rattle.std.proofs.Common.{◌≡◌, Some, None, arith, rules, sym, ap, ◌∙◌}
+use Rattle.std.proofs.Common.{◌≡◌, Some, None, rules, ap}
 use Rattle.pb_board.specs.Piece.{rook_of}
 use Rattle.pb_board.specs.Castling.{castling_of, castling_row}
 use Rattle.pb_moves.proofs.Carrying.{castles_so}
