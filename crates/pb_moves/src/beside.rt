@@ -15,7 +15,8 @@ fn keeps(castling: Castling, rights: Rights, m: Move) -> bool
     castling.is_allowed(rights) && !castling.is_touched(m.from(), m.to())
 }
 
-/// The castling rights that the move keeps, each by its squares. It is out of line, since few moves need it.
+/// The castling rights that the move keeps, each by its squares. It is out of line, since few moves
+/// need it.
 #[inline(never)]
 fn kept_rights(rights: Rights, m: Move) -> Rights
     ensures { result ≡ rights_by rights m }

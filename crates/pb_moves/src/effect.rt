@@ -10,7 +10,8 @@ use crate::move_kind::MoveKind;
 use crate::moves::Move;
 use pb_board::{Piece, Rights, Setup, Square};
 
-/// What a move does to a setup: with it the setup after the move, its key and more are made without looking the move up again.
+/// What a move does to a setup. The setup after it and the key of that are made of it, and the move
+/// isn't looked up again.
 #[derive(Clone, Copy)]
 pub struct Effect {
     /// The piece that moves, as it was.
@@ -55,8 +56,8 @@ pub fn legal_effect(setup: &Setup, m: Move) -> Option<Effect>
     }
 }
 
-/// Whether the move is legal: a piece of the side to move makes it by the rules for its kind, and that side isn't in
-/// check afterwards.
+/// Whether the move is legal: a piece of the side to move makes it by the rules for its kind, and
+/// that side isn't in check afterwards.
 pub fn is_legal(setup: &Setup, m: Move) -> bool
     ensures { IsTrue result ↔ Legal setup.now m }
 {

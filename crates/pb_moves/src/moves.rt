@@ -70,8 +70,8 @@ impl Move {
         Square::from_index((self.bits % 64) as u8).unwrap()
     }
 
-    /// The move as a number below 2^15: the square that it reaches, 64 times the square that it leaves, and 4,096 times the
-    /// promotion (none, knight, bishop, rook, queen from 0).
+    /// The move as a number below 2^15: the square that it reaches, 64 times the square that it
+    /// leaves, and 4,096 times the promotion (none, knight, bishop, rook, queen from 0).
     #[inline]
     pub fn bits(self) -> u16
         ensures { result ≡ self.to + 64 * self.from + 4096 * promotion_number self.promo }

@@ -46,7 +46,8 @@ fn toggle_going(table: &Table, key: u64, before: &Setup, leaving: Piece, carried
     toggle_piece(table, taken, piece, to)
 }
 
-/// Toggles the words of two pieces that go one after the other. It is out of line, since few moves need it.
+/// Toggles the words of two pieces that go one after the other. It is out of line, since few moves
+/// need it.
 #[inline(never)]
 fn toggle_double(table: &Table, key: u64, before: &Setup, first: Carried, second: Carried) -> u64
     ensures { result ≡ toggled table.now key (going_places before.now.board first.piece first
@@ -96,7 +97,8 @@ fn toggle_changed(table: &Table, key: u64, old: Rights, new: Rights) -> u64
     toggle_rights(table, key, changed)
 }
 
-/// Toggles the word of the en passant square after a double step to this square, where an enemy pawn stands beside the pawn.
+/// Toggles the word of the en passant square after a double step to this square, where an enemy
+/// pawn stands beside the pawn.
 #[inline(always)]
 fn toggle_stepped(table: &Table, key: u64, before: &Setup, to: Square, ep: Option<Square>) -> u64
     ensures { result ≡ toggled table.now key (stepped_places before.now to ep) }
@@ -111,7 +113,8 @@ fn toggle_stepped(table: &Table, key: u64, before: &Setup, to: Square, ep: Optio
 
 /// The key of the setup after a move, made of the setup before it, its key, and what the move does.
 ///
-/// The words of what the move changes are toggled, on four squares at most, without going over the board.
+/// The words of what the move changes are toggled, on four squares at most, without going over the
+/// board.
 #[inline(always)]
 pub fn key_next(table: &Table, key: u64, before: &Setup, m: Move, effect: &Effect) -> u64
     requires key { key ≡ key_by table.now before.now }
@@ -126,9 +129,11 @@ pub fn key_next(table: &Table, key: u64, before: &Setup, m: Move, effect: &Effec
     stepped ^ table.word(WHITE_TO_MOVE)
 }
 
-/// The key of the setup after a move, made of the key of the setup before it, as `play` gives the one after the other.
+/// The key of the setup after a move, made of the key of the setup before it, as `play` gives the
+/// one after the other.
 ///
-/// The words of what the move changes are toggled, on four squares at most, without going over the board.
+/// The words of what the move changes are toggled, on four squares at most, without going over the
+/// board.
 pub fn key_after(table: &Table, key: u64, before: &Setup, m: Move, after: &Setup) -> u64
     requires key { key ≡ key_by table.now before.now }
     requires moves { PseudoLegal before.now m }
