@@ -10,7 +10,7 @@ use crate::gift::{Gift, credit};
 use crate::notes::Notes;
 use pb_board::Setup;
 use pb_games::{Game, Line, MoveList, Outcome, Player, Refusal, judge_line};
-use pb_moves::{Move, play_on};
+use pb_moves::{Move, legal_effect};
 use pb_poly::{Table, code_of, key_next, key_of};
 use std::alloc::{AllocError, Global};
 
@@ -90,19 +90,19 @@ impl Player for Recorder {
     }
 
     fn play(&mut self, setup: &mut Setup, m: Move) -> bool {
-        let gift = Gift {
-            key: self.key,
-            code: code_of(setup, m),
-            points: credit(self.outcome, setup.turn()),
-        };
-        // The key afterwards is made before the move is played, so that no setup has to be kept for
-        // it.
-        let key = key_next(&self.table, self.key, setup, m);
-        if !play_on(setup, m) {
-            return false;
+        match legal_effect(setup, m) {
+            Some(effect) => {
+                let gift = Gift {
+                    key: self.key,
+                    code: code_of(setup, m),
+                    points: credit(self.outcome, setup.turn()),
+                };
+                self.key = key_next(&self.table, self.key, setup, m, &effect);
+                effect.apply(setup, m);
+                self.notes.add(gift, m);
+                true
+            }
+            None => false,
         }
-        self.notes.add(gift, m);
-        self.key = key;
-        true
     }
 }

@@ -1,17 +1,13 @@
--- The setup after a move, written by cases of the kind of the piece: that of `Outcome` wherever the move has a case (Successors), and
--- that of the function `after` everywhere (SameMoves).
+-- The board and the en passant square after a move, written by cases of the kind of the piece: those of the function `after` (SameMoves).
 use Rattle.std.specs.Prelude.{ℕ, ◌+◌, ◌*◌, ◌/◌, not, ◌&&◌, ◌==◌, Option, Some, None, is_none, if◌then◌else◌, slice_set}
 use Rattle.pb_board.specs.declared.piece.Kind.{Kind}
 use Rattle.pb_board.specs.declared.piece.Kind.TheVariants.{Pawn, King}
 use Rattle.pb_board.specs.declared.piece.Piece.{Piece}
-use Rattle.pb_board.specs.Position.{Position}
-use Rattle.pb_board.specs.Piece.{opponent}
 use Rattle.pb_board.specs.Board.{Board, file, rank, at}
 use Rattle.pb_board.specs.declared.castling.Castling.{Castling}
 use Rattle.pb_moves.specs.Attacks.{ranks_apart}
 use Rattle.pb_board.specs.Castling.{castling_of, castling_row}
 use Rattle.pb_moves.specs.Moved.{Moved}
-use Rattle.pb_moves.specs.Successor.{rights_after}
 
 abbrev pub put : Board → ℕ → Option Piece → Board
 put board square place = slice_set board square place
@@ -50,11 +46,3 @@ ep_of_kind _ m = None
 abbrev pub ep_of : Moved → Option Piece → Option ℕ
 ep_of m None = None
 ep_of m (Some piece) = ep_of_kind piece.kind m
-
-unfoldable pub carried_on : Position → Moved → Position
-carried_on s m = record {
-  board = board_of s.board m (at s.board m.from);
-  turn = opponent s.turn;
-  rights = rights_after s.rights m;
-  ep = ep_of m (at s.board m.from);
-}

@@ -17,7 +17,7 @@ use Rattle.pb_board.specs.Castling.{castling_row}
 use Rattle.pb_moves.specs.Castling.{rook_goes}
 use Rattle.pb_moves.specs.Cases.{Differs, Becomes, Goes, pawn_rank, CaseOf, piece_move, pawn_step, pawn_double, pawn_capture, en_passant, castles}
 use Rattle.pb_moves.proofs.Differing.{All-two, arrived, each_place, holds_on_board, off_two}
-use Rattle.pb_moves.proofs.Passing.{halfway_between, halfway_empty, passed_over}
+use Rattle.pb_moves.proofs.Passing.{halfway_between, halfway_empty, crossed}
 use Rattle.pb_moves.proofs.Unique.{piece_is, en_passant_at}
 use Rattle.pb_moves.proofs.Kings.{becomes_king, holds_at, pawn_reach, kings_after, some_one, white_and_black}
 
@@ -94,7 +94,7 @@ no_pawns : All (λ (c : ℕ × Place). (side : Colour) → c.1 ≢ Some (pawn_of
 no_pawns = let F : ℕ × Place → Type 0 = λ c. (side : Colour) → c.1 ≢ Some (pawn_of side) in All-nil F
 
 pub keeps : (s : Position) (m : Moved) (p : Piece) (new : Board) → IsSetup s → Holds s.board m.from p → p.colour ≡ s.turn
-    → (x : CaseOf s m p new) → Keeps s new (passed_over s m p new x)
+    → (x : CaseOf s m p new) → Keeps s new (crossed s m p new x)
 keeps s m p new ok stands own (piece_move x) = record {
   places = x.after.board.squares;
   pawns = pawns_going s m p new [] ok x.after (λ pawn. absurd (becomes_no_pawn s.turn m p.kind x.after.kind x.no_pawn x.after.becomes pawn)) no_pawns;
@@ -161,7 +161,7 @@ keeps s m p new ok stands own (castles k x) =
 
 -- the parts after a move make a setup
 pub setup_by_parts : (s : Position) (m : Moved) (p : Piece) (new : Board) (rights : Rights) (ep : Option ℕ)
-    → IsSetup s → Holds s.board m.from p → p.colour ≡ s.turn → (x : CaseOf s m p new) → ep ≡ passed_over s m p new x
+    → IsSetup s → Holds s.board m.from p → p.colour ≡ s.turn → (x : CaseOf s m p new) → ep ≡ crossed s m p new x
     → IsSetup (position_of new (opponent s.turn) rights ep)
 setup_by_parts s m p new rights ep ok stands own x same_ep =
     let k = keeps s m p new ok stands own x in

@@ -8,12 +8,12 @@ use Rattle.pb_board.specs.Board.{Board, Place, Holds}
 use Rattle.pb_board.specs.Position.{Position, IsSetup, beyond}
 use Rattle.pb_moves.specs.Reach.{KingInReach}
 use Rattle.pb_board.specs.declared.castling.Castling.{Castling}
-use Rattle.pb_moves.specs.declared.change.Change.{Change}
+use Rattle.pb_moves.specs.declared.move_kind.MoveKind.{MoveKind}
 use Rattle.pb_moves.specs.Moved.{Moved}
 use Rattle.pb_moves.specs.Candidate.{HoldsOwn}
 use Rattle.pb_board.specs.Castling.{castling_row}
 use Rattle.pb_moves.specs.Cases.{Becomes, Goes, PieceMove, PawnStep, PawnDouble, PawnCapture, EnPassant, Castles, CaseOf, piece_move, pawn_step, pawn_double, pawn_capture, en_passant, castles, Case, SafeCase}
-use Rattle.pb_moves.specs.Change.{Finds}
+use Rattle.pb_moves.specs.MoveKind.{Finds}
 use Rattle.pb_moves.proofs.Unique.{case_one}
 
 -- a pawn that becomes nothing doesn't go
@@ -39,8 +39,8 @@ no_pawn_case s m pawn own is_pawn none new case =
 -- a pawn's last case
 pub pawn_cases : (s : Position) (m : Moved) (piece : Piece) → piece.kind ≡ Pawn
     → ((b : Board) → ¬ PawnStep s m piece b) → ((b : Board) → ¬ PawnDouble s m piece b) → ((b : Board) → ¬ PawnCapture s m piece b)
-    → (o : Option Change) → Finds (EnPassant s m piece) s.board m o → Finds (CaseOf s m piece) s.board m o
-pawn_cases s m piece pawn step double capture (Some x) h = (h.0, λ b c. en_passant (h.1 b c))
+    → (o : Option MoveKind) → Finds (EnPassant s m piece) s m o → Finds (CaseOf s m piece) s m o
+pawn_cases s m piece pawn step double capture (Some x) h = (h.0, en_passant h.1)
 pawn_cases s m piece pawn step double capture None h = λ b x.
     elim x [
       | piece_move y ↦ y.no_pawn pawn
@@ -53,8 +53,8 @@ pawn_cases s m piece pawn step double capture None h = λ b x.
 
 -- the case of a piece that is neither
 pub piece_cases : (s : Position) (m : Moved) (piece : Piece) → piece.kind ≢ Pawn → piece.kind ≢ King
-    → (o : Option Change) → Finds (PieceMove s m piece) s.board m o → Finds (CaseOf s m piece) s.board m o
-piece_cases s m piece no_pawn no_king (Some x) h = (h.0, λ b c. piece_move (h.1 b c))
+    → (o : Option MoveKind) → Finds (PieceMove s m piece) s m o → Finds (CaseOf s m piece) s m o
+piece_cases s m piece no_pawn no_king (Some x) h = (h.0, piece_move h.1)
 piece_cases s m piece no_pawn no_king None h = λ b x.
     elim x [
       | piece_move y ↦ h b y
@@ -67,8 +67,8 @@ piece_cases s m piece no_pawn no_king None h = λ b x.
 
 -- a king's last case
 pub king_cases : (s : Position) (m : Moved) (piece : Piece) → piece.kind ≡ King → ((b : Board) → ¬ PieceMove s m piece b)
-    → (o : Option Change) → Finds (λ b. (c : Castling) × Castles (castling_row c) s m piece b) s.board m o → Finds (CaseOf s m piece) s.board m o
-king_cases s m piece king move (Some x) h = (h.0, λ b changes. let found = h.1 b changes in castles found.0 found.1)
+    → (o : Option MoveKind) → Finds (λ b. (c : Castling) × Castles (castling_row c) s m piece b) s m o → Finds (CaseOf s m piece) s m o
+king_cases s m piece king move (Some x) h = (h.0, castles h.1.0 h.1.1)
 king_cases s m piece king move None h = λ b x.
     elim x [
       | piece_move y ↦ move b y
@@ -88,10 +88,6 @@ case_at s m b piece stands case =
 
 pub case_by : (s : Position) (m : Moved) (b : Board) (piece : Piece) → HoldsOwn s m.from piece → CaseOf s m piece b → Case s m b
 case_by s m b piece own x = record { piece = piece; stands = own.stands; own = own.own; by_case = x }
-
--- a move from a square without a piece of the side to move isn't legal
-pub not_legal_without_piece : (s : Position) (m : Moved) → ((p : Piece) → ¬ HoldsOwn s m.from p) → ¬ SafeCase s m
-not_legal_without_piece s m none legal = none legal.moves.piece (record { stands = legal.moves.stands; own = legal.moves.own })
 
 -- a move without a case isn't legal
 pub not_legal_without_case : (s : Position) (m : Moved) (piece : Piece) → HoldsOwn s m.from piece → ((b : Board) → ¬ CaseOf s m piece b) → ¬ SafeCase s m

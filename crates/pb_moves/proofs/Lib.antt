@@ -24,3 +24,4 @@ pub mod Listed
 pub mod Castlings
 pub mod Equal
 pub mod Spellings
+pub mod Effects

@@ -14,12 +14,12 @@ use Rattle.pb_moves.proofs.Sets.{in_and, in_both}
 abbrev tests_near : ℕ → ℕ → Bool
 tests_near a b = eqb (max (files_apart a b) (ranks_apart a b)) 1
 
-near_is_right : is_right NEAR tests_near ≡ true
+near_is_right : is_right (λ a. get_or NEAR a 0) tests_near ≡ true
 near_is_right = refl
 
 pub near_bit : (a b : ℕ) → a < 64 → b < 64 → (bit_at (get_or NEAR a 0) b ≡ 1) ↔ (max (files_apart a b) (ranks_apart a b) ≡ 1)
 near_bit a b x y =
-    bit_tells NEAR tests_near a b (max (files_apart a b) (ranks_apart a b) ≡ 1) near_is_right x y
+    bit_tells (λ q. get_or NEAR q 0) tests_near a b (max (files_apart a b) (ranks_apart a b) ≡ 1) near_is_right x y
     (eq-eqb (max (files_apart a b) (ranks_apart a b)) 1) (eqb-true (max (files_apart a b) (ranks_apart a b)) 1)
 
 -- the same, from the square that is attacked

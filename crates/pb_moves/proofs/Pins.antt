@@ -1,23 +1,22 @@
 -- A piece whose king wouldn't be attacked without it can go anywhere.
-use Rattle.std.proofs.Common.{◌≡◌, ◌≢◌, ℕ, ◌<◌, arith, inl, inr, Some, None, [], ◌∷◌, sym, ap, subst, ◌∙◌}
+use Rattle.std.proofs.Common.{◌≡◌, ◌≢◌, ℕ, arith, inl, inr, Some, None, [], ◌∷◌, sym, ap, subst, ◌∙◌}
 use Rattle.pb_board.specs.declared.piece.Colour.{Colour}
 use Rattle.pb_board.specs.declared.piece.Colour.TheVariants.{White, Black}
 use Rattle.pb_board.specs.declared.piece.Kind.{Kind}
 use Rattle.pb_board.specs.declared.piece.Kind.TheVariants.{Pawn, Knight, Bishop, Rook, Queen, King}
 use Rattle.pb_board.specs.declared.piece.Piece.{Piece}
 use Rattle.pb_board.specs.Piece.{opponent}
-use Rattle.pb_board.specs.Board.{Board, Holds, IsEmpty}
+use Rattle.pb_board.specs.Board.{Board, IsEmpty}
 use Rattle.pb_board.specs.Position.{Position}
 use Rattle.pb_moves.specs.Reach.{WayIsClear, ReachesBy, IsReached}
-use Rattle.pb_moves.specs.Moved.{Moved}
+use Rattle.pb_moves.specs.Moved.{Moved, IsMove}
 use Rattle.pb_moves.specs.Candidate.{HoldsOwn}
 use Rattle.pb_moves.specs.Free.{IsFree}
 use Rattle.pb_moves.specs.Cases.{Differs, CaseOf, SafeCase}
-use Rattle.pb_moves.specs.Change.{LeadsTo}
+use Rattle.pb_moves.specs.MoveKind.{LeadsTo}
 use Rattle.pb_moves.proofs.Carried.{put}
-use Rattle.pb_moves.specs.declared.change.Change.TheVariants.{Carry}
+use Rattle.pb_moves.specs.declared.move_kind.MoveKind.TheVariants.{Normal}
 use Rattle.pb_moves.proofs.Differing.{arrived, carried_put, left, lifted_put, moved_board, off_one, off_two, same_or_not}
-use Rattle.pb_moves.proofs.Unique.{besides_of, goes_of}
 use Rattle.pb_moves.proofs.Kings.{holds_one, holds_at, empty_holds, king_stays, no_king}
 use Rattle.pb_moves.proofs.Legality.{legal_out_of_check}
 
@@ -66,26 +65,16 @@ attacked_lifted old new lifted side from to king p moved gone own attack =
       },
     )
 
--- what arrives is of the side that moves
-pub arrives_own : (s : Position) (m : Moved) (p q : Piece) (new : Board) → Holds new m.to q → CaseOf s m p new → q.colour ≡ s.turn
-arrives_own s m p q new here case =
-    let x = goes_of s m p new case in
-    let r : Piece = record { colour = s.turn; kind = x.kind } in
-    let F : Piece → Colour = λ z. z.colour in
-    ap F (holds_one new m.to q r here (arrived s.board new m.from m.to r (besides_of s m p new case) x.board))
-
 -- so the move of a piece that its king doesn't need is legal
-pub legal_free : (s : Position) (m : Moved) (p arriving : Piece) → m.from < 64 → m.to < 64 → m.from ≢ m.to → HoldsOwn s m.from p
-    → LeadsTo (CaseOf s m p) s.board m (Carry arriving) → IsFree s m.from p → SafeCase s m
-legal_free s m p arriving on_from on_to moves own leads free =
+pub legal_free : (s : Position) (m : Moved) (p arriving : Piece) → IsMove m → HoldsOwn s m.from p
+    → LeadsTo (CaseOf s m p) s m (Normal arriving) → IsFree s m.from p → SafeCase s m
+legal_free s m p arriving is own leads free =
     let new = moved_board s.board m.from m.to arriving in
     let lifted = put s.board m.from None in
-    let moved = carried_put s.board m.from m.to arriving free.rules.places on_from on_to moves in
-    let gone = lifted_put s.board m.from free.rules.places on_from in
-    let case = leads.1 new moved in
-    let stays = king_stays s m p new s.turn free.king free.rules own.stands own.own (no_king p s.turn free.no_king) free.only case in
-    let arrives = arrives_own s m p arriving new (arrived s.board new m.from m.to arriving [] moved) case in
-    legal_out_of_check s m new p own case (λ check.
+    let moved = carried_put s.board m.from m.to arriving free.rules.places is.from_on_board is.to_on_board is.moves in
+    let gone = lifted_put s.board m.from free.rules.places is.from_on_board in
+    let stays = king_stays s m p new s.turn free.king free.rules own.stands own.own (no_king p s.turn free.no_king) free.only leads.1 in
+    legal_out_of_check s m new p own leads.1 (λ check.
     let here : check.0 ≡ free.king = (stays check.0).0 check.1.stands in
     let P : ℕ → Type 0 = λ k. IsReached new (opponent s.turn) k in
-    free.covered lifted gone (attacked_lifted s.board new lifted s.turn m.from m.to free.king arriving moved gone arrives (subst P here check.1.attacked)))
+    free.covered lifted gone (attacked_lifted s.board new lifted s.turn m.from m.to free.king arriving moved gone leads.0 (subst P here check.1.attacked)))

@@ -1,4 +1,4 @@
--- The function `after` is `carried_on`, and the moves of `Legal` are those of `Cases`.
+-- The setup after a move by `after` has the board of the case, and the moves of `Legal` are those of `Cases`.
 use Rattle.std.proofs.Common.{◌≡◌, ◌≢◌, ℕ, ◌+◌, ◌*◌, ◌/◌, ◌⊎◌, ◌↔◌, refl, arith, inl, inr, sym, ap, subst, ◌∙◌, Option, Some, None, List, [], ◌∷◌, Bool, true, false, not, ◌&&◌, ◌==◌, is_none}
 use Rattle.std.specs.Prelude.{IsSome, unwrap_or, fold, if◌then◌else◌}
 use Rattle.pb_board.specs.declared.piece.Colour.{Colour}
@@ -19,17 +19,18 @@ use Rattle.pb_moves.specs.Castling.{rook_goes}
 use Rattle.pb_moves.specs.Cases as lower
 use Rattle.pb_moves.specs.Legal as chess
 use Rattle.pb_moves.specs.Legal.{Legal, PseudoLegal}
-use Rattle.pb_moves.specs.Outcome.{Outcome}
 use Rattle.pb_moves.specs.Successor as successor
 use Rattle.pb_moves.specs.Successor.{after, rights_after}
-use Rattle.pb_moves.proofs.Carried.{put, arriving, beside, carried, board_of, ep_of, ep_of_kind, carried_on}
+use Rattle.pb_moves.proofs.Carried.{put, arriving, beside, carried, board_of, ep_of, ep_of_kind}
 use Rattle.pb_moves.proofs.Castlings.{rows}
 use Rattle.pb_moves.proofs.SameAttacks.{attacks_to, attacks_from, clear_to, clear_from, no_near, attacked_to, attacked_from, check_to, check_from}
 use Rattle.pb_moves.proofs.Differing.{moved_board, carried_put, carried_past_put}
 use Rattle.pb_moves.proofs.Kings.{pawn_reach, gone_is_beyond}
+use Rattle.pb_moves.proofs.Kept.{setup_by_parts}
 use Rattle.pb_moves.proofs.LegalMoves.{case_is_move}
-use Rattle.pb_moves.proofs.Successors.{case_after, carried_is_setup, outcome_is, beside_piece, beside_straight, beside_taking, beside_passing, castled_board, castled_put, castle_is}
-use Rattle.pb_moves.proofs.Unique.{goes_of, case_one, en_passant_at, piece_is, pawn_files, king_near, step_ranks}
+use Rattle.pb_moves.proofs.Passing.{crossed}
+use Rattle.pb_moves.proofs.Successors.{board_is, ep_is, beside_piece, beside_straight, beside_taking, beside_passing, castled_board, castled_put, castle_is}
+use Rattle.pb_moves.proofs.Unique.{goes_of, en_passant_at, piece_is, pawn_files, king_near, step_ranks}
 
 -- ---- the setup after a move
 
@@ -40,7 +41,7 @@ taken_is : (new : Board) (test : Bool) (gone : ℕ) → puts new (if test then (
 taken_is new true gone = refl
 taken_is new false gone = refl
 
--- what changes besides changes as `carried_on` says
+-- what changes besides changes as `beside` says
 besides_is : (board new : Board) (m : Moved) (k : Kind) (c : Option Castling) → castling_of m.from m.to ≡ c → puts new (successor.besides board m k c) ≡ beside k board new m
 besides_is board new m Pawn c is = taken_is new (not (file m.to == file m.from) && is_none (at board m.to)) (8 * rank m.from + file m.to)
 besides_is board new m King (Some c) is = rw is refl
@@ -72,13 +73,14 @@ crossed_is : (m : Moved) (place : Place) → successor.en_passant_after m place 
 crossed_is m None = refl
 crossed_is m (Some p) = crossed_kind p.kind m
 
-pub same_after : (s : Position) (m : Moved) → after s m ≡ carried_on s m
-unfolding after carried_on
-same_after s m =
-    let place = at s.board m.from in
-    let B : Board → Position = λ b. position_of b (opponent s.turn) (rights_after s.rights m) (successor.en_passant_after m place) in
-    let E : Option ℕ → Position = λ e. position_of (board_of s.board m place) (opponent s.turn) (rights_after s.rights m) e in
-    ap B (board_after s.board m place) ∙ ap E (crossed_is m place)
+-- the parts of the setup after a move
+pub after_parts : (s : Position) (m : Moved) → after s m ≡ position_of (after s m).board (opponent s.turn) (rights_after s.rights m) (successor.en_passant_after m (at s.board m.from))
+unfolding after
+after_parts s m = refl
+
+carried_is : (s : Position) (m : Moved) (p : Piece) → Holds s.board m.from p → (after s m).board ≡ carried s.board m p
+unfolding after
+carried_is s m p stands = board_after s.board m (at s.board m.from) ∙ ap (board_of s.board m) stands
 
 -- ---- a case of `Cases` is one of `Legal`
 
@@ -285,15 +287,9 @@ case_moves s m new ok case =
       promotes = names_to s.turn m case.piece.kind _ (goes_of s m case.piece new case.by_case).becomes;
     }
 
-pub case_leads : (s : Position) (m : Moved) (new : Board) → IsSetup s → lower.Case s m new → Outcome s m (after s m)
-case_leads s m new ok case = let P : Position → Type 0 = λ t. Outcome s m t in subst P (sym (same_after s m)) (case_after s m new ok case)
-
-board_after_case : (s : Position) (m : Moved) (new : Board) → IsSetup s → lower.Case s m new → (after s m).board ≡ new
-board_after_case s m new ok case = sym (case_one s m new (after s m).board ok case (case_leads s m new ok case).moves)
-
-carried_is : (s : Position) (m : Moved) (p : Piece) → Holds s.board m.from p → (after s m).board ≡ carried s.board m p
-unfolding carried_on
-carried_is s m p stands = ap (λ (t : Position). t.board) (same_after s m) ∙ ap (board_of s.board m) stands
+pub board_after_case : (s : Position) (m : Moved) (new : Board) → IsSetup s → lower.Case s m new → (after s m).board ≡ new
+board_after_case s m new ok case =
+    carried_is s m case.piece case.stands ∙ board_is s m case.piece new ok (case_is_move s m new ok case) case.stands case.own case.by_case
 
 -- and back
 pub moves_case : (s : Position) (m : Moved) → IsSetup s → PseudoLegal s m → lower.Case s m (after s m).board
@@ -302,18 +298,17 @@ moves_case s m ok h =
     let C : Board → Type 0 = λ b. lower.Case s m b in
     subst C (sym (carried_is s m p h.stands)) (record { piece = p; stands = h.stands; own = refl; by_case = case_from s m h.kind ok h.is_move h.promotes h.by_case })
 
--- a move has an outcome where it is legal but for check, and the outcome is the setup after it
-pub moves_after : (s : Position) (m : Moved) → IsSetup s → PseudoLegal s m → Outcome s m (after s m)
-moves_after s m ok h = case_leads s m (after s m).board ok (moves_case s m ok h)
-
-pub outcome_moves : (s : Position) (m : Moved) (t : Position) → IsSetup s → Outcome s m t → PseudoLegal s m × (t ≡ after s m)
-outcome_moves s m t ok x = (case_moves s m t.board ok x.moves, outcome_is s m t ok x ∙ sym (same_after s m))
+-- the en passant square after a move is the one that its case crosses
+pub crosses : (s : Position) (m : Moved) (p : Piece) (new : Board) → Holds s.board m.from p → (x : lower.CaseOf s m p new) → successor.en_passant_after m (at s.board m.from) ≡ crossed s m p new x
+crosses s m p new stands x = crossed_is m (at s.board m.from) ∙ ap (ep_of m) stands ∙ ep_is s m p new x
 
 -- the setup after it meets the rules for setups
 pub after_is_setup : (s : Position) (m : Moved) → IsSetup s → PseudoLegal s m → IsSetup (after s m)
 after_is_setup s m ok h =
     let P : Position → Type 0 = λ t. IsSetup t in
-    subst P (sym (same_after s m)) (carried_is_setup s m (after s m).board ok (moves_case s m ok h))
+    let case = moves_case s m ok h in
+    subst P (sym (after_parts s m)) (setup_by_parts s m case.piece (after s m).board (rights_after s.rights m) (successor.en_passant_after m (at s.board m.from)) ok
+    case.stands case.own case.by_case (crosses s m case.piece (after s m).board case.stands case.by_case))
 
 -- the legal moves are those of the cases that leave the mover out of check
 pub legal_to : (s : Position) (m : Moved) → IsSetup s → lower.SafeCase s m → Legal s m

@@ -1,6 +1,5 @@
--- The function `carried_on` gives the setup of `Outcome`, which has no other.
-use Rattle.std.proofs.Common.{◌≡◌, ◌≢◌, ℕ, ◌+◌, ◌*◌, ◌/◌, ◌≤◌, ◌↔◌, refl, arith, inl, inr, sym, ap, subst, ◌∙◌, Option, Some, None, [], ◌∷◌, length, Bool, true, false, not, ◌&&◌, ◌||◌, eqb, IsTrue}
-use Rattle.std.specs.Prelude.{MatchOption}
+-- The board and the en passant square after a case are those that the functions of `Carried` give.
+use Rattle.std.proofs.Common.{◌≡◌, ◌≢◌, ℕ, ◌+◌, ◌*◌, ◌/◌, ◌≤◌, refl, arith, inl, inr, sym, ap, subst, ◌∙◌, Option, Some, None, [], ◌∷◌, length, Bool, true, false, not, ◌&&◌, ◌||◌, eqb}
 use Rattle.std.proofs.lemmas.List.Elements.{All-nil, All-cons}
 use Rattle.std.proofs.lemmas.Bool.{eq-eqb}
 use Rattle.std.proofs.lemmas.Bool.Decides.{eqb_tells}
@@ -11,24 +10,21 @@ use Rattle.pb_board.specs.declared.piece.Piece.{Piece}
 use Rattle.pb_board.specs.declared.setup.Rights.{Rights}
 use Rattle.pb_board.specs.Piece.{king_of, rook_of}
 use Rattle.pb_board.specs.Board.{Board, Place, file, rank, at, Holds, IsForward}
-use Rattle.pb_board.specs.Position.{Position, position_of, IsSetup, beyond}
+use Rattle.pb_board.specs.Position.{Position, IsSetup, beyond}
 use Rattle.pb_board.specs.declared.castling.Castling.{Castling}
 use Rattle.pb_board.specs.declared.castling.Castling.TheVariants.{WhiteShort, WhiteLong, BlackShort, BlackLong}
 use Rattle.pb_moves.specs.Attacks.{files_apart, ranks_apart}
 use Rattle.pb_moves.specs.Moved.{Moved, moved_of, IsMove}
 use Rattle.pb_board.specs.Castling.{CastlingRow, castling_row, IsHome}
 use Rattle.pb_moves.specs.Castling.{rook_goes}
-use Rattle.pb_moves.specs.Cases.{Differs, Becomes, Goes, Castles, CaseOf, piece_move, pawn_step, pawn_double, pawn_capture, en_passant, castles, Case}
-use Rattle.pb_moves.specs.Outcome.{PassesOver, Touches, KeepsFlag, Outcome}
+use Rattle.pb_moves.specs.Cases.{Differs, Becomes, Goes, Castles, CaseOf, piece_move, pawn_step, pawn_double, pawn_capture, en_passant, castles}
 use Rattle.pb_moves.specs.Successor.{keeps_right, rights_after}
-use Rattle.pb_moves.proofs.Carried.{put, with_rook, arriving, beside, board_of, carried, ep_of_kind, ep_of, carried_on}
+use Rattle.pb_moves.proofs.Carried.{put, with_rook, arriving, beside, carried, ep_of_kind}
 use Rattle.pb_moves.proofs.Castlings.{IsRow, near_is_none, rows}
 use Rattle.pb_moves.proofs.Differing.{All-two, carried_past_put, carried_put, differs_one, differs_put, moved_board, off_two}
-use Rattle.pb_moves.proofs.Unique.{piece_is, case_one, king_near, pawn_files, step_ranks, en_passant_at}
+use Rattle.pb_moves.proofs.Unique.{piece_is, king_near, pawn_files, step_ranks, en_passant_at}
 use Rattle.pb_moves.proofs.Kings.{becomes_king, castling_king, gone_is_beyond, pawn_reach}
-use Rattle.pb_moves.proofs.Passing.{passed_over, passes, passes_is}
-use Rattle.pb_moves.proofs.Kept.{setup_by_parts}
-use Rattle.pb_moves.proofs.LegalMoves.{case_is_move}
+use Rattle.pb_moves.proofs.Passing.{crossed}
 
 -- the board on which a king was carried, and then a rook
 abbrev pub castled_board : CastlingRow → Board → Board
@@ -198,7 +194,7 @@ pub ep_double : (k : Kind) (m : Moved) → k ≡ Pawn → ranks_apart m.from m.t
 ep_double Pawn m pawn two = let e = eq-eqb (ranks_apart m.from m.to) 2 two in rw e refl
 ep_double k m pawn two = absurd (cc)
 
-pub ep_is : (s : Position) (m : Moved) (p : Piece) (new : Board) (x : CaseOf s m p new) → ep_of_kind p.kind m ≡ passed_over s m p new x
+pub ep_is : (s : Position) (m : Moved) (p : Piece) (new : Board) (x : CaseOf s m p new) → ep_of_kind p.kind m ≡ crossed s m p new x
 ep_is s m p new (piece_move x) = ep_other p.kind m x.no_pawn
 ep_is s m p new (pawn_step x) = ep_single p.kind m x.pawn (step_ranks s.turn 1 m.from m.to x.forward)
 ep_is s m p new (pawn_double x) = ep_double p.kind m x.pawn (step_ranks s.turn 2 m.from m.to x.forward)
@@ -206,107 +202,24 @@ ep_is s m p new (pawn_capture x) = ep_single p.kind m x.pawn (step_ranks p.colou
 ep_is s m p new (en_passant x) = ep_single p.kind m x.pawn (step_ranks p.colour 1 m.from m.to (pawn_reach p.colour p.kind s.board m.from m.to x.reaches x.pawn))
 ep_is s m p new (castles c x) = ep_other p.kind m (king_no_pawn p.kind x.king)
 
-pub ep_of_case : (s : Position) (m : Moved) (new : Board) (x : Case s m new) → ep_of m (at s.board m.from) ≡ passed_over s m x.piece new x.by_case
-ep_of_case s m new x = ap (ep_of m) x.stands ∙ ep_is s m x.piece new x.by_case
-
-pub all_parts : (flag a b c d : Bool) → IsTrue (flag && not (a || b || (c || d))) → IsTrue flag × (a ≡ false) × (b ≡ false) × (c ≡ false) × (d ≡ false)
-all_parts true false false false false h = (refl, refl, refl, refl, refl)
-all_parts flag a b c d h = absurd (cc)
-
-pub from_parts : (flag a b c d : Bool) → IsTrue flag → a ≡ false → b ≡ false → c ≡ false → d ≡ false → IsTrue (flag && not (a || b || (c || d)))
-from_parts true false false false false f k l m n = refl
-from_parts flag a b c d f k l m n = absurd (cc)
-
-pub untouched : (m : Moved) (q : ℕ) → eqb m.from q ≡ false → eqb m.to q ≡ false → ¬ Touches m q
-untouched m q from to (inl e) = let t = eq-eqb m.from q e in cc
-untouched m q from to (inr e) = let t = eq-eqb m.to q e in cc
-
 pub test_fails : (a b : ℕ) → a ≢ b → eqb a b ≡ false
 test_fails a b ne = elim (eqb_tells a b) [ inl e ↦ absurd (ne e.1) | inr e ↦ e.0 ]
 
--- a flag is kept as the function says
-pub keeps_is : (r : Rights) (m : Moved) (c : Castling) → KeepsFlag ((castling_row c).right r) (keeps_right r m c) m (castling_row c)
-keeps_is r m c =
+-- where no home is touched each right is kept as it is
+all_but : (flag : Bool) → (flag && not (false || false || (false || false))) ≡ flag
+all_but true = refl
+all_but false = refl
+
+right_elsewhere : (r : Rights) (m : Moved) (c : Castling) → ¬ IsHome m.from → ¬ IsHome m.to → keeps_right r m c ≡ (castling_row c).right r
+right_elsewhere r m c f t =
     let row = castling_row c in
-    let flag = row.right r in (
-      λ h. let x = all_parts flag (eqb m.from row.king_from) (eqb m.to row.king_from) (eqb m.from row.rook_from) (eqb m.to row.rook_from) h in
-          (x.0, untouched m row.king_from x.1 x.2, untouched m row.rook_from x.3 x.4),
-      λ h. from_parts flag (eqb m.from row.king_from) (eqb m.to row.king_from) (eqb m.from row.rook_from) (eqb m.to row.rook_from) h.0 (test_fails m.from row.king_from (λ e. h.1 (inl e)))
-          (test_fails m.to row.king_from (λ e. h.1 (inr e))) (test_fails m.from row.rook_from (λ e. h.2 (inl e))) (test_fails m.to row.rook_from (λ e. h.2 (inr e))),
-    )
+    rw (
+      test_fails m.from row.king_from (λ e. f (c, inl e)),
+      test_fails m.to row.king_from (λ e. t (c, inl e)),
+      test_fails m.from row.rook_from (λ e. f (c, inr e)),
+      test_fails m.to row.rook_from (λ e. t (c, inr e)),
+    ) (all_but (row.right r))
 
--- where no home is touched each flag is kept as it is
-pub kept_elsewhere : (m : Moved) (c : Castling) (flag : Bool) → ¬ IsHome m.from → ¬ IsHome m.to → KeepsFlag flag flag m (castling_row c)
-kept_elsewhere m c flag f t = (
-  λ h. (h, (λ at. elim at [ inl e ↦ f (c, inl e) | inr e ↦ t (c, inl e) ]), λ at. elim at [ inl e ↦ f (c, inr e) | inr e ↦ t (c, inr e) ]),
-  λ h. h.0,
-)
-
--- what holds of the four castlings holds of each
-pub each_castling : (P : Castling → Type 0) → P WhiteShort → P WhiteLong → P BlackShort → P BlackLong → (c : Castling) → P c
-each_castling P a b x y WhiteShort = a
-each_castling P a b x y WhiteLong = b
-each_castling P a b x y BlackShort = x
-each_castling P a b x y BlackLong = y
-
-pub rights_is : (r : Rights) (m : Moved) (c : Castling) → KeepsFlag ((castling_row c).right r) ((castling_row c).right (rights_after r m)) m (castling_row c)
-rights_is r m c =
-    each_castling (λ k. KeepsFlag ((castling_row k).right r) ((castling_row k).right (rights_after r m)) m (castling_row k))
-    (keeps_is r m WhiteShort) (keeps_is r m WhiteLong) (keeps_is r m BlackShort) (keeps_is r m BlackLong) c
-
--- two flags that are set in the same case are equal
-pub same_flag : (a b : Bool) (P : Type 0) → (IsTrue a ↔ P) → (IsTrue b ↔ P) → a ≡ b
-same_flag true true P x y = refl
-same_flag false false P x y = refl
-same_flag true false P x y = absurd (let e = y.1 (x.0 refl) in cc)
-same_flag false true P x y = absurd (let e = x.1 (y.0 refl) in cc)
-
-pub case_after : (s : Position) (m : Moved) (new : Board) → IsSetup s → Case s m new → Outcome s m (carried_on s m)
-unfolding carried_on
-case_after s m new ok case =
-    let same : board_of s.board m (at s.board m.from) ≡ new =
-    ap (board_of s.board m) case.stands ∙ board_is s m case.piece new ok (case_is_move s m new ok case) case.stands case.own case.by_case in
-    let P : Board → Type 0 = λ b. Case s m b in
-    let moves = subst P (sym same) case in
-    let made = board_of s.board m (at s.board m.from) in
-    let E : Option ℕ → Type 0 = λ o. MatchOption o ((q : ℕ) → ¬ PassesOver s m q) (PassesOver s m) in
-    record {
-      moves = moves;
-      turn = refl;
-      rights = rights_is s.rights m;
-      ep = subst E (sym (ep_of_case s m made moves)) (passes s m moves.piece made moves.stands moves.own moves.by_case);
-    }
-
--- the en passant square after a move is the one that the function gives
-ep_after : (s : Position) (m : Moved) (t : Position) → Outcome s m t → t.ep ≡ ep_of m (at s.board m.from)
-ep_after s m t x = passes_is s m x.moves.piece t.board t.ep x.moves.stands x.moves.own x.moves.by_case x.ep ∙ sym (ep_of_case s m t.board x.moves)
-
--- there is one setup after a move
-pub one_outcome : (s : Position) (m : Moved) (t u : Position) → IsSetup s → Outcome s m t → Outcome s m u → t ≡ u
-one_outcome s m t u ok x y =
-    let B : Board → Position = λ b. position_of b t.turn t.rights t.ep in
-    let T : Colour → Position = λ c. position_of u.board c t.rights t.ep in
-    let R : Rights → Position = λ r. position_of u.board u.turn r t.ep in
-    let E : Option ℕ → Position = λ e. position_of u.board u.turn u.rights e in
-    let A : Bool → Rights = λ f. record { white_short = f; white_long = t.rights.white_long; black_short = t.rights.black_short; black_long = t.rights.black_long } in
-    let C : Bool → Rights = λ f. record { white_short = u.rights.white_short; white_long = f; black_short = t.rights.black_short; black_long = t.rights.black_long } in
-    let D : Bool → Rights = λ f. record { white_short = u.rights.white_short; white_long = u.rights.white_long; black_short = f; black_long = t.rights.black_long } in
-    let F : Bool → Rights = λ f. record { white_short = u.rights.white_short; white_long = u.rights.white_long; black_short = u.rights.black_short; black_long = f } in
-    let rights : t.rights ≡ u.rights =
-    ap A (same_flag _ _ _ (x.rights WhiteShort) (y.rights WhiteShort))
-    ∙ (ap C (same_flag _ _ _ (x.rights WhiteLong) (y.rights WhiteLong))
-    ∙ (ap D (same_flag _ _ _ (x.rights BlackShort) (y.rights BlackShort)) ∙ ap F (same_flag _ _ _ (x.rights BlackLong) (y.rights BlackLong)))) in
-    let ep : t.ep ≡ u.ep = ep_after s m t x ∙ sym (ep_after s m u y) in
-    ap B (case_one s m t.board u.board ok x.moves y.moves) ∙ (ap T (x.turn ∙ sym y.turn) ∙ (ap R rights ∙ ap E ep))
-
--- it meets the rules for setups again
-pub carried_is_setup : (s : Position) (m : Moved) (new : Board) → IsSetup s → Case s m new → IsSetup (carried_on s m)
-unfolding carried_on
-carried_is_setup s m new ok case =
-    let x = case_after s m new ok case in
-    setup_by_parts s m x.moves.piece (carried_on s m).board (carried_on s m).rights (carried_on s m).ep ok x.moves.stands x.moves.own x.moves.by_case
-    (ep_after s m (carried_on s m) x ∙ ep_of_case s m (carried_on s m).board x.moves)
-
--- and it is the one that the function gives
-pub outcome_is : (s : Position) (m : Moved) (t : Position) → IsSetup s → Outcome s m t → t ≡ carried_on s m
-outcome_is s m t ok x = one_outcome s m t (carried_on s m) ok x (case_after s m t.board ok x.moves)
+pub rights_elsewhere : (r : Rights) (m : Moved) → ¬ IsHome m.from → ¬ IsHome m.to → rights_after r m ≡ r
+rights_elsewhere r m f t =
+    rw (right_elsewhere r m WhiteShort f t, right_elsewhere r m WhiteLong f t, right_elsewhere r m BlackShort f t, right_elsewhere r m BlackLong f t) refl

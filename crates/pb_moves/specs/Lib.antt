@@ -10,9 +10,8 @@ pub mod Packed
 pub mod Reach
 pub mod Castling
 pub mod Cases
-pub mod Outcome
 pub mod Sight
-pub mod Change
+pub mod MoveKind
+pub mod Effect
 pub mod Free
 pub mod Candidate
-pub mod Beside

@@ -5,20 +5,21 @@ ghost use Rattle.pb_board.specs.declared.piece.Kind.{Kind};
 ghost use Rattle.pb_board.specs.declared.piece.Kind.TheVariants.{Pawn};
 ghost use Rattle.pb_board.specs.Board.{file, rank};
 ghost use Rattle.pb_moves.specs.Cases.{Becomes, PieceMove, PawnStep, PawnDouble, PawnCapture, EnPassant, pawn_rank};
-ghost use Rattle.pb_moves.specs.Change.{Finds};
+ghost use Rattle.pb_moves.specs.Candidate.{HoldsOwn};
+ghost use Rattle.pb_moves.specs.MoveKind.{Finds};
 
 use crate::attack::{is_forward, reaches};
 use crate::board::{is_empty, is_prey, square_at};
-use crate::change::Change;
+use crate::move_kind::MoveKind;
 use crate::moves::Move;
-use pb_board::{Colour, Kind, Piece, Setup, Square};
+use pb_board::{Carried, Colour, Kind, Piece, Setup, Square};
 
 /// A move of a knight, bishop, rook, queen or king to where it attacks.
 #[inline(always)]
-pub(crate) fn piece_move(setup: &Setup, m: Move, piece: Piece) -> Option<Change>
+pub(crate) fn piece_move(setup: &Setup, m: Move, piece: Piece) -> Option<MoveKind>
     requires own { piece.colour ≡ setup.now.turn }
     requires no_pawn { piece.kind ≢ Pawn }
-    ensures { Finds (PieceMove setup.now m piece) setup.now.board m result }
+    ensures { Finds (PieceMove setup.now m piece) setup.now m result }
 {
     let board = setup.board();
     let (from, to) = (m.from(), m.to());
@@ -26,7 +27,7 @@ pub(crate) fn piece_move(setup: &Setup, m: Move, piece: Piece) -> Option<Change>
         && (is_empty(board, to) || is_prey(board, piece.colour, to))
         && reaches(piece, setup, from, to)
     {
-        Some(Change::Carry(piece))
+        Some(MoveKind::Normal(piece))
     } else {
         None
     }
@@ -49,16 +50,16 @@ pub(crate) fn becomes(side: Colour, m: Move) -> Option<Kind>
 
 /// A pawn's step forward.
 #[inline]
-pub(crate) fn pawn_step(setup: &Setup, m: Move, pawn: Piece, kind: Kind) -> Option<Change>
+pub(crate) fn pawn_step(setup: &Setup, m: Move, pawn: Piece, kind: Kind) -> Option<MoveKind>
     requires own { pawn.colour ≡ setup.now.turn }
     requires pawn { pawn.kind ≡ Pawn }
     requires becomes { Becomes pawn.colour m Pawn kind }
-    ensures { Finds (PawnStep setup.now m pawn) setup.now.board m result }
+    ensures { Finds (PawnStep setup.now m pawn) setup.now m result }
 {
     let colour = pawn.colour;
     let (from, to) = (m.from(), m.to());
     if to.file() == from.file() && is_forward(colour, 1, from, to) && is_empty(setup.board(), to) {
-        Some(Change::Carry(Piece { colour, kind }))
+        Some(MoveKind::Normal(Piece { colour, kind }))
     } else {
         None
     }
@@ -66,17 +67,17 @@ pub(crate) fn pawn_step(setup: &Setup, m: Move, pawn: Piece, kind: Kind) -> Opti
 
 /// A pawn's capture of what it attacks.
 #[inline]
-pub(crate) fn pawn_capture(setup: &Setup, m: Move, pawn: Piece, kind: Kind) -> Option<Change>
+pub(crate) fn pawn_capture(setup: &Setup, m: Move, pawn: Piece, kind: Kind) -> Option<MoveKind>
     requires own { pawn.colour ≡ setup.now.turn }
     requires pawn { pawn.kind ≡ Pawn }
     requires becomes { Becomes pawn.colour m Pawn kind }
-    ensures { Finds (PawnCapture setup.now m pawn) setup.now.board m result }
+    ensures { Finds (PawnCapture setup.now m pawn) setup.now m result }
 {
     let colour = pawn.colour;
     let board = setup.board();
     let (from, to) = (m.from(), m.to());
     if is_prey(board, colour, to) && reaches(pawn, setup, from, to) {
-        Some(Change::Carry(Piece { colour, kind }))
+        Some(MoveKind::Normal(Piece { colour, kind }))
     } else {
         None
     }
@@ -84,11 +85,11 @@ pub(crate) fn pawn_capture(setup: &Setup, m: Move, pawn: Piece, kind: Kind) -> O
 
 /// A pawn's double step.
 #[inline]
-pub(crate) fn pawn_double(setup: &Setup, m: Move, pawn: Piece, kind: Kind) -> Option<Change>
+pub(crate) fn pawn_double(setup: &Setup, m: Move, pawn: Piece, kind: Kind) -> Option<MoveKind>
     requires own { pawn.colour ≡ setup.now.turn }
     requires pawn { pawn.kind ≡ Pawn }
     requires becomes { Becomes pawn.colour m Pawn kind }
-    ensures { Finds (PawnDouble setup.now m pawn) setup.now.board m result }
+    ensures { Finds (PawnDouble setup.now m pawn) setup.now m result }
 {
     let colour = pawn.colour;
     let board = setup.board();
@@ -99,7 +100,7 @@ pub(crate) fn pawn_double(setup: &Setup, m: Move, pawn: Piece, kind: Kind) -> Op
         && is_empty(board, to)
         && is_empty(board, halfway(from, to))
     {
-        Some(Change::Carry(Piece { colour, kind }))
+        Some(MoveKind::Normal(Piece { colour, kind }))
     } else {
         None
     }
@@ -125,20 +126,32 @@ pub(crate) fn halfway(from: Square, to: Square) -> Square
     square_at(8 * ((from.rank() + to.rank()) / 2) + from.file())
 }
 
-/// A pawn's capture of the pawn that has just gone two ranks.
+/// A pawn's capture of the pawn that has just gone two ranks: it goes by way of that pawn's square.
 #[inline]
-pub(crate) fn en_passant(setup: &Setup, m: Move, pawn: Piece, kind: Kind) -> Option<Change>
-    requires own { pawn.colour ≡ setup.now.turn }
+pub(crate) fn en_passant(setup: &Setup, m: Move, pawn: Piece, kind: Kind) -> Option<MoveKind>
+    requires own { HoldsOwn setup.now m.from pawn }
     requires pawn { pawn.kind ≡ Pawn }
     requires becomes { Becomes pawn.colour m Pawn kind }
-    ensures { Finds (EnPassant setup.now m pawn) setup.now.board m result }
+    ensures { Finds (EnPassant setup.now m pawn) setup.now m result }
 {
-    let colour = pawn.colour;
+    // The reader tells that the setup meets its rules.
+    let _turn = setup.turn();
     let (from, to) = (m.from(), m.to());
     match setup.ep() {
         Some(ep) if ep.index() == to.index() && reaches(pawn, setup, from, to) => {
-            let gone = square_at(8 * from.rank() + to.file());
-            Some(Change::CarryPast(Piece { colour, kind }, gone))
+            let taken = square_at(8 * from.rank() + to.file());
+            Some(MoveKind::Double(
+                Carried {
+                    from,
+                    to: taken,
+                    piece: pawn,
+                },
+                Carried {
+                    from: taken,
+                    to,
+                    piece: pawn,
+                },
+            ))
         }
         _ => None,
     }

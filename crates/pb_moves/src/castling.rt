@@ -9,14 +9,15 @@ ghost use Rattle.pb_moves.specs.Attacks.{IsAttacked};
 ghost use Rattle.pb_moves.specs.Reach.{WayIsClear};
 ghost use Rattle.pb_moves.specs.Castling.{RowAllows};
 ghost use Rattle.pb_moves.specs.Cases.{Castles};
-ghost use Rattle.pb_moves.specs.Change.{Finds};
+ghost use Rattle.pb_moves.specs.Candidate.{HoldsOwn};
+ghost use Rattle.pb_moves.specs.MoveKind.{Finds};
 
 use crate::board::holds;
-use crate::change::Change;
 use crate::check::attacked;
+use crate::move_kind::MoveKind;
 use crate::moves::Move;
 use crate::ways::Lines;
-use pb_board::{Castling, Kind, Piece, Setup};
+use pb_board::{Carried, Castling, Kind, Piece, Setup};
 
 /// Whether nothing stands between king and rook.
 fn way_is_clear(castling: Castling, setup: &Setup) -> bool
@@ -55,13 +56,33 @@ fn may_castle(castling: Castling, setup: &Setup) -> bool
 }
 
 /// The castling of this move, if it is one that the setup allows.
-pub(crate) fn castles(setup: &Setup, m: Move, king: Piece) -> Option<Change>
+pub(crate) fn castles(setup: &Setup, m: Move, king: Piece) -> Option<MoveKind>
+    requires own { HoldsOwn setup.now m.from king }
     requires king { king.kind ≡ King }
-    ensures { Finds (λ b. (c : Castling) × Castles (castling_row c) setup.now m king b) setup.now.board m result }
+    ensures { Finds (λ b. (c : Castling) × Castles (castling_row c) setup.now m king b) setup.now m result }
 {
+    // The reader tells that the setup meets its rules.
+    let _turn = setup.turn();
     match Castling::of(m.from(), m.to()) {
         Some(castling) if m.promo().is_none() && may_castle(castling, setup) => {
-            Some(Change::Castle(castling))
+            let (from, to) = (m.from(), m.to());
+            let squares = castling.squares();
+            let rook = Piece {
+                colour: castling.colour(),
+                kind: Kind::Rook,
+            };
+            Some(MoveKind::Double(
+                Carried {
+                    from,
+                    to,
+                    piece: king,
+                },
+                Carried {
+                    from: squares.rook_from,
+                    to: squares.rook_to,
+                    piece: rook,
+                },
+            ))
         }
         _ => None,
     }

@@ -33,7 +33,8 @@ impl Model for Move {
 }
 
 impl Move {
-    ghost use Rattle.pb_moves.specs.Moved.{IsPromotion, IsMove, moved_of};
+    ghost use Rattle.std.specs.Prelude.{◌+◌, ◌*◌};
+    ghost use Rattle.pb_moves.specs.Moved.{IsPromotion, IsMove, moved_of, promotion_number};
 
     /// The move between these squares. None exactly where they are one square, or `promo` is a pawn or a king.
     #[inline]
@@ -67,6 +68,15 @@ impl Move {
         ensures on_board { result < 64 }
     {
         Square::from_index((self.bits % 64) as u8).unwrap()
+    }
+
+    /// The move as a number below 2^15: the square that it reaches, 64 times the square that it
+    /// leaves, and 4,096 times the promotion (none, knight, bishop, rook, queen from 0).
+    #[inline]
+    pub fn bits(self) -> u16
+        ensures { result ≡ self.to + 64 * self.from + 4096 * promotion_number self.promo }
+    {
+        self.bits
     }
 
     /// What the pawn becomes, where the move promotes.

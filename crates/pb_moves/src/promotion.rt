@@ -7,7 +7,7 @@ use pb_board::Kind;
 
 /// The number of a promotion: none, knight, bishop, rook, queen from 0. A pawn or a king is none.
 #[inline]
-pub fn promotion_number(promo: Option<Kind>) -> u16
+pub(crate) fn promotion_number(promo: Option<Kind>) -> u16
     ensures value { result ≡ promotion_number_by promo }
     ensures few { result ≤ 4 }
 {

@@ -107,14 +107,6 @@ pub(crate) fn is_attacked(sight: &Sight, square: Square, by: Colour) -> bool
     Lines::Straight.slides(sight.occupied, sight.straight, square)
 }
 
-/// The same out of line.
-#[inline(never)]
-pub(crate) fn is_attacked_out_of_line(sight: &Sight, square: Square, by: Colour) -> bool
-    ensures { (b : Board) → Sees b by sight.now → (IsTrue result ↔ IsReached b by square) }
-{
-    is_attacked(sight, square, by)
-}
-
 /// What is seen after a piece of the other side has gone from one square to another, in the place of what stood there.
 #[inline(always)]
 pub(crate) fn carried_sight(sight: Sight, from: Square, to: Square) -> Sight

@@ -1,5 +1,5 @@
--- The key before a move, joined by what the move changes, is the key after it.
-use Rattle.std.proofs.Common.{◌≡◌, ℕ, ◌+◌, ◌%◌, ◌^◌, ◌<◌, Bool, true, false, not, List, [], ◌∷◌, ◌++◌, length, refl, sym, ap, ◌∙◌, append_assoc, arith}
+-- The key before a move, with what the move changes toggled, is the key after it.
+use Rattle.std.proofs.Common.{◌≡◌, ℕ, ◌+◌, ◌%◌, ◌^◌, ◌<◌, Bool, true, false, not, List, [], ◌∷◌, ◌++◌, refl, ap, ◌∙◌, arith}
 use Rattle.std.specs.Prelude.{slice_index}
 use Rattle.std.specs.Bool.{beq}
 use Rattle.std.specs.Int.{bit_at}
@@ -11,16 +11,13 @@ use Rattle.pb_board.specs.declared.piece.Colour.TheVariants.{White, Black}
 use Rattle.pb_board.specs.declared.setup.Rights.{Rights}
 use Rattle.pb_board.specs.Piece.{opponent}
 use Rattle.pb_board.specs.Castling.{castling_row, castlings}
-use Rattle.pb_board.specs.Board.{Board}
 use Rattle.pb_board.specs.Position.{Position}
-use Rattle.pb_moves.specs.Moved.{Moved}
 use Rattle.pb_poly.specs.Key.{castling_place, key, en_passant_places, piece_places, place_if, places, rights_places}
-use Rattle.pb_poly.specs.KeyChange.{changed_places, joined, lost_places}
+use Rattle.pb_poly.specs.KeyChange.{changed_places, toggled}
 use Rattle.pb_poly.specs.Table.{IsTable}
 use Rattle.pb_poly.proofs.Among.{total}
-use Rattle.pb_poly.proofs.KeyChanges.{Covers, changed_are, some_squares, total-append}
-use Rattle.pb_poly.proofs.Keys.{joined-append}
-use Rattle.pb_poly.proofs.Parity.{joined_below, joined_bit}
+use Rattle.pb_poly.proofs.KeyChanges.{total-append}
+use Rattle.pb_poly.proofs.Parity.{toggled_below, toggled_bit}
 use Rattle.pb_poly.proofs.Places.{turn_places}
 
 -- ---- the parts of a key
@@ -54,15 +51,8 @@ castlings_change f old new (c ∷ cs) =
     let more = castlings_change f old new cs in
     omega (arith, had, has, lost, first, more)
 
-rights_change : (f : ℕ → ℕ) (old new : Rights) → (total f (rights_places old) + total f (lost_places old new)) % 2 ≡ total f (rights_places new) % 2
+rights_change : (f : ℕ → ℕ) (old new : Rights) → (total f (rights_places old) + total f (changed_places old new)) % 2 ≡ total f (rights_places new) % 2
 rights_change f old new = castlings_change f (λ c. (castling_row c).right old) (λ c. (castling_row c).right new) castlings
-
-board_change : (f : ℕ → ℕ) (old new : Board) (squares : List ℕ) → length old ≡ 64 → length new ≡ 64 → Covers old new squares
-    → (total f (piece_places old 0) + total f (changed_places old new squares)) % 2 ≡ total f (piece_places new 0) % 2
-board_change f old new squares full full_new covers =
-    let moved = some_squares f old new squares full full_new covers.once covers.others in
-    let changed = changed_are f old new squares in
-    omega (arith, moved, changed)
 
 turn_changes : (f : ℕ → ℕ) (side : Colour) → (total f (turn_places side) + total f (780 ∷ [])) % 2 ≡ total f (turn_places (opponent side)) % 2
 turn_changes f White = omega arith
@@ -73,32 +63,21 @@ places_total f s = four_lists f (piece_places s.board 0) (rights_places s.rights
 
 -- ---- the key
 
--- a key that is joined by the changes, part by part
-pub record IsJoined (words : List ℕ) (s t : Position) (squares : List ℕ) (k l : ℕ) : Type 0 where
+-- a key in which the changes are toggled, part by part
+pub record IsToggled (words : List ℕ) (s t : Position) (moved : List ℕ) (k l : ℕ) : Type 0 where
   pub pieces : ℕ
   pub rights : ℕ
   pub cleared : ℕ
   pub stepped : ℕ
-  pub pieces_is : pieces ≡ joined words k (changed_places s.board t.board squares)
-  pub rights_is : rights ≡ joined words pieces (lost_places s.rights t.rights)
-  pub cleared_is : cleared ≡ joined words rights (en_passant_places s)
-  pub stepped_is : stepped ≡ joined words cleared (en_passant_places t)
+  pub pieces_is : pieces ≡ toggled words k moved
+  pub rights_is : rights ≡ toggled words pieces (changed_places s.rights t.rights)
+  pub cleared_is : cleared ≡ toggled words rights (en_passant_places s)
+  pub stepped_is : stepped ≡ toggled words cleared (en_passant_places t)
   pub turn : t.turn ≡ opponent s.turn
-  pub is : l ≡ joined words stepped (780 ∷ [])
+  pub is : l ≡ toggled words stepped (780 ∷ [])
 
-two_and_more : (old new : Board) (a b : ℕ) (squares : List ℕ) → changed_places old new (a ∷ b ∷ []) ++ changed_places old new squares ≡ changed_places old new (a ∷ b ∷ squares)
-two_and_more old new a b squares = simp append_assoc
-
--- a move's own two squares, and then those beside
-pub all_squares : (words : List ℕ) (old new : Board) (m : Moved) (squares : List ℕ) (k carried pieces : ℕ) → carried ≡ joined words k (changed_places old new (m.from ∷ m.to ∷ []))
-    → pieces ≡ joined words carried (changed_places old new squares) → pieces ≡ joined words k (changed_places old new (m.from ∷ m.to ∷ squares))
-all_squares words old new m squares k carried pieces own beside =
-    beside ∙ ap (λ n. joined words n (changed_places old new squares)) own
-    ∙ sym (joined-append words k (changed_places old new (m.from ∷ m.to ∷ [])) (changed_places old new squares))
-    ∙ ap (λ ps. joined words k ps) (two_and_more old new m.from m.to squares)
-
-next_bit : (words : List ℕ) (bit k l : ℕ) (ps : List ℕ) → l ≡ joined words k ps → bit_at l bit ≡ (bit_at k bit + total (λ place. bit_at (slice_index words place) bit) ps) % 2
-next_bit words bit k l ps is = ap (λ n. bit_at n bit) is ∙ joined_bit words bit k ps
+next_bit : (words : List ℕ) (bit k l : ℕ) (ps : List ℕ) → l ≡ toggled words k ps → bit_at l bit ≡ (bit_at k bit + total (λ place. bit_at (slice_index words place) bit) ps) % 2
+next_bit words bit k l ps is = ap (λ n. bit_at n bit) is ∙ toggled_bit words bit k ps
 
 key_bit : (words : List ℕ) (s : Position) (bit k : ℕ) → k ≡ key words s → bit_at k bit ≡ total (λ place. bit_at (slice_index words place) bit) (places s) % 2
 unfolding key
@@ -107,22 +86,23 @@ key_bit words s bit k is =
     let none = bit_at-zero bit in
     omega (arith, joins, none)
 
-pub key_follows : (words : List ℕ) (s t : Position) (squares : List ℕ) (k l : ℕ) → IsTable words → length s.board ≡ 64 → length t.board ≡ 64 → Covers s.board t.board squares
-    → k ≡ key words s → l < 2 ^ 64 → IsJoined words s t squares k l → l ≡ key words t
+pub key_follows : (words : List ℕ) (s t : Position) (moved : List ℕ) (k l : ℕ) → IsTable words
+    → ((f : ℕ → ℕ) → (total f (piece_places s.board 0) + total f moved) % 2 ≡ total f (piece_places t.board 0) % 2)
+    → k ≡ key words s → l < 2 ^ 64 → IsToggled words s t moved k l → l ≡ key words t
 unfolding key
-key_follows words s t squares k l table full full_new covers before below joins =
-    same_from_bits_below 64 l (key words t) below (joined_below words 0 (places t) table (omega arith)) (λ bit low.
+key_follows words s t moved k l table board_change before below toggles =
+    same_from_bits_below 64 l (key words t) below (toggled_below words 0 (places t) table (omega arith)) (λ bit low.
     let f : ℕ → ℕ = λ place. bit_at (slice_index words place) bit in
     let start = key_bit words s bit k before in
     let end = key_bit words t bit (key words t) refl in
-    let a = next_bit words bit k joins.pieces (changed_places s.board t.board squares) joins.pieces_is in
-    let b = next_bit words bit joins.pieces joins.rights (lost_places s.rights t.rights) joins.rights_is in
-    let c = next_bit words bit joins.rights joins.cleared (en_passant_places s) joins.cleared_is in
-    let d = next_bit words bit joins.cleared joins.stepped (en_passant_places t) joins.stepped_is in
-    let e = next_bit words bit joins.stepped l (780 ∷ []) joins.is in
+    let a = next_bit words bit k toggles.pieces moved toggles.pieces_is in
+    let b = next_bit words bit toggles.pieces toggles.rights (changed_places s.rights t.rights) toggles.rights_is in
+    let c = next_bit words bit toggles.rights toggles.cleared (en_passant_places s) toggles.cleared_is in
+    let d = next_bit words bit toggles.cleared toggles.stepped (en_passant_places t) toggles.stepped_is in
+    let e = next_bit words bit toggles.stepped l (780 ∷ []) toggles.is in
     let turn = turn_changes f s.turn in
-    let turned = ap (λ (c : Colour). total f (turn_places c)) joins.turn in
-    let board = board_change f s.board t.board squares full full_new covers in
+    let turned = ap (λ (c : Colour). total f (turn_places c)) toggles.turn in
+    let board = board_change f in
     let rights = rights_change f s.rights t.rights in
     let had = places_total f s in
     let has = places_total f t in

@@ -8,7 +8,7 @@ use Rattle.std.proofs.lemmas.Nat.{xor_lt}
 use Rattle.std.proofs.lemmas.Nat.Bits.{bit_at-lt, bit_at-zero, bit_at_xor, same_from_bits_below}
 use Rattle.pb_board.specs.Position.{Position}
 use Rattle.pb_poly.specs.Key.{ArePlaces, KeyIsOne, KeyIsParity, key, places}
-use Rattle.pb_poly.specs.KeyChange.{joined}
+use Rattle.pb_poly.specs.KeyChange.{toggled}
 use Rattle.pb_poly.specs.Table.{IsTable}
 use Rattle.pb_poly.proofs.Among.{among_contained, contains_among, pairs_distinct, sum_is_total, total, total_same}
 use Rattle.pb_poly.proofs.Places.{are_places}
@@ -19,25 +19,25 @@ word_below words place table = elim (cases_lt place (length words)) [
   | inr past ↦ let none = get_or_past words place 0 past in omega (arith, none)
 ]
 
-pub joined_below : (words : List ℕ) (k : ℕ) (ps : List ℕ) → IsTable words → k < 2 ^ 64 → joined words k ps < 2 ^ 64
-joined_below words k [] table below = below
-joined_below words k (p ∷ ps) table below = joined_below words (bit_xor k (slice_index words p)) ps table (xor_lt 64 k (slice_index words p) below (word_below words p table))
+pub toggled_below : (words : List ℕ) (k : ℕ) (ps : List ℕ) → IsTable words → k < 2 ^ 64 → toggled words k ps < 2 ^ 64
+toggled_below words k [] table below = below
+toggled_below words k (p ∷ ps) table below = toggled_below words (bit_xor k (slice_index words p)) ps table (xor_lt 64 k (slice_index words p) below (word_below words p table))
 
-pub joined_bit : (words : List ℕ) (bit k : ℕ) (ps : List ℕ) → bit_at (joined words k ps) bit ≡ (bit_at k bit + total (λ place. bit_at (slice_index words place) bit) ps) % 2
-joined_bit words bit k [] = let low = bit_at-lt k bit in omega (arith, low)
-joined_bit words bit k (p ∷ ps) =
-    let more = joined_bit words bit (bit_xor k (slice_index words p)) ps in
+pub toggled_bit : (words : List ℕ) (bit k : ℕ) (ps : List ℕ) → bit_at (toggled words k ps) bit ≡ (bit_at k bit + total (λ place. bit_at (slice_index words place) bit) ps) % 2
+toggled_bit words bit k [] = let low = bit_at-lt k bit in omega (arith, low)
+toggled_bit words bit k (p ∷ ps) =
+    let more = toggled_bit words bit (bit_xor k (slice_index words p)) ps in
     let first = bit_at_xor k (slice_index words p) bit in
     omega (arith, more, first)
 
 pub key_is_parity : KeyIsParity
 unfolding key
 key_is_parity words s table setup = record {
-  below = joined_below words 0 (places s) table (omega arith);
+  below = toggled_below words 0 (places s) table (omega arith);
   places = places s;
   are = are_places s setup;
   bits = λ bit low.
-      let is = joined_bit words bit 0 (places s) in
+      let is = toggled_bit words bit 0 (places s) in
       let none = bit_at-zero bit in
       let sum = sum_is_total (λ place. bit_at (slice_index words place) bit) (places s) in
       omega (arith, is, none, sum);

@@ -8,9 +8,10 @@ ghost use Rattle.pb_poly.specs.Decoding.{reached as reached_by};
 ghost use Rattle.pb_poly.specs.Code.{HasCode, encode_move, encoded_to};
 
 use pb_board::{Castling, Kind, Setup, Square};
-use pb_moves::{Move, is_legal, promotion_number, promotion_of};
+use pb_moves::{Move, is_legal, promotion_of};
 
 /// Whether the king of the side to move stands there.
+#[inline(always)]
 fn has_own_king(setup: &Setup, square: Square) -> bool
     ensures { result ≡ is_piece (king_of setup.now.turn) (at setup.now.board square) }
 {
@@ -21,24 +22,27 @@ fn has_own_king(setup: &Setup, square: Square) -> bool
 }
 
 /// The square that the code names as the one that the move reaches.
+#[inline(always)]
 fn coded_to(setup: &Setup, m: Move) -> Square
     ensures { result ≡ encoded_to setup.now m }
 {
+    if !has_own_king(setup, m.from()) {
+        return m.to();
+    }
     match Castling::of(m.from(), m.to()) {
-        Some(castling) if has_own_king(setup, m.from()) => castling.squares().rook_from,
-        _ => m.to(),
+        Some(castling) => castling.squares().rook_from,
+        None => m.to(),
     }
 }
 
 /// The code of a move in a PolyGlot book, below 2^15: the square that it reaches, 64 times the square that it leaves, and
 /// 4,096 times the promotion (none, knight, bishop, rook, queen from 0). Castling counts as the king's move to its
 /// rook, as e1h1. It means something of legal moves alone.
+#[inline(always)]
 pub fn code_of(setup: &Setup, m: Move) -> u16
     ensures { result ≡ encode_move setup.now m }
 {
-    let to = u16::from(coded_to(setup, m).index());
-    let from = u16::from(m.from().index());
-    to + 64 * from + 4096 * promotion_number(m.promo())
+    m.bits() - u16::from(m.to().index()) + u16::from(coded_to(setup, m).index())
 }
 
 /// The square that a move from this square reaches where its code names that one.

@@ -6,7 +6,7 @@ ghost use Rattle.pb_board.specs.Castling.{castling_row};
 ghost use Rattle.pb_board.specs.Board.{at, file, is_piece};
 ghost use Rattle.pb_board.specs.Position.{IsSetup, OnEnPassantRank, beyond as beyond_by};
 ghost use Rattle.pb_poly.specs.Key.{IsKey, castling_place as castling_place_by, has_taker as has_taker_by, key as key_by, en_passant_offset, en_passant_places, piece_place as piece_place_by, piece_places, place_if, rights_places, turn_offset};
-ghost use Rattle.pb_poly.specs.KeyChange.{joined};
+ghost use Rattle.pb_poly.specs.KeyChange.{toggled};
 ghost use Rattle.pb_poly.specs.Table.{IsTable};
 
 use crate::table::Table;
@@ -15,21 +15,6 @@ use pb_board::{Castling, Colour, Kind, Piece, Rights, Setup, Square};
 /// The place of the word for White to move.
 pub(crate) const WHITE_TO_MOVE: usize = 780;
 
-/// The number of the black pieces of a kind in the table's order; that of the white ones is one more.
-fn number_of_black(kind: Kind) -> usize
-    ensures value { result ≡ 2 * kind_number kind }
-    ensures few { result < 11 }
-{
-    match kind {
-        Kind::Pawn => 0,
-        Kind::Knight => 2,
-        Kind::Bishop => 4,
-        Kind::Rook => 6,
-        Kind::Queen => 8,
-        Kind::King => 10,
-    }
-}
-
 /// The place of a piece on the square of this index.
 #[inline(always)]
 pub(crate) fn piece_place(piece: Piece, square: usize) -> usize
@@ -37,16 +22,14 @@ pub(crate) fn piece_place(piece: Piece, square: usize) -> usize
     ensures value { result ≡ piece_place_by piece square }
     ensures few { result < 768 }
 {
-    let number = match piece.colour {
-        Colour::White => number_of_black(piece.kind) + 1,
-        Colour::Black => number_of_black(piece.kind),
-    };
+    // Of each kind the black pieces come first.
+    let number = 2 * piece.kind as usize + 1 - piece.colour as usize;
     64 * number + square
 }
 
-/// The words of the pieces, joined.
+/// The words of the pieces, xor-ed.
 fn pieces_key(table: &Table, board: &[Option<Piece>; 64]) -> u64
-    ensures value { result ≡ joined table.now 0 (piece_places board.now 0) }
+    ensures value { result ≡ toggled table.now 0 (piece_places board.now 0) }
     ensures rules { IsTable table.now }
 {
     let words = table.words();
@@ -59,11 +42,11 @@ fn pieces_key(table: &Table, board: &[Option<Piece>; 64]) -> u64
     key
 }
 
-/// The key, joined by the word at the place where the flag is set.
+/// Toggles the word at the place, where the flag is set.
 #[inline(always)]
-pub(crate) fn with_flag(table: &Table, key: u64, flag: bool, place: usize) -> u64
+pub(crate) fn toggle_if(table: &Table, key: u64, flag: bool, place: usize) -> u64
     requires { place < 781 }
-    ensures { result ≡ joined table.now key (place_if flag place) }
+    ensures { result ≡ toggled table.now key (place_if flag place) }
 {
     if flag { key ^ table.word(place) } else { key }
 }
@@ -77,12 +60,12 @@ fn castling_place(castling: Castling) -> usize
     768 + castling as usize
 }
 
-/// The key, joined by the word of a castling right that is there.
+/// Toggles the word of a castling right that is there.
 #[inline(always)]
-fn with_right(table: &Table, key: u64, rights: Rights, castling: Castling) -> u64
-    ensures { result ≡ joined table.now key (place_if ((castling_row castling).right rights) (castling_place_by castling)) }
+fn toggle_right(table: &Table, key: u64, rights: Rights, castling: Castling) -> u64
+    ensures { result ≡ toggled table.now key (place_if ((castling_row castling).right rights) (castling_place_by castling)) }
 {
-    with_flag(
+    toggle_if(
         table,
         key,
         castling.is_allowed(rights),
@@ -90,14 +73,14 @@ fn with_right(table: &Table, key: u64, rights: Rights, castling: Castling) -> u6
     )
 }
 
-/// The key, joined by the words of the castling rights.
-pub(crate) fn with_rights(table: &Table, key: u64, rights: Rights) -> u64
-    ensures { result ≡ joined table.now key (rights_places rights) }
+/// Toggles the words of the castling rights.
+pub(crate) fn toggle_rights(table: &Table, key: u64, rights: Rights) -> u64
+    ensures { result ≡ toggled table.now key (rights_places rights) }
 {
-    let short = with_right(table, key, rights, Castling::WhiteShort);
-    let white = with_right(table, short, rights, Castling::WhiteLong);
-    let long = with_right(table, white, rights, Castling::BlackShort);
-    with_right(table, long, rights, Castling::BlackLong)
+    let short = toggle_right(table, key, rights, Castling::WhiteShort);
+    let white = toggle_right(table, short, rights, Castling::WhiteLong);
+    let long = toggle_right(table, white, rights, Castling::BlackShort);
+    toggle_right(table, long, rights, Castling::BlackLong)
 }
 
 /// Whether a pawn of this side stands on the square of this index.
@@ -141,27 +124,27 @@ pub(crate) fn en_passant_place(square: Square) -> usize
     772 + square.file() as usize
 }
 
-/// The key, joined by the word of the en passant square where a pawn stands beside the pawn that has passed over it.
+/// Toggles the word of the en passant square, where a pawn stands beside the pawn that has passed over it.
 #[inline(always)]
-pub(crate) fn with_en_passant(table: &Table, key: u64, setup: &Setup) -> u64
-    ensures value { result ≡ joined table.now key (en_passant_places setup.now) }
+pub(crate) fn toggle_en_passant(table: &Table, key: u64, setup: &Setup) -> u64
+    ensures value { result ≡ toggled table.now key (en_passant_places setup.now) }
     ensures rules { IsSetup setup.now }
 {
     let turn = setup.turn();
     match setup.ep() {
         Some(square) => {
             let flag = has_taker(setup, turn, beyond(turn, square));
-            with_flag(table, key, flag, en_passant_place(square))
+            toggle_if(table, key, flag, en_passant_place(square))
         }
         None => key,
     }
 }
 
-/// The key, joined by the word for White to move.
-fn with_turn(table: &Table, key: u64, turn: Colour) -> u64
-    ensures { result ≡ joined table.now key (place_if (colour_number turn == 0) turn_offset) }
+/// Toggles the word for White to move, where White is.
+fn toggle_turn(table: &Table, key: u64, turn: Colour) -> u64
+    ensures { result ≡ toggled table.now key (place_if (colour_number turn == 0) turn_offset) }
 {
-    with_flag(table, key, turn == Colour::White, WHITE_TO_MOVE)
+    toggle_if(table, key, turn == Colour::White, WHITE_TO_MOVE)
 }
 
 /// The key of a setup in PolyGlot books: the exclusive or of the table's words for each piece on its square, for each
@@ -174,7 +157,7 @@ pub fn key_of(table: &Table, setup: &Setup) -> u64
     ensures value { result ≡ key_by table.now setup.now }
 {
     let pieces = pieces_key(table, setup.board());
-    let rights = with_rights(table, pieces, setup.rights());
-    let en_passant = with_en_passant(table, rights, setup);
-    with_turn(table, en_passant, setup.turn())
+    let rights = toggle_rights(table, pieces, setup.rights());
+    let en_passant = toggle_en_passant(table, rights, setup);
+    toggle_turn(table, en_passant, setup.turn())
 }

@@ -5,7 +5,7 @@ use crate::page::{Done, NO_ROW, Page, Trouble};
 use crate::record::setup_of;
 use crate::text::hexadecimal;
 use pb_board::Setup;
-use pb_moves::{Move, legal_moves, play};
+use pb_moves::{Move, legal_effect, legal_moves, play};
 use pb_poly::{Table, TableError, code_of, key_after, key_next, key_of, move_of, read_table};
 use std::alloc::{AllocError, Global};
 use std::fmt::Write;
@@ -162,10 +162,11 @@ fn tell_all_keys(page: &mut Page, table: &Table, setup: Setup, moves: &[&str]) -
 /// The key after a move, made in three ways, and the setup after it.
 fn tell_keys(page: &mut Page, table: &Table, setup: &Setup, m: Move) -> Result<Setup, Trouble> {
     let after = play(setup, m).ok_or(Trouble::Row)?;
+    let effect = legal_effect(setup, m).ok_or(Trouble::Row)?;
     let key = key_of(table, setup);
     page.put_key(" anew ", key_of(table, &after));
     page.put_key(", by change ", key_after(table, key, setup, m, &after));
-    page.put_key(", of the setup before ", key_next(table, key, setup, m));
+    page.put_key(", of the setup before ", key_next(table, key, setup, m, &effect));
     page.put("\n");
     Ok(after)
 }

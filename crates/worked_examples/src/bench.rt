@@ -2,7 +2,7 @@
 //! program tells how fast that is.
 
 use pb_board::Setup;
-use pb_moves::{Move, legal_moves, play, play_on};
+use pb_moves::{Move, legal_effect, legal_moves, play, play_on};
 use pb_poly::{Table, key_next, key_of};
 use rows::moves::{perft, tell_moves};
 use rows::page::{Done, NO_ROW, Page, Trouble};
@@ -99,11 +99,13 @@ fn key_of_game(table: &Table, game: &[Move]) -> u64 {
     let mut setup = Setup::start();
     let mut key = key_of(table, &setup);
     for m in game {
-        let next = key_next(table, key, &setup, *m);
-        if !play_on(&mut setup, *m) {
-            return key;
+        match legal_effect(&setup, *m) {
+            Some(effect) => {
+                key = key_next(table, key, &setup, *m, &effect);
+                effect.apply(&mut setup, *m);
+            }
+            None => return key,
         }
-        key = next;
     }
     key
 }

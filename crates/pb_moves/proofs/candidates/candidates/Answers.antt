@@ -1,7 +1,7 @@
 use Rattle.std.proofs.Common.{refl}
 use Rattle.pb_board.specs.declared.piece.Colour.TheVariants.{White, Black}
 use Rattle.pb_board.specs.declared.piece.Kind.TheVariants.{Pawn, Knight, Bishop, Rook, Queen, King}
-use Rattle.pb_moves.proofs.Targets.{bit_named, white_pawn_bit, black_pawn_bit, knight_bit, bishop_bit, rook_bit, queen_bit, king_bit}
+use Rattle.pb_moves.proofs.Targets.{bit_named, white_pawn_bit, black_pawn_bit, knight_bit, bishop_bit, rook_bit, queen_bit}
 use Rattle.pb_moves.proofs.candidates.candidates.Goals as goal
 
 pub returns-in-White : goal.returns-in-White
@@ -37,4 +37,4 @@ returns-in-Queen c = λ to on.
 pub returns-in-King : goal.returns-in-King
 returns-in-King c = λ to on.
     bit_named c.args.piece.colour c.args.piece.colour c.args.piece.kind King c.args.from c.index-index.result to _ refl c.in-King.is c.index-index.ensures.value
-    (king_bit c.args.piece.colour c.index-index.result to c.index-index.ensures.below on)
+    (c.king_candidates.ensures c.args.piece.colour to on)

@@ -7,4 +7,4 @@ returns c =
     c.en_passant.result c.en_passant.ensures
 
 pub returns-in_err-kind : goal.returns-in_err-kind
-returns-in_err-kind c = rw c.from_residual.ensures (no_pawn_case c.args.setup.now c.args.m c.args.pawn c.requires.own c.requires.pawn c.in_err-kind.ensures)
+returns-in_err-kind c = rw c.from_residual.ensures (no_pawn_case c.args.setup.now c.args.m c.args.pawn c.requires.own.own c.requires.pawn c.in_err-kind.ensures)

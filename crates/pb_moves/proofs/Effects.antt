@@ -1,0 +1,62 @@
+-- What a move does, from the case of its piece.
+use Rattle.std.proofs.Common.{◌≡◌, ℕ, sym, ap, subst, ◌∙◌, Option, Some}
+use Rattle.pb_board.specs.declared.piece.Piece.{Piece}
+use Rattle.pb_board.specs.declared.setup.Rights.{Rights}
+use Rattle.pb_board.specs.Board.{Board, Place, at}
+use Rattle.pb_board.specs.Piece.{opponent}
+use Rattle.pb_board.specs.Position.{Position, IsSetup, position_of}
+use Rattle.pb_moves.specs.declared.effect.Effect.{Effect}
+use Rattle.pb_moves.specs.declared.move_kind.MoveKind.{MoveKind}
+use Rattle.pb_moves.specs.Candidate.{HoldsOwn}
+use Rattle.pb_moves.specs.Cases.{CaseOf}
+use Rattle.pb_moves.specs.Effect.{IsEffect}
+use Rattle.pb_moves.specs.Legal.{PseudoLegal}
+use Rattle.pb_moves.specs.MoveKind.{LeadsTo, board_by}
+use Rattle.pb_moves.specs.Moved.{Moved}
+use Rattle.pb_moves.specs.Successor.{after, en_passant_after, rights_after}
+use Rattle.pb_moves.proofs.Legality.{case_at, case_by}
+use Rattle.pb_moves.proofs.SameMoves.{after_is_setup, after_parts, board_after_case, case_moves, crosses, moves_case}
+use Rattle.pb_moves.proofs.Passing.{crossed}
+
+-- the kind of move that leads to a case, with what stands beside the board, is what the move does
+pub is_effect : (s : Position) (m : Moved) (piece : Piece) (kind : MoveKind) (rights : Rights) (ep : Option ℕ) → IsSetup s → HoldsOwn s m.from piece
+    → LeadsTo (CaseOf s m piece) s m kind → rights ≡ rights_after s.rights m → ep ≡ en_passant_after m (Some piece)
+    → (let e : Effect = record { piece = piece; kind = kind; rights = rights; ep = ep } in IsEffect s m e)
+is_effect s m piece kind rights ep ok own leads rights_is ep_is =
+    let new = board_by kind m s.board in
+    let case = case_by s m new piece own leads.1 in
+    let B : Board → Position = λ b. position_of b (opponent s.turn) (rights_after s.rights m) (en_passant_after m (at s.board m.from)) in
+    let R : Rights → Position = λ r. position_of new (opponent s.turn) r (en_passant_after m (at s.board m.from)) in
+    let E : Option ℕ → Position = λ o. position_of new (opponent s.turn) rights o in
+    record {
+      moves = case_moves s m new ok case;
+      stands = own.stands;
+      fits = leads.0;
+      after = after_parts s m ∙ ap B (board_after_case s m new ok case) ∙ ap R (sym rights_is) ∙ ap E (ap (λ (p : Place). en_passant_after m p) own.stands ∙ sym ep_is);
+    }
+
+-- and back: the piece makes the move by one of its cases
+pub effect_case : (s : Position) (m : Moved) (e : Effect) → IsSetup s → IsEffect s m e → CaseOf s m e.piece (after s m).board
+effect_case s m e ok is = case_at s m (after s m).board e.piece is.stands (moves_case s m ok is.moves)
+
+pub effect_leads : (s : Position) (m : Moved) (e : Effect) → IsSetup s → IsEffect s m e → HoldsOwn s m.from e.piece × LeadsTo (CaseOf s m e.piece) s m e.kind
+effect_leads s m e ok is =
+    let same : (after s m).board ≡ board_by e.kind m s.board = ap (λ (t : Position). t.board) is.after in
+    let case = moves_case s m ok is.moves in
+    let piece_is : case.piece ≡ e.piece = cc (case.stands, is.stands) in
+    let C : Board → Type 0 = λ b. CaseOf s m e.piece b in
+    let O : Piece → Type 0 = λ p. p.colour ≡ s.turn in
+    (record { stands = is.stands; own = subst O piece_is case.own }, (is.fits, subst C same (effect_case s m e ok is)))
+
+-- the en passant square is the one that the case crosses
+pub effect_ep : (s : Position) (m : Moved) (e : Effect) → IsEffect s m e → (new : Board) (x : CaseOf s m e.piece new) → e.ep ≡ crossed s m e.piece new x
+effect_ep s m e is new x =
+    sym (ap (λ (t : Position). t.ep) is.after) ∙ ap (λ (t : Position). t.ep) (after_parts s m) ∙ crosses s m e.piece new is.stands x
+
+-- a piece without a case has no move
+pub not_pseudo_legal : (s : Position) (m : Moved) (piece : Piece) → IsSetup s → HoldsOwn s m.from piece → ((b : Board) → ¬ CaseOf s m piece b) → ¬ PseudoLegal s m
+not_pseudo_legal s m piece ok own none moves = none (after s m).board (case_at s m (after s m).board piece own.stands (moves_case s m ok moves))
+
+-- the setup that is made of the parts meets the rules for setups
+pub made_is_setup : (s : Position) (m : Moved) (e : Effect) → IsSetup s → IsEffect s m e → IsSetup (position_of (board_by e.kind m s.board) (opponent s.turn) e.rights e.ep)
+made_is_setup s m e ok is = let P : Position → Type 0 = λ t. IsSetup t in subst P is.after (after_is_setup s m ok is.moves)

@@ -1,0 +1,14 @@
+use Rattle.std.proofs.Common.{rules}
+use Rattle.pb_moves.proofs.Carrying.{pawn_goes}
+use Rattle.pb_moves.proofs.cases.pawn_capture.Goals as goal
+
+pub returns-then-reaches : goal.returns-then-reaches
+returns-then-reaches c = (
+  c.requires.own,
+  record {
+    pawn = c.requires.pawn;
+    reaches = search rules;
+    target = search rules;
+    after = pawn_goes c.args.setup.now c.args.m c.args.pawn c.args.kind c.board-board.ensures.places c.from-from.ensures.rules c.requires.own c.requires.pawn c.requires.becomes;
+  },
+)

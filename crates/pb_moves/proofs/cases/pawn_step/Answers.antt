@@ -1,0 +1,15 @@
+use Rattle.std.proofs.Common.{rules}
+use Rattle.pb_moves.proofs.Carrying.{pawn_goes}
+use Rattle.pb_moves.proofs.cases.pawn_step.Goals as goal
+
+pub returns-then-is_empty : goal.returns-then-is_empty
+returns-then-is_empty c = (
+  c.requires.own,
+  record {
+    pawn = c.requires.pawn;
+    same_file = search rules;
+    forward = search rules;
+    empty = search rules;
+    after = pawn_goes c.args.setup.now c.args.m c.args.pawn c.args.kind c.board.ensures.places c.from-from.ensures.rules c.requires.own c.requires.pawn c.requires.becomes;
+  },
+)

@@ -1,0 +1,15 @@
+use Rattle.std.proofs.Common.{◌≡◌, None, rules}
+use Rattle.pb_moves.proofs.Carrying.{piece_goes}
+use Rattle.pb_moves.proofs.cases.piece_move.Goals as goal
+
+pub returns-then-reaches : goal.returns-then-reaches
+returns-then-reaches c =
+    let none : c.args.m.promo ≡ None = search rules in (
+      c.requires.own,
+      record {
+        no_pawn = c.requires.no_pawn;
+        reaches = search rules;
+        target = search rules;
+        after = piece_goes c.args.setup.now c.args.m c.args.piece c.board-board.ensures.places c.from-from.ensures.rules c.requires.own c.requires.no_pawn none;
+      },
+    )

@@ -1,0 +1,93 @@
+//! What a move does, looked up once.
+
+ghost use Rattle.std.specs.Prelude.{◌≡◌, ◌↔◌, IsTrue, MatchOption};
+ghost use Rattle.pb_moves.specs.Effect.{IsEffect};
+ghost use Rattle.pb_moves.specs.Legal.{Legal, PseudoLegal};
+
+use crate::beside::{en_passant_after, rights_after};
+use crate::legal::{change_of, is_safe, own_piece};
+use crate::move_kind::MoveKind;
+use crate::moves::Move;
+use pb_board::{Piece, Rights, Setup, Square};
+
+/// What a move does to a setup. The setup after it and the key of that are made of it, and the move
+/// isn't looked up again.
+#[derive(Clone, Copy)]
+pub struct Effect {
+    /// The piece that moves, as it was.
+    pub piece: Piece,
+    /// Which pieces go where.
+    pub kind: MoveKind,
+    /// The castling rights afterwards.
+    pub rights: Rights,
+    /// The en passant square afterwards.
+    pub ep: Option<Square>,
+}
+
+/// What the move does. None exactly where it isn't legal, check apart.
+#[inline(always)]
+pub fn effect_of(setup: &Setup, m: Move) -> Option<Effect>
+    ensures { MatchOption result (¬ PseudoLegal setup.now m) (IsEffect setup.now m) }
+{
+    // The reader tells that the setup meets its rules.
+    let _turn = setup.turn();
+    let piece = own_piece(setup, m.from())?;
+    let kind = change_of(setup, m, piece)?;
+    Some(Effect {
+        piece,
+        kind,
+        rights: rights_after(setup.rights(), m),
+        ep: en_passant_after(m, piece),
+    })
+}
+
+/// What the move does. None exactly where it isn't legal.
+#[inline(always)]
+pub fn legal_effect(setup: &Setup, m: Move) -> Option<Effect>
+    ensures { MatchOption result (¬ Legal setup.now m) (λ e. Legal setup.now m × IsEffect setup.now m e) }
+{
+    // The reader tells that the setup meets its rules.
+    let _turn = setup.turn();
+    let effect = effect_of(setup, m)?;
+    if is_safe(setup, m, effect.piece, &effect.kind) {
+        Some(effect)
+    } else {
+        None
+    }
+}
+
+/// Whether the move is legal: a piece of the side to move makes it by the rules for its kind, and
+/// that side isn't in check afterwards.
+pub fn is_legal(setup: &Setup, m: Move) -> bool
+    ensures { IsTrue result ↔ Legal setup.now m }
+{
+    legal_effect(setup, m).is_some()
+}
+
+impl Effect {
+    ghost use Rattle.pb_moves.specs.Successor.{after};
+
+    /// Plays the move in place.
+    #[inline(always)]
+    pub fn apply(self, setup: &mut Setup, m: Move)
+        requires { IsEffect setup.old m self }
+        ensures { setup.new ≡ after setup.old m }
+    {
+        // The reader tells that the setup meets its rules.
+        let _turn = setup.turn();
+        let Effect {
+            kind,
+            rights,
+            ep,
+            ..
+        } = self;
+        match kind {
+            MoveKind::Normal(piece) => {
+                setup.carry(m.from(), m.to(), piece, rights, ep);
+            }
+            MoveKind::Double(first, second) => {
+                setup.carry_twice(first, second, rights, ep);
+            }
+        }
+    }
+}
