@@ -34,7 +34,7 @@ const MANY: usize = 64;
 ///
 /// The rows are narrow, and what one has no room for goes to a wide row beside it. Since `add`
 /// takes no memory, there is always room for as many wide rows as the blocks have room for. That
-/// room is hardly ever used, and the system gives no page of it before it is.
+/// room is hardly ever used, and but for its first page the system gives none of it before it is.
 #[derive(Drop)]
 pub struct NarrowTally {
     alloc: Global,
