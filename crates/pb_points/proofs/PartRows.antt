@@ -33,7 +33,7 @@ some_is x y e = cc
 is_some : {X : Type 0} (o p : Option X) → o ≡ p → IsSome o → IsSome p
 is_some o p e h = subst IsSome e h
 
-cases_eq : (m n : ℕ) → (m ≡ n) ⊎ (m ≡ n → ⊥)
+pub cases_eq : (m n : ℕ) → (m ≡ n) ⊎ (m ≡ n → ⊥)
 cases_eq m n = elim (cases_lt m n) [
   | inl up ↦ inr (λ e. omega (arith, up, e))
   | inr le ↦ elim (cases_lt n m) [ inl down ↦ inr (λ e. omega (arith, down, e)) | inr ge ↦ inl (omega arith) ]
@@ -44,7 +44,7 @@ module _ {T : Type 0} (content : T → Content) where
   abbrev Changes : (Held → Held) → Content → Content → ℕ → ℕ → Type 0
   Changes f old new key code = (k c : ℕ) → new k c ≡ (if is_pair key code k c then Some (f (held old k c)) else old k c)
 
-  at_part : (parts : List T) (k c : ℕ) (t : T) → slice_get parts (part_of k) ≡ Some t → parts_content content parts k c ≡ content t k c
+  pub at_part : (parts : List T) (k c : ℕ) (t : T) → slice_get parts (part_of k) ≡ Some t → parts_content content parts k c ≡ content t k c
   at_part parts k c t e = ap (option_and_then (λ part. content part k c)) e
 
   pub part_changed : (f : Held → Held) (parts : List T) (key code : ℕ) (old new : T) → slice_get parts (part_of key) ≡ Some old
