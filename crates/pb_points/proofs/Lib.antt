@@ -2,6 +2,7 @@ pub mod AddedRows
 pub mod BagRows
 pub mod BlockRows
 pub mod DistinctRows
+pub mod Elements
 pub mod FromRows
 pub mod Groups
 pub mod ListRows
@@ -12,6 +13,7 @@ pub mod PartRows
 pub mod PartStretches
 pub mod PartedRows
 pub mod Pointed
+pub mod SomeBooks
 pub mod SomeSums
 pub mod Spreads
 pub mod Stretches

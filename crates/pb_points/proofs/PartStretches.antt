@@ -2,13 +2,13 @@
 use Rattle.std.proofs.Common.{◌≡◌, ℕ, ◌<◌, ◌≤◌, ◌^◌, ◌&&◌, ◌==◌, Bool, true, false, if◌then◌else◌, Option, None, Some, IsSome, List, length, refl, sym, ap, subst, ◌∙◌, inl, inr, arith}
 use Rattle.std.specs.Prelude.{slice_get}
 use Rattle.std.specs.Option.{option_and_then}
-use Rattle.std.proofs.lemmas.Bool.{cases_lt}
+use Rattle.std.proofs.lemmas.Bool.{cases_eq, cases_lt}
 use Rattle.std.proofs.lemmas.Bool.Decides.{nat_tests}
 use Rattle.std.proofs.lemmas.Option.{slice_get_past, slice_get_within}
 use Rattle.pb_points.specs.PartTally.{HoldsOwn, part_of, parts_content}
 use Rattle.pb_points.specs.Tally.{Content, Held}
 use Rattle.pb_points.specs.TallyBook.{is_within, stretch_of}
-use Rattle.pb_points.proofs.PartRows.{at_part, cases_eq}
+use Rattle.pb_points.proofs.PartRows.{at_part}
 use Rattle.pb_points.proofs.Stretches.{stretch_none, stretched}
 
 both_of : (b : Bool) (m n : ℕ) → m ≡ n → (b && (m == n)) ≡ b

@@ -1,7 +1,6 @@
 -- The book of the rows that have points.
-use Rattle.std.proofs.Common.{◌≡◌, ℕ, zero, suc, ◌*◌, ◌/◌, ◌<◌, ◌≤◌, ◌⊎◌, nat_le, Bool, true, false, cond, if◌then◌else◌, Some, None, List, [], ◌∷◌, ◌++◌, length, get_or, Contains, refl, sym, ap, subst, ◌∙◌, inl, inr, arith}
+use Rattle.std.proofs.Common.{◌≡◌, ℕ, zero, suc, ◌*◌, ◌/◌, ◌<◌, ◌≤◌, nat_le, Bool, true, false, cond, if◌then◌else◌, Some, None, List, [], ◌∷◌, ◌++◌, Contains, refl, sym, ap, subst, ◌∙◌, inl, inr, arith}
 use Rattle.std.specs.Prelude.{nat_lt}
-use Rattle.std.specs.List.{filter}
 use Rattle.std.proofs.Math.Nat.{zero-div}
 use Rattle.std.proofs.lemmas.Bool.{cases_lt, le-leb}
 use Rattle.std.proofs.lemmas.Bool.Decides.{nat_tests}
@@ -16,7 +15,8 @@ use Rattle.pb_points.specs.TallyBook.{AddsBookOf}
 use Rattle.pb_points.specs.Weight.{scaled}
 use Rattle.pb_points.proofs.AddedRows.{added_each}
 use Rattle.pb_points.proofs.BagRows.{held_added, held_points, held_times, new_row, no_total, points_held, times_held, total_pushed}
-use Rattle.pb_points.proofs.Stretches.{contains_filter, frequent_within}
+use Rattle.pb_points.proofs.Elements.{contains_filter}
+use Rattle.pb_points.proofs.Stretches.{frequent_within}
 use Rattle.pb_points.proofs.SomeSums.{some_sums}
 
 -- ---- what has no plies has no points

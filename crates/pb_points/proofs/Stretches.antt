@@ -1,11 +1,9 @@
 -- The book of a tally, one stretch of keys after another.
-use Rattle.std.proofs.Common.{◌≡◌, ℕ, zero, suc, ◌<◌, ◌≤◌, ◌⊎◌, ◌&&◌, nat_le, Bool, true, false, cond, if◌then◌else◌, Option, None, Some, IsSome, List, [], ◌∷◌, ◌++◌, length, get_or, Contains, refl, sym, ap, subst, ◌∙◌, inl, inr, arith}
-use Rattle.std.specs.Prelude.{nat_lt, slice_get, IfSome}
-use Rattle.std.specs.List.{filter}
-use Rattle.std.specs.Option.{option_and_then}
+use Rattle.std.proofs.Common.{◌≡◌, ℕ, ◌<◌, ◌≤◌, ◌⊎◌, nat_le, Bool, true, false, if◌then◌else◌, Option, None, Some, List, [], ◌++◌, Contains, refl, sym, ap, subst, ◌∙◌, inl, inr, arith}
+use Rattle.std.specs.Prelude.{IfSome}
 use Rattle.std.proofs.lemmas.Bool.{cases_lt, leb-true, le-leb}
 use Rattle.std.proofs.lemmas.Bool.Decides.{nat_tests}
-use Rattle.std.proofs.lemmas.List.Elements.{All-contains, All-contains_itself, All-filter, Contains-append_cases, Contains-append_left, Contains-append_right, filter-append, filter_passes}
+use Rattle.std.proofs.lemmas.List.Elements.{All-contains, Contains-append_cases, Contains-append_left, Contains-append_right, filter-append, filter_passes}
 use Rattle.std.proofs.lemmas.List.Kept.{AllPairs-filter}
 use Rattle.pb_poly.specs.declared.entry.Entry.{Entry}
 use Rattle.pb_points.specs.declared.row.Row.{Row}
@@ -13,41 +11,12 @@ use Rattle.pb_points.specs.Group.{AddsBook}
 use Rattle.pb_points.specs.Rows.{IsBelow, frequent, from}
 use Rattle.pb_points.specs.Tally.{Content, Held, held_of}
 use Rattle.pb_points.specs.TallyBook.{AddsBookOf, AreRows, is_within, stretch_of}
+use Rattle.pb_points.proofs.Elements.{contains_filter, within_filter}
 use Rattle.pb_points.proofs.Groups.{AllPairs-append, KeysBelow, adds_both, adds_nothing}
-
--- ---- some of the rows
-
-pub within_filter : (p : Row → Bool) (rows : List Row) (r : Row) → Contains (filter p rows) r → Contains rows r
-within_filter p rows r h =
-    All-contains (Contains rows) (filter p rows) r (All-filter p (Contains rows) rows (All-contains_itself rows)) h
 
 -- a row that occurs often enough is one of the rows
 pub frequent_within : (least : ℕ) (rows : List Row) (r : Row) → Contains (frequent least rows) r → Contains rows r
 frequent_within least rows = within_filter (λ q. nat_le least q.times) rows
-
-contains_cases : (x : Row) (xs : List Row) (z : Row) → Contains (x ∷ xs) z → (x ≡ z) ⊎ Contains xs z
-contains_cases x xs z h = by h.0 h.1 h.2
-  where
-    by : (k : ℕ) → k < length (x ∷ xs) → get_or (x ∷ xs) k z ≡ z → (x ≡ z) ⊎ Contains xs z
-    by zero lt e = inl e
-    by (suc k) lt e = inr (k, omega arith, e)
-
-pub contains_filter : (p : Row → Bool) (xs : List Row) (x : Row) → Contains xs x → p x ≡ true → Contains (filter p xs) x
-contains_filter p [] x h is = h
-contains_filter p (y ∷ ys) x h is = by (p y) refl (λ later. contains_filter p ys x later is)
-  where
-    tail : (z : Row) → Contains (filter p ys) z → Contains (y ∷ filter p ys) z
-    tail z h = (suc h.0, omega (arith, h.1), h.2)
-
-    by : (b : Bool) → p y ≡ b → (Contains ys x → Contains (filter p ys) x) → Contains (cond (p y) (y ∷ filter p ys) (filter p ys)) x
-    by true e rest = subst (λ b. Contains (cond b (y ∷ filter p ys) (filter p ys)) x) (sym e) (elim (contains_cases y ys x h) [
-      | inl here ↦ subst (Contains (y ∷ filter p ys)) here (0, omega arith, refl)
-      | inr later ↦ tail x (rest later)
-    ])
-    by false e rest = subst (λ b. Contains (cond b (y ∷ filter p ys) (filter p ys)) x) (sym e) (elim (contains_cases y ys x h) [
-      | inl here ↦ (let both : p y ≡ true = subst (λ z. p z ≡ true) (sym here) is in absurd (cc (both, e)))
-      | inr later ↦ rest later
-    ])
 
 -- ---- the keys of a stretch
 

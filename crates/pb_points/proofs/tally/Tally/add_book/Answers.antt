@@ -1,6 +1,6 @@
 use Rattle.std.proofs.Common.{subst}
 use Rattle.pb_points.specs.TallyBook.{AddsBookOf, stretch_of}
-use Rattle.pb_points.proofs.Stretches.{ends, goes_on, starts}
+use Rattle.pb_points.proofs.Stretches.{goes_on, starts}
 use Rattle.pb_points.proofs.tally.Tally.add_book.Goals as goal
 
 pub loop-next-init : goal.loop-next-init

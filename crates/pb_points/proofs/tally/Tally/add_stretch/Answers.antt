@@ -1,4 +1,4 @@
-use Rattle.std.proofs.Common.{◌≡◌, ◌∙◌, AllPairs, List, ap, sym, subst}
+use Rattle.std.proofs.Common.{◌∙◌, AllPairs, ap, sym, subst}
 use Rattle.std.proofs.lemmas.List.Kept.{AllPairs-filter}
 use Rattle.pb_points.specs.Group.{AddsBook}
 use Rattle.pb_points.specs.Rows.{IsBelow, frequent}
