@@ -15,7 +15,7 @@ use Rattle.pb_accepted.proofs.Members.{same_in_order, permutation_from_members}
 
 -- ---- one book
 
-before_itself : (e : Entry) → Before e e → ⊥
+pub before_itself : (e : Entry) → Before e e → ⊥
 before_itself e (inl h) = omega arith
 before_itself e (inr h) = by h.1
   where
@@ -23,7 +23,7 @@ before_itself e (inr h) = by h.1
     by (inl k) = omega arith
     by (inr k) = omega (arith, k.1)
 
-before_both : (e f : Entry) → Before e f → Before f e → ⊥
+pub before_both : (e f : Entry) → Before e f → Before f e → ⊥
 before_both e f (inl h) (inl k) = omega arith
 before_both e f (inl h) (inr k) = omega (arith, k.0)
 before_both e f (inr h) (inl k) = omega (arith, h.0)

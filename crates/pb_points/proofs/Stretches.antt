@@ -20,26 +20,29 @@ frequent_within least rows = within_filter (λ q. nat_le least q.times) rows
 
 -- ---- the keys of a stretch
 
-above : (first : ℕ) (next : Option ℕ) (k : ℕ) → is_within first next k ≡ true → first ≤ k
+pub above : (first : ℕ) (next : Option ℕ) (k : ℕ) → is_within first next k ≡ true → first ≤ k
 above first None k e = leb-true first k e
 above first (Some n) k e = grind (arith, nat_tests)
 
-before : (first n k : ℕ) → is_within first (Some n) k ≡ true → k < n
+pub before : (first n k : ℕ) → is_within first (Some n) k ≡ true → k < n
 before first n k e = grind (arith, nat_tests)
 
 between : (first n k : ℕ) → first ≤ k → k < n → is_within first (Some n) k ≡ true
 between first n k low high = grind (arith, nat_tests)
 
+pub none_within : (k : ℕ) → is_within 0 (Some 0) k ≡ false
+none_within k = grind (arith, nat_tests)
+
 -- a key of the first of two stretches, or of the second, is one of both
-in_first : (first : ℕ) (next : Option ℕ) (k : ℕ) → IfSome next (λ n. first < n) → is_within 0 (Some first) k ≡ true → is_within 0 next k ≡ true
+pub in_first : (first : ℕ) (next : Option ℕ) (k : ℕ) → IfSome next (λ n. first < n) → is_within 0 (Some first) k ≡ true → is_within 0 next k ≡ true
 in_first first None k onward e = le-leb 0 k (omega arith)
 in_first first (Some n) k onward e = between 0 n k (omega arith) (omega (arith, before 0 first k e, onward))
 
-in_second : (first : ℕ) (next : Option ℕ) (k : ℕ) → is_within first next k ≡ true → is_within 0 next k ≡ true
+pub in_second : (first : ℕ) (next : Option ℕ) (k : ℕ) → is_within first next k ≡ true → is_within 0 next k ≡ true
 in_second first None k e = le-leb 0 k (omega arith)
 in_second first (Some n) k e = between 0 n k (omega arith) (before first n k e)
 
-in_either : (first : ℕ) (next : Option ℕ) (k : ℕ) → is_within 0 next k ≡ true → (is_within 0 (Some first) k ≡ true) ⊎ (is_within first next k ≡ true)
+pub in_either : (first : ℕ) (next : Option ℕ) (k : ℕ) → is_within 0 next k ≡ true → (is_within 0 (Some first) k ≡ true) ⊎ (is_within first next k ≡ true)
 in_either first next k e = elim (cases_lt k first) [
   | inl lt ↦ inl (between 0 first k (omega arith) lt)
   | inr ge ↦ inr (by next e ge)
@@ -55,7 +58,7 @@ in_either first next k e = elim (cases_lt k first) [
 pub stretched : (content : Content) (first : ℕ) (next : Option ℕ) (k c : ℕ) (b : Bool) → is_within first next k ≡ b → stretch_of first next content k c ≡ (if b then content k c else None)
 stretched content first next k c b e = ap (λ b. if b then content k c else None) e
 
-held_within : (content : Content) (first : ℕ) (next : Option ℕ) (k c : ℕ) (h : Held) → stretch_of first next content k c ≡ Some h → (is_within first next k ≡ true) × (content k c ≡ Some h)
+pub held_within : (content : Content) (first : ℕ) (next : Option ℕ) (k c : ℕ) (h : Held) → stretch_of first next content k c ≡ Some h → (is_within first next k ≡ true) × (content k c ≡ Some h)
 held_within content first next k c h is = by (is_within first next k) refl
   where
     by : (b : Bool) → is_within first next k ≡ b → (is_within first next k ≡ true) × (content k c ≡ Some h)
@@ -114,9 +117,6 @@ module _ (content : Content) (least : ℕ) where
   -- before the first stretch
   pub starts : (old : List Entry) → AddsBookOf (stretch_of 0 (Some 0) content) least old old
   starts old = adds_of_nothing (stretch_of 0 (Some 0) content) least old (λ k c. stretched content 0 (Some 0) k c false (none_within k))
-    where
-      none_within : (k : ℕ) → is_within 0 (Some 0) k ≡ false
-      none_within k = grind (arith, nat_tests)
 
   -- after the last
   pub ends : (old new : List Entry) → AddsBookOf (stretch_of 0 None content) least old new → AddsBookOf content least old new
