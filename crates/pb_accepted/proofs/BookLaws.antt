@@ -2,9 +2,10 @@
 use Rattle.std.proofs.Common.{◌≡◌, ℕ, ◌<◌, ◌⊎◌, List, [], IsPermutation, sym, ap, subst, ◌∙◌, inl, inr, arith}
 use Rattle.std.proofs.lemmas.List.Sorted.{sum_by-IsPermutation}
 use Rattle.pb_poly.specs.declared.entry.Entry.{Entry}
-use Rattle.pb_poly.specs.Book.{BookBytes, book_bytes}
+use Rattle.pb_poly.specs.Book.{BookBytes, NeverFall, book_bytes}
 use Rattle.pb_games.specs.Submissions.{Submission}
 use Rattle.pb_points.specs.Weight.{scaled, Before}
+use Rattle.pb_points.proofs.Groups.{NeverFall-ordered}
 use Rattle.pb_accepted.specs.Accepting.{Answer, Taken, OneGame}
 use Rattle.pb_accepted.specs.Basis.{Basis}
 use Rattle.pb_accepted.specs.Counting.{points, occurrences, count, times, Occurs, IsGreatest, IsWeight, IsBook}
@@ -15,7 +16,7 @@ use Rattle.pb_accepted.proofs.Members.{same_in_order, permutation_from_members}
 
 -- ---- one book
 
-before_itself : (e : Entry) → Before e e → ⊥
+pub before_itself : (e : Entry) → Before e e → ⊥
 before_itself e (inl h) = omega arith
 before_itself e (inr h) = by h.1
   where
@@ -23,7 +24,7 @@ before_itself e (inr h) = by h.1
     by (inl k) = omega arith
     by (inr k) = omega (arith, k.1)
 
-before_both : (e f : Entry) → Before e f → Before f e → ⊥
+pub before_both : (e f : Entry) → Before e f → Before f e → ⊥
 before_both e f (inl h) (inl k) = omega arith
 before_both e f (inl h) (inr k) = omega (arith, k.0)
 before_both e f (inr h) (inl k) = omega (arith, h.0)
@@ -42,6 +43,10 @@ one_book T S E F h k = same_in_order Before before_itself before_both E F h.orde
 
 pub one_text : (T : Basis) (S : List Submission) (E F : List Entry) (b c : List ℕ) → IsBook T S E → BookBytes E b → IsBook T S F → BookBytes F c → b ≡ c
 one_text T S E F b c h hb k kc = hb.are ∙ ap book_bytes (one_book T S E F h k) ∙ sym kc.are
+
+-- the keys of a book never fall
+pub never_falls : (T : Basis) (S : List Submission) (E : List Entry) → IsBook T S E → NeverFall E
+never_falls T S E h = NeverFall-ordered E h.ordered
 
 -- ---- lists with the same members
 

@@ -1,6 +1,7 @@
 pub mod Allowing
 pub mod Arrivals
 pub mod BookLaws
+pub mod BookStretches
 pub mod Books
 pub mod Counts
 pub mod Distinct
@@ -12,4 +13,5 @@ pub mod Numbers
 pub mod Places
 pub mod Replies
 pub mod Runs
+pub mod SomeBooks
 pub mod Steps

@@ -1,5 +1,6 @@
 -- Points, counts, weights and the book of a list of games. T is the basis, S the list of submissions.
-use Rattle.std.specs.Prelude.{◌≡◌, ℕ, ◌≤◌, ◌↔◌, Bool, List, take, sum_by, count_by, AllPairs, Contains, if◌then◌else◌}
+use Rattle.std.specs.Prelude.{◌≡◌, ℕ, ◌≤◌, ◌↔◌, Bool, List, Option, take, sum_by, count_by, AllPairs, Contains, if◌then◌else◌}
+use Rattle.std.specs.List.{filter}
 use Rattle.pb_board.specs.declared.piece.Colour.{Colour}
 use Rattle.pb_board.specs.declared.piece.Colour.TheVariants as side
 use Rattle.pb_moves.specs.Played.{Ply}
@@ -11,6 +12,7 @@ use Rattle.pb_games.specs.declared.outcome.Outcome.{Outcome}
 use Rattle.pb_games.specs.declared.outcome.Outcome.TheVariants.{White, Black, Draw}
 use Rattle.pb_games.specs.Submissions.{Submission, plies}
 use Rattle.pb_points.specs.Tally.{is_pair}
+use Rattle.pb_points.specs.TallyBook.{is_within}
 use Rattle.pb_points.specs.Weight.{scaled, Before}
 use Rattle.pb_accepted.specs.Basis.{Basis}
 
@@ -63,3 +65,7 @@ IsWeight T S k c w = (M : ℕ) × IsGreatest T S k M × (w ≡ scaled (count T S
 pub record IsBook (T : Basis) (S : List Submission) (E : List Entry) : Type 0 where
   pub ordered : AllPairs Before E
   pub members : (e : Entry) → Contains E e ↔ (Occurs T S e.key e.code × IsWeight T S e.key e.code e.weight × (1 ≤ e.weight) × (e.learn ≡ 0))
+
+-- the entries of a book whose keys are in the stretch that begins with `first` and ends before the next one, if there is one
+abbrev pub stretch : ℕ → Option ℕ → List Entry → List Entry
+stretch first next entries = filter (λ e. is_within first next e.key) entries

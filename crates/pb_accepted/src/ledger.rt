@@ -1,11 +1,13 @@
 //! The ledger.
 
-ghost use Rattle.std.specs.Prelude.{◌≡◌, ◌≤◌, ◌+◌, ◌*◌, ◌^◌, ◌++◌, ◌∷◌, [], ℕ, IfOk, MatchOption, OnErr, OnOk, Ok, length};
+ghost use Rattle.std.specs.Prelude.{◌≡◌, ◌<◌, ◌≤◌, ◌+◌, ◌*◌, ◌^◌, ◌++◌, ◌∷◌, [], ℕ, List, IfOk, IfSome, MatchOption, OnErr, OnOk, Ok, length};
 ghost use Rattle.pb_games.specs.Submissions.{IsLawful, IsSubmission, Submission};
 ghost use Rattle.pb_points.specs.Tally.{held};
+ghost use Rattle.pb_points.specs.TallyBook.{AddsSome};
+ghost use Rattle.pb_poly.specs.declared.entry.Entry.{Entry};
 ghost use Rattle.pb_accepted.specs.Accepting.{IsNewId, IsNumber, Step};
 ghost use Rattle.pb_accepted.specs.Arriving.{IsArrival};
-ghost use Rattle.pb_accepted.specs.Counting.{IsBook};
+ghost use Rattle.pb_accepted.specs.Counting.{IsBook, stretch};
 ghost use Rattle.pb_accepted.specs.Gift.{gifts_of, with_gifts};
 ghost use Rattle.pb_accepted.specs.Holding.{IsLedger, Tallies, most_games};
 ghost use Rattle.pb_accepted.specs.Noting.{HasNoted};
@@ -19,7 +21,7 @@ use crate::rules::Rules;
 use indexmap::IndexMap;
 use pb_games::{Game, Id, Line, Refusal, check_line, repeats};
 use pb_points::Tally;
-use pb_poly::{Book, Table};
+use pb_poly::{Book, Entry, Table};
 use std::alloc::{AllocError, Global};
 use std::marker::Model;
 
@@ -204,6 +206,30 @@ impl<T: Tally> Ledger<T> {
         ensures { Tallies (T.content result.now) self.now.basis self.now.accepted }
     {
         &self.tally
+    }
+
+    /// Adds a stretch of the opening book of the games that are held to the entries. The stretch
+    /// begins with the key `first`. The answer is the key with which the next one begins, or none
+    /// after the last. So all stretches from the key 0 on are the book, and no list of all entries
+    /// is needed to put them one after the other.
+    ///
+    /// # Errors
+    ///
+    /// There was no memory for the rows of the tally, or for the entries. The entries that stood in
+    /// the list stand there still, and some may be behind them.
+    pub fn add_stretch(
+        &self,
+        alloc: Global,
+        first: u64,
+        entries: &mut Vec<Entry>,
+    ) -> Result<Option<u64>, AllocError>
+        ensures ok { IfOk result (λ next. (book : List Entry) × IsBook self.now.basis self.now.accepted book
+            × (entries.new.items ≡ entries.old.items ++ stretch first next book)) }
+        ensures onward { IfOk result (λ next. IfSome next (λ n. first < n)) }
+        ensures err { OnErr result (AddsSome entries.old.items entries.new.items) }
+    {
+        let least = u64::from(self.rules.least());
+        self.tally.add_stretch(alloc, least, first, entries)
     }
 
     /// The opening book of the games that are held.

@@ -1,30 +1,43 @@
 -- What a run with a journal leaves at the place of its book, from what its parts do.
-use Rattle.std.proofs.Common.{◌≡◌, ℕ, List, Option, Some, None, IfSome, Result, Ok, refl, subst}
-use Rattle.pb_io.specs.Source.{SourceState}
-use Rattle.pb_io.specs.Sink.{SinkState}
-use Rattle.pb_poly.specs.Book.{book_bytes}
-use Rattle.pb_poly.specs.declared.entry.Entry.{Entry}
+use Rattle.std.proofs.Common.{◌≡◌, ℕ, ◌⊎◌, List, Option, None, Some, Result, Ok, Err, refl, subst}
+use Rattle.pb_io.specs.Source.{HandsOut, SourceState}
+use Rattle.pb_io.specs.Sink.{AllLasts, SinkState}
+use Rattle.pb_io.specs.declared.fault.Fault.{Fault}
+use Rattle.pb_io.specs.declared.fault.Fault.TheVariants.{Memory}
+use Rattle.pb_accepted.specs.Ledger.{LedgerState}
 use Rattle.pb_accepted.specs.Rules.{CountingRules}
-use Rattle.pb_collecting.specs.JournalHeadline.{HasHeadlineOfJournal}
+use Rattle.pb_ledger.specs.Booking.{BookText}
+use Rattle.pb_collecting.specs.JournalHeadline.{Outlives, Survives}
 use Rattle.pb_collecting.specs.JournalInto.{KeepsJournaled}
 use Rattle.pb_collecting.specs.Place.{Keeps, PlaceState}
+use Rattle.pb_collecting.specs.Run.{LeavesLedger}
 use Rattle.pb_collecting.specs.Runs.{JournalRun}
 use Rattle.pb_collecting.specs.declared.place.NotKept.{NotKept}
+use Rattle.pb_collecting.proofs.JournalClauses.{headline, outlives, survives}
 
 module _ (rules : CountingRules) (fills : ℕ) (t t' v v' s s' : SourceState) (j j' sink sink' : SinkState) where
-  abbrev Made : Option (List Entry) → Type 0
-  Made made = JournalRun rules fills t t' v v' s s' j j' sink sink' (Ok made)
+  abbrev pub Leaves : Result (Option LedgerState) Fault → Type 0
+  Leaves = LeavesLedger (JournalRun rules fills t t' v v' s s' j j' sink sink')
 
-  pub no_book : (p : PlaceState) (made : Option (List Entry)) → made ≡ None → Made made → Made None × (p ≡ p)
-  no_book p made is h = (subst Made is h, refl)
-
-  pub made_book : (p p' : PlaceState) (entries : List Entry) (made : Option (List Entry)) → made ≡ Some entries → Made made
-      → IfSome made (HasHeadlineOfJournal rules t t' v v' s s' j j' sink sink') → (answer : Result (Unit {0}) NotKept) → (bytes : List ℕ) × (bytes ≡ book_bytes entries) × Keeps p p' answer bytes
-      → KeepsJournaled rules fills t t' v v' s s' j j' sink sink' p p' answer
-  made_book p p' entries made is h headline answer keeps =
+  pub kept_book : (left : LedgerState) → Leaves (Ok (Some left)) → (p p' : PlaceState) (answer : Result (Unit {0}) NotKept)
+      → (bytes : List ℕ) × BookText left bytes × Keeps p p' answer bytes → KeepsJournaled rules fills t t' v v' s s' j j' sink sink' p p' answer
+  kept_book left leaves p p' answer keeps =
+      let book = keeps.1 in
+      let run = leaves (Ok book.0) (book.1, book.2.bounds) in
       record {
-        entries = entries;
-        run = subst Made is h;
-        headline = subst (λ (x : Option (List Entry)). IfSome x (HasHeadlineOfJournal rules t t' v v' s s' j j' sink sink')) is headline;
-        keeps = subst (λ (bytes : List ℕ). Keeps p p' answer bytes) keeps.1 keeps.2;
+        entries = book.0;
+        run = run;
+        headline = headline rules fills t t' v v' s s' j j' sink sink' (Ok (Some book.0)) run;
+        keeps = subst (λ (bytes : List ℕ). Keeps p p' answer bytes) book.2.are keeps.2;
       }
+
+  -- no game is lost, whatever becomes of the book
+  pub leaves_survives : (result : Result (Option LedgerState) Fault) → Leaves result → (s' ≡ s) ⊎ ((bytes : List ℕ) × HandsOut v v' bytes × Survives bytes s s' j j' sink sink')
+  leaves_survives (Ok (Some left)) leaves = survives rules fills t t' v v' s s' j j' sink sink' (Err Memory) (leaves (Err Memory) refl)
+  leaves_survives (Ok None) run = survives rules fills t t' v v' s s' j j' sink sink' (Ok None) run
+  leaves_survives (Err fault) run = survives rules fills t t' v v' s s' j j' sink sink' (Err fault) run
+
+  pub leaves_outlives : (result : Result (Option LedgerState) Fault) → Leaves result → AllLasts j → (s' ≡ s) ⊎ ((bytes : List ℕ) × HandsOut v v' bytes × Outlives bytes s s' j j' sink sink')
+  leaves_outlives (Ok (Some left)) leaves = outlives rules fills t t' v v' s s' j j' sink sink' (Err Memory) (leaves (Err Memory) refl)
+  leaves_outlives (Ok None) run = outlives rules fills t t' v v' s s' j j' sink sink' (Ok None) run
+  leaves_outlives (Err fault) run = outlives rules fills t t' v v' s s' j j' sink sink' (Err fault) run

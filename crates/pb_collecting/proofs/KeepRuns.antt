@@ -1,31 +1,26 @@
 -- How a run of the command `collect` with the place of its book ends, from what its parts do.
-use Rattle.std.proofs.Common.{◌≡◌, ℕ, List, Option, Some, None, IfSome, Result, Ok, refl, subst}
+use Rattle.std.proofs.Common.{ℕ, List, Some, Result, Ok, subst}
 use Rattle.pb_io.specs.Source.{SourceState}
 use Rattle.pb_io.specs.Sink.{SinkState}
-use Rattle.pb_poly.specs.Book.{book_bytes}
-use Rattle.pb_poly.specs.declared.entry.Entry.{Entry}
-use Rattle.pb_accepted.specs.Rules.{CountingRules}
-use Rattle.pb_collecting.specs.Headline.{HasHeadline}
-use Rattle.pb_collecting.specs.Keeping.{KeepsBook, RefusesBook}
+use Rattle.pb_accepted.specs.Ledger.{LedgerState}
+use Rattle.pb_accepted.specs.Rules.{AreRules, CountingRules}
+use Rattle.pb_ledger.specs.Booking.{BookText}
+use Rattle.pb_collecting.specs.Keeping.{KeepsBook}
 use Rattle.pb_collecting.specs.Place.{Keeps, PlaceState}
+use Rattle.pb_collecting.specs.Run.{LeavesLedger}
 use Rattle.pb_collecting.specs.Runs.{CollectRun}
 use Rattle.pb_collecting.specs.declared.place.NotKept.{NotKept}
+use Rattle.pb_collecting.proofs.CollectClauses.{headline}
 
-module _ (rules : CountingRules) (fills : ℕ) (t t' s s' : SourceState) (sink sink' : SinkState) where
-  abbrev Made : Option (List Entry) → Type 0
-  Made made = CollectRun rules fills t t' s s' sink sink' (Ok made)
-
-  pub no_book : (place : PlaceState) (made : Option (List Entry)) → made ≡ None → Made made → RefusesBook rules fills t t' s s' sink sink' place place
-  no_book place made is h =
-      record { run = subst Made is h; same = refl }
-
-  pub made_book : (place place' : PlaceState) (entries : List Entry) (made : Option (List Entry)) → made ≡ Some entries → Made made
-      → IfSome made (HasHeadline rules t t' s s' sink sink') → (answer : Result (Unit {0}) NotKept) → (bytes : List ℕ) × (bytes ≡ book_bytes entries) × Keeps place place' answer bytes
-      → KeepsBook rules fills t t' s s' sink sink' place place' answer
-  made_book place place' entries made is h headline answer keeps =
+module _ (rules : CountingRules) (counting : AreRules rules) (fills : ℕ) (t t' s s' : SourceState) (sink sink' : SinkState) where
+  pub kept_book : (left : LedgerState) → LeavesLedger (CollectRun rules fills t t' s s' sink sink') (Ok (Some left)) → (place place' : PlaceState) (answer : Result (Unit {0}) NotKept)
+      → (bytes : List ℕ) × BookText left bytes × Keeps place place' answer bytes → KeepsBook rules fills t t' s s' sink sink' place place' answer
+  kept_book left leaves place place' answer keeps =
+      let book = keeps.1 in
+      let run = leaves (Ok book.0) (book.1, book.2.bounds) in
       record {
-        entries = entries;
-        run = subst Made is h;
-        headline = subst (λ (x : Option (List Entry)). IfSome x (HasHeadline rules t t' s s' sink sink')) is headline;
-        keeps = subst (λ (bytes : List ℕ). Keeps place place' answer bytes) keeps.1 keeps.2;
+        entries = book.0;
+        run = run;
+        headline = headline rules counting fills t t' s s' sink sink' (Ok (Some book.0)) run;
+        keeps = subst (λ (bytes : List ℕ). Keeps place place' answer bytes) book.2.are keeps.2;
       }

@@ -13,7 +13,7 @@ use Rattle.pb_ledger.specs.declared.loading.LoadError.TheVariants as load
 use Rattle.pb_commands.specs.Judged.{PutsOrEnds, Verdict}
 use Rattle.pb_commands.specs.TableJudged.{table_verdict}
 use Rattle.pb_collecting.specs.Continuing.{saved_verdict}
-use Rattle.pb_collecting.specs.Run.{Opens}
+use Rattle.pb_collecting.specs.Run.{Opens, made_of}
 use Rattle.pb_collecting.specs.Runs as runs
 use Rattle.pb_collecting.specs.Runs.{LacksTable, RunEnds, TakesTable}
 
@@ -41,11 +41,6 @@ saved_no load.Memory = refl
 says_no : (verdict : Verdict) → answers verdict ≡ false → (answer : Bool) (out : List ℕ) → Ok (answer, out) ≡ verdict → Ok (false, out) ≡ verdict
 says_no verdict denies answer out is =
     let said : answer ≡ false = ap answers is ∙ denies in ap (λ (b : Bool). let v : Verdict = Ok (b, out) in v) (sym said) ∙ is
-
--- an X is what was made
-abbrev pub made_of : {X : Type 0} → Result X Fault → Result (Option X) Fault
-made_of (Ok x) = Ok (Some x)
-made_of (Err fault) = Err fault
 
 module _ {M X : Type 0} (first : M → Type 0) (judges : Verdict → Type 0) (goes : M → Result X Fault → Type 0) (sink sink' : SinkState) where
   abbrev Ends : Result (Option X) Fault → Type 0

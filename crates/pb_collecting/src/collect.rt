@@ -2,11 +2,12 @@
 //! made.
 ghost use Rattle.std.specs.Prelude.{IfOk, IfSome};
 ghost use Rattle.pb_collecting.specs.Headline.{HasHeadline};
+ghost use Rattle.pb_collecting.specs.Run.{LeavesLedger};
 ghost use Rattle.pb_collecting.specs.Runs.{CollectRun};
 
-use crate::run::{finish, open};
-use pb_io::{Fault, NullSink, Sink, Source};
-use pb_ledger::Rules;
+use crate::run::{book_of, open, take_submissions};
+use pb_io::{Fault, Sink, Source};
+use pb_ledger::{Ledger, MapTally, Rules};
 use pb_poly::Book;
 use std::alloc::Global;
 
@@ -46,10 +47,28 @@ pub fn run_collect<T: Source, S: Source, K: Sink>(
 {
     // The reader tells that the numbers lie in their ranges.
     let _plies = rules.plies();
+    let Some(ledger) = take(alloc, rules, table_source, source, sink, fills)? else {
+        return Ok(None);
+    };
+    Ok(Some(book_of(alloc, &ledger)?))
+}
+
+/// Takes submission lines as `run_collect` does, up to the book. None where the table is refused.
+pub(crate) fn take<T: Source, S: Source, K: Sink>(
+    alloc: Global,
+    rules: Rules,
+    table_source: &mut T,
+    source: &mut S,
+    sink: &mut K,
+    fills: u32,
+) -> Result<Option<Ledger<MapTally>>, Fault>
+    ensures { LeavesLedger (CollectRun rules fills
+        (T.state table_source.old) (T.state table_source.new) (S.state source.old) (S.state source.new)
+        (K.state sink.old) (K.state sink.new)) result }
+{
     let Some(mut ledger) = open(alloc, rules, table_source, sink, fills)? else {
         return Ok(None);
     };
-    let mut no_journal = NullSink::default();
-    let book = finish(alloc, source, sink, &mut no_journal, &mut ledger, fills)?;
-    Ok(Some(book))
+    take_submissions(alloc, source, sink, &mut ledger, fills)?;
+    Ok(Some(ledger))
 }

@@ -4,11 +4,12 @@ ghost use Rattle.std.specs.Prelude.{◌≡◌, IfOk, IfSome};
 ghost use Rattle.pb_commands.specs.Judged.{PutsOrEnds};
 ghost use Rattle.pb_collecting.specs.ContinueHeadline.{HasHeadlineOfBoth};
 ghost use Rattle.pb_collecting.specs.Continuing.{saved_verdict};
+ghost use Rattle.pb_collecting.specs.Run.{LeavesGone};
 ghost use Rattle.pb_collecting.specs.Runs.{ContinueRun};
 
-use crate::run::{finish, open};
+use crate::run::{book_of, open, take_submissions};
 use pb_commands::refuse_with;
-use pb_io::{Fault, NullSink, Sink, Source};
+use pb_io::{Fault, Sink, Source};
 use pb_ledger::{Ledger, LoadError, MapTally, Rules, load};
 use pb_poly::Book;
 use std::alloc::Global;
@@ -57,6 +58,50 @@ pub fn run_continue<T: Source, V: Source, S: Source, K: Sink>(
         (T.state table_source.old) (T.state table_source.new) (V.state saved.old) (V.state saved.new)
         (S.state source.old) (S.state source.new) (K.state sink.old) (K.state sink.new) run.ledger))) }
 {
+    let Some(gone) = go_on(alloc, rules, table_source, saved, source, sink, fills)? else {
+        return Ok(None);
+    };
+    let book = gone.book(alloc);
+    let ledger = gone.ledger;
+    Ok(Some(Continued { ledger, book }))
+}
+
+/// A run that went on from a saved ledger, up to the book.
+#[derive(Drop)]
+pub(crate) struct Gone {
+    /// The games that are held.
+    pub(crate) ledger: Ledger<MapTally>,
+    /// The fault that ended the run, if one did.
+    pub(crate) end: Result<(), Fault>,
+}
+
+impl Gone {
+    ghost use Rattle.pb_collecting.specs.Run.{MayBeEnd};
+
+    /// Makes the book of the games that are held, unless a fault ended the run.
+    fn book(&self, alloc: Global) -> Result<Book, Fault>
+        ensures { MayBeEnd self.now result }
+    {
+        self.end?;
+        book_of(alloc, &self.ledger)
+    }
+}
+
+/// Goes on from a saved ledger as `run_continue` does, up to the book. None where the table or the
+/// saved ledger is refused.
+pub(crate) fn go_on<T: Source, V: Source, S: Source, K: Sink>(
+    alloc: Global,
+    rules: Rules,
+    table_source: &mut T,
+    saved: &mut V,
+    source: &mut S,
+    sink: &mut K,
+    fills: u32,
+) -> Result<Option<Gone>, Fault>
+    ensures { LeavesGone (ContinueRun rules fills
+        (T.state table_source.old) (T.state table_source.new) (V.state saved.old) (V.state saved.new)
+        (S.state source.old) (S.state source.new) (K.state sink.old) (K.state sink.new)) result }
+{
     let Some(mut ledger) = open(alloc, rules, table_source, sink, fills)? else {
         return Ok(None);
     };
@@ -64,9 +109,8 @@ pub fn run_continue<T: Source, V: Source, S: Source, K: Sink>(
         refuse_ledger(sink, error)?;
         return Ok(None);
     }
-    let mut no_journal = NullSink::default();
-    let book = finish(alloc, source, sink, &mut no_journal, &mut ledger, fills);
-    Ok(Some(Continued { ledger, book }))
+    let end = take_submissions(alloc, source, sink, &mut ledger, fills);
+    Ok(Some(Gone { ledger, end }))
 }
 
 /// Shows that the saved ledger is refused and answers false, or puts nothing and answers the fault

@@ -1,16 +1,17 @@
 //! The command `collect` that goes on from a saved ledger, up to the places where the ledger and
 //! its book are kept.
 
-ghost use Rattle.std.specs.Prelude.{ℕ, IfOk, Ok, Some};
+ghost use Rattle.std.specs.Prelude.{ℕ, Ok, Some};
 ghost use Rattle.pb_io.specs.Source.{SourceState};
 ghost use Rattle.pb_io.specs.Sink.{SinkState};
 ghost use Rattle.pb_accepted.specs.Rules.{CountingRules};
-ghost use Rattle.pb_collecting.specs.ContinueHeadline.{HasHeadlineOfBoth};
 ghost use Rattle.pb_collecting.specs.ContinuingInto.{KeepsOrStops};
+ghost use Rattle.pb_collecting.specs.Run.{LeavesGone};
 ghost use Rattle.pb_collecting.specs.Runs.{ContinueRun};
 
-use crate::continuing::{Continued, run_continue};
+use crate::continuing::{Gone, go_on};
 use crate::place::{NotKept, Place};
+use crate::text::LedgerBook;
 use pb_io::{Fault, Sink, Source};
 use pb_ledger::Rules;
 use std::alloc::Global;
@@ -56,8 +57,8 @@ pub fn continue_into<T: Source, V: Source, S: Source, K: Sink, P: Place, Q: Plac
         (S.state source.old) (S.state source.new) (K.state sink.old) (K.state sink.new)
         (P.state ledger_place.old) (P.state ledger_place.new) (Q.state book_place.old) (Q.state book_place.new) result }
 {
-    match run_continue(alloc, rules, table_source, saved, source, sink, fills) {
-        Ok(Some(run)) => keep_run(&run, ledger_place, book_place),
+    match go_on(alloc, rules, table_source, saved, source, sink, fills) {
+        Ok(Some(run)) => keep_run(alloc, &run, ledger_place, book_place),
         Ok(None) => Ok(false),
         Err(fault) => Err(NotContinued::Run(fault)),
     }
@@ -66,27 +67,27 @@ pub fn continue_into<T: Source, V: Source, S: Source, K: Sink, P: Place, Q: Plac
 /// Keeps the ledger of a run at the one place, also where a fault ended the run, and then its book
 /// at the other.
 fn keep_run<P: Place, Q: Place>(
-    run: &Continued,
+    alloc: Global,
+    run: &Gone,
     ledger_place: &mut P,
     book_place: &mut Q,
 ) -> Result<bool, NotContinued>
     // Whatever sources the run read, it ends so.
     ensures { (rules : CountingRules) (fills : ℕ) (t t' v v' s s' : SourceState) (sink sink' : SinkState)
-        → ContinueRun rules fills t t' v v' s s' sink sink' (Ok (Some run.now))
-        → IfOk run.now.book (HasHeadlineOfBoth rules t t' v v' s s' sink sink' run.now.ledger)
+        → LeavesGone (ContinueRun rules fills t t' v v' s s' sink sink') (Ok (Some run.now))
         → KeepsOrStops rules fills t t' v v' s s' sink sink' (P.state ledger_place.old) (P.state ledger_place.new)
         (Q.state book_place.old) (Q.state book_place.new) result }
 {
+    let book = LedgerBook::of(alloc, &run.ledger);
     // The ledger is kept first: what was answered `ok` is in it.
     let kept = ledger_place.keep(&run.ledger);
-    let book = match &run.book {
-        Ok(book) => book,
-        Err(fault) => return Err(NotContinued::Run(*fault)),
-    };
+    if let Err(fault) = run.end {
+        return Err(NotContinued::Run(fault));
+    }
     if let Err(why) = kept {
         return Err(NotContinued::Ledger(why));
     }
-    match book_place.keep(book) {
+    match book_place.keep(&book) {
         Ok(()) => Ok(true),
         Err(why) => Err(NotContinued::Book(why)),
     }

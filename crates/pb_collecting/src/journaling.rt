@@ -4,11 +4,12 @@ ghost use Rattle.std.specs.Prelude.{◌≡◌, ◌⊎◌, ℕ, IfOk, IfSome, Lis
 ghost use Rattle.pb_io.specs.Source.{HandsOut};
 ghost use Rattle.pb_io.specs.Sink.{AllLasts};
 ghost use Rattle.pb_collecting.specs.JournalHeadline.{HasHeadlineOfJournal, Outlives, Survives};
+ghost use Rattle.pb_collecting.specs.Run.{LeavesLedger};
 ghost use Rattle.pb_collecting.specs.Runs.{JournalRun};
 
-use crate::run::{finish, open};
+use crate::run::{book_of, open};
 use pb_io::{Fault, Sink, Source};
-use pb_ledger::{PassedLines, Rules, replay};
+use pb_ledger::{Ledger, MapTally, PassedLines, Rules, collect_journaled, replay};
 use pb_poly::Book;
 use std::alloc::Global;
 
@@ -66,10 +67,45 @@ pub fn run_journaled<T: Source, V: Source, J: Sink, W: PassedLines, S: Source, K
         × Outlives bytes (S.state source.old) (S.state source.new) (J.state journal.old) (J.state journal.new)
         (K.state sink.old) (K.state sink.new)) }
 {
+    let left = take_journaled(
+        alloc,
+        rules,
+        table_source,
+        kept,
+        journal,
+        passed,
+        source,
+        sink,
+        fills,
+    )?;
+    let Some(ledger) = left else {
+        return Ok(None);
+    };
+    Ok(Some(book_of(alloc, &ledger)?))
+}
+
+/// Takes the journal and submission lines as `run_journaled` does, up to the book. None where the
+/// table is refused.
+pub(crate) fn take_journaled<T: Source, V: Source, J: Sink, W: PassedLines, S: Source, K: Sink>(
+    alloc: Global,
+    rules: Rules,
+    table_source: &mut T,
+    kept: &mut V,
+    journal: &mut J,
+    passed: &mut W,
+    source: &mut S,
+    sink: &mut K,
+    fills: u32,
+) -> Result<Option<Ledger<MapTally>>, Fault>
+    ensures { LeavesLedger (JournalRun rules fills
+        (T.state table_source.old) (T.state table_source.new) (V.state kept.old) (V.state kept.new)
+        (S.state source.old) (S.state source.new) (J.state journal.old) (J.state journal.new)
+        (K.state sink.old) (K.state sink.new)) result }
+{
     let Some(mut ledger) = open(alloc, rules, table_source, sink, fills)? else {
         return Ok(None);
     };
     replay(alloc, kept, journal, &mut ledger, passed, fills)?;
-    let book = finish(alloc, source, sink, journal, &mut ledger, fills)?;
-    Ok(Some(book))
+    collect_journaled(alloc, source, sink, journal, &mut ledger, fills)?;
+    Ok(Some(ledger))
 }

@@ -6,9 +6,10 @@ ghost use Rattle.pb_io.specs.Source.{HandsOut};
 ghost use Rattle.pb_collecting.specs.JournalHeadline.{Outlives, Survives};
 ghost use Rattle.pb_collecting.specs.JournalInto.{JournalsInto};
 
-use crate::journaling::run_journaled;
+use crate::journaling::take_journaled;
 use crate::keeping::NoBook;
 use crate::place::Place;
+use crate::text::LedgerBook;
 use pb_io::{Sink, Source};
 use pb_ledger::{PassedLines, Rules};
 use std::alloc::Global;
@@ -19,9 +20,9 @@ use std::alloc::Global;
 ///
 /// # Errors
 ///
-/// `Run` is the fault of `run_journaled`, and then the place is as it was; `Keep` is the fault that
-/// the place met when it was to keep the book of this run. The journal has each game that was
-/// answered `ok` in both.
+/// `Run` is a fault of the table, the journal, the submissions or the replies, and then the place is
+/// as it was; `Keep` is the fault that the place met when it was to keep the book of this run. Want
+/// of memory for the book is one. The journal has each game that was answered `ok` in both.
 pub fn journal_into<T: Source, V: Source, J: Sink, W: PassedLines, S: Source, K: Sink, P: Place>(
     alloc: Global,
     rules: Rules,
@@ -48,7 +49,7 @@ pub fn journal_into<T: Source, V: Source, J: Sink, W: PassedLines, S: Source, K:
         × Outlives bytes (S.state source.old) (S.state source.new) (J.state journal.old) (J.state journal.new)
         (K.state sink.old) (K.state sink.new)) }
 {
-    let book = match run_journaled(
+    let left = take_journaled(
         alloc,
         rules,
         table_source,
@@ -58,12 +59,13 @@ pub fn journal_into<T: Source, V: Source, J: Sink, W: PassedLines, S: Source, K:
         source,
         sink,
         fills,
-    ) {
-        Ok(Some(book)) => book,
+    );
+    let ledger = match left {
+        Ok(Some(ledger)) => ledger,
         Ok(None) => return Ok(false),
         Err(fault) => return Err(NoBook::Run(fault)),
     };
-    match place.keep(&book) {
+    match place.keep(&LedgerBook::of(alloc, &ledger)) {
         Ok(()) => Ok(true),
         Err(why) => Err(NoBook::Keep(why)),
     }

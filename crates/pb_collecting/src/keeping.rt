@@ -2,8 +2,9 @@
 
 ghost use Rattle.pb_collecting.specs.Keeping.{KeepsOrEnds};
 
-use crate::collect::run_collect;
+use crate::collect::take;
 use crate::place::{NotKept, Place};
+use crate::text::LedgerBook;
 use pb_io::{Fault, Sink, Source};
 use pb_ledger::Rules;
 use std::alloc::Global;
@@ -15,7 +16,7 @@ pub enum NoBook {
     /// The run met a fault before there was a book. The place was left alone.
     #[error("there is no book: {0}")]
     Run(Fault),
-    /// The book was made and not kept.
+    /// The book was not kept.
     #[error("the book isn't kept: {0}")]
     Keep(NotKept),
 }
@@ -28,8 +29,9 @@ pub enum NoBook {
 ///
 /// # Errors
 ///
-/// `Run` is the fault of `run_collect`, and then the place is as it was; `Keep` is the fault that
-/// the place met when it was to keep the book of this run.
+/// `Run` is a fault of the table, the submissions or the replies, and then the place is as it was;
+/// `Keep` is the fault that the place met when it was to keep the book of this run. Want of memory
+/// for the book is one.
 pub fn collect_into<T: Source, S: Source, K: Sink, P: Place>(
     alloc: Global,
     rules: Rules,
@@ -45,12 +47,14 @@ pub fn collect_into<T: Source, S: Source, K: Sink, P: Place>(
     ensures { KeepsOrEnds rules fills (T.state table_source.old) (T.state table_source.new) (S.state source.old) (S.state source.new)
         (K.state sink.old) (K.state sink.new) (P.state place.old) (P.state place.new) result }
 {
-    let book = match run_collect(alloc, rules, table_source, source, sink, fills) {
-        Ok(Some(book)) => book,
+    // The reader tells that the numbers lie in their ranges.
+    let _plies = rules.plies();
+    let ledger = match take(alloc, rules, table_source, source, sink, fills) {
+        Ok(Some(ledger)) => ledger,
         Ok(None) => return Ok(false),
         Err(fault) => return Err(NoBook::Run(fault)),
     };
-    match place.keep(&book) {
+    match place.keep(&LedgerBook::of(alloc, &ledger)) {
         Ok(()) => Ok(true),
         Err(why) => Err(NoBook::Keep(why)),
     }

@@ -2,10 +2,11 @@
 
 ghost use Rattle.std.specs.Prelude.{◌≡◌, ℕ, IfErr, List, None, Some, option_and_then};
 ghost use Rattle.std.specs.Option.{option_copied};
-ghost use Rattle.pb_collecting.specs.Place.{Keeps, KeepsWhatItHad, PlaceState};
+ghost use Rattle.pb_collecting.specs.Place.{Keeps, KeepsWhatItHad, PlaceState, not_kept};
 
 use crate::text::Text;
 use pb_io::{MemSink, Sink};
+use pb_ledger::WriteFault;
 use std::alloc::Global;
 use thiserror::Error;
 
@@ -18,9 +19,21 @@ pub enum NotKept {
     /// A write failed. A front of the text may be all that is left.
     #[error("the text can't be written")]
     Write,
-    /// There was no memory to write with. The place may be empty.
+    /// There was no memory to write with, or for what was to be written next. A front of the text
+    /// may be all that is left.
     #[error("no memory is left")]
     Memory,
+}
+
+impl From<WriteFault> for NotKept {
+    ghost from_gives = { λ fault result. result ≡ not_kept fault };
+
+    fn from(fault: WriteFault) -> NotKept {
+        match fault {
+            WriteFault::Write => NotKept::Write,
+            WriteFault::Memory => NotKept::Memory,
+        }
+    }
 }
 
 /// A place for one text.

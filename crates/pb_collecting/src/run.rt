@@ -1,13 +1,13 @@
-//! What the runs have in common that take submissions: how they begin, and how they end.
+//! What the runs have in common that take submissions: how they begin, and the book at their end.
 
 ghost use Rattle.std.specs.Prelude.{◌≡◌, Err, MatchResult};
 ghost use Rattle.pb_poly.specs.TableReading.{ReadsTable};
-ghost use Rattle.pb_collecting.specs.Run.{Finishes, Opens};
+ghost use Rattle.pb_collecting.specs.Run.{MayBeBook, Opens, TakesOrBreaks};
 ghost use Rattle.pb_collecting.specs.Runs.{TakesTable};
 
 use pb_commands::{TableFault, refuse_table, take_table};
 use pb_io::{Fault, Sink, Source};
-use pb_ledger::{Ledger, MAX_CAP, MapTally, Rules, collect_journaled};
+use pb_ledger::{Ledger, MAX_CAP, MapTally, Rules, collect};
 use pb_poly::Book;
 use std::alloc::Global;
 
@@ -49,22 +49,26 @@ fn empty_ledger<T: Source>(
     }
 }
 
-/// Takes the submissions into a ledger that may hold games, puts each new game on the journal
-/// before its reply, and makes the book of all games that are held then.
-pub(crate) fn finish<S: Source, K: Sink, J: Sink>(
+/// Takes the submissions into a ledger that may hold games.
+pub(crate) fn take_submissions<S: Source, K: Sink>(
     alloc: Global,
     source: &mut S,
     sink: &mut K,
-    journal: &mut J,
     ledger: &mut Ledger<MapTally>,
     fills: u32,
-) -> Result<Book, Fault>
-    ensures { Finishes fills (S.state source.old) (S.state source.new) (J.state journal.old) (J.state journal.new)
-        (K.state sink.old) (K.state sink.new) ledger.old ledger.new result }
+) -> Result<(), Fault>
+    ensures { TakesOrBreaks fills (S.state source.old) (S.state source.new) (K.state sink.old) (K.state sink.new) ledger.old ledger.new result }
 {
-    collect_journaled(alloc, source, sink, journal, ledger, fills)?;
+    collect(alloc, source, sink, ledger, fills)?;
+    Ok(())
+}
+
+/// Makes the book of the games that are held.
+pub(crate) fn book_of(alloc: Global, ledger: &Ledger<MapTally>) -> Result<Book, Fault>
+    ensures { MayBeBook ledger.now result }
+{
     let book = ledger.make_book(alloc)?;
-    // The proof reads from this use that the keys never fall.
+    // The proof reads from this use that the entries are in their ranges.
     let _ = book.entries();
     Ok(book)
 }

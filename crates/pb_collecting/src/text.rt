@@ -1,13 +1,14 @@
 //! What has a text.
 
 ghost use Rattle.std.specs.Prelude.{◌≡◌, ℕ, List};
-ghost use Rattle.pb_io.specs.Writes.{Writes};
 ghost use Rattle.pb_poly.specs.Book.{book_bytes};
+ghost use Rattle.pb_ledger.specs.Booking.{BookText, WritesOrWants};
 ghost use Rattle.pb_ledger.specs.Saving.{Saved};
 
-use pb_io::{Failed, Sink};
-use pb_ledger::{Ledger, Tally, save};
+use pb_io::Sink;
+use pb_ledger::{Ledger, Tally, WriteFault, save, save_book};
 use pb_poly::{Book, write_book};
+use std::alloc::Global;
 
 /// What has a text, as a book and a ledger have.
 pub trait Text {
@@ -18,23 +19,54 @@ pub trait Text {
     ///
     /// # Errors
     ///
-    /// The sink has failed.
-    fn write<K: Sink>(&self, sink: &mut K) -> Result<(), Failed>
-        ensures { (bytes : List ℕ) × is_text self.now bytes × Writes (K.state sink.old) (K.state sink.new) result bytes };
+    /// The sink has failed, or there was no memory for what was to be put next. A front of the text
+    /// may have been put then.
+    fn write<K: Sink>(&self, sink: &mut K) -> Result<(), WriteFault>
+        ensures { (bytes : List ℕ) × is_text self.now bytes × WritesOrWants (K.state sink.old) (K.state sink.new) result bytes };
 }
 
 impl Text for Book {
     ghost is_text = { λ book bytes. bytes ≡ book_bytes book };
 
-    fn write<K: Sink>(&self, sink: &mut K) -> Result<(), Failed> {
-        write_book(sink, self)
+    fn write<K: Sink>(&self, sink: &mut K) -> Result<(), WriteFault> {
+        write_book(sink, self)?;
+        Ok(())
     }
 }
 
 impl<T: Tally> Text for Ledger<T> {
     ghost is_text = { λ ledger bytes. Saved ledger.accepted bytes };
 
-    fn write<K: Sink>(&self, sink: &mut K) -> Result<(), Failed> {
-        save(self, sink)
+    fn write<K: Sink>(&self, sink: &mut K) -> Result<(), WriteFault> {
+        save(self, sink)?;
+        Ok(())
+    }
+}
+
+/// The book of a ledger, which is listed part by part when it is put.
+#[derive(Drop)]
+pub struct LedgerBook<'a, T: Tally> {
+    alloc: Global,
+    /// The ledger.
+    pub ledger: &'a Ledger<T>,
+}
+
+impl<'a, T: Tally> LedgerBook<'a, T> {
+    /// The book of this ledger. There always is one.
+    pub fn of(alloc: Global, ledger: &'a Ledger<T>) -> LedgerBook<'a, T>
+        ensures ledger { result.ledger.now ≡ ledger.now }
+        ensures text { (bytes : List ℕ) × BookText ledger.now bytes }
+    {
+        // The proof reads from this use that the games are those of a ledger, and so have a book.
+        let _held = ledger.len();
+        LedgerBook { alloc, ledger }
+    }
+}
+
+impl<T: Tally> Text for LedgerBook<'_, T> {
+    ghost is_text = { λ book bytes. BookText book.ledger.now bytes };
+
+    fn write<K: Sink>(&self, sink: &mut K) -> Result<(), WriteFault> {
+        save_book(self.alloc, self.ledger, sink)
     }
 }

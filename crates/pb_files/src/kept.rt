@@ -54,7 +54,7 @@ impl<D: Desk> KeptFile<D> {
         self.in_place = Some(end);
         match written {
             Ok(()) => self.answer(Ok(())),
-            Err(_) => self.answer(Err(NotKept::Write)),
+            Err(fault) => self.answer(Err(NotKept::from(fault))),
         }
     }
 

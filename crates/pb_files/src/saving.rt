@@ -75,9 +75,9 @@ pub fn save_whole<D: Desk, X: Text>(desk: &mut D, text: &X) -> Result<D::End, No
     ensures no_draft { (D.state desk.new).drafted ≡ true → (D.state desk.old).drafted ≡ true }
 {
     let mut draft = new_draft(desk)?;
-    if text.write(&mut draft).is_err() {
+    if let Err(fault) = text.write(&mut draft) {
         desk.remove(draft);
-        return Err(NotSaved::Failed(NotKept::Write));
+        return Err(NotSaved::Failed(NotKept::from(fault)));
     }
     match desk.rename(&draft) {
         Ok(()) => {}

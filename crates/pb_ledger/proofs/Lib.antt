@@ -1,3 +1,4 @@
+pub mod Booked
 mod Collected
 mod CollectorLine
 pub mod Continued

@@ -1,3 +1,4 @@
+pub mod Booking
 pub mod Collecting
 pub mod Collector
 pub mod Journal

@@ -11,6 +11,7 @@
 //! ```
 #![tactic(auto)]
 
+mod booking;
 mod collecting;
 mod collector;
 mod journaling;
@@ -21,6 +22,7 @@ mod replaying;
 mod saving;
 mod totals;
 
+pub use booking::{WriteFault, save_book};
 pub use collecting::{CollectFault, collect};
 pub use journaling::{JournalFault, collect_journaled};
 pub use loading::{LoadError, load};

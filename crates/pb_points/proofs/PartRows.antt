@@ -1,9 +1,9 @@
 -- Tallies by part.
-use Rattle.std.proofs.Common.{◌≡◌, ℕ, ◌+◌, ◌-◌, ◌<◌, ◌≤◌, ◌⊎◌, ◌↔◌, zero, suc, Bool, true, false, if◌then◌else◌, Option, Some, None, IsSome, unwrap_or, List, [], ◌∷◌, ◌++◌, length, get_or, set, AllPairs, Contains, refl, sym, ap, ◌∙◌, inl, inr, arith, subst}
+use Rattle.std.proofs.Common.{◌≡◌, ℕ, ◌+◌, ◌-◌, ◌<◌, ◌≤◌, ◌↔◌, zero, suc, Bool, true, false, if◌then◌else◌, Option, Some, None, IsSome, unwrap_or, List, [], ◌∷◌, ◌++◌, length, get_or, set, AllPairs, Contains, refl, sym, ap, ◌∙◌, inl, inr, arith, subst}
 use Rattle.std.specs.Prelude.{slice_get}
 use Rattle.std.specs.Option.{option_and_then}
 use Rattle.std.proofs.Math.ListN.{get_or-append, length-append}
-use Rattle.std.proofs.lemmas.Bool.{cases_lt, false≢true}
+use Rattle.std.proofs.lemmas.Bool.{cases_eq, cases_lt, false≢true}
 use Rattle.std.proofs.lemmas.List.{get_or-append_right}
 use Rattle.std.proofs.lemmas.List.Elements.{Contains-append_left, Contains-append_right, Contains-append_cases, Contains-get_or}
 use Rattle.std.proofs.lemmas.Option.{slice_get_past, slice_get_within}
@@ -33,18 +33,12 @@ some_is x y e = cc
 is_some : {X : Type 0} (o p : Option X) → o ≡ p → IsSome o → IsSome p
 is_some o p e h = subst IsSome e h
 
-cases_eq : (m n : ℕ) → (m ≡ n) ⊎ (m ≡ n → ⊥)
-cases_eq m n = elim (cases_lt m n) [
-  | inl up ↦ inr (λ e. omega (arith, up, e))
-  | inr le ↦ elim (cases_lt n m) [ inl down ↦ inr (λ e. omega (arith, down, e)) | inr ge ↦ inl (omega arith) ]
-]
-
 module _ {T : Type 0} (content : T → Content) where
   -- a part is changed at one key and code
   abbrev Changes : (Held → Held) → Content → Content → ℕ → ℕ → Type 0
   Changes f old new key code = (k c : ℕ) → new k c ≡ (if is_pair key code k c then Some (f (held old k c)) else old k c)
 
-  at_part : (parts : List T) (k c : ℕ) (t : T) → slice_get parts (part_of k) ≡ Some t → parts_content content parts k c ≡ content t k c
+  pub at_part : (parts : List T) (k c : ℕ) (t : T) → slice_get parts (part_of k) ≡ Some t → parts_content content parts k c ≡ content t k c
   at_part parts k c t e = ap (option_and_then (λ part. content part k c)) e
 
   pub part_changed : (f : Held → Held) (parts : List T) (key code : ℕ) (old new : T) → slice_get parts (part_of key) ≡ Some old

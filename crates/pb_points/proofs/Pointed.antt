@@ -1,7 +1,6 @@
 -- The book of the rows that have points.
-use Rattle.std.proofs.Common.{◌≡◌, ℕ, zero, suc, ◌*◌, ◌/◌, ◌<◌, ◌≤◌, ◌⊎◌, nat_le, Bool, true, false, cond, if◌then◌else◌, Some, None, List, [], ◌∷◌, ◌++◌, length, get_or, Contains, refl, sym, ap, subst, ◌∙◌, inl, inr, arith}
+use Rattle.std.proofs.Common.{◌≡◌, ℕ, zero, suc, ◌*◌, ◌/◌, ◌<◌, ◌≤◌, nat_le, Bool, true, false, cond, if◌then◌else◌, Some, None, List, [], ◌∷◌, ◌++◌, Contains, refl, sym, ap, subst, ◌∙◌, inl, inr, arith}
 use Rattle.std.specs.Prelude.{nat_lt}
-use Rattle.std.specs.List.{filter}
 use Rattle.std.proofs.Math.Nat.{zero-div}
 use Rattle.std.proofs.lemmas.Bool.{cases_lt, le-leb}
 use Rattle.std.proofs.lemmas.Bool.Decides.{nat_tests}
@@ -16,7 +15,8 @@ use Rattle.pb_points.specs.TallyBook.{AddsBookOf}
 use Rattle.pb_points.specs.Weight.{scaled}
 use Rattle.pb_points.proofs.AddedRows.{added_each}
 use Rattle.pb_points.proofs.BagRows.{held_added, held_points, held_times, new_row, no_total, points_held, times_held, total_pushed}
-use Rattle.pb_points.proofs.PartBooks.{frequent_within}
+use Rattle.pb_points.proofs.Elements.{contains_filter}
+use Rattle.pb_points.proofs.Stretches.{frequent_within}
 use Rattle.pb_points.proofs.SomeSums.{some_sums}
 
 -- ---- what has no plies has no points
@@ -88,30 +88,6 @@ fit_pointed rows fit = record {
 }
 
 -- ---- the book
-
-contains_cases : (x : Row) (xs : List Row) (z : Row) → Contains (x ∷ xs) z → (x ≡ z) ⊎ Contains xs z
-contains_cases x xs z h = by h.0 h.1 h.2
-  where
-    by : (k : ℕ) → k < length (x ∷ xs) → get_or (x ∷ xs) k z ≡ z → (x ≡ z) ⊎ Contains xs z
-    by zero lt e = inl e
-    by (suc k) lt e = inr (k, omega arith, e)
-
-contains_filter : (p : Row → Bool) (xs : List Row) (x : Row) → Contains xs x → p x ≡ true → Contains (filter p xs) x
-contains_filter p [] x h is = h
-contains_filter p (y ∷ ys) x h is = by (p y) refl (λ later. contains_filter p ys x later is)
-  where
-    tail : (z : Row) → Contains (filter p ys) z → Contains (y ∷ filter p ys) z
-    tail z h = (suc h.0, omega (arith, h.1), h.2)
-
-    by : (b : Bool) → p y ≡ b → (Contains ys x → Contains (filter p ys) x) → Contains (cond (p y) (y ∷ filter p ys) (filter p ys)) x
-    by true e rest = subst (λ b. Contains (cond b (y ∷ filter p ys) (filter p ys)) x) (sym e) (elim (contains_cases y ys x h) [
-      | inl here ↦ subst (Contains (y ∷ filter p ys)) here (0, omega arith, refl)
-      | inr later ↦ tail x (rest later)
-    ])
-    by false e rest = subst (λ b. Contains (cond b (y ∷ filter p ys) (filter p ys)) x) (sym e) (elim (contains_cases y ys x h) [
-      | inl here ↦ (let both : p y ≡ true = subst (λ z. p z ≡ true) (sym here) is in absurd (cc (both, e)))
-      | inr later ↦ rest later
-    ])
 
 scaled_some : (n M : ℕ) → 1 ≤ scaled n M → 1 ≤ n
 scaled_some zero M h = absurd (by (nat_le M 65535) refl)

@@ -19,7 +19,7 @@ pub record AreWeighed (rows : List Row) (n : ℕ) (entries : List Entry) : Type 
   pub members : (e : Entry) → Contains entries e ↔ ((r : Row) × Contains (take n rows) r × Gives rows r e)
 
 -- a row gives one entry
-Gives-unique : (rows : List Row) (r : Row) (e f : Entry) → Gives rows r e → Gives rows r f → e ≡ f
+pub Gives-unique : (rows : List Row) (r : Row) (e f : Entry) → Gives rows r e → Gives rows r f → e ≡ f
 Gives-unique rows r e f g h =
     let same = IsTop-unique rows r.key g.greatest h.greatest g.top h.top in
     let key = g.key ∙ sym h.key in

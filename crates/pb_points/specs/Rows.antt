@@ -50,6 +50,10 @@ pub record IsBookOfRows (rows : List Row) (entries : List Entry) : Type 0 where
 abbrev pub frequent : ℕ → List Row → List Row
 frequent least rows = filter (λ r. nat_le least r.times) rows
 
+-- the rows whose keys are this one or above it
+abbrev pub from : ℕ → List Row → List Row
+from first rows = filter (λ r. nat_le first r.key) rows
+
 -- the rows that have points
 abbrev pub pointed : List Row → List Row
 pointed rows = filter (λ r. nat_lt 0 r.points) rows

@@ -1,5 +1,5 @@
 -- The book of a tally.
-use Rattle.std.specs.Prelude.{◌≡◌, ℕ, ◌↔◌, Some, List, ◌++◌, AllPairs, Contains}
+use Rattle.std.specs.Prelude.{◌≡◌, ℕ, ◌↔◌, Bool, ◌&&◌, nat_le, nat_lt, if◌then◌else◌, Option, None, Some, List, ◌++◌, AllPairs, Contains}
 use Rattle.pb_poly.specs.declared.entry.Entry.{Entry}
 use Rattle.pb_points.specs.declared.row.Row.{Row}
 use Rattle.pb_points.specs.Rows.{IsBelow, IsBookOfRows, frequent}
@@ -9,6 +9,15 @@ use Rattle.pb_points.specs.Tally.{Content, held_of}
 pub record AreRows (content : Content) (rows : List Row) : Type 0 where
   pub rise : AllPairs IsBelow rows
   pub each : (r : Row) → Contains rows r ↔ (content r.key r.code ≡ Some (held_of r))
+
+-- the key is in the stretch that begins with `first` and ends before the next one, if there is one
+abbrev pub is_within : ℕ → Option ℕ → ℕ → Bool
+is_within first None k = nat_le first k
+is_within first (Some next) k = nat_le first k && nat_lt k next
+
+-- what is held of the keys of a stretch
+abbrev pub stretch_of : ℕ → Option ℕ → Content → Content
+stretch_of first next content k c = if is_within first next k then content k c else None
 
 -- the new entries are the old ones and some more
 abbrev pub AddsSome : List Entry → List Entry → Type 0

@@ -4,7 +4,7 @@
 ghost use Rattle.std.specs.Prelude.{◌≡◌, ◌≤◌, ◌^◌, ◌+◌, ◌++◌, ◌∷◌, [], if◌then◌else◌, is_ok, false, true, vec_capacity, vec_len, IfOk, MatchOption, OnOk};
 ghost use Rattle.pb_points.specs.Bag.{IsRowAt, count_of, points_of as points, times_of as times};
 ghost use Rattle.pb_points.specs.Blocks.{AddsThere, IsRowIn, rows_in, rows_of};
-ghost use Rattle.pb_points.specs.Rows.{pointed};
+ghost use Rattle.pb_points.specs.Rows.{from, pointed};
 
 use crate::narrow::NarrowRow;
 use crate::row::Row;
@@ -103,27 +103,32 @@ pub(crate) fn listed(alloc: Global, blocks: &Blocks) -> Result<Vec<Row>, AllocEr
     Ok(rows)
 }
 
-/// Puts the rows of a block that have points at the end of a list.
-fn add_pointed(rows: &mut Vec<NarrowRow>, block: &[NarrowRow]) -> Result<(), AllocError>
-    ensures { OnOk result (rows.new.items ≡ rows.old.items ++ pointed block.now) }
+/// Puts the rows of a block that have points, of the keys from `first` on, at the end of a list.
+fn add_pointed(rows: &mut Vec<NarrowRow>, block: &[NarrowRow], first: u64) -> Result<(), AllocError>
+    ensures { OnOk result (rows.new.items ≡ rows.old.items ++ pointed (from first block.now)) }
 {
-    for row in block {
-        if row.row().points > 0 {
-            rows.push(*row)?;
+    for narrow in block {
+        let row = narrow.row();
+        if row.key >= first && row.points > 0 {
+            rows.push(*narrow)?;
         }
     }
     Ok(())
 }
 
-/// Lists the rows of all blocks that have points.
-pub(crate) fn pointed_rows(alloc: Global, blocks: &Blocks) -> Result<Vec<NarrowRow>, AllocError>
-    ensures { IfOk result (λ v. v.items ≡ pointed (rows_of blocks.now)) }
+/// Lists the rows of all blocks that have points, of the keys from `first` on.
+pub(crate) fn pointed_rows(
+    alloc: Global,
+    blocks: &Blocks,
+    first: u64,
+) -> Result<Vec<NarrowRow>, AllocError>
+    ensures { IfOk result (λ v. v.items ≡ pointed (from first (rows_of blocks.now))) }
 {
     let mut rows = Vec::with_capacity(alloc, room_of(blocks))?;
     for block in &blocks.full {
-        add_pointed(&mut rows, block)?;
+        add_pointed(&mut rows, block, first)?;
     }
-    add_pointed(&mut rows, &blocks.last)?;
+    add_pointed(&mut rows, &blocks.last, first)?;
     Ok(rows)
 }
 

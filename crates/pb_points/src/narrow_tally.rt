@@ -15,7 +15,7 @@ use crate::blocks::{
 use crate::book::push_book;
 use crate::list_tally::held_in;
 use crate::narrow::NarrowRow;
-use crate::row::{Row, keep_frequent};
+use crate::row::{Row, keep_frequent, keep_from};
 use crate::spread::order_rows;
 use crate::sums::sums_of;
 use crate::sums_book::push_sums;
@@ -34,7 +34,7 @@ const MANY: usize = 64;
 ///
 /// The rows are narrow, and what one has no room for goes to a wide row beside it. Since `add`
 /// takes no memory, there is always room for as many wide rows as the blocks have room for. That
-/// room is hardly ever used, and the system gives no page of it before it is.
+/// room is hardly ever used, and but for its first page the system gives none of it before it is.
 #[derive(Drop)]
 pub struct NarrowTally {
     alloc: Global,
@@ -193,21 +193,25 @@ impl Tally for NarrowTally {
         sums_of(alloc, self.all(alloc)?)
     }
 
-    fn add_book(
+    fn add_stretch(
         &self,
         alloc: Global,
         least: u64,
+        first: u64,
         entries: &mut Vec<Entry>,
-    ) -> Result<(), AllocError> {
+    ) -> Result<Option<u64>, AllocError> {
         if least > 1 || !self.wide.is_empty() {
             let mut rows = self.rows(alloc)?;
+            keep_from(&mut rows, first);
             keep_frequent(&mut rows, least);
-            return push_book(entries, &rows);
+            push_book(entries, &rows)?;
+            return Ok(None);
         }
         // A move without points has no entry, and one with points was played: so rows without
         // points are left out, and no occurrence is counted.
-        let mut rows = pointed_rows(alloc, &self.rows)?;
+        let mut rows = pointed_rows(alloc, &self.rows, first)?;
         order_rows(alloc, &mut rows)?;
-        push_sums(alloc, entries, &rows)
+        push_sums(alloc, entries, &rows)?;
+        Ok(None)
     }
 }

@@ -1,7 +1,8 @@
 //! A tally of tallies.
 
-ghost use Rattle.std.specs.Prelude.{◌≡◌, ◌<◌, ◌≤◌, ◌^◌, IfOk, length};
+ghost use Rattle.std.specs.Prelude.{◌≡◌, ◌<◌, ◌≤◌, ◌^◌, ◌==◌, ◌&&◌, ℕ, IfOk, IfSome, length};
 ghost use Rattle.pb_points.specs.PartTally.{HoldsOwn, HoldNothing, parts_content, part_of as part};
+ghost use Rattle.pb_points.specs.TallyBook.{is_within};
 
 use crate::row::Row;
 use crate::tally::Tally;
@@ -26,6 +27,21 @@ fn part_of(key: u64) -> usize
     ensures { result ≡ part key }
 {
     (key >> 54) as usize
+}
+
+/// Ends a stretch of keys where the part of its first key ends, if it doesn't end before: says with
+/// which key the next one begins.
+fn within_part(first: u64, next: Option<u64>) -> Option<u64>
+    requires { IfSome next (λ n. first < n) }
+    ensures keys { (k : ℕ) → k < 2 ^ 64
+        → is_within first result k ≡ (is_within first next k && (part k == part first)) }
+    ensures onward { IfSome result (λ n. first < n) }
+{
+    let part = part_of(first);
+    match next {
+        Some(next) if part_of(next) == part => Some(next),
+        _ => (part as u64 + 1).checked_mul(1 << 54),
+    }
 }
 
 /// A tally without rows for each part.
@@ -86,15 +102,17 @@ impl<T: Tally> Tally for PartTally<T> {
         Ok(rows)
     }
 
-    fn add_book(
+    fn add_stretch(
         &self,
         alloc: Global,
         least: u64,
+        first: u64,
         entries: &mut Vec<Entry>,
-    ) -> Result<(), AllocError> {
-        for part in &self.parts {
-            part.add_book(alloc, least, entries)?;
-        }
-        Ok(())
+    ) -> Result<Option<u64>, AllocError> {
+        let Some(part) = self.parts.get(part_of(first)) else {
+            return Ok(None);
+        };
+        let next = part.add_stretch(alloc, least, first, entries)?;
+        Ok(within_part(first, next))
     }
 }

@@ -1,9 +1,9 @@
 //! Points by key and code, kept one way or another.
 
-ghost use Rattle.std.specs.Prelude.{◌≡◌, ℕ, ◌↔◌, Option, None, Some, IsSome, IfOk, OnOk, OnErr, AllPairs, Contains};
+ghost use Rattle.std.specs.Prelude.{◌≡◌, ℕ, ◌<◌, ◌↔◌, Option, None, Some, IsSome, IfOk, IfSome, OnOk, OnErr, AllPairs, Contains};
 
 use crate::book::push_book;
-use crate::row::{Row, keep_frequent};
+use crate::row::{Row, keep_frequent, keep_from};
 use pb_poly::Entry;
 use std::alloc::{AllocError, Global};
 
@@ -13,7 +13,7 @@ pub trait Tally: Drop {
     ghost use Rattle.pb_points.specs.declared.row.Row.{Row};
     ghost use Rattle.pb_points.specs.Rows.{IsBelow};
     ghost use Rattle.pb_points.specs.Tally.{Held, HasRoomFor, MakesRow, AddsPly, held, held_of};
-    ghost use Rattle.pb_points.specs.TallyBook.{AddsBookOf, AddsSome};
+    ghost use Rattle.pb_points.specs.TallyBook.{AddsBookOf, AddsSome, stretch_of};
 
     /// What is held of each key and code, where there is a row.
     ghost content: { Self → ℕ → ℕ → Option Held };
@@ -55,8 +55,35 @@ pub trait Tally: Drop {
         ensures order { IfOk result (λ v. AllPairs IsBelow v.items) }
         ensures each { IfOk result (λ v. (r : Row) → Contains v.items r ↔ (content self.now r.key r.code ≡ Some (held_of r))) };
 
+    /// Adds the book of the rows of a stretch of keys to the entries, of the moves that were played
+    /// at least so many times. The stretch begins with the key `first`. The answer is the key with
+    /// which the next one begins, or none after the last. This goes by `rows`, and the stretch ends
+    /// with them; a tally that keeps its rows in parts may list fewer at once.
+    ///
+    /// # Errors
+    ///
+    /// The rows or the entries needed memory that wasn't there. The entries that stood in the list
+    /// stand there still, and some may be behind them.
+    fn add_stretch(
+        &self,
+        alloc: Global,
+        least: u64,
+        first: u64,
+        entries: &mut Vec<Entry>,
+    ) -> Result<Option<u64>, AllocError>
+        ensures ok { IfOk result (λ next. AddsBookOf (stretch_of first next (content self.now)) least entries.old.items entries.new.items) }
+        ensures onward { IfOk result (λ next. IfSome next (λ n. first < n)) }
+        ensures err { OnErr result (AddsSome entries.old.items entries.new.items) }
+    {
+        let mut rows = self.rows(alloc)?;
+        keep_from(&mut rows, first);
+        keep_frequent(&mut rows, least);
+        push_book(entries, &rows)?;
+        Ok(None)
+    }
+
     /// Adds the book of the rows to the entries, of the moves that were played at least so many
-    /// times. This goes by `rows`; a tally that keeps its rows in parts may list fewer at once.
+    /// times, one stretch of keys after the other.
     ///
     /// # Errors
     ///
@@ -71,8 +98,10 @@ pub trait Tally: Drop {
         ensures ok { OnOk result (AddsBookOf (content self.now) least entries.old.items entries.new.items) }
         ensures err { OnErr result (AddsSome entries.old.items entries.new.items) }
     {
-        let mut rows = self.rows(alloc)?;
-        keep_frequent(&mut rows, least);
-        push_book(entries, &rows)
+        let mut next = Some(0);
+        while let Some(first) = next {
+            next = self.add_stretch(alloc, least, first, entries)?;
+        }
+        Ok(())
     }
 }

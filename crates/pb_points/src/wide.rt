@@ -9,6 +9,10 @@ use crate::list_tally::{add_at, place_of};
 use crate::row::Row;
 use std::alloc::{AllocError, Global};
 
+/// For how many rows room is made at least. So much, 128 KB, lies apart from the blocks, and no page
+/// of it is used for their sake.
+const LEAST: usize = 4096;
+
 /// Adds a ply with its points to the row of a key and a code, or makes a row of it where there is
 /// none. It takes no memory.
 pub(crate) fn add_wide(wide: &mut Vec<Row>, key: u64, code: u16, points: u64)
@@ -45,7 +49,7 @@ pub(crate) fn reserve_wide(
     if wide.is_empty() {
         // Made anew, since a list that grows copies all the room it had, used or not, and the
         // system then gives the pages of it.
-        *wide = Vec::with_capacity(alloc, room.saturating_mul(2))?;
+        *wide = Vec::with_capacity(alloc, room.saturating_mul(2).max(LEAST))?;
         return Ok(());
     }
     wide.reserve(room - wide.len())

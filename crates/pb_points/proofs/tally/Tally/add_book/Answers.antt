@@ -1,19 +1,14 @@
-use Rattle.std.proofs.Common.{◌∙◌, AllPairs, sym, subst}
-use Rattle.std.proofs.lemmas.List.Kept.{AllPairs-filter}
-use Rattle.std.proofs.lemmas.Result.{on_ok_weaker}
-use Rattle.pb_points.specs.Group.{AddsBook}
-use Rattle.pb_points.specs.Rows.{IsBelow}
-use Rattle.pb_points.proofs.PartBooks.{adds_of_rows}
+use Rattle.std.proofs.Common.{subst}
+use Rattle.pb_points.specs.TallyBook.{AddsBookOf, stretch_of}
+use Rattle.pb_points.proofs.Stretches.{goes_on, starts}
 use Rattle.pb_points.proofs.tally.Tally.add_book.Goals as goal
 
-pub push_book-requires : goal.push_book-requires
-push_book-requires g c =
-    subst (AllPairs IsBelow) (sym (c.deref.ensures.value ∙ c.keep_frequent.ensures)) (AllPairs-filter IsBelow _ _ c.in_ok-rows.ensures.order)
+pub loop-next-init : goal.loop-next-init
+loop-next-init g c = starts (g.Self.Tally.content c.args.self.now) c.args.least c.args.entries.now.items
 
-pub returns-clause-ok : goal.returns-clause-ok
-returns-clause-ok g c =
-    let rows = c.in_ok-rows.rows.items in
-    on_ok_weaker c.push_book.result
-    (λ adds. adds_of_rows (g.Self.Tally.content c.args.self.now) c.args.least rows _ _ (record { rise = c.in_ok-rows.ensures.order; each = c.in_ok-rows.ensures.each })
-    (subst (λ D. AddsBook D c.args.entries.now.items c.push_book.new.entries.items) (c.deref.ensures.value ∙ c.keep_frequent.ensures) adds))
-    c.push_book.ensures.ok
+pub loop-next-preserved : goal.loop-next-preserved
+loop-next-preserved g c =
+    let content = g.Self.Tally.content c.args.self.now in
+    goes_on content c.args.least c.in-Some.first c.in_ok-next.next _ _ _ c.in_ok-next.ensures.onward
+    (subst (λ n. AddsBookOf (stretch_of 0 n content) c.args.least c.args.entries.now.items c.loop-next.entries.items) c.in-Some.is c.loop-next.invariant)
+    c.in_ok-next.ensures.ok

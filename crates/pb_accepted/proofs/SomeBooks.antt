@@ -1,0 +1,205 @@
+-- The games of a ledger have a book, and its entries are in their ranges.
+use Rattle.std.proofs.Common.{◌≡◌, ℕ, ◌*◌, ◌/◌, ◌<◌, ◌≤◌, ◌^◌, ◌↔◌, nat_le, zero, suc, Bool, true, false, cond, Option, Some, None, unwrap_or, List, [], ◌∷◌, map, take, All, Contains, refl, sym, ap, subst, ◌∙◌, inl, inr, arith}
+use Rattle.std.specs.Prelude.{sum_by}
+use Rattle.std.specs.List.{flat_map}
+use Rattle.std.specs.Option.{option_map_or}
+use Rattle.std.proofs.Math.Nat.{div-le_of_le-mul}
+use Rattle.std.proofs.lemmas.Bool.{cases_lt, leb-true}
+use Rattle.std.proofs.lemmas.List.Concat.{flat_map-cons}
+use Rattle.std.proofs.lemmas.List.Elements.{All-contains, All-map, Contains-append_left, Contains-append_right}
+use Rattle.std.proofs.lemmas.List.Sums.{sum_by-cons}
+use Rattle.pb_board.specs.declared.castling.Castling.{Castling}
+use Rattle.pb_board.specs.declared.castling.Castling.TheVariants.{WhiteShort, WhiteLong, BlackShort, BlackLong}
+use Rattle.pb_board.specs.declared.piece.Kind.{Kind}
+use Rattle.pb_board.specs.declared.piece.Kind.TheVariants.{Pawn, Knight, Bishop, Rook, Queen, King}
+use Rattle.pb_board.specs.Board.{at, is_piece}
+use Rattle.pb_board.specs.Castling.{castling_of, castling_row}
+use Rattle.pb_board.specs.Piece.{king_of, kind_number}
+use Rattle.pb_board.specs.Position.{Position}
+use Rattle.pb_moves.specs.Moved.{IsMove, Moved}
+use Rattle.pb_moves.specs.Played.{Ply, plies_from}
+use Rattle.pb_moves.specs.Successor.{after}
+use Rattle.pb_poly.specs.declared.entry.Entry.{Entry}
+use Rattle.pb_poly.specs.Code.{encode_move, encoded_to}
+use Rattle.pb_poly.specs.Entry.{IsEntry}
+use Rattle.pb_poly.specs.Key.{key, places}
+use Rattle.pb_poly.specs.Table.{IsTable}
+use Rattle.pb_poly.proofs.Parity.{joined_below}
+use Rattle.pb_games.specs.Submissions.{IsSubmission, Submission, plies}
+use Rattle.pb_points.specs.declared.row.Row.{Row}
+use Rattle.pb_points.specs.Rows.{frequent}
+use Rattle.pb_points.specs.Tally.{Content, Held, held_of, nothing}
+use Rattle.pb_points.specs.Weight.{scaled}
+use Rattle.pb_points.proofs.Elements.{all_of, contains_cases, contains_head, contains_tail}
+use Rattle.pb_points.proofs.Pairs.{is_pair_same}
+use Rattle.pb_points.proofs.SomeBooks.{some_book}
+use Rattle.pb_accepted.specs.Basis.{Basis}
+use Rattle.pb_accepted.specs.Counting.{IsBook, count, counted, is_of, occurrences, times}
+use Rattle.pb_accepted.specs.Holding.{IsLedger}
+use Rattle.pb_accepted.specs.Ledger.{LedgerState}
+use Rattle.pb_accepted.proofs.Books.{IsBook-rows}
+use Rattle.pb_accepted.proofs.Frequent.{frequent_rows}
+
+-- ---- elements
+
+module _ {X : Type 0} where
+  some_of_sum : (f : X → ℕ) (xs : List X) → 1 ≤ sum_by f xs → (x : X) × Contains xs x × (1 ≤ f x)
+  some_of_sum f [] some = absurd (omega (arith, some))
+  some_of_sum f (x ∷ xs) some = elim (cases_lt 0 (f x)) [
+    | inl here ↦ (x, contains_head x xs, omega arith)
+    | inr none ↦
+        let rest = some_of_sum f xs (omega (arith, sum_by-cons f x xs, some, none)) in
+        (rest.0, contains_tail x xs rest.0 rest.1, rest.2)
+  ]
+
+  contains_map : {Y : Type 0} (f : X → Y) (xs : List X) (x : X) → Contains xs x → Contains (map f xs) (f x)
+  contains_map f [] x h = absurd (omega (arith, h.1))
+  contains_map f (y ∷ ys) x h = elim (contains_cases y ys x h) [
+    | inl here ↦ subst (λ z. Contains (f y ∷ map f ys) (f z)) here (contains_head (f y) (map f ys))
+    | inr later ↦ contains_tail (f y) (map f ys) (f x) (contains_map f ys x later)
+  ]
+
+  contains_flat_map : {Y : Type 0} (f : X → List Y) (xs : List X) (x : X) (y : Y) → Contains xs x → Contains (f x) y → Contains (flat_map f xs) y
+  contains_flat_map f [] x y h in_x = absurd (omega (arith, h.1))
+  contains_flat_map f (z ∷ zs) x y h in_x = subst (λ l. Contains l y) (sym (flat_map-cons f z zs)) (elim (contains_cases z zs x h) [
+    | inl here ↦ Contains-append_left (f z) (flat_map f zs) y (subst (λ w. Contains (f w) y) (sym here) in_x)
+    | inr later ↦ Contains-append_right (f z) (flat_map f zs) y (contains_flat_map f zs x y later in_x)
+  ])
+
+  contains_take : (n : ℕ) (xs : List X) (x : X) → Contains (take n xs) x → Contains xs x
+  contains_take zero xs x h = absurd (omega (arith, h.1))
+  contains_take (suc n) [] x h = h
+  contains_take (suc n) (y ∷ ys) x h = elim (contains_cases y (take n ys) x h) [
+    | inl here ↦ subst (Contains (y ∷ ys)) here (contains_head y ys)
+    | inr later ↦ contains_tail y ys x (contains_take n ys x later)
+  ]
+
+-- ---- a ply of what occurs
+
+one_true : (b : Bool) → 1 ≤ cond b 1 0 → b ≡ true
+one_true true some = refl
+one_true false some = absurd (omega (arith, some))
+
+record IsPlyOf (T : Basis) (S : List Submission) (k c : ℕ) : Type 0 where
+  game : Submission
+  held : Contains S game
+  ply : Ply
+  counts : Contains (counted T game.1) ply
+  key : key T.words ply.0 ≡ k
+  code : encode_move ply.0 ply.1 ≡ c
+
+ply_of : (T : Basis) (S : List Submission) (k c : ℕ) → 1 ≤ times T S k c → IsPlyOf T S k c
+ply_of T S k c some =
+    let s = some_of_sum (λ s. occurrences T s.1 k c) S some in
+    let p = some_of_sum (λ p. cond (is_of T.words k c p) 1 0) (counted T s.0.1) s.2 in
+    let is = is_pair_same _ _ k c (one_true (is_of T.words k c p.0) p.2) in
+    record { game = s.0; held = s.1; ply = p.0; counts = p.1; key = is.0; code = is.1 }
+
+-- ---- a book
+
+module _ (T : Basis) (S : List Submission) (least : 1 ≤ T.rules.least) where
+  abbrev row_of : ℕ → ℕ → Row
+  row_of k c = record { key = k; code = c; points = count T S k c; times = times T S k c }
+
+  abbrev held_all : Content
+  held_all k c = Some (record { points = count T S k c; times = times T S k c })
+
+  abbrev all : List Ply
+  all = flat_map (λ s. counted T s.1) S
+
+  abbrev ply_row : Ply → Row
+  ply_row p = row_of (key T.words p.0) (encode_move p.0 p.1)
+
+  abbrev rows : List Row
+  rows = map ply_row all
+
+  are_rows : All (λ r. row_of r.key r.code ≡ r) rows
+  are_rows = All-map (λ r. row_of r.key r.code ≡ r) ply_row all (λ j d lt. refl)
+
+  each : (r : Row) → Contains (frequent T.rules.least rows) r ↔ ((held_all r.key r.code ≡ Some (held_of r)) × (T.rules.least ≤ r.times))
+  each r = (
+    λ h.
+        let k = (frequent_rows T.rules.least rows r).0 h in
+        (ap (λ x. Some (held_of x)) (All-contains (λ r. row_of r.key r.code ≡ r) rows r are_rows k.0), k.1),
+    λ h.
+        let is : row_of r.key r.code ≡ r = ap (λ (o : Option Held). record { key = r.key; code = r.code; points = (unwrap_or o nothing).points; times = (unwrap_or o nothing).times }) h.0 in
+        let often : times T S r.key r.code ≡ r.times = ap (λ (x : Row). x.times) is in
+        let p = ply_of T S r.key r.code (omega (arith, least, h.1, often)) in
+        let one : ply_row p.ply ≡ r = (λ i. row_of (p.key i) (p.code i)) ∙ is in
+        (frequent_rows T.rules.least rows r).1
+        (subst (Contains rows) one (contains_map ply_row all p.ply (contains_flat_map (λ s. counted T s.1) S p.game p.ply p.held p.counts)), h.1),
+  )
+
+  pub some_book_of : (E : List Entry) × IsBook T S E
+  some_book_of =
+      let book = some_book (frequent T.rules.least rows) in
+      (book.0, IsBook-rows T S held_all (frequent T.rules.least rows) least (λ k c. refl) each book.0 book.1)
+
+-- ---- the ranges of its entries
+
+key_below : (words : List ℕ) (s : Position) → IsTable words → key words s < 2 ^ 64
+unfolding key
+key_below words s table = joined_below words 0 (places s) table (omega arith)
+
+rook_below : (c : Castling) → (castling_row c).rook_from < 64
+rook_below WhiteShort = omega arith
+rook_below WhiteLong = omega arith
+rook_below BlackShort = omega arith
+rook_below BlackLong = omega arith
+
+encoded_below : (s : Position) (m : Moved) → IsMove m → encoded_to s m < 64
+encoded_below s m is = by (is_piece (king_of s.turn) (at s.board m.from)) (castling_of m.from m.to)
+  where
+    by : (b : Bool) (o : Option Castling) → cond b (option_map_or (λ c. (castling_row c).rook_from) o m.to) m.to < 64
+    by true (Some c) = rook_below c
+    by true None = is.to_on_board
+    by false o = is.to_on_board
+
+promo_below : (o : Option Kind) → option_map_or kind_number o 0 ≤ 5
+promo_below None = omega arith
+promo_below (Some Pawn) = omega arith
+promo_below (Some Knight) = omega arith
+promo_below (Some Bishop) = omega arith
+promo_below (Some Rook) = omega arith
+promo_below (Some Queen) = omega arith
+promo_below (Some King) = omega arith
+
+code_below : (s : Position) (m : Moved) → IsMove m → encode_move s m < 2 ^ 16
+code_below s m is = omega (arith, encoded_below s m is, is.from_on_board, promo_below m.promo)
+
+-- the moves of plies are those that are played
+moves_of_plies : (s : Position) (ms : List Moved) (p : Ply) → Contains (plies_from s ms) p → Contains ms p.1
+moves_of_plies s [] p h = absurd (omega (arith, h.1))
+moves_of_plies s (m ∷ ms) p h = elim (contains_cases (s, m) (plies_from (after s m) ms) p h) [
+  | inl here ↦ subst (λ (q : Ply). Contains (m ∷ ms) q.1) here (contains_head m ms)
+  | inr later ↦ contains_tail m ms p.1 (moves_of_plies (after s m) ms p later)
+]
+
+scaled-le : (n M : ℕ) → n ≤ M → scaled n M ≤ 65535
+scaled-le n M le = by (nat_le M 65535) refl
+  where
+    by : (b : Bool) → nat_le M 65535 ≡ b → scaled n M ≤ 65535
+    by true e = omega (arith, le, leb-true M 65535 e, ap (λ b. cond b n ((n * 65535) / M)) e)
+    by false e =
+        let low : (n * 65535) / M ≤ 65535 = div-le_of_le-mul M (omega (arith, le)) in
+        omega (arith, low, ap (λ b. cond b n ((n * 65535) / M)) e)
+
+pub book_bounds : (l : LedgerState) → IsLedger l → (E : List Entry) → IsBook l.basis l.accepted E → All IsEntry E
+book_bounds l is E book = all_of IsEntry E (λ e here.
+    let m = (book.members e).0 here in
+    let p = ply_of l.basis l.accepted e.key e.code (omega (arith, m.0, is.counting.once)) in
+    let legal = All-contains IsSubmission l.accepted p.game is.games p.held in
+    let move : IsMove p.ply.1 = All-contains IsMove p.game.1.moves p.ply.1 legal.game.moves
+    (moves_of_plies p.game.1.start.setup p.game.1.moves p.ply (contains_take l.basis.rules.plies (plies p.game.1) p.ply p.counts)) in
+    record {
+      key = subst (λ n. n < 2 ^ 64) p.key (key_below l.basis.words p.ply.0 is.table);
+      code = subst (λ n. n < 2 ^ 16) p.code (code_below p.ply.0 p.ply.1 move);
+      weight = omega (arith, m.1.2, scaled-le (count l.basis l.accepted e.key e.code) m.1.0 (m.1.1.above e.code m.0));
+      learn = omega (arith, m.3);
+    })
+
+-- a ledger has a book
+pub some_book_of_ledger : (l : LedgerState) → IsLedger l → (E : List Entry) × IsBook l.basis l.accepted E × All IsEntry E
+some_book_of_ledger l is =
+    let book = some_book_of l.basis l.accepted is.counting.once in
+    (book.0, book.1, book_bounds l is book.0 book.1)

@@ -1,0 +1,21 @@
+use Rattle.std.proofs.Common.{◌≡◌, ◌++◌, ◌∙◌, List}
+use Rattle.std.proofs.lemmas.Result.{IfOk-weaker}
+use Rattle.pb_poly.specs.declared.entry.Entry.{Entry}
+use Rattle.pb_points.specs.TallyBook.{AddsBookOf, stretch_of}
+use Rattle.pb_accepted.specs.Basis.{Basis}
+use Rattle.pb_accepted.specs.Counting.{IsBook, stretch}
+use Rattle.pb_accepted.proofs.BookStretches.{stretch_added}
+use Rattle.pb_accepted.proofs.ledger.Ledger.add_stretch.Goals as goal
+
+pub returns-clause-ok : goal.returns-clause-ok
+returns-clause-ok g c =
+    let inside = c.self.inside in
+    let games = inside.games.entries in
+    let T : Basis = record { words = inside.recorder.table; rules = inside.rules } in
+    let content = g.T.Tally.content inside.tally in
+    let least = c.from-least.ensures ∙ c.least.ensures.value in
+    rw (← c.self.view_is)
+    (IfOk-weaker c.add_stretch.result (λ next. AddsBookOf (stretch_of c.args.first next content) c.from-least.result c.args.entries.now.items c.add_stretch.new.entries.items)
+    (λ next. (book : List Entry) × IsBook T games book × (c.add_stretch.new.entries.items ≡ c.args.entries.now.items ++ stretch c.args.first next book))
+    (λ next adds. stretch_added T games c.args.first next content _ _ _ c.self.invariant.rules.counting.once c.self.invariant.counts least adds)
+    c.add_stretch.ensures.ok)

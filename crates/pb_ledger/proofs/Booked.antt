@@ -1,0 +1,146 @@
+-- The book of a ledger, put stretch by stretch.
+use Rattle.std.proofs.Common.{◌≡◌, ◌∙◌, ℕ, ◌<◌, true, Option, None, Some, List, [], ◌∷◌, ◌++◌, ◌+◌, length, get_or, take, drop, take-append-drop, All, Result, Ok, Err, ap, append_assoc, inl, inr, refl, subst, sym}
+use Rattle.std.specs.Prelude.{IfSome}
+use Rattle.std.specs.Io.KnownBytes.{Appends}
+use Rattle.std.specs.Result.{IsErr}
+use Rattle.std.proofs.KnownBytes.{Appends-nil, Appends-trans}
+use Rattle.std.proofs.Math.Seq.{take-append_seam}
+use Rattle.std.proofs.lemmas.List.{drop_more, take_more}
+use Rattle.pb_io.specs.Sink.{AwaitsFlush, Flush, Put, SinkState}
+use Rattle.pb_io.proofs.FlushLemmas.{AwaitsFlush-put, AwaitsFlush-trans}
+use Rattle.pb_io.proofs.PutLemmas.{Lasts-refl, Lasts-trans, front_more, put_failed}
+use Rattle.pb_io.proofs.WritesLemmas.{Writes-flushed, Writes-stopped}
+use Rattle.pb_poly.specs.Book.{book_bytes}
+use Rattle.pb_poly.specs.Entry.{IsEntry, entry_bytes}
+use Rattle.pb_poly.specs.declared.entry.Entry.{Entry}
+use Rattle.pb_poly.proofs.Entries.{book_bytes-append, book_bytes-push}
+use Rattle.pb_accepted.specs.Counting.{IsBook, stretch}
+use Rattle.pb_accepted.specs.Holding.{IsLedger}
+use Rattle.pb_accepted.specs.Ledger.{LedgerState}
+use Rattle.pb_accepted.proofs.BookLaws.{one_book}
+use Rattle.pb_accepted.proofs.BookStretches.{front_stretch, joined_stretch, no_stretch, whole_stretch}
+use Rattle.pb_accepted.proofs.SomeBooks.{some_book_of_ledger}
+use Rattle.pb_ledger.specs.Booking.{BookText, PutsOn, WritesOrWants}
+use Rattle.pb_ledger.specs.declared.booking.WriteFault.{WriteFault}
+use Rattle.pb_ledger.specs.declared.booking.WriteFault.TheVariants as fault
+
+-- ---- bytes that are put part by part
+
+pub puts_none : (sink : SinkState) → PutsOn sink sink []
+puts_none sink = record { put = Appends-nil sink.bytes; awaits = inl refl; stays_failed = λ h. h; lasts = Lasts-refl sink.lasting }
+
+pub puts_then : (old mid new : SinkState) (a b : List ℕ) → PutsOn old mid a → PutsOn mid new b → PutsOn old new (a ++ b)
+puts_then old mid new a b first next = record {
+  put = Appends-trans _ _ _ a b first.put next.put;
+  awaits = AwaitsFlush-trans old mid new first.awaits next.awaits;
+  stays_failed = λ h. next.stays_failed (first.stays_failed h);
+  lasts = Lasts-trans _ _ _ first.lasts next.lasts;
+}
+
+pub puts_one : {E : Type 0} (old new : SinkState) (v : Unit {0}) (bytes : List ℕ) → Put {E = E} old new (Ok v) bytes → PutsOn old new bytes
+puts_one old new v bytes put = record {
+  put = put.all;
+  awaits = AwaitsFlush-put old new v bytes put;
+  stays_failed = λ h. let bad = put.stays_failed h in cc;
+  lasts = put.lasts;
+}
+
+awaits_flushes : (old new : SinkState) → AwaitsFlush old new → new.flushes ≡ old.flushes
+awaits_flushes old new (inl same) = ap (λ (s : SinkState). s.flushes) same
+awaits_flushes old new (inr now) = now.2
+
+-- a put that failed, after others
+pub puts_stopped : {E F : Type 0} (old mid new : SinkState) (e : E) (answer : Result (Unit {0}) F) (a b rest whole : List ℕ) → IsErr answer → a ++ (b ++ rest) ≡ whole
+    → PutsOn old mid a → Put mid new (Err e) b → Put old new answer whole
+puts_stopped old mid new e answer a b rest whole failing is first put =
+    put_failed old new answer whole failing (front_more _ _ _ a b rest whole first.put is put.front.0 put.front.1) put.failed (Lasts-trans _ _ _ first.lasts put.lasts)
+    put.flushed (put.flushes ∙ awaits_flushes old mid first.awaits)
+
+-- ---- the stretches of the book
+
+-- the entries before the next stretch were put
+pub record Booking (ledger : LedgerState) (next : Option ℕ) (old new : SinkState) : Type 0 where
+  pub book : List Entry
+  pub is : IsBook ledger.basis ledger.accepted book
+  pub bounds : All IsEntry book
+  pub puts : PutsOn old new (book_bytes (stretch 0 next book))
+
+pub starts : (ledger : LedgerState) → IsLedger ledger → (sink : SinkState) → Booking ledger (Some 0) sink sink
+starts ledger rules sink =
+    let book = some_book_of_ledger ledger rules in
+    record { book = book.0; is = book.1; bounds = book.2; puts = subst (λ l. PutsOn sink sink (book_bytes l)) (sym (no_stretch book.0)) (puts_none sink) }
+
+-- the entries of a stretch of the book
+abbrev pub IsStretch : LedgerState → ℕ → Option ℕ → List Entry → Type 0
+IsStretch ledger first next entries = (book : List Entry) × IsBook ledger.basis ledger.accepted book × (entries ≡ stretch first next book)
+
+module _ (ledger : LedgerState) (old mid : SinkState) where
+  module _ (first : ℕ) (next : Option ℕ) (entries : List Entry) (onward : IfSome next (λ n. first < n)) (are : IsStretch ledger first next entries) (h : Booking ledger (Some first) old mid) where
+    same : entries ≡ stretch first next h.book
+    same = are.2 ∙ ap (stretch first next) (one_book ledger.basis ledger.accepted are.0 h.book are.1 h.is)
+
+    joined : book_bytes (stretch 0 (Some first) h.book) ++ book_bytes entries ≡ book_bytes (stretch 0 next h.book)
+    joined = ap (λ l. book_bytes (stretch 0 (Some first) h.book) ++ book_bytes l) same ∙ sym (book_bytes-append (stretch 0 (Some first) h.book) (stretch first next h.book))
+        ∙ ap book_bytes (joined_stretch ledger.basis ledger.accepted h.book h.is first next onward)
+
+    pub goes_on : (new : SinkState) → PutsOn mid new (book_bytes entries) → Booking ledger next old new
+    goes_on new more = record {
+      book = h.book;
+      is = h.is;
+      bounds = h.bounds;
+      puts = subst (PutsOn old new) joined (puts_then old mid new (book_bytes (stretch 0 (Some first) h.book)) (book_bytes entries) h.puts more);
+    }
+
+    pub breaks : {E : Type 0} (new : SinkState) (e : E) → Put mid new (Err e) (book_bytes entries) → (bytes : List ℕ) × BookText ledger bytes × WritesOrWants old new (Err fault.Write) bytes
+    breaks new e put =
+        let rest = front_stretch ledger.basis ledger.accepted h.book h.is next in
+        let a = book_bytes (stretch 0 (Some first) h.book) in
+        let cut : a ++ (book_bytes entries ++ book_bytes rest.0) ≡ book_bytes h.book =
+        sym (append_assoc a (book_bytes entries) (book_bytes rest.0)) ∙ ap (λ l. l ++ book_bytes rest.0) joined ∙ sym (book_bytes-append (stretch 0 next h.book) rest.0) ∙ ap book_bytes rest.1 in
+        let answer : Result (Unit {0}) WriteFault = Err fault.Write in (
+          book_bytes h.book,
+          (h.book, h.is, record { bounds = h.bounds; are = refl }),
+          Writes-stopped old new answer (book_bytes h.book) refl (puts_stopped old mid new e answer a (book_bytes entries) (book_bytes rest.0) (book_bytes h.book) refl cut h.puts put),
+        )
+
+  -- memory was wanting for the next stretch
+  pub wants : (next : Option ℕ) → Booking ledger next old mid → (bytes : List ℕ) × BookText ledger bytes × WritesOrWants old mid (Err fault.Memory) bytes
+  wants next h =
+      let rest = front_stretch ledger.basis ledger.accepted h.book h.is next in
+      let a = book_bytes (stretch 0 next h.book) in
+      let whole : a ++ book_bytes rest.0 ≡ book_bytes h.book = sym (book_bytes-append (stretch 0 next h.book) rest.0) ∙ ap book_bytes rest.1 in
+      let front : a ≡ take (length a) (book_bytes h.book) = sym (take-append_seam a (book_bytes rest.0)) ∙ ap (take (length a)) whole in
+      (book_bytes h.book, (h.book, h.is, record { bounds = h.bounds; are = refl }), (length a, subst (PutsOn old mid) front h.puts))
+
+  -- all was put
+  module _ (h : Booking ledger None old mid) where
+    all : Appends old.bytes mid.bytes (book_bytes h.book)
+    all = subst (λ l. Appends old.bytes mid.bytes (book_bytes l)) (whole_stretch h.book) h.puts.put
+
+    pub ends : {E : Type 0} (new : SinkState) (v : Unit {0}) → Flush {E = E} mid new (Ok v) → (bytes : List ℕ) × BookText ledger bytes × WritesOrWants old new (Ok v) bytes
+    ends new v flush = (
+      book_bytes h.book,
+      (h.book, h.is, record { bounds = h.bounds; are = refl }),
+      Writes-flushed old mid new (Ok v) (book_bytes h.book) all h.puts.stays_failed h.puts.lasts (awaits_flushes old mid h.puts.awaits)
+          (record { bytes = flush.bytes; lasts = flush.lasts; all_lasts = flush.all_lasts; failed = flush.failed; stays_failed = λ b. let bad = flush.stays_failed b in cc; flushed = flush.flushed; flushes = flush.flushes }),
+    )
+
+    pub unflushed : {E : Type 0} (new : SinkState) (e : E) → Flush mid new (Err e) → (bytes : List ℕ) × BookText ledger bytes × WritesOrWants old new (Err fault.Write) bytes
+    unflushed new e flush = (
+      book_bytes h.book,
+      (h.book, h.is, record { bounds = h.bounds; are = refl }),
+      Writes-flushed old mid new (Err fault.Write) (book_bytes h.book) all h.puts.stays_failed h.puts.lasts (awaits_flushes old mid h.puts.awaits)
+          (record { bytes = flush.bytes; lasts = flush.lasts; all_lasts = tt; failed = flush.failed; stays_failed = λ b. refl; flushed = flush.flushed; flushes = flush.flushes }),
+    )
+
+-- ---- the entries of a stretch, one by one
+
+-- an entry between those before it and those behind it
+pub cut_at : (entries : List Entry) (i : ℕ) (d : Entry) → i < length entries
+    → book_bytes (take i entries) ++ (entry_bytes (get_or entries i d) ++ book_bytes (drop (i + 1) entries)) ≡ book_bytes entries
+cut_at entries i d within =
+    sym (book_bytes-append (take i entries) (get_or entries i d ∷ drop (i + 1) entries))
+    ∙ ap book_bytes (ap (λ l. take i entries ++ l) (sym (drop_more entries i d within)) ∙ take-append-drop i entries)
+
+pub more_at : (entries : List Entry) (i : ℕ) (d : Entry) → i < length entries → book_bytes (take i entries) ++ entry_bytes (get_or entries i d) ≡ book_bytes (take (i + 1) entries)
+more_at entries i d within = sym (ap book_bytes (take_more entries i d within) ∙ book_bytes-push (take i entries) (get_or entries i d))

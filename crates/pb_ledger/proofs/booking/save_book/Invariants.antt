@@ -1,0 +1,12 @@
+use Rattle.std.proofs.Common.{◌-◌, ◌^◌}
+use Rattle.std.specs.Option.{option_map_or}
+use Rattle.pb_ledger.proofs.Booked.{Booking}
+use Rattle.pb_ledger.proofs.booking.save_book.Given as goal
+
+-- the entries before the next stretch were put
+abbrev pub invariant-loop-next : goal.invariant-loop-next
+invariant-loop-next g l = Booking l.ledger l.next (g.K.Sink.state l.initial.sink) (g.K.Sink.state l.sink)
+
+-- the keys from the next stretch on
+abbrev pub decreases-loop-next : goal.decreases-loop-next
+decreases-loop-next g l = option_map_or (λ n. 2 ^ 64 - n) l.next 0

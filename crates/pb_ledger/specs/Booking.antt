@@ -1,0 +1,30 @@
+-- The book of a ledger as the bytes of a file, which are put part by part.
+use Rattle.std.specs.Prelude.{◌≡◌, ℕ, true, List, take, Result, Ok, Err}
+use Rattle.std.specs.Io.KnownBytes.{Appends}
+use Rattle.pb_io.specs.Sink.{AwaitsFlush, Lasts, SinkState}
+use Rattle.pb_io.specs.Writes.{Writes}
+use Rattle.pb_poly.specs.Book.{BookBytes}
+use Rattle.pb_poly.specs.declared.entry.Entry.{Entry}
+use Rattle.pb_accepted.specs.Counting.{IsBook}
+use Rattle.pb_accepted.specs.Ledger.{LedgerState}
+use Rattle.pb_ledger.specs.declared.booking.WriteFault.{WriteFault}
+use Rattle.pb_ledger.specs.declared.booking.WriteFault.TheVariants as fault
+
+-- these are the bytes of the book of the games that are held
+abbrev pub BookText : LedgerState → List ℕ → Type 0
+BookText ledger bytes = (book : List Entry) × IsBook ledger.basis ledger.accepted book × BookBytes book bytes
+
+-- These bytes were put, and nothing was handed on.
+pub record PutsOn (old new : SinkState) (bytes : List ℕ) : Type 0 where
+  pub put : Appends old.bytes new.bytes bytes
+  pub awaits : AwaitsFlush old new
+  -- a sink that had failed still has
+  pub stays_failed : old.failed ≡ true → new.failed ≡ true
+  pub lasts : Lasts old.lasting new.lasting
+
+-- What a call does that puts bytes and then flushes once, and may want memory on the way: all of these bytes were put and then handed
+-- on; or the sink has failed, or memory was wanting, and of these bytes a front was put.
+abbrev pub WritesOrWants : SinkState → SinkState → Result (Unit {0}) WriteFault → List ℕ → Type 0
+WritesOrWants old new (Ok done) bytes = Writes {E = WriteFault} old new (Ok done) bytes
+WritesOrWants old new (Err fault.Write) bytes = Writes old new (Err fault.Write) bytes
+WritesOrWants old new (Err fault.Memory) bytes = (count : ℕ) × PutsOn old new (take count bytes)

@@ -1,0 +1,79 @@
+//! The book of a ledger as the bytes of a file.
+
+ghost use Rattle.std.specs.Prelude.{◌≡◌, ℕ, List, OnErr, OnOk};
+ghost use Rattle.pb_io.specs.Sink.{Put};
+ghost use Rattle.pb_poly.specs.Book.{book_bytes};
+ghost use Rattle.pb_ledger.specs.Booking.{BookText, PutsOn, WritesOrWants};
+ghost use Rattle.pb_ledger.specs.declared.booking.WriteFault.TheVariants as fault;
+
+use pb_accepted::Ledger;
+use pb_io::{Failed, Sink};
+use pb_points::Tally;
+use pb_poly::{Entry, write_entry};
+use std::alloc::{AllocError, Global};
+use thiserror::Error;
+
+/// Why bytes were not written to their end.
+#[derive(Clone, Copy, Debug, PartialEq, Eq, Error)]
+pub enum WriteFault {
+    /// The sink has failed.
+    #[error("the sink has failed")]
+    Write,
+    /// There was no memory for what was to be written next.
+    #[error("no memory is left")]
+    Memory,
+}
+
+impl From<AllocError> for WriteFault {
+    ghost from_gives = { λ e x. x ≡ fault.Memory };
+
+    fn from(_: AllocError) -> WriteFault {
+        WriteFault::Memory
+    }
+}
+
+impl From<Failed> for WriteFault {
+    ghost from_gives = { λ e x. x ≡ fault.Write };
+
+    fn from(_: Failed) -> WriteFault {
+        WriteFault::Write
+    }
+}
+
+/// Writes the opening book of the games that are held, and flushes. The entries of one stretch of
+/// keys at a time are listed, and never all of them.
+///
+/// # Errors
+///
+/// The first of the sink's fault and want of memory that is met. A front of the bytes may have been
+/// put then, and isn't flushed.
+pub fn save_book<T: Tally, K: Sink>(
+    alloc: Global,
+    ledger: &Ledger<T>,
+    sink: &mut K,
+) -> Result<(), WriteFault>
+    ensures { (bytes : List ℕ) × BookText ledger.now bytes × WritesOrWants (K.state sink.old) (K.state sink.new) result bytes }
+{
+    // The proof reads from this use that the games are those of a ledger, and so have a book.
+    let _held = ledger.len();
+    let mut entries = Vec::new(alloc);
+    let mut next = Some(0);
+    while let Some(first) = next {
+        entries.clear();
+        next = ledger.add_stretch(alloc, first, &mut entries)?;
+        put_entries(sink, &entries)?;
+    }
+    sink.flush()?;
+    Ok(())
+}
+
+/// Puts the bytes of the entries in order.
+fn put_entries<K: Sink>(sink: &mut K, entries: &[Entry]) -> Result<(), Failed>
+    ensures ok { OnOk result (PutsOn (K.state sink.old) (K.state sink.new) (book_bytes entries.now)) }
+    ensures err { OnErr result (Put (K.state sink.old) (K.state sink.new) result (book_bytes entries.now)) }
+{
+    for entry in entries {
+        write_entry(sink, entry)?;
+    }
+    Ok(())
+}
