@@ -1,4 +1,4 @@
-use Rattle.std.proofs.Common.{◌≡◌, ℕ, ◌+◌, ◌*◌, ◌^◌, ◌<◌, ◌≤◌, suc, zero, Bool, true, false, List, ◌∷◌, Some, None, arith, refl, subst, ◌∙◌, drop, get_or, not}
+use Rattle.std.proofs.Common.{◌≡◌, ℕ, ◌+◌, ◌*◌, ◌^◌, ◌<◌, suc, zero, Bool, true, false, List, ◌∷◌, Some, None, arith, refl, subst, ◌∙◌, drop, get_or, not}
 use Rattle.std.specs.Prelude.{is_none, is_some}
 use Rattle.std.proofs.lemmas.List.{drop_more}
 use Rattle.pb_board.specs.Board.{Place}

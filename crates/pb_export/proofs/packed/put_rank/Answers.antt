@@ -1,6 +1,6 @@
-use Rattle.std.proofs.Common.{◌≡◌, ℕ, List, [], ◌∷◌, ◌++◌, ap, ◌∙◌, arith, refl}
+use Rattle.std.proofs.Common.{arith, refl}
 use Rattle.std.proofs.lemmas.Result.{on_ok_weaker}
-use Rattle.pb_export.proofs.PackedTexts.{PutsRank, PutsRank-none, put_empty, put_piece, put_whole}
+use Rattle.pb_export.proofs.PackedTexts.{PutsRank-none, put_empty, put_piece, put_whole}
 use Rattle.pb_export.proofs.packed.put_rank.Goals as goal
 use Rattle.pb_export.proofs.packed.put_rank.Goals.{in-Some+in_ok-put_run-in-Some+in_ok-push-in-Some, in-None}
 

@@ -1,11 +1,10 @@
-use Rattle.std.proofs.Common.{◌≡◌, ℕ, ◌+◌, ◌-◌, ◌*◌, ◌/◌, ◌^◌, ◌<◌, ltb, true, false, List, arith, ap, subst, sym, ◌∙◌, length, drop, take, get_or}
+use Rattle.std.proofs.Common.{◌≡◌, ◌+◌, ◌-◌, ◌*◌, ◌/◌, ◌^◌, ◌<◌, ltb, true, false, List, arith, ap, subst, sym, ◌∙◌, length, drop, take}
 use Rattle.std.specs.Prelude.{take_while}
 use Rattle.std.specs.List.Sorted.{IsPartitionPoint}
 use Rattle.std.proofs.lemmas.List.{get_or_read, length-drop, take_all}
 use Rattle.pb_poly.specs.declared.entry.Entry.{Entry}
-use Rattle.pb_poly.specs.Book.{NeverFall}
 use Rattle.pb_export.specs.Indexing.{IsBefore}
-use Rattle.pb_export.proofs.Indexes.{first_place, place_within}
+use Rattle.pb_export.proofs.Indexes.{first_place}
 use Rattle.pb_export.proofs.indexed_book.IndexedBook.first_under.Goals as goal
 
 pub returns-clause-point : goal.returns-clause-point

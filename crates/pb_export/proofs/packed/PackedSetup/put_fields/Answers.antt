@@ -1,4 +1,4 @@
-use Rattle.std.proofs.Common.{◌++◌, ◌∷◌, ◌+◌, ◌-◌, ap, ◌∙◌, arith, refl, subst}
+use Rattle.std.proofs.Common.{◌++◌, ◌∷◌, ap, ◌∙◌, arith, refl, subst}
 use Rattle.std.proofs.lemmas.Result.{on_ok_weaker}
 use Rattle.pb_export.proofs.PackedTexts.{PutsRows, fields_put, rows_begun, rows_more}
 use Rattle.pb_export.proofs.packed.PackedSetup.put_fields.Goals as goal
