@@ -6,7 +6,7 @@ use Rattle.std.specs.List.Sorted.{IsPartitionPoint}
 use Rattle.std.proofs.lemmas.Bool.Decides.{nat_tests}
 use Rattle.std.proofs.lemmas.List.{get_or-drop, length-drop}
 use Rattle.std.proofs.lemmas.List.Folds.{length-prefix_len}
-use Rattle.std.proofs.lemmas.List.Sums.{prefix_len-le-length, prefix_len_passes, prefix_len_stops}
+use Rattle.std.proofs.lemmas.List.Sums.{prefix_len_passes, prefix_len_stops}
 use Rattle.pb_poly.specs.declared.entry.Entry.{Entry}
 use Rattle.pb_poly.specs.Book.{NeverFall}
 use Rattle.pb_poly.proofs.Runs.{keys_rise}
@@ -28,9 +28,6 @@ module _ (key floor : ℕ) (entries : List Entry) (place count : ℕ) (rises : N
 
   many : count ≡ prefix_len test (drop place entries)
   many = counted ∙ length-prefix_len test (drop place entries)
-
-  pub place_within : place + count ≤ length entries
-  place_within = omega (arith, many, prefix_len-le-length test (drop place entries), length-drop place entries, before.within)
 
   pub first_place : IsPartitionPoint (λ (e : Entry). ltb e.key key ≡ true) (λ (e : Entry). ltb e.key key ≡ false) entries (place + count)
   first_place = (earlier, later)

@@ -45,7 +45,7 @@ ties x y =
     (λ i. texts_ties x.setup.ranks y.setup.ranks i && texts_ties x.setup.state.bytes y.setup.state.bytes i)
     ∙ sym (both_equal (slice_cmp nat_cmp x.setup.ranks y.setup.ranks) (slice_cmp nat_cmp x.setup.state.bytes y.setup.state.bytes))
 
-same_is : (x y : ListedSetup) → same x y ≡ true → SameSetup x y
+pub same_is : (x y : ListedSetup) → same x y ≡ true → SameSetup x y
 same_is x y h =
     let both = each_true (pointwise nat_eq x.setup.ranks y.setup.ranks) (pointwise nat_eq x.setup.state.bytes y.setup.state.bytes) h in
     record { ranks = alike x.setup.ranks y.setup.ranks both.0; state = alike x.setup.state.bytes y.setup.state.bytes both.1 }

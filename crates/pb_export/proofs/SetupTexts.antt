@@ -8,7 +8,6 @@ use Rattle.std.proofs.lemmas.Option.{get_or_from_slice_get, slice_get_within}
 use Rattle.std.proofs.lemmas.List.Elements.{All-contains, All-nil, All-push, Contains-append_left, Contains-push, Contains-push_cases}
 use Rattle.pb_board.specs.Position.{Position, IsSetup}
 use Rattle.pb_board.specs.Text.{setup_text}
-use Rattle.pb_moves.specs.Legal.{Legal}
 use Rattle.pb_moves.specs.Moved.{Moved}
 use Rattle.pb_moves.specs.Successor.{after}
 use Rattle.pb_moves.specs.Played.{AreLegal, Ply, plies_from}
@@ -24,6 +23,7 @@ use Rattle.pb_poly.specs.declared.entry.Entry.{Entry}
 use Rattle.pb_poly.specs.Found.{Found}
 use Rattle.pb_export.specs.Packed.{IsPacked, rank_numbers, state_text}
 use Rattle.pb_export.specs.Setups.{IsListedAs, ListsSetups, SameSetup, all_setups, moves_of, setups_before}
+use Rattle.pb_export.specs.declared.packed.PackedSetup.{PackedSetup}
 use Rattle.pb_export.specs.declared.setups.ListedSetup.{ListedSetup}
 use Rattle.pb_export.proofs.PackedOrder.{same_text}
 use Rattle.pb_accepted.specs.Holding.{IsLedger}
@@ -93,6 +93,21 @@ module _ (words : List ℕ) (book : List Entry) where
       few = omega (arith, h.few, length_push known s);
     })
 
+    -- one that is listed
+    pub listed_before : (x : ListedSetup) (packed : PackedSetup) → Contains listed x → x.setup.ranks ≡ packed.ranks → x.setup.state.bytes ≡ packed.state.bytes → IsPacked packed s → ListsSetups words book (known ++ s ∷ []) moves listed
+    listed_before x packed c ranks state is =
+        let w = h.sound x c in
+        let same : w.0 ≡ s = one_setup w.0 s (All-contains IsSetup known w.0 h.setups w.1) rules (sym w.2.packed.ranks ∙ ranks ∙ is.ranks) (sym w.2.packed.state ∙ state ∙ is.state) in
+        record {
+          setups = All-push IsSetup known s h.setups rules;
+          sound = λ y k. let v = h.sound y k in (v.0, Contains-append_left known (s ∷ []) v.0 v.1, v.2);
+          whole = λ t k. elim (Contains-push_cases known s t k) [
+            | inl old ↦ h.whole t old
+            | inr e ↦ inr (x, c, subst (λ (p : Position). IsListedAs words book moves p x) (same ∙ e) w.2)
+          ];
+          few = omega (arith, h.few, length_push known s);
+        }
+
     -- one for which it has moves
     pub one_listed : (found new : List (Moved × ℕ)) (x : ListedSetup) → new ≡ moves ++ found → Found book words s found → IsPacked x.setup s → x.first ≡ length moves → x.end ≡ length new → x.first < x.end
         → ListsSetups words book (known ++ s ∷ []) new (listed ++ x ∷ [])
@@ -151,9 +166,6 @@ pub record Adding (g : Game) (Old New : List Position → Type 0) (s : Position)
   pub all : done ++ setups_from s ms ≡ setups_before g
   pub holds : (known : List Position) → Old known → New (known ++ done)
 
-pub Adding-none : (g : Game) (Old : List Position → Type 0) → AreLegal g.start.setup g.moves → Adding g Old Old g.start.setup g.moves
-Adding-none g Old legal = record { legal = legal; done = []; all = refl; holds = λ known h. subst Old (sym (append-nil known)) h }
-
 module _ (g : Game) (Old Mid New : List Position → Type 0) (s : Position) (ms : List Moved) (i : ℕ) where
   pub Adding-more : (d : Moved) → i < length ms → Adding g Old Mid s (drop i ms) → ((known : List Position) → Mid known → New (known ++ s ∷ [])) → Adding g Old New (after s (get_or ms i d)) (drop (i + 1) ms)
   Adding-more d lt h adds =
@@ -167,9 +179,6 @@ module _ (g : Game) (Old Mid New : List Position → Type 0) (s : Position) (ms 
         all = append_assoc h.done (s ∷ []) (setups_from (after s m) (drop (i + 1) ms)) ∙ all;
         holds = λ known k. subst New (append_assoc known h.done (s ∷ [])) (adds (known ++ h.done) (h.holds known k));
       }
-
-  pub Adding-legal : (d : Moved) → i < length ms → Adding g Old Mid s (drop i ms) → Legal s (get_or ms i d)
-  Adding-legal d lt h = (subst (AreLegal s) (drop_more ms i d lt) h.legal).0
 
   pub Adding-all : length ms ≤ i → Adding g Old Mid s (drop i ms) → (known : List Position) → Old known → Mid (known ++ setups_before g)
   Adding-all past h known k =

@@ -1,10 +1,12 @@
 //! The setups that stand before the moves of games and for which a book has moves.
 
-ghost use Rattle.std.specs.Prelude.{◌≡◌, ◌≤◌, ◌<◌, ◌^◌, ◌++◌, ◌∷◌, [], ℕ, All, AllPairs, Contains, IfOk, List, OnOk, length};
+ghost use Rattle.std.specs.Prelude.{◌≡◌, ◌≤◌, ◌<◌, ◌^◌, ◌==◌, ◌++◌, ◌∷◌, [], ℕ, All, AllPairs, Contains, IfOk, IsTrue, filter, List, OnOk, length};
 ghost use Rattle.pb_board.specs.Position.{Position};
 ghost use Rattle.pb_games.specs.Submissions.{IsLegalGame};
 ghost use Rattle.pb_moves.specs.Moved.{Moved};
 ghost use Rattle.pb_poly.specs.Found.{Found};
+ghost use Rattle.pb_poly.specs.declared.entry.Entry.{Entry as BookEntry};
+ghost use Rattle.pb_export.specs.Packed.{IsPacked};
 ghost use Rattle.pb_poly.specs.Key.{key as key_by};
 ghost use Rattle.pb_export.specs.Setups.{ListsSetups, SameSetup, TextBelow, all_setups, moves_of, setups_before};
 ghost use Rattle.pb_export.specs.declared.setups.ListedSetup.{ListedSetup};
@@ -18,6 +20,9 @@ use pb_moves::{Move, play_on};
 use pb_points::Tally;
 use pb_poly::{Entry, Table, key_next, key_of, move_of};
 use std::alloc::{AllocError, Global};
+
+/// How many places of recent setups are kept.
+const RECENT: usize = 65_536;
 
 /// A setup, and where its moves stand among those of all.
 #[derive(Clone, Copy)]
@@ -36,6 +41,8 @@ pub(crate) struct ListedSetup {
 pub(crate) struct Listing {
     pub(crate) setups: Vec<ListedSetup>,
     moves: Vec<(Move, u16)>,
+    // The place of the last setup for each of some remainders of keys. Any other place does no harm.
+    recent: Vec<usize>,
 }
 
 impl Listing {
@@ -57,6 +64,7 @@ impl Listing {
         let mut listing = Listing {
             setups: Vec::new(alloc),
             moves: Vec::new(alloc),
+            recent: vec![in alloc; 0; RECENT]?,
         };
         for index in 0..ledger.len() {
             let (_, game) = ledger.get(index + 1).unwrap();
@@ -99,14 +107,67 @@ impl Listing {
     {
         // The reader tells that the setup meets its rules.
         let _turn = setup.turn();
+        let entries = book.under(key);
+        if entries.is_empty() {
+            return Ok(());
+        }
+        let packed = PackedSetup::of(setup);
+        if self.is_recent(key, &packed) {
+            return Ok(());
+        }
+        self.note_recent(key);
+        self.add_new(packed, entries, setup)
+    }
+
+    /// Adds a setup that isn't known to be listed, where an entry is for it.
+    fn add_new(
+        &mut self,
+        packed: PackedSetup,
+        entries: &[Entry],
+        setup: &Setup,
+    ) -> Result<(), AllocError>
+        requires { IsPacked packed setup.now }
+        ensures { OnOk result ((words : List ℕ) (book : List BookEntry) (known : List Position) (key : ℕ) → key ≡ key_by words setup.now → entries.now ≡ filter (λ e. e.key == key) book
+            → ListsSetups words book known self.old.moves.items self.old.setups.items
+            → ListsSetups words book (known ++ setup.now ∷ []) self.new.moves.items self.new.setups.items) }
+    {
+        // The reader tells that the setup meets its rules.
+        let _turn = setup.turn();
         let first = self.moves.len();
-        add_moves(&mut self.moves, book.under(key), setup)?;
+        add_moves(&mut self.moves, entries, setup)?;
         let end = self.moves.len();
         if first < end {
-            let setup = PackedSetup::of(setup);
-            self.setups.push(ListedSetup { setup, first, end })?;
+            self.setups.push(ListedSetup {
+                setup: packed,
+                first,
+                end,
+            })?;
         }
         Ok(())
+    }
+
+    /// Keeps the place of the next setup as that of this key.
+    fn note_recent(&mut self, key: u64)
+        ensures setups { self.new.setups.items ≡ self.old.setups.items }
+        ensures moves { self.new.moves.items ≡ self.old.moves.items }
+    {
+        if let Some(place) = self.recent.get_mut((key % RECENT as u64) as usize) {
+            *place = self.setups.len();
+        }
+    }
+
+    /// Whether the last setup that was listed for this key, or for one with the same remainder, is
+    /// this one. So a setup that many games meet is mostly listed once.
+    fn is_recent(&self, key: u64, packed: &PackedSetup) -> bool
+        ensures { IsTrue result → (x : ListedSetup) × Contains self.now.setups.items x × (x.setup.ranks ≡ packed.now.ranks) × (x.setup.state.bytes ≡ packed.now.state.bytes) }
+    {
+        let Some(place) = self.recent.get((key % RECENT as u64) as usize) else {
+            return false;
+        };
+        match self.setups.get(*place) {
+            Some(listed) => listed.setup == *packed,
+            None => false,
+        }
     }
 }
 
