@@ -21,8 +21,8 @@ use pb_points::Tally;
 use pb_poly::{Entry, Table, key_next, key_of, move_of};
 use std::alloc::{AllocError, Global};
 
-/// How many places of recent setups are kept.
-const RECENT: usize = 65_536;
+/// How many keys of recent setups are kept.
+const RECENT: usize = 16_384;
 
 /// A setup, and where its moves stand among those of all.
 #[derive(Clone, Copy)]
@@ -41,8 +41,8 @@ pub(crate) struct ListedSetup {
 pub(crate) struct Listing {
     pub(crate) setups: Vec<ListedSetup>,
     moves: Vec<(Move, u16)>,
-    // The place of the last setup for each of some remainders of keys. Any other place does no harm.
-    recent: Vec<usize>,
+    // The last key of each remainder, and the place of its setup. Any others would do no harm.
+    recent: Vec<(u64, usize)>,
 }
 
 impl Listing {
@@ -64,7 +64,7 @@ impl Listing {
         let mut listing = Listing {
             setups: Vec::new(alloc),
             moves: Vec::new(alloc),
-            recent: vec![in alloc; 0; RECENT]?,
+            recent: vec![in alloc; (0, 0); RECENT]?,
         };
         for index in 0..ledger.len() {
             let (_, game) = ledger.get(index + 1).unwrap();
@@ -146,24 +146,27 @@ impl Listing {
         Ok(())
     }
 
-    /// Keeps the place of the next setup as that of this key.
+    /// Keeps the place of the setup that is listed next as that of this key.
     fn note_recent(&mut self, key: u64)
         ensures setups { self.new.setups.items ≡ self.old.setups.items }
         ensures moves { self.new.moves.items ≡ self.old.moves.items }
     {
-        if let Some(place) = self.recent.get_mut((key % RECENT as u64) as usize) {
-            *place = self.setups.len();
+        if let Some(recent) = self.recent.get_mut((key % RECENT as u64) as usize) {
+            *recent = (key, self.setups.len());
         }
     }
 
-    /// Whether the last setup that was listed for this key, or for one with the same remainder, is
-    /// this one. So a setup that many games meet is mostly listed once.
+    /// Whether this setup is the last that was listed for the key, where that is still kept. So a
+    /// setup that many games meet is mostly listed once.
     fn is_recent(&self, key: u64, packed: &PackedSetup) -> bool
         ensures { IsTrue result → (x : ListedSetup) × Contains self.now.setups.items x × (x.setup.ranks ≡ packed.now.ranks) × (x.setup.state.bytes ≡ packed.now.state.bytes) }
     {
-        let Some(place) = self.recent.get((key % RECENT as u64) as usize) else {
+        let Some((noted, place)) = self.recent.get((key % RECENT as u64) as usize) else {
             return false;
         };
+        if *noted != key {
+            return false;
+        }
         match self.setups.get(*place) {
             Some(listed) => listed.setup == *packed,
             None => false,
