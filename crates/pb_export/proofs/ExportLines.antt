@@ -4,7 +4,7 @@ use Rattle.std.specs.Prelude.{Contains}
 use Rattle.std.proofs.KnownBytes.{Appends-kept}
 use Rattle.std.proofs.lemmas.List.{length-map}
 use Rattle.std.proofs.lemmas.List.Elements.{All-contains, Contains-append_cases, Contains-append_left, Contains-append_right}
-use Rattle.pb_board.specs.Position.{Position}
+use Rattle.pb_board.specs.Position.{IsSetup, Position}
 use Rattle.pb_epd.specs.ByteOrder.{IsBytesBelow}
 use Rattle.pb_epd.proofs.Lists.{contains_cases, contains_head, contains_map, contains_none, contains_there, contains_unmap, pairs_head, pairs_tail}
 use Rattle.pb_epd.proofs.Order.{below_itself, both_below}
@@ -17,6 +17,7 @@ use Rattle.pb_io.specs.Sink.{Flush, SinkState}
 use Rattle.pb_io.proofs.FlushLemmas.{not_flushed}
 use Rattle.pb_poly.specs.declared.entry.Entry.{Entry}
 use Rattle.pb_io.specs.declared.source.Failed.{Failed}
+use Rattle.pb_poly.proofs.Finding.{found_is_one}
 use Rattle.pb_accepted.specs.Basis.{Basis}
 use Rattle.pb_accepted.specs.Counting.{IsBook}
 use Rattle.pb_export.specs.Exporting.{ExportText, Exports, ExportsUntil, IsListed, IsListing, Listed, StandsBefore, text_of_lines}
@@ -60,14 +61,22 @@ across (z ∷ front) back x y h here there = elim (contains_cases z front x here
   | inr later ↦ across front back x y (pairs_tail (λ (v w : Named). IsBytesBelow v.0 w.0) z (front ++ back) h) later there
 ]
 
-module _ (T : Basis) (S : List Submission) (book : List Entry) (named : List Named) (holds : HoldsSetups (all_setups S) named) where
+module _ (T : Basis) (S : List Submission) (book : List Entry) (named : List Named) (holds : HoldsSetups T.words book (all_setups S) named) where
   listed_of : (x : Listed) → IsListedOf T.words book named x → IsListed T S book x
   listed_of x k =
-      let is = (holds.members (x.fields, x.setup)).0 k.0 in
+      let is = holds.sound (x.fields, x.setup) k.0 in
       (stands_before S x.setup is.0, is.1, k.1)
 
   of_listed : (x : Listed) → IsListed T S book x → IsListedOf T.words book named x
-  of_listed x k = ((holds.members (x.fields, x.setup)).1 (setup_is_there S x.setup k.0, k.1), k.2)
+  of_listed x k =
+      let known = setup_is_there S x.setup k.0 in
+      let rules = All-contains IsSetup (all_setups S) x.setup holds.setups known in (
+        elim (holds.whole x.setup known) [
+          | inl none ↦ absurd (k.2.some (found_is_one book T.words x.setup x.moves [] rules k.2.found none))
+          | inr there ↦ subst (λ (t : List ℕ). Contains named (t, x.setup)) (sym k.1) there
+        ],
+        k.2,
+      )
 
   pub whole_listing : (listed : List Listed) → IsListingOf T.words book named listed → IsListing (IsListed T S book) listed
   whole_listing listed h = record { ordered = h.ordered; members = λ x. ((λ c. listed_of x ((h.members x).0 c)), (λ c. (h.members x).1 (of_listed x c))) }
@@ -93,7 +102,7 @@ module _ (T : Basis) (S : List Submission) (book : List Entry) (named : List Nam
 
 -- ---- what an export put
 
-pub exported : (l : LedgerState) (book : List Entry) (named : List Named) (sink now new : SinkState) (count : ℕ) → IsBook l.basis l.accepted book → HoldsSetups (all_setups l.accepted) named
+pub exported : (l : LedgerState) (book : List Entry) (named : List Named) (sink now new : SinkState) (count : ℕ) → IsBook l.basis l.accepted book → HoldsSetups l.basis.words book (all_setups l.accepted) named
     → PutsListing l.basis.words book named sink now count → Flush {E = Failed} now new (Ok tt) → Exports l sink new count
 exported l book named sink now new count is_book holds h flush = record {
   lines = map (λ (x : Listed). x.line) h.listed;
@@ -106,7 +115,7 @@ exported l book named sink now new count is_book holds h flush = record {
 
 -- what was put is a front of the text
 front_of_text : (T : Basis) (S : List Submission) (book : List Entry) (named : List Named) (front back : List Named) (listed : List Listed) (some rest : List ℕ)
-    → IsBook T S book → HoldsSetups (all_setups S) named → named ≡ front ++ back → IsListingOf T.words book front listed → text_of listed ≡ some ++ rest
+    → IsBook T S book → HoldsSetups T.words book (all_setups S) named → named ≡ front ++ back → IsListingOf T.words book front listed → text_of listed ≡ some ++ rest
     → (text : List ℕ) → ExportText T S text → (later : List ℕ) × (text ≡ some ++ later)
 front_of_text T S book named front back listed some rest is_book holds are h cut text spelt =
     let e = spelt.1 in
@@ -114,7 +123,7 @@ front_of_text T S book named front back listed some rest is_book holds are h cut
     let longer = listing_begins T S book named holds front back listed e.listed are h (subst (λ b. IsListing (IsListed T S b) e.listed) same e.is_listing) in
     (rest ++ text_of longer.0, spelt.2 ∙ ap text_of_lines e.are ∙ ap text_of longer.1 ∙ text_of-append listed longer.0 ∙ ap (λ bytes. bytes ++ text_of longer.0) cut ∙ append_assoc some rest (text_of longer.0))
 
-module _ (l : LedgerState) (book : List Entry) (named : List Named) (is_book : IsBook l.basis l.accepted book) (holds : HoldsSetups (all_setups l.accepted) named) where
+module _ (l : LedgerState) (book : List Entry) (named : List Named) (is_book : IsBook l.basis l.accepted book) (holds : HoldsSetups l.basis.words book (all_setups l.accepted) named) where
   -- a fault at a line
   pub stopped_at : (sink new : SinkState) (x : ExportFault) → PutsFront l.basis.words book named sink new x → ExportsUntil l sink new x
   stopped_at sink new x h = record {

@@ -55,19 +55,6 @@ module _ (words : List ℕ) (book : List Entry) where
     found_here : (x : Listed) (moves : List (Moved × ℕ)) → s ≡ x.setup → Found book words s moves → Found book words x.setup x.moves → x.moves ≡ moves
     found_here x moves e mine theirs = found_is_one book words s x.moves moves rules (subst (λ p. Found book words p x.moves) (sym e) theirs) mine
 
-    -- a setup for which the book has no move
-    pub IsListingOf-skip : Found book words s [] → IsListingOf words book (front ++ (t, s) ∷ []) listed
-    IsListingOf-skip none = record {
-      ordered = h.ordered;
-      members = λ x. (
-        λ k. earlier x ((h.members x).0 k),
-        λ k. (h.members x).1 (elim (Contains-push_cases front (t, s) (x.fields, x.setup) k.0) [
-          | inl old ↦ (old, k.1)
-          | inr e ↦ absurd (k.1.some (found_here x [] (ap (λ (y : Named). y.1) e) none k.1.found))
-        ]),
-      );
-    }
-
     module _ (moves : List (Moved × ℕ)) (line : List ℕ) (says : SaysMoves words book s moves line) where
       abbrev pub listed_here : Listed
       listed_here = record { setup = s; fields = t; moves = moves; line = line }
@@ -153,17 +140,6 @@ module _ (words : List ℕ) (book : List Entry) (all : List Named) (sink now : S
   module _ (t : List ℕ) (s : Position) (rest : List Named) (h : Putting words book all sink now count ((t, s) ∷ rest)) (rules : IsSetup s) where
     passed : (h.front ++ (t, s) ∷ []) ++ rest ≡ all
     passed = append_assoc h.front ((t, s) ∷ []) rest ∙ h.are
-
-    pub Putting-skip : Found book words s [] → Putting words book all sink now count rest
-    Putting-skip none = record {
-      front = h.front ++ (t, s) ∷ [];
-      are = passed;
-      listed = h.listed;
-      is = IsListingOf-skip words book h.front t s h.listed h.is rules none;
-      counted = h.counted;
-      put = h.put;
-      awaits = h.awaits;
-    }
 
     module _ (new : SinkState) (line : List ℕ) (moves : List (Moved × ℕ)) (text : List ℕ) (says : SaysMoves words book s moves text) (is : line ≡ text ++ 10 ∷ []) (order : InTextOrder all) where
       with_it : List Listed

@@ -1,14 +1,13 @@
--- The setups of games, by their texts.
-use Rattle.std.proofs.Common.{suc, ◌≡◌, ℕ, ◌+◌, ◌*◌, ◌^◌, ◌<◌, ◌≤◌, List, [], ◌∷◌, ◌++◌, Some, slice_get, append-nil, append_assoc, length, take, drop, get_or, refl, sym, ap, subst, ◌∙◌, inl, inr, arith}
-use Rattle.std.specs.Prelude.{All, Contains, map, ◌↔◌}
+-- The setups of games, listed with their moves.
+use Rattle.std.proofs.Common.{suc, ◌≡◌, ℕ, ◌+◌, ◌-◌, ◌*◌, ◌^◌, ◌<◌, ◌≤◌, List, [], ◌∷◌, ◌++◌, Some, slice_get, append-nil, append_assoc, length, take, drop, get_or, refl, sym, ap, subst, ◌∙◌, inl, inr, arith}
+use Rattle.std.specs.Prelude.{All, Contains, map}
 use Rattle.std.proofs.Math.ListN.{drop_of_length-le}
-use Rattle.std.proofs.lemmas.List.{drop_more, flat_map_more, length-append, length-map, length_push, take_more}
+use Rattle.std.proofs.lemmas.List.{drop-append-le, drop_more, flat_map_more, length-append, length-drop, take-append-le, take_all, length-map, length_push, take_more}
+use Rattle.std.proofs.Math.Seq.{drop-append_seam}
 use Rattle.std.proofs.lemmas.Option.{get_or_from_slice_get, slice_get_within}
 use Rattle.std.proofs.lemmas.List.Elements.{All-contains, All-nil, All-push, Contains-append_left, Contains-push, Contains-push_cases}
-use Rattle.arrayvec.specs.ArrayString.{ArrayString}
 use Rattle.pb_board.specs.Position.{Position, IsSetup}
 use Rattle.pb_board.specs.Text.{setup_text}
-use Rattle.pb_moves.specs.Legal.{Legal}
 use Rattle.pb_moves.specs.Moved.{Moved}
 use Rattle.pb_moves.specs.Successor.{after}
 use Rattle.pb_moves.specs.Played.{AreLegal, Ply, plies_from}
@@ -20,7 +19,13 @@ use Rattle.pb_epd.proofs.Lists.{contains_none, pairs_none}
 use Rattle.pb_games.specs.declared.game.Game.{Game}
 use Rattle.pb_games.specs.Submissions.{IsLegalGame, IsSubmission, Submission, plies}
 use Rattle.pb_accepted.specs.Accepting.{IsNumber}
-use Rattle.pb_export.specs.Setups.{HoldsTexts, all_setups, setups_before, texts_of}
+use Rattle.pb_poly.specs.declared.entry.Entry.{Entry}
+use Rattle.pb_poly.specs.Found.{Found}
+use Rattle.pb_export.specs.Packed.{IsPacked, rank_numbers, state_text}
+use Rattle.pb_export.specs.Setups.{IsListedAs, ListsSetups, SameSetup, all_setups, moves_of, setups_before}
+use Rattle.pb_export.specs.declared.packed.PackedSetup.{PackedSetup}
+use Rattle.pb_export.specs.declared.setups.ListedSetup.{ListedSetup}
+use Rattle.pb_export.proofs.PackedOrder.{same_text}
 use Rattle.pb_accepted.specs.Holding.{IsLedger}
 use Rattle.pb_accepted.specs.Ledger.{LedgerState}
 use Rattle.pb_accepted.proofs.Gifts.{length-plies_from}
@@ -39,37 +44,112 @@ bare_text p t rules h = subst (EpdText (bare p)) (append-nil (setup_text p) ∙ 
 pub setup_of_text : (p q : Position) (t : List ℕ) → IsSetup p → IsSetup q → t ≡ setup_text p → t ≡ setup_text q → p ≡ q
 setup_of_text p q t hp hq ht hu = ap (λ (e : EpdRecord). e.setup) (record_is_one (bare p) (bare q) t (is_epd p hp) (is_epd q hq) (bare_text p t hp ht) (bare_text q t hq hu))
 
--- ---- one setup more
+-- packed alike, they are one
+pub one_setup : (s t : Position) → IsSetup s → IsSetup t → rank_numbers s.board ≡ rank_numbers t.board → state_text s ≡ state_text t → s ≡ t
+one_setup s t hs ht ranks state = setup_of_text s t (setup_text s) hs ht refl (same_text s t (hs.places ∙ sym ht.places) ranks state)
 
-pub HoldsTexts-none : HoldsTexts [] []
-HoldsTexts-none = record {
-  setups = All-nil IsSetup;
-  members = λ t. ((λ h. absurd (contains_none t h)), (λ h. absurd (contains_none h.0 h.1)));
-  few = omega arith;
-}
+-- ---- ranges of moves
 
-module _ (known : List Position) (texts : List (List ℕ)) (h : HoldsTexts known texts) where
-  pub HoldsTexts-more : (s : Position) (t : List ℕ) → IsSetup s → t ≡ setup_text s → HoldsTexts (known ++ s ∷ []) (texts ++ t ∷ [])
-  HoldsTexts-more s t rules spells = record {
-    setups = All-push IsSetup known s h.setups rules;
-    members = λ u. (
-      λ c. elim (Contains-push_cases texts t u c) [
-        | inl old ↦ let m = (h.members u).0 old in (m.0, Contains-append_left known (s ∷ []) m.0 m.1, m.2)
-        | inr e ↦ (s, Contains-push known s, sym e ∙ spells)
-      ],
-      λ k. elim (Contains-push_cases known s k.0 k.1) [
-        | inl old ↦ Contains-append_left texts (t ∷ []) u ((h.members u).1 (k.0, old, k.2))
-        | inr e ↦ subst (Contains (texts ++ t ∷ [])) (spells ∙ ap setup_text e ∙ sym k.2) (Contains-push texts t)
-      ],
-    );
-    few = omega (arith, h.few, length_push known s, length_push texts t);
+same_range : (moves more : List (Moved × ℕ)) (x : ListedSetup) → x.first < x.end → x.end ≤ length moves → moves_of (moves ++ more) x ≡ moves_of moves x
+same_range moves more x some within =
+    ap (take (x.end - x.first)) (drop-append-le x.first moves more (omega (arith, some, within)))
+    ∙ take-append-le (x.end - x.first) (drop x.first moves) more (omega (arith, length-drop x.first moves, some, within))
+
+last_range : (moves found : List (Moved × ℕ)) (x : ListedSetup) → x.first ≡ length moves → x.end ≡ length (moves ++ found) → moves_of (moves ++ found) x ≡ found
+last_range moves found x first end =
+    let rest : drop x.first (moves ++ found) ≡ found = ap (λ n. drop n (moves ++ found)) first ∙ drop-append_seam moves found in
+    let all : length found ≤ x.end - x.first = omega (arith, end, first, length-append moves found) in
+    ap (take (x.end - x.first)) rest ∙ take_all (x.end - x.first) found all
+
+-- ---- listed setups
+
+module _ (words : List ℕ) (book : List Entry) where
+  pub none_listed : ListsSetups words book [] [] []
+  none_listed = record {
+    setups = All-nil IsSetup;
+    sound = λ x h. absurd (contains_none x h);
+    whole = λ s h. absurd (contains_none s h);
+    few = omega arith;
   }
 
-  -- where the texts are the same, in another order or without repeats
-  pub HoldsTexts-kept : (new : List (List ℕ)) → ((t : List ℕ) → Contains new t ↔ Contains texts t) → length new ≤ length texts → HoldsTexts known new
-  HoldsTexts-kept new same few = record {
+  grown : (moves more : List (Moved × ℕ)) (s : Position) (x : ListedSetup) → IsListedAs words book moves s x → IsListedAs words book (moves ++ more) s x
+  grown moves more s x h = record {
+    packed = h.packed;
+    some = h.some;
+    within = omega (arith, h.within, length-append moves more);
+    found = subst (Found book words s) (sym (same_range moves more x h.some h.within)) h.found;
+  }
+
+  module _ (known : List Position) (moves : List (Moved × ℕ)) (listed : List ListedSetup) (h : ListsSetups words book known moves listed) (s : Position) (rules : IsSetup s) where
+    -- a setup for which the book has no move
+    pub no_move : (new : List (Moved × ℕ)) → new ≡ moves ++ [] → Found book words s [] → ListsSetups words book (known ++ s ∷ []) new listed
+    no_move new is none = subst (λ (ms : List (Moved × ℕ)). ListsSetups words book (known ++ s ∷ []) ms listed) (sym (is ∙ append-nil moves)) (record {
+      setups = All-push IsSetup known s h.setups rules;
+      sound = λ x c. let w = h.sound x c in (w.0, Contains-append_left known (s ∷ []) w.0 w.1, w.2);
+      whole = λ t c. elim (Contains-push_cases known s t c) [
+        | inl old ↦ h.whole t old
+        | inr e ↦ inl (subst (λ (p : Position). Found book words p []) e none)
+      ];
+      few = omega (arith, h.few, length_push known s);
+    })
+
+    -- one that is listed
+    pub listed_before : (x : ListedSetup) (packed : PackedSetup) → Contains listed x → x.setup.ranks ≡ packed.ranks → x.setup.state.bytes ≡ packed.state.bytes → IsPacked packed s → ListsSetups words book (known ++ s ∷ []) moves listed
+    listed_before x packed c ranks state is =
+        let w = h.sound x c in
+        let same : w.0 ≡ s = one_setup w.0 s (All-contains IsSetup known w.0 h.setups w.1) rules (sym w.2.packed.ranks ∙ ranks ∙ is.ranks) (sym w.2.packed.state ∙ state ∙ is.state) in
+        record {
+          setups = All-push IsSetup known s h.setups rules;
+          sound = λ y k. let v = h.sound y k in (v.0, Contains-append_left known (s ∷ []) v.0 v.1, v.2);
+          whole = λ t k. elim (Contains-push_cases known s t k) [
+            | inl old ↦ h.whole t old
+            | inr e ↦ inr (x, c, subst (λ (p : Position). IsListedAs words book moves p x) (same ∙ e) w.2)
+          ];
+          few = omega (arith, h.few, length_push known s);
+        }
+
+    -- one for which it has moves
+    pub one_listed : (found new : List (Moved × ℕ)) (x : ListedSetup) → new ≡ moves ++ found → Found book words s found → IsPacked x.setup s → x.first ≡ length moves → x.end ≡ length new → x.first < x.end
+        → ListsSetups words book (known ++ s ∷ []) new (listed ++ x ∷ [])
+    one_listed found new x is has packed first end some =
+        let within : x.end ≡ length (moves ++ found) = end ∙ ap length is in
+        let here : IsListedAs words book (moves ++ found) s x = record {
+          packed = packed;
+          some = some;
+          within = omega (arith, within);
+          found = subst (Found book words s) (sym (last_range moves found x first within)) has;
+        } in
+        subst (λ (ms : List (Moved × ℕ)). ListsSetups words book (known ++ s ∷ []) ms (listed ++ x ∷ [])) (sym is) (record {
+          setups = All-push IsSetup known s h.setups rules;
+          sound = λ y c. elim (Contains-push_cases listed x y c) [
+            | inl old ↦ let w = h.sound y old in (w.0, Contains-append_left known (s ∷ []) w.0 w.1, grown moves found w.0 y w.2)
+            | inr e ↦ (s, Contains-push known s, subst (IsListedAs words book (moves ++ found) s) e here)
+          ];
+          whole = λ t c. elim (Contains-push_cases known s t c) [
+            | inl old ↦ elim (h.whole t old) [
+              | inl none ↦ inl none
+              | inr w ↦ inr (w.0, Contains-append_left listed (x ∷ []) w.0 w.1, grown moves found t w.0 w.2)
+            ]
+            | inr e ↦ inr (x, Contains-push listed x, subst (λ (p : Position). IsListedAs words book (moves ++ found) p x) e here)
+          ];
+          few = omega (arith, h.few, length_push known s, length_push listed x);
+        })
+
+  -- in another order and without repeats
+  pub each_once : (known : List Position) (moves : List (Moved × ℕ)) (old new : List ListedSetup) → ListsSetups words book known moves old → ((x : ListedSetup) → Contains new x → Contains old x)
+      → ((x : ListedSetup) → Contains old x → (y : ListedSetup) × Contains new y × SameSetup y x) → length new ≤ length old → ListsSetups words book known moves new
+  each_once known moves old new h sound whole few = record {
     setups = h.setups;
-    members = λ t. ((λ c. (h.members t).0 ((same t).0 c)), (λ k. (same t).1 ((h.members t).1 k)));
+    sound = λ x c. h.sound x (sound x c);
+    whole = λ s c. elim (h.whole s c) [
+      | inl none ↦ inl none
+      | inr w ↦
+          let y = whole w.0 w.1 in
+          let v = h.sound y.0 (sound y.0 y.1) in
+          let is : v.0 ≡ s = one_setup v.0 s (All-contains IsSetup known v.0 h.setups v.1) (All-contains IsSetup known s h.setups c)
+          (sym v.2.packed.ranks ∙ y.2.ranks ∙ w.2.packed.ranks) (sym v.2.packed.state ∙ y.2.state ∙ w.2.packed.state) in
+          inr (y.0, y.1, subst (λ (p : Position). IsListedAs words book moves p y.0) is v.2)
+    ];
     few = omega (arith, h.few, few);
   }
 
@@ -79,18 +159,15 @@ module _ (known : List Position) (texts : List (List ℕ)) (h : HoldsTexts known
 abbrev pub setups_from : Position → List Moved → List Position
 setups_from s ms = map (λ p. p.0) (plies_from s ms)
 
--- the setups of the game are in the map but for those before these moves, which are left from this setup
-pub record Adding (g : Game) (old new : List (List ℕ)) (s : Position) (ms : List Moved) : Type 0 where
+-- the setups of the game were added but for those before these moves, which are left from this setup
+pub record Adding (g : Game) (Old New : List Position → Type 0) (s : Position) (ms : List Moved) : Type 0 where
   pub legal : AreLegal s ms
   pub done : List Position
   pub all : done ++ setups_from s ms ≡ setups_before g
-  pub holds : (known : List Position) → HoldsTexts known old → HoldsTexts (known ++ done) new
+  pub holds : (known : List Position) → Old known → New (known ++ done)
 
-pub Adding-none : (g : Game) (old : List (List ℕ)) → AreLegal g.start.setup g.moves → Adding g old old g.start.setup g.moves
-Adding-none g old legal = record { legal = legal; done = []; all = refl; holds = λ known h. subst (λ xs. HoldsTexts xs old) (sym (append-nil known)) h }
-
-module _ (g : Game) (old mid new : List (List ℕ)) (s : Position) (ms : List Moved) (i : ℕ) where
-  pub Adding-more : (d : Moved) → i < length ms → Adding g old mid s (drop i ms) → ((known : List Position) → HoldsTexts known mid → HoldsTexts (known ++ s ∷ []) new) → Adding g old new (after s (get_or ms i d)) (drop (i + 1) ms)
+module _ (g : Game) (Old Mid New : List Position → Type 0) (s : Position) (ms : List Moved) (i : ℕ) where
+  pub Adding-more : (d : Moved) → i < length ms → Adding g Old Mid s (drop i ms) → ((known : List Position) → Mid known → New (known ++ s ∷ [])) → Adding g Old New (after s (get_or ms i d)) (drop (i + 1) ms)
   Adding-more d lt h adds =
       let m = get_or ms i d in
       let cut : drop i ms ≡ m ∷ drop (i + 1) ms = drop_more ms i d lt in
@@ -100,17 +177,14 @@ module _ (g : Game) (old mid new : List (List ℕ)) (s : Position) (ms : List Mo
         legal = legal.1;
         done = h.done ++ s ∷ [];
         all = append_assoc h.done (s ∷ []) (setups_from (after s m) (drop (i + 1) ms)) ∙ all;
-        holds = λ known k. subst (λ xs. HoldsTexts xs new) (append_assoc known h.done (s ∷ [])) (adds (known ++ h.done) (h.holds known k));
+        holds = λ known k. subst New (append_assoc known h.done (s ∷ [])) (adds (known ++ h.done) (h.holds known k));
       }
 
-  pub Adding-legal : (d : Moved) → i < length ms → Adding g old mid s (drop i ms) → Legal s (get_or ms i d)
-  Adding-legal d lt h = (subst (AreLegal s) (drop_more ms i d lt) h.legal).0
-
-  pub Adding-all : length ms ≤ i → Adding g old mid s (drop i ms) → (known : List Position) → HoldsTexts known old → HoldsTexts (known ++ setups_before g) mid
+  pub Adding-all : length ms ≤ i → Adding g Old Mid s (drop i ms) → (known : List Position) → Old known → Mid (known ++ setups_before g)
   Adding-all past h known k =
       let none : setups_from s (drop i ms) ≡ [] = ap (setups_from s) (drop_of_length-le ms past) in
       let is : h.done ≡ setups_before g = sym (append-nil h.done) ∙ ap (λ xs. h.done ++ xs) (sym none) ∙ h.all in
-      subst (λ xs. HoldsTexts (known ++ xs) mid) is (h.holds known k)
+      subst (λ xs. Mid (known ++ xs)) is (h.holds known k)
 
 -- ---- the setups of all games
 
@@ -134,8 +208,5 @@ setups_few (x ∷ S) games =
     omega (arith, length-append (setups_before x.1) (all_setups S), first, own, setups_few S (λ k d lt. games (suc k) d (omega (arith, lt))))
 
 -- so a ledger's setups can be counted in 32 bits
-pub setups_fit : (l : LedgerState) (texts : List (List ℕ)) → IsLedger l → HoldsTexts (all_setups l.accepted) texts → length texts < 2 ^ 32
-setups_fit l texts rules h = omega (arith, h.few, setups_few l.accepted rules.games, rules.room, rules.few)
-
-pub texts_few : (old new : List ArrayString) → length new ≤ length old → length (texts_of new) ≤ length (texts_of old)
-texts_few old new h = omega (arith, h, length-map old (λ (t : ArrayString). t.bytes), length-map new (λ (t : ArrayString). t.bytes))
+pub setups_fit : (l : LedgerState) (book : List Entry) (moves : List (Moved × ℕ)) (listed : List ListedSetup) → IsLedger l → ListsSetups l.basis.words book (all_setups l.accepted) moves listed → length listed < 2 ^ 32
+setups_fit l book moves listed rules h = omega (arith, h.few, setups_few l.accepted rules.games, rules.room, rules.few)

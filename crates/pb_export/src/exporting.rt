@@ -1,17 +1,18 @@
 //! The book of a ledger as EPD lines.
 
-ghost use Rattle.std.specs.Prelude.{◌≡◌, ◌<◌, ◌^◌, All, IfErr, IfOk, List, length};
+ghost use Rattle.std.specs.Prelude.{◌≡◌, ◌<◌, ◌^◌, ℕ, IfErr, IfOk, List, length};
+ghost use Rattle.pb_poly.specs.declared.entry.Entry.{Entry};
 ghost use Rattle.pb_export.specs.Exporting.{Exports, ExportsUntil, fault_of_export};
 ghost use Rattle.pb_export.specs.Listing.{PutsFront, PutsListing};
-ghost use Rattle.pb_export.specs.Setups.{AreNamed, IsSetupText, Named, texts_of};
+ghost use Rattle.pb_export.specs.Setups.{AreListed, CanBeNamed, IsListingOfLedger, Named};
 ghost use Rattle.pb_export.specs.declared.exporting.ExportFault.TheVariants as fault;
 
-use crate::book_moves::line_of;
-use crate::setups::{SetupText, setup_of, setups_of};
+use crate::book_moves::put_line;
+use crate::indexed_book::IndexedBook;
+use crate::setups::Listing;
 use pb_accepted::Ledger;
 use pb_io::{Failed, Fault, Sink};
 use pb_points::Tally;
-use pb_poly::{Book, Table};
 use std::alloc::{AllocError, Global};
 use thiserror::Error;
 
@@ -73,35 +74,33 @@ pub fn export<T: Tally, K: Sink>(
     // A front of it was put and nothing was handed on, and where the fault lies.
     ensures fault { IfErr result (ExportsUntil ledger.now (K.state sink.old) (K.state sink.new)) }
 {
-    let book = ledger.make_book(alloc)?;
-    let texts = setups_of(alloc, ledger)?;
-    let count = put_lines(alloc, &book, ledger.table(), &texts, sink)?;
+    let listing = list_setups(alloc, ledger)?;
+    let count = put_lines(alloc, &listing, sink)?;
     sink.flush()?;
     Ok(count)
 }
 
-/// Puts the line of each setup for which the book has moves.
-fn put_lines<K: Sink>(
-    alloc: Global,
-    book: &Book,
-    table: &Table,
-    texts: &[SetupText],
-    sink: &mut K,
-) -> Result<u32, ExportFault>
-    requires texts { All (λ t. IsSetupText t.bytes) texts.now }
-    requires few { length texts.now < 2 ^ 32 }
-    ensures ok { IfOk result (λ count. (named : List Named) → AreNamed named (texts_of texts.now)
-        → PutsListing table.now book.now named (K.state sink.old) (K.state sink.new) count) }
-    ensures fault { IfErr result (λ e. (named : List Named) → AreNamed named (texts_of texts.now)
-        → PutsFront table.now book.now named (K.state sink.old) (K.state sink.new) e) }
+/// The setups for which the book of the ledger has moves.
+fn list_setups<T: Tally>(alloc: Global, ledger: &Ledger<T>) -> Result<Listing, AllocError>
+    ensures { IfOk result (IsListingOfLedger ledger.now) }
 {
-    let mut count = 0;
-    for text in texts {
-        let setup = setup_of(text);
-        if let Some(line) = line_of(alloc, book, table, &setup, text.as_str().as_bytes())? {
-            sink.put(line.as_slice())?;
-            count += 1;
-        }
+    let book = IndexedBook::of(alloc, ledger.make_book(alloc)?)?;
+    Listing::of(alloc, ledger, &book)
+}
+
+/// Puts the line of each setup.
+fn put_lines<K: Sink>(alloc: Global, listing: &Listing, sink: &mut K) -> Result<u32, ExportFault>
+    requires listed { CanBeNamed listing.now }
+    requires few { length listing.now.setups.items < 2 ^ 32 }
+    ensures ok { IfOk result (λ count. (words : List ℕ) (book : List Entry) (named : List Named) → AreListed words book named listing.now
+        → PutsListing words book named (K.state sink.old) (K.state sink.new) count) }
+    ensures fault { IfErr result (λ e. (words : List ℕ) (book : List Entry) (named : List Named) → AreListed words book named listing.now
+        → PutsFront words book named (K.state sink.old) (K.state sink.new) e) }
+{
+    let mut line = Vec::new(alloc);
+    for listed in listing.setups.as_slice() {
+        put_line(&mut line, &listed.setup, listing.moves_of(listed))?;
+        sink.put(line.as_slice())?;
     }
-    Ok(count)
+    Ok(listing.setups.len() as u32)
 }

@@ -4,7 +4,9 @@
 
 mod book_moves;
 mod exporting;
+mod indexed_book;
 pub mod laws;
+mod packed;
 mod setups;
 
 pub use exporting::{ExportFault, export};

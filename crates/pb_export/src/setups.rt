@@ -1,117 +1,203 @@
-//! The setups that stand before the moves of games, as the texts of their four fields.
+//! The setups that stand before the moves of games and for which a book has moves.
 
-ghost use Rattle.std.specs.Prelude.{◌≡◌, ◌↔◌, ◌≤◌, ◌<◌, ◌^◌, ◌∷◌, ◌++◌, [], ℕ, List, AllPairs, Contains, IfOk, OnOk, length};
-ghost use Rattle.pb_board.specs.Position.{IsSetup, Position};
-ghost use Rattle.pb_board.specs.Text.{setup_text};
-ghost use Rattle.pb_epd.specs.ByteOrder.{IsBytesBelow};
+ghost use Rattle.std.specs.Prelude.{◌≡◌, ◌≤◌, ◌<◌, ◌^◌, ◌==◌, ◌++◌, ◌∷◌, [], ℕ, All, AllPairs, Contains, IfOk, IsTrue, filter, List, OnOk, length};
+ghost use Rattle.pb_board.specs.Position.{Position};
 ghost use Rattle.pb_games.specs.Submissions.{IsLegalGame};
-ghost use Rattle.pb_export.specs.Setups.{HoldsTexts, IsSetupText, all_setups, setups_before, texts_of};
+ghost use Rattle.pb_moves.specs.Moved.{Moved};
+ghost use Rattle.pb_poly.specs.Found.{Found};
+ghost use Rattle.pb_poly.specs.declared.entry.Entry.{Entry as BookEntry};
+ghost use Rattle.pb_export.specs.Packed.{IsPacked};
+ghost use Rattle.pb_poly.specs.Key.{key as key_by};
+ghost use Rattle.pb_export.specs.Setups.{ListsSetups, SameSetup, TextBelow, all_setups, moves_of, setups_before};
+ghost use Rattle.pb_export.specs.declared.setups.ListedSetup.{ListedSetup};
 
-use arrayvec::ArrayString;
+use crate::indexed_book::IndexedBook;
+use crate::packed::PackedSetup;
 use pb_accepted::Ledger;
-use pb_board::{Fen, Setup, cut_once, read_setup};
+use pb_board::Setup;
 use pb_games::Game;
-use pb_moves::play_on;
+use pb_moves::{Move, play_on};
 use pb_points::Tally;
+use pb_poly::{Entry, Table, key_next, key_of, move_of};
 use std::alloc::{AllocError, Global};
-use std::str;
 
-/// The texts from which on a full list is gone through before it grows.
-const MANY: usize = 1_048_576;
+/// How many keys of recent setups are kept.
+const RECENT: usize = 16_384;
 
-/// The text of a setup's four fields, which takes no memory of its own.
-pub(crate) type SetupText = ArrayString<93>;
-
-/// The texts of the setups that stand before a move of a game that is held, each once, in byte
-/// order.
-pub(crate) fn setups_of<T: Tally>(
-    alloc: Global,
-    ledger: &Ledger<T>,
-) -> Result<Vec<SetupText>, AllocError>
-    ensures setups { IfOk result (λ texts. HoldsTexts (all_setups ledger.now.accepted) (texts_of texts.items)) }
-    ensures ordered { IfOk result (λ texts. AllPairs IsBytesBelow (texts_of texts.items)) }
-    ensures few { IfOk result (λ texts. length texts.items < 2 ^ 32) }
-{
-    let mut texts = Vec::new(alloc);
-    for index in 0..ledger.len() {
-        let (_, game) = ledger.get(index + 1).unwrap();
-        add_game(&mut texts, game)?;
-    }
-    put_in_order(&mut texts);
-    Ok(texts)
+/// A setup, and where its moves stand among those of all.
+#[derive(Clone, Copy)]
+#[derive_where(PartialEq, Eq, PartialOrd, Ord)]
+pub(crate) struct ListedSetup {
+    pub(crate) setup: PackedSetup,
+    // The moves follow from the setup.
+    #[derive_where(skip)]
+    first: usize,
+    #[derive_where(skip)]
+    end: usize,
 }
 
-/// Adds the texts of the setups that stand before the moves of a game.
-fn add_game(texts: &mut Vec<SetupText>, game: &Game) -> Result<(), AllocError>
-    requires { IsLegalGame game.now }
-    ensures { OnOk result ((known : List Position) → HoldsTexts known (texts_of texts.old.items) → HoldsTexts (known ++ setups_before game.now) (texts_of texts.new.items)) }
+/// The setups for which a book has moves, and these moves with their weights.
+#[derive(Drop)]
+pub(crate) struct Listing {
+    pub(crate) setups: Vec<ListedSetup>,
+    moves: Vec<(Move, u16)>,
+    // The last key of each remainder, and the place of its setup. Any others would do no harm.
+    recent: Vec<(u64, usize)>,
+}
+
+impl Listing {
+    /// The setups that stand before a move of a game that is held, each once, in the byte order of
+    /// their texts.
+    ///
+    /// # Errors
+    ///
+    /// There was no memory for them.
+    pub(crate) fn of<T: Tally>(
+        alloc: Global,
+        ledger: &Ledger<T>,
+        book: &IndexedBook,
+    ) -> Result<Listing, AllocError>
+        ensures setups { IfOk result (λ l. ListsSetups ledger.now.basis.words book.now (all_setups ledger.now.accepted) l.moves.items l.setups.items) }
+        ensures ordered { IfOk result (λ l. AllPairs TextBelow l.setups.items) }
+        ensures few { IfOk result (λ l. length l.setups.items < 2 ^ 32) }
+    {
+        let mut listing = Listing {
+            setups: Vec::new(alloc),
+            moves: Vec::new(alloc),
+            recent: vec![in alloc; (0, 0); RECENT]?,
+        };
+        for index in 0..ledger.len() {
+            let (_, game) = ledger.get(index + 1).unwrap();
+            listing.add_game(book, ledger.table(), game)?;
+        }
+        put_in_order(&mut listing.setups);
+        Ok(listing)
+    }
+
+    /// The moves of a listed setup.
+    pub(crate) fn moves_of(&self, listed: &ListedSetup) -> &[(Move, u16)]
+        requires some { listed.now.first < listed.now.end }
+        requires within { listed.now.end ≤ length self.now.moves.items }
+        ensures { result.now ≡ moves_of self.now.moves.items listed.now }
+    {
+        &self.moves[listed.first..listed.end]
+    }
+
+    /// Adds the setups that stand before the moves of a game.
+    fn add_game(&mut self, book: &IndexedBook, table: &Table, game: &Game) -> Result<(), AllocError>
+        requires { IsLegalGame game.now }
+        ensures { OnOk result ((known : List Position) → ListsSetups table.now book.now known self.old.moves.items self.old.setups.items
+            → ListsSetups table.now book.now (known ++ setups_before game.now) self.new.moves.items self.new.setups.items) }
+    {
+        let mut setup = game.start.setup();
+        let mut key = key_of(table, &setup);
+        for m in game.moves.as_slice() {
+            self.add_setup(book, &setup, key)?;
+            key = key_next(table, key, &setup, *m);
+            let played = play_on(&mut setup, *m);
+            prove!(played);
+        }
+        Ok(())
+    }
+
+    /// Adds a setup that has this key, where the book has a move for it.
+    fn add_setup(&mut self, book: &IndexedBook, setup: &Setup, key: u64) -> Result<(), AllocError>
+        ensures { OnOk result ((words : List ℕ) (known : List Position) → key ≡ key_by words setup.now → ListsSetups words book.now known self.old.moves.items self.old.setups.items
+            → ListsSetups words book.now (known ++ setup.now ∷ []) self.new.moves.items self.new.setups.items) }
+    {
+        // The reader tells that the setup meets its rules.
+        let _turn = setup.turn();
+        let entries = book.under(key);
+        if entries.is_empty() {
+            return Ok(());
+        }
+        let packed = PackedSetup::of(setup);
+        if self.is_recent(key, &packed) {
+            return Ok(());
+        }
+        self.note_recent(key);
+        self.add_new(packed, entries, setup)
+    }
+
+    /// Adds a setup that isn't known to be listed, where an entry is for it.
+    fn add_new(
+        &mut self,
+        packed: PackedSetup,
+        entries: &[Entry],
+        setup: &Setup,
+    ) -> Result<(), AllocError>
+        requires { IsPacked packed setup.now }
+        ensures { OnOk result ((words : List ℕ) (book : List BookEntry) (known : List Position) (key : ℕ) → key ≡ key_by words setup.now → entries.now ≡ filter (λ e. e.key == key) book
+            → ListsSetups words book known self.old.moves.items self.old.setups.items
+            → ListsSetups words book (known ++ setup.now ∷ []) self.new.moves.items self.new.setups.items) }
+    {
+        // The reader tells that the setup meets its rules.
+        let _turn = setup.turn();
+        let first = self.moves.len();
+        add_moves(&mut self.moves, entries, setup)?;
+        let end = self.moves.len();
+        if first < end {
+            self.setups.push(ListedSetup {
+                setup: packed,
+                first,
+                end,
+            })?;
+        }
+        Ok(())
+    }
+
+    /// Keeps the place of the setup that is listed next as that of this key.
+    fn note_recent(&mut self, key: u64)
+        ensures setups { self.new.setups.items ≡ self.old.setups.items }
+        ensures moves { self.new.moves.items ≡ self.old.moves.items }
+    {
+        if let Some(recent) = self.recent.get_mut((key % RECENT as u64) as usize) {
+            *recent = (key, self.setups.len());
+        }
+    }
+
+    /// Whether this setup is the last that was listed for the key, where that is still kept. So a
+    /// setup that many games meet is mostly listed once.
+    fn is_recent(&self, key: u64, packed: &PackedSetup) -> bool
+        ensures { IsTrue result → (x : ListedSetup) × Contains self.now.setups.items x × (x.setup.ranks ≡ packed.now.ranks) × (x.setup.state.bytes ≡ packed.now.state.bytes) }
+    {
+        let Some((noted, place)) = self.recent.get((key % RECENT as u64) as usize) else {
+            return false;
+        };
+        if *noted != key {
+            return false;
+        }
+        match self.setups.get(*place) {
+            Some(listed) => listed.setup == *packed,
+            None => false,
+        }
+    }
+}
+
+/// Adds the moves of entries under the key of a setup.
+fn add_moves(
+    moves: &mut Vec<(Move, u16)>,
+    entries: &[Entry],
+    setup: &Setup,
+) -> Result<(), AllocError>
+    ensures { OnOk result ((words : List ℕ) → All (λ e. e.key ≡ key_by words setup.now) entries.now
+        → (found : List (Moved × ℕ)) × Found entries.now words setup.now found × (moves.new.items ≡ moves.old.items ++ found)) }
 {
-    let mut setup = game.start.setup();
-    for m in game.moves.as_slice() {
-        make_room(texts)?;
-        add_setup(texts, &setup)?;
-        let played = play_on(&mut setup, *m);
-        prove!(played);
+    for entry in entries {
+        if let Some(m) = move_of(setup, entry.code) {
+            moves.push((m, entry.weight))?;
+        }
     }
     Ok(())
 }
 
-/// Adds the text of a setup.
-fn add_setup(texts: &mut Vec<SetupText>, setup: &Setup) -> Result<(), AllocError>
-    ensures { OnOk result ((known : List Position) → HoldsTexts known (texts_of texts.old.items) → HoldsTexts (known ++ setup.now ∷ []) (texts_of texts.new.items)) }
+/// Puts the setups in the byte order of their texts, each once.
+fn put_in_order(setups: &mut Vec<ListedSetup>)
+    ensures ordered { AllPairs TextBelow setups.new.items }
+    ensures sound { (x : ListedSetup) → Contains setups.new.items x → Contains setups.old.items x }
+    ensures whole { (x : ListedSetup) → Contains setups.old.items x → (y : ListedSetup) × Contains setups.new.items y × SameSetup y x }
+    ensures few { length setups.new.items ≤ length setups.old.items }
 {
-    // The reader tells that the setup meets its rules.
-    let _turn = setup.turn();
-    texts.push(text_of(setup))?;
-    Ok(())
-}
-
-/// Leaves each text once where there are many and no room for one more, and then room for twice
-/// what is left.
-fn make_room(texts: &mut Vec<SetupText>) -> Result<(), AllocError>
-    ensures same { (t : List ℕ) → Contains (texts_of texts.new.items) t ↔ Contains (texts_of texts.old.items) t }
-    ensures few { length texts.new.items ≤ length texts.old.items }
-{
-    if texts.len() < MANY || texts.len() < texts.capacity() {
-        return Ok(());
-    }
-    put_in_order(texts);
-    texts.reserve(texts.len())
-}
-
-/// Puts the texts in byte order, each once.
-fn put_in_order(texts: &mut Vec<SetupText>)
-    ensures ordered { AllPairs IsBytesBelow (texts_of texts.new.items) }
-    ensures same { (t : List ℕ) → Contains (texts_of texts.new.items) t ↔ Contains (texts_of texts.old.items) t }
-    ensures few { length texts.new.items ≤ length texts.old.items }
-{
-    texts.sort_unstable();
-    texts.dedup();
-}
-
-/// The text of a setup: the first four fields of any record of it.
-fn text_of(setup: &Setup) -> SetupText
-    ensures { result.bytes ≡ setup_text setup.now }
-{
-    // The reader tells that the setup meets its rules.
-    let _turn = setup.turn();
-    let record = Fen::with_clocks(*setup, 0, 1).text();
-    let bytes = record.as_bytes();
-    let fields = str::from_utf8(&bytes[..bytes.len() - 4]).unwrap();
-    let mut text = SetupText::new();
-    text.push_str(fields);
-    text
-}
-
-/// The setup that has this text.
-pub(crate) fn setup_of(text: &SetupText) -> Setup
-    requires { IsSetupText text.now.bytes }
-    ensures rules { IsSetup result }
-    ensures text { text.now.bytes ≡ setup_text result }
-{
-    let text = text.as_str().as_bytes();
-    let (placement, rest) = cut_once(text, b' ').unwrap();
-    let (turn, rest) = cut_once(rest, b' ').unwrap();
-    let (castling, en_passant) = cut_once(rest, b' ').unwrap();
-    read_setup([placement, turn, castling, en_passant]).unwrap()
+    setups.sort_unstable();
+    setups.dedup();
 }

@@ -1,0 +1,6 @@
+use Rattle.std.proofs.Common.{take}
+use Rattle.pb_export.specs.Setups.{ListsSetups, all_setups}
+use Rattle.pb_export.proofs.setups.Listing.of.Given as goal
+
+abbrev pub invariant-loop-index : goal.invariant-loop-index
+invariant-loop-index g l = ListsSetups l.ledger.basis.words l.book (all_setups (take l.index l.ledger.accepted)) l.listing.moves.items l.listing.setups.items
