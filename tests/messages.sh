@@ -328,10 +328,10 @@ bad_journal_line() {
     { cat games && echo 'no game' && cat games; } > kept
     printf 'torn' >> kept
     cp kept before
-    holds tells_of 0 "kept: line 10 can't be taken; it is passed over" \
+    holds tells_of 0 "kept: line 10 can't be taken; it is skipped" \
         "$PROGRAM" collect --journal kept table.txt book.bin
     # The torn end is sealed by now, and isn't told.
-    holds tells_of 0 "kept: line 10 can't be taken; it is passed over" \
+    holds tells_of 0 "kept: line 10 can't be taken; it is skipped" \
         "$PROGRAM" collect --journal kept table.txt book.bin
     holds tells_of 0 '' "$PROGRAM" collect -q --journal kept table.txt book.bin
     { echo 'pbook-ledger 1' && cat games; } > kept

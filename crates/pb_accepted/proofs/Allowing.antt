@@ -1,4 +1,5 @@
--- A step by what may be answered and what the list then becomes, each by itself. Proofs go by these two.
+-- A step by what may be answered and what the list then becomes, each by itself. Proofs go by these
+-- two.
 use Rattle.std.specs.Prelude.{◌≡◌, ◌≢◌, ℕ, ◌+◌, ◌<◌, ◌≤◌, ◌⊎◌, List, [], ◌∷◌, length, Ok, Err}
 use Rattle.pb_games.specs.declared.game.Game.{Game}
 use Rattle.pb_games.specs.declared.refusal.Refusal.{Refusal}
@@ -14,7 +15,8 @@ Answers cap A s (Err (Conflict n)) = (g : Game) × IsNumber A n (s.0, g) × (g �
 Answers cap A s (Err Full) = IsNewId s.0 A × (cap ≤ length A)
 Answers cap A s (Err e) = ⊥
 
--- the answer to a line: what the list says of its submission, or else the refusal of the line by itself
+-- the answer to a line: what the list says of its submission, or else the refusal of the line by
+-- itself
 abbrev pub Reply : ℕ → List Submission → List ℕ → Answer → Type 0
 Reply cap A line r = ((s : Submission) × IsLawful line s × Answers cap A s r) ⊎ ((e : Refusal) × (r ≡ Err e) × Refuses line e)
 

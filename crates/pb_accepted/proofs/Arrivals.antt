@@ -1,4 +1,4 @@
--- What a line is to the games that are held.
+-- How a line relates to the games held.
 use Rattle.std.proofs.Common.{◌≡◌, ◌≢◌, ℕ, ◌+◌, List, [], Bool, false, Some, IsTrue, slice_get, slice_index_or, refl, sym, ap, subst, ◌∙◌, true≢false}
 use Rattle.std.specs.List.{All}
 use Rattle.std.proofs.lemmas.Option.{slice_get_within, get_or_from_slice_get}

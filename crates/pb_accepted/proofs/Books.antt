@@ -1,4 +1,5 @@
--- The book of the rows of a tally that occur often enough is the book of the games, also of some of the keys alone.
+-- The book of the rows of a tally that occur often enough is the book of the games, also of some of
+-- the keys alone.
 use Rattle.std.proofs.Common.{◌≡◌, ℕ, ◌≤◌, ◌↔◌, Option, Some, None, unwrap_or, List, AllPairs, Contains, refl, sym, ap, subst, ◌∙◌, arith}
 use Rattle.pb_poly.specs.declared.entry.Entry.{Entry}
 use Rattle.pb_games.specs.Submissions.{Submission}

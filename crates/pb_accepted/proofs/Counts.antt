@@ -10,13 +10,13 @@ use Rattle.pb_points.specs.Tally.{Content, Held, held}
 use Rattle.pb_accepted.specs.Accepting.{IsNewId}
 use Rattle.pb_accepted.specs.Basis.{Basis}
 use Rattle.pb_accepted.specs.Counting.{points, occurrences, count, times}
-use Rattle.pb_accepted.specs.Gift.{gifts_of, with_gifts}
+use Rattle.pb_accepted.specs.PlyPoints.{ply_points_of, with_ply_points}
 use Rattle.pb_accepted.specs.Holding.{HoldsCounts}
 use Rattle.pb_accepted.specs.Ledger.{LedgerState}
-use Rattle.pb_accepted.proofs.Gifts.{gained-le, gained_points, length-gifts_of, occurring-le, occurring_times, small_gifts}
+use Rattle.pb_accepted.proofs.GivenPoints.{gained-le, gained_points, length-ply_points_of, occurring-le, occurring_times, small_ply_points}
 
 points-le : (T : Basis) (g : Game) (k c : ℕ) → points T g k c ≤ length g.moves * 2
-points-le T g k c = omega (arith, gained_points T g k c, gained-le (gifts_of T g) k c (small_gifts T g), length-gifts_of T g)
+points-le T g k c = omega (arith, gained_points T g k c, gained-le (ply_points_of T g) k c (small_ply_points T g), length-ply_points_of T g)
 
 -- each game gives at most two points for each of its 1,024 moves
 count-le : (T : Basis) (A : List Submission) (k c : ℕ) → All IsSubmission A → count T A k c ≤ length A * 2048
@@ -30,7 +30,7 @@ points_fit f l s h legal k c =
     omega (arith, now, bound, count-le l.basis l.accepted k c h.rules.games, legal.game.few)
 
 occurrences-le : (T : Basis) (g : Game) (k c : ℕ) → occurrences T g k c ≤ length g.moves
-occurrences-le T g k c = omega (arith, occurring_times T g k c, occurring-le (gifts_of T g) k c, length-gifts_of T g)
+occurrences-le T g k c = omega (arith, occurring_times T g k c, occurring-le (ply_points_of T g) k c, length-ply_points_of T g)
 
 -- each game has at most 1,024 plies with a key and a code
 times-le : (T : Basis) (A : List Submission) (k c : ℕ) → All IsSubmission A → times T A k c ≤ length A * 1024
@@ -47,14 +47,14 @@ abbrev pub with_game : LedgerState → Submission → LedgerState
 with_game l s = record { basis = l.basis; cap = l.cap; accepted = l.accepted ++ s ∷ [] }
 
 more_counted : (T : Basis) (A : List Submission) (s : Submission) (k c : ℕ) (h : Held) → h ≡ record { points = count T A k c; times = times T A k c }
-    → with_gifts (gifts_of T s.1) k c h ≡ record { points = count T (A ++ s ∷ []) k c; times = times T (A ++ s ∷ []) k c }
+    → with_ply_points (ply_points_of T s.1) k c h ≡ record { points = count T (A ++ s ∷ []) k c; times = times T (A ++ s ∷ []) k c }
 more_counted T A s k c h e =
     let points_are = ap (λ n. count T A k c + n) (gained_points T s.1 k c) ∙ sym (sum_by_push (λ u. points T u.1 k c) A s) in
     let times_are = ap (λ n. times T A k c + n) (occurring_times T s.1 k c) ∙ sym (sum_by_push (λ u. occurrences T u.1 k c) A s) in
-    ap (with_gifts (gifts_of T s.1) k c) e ∙ (λ i. record { points = points_are i; times = times_are i })
+    ap (with_ply_points (ply_points_of T s.1) k c) e ∙ (λ i. record { points = points_are i; times = times_are i })
 
 pub Holds-push : (f g : Content) (l : LedgerState) (s : Submission) → HoldsCounts f l → IsSubmission s → IsNewId s.0 l.accepted → length l.accepted < l.cap
-    → ((k c : ℕ) → held g k c ≡ with_gifts (gifts_of l.basis s.1) k c (held f k c)) → HoldsCounts g (with_game l s)
+    → ((k c : ℕ) → held g k c ≡ with_ply_points (ply_points_of l.basis s.1) k c (held f k c)) → HoldsCounts g (with_game l s)
 Holds-push f g l s old legal fresh room added = record {
   rules = record {
     table = old.rules.table;

@@ -6,7 +6,7 @@ pub mod Books
 pub mod Counts
 pub mod Distinct
 pub mod Frequent
-pub mod Gifts
+pub mod GivenPoints
 pub mod Members
 pub mod Naming
 pub mod Numbers

@@ -54,7 +54,8 @@ module _ {X : Type 0} where
       | inr below ↦ absurd (asym x y (above x (contains_head x xs)) (pairs_head y ys x k below))
     ]
 
-    -- a list in a strict order begins with another, whose members it has, where its others are above them
+    -- a list in a strict order begins with another, whose members it has, where its others are
+    -- above them
     pub begins_in_order : ((x : X) → R x x → ⊥) → ((x y : X) → R x y → R y x → ⊥) → (xs ys : List X) → AllPairs R xs → AllPairs R ys → ((z : X) → Contains xs z → Contains ys z)
         → ((z : X) → Contains ys z → Contains xs z ⊎ ((w : X) → Contains xs w → R w z)) → (rest : List X) × (ys ≡ xs ++ rest)
     begins_in_order irr asym [] ys h k to from = (ys, refl)

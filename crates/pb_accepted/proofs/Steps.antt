@@ -1,4 +1,5 @@
--- A step of the table is an answer that is allowed and the list that it leaves; so are runs. The laws of steps follow.
+-- A step of the table is an answer that is allowed and the list that it leaves; so are runs. The
+-- laws of steps follow.
 use Rattle.std.proofs.Common.{◌≡◌, ◌≢◌, ℕ, ◌+◌, List, [], ◌∷◌, ◌++◌, length, take, Ok, Err, sym, subst, inl, inr, arith}
 use Rattle.std.proofs.lemmas.Option.{slice_get_within}
 use Rattle.pb_games.specs.declared.refusal.Refusal.TheVariants.{Conflict, Memory}

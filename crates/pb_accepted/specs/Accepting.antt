@@ -1,5 +1,6 @@
--- The ledger step by step: what a line is answered, and what becomes of the games that are held. These are a list of submissions,
--- pairs of an id and a game, in order of acceptance; a game's number counts from 1.
+-- The ledger step by step: what a line is answered, and what becomes of the games that are held.
+-- These are a list of submissions, pairs of an id and a game, in order of acceptance; a game's
+-- number counts from 1.
 --
 --   row         the line submits                    answered               the list
 --   new         a legal game, its id new, room      ok, the next number    gets it at its end
@@ -52,13 +53,15 @@ Run cap = Along (Step cap)
 abbrev pub HasRoom : Answer → Type 0
 HasRoom r = (r ≢ Err Full) × (r ≢ Err Memory)
 
--- what a line that was answered r makes of the list: a lawful submission that is new to it is added, and nothing else is
+-- what a line that was answered r makes of the list: a lawful submission that is new to it is
+-- added, and nothing else is
 abbrev pub Adds : (List Submission → Submission → Type 0) → List Submission → List ℕ → Answer → List Submission → Type 0
 Adds IsNew A line r B =
     ((s : Submission) × IsLawful line s × IsNew A s × HasRoom r × (B ≡ A ++ s ∷ []))
     ⊎ (((s : Submission) → IsLawful line s → IsNew A s → ¬ HasRoom r) × (B ≡ A))
 
--- B is A with the distinct submissions that these lines brought, in order of their first arrival with room and memory
+-- B is A with the distinct submissions that these lines brought, in order of their first arrival
+-- with room and memory
 abbrev pub Taken : List Submission → List (List ℕ) → List Answer → List Submission → Type 0
 Taken = Along (Adds (λ A s. ¬ Contains A s))
 

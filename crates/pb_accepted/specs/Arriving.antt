@@ -6,7 +6,8 @@ use Rattle.pb_accepted.specs.declared.arrival.Arrival.{Arrival}
 use Rattle.pb_accepted.specs.declared.arrival.Arrival.TheVariants.{New, Repeat, Other}
 use Rattle.pb_accepted.specs.Accepting.{IsNewId, IsNumber}
 
--- a lawful submission of the line is new, is held under this number, or has another game held under its id
+-- a lawful submission of the line is new, is held under this number, or has another game held under
+-- its id
 abbrev pub IsArrival : List Submission → List ℕ → Arrival → Type 0
 IsArrival A line New = (s : Submission) → IsLawful line s → IsNewId s.0 A
 IsArrival A line (Repeat n) = (s : Submission) × IsLawful line s × IsNumber A n s

@@ -25,7 +25,8 @@ pub record IsLedger (l : LedgerState) : Type 0 where
   pub games : All IsSubmission l.accepted
   pub ids : HaveOwnIds l.accepted
 
--- the tally holds the counts of the games and how often each move occurs, and a row that isn't there counts 0
+-- the tally holds the counts of the games and how often each move occurs, and a row that isn't
+-- there counts 0
 abbrev pub Tallies : Content → Basis → List Submission → Type 0
 Tallies content T A = (k c : ℕ) → held content k c ≡ record { points = count T A k c; times = times T A k c }
 

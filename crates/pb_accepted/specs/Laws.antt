@@ -61,7 +61,8 @@ abbrev pub NumbersAreGiven : Type 0
 NumbersAreGiven = (cap : ℕ) (L : List (List ℕ)) (R : List Answer) (A : List Submission) → Run cap [] L R A → (n : ℕ) (s : Submission)
     → IsNumber A n s ↔ ((j : ℕ) × (line : List ℕ) × (slice_get L j ≡ Some line) × IsLawful line s × (slice_get R j ≡ Some (Ok n)))
 
--- once one of these lines was answered with a number, each later arrival of its submission is answered with that number
+-- once one of these lines was answered with a number, each later arrival of its submission is
+-- answered with that number
 abbrev pub RepeatsAreAnsweredAlike : List (List ℕ) → List Answer → Type 0
 RepeatsAreAnsweredAlike L R = (i j n : ℕ) (b c : List ℕ) (s : Submission) → i < j
     → slice_get L i ≡ Some b → IsLawful b s → slice_get R i ≡ Some (Ok n)
@@ -81,7 +82,8 @@ AcceptsTheTaken = (cap : ℕ) (L : List (List ℕ)) (R : List Answer) (A : List 
 abbrev pub NoConflict : Type 0
 NoConflict = (cap : ℕ) (L : List (List ℕ)) (R : List Answer) (A : List Submission) → OneGame L → Run cap [] L R A → All (λ r. (n : ℕ) → r ≢ Err (Conflict n)) R
 
--- each lawful one of these lines gets a number, unless its id is new and there is no room, or room and no memory
+-- each lawful one of these lines gets a number, unless its id is new and there is no room, or room
+-- and no memory
 abbrev pub ArrivalsAreNumbered : ℕ → List (List ℕ) → List Answer → Type 0
 ArrivalsAreNumbered cap L R =
     (i : ℕ) (line : List ℕ) (s : Submission) (r : Answer) → slice_get L i ≡ Some line → IsLawful line s → slice_get R i ≡ Some r

@@ -2,7 +2,7 @@ pub mod Accepting
 pub mod Arriving
 pub mod Basis
 pub mod Counting
-pub mod Gift
+pub mod PlyPoints
 pub mod Holding
 pub mod Laws
 pub mod Ledger

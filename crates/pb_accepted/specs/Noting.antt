@@ -6,17 +6,17 @@ use Rattle.pb_poly.specs.Key.{key}
 use Rattle.pb_games.specs.declared.game.Game.{Game}
 use Rattle.pb_games.specs.declared.outcome.Outcome.{Outcome}
 use Rattle.pb_games.specs.Submissions.{plies}
-use Rattle.pb_accepted.specs.declared.notes.Notes.{Notes}
-use Rattle.pb_accepted.specs.Gift.{gift_of}
+use Rattle.pb_accepted.specs.declared.ply_log.PlyLog.{PlyLog}
+use Rattle.pb_accepted.specs.PlyPoints.{given_by}
 
 -- these plies of a game with this outcome were noted, and the key is that of the setup
-pub record Holds (words : List ℕ) (o : Outcome) (k : ℕ) (notes : Notes) (outcome : Outcome) (ps : List Ply) (t : Position) : Type 0 where
+pub record Holds (words : List ℕ) (o : Outcome) (k : ℕ) (log : PlyLog) (outcome : Outcome) (ps : List Ply) (t : Position) : Type 0 where
   pub outcome_is : o ≡ outcome
   pub key_is : k ≡ key words t
-  pub gifts : notes.gifts.items ≡ map (gift_of words outcome) ps
-  pub moves : notes.moves.items ≡ map (λ p. p.1) ps
+  pub ply_points : log.ply_points.items ≡ map (given_by words outcome) ps
+  pub moves : log.moves.items ≡ map (λ p. p.1) ps
 
 -- all of the game was noted
-pub record HasNoted (words : List ℕ) (notes : Notes) (g : Game) : Type 0 where
-  pub gifts : notes.gifts.items ≡ map (gift_of words g.outcome) (plies g)
-  pub moves : notes.moves.items ≡ g.moves
+pub record HasNoted (words : List ℕ) (log : PlyLog) (g : Game) : Type 0 where
+  pub ply_points : log.ply_points.items ≡ map (given_by words g.outcome) (plies g)
+  pub moves : log.moves.items ≡ g.moves

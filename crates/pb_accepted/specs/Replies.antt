@@ -22,7 +22,8 @@ reason (refusal.Conflict n) = codes "conflict " ++ decimal n
 reason refusal.Full = codes "full"
 reason refusal.Memory = codes "memory"
 
--- the id that a reply names: the line's first field, or a - where the line is refused before its id stands
+-- the id that a reply names: the line's first field, or a - where the line is refused before its id
+-- stands
 abbrev pub named : List ℕ → Answer → List ℕ
 named line (Err refusal.Long) = codes "-"
 named line (Err refusal.Shape) = codes "-"

@@ -1,6 +1,6 @@
-//! What a line is to the games that are held.
+//! How a line relates to the games held.
 
-/// What a line is to the games that are held, if it submits a legal game.
+/// How a line relates to the games held, if it submits a legal game.
 #[derive(Clone, Copy)]
 pub(crate) enum Arrival {
     /// No game is held under its id.

@@ -8,13 +8,13 @@ ghost use Rattle.pb_poly.specs.declared.entry.Entry.{Entry};
 ghost use Rattle.pb_accepted.specs.Accepting.{IsNewId, IsNumber, Step};
 ghost use Rattle.pb_accepted.specs.Arriving.{IsArrival};
 ghost use Rattle.pb_accepted.specs.Counting.{IsBook, stretch};
-ghost use Rattle.pb_accepted.specs.Gift.{gifts_of, with_gifts};
+ghost use Rattle.pb_accepted.specs.PlyPoints.{ply_points_of, with_ply_points};
 ghost use Rattle.pb_accepted.specs.Holding.{IsLedger, Tallies, most_games};
 ghost use Rattle.pb_accepted.specs.Noting.{HasNoted};
 ghost use Rattle.pb_accepted.specs.Rules.{all_plies};
 
 use crate::arrival::Arrival;
-use crate::gift::{add_gifts, counted, ensure_rows};
+use crate::ply_points::{add_ply_points, counted, ensure_rows};
 use crate::recorder::Recorder;
 use crate::reply::first_field;
 use crate::rules::Rules;
@@ -66,7 +66,7 @@ impl<T: Tally> Ledger<T> {
         Ledger::with_rules(alloc, table, cap, Rules::all_plies())
     }
 
-    /// The same, of which counts what the rules say.
+    /// A ledger that counts by these rules.
     ///
     /// # Errors
     ///
@@ -257,19 +257,19 @@ fn accept<T: Tally>(
     rules: Rules,
     read: &Line<'_>,
 ) -> Result<(), AllocError>
-    requires noted { HasNoted recorder.now.table recorder.now.notes read.now.1 }
+    requires noted { HasNoted recorder.now.table recorder.now.log read.now.1 }
     requires new { IsNewId read.now.0 games.old.entries }
     requires points_fit { (k c : ℕ) → (held (T.content tally.old) k c).points + 2 * length read.now.1.moves ≤ 2 ^ 63 }
     requires times_fit { (k c : ℕ) → (held (T.content tally.old) k c).times + length read.now.1.moves ≤ 2 ^ 63 }
     ensures game { OnOk result (games.new.entries ≡ games.old.entries ++ read.now ∷ []) }
-    ensures added { OnOk result ((k c : ℕ) → held (T.content tally.new) k c ≡ with_gifts (gifts_of (record { words = recorder.now.table; rules = rules }) read.now.1) k c (held (T.content tally.old) k c)) }
+    ensures added { OnOk result ((k c : ℕ) → held (T.content tally.new) k c ≡ with_ply_points (ply_points_of (record { words = recorder.now.table; rules = rules }) read.now.1) k c (held (T.content tally.old) k c)) }
     ensures same_games { OnErr result (games.new.entries ≡ games.old.entries) }
     ensures same_points { OnErr result ((k c : ℕ) → held (T.content tally.new) k c ≡ held (T.content tally.old) k c) }
 {
     let game = recorder.game(alloc, read)?;
-    let gifts = counted(recorder.gifts(), rules);
-    ensure_rows(tally, gifts)?;
+    let ply_points = counted(recorder.ply_points(), rules);
+    ensure_rows(tally, ply_points)?;
     games.insert(read.id(), game)?;
-    add_gifts(tally, gifts);
+    add_ply_points(tally, ply_points);
     Ok(())
 }

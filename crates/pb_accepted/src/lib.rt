@@ -1,13 +1,13 @@
 //! The accepted games by id, in which a game that comes again counts once, the points of their
-//! moves and the book of them, and the reply line to a submission; it knows of no stream, of no EPD
-//! and of no file.
+//! moves and the book of them, and the reply line to a submission. Streams and files are the
+//! business of the crates above.
 #![tactic(auto)]
 
 mod arrival;
-mod gift;
 pub mod laws;
 mod ledger;
-mod notes;
+mod ply_log;
+mod ply_points;
 mod recorder;
 mod reply;
 mod rules;

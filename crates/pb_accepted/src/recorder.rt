@@ -1,4 +1,4 @@
-//! A player that writes down what each ply gives, so that a line is read once and its moves are
+//! A visitor that writes down what each ply gives, so that a line is read once and its moves are
 //! played once.
 
 ghost use Rattle.std.specs.Prelude.{◌≡◌, IfErr, IfOk, Ok};
@@ -6,10 +6,10 @@ ghost use Rattle.pb_games.specs.Refusing.{Refuses};
 ghost use Rattle.pb_games.specs.Submissions.{IsLawful, Submission};
 ghost use Rattle.pb_accepted.specs.Noting.{HasNoted};
 
-use crate::gift::{Gift, credit};
-use crate::notes::Notes;
+use crate::ply_log::PlyLog;
+use crate::ply_points::{PlyPoints, points_for};
 use pb_board::Setup;
-use pb_games::{Game, Line, MoveList, Outcome, Player, Refusal, judge_line};
+use pb_games::{Game, Line, MoveList, MoveVisitor, Outcome, Refusal, judge_line};
 use pb_moves::{Move, legal_effect};
 use pb_poly::{Table, code_of, key_next, key_of};
 use std::alloc::{AllocError, Global};
@@ -21,7 +21,7 @@ pub(crate) struct Recorder {
     table: Table,
     outcome: Outcome,
     key: u64,
-    notes: Notes,
+    log: PlyLog,
 }
 
 impl Recorder {
@@ -33,7 +33,7 @@ impl Recorder {
             table: table.clone()?,
             outcome: Outcome::Draw,
             key: 0,
-            notes: Notes::new(alloc)?,
+            log: PlyLog::new(alloc)?,
         })
     }
 
@@ -50,7 +50,7 @@ impl Recorder {
         ensures found { IfOk result (λ s. IsLawful line.now s) }
         ensures only { (s : Submission) → IsLawful line.now s → result ≡ Ok s }
         ensures refused { IfErr result (λ e. Refuses line.now e) }
-        ensures noted { IfOk result (λ s. HasNoted self.new.table self.new.notes s.1) }
+        ensures noted { IfOk result (λ s. HasNoted self.new.table self.new.log s.1) }
         ensures table { self.new.table ≡ self.old.table }
     {
         judge_line(line, self)
@@ -58,48 +58,48 @@ impl Recorder {
 
     /// The game of the line that was judged last. Memory is taken for its moves.
     pub(crate) fn game(&self, alloc: Global, line: &Line<'_>) -> Result<Game, AllocError>
-        requires { HasNoted self.now.table self.now.notes line.now.1 }
+        requires { HasNoted self.now.table self.now.log line.now.1 }
         ensures { IfOk result (λ g. g ≡ line.now.1) }
     {
         Ok(Game {
             start: line.start(),
             outcome: line.outcome(),
-            moves: MoveList::of(Vec::from_slice(alloc, &self.notes.moves)?),
+            moves: MoveList::of(Vec::from_slice(alloc, &self.log.moves)?),
         })
     }
 
     /// What the plies of the game give that was judged last.
-    pub(crate) fn gifts(&self) -> &[Gift]
-        ensures { result.now ≡ self.now.notes.gifts.items }
+    pub(crate) fn ply_points(&self) -> &[PlyPoints]
+        ensures { result.now ≡ self.now.log.ply_points.items }
     {
-        &self.notes.gifts
+        &self.log.ply_points
     }
 }
 
-impl Player for Recorder {
+impl MoveVisitor for Recorder {
     ghost use Rattle.pb_accepted.specs.Noting.{Holds};
 
-    ghost holds = { λ r outcome ps t. Holds r.table r.outcome r.key r.notes outcome ps t };
+    ghost holds = { λ r outcome ps t. Holds r.table r.outcome r.key r.log outcome ps t };
 
     ghost fixed = { λ r. r.table };
 
     fn begin(&mut self, start: &Setup, outcome: Outcome) {
         self.outcome = outcome;
         self.key = key_of(&self.table, start);
-        self.notes.clear();
+        self.log.clear();
     }
 
     fn play(&mut self, setup: &mut Setup, m: Move) -> bool {
         match legal_effect(setup, m) {
             Some(effect) => {
-                let gift = Gift {
+                let given = PlyPoints {
                     key: self.key,
                     code: code_of(setup, m),
-                    points: credit(self.outcome, setup.turn()),
+                    points: points_for(self.outcome, setup.turn()),
                 };
                 self.key = key_next(&self.table, self.key, setup, m, &effect);
                 effect.apply(setup, m);
-                self.notes.add(gift, m);
+                self.log.add(given, m);
                 true
             }
             None => false,

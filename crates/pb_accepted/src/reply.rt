@@ -27,8 +27,8 @@ impl Model for Reply {
 }
 
 impl Reply {
-    /// The reply to the line, without its LF, that was answered so. Of a line that is refused as
-    /// `Long`, `Shape` or `Id` nothing is looked at.
+    /// The reply to the line, without its LF, that was answered so. A line that is refused as
+    /// `Long`, `Shape` or `Id` isn't looked at, and its reply names `-`.
     pub fn new(line: &[u8], answer: Result<u32, Refusal>) -> Reply
         requires { length (named line.now answer) ≤ 64 }
         ensures { result ≡ reply_line line.now answer }

@@ -23,7 +23,7 @@ use Rattle.pb_board.specs.declared.piece.Kind.{Kind}
 use Rattle.pb_board.specs.declared.piece.Piece.{Piece}
 use Rattle.pb_board.specs.declared.refusal.FenError.{FenError}
 use Rattle.pb_board.specs.declared.refusal.SetupError.{SetupError}
-use Rattle.pb_board.specs.declared.setup.Carried.{Carried}
+use Rattle.pb_board.specs.declared.setup.MovedPiece.{MovedPiece}
 use Rattle.pb_board.specs.declared.setup.Rights.{Rights}
 use Rattle.pb_board.specs.Board.{Board}
 use Rattle.pb_board.specs.Padded.{padded}
@@ -91,10 +91,10 @@ positions p q = Decides-like _
     (Decides-and _ _ (boards p.board q.board) (Decides-and _ _ (colours p.turn q.turn)
     (Decides-and _ _ (rights p.rights q.rights) (options Decides-eqb p.ep q.ep))))
 
-pub carried : (a b : Carried) → Decides (eqb a.from b.from && (eqb a.to b.to && same_pieces a.piece b.piece)) (a ≡ b)
-carried a b = Decides-like _
+pub moved : (a b : MovedPiece) → Decides (eqb a.from b.from && (eqb a.to b.to && same_pieces a.piece b.piece)) (a ≡ b)
+moved a b = Decides-like _
     (λ e. ap₂ (λ (q : ℕ) (r : ℕ × Piece). record { from = q; to = r.0; piece = r.1 }) e.0 (ap₂ (λ (q : ℕ) (p : Piece). (q, p)) e.1.0 e.1.1))
-    (λ e. (ap (λ (c : Carried). c.from) e, (ap (λ (c : Carried). c.to) e, ap (λ (c : Carried). c.piece) e)))
+    (λ e. (ap (λ (c : MovedPiece). c.from) e, (ap (λ (c : MovedPiece). c.to) e, ap (λ (c : MovedPiece). c.piece) e)))
     (Decides-and _ _ (Decides-eqb a.from b.from) (Decides-and _ _ (Decides-eqb a.to b.to) (pieces a.piece b.piece)))
 
 pub castling_squares : (a b : CastlingSquares) → Decides

@@ -1,5 +1,5 @@
--- The bytes of a record's fields are letters, digits, - and /. So no field has a space, and each of the first four is
--- a word of a record that has them among other words.
+-- The bytes of a record's fields are letters, digits, - and /. So no field has a space, and each of
+-- the first four is a word of a record that has them among other words.
 use Rattle.std.proofs.Common.{◌≢◌, ℕ, zero, suc, ◌+◌, ◌*◌, ◌<◌, ◌≤◌, ◌^◌, Bool, true, false, List, [], ◌∷◌, length, drop, get_or, replicate, Option, Some, None, sym, ap, subst, inl, inr, arith}
 use Rattle.std.specs.Prelude.{IfSome}
 use Rattle.std.specs.List.{AllZip, All, join_with_byte}

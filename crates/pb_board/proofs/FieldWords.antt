@@ -1,4 +1,5 @@
--- Each of the first four fields of a record is a word: 1 to 255 bytes that are no space, no quotation mark and no semicolon.
+-- Each of the first four fields of a record is a word: 1 to 255 bytes that are no space, no
+-- quotation mark and no semicolon.
 use Rattle.std.proofs.Common.{◌≢◌, ℕ, ◌≤◌, Bool, true, false, ◌≡◌, List, [], ◌∷◌, ◌++◌, length, Option, Some, None, subst, arith}
 use Rattle.std.specs.List.{All}
 use Rattle.std.proofs.lemmas.List.{length-append}

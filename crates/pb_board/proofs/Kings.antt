@@ -11,7 +11,7 @@ use Rattle.pb_board.specs.declared.piece.Piece.{Piece}
 use Rattle.pb_board.specs.Piece.{king_of, pawn_of}
 use Rattle.pb_board.specs.Board.{Board, Holds}
 use Rattle.pb_board.specs.Position.{HasNoEdgePawn, HasOneKing, IsOnlyKing}
-use Rattle.pb_board.proofs.MaskBits.{same_or_not}
+use Rattle.pb_board.proofs.BitboardBits.{same_or_not}
 
 -- what holds a piece is on the board
 pub holds_on_board : (board : Board) (q : ℕ) (piece : Piece) → Holds board q piece → q < length board

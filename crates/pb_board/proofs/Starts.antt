@@ -9,11 +9,11 @@ use Rattle.pb_board.specs.declared.piece.Piece.{Piece}
 use Rattle.pb_board.specs.declared.setup.Rights.{Rights}
 use Rattle.pb_board.specs.Piece.{king_of, pawn_of}
 use Rattle.pb_board.specs.Board.{Place, Board, at, Holds}
-use Rattle.pb_board.specs.Kept.{KeepsMasks}
+use Rattle.pb_board.specs.Kept.{KeepsBitboards}
 use Rattle.pb_board.specs.Position.{HasNoEdgePawn, IsOnlyKing, position_of}
 use Rattle.pb_board.specs.Text.{piece_letter}
 use Rattle.pb_board.specs.Initial.{initial_board}
-use Rattle.pb_board.specs.Mask.{masks_of}
+use Rattle.pb_board.specs.Bitboards.{bitboards_of}
 use Rattle.pb_board.proofs.Kings.{only_king}
 
 -- each place passes the test at its index
@@ -85,7 +85,7 @@ black_king : IsOnlyKing initial_board Black 60
 unfolding initial_board king_test is_it
 black_king = tested_king initial_board Black 60 refl refl
 
-pub initial_keeps : (rights : Rights) → KeepsMasks (position_of initial_board White rights None) (masks_of initial_board)
+pub initial_keeps : (rights : Rights) → KeepsBitboards (position_of initial_board White rights None) (bitboards_of initial_board)
 unfolding initial_board
 initial_keeps rights = record {
   rules = record {
@@ -95,5 +95,5 @@ initial_keeps rights = record {
     pawns = no_edge_pawn initial_board edges;
     en_passant = tt;
   };
-  masks_are = refl;
+  bitboards_are = refl;
 }

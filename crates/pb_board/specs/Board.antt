@@ -1,4 +1,5 @@
--- A board, by what stands on each of its squares. A square is its index, 8 * rank + file, with a1 at 0 and h8 at 63.
+-- A board, by what stands on each of its squares. A square is its index, 8 * rank + file, with a1
+-- at 0 and h8 at 63.
 use Rattle.std.specs.Prelude.{◌≡◌, ℕ, ◌/◌, ◌%◌, ◌+◌, ◌-◌, Bool, false, ◌&&◌, ◌==◌, List, Option, Some, None, slice_index_or}
 use Rattle.pb_board.specs.declared.piece.Colour.{Colour}
 use Rattle.pb_board.specs.declared.piece.Colour.TheVariants.{White, Black}

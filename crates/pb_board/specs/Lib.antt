@@ -2,14 +2,14 @@ pub mod Piece
 pub mod Castling
 pub mod Board
 pub mod Position
-pub mod Carried
+pub mod MovedPiece
 pub mod Padded
 pub mod Fields
 pub mod Text
 pub mod Ranks
 pub mod First
 pub mod Numeral
-pub mod Mask
+pub mod Bitboards
 pub mod Kept
 pub mod Initial
 pub mod Refusal

@@ -1,4 +1,5 @@
--- What private functions say of the first four fields of a record, before they are known to be a setup.
+-- What private functions say of the first four fields of a record, before they are known to be a
+-- setup.
 use Rattle.std.specs.Prelude.{◌≡◌, ℕ, List, length, IfSome}
 use Rattle.pb_board.specs.declared.refusal.SetupError.{SetupError}
 use Rattle.pb_board.specs.declared.refusal.SetupError.TheVariants as fault

@@ -29,7 +29,7 @@ HasOneKing board side = (king : ℕ) × IsOnlyKing board side king
 abbrev pub HasNoEdgePawn : Board → Type 0
 HasNoEdgePawn board = (q : ℕ) (side : Colour) → Holds board q (piece_of side Pawn) → (0 < rank q) × (rank q < 7)
 
--- the square directly beyond an en passant square, where the pawn stands that has passed over it
+-- the square directly beyond an en passant square, where the pawn stands that made the double step
 abbrev pub beyond : Colour → ℕ → ℕ
 beyond White q = q - 8
 beyond Black q = q + 8
@@ -45,7 +45,8 @@ WasSteppedOver board turn q = IsEmpty board q × Holds board (beyond turn q) (pi
 abbrev pub EnPassantHolds : Board → Colour → Option ℕ → Type 0
 EnPassantHolds board turn ep = IfSome ep (λ q. OnEnPassantRank turn q × WasSteppedOver board turn q)
 
--- The rules that every setup meets. Castling rights are those of the record, wherever the kings and rooks stand.
+-- The rules that every setup meets. Castling rights are those of the record, wherever the kings and
+-- rooks stand.
 pub record IsSetup (p : Position) : Type 0 where
   pub places : length p.board ≡ 64
   pub white_king : HasOneKing p.board White
@@ -53,7 +54,8 @@ pub record IsSetup (p : Position) : Type 0 where
   pub pawns : HasNoEdgePawn p.board
   pub en_passant : EnPassantHolds p.board p.turn p.ep
 
--- a setup and the two clocks: plies since the last capture or pawn's move, and the number of the move, from 1
+-- a setup and the two clocks: plies since the last capture or pawn's move, and the number of the
+-- move, from 1
 pub record Record : Type 0 where
   pub setup : Position
   pub half : ℕ
@@ -70,5 +72,5 @@ pub record IsRecord (f : Record) : Type 0 where
   pub full : f.full < 2 ^ 16
 
 -- the board after a piece has gone from one square to another, in the place of what stood there
-abbrev pub carried_board : Board → ℕ → ℕ → Piece → Board
-carried_board board from to piece = slice_set (slice_set board from None) to (Some piece)
+abbrev pub with_piece_moved : Board → ℕ → ℕ → Piece → Board
+with_piece_moved board from to piece = slice_set (slice_set board from None) to (Some piece)

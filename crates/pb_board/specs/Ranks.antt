@@ -1,5 +1,5 @@
--- The text of a rank as a relation, byte by byte. Private functions that read and write ranks are proved by it; the lemma `rank_is` of
--- proofs/Spelled.antt shows that `rank_text` gives it.
+-- The text of a rank as a relation, byte by byte. Private functions that read and write ranks are
+-- proved by it; the lemma `rank_is` of proofs/Spelled.antt shows that `rank_text` gives it.
 use Rattle.std.specs.Prelude.{◌≡◌, ℕ, ◌+◌, ◌≤◌, ◌⊎◌, List, [], ◌∷◌, ◌++◌, replicate, Some, None}
 use Rattle.pb_board.specs.declared.piece.Piece.{Piece}
 use Rattle.pb_board.specs.Board.{Place}
@@ -15,7 +15,8 @@ BeginsOccupied (None ∷ squares) = ⊥
 abbrev pub PieceThen : ℕ → List Place → List Place → Type 0
 PieceThen c squares rest = (p : Piece) × (c ≡ piece_letter p) × (squares ≡ Some p ∷ rest)
 
--- the squares begin with 1 to 8 empty ones and no more, whose number is the digit c, and go on with rest
+-- the squares begin with 1 to 8 empty ones and no more, whose number is the digit c, and go on with
+-- rest
 abbrev pub EmptyThen : ℕ → List Place → List Place → Type 0
 EmptyThen c squares rest =
     (n : ℕ) × (1 ≤ n) × (n ≤ 8) × (c ≡ 48 + n) × (squares ≡ replicate n None ++ rest) × BeginsOccupied rest

@@ -1,4 +1,5 @@
--- Which refusal is answered: the first of a list whose condition holds; and where a list first breaks a rule.
+-- Which refusal is answered: the first of a list whose condition holds; and where a list first
+-- breaks a rule.
 use Rattle.std.specs.Prelude.{◌≡◌, ◌≢◌, ℕ, ◌-◌, ◌<◌, ◌^◌, List, [], ◌∷◌, ◌++◌, length, take, Option, IfSome, All, decimal}
 use Rattle.pb_board.specs.declared.piece.Colour.{Colour}
 use Rattle.pb_board.specs.declared.piece.Colour.TheVariants.{White, Black}
@@ -39,7 +40,8 @@ IsFirstFault e p = IsFirstOf (fault.Kings ∷ fault.Pawns ∷ fault.EnPassant �
 abbrev pub SpellsBoard : List (List ℕ) → Board → Type 0
 SpellsBoard parts board = (length board ≡ 64) × (field parts 0 ≡ placement_text board)
 
--- the second part names the side, and the fourth no square or one of the rank that en passant squares of this side are on
+-- the second part names the side, and the fourth no square or one of the rank that en passant
+-- squares of this side are on
 abbrev pub SpellsSquare : List (List ℕ) → Colour → Option ℕ → Type 0
 SpellsSquare parts turn ep = (field parts 1 ≡ turn_text turn)
     × (field parts 3 ≡ en_passant_text ep) × IfSome ep (OnEnPassantRank turn)

@@ -97,7 +97,8 @@ impl Castling {
         }
     }
 
-    /// Whether a move between these squares loses the right to castle so: it leaves or reaches the king's or the rook's first square.
+    /// Whether a move between these squares loses the right to castle so: it leaves or reaches the
+    /// king's or the rook's first square.
     #[inline(always)]
     pub fn is_touched(self, from: Square, to: Square) -> bool
         ensures { let row = castling_row self in

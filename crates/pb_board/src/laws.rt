@@ -1,4 +1,5 @@
-//! Laws of FEN records and their texts, and of equality (`==`) and order of the values of the public types.
+//! Laws of FEN records and their texts, and of equality (`==`) and order of the values of the
+//! public types.
 
 ghost use Rattle.std.specs.Prelude.{◌≡◌, ℕ, List};
 ghost use Rattle.std.specs.Bool.{Decides};
@@ -15,14 +16,14 @@ ghost use Rattle.pb_board.specs.declared.piece.Kind.{Kind};
 ghost use Rattle.pb_board.specs.declared.piece.Piece.{Piece};
 ghost use Rattle.pb_board.specs.declared.refusal.FenError.{FenError};
 ghost use Rattle.pb_board.specs.declared.refusal.SetupError.{SetupError};
-ghost use Rattle.pb_board.specs.declared.setup.Carried.{Carried};
+ghost use Rattle.pb_board.specs.declared.setup.MovedPiece.{MovedPiece};
 ghost use Rattle.pb_board.specs.declared.setup.Rights.{Rights};
 
 use crate::castling::{Castling, CastlingSquares};
 use crate::fen::{Fen, FenBytes};
 use crate::piece::{Colour, Kind, Piece};
 use crate::refusal::{FenError, SetupError};
-use crate::setup::{Carried, Rights, Setup};
+use crate::setup::{MovedPiece, Rights, Setup};
 use crate::square::Square;
 
 /// No text has two records.
@@ -40,29 +41,31 @@ pub fn none_due()
     ensures { (f : Record) (t : List ℕ) (e : FenError) → IsRecord f → t ≡ fen_text f → ¬ IsFirstOf fen_errors (IsDueFen (fields space t)) e }
 {}
 
-/// Setups are equal (`==`) exactly where they are one position, and castling rights where each flag is the same.
+/// Setups are equal (`==`) exactly where they are one position, and castling rights where each flag
+/// is the same.
 pub fn equal_setups()
     ensures setups { (p q : Position) → Decides (⟦<Setup as PartialEq>⟧.eq p q) (p ≡ q) }
     ensures rights { (a b : Rights) → Decides (⟦<Rights as PartialEq>⟧.eq a b) (a ≡ b) }
 {}
 
-/// Records are equal exactly where setup and clocks are the same, and their texts where the bytes are.
+/// Records are equal exactly where setup and clocks are the same, and their texts where the bytes
+/// are.
 pub fn equal_records()
     ensures records { (f g : Record) → Decides (⟦<Fen as PartialEq>⟧.eq f g) (f ≡ g) }
     ensures texts { (t u : List ℕ) → Decides (⟦<FenBytes as PartialEq>⟧.eq t u) (t ≡ u) }
 {}
 
-/// Squares, colours, kinds, pieces, and pieces that are carried, are equal exactly where they are the same.
+/// Squares, colours, kinds, pieces and moved pieces are equal exactly where they are the same.
 pub fn equal_pieces()
     ensures squares { (a b : ℕ) → Decides (⟦<Square as PartialEq>⟧.eq a b) (a ≡ b) }
     ensures colours { (a b : Colour) → Decides (⟦<Colour as PartialEq>⟧.eq a b) (a ≡ b) }
     ensures kinds { (a b : Kind) → Decides (⟦<Kind as PartialEq>⟧.eq a b) (a ≡ b) }
     ensures pieces { (a b : Piece) → Decides (⟦<Piece as PartialEq>⟧.eq a b) (a ≡ b) }
-    ensures carried { (a b : Carried) → Decides (⟦<Carried as PartialEq>⟧.eq a b) (a ≡ b) }
+    ensures moved { (a b : MovedPiece) → Decides (⟦<MovedPiece as PartialEq>⟧.eq a b) (a ≡ b) }
 {}
 
-/// Squares are in the order of their numbers, White is before Black, kinds go from pawn, knight, bishop, rook and queen to
-/// king, and pieces are ordered by colour and then by kind.
+/// Squares are in the order of their numbers, White is before Black, kinds go from pawn, knight,
+/// bishop, rook and queen to king, and pieces are ordered by colour and then by kind.
 pub fn ordered_pieces()
     ensures squares { (a b : ℕ) → ⟦<Square as Ord>⟧.cmp a b ≡ nat_cmp a b }
     ensures colours { (a b : Colour) → ⟦<Colour as Ord>⟧.cmp a b ≡ nat_cmp (colour_number a) (colour_number b) }
@@ -70,7 +73,8 @@ pub fn ordered_pieces()
     ensures pieces { (a b : Piece) → ⟦<Piece as Ord>⟧.cmp a b ≡ ordering_then (⟦<Colour as Ord>⟧.cmp a.colour b.colour) (⟦<Kind as Ord>⟧.cmp a.kind b.kind) }
 {}
 
-/// Castlings, and the squares between which king and rook go, are equal exactly where they are the same.
+/// Castlings, and the squares between which king and rook go, are equal exactly where they are the
+/// same.
 pub fn equal_castlings()
     ensures castlings { (a b : Castling) → Decides (⟦<Castling as PartialEq>⟧.eq a b) (a ≡ b) }
     ensures squares { (a b : CastlingSquares) → Decides (⟦<CastlingSquares as PartialEq>⟧.eq a b) (a ≡ b) }

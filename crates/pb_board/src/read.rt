@@ -15,8 +15,8 @@ use crate::piece::{Colour, Piece};
 use crate::placement::read_placement;
 use crate::refusal::{FenError, SetupError};
 use crate::setup::{Rights, Setup};
-use crate::small_fields::{read_en_passant, read_rights, read_turn};
 use crate::square::Square;
+use crate::state_fields::{read_en_passant, read_rights, read_turn};
 
 /// What the first four fields spell.
 #[derive(Clone, Copy)]
@@ -73,7 +73,8 @@ fn build(
     }
 }
 
-/// The refusal of a text whose parts are no setup, where the rank of the en passant square was judged before.
+/// The refusal of a text whose parts are no setup, where the rank of the en passant square was
+/// judged before.
 fn refusal_of(error: SetupError) -> FenError
     ensures { result ≡ refusal_of error }
 {
@@ -88,8 +89,9 @@ fn refusal_of(error: SetupError) -> FenError
 ///
 /// # Errors
 ///
-/// The first that is due of `Placement`, `Turn`, `Castling` and `EnPassantText`, each where a field isn't spelled so, and then of `Kings`,
-/// `Pawns` and `EnPassantPawn`, where the parts are no setup.
+/// The first that is due of `Placement`, `Turn`, `Castling` and `EnPassantText`, each where a field
+/// isn't spelled so, and then of `Kings`, `Pawns` and `EnPassantPawn`, where the parts are no
+/// setup.
 pub fn read_setup(four: [&[u8]; 4]) -> Result<Setup, FenError>
     // What is read is a setup, and the texts spell it.
     ensures found { IfOk result (λ s. IsSetup s × (map (λ t. t.now) four.entry ≡ setup_fields s)) }

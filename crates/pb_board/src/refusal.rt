@@ -13,9 +13,9 @@ pub enum SetupError {
     /// A pawn stands on rank 1 or 8.
     #[error("a pawn stands on rank 1 or 8")]
     Pawns,
-    /// The en passant square isn't on rank 6 with White to move or on rank 3 with Black to move, or isn't empty, or no
-    /// enemy pawn stands directly beyond it.
-    #[error("no pawn has just passed the en passant square")]
+    /// The en passant square isn't on rank 6 with White to move or on rank 3 with Black to move, or
+    /// isn't empty, or no enemy pawn stands directly beyond it.
+    #[error("no pawn has just made a double step over the en passant square")]
     EnPassant,
 }
 
@@ -50,7 +50,7 @@ pub enum FenError {
     #[error("a pawn stands on rank 1 or 8")]
     Pawns,
     /// The en passant square isn't empty, or no enemy pawn stands directly beyond it.
-    #[error("no pawn has just passed the en passant square")]
+    #[error("no pawn has just made a double step over the en passant square")]
     EnPassantPawn,
 }
 

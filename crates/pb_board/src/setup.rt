@@ -1,19 +1,20 @@
 //! Setups: what the first four fields of a FEN record say.
 
 ghost use Rattle.std.specs.Prelude.{◌≡◌, ◌↔◌, ℕ, IsTrue, MatchResult, length};
-ghost use Rattle.pb_board.specs.Carried.{carried_on};
-ghost use Rattle.pb_board.specs.Mask.{masks_of};
+ghost use Rattle.pb_board.specs.MovedPiece.{with_moved};
+ghost use Rattle.pb_board.specs.Bitboards.{bitboards_of};
 
-use crate::initial::{initial_board, initial_masks};
-use crate::masks::{self, Masks};
+use crate::bitboards::{self, Bitboards};
+use crate::initial::{initial_bitboards, initial_board};
 use crate::piece::{Colour, Piece};
 use crate::refusal::SetupError;
-use crate::rules::{has_no_edge_pawn, is_en_passant_square, one_king, only_king};
-use crate::small_fields::en_passant_rank;
+use crate::setup_rules::{has_no_edge_pawn, is_en_passant_square, one_king, only_king};
 use crate::square::Square;
+use crate::state_fields::en_passant_rank;
 use std::marker::Model;
 
-/// The castling rights: one flag for each side of the board and each colour (PGN Standard 16.1.3.3).
+/// The castling rights: one flag for each side of the board and each colour (PGN Standard
+/// 16.1.3.3).
 ///
 /// A flag is kept as it was given, even where the king or the rook isn't at home.
 #[derive(Clone, Copy, Debug, PartialEq, Eq, Hash)]
@@ -40,7 +41,7 @@ impl Rights {
 
 /// A piece that goes from one square to another, in the place of what stood there.
 #[derive(Clone, Copy, Debug, PartialEq, Eq)]
-pub struct Carried {
+pub struct MovedPiece {
     /// The square that it leaves.
     pub from: Square,
     /// The square that it reaches.
@@ -51,8 +52,9 @@ pub struct Carried {
 
 /// A setup: the board, the side to move, the castling rights and the en passant square.
 ///
-/// Each setup has one king of each colour and no pawn on rank 1 or 8. A given en passant square is empty, on rank 6
-/// with White to move and on rank 3 with Black to move, and an enemy pawn stands directly beyond it.
+/// Each setup has one king of each colour and no pawn on rank 1 or 8. A given en passant square is
+/// empty, on rank 6 with White to move and on rank 3 with Black to move, and an enemy pawn stands
+/// directly beyond it.
 #[derive(Clone, Copy)]
 #[derive_where(Debug, PartialEq, Eq, Hash)]
 pub struct Setup {
@@ -62,35 +64,35 @@ pub struct Setup {
     ep: Option<Square>,
     // The squares of each side's pieces and of each kind's follow from the board.
     #[derive_where(skip)]
-    masks: Masks,
+    bitboards: Bitboards,
 }
 
 impl Model for Setup {
-    ghost use Rattle.pb_board.specs.Kept.{KeepsMasks, masks-back};
-    ghost use Rattle.pb_board.specs.Mask.{masks_of};
+    ghost use Rattle.pb_board.specs.Kept.{KeepsBitboards, bitboards-back};
+    ghost use Rattle.pb_board.specs.Bitboards.{bitboards_of};
     ghost use Rattle.pb_board.specs.Position.{Position, position_of};
 
     ghost Value = { Position };
 
     ghost view = { λ s. position_of s.board s.turn s.rights s.ep };
 
-    ghost invariant = { λ s. KeepsMasks (position_of s.board s.turn s.rights s.ep) s.masks };
+    ghost invariant = { λ s. KeepsBitboards (position_of s.board s.turn s.rights s.ep) s.bitboards };
 
-    ghost inverse = { λ p. record { board = p.board; turn = p.turn; rights = p.rights; ep = p.ep; masks = masks_of p.board } };
+    ghost inverse = { λ p. record { board = p.board; turn = p.turn; rights = p.rights; ep = p.ep; bitboards = bitboards_of p.board } };
 
-    ghost inverse_ok = { λ s h. masks-back
-        (λ m. record { board = s.board; turn = s.turn; rights = s.rights; ep = s.ep; masks = m })
-        (position_of s.board s.turn s.rights s.ep) s.masks h };
+    ghost inverse_ok = { λ s h. bitboards-back
+        (λ m. record { board = s.board; turn = s.turn; rights = s.rights; ep = s.ep; bitboards = m })
+        (position_of s.board s.turn s.rights s.ep) s.bitboards h };
 }
 
 impl Setup {
     ghost use Rattle.pb_board.specs.Board.{at, Holds, IsEmpty};
     ghost use Rattle.std.specs.Int.{bit_at};
     ghost use Rattle.pb_board.specs.Initial.{initial};
-    ghost use Rattle.pb_board.specs.Mask.{masks_of};
+    ghost use Rattle.pb_board.specs.Bitboards.{bitboards_of};
     ghost use Rattle.pb_board.specs.Piece.{opponent};
-    ghost use Rattle.pb_board.specs.Position.{IsSetup, IsOnlyKing, position_of, carried_board};
-    ghost use Rattle.pb_board.specs.Carried.{carried_twice};
+    ghost use Rattle.pb_board.specs.Position.{IsSetup, IsOnlyKing, position_of, with_piece_moved};
+    ghost use Rattle.pb_board.specs.MovedPiece.{with_two_moved};
     ghost use Rattle.pb_board.specs.Refusal.{IsFirstFault};
 
     /// The setup of these parts, with the board by square index.
@@ -107,11 +109,11 @@ impl Setup {
         ensures { let p = position_of board turn rights ep in
             MatchResult result (λ s. (s ≡ p) × IsSetup p) (λ e. IsFirstFault e p) }
     {
-        let masks = masks::masks_of(&board);
-        let Some(_white) = one_king(masks, Colour::White) else {
+        let bitboards = bitboards::bitboards_of(&board);
+        let Some(_white) = one_king(bitboards, Colour::White) else {
             return Err(SetupError::Kings);
         };
-        let Some(_black) = one_king(masks, Colour::Black) else {
+        let Some(_black) = one_king(bitboards, Colour::Black) else {
             return Err(SetupError::Kings);
         };
         if !has_no_edge_pawn(&board) {
@@ -123,20 +125,20 @@ impl Setup {
         {
             return Err(SetupError::EnPassant);
         }
-        Ok(Setup::with_masks(board, turn, rights, ep, masks))
+        Ok(Setup::with_bitboards(board, turn, rights, ep, bitboards))
     }
 
     /// The setup of parts that are known to meet the rules, with the squares of the board's pieces.
     #[inline(always)]
-    fn with_masks(
+    fn with_bitboards(
         board: [Option<Piece>; 64],
         turn: Colour,
         rights: Rights,
         ep: Option<Square>,
-        masks: Masks,
+        bitboards: Bitboards,
     ) -> Setup
         requires rules { IsSetup (position_of board turn rights ep) }
-        requires masks { masks ≡ masks_of board }
+        requires bitboards { bitboards ≡ bitboards_of board }
         ensures { result ≡ position_of board turn rights ep }
     {
         Setup {
@@ -144,14 +146,14 @@ impl Setup {
             turn,
             rights,
             ep,
-            masks,
+            bitboards,
         }
     }
 
-    /// Carries a piece from one square to another, in place: the other side is then to move, with these rights and
-    /// this en passant square. Nothing is tested.
+    /// Moves a piece from one square to another, in place: the other side is then to move, with
+    /// these rights and this en passant square. The caller has to know that the result is a setup.
     #[inline(always)]
-    pub fn carry(
+    pub fn move_piece(
         &mut self,
         from: Square,
         to: Square,
@@ -159,34 +161,35 @@ impl Setup {
         rights: Rights,
         ep: Option<Square>,
     )
-        requires rules { IsSetup (position_of (carried_board self.old.board from to piece) (opponent self.old.turn) rights ep) }
-        ensures { self.new ≡ position_of (carried_board self.old.board from to piece) (opponent self.old.turn) rights ep }
+        requires rules { IsSetup (position_of (with_piece_moved self.old.board from to piece) (opponent self.old.turn) rights ep) }
+        ensures { self.new ≡ position_of (with_piece_moved self.old.board from to piece) (opponent self.old.turn) rights ep }
     {
         let next = self;
-        put_carried(
+        put_moved(
             &mut next.board,
-            &mut next.masks,
-            Carried { from, to, piece },
+            &mut next.bitboards,
+            MovedPiece { from, to, piece },
         );
         next.turn = next.turn.opponent();
         next.rights = rights;
         next.ep = ep;
     }
 
-    /// Carries two pieces one after the other, in place, as when king and rook castle. The rest is as for `carry`.
-    pub fn carry_twice(
+    /// Moves two pieces one after the other, in place, as when king and rook castle. The rest is as
+    /// for `move_piece`.
+    pub fn move_two(
         &mut self,
-        first: Carried,
-        second: Carried,
+        first: MovedPiece,
+        second: MovedPiece,
         rights: Rights,
         ep: Option<Square>,
     )
-        requires rules { IsSetup (position_of (carried_twice self.old.board first second) (opponent self.old.turn) rights ep) }
-        ensures { self.new ≡ position_of (carried_twice self.old.board first second) (opponent self.old.turn) rights ep }
+        requires rules { IsSetup (position_of (with_two_moved self.old.board first second) (opponent self.old.turn) rights ep) }
+        ensures { self.new ≡ position_of (with_two_moved self.old.board first second) (opponent self.old.turn) rights ep }
     {
         let next = self;
-        put_carried(&mut next.board, &mut next.masks, first);
-        put_carried(&mut next.board, &mut next.masks, second);
+        put_moved(&mut next.board, &mut next.bitboards, first);
+        put_moved(&mut next.board, &mut next.bitboards, second);
         next.turn = next.turn.opponent();
         next.rights = rights;
         next.ep = ep;
@@ -201,7 +204,7 @@ impl Setup {
             turn: Colour::White,
             rights: Rights::ALL,
             ep: None,
-            masks: initial_masks(),
+            bitboards: initial_bitboards(),
         }
     }
 
@@ -213,11 +216,14 @@ impl Setup {
             turn,
             rights,
             ep,
-            masks,
+            bitboards,
             ..
         } = *self;
-        // Boards with the same masks are one, so no square is looked at.
-        turn == Colour::White && rights == Rights::ALL && ep.is_none() && masks == initial_masks()
+        // Boards with the same bitboards are one, so no square is looked at.
+        turn == Colour::White
+            && rights == Rights::ALL
+            && ep.is_none()
+            && bitboards == initial_bitboards()
     }
 
     /// The places of the board by square index, from a1 to h8.
@@ -262,32 +268,32 @@ impl Setup {
     pub fn occupied(&self) -> u64
         ensures { (q : ℕ) → (bit_at result q ≡ 1) ↔ ¬ IsEmpty self.now.board q }
     {
-        masks::occupied(self.masks)
+        bitboards::occupied(self.bitboards)
     }
 
     /// The squares on which this piece stands: bit `i` stands for the square of index `i`.
     #[inline(always)]
-    pub fn standing(&self, piece: Piece) -> u64
+    pub fn by_piece(&self, piece: Piece) -> u64
         ensures { (q : ℕ) → (bit_at result q ≡ 1) ↔ Holds self.now.board q piece }
     {
-        masks::standing(self.masks, piece)
+        bitboards::by_piece(self.bitboards, piece)
     }
 
     /// The square of this colour's king.
     pub fn king(&self, colour: Colour) -> Square
         ensures { IsOnlyKing self.now.board colour result }
     {
-        only_king(self.masks, colour)
+        only_king(self.bitboards, colour)
     }
 }
 
-/// Carries a piece on a board, and in the sets of squares beside it.
+/// Moves a piece on a board, and in the bitboards beside it.
 #[inline(always)]
-fn put_carried(board: &mut [Option<Piece>; 64], masks: &mut Masks, carried: Carried)
-    ensures board { board.new ≡ carried_on board.old carried }
-    ensures masks { masks.old ≡ masks_of board.old → masks.new ≡ masks_of (carried_on board.old carried) }
+fn put_moved(board: &mut [Option<Piece>; 64], bitboards: &mut Bitboards, moved: MovedPiece)
+    ensures board { board.new ≡ with_moved board.old moved }
+    ensures bitboards { bitboards.old ≡ bitboards_of board.old → bitboards.new ≡ bitboards_of (with_moved board.old moved) }
 {
-    masks::carry(masks, carried.from, carried.to, carried.piece);
-    board[carried.from.index() as usize] = None;
-    board[carried.to.index() as usize] = Some(carried.piece);
+    bitboards::move_piece(bitboards, moved.from, moved.to, moved.piece);
+    board[moved.from.index() as usize] = None;
+    board[moved.to.index() as usize] = Some(moved.piece);
 }

@@ -33,7 +33,8 @@ HasWordIfGiven id word rows = first_of id rows ≡ option_map (λ w. w.now) word
 abbrev pub HasFlag : Text → Bool → List Row → Type 0
 HasFlag id flag rows = IsTrue flag ↔ (first_of id rows ≡ Some (codes "true"))
 
--- the options say what is kept beside the book; a saved ledger and a journal aren't kept at once, and a journal alone is synced
+-- the options say what is kept beside the book; a saved ledger and a journal aren't kept at once,
+-- and a journal alone is synced
 abbrev pub HasKeeping : Keeping → List Row → Type 0
 HasKeeping keeping.Book rows = (first_of (codes "ledger") rows ≡ None) × (first_of (codes "journal") rows ≡ None) × HasFlag (codes "sync") false rows
 HasKeeping (keeping.Ledger path) rows = HasWord (codes "ledger") path rows × (first_of (codes "journal") rows ≡ None) × HasFlag (codes "sync") false rows

@@ -1,6 +1,5 @@
-//! The command line of `pbook` as an order, and, handed on from the crates below, a function for
-//! each command that it may name, with the places where a ledger and its book are kept. Nothing
-//! here knows what a command does.
+//! Parses the command line of `pbook` into an `Order`. Re-exports a function for each command, and
+//! the places where a ledger and its book are kept. What a command does is known below.
 #![tactic(auto)]
 
 mod grammar;
@@ -9,8 +8,8 @@ mod order;
 
 pub use order::{Keeping, Order, ParseFault, parse};
 pub use pb_collecting::{
-    Continued, MAX_LEAST, MAX_PLIES, MemPlace, NoBook, NotContinued, NotKept, PassedLines, Place,
-    Rules, Text, collect_into, continue_into, journal_into, run_collect, run_continue, run_export,
-    run_journaled,
+    Continued, MAX_LEAST, MAX_PLIES, MemPlace, NoBook, NotContinued, NotKept, Place, Rules,
+    SkippedLines, Text, collect_into, continue_into, journal_into, run_collect, run_continue,
+    run_export, run_journaled,
 };
 pub use pb_commands::{Fault, STOPPED, run_epd, run_fen, run_probe, run_show, status};

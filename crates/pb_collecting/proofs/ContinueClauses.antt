@@ -1,4 +1,5 @@
--- What the headline of the command `collect` that goes on from a saved ledger says, from how its run ends.
+-- What the headline of the command `collect` that goes on from a saved ledger says, from how its
+-- run ends.
 use Rattle.std.proofs.Common.{◌≡◌, ℕ, List, Option, Result, Ok, Err, subst, sym}
 use Rattle.std.specs.Prelude.{IfOk, IfSome}
 use Rattle.pb_io.specs.Source.{SourceState}

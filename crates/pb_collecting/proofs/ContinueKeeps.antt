@@ -1,4 +1,5 @@
--- What a run that goes on from a saved ledger leaves at the places of its ledger and of its book, from what its parts do.
+-- What a run that goes on from a saved ledger leaves at the places of its ledger and of its book,
+-- from what its parts do.
 use Rattle.std.proofs.Common.{ℕ, List, Some, Result, Ok, subst}
 use Rattle.pb_io.specs.Source.{SourceState}
 use Rattle.pb_io.specs.Sink.{SinkState}

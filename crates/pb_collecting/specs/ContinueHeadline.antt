@@ -1,5 +1,5 @@
--- The theorem of a run of `collect` that goes on from a saved ledger, for the bytes of a table file, of the saved ledger and of
--- submissions, which three sources handed out.
+-- The theorem of a run of `collect` that goes on from a saved ledger, for the bytes of a table
+-- file, of the saved ledger and of submissions, which three sources handed out.
 use Rattle.std.specs.Prelude.{◌≡◌, ℕ, List, [], ◌++◌}
 use Rattle.std.specs.Io.KnownBytes.{Appends}
 use Rattle.pb_io.specs.Lines.{lines}
@@ -18,8 +18,9 @@ use Rattle.pb_ledger.specs.Loading.{Loads}
 use Rattle.pb_collecting.specs.Headline.{Effect}
 use Rattle.pb_collecting.specs.Runs.{ledger_of}
 
--- The games of the saved ledger were held first, the lines of the submissions were answered from there, and this ledger is left; the
--- replies were put in order, and the entries are the book of the games that are held then.
+-- The games of the saved ledger were held first, the lines of the submissions were answered from
+-- there, and this ledger is left; the replies were put in order, and the entries are the book of
+-- the games that are held then.
 pub record ContinuesBytes (rules : CountingRules) (file saved bytes put : List ℕ) (left : LedgerState) (entries : List Entry) : Type 0 where
   pub randoms : List ℕ
   pub table : IsTableFile randoms file
@@ -30,13 +31,14 @@ pub record ContinuesBytes (rules : CountingRules) (file saved bytes put : List �
   pub is : left ≡ ledger_of rules randoms left.accepted
   pub replied : put ≡ replies (lines bytes) answers
   pub book : IsBook left.basis left.accepted entries
-  -- Whatever earlier run left the games that were held first, of lines K with answers Q: the effect is that of one run of the lines of
-  -- both. So the book is that of the games that were answered `ok` in both, each of them once.
+  -- Whatever earlier run left the games that were held first, of lines K with answers Q: the effect
+  -- is that of one run of the lines of both. So the book is that of the games that were answered
+  -- `ok` in both, each of them once.
   pub effect : (K : List (List ℕ)) (Q : List Answer) → Run most_games [] K Q held
       → Effect left.basis (K ++ lines bytes) (Q ++ answers) left.accepted entries
 
--- It is so of all bytes that the sources handed out, and of those that the sink took; `v` and `v'` are the states of the saved ledger's
--- source.
+-- It is so of all bytes that the sources handed out, and of those that the sink took; `v` and `v'`
+-- are the states of the saved ledger's source.
 abbrev pub HasHeadlineOfBoth : CountingRules → SourceState → SourceState → SourceState → SourceState → SourceState → SourceState
     → SinkState → SinkState → LedgerState → List Entry → Type 0
 HasHeadlineOfBoth rules t t' v v' s s' sink sink' left entries = (file : List ℕ) × (saved : List ℕ) × (bytes : List ℕ) × (put : List ℕ)

@@ -1,6 +1,7 @@
--- What a run that goes on from a saved ledger leaves at the places of its ledger and of its book, over the states of its ends before and
--- after. Below, `t`, `v` and `s` are the states of the sources of the table, of the saved ledger and of the submissions, `p` that of the
--- ledger's place and `q` that of the book's.
+-- What a run that goes on from a saved ledger leaves at the places of its ledger and of its book,
+-- over the states of its ends before and after. Below, `t`, `v` and `s` are the states of the
+-- sources of the table, of the saved ledger and of the submissions, `p` that of the ledger's place
+-- and `q` that of the book's.
 use Rattle.std.specs.Prelude.{◌≡◌, ℕ, ◌⊎◌, Bool, true, false, List, Some, None, Result, Ok, Err, IfOk}
 use Rattle.pb_io.specs.Source.{SourceState}
 use Rattle.pb_io.specs.Sink.{SinkState}
@@ -17,7 +18,8 @@ use Rattle.pb_collecting.specs.declared.place.NotKept.{NotKept}
 use Rattle.pb_collecting.specs.declared.continuing_into.NotContinued.{NotContinued}
 use Rattle.pb_collecting.specs.declared.continuing_into.NotContinued.TheVariants.{Run, Ledger, Book}
 
--- a run ends with this book, with all that the theorem says, or with this fault, and its ledger was kept with this answer
+-- a run ends with this book, with all that the theorem says, or with this fault, and its ledger was
+-- kept with this answer
 pub record KeepsLedger (rules : CountingRules) (fills : ℕ) (t t' v v' s s' : SourceState) (sink sink' : SinkState) (p p' : PlaceState) (book : Result (List Entry) Fault) (answer : Result (Unit {0}) NotKept) : Type 0 where
   pub left : LedgerState
   pub run : ContinueRun rules fills t t' v v' s s' sink sink' (Ok (Some (record { ledger = left; book = book })))
@@ -26,8 +28,9 @@ pub record KeepsLedger (rules : CountingRules) (fills : ℕ) (t t' v v' s s' : S
   pub saved : Saved left.accepted bytes
   pub keeps : Keeps p p' answer bytes
 
--- how a run ends: both were kept; the line that refuses the table or the saved ledger was put; before a submission was read, or later,
--- and then the ledger was kept if its place took it; without the ledger at its place; or with it there and without the book
+-- how a run ends: both were kept; the line that refuses the table or the saved ledger was put;
+-- before a submission was read, or later, and then the ledger was kept if its place took it;
+-- without the ledger at its place; or with it there and without the book
 abbrev pub KeepsOrStops : CountingRules → ℕ → SourceState → SourceState → SourceState → SourceState → SourceState → SourceState → SinkState → SinkState → PlaceState → PlaceState → PlaceState → PlaceState → Result Bool NotContinued → Type 0
 KeepsOrStops rules fills t t' v v' s s' sink sink' p p' q q' (Ok true) =
     (entries : List Entry) × KeepsLedger rules fills t t' v v' s s' sink sink' p p' (Ok entries) (Ok tt) × Keeps q q' (Ok tt) (book_bytes entries)

@@ -1,5 +1,6 @@
--- The theorem of `pbook collect`, for the bytes of a table file and of submissions, which two sources handed out, and those of the
--- replies, which a sink took. Read this file first: nothing is assumed of the submissions, and a list is counted from 0.
+-- The theorem of `pbook collect`, for the bytes of a table file and of submissions, which two
+-- sources handed out, and those of the replies, which a sink took. Read this file first: nothing is
+-- assumed of the submissions, and a list is counted from 0.
 use Rattle.std.specs.Prelude.{◌≡◌, ℕ, ◌<◌, ◌↔◌, List, [], Some, Ok, slice_get}
 use Rattle.std.specs.Io.KnownBytes.{Appends}
 use Rattle.pb_io.specs.Lines.{lines}
@@ -25,7 +26,8 @@ Arrives L i s = (line : List ℕ) × (slice_get L i ≡ Some line) × IsLawful l
 abbrev pub IsAccepted : List (List ℕ) → List Answer → ℕ → Submission → ℕ → Type 0
 IsAccepted L R i s n = Arrives L i s × (slice_get R i ≡ Some (Ok n))
 
--- What is made of lines with their answers, wherever the lines came from: the games that are held in the end, and their book.
+-- What is made of lines with their answers, wherever the lines came from: the games that are held
+-- in the end, and their book.
 pub record Effect (T : Basis) (L : List (List ℕ)) (R : List Answer) (games : List Submission) (entries : List Entry) : Type 0 where
   -- each line is answered, and games are added, by the table of six steps
   pub run : Run most_games [] L R games
@@ -38,7 +40,8 @@ pub record Effect (T : Basis) (L : List (List ℕ)) (R : List Answer) (games : L
   pub book : IsBook T games entries
   pub text : HasOneText T games entries
 
--- What is made of a table file and of submissions, by rules that say which plies count: replies, and the entries of a book.
+-- What is made of a table file and of submissions, by rules that say which plies count: replies,
+-- and the entries of a book.
 pub record Headline (rules : CountingRules) (file bytes put : List ℕ) (entries : List Entry) : Type 0 where
   -- the rules are within their bounds, and the file is a table
   pub counting : AreRules rules
@@ -50,8 +53,9 @@ pub record Headline (rules : CountingRules) (file bytes put : List ℕ) (entries
   pub effect : Effect (record { words = randoms; rules = rules }) (lines bytes) answers games entries
   pub replied : put ≡ replies (lines bytes) answers
 
--- It is so of all bytes that the two sources handed out, and of those that the sink took. `t` and `t'` are the states of the table's
--- source before and after, `s` and `s'` those of the submissions'.
+-- It is so of all bytes that the two sources handed out, and of those that the sink took. `t` and
+-- `t'` are the states of the table's source before and after, `s` and `s'` those of the
+-- submissions'.
 abbrev pub HasHeadline : CountingRules → SourceState → SourceState → SourceState → SourceState → SinkState → SinkState → List Entry → Type 0
 HasHeadline rules t t' s s' sink sink' entries = (file : List ℕ) × (bytes : List ℕ) × (put : List ℕ)
     × HandsOut t t' file × HandsOut s s' bytes × Appends sink.bytes sink'.bytes put × Headline rules file bytes put entries

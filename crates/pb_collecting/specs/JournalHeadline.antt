@@ -1,5 +1,6 @@
--- The theorem of a run of `collect` with a journal, for the bytes of a table file, of the journal and of submissions, which three sources
--- handed out. Below, `j` and `j'` are the states of the journal's sink before and after. A list is counted from 0.
+-- The theorem of a run of `collect` with a journal, for the bytes of a table file, of the journal
+-- and of submissions, which three sources handed out. Below, `j` and `j'` are the states of the
+-- journal's sink before and after. A list is counted from 0.
 use Rattle.std.specs.Prelude.{◌≡◌, ℕ, List, ◌++◌, Some, Ok, slice_get, take}
 use Rattle.std.specs.Io.KnownBytes.{Appends}
 use Rattle.pb_io.specs.Lines.{ended_lines, lines}
@@ -15,8 +16,9 @@ use Rattle.pb_accepted.specs.Rules.{CountingRules}
 use Rattle.pb_ledger.specs.Journal.{GameLines, Journals, mending}
 use Rattle.pb_collecting.specs.Headline.{Arrives, Effect}
 
--- The lines of the journal and then those of the submissions were answered as the lines of one run, whose effect this is, and the replies
--- to the submissions were put. The journal was mended and gained the line of each new game in order, so that it now holds all games.
+-- The lines of the journal and then those of the submissions were answered as the lines of one run,
+-- whose effect this is, and the replies to the submissions were put. The journal was mended and
+-- gained the line of each new game in order, so that it now holds all games.
 pub record JournalsBytes (rules : CountingRules) (file kept bytes put gained : List ℕ) (entries : List Entry) : Type 0 where
   pub randoms : List ℕ
   pub table : IsTableFile randoms file
@@ -32,7 +34,8 @@ pub record JournalsBytes (rules : CountingRules) (file kept bytes put gained : L
   pub grows : gained ≡ mending kept ++ text
   pub holds_all : Journals most_games (kept ++ gained) (held ++ new)
 
--- It is so of all bytes that the sources handed out, and of those that the sinks took; `v` and `v'` are the states of the journal's source.
+-- It is so of all bytes that the sources handed out, and of those that the sinks took; `v` and `v'`
+-- are the states of the journal's source.
 abbrev pub HasHeadlineOfJournal : CountingRules → SourceState → SourceState → SourceState → SourceState → SourceState → SourceState
     → SinkState → SinkState → SinkState → SinkState → List Entry → Type 0
 HasHeadlineOfJournal rules t t' v v' s s' j j' sink sink' entries =
@@ -44,8 +47,9 @@ HasHeadlineOfJournal rules t t' v v' s s' j j' sink sink' entries =
 abbrev pub AreFirst : List (List ℕ) → SourceState → SourceState → Type 0
 AreFirst first s s' = (bytes : List ℕ) × (later : List (List ℕ)) × (s'.handed ≡ s.handed ++ bytes) × (lines bytes ≡ first ++ later)
 
--- A journal of these bytes holds all that was acknowledged: of these lines, the first of the submissions, a front of the replies was put, and
--- each game that one of them calls `ok` stands under its number in the games of the journal.
+-- A journal of these bytes holds all that was acknowledged: of these lines, the first of the
+-- submissions, a front of the replies was put, and each game that one of them calls `ok` stands
+-- under its number in the games of the journal.
 pub record HoldsAnswered (journal : List ℕ) (s s' : SourceState) (sink sink' : SinkState) : Type 0 where
   pub lines : List (List ℕ)
   pub first : AreFirst lines s s'
@@ -56,7 +60,8 @@ pub record HoldsAnswered (journal : List ℕ) (s s' : SourceState) (sink sink' :
   pub holds : Journals most_games journal games
   pub has : (i n : ℕ) → slice_get answers i ≡ Some (Ok n) → (g : Submission) × Arrives lines i g × IsNumber games n g
 
--- No acknowledged game is lost, however the run ends: the journal, of which the source handed out these bytes, now holds them.
+-- No acknowledged game is lost, however the run ends: the journal, of which the source handed out
+-- these bytes, now holds them.
 pub record Survives (kept : List ℕ) (s s' : SourceState) (j j' sink sink' : SinkState) : Type 0 where
   pub gained : List ℕ
   pub put : Appends j.bytes j'.bytes gained

@@ -1,5 +1,6 @@
--- What a run of the command `collect` leaves at the place of its book, over the states of its ends before and after. Below, `t` and `t'`
--- are the states of the table's source, `s` and `s'` those of the submissions'.
+-- What a run of the command `collect` leaves at the place of its book, over the states of its ends
+-- before and after. Below, `t` and `t'` are the states of the table's source, `s` and `s'` those of
+-- the submissions'.
 use Rattle.std.specs.Prelude.{◌≡◌, ℕ, Bool, true, false, List, Some, None, Result, Ok, Err}
 use Rattle.pb_io.specs.Source.{SourceState}
 use Rattle.pb_io.specs.Sink.{SinkState}
@@ -13,7 +14,8 @@ use Rattle.pb_collecting.specs.declared.keeping.NoBook.{NoBook}
 use Rattle.pb_accepted.specs.Rules.{CountingRules}
 use Rattle.pb_collecting.specs.declared.keeping.NoBook.TheVariants.{Run, Keep}
 
--- A run ends with these entries, which are its book, with all that the theorem says, and their bytes were kept with this answer.
+-- A run ends with these entries, which are its book, with all that the theorem says, and their
+-- bytes were kept with this answer.
 pub record KeepsBook (rules : CountingRules) (fills : ℕ) (t t' s s' : SourceState) (sink sink' : SinkState) (place place' : PlaceState) (answer : Result (Unit {0}) NotKept) : Type 0 where
   pub entries : List Entry
   pub run : CollectRun rules fills t t' s s' sink sink' (Ok (Some entries))
@@ -25,12 +27,14 @@ pub record RefusesBook (rules : CountingRules) (fills : ℕ) (t t' s s' : Source
   pub run : CollectRun rules fills t t' s s' sink sink' (Ok None)
   pub same : place' ≡ place
 
--- how a run ends without a book at the place: before there was one, and then the place is as it was, or in keeping it
+-- how a run ends without a book at the place: before there was one, and then the place is as it
+-- was, or in keeping it
 abbrev pub EndsKeeping : CountingRules → ℕ → SourceState → SourceState → SourceState → SourceState → SinkState → SinkState → PlaceState → PlaceState → NoBook → Type 0
 EndsKeeping rules fills t t' s s' sink sink' place place' (Run fault) = CollectRun rules fills t t' s s' sink sink' (Err fault) × (place' ≡ place)
 EndsKeeping rules fills t t' s s' sink sink' place place' (Keep why) = KeepsBook rules fills t t' s s' sink sink' place place' (Err why)
 
--- how a run ends: with its book at the place, with the line that refuses the table, or without a book
+-- how a run ends: with its book at the place, with the line that refuses the table, or without a
+-- book
 abbrev pub KeepsOrEnds : CountingRules → ℕ → SourceState → SourceState → SourceState → SourceState → SinkState → SinkState → PlaceState → PlaceState → Result Bool NoBook → Type 0
 KeepsOrEnds rules fills t t' s s' sink sink' place place' (Ok true) = KeepsBook rules fills t t' s s' sink sink' place place' (Ok tt)
 KeepsOrEnds rules fills t t' s s' sink sink' place place' (Ok false) = RefusesBook rules fills t t' s s' sink sink' place place'

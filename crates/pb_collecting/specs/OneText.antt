@@ -6,8 +6,8 @@ use Rattle.pb_games.specs.Submissions.{Submission}
 use Rattle.pb_accepted.specs.Basis.{Basis}
 use Rattle.pb_accepted.specs.Counting.{IsBook}
 
--- the entries have one text, which decodes to them and to no others, and neither the entries nor the text of a book of these
--- submissions could be others
+-- the entries have one text, which decodes to them and to no others, and neither the entries nor
+-- the text of a book of these submissions could be others
 pub record HasOneText (T : Basis) (S : List Submission) (entries : List Entry) : Type 0 where
   pub text : List ℕ
   pub are : BookBytes entries text

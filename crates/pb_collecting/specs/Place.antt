@@ -1,4 +1,5 @@
--- A place where a text is kept, such as that of a book, as a file is, and what keeping one does there.
+-- A place where a text is kept, such as that of a book, as a file is, and what keeping one does
+-- there.
 use Rattle.std.specs.Prelude.{◌≡◌, ◌⊎◌, ℕ, List, Option, Some, Result, IfErr, IfSome, OnOk, take}
 use Rattle.std.specs.Result.{result_err}
 use Rattle.pb_ledger.specs.declared.booking.WriteFault.{WriteFault}
@@ -6,8 +7,8 @@ use Rattle.pb_ledger.specs.declared.booking.WriteFault.TheVariants as fault
 use Rattle.pb_collecting.specs.declared.place.NotKept.{NotKept}
 use Rattle.pb_collecting.specs.declared.place.NotKept.TheVariants.{Open, Write, Memory}
 
--- What is known of a place: what a reader finds there, bytes or nothing, where the place tells it; and why the last text that came
--- wasn't kept, if it wasn't.
+-- What is known of a place: what a reader finds there, bytes or nothing, where the place tells it;
+-- and why the last text that came wasn't kept, if it wasn't.
 pub record PlaceState : Type 0 where
   pub found : Option (Option (List ℕ))
   pub fault : Option NotKept
@@ -16,8 +17,9 @@ pub record PlaceState : Type 0 where
 abbrev pub HoldsBytes : PlaceState → PlaceState → List ℕ → Type 0
 HoldsBytes old new bytes = IfSome old.found (λ before. new.found ≡ Some (Some bytes))
 
--- what keeping these bytes may leave, when it fails, in the place of what was there: nothing else where the place couldn't be opened, a
--- front of the bytes where a write failed or memory was wanting
+-- what keeping these bytes may leave, when it fails, in the place of what was there: nothing else
+-- where the place couldn't be opened, a front of the bytes where a write failed or memory was
+-- wanting
 abbrev pub Spoils : PlaceState → PlaceState → NotKept → List ℕ → Type 0
 Spoils old new Open bytes = ⊥
 Spoils old new Memory bytes = (count : ℕ) × HoldsBytes old new (take count bytes)

@@ -1,6 +1,6 @@
--- How runs end that take submissions: one form for all, by what comes before the submissions and what is made of them. Below, `t`
--- and `t'` are the states of the table's source before and after, `v` and `v'` those of a saved ledger or a journal, `s` and `s'`
--- those of the submissions.
+-- How runs end that take submissions: one form for all, by what comes before the submissions and
+-- what is made of them. Below, `t` and `t'` are the states of the table's source before and after,
+-- `v` and `v'` those of a saved ledger or a journal, `s` and `s'` those of the submissions.
 use Rattle.std.specs.Prelude.{◌≡◌, ◌⊎◌, ℕ, All, Bool, false, true, List, [], Option, Some, None, Result, Ok, Err, take}
 use Rattle.std.specs.Io.KnownBytes.{Appends}
 use Rattle.pb_io.specs.LineTask.{AtEnd}
@@ -31,8 +31,9 @@ use Rattle.pb_commands.specs.TableJudged.{table_verdict}
 use Rattle.pb_collecting.specs.Continuing.{saved_verdict}
 use Rattle.pb_collecting.specs.declared.continuing.Continued.{Continued}
 
--- A run begins with `first`, which leaves an M, and goes on from there to an X or a fault. Or nothing was begun: `judges` says
--- what comes of that, a line that is put, or a fault, and then nothing is.
+-- A run begins with `first`, which leaves an M, and goes on from there to an X or a fault. Or
+-- nothing was begun: `judges` says what comes of that, a line that is put, or a fault, and then
+-- nothing is.
 pub data RunEnds {M X : Type 0} (first : M → Type 0) (judges : Verdict → Type 0) (goes : M → Result X Fault → Type 0)
     (sink sink' : SinkState) (result : Result (Option X) Fault) : Type 0 where
   went : (m : M) (x : X) → first m → goes m (Ok x) → result ≡ Ok (Some x) → RunEnds first judges goes sink sink' result
@@ -44,8 +45,8 @@ pub data RunEnds {M X : Type 0} (first : M → Type 0) (judges : Verdict → Typ
       → sink'.failed ≡ true → sink'.flushes ≡ sink.flushes → result ≡ Err Write → RunEnds first judges goes sink sink' result
   stopped : (fault : Fault) → judges (Err fault) → sink' ≡ sink → result ≡ Err fault → RunEnds first judges goes sink sink' result
 
--- the submissions were taken, which left a ledger, and the book made of its games; or taking them broke off, or memory was
--- wanting for the book
+-- the submissions were taken, which left a ledger, and the book made of its games; or taking them
+-- broke off, or memory was wanting for the book
 abbrev pub MakesBook : (LedgerState → Type 0) → (Fault → Type 0) → Result (List Entry) Fault → Type 0
 MakesBook takes breaks (Ok entries) = (left : LedgerState) × takes left
     × IsBook left.basis left.accepted entries × NeverFall entries × All IsEntry entries
@@ -66,7 +67,8 @@ ledger_of rules randoms held = record { basis = record { words = randoms; rules 
 abbrev pub new_ledger : CountingRules → List ℕ → LedgerState
 new_ledger rules randoms = ledger_of rules randoms []
 
--- the table was read, and this is a ledger of its random numbers without games; or there is no table, and this comes of it
+-- the table was read, and this is a ledger of its random numbers without games; or there is no
+-- table, and this comes of it
 pub record TakesTable (rules : CountingRules) (fills : ℕ) (t t' : SourceState) (ledger : LedgerState) : Type 0 where
   pub randoms : List ℕ
   pub table : ReadsTable fills t t' (Ok randoms)
@@ -77,8 +79,8 @@ pub record LacksTable (fills : ℕ) (t t' : SourceState) (verdict : Verdict) : T
   pub found : ReadsTable fills t t' (Err cause)
   pub is : verdict ≡ table_verdict cause
 
--- the table was read, and all lines of the saved ledger were loaded into a ledger of its random numbers, which is this one; or it wasn't
--- loaded for this reason
+-- the table was read, and all lines of the saved ledger were loaded into a ledger of its random
+-- numbers, which is this one; or it wasn't loaded for this reason
 pub record LoadsFirst (rules : CountingRules) (fills : ℕ) (t t' v v' : SourceState) (loaded : LedgerState) : Type 0 where
   pub randoms : List ℕ
   pub table : ReadsTable fills t t' (Ok randoms)
@@ -92,8 +94,8 @@ pub record LoadsNot (rules : CountingRules) (fills : ℕ) (t t' v v' : SourceSta
   pub left : LedgerState
   pub until : LoadsUntil fills v v' (new_ledger rules randoms) left e
 
--- the table was read, and the journal was replayed into a ledger of its random numbers, and its end mended; or it wasn't replayed for this
--- reason
+-- the table was read, and the journal was replayed into a ledger of its random numbers, and its end
+-- mended; or it wasn't replayed for this reason
 pub record ReplaysFirst (rules : CountingRules) (fills : ℕ) (t t' v v' : SourceState) (j j' : SinkState) (held : LedgerState) : Type 0 where
   pub randoms : List ℕ
   pub table : ReadsTable fills t t' (Ok randoms)
@@ -106,7 +108,8 @@ pub record ReplaysNot (rules : CountingRules) (fills : ℕ) (t t' v v' : SourceS
   pub left : LedgerState
   pub until : ReplaysUntil fills v v' j j' (new_ledger rules randoms) left fault
 
--- all submissions were taken and answered from one ledger to the other, and the replies handed on; or that broke off
+-- all submissions were taken and answered from one ledger to the other, and the replies handed on;
+-- or that broke off
 abbrev pub Takes : ℕ → SourceState → SourceState → SinkState → SinkState → LedgerState → LedgerState → Type 0
 Takes fills s s' sink sink' ledger left =
     AtEnd fills s s' (Collects sink sink' ledger left) × HandedOnOnce sink sink'
@@ -125,7 +128,8 @@ CollectRun rules fills t t' s s' sink sink' = RunEnds (TakesTable rules fills t 
     (λ ledger. MakesBook (Takes fills s s' sink sink' ledger) (BreaksOff fills s s' sink sink' ledger))
     sink sink'
 
--- a run that goes on from a saved ledger, and gives its own with the book, or with the fault that came
+-- a run that goes on from a saved ledger, and gives its own with the book, or with the fault that
+-- came
 abbrev pub ContinueRun : CountingRules → ℕ → SourceState → SourceState → SourceState → SourceState
     → SourceState → SourceState → SinkState → SinkState → Result (Option Continued) Fault → Type 0
 ContinueRun rules fills t t' v v' s s' sink sink' = RunEnds (LoadsFirst rules fills t t' v v')
@@ -136,8 +140,8 @@ ContinueRun rules fills t t' v v' s s' sink sink' = RunEnds (LoadsFirst rules fi
     (CollectsUntil fills s s' sink sink' loaded run.ledger) run.book))
     sink sink'
 
--- A run with a journal, whose sink's states are `j` and `j'`: what is left first is a ledger of the journal's games, and the
--- journal, mended.
+-- A run with a journal, whose sink's states are `j` and `j'`: what is left first is a ledger of the
+-- journal's games, and the journal, mended.
 abbrev pub JournalRun : CountingRules → ℕ → SourceState → SourceState → SourceState → SourceState → SourceState → SourceState
     → SinkState → SinkState → SinkState → SinkState → Result (Option (List Entry)) Fault → Type 0
 JournalRun rules fills t t' v v' s s' j j' sink sink' = RunEnds {M = LedgerState × SinkState}
@@ -149,8 +153,8 @@ JournalRun rules fills t t' v v' s s' j j' sink sink' = RunEnds {M = LedgerState
     × JournalsUntil fills s s' sink sink' m.1 j' m.0 left e × (fault ≡ fault_of_journal e)))
     sink sink'
 
--- The submissions were taken, whose replies come on a sink of their own, of which `d` and `d'` are the states, and the lines of
--- the export put and handed on; or that broke off.
+-- The submissions were taken, whose replies come on a sink of their own, of which `d` and `d'` are
+-- the states, and the lines of the export put and handed on; or that broke off.
 abbrev pub Exports : ℕ → SourceState → SourceState → SinkState → SinkState → SinkState → SinkState
     → LedgerState → Result (Unit {0}) Fault → Type 0
 Exports fills s s' d d' sink sink' ledger (Ok u) =

@@ -48,8 +48,9 @@ pub fn run_export<T: Source, S: Source, K: Sink>(
     )
 }
 
-/// The same with a sink for the replies, which are put and handed on before the export. One list of
-/// answers is that of the replies and that by which the games are held whose export is put.
+/// Exports as `run_export` does, with a sink for the replies, which are put and handed on before
+/// the export. One list of answers is that of the replies and that by which the games are held
+/// whose export is put.
 ///
 /// # Errors
 ///

@@ -9,7 +9,7 @@ ghost use Rattle.pb_collecting.specs.Runs.{JournalRun};
 
 use crate::run::{book_of, open};
 use pb_io::{Fault, Sink, Source};
-use pb_ledger::{Ledger, MapTally, PassedLines, Rules, collect_journaled, replay};
+use pb_ledger::{Ledger, MapTally, Rules, SkippedLines, collect_journaled, replay};
 use pb_poly::Book;
 use std::alloc::Global;
 
@@ -23,7 +23,7 @@ use std::alloc::Global;
 /// read before the journal. Where it is refused, `refused table` and `long`, `line` or `count` is
 /// put, nothing else is read or written, and there is no book.
 ///
-/// `passed` is told the numbers of the journal's lines that are passed over, as by `replay`. No
+/// `skipped` is told the numbers of the journal's lines that are skipped, as by `replay`. No
 /// clause speaks of it: it is for people.
 ///
 /// # Errors
@@ -32,13 +32,13 @@ use std::alloc::Global;
 /// the journal. A game whose line the journal didn't take isn't answered. `Memory` comes where a
 /// growth of the ledger's or the book's own found no memory, or a game of the journal; a submission
 /// that wants memory is refused in its reply.
-pub fn run_journaled<T: Source, V: Source, J: Sink, W: PassedLines, S: Source, K: Sink>(
+pub fn run_journaled<T: Source, V: Source, J: Sink, W: SkippedLines, S: Source, K: Sink>(
     alloc: Global,
     rules: Rules,
     table_source: &mut T,
     kept: &mut V,
     journal: &mut J,
-    passed: &mut W,
+    skipped: &mut W,
     source: &mut S,
     sink: &mut K,
     fills: u32,
@@ -73,7 +73,7 @@ pub fn run_journaled<T: Source, V: Source, J: Sink, W: PassedLines, S: Source, K
         table_source,
         kept,
         journal,
-        passed,
+        skipped,
         source,
         sink,
         fills,
@@ -86,13 +86,13 @@ pub fn run_journaled<T: Source, V: Source, J: Sink, W: PassedLines, S: Source, K
 
 /// Takes the journal and submission lines as `run_journaled` does, up to the book. None where the
 /// table is refused.
-pub(crate) fn take_journaled<T: Source, V: Source, J: Sink, W: PassedLines, S: Source, K: Sink>(
+pub(crate) fn take_journaled<T: Source, V: Source, J: Sink, W: SkippedLines, S: Source, K: Sink>(
     alloc: Global,
     rules: Rules,
     table_source: &mut T,
     kept: &mut V,
     journal: &mut J,
-    passed: &mut W,
+    skipped: &mut W,
     source: &mut S,
     sink: &mut K,
     fills: u32,
@@ -105,7 +105,7 @@ pub(crate) fn take_journaled<T: Source, V: Source, J: Sink, W: PassedLines, S: S
     let Some(mut ledger) = open(alloc, rules, table_source, sink, fills)? else {
         return Ok(None);
     };
-    replay(alloc, kept, journal, &mut ledger, passed, fills)?;
+    replay(alloc, kept, journal, &mut ledger, skipped, fills)?;
     collect_journaled(alloc, source, sink, journal, &mut ledger, fills)?;
     Ok(Some(ledger))
 }

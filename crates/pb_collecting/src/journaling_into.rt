@@ -11,7 +11,7 @@ use crate::keeping::NoBook;
 use crate::place::Place;
 use crate::text::LedgerBook;
 use pb_io::{Sink, Source};
-use pb_ledger::{PassedLines, Rules};
+use pb_ledger::{Rules, SkippedLines};
 use std::alloc::Global;
 
 /// Takes submission lines as `run_journaled` does, and keeps the book of the games that are held at
@@ -20,16 +20,16 @@ use std::alloc::Global;
 ///
 /// # Errors
 ///
-/// `Run` is a fault of the table, the journal, the submissions or the replies, and then the place is
-/// as it was; `Keep` is the fault that the place met when it was to keep the book of this run. Want
-/// of memory for the book is one. The journal has each game that was answered `ok` in both.
-pub fn journal_into<T: Source, V: Source, J: Sink, W: PassedLines, S: Source, K: Sink, P: Place>(
+/// `Run` is a fault of the table, the journal, the submissions or the replies, and then the place
+/// is as it was; `Keep` is the fault that the place met when it was to keep the book of this run.
+/// Want of memory for the book is one. The journal has each game that was answered `ok` in both.
+pub fn journal_into<T: Source, V: Source, J: Sink, W: SkippedLines, S: Source, K: Sink, P: Place>(
     alloc: Global,
     rules: Rules,
     table_source: &mut T,
     kept: &mut V,
     journal: &mut J,
-    passed: &mut W,
+    skipped: &mut W,
     source: &mut S,
     sink: &mut K,
     place: &mut P,
@@ -55,7 +55,7 @@ pub fn journal_into<T: Source, V: Source, J: Sink, W: PassedLines, S: Source, K:
         table_source,
         kept,
         journal,
-        passed,
+        skipped,
         source,
         sink,
         fills,

@@ -81,7 +81,8 @@ told_as judges others sink sink' None (Ok answer) as_other h = tt
 told_as judges others sink sink' (Some bytes) (Ok answer) as_other h = text_as judges (others bytes) sink sink' answer (as_other bytes refl answer) h
 told_as judges others sink sink' told (Err e) as_other h = tt
 
--- where the input shows one text and no fault of reading comes, that text is put, or memory was wanting
+-- where the input shows one text and no fault of reading comes, that text is put, or memory was
+-- wanting
 module _ (judges others : Verdict → Type 0) (sink sink' : SinkState) (works : sink'.failed ≡ false)
     (as_other : (answer : Bool) (out : List ℕ) → judges (Ok (answer, out)) → others (Ok (answer, out)))
     (one : (x y : Bool × List ℕ) → others (Ok x) → others (Ok y) → x ≡ y)

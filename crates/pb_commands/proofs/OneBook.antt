@@ -33,7 +33,8 @@ fewer_begin front entries x y h k is few =
     let p = shorter_begins (book_bytes front) x (book_bytes entries) y is less in
     let c = begins entries front p.0 k h p.1 in (c.0, c.1)
 
--- the bytes begin with whole entries of which the key of this one, counted from 1, is the first that falls
+-- the bytes begin with whole entries of which the key of this one, counted from 1, is the first
+-- that falls
 record FallsAt (number : ℕ) (bytes : List ℕ) : Type 0 where
   pub front : List ℕ
   pub rest : List ℕ
@@ -44,7 +45,8 @@ falls_at : (n : ℕ) (bytes : List ℕ) → AsBook bytes (Err (book.Unsorted n))
 falls_at n bytes (front, rest, cut, due) = record { front = front; rest = rest; cut = cut; due = due }
 
 module _ (bytes : List ℕ) where
-  -- the bytes begin with entries at one of which the keys fall, so with no more of them whose keys never do
+  -- the bytes begin with entries at one of which the keys fall, so with no more of them whose keys
+  -- never do
   no_fall : (n : ℕ) → FallsAt n bytes → (entries : List Entry) (part : List ℕ) → Splits bytes entries part → ⊥
   no_fall n h entries part s =
       let begun : book_bytes h.due.0 ++ h.rest ≡ book_bytes entries ++ part = ap (λ bs. bs ++ h.rest) (sym h.due.1.are) ∙ sym h.cut ∙ s.bytes in

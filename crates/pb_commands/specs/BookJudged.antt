@@ -16,7 +16,8 @@ book_verdict book.Read = Err Read
 book_verdict book.Endless = Err Endless
 book_verdict book.Memory = Err Memory
 
--- the bytes, all of them, come to these entries, or to one of the two reasons that bytes alone can give
+-- the bytes, all of them, come to these entries, or to one of the two reasons that bytes alone can
+-- give
 abbrev pub AsBook : List ℕ → Result (List Entry) BookError → Type 0
 AsBook bytes (Err (book.Unsorted n)) =
     (front : List ℕ) × (rest : List ℕ) × (bytes ≡ front ++ rest) × BookIs so_far front (Err (book.Unsorted n))

@@ -1,4 +1,5 @@
--- How a run of the command `epd` ends with a fault, over the states of its source and its sink before and after.
+-- How a run of the command `epd` ends with a fault, over the states of its source and its sink
+-- before and after.
 use Rattle.std.specs.Prelude.{◌≡◌, ℕ, ◌+◌, ◌⊎◌, Bool, List, [], ◌∷◌, ◌++◌, length, Result, Ok, Err}
 use Rattle.pb_io.specs.Source.{SourceState}
 use Rattle.pb_io.specs.Sink.{AwaitsFlush, SinkState}

@@ -7,7 +7,8 @@ use Rattle.pb_io.specs.Sink.{HandedOn, SinkState}
 use Rattle.pb_io.specs.declared.fault.Fault.{Fault}
 use Rattle.pb_io.specs.declared.fault.Fault.TheVariants.{Write}
 
--- what an input comes to: the answer and the text that is to be put, or a fault of reading or of memory
+-- what an input comes to: the answer and the text that is to be put, or a fault of reading or of
+-- memory
 abbrev pub Verdict : Type 0
 Verdict = Result (Bool × List ℕ) Fault
 

@@ -22,7 +22,8 @@ pub record ShowEnds (fills : ℕ) (s s' : SourceState) (sink sink' : SinkState) 
   pub only : (bytes : List ℕ) (answer : Bool) (out : List ℕ) → Tells fills s s' bytes → sink'.failed ≡ false → BookShown (AsBook bytes) (Ok (answer, out))
       → MatchResult result (λ taken. (taken ≡ answer) × Appends sink.bytes sink'.bytes out) (λ e. e ≡ Memory)
 
--- so the command `probe` ends, over the states of the table's source, the book's source and its sink
+-- so the command `probe` ends, over the states of the table's source, the book's source and its
+-- sink
 pub record ProbeEnds (fills : ℕ) (t t' b b' : SourceState) (fen : List ℕ) (sink sink' : SinkState) (result : Result Bool Fault) : Type 0 where
   pub shown : IfOk result (PutsText (ProbesSources fills t t' b b' fen) sink sink')
   pub told : IfOk result (λ answer. IfSome t.to_come (λ table. IfSome b.to_come (λ book.

@@ -30,7 +30,8 @@ pub data FoundShown (words : List ℕ) (entries : List Entry) (f : Record) (verd
   found : (pairs : List (Moved × ℕ)) → Found entries words f.setup pairs → verdict ≡ Ok (true, probe_text pairs) → FoundShown words entries f verdict
   no_memory : verdict ≡ Err Memory → FoundShown words entries f verdict
 
--- what the command comes to, where `table` and `book` tell what its inputs are; they are judged in this order
+-- what the command comes to, where `table` and `book` tell what its inputs are; they are judged in
+-- this order
 pub data ProbeShown (table : Result (List ℕ) TableFault → Type 0) (book : Result (List Entry) BookError → Type 0) (fen : List ℕ) (verdict : Verdict) : Type 0 where
   no_table : (e : TableFault) → table (Err e) → verdict ≡ table_verdict e → ProbeShown table book fen verdict
   no_book : (words : List ℕ) (e : BookError) → table (Ok words) → book (Err e) → verdict ≡ book_verdict e → ProbeShown table book fen verdict
@@ -39,6 +40,7 @@ pub data ProbeShown (table : Result (List ℕ) TableFault → Type 0) (book : Re
   probed : (words : List ℕ) (entries : List Entry) (f : Record) → table (Ok words) → book (Ok entries) → AsRecord fen (Ok f)
       → FoundShown words entries f verdict → ProbeShown table book fen verdict
 
--- the same over the states of the table's source and of the book's, which is left alone where there is no table
+-- the same over the states of the table's source and of the book's, which is left alone where there
+-- is no table
 abbrev pub ProbesSources : ℕ → SourceState → SourceState → SourceState → SourceState → List ℕ → Verdict → Type 0
 ProbesSources fills t t' b b' fen = ProbeShown (λ r. ReadsTable fills t t' r × OnErr r (b' ≡ b)) (ReadsBook fills b b') fen

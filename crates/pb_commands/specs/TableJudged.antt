@@ -17,7 +17,8 @@ table_verdict table.Read = Err Read
 table_verdict table.Endless = Err Endless
 table_verdict table.Memory = Err Memory
 
--- the bytes, all of them, come to these random numbers, or to one of the three reasons that bytes alone can give
+-- the bytes, all of them, come to these random numbers, or to one of the three reasons that bytes
+-- alone can give
 abbrev pub AsTable : List ℕ → Result (List ℕ) TableFault → Type 0
 AsTable bytes (Err table.Long) = table_limit < length bytes
 AsTable bytes (Err table.Memory) = ⊥

@@ -66,13 +66,14 @@ impl<K: Sink> Rewriter<'_, K> {
     }
 }
 
-/// Rewrites EPD lines: of each line of the source, its one ordered form is put, or `refused`, the line's number from 1 and
-/// why it is no EPD record. A line of spaces alone is counted and passed over. Answers whether no line was refused. What was put is
-/// handed on once, at the end.
+/// Rewrites EPD lines: of each line of the source, its one ordered form is put, or `refused`, the
+/// line's number from 1 and why it is no EPD record. A line of spaces alone is counted and skipped.
+/// Answers whether no line was refused. What was put is handed on once, at the end.
 ///
-/// A line is refused as `long` past 8,192 bytes; a final CR counts, and is dropped. A piece that no LF ended is taken at the
-/// end of input, and not at a fault. `Memory` comes where a growth found no memory, and ends the run after the lines before; it
-/// never comes in place of a refusal of a long line, of one with a bad token or of one that doesn't begin with four words.
+/// A line is refused as `long` past 8,192 bytes; a final CR counts, and is dropped. A piece that no
+/// LF ended is taken at the end of input, and not at a fault. `Memory` comes where a growth found
+/// no memory, and ends the run after the lines before; it never comes in place of a refusal of a
+/// long line, of one with a bad token or of one that doesn't begin with four words.
 pub fn run_epd<S: Source, K: Sink>(
     alloc: Global,
     source: &mut S,
@@ -146,7 +147,8 @@ fn is_blank(text: &[u8]) -> bool
     text.iter().all(|byte| *byte == b' ')
 }
 
-/// Puts why the line of this number is refused and answers that it was, or puts nothing where memory was wanting.
+/// Puts why the line of this number is refused and answers that it was, or puts nothing where
+/// memory was wanting.
 fn put_refusal<K: Sink>(sink: &mut K, number: u64, error: EpdError) -> Result<bool, Fault>
     ensures { PutsOrStops (λ verdict. verdict ≡ epd_verdict number error) (K.state sink.old) (K.state sink.new) result }
 {

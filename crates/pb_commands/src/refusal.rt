@@ -41,8 +41,8 @@ pub(crate) fn refuse_book<K: Sink>(sink: &mut K, error: BookError) -> Result<boo
     }
 }
 
-/// Shows why a table file is refused, `refused table` and `long`, or `line` or `count` and its number, and answers false; or puts
-/// nothing, and answers the fault that ended its reading.
+/// Shows why a table file is refused, `refused table` and `long`, or `line` or `count` and its
+/// number, and answers false; or puts nothing, and answers the fault that ended its reading.
 pub fn refuse_table<K: Sink>(sink: &mut K, error: TableFault) -> Result<bool, Fault>
     ensures { PutsOrEnds (λ verdict. verdict ≡ table_verdict error) (K.state sink.old) (K.state sink.new) result }
 {

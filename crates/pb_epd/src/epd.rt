@@ -14,7 +14,8 @@ use std::alloc::Global;
 use std::collections::BTreeMap;
 use std::marker::Model;
 
-/// A setup, and operations in byte order of their opcodes. Each operation is an opcode with its operands, and no opcode stands twice.
+/// A setup, and operations in byte order of their opcodes. Each operation is an opcode with its
+/// operands, and no opcode stands twice.
 #[derive(Drop)]
 pub struct Epd {
     alloc: Global,
@@ -81,8 +82,9 @@ impl Epd {
         }
     }
 
-    /// Adds an operation. The first refusal that is due is answered, of the opcode, of an operand, of an opcode that the
-    /// record has, and at last of memory. The record then stays as it was, and the operands are dropped.
+    /// Adds an operation. The first refusal that is due is answered, of the opcode, of an operand,
+    /// of an opcode that the record has, and at last of memory. The record then stays as it was,
+    /// and the operands are dropped.
     pub fn put(&mut self, opcode: &[u8], operands: Vec<Operand>) -> Result<(), PutError>
         ensures rules { OnOk result (IsEpd self.new) }
         ensures setup { self.new.setup ≡ self.old.setup }

@@ -28,7 +28,8 @@ pub fn none_due()
     ensures { NoneDue }
 {}
 
-/// Refusals of operations, and of texts, are equal (`==`) exactly where cause and place are the same.
+/// Refusals of operations, and of texts, are equal (`==`) exactly where cause and place are the
+/// same.
 pub fn equal_refusals()
     ensures operations { (a b : PutError) → Decides (⟦<PutError as PartialEq>⟧.eq a b) (a ≡ b) }
     ensures texts { (a b : EpdError) → Decides (⟦<EpdError as PartialEq>⟧.eq a b) (a ≡ b) }

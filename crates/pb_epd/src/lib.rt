@@ -1,14 +1,14 @@
-//! EPD records: a setup and operations, and the reader and the writer of their texts (PGN Standard 16.2); it knows of no opcode what
-//! it means.
+//! EPD records: a setup and operations, and the reader and the writer of their texts (PGN Standard
+//! 16.2). Opcodes are kept as they are spelt; what they mean isn't looked at.
 #![tactic(auto)]
 
+mod byte_runs;
 mod epd;
 pub mod laws;
 mod operand;
 mod operation;
 mod read;
 mod refusal;
-mod run;
 mod token;
 mod write;
 

@@ -5,8 +5,8 @@ ghost use Rattle.pb_epd.specs.Token.{IsToken, text as text_token, word};
 ghost use Rattle.pb_epd.specs.Operation.{IsLetter, IsNameByte, IsOpcode, IsOperand};
 ghost use Rattle.pb_board.specs.Refusal.{BreaksAt};
 
+use crate::byte_runs::{text_run, word_run};
 use crate::operand::Operand;
-use crate::run::{text_run, word_run};
 use crate::token::LONGEST;
 
 /// The most bytes of an opcode after its first.

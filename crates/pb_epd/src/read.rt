@@ -44,7 +44,8 @@ pub(crate) enum Taken<'a> {
     },
 }
 
-/// The operations that were read so far: the record of them, their number, and the first whose opcode stood before.
+/// The operations that were read so far: the record of them, their number, and the first whose
+/// opcode stood before.
 #[derive(Drop)]
 pub(crate) struct SoFar {
     pub(crate) epd: Epd,
@@ -100,7 +101,8 @@ fn operand_of(alloc: Global, token: Lexeme<'_>) -> Result<Option<Operand>, Alloc
     Ok(Some(operand))
 }
 
-/// The operands up to the next end, and what follows it; nothing where no end follows, or a bad token comes first.
+/// The operands up to the next end, and what follows it; nothing where no end follows, or a bad
+/// token comes first.
 fn read_operands<'a>(
     alloc: Global,
     before: Lexeme<'_>,
@@ -137,7 +139,8 @@ fn opcode_of(token: Lexeme<'_>) -> Option<&[u8]>
     }
 }
 
-/// What stands first among operations. Where a bad token comes first, the answer says nothing of the text.
+/// What stands first among operations. Where a bad token comes first, the answer says nothing of
+/// the text.
 fn next_operation<'a>(
     alloc: Global,
     before: Lexeme<'_>,
@@ -168,7 +171,8 @@ fn next_operation<'a>(
     }
 }
 
-/// Adds an operation to those that were read so far. An opcode that stood before is noted, and its operands are dropped.
+/// Adds an operation to those that were read so far. An opcode that stood before is noted, and its
+/// operands are dropped.
 fn step(so_far: &mut SoFar, opcode: &[u8], operands: Vec<Operand>) -> Result<(), EpdError>
     requires lawful { IsOperation (opcode.now, operands.items) }
     requires room { so_far.old.count + 1 < 2 ^ 64 }
@@ -231,7 +235,8 @@ fn read_operations(
     }
 }
 
-/// The record that the text spells, or a refusal, which is the first that is due unless a token is bad.
+/// The record that the text spells, or a refusal, which is the first that is due unless a token is
+/// bad.
 fn read_tokens(alloc: Global, text: &[u8]) -> Result<Epd, EpdError>
     ensures found { IfOk result (λ e. IsEpd e × EpdText e text.now) }
     ensures refused { IfErr result (λ x. (ts : List Token) → Tokens ts text.now → IsFirstDueEpd x text.now) }
@@ -251,7 +256,8 @@ fn read_tokens(alloc: Global, text: &[u8]) -> Result<Epd, EpdError>
     }
 }
 
-/// The record that the text spells, or the first refusal that is due. Bad tokens are looked for only in a text that is refused.
+/// The record that the text spells, or the first refusal that is due. Bad tokens are looked for
+/// only in a text that is refused.
 fn judge(alloc: Global, text: &[u8]) -> Result<Epd, EpdError>
     ensures found { IfOk result (λ e. IsEpd e × EpdText e text.now) }
     ensures refused { IfErr result (λ x. IsFirstDueEpd x text.now) }
@@ -266,12 +272,13 @@ fn judge(alloc: Global, text: &[u8]) -> Result<Epd, EpdError>
     }
 }
 
-/// The record that the text spells (PGN Standard 16.2): four words that spell a setup, and operations in any order.
+/// The record that the text spells (PGN Standard 16.2): four words that spell a setup, and
+/// operations in any order.
 ///
 /// # Errors
 ///
-/// The first refusal that is due is answered, in the order of `EpdError`'s variants; only want of memory may come before the
-/// refusals of the operations.
+/// The first refusal that is due is answered, in the order of `EpdError`'s variants; only want of
+/// memory may come before the refusals of the operations.
 pub fn read_epd(alloc: Global, text: &[u8]) -> Result<Epd, EpdError>
     // What is read is a record, and the text spells it.
     ensures found { IfOk result (λ e. IsEpd e × EpdText e text.now) }

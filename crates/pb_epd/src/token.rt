@@ -4,7 +4,7 @@ ghost use Rattle.std.specs.Prelude.{◌≡◌, ◌≢◌, ◌↔◌, ◌++◌, �
 ghost use Rattle.pb_epd.specs.Token.{Token, text as text_token, word, Tokens, IsToken, IsBadAt};
 ghost use Rattle.pb_epd.specs.Lexeme.{IsOperandToken, BeginsWith, token_of, Begins, IsStep};
 
-use crate::run::{space_run, text_run, word_run};
+use crate::byte_runs::{space_run, text_run, word_run};
 
 /// The most bytes of a word or a text.
 pub(crate) const LONGEST: usize = 255;

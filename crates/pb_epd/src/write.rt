@@ -39,8 +39,9 @@ fn put_operation(out: &mut Vec<u8>, opcode: &[u8], operands: &[Operand]) -> Resu
     Ok(())
 }
 
-/// The one ordered text of the record (PGN Standard 16.2.1 and 16.2.2): the four fields, and then the operations in byte
-/// order of their opcodes, with single spaces, no space before an end and none after the last.
+/// The one ordered text of the record (PGN Standard 16.2.1 and 16.2.2): the four fields, and then
+/// the operations in byte order of their opcodes, with single spaces, no space before an end and
+/// none after the last.
 ///
 /// # Errors
 ///

@@ -23,7 +23,8 @@ use Rattle.pb_export.specs.Packed.{number_after, piece_digit, place_digit, rank_
 abbrev letter_at : ℕ → ℕ
 letter_at d = slice_index (codes "-BKNPQRbknpqr") d
 
--- its digit is below that of a square that is empty as its neighbour, and its letter follows from it
+-- its digit is below that of a square that is empty as its neighbour, and its letter follows from
+-- it
 record IsDigit (p : Piece) : Type 0 where
   low : 0 < piece_digit p
   high : piece_digit p < 13

@@ -159,7 +159,8 @@ module _ (words : List ℕ) (book : List Entry) where
 abbrev pub setups_from : Position → List Moved → List Position
 setups_from s ms = map (λ p. p.0) (plies_from s ms)
 
--- the setups of the game were added but for those before these moves, which are left from this setup
+-- the setups of the game were added but for those before these moves, which are left from this
+-- setup
 pub record Adding (g : Game) (Old New : List Position → Type 0) (s : Position) (ms : List Moved) : Type 0 where
   pub legal : AreLegal s ms
   pub done : List Position

@@ -1,4 +1,5 @@
--- The book of games as EPD (PGN Standard 1994, section 16.2): a line for each setup of the games that the book has moves for.
+-- The book of games as EPD (PGN Standard 1994, section 16.2): a line for each setup of the games
+-- that the book has moves for.
 use Rattle.std.specs.Prelude.{◌≡◌, ◌≢◌, ◌↔◌, ℕ, true, false, List, [], ◌∷◌, ◌++◌, length, map, flat_map, AllPairs, Contains, codes, decimal}
 use Rattle.std.specs.Io.KnownBytes.{Appends}
 use Rattle.pb_board.specs.Position.{Position}
@@ -31,11 +32,13 @@ StandsBefore S s = (x : Submission) × (m : Moved) × Contains S x × Contains (
 abbrev pub move_and_weight : Moved × ℕ → List Operand
 move_and_weight p = Word (spelling p.0) ∷ Word (decimal p.1) ∷ []
 
--- the setup with the one operation `bkm`, whose operands are these moves, each followed by its weight
+-- the setup with the one operation `bkm`, whose operands are these moves, each followed by its
+-- weight
 abbrev pub with_book_moves : Position → List (Moved × ℕ) → EpdRecord
 with_book_moves s moves = record { setup = s; operations = (codes "bkm", flat_map move_and_weight moves) ∷ [] }
 
--- a setup, its four fields, the moves that a book has for it with their weights, and the line that says so
+-- a setup, its four fields, the moves that a book has for it with their weights, and the line that
+-- says so
 pub record Listed : Type 0 where
   pub setup : Position
   pub fields : List ℕ

@@ -13,7 +13,8 @@ use Rattle.pb_board.specs.Text.{castling_text, en_passant_text, turn_text}
 abbrev pub piece_digit : Piece → ℕ
 piece_digit p = slice_index (4 ∷ 3 ∷ 1 ∷ 6 ∷ 5 ∷ 2 ∷ 10 ∷ 9 ∷ 7 ∷ 12 ∷ 11 ∷ 8 ∷ []) (6 * colour_number p.colour + kind_number p.kind)
 
--- an empty square after an empty one is above all pieces, since its run is longer, and any other is below them, since digits are below letters
+-- an empty square after an empty one is above all pieces, since its run is longer, and any other is
+-- below them, since digits are below letters
 abbrev pub place_digit : Bool → Place → ℕ
 place_digit after_empty None = if after_empty then 15 else 0
 place_digit after_empty (Some p) = piece_digit p

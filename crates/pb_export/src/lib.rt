@@ -1,5 +1,4 @@
-//! The opening book of a ledger as EPD lines; it knows of the games that are held, and not of the
-//! lines that brought them.
+//! The opening book of a ledger as EPD lines.
 #![tactic(auto)]
 
 mod book_moves;

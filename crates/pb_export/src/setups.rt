@@ -16,7 +16,7 @@ use crate::packed::PackedSetup;
 use pb_accepted::Ledger;
 use pb_board::Setup;
 use pb_games::Game;
-use pb_moves::{Move, play_on};
+use pb_moves::{Move, try_play};
 use pb_points::Tally;
 use pb_poly::{Entry, Table, key_next, key_of, move_of};
 use std::alloc::{AllocError, Global};
@@ -94,7 +94,7 @@ impl Listing {
         for m in game.moves.as_slice() {
             self.add_setup(book, &setup, key)?;
             key = key_next(table, key, &setup, *m);
-            let played = play_on(&mut setup, *m);
+            let played = try_play(&mut setup, *m);
             prove!(played);
         }
         Ok(())

@@ -1,4 +1,5 @@
--- What is known of a name in a folder whose file is made anew by way of a draft beside it, and what a crash leaves under it.
+-- What is known of a name in a folder whose file is made anew by way of a draft beside it, and what
+-- a crash leaves under it.
 use Rattle.std.specs.Prelude.{◌≡◌, ◌⊎◌, ℕ, Bool, false, true, List, [], ◌∷◌, ◌++◌, Option, Some, Result, Ok, Err}
 use Rattle.pb_io.specs.Sink.{SinkState}
 use Rattle.pb_collecting.specs.declared.place.NotKept.{NotKept}
@@ -11,17 +12,19 @@ use Rattle.pb_files.specs.declared.desk.NotNamed.TheVariants as named
 abbrev pub Content : Type 0
 Content = Option (List ℕ)
 
--- What a reader finds under the name; which whole contents a crash may leave there now; which ones a crash at some moment so far might have
--- left; and whether at some moment it might have left a part of one.
+-- What a reader finds under the name; which whole contents a crash may leave there now; which ones
+-- a crash at some moment so far might have left; and whether at some moment it might have left a
+-- part of one.
 pub record Shelf : Type 0 where
   pub found : Content
   pub leaves : List Content
   pub left : List Content
   pub torn : Bool
 
--- What a run knows: the shelf, where the desk tells of it; whether a draft can't take the place of what stands there; whether a draft of
--- this run stands beside the name; and whether the folder couldn't be put on the disk since the name was given. A later try may succeed
--- then though the name isn't there.
+-- What a run knows: the shelf, where the desk tells of it; whether a draft can't take the place of
+-- what stands there; whether a draft of this run stands beside the name; and whether the folder
+-- couldn't be put on the disk since the name was given. A later try may succeed then though the
+-- name isn't there.
 pub record DeskState : Type 0 where
   pub told : Option Shelf
   pub refused : Bool
@@ -52,7 +55,8 @@ pub record Begins (end : SinkState) : Type 0 where
   pub empty : end.bytes ≡ Some []
   pub works : end.failed ≡ false
 
--- A reader finds this content. A crash may leave it, or what it may have left before, and so it might up to now: no part of it.
+-- A reader finds this content. A crash may leave it, or what it may have left before, and so it
+-- might up to now: no part of it.
 pub record Names (content : Content) (old new : Shelf) : Type 0 where
   pub found : new.found ≡ content
   pub leaves : new.leaves ≡ old.leaves ++ content ∷ []

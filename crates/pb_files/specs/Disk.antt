@@ -7,7 +7,8 @@ pub record Disk : Type 0 where
   pub found : List ℕ
   pub kept : ℕ
 
--- What a run knows of its file: the disk, where the file tells of it, and whether each write and sync so far has succeeded.
+-- What a run knows of its file: the disk, where the file tells of it, and whether each write and
+-- sync so far has succeeded.
 pub record FileState : Type 0 where
   pub told : Option Disk
   pub ready : Bool

@@ -13,7 +13,8 @@ abbrev pub bytes_put : Option Disk → List ℕ → Option (List ℕ)
 bytes_put None waits = None
 bytes_put (Some disk) waits = Some (disk.found ++ waits)
 
--- what lasts of it: where a flush syncs what is on the disk, which a crash leaves, and else what a reader finds, which a kill leaves
+-- what lasts of it: where a flush syncs what is on the disk, which a crash leaves, and else what a
+-- reader finds, which a kill leaves
 abbrev pub bytes_lasting : Bool → Option Disk → Option (List ℕ)
 bytes_lasting sync None = None
 bytes_lasting true (Some disk) = Some (on_disk disk)
@@ -23,7 +24,8 @@ bytes_lasting false (Some disk) = Some disk.found
 pub record PutAtEnd (old new : EndState) : Type 0 where
   pub told : new.told ≡ old.told
 
--- A flush writes all that waits, and with sync each crash from then on leaves it, whatever is added later.
+-- A flush writes all that waits, and with sync each crash from then on leaves it, whatever is added
+-- later.
 pub record FlushAtEnd {E : Type 0} (sync : Bool) (old new : EndState) (answer : Result (Unit {0}) E) : Type 0 where
   pub found : OnOk answer (new.waits ≡ [])
   pub outlives : OnOk answer (sync ≡ true → IfSome new.told OutlivesCrash)

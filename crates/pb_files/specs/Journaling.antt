@@ -7,7 +7,8 @@ use Rattle.pb_files.specs.Begins.{BeginsWith}
 use Rattle.pb_files.specs.Disk.{Disk, Grows, IsOnDisk, Leaves}
 use Rattle.pb_files.specs.JournalSink.{EndState}
 
--- A journal that a run has come to: it is read from its first byte, nothing waits, and where a flush syncs all that is found is on the disk.
+-- A journal that a run has come to: it is read from its first byte, nothing waits, and where a
+-- flush syncs all that is found is on the disk.
 pub record IsStarted (sync : Bool) (disk : Disk) (end : EndState) (reader : SourceState) : Type 0 where
   pub told : end.told ≡ Some disk
   pub reads : reader.to_come ≡ Some disk.found
@@ -19,8 +20,8 @@ abbrev pub MayBeLeft : Bool → Disk → List ℕ → Type 0
 MayBeLeft true disk left = Leaves disk left
 MayBeLeft false disk left = left ≡ disk.found
 
--- Whatever is added later, what may be left then begins with the journal as it was and what it gained: this holds each game that a reply
--- calls `ok`.
+-- Whatever is added later, what may be left then begins with the journal as it was and what it
+-- gained: this holds each game that a reply calls `ok`.
 pub record LeavesAnswered (sync : Bool) (before : Disk) (end : EndState) (s s' : SourceState) (sink sink' : SinkState) : Type 0 where
   pub disk : Disk
   pub told : end.told ≡ Some disk

@@ -6,7 +6,8 @@ use Rattle.pb_files.specs.Desk.{Content, DeskState, Shelf}
 use Rattle.pb_files.specs.Saving.{OldOrNew, Saved}
 use Rattle.pb_files.specs.Steps.{Steps}
 
--- what a reader finds: what the name leads to, or of a file that is written in place what its end has taken
+-- what a reader finds: what the name leads to, or of a file that is written in place what its end
+-- has taken
 abbrev pub content_at : Option SinkState → Shelf → Content
 content_at None shelf = shelf.found
 content_at (Some end) shelf = end.bytes
@@ -27,6 +28,7 @@ SavedByDraft bytes old new = new.refused ≡ false → Steps (Saved bytes) old.t
 abbrev pub IsNamedByDraft : Option SinkState → DeskState → Type 0
 IsNamedByDraft named desk = desk.refused ≡ false → (is_some named ≡ true) × IfSome named (λ end. IfSome desk.told (λ shelf. shelf.found ≡ end.bytes))
 
--- unless a draft was refused, an end into a file that is written in place is let go, or the name leads where it led
+-- unless a draft was refused, an end into a file that is written in place is let go, or the name
+-- leads where it led
 abbrev pub LeadsWhereItLed : Option SinkState → Option SinkState → DeskState → DeskState → Type 0
 LeadsWhereItLed before after old new = new.refused ≡ false → (after ≡ None) ⊎ ((after ≡ before) × Steps (λ (a b : Shelf). b.found ≡ a.found) old.told new.told)

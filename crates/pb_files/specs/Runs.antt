@@ -1,15 +1,17 @@
--- A model of runs that make drafts by one name, in any order: what a lock on the file that the name leads to is good for. Each step of a run
--- is one call of the system.
+-- A model of runs that make drafts by one name, in any order: what a lock on the file that the name
+-- leads to is good for. Each step of a run is one call of the system.
 use Rattle.std.specs.Prelude.{◌≡◌, ℕ, false, ◌+◌, ◌==◌, if◌then◌else◌, List, [], ◌∷◌, Option, None, Some, ⊤}
 
--- the file that the name leads to, the run that has the lock of each file, and the number of the next new file
+-- the file that the name leads to, the run that has the lock of each file, and the number of the
+-- next new file
 pub record Names : Type 0 where
   pub leads : Option ℕ
   pub locked : ℕ → Option ℕ
   pub next : ℕ
 
--- A run makes a file of the name, where there is none; locks a file that it has open, where no other run has; takes the name from a file, by
--- removing it or giving it another, where it has the lock; or ends, and its locks with it.
+-- A run makes a file of the name, where there is none; locks a file that it has open, where no
+-- other run has; takes the name from a file, by removing it or giving it another, where it has the
+-- lock; or ends, and its locks with it.
 pub data Step : Type 0 where
   Makes : ℕ → Step
   Locks : ℕ → ℕ → Step

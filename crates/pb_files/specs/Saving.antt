@@ -8,15 +8,17 @@ use Rattle.pb_collecting.specs.declared.place.NotKept.TheVariants.{Open}
 use Rattle.pb_files.specs.declared.saving.NotSaved.{NotSaved}
 use Rattle.pb_files.specs.declared.saving.NotSaved.TheVariants.{Refused, Failed, Unsettled}
 
--- A reader finds these bytes, and a crash leaves them from now on. Up to now it left these bytes, or what it would have left before.
+-- A reader finds these bytes, and a crash leaves them from now on. Up to now it left these bytes,
+-- or what it would have left before.
 pub record Saved (bytes : List ℕ) (old new : Shelf) : Type 0 where
   pub found : new.found ≡ Some bytes
   pub leaves : new.leaves ≡ Some bytes ∷ []
   pub left : new.left ≡ old.left ++ Some bytes ∷ []
   pub torn : new.torn ≡ old.torn
 
--- How making the file anew of these bytes ends: they are there, for each crash from now on too; they are there, and a crash may undo it; or the
--- old file is there. At each moment a crash leaves the old file or these bytes.
+-- How making the file anew of these bytes ends: they are there, for each crash from now on too;
+-- they are there, and a crash may undo it; or the old file is there. At each moment a crash leaves
+-- the old file or these bytes.
 abbrev pub Saves : {E : Type 0} → List ℕ → Option Shelf → Option Shelf → Result E NotSaved → Type 0
 Saves bytes old new (Ok end) = Steps (Saved bytes) old new
 Saves bytes old new (Err Unsettled) = Steps (Names (Some bytes)) old new

@@ -5,7 +5,7 @@ use Rattle.pb_io.specs.declared.fault.Fault.{Fault}
 use Rattle.pb_collecting.specs.declared.continuing_into.NotContinued.{NotContinued}
 use Rattle.pb_collecting.specs.declared.keeping.NoBook.{NoBook}
 use Rattle.pb_collecting.specs.declared.place.NotKept.{NotKept}
-use Rattle.pb_files.specs.declared.apart.NotApart.{NotApart}
+use Rattle.pb_files.specs.declared.distinct_files.NotApart.{NotApart}
 use Rattle.pb_files.specs.declared.starting.NotRead.{NotRead}
 use Rattle.pb_files.specs.declared.starting.NotStarted.{NotStarted}
 use Rattle.pb_files.specs.declared.stop.Stop.{Stop}

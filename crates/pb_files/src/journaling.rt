@@ -7,7 +7,7 @@ ghost use Rattle.pb_files.specs.Journaling.{IsStarted, LeavesAnswered};
 
 use crate::journal_file::JournalFile;
 use crate::journal_sink::{Durability, FileEnd, JournalSink};
-use pb_collecting::{NoBook, PassedLines, Place, Rules, journal_into};
+use pb_collecting::{NoBook, Place, Rules, SkippedLines, journal_into};
 use pb_io::{Sink, Source};
 use std::alloc::Global;
 
@@ -23,7 +23,7 @@ pub fn journal_to_file<
     V: Source,
     J: JournalFile,
     D: Durability,
-    W: PassedLines,
+    W: SkippedLines,
     S: Source,
     K: Sink,
     P: Place,
@@ -33,7 +33,7 @@ pub fn journal_to_file<
     table_source: &mut T,
     kept: &mut V,
     journal: &mut JournalSink<J, D>,
-    passed: &mut W,
+    skipped: &mut W,
     source: &mut S,
     sink: &mut K,
     place: &mut P,
@@ -53,7 +53,7 @@ pub fn journal_to_file<
         table_source,
         kept,
         journal,
-        passed,
+        skipped,
         source,
         sink,
         place,

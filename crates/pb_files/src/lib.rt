@@ -6,8 +6,8 @@
 //! nothing. That the system's keep the traits is trusted.
 #![tactic(auto)]
 
-mod apart;
 mod desk;
+mod distinct_files;
 mod file_desk;
 mod file_journal;
 mod file_opener;
@@ -22,15 +22,15 @@ pub mod laws;
 mod mem_desk;
 mod mem_journal;
 mod one_file;
-mod passed;
 mod replies;
 mod saving;
+mod skipped;
 mod starting;
 mod stop;
 mod streams;
 
-pub use apart::{NotApart, keep_apart};
 pub use desk::{Desk, NotMade, NotNamed};
+pub use distinct_files::{NotApart, keep_apart};
 pub use file_desk::FileDesk;
 pub use file_journal::FileJournal;
 pub use file_opener::{hold_ledger, open, start_journal};
@@ -42,9 +42,9 @@ pub use journaling::journal_to_file;
 pub use kept::KeptFile;
 pub use mem_desk::{Before, MemDesk};
 pub use mem_journal::{MemFile, MemJournal, MemOpener, Others};
-pub use passed::TellPassed;
 pub use replies::{Replies, Submissions};
 pub use saving::{NotSaved, save_whole};
+pub use skipped::TellSkipped;
 pub use starting::{JournalOpener, NotRead, NotStarted, Started, read_whole, start};
 pub use stop::Stop;
 pub use streams::expect_open;

@@ -5,7 +5,7 @@ ghost use Rattle.pb_files.specs.Stop.{stop_of_book, stop_of_both, stop_of_names,
 ghost use Rattle.pb_files.specs.Stop.{stop_of_start, stop_word};
 ghost use Rattle.pb_files.specs.declared.stop.Stop.TheVariants as stops;
 
-use crate::apart::NotApart;
+use crate::distinct_files::NotApart;
 use crate::holding::NotHeld;
 use crate::starting::{NotRead, NotStarted};
 use pb_collecting::{NoBook, NotContinued, NotKept};

@@ -18,7 +18,8 @@ IsDue r line = refusing.IsDue line (fields_of line) r
 
 -- ---- places in the order
 
--- the place of each refusal in the order, from 1, and after them the refusals that look at more than the line
+-- the place of each refusal in the order, from 1, and after them the refusals that look at more
+-- than the line
 abbrev pub order : Refusal → ℕ
 order refusal.Long = 1
 order refusal.Shape = 2

@@ -31,8 +31,8 @@ later_illegal s m ms (suc n) legal h =
 
 -- ---- words that are left
 
--- what the words that are left come to from this setup is what all the moves come to from the start, their numbers
--- begin after this one, and the plies before them are held
+-- what the words that are left come to from this setup is what all the moves come to from the
+-- start, their numbers begin after this one, and the plies before them are held
 pub record Leads (holds : List Ply → Position → Type 0) (start : Position) (all : List Moved) (setup : Position) (left : List (List ℕ)) (count : ℕ) : Type 0 where
   pub legal : AreLegal setup (map move_named left) → AreLegal start all
   pub illegal : (n : ℕ) → BreaksAt (AreLegal setup) (map move_named left) n → BreaksAt (AreLegal start) all (count + n)

@@ -1,4 +1,5 @@
--- The text of a submission: its bytes, its length, and the parts that a cut at every TAB gives back.
+-- The text of a submission: its bytes, its length, and the parts that a cut at every TAB gives
+-- back.
 use Rattle.std.proofs.Common.{◌≡◌, ◌≢◌, ◌⊎◌, ℕ, ◌<◌, ◌≤◌, eqb, List, [], ◌∷◌, ◌++◌, length, length-append, get_or, ap, ◌∙◌, inl, inr, arith, lit<}
 use Rattle.std.specs.List.{All, join_with_byte, slice_split}
 use Rattle.std.proofs.Math.Seq.{get_or-append_seam}

@@ -1,5 +1,5 @@
--- Laws of submissions and their lines, for the crates above. The lemmas in proofs/ that prove them go by the name that
--- stands beside each.
+-- Laws of submissions and their lines, for the crates above. The lemmas in proofs/ that prove them
+-- go by the name that stands beside each.
 use Rattle.std.specs.Prelude.{◌≡◌, ◌≢◌, ℕ, ◌≤◌, List, [], ◌∷◌, length, All}
 use Rattle.pb_board.specs.Fields.{fields, tab}
 use Rattle.pb_board.specs.Text.{fen_text}
@@ -29,7 +29,8 @@ PartsHaveNoTab =
     (s : Submission) → IsId s.0 → IsGame s.1
     → fields tab (submission_text s) ≡ s.0 ∷ outcome_text s.1.outcome ∷ fen_text s.1.start ∷ moves_text s.1.moves ∷ []
 
--- a line is refused for a cause of its own, never for `Conflict`, `Full` or `Memory` (Refused.of_line)
+-- a line is refused for a cause of its own, never for `Conflict`, `Full` or `Memory`
+-- (Refused.of_line)
 abbrev pub RefusedByItself : Type 0
 RefusedByItself = (line : List ℕ) (e : Refusal) → Refuses line e → IsOfLine e
 

@@ -6,10 +6,11 @@ use Rattle.pb_moves.specs.Played.{Ply, AreLegal, IsSpelled}
 use Rattle.pb_games.specs.declared.outcome.Outcome.{Outcome}
 use Rattle.pb_games.specs.declared.refusal.Refusal.{Refusal}
 use Rattle.pb_games.specs.declared.refusal.Refusal.TheVariants as refusal
-use Rattle.pb_games.specs.declared.check.TheConstants.{MAX_PLIES}
+use Rattle.pb_games.specs.declared.judge.TheConstants.{MAX_PLIES}
 use Rattle.pb_games.specs.Words.{words_of, moves_named}
 
--- each word spells a move, they are this many and not too many, and the moves are legal one after another
+-- each word spells a move, they are this many and not too many, and the moves are legal one after
+-- another
 pub record AreRead (start : Position) (field : List ℕ) (plies : ℕ) : Type 0 where
   pub spelt : All IsSpelled (words_of field)
   pub number : plies ≡ length (words_of field)

@@ -49,7 +49,8 @@ in_order e m n = refusal.Long ∷ refusal.Shape ∷ refusal.Id ∷ refusal.Resul
 abbrev pub IsOfLine : Refusal → Type 0
 IsOfLine r = (e : FenError) × (m : ℕ) × (n : ℕ) × Contains (in_order e m n) r
 
--- the line by itself is refused so: this refusal is due, and none before it, whatever their causes and numbers
+-- the line by itself is refused so: this refusal is due, and none before it, whatever their causes
+-- and numbers
 pub record Refuses (line : List ℕ) (r : Refusal) : Type 0 where
   pub due : IsDue line (fields tab (strip_carriage_return line)) r
   pub first : (e : FenError) (m n : ℕ) (before after : List Refusal) → in_order e m n ≡ before ++ r ∷ after

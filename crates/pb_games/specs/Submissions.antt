@@ -29,7 +29,8 @@ pub record IsGame (g : Game) : Type 0 where
   pub moves : All IsMove g.moves
   pub few : length g.moves ≤ most_plies
 
--- the id, the result, the FEN record that the game starts from and the UCI texts of its moves, with a TAB between each two
+-- the id, the result, the FEN record that the game starts from and the UCI texts of its moves, with
+-- a TAB between each two
 abbrev pub submission_text : Submission → List ℕ
 submission_text s =
     join_with_byte tab (s.0 ∷ outcome_text s.1.outcome ∷ fen_text s.1.start ∷ moves_text s.1.moves ∷ [])
@@ -47,7 +48,8 @@ setup_after s (m ∷ ms) = setup_after (after s m) ms
 abbrev pub last_setup : Game → Position
 last_setup g = setup_after g.start.setup g.moves
 
--- the side that isn't to move at the start isn't in check, and each move is legal where it is played
+-- the side that isn't to move at the start isn't in check, and each move is legal where it is
+-- played
 pub record IsLegalGame (g : Game) : Type 0 where
   pub playable : NoOppositeCheck g.start.setup
   pub legal : AreLegal g.start.setup g.moves

@@ -36,7 +36,8 @@ pub(crate) fn cut_fields(line: &[u8]) -> Option<LineFields<'_>>
     })
 }
 
-/// Cuts a text at its first TAB, into what stands before it and what stands after it. None exactly where it has none.
+/// Cuts a text at its first TAB, into what stands before it and what stands after it. None exactly
+/// where it has none.
 fn cut_at_tab(text: &[u8]) -> Option<(&[u8], &[u8])>
     ensures { MatchOption result (fields tab text.now ≡ text.now ∷ [])
         (λ cut. fields tab text.now ≡ cut.0.now ∷ fields tab cut.1.now) }

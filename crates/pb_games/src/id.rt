@@ -49,7 +49,8 @@ impl Clone for Id {
 impl Copy for Id {}
 
 impl Id {
-    /// The id of these bytes. None exactly where they are fewer than 1 or more than 64, or one isn't in 33 to 126.
+    /// The id of these bytes. None exactly where they are fewer than 1 or more than 64, or one
+    /// isn't in 33 to 126.
     pub fn new(bytes: &[u8]) -> Option<Id>
         ensures { SomeIff result (IsId bytes.now) bytes.now }
     {
@@ -60,7 +61,7 @@ impl Id {
         }
     }
 
-    /// The id of bytes that are known to be one. Nothing is tested.
+    /// The id of bytes that are known to be one.
     pub(crate) fn of(bytes: &[u8]) -> Id
         requires { IsId bytes.now }
         ensures { result ≡ bytes.now }

@@ -1,10 +1,11 @@
-//! Laws of submissions, their lines and their refusals, and of equality (`==`), for the crates above. Those that are long are stated in
-//! `specs/`; each of these functions is proved to keep its own.
+//! Laws of submissions, their lines and their refusals, and of equality (`==`), for the crates
+//! above. Those that are long are stated in `specs/`; each of these functions is proved to keep its
+//! own.
 
 ghost use Rattle.std.specs.Prelude.{◌≡◌, ℕ, List};
 ghost use Rattle.std.specs.Bool.{Decides};
 ghost use Rattle.pb_games.specs.Limits.{id_limit, line_limit, most_plies};
-ghost use Rattle.pb_games.specs.declared.check.TheConstants.{MAX_PLIES};
+ghost use Rattle.pb_games.specs.declared.judge.TheConstants.{MAX_PLIES};
 ghost use Rattle.pb_games.specs.declared.header.TheConstants.{MAX_BYTES};
 ghost use Rattle.pb_games.specs.declared.id.TheConstants.{MAX_LEN};
 ghost use Rattle.pb_games.specs.declared.outcome.Outcome.{Outcome};
@@ -23,7 +24,8 @@ pub fn limits()
     ensures plies { MAX_PLIES ≡ most_plies }
 {}
 
-/// No text has two submissions, and so no line: two lines that submit one differ by a final CR at most.
+/// No text has two submissions, and so no line: two lines that submit one differ by a final CR at
+/// most.
 pub fn one_submission()
     ensures { OneSubmission }
 {}
@@ -35,7 +37,8 @@ pub fn plain_text()
     ensures no_tab { PartsHaveNoTab }
 {}
 
-/// A line is refused for a cause of its own, and never for what is held already or for want of memory.
+/// A line is refused for a cause of its own, and never for what is held already or for want of
+/// memory.
 pub fn refused_by_itself()
     ensures { RefusedByItself }
 {}
@@ -50,7 +53,8 @@ pub fn one_refusal()
     ensures { OneRefusal }
 {}
 
-/// Ids, outcomes and refusals are equal (`==`) exactly where they are one, and distinct ids hand a hasher distinct bytes.
+/// Ids, outcomes and refusals are equal (`==`) exactly where they are one, and distinct ids hand a
+/// hasher distinct bytes.
 pub fn equal_values()
     ensures ids { (a b : List ℕ) → Decides (⟦<Id as PartialEq>⟧.eq a b) (a ≡ b) }
     ensures outcomes { (a b : Outcome) → Decides (⟦<Outcome as PartialEq>⟧.eq a b) (a ≡ b) }

@@ -9,7 +9,8 @@ use crate::words::Words;
 use pb_moves::{Move, read_move};
 use std::marker::Model;
 
-/// The moves of a line, one after another. They are read from the line's words again, and take no memory.
+/// The moves of a line, one after another. They are read from the line's words again, and take no
+/// memory.
 #[derive(Drop)]
 pub struct Plies<'a> {
     words: Words<'a>,

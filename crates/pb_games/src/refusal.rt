@@ -3,8 +3,8 @@
 use pb_board::FenError;
 use thiserror::Error;
 
-/// Why a submission is refused, in the order in which the causes are looked for. The first nine look at the line
-/// alone.
+/// Why a submission is refused, in the order in which the causes are looked for. The first nine
+/// look at the line alone.
 #[derive(Clone, Copy, Debug, PartialEq, Eq, Hash, Error)]
 pub enum Refusal {
     /// The line has more than 8,192 bytes, a final CR counted.

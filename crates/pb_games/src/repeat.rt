@@ -13,8 +13,8 @@ use crate::start::is_text_of;
 use crate::words::Words;
 use pb_moves::Move;
 
-/// Whether the line submits this game under this id. The game is known to be legal, so its text is compared and nothing is played. It
-/// takes no memory.
+/// Whether the line submits this game under this id. The game is known to be legal, so its text is
+/// compared and nothing is played. It takes no memory.
 pub fn repeats(line: &[u8], id: &Id, game: &Game) -> bool
     requires { IsSubmission (id.now, game.now) }
     ensures { IsTrue result ↔ IsLawful line.now (id.now, game.now) }

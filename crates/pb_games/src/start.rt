@@ -1,4 +1,5 @@
-//! The texts of the records that games start from. Nearly all games start from the initial record, which is known by its text.
+//! The texts of the records that games start from. Nearly all games start from the initial record,
+//! which is known by its text.
 
 ghost use Rattle.std.specs.Prelude.{◌≡◌, ◌↔◌, IfErr, IfOk, IsTrue};
 ghost use Rattle.pb_board.specs.Fields.{fields, space};
@@ -9,8 +10,9 @@ ghost use Rattle.pb_board.specs.Text.{fen_text};
 use crate::initial::{initial_record, is_initial, is_initial_text};
 use pb_board::{Fen, FenError, read_fen};
 
-/// The record that the text spells, as `read_fen` reads it. The text of the initial record is known as a whole, since nearly all lines
-/// have it. It stands out of line, so that its caller doesn't clear room for the records of both ways.
+/// The record that the text spells, as `read_fen` reads it. The text of the initial record is known
+/// as a whole, since nearly all lines have it. Not inlined: else the caller reserves stack for both
+/// records.
 #[inline(never)]
 pub(crate) fn read_start(text: &[u8]) -> Result<Fen, FenError>
     ensures found { IfOk result (λ f. IsRecord f × (text.now ≡ fen_text f)) }

@@ -1,4 +1,5 @@
-//! Ends that try a program: a source and a sink that fail once their fuse blows, and a source that never ends.
+//! Ends that try a program: a source and a sink that fail once their fuse blows, and a source that
+//! never ends.
 
 ghost use Rattle.std.specs.Prelude.{◌≡◌, ℕ, ◌+◌, ◌^◌, ◌<◌, ◌≤◌, [], OnErr, OnOk, Some, None, false, length};
 ghost use Rattle.pb_io.specs.Fuse.{FuseFill, FuseFlush, FusePut, GivesOne, GivesPiece};
@@ -10,7 +11,8 @@ use crate::sink::Sink;
 use crate::source::{Failed, FillCounts, MemSource, Source};
 use std::alloc::Global;
 
-/// Bytes in memory, of which a given number of fills pass. The next one fails, and so does each later one.
+/// Bytes in memory, of which a given number of fills pass. The next one fails, and so does each
+/// later one.
 ///
 /// A fill of an empty slice is not counted: it fails only once another fill has failed.
 #[derive(Drop)]
@@ -66,10 +68,11 @@ impl<'a> Source for FuseSource<'a> {
     }
 }
 
-/// Bytes in memory, of which a given number of puts and flushes pass. The next one fails, and so does each later one.
+/// Bytes in memory, of which a given number of puts and flushes pass. The next one fails, and so
+/// does each later one.
 ///
-/// A put that fails so keeps the first half of its bytes, rounded down. Want of memory makes the sink failed too, and that put
-/// keeps nothing. Once it has failed, nothing more is kept.
+/// A put that fails so keeps the first half of its bytes, rounded down. Want of memory makes the
+/// sink failed too, and that put keeps nothing. Once it has failed, nothing more is kept.
 #[derive(Drop)]
 pub struct FuseSink {
     bytes: Vec<u8>,

@@ -12,9 +12,9 @@ use std::marker::{Model, PhantomData};
 /// No memory holds the list, so the proofs of `new`, `of` and `add` alone say what it becomes, and
 /// they are written by hand. One more such proof could let an empty body set the list to anything.
 /// So none is to be written, of this type or of one that holds it. The type is of this crate alone,
-/// and a field that holds one is private: elsewhere a list begins empty or with what a writer tells,
-/// and grows by what is added. That just what was handed on is added is for the contract of the
-/// caller to say.
+/// and a field that holds one is private: elsewhere a list begins empty or with what a writer
+/// tells, and grows by what is added. That just what was handed on is added is for the contract of
+/// the caller to say.
 #[derive(Drop)]
 pub(crate) struct History {
     marker: PhantomData<u8>,

@@ -1,5 +1,5 @@
-//! Laws of the lines of a stream, of the limits, and of equality (`==`) between failures and between
-//! faults. Each is the contract of a function that does nothing.
+//! Laws of the lines of a stream, of the limits, and of equality (`==`) between failures and
+//! between faults. Each is the contract of a function that does nothing.
 
 ghost use Rattle.std.specs.Prelude.{◌≡◌, ◌≤◌, ℕ, List, ◌++◌, length};
 ghost use Rattle.std.specs.Bool.{Decides};
@@ -15,7 +15,8 @@ ghost use Rattle.pb_io.specs.declared.source.TheConstants.{CHUNK_LEN};
 use crate::fault::{Fault, ReadFault};
 use crate::source::Failed;
 
-/// The longest line that is kept, and how much room a source is given at a time, are the numbers that the definitions have.
+/// The longest line that is kept, and how much room a source is given at a time, are the numbers
+/// that the definitions have.
 pub fn limits()
     ensures line { LINE_LIMIT ≡ line_limit }
     ensures chunk { CHUNK_LEN ≡ chunk_len }

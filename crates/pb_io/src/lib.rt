@@ -1,5 +1,5 @@
-//! Where bytes come from and where they go, and the lines of a stream, whatever the bytes say: it knows of no chess, of no format
-//! of a file and of no file's name.
+//! Byte sources and sinks, and streams cut into lines. No chess, no format and no file name is
+//! known here.
 #![tactic(auto)]
 
 mod fault;

@@ -23,7 +23,8 @@ GameLines-append F G a b h k =
 
 -- ---- the game that a line brings
 
--- a line that made the list longer was answered with a number, and is the text of the game that it brought, a final CR aside
+-- a line that made the list longer was answered with a number, and is the text of the game that it
+-- brought, a final CR aside
 pub record Brings (A : List Submission) (line : List ℕ) (r : Answer) (B : List Submission) : Type 0 where
   pub number : ℕ
   pub answered : r ≡ Ok number

@@ -1,4 +1,5 @@
--- A journal's games: one list, which grows by the lines of new games, whether its last line is torn or not.
+-- A journal's games: one list, which grows by the lines of new games, whether its last line is torn
+-- or not.
 use Rattle.std.proofs.Common.{◌≡◌, ◌≢◌, ◌∙◌, ℕ, ◌<◌, ◌≤◌, ◌⊎◌, true, false, cond, eqb, List, [], ◌∷◌, ◌++◌, Ok, Err, All, IsOk, length, take, drop, refl, sym, ap, subst, inl, inr, arith, append-nil, append_assoc}
 use Rattle.std.specs.List.{count_by, flat_map, slice_split}
 use Rattle.std.specs.Prelude.{Bool, nat_lt, if◌then◌else◌}

@@ -22,8 +22,9 @@ pub record PutsOn (old new : SinkState) (bytes : List ℕ) : Type 0 where
   pub stays_failed : old.failed ≡ true → new.failed ≡ true
   pub lasts : Lasts old.lasting new.lasting
 
--- What a call does that puts bytes and then flushes once, and may want memory on the way: all of these bytes were put and then handed
--- on; or the sink has failed, or memory was wanting, and of these bytes a front was put.
+-- What a call does that puts bytes and then flushes once, and may want memory on the way: all of
+-- these bytes were put and then handed on; or the sink has failed, or memory was wanting, and of
+-- these bytes a front was put.
 abbrev pub WritesOrWants : SinkState → SinkState → Result (Unit {0}) WriteFault → List ℕ → Type 0
 WritesOrWants old new (Ok done) bytes = Writes {E = WriteFault} old new (Ok done) bytes
 WritesOrWants old new (Err fault.Write) bytes = Writes old new (Err fault.Write) bytes

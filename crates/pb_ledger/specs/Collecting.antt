@@ -35,7 +35,8 @@ pub record Collects (sink sink' : SinkState) (ledger ledger' : LedgerState) (L :
 abbrev pub CollectsCounted : SinkState → SinkState → LedgerState → LedgerState → Totals → List (List ℕ) → Type 0
 CollectsCounted sink sink' ledger ledger' totals L = (h : Collects sink sink' ledger ledger' L) × Counts ledger ledger' h.answers totals
 
--- each line was taken, the reply to each but the last was put, and a front of the reply to the last one
+-- each line was taken, the reply to each but the last was put, and a front of the reply to the last
+-- one
 pub record CollectsButOne (sink sink' : SinkState) (ledger ledger' : LedgerState) (L : List (List ℕ)) : Type 0 where
   pub before : List (List ℕ)
   pub line : List ℕ
@@ -55,8 +56,8 @@ CollectsStream fills source source' sink sink' ledger ledger' totals =
 abbrev pub CollectsTold : SourceState → SourceState → SinkState → SinkState → LedgerState → LedgerState → Totals → Type 0
 CollectsTold source source' sink sink' ledger ledger' totals = IfTold source source' (CollectsCounted sink sink' ledger ledger' totals)
 
--- how collecting ends with each fault: the replies that were put await a flush; or the sink fails, at a reply or where the replies to all
--- lines were to be handed on, and none was
+-- how collecting ends with each fault: the replies that were put await a flush; or the sink fails,
+-- at a reply or where the replies to all lines were to be handed on, and none was
 abbrev pub CollectsUntil : ℕ → SourceState → SourceState → SinkState → SinkState → LedgerState → LedgerState → Fault → Type 0
 CollectsUntil fills source source' sink sink' ledger ledger' Read = AtFault fills source source' (Collects sink sink' ledger ledger') × AwaitsFlush sink sink'
 CollectsUntil fills source source' sink sink' ledger ledger' Endless = AtNoEnd fills source source' (Collects sink sink' ledger ledger') × AwaitsFlush sink sink'

@@ -27,8 +27,8 @@ pub record KeepsLent {T K J : Type 0} (s t : Collector T K J) : Type 0 where
   pub sink : t.sink.ghost_name ≡ s.sink.ghost_name
   pub journal : t.journal.ghost_name ≡ s.journal.ghost_name
 
--- The line was submitted, counted as a new game where the ledger has grown, and its reply put; the game that it brought, if any, is on the
--- journal.
+-- The line was submitted, counted as a new game where the ledger has grown, and its reply put; the
+-- game that it brought, if any, is on the journal.
 pub record Answered {T K J : Type 0} (state : K → SinkState) (kept : J → SinkState) (s : Collector T K J) (line : List ℕ) (result : Result (Unit {0}) JournalFault) (t : Collector T K J) : Type 0 where
   pub answer : Answer
   pub leads : Leads s.ledger.now t.ledger.now (line ∷ []) (answer ∷ [])
@@ -37,7 +37,8 @@ pub record Answered {T K J : Type 0} (state : K → SinkState) (kept : J → Sin
   pub gains : Gains (kept s.journal.now) (kept t.journal.now) s.ledger.now.accepted t.ledger.now.accepted
   pub same : KeepsLent s t
 
--- The line brought a game, of whose line a front was put before the journal failed, and not handed on; and no reply was put.
+-- The line brought a game, of whose line a front was put before the journal failed, and not handed
+-- on; and no reply was put.
 pub record Unkept {T K J : Type 0} (kept : J → SinkState) (s : Collector T K J) (line : List ℕ) (t : Collector T K J) : Type 0 where
   pub number : ℕ
   pub leads : Leads s.ledger.now t.ledger.now (line ∷ []) (Ok number ∷ [])
@@ -53,7 +54,8 @@ pub record Unkept {T K J : Type 0} (kept : J → SinkState) (s : Collector T K J
   pub same_sink : t.sink ≡ s.sink
   pub same : KeepsLent s t
 
--- what became of the line: it stops the collector where its reply couldn't be put, or the line of its game
+-- what became of the line: it stops the collector where its reply couldn't be put, or the line of
+-- its game
 abbrev pub TakesLine : {T K J : Type 0} → (K → SinkState) → (J → SinkState) → Collector T K J → List ℕ → Result (Unit {0}) JournalFault → Collector T K J → Type 0
 TakesLine state kept s line (Ok u) t = Answered state kept s line (Ok u) t
 TakesLine state kept s line (Err (Lines fault.Write)) t = Answered state kept s line (Err (Lines fault.Write)) t

@@ -1,4 +1,5 @@
--- A journal: the lines of games, each put there before its reply, of which the last line may be torn.
+-- A journal: the lines of games, each put there before its reply, of which the last line may be
+-- torn.
 use Rattle.std.specs.Prelude.{◌≡◌, ◌≢◌, ℕ, if◌then◌else◌, List, [], ◌∷◌, All, Err, flat_map, map}
 use Rattle.pb_board.specs.LineEnd.{with_end}
 use Rattle.pb_io.specs.Lines.{ended_lines, is_torn}

@@ -13,7 +13,8 @@ use Rattle.pb_ledger.specs.declared.loading.LoadError.TheVariants.{Line, Read, E
 use Rattle.pb_ledger.specs.Lending.{KeepsLedger}
 use Rattle.pb_ledger.specs.Loading.{is_header}
 
--- what comes of the answer to line n, where A became B: after a header the line has to bring a new game
+-- what comes of the answer to line n, where A became B: after a header the line has to bring a new
+-- game
 abbrev pub Judged : Bool → ℕ → List Submission → List Submission → Answer → Result (Unit {0}) LoadError → Type 0
 Judged is_saved n A B answer (Ok x) = IsOk answer × (IsTrue is_saved → length B ≡ length A + 1)
 Judged is_saved n A B answer (Err Memory) = answer ≡ Err refusal.Memory

@@ -1,4 +1,5 @@
--- What the lines of a saved ledger, or of an old list of submission lines, make of a ledger without games.
+-- What the lines of a saved ledger, or of an old list of submission lines, make of a ledger without
+-- games.
 use Rattle.std.specs.Prelude.{◌≡◌, ◌≢◌, ℕ, ◌≤◌, ◌⊎◌, Bool, false, if◌then◌else◌, List, [], ◌∷◌, ◌++◌, length, All, Err, IsOk, IsErr, IsTrue, Result, MatchResult}
 use Rattle.std.specs.Str.{bytes_eq}
 use Rattle.std.specs.Str.Lines.{strip_carriage_return}
@@ -43,7 +44,8 @@ pub record LoadsButOne (cap : ℕ) (ls : List (List ℕ)) (B : List Submission) 
   pub loads : Loads cap before B
   pub no_header : before ≡ [] → is_header line ≡ false
 
--- the last line is refused, and not for want of memory, or brings no new game after a header, and is the n-th, from 1
+-- the last line is refused, and not for want of memory, or brings no new game after a header, and
+-- is the n-th, from 1
 pub record EndsAtLine (cap n : ℕ) (B : List Submission) (ls : List (List ℕ)) : Type 0 where
   pub but_one : LoadsButOne cap ls B
   pub number : n ≡ length ls
@@ -74,7 +76,8 @@ LoadsUntil fills source source' old new Read = AtFault fills source source' (λ 
 LoadsUntil fills source source' old new Endless = AtNoEnd fills source source' (λ ls. Loads old.cap ls new.accepted)
 LoadsUntil fills source source' old new Memory = ((source' ≡ source) × (new ≡ old)) ⊎ AtLine fills source source' (WantsMemory old.cap new.accepted)
 
--- where the source tells a saved ledger that fits, doesn't fail and ends within the fills, its games are held, want of memory aside
+-- where the source tells a saved ledger that fits, doesn't fail and ends within the fills, its
+-- games are held, want of memory aside
 abbrev pub LoadsSaved : ℕ → SourceState → SourceState → LedgerState → LedgerState → Result ℕ LoadError → Type 0
 LoadsSaved fills source source' old new answer = (A : List Submission) (bytes : List ℕ)
     → All IsSubmission A → HaveOwnIds A → length A ≤ old.cap → Saved A bytes → Tells fills source source' bytes

@@ -1,4 +1,5 @@
--- How the replay of a journal into a ledger without games ends, over the states of the journal as a source and as a sink.
+-- How the replay of a journal into a ledger without games ends, over the states of the journal as a
+-- source and as a sink.
 use Rattle.std.specs.Prelude.{◌≡◌, ℕ, ◌⊎◌, false, true, List, [], ◌∷◌, ◌++◌, take, Err}
 use Rattle.std.specs.Io.KnownBytes.{Appends}
 use Rattle.pb_io.specs.Count.{next_count}
@@ -15,7 +16,8 @@ use Rattle.pb_accepted.specs.Accepting.{Step}
 use Rattle.pb_accepted.specs.Ledger.{LedgerState}
 use Rattle.pb_ledger.specs.Journal.{Journals, Replays, mending, seal}
 
--- a torn end was sealed, and that was handed on, once; where the end isn't torn the journal is as it was
+-- a torn end was sealed, and that was handed on, once; where the end isn't torn the journal is as
+-- it was
 pub record Mends (came : List ℕ) (journal journal' : SinkState) : Type 0 where
   pub put : Appends journal.bytes journal'.bytes (mending came)
   pub whole : is_torn came ≡ false → journal' ≡ journal
@@ -30,7 +32,8 @@ pub record ReplaysAll (fills : ℕ) (source source' : SourceState) (journal jour
   pub holds : Journals old.cap came new.accepted
   pub mends : Mends came journal journal'
 
--- all bytes came and the ledger holds the games, but the torn end couldn't be sealed, and nothing was handed on
+-- all bytes came and the ledger holds the games, but the torn end couldn't be sealed, and nothing
+-- was handed on
 pub record MendsNot (fills : ℕ) (source source' : SourceState) (journal journal' : SinkState) (old new : LedgerState) : Type 0 where
   pub came : List ℕ
   pub reads : ReadsAll chunk_len fills source source' came
@@ -41,7 +44,8 @@ pub record MendsNot (fills : ℕ) (source source' : SourceState) (journal journa
   pub fails : journal'.failed ≡ true
   pub flushes : journal'.flushes ≡ journal.flushes
 
--- the lines but the last one leave B, and the last one brings a new game, for which memory was wanting
+-- the lines but the last one leave B, and the last one brings a new game, for which memory was
+-- wanting
 pub record WantsMemoryFor (cap : ℕ) (B : List Submission) (ls : List (List ℕ)) : Type 0 where
   pub before : List (List ℕ)
   pub line : List ℕ

@@ -17,7 +17,8 @@ abbrev pub SavedLoads : Type 0
 SavedLoads = (cap : ℕ) (A : List Submission) (bytes : List ℕ) → All IsSubmission A → HaveOwnIds A → length A ≤ cap → Saved A bytes
     → Loads cap (lines bytes) A × ((B : List Submission) → Loads cap (lines bytes) B → B ≡ A)
 
--- a run, what it holds saved and loaded, and a further run from there are one run, with the same answers and so the same replies
+-- a run, what it holds saved and loaded, and a further run from there are one run, with the same
+-- answers and so the same replies
 abbrev pub ContinuedIsOneRun : Type 0
 ContinuedIsOneRun = (cap : ℕ) (K L : List (List ℕ)) (Q R : List Answer) (A B C : List Submission) (bytes : List ℕ)
     → Run cap [] K Q A → Saved A bytes → Loads cap (lines bytes) B → Run cap B L R C

@@ -6,8 +6,8 @@ ghost use Rattle.pb_ledger.specs.Journal.{seal};
 ghost use Rattle.pb_ledger.specs.Replayer.{Stops};
 ghost use Rattle.pb_ledger.specs.Replaying.{ReplaysAll, ReplaysUntil};
 
-use crate::passed::PassedLines;
 use crate::saving::HEADER;
+use crate::skipped::SkippedLines;
 use pb_accepted::Ledger;
 use pb_board::without_return;
 use pb_games::Refusal;
@@ -24,16 +24,16 @@ const SEALED: &[u8] = b"\t\t\t\t";
 
 /// Submits the lines of a journal and counts them.
 #[derive(Drop)]
-struct Replayer<'l, T: Tally, W: PassedLines> {
+struct Replayer<'l, T: Tally, W: SkippedLines> {
     ledger: &'l mut Ledger<T>,
-    passed: &'l mut W,
+    skipped: &'l mut W,
     lines: u64,
 }
 
-impl<T: Tally, W: PassedLines> Replayer<'_, T, W> {
+impl<T: Tally, W: SkippedLines> Replayer<'_, T, W> {
     /// Passes over the line that was counted last and is refused so, which changed nothing, and
     /// tells its number where it is neither sealed nor a header. Where memory was wanting, it can't
-    /// be passed over.
+    /// be skipped.
     fn pass_over(&mut self, line: &[u8], refusal: Refusal) -> Result<(), Fault>
         ensures ledger { self.new.ledger ≡ self.old.ledger }
         ensures stops { Stops (Err refusal) result }
@@ -43,13 +43,13 @@ impl<T: Tally, W: PassedLines> Replayer<'_, T, W> {
         }
         let is_header = self.lines == 1 && without_return(line) == HEADER;
         if !is_header && !line.ends_with(SEALED) {
-            self.passed.tell(self.lines);
+            self.skipped.tell(self.lines);
         }
         Ok(())
     }
 }
 
-impl<T: Tally, W: PassedLines> LineTask for Replayer<'_, T, W> {
+impl<T: Tally, W: SkippedLines> LineTask for Replayer<'_, T, W> {
     type Stop = Fault;
 
     ghost use Rattle.pb_ledger.specs.Replayer.{TakesLine};
@@ -67,7 +67,7 @@ impl<T: Tally, W: PassedLines> LineTask for Replayer<'_, T, W> {
     fn take_long(&mut self) -> Result<(), Fault> {
         self.lines = self.lines.saturating_add(1);
         // It is refused for its length.
-        self.passed.tell(self.lines);
+        self.skipped.tell(self.lines);
         Ok(())
     }
 }
@@ -79,9 +79,9 @@ impl<T: Tally, W: PassedLines> LineTask for Replayer<'_, T, W> {
 /// a torn line: they are not taken, and four TABs and an LF are put on the sink and handed on, so
 /// that they never are a submission. A journal whose end isn't torn is left as it was.
 ///
-/// `passed` is told the number of each line that is refused, for another cause than want of memory,
-/// but for a sealed one and for the header of a saved ledger as the first line. A line of more than
-/// `LINE_LIMIT` bytes is told, sealed or not. No clause speaks of it: it is for people.
+/// `skipped` is told the number of each line that is refused, for another cause than want of
+/// memory, but for a sealed one and for the header of a saved ledger as the first line. A line of
+/// more than `LINE_LIMIT` bytes is told, sealed or not. No clause speaks of it: it is for people.
 ///
 /// # Errors
 ///
@@ -97,12 +97,12 @@ impl<T: Tally, W: PassedLines> LineTask for Replayer<'_, T, W> {
 /// `Write`: the sink has failed when the torn end was to be sealed. The ledger holds all games of
 /// the journal, and a front of the TABs and the LF may have been put. With the other errors nothing
 /// was put on the sink.
-pub fn replay<T: Tally, S: Source, J: Sink, W: PassedLines>(
+pub fn replay<T: Tally, S: Source, J: Sink, W: SkippedLines>(
     alloc: Global,
     source: &mut S,
     journal: &mut J,
     ledger: &mut Ledger<T>,
-    passed: &mut W,
+    skipped: &mut W,
     fills: u32,
 ) -> Result<(), Fault>
     requires { ledger.old.accepted ≡ [] }
@@ -115,7 +115,7 @@ pub fn replay<T: Tally, S: Source, J: Sink, W: PassedLines>(
 {
     let mut replayer = Replayer {
         ledger,
-        passed,
+        skipped,
         lines: 0,
     };
     let is_torn = take_ended_lines(alloc, source, &mut replayer, fills)?;

@@ -1,5 +1,5 @@
-//! What a run tells on standard error: faults, warnings, how far it is and what it has made. It
-//! knows no game and no file's format, but the words of the replies and refusals that it counts.
+//! What a run tells on standard error: faults, warnings, how far it is and what it has made. Of the
+//! formats it knows the words of the replies and refusals that it counts.
 #![tactic(auto)]
 
 mod counts;

@@ -205,7 +205,7 @@ impl Display for Message<'_> {
             Message::Usage { text } => write!(f, "{text}"),
             Message::CannotBeMade { name, cause } => write!(f, "{name} can't be made: {cause}"),
             Message::PassedOver { name, number } => {
-                write!(f, "{name}: line {number} can't be taken; it is passed over")
+                write!(f, "{name}: line {number} can't be taken; it is skipped")
             }
             Message::PassedOverMore { name } => write!(f, "{name}: more lines can't be taken"),
             Message::LooksLike(Looks::Pgn) => {

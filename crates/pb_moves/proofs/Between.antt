@@ -1,10 +1,10 @@
 -- What lies between two squares of one line, told from the two ends.
 use Rattle.std.proofs.Common.{ℕ, arith, inl, inr}
 use Rattle.std.proofs.lemmas.Bool.{cases_order}
-use Rattle.pb_moves.specs.Sight.{Along, Between}
-use Rattle.pb_moves.specs.declared.ways.Lines.{Lines}
-use Rattle.pb_moves.specs.declared.ways.Lines.TheVariants.{Straight, Diagonal}
-use Rattle.pb_moves.specs.Reach.{LiesBetween, IsDiagonal, IsStraight}
+use Rattle.pb_moves.specs.Attackers.{Along, Between}
+use Rattle.pb_moves.specs.declared.rays.Slider.{Slider}
+use Rattle.pb_moves.specs.declared.rays.Slider.TheVariants.{Orthogonal, Diagonal}
+use Rattle.pb_moves.specs.Reach.{LiesBetween, IsDiagonal, IsOrthogonal}
 
 -- what lies between two squares lies between them from the other end
 pub between_back : (a q b : ℕ) → LiesBetween a q b → LiesBetween b q a
@@ -21,8 +21,8 @@ between_back a q b h =
           (omega arith, omega arith));
     }
 
--- what is straight from both ends and between them lies between
-straight_inside : (a b q : ℕ) → IsStraight a b → IsStraight a q → IsStraight b q → Between a b q → LiesBetween a q b
+-- what is orthogonal from both ends and between them lies between
+straight_inside : (a b q : ℕ) → IsOrthogonal a b → IsOrthogonal a q → IsOrthogonal b q → Between a b q → LiesBetween a q b
 straight_inside a b q (inl s) (inl u) (inl v) w = record { not_first = λ e. omega arith; not_last = λ e. omega arith; files = omega arith; ranks = omega arith; on_diagonal = λ d. absurd (omega arith) }
 straight_inside a b q (inl s) (inl u) (inr v) w = absurd (omega arith)
 straight_inside a b q (inl s) (inr u) v w = absurd (omega arith)
@@ -35,7 +35,7 @@ diagonal_inside a b q s u v (inl w) = record { not_first = λ e. omega arith; no
 diagonal_inside a b q s u v (inr w) = record { not_first = λ e. omega arith; not_last = λ e. omega arith; files = omega arith; ranks = omega arith; on_diagonal = λ d. u }
 
 -- and what lies between is on the line with both ends, and its index between theirs
-straight_outside : (a b q : ℕ) → IsStraight a b → LiesBetween a q b → IsStraight a q × IsStraight b q × Between a b q
+straight_outside : (a b q : ℕ) → IsOrthogonal a b → LiesBetween a q b → IsOrthogonal a q × IsOrthogonal b q × Between a b q
 straight_outside a b q (inl s) h =
     let f = h.files in
     let r = h.ranks in
@@ -76,10 +76,10 @@ diagonal_outside a b q s h =
     ]
 
 -- the same for lines of either kind
-pub inside : (lines : Lines) (a b q : ℕ) → Along lines a b → Along lines a q → Along lines b q → Between a b q → LiesBetween a q b
-inside Straight a b q s u v w = straight_inside a b q s u v w
+pub inside : (lines : Slider) (a b q : ℕ) → Along lines a b → Along lines a q → Along lines b q → Between a b q → LiesBetween a q b
+inside Orthogonal a b q s u v w = straight_inside a b q s u v w
 inside Diagonal a b q s u v w = diagonal_inside a b q s u v w
 
-pub outside : (lines : Lines) (a b q : ℕ) → Along lines a b → LiesBetween a q b → Along lines a q × Along lines b q × Between a b q
-outside Straight a b q s h = straight_outside a b q s h
+pub outside : (lines : Slider) (a b q : ℕ) → Along lines a b → LiesBetween a q b → Along lines a q × Along lines b q × Between a b q
+outside Orthogonal a b q s h = straight_outside a b q s h
 outside Diagonal a b q s h = diagonal_outside a b q s h

@@ -1,4 +1,5 @@
--- The moves of two pieces: a pawn that takes another en passant goes by way of that pawn's square, and a rook goes after its king.
+-- The moves of two pieces: a pawn that takes another en passant goes by way of that pawn's square,
+-- and a rook goes after its king.
 use Rattle.std.proofs.Common.{◌≡◌, ◌≢◌, ℕ, ◌+◌, ◌*◌, ◌<◌, arith, refl, sym, ap, subst, ◌∙◌, inr, Some, None, [], ◌∷◌, length}
 use Rattle.std.proofs.lemmas.List.{set-set}
 use Rattle.std.proofs.lemmas.List.Elements.{All-nil, All-cons}
@@ -8,9 +9,9 @@ use Rattle.pb_board.specs.declared.piece.Kind.TheVariants.{Pawn, King}
 use Rattle.pb_board.specs.declared.piece.Piece.{Piece}
 use Rattle.pb_board.specs.Piece.{king_of, pawn_of, piece_of, rook_of}
 use Rattle.pb_board.specs.Board.{Board, Place, at, file, rank, IsForward}
-use Rattle.pb_board.specs.declared.setup.Carried.{Carried}
-use Rattle.pb_board.specs.Carried.{carried_on, carried_twice}
-use Rattle.pb_board.specs.Position.{Position, IsSetup, beyond, carried_board}
+use Rattle.pb_board.specs.declared.setup.MovedPiece.{MovedPiece}
+use Rattle.pb_board.specs.MovedPiece.{with_moved, with_two_moved}
+use Rattle.pb_board.specs.Position.{Position, IsSetup, beyond, with_piece_moved}
 use Rattle.pb_board.specs.declared.castling.Castling.{Castling}
 use Rattle.pb_board.specs.Castling.{castling_row}
 use Rattle.pb_moves.specs.Attacks.{files_apart, ranks_apart}
@@ -21,20 +22,20 @@ use Rattle.pb_moves.specs.declared.move_kind.MoveKind.TheVariants.{Double}
 use Rattle.pb_moves.specs.MoveKind.{LeadsTo}
 use Rattle.pb_moves.specs.Moved.{Moved, IsMove}
 use Rattle.pb_moves.specs.Reach.{Reaches}
-use Rattle.pb_moves.proofs.Carried.{put}
+use Rattle.pb_moves.proofs.MovedPiece.{put}
 use Rattle.pb_moves.proofs.Castlings.{rows}
 use Rattle.pb_moves.proofs.Differing.{All-two, at_put_other, at_put_same, carried_put, differs_put, length_put, lifted_put, off_one, off_two}
 use Rattle.pb_moves.proofs.Kept.{double_becomes, en_passant_rank_inside}
-use Rattle.pb_moves.proofs.Kings.{castling_free, castling_king, gone_is_beyond, pawn_reach}
+use Rattle.pb_moves.proofs.Kings.{castling_unpinned, castling_king, gone_is_beyond, pawn_reach}
 use Rattle.pb_moves.proofs.Successors.{castled_writes}
 use Rattle.pb_moves.proofs.Unique.{en_passant_at, pawn_files, piece_is, step_ranks}
 
 -- a piece that goes where it may, in the place of what stood there
 goes_normal : (s : Position) (m : Moved) (p : Piece) (kind : Kind) → length s.board ≡ 64 → IsMove m → p.colour ≡ s.turn → Becomes p.colour m p.kind kind
-    → Goes s m p [] (carried_board s.board m.from m.to (piece_of p.colour kind))
+    → Goes s m p [] (with_piece_moved s.board m.from m.to (piece_of p.colour kind))
 goes_normal s m p kind full is own becomes =
     let B : Colour → Type 0 = λ c. Becomes c m p.kind kind in
-    let G : Colour → Type 0 = λ c. Goes s m p [] (carried_board s.board m.from m.to (piece_of c kind)) in
+    let G : Colour → Type 0 = λ c. Goes s m p [] (with_piece_moved s.board m.from m.to (piece_of c kind)) in
     subst G (sym own) (record {
       kind = kind;
       becomes = subst B own becomes;
@@ -42,23 +43,23 @@ goes_normal s m p kind full is own becomes =
     })
 
 pub piece_goes : (s : Position) (m : Moved) (p : Piece) → length s.board ≡ 64 → IsMove m → p.colour ≡ s.turn → p.kind ≢ Pawn → m.promo ≡ None
-    → Goes s m p [] (carried_board s.board m.from m.to p)
+    → Goes s m p [] (with_piece_moved s.board m.from m.to p)
 piece_goes s m p full is own no_pawn none = goes_normal s m p p.kind full is own (inr ((λ pawn. absurd (no_pawn pawn)), none, refl))
 
 pub pawn_goes : (s : Position) (m : Moved) (p : Piece) (kind : Kind) → length s.board ≡ 64 → IsMove m → p.colour ≡ s.turn → p.kind ≡ Pawn → Becomes p.colour m Pawn kind
-    → Goes s m p [] (carried_board s.board m.from m.to (piece_of p.colour kind))
+    → Goes s m p [] (with_piece_moved s.board m.from m.to (piece_of p.colour kind))
 pawn_goes s m p kind full is own pawn becomes =
     let B : Kind → Type 0 = λ k. Becomes p.colour m k kind in
     goes_normal s m p kind full is own (subst B (sym pawn) becomes)
 
 -- what stands on the squares after a piece has gone
-arrives_at : (board : Board) (c : Carried) → length board ≡ 64 → c.to < 64 → at (carried_on board c) c.to ≡ Some c.piece
+arrives_at : (board : Board) (c : MovedPiece) → length board ≡ 64 → c.to < 64 → at (with_moved board c) c.to ≡ Some c.piece
 arrives_at board c full on = at_put_same (put board c.from None) c.to (Some c.piece) (length_put board c.from None full) on
 
-stays_at : (board : Board) (c : Carried) (q : ℕ) → q ≢ c.from → q ≢ c.to → at (carried_on board c) q ≡ at board q
+stays_at : (board : Board) (c : MovedPiece) (q : ℕ) → q ≢ c.from → q ≢ c.to → at (with_moved board c) q ≡ at board q
 stays_at board c q from to = at_put_other (put board c.from None) c.to q (Some c.piece) to ∙ at_put_other board c.from q None from
 
-abbrev pub going : ℕ → ℕ → Piece → Carried
+abbrev pub going : ℕ → ℕ → Piece → MovedPiece
 going from to piece = record { from = from; to = to; piece = piece }
 
 -- the squares in the order in which they change, in that of a capture en passant
@@ -75,7 +76,7 @@ past_in_order old new a b c moved =
 
 -- a pawn goes by way of the square of the pawn that it takes
 goes_past : (p : Piece) (old : Board) (from to gone : ℕ) → length old ≡ 64 → from < 64 → to < 64 → gone < 64 → from ≢ to → gone ≢ from → gone ≢ to
-    → Differs old (carried_twice old (going from gone p) (going gone to p)) ((from, None) ∷ (to, Some p) ∷ (gone, None) ∷ [])
+    → Differs old (with_two_moved old (going from gone p) (going gone to p)) ((from, None) ∷ (to, Some p) ∷ (gone, None) ∷ [])
 goes_past p old from to gone full on_from on_to on_gone ne apart_from apart_to =
     let a : ℕ × Place = (from, None) in
     let b : ℕ × Place = (to, Some p) in
@@ -110,7 +111,7 @@ takes_past s m pawn kind from to gone ok is own is_pawn becomes square reaches f
     let first = going m.from gone pawn in
     let second = going gone m.to pawn in
     let piece : pawn ≡ pawn_of side = piece_is pawn side Pawn own.own is_pawn in
-    let new = carried_twice s.board first second in
+    let new = with_two_moved s.board first second in
     let P : Piece → Type 0 = λ p. Differs s.board new ((m.from, None) ∷ (m.to, Some p) ∷ (gone, None) ∷ []) in
     let D : ℕ → Type 0 = λ g. Differs s.board new ((m.from, None) ∷ (m.to, Some (pawn_of side)) ∷ (g, None) ∷ []) in
     let moved = subst P piece (goes_past pawn s.board m.from m.to gone ok.places on_from on_to on_gone is.moves off_from off_to) in
@@ -134,12 +135,12 @@ castles_so c s m king rook from to rook_from rook_to ok is own is_king none home
     let squares = rows c in
     let first = going m.from m.to king in
     let second = going row.rook_from row.rook_to (rook_of row.colour) in
-    let free = castling_free c s may in
+    let unpinned = castling_unpinned c s may in
     let the_king = castling_king s m king row own.stands own.own is_king home may in
     let off_from : (q : ℕ) → row.king_from ≢ q → q ≢ m.from = λ q ne e. ne (sym (e ∙ home)) in
     let off_to : (q : ℕ) → row.king_to ≢ q → q ≢ m.to = λ q ne e. ne (sym (e ∙ target)) in
-    let kept : (q : ℕ) → row.king_from ≢ q → row.king_to ≢ q → at (carried_on s.board first) q ≡ at s.board q = λ q f t. stays_at s.board first q (off_from q f) (off_to q t) in
-    let new = carried_twice s.board first second in
+    let kept : (q : ℕ) → row.king_from ≢ q → row.king_to ≢ q → at (with_moved s.board first) q ≡ at s.board q = λ q f t. stays_at s.board first q (off_from q f) (off_to q t) in
+    let new = with_two_moved s.board first second in
     let after : (d : Castling) × Castles (castling_row d) s m king new = (
       c,
       record {
@@ -152,9 +153,9 @@ castles_so c s m king rook from to rook_from rook_to ok is own is_king none home
           becomes = inr ((λ pawn. absurd cc), none, sym is_king);
           board =
               (let B : ℕ → ℕ → Piece → Type 0 = λ f t p.
-              Differs s.board (carried_twice s.board (going f t p) second) ((f, None) ∷ (t, Some (king_of s.turn)) ∷ rook_goes row) in
+              Differs s.board (with_two_moved s.board (going f t p) second) ((f, None) ∷ (t, Some (king_of s.turn)) ∷ rook_goes row) in
               let side : king_of row.colour ≡ king_of s.turn = ap king_of (sym may.side) in
-              let D : Piece → Type 0 = λ p. Differs s.board (carried_twice s.board (going row.king_from row.king_to (king_of row.colour)) second) ((row.king_from, None) ∷ (row.king_to, Some p) ∷ rook_goes row) in
+              let D : Piece → Type 0 = λ p. Differs s.board (with_two_moved s.board (going row.king_from row.king_to (king_of row.colour)) second) ((row.king_from, None) ∷ (row.king_to, Some p) ∷ rook_goes row) in
               let made : B row.king_from row.king_to (king_of row.colour) = subst D side (castled_writes row s.board squares ok.places) in
               subst (λ (p : Piece). B m.from m.to p) (sym the_king.0)
               (subst (λ (t : ℕ). B m.from t (king_of row.colour)) (sym target) (subst (λ (f : ℕ). B f row.king_to (king_of row.colour)) (sym home) made)));
@@ -171,7 +172,7 @@ castles_so c s m king rook from to rook_from rook_to ok is own is_king none home
           on_board = squares.rook_to;
           moves = squares.rook_moves;
         },
-        kept row.rook_to squares.from_rook_to squares.to_rook_to ∙ free.1,
+        kept row.rook_to squares.from_rook_to squares.to_rook_to ∙ unpinned.1,
       ),
       after,
     ) in

@@ -6,9 +6,10 @@ use Rattle.pb_board.specs.declared.castling.Castling.{Castling}
 use Rattle.pb_board.specs.declared.castling.Castling.TheVariants.{WhiteShort, WhiteLong, BlackShort, BlackLong}
 use Rattle.pb_board.specs.Castling.{CastlingRow, castling_from_home, castling_of, castling_row, castlings}
 use Rattle.pb_moves.specs.Attacks.{files_apart}
-use Rattle.pb_moves.specs.Reach.{LiesBetween, IsStraight}
+use Rattle.pb_moves.specs.Reach.{LiesBetween, IsOrthogonal}
 
--- the four squares of a row lie on the board and differ, and king and rook go between where they began
+-- the four squares of a row lie on the board and differ, and king and rook go between where they
+-- began
 pub record IsRow (row : CastlingRow) : Type 0 where
   pub king_from : row.king_from < 64
   pub king_to : row.king_to < 64
@@ -20,7 +21,7 @@ pub record IsRow (row : CastlingRow) : Type 0 where
   pub to_rook : row.king_to ≢ row.rook_from
   pub to_rook_to : row.king_to ≢ row.rook_to
   pub rook_moves : row.rook_from ≢ row.rook_to
-  pub straight : IsStraight row.rook_from row.king_from
+  pub orthogonal : IsOrthogonal row.rook_from row.king_from
   pub king_crosses : LiesBetween row.king_from row.king_to row.rook_from
   pub rook_crosses : LiesBetween row.king_from row.rook_to row.rook_from
 
@@ -36,7 +37,7 @@ rows WhiteShort = record {
   to_rook = λ e. omega arith;
   to_rook_to = λ e. omega arith;
   rook_moves = λ e. omega arith;
-  straight = inr (omega arith, omega arith);
+  orthogonal = inr (omega arith, omega arith);
   king_crosses = record { not_first = λ e. omega arith; not_last = λ e. omega arith; files = refl; ranks = refl; on_diagonal = λ d. absurd (omega arith) };
   rook_crosses = record { not_first = λ e. omega arith; not_last = λ e. omega arith; files = refl; ranks = refl; on_diagonal = λ d. absurd (omega arith) };
 }
@@ -51,7 +52,7 @@ rows c = record {
   to_rook = λ e. omega arith;
   to_rook_to = λ e. omega arith;
   rook_moves = λ e. omega arith;
-  straight = inr (omega arith, omega arith);
+  orthogonal = inr (omega arith, omega arith);
   king_crosses = record { not_first = λ e. omega arith; not_last = λ e. omega arith; files = refl; ranks = refl; on_diagonal = λ d. absurd (omega arith) };
   rook_crosses = record { not_first = λ e. omega arith; not_last = λ e. omega arith; files = refl; ranks = refl; on_diagonal = λ d. absurd (omega arith) };
 }

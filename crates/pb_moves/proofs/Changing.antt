@@ -3,20 +3,20 @@ use Rattle.std.proofs.Common.{◌≡◌, ◌≢◌, ◌↔◌, ℕ, Bool, true, 
 use Rattle.std.proofs.lemmas.Bool.{false≢true}
 use Rattle.pb_board.specs.declared.piece.Colour.{Colour}
 use Rattle.pb_board.specs.declared.piece.Piece.{Piece}
-use Rattle.pb_board.specs.declared.setup.Carried.{Carried}
+use Rattle.pb_board.specs.declared.setup.MovedPiece.{MovedPiece}
 use Rattle.pb_board.specs.Piece.{opponent}
 use Rattle.pb_board.specs.Board.{Board, Holds}
-use Rattle.pb_board.specs.Carried.{carried_on, carried_twice}
-use Rattle.pb_board.specs.Position.{Position, IsSetup, IsOnlyKing, carried_board}
+use Rattle.pb_board.specs.MovedPiece.{with_moved, with_two_moved}
+use Rattle.pb_board.specs.Position.{Position, IsSetup, IsOnlyKing, with_piece_moved}
 use Rattle.pb_moves.specs.declared.move_kind.MoveKind.{MoveKind}
 use Rattle.pb_moves.specs.declared.move_kind.MoveKind.TheVariants.{Double}
-use Rattle.pb_moves.specs.declared.sight.Sight.{Sight}
+use Rattle.pb_moves.specs.declared.attackers.Attackers.{Attackers}
 use Rattle.pb_moves.specs.Moved.{Moved, IsMove}
 use Rattle.pb_moves.specs.MoveKind.{CanGo, Fits, LeadsTo, board_by}
 use Rattle.pb_moves.specs.Reach.{IsReached, KingInReach}
 use Rattle.pb_moves.specs.Candidate.{HoldsOwn}
 use Rattle.pb_moves.specs.Cases.{Differs, CaseOf, SafeCase}
-use Rattle.pb_moves.specs.Sight.{Sees}
+use Rattle.pb_moves.specs.Attackers.{AreAttackers}
 use Rattle.pb_moves.proofs.Differing.{carried_put, holds_on_board, length_put}
 use Rattle.pb_moves.proofs.Legality.{not_legal_in_check, legal_out_of_check}
 use Rattle.pb_moves.proofs.Pins.{differ}
@@ -26,35 +26,35 @@ own_differs side enemy colour e c same =
     let both : opponent side ≡ side = sym e ∙ (sym same ∙ c) in differ side both
 
 -- what is seen of the enemy's attackers before and after the side to move has moved a piece
-abbrev pub Follows : Position → Sight → ℕ → ℕ → Sight → Type 0
-Follows s seen from to after = (old new : Board) (piece own : Piece) → Sees old (opponent s.turn) seen → Differs old new ((from, None) ∷ (to, Some piece) ∷ [])
-    → piece.colour ≡ s.turn → Holds old from own → own.colour ≡ s.turn → Sees new (opponent s.turn) after
+abbrev pub Follows : Position → Attackers → ℕ → ℕ → Attackers → Type 0
+Follows s seen from to after = (old new : Board) (piece own : Piece) → AreAttackers old (opponent s.turn) seen → Differs old new ((from, None) ∷ (to, Some piece) ∷ [])
+    → piece.colour ≡ s.turn → Holds old from own → own.colour ≡ s.turn → AreAttackers new (opponent s.turn) after
 
-pub follows : (s : Position) (seen : Sight) (from to : ℕ) (after : Sight)
-    → ((old new : Board) (by : Colour) (piece own : Piece) → Sees old by seen → Differs old new ((from, None) ∷ (to, Some piece) ∷ []) → piece.colour ≢ by → Holds old from own → own.colour ≢ by → Sees new by after)
+pub follows : (s : Position) (seen : Attackers) (from to : ℕ) (after : Attackers)
+    → ((old new : Board) (by : Colour) (piece own : Piece) → AreAttackers old by seen → Differs old new ((from, None) ∷ (to, Some piece) ∷ []) → piece.colour ≢ by → Holds old from own → own.colour ≢ by → AreAttackers new by after)
     → Follows s seen from to after
 follows s seen from to after carries old new piece own sees moved arrives stands leaves =
     let other = λ (p : Piece) (e : p.colour ≡ s.turn). own_differs s.turn (opponent s.turn) p.colour refl e in
     carries old new (opponent s.turn) piece own sees moved (other piece arrives) stands (other own leaves)
 
 -- what is seen after each kind of move
-pub sees_normal : (s : Position) (m : Moved) (piece arriving : Piece) (seen after : Sight) → IsSetup s → IsMove m → HoldsOwn s m.from piece → arriving.colour ≡ s.turn
-    → Sees s.board (opponent s.turn) seen → Follows s seen m.from m.to after → Sees (carried_board s.board m.from m.to arriving) (opponent s.turn) after
+pub sees_normal : (s : Position) (m : Moved) (piece arriving : Piece) (seen after : Attackers) → IsSetup s → IsMove m → HoldsOwn s m.from piece → arriving.colour ≡ s.turn
+    → AreAttackers s.board (opponent s.turn) seen → Follows s seen m.from m.to after → AreAttackers (with_piece_moved s.board m.from m.to arriving) (opponent s.turn) after
 sees_normal s m piece arriving seen after ok is own arrives sees carries =
-    carries s.board (carried_board s.board m.from m.to arriving) arriving piece sees
+    carries s.board (with_piece_moved s.board m.from m.to arriving) arriving piece sees
     (carried_put s.board m.from m.to arriving ok.places is.from_on_board is.to_on_board is.moves) arrives own.stands own.own
 
-sees_going : (s : Position) (board : Board) (c : Carried) (seen after : Sight) → length board ≡ 64 → CanGo board s.turn c
-    → Sees board (opponent s.turn) seen → Follows s seen c.from c.to after → Sees (carried_on board c) (opponent s.turn) after
+sees_going : (s : Position) (board : Board) (c : MovedPiece) (seen after : Attackers) → length board ≡ 64 → CanGo board s.turn c
+    → AreAttackers board (opponent s.turn) seen → Follows s seen c.from c.to after → AreAttackers (with_moved board c) (opponent s.turn) after
 sees_going s board c seen after full can sees carries =
-    carries board (carried_on board c) c.piece c.piece sees
+    carries board (with_moved board c) c.piece c.piece sees
     (carried_put board c.from c.to c.piece full (holds_on_board board c.from c.piece full can.stands) can.on_board can.moves) can.own can.stands can.own
 
-pub sees_double : (s : Position) (first second : Carried) (seen one two : Sight) → IsSetup s → Fits (Double first second) s
-    → Sees s.board (opponent s.turn) seen → Follows s seen first.from first.to one → Follows s one second.from second.to two
-    → Sees (carried_twice s.board first second) (opponent s.turn) two
+pub sees_double : (s : Position) (first second : MovedPiece) (seen one two : Attackers) → IsSetup s → Fits (Double first second) s
+    → AreAttackers s.board (opponent s.turn) seen → Follows s seen first.from first.to one → Follows s one second.from second.to two
+    → AreAttackers (with_two_moved s.board first second) (opponent s.turn) two
 sees_double s first second seen one two ok fits sees there on =
-    let between = carried_on s.board first in
+    let between = with_moved s.board first in
     let full = length_put _ first.to (Some first.piece) (length_put s.board first.from None ok.places) in
     sees_going s between second one two full fits.1 (sees_going s s.board first seen one ok.places fits.0 sees there) on
 
@@ -82,12 +82,12 @@ test_tells s m piece new enemy king false ok own case e only tells = (
   λ legal. refl,
 )
 
-pub safe_test : (s : Position) (m : Moved) (piece : Piece) (kind : MoveKind) (side enemy : Colour) (king : ℕ) (sight : Sight) (hit : Bool) → IsSetup s
+pub safe_test : (s : Position) (m : Moved) (piece : Piece) (kind : MoveKind) (side enemy : Colour) (king : ℕ) (attackers : Attackers) (hit : Bool) → IsSetup s
     → HoldsOwn s m.from piece → LeadsTo (CaseOf s m piece) s m kind → side ≡ s.turn → enemy ≡ opponent side
-    → ((b : Board) → CaseOf s m piece b → IsOnlyKing b s.turn king) → Sees (board_by kind m s.board) (opponent s.turn) sight
-    → ((b : Board) → Sees b enemy sight → (IsTrue hit ↔ IsReached b enemy king)) → (IsTrue (not hit) ↔ SafeCase s m)
-safe_test s m piece kind side enemy king sight hit ok own leads same e only sees tells =
+    → ((b : Board) → CaseOf s m piece b → IsOnlyKing b s.turn king) → AreAttackers (board_by kind m s.board) (opponent s.turn) attackers
+    → ((b : Board) → AreAttackers b enemy attackers → (IsTrue hit ↔ IsReached b enemy king)) → (IsTrue (not hit) ↔ SafeCase s m)
+safe_test s m piece kind side enemy king attackers hit ok own leads same e only sees tells =
     let new = board_by kind m s.board in
     let other : enemy ≡ opponent s.turn = e ∙ ap opponent same in
-    let S : Colour → Type 0 = λ x. Sees new x sight in
+    let S : Colour → Type 0 = λ x. AreAttackers new x attackers in
     test_tells s m piece new enemy king hit ok own leads.1 other (only new leads.1) (tells new (subst S (sym other) sees))

@@ -3,15 +3,15 @@ use Rattle.std.proofs.Common.{◌≡◌, ℕ, ◌<◌, ◌^◌, ◌↔◌, arith
 use Rattle.std.specs.Int.{trailing_zeros}
 use Rattle.std.proofs.lemmas.Bool.{cases_lt}
 use Rattle.std.proofs.lemmas.Nat.{and_le_r}
-use Rattle.pb_moves.specs.Sight.{Along, Between, In, Open, Slides}
-use Rattle.pb_moves.specs.declared.ways.Lines.{Lines}
+use Rattle.pb_moves.specs.Attackers.{Along, Between, In, Open, Slides}
+use Rattle.pb_moves.specs.declared.rays.Slider.{Slider}
 use Rattle.pb_moves.proofs.Between.{inside, outside}
 use Rattle.pb_moves.proofs.Rising.{low_bit, without, without_other, without_same}
 use Rattle.pb_moves.proofs.Sets.{in_and, in_both, in_none, in_some}
 use Rattle.pb_moves.proofs.Differing.{same_or_not}
 
 -- what the code finds between two squares
-pub line_open : (lines : Lines) (occ a b x y z : ℕ) → Along lines a b → ((q : ℕ) → q < 64 → (In x q ↔ Along lines a q)) → ((q : ℕ) → q < 64 → (In y q ↔ Along lines b q)) → ((q : ℕ) → (In z q ↔ Between a b q))
+pub line_open : (lines : Slider) (occ a b x y z : ℕ) → Along lines a b → ((q : ℕ) → q < 64 → (In x q ↔ Along lines a q)) → ((q : ℕ) → q < 64 → (In y q ↔ Along lines b q)) → ((q : ℕ) → (In z q ↔ Between a b q))
     → bit_and (bit_and (bit_and x y) z) occ ≡ 0 → Open occ a b
 line_open lines occ a b x y z s fx fy fz e q on between stands =
     let o = outside lines a b q s between in
@@ -19,7 +19,7 @@ line_open lines occ a b x y z s fx fy fz e q on between stands =
     let inner = in_both (bit_and x y) z q line ((fz q).1 o.2) in
     in_none (bit_and (bit_and (bit_and x y) z) occ) q e (in_both (bit_and (bit_and x y) z) occ q inner stands)
 
-pub open_line : (lines : Lines) (occ a b x y z : ℕ) → Along lines a b → ((q : ℕ) → q < 64 → (In x q ↔ Along lines a q)) → ((q : ℕ) → q < 64 → (In y q ↔ Along lines b q)) → ((q : ℕ) → (In z q ↔ Between a b q))
+pub open_line : (lines : Slider) (occ a b x y z : ℕ) → Along lines a b → ((q : ℕ) → q < 64 → (In x q ↔ Along lines a q)) → ((q : ℕ) → q < 64 → (In y q ↔ Along lines b q)) → ((q : ℕ) → (In z q ↔ Between a b q))
     → occ < 2 ^ 64 → Open occ a b → bit_and (bit_and (bit_and x y) z) occ ≡ 0
 open_line lines occ a b x y z s fx fy fz small way =
     let all = bit_and (bit_and (bit_and x y) z) occ in
@@ -59,7 +59,7 @@ left_next occ square start rest at left small some here shut =
       ];
     }
 
-pub found_slider : (lines : Lines) (occ square sliders x rest at : ℕ) → ((q : ℕ) → q < 64 → (In x q ↔ Along lines square q)) → Left occ square (bit_and x sliders) rest → rest < 2 ^ 64
+pub found_slider : (lines : Slider) (occ square sliders x rest at : ℕ) → ((q : ℕ) → q < 64 → (In x q ↔ Along lines square q)) → Left occ square (bit_and x sliders) rest → rest < 2 ^ 64
     → trailing_zeros w64 rest < 64 → at ≡ trailing_zeros w64 rest → Along lines square at × (Open occ square at → Slides lines occ sliders square)
 found_slider kind occ square sliders x rest at lines left small some here =
     let on : at < 64 = omega arith in
@@ -69,6 +69,6 @@ found_slider kind occ square sliders x rest at lines left small some here =
     let line = (lines at on).0 both.0 in
     (line, λ way. record { from = at; on_board = on; stands = both.1; line = line; way = way })
 
-pub none_slides : (lines : Lines) (occ square sliders x rest : ℕ) → ((q : ℕ) → q < 64 → (In x q ↔ Along lines square q)) → Left occ square (bit_and x sliders) rest → rest ≡ 0 → ¬ Slides lines occ sliders square
+pub none_slides : (lines : Slider) (occ square sliders x rest : ℕ) → ((q : ℕ) → q < 64 → (In x q ↔ Along lines square q)) → Left occ square (bit_and x sliders) rest → rest ≡ 0 → ¬ Slides lines occ sliders square
 none_slides kind occ square sliders x rest lines left none h =
     left.seen h.from h.on_board (in_both x sliders h.from ((lines h.from h.on_board).1 h.line) h.stands) (in_none rest h.from none) h.way

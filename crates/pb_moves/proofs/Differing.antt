@@ -1,4 +1,5 @@
--- Boards that differ on named squares: what holds on each square, and the board that is made by putting.
+-- Boards that differ on named squares: what holds on each square, and the board that is made by
+-- putting.
 use Rattle.std.proofs.Common.{◌≡◌, ◌≢◌, ℕ, ◌<◌, ◌≤◌, ◌⊎◌, arith, inl, inr, sym, subst, ◌∙◌, Option, Some, None, List, [], ◌∷◌, ◌++◌, length, length-set, get_or-set_other, get_or-set_same, get_or, refl, suc}
 use Rattle.std.specs.Prelude.{All}
 use Rattle.std.proofs.lemmas.Bool.{cases_lt, cases_order}
@@ -7,7 +8,7 @@ use Rattle.std.proofs.lemmas.List.Elements.{All-nil, All-cons, All-head, All-pus
 use Rattle.pb_board.specs.declared.piece.Piece.{Piece}
 use Rattle.pb_board.specs.Board.{Board, Place, at, Holds, IsEmpty}
 use Rattle.pb_moves.specs.Cases.{Differs}
-use Rattle.pb_moves.proofs.Carried.{put}
+use Rattle.pb_moves.proofs.MovedPiece.{put}
 
 pub same_or_not : (a b : ℕ) → (a ≡ b) ⊎ (a ≢ b)
 same_or_not a b = elim (cases_order a b) [ inl e ↦ inl e | inr o ↦ inr (λ same. elim o [ inl l ↦ omega arith | inr g ↦ omega arith ]) ]

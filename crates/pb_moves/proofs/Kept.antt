@@ -1,5 +1,5 @@
--- A move of a setup leads to a setup: one king of each colour, no pawn on the first or last rank, and a fitting en
--- passant square.
+-- A move of a setup leads to a setup: one king of each colour, no pawn on the first or last rank,
+-- and a fitting en passant square.
 use Rattle.std.proofs.Common.{◌≡◌, ◌≢◌, ℕ, ◌+◌, ◌/◌, ◌<◌, refl, arith, inl, inr, sym, ap, subst, ◌∙◌, Option, Some, None, List, [], ◌∷◌, length}
 use Rattle.std.specs.Prelude.{All}
 use Rattle.std.proofs.lemmas.List.Elements.{All-nil, All-cons}

@@ -16,7 +16,7 @@ use Rattle.pb_moves.specs.Reach.{ReachesBy}
 use Rattle.pb_moves.specs.Moved.{Moved}
 use Rattle.pb_board.specs.Castling.{CastlingRow, castling_row}
 use Rattle.pb_moves.specs.Castling.{rook_goes, RowAllows}
-use Rattle.pb_moves.specs.Cases.{Differs, Becomes, Goes, CaseOf, piece_move, pawn_step, pawn_double, pawn_capture, en_passant, castles, IsPrey}
+use Rattle.pb_moves.specs.Cases.{Differs, Becomes, Goes, CaseOf, piece_move, pawn_step, pawn_double, pawn_capture, en_passant, castles, IsCapturable}
 use Rattle.pb_moves.proofs.Castlings.{rows}
 use Rattle.pb_moves.proofs.Differing.{All-two, arrived, each_place}
 use Rattle.pb_moves.proofs.Unique.{piece_is, en_passant_at}
@@ -57,7 +57,7 @@ pub rook_no_king : (colour side : Colour) → rook_of colour ≢ king_of side
 rook_no_king colour side same = let F : Piece → Kind = λ x. x.kind in let e = ap F same in cc
 
 -- the target of a piece or a capture holds no king
-pub open_no_king : (board : Board) (side : Colour) (to : ℕ) (c : Colour) → (IsEmpty board to ⊎ IsPrey board side to) → ¬ Holds board to (king_of c)
+pub open_no_king : (board : Board) (side : Colour) (to : ℕ) (c : Colour) → (IsEmpty board to ⊎ IsCapturable board side to) → ¬ Holds board to (king_of c)
 open_no_king board side to c (inl e) h = cc
 open_no_king board side to c (inr p) h =
     let same = holds_one board to _ (king_of c) p.stands h in
@@ -107,15 +107,15 @@ pub pawn_reach : (colour : Colour) (kind : Kind) (board : Board) (a b : ℕ) →
 pawn_reach colour Pawn board a b r e = r.1
 pawn_reach colour k board a b r e = absurd (cc)
 
--- the pawn that is taken en passant stands beyond the square that it passed over
+-- the pawn that is taken en passant stands beyond the square that it stepped over
 pub gone_is_beyond : (side : Colour) (from to gone : ℕ) → IsForward side 1 from to → file gone ≡ file to → rank gone ≡ rank from → gone ≡ beyond side to
 gone_is_beyond White from to gone forward gone_file gone_rank = omega arith
 gone_is_beyond Black from to gone forward gone_file gone_rank = omega arith
 
 -- where king and rook go nothing stood
-pub castling_free : (c : Castling) (s : Position) → RowAllows (castling_row c) s
+pub castling_unpinned : (c : Castling) (s : Position) → RowAllows (castling_row c) s
     → IsEmpty s.board (castling_row c).king_to × IsEmpty s.board (castling_row c).rook_to
-castling_free c s may =
+castling_unpinned c s may =
     let row = castling_row c in
     let squares = rows c in
     (may.way row.king_to squares.king_to squares.king_crosses, may.way row.rook_to squares.rook_to squares.rook_crosses)
@@ -160,12 +160,12 @@ king_stays s m p new side k ok stands own other only (en_passant x) =
 king_stays s m p new side k ok stands own other only (castles c x) =
     let row = castling_row c in
     let Safe : ℕ × Place → Type 0 = λ c. (c.1 ≢ Some (king_of side)) × ¬ Holds s.board c.0 (king_of side) in
-    let free = castling_free c s x.allowed in
+    let unpinned = castling_unpinned c s x.allowed in
     let rook : Piece = rook_of row.colour in
-    king_stays_going s m p new side k (rook_goes row) stands own other (open_no_king s.board s.turn m.to side (inl (empty_at s.board row.king_to m.to (sym x.to_table) free.0)))
+    king_stays_going s m p new side k (rook_goes row) stands own other (open_no_king s.board s.turn m.to side (inl (empty_at s.board row.king_to m.to (sym x.to_table) unpinned.0)))
     (All-two Safe (row.rook_from, None) (row.rook_to, Some rook) []
     ((λ e. absurd cc), λ h. rook_no_king row.colour side (holds_one s.board row.rook_from rook (king_of side) x.allowed.rook h))
-    ((λ e. rook_no_king row.colour side (some_one rook (king_of side) e)), λ h. empty_holds s.board row.rook_to row.rook_to (king_of side) free.1 refl h)
+    ((λ e. rook_no_king row.colour side (some_one rook (king_of side) e)), λ h. empty_holds s.board row.rook_to row.rook_to (king_of side) unpinned.1 refl h)
     (All-nil Safe)) only x.after
 
 -- a king that is moved stands where it arrives

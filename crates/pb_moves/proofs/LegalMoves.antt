@@ -1,4 +1,5 @@
--- A move by one of the cases is a move: two squares of the board that differ, and a lawful promotion.
+-- A move by one of the cases is a move: two squares of the board that differ, and a lawful
+-- promotion.
 use Rattle.std.proofs.Common.{◌≡◌, inl, inr, sym, subst, Some}
 use Rattle.pb_board.specs.declared.piece.Colour.{Colour}
 use Rattle.pb_board.specs.declared.piece.Kind.{Kind}

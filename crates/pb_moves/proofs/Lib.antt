@@ -6,7 +6,7 @@ pub mod Sets
 pub mod ClearWays
 pub mod Seen
 pub mod NearTargets
-pub mod Carried
+pub mod MovedPiece
 pub mod Differing
 pub mod Unique
 pub mod Kings

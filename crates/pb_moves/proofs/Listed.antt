@@ -17,7 +17,7 @@ use Rattle.pb_moves.specs.Attacks.{files_apart}
 use Rattle.pb_moves.specs.Reach.{ReachesBy}
 use Rattle.std.specs.Int.{bit_at, trailing_zeros}
 use Rattle.pb_moves.proofs.Pins.{differ}
-use Rattle.pb_moves.proofs.Kings.{castling_free, holds_one}
+use Rattle.pb_moves.proofs.Kings.{castling_unpinned, holds_one}
 use Rattle.pb_moves.proofs.Legality.{case_at}
 use Rattle.pb_moves.proofs.SameMoves.{legal_from, legal_to}
 use Rattle.pb_moves.specs.Legal.{Legal}
@@ -26,7 +26,7 @@ use Rattle.pb_moves.proofs.Rising.{low_bits, zeros_bound, zeros_rise, without, w
 use Rattle.pb_moves.specs.Moved.{Moved, IsMove, IsPromotion, promotion_number}
 use Rattle.pb_moves.specs.Packed.{promotion_small}
 use Rattle.pb_board.specs.Castling.{castling_row}
-use Rattle.pb_moves.specs.Cases.{SafeCase, CaseOf, piece_move, pawn_step, pawn_double, pawn_capture, en_passant, castles, Becomes, IsPrey}
+use Rattle.pb_moves.specs.Cases.{SafeCase, CaseOf, piece_move, pawn_step, pawn_double, pawn_capture, en_passant, castles, Becomes, IsCapturable}
 use Rattle.pb_moves.specs.Listing.{place, ListsLegal}
 use Rattle.pb_moves.specs.Candidate.{HoldsOwn, MayGo, MayPromote, ListsBelow}
 
@@ -161,26 +161,27 @@ promotion_some None h = absurd (omega arith)
 promotion_some (Some k) h = (k, refl)
 
 -- what is taken is no piece of the side that moves
-no_prey : (s : Position) (q : ℕ) (r : Piece) → IsPrey s.board s.turn q → HoldsOwn s q r → ⊥
-no_prey s q r prey own =
-    let enemy : Piece = record { colour = opponent s.turn; kind = prey.kind } in
-    differ s.turn (ap (λ (x : Piece). x.colour) (holds_one s.board q enemy r prey.stands own.stands) ∙ own.own)
+no_capturable : (s : Position) (q : ℕ) (r : Piece) → IsCapturable s.board s.turn q → HoldsOwn s q r → ⊥
+no_capturable s q r capturable own =
+    let enemy : Piece = record { colour = opponent s.turn; kind = capturable.kind } in
+    differ s.turn (ap (λ (x : Piece). x.colour) (holds_one s.board q enemy r capturable.stands own.stands) ∙ own.own)
 
 not_empty : (s : Position) (q : ℕ) (r : Piece) → IsEmpty s.board q → HoldsOwn s q r → ⊥
 not_empty s q r empty own = let no : None ≡ Some r = sym empty ∙ own.stands in cc
 
 -- no piece goes to where a piece of its own side stands
-pub free_of_own : (s : Position) (m : Moved) (p : Piece) (b : Board) (r : Piece) → IsSetup s → CaseOf s m p b → HoldsOwn s m.to r → ⊥
-free_of_own s m p b r ok (piece_move x) own = elim x.target [ inl empty ↦ not_empty s m.to r empty own | inr prey ↦ no_prey s m.to r prey own ]
-free_of_own s m p b r ok (pawn_step x) own = not_empty s m.to r x.empty own
-free_of_own s m p b r ok (pawn_double x) own = not_empty s m.to r x.empty own
-free_of_own s m p b r ok (pawn_capture x) own = no_prey s m.to r x.target own
-free_of_own s m p b r ok (en_passant x) own =
+pub unpinned_of_own : (s : Position) (m : Moved) (p : Piece) (b : Board) (r : Piece) → IsSetup s → CaseOf s m p b → HoldsOwn s m.to r → ⊥
+unpinned_of_own s m p b r ok (piece_move x) own = elim x.target [ inl empty ↦ not_empty s m.to r empty own | inr capturable ↦ no_capturable s m.to r capturable own ]
+unpinned_of_own s m p b r ok (pawn_step x) own = not_empty s m.to r x.empty own
+unpinned_of_own s m p b r ok (pawn_double x) own = not_empty s m.to r x.empty own
+unpinned_of_own s m p b r ok (pawn_capture x) own = no_capturable s m.to r x.target own
+unpinned_of_own s m p b r ok (en_passant x) own =
     let square = subst (EnPassantHolds s.board s.turn) x.square ok.en_passant in
     not_empty s m.to r square.1.0 own
-free_of_own s m p b r ok (castles c x) own = not_empty s m.to r (subst (λ q. IsEmpty s.board q) (sym x.to_table) (castling_free c s x.allowed).0) own
+unpinned_of_own s m p b r ok (castles c x) own = not_empty s m.to r (subst (λ q. IsEmpty s.board q) (sym x.to_table) (castling_unpinned c s x.allowed).0) own
 
--- the bits of the squares from one on, to which a piece may go and on which no piece of its own side stands
+-- the bits of the squares from one on, to which a piece may go and on which no piece of its own
+-- side stands
 pub record HasTargets (s : Position) (p : Piece) (from k bits : ℕ) : Type 0 where
   pub every : (q : ℕ) → q < 64 → k ≤ q → MayGo p.colour p.kind from q → ((r : Piece) → ¬ HoldsOwn s q r) → bit_at bits q ≡ 1
 
@@ -198,7 +199,7 @@ lists_to_lowest s ms p from k bits ok own small le targets lists =
     let P : ℕ → Type 0 = λ x. Holds s.board x p in
     let at_piece = case_at s q legal.new p (subst P (sym same_from) own.stands) legal.moves in
     let G : ℕ → Type 0 = λ x. MayGo p.colour p.kind x q.to in
-    let one = targets.every q.to a from_on (subst G same_from (case_goes s q p legal.new own.own at_piece)) (λ r. free_of_own s q p legal.new r ok at_piece) in
+    let one = targets.every q.to a from_on (subst G same_from (case_goes s q p legal.new own.own at_piece)) (λ r. unpinned_of_own s q p legal.new r ok at_piece) in
     let none = low_bits bits q.to small before in
     omega arith)
 
@@ -206,8 +207,8 @@ lists_to_lowest s ms p from k bits ok own small le targets lists =
 pub targets_left : (s : Position) (p : Piece) (from k bits : ℕ) → k ≤ trailing_zeros w64 bits → trailing_zeros w64 bits < 64 → HasTargets s p from k bits
     → HasTargets s p from (trailing_zeros w64 bits + 1) (without bits (trailing_zeros w64 bits))
 targets_left s p from k bits le some targets = record {
-  every = λ q on after may free. (let ne : q ≢ trailing_zeros w64 bits = λ e. omega arith in
-      without_other bits (trailing_zeros w64 bits) q some on ne ∙ targets.every q on (omega arith) may free);
+  every = λ q on after may unpinned. (let ne : q ≢ trailing_zeros w64 bits = λ e. omega arith in
+      without_other bits (trailing_zeros w64 bits) q some on ne ∙ targets.every q on (omega arith) may unpinned);
 }
 
 -- no promotion is legal where none may be
@@ -252,5 +253,5 @@ lists_next s ms p from bits to ok own small some here targets lists =
     let L : ℕ → Type 0 = λ n. ListsBelow s ms n in
     let next : 320 * from + 5 * to + 5 ≡ 320 * from + 5 * (trailing_zeros w64 bits + 1) = omega arith in (
       lists_to_lowest s ms p from (k + 1) rest ok own smaller le left (subst L next lists),
-      record { every = λ q on after may free. left.every q on (omega arith) may free },
+      record { every = λ q on after may unpinned. left.every q on (omega arith) may unpinned },
     )

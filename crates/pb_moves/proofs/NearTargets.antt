@@ -5,7 +5,7 @@ use Rattle.std.proofs.lemmas.Bool.{eq-eqb, eqb-true}
 use Rattle.pb_board.specs.declared.piece.Colour.TheVariants.{White, Black}
 use Rattle.pb_moves.specs.Attacks.{files_apart, ranks_apart}
 use Rattle.pb_moves.specs.Reach.{IsKnightsMove}
-use Rattle.pb_moves.specs.Sight.{In, StrikesFrom}
+use Rattle.pb_moves.specs.Attackers.{In, StrikesFrom}
 use Rattle.pb_moves.proofs.Targets.{is_right, bit_tells, bishop_bit, black_pawn_bit, knight_bit, white_pawn_bit}
 use Rattle.pb_moves.specs.declared.piece_targets.TheConstants.{BISHOP, KNIGHT, NEAR}
 use Rattle.pb_moves.specs.declared.pawn_targets.TheConstants.{BLACK_PAWN, WHITE_PAWN}

@@ -11,10 +11,10 @@ use Rattle.pb_board.specs.Position.{Position}
 use Rattle.pb_moves.specs.Reach.{WayIsClear, ReachesBy, IsReached}
 use Rattle.pb_moves.specs.Moved.{Moved, IsMove}
 use Rattle.pb_moves.specs.Candidate.{HoldsOwn}
-use Rattle.pb_moves.specs.Free.{IsFree}
+use Rattle.pb_moves.specs.Unpinned.{IsUnpinned}
 use Rattle.pb_moves.specs.Cases.{Differs, CaseOf, SafeCase}
 use Rattle.pb_moves.specs.MoveKind.{LeadsTo}
-use Rattle.pb_moves.proofs.Carried.{put}
+use Rattle.pb_moves.proofs.MovedPiece.{put}
 use Rattle.pb_moves.specs.declared.move_kind.MoveKind.TheVariants.{Normal}
 use Rattle.pb_moves.proofs.Differing.{arrived, carried_put, left, lifted_put, moved_board, off_one, off_two, same_or_not}
 use Rattle.pb_moves.proofs.Kings.{holds_one, holds_at, empty_holds, king_stays, no_king}
@@ -66,15 +66,15 @@ attacked_lifted old new lifted side from to king p moved gone own attack =
     )
 
 -- so the move of a piece that its king doesn't need is legal
-pub legal_free : (s : Position) (m : Moved) (p arriving : Piece) → IsMove m → HoldsOwn s m.from p
-    → LeadsTo (CaseOf s m p) s m (Normal arriving) → IsFree s m.from p → SafeCase s m
-legal_free s m p arriving is own leads free =
+pub legal_unpinned : (s : Position) (m : Moved) (p arriving : Piece) → IsMove m → HoldsOwn s m.from p
+    → LeadsTo (CaseOf s m p) s m (Normal arriving) → IsUnpinned s m.from p → SafeCase s m
+legal_unpinned s m p arriving is own leads unpinned =
     let new = moved_board s.board m.from m.to arriving in
     let lifted = put s.board m.from None in
-    let moved = carried_put s.board m.from m.to arriving free.rules.places is.from_on_board is.to_on_board is.moves in
-    let gone = lifted_put s.board m.from free.rules.places is.from_on_board in
-    let stays = king_stays s m p new s.turn free.king free.rules own.stands own.own (no_king p s.turn free.no_king) free.only leads.1 in
+    let moved = carried_put s.board m.from m.to arriving unpinned.rules.places is.from_on_board is.to_on_board is.moves in
+    let gone = lifted_put s.board m.from unpinned.rules.places is.from_on_board in
+    let stays = king_stays s m p new s.turn unpinned.king unpinned.rules own.stands own.own (no_king p s.turn unpinned.no_king) unpinned.only leads.1 in
     legal_out_of_check s m new p own leads.1 (λ check.
-    let here : check.0 ≡ free.king = (stays check.0).0 check.1.stands in
+    let here : check.0 ≡ unpinned.king = (stays check.0).0 check.1.stands in
     let P : ℕ → Type 0 = λ k. IsReached new (opponent s.turn) k in
-    free.covered lifted gone (attacked_lifted s.board new lifted s.turn m.from m.to free.king arriving moved gone leads.0 (subst P here check.1.attacked)))
+    unpinned.covered lifted gone (attacked_lifted s.board new lifted s.turn m.from m.to unpinned.king arriving moved gone leads.0 (subst P here check.1.attacked)))

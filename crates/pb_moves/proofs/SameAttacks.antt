@@ -1,4 +1,5 @@
--- A piece attacks by `Attacks` just what it reaches by `Reach`, and a side is in check where its king is in reach.
+-- A piece attacks by `Attacks` just what it reaches by `Reach`, and a side is in check where its
+-- king is in reach.
 use Rattle.std.proofs.Common.{◌≡◌, ◌≢◌, ℕ, zero, suc, ◌+◌, ◌*◌, ◌/◌, ◌<◌, ◌≤◌, ◌⊎◌, ◌↔◌, Bool, true, false, not, IsTrue, refl, arith, inl, inr, sym, ap, subst, ◌∙◌}
 use Rattle.std.proofs.Math.Nat.{mul-div_cancel}
 use Rattle.std.proofs.lemmas.Bool.{cases_lt}
@@ -16,7 +17,7 @@ use Rattle.pb_moves.proofs.Unique.{piece_is, step_ranks}
 -- ---- squares between
 
 abbrev pub IsLine : ℕ → ℕ → Type 0
-IsLine a b = lower.IsDiagonal a b ⊎ lower.IsStraight a b
+IsLine a b = lower.IsDiagonal a b ⊎ lower.IsOrthogonal a b
 
 line_first : (f g r h n m : ℕ) → f + g ≡ n → r + h ≡ m → n ≡ 0 → f * m ≡ r * n
 line_first f g r h n m e k z = let zero_f : f ≡ 0 = omega arith in rw (zero_f, z) (omega arith)

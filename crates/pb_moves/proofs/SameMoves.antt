@@ -1,4 +1,5 @@
--- The setup after a move by `after` has the board of the case, and the moves of `Legal` are those of `Cases`.
+-- The setup after a move by `after` has the board of the case, and the moves of `Legal` are those
+-- of `Cases`.
 use Rattle.std.proofs.Common.{◌≡◌, ◌≢◌, ℕ, ◌+◌, ◌*◌, ◌/◌, ◌⊎◌, ◌↔◌, refl, arith, inl, inr, sym, ap, subst, ◌∙◌, Option, Some, None, List, [], ◌∷◌, Bool, true, false, not, ◌&&◌, ◌==◌, is_none}
 use Rattle.std.specs.Prelude.{IsSome, unwrap_or, fold, if◌then◌else◌}
 use Rattle.pb_board.specs.declared.piece.Colour.{Colour}
@@ -12,7 +13,7 @@ use Rattle.pb_board.specs.Board.{Board, Place, file, rank, rank_for, at, Holds}
 use Rattle.pb_board.specs.Position.{Position, IsSetup, beyond, position_of}
 use Rattle.pb_board.specs.Castling.{CastlingRow, castling_row, castling_of}
 use Rattle.pb_moves.specs.Attacks.{Attacks, files_apart, ranks_apart}
-use Rattle.pb_moves.specs.Reach.{IsStraight, KingInReach, Reaches, ReachesBy}
+use Rattle.pb_moves.specs.Reach.{IsOrthogonal, KingInReach, Reaches, ReachesBy}
 use Rattle.pb_moves.specs.Moved.{Moved, IsMove, IsPromotion}
 use Rattle.pb_moves.specs.Castling as table
 use Rattle.pb_moves.specs.Castling.{rook_goes}
@@ -21,7 +22,7 @@ use Rattle.pb_moves.specs.Legal as chess
 use Rattle.pb_moves.specs.Legal.{Legal, PseudoLegal}
 use Rattle.pb_moves.specs.Successor as successor
 use Rattle.pb_moves.specs.Successor.{after, rights_after}
-use Rattle.pb_moves.proofs.Carried.{put, arriving, beside, carried, board_of, ep_of, ep_of_kind}
+use Rattle.pb_moves.proofs.MovedPiece.{put, arriving, state, carried, board_of, ep_of, ep_of_kind}
 use Rattle.pb_moves.proofs.Castlings.{rows}
 use Rattle.pb_moves.proofs.SameAttacks.{attacks_to, attacks_from, clear_to, clear_from, no_near, attacked_to, attacked_from, check_to, check_from}
 use Rattle.pb_moves.proofs.Differing.{moved_board, carried_put, carried_past_put}
@@ -42,7 +43,7 @@ taken_is new true gone = refl
 taken_is new false gone = refl
 
 -- what changes besides changes as `beside` says
-besides_is : (board new : Board) (m : Moved) (k : Kind) (c : Option Castling) → castling_of m.from m.to ≡ c → puts new (successor.besides board m k c) ≡ beside k board new m
+besides_is : (board new : Board) (m : Moved) (k : Kind) (c : Option Castling) → castling_of m.from m.to ≡ c → puts new (successor.besides board m k c) ≡ state k board new m
 besides_is board new m Pawn c is = taken_is new (not (file m.to == file m.from) && is_none (at board m.to)) (8 * rank m.from + file m.to)
 besides_is board new m King (Some c) is = rw is refl
 besides_is board new m King None is = rw is refl
@@ -96,7 +97,7 @@ may_to row s m from to h = record {
   crosses = λ x. h.crosses (attacked_from s.board (opponent row.colour) row.rook_to x);
 }
 
-straight_back : (a b : ℕ) → IsStraight a b → IsStraight b a
+straight_back : (a b : ℕ) → IsOrthogonal a b → IsOrthogonal b a
 straight_back a b (inl h) = inl (omega (arith, h.0), omega (arith, h.1))
 straight_back a b (inr h) = inr (omega (arith, h.0), omega (arith, h.1))
 
@@ -107,7 +108,7 @@ may_from c s m h =
       side = h.side;
       flag = h.right;
       rook = h.rook;
-      way = clear_from s.board row.king_from row.rook_from (inr (straight_back row.rook_from row.king_from (rows c).straight)) h.way;
+      way = clear_from s.board row.king_from row.rook_from (inr (straight_back row.rook_from row.king_from (rows c).orthogonal)) h.way;
       unchecked = λ x. h.unchecked (attacked_to s.board (opponent row.colour) row.king_from x);
       crosses = λ x. h.crosses (attacked_to s.board (opponent row.colour) row.rook_to x);
     }
@@ -139,7 +140,7 @@ case_to : (s : Position) (m : Moved) (p : Piece) (new : Board) → p.colour ≡ 
 case_to s m p new own (lower.piece_move x) =
     elim x.target [
       | inl empty ↦ chess.quiet x.no_pawn (own_reach p s.turn s.board m.from m.to own x.reaches) empty
-      | inr prey ↦ chess.captures (own_reach p s.turn s.board m.from m.to own x.reaches) (prey.kind, prey.no_king, prey.stands)
+      | inr capturable ↦ chess.captures (own_reach p s.turn s.board m.from m.to own x.reaches) (capturable.kind, capturable.no_king, capturable.stands)
     ]
 case_to s m p new own (lower.pawn_step x) =
     let ranks : ranks_apart m.from m.to ≡ 1 = step_ranks s.turn 1 m.from m.to x.forward in
@@ -198,7 +199,7 @@ module _ (s : Position) (m : Moved) (kind : Kind) (ok : IsSetup s) (is : IsMove 
       let D : Board → Type 0 = λ b. lower.Differs s.board b ((m.from, None) ∷ (m.to, Some becoming) ∷ besides) in
       record { kind = unwrap_or m.promo kind; becomes = becomes; board = subst D (sym e) differs }
 
-  going : beside kind s.board (moved_board s.board m.from m.to (arriving piece m.promo)) m ≡ moved_board s.board m.from m.to (arriving piece m.promo) → lower.Goes s m piece [] new_board
+  going : state kind s.board (moved_board s.board m.from m.to (arriving piece m.promo)) m ≡ moved_board s.board m.from m.to (arriving piece m.promo) → lower.Goes s m piece [] new_board
   going e =
       goes_by [] (moved_board s.board m.from m.to becoming) (e ∙ ap (λ (q : Piece). moved_board s.board m.from m.to q) (sym (arriving_is piece m.promo)))
       (carried_put s.board m.from m.to becoming ok.places is.from_on_board is.to_on_board is.moves)
@@ -206,18 +207,18 @@ module _ (s : Position) (m : Moved) (kind : Kind) (ok : IsSetup s) (is : IsMove 
   piece_goes : kind ≢ Pawn → ReachesBy s.turn kind s.board m.from m.to → lower.Goes s m piece [] new_board
   piece_goes no_pawn reaches = going (beside_piece kind s.board (moved_board s.board m.from m.to (arriving piece m.promo)) m no_pawn (king_near s.turn kind s.board m.from m.to reaches))
 
-  pawn_takes : kind ≡ Pawn → (prey : chess.IsCapturable s.board s.turn m.to) → lower.Goes s m piece [] new_board
-  pawn_takes pawn prey = going (beside_taking kind s.board (moved_board s.board m.from m.to (arriving piece m.promo)) m _ pawn prey.2)
+  pawn_takes : kind ≡ Pawn → (capturable : chess.IsCapturable s.board s.turn m.to) → lower.Goes s m piece [] new_board
+  pawn_takes pawn capturable = going (beside_taking kind s.board (moved_board s.board m.from m.to (arriving piece m.promo)) m _ pawn capturable.2)
 
   case_from : chess.MayMove s m kind → lower.CaseOf s m piece new_board
   case_from (chess.quiet no_pawn reaches empty) =
       let attacks = attacks_from s.turn kind s.board m.from m.to reaches in
       lower.piece_move (record { no_pawn = no_pawn; reaches = attacks; target = inl empty; after = piece_goes no_pawn attacks })
-  case_from (chess.captures reaches prey) =
+  case_from (chess.captures reaches capturable) =
       let attacks = attacks_from s.turn kind s.board m.from m.to reaches in
       elim (pawn_or_not kind) [
-        | inl pawn ↦ lower.pawn_capture (record { pawn = pawn; reaches = attacks; target = record { kind = prey.0; no_king = prey.1; stands = prey.2 }; after = pawn_takes pawn prey })
-        | inr other ↦ lower.piece_move (record { no_pawn = other; reaches = attacks; target = inr (record { kind = prey.0; no_king = prey.1; stands = prey.2 }); after = piece_goes other attacks })
+        | inl pawn ↦ lower.pawn_capture (record { pawn = pawn; reaches = attacks; target = record { kind = capturable.0; no_king = capturable.1; stands = capturable.2 }; after = pawn_takes pawn capturable })
+        | inr other ↦ lower.piece_move (record { no_pawn = other; reaches = attacks; target = inr (record { kind = capturable.0; no_king = capturable.1; stands = capturable.2 }); after = piece_goes other attacks })
       ]
   case_from (chess.pushes pawn x) =
       let after = going (beside_straight kind s.board (moved_board s.board m.from m.to (arriving piece m.promo)) m pawn x.same_file) in

@@ -5,7 +5,7 @@ use Rattle.std.proofs.lemmas.Bool.{cases_lt}
 use Rattle.std.proofs.Math.Nat.{pow-le-pow_right}
 use Rattle.std.proofs.lemmas.Nat.{one_shl}
 use Rattle.std.proofs.lemmas.Nat.Bits.{bit_at-zero, bit_at-lt, bit_at_and, bit_at_not, bit_at_or, bit_at_mask_inside, bit_at_mask_below, bit_at_mask_above}
-use Rattle.pb_moves.specs.Sight.{In}
+use Rattle.pb_moves.specs.Attackers.{In}
 use Rattle.pb_moves.proofs.Rising.{zeros_some, low_bit}
 use Rattle.pb_moves.proofs.Differing.{same_or_not}
 

@@ -22,7 +22,8 @@ promotion_is (Some other) e k h is =
 abbrev Squares : Moved → List ℕ
 Squares m = square_text m.from ++ square_text m.to
 
--- five bytes, of which the last names this kind, spell a move just where the first four are its squares
+-- five bytes, of which the last names this kind, spell a move just where the first four are its
+-- squares
 five_spelled : (text : List ℕ) (k : Kind) (r : Option Moved) → length text ≡ 5 → piece_letter (piece_of Black k) ≡ get_or text 4 0
     → MatchOption r ((m : Moved) → IsMove m → m.promo ≡ Some k → take 4 text ≢ Squares m) (λ m. IsMove m × (m.promo ≡ Some k) × (take 4 text ≡ Squares m))
     → MatchOption r ((m : Moved) → IsMove m → text ≢ spelling m) (λ m. IsMove m × (text ≡ spelling m))

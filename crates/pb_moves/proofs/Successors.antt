@@ -1,4 +1,5 @@
--- The board and the en passant square after a case are those that the functions of `Carried` give.
+-- The board and the en passant square after a case are those that the functions of `MovedPiece`
+-- give.
 use Rattle.std.proofs.Common.{◌≡◌, ◌≢◌, ℕ, ◌+◌, ◌*◌, ◌/◌, ◌≤◌, refl, arith, inl, inr, sym, ap, subst, ◌∙◌, Option, Some, None, [], ◌∷◌, length, Bool, true, false, not, ◌&&◌, ◌||◌, eqb}
 use Rattle.std.proofs.lemmas.List.Elements.{All-nil, All-cons}
 use Rattle.std.proofs.lemmas.Bool.{eq-eqb}
@@ -19,7 +20,7 @@ use Rattle.pb_board.specs.Castling.{CastlingRow, castling_row, IsHome}
 use Rattle.pb_moves.specs.Castling.{rook_goes}
 use Rattle.pb_moves.specs.Cases.{Differs, Becomes, Goes, Castles, CaseOf, piece_move, pawn_step, pawn_double, pawn_capture, en_passant, castles}
 use Rattle.pb_moves.specs.Successor.{keeps_right, rights_after}
-use Rattle.pb_moves.proofs.Carried.{put, with_rook, arriving, beside, carried, ep_of_kind}
+use Rattle.pb_moves.proofs.MovedPiece.{put, with_rook, arriving, state, carried, ep_of_kind}
 use Rattle.pb_moves.proofs.Castlings.{IsRow, near_is_none, rows}
 use Rattle.pb_moves.proofs.Differing.{All-two, carried_past_put, carried_put, differs_one, differs_put, moved_board, off_two}
 use Rattle.pb_moves.proofs.Unique.{piece_is, king_near, pawn_files, step_ranks, en_passant_at}
@@ -55,7 +56,7 @@ castled_put row old is full rook =
     subst P (sym rook) (castled_writes row old is full)
 
 -- besides the piece's own two squares nothing changes
-pub beside_piece : (k : Kind) (old new : Board) (m : Moved) → k ≢ Pawn → (k ≡ King → files_apart m.from m.to ≤ 1) → beside k old new m ≡ new
+pub beside_piece : (k : Kind) (old new : Board) (m : Moved) → k ≢ Pawn → (k ≡ King → files_apart m.from m.to ≤ 1) → state k old new m ≡ new
 beside_piece Pawn old new m no_pawn near = absurd (no_pawn refl)
 beside_piece Knight old new m no_pawn near = refl
 beside_piece Bishop old new m no_pawn near = refl
@@ -63,11 +64,11 @@ beside_piece Rook old new m no_pawn near = refl
 beside_piece Queen old new m no_pawn near = refl
 beside_piece King old new m no_pawn near = ap (with_rook old new) (near_is_none m.from m.to (near refl))
 
-pub beside_straight : (k : Kind) (old new : Board) (m : Moved) → k ≡ Pawn → file m.to ≡ file m.from → beside k old new m ≡ new
+pub beside_straight : (k : Kind) (old new : Board) (m : Moved) → k ≡ Pawn → file m.to ≡ file m.from → state k old new m ≡ new
 beside_straight Pawn old new m pawn same = let e = eq-eqb (file m.to) (file m.from) same in rw e refl
 beside_straight k old new m pawn same = absurd (cc)
 
-pub beside_taking : (k : Kind) (old new : Board) (m : Moved) (p : Piece) → k ≡ Pawn → Holds old m.to p → beside k old new m ≡ new
+pub beside_taking : (k : Kind) (old new : Board) (m : Moved) (p : Piece) → k ≡ Pawn → Holds old m.to p → state k old new m ≡ new
 beside_taking Pawn old new m p pawn taken =
     elim (eqb_tells (file m.to) (file m.from)) [
       | inl same ↦ rw same.0 refl
@@ -76,13 +77,13 @@ beside_taking Pawn old new m p pawn taken =
 beside_taking k old new m p pawn taken = absurd (cc)
 
 pub beside_passing : (k : Kind) (old new : Board) (m : Moved) → k ≡ Pawn → file m.to ≢ file m.from → at old m.to ≡ None
-    → beside k old new m ≡ put new (8 * rank m.from + file m.to) None
-beside_passing Pawn old new m pawn other free =
+    → state k old new m ≡ put new (8 * rank m.from + file m.to) None
+beside_passing Pawn old new m pawn other unpinned =
     elim (eqb_tells (file m.to) (file m.from)) [
       | inl same ↦ absurd (other same.1)
-      | inr e ↦ rw (e.0, free) refl
+      | inr e ↦ rw (e.0, unpinned) refl
     ]
-beside_passing k old new m pawn other free = absurd (cc)
+beside_passing k old new m pawn other unpinned = absurd (cc)
 
 -- what arrives is what the piece becomes
 pub arriving_becomes : (side : Colour) (m : Moved) (k : Kind) (p : Piece) → p.colour ≡ side → Becomes side m p.kind k
@@ -173,7 +174,7 @@ board_is s m p new ok is stands own (castles c x) =
     ∙ differs_one s.board _ new ((row.king_from, None) ∷ (row.king_to, Some (king_of row.colour)) ∷ rook_goes row)
     (castled_put row s.board (rows c) ok.places x.allowed.rook) (castles_differs row s m p new x)
 
--- the square passed over is the one that the function gives
+-- the square stepped over is the one that the function gives
 pub ep_other : (k : Kind) (m : Moved) → k ≢ Pawn → ep_of_kind k m ≡ None
 ep_other Pawn m other = absurd (other refl)
 ep_other Knight m other = refl

@@ -1,4 +1,5 @@
--- The squares to which a piece may go, by tables or made of them, hold each such square and no other: tests over all pairs, computed once.
+-- The squares to which a piece may go, by tables or made of them, hold each such square and no
+-- other: tests over all pairs, computed once.
 use Rattle.std.proofs.Common.{◌≡◌, ℕ, ◌+◌, ◌<◌, ◌⊎◌, ◌↔◌, ◌&&◌, ◌||◌, refl, arith, ap, sym, subst, ◌∙◌, inl, inr, Bool, true, false, eqb, ltb, leb, max, get_or, bit_or, ◌^◌, ◌%◌, ◌*◌, ◌/◌, bit_and}
 use Rattle.std.specs.Int.{bit_at}
 use Rattle.std.proofs.lemmas.Bool.{and_parts, eq-eqb, eqb-true, lt-ltb, ltb-true, le-leb, leb-true}
@@ -12,7 +13,7 @@ use Rattle.pb_board.specs.declared.piece.Kind.{Kind}
 use Rattle.pb_board.specs.declared.piece.Kind.TheVariants.{Pawn, Knight, Bishop, Rook, Queen, King}
 use Rattle.pb_moves.specs.Candidate.{MayGo}
 use Rattle.pb_moves.specs.Attacks.{files_apart, ranks_apart}
-use Rattle.pb_moves.specs.Reach.{IsKnightsMove, IsDiagonal, IsStraight}
+use Rattle.pb_moves.specs.Reach.{IsKnightsMove, IsDiagonal, IsOrthogonal}
 use Rattle.pb_moves.proofs.Below.{all_below, all_below_at}
 use Rattle.pb_moves.proofs.Differing.{same_or_not}
 
@@ -138,7 +139,7 @@ bishop_bit colour a b x y =
 
 pub rook_bit : (colour : Colour) (a b : ℕ) → a < 64 → b < 64 → (bit_at (get_or ROOK a 0) b ≡ 1) ↔ MayGo colour Rook a b
 rook_bit colour a b x y =
-    bit_tells (λ q. get_or ROOK q 0) tests_straight a b (IsStraight a b) rook_is_right x y
+    bit_tells (λ q. get_or ROOK q 0) tests_straight a b (IsOrthogonal a b) rook_is_right x y
     (λ h. elim h [
       | inl up ↦ either _ _ (inl (both _ _ (eq-eqb (files_apart a b) 0 up.0) (lt-ltb 0 (ranks_apart a b) up.1)))
       | inr across ↦ either _ _ (inr (both _ _ (lt-ltb 0 (files_apart a b) across.0) (eq-eqb (ranks_apart a b) 0 across.1)))
@@ -168,7 +169,7 @@ queen_bit colour a b x y =
       ],
       λ h. elim h [
         | inl diagonal ↦ (let one = bishop.1 diagonal in is ∙ omega arith)
-        | inr straight ↦ (let one = rook.1 straight in is ∙ omega arith)
+        | inr orthogonal ↦ (let one = rook.1 orthogonal in is ∙ omega arith)
       ],
     )
 

@@ -1,4 +1,5 @@
--- A move leads to one board at most: the cases exclude one another, and each names all that changes.
+-- A move leads to one board at most: the cases exclude one another, and each names all that
+-- changes.
 use Rattle.std.proofs.Common.{◌≡◌, ◌≢◌, ℕ, ◌≤◌, refl, arith, inl, inr, sym, ap, subst, ◌∙◌, Option, Some, None, List, [], ◌∷◌, zero, suc, Bool, true, false, is_some}
 use Rattle.pb_board.specs.declared.piece.Colour.{Colour}
 use Rattle.pb_board.specs.declared.piece.Colour.TheVariants.{White, Black}
@@ -56,7 +57,7 @@ goes_of s m piece new (pawn_capture x) = x.after
 goes_of s m piece new (en_passant x) = x.after
 goes_of s m piece new (castles c x) = x.after
 
--- the en passant square of a setup is empty, and the pawn that passed over it stands beyond
+-- the en passant square of a setup is empty, and the pawn that made the double step stands beyond
 pub en_passant_at : (s : Position) (q : ℕ) → IsSetup s → s.ep ≡ Some q → OnEnPassantRank s.turn q × WasSteppedOver s.board s.turn q
 en_passant_at s q ok here =
     let P : Option ℕ → Type 0 = λ ep. EnPassantHolds s.board s.turn ep in
@@ -124,7 +125,7 @@ classes s m piece new ok (pawn_capture x) =
 classes s m piece new ok (en_passant x) =
     let kind = x.pawn in
     let files : files_apart m.from m.to ≡ 1 = pawn_files piece.colour piece.kind s.board m.from m.to x.reaches x.pawn in
-    let free : at s.board m.to ≡ None = (en_passant_at s m.to ok x.square).1.0 in
+    let unpinned : at s.board m.to ≡ None = (en_passant_at s m.to ok x.square).1.0 in
     cc
 classes s m piece new ok (castles c x) =
     let kind = x.king in

@@ -7,11 +7,11 @@ use Rattle.pb_board.specs.declared.piece.Piece.{Piece}
 use Rattle.pb_board.specs.Board.{Holds, rank, IsForward}
 use Rattle.pb_board.specs.Position.{Position}
 use Rattle.pb_moves.specs.Attacks.{files_apart, ranks_apart}
-use Rattle.pb_moves.specs.Reach.{IsKnightsMove, IsDiagonal, IsStraight}
+use Rattle.pb_moves.specs.Reach.{IsKnightsMove, IsDiagonal, IsOrthogonal}
 use Rattle.pb_moves.specs.Moved.{Moved, IsMove}
 use Rattle.pb_moves.specs.Cases.{SafeCase}
 use Rattle.pb_moves.specs.Listing.{place}
-use Rattle.pb_moves.specs.Sight.{In}
+use Rattle.pb_moves.specs.Attackers.{In}
 
 -- this piece of the side to move stands there
 pub record HoldsOwn (s : Position) (square : ℕ) (piece : Piece) : Type 0 where
@@ -28,8 +28,8 @@ MayGo colour Pawn a b =
     (IsForward colour 1 a b × (files_apart a b ≤ 1)) ⊎ (IsForward colour 2 a b × (files_apart a b ≡ 0))
 MayGo colour Knight a b = IsKnightsMove a b
 MayGo colour Bishop a b = IsDiagonal a b
-MayGo colour Rook a b = IsStraight a b
-MayGo colour Queen a b = IsDiagonal a b ⊎ IsStraight a b
+MayGo colour Rook a b = IsOrthogonal a b
+MayGo colour Queen a b = IsDiagonal a b ⊎ IsOrthogonal a b
 MayGo colour King a b =
     (max (files_apart a b) (ranks_apart a b) ≡ 1) ⊎ ((files_apart a b ≡ 2) × (ranks_apart a b ≡ 0))
 

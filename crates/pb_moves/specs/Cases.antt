@@ -1,5 +1,6 @@
--- Which board a move of a piece of the side to move leads to, case by case, as the private functions and the proofs of this crate
--- speak of it. Its public functions speak of `Legal`, which is shown to say the same (proofs/SameMoves).
+-- Which board a move of a piece of the side to move leads to, case by case, as the private
+-- functions and the proofs of this crate speak of it. Its public functions speak of `Legal`, which
+-- is shown to say the same (proofs/SameMoves).
 --
 --   case          who              from, to                              besides
 --   piece_move    not a pawn       it attacks `to`                       `to` is empty or holds an enemy, not the king
@@ -9,7 +10,8 @@
 --   en_passant    a pawn           it attacks the en passant square      the pawn beside `from` is taken
 --   castles       the king         a row of the castling table           see Castling
 --
--- A pawn that reaches the last rank becomes a knight, bishop, rook or queen, and no other move names a promotion.
+-- A pawn that reaches the last rank becomes a knight, bishop, rook or queen, and no other move
+-- names a promotion.
 use Rattle.std.specs.Prelude.{◌≡◌, ◌≢◌, ℕ, ◌⊎◌, List, [], ◌∷◌, length, Some, None, All}
 use Rattle.pb_board.specs.declared.piece.Colour.{Colour}
 use Rattle.pb_board.specs.declared.piece.Colour.TheVariants.{White, Black}
@@ -25,14 +27,15 @@ use Rattle.pb_board.specs.Castling.{CastlingRow, castling_row}
 use Rattle.pb_moves.specs.Castling.{rook_goes, RowAllows}
 use Rattle.pb_moves.specs.Moved.{Moved, IsPromotion}
 
--- the new board has 64 places, on each named square it holds what is named, and every other square is as it was
+-- the new board has 64 places, on each named square it holds what is named, and every other square
+-- is as it was
 pub record Differs (old new : Board) (now : List (ℕ × Place)) : Type 0 where
   pub squares : length new ≡ 64
   pub named : All (λ c. at new c.0 ≡ c.1) now
   pub others : (q : ℕ) → All (λ c. q ≢ c.0) now → at new q ≡ at old q
 
 -- an enemy piece other than the king stands there
-pub record IsPrey (board : Board) (side : Colour) (square : ℕ) : Type 0 where
+pub record IsCapturable (board : Board) (side : Colour) (square : ℕ) : Type 0 where
   pub kind : Kind
   pub no_king : kind ≢ King
   pub stands : Holds board square (record { colour = opponent side; kind = kind })
@@ -47,7 +50,8 @@ abbrev pub pawn_rank : Colour → ℕ
 pawn_rank White = 1
 pawn_rank Black = 6
 
--- what a piece of this kind is after the move: a pawn on the last rank what the move names, anything else what it was
+-- what a piece of this kind is after the move: a pawn on the last rank what the move names,
+-- anything else what it was
 abbrev pub Becomes : Colour → Moved → Kind → Kind → Type 0
 Becomes side m before kind =
     ((before ≡ Pawn) × (rank m.to ≡ last_rank side) × (m.promo ≡ Some kind) × IsPromotion kind)
@@ -63,7 +67,7 @@ pub record Goes (s : Position) (m : Moved) (piece : Piece) (besides : List (ℕ 
 pub record PieceMove (s : Position) (m : Moved) (piece : Piece) (new : Board) : Type 0 where
   pub no_pawn : piece.kind ≢ Pawn
   pub reaches : Reaches piece s.board m.from m.to
-  pub target : IsEmpty s.board m.to ⊎ IsPrey s.board s.turn m.to
+  pub target : IsEmpty s.board m.to ⊎ IsCapturable s.board s.turn m.to
   pub after : Goes s m piece [] new
 
 -- a pawn goes one step forward
@@ -88,7 +92,7 @@ pub record PawnDouble (s : Position) (m : Moved) (piece : Piece) (new : Board) :
 pub record PawnCapture (s : Position) (m : Moved) (piece : Piece) (new : Board) : Type 0 where
   pub pawn : piece.kind ≡ Pawn
   pub reaches : Reaches piece s.board m.from m.to
-  pub target : IsPrey s.board s.turn m.to
+  pub target : IsCapturable s.board s.turn m.to
   pub after : Goes s m piece [] new
 
 -- a pawn goes to the en passant square that it attacks, and takes the pawn beyond it

@@ -1,4 +1,5 @@
--- The record after a move: the setup after it, and the two clocks. It means nothing where the move isn't legal.
+-- The record after a move: the setup after it, and the two clocks. It means nothing where the move
+-- isn't legal.
 use Rattle.std.specs.Prelude.{ℕ, ◌+◌, Bool, not, ◌||◌, is_none, min, if◌then◌else◌}
 use Rattle.pb_board.specs.declared.piece.Colour.{Colour}
 use Rattle.pb_board.specs.declared.piece.Colour.TheVariants.{White, Black}

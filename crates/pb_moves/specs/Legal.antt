@@ -31,8 +31,9 @@ pub record Pushes (s : Position) (m : Moved) : Type 0 where
   pub way : Clear s.board m.from m.to
   pub empty : IsEmpty s.board m.to
 
--- The king of the side to move may castle by a row: with the castling right and the rook, over empty squares, and the enemy
--- attacks neither the king's square nor the one that it crosses, which is where the rook arrives.
+-- The king of the side to move may castle by a row: with the castling right and the rook, over
+-- empty squares, and the enemy attacks neither the king's square nor the one that it crosses, which
+-- is where the rook arrives.
 pub record MayCastle (row : CastlingRow) (s : Position) (m : Moved) : Type 0 where
   pub from_home : m.from ≡ row.king_from
   pub to_table : m.to ≡ row.king_to
@@ -51,7 +52,8 @@ pub data MayMove (s : Position) (m : Moved) (kind : Kind) : Type 0 where
   en_passant : kind ≡ Pawn → Attacks s.turn kind s.board m.from m.to → s.ep ≡ Some m.to → MayMove s m kind
   castles : (c : Castling) → kind ≡ King → MayCastle (castling_row c) s m → MayMove s m kind
 
--- a piece of the side to move goes by one of these cases, and a promotion is named just where a pawn reaches the last rank
+-- a piece of the side to move goes by one of these cases, and a promotion is named just where a
+-- pawn reaches the last rank
 pub record PseudoLegal (s : Position) (m : Moved) : Type 0 where
   pub is_move : IsMove m
   pub kind : Kind

@@ -10,8 +10,8 @@ pub mod Packed
 pub mod Reach
 pub mod Castling
 pub mod Cases
-pub mod Sight
+pub mod Attackers
 pub mod MoveKind
 pub mod Effect
-pub mod Free
+pub mod Unpinned
 pub mod Candidate

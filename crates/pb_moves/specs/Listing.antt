@@ -4,7 +4,8 @@ use Rattle.pb_board.specs.Position.{Position}
 use Rattle.pb_moves.specs.Legal.{Legal}
 use Rattle.pb_moves.specs.Moved.{Moved, promotion_number}
 
--- a move's place in the order: by `from`, then by `to`, 64 squares each, then by promotion, five kinds
+-- a move's place in the order: by `from`, then by `to`, 64 squares each, then by promotion, five
+-- kinds
 abbrev pub place : Moved → ℕ
 place m = 320 * m.from + 5 * m.to + promotion_number m.promo
 

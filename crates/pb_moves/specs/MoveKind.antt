@@ -1,16 +1,16 @@
 -- Which pieces a move puts elsewhere, as a value.
 use Rattle.std.specs.Prelude.{◌≡◌, ◌≢◌, ◌<◌, Option, MatchOption}
 use Rattle.pb_board.specs.declared.piece.Colour.{Colour}
-use Rattle.pb_board.specs.declared.setup.Carried.{Carried}
+use Rattle.pb_board.specs.declared.setup.MovedPiece.{MovedPiece}
 use Rattle.pb_board.specs.Board.{Board, Holds, IsEmpty}
-use Rattle.pb_board.specs.Carried.{carried_on, carried_twice}
-use Rattle.pb_board.specs.Position.{Position, carried_board}
+use Rattle.pb_board.specs.MovedPiece.{with_moved, with_two_moved}
+use Rattle.pb_board.specs.Position.{Position, with_piece_moved}
 use Rattle.pb_moves.specs.declared.move_kind.MoveKind.{MoveKind}
 use Rattle.pb_moves.specs.declared.move_kind.MoveKind.TheVariants.{Normal, Double}
 use Rattle.pb_moves.specs.Moved.{Moved}
 
 -- the piece is of this side, stands on the square that it leaves, and reaches another
-pub record CanGo (board : Board) (side : Colour) (c : Carried) : Type 0 where
+pub record CanGo (board : Board) (side : Colour) (c : MovedPiece) : Type 0 where
   pub own : c.piece.colour ≡ side
   pub stands : Holds board c.from c.piece
   pub on_board : c.to < 64
@@ -20,13 +20,13 @@ pub record CanGo (board : Board) (side : Colour) (c : Carried) : Type 0 where
 abbrev pub Fits : MoveKind → Position → Type 0
 Fits (Normal piece) s = piece.colour ≡ s.turn
 Fits (Double first second) s =
-    let between = carried_on s.board first in
+    let between = with_moved s.board first in
     CanGo s.board s.turn first × CanGo between s.turn second × IsEmpty between second.to
 
 -- the board after the move
 abbrev pub board_by : MoveKind → Moved → Board → Board
-board_by (Normal piece) m board = carried_board board m.from m.to piece
-board_by (Double first second) m board = carried_twice board first second
+board_by (Normal piece) m board = with_piece_moved board m.from m.to piece
+board_by (Double first second) m board = with_two_moved board first second
 
 -- it fits, and the board after the move has the property
 abbrev pub LeadsTo : (Board → Type 0) → Position → Moved → MoveKind → Type 0

@@ -1,5 +1,6 @@
--- Which squares a piece attacks, and when a side is in check, as the private functions and the proofs of this crate speak of it.
--- Its public functions speak of `Attacks`, which is shown to say the same (proofs/SameAttacks).
+-- Which squares a piece attacks, and when a side is in check, as the private functions and the
+-- proofs of this crate speak of it. Its public functions speak of `Attacks`, which is shown to say
+-- the same (proofs/SameAttacks).
 use Rattle.std.specs.Prelude.{◌≡◌, ◌≢◌, ℕ, ◌+◌, ◌<◌, ◌⊎◌, max}
 use Rattle.pb_board.specs.declared.piece.Colour.{Colour}
 use Rattle.pb_board.specs.declared.piece.Kind.{Kind}
@@ -14,8 +15,8 @@ abbrev pub IsDiagonal : ℕ → ℕ → Type 0
 IsDiagonal a b = (files_apart a b ≡ ranks_apart a b) × (0 < files_apart a b)
 
 -- exactly one difference is 0
-abbrev pub IsStraight : ℕ → ℕ → Type 0
-IsStraight a b =
+abbrev pub IsOrthogonal : ℕ → ℕ → Type 0
+IsOrthogonal a b =
     ((files_apart a b ≡ 0) × (0 < ranks_apart a b)) ⊎ ((0 < files_apart a b) × (ranks_apart a b ≡ 0))
 
 -- q lies strictly between a and b, which are on one file, rank or diagonal
@@ -40,8 +41,8 @@ abbrev pub ReachesBy : Colour → Kind → Board → ℕ → ℕ → Type 0
 ReachesBy colour Pawn board a b = (files_apart a b ≡ 1) × IsForward colour 1 a b
 ReachesBy colour Knight board a b = IsKnightsMove a b
 ReachesBy colour Bishop board a b = IsDiagonal a b × WayIsClear board a b
-ReachesBy colour Rook board a b = IsStraight a b × WayIsClear board a b
-ReachesBy colour Queen board a b = (IsDiagonal a b ⊎ IsStraight a b) × WayIsClear board a b
+ReachesBy colour Rook board a b = IsOrthogonal a b × WayIsClear board a b
+ReachesBy colour Queen board a b = (IsDiagonal a b ⊎ IsOrthogonal a b) × WayIsClear board a b
 ReachesBy colour King board a b = max (files_apart a b) (ranks_apart a b) ≡ 1
 
 -- this piece on a attacks b

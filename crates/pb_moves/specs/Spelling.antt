@@ -1,5 +1,5 @@
--- The text of a move: two squares, and the small letter of a promotion (the long algebraic form without a sign
--- between the squares, as e2e4, e1g1 and e7e8q).
+-- The text of a move: two squares, and the small letter of a promotion (the long algebraic form
+-- without a sign between the squares, as e2e4, e1g1 and e7e8q).
 use Rattle.std.specs.Prelude.{ℕ, List, ◌++◌, map, option_to_list}
 use Rattle.pb_board.specs.declared.piece.Colour.TheVariants.{Black}
 use Rattle.pb_board.specs.Piece.{piece_of}

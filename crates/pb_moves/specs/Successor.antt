@@ -16,7 +16,8 @@ use Rattle.pb_moves.specs.Moved.{Moved}
 abbrev pub rook_moves : Board → CastlingRow → List (ℕ × Place)
 rook_moves board row = (row.rook_from, None) ∷ (row.rook_to, at board row.rook_from) ∷ []
 
--- what changes besides `from` and `to`: the pawn that is captured en passant goes, or the rook moves
+-- what changes besides `from` and `to`: the pawn that is captured en passant goes, or the rook
+-- moves
 abbrev pub besides : Board → Moved → Kind → Option Castling → List (ℕ × Place)
 besides board m Pawn castling = if not (file m.to == file m.from) && is_none (at board m.to)
     then (8 * rank m.from + file m.to, None) ∷ []
@@ -24,13 +25,15 @@ besides board m Pawn castling = if not (file m.to == file m.from) && is_none (at
 besides board m King (Some c) = rook_moves board (castling_row c)
 besides board m _ _ = []
 
--- all that changes where this piece moves: it leaves `from`, and it stands on `to`, or the piece does that it is promoted to
+-- all that changes where this piece moves: it leaves `from`, and it stands on `to`, or the piece
+-- does that it is promoted to
 abbrev pub changes : Board → Moved → Place → List (ℕ × Place)
 changes board m None = []
 changes board m (Some p) = (m.from, None) ∷ (m.to, Some (piece_of p.colour (unwrap_or m.promo p.kind)))
     ∷ besides board m p.kind (castling_of m.from m.to)
 
--- a castling right is kept where the move leaves and reaches neither the king's square nor the rook's
+-- a castling right is kept where the move leaves and reaches neither the king's square nor the
+-- rook's
 abbrev pub keeps_right : Rights → Moved → Castling → Bool
 keeps_right r m c = let row = castling_row c in
     row.right r && not (m.from == row.king_from || m.to == row.king_from || (m.from == row.rook_from || m.to == row.rook_from))

@@ -2,7 +2,7 @@
 
 ghost use Rattle.std.specs.Prelude.{◌≡◌, ◌<◌, ◌↔◌, IsTrue};
 ghost use Rattle.pb_board.specs.Board.{Holds, IsEmpty};
-ghost use Rattle.pb_moves.specs.Cases.{IsPrey};
+ghost use Rattle.pb_moves.specs.Cases.{IsCapturable};
 
 use pb_board::{Colour, Kind, Piece, Square};
 
@@ -20,8 +20,8 @@ pub(crate) fn square_at(index: u8) -> Square
 
 /// Whether an enemy piece other than the king stands there.
 #[inline(always)]
-pub(crate) fn is_prey(board: &Board, side: Colour, square: Square) -> bool
-    ensures { IsTrue result ↔ IsPrey board.now side square }
+pub(crate) fn is_capturable(board: &Board, side: Colour, square: Square) -> bool
+    ensures { IsTrue result ↔ IsCapturable board.now side square }
 {
     match board[square.index() as usize] {
         Some(piece) => piece.colour != side && piece.kind != Kind::King,

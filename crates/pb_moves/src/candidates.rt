@@ -1,5 +1,5 @@
-//! Where a piece may go on an empty board or by a capture: for each square a number, whose bit `i` stands for the square
-//! of index `i`.
+//! Where a piece may go on an empty board or by a capture: for each square a number, whose bit `i`
+//! stands for the square of index `i`.
 
 ghost use Rattle.std.specs.Prelude.{◌≡◌, ℕ, ◌<◌, ◌↔◌};
 ghost use Rattle.std.specs.Int.{bit_at};

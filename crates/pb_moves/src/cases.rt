@@ -9,10 +9,10 @@ ghost use Rattle.pb_moves.specs.Candidate.{HoldsOwn};
 ghost use Rattle.pb_moves.specs.MoveKind.{Finds};
 
 use crate::attack::{is_forward, reaches};
-use crate::board::{is_empty, is_prey, square_at};
+use crate::board::{is_capturable, is_empty, square_at};
 use crate::move_kind::MoveKind;
 use crate::moves::Move;
-use pb_board::{Carried, Colour, Kind, Piece, Setup, Square};
+use pb_board::{Colour, Kind, MovedPiece, Piece, Setup, Square};
 
 /// A move of a knight, bishop, rook, queen or king to where it attacks.
 #[inline(always)]
@@ -24,7 +24,7 @@ pub(crate) fn piece_move(setup: &Setup, m: Move, piece: Piece) -> Option<MoveKin
     let board = setup.board();
     let (from, to) = (m.from(), m.to());
     if m.promo().is_none()
-        && (is_empty(board, to) || is_prey(board, piece.colour, to))
+        && (is_empty(board, to) || is_capturable(board, piece.colour, to))
         && reaches(piece, setup, from, to)
     {
         Some(MoveKind::Normal(piece))
@@ -33,7 +33,8 @@ pub(crate) fn piece_move(setup: &Setup, m: Move, piece: Piece) -> Option<MoveKin
     }
 }
 
-/// What the pawn of this move is afterwards, if the move promotes just where it has to.
+/// The kind on the target square: the promoted one on the last rank, else a pawn. None if the
+/// promotion doesn't fit the rank.
 #[inline(always)]
 pub(crate) fn becomes(side: Colour, m: Move) -> Option<Kind>
     ensures { MatchOption result ((k : Kind) → ¬ Becomes side m Pawn k) (Becomes side m Pawn) }
@@ -76,7 +77,7 @@ pub(crate) fn pawn_capture(setup: &Setup, m: Move, pawn: Piece, kind: Kind) -> O
     let colour = pawn.colour;
     let board = setup.board();
     let (from, to) = (m.from(), m.to());
-    if is_prey(board, colour, to) && reaches(pawn, setup, from, to) {
+    if is_capturable(board, colour, to) && reaches(pawn, setup, from, to) {
         Some(MoveKind::Normal(Piece { colour, kind }))
     } else {
         None
@@ -141,12 +142,12 @@ pub(crate) fn en_passant(setup: &Setup, m: Move, pawn: Piece, kind: Kind) -> Opt
         Some(ep) if ep.index() == to.index() && reaches(pawn, setup, from, to) => {
             let taken = square_at(8 * from.rank() + to.file());
             Some(MoveKind::Double(
-                Carried {
+                MovedPiece {
                     from,
                     to: taken,
                     piece: pawn,
                 },
-                Carried {
+                MovedPiece {
                     from: taken,
                     to,
                     piece: pawn,

@@ -16,15 +16,15 @@ use crate::board::holds;
 use crate::check::attacked;
 use crate::move_kind::MoveKind;
 use crate::moves::Move;
-use crate::ways::Lines;
-use pb_board::{Carried, Castling, Kind, Piece, Setup};
+use crate::rays::Slider;
+use pb_board::{Castling, Kind, MovedPiece, Piece, Setup};
 
 /// Whether nothing stands between king and rook.
 fn way_is_clear(castling: Castling, setup: &Setup) -> bool
     ensures { let row = castling_row castling in IsTrue result ↔ WayIsClear setup.now.board row.king_from row.rook_from }
 {
     let squares = castling.squares();
-    Lines::Straight.is_open(setup.occupied(), squares.rook_from, squares.king_from)
+    Slider::Orthogonal.is_clear(setup.occupied(), squares.rook_from, squares.king_from)
 }
 
 /// Whether the enemy attacks neither the king's square nor the one that it crosses.
@@ -72,12 +72,12 @@ pub(crate) fn castles(setup: &Setup, m: Move, king: Piece) -> Option<MoveKind>
                 kind: Kind::Rook,
             };
             Some(MoveKind::Double(
-                Carried {
+                MovedPiece {
                     from,
                     to,
                     piece: king,
                 },
-                Carried {
+                MovedPiece {
                     from: squares.rook_from,
                     to: squares.rook_to,
                     piece: rook,

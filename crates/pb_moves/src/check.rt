@@ -4,14 +4,14 @@ ghost use Rattle.std.specs.Prelude.{◌≡◌, ◌<◌, ◌↔◌, IsTrue};
 ghost use Rattle.pb_board.specs.Piece.{opponent};
 ghost use Rattle.pb_moves.specs.Attacks.{IsAttacked, InCheck, NoOppositeCheck};
 
-use crate::sight::{is_attacked, sight_of};
+use crate::attackers::{attackers_of, is_attacked};
 use pb_board::{Colour, Setup, Square};
 
 /// Whether some piece of this side attacks the square, whoever is to move.
 pub fn attacked(setup: &Setup, square: Square, by: Colour) -> bool
     ensures { IsTrue result ↔ IsAttacked setup.now.board by square }
 {
-    is_attacked(&sight_of(setup, by), square, by)
+    is_attacked(&attackers_of(setup, by), square, by)
 }
 
 /// Whether some enemy piece attacks this side's king.
@@ -21,7 +21,8 @@ pub fn in_check(setup: &Setup, side: Colour) -> bool
     attacked(setup, setup.king(side), side.opponent())
 }
 
-/// Whether the side that isn't to move isn't in check: then the setup can have come about by a legal move.
+/// Whether the side that isn't to move isn't in check: then the setup can have come about by a
+/// legal move.
 pub fn playable(setup: &Setup) -> bool
     ensures { IsTrue result ↔ NoOppositeCheck setup.now }
 {

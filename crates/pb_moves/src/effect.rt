@@ -4,10 +4,10 @@ ghost use Rattle.std.specs.Prelude.{◌≡◌, ◌↔◌, IsTrue, MatchOption};
 ghost use Rattle.pb_moves.specs.Effect.{IsEffect};
 ghost use Rattle.pb_moves.specs.Legal.{Legal, PseudoLegal};
 
-use crate::beside::{en_passant_after, rights_after};
 use crate::legal::{change_of, is_safe, own_piece};
 use crate::move_kind::MoveKind;
 use crate::moves::Move;
+use crate::state_after::{en_passant_after, rights_after};
 use pb_board::{Piece, Rights, Setup, Square};
 
 /// What a move does to a setup. The setup after it and the key of that are made of it, and the move
@@ -83,10 +83,10 @@ impl Effect {
         } = self;
         match kind {
             MoveKind::Normal(piece) => {
-                setup.carry(m.from(), m.to(), piece, rights, ep);
+                setup.move_piece(m.from(), m.to(), piece, rights, ep);
             }
             MoveKind::Double(first, second) => {
-                setup.carry_twice(first, second, rights, ep);
+                setup.move_two(first, second, rights, ep);
             }
         }
     }

@@ -1,4 +1,5 @@
-//! Laws of moves, for the crates above, and of equality (`==`) between moves. Each of these functions is proved to keep them.
+//! Laws of moves, for the crates above, and of equality (`==`) between moves. Each of these
+//! functions is proved to keep them.
 
 ghost use Rattle.std.specs.Prelude.{◌≡◌, ℕ, List};
 ghost use Rattle.std.specs.Bool.{Decides};
@@ -15,7 +16,8 @@ pub fn after_is_setup()
     ensures { (s : Position) (m : Moved) → IsSetup s → Legal s m → IsSetup (after s m) }
 {}
 
-/// Moves are equal (`==`) exactly where squares and promotion are the same, and their texts where the bytes are.
+/// Moves are equal (`==`) exactly where squares and promotion are the same, and their texts where
+/// the bytes are.
 pub fn equal_moves()
     ensures moves { (a b : Moved) → IsMove a → IsMove b → Decides (⟦<Move as PartialEq>⟧.eq a b) (a ≡ b) }
     ensures texts { (t u : List ℕ) → Decides (⟦<MoveText as PartialEq>⟧.eq t u) (t ≡ u) }

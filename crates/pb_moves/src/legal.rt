@@ -11,16 +11,16 @@ ghost use Rattle.pb_moves.specs.Cases.{CaseOf, SafeCase};
 ghost use Rattle.pb_moves.specs.MoveKind.{Finds, LeadsTo};
 ghost use Rattle.pb_moves.specs.declared.move_kind.MoveKind.TheVariants.{Double};
 ghost use Rattle.pb_moves.specs.Moved.{Moved};
-ghost use Rattle.pb_moves.specs.Sight.{Sees};
-ghost use Rattle.pb_moves.specs.Free.{IsFree};
+ghost use Rattle.pb_moves.specs.Attackers.{AreAttackers};
+ghost use Rattle.pb_moves.specs.Unpinned.{IsUnpinned};
 
+use crate::attackers::{Attackers, attackers_after, attackers_of, attackers_without, is_attacked};
 use crate::board::is_empty;
 use crate::cases::{becomes, en_passant, pawn_capture, pawn_double, pawn_step, piece_move};
 use crate::castling::castles;
 use crate::move_kind::MoveKind;
 use crate::moves::Move;
-use crate::sight::{Sight, carried_sight, is_attacked, lifted_sight, sight_of};
-use pb_board::{Carried, Kind, Piece, Setup, Square};
+use pb_board::{Kind, MovedPiece, Piece, Setup, Square};
 
 /// The piece of the side to move that stands there.
 #[inline(always)]
@@ -79,8 +79,8 @@ pub(crate) fn change_of(setup: &Setup, m: Move, piece: Piece) -> Option<MoveKind
     }
 }
 
-/// Whether what stands on the square lets a pawn go there: nothing ahead of it, and aside something to take, or some pawn that can be
-/// taken en passant. Other pieces are let pass. Where the answer is no, no move of the piece goes there.
+/// Whether a pawn may find its way to the square: false only where no pawn's move there can be, and
+/// true for other pieces. It is a cheap test before the rules of a pawn.
 #[inline(always)]
 pub(crate) fn has_way(setup: &Setup, piece: Piece, from: Square, to: Square) -> bool
     ensures { (m : Moved) (b : Board) → m.from ≡ from → m.to ≡ to → CaseOf setup.now m piece b → IsTrue result }
@@ -110,19 +110,20 @@ pub(crate) fn king_after(setup: &Setup, m: Move, piece: Piece) -> Square
     }
 }
 
-/// Whether the moves of this piece need no test of check, where they put it in the place of what stood on a square: it isn't the
-/// king, and its king wouldn't be attacked if it were gone. `enemy` is what is seen of the board and the enemy's attackers.
+/// Whether the moves of this piece need no test of check, where they put it in the place of what
+/// stood on a square: it isn't the king, and its king wouldn't be attacked if it were gone. `enemy`
+/// is what is seen of the board and the enemy's attackers.
 #[inline(always)]
-pub(crate) fn is_free(setup: &Setup, enemy: &Sight, from: Square, piece: Piece) -> bool
+pub(crate) fn is_unpinned(setup: &Setup, enemy: &Attackers, from: Square, piece: Piece) -> bool
     requires own { HoldsOwn setup.now from piece }
-    requires seen { Sees setup.now.board (opponent setup.now.turn) enemy.now }
-    ensures { IsTrue result → IsFree setup.now from piece }
+    requires seen { AreAttackers setup.now.board (opponent setup.now.turn) enemy.now }
+    ensures { IsTrue result → IsUnpinned setup.now from piece }
 {
     if piece.kind == Kind::King {
         return false;
     }
     let side = setup.turn();
-    let seen = lifted_sight(*enemy, from);
+    let seen = attackers_without(*enemy, from);
     !is_attacked(&seen, setup.king(side), side.opponent())
 }
 
@@ -136,37 +137,44 @@ pub(crate) fn is_safe(setup: &Setup, m: Move, piece: Piece, kind: &MoveKind) -> 
     match *kind {
         MoveKind::Normal(_) => {
             let enemy = setup.turn().opponent();
-            let seen = carried_sight(sight_of(setup, enemy), m.from(), m.to());
+            let seen = attackers_after(attackers_of(setup, enemy), m.from(), m.to());
             !is_attacked(&seen, king_after(setup, m, piece), enemy)
         }
         MoveKind::Double(first, second) => is_safe_double(setup, m, piece, first, second),
     }
 }
 
-/// The same for two pieces that go one after the other. It is out of line, since few moves need it.
+/// `is_safe` for two pieces that go one after the other, not inlined, since few moves need it.
 #[inline(never)]
-fn is_safe_double(setup: &Setup, m: Move, piece: Piece, first: Carried, second: Carried) -> bool
+fn is_safe_double(
+    setup: &Setup,
+    m: Move,
+    piece: Piece,
+    first: MovedPiece,
+    second: MovedPiece,
+) -> bool
     requires own { HoldsOwn setup.now m.from piece }
     requires leads { LeadsTo (CaseOf setup.now m piece) setup.now m (Double first second) }
     ensures { IsTrue result ↔ SafeCase setup.now m }
 {
     let enemy = setup.turn().opponent();
-    let between = carried_sight(sight_of(setup, enemy), first.from, first.to);
-    let seen = carried_sight(between, second.from, second.to);
+    let between = attackers_after(attackers_of(setup, enemy), first.from, first.to);
+    let seen = attackers_after(between, second.from, second.to);
     !is_attacked(&seen, king_after(setup, m, piece), enemy)
 }
 
-/// Whether the move of this piece is legal. `free` is true only where most moves of the piece need no test of check.
+/// Whether the move of this piece is legal. `unpinned` is true only where most moves of the piece
+/// need no test of check.
 #[inline(always)]
-pub(crate) fn is_legal_for(setup: &Setup, m: Move, piece: Piece, free: bool) -> bool
+pub(crate) fn is_legal_for(setup: &Setup, m: Move, piece: Piece, unpinned: bool) -> bool
     requires own { HoldsOwn setup.now m.from piece }
-    requires free { IsTrue free → IsFree setup.now m.from piece }
+    requires unpinned { IsTrue unpinned → IsUnpinned setup.now m.from piece }
     ensures { IsTrue result ↔ SafeCase setup.now m }
 {
     // The reader tells that the move meets its rules.
     let _from = m.from();
     match change_of(setup, m, piece) {
-        Some(MoveKind::Normal(_)) if free => true,
+        Some(MoveKind::Normal(_)) if unpinned => true,
         Some(kind) => is_safe(setup, m, piece, &kind),
         None => false,
     }

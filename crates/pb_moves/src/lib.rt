@@ -1,5 +1,5 @@
-//! The moves of chess: attacks and check, which moves are legal, and the setup and the record after them; it knows of no game and of
-//! no book.
+//! The moves of chess: attacks and check, which moves are legal, and the setup and the record after
+//! them. Games and books are the business of the crates above.
 //!
 //! ```rust
 //! let moves = legal_moves(alloc, &fen.setup())?;
@@ -8,7 +8,7 @@
 #![tactic(auto)]
 
 mod attack;
-mod beside;
+mod attackers;
 mod board;
 mod candidates;
 mod cases;
@@ -25,10 +25,10 @@ mod pawn_targets;
 mod piece_targets;
 mod playing;
 mod promotion;
-mod sight;
+mod rays;
 mod spelling;
+mod state_after;
 mod text;
-mod ways;
 
 pub use check::{attacked, in_check, playable};
 pub use clocks::advance;
@@ -36,7 +36,7 @@ pub use effect::{Effect, effect_of, is_legal, legal_effect};
 pub use listing::legal_moves;
 pub use move_kind::MoveKind;
 pub use moves::Move;
-pub use playing::{play, play_on};
+pub use playing::{play, try_play};
 pub use promotion::promotion_of;
 pub use spelling::read_move;
 pub use text::MoveText;

@@ -5,16 +5,16 @@ ghost use Rattle.std.specs.Option.{ForSome};
 ghost use Rattle.pb_board.specs.Piece.{opponent};
 ghost use Rattle.pb_moves.specs.Moved.{IsPromotion, promotion_number};
 ghost use Rattle.pb_moves.specs.Listing.{ListsLegal};
-ghost use Rattle.pb_moves.specs.Free.{IsFree};
-ghost use Rattle.pb_moves.specs.Sight.{Sees};
+ghost use Rattle.pb_moves.specs.Unpinned.{IsUnpinned};
+ghost use Rattle.pb_moves.specs.Attackers.{AreAttackers};
 ghost use Rattle.pb_moves.specs.Candidate.{AreOwn, HoldsOwn, MayPromote, ListsBelow};
 
+use crate::attackers::{Attackers, attackers_of};
 use crate::board::square_at;
 use crate::candidates::candidates;
-use crate::legal::{has_way, is_free, is_legal_for, own_piece};
+use crate::legal::{has_way, is_legal_for, is_unpinned, own_piece};
 use crate::moves::Move;
-use crate::sight::{Sight, sight_of};
-use crate::ways::has;
+use crate::rays::has;
 use pb_board::{Kind, Piece, Setup, Square};
 use std::alloc::{AllocError, Global};
 
@@ -28,7 +28,7 @@ struct Lister<'a> {
     // The squares on which the side to move has a piece.
     own: u64,
     // What is seen of the enemy's attackers.
-    enemy: Sight,
+    enemy: Attackers,
 }
 
 /// A piece of the side to move on its square.
@@ -37,18 +37,18 @@ struct Mover {
     piece: Piece,
     from: Square,
     // Whether most of its moves need no test of check.
-    free: bool,
+    unpinned: bool,
 }
 
-/// All legal moves of the setup, each once, by the square that they leave, then the square that they reach, both
-/// from a1 to h8 by index, then the promotion: knight, bishop, rook, queen.
+/// All legal moves of the setup, each once, by the square that they leave, then the square that
+/// they reach, both from a1 to h8 by index, then the promotion: knight, bishop, rook, queen.
 pub fn legal_moves(alloc: Global, setup: &Setup) -> Result<Vec<Move>, AllocError>
     ensures { IfOk result (λ v. ListsLegal setup.now v.items) }
 {
     let lister = Lister {
         setup,
         own: own_squares(setup),
-        enemy: sight_of(setup, setup.turn().opponent()),
+        enemy: attackers_of(setup, setup.turn().opponent()),
     };
     let mut moves = Vec::with_capacity(alloc, USUAL_MOVES)?;
     for index in 0..64u8 {
@@ -61,8 +61,8 @@ pub fn legal_moves(alloc: Global, setup: &Setup) -> Result<Vec<Move>, AllocError
 fn own_squares(setup: &Setup) -> u64
     ensures { AreOwn result setup.now }
 {
-    let own = sight_of(setup, setup.turn());
-    own.pawns | own.knights | own.kings | own.straight | own.diagonal
+    let own = attackers_of(setup, setup.turn());
+    own.pawns | own.knights | own.kings | own.orthogonal | own.diagonal
 }
 
 /// Whether a pawn goes to the first or last rank.
@@ -76,7 +76,7 @@ fn may_promote(kind: Kind, to: Square) -> bool
 impl<'a> Lister<'a> {
     /// Adds the legal moves from one square.
     fn push_from(&self, from: Square, moves: &mut Vec<Move>) -> Result<(), AllocError>
-        requires seen { Sees self.now.setup.now.board (opponent self.now.setup.now.turn) self.now.enemy }
+        requires seen { AreAttackers self.now.setup.now.board (opponent self.now.setup.now.turn) self.now.enemy }
         requires own { AreOwn self.now.own self.now.setup.now }
         requires before { ListsBelow self.now.setup.now moves.old.items (320 * from) }
         ensures { OnOk result (ListsBelow self.now.setup.now moves.new.items (320 * from + 320)) }
@@ -89,8 +89,12 @@ impl<'a> Lister<'a> {
         };
         // The reader tells that the setup meets its rules.
         let _turn = self.setup.turn();
-        let free = is_free(self.setup, &self.enemy, from, piece);
-        let mover = Mover { piece, from, free };
+        let unpinned = is_unpinned(self.setup, &self.enemy, from, piece);
+        let mover = Mover {
+            piece,
+            from,
+            unpinned,
+        };
         let mut rest = candidates(piece, from) & !self.own;
         while rest != 0 {
             let index = rest.trailing_zeros();
@@ -103,7 +107,7 @@ impl<'a> Lister<'a> {
     /// Adds the legal moves of this piece to one square.
     #[inline(always)]
     fn push_to(&self, mover: &Mover, to: Square, moves: &mut Vec<Move>) -> Result<(), AllocError>
-        requires free { IsTrue mover.now.free → IsFree self.now.setup.now mover.now.from mover.now.piece }
+        requires unpinned { IsTrue mover.now.unpinned → IsUnpinned self.now.setup.now mover.now.from mover.now.piece }
         requires own { HoldsOwn self.now.setup.now mover.now.from mover.now.piece }
         requires before { ListsBelow self.now.setup.now moves.old.items (320 * mover.now.from + 5 * to) }
         ensures { OnOk result (ListsBelow self.now.setup.now moves.new.items (320 * mover.now.from + 5 * to + 5)) }
@@ -132,7 +136,7 @@ impl<'a> Lister<'a> {
         promotion: Option<Kind>,
         moves: &mut Vec<Move>,
     ) -> Result<(), AllocError>
-        requires free { IsTrue mover.now.free → IsFree self.now.setup.now mover.now.from mover.now.piece }
+        requires unpinned { IsTrue mover.now.unpinned → IsUnpinned self.now.setup.now mover.now.from mover.now.piece }
         requires own { HoldsOwn self.now.setup.now mover.now.from mover.now.piece }
         requires promotion { ForSome promotion IsPromotion }
         requires before { ListsBelow self.now.setup.now moves.old.items (320 * mover.now.from + 5 * to + promotion_number promotion) }
@@ -141,7 +145,7 @@ impl<'a> Lister<'a> {
         let Some(m) = Move::new(mover.from, to, promotion) else {
             return Ok(());
         };
-        if !is_legal_for(self.setup, m, mover.piece, mover.free) {
+        if !is_legal_for(self.setup, m, mover.piece, mover.unpinned) {
             return Ok(());
         }
         moves.push(m)?;

@@ -1,13 +1,14 @@
 //! Which pieces a move puts elsewhere.
 
-use pb_board::{Carried, Piece};
+use pb_board::{MovedPiece, Piece};
 
-/// Which pieces a move puts elsewhere: a few bytes, so that a move is judged before a board changes.
+/// Which pieces a move puts elsewhere: a few bytes, so that a move is judged before a board
+/// changes.
 #[derive(Clone, Copy)]
 pub enum MoveKind {
     /// This piece arrives where the move goes, in the place of what stood there.
     Normal(Piece),
     /// These two go one after the other: king and rook castle, or a pawn takes another en passant,
     /// by way of that pawn's square.
-    Double(Carried, Carried),
+    Double(MovedPiece, MovedPiece),
 }

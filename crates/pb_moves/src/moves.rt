@@ -9,11 +9,12 @@ use std::marker::Model;
 
 /// A move from one square to another, with the piece that a pawn becomes on the last rank.
 ///
-/// Castling is the king's move, as e1g1. The two squares differ, and a promotion is to a knight, a bishop, a rook or
-/// a queen. Whether the move is legal depends on the setup.
+/// Castling is the king's move, as e1g1. The two squares differ, and a promotion is to a knight, a
+/// bishop, a rook or a queen. Whether the move is legal depends on the setup.
 #[derive(Clone, Copy, Debug, PartialEq, Eq, Hash)]
 pub struct Move {
-    // The square reached, 64 times the square left, and 4,096 times the promotion: games hold moves by the million.
+    // The square reached, 64 times the square left, and 4,096 times the promotion: games hold moves
+    // by the million.
     bits: u16,
 }
 
@@ -36,7 +37,8 @@ impl Move {
     ghost use Rattle.std.specs.Prelude.{◌+◌, ◌*◌};
     ghost use Rattle.pb_moves.specs.Moved.{IsPromotion, IsMove, moved_of, promotion_number};
 
-    /// The move between these squares. None exactly where they are one square, or `promo` is a pawn or a king.
+    /// The move between these squares. None exactly where they are one square, or `promo` is a pawn
+    /// or a king.
     #[inline]
     pub fn new(from: Square, to: Square, promo: Option<Kind>) -> Option<Move>
         ensures on_board { (from < 64) × (to < 64) }

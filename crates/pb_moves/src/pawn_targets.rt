@@ -1,5 +1,5 @@
-//! Where a pawn may go on an empty board or by a capture: for each square of it a number, whose bit `i` stands for the
-//! square of index `i`.
+//! Where a pawn may go on an empty board or by a capture: for each square of it a number, whose bit
+//! `i` stands for the square of index `i`.
 
 /// The squares to which a white pawn may go.
 pub(crate) static WHITE_PAWN: [u64; 64] = [

@@ -1,5 +1,5 @@
-//! Where a piece other than a pawn may go on an empty board or by a capture: for each square of it a number, whose bit `i`
-//! stands for the square of index `i`.
+//! Where a piece other than a pawn may go on an empty board or by a capture: for each square of it
+//! a number, whose bit `i` stands for the square of index `i`.
 
 /// The squares to which a knight may go.
 pub(crate) static KNIGHT: [u64; 64] = [

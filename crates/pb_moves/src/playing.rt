@@ -10,8 +10,9 @@ use crate::effect::legal_effect;
 use crate::moves::Move;
 use pb_board::Setup;
 
-/// Plays the move in place, where it is legal, and tells whether it is. Where it isn't, the setup stays as it is.
-pub fn play_on(setup: &mut Setup, m: Move) -> bool
+/// Plays the move in place, where it is legal, and tells whether it is. Where it isn't, the setup
+/// stays as it is.
+pub fn try_play(setup: &mut Setup, m: Move) -> bool
     ensures legal { IsTrue result ↔ Legal setup.old m }
     ensures played { IsTrue result → (setup.new ≡ after setup.old m) }
     ensures refused { ¬ IsTrue result → (setup.new ≡ setup.old) }
@@ -27,8 +28,9 @@ pub fn play_on(setup: &mut Setup, m: Move) -> bool
 
 /// The setup after the move. None exactly where the move isn't legal.
 ///
-/// A castling right is lost for good once its king or its rook has moved or its rook was taken, and an en passant
-/// square stands after each double step of a pawn, whether or not an enemy pawn can use it (PGN Standard 16.1.3.4).
+/// A castling right is lost for good once its king or its rook has moved or its rook was taken, and
+/// an en passant square stands after each double step of a pawn, whether or not an enemy pawn can
+/// use it (PGN Standard 16.1.3.4).
 pub fn play(setup: &Setup, m: Move) -> Option<Setup>
     ensures played { SomeIff result (Legal setup.now m) (after setup.now m) }
     ensures setup { IfSome result IsSetup }
@@ -36,7 +38,7 @@ pub fn play(setup: &Setup, m: Move) -> Option<Setup>
     // The reader tells that the setup meets its rules.
     let _turn = setup.turn();
     let mut next = *setup;
-    if play_on(&mut next, m) {
+    if try_play(&mut next, m) {
         Some(next)
     } else {
         None

@@ -50,8 +50,8 @@ fn read_parts(bytes: [u8; 4], promotion: Option<Kind>) -> Option<Move>
     Move::new(from, to, promotion)
 }
 
-/// The move that the bytes spell: two squares and, for a promotion, one of the small letters n, b, r and q, with
-/// nothing before, between or after. None exactly where they spell no move.
+/// The move that the bytes spell: two squares and, for a promotion, one of the small letters n, b,
+/// r and q, with nothing before, between or after. None exactly where they spell no move.
 pub fn read_move(text: &[u8]) -> Option<Move>
     ensures { MatchOption result
         ((m : Moved) → IsMove m → text.now ≢ spelling m)

@@ -38,7 +38,8 @@ impl MoveText {
 }
 
 impl Move {
-    /// The spelling of the move: its two squares and the small letter of a promotion, as e2e4, e1g1 or e7e8q.
+    /// The spelling of the move: its two squares and the small letter of a promotion, as e2e4, e1g1
+    /// or e7e8q.
     pub fn text(self) -> MoveText
         ensures { result ≡ spelling self }
     {

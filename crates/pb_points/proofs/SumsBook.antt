@@ -103,7 +103,8 @@ sums_group rows sums group added = record { some = some sums refl; rise = added.
 
 -- ---- one key after another
 
--- the book of what the rows before the rest hold together, whose keys are below those of the rest, was added
+-- the book of what the rows before the rest hold together, whose keys are below those of the rest,
+-- was added
 pub record AreSumsSoFar (rows : List Row) (old new : List Entry) (rest : List Row) : Type 0 where
   pub done : List Row
   pub split : rows ≡ done ++ rest

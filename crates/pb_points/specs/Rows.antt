@@ -31,7 +31,8 @@ pub record IsTop (rows : List Row) (k M : ℕ) : Type 0 where
   pub above : (r : Row) → Contains rows r → r.key ≡ k → r.points ≤ M
   pub met : (r : Row) × Contains rows r × (r.key ≡ k) × (r.points ≡ M)
 
--- the row gives this entry to the book: its move, with its points scaled by the greatest of its key, where that isn't 0
+-- the row gives this entry to the book: its move, with its points scaled by the greatest of its
+-- key, where that isn't 0
 pub record Gives (rows : List Row) (r : Row) (e : Entry) : Type 0 where
   pub greatest : ℕ
   pub top : IsTop rows r.key greatest

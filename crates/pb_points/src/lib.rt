@@ -1,5 +1,5 @@
 //! Points of moves under keys, kept as games arrive, and the weights and entries that are made of
-//! them; it knows keys and codes as numbers, and of no setup and no game.
+//! them. Keys and codes are numbers here, without a setup or a game.
 #![tactic(auto)]
 
 mod blocks;

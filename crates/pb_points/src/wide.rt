@@ -9,8 +9,8 @@ use crate::list_tally::{add_at, place_of};
 use crate::row::Row;
 use std::alloc::{AllocError, Global};
 
-/// For how many rows room is made at least. So much, 128 KB, lies apart from the blocks, and no page
-/// of it is used for their sake.
+/// For how many rows room is made at least. So much, 128 KB, lies apart from the blocks, and no
+/// page of it is used for their sake.
 const LEAST: usize = 4096;
 
 /// Adds a ply with its points to the row of a key and a code, or makes a row of it where there is

@@ -79,7 +79,8 @@ back_by side from to (Some c) is own near =
     let e : (colour_number row.colour == colour_number side) ≡ true = eq-eqb (colour_number row.colour) (colour_number side) (ap colour_number (own c refl)) in
     ap (king_or side row.rook_from) (home_is c from squares.0) ∙ ap (λ o. cond o row.king_to row.rook_from) e ∙ sym squares.1
 
--- the king castles by its own move alone, so the code's square gives back the one that the move reaches
+-- the king castles by its own move alone, so the code's square gives back the one that the move
+-- reaches
 back_if : (s : Position) (m : Moved) (king : Bool) → (king ≡ true → ((c : Castling) → castling_of m.from m.to ≡ Some c → (castling_row c).colour ≡ s.turn) × (files_apart m.from m.to ≤ 2))
     → (let named = cond king (option_map_or (λ c. (castling_row c).rook_from) (castling_of m.from m.to) m.to) m.to in
     cond king (king_or s.turn named (castling_from_home m.from named)) named) ≡ m.to

@@ -1,9 +1,9 @@
 -- What a move does to the sum over the places of a board's pieces.
 use Rattle.std.proofs.Common.{◌≡◌, ◌≢◌, ℕ, zero, suc, ◌+◌, ◌%◌, ◌<◌, Some, None, List, [], ◌∷◌, ◌++◌, length, refl, sym, ap, ◌∙◌, arith}
 use Rattle.pb_board.specs.declared.piece.Piece.{Piece}
-use Rattle.pb_board.specs.declared.setup.Carried.{Carried}
+use Rattle.pb_board.specs.declared.setup.MovedPiece.{MovedPiece}
 use Rattle.pb_board.specs.Board.{Board, Place, at, Holds}
-use Rattle.pb_board.specs.Carried.{carried_on}
+use Rattle.pb_board.specs.MovedPiece.{with_moved}
 use Rattle.pb_board.specs.Position.{Position, IsSetup}
 use Rattle.pb_moves.specs.declared.effect.Effect.{Effect}
 use Rattle.pb_moves.specs.declared.move_kind.MoveKind.{MoveKind}
@@ -12,7 +12,7 @@ use Rattle.pb_moves.specs.Effect.{IsEffect}
 use Rattle.pb_moves.specs.MoveKind.{Fits, board_by}
 use Rattle.pb_moves.specs.Moved.{Moved, IsMove}
 use Rattle.pb_moves.specs.Successor.{after}
-use Rattle.pb_moves.proofs.Carried.{put}
+use Rattle.pb_moves.proofs.MovedPiece.{put}
 use Rattle.pb_moves.proofs.Differing.{at_put_other, at_put_same, holds_on_board, length_put, same_lists}
 use Rattle.pb_poly.specs.Key.{piece_place, piece_places}
 use Rattle.pb_poly.specs.KeyChange.{going_places, moved_places, square_places}
@@ -61,11 +61,11 @@ known : (f : ℕ → ℕ) (board : Board) (q : ℕ) (place : Place) → at board
 known f board q place is = ap (λ n. total f (square_places (at board q) n)) (omega arith) ∙ ap (λ (p : Place). total f (square_places p q)) is
 
 -- the sum follows, as far as it is odd or even
-pub going_changes : (f : ℕ → ℕ) (board : Board) (leaving : Piece) (c : Carried) → length board ≡ 64 → Holds board c.from leaving → c.to < 64 → c.from ≢ c.to
-    → (total f (piece_places board 0) + total f (going_places board leaving c)) % 2 ≡ total f (piece_places (carried_on board c) 0) % 2
+pub going_changes : (f : ℕ → ℕ) (board : Board) (leaving : Piece) (c : MovedPiece) → length board ≡ 64 → Holds board c.from leaving → c.to < 64 → c.from ≢ c.to
+    → (total f (piece_places board 0) + total f (going_places board leaving c)) % 2 ≡ total f (piece_places (with_moved board c) 0) % 2
 going_changes f board leaving c full stands on_to moves =
     let left = put board c.from None in
-    let new = carried_on board c in
+    let new = with_moved board c in
     let on_from = holds_on_board board c.from leaving full stands in
     let full_left = length_put board c.from None full in
     let full_new = length_put left c.to (Some c.piece) full_left in
@@ -81,9 +81,9 @@ going_changes f board leaving c full stands on_to moves =
 kind_changes : (f : ℕ → ℕ) (s : Position) (m : Moved) (piece : Piece) (kind : MoveKind) → length s.board ≡ 64 → IsMove m → Holds s.board m.from piece → Fits kind s
     → (total f (piece_places s.board 0) + total f (moved_places s.board m piece kind)) % 2 ≡ total f (piece_places (board_by kind m s.board) 0) % 2
 kind_changes f s m piece (Normal arriving) full is stands fits =
-    let c : Carried = record { from = m.from; to = m.to; piece = arriving } in going_changes f s.board piece c full stands is.to_on_board is.moves
+    let c : MovedPiece = record { from = m.from; to = m.to; piece = arriving } in going_changes f s.board piece c full stands is.to_on_board is.moves
 kind_changes f s m piece (Double first second) full is stands fits =
-    let between = carried_on s.board first in
+    let between = with_moved s.board first in
     let full_left = length_put s.board first.from None full in
     let full_between = length_put (put s.board first.from None) first.to (Some first.piece) full_left in
     let one = going_changes f s.board first.piece first full fits.0.stands fits.0.on_board fits.0.moves in

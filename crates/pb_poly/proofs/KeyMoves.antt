@@ -14,7 +14,7 @@ use Rattle.pb_moves.specs.Successor.{after}
 use Rattle.pb_moves.proofs.Differing.{off_two}
 use Rattle.pb_moves.proofs.Passing.{crossed}
 use Rattle.pb_moves.proofs.Effects.{effect_case, effect_ep}
-use Rattle.pb_poly.specs.Key.{has_taker, en_passant_places, place_if}
+use Rattle.pb_poly.specs.Key.{has_capturer, en_passant_places, place_if}
 use Rattle.pb_poly.specs.KeyChange.{stepped_places}
 use Rattle.pb_poly.proofs.Places.{passing_places}
 
@@ -24,7 +24,7 @@ others_two s m p new x q f t =
     let arriving : Piece = record { colour = s.turn; kind = x.kind } in
     x.board.others q (off_two q (m.from, None) (m.to, Some arriving) f t)
 
--- the pawn has passed over the square half way, which lies before it
+-- the pawn made a double step over the square half way, which lies before it
 step_beyond : (side : Colour) (from to : ℕ) → file to ≡ file from → IsForward side 2 from to → (beyond (opponent side) ((from + to) / 2) ≡ to) × (file ((from + to) / 2) ≡ file to)
 step_beyond White from to same forward = (omega arith, omega arith)
 step_beyond Black from to same forward = (omega arith, omega arith)
@@ -36,23 +36,23 @@ step_aside White from to same forward begins = ((λ e. omega arith), (λ e. omeg
 step_aside Black from to same forward begins = ((λ e. omega arith), (λ e. omega arith), (λ e. omega arith), λ e. omega arith)
 
 -- so those who may take stand there before the move too
-takers_stay : (s : Position) (m : Moved) (p : Piece) (new : Board) (side : Colour) → PawnDouble s m p new → has_taker new side m.to ≡ has_taker s.board side m.to
-takers_stay s m p new side x =
+capturers_stay : (s : Position) (m : Moved) (p : Piece) (new : Board) (side : Colour) → PawnDouble s m p new → has_capturer new side m.to ≡ has_capturer s.board side m.to
+capturers_stay s m p new side x =
     let aside = step_aside s.turn m.from m.to x.same_file x.forward x.begins in
     let below : at new (m.to - 1) ≡ at s.board (m.to - 1) = others_two s m p new x.after (m.to - 1) aside.0 aside.1 in
     let above : at new (m.to + 1) ≡ at s.board (m.to + 1) = others_two s m p new x.after (m.to + 1) aside.2 aside.3 in
     rw (below, above) refl
 
 double_places : (s t : Position) (m : Moved) (p : Piece) → t.turn ≡ opponent s.turn → t.ep ≡ Some ((m.from + m.to) / 2) → PawnDouble s m p t.board
-    → en_passant_places t ≡ place_if (has_taker s.board (opponent s.turn) m.to) (772 + file m.to)
+    → en_passant_places t ≡ place_if (has_capturer s.board (opponent s.turn) m.to) (772 + file m.to)
 double_places s t m p turn ep x =
     let halfway = (m.from + m.to) / 2 in
     let is = step_beyond s.turn m.from m.to x.same_file x.forward in
     ap (λ (o : Option ℕ). passing_places t o) ep
-    ∙ ap (λ (side : Colour). place_if (has_taker t.board side (beyond side halfway)) (772 + file halfway)) turn
-    ∙ ap (λ q. place_if (has_taker t.board (opponent s.turn) q) (772 + file halfway)) is.0
-    ∙ ap (λ flag. place_if flag (772 + file halfway)) (takers_stay s m p t.board (opponent s.turn) x)
-    ∙ ap (λ f. place_if (has_taker s.board (opponent s.turn) m.to) (772 + f)) is.1
+    ∙ ap (λ (side : Colour). place_if (has_capturer t.board side (beyond side halfway)) (772 + file halfway)) turn
+    ∙ ap (λ q. place_if (has_capturer t.board (opponent s.turn) q) (772 + file halfway)) is.0
+    ∙ ap (λ flag. place_if flag (772 + file halfway)) (capturers_stay s m p t.board (opponent s.turn) x)
+    ∙ ap (λ f. place_if (has_capturer s.board (opponent s.turn) m.to) (772 + f)) is.1
 
 -- no other move crosses a square
 by_case : (s t : Position) (m : Moved) (p : Piece) (ep : Option ℕ) (x : CaseOf s m p t.board) → t.turn ≡ opponent s.turn → t.ep ≡ ep → ep ≡ crossed s m p t.board x
@@ -60,7 +60,7 @@ by_case : (s t : Position) (m : Moved) (p : Piece) (ep : Option ℕ) (x : CaseOf
 by_case s t m p ep (pawn_double x) turn is by =
     let aside = step_beyond s.turn m.from m.to x.same_file x.forward in
     double_places s t m p turn (is ∙ by) x
-    ∙ ap (λ n. place_if (has_taker s.board (opponent s.turn) m.to) (772 + n)) (sym aside.1) ∙ sym (ap (λ (o : Option ℕ). stepped_places s m.to o) by)
+    ∙ ap (λ n. place_if (has_capturer s.board (opponent s.turn) m.to) (772 + n)) (sym aside.1) ∙ sym (ap (λ (o : Option ℕ). stepped_places s m.to o) by)
 by_case s t m p ep (piece_move x) turn is by = ap (λ (o : Option ℕ). passing_places t o) (is ∙ by) ∙ sym (ap (λ (o : Option ℕ). stepped_places s m.to o) by)
 by_case s t m p ep (pawn_step x) turn is by = ap (λ (o : Option ℕ). passing_places t o) (is ∙ by) ∙ sym (ap (λ (o : Option ℕ). stepped_places s m.to o) by)
 by_case s t m p ep (pawn_capture x) turn is by = ap (λ (o : Option ℕ). passing_places t o) (is ∙ by) ∙ sym (ap (λ (o : Option ℕ). stepped_places s m.to o) by)

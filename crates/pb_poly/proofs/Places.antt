@@ -18,7 +18,7 @@ use Rattle.pb_board.specs.Board.{Board, Place, at, file, rank, is_piece}
 use Rattle.pb_board.specs.Position.{Position, IsSetup, beyond}
 use Rattle.pb_board.proofs.PieceTests.{is_piece-is, is_piece-passes}
 use Rattle.pb_moves.specs.Attacks.{files_apart}
-use Rattle.pb_poly.specs.Key.{ArePlaces, HasPlace, of_piece, of_right, en_passant, white_to_move, HasTaker, castling_place, has_taker, number_of, en_passant_places, piece_place, piece_places, place_if, places, rights_places, en_passant_offset, turn_offset}
+use Rattle.pb_poly.specs.Key.{ArePlaces, HasPlace, of_piece, of_right, en_passant, white_to_move, HasCapturer, castling_place, has_capturer, number_of, en_passant_places, piece_place, piece_places, place_if, places, rights_places, en_passant_offset, turn_offset}
 use Rattle.pb_poly.proofs.Among.{Among, Distinct, among_contained, among_either, among_left, among_right, contains_among, distinct_append, distinct_pairs}
 
 -- ---- the pieces
@@ -154,56 +154,56 @@ rank_next pawn inside = omega arith
 file_next : (pawn : ℕ) → pawn % 8 ≢ 7 → files_apart (pawn + 1) pawn ≡ 1
 file_next pawn inside = omega arith
 
-beside_either : (taker pawn : ℕ) → rank taker ≡ rank pawn → files_apart taker pawn ≡ 1 → ((taker ≡ pawn - 1) × (file pawn ≢ 0)) ⊎ ((taker ≡ pawn + 1) × (file pawn ≢ 7))
-beside_either taker pawn same next = elim (cases_lt taker pawn) [
+beside_either : (capturer pawn : ℕ) → rank capturer ≡ rank pawn → files_apart capturer pawn ≡ 1 → ((capturer ≡ pawn - 1) × (file pawn ≢ 0)) ⊎ ((capturer ≡ pawn + 1) × (file pawn ≢ 7))
+beside_either capturer pawn same next = elim (cases_lt capturer pawn) [
   | inl low ↦ inl (omega arith, λ e. omega (arith, e))
   | inr high ↦ inr (omega arith, λ e. omega (arith, e))
 ]
 
-taker_of : (s : Position) (square : ℕ) → has_taker s.board s.turn (beyond s.turn square) ≡ true → HasTaker s square
-taker_of s square h =
+capturer_of : (s : Position) (square : ℕ) → has_capturer s.board s.turn (beyond s.turn square) ≡ true → HasCapturer s square
+capturer_of s square h =
     let pawn : ℕ = beyond s.turn square in
     elim (either_true (not (file pawn == 0) && is_piece (pawn_of s.turn) (at s.board (pawn - 1))) (not (file pawn == 7) && is_piece (pawn_of s.turn) (at s.board (pawn + 1))) h) [
       | inl left ↦
           let parts = and_parts (not (file pawn == 0)) (is_piece (pawn_of s.turn) (at s.board (pawn - 1))) left in
           let inside : pawn % 8 ≢ 0 = other_than (file pawn) 0 parts.0 in
-          record { taker = pawn - 1; stands = is_piece-is (pawn_of s.turn) (at s.board (pawn - 1)) parts.1; same_rank = rank_before pawn inside; next_file = file_before pawn inside }
+          record { capturer = pawn - 1; stands = is_piece-is (pawn_of s.turn) (at s.board (pawn - 1)) parts.1; same_rank = rank_before pawn inside; next_file = file_before pawn inside }
       | inr right ↦
           let parts = and_parts (not (file pawn == 7)) (is_piece (pawn_of s.turn) (at s.board (pawn + 1))) right in
           let inside : pawn % 8 ≢ 7 = other_than (file pawn) 7 parts.0 in
-          record { taker = pawn + 1; stands = is_piece-is (pawn_of s.turn) (at s.board (pawn + 1)) parts.1; same_rank = rank_next pawn inside; next_file = file_next pawn inside }
+          record { capturer = pawn + 1; stands = is_piece-is (pawn_of s.turn) (at s.board (pawn + 1)) parts.1; same_rank = rank_next pawn inside; next_file = file_next pawn inside }
     ]
 
-of_taker : (s : Position) (square : ℕ) → HasTaker s square → has_taker s.board s.turn (beyond s.turn square) ≡ true
-of_taker s square h =
+of_capturer : (s : Position) (square : ℕ) → HasCapturer s square → has_capturer s.board s.turn (beyond s.turn square) ≡ true
+of_capturer s square h =
     let pawn : ℕ = beyond s.turn square in
     let left : Bool = not (file pawn == 0) && is_piece (pawn_of s.turn) (at s.board (pawn - 1)) in
     let right : Bool = not (file pawn == 7) && is_piece (pawn_of s.turn) (at s.board (pawn + 1)) in
-    let stands = there_pawn s.turn (at s.board h.taker) h.stands in
+    let stands = there_pawn s.turn (at s.board h.capturer) h.stands in
     let P : ℕ → Type 0 = λ q. is_piece (pawn_of s.turn) (at s.board q) ≡ true in
-    elim (beside_either h.taker pawn h.same_rank h.next_file) [
+    elim (beside_either h.capturer pawn h.same_rank h.next_file) [
       | inl l ↦ true_left left right (both_true (not (file pawn == 0)) (is_piece (pawn_of s.turn) (at s.board (pawn - 1))) (tells_other (file pawn) 0 l.1) (subst P l.0 stands))
       | inr r ↦ true_right left right (both_true (not (file pawn == 7)) (is_piece (pawn_of s.turn) (at s.board (pawn + 1))) (tells_other (file pawn) 7 r.1) (subst P r.0 stands))
     ]
 
 -- the place of such an en passant square
 abbrev pub passing_places : Position → Option ℕ → List ℕ
-passing_places s ep = option_map_or (λ q. place_if (has_taker s.board s.turn (beyond s.turn q)) (en_passant_offset + file q)) ep []
+passing_places s ep = option_map_or (λ q. place_if (has_capturer s.board s.turn (beyond s.turn q)) (en_passant_offset + file q)) ep []
 
-among_en_passant : (s : Position) (ep : Option ℕ) (n : ℕ) → Among (passing_places s ep) n → (square : ℕ) × (ep ≡ Some square) × HasTaker s square × (n ≡ 772 + file square)
+among_en_passant : (s : Position) (ep : Option ℕ) (n : ℕ) → Among (passing_places s ep) n → (square : ℕ) × (ep ≡ Some square) × HasCapturer s square × (n ≡ 772 + file square)
 among_en_passant s None n h = absurd h
 among_en_passant s (Some square) n h =
-    let flag = among_flag (has_taker s.board s.turn (beyond s.turn square)) (772 + file square) n h in
-    (square, refl, taker_of s square flag.0, flag.1)
+    let flag = among_flag (has_capturer s.board s.turn (beyond s.turn square)) (772 + file square) n h in
+    (square, refl, capturer_of s square flag.0, flag.1)
 
-en_passant_among : (s : Position) (ep : Option ℕ) (square n : ℕ) → ep ≡ Some square → HasTaker s square → n ≡ 772 + file square → Among (passing_places s ep) n
-en_passant_among s ep square n is taker place =
+en_passant_among : (s : Position) (ep : Option ℕ) (square n : ℕ) → ep ≡ Some square → HasCapturer s square → n ≡ 772 + file square → Among (passing_places s ep) n
+en_passant_among s ep square n is capturer place =
     let P : Option ℕ → Type 0 = λ o. Among (passing_places s o) n in
-    subst P (sym is) (flag_among (has_taker s.board s.turn (beyond s.turn square)) (772 + file square) n (of_taker s square taker) place)
+    subst P (sym is) (flag_among (has_capturer s.board s.turn (beyond s.turn square)) (772 + file square) n (of_capturer s square capturer) place)
 
 distinct_en_passant : (s : Position) (ep : Option ℕ) → Distinct (passing_places s ep)
 distinct_en_passant s None = tt
-distinct_en_passant s (Some square) = distinct_flag (has_taker s.board s.turn (beyond s.turn square)) (772 + file square)
+distinct_en_passant s (Some square) = distinct_flag (has_capturer s.board s.turn (beyond s.turn square)) (772 + file square)
 
 -- ---- all places
 
@@ -327,8 +327,8 @@ among_places s n (of_piece square p stands is) =
     among_left (piece_places s.board 0) rest n (subst P e (among_pieces s.board 0 square p stands))
 among_places s n (of_right c set is) =
     among_right (piece_places s.board 0) _ n (among_left (rights_places s.rights) _ n (castling_among (rights_of s) c n set is))
-among_places s n (en_passant square here taker is) =
-    among_right (piece_places s.board 0) _ n (among_right (rights_places s.rights) _ n (among_left (en_passant_places s) _ n (en_passant_among s s.ep square n here taker is)))
+among_places s n (en_passant square here capturer is) =
+    among_right (piece_places s.board 0) _ n (among_right (rights_places s.rights) _ n (among_left (en_passant_places s) _ n (en_passant_among s s.ep square n here capturer is)))
 among_places s n (white_to_move white is) =
     among_right (piece_places s.board 0) _ n (among_right (rights_places s.rights) _ n (among_right (en_passant_places s) _ n (turn_among s.turn n white is)))
 

@@ -24,8 +24,8 @@ BookRead Read = ReadsToFault
 BookRead Endless = ReadsOn
 BookRead Memory = ReadsFront
 
--- what is so of the bytes that came: the key of an entry falls, less than an entry is left, or an entry came in order for which
--- memory was wanting
+-- what is so of the bytes that came: the key of an entry falls, less than an entry is left, or an
+-- entry came in order for which memory was wanting
 abbrev pub BookDue : BookError → List ℕ → Type 0
 BookDue (Unsorted number) came = (entries : List Entry) × BookBytes entries came × BreaksAt NeverFall entries number
 BookDue (Cut extra) came = (entries : List Entry) × (part : List ℕ) × Splits came entries part × (0 < extra) × (extra ≡ length part)

@@ -1,5 +1,6 @@
--- Move codes of PolyGlot books: 15 bits, by three from the lowest: the file and the rank of the square that the move reaches,
--- the file and the rank of the square that it leaves, and the promotion. Castling is coded as the king's move to its rook.
+-- Move codes of PolyGlot books: 15 bits, by three from the lowest: the file and the rank of the
+-- square that the move reaches, the file and the rank of the square that it leaves, and the
+-- promotion. Castling is coded as the king's move to its rook.
 use Rattle.std.specs.Prelude.{◌≡◌, ℕ, ◌+◌, ◌*◌, if◌then◌else◌}
 use Rattle.std.specs.Option.{option_map_or}
 use Rattle.pb_board.specs.Piece.{kind_number, king_of}

@@ -7,7 +7,8 @@ use Rattle.pb_board.specs.Castling.{castling_from_home, castling_row}
 use Rattle.pb_board.specs.Position.{Position}
 use Rattle.pb_board.specs.Board.{at, is_piece}
 
--- the square that the king of this side reaches where the code names the rook with which it castles, and else the one named
+-- the square that the king of this side reaches where the code names the rook with which it
+-- castles, and else the one named
 abbrev pub king_or : Colour → ℕ → Option Castling → ℕ
 king_or side named None = named
 king_or side named (Some c) = let row = castling_row c in if colour_number row.colour == colour_number side then row.king_to else named

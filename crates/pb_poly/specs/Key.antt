@@ -1,4 +1,5 @@
--- Keys of setups: the places of the table that a setup has, and the parity of the random numbers there.
+-- Keys of setups: the places of the table that a setup has, and the parity of the random numbers
+-- there.
 use Rattle.std.specs.Prelude.{◌≡◌, ◌≢◌, ◌↔◌, ℕ, ◌+◌, ◌-◌, ◌*◌, ◌%◌, ◌^◌, ◌<◌, Bool, not, ◌&&◌, ◌||◌, ◌==◌, Some, None, List, [], ◌∷◌, ◌++◌, if◌then◌else◌, IsTrue, AllPairs, Contains, fold, sum_by, slice_index, bit_xor}
 use Rattle.std.specs.Int.{bit_at}
 use Rattle.std.specs.List.{flat_map}
@@ -47,8 +48,8 @@ abbrev pub place_if : Bool → ℕ → List ℕ
 place_if flag place = if flag then place ∷ [] else []
 
 -- a pawn of the side to move stands directly beside the square, one file lower or higher
-abbrev pub has_taker : Board → Colour → ℕ → Bool
-has_taker board turn q =
+abbrev pub has_capturer : Board → Colour → ℕ → Bool
+has_capturer board turn q =
     (not (file q == 0) && is_piece (pawn_of turn) (at board (q - 1))) || (not (file q == 7) && is_piece (pawn_of turn) (at board (q + 1)))
 
 -- the places of castling rights, and of an en passant square whose pawn may be taken
@@ -56,30 +57,30 @@ abbrev pub rights_places : Rights → List ℕ
 rights_places r = flat_map (λ c. place_if ((castling_row c).right r) (castling_place c)) castlings
 
 abbrev pub en_passant_places : Position → List ℕ
-en_passant_places s = option_map_or (λ q. place_if (has_taker s.board s.turn (beyond s.turn q)) (en_passant_offset + file q)) s.ep []
+en_passant_places s = option_map_or (λ q. place_if (has_capturer s.board s.turn (beyond s.turn q)) (en_passant_offset + file q)) s.ep []
 
 -- all places of a setup, each once
 abbrev pub places : Position → List ℕ
 places s = piece_places s.board 0 ++ (rights_places s.rights ++ (en_passant_places s ++ place_if (colour_number s.turn == 0) turn_offset))
 
--- the numbers at these places, joined by exclusive or
+-- the numbers at these places, toggled by exclusive or
 unfoldable pub key : List ℕ → Position → ℕ
 key randoms s = fold (λ k place. bit_xor k (slice_index randoms place)) 0 (places s)
 
 -- ---- the same as a relation
 
--- a pawn of the side to move stands directly beside the pawn that passed over the square
-pub record HasTaker (s : Position) (square : ℕ) : Type 0 where
-  pub taker : ℕ
-  pub stands : Holds s.board taker (pawn_of s.turn)
-  pub same_rank : rank taker ≡ rank (beyond s.turn square)
-  pub next_file : files_apart taker (beyond s.turn square) ≡ 1
+-- a pawn of the side to move stands directly beside the pawn that made the double step
+pub record HasCapturer (s : Position) (square : ℕ) : Type 0 where
+  pub capturer : ℕ
+  pub stands : Holds s.board capturer (pawn_of s.turn)
+  pub same_rank : rank capturer ≡ rank (beyond s.turn square)
+  pub next_file : files_apart capturer (beyond s.turn square) ≡ 1
 
 -- the setup has this place of the table
 pub data HasPlace (s : Position) (place : ℕ) : Type 0 where
   of_piece : (square : ℕ) (p : Piece) → Holds s.board square p → place ≡ piece_place p square → HasPlace s place
   of_right : (c : Castling) → IsTrue ((castling_row c).right s.rights) → place ≡ castling_place c → HasPlace s place
-  en_passant : (square : ℕ) → s.ep ≡ Some square → HasTaker s square → place ≡ en_passant_offset + file square → HasPlace s place
+  en_passant : (square : ℕ) → s.ep ≡ Some square → HasCapturer s square → place ≡ en_passant_offset + file square → HasPlace s place
   white_to_move : s.turn ≡ White → place ≡ turn_offset → HasPlace s place
 
 -- the places that the setup has, each once, in any order

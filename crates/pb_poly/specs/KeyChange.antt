@@ -4,7 +4,7 @@ use Rattle.std.specs.Bool.{beq}
 use Rattle.std.specs.List.{flat_map}
 use Rattle.std.specs.Option.{option_map_or}
 use Rattle.pb_board.specs.declared.piece.Piece.{Piece}
-use Rattle.pb_board.specs.declared.setup.Carried.{Carried}
+use Rattle.pb_board.specs.declared.setup.MovedPiece.{MovedPiece}
 use Rattle.pb_board.specs.declared.setup.Rights.{Rights}
 use Rattle.pb_board.specs.Castling.{castling_row, castlings}
 use Rattle.pb_board.specs.Board.{Board, Place, file, at}
@@ -13,9 +13,10 @@ use Rattle.pb_board.specs.Position.{Position}
 use Rattle.pb_moves.specs.declared.move_kind.MoveKind.{MoveKind}
 use Rattle.pb_moves.specs.declared.move_kind.MoveKind.TheVariants.{Normal, Double}
 use Rattle.pb_moves.specs.Moved.{Moved}
-use Rattle.pb_poly.specs.Key.{castling_place, en_passant_offset, has_taker, piece_place, place_if}
+use Rattle.pb_poly.specs.Key.{castling_place, en_passant_offset, has_capturer, piece_place, place_if}
 
--- a key with the numbers at these places toggled: exclusive or takes each in, and takes it out where it was in
+-- a key with the numbers at these places toggled: exclusive or takes each in, and takes it out
+-- where it was in
 abbrev pub toggled : List ℕ → ℕ → List ℕ → ℕ
 toggled randoms key places = fold (λ k place. bit_xor k (slice_index randoms place)) key places
 
@@ -25,7 +26,7 @@ square_places None square = []
 square_places (Some p) square = piece_place p square ∷ []
 
 -- a piece leaves its square, and what it is then arrives in the place of what stood there
-abbrev pub going_places : Board → Piece → Carried → List ℕ
+abbrev pub going_places : Board → Piece → MovedPiece → List ℕ
 going_places board leaving c = piece_place leaving c.from ∷ (square_places (at board c.to) c.to ++ (piece_place c.piece c.to ∷ []))
 
 -- the pieces go that a move of this kind puts elsewhere; the second of two goes to an empty square
@@ -39,6 +40,7 @@ abbrev pub changed_places : Rights → Rights → List ℕ
 changed_places old new =
     flat_map (λ c. let row = castling_row c in place_if (not (beq (row.right old) (row.right new))) (castling_place c)) castlings
 
--- after a double step to this square: the place of the en passant square, where an enemy pawn stands beside the pawn
+-- after a double step to this square: the place of the en passant square, where an enemy pawn
+-- stands beside the pawn
 abbrev pub stepped_places : Position → ℕ → Option ℕ → List ℕ
-stepped_places s to ep = option_map_or (λ q. place_if (has_taker s.board (opponent s.turn) to) (en_passant_offset + file q)) ep []
+stepped_places s to ep = option_map_or (λ q. place_if (has_capturer s.board (opponent s.turn) to) (en_passant_offset + file q)) ep []

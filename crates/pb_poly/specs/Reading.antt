@@ -33,7 +33,8 @@ ReadsBook fills old new result =
     ((way : Way) × (bytes : List ℕ) × Reads way chunk_len fills old new bytes × BookIs way bytes result)
     ⊎ ((result ≡ Err Memory) × (new ≡ old))
 
--- the source tells that just these bytes come, it doesn't fail, and the fills are more than the bytes
+-- the source tells that just these bytes come, it doesn't fail, and the fills are more than the
+-- bytes
 pub record Tells (fills : ℕ) (old new : SourceState) (bytes : List ℕ) : Type 0 where
   pub told : old.to_come ≡ Some bytes
   pub works : new.failed ≡ false

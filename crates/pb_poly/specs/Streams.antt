@@ -1,4 +1,5 @@
--- How far a source was read that a call fills at most so often, into slices of at most `room` bytes.
+-- How far a source was read that a call fills at most so often, into slices of at most `room`
+-- bytes.
 use Rattle.std.specs.Prelude.{ℕ, List}
 use Rattle.pb_io.specs.Reads.{ReadsAll, ReadsFront, ReadsOn, ReadsSome, ReadsToFault}
 use Rattle.pb_io.specs.Source.{SourceState}

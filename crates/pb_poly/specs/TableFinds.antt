@@ -1,4 +1,5 @@
--- What reading a table file from a source gives, apart for each answer, as the private functions tell it.
+-- What reading a table file from a source gives, apart for each answer, as the private functions
+-- tell it.
 use Rattle.std.specs.Prelude.{◌≡◌, ℕ, ◌+◌, ◌<◌, ◌≤◌, ◌⊎◌, List, length}
 use Rattle.pb_io.specs.Source.{SourceState}
 use Rattle.pb_io.specs.Reads.{ReadsAll, ReadsOn, ReadsSome, ReadsToFault}

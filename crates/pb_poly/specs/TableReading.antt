@@ -7,8 +7,8 @@ use Rattle.pb_poly.specs.declared.table.TableError.TheVariants as poly
 use Rattle.pb_poly.specs.declared.table_file.TableFault.{TableFault}
 use Rattle.pb_poly.specs.declared.table_file.TableFault.TheVariants.{Long, Line, Count, Read, Endless, Memory}
 
--- the bytes of a table file, read in this way, come to these random numbers or to this fault; where they are too many, just one too
--- many was read
+-- the bytes of a table file, read in this way, come to these random numbers or to this fault; where
+-- they are too many, just one too many was read
 abbrev pub TableIs : Way → List ℕ → Result (List ℕ) TableFault → Type 0
 TableIs at_end bytes (Ok randoms) = IsTableFile randoms bytes
 TableIs just_so_far bytes (Err Long) = length bytes ≡ table_limit + 1

@@ -36,7 +36,8 @@ impl Book {
     ///
     /// # Errors
     ///
-    /// The number, from 1, of the first entry whose key is below the key before it, with the entries.
+    /// The number, from 1, of the first entry whose key is below the key before it, with the
+    /// entries.
     pub fn of(entries: Vec<Entry>) -> Result<Book, (usize, Vec<Entry>)>
         ensures { MatchResult result
             (λ b. (b ≡ entries.items) × NeverFall b × All IsEntry b)
@@ -48,7 +49,7 @@ impl Book {
         }
     }
 
-    /// The book of entries that are known to meet the rules. Nothing is tested.
+    /// The book of entries whose keys are known not to fall.
     pub(crate) fn of_ordered(entries: Vec<Entry>) -> Book
         requires ordered { NeverFall entries.items }
         requires bounds { All IsEntry entries.items }

@@ -35,9 +35,10 @@ fn coded_to(setup: &Setup, m: Move) -> Square
     }
 }
 
-/// The code of a move in a PolyGlot book, below 2^15: the square that it reaches, 64 times the square that it leaves, and
-/// 4,096 times the promotion (none, knight, bishop, rook, queen from 0). Castling counts as the king's move to its
-/// rook, as e1h1. It means something of legal moves alone.
+/// The code of a move in a PolyGlot book, below 2^15: the square that it reaches, 64 times the
+/// square that it leaves, and 4,096 times the promotion (none, knight, bishop, rook, queen from 0).
+/// Castling counts as the king's move to its rook, as e1h1. It means something of legal moves
+/// alone.
 #[inline(always)]
 pub fn code_of(setup: &Setup, m: Move) -> u16
     ensures { result ≡ encode_move setup.now m }
@@ -45,7 +46,7 @@ pub fn code_of(setup: &Setup, m: Move) -> u16
     m.bits() - u16::from(m.to().index()) + u16::from(coded_to(setup, m).index())
 }
 
-/// The square that a move from this square reaches where its code names that one.
+/// The target square of a code: where it castles, naming the rook's square, the king's target.
 fn reached(setup: &Setup, from: Square, named: Square) -> Square
     ensures { result ≡ reached_by setup.now from named }
 {
@@ -66,7 +67,8 @@ fn decoded(setup: &Setup, code: u16) -> Option<Move>
     Move::new(from, reached(setup, from, named), promotion_of(code / 4096))
 }
 
-/// The one legal move with this code. None exactly where no legal move has it, and so where bit 15 isn't 0.
+/// The one legal move with this code. None exactly where no legal move has it, and so where bit 15
+/// isn't 0.
 ///
 /// The code is taken apart into the only move that it may mean, and that one is tested.
 pub fn move_of(setup: &Setup, code: u16) -> Option<Move>

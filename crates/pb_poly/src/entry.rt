@@ -52,7 +52,8 @@ impl Entry {
     }
 }
 
-/// Puts the entry's 16 bytes: 8 of the key, 2 of the code, 2 of the weight and 4 of the learn value, each big-endian.
+/// Puts the entry's 16 bytes: 8 of the key, 2 of the code, 2 of the weight and 4 of the learn
+/// value, each big-endian.
 ///
 /// # Errors
 ///

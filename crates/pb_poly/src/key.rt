@@ -5,7 +5,7 @@ ghost use Rattle.pb_board.specs.Piece.{colour_number, kind_number, pawn_of};
 ghost use Rattle.pb_board.specs.Castling.{castling_row};
 ghost use Rattle.pb_board.specs.Board.{at, file, is_piece};
 ghost use Rattle.pb_board.specs.Position.{IsSetup, OnEnPassantRank, beyond as beyond_by};
-ghost use Rattle.pb_poly.specs.Key.{IsKey, castling_place as castling_place_by, has_taker as has_taker_by, key as key_by, en_passant_offset, en_passant_places, piece_place as piece_place_by, piece_places, place_if, rights_places, turn_offset};
+ghost use Rattle.pb_poly.specs.Key.{IsKey, castling_place as castling_place_by, has_capturer as has_capturer_by, key as key_by, en_passant_offset, en_passant_places, piece_place as piece_place_by, piece_places, place_if, rights_places, turn_offset};
 ghost use Rattle.pb_poly.specs.KeyChange.{toggled};
 ghost use Rattle.pb_poly.specs.Table.{IsTable};
 
@@ -107,9 +107,9 @@ fn beyond(turn: Colour, square: Square) -> u8
 }
 
 /// Whether a pawn of this side stands directly beside the square of this index.
-pub(crate) fn has_taker(setup: &Setup, side: Colour, pawn: u8) -> bool
+pub(crate) fn has_capturer(setup: &Setup, side: Colour, pawn: u8) -> bool
     requires { pawn < 64 }
-    ensures { result ≡ has_taker_by setup.now.board side pawn }
+    ensures { result ≡ has_capturer_by setup.now.board side pawn }
 {
     (pawn % 8 != 0 && has_pawn(setup, side, pawn - 1))
         || (pawn % 8 != 7 && has_pawn(setup, side, pawn + 1))
@@ -124,7 +124,8 @@ pub(crate) fn en_passant_place(square: Square) -> usize
     772 + square.file() as usize
 }
 
-/// Toggles the word of the en passant square, where a pawn stands beside the pawn that has passed over it.
+/// Toggles the word of the en passant square, where a pawn stands beside the pawn that made the
+/// double step.
 #[inline(always)]
 pub(crate) fn toggle_en_passant(table: &Table, key: u64, setup: &Setup) -> u64
     ensures value { result ≡ toggled table.now key (en_passant_places setup.now) }
@@ -133,7 +134,7 @@ pub(crate) fn toggle_en_passant(table: &Table, key: u64, setup: &Setup) -> u64
     let turn = setup.turn();
     match setup.ep() {
         Some(square) => {
-            let flag = has_taker(setup, turn, beyond(turn, square));
+            let flag = has_capturer(setup, turn, beyond(turn, square));
             toggle_if(table, key, flag, en_passant_place(square))
         }
         None => key,
@@ -147,11 +148,12 @@ fn toggle_turn(table: &Table, key: u64, turn: Colour) -> u64
     toggle_if(table, key, turn == Colour::White, WHITE_TO_MOVE)
 }
 
-/// The key of a setup in PolyGlot books: the exclusive or of the table's words for each piece on its square, for each
-/// castling right, for the file of the en passant square, and for White to move.
+/// The key of a setup in PolyGlot books: the exclusive or of the table's words for each piece on
+/// its square, for each castling right, for the file of the en passant square, and for White to
+/// move.
 ///
-/// The word of the en passant square counts exactly where a pawn of the side to move stands beside the pawn that has
-/// passed over it, whether or not that pawn may take it.
+/// The word of the en passant square counts exactly where a pawn of the side to move stands beside
+/// the pawn that made the double step, whether or not that pawn may take it.
 pub fn key_of(table: &Table, setup: &Setup) -> u64
     ensures parity { IsKey table.now setup.now result }
     ensures value { result ≡ key_by table.now setup.now }

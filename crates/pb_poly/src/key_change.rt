@@ -9,11 +9,11 @@ ghost use Rattle.pb_poly.specs.Key.{IsKey, key as key_by, piece_place as piece_p
 ghost use Rattle.pb_poly.specs.KeyChange.{changed_places, going_places, moved_places, square_places, stepped_places, toggled};
 
 use crate::key::{
-    WHITE_TO_MOVE, en_passant_place, has_taker, piece_place, toggle_en_passant, toggle_if,
+    WHITE_TO_MOVE, en_passant_place, has_capturer, piece_place, toggle_en_passant, toggle_if,
     toggle_rights,
 };
 use crate::table::Table;
-use pb_board::{Carried, Piece, Rights, Setup, Square};
+use pb_board::{MovedPiece, Piece, Rights, Setup, Square};
 use pb_moves::{Effect, Move, MoveKind, effect_of};
 
 /// Toggles the word of the piece on the square.
@@ -37,10 +37,10 @@ fn toggle_square(table: &Table, key: u64, before: &Setup, square: Square) -> u64
 
 /// Toggles the words of a piece that goes: of what leaves, of what is taken, and of what arrives.
 #[inline(always)]
-fn toggle_going(table: &Table, key: u64, before: &Setup, leaving: Piece, carried: Carried) -> u64
+fn toggle_going(table: &Table, key: u64, before: &Setup, leaving: Piece, carried: MovedPiece) -> u64
     ensures { result ≡ toggled table.now key (going_places before.now.board leaving carried) }
 {
-    let Carried { from, to, piece } = carried;
+    let MovedPiece { from, to, piece } = carried;
     let left = toggle_piece(table, key, leaving, from);
     let taken = toggle_square(table, left, before, to);
     toggle_piece(table, taken, piece, to)
@@ -49,7 +49,13 @@ fn toggle_going(table: &Table, key: u64, before: &Setup, leaving: Piece, carried
 /// Toggles the words of two pieces that go one after the other. It is out of line, since few moves
 /// need it.
 #[inline(never)]
-fn toggle_double(table: &Table, key: u64, before: &Setup, first: Carried, second: Carried) -> u64
+fn toggle_double(
+    table: &Table,
+    key: u64,
+    before: &Setup,
+    first: MovedPiece,
+    second: MovedPiece,
+) -> u64
     ensures { result ≡ toggled table.now key (going_places before.now.board first.piece first
         ++ (piece_place_by second.piece second.from ∷ piece_place_by second.piece second.to ∷ [])) }
 {
@@ -73,7 +79,7 @@ fn toggle_moved(
     match kind {
         MoveKind::Normal(piece) => {
             let (from, to) = (m.from(), m.to());
-            toggle_going(table, key, before, leaving, Carried { from, to, piece })
+            toggle_going(table, key, before, leaving, MovedPiece { from, to, piece })
         }
         MoveKind::Double(first, second) => toggle_double(table, key, before, first, second),
     }
@@ -107,7 +113,7 @@ fn toggle_stepped(table: &Table, key: u64, before: &Setup, to: Square, ep: Optio
         return key;
     };
     // The move leaves the squares beside this one as they were.
-    let flag = has_taker(before, before.turn().opponent(), to.index());
+    let flag = has_capturer(before, before.turn().opponent(), to.index());
     toggle_if(table, key, flag, en_passant_place(square))
 }
 

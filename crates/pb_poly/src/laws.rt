@@ -1,4 +1,5 @@
-//! Laws of move codes, of keys, of books and of what they hold. Each is the contract of a function that does nothing.
+//! Laws of move codes, of keys, of books and of what they hold. Each is the contract of a function
+//! that does nothing.
 
 ghost use Rattle.std.specs.Bool.{Decides};
 ghost use Rattle.std.specs.Prelude.{◌≡◌};
@@ -22,20 +23,22 @@ pub fn code_is_one()
     ensures { CodeIsOne }
 {}
 
-/// The key that the function gives is the one number that is, bit by bit, the parity of the words at a setup's places.
+/// The key that the function gives is the one number that is, bit by bit, the parity of the words
+/// at a setup's places.
 pub fn key_is_one()
     ensures is { KeyIsParity }
     ensures only { KeyIsOne }
 {}
 
-/// No two books have the same bytes, and no book has two texts: what `write_book` puts is read as the same entries, and
-/// the entries that were read are put as the same bytes.
+/// No two books have the same bytes, and no book has two texts: what `write_book` puts is read as
+/// the same entries, and the entries that were read are put as the same bytes.
 pub fn book_is_one()
     ensures entries { BookIsOne }
     ensures bytes { BytesAreOne }
 {}
 
-/// Entries, and reasons why bytes give no book or no table, are equal (`==`) exactly where they are one value.
+/// Entries, and reasons why bytes give no book or no table, are equal (`==`) exactly where they are
+/// one value.
 pub fn equal_values()
     ensures entry { (e f : Entry) → Decides (⟦<Entry as PartialEq>⟧.eq e f) (e ≡ f) }
     ensures book { (e f : BookError) → Decides (⟦<BookError as PartialEq>⟧.eq e f) (e ≡ f) }

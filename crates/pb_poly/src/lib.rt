@@ -1,5 +1,6 @@
-//! The PolyGlot book format over any source and sink: tables, the keys of positions, the codes of moves, and books with what they
-//! hold for a setup; it knows of no games and of no file's name.
+//! The PolyGlot book format over any source and sink: tables, the keys of positions, the codes of
+//! moves, and books with what they hold for a setup. Games and file names are the business of the
+//! crates above.
 //!
 //! ```rust
 //! let book = read_book(alloc, &mut source, u32::MAX)?;
@@ -10,10 +11,10 @@
 mod book;
 mod code;
 mod entry;
-mod found;
 mod key;
 mod key_change;
 pub mod laws;
+mod probing;
 mod reading;
 mod table;
 mod table_file;
@@ -21,13 +22,13 @@ mod table_file;
 pub use book::{Book, write_book};
 pub use code::{code_of, move_of};
 pub use entry::{Entry, write_entry};
-pub use found::probe;
 pub use key::key_of;
 pub use key_change::{key_after, key_next};
 pub use pb_io::{
     Failed, FromRead, FuseSink, FuseSource, LINE_LIMIT, LineTask, MemSink, MemSource, NeverSource,
     Sink, Source, ToWrite, take_lines,
 };
+pub use probing::probe;
 pub use reading::{BookError, read_book};
 pub use table::{Table, TableError, read_table};
 pub use table_file::{TableFault, take_table};

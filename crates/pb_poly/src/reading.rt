@@ -37,7 +37,7 @@ pub enum BookError {
     Memory,
 }
 
-/// What has come of a book: its entries, and the front of the next.
+/// A book that is being read: its whole entries, and the bytes so far of the next.
 #[derive(Drop)]
 struct Reading {
     entries: Vec<Entry>,
@@ -177,13 +177,13 @@ impl Reading {
 
 /// Reads a book to the end of input, in at most so many fills, in whatever pieces it comes.
 ///
-/// Where the source tells bytes, doesn't fail and ends within the fills, the book is that of those bytes, want of memory
-/// aside.
+/// Where the source tells bytes, doesn't fail and ends within the fills, the book is that of those
+/// bytes, want of memory aside.
 ///
 /// # Errors
 ///
-/// What the stream meets first: an entry is judged once its 16 bytes are there, and `Cut` at the end of input. `Memory` may
-/// come at any whole entry, and before the first fill.
+/// What the stream meets first: an entry is judged once its 16 bytes are there, and `Cut` at the
+/// end of input. `Memory` may come at any whole entry, and before the first fill.
 pub fn read_book<S: Source>(alloc: Global, source: &mut S, fills: u32) -> Result<Book, BookError>
     ensures reads { ReadsBook fills (S.state source.old) (S.state source.new) result }
     ensures only { (entries : List Entry) (bytes : List ℕ) → Tells fills (S.state source.old) (S.state source.new) bytes → BookBytes entries bytes → NeverFall entries

@@ -116,13 +116,13 @@ fn words_of(bytes: &[u8]) -> Result<[u64; TABLE_LEN], TableError>
     }
 }
 
-/// The table of a file: 781 lines of 16 hexadecimal digits of either case, one for each word. LF ends a line, the last LF
-/// may be missing, and one CR at the end of a line is dropped.
+/// The table of a file: 781 lines of 16 hexadecimal digits of either case, one for each word. LF
+/// ends a line, the last LF may be missing, and one CR at the end of a line is dropped.
 ///
 /// # Errors
 ///
-/// `Line` for the first line that isn't 16 hexadecimal digits, `Count` where each line is and there are not 781, and
-/// `Memory` only for bytes that are a table.
+/// `Line` for the first line that isn't 16 hexadecimal digits, `Count` where each line is and there
+/// are not 781, and `Memory` only for bytes that are a table.
 pub fn read_table(alloc: Global, bytes: &[u8]) -> Result<Table, TableError>
     ensures found { IfOk result (λ t. TableText t bytes.now) }
     ensures only { (words : List ℕ) → TableText words bytes.now → MatchResult result (λ t. t ≡ words) (λ e. e ≡ Memory) }

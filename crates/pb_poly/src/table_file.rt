@@ -40,7 +40,7 @@ pub enum TableFault {
     Memory,
 }
 
-/// What has come of a table file.
+/// A table file that is being read.
 #[derive(Drop)]
 struct TableBytes {
     bytes: Vec<u8>,
@@ -77,8 +77,8 @@ impl TableBytes {
         &self.bytes[..self.len]
     }
 
-    /// Takes what one fill of the source gives, and answers how many bytes. Where there is no more room, it asks for one
-    /// byte, to tell whether the source is at its end.
+    /// Takes what one fill of the source gives, and answers how many bytes. Where there is no more
+    /// room, it asks for one byte, to tell whether the source is at its end.
     fn fill<S: Source>(&mut self, source: &mut S) -> Result<usize, TableFault>
         ensures fills { FillsTable (S.state source.old) (S.state source.new) self.old self.new result }
         ensures few { length self.new ≤ table_limit }
@@ -144,13 +144,13 @@ fn expect_end<S: Source>(source: &mut S) -> Result<usize, TableFault>
 
 /// Reads a table file to the end of input, in at most so many fills, in whatever pieces it comes.
 ///
-/// Where the source tells bytes, doesn't fail and ends within the fills, the table is that of those bytes, want of memory
-/// aside.
+/// Where the source tells bytes, doesn't fail and ends within the fills, the table is that of those
+/// bytes, want of memory aside.
 ///
 /// # Errors
 ///
-/// `Long` once more than 16,384 bytes are there, and at the end of input `Line` or `Count`. `Memory` comes before the first
-/// fill, or where the bytes are a table.
+/// `Long` once more than 16,384 bytes are there, and at the end of input `Line` or `Count`.
+/// `Memory` comes before the first fill, or where the bytes are a table.
 pub fn take_table<S: Source>(alloc: Global, source: &mut S, fills: u32) -> Result<Table, TableFault>
     ensures reads { ReadsTable fills (S.state source.old) (S.state source.new) result }
     ensures only { (words bytes : List ℕ) → Tells fills (S.state source.old) (S.state source.new) bytes → IsTableFile words bytes

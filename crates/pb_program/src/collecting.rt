@@ -3,7 +3,7 @@
 use crate::command::{FILLS, FileSource, input, source};
 use pb_cli::{Fault, Keeping, Rules, collect_into, continue_into};
 use pb_files::{
-    Durability, FileDesk, JournalSink, KeptFile, Replies, Stop, Submissions, Synced, TellPassed,
+    Durability, FileDesk, JournalSink, KeptFile, Replies, Stop, Submissions, Synced, TellSkipped,
     Written, hold_ledger, journal_to_file, keep_apart, start_journal,
 };
 use pb_io::{FromRead, Sink, ToWrite};
@@ -114,7 +114,7 @@ impl<'a> Collecting<'a> {
             &mut table,
             &mut started.reader,
             &mut lines,
-            &mut TellPassed::new(named),
+            &mut TellSkipped::new(named),
             &mut FromRead::new(Submissions::new(input(self.messages), output, &progress)),
             &mut ToWrite::new(Replies::new(output, &progress)),
             &mut book,

@@ -1,6 +1,6 @@
-//! What the program `pbook` does with its words: it opens the files that they name, runs their
-//! command over them and over the standard streams, and answers the exit status; it knows of no
-//! line, table or book what stands in it.
+//! Runs the command line of `pbook`: opens the files that it names, runs its command over them and
+//! over the standard streams, and gives the exit status. The formats are the business of the crates
+//! below.
 #![tactic(auto)]
 
 mod collecting;

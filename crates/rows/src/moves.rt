@@ -4,7 +4,7 @@ use crate::page::{Done, NO_ROW, Page, Trouble};
 use crate::record::{record_of, setup_of};
 use crate::text::small_of;
 use pb_board::Setup;
-use pb_moves::{Move, advance, is_legal, legal_moves, play, play_on, read_move};
+use pb_moves::{Move, advance, is_legal, legal_moves, play, try_play, read_move};
 use std::alloc::{AllocError, Global};
 
 /// The answer to a call.
@@ -99,7 +99,7 @@ fn legal(page: &mut Page, words: &[&str]) -> Done {
     let m = spelled(text)?;
     let after = play(&setup, m);
     let mut board = setup;
-    let in_place = play_on(&mut board, m);
+    let in_place = try_play(&mut board, m);
     let same = board == after.unwrap_or(setup);
     page.put_count("legal ", &is_legal(&setup, m));
     page.put_count(", played ", &after.is_some());

@@ -2,7 +2,7 @@
 //! program tells how fast that is.
 
 use pb_board::Setup;
-use pb_moves::{Move, legal_effect, legal_moves, play, play_on};
+use pb_moves::{Move, legal_effect, legal_moves, play, try_play};
 use pb_poly::{Table, key_next, key_of};
 use rows::moves::{perft, tell_moves};
 use rows::page::{Done, NO_ROW, Page, Trouble};
@@ -86,7 +86,7 @@ fn play_game(game: &[Move]) -> u64 {
     let mut setup = Setup::start();
     let mut count: u64 = 0;
     for m in game {
-        if !play_on(&mut setup, *m) {
+        if !try_play(&mut setup, *m) {
             return count;
         }
         count = count.wrapping_add(1);

@@ -1,13 +1,13 @@
 //! The command `collect`: alone, from a saved ledger on, or with a journal; and each of them with
 //! places in memory for what it keeps. The number of a row says how many of the lines after it are
 //! those of the saved ledger or of the journal; the others are submissions. With `passed=told` the
-//! numbers of the journal's lines that are passed over are told last.
+//! numbers of the journal's lines that are skipped are told last.
 
 use crate::command::tell_next;
 use crate::ends::{Output, fills_in, rules_in};
 use crate::game::stream_of;
 use pb_cli::{
-    Continued, Fault, MemPlace, PassedLines, Rules, collect_into, continue_into, journal_into,
+    Continued, Fault, MemPlace, SkippedLines, Rules, collect_into, continue_into, journal_into,
     run_collect, run_continue, run_journaled,
 };
 use pb_ledger::save;
@@ -35,13 +35,13 @@ struct Run<'a> {
     book: MemPlace,
 }
 
-/// The numbers of the journal's lines that are passed over, each after a space.
+/// The numbers of the journal's lines that are skipped, each after a space.
 #[derive(Drop)]
 pub(crate) struct Passed {
     numbers: Page,
 }
 
-impl PassedLines for Passed {
+impl SkippedLines for Passed {
     fn tell(&mut self, number: u64) {
         self.numbers.put_count(" ", &number);
     }

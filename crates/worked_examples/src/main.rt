@@ -3,7 +3,7 @@
 //! Each line of its answer is printed after the row's name. What the answers have to be stands in
 //! the file `stdout` beside this crate's sources: the values come from the standards, from worked
 //! tables and from other programs, never from a run. Empty lines and lines that begin with `#` are
-//! passed over.
+//! skipped.
 //!
 //! `each` and two numbers in front of the topic stand for a row for each number from the first to
 //! the last, which goes into the places of `{n}`. So does `fuses` for 0, 1, 2, .. up to the first

@@ -11,7 +11,8 @@ returns-clause-colours c White White = refl
 returns-clause-colours c Black White = refl
 returns-clause-colours c a b = refl
 
--- the lines with a pawn tell the two kinds apart, and the last one then stands for the thirty others
+-- the lines with a pawn tell the two kinds apart, and the last one then stands for the thirty
+-- others
 pub returns-clause-kinds : goal.returns-clause-kinds
 returns-clause-kinds c Pawn Pawn = refl
 returns-clause-kinds c Knight Pawn = refl

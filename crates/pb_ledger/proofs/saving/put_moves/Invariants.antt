@@ -6,7 +6,8 @@ use Rattle.pb_games.specs.Submissions.{moves_text}
 use Rattle.pb_ledger.proofs.SavedForms.{further}
 use Rattle.pb_ledger.proofs.saving.put_moves.Given as goal
 
--- the moves before this one have been put, a sink that had failed still has, and nothing was handed on
+-- the moves before this one have been put, a sink that had failed still has, and nothing was handed
+-- on
 abbrev pub invariant-loop-later : goal.invariant-loop-later
 invariant-loop-later g l =
     let state = g.K.Sink.state in

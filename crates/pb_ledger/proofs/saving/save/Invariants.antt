@@ -7,8 +7,8 @@ use Rattle.pb_games.specs.Submissions.{submission_text}
 use Rattle.pb_ledger.specs.Saving.{header}
 use Rattle.pb_ledger.proofs.saving.save.Given as goal
 
--- of the texts of all games those before this one have been put after the header, a sink that had failed still has, and nothing was
--- handed on
+-- of the texts of all games those before this one have been put after the header, a sink that had
+-- failed still has, and nothing was handed on
 abbrev pub invariant-loop-index : goal.invariant-loop-index
 invariant-loop-index g l =
     let state = g.K.Sink.state in

@@ -14,19 +14,19 @@ pub returns : goal.returns
 returns c = λ q on.
     let s = c.args.setup.now in
     let side = c.turn.result in
-    let sight = c.sight_of-own.result in
-    let sees = c.sight_of-own.ensures in
+    let attackers = c.attackers_of-own.result in
+    let sees = c.attackers_of-own.ensures in
     let own : (kind : Kind) → Holds s.board q (piece_of side kind) → (piece : Piece) × HoldsOwn s q piece = λ kind stands. (piece_of side kind, record { stands = stands; own = c.turn.ensures.value }) in (
       λ h. elim (in_or _ _ q h) [
         | inr d ↦ elim ((sees.diagonal q on).0 d) [ inl x ↦ own Bishop x | inr x ↦ own Queen x ]
         | inl rest ↦ elim (in_or _ _ q rest) [
-          | inr d ↦ elim ((sees.straight q on).0 d) [ inl x ↦ own Rook x | inr x ↦ own Queen x ]
+          | inr d ↦ elim ((sees.orthogonal q on).0 d) [ inl x ↦ own Rook x | inr x ↦ own Queen x ]
           | inl men ↦ elim (in_or _ _ q men) [
             | inr x ↦ own King ((sees.kings q on).0 x)
             | inl light ↦ elim (in_or _ _ q light) [ inl x ↦ own Pawn ((sees.pawns q on).0 x) | inr x ↦ own Knight ((sees.knights q on).0 x) ]
           ]
         ]
       ],
-      λ held. own_in s.board side sight q (sees.pawns q on).1 (sees.knights q on).1 (sees.kings q on).1 (sees.straight q on).1 (sees.diagonal q on).1
+      λ held. own_in s.board side attackers q (sees.pawns q on).1 (sees.knights q on).1 (sees.kings q on).1 (sees.orthogonal q on).1 (sees.diagonal q on).1
           held.0.kind (subst (Holds s.board q) (piece_is held.0 side held.0.kind (held.1.own ∙ sym c.turn.ensures.value) refl) held.1.stands),
     )

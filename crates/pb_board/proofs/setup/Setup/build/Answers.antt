@@ -11,12 +11,12 @@ returns-in_default-one_king c = kings_first (position_of c.args.board c.args.tur
 
 pub returns-then-not-has_no_edge_pawn : goal.returns-then-not-has_no_edge_pawn
 returns-then-not-has_no_edge_pawn c =
-    let white = c.in-Some.ensures c.args.board c.masks_of-masks.ensures in
-    let black = c.in-Some-one_king.ensures c.args.board c.masks_of-masks.ensures in
+    let white = c.in-Some.ensures c.args.board c.bitboards_of-bitboards.ensures in
+    let black = c.in-Some-one_king.ensures c.args.board c.bitboards_of-bitboards.ensures in
     pawns_first (position_of c.args.board c.args.turn c.args.rights c.args.ep) (_, white) (_, black) (search rules)
 
 pub returns : goal.returns
 returns c =
-    let white = c.in-Some.ensures c.args.board c.masks_of-masks.ensures in
-    let black = c.in-Some-one_king.ensures c.args.board c.masks_of-masks.ensures in
+    let white = c.in-Some.ensures c.args.board c.bitboards_of-bitboards.ensures in
+    let black = c.in-Some-one_king.ensures c.args.board c.bitboards_of-bitboards.ensures in
     en_passant_first _ (_, white) (_, black) (search rules) (search rules)

@@ -18,10 +18,10 @@ loop-m-preserved c =
     let Old : List Position → Type 0 = λ known. ListsSetups words book known c.args.self.now.moves.items c.args.self.now.setups.items in
     let Mid : List Position → Type 0 = λ known. ListsSetups words book known c.loop-m.self.moves.items c.loop-m.self.setups.items in
     let New : List Position → Type 0 = λ known. ListsSetups words book known c.add_setup.new.self.moves.items c.add_setup.new.self.setups.items in
-    let played = c.play_on-played.ensures.played c.if-prove.false in
+    let played = c.try_play-played.ensures.played c.if-prove.false in
     let next = sym (played ∙ ap (λ (m : Moved). after s m) c.m-item.is) in
     record {
-      key_is = c.key_next-key.ensures.value (c.play_on-played.ensures.legal.0 c.if-prove.false).moves ∙ ap (key words) (sym played);
+      key_is = c.key_next-key.ensures.value (c.try_play-played.ensures.legal.0 c.if-prove.false).moves ∙ ap (key words) (sym played);
       adding = subst (λ (p : Position). Adding game Old New p (drop (i + 1) ms)) next
           (Adding-more game Old Mid New s ms i c.m-item.result c.loop-m-test.true c.loop-m.invariant.adding (λ known. c.in_ok-add_setup.ensures words known c.loop-m.invariant.key_is));
     }

@@ -1,4 +1,5 @@
--- The one field is of no bytes, and the list that goes with it is what the writer tells. The writer is only looked at by the list.
+-- The one field is of no bytes, and the list that goes with it is what the writer tells. The writer
+-- is only looked at by the list.
 use Rattle.std.proofs.Common.{◌≡◌, ℕ, List, [], ◌∷◌, refl}
 use Rattle.std.proofs.raw_atomic.Walks.{proved, leaves}
 use contract.Monad.{fact, fact_i}

@@ -1,12 +1,12 @@
 use Rattle.pb_moves.proofs.Effects.{made_is_setup}
 use Rattle.pb_moves.proofs.effect.Effect.apply.Goals as goal
 
-pub carry-requires : goal.carry-requires
-carry-requires c =
+pub move_piece-requires : goal.move_piece-requires
+move_piece-requires c =
     let made = made_is_setup c.args.setup.now c.args.m c.args.self c.turn-turn.ensures.rules c.requires in
     record { rules = rw (c.from.ensures.value, c.to.ensures.value) (rw c.in-Normal.is at made) }
 
-pub carry_twice-requires : goal.carry_twice-requires
-carry_twice-requires c =
+pub move_two-requires : goal.move_two-requires
+move_two-requires c =
     let made = made_is_setup c.args.setup.now c.args.m c.args.self c.turn-turn.ensures.rules c.requires in
     record { rules = rw c.in-Double.is at made }

@@ -24,14 +24,14 @@ loop-rest-init c =
     let first : 320 * c.args.from ≡ 320 * c.args.from + 5 * 0 = omega arith in
     let targets : HasTargets c.args.self.now.setup.now c.in-Some.piece c.args.from 0 (bit_and may (bit_not w64 own)) =
     record {
-      every = λ q on after goes free.
+      every = λ q on after goes unpinned.
           in_both may (bit_not w64 own) q ((c.candidates.ensures q on).1 goes)
-          (in_others own q (omega arith) on (λ stands. let held = (c.requires.own q on).0 stands in free held.0 held.1));
+          (in_others own q (omega arith) on (λ stands. let held = (c.requires.own q on).0 stands in unpinned held.0 held.1));
     } in
     record {
       before = lists_to_lowest c.args.self.now.setup.now c.args.moves.now.items c.in-Some.piece c.args.from 0 (bit_and may (bit_not w64 own)) c.turn-turn.ensures.rules c.in-Some.ensures (omega (arith, and_le_l may (bit_not w64 own))) (omega arith)
           targets (subst L first c.requires.before);
-      targets = record { every = λ q on after goes free. targets.every q on (omega arith) goes free };
+      targets = record { every = λ q on after goes unpinned. targets.every q on (omega arith) goes unpinned };
     }
 
 pub loop-rest-smaller : goal.loop-rest-smaller

@@ -1,8 +1,0 @@
-use Rattle.std.proofs.Common.{rules}
-use Rattle.pb_board.proofs.setup.Setup.carry.Goals as goal
-
-pub returns : goal.returns
-returns c = search rules
-
-pub invariant_of-next : goal.invariant_of-next
-invariant_of-next c = search rules

@@ -1,0 +1,8 @@
+use Rattle.std.proofs.Common.{rules}
+use Rattle.pb_board.proofs.setup.Setup.move_two.Goals as goal
+
+pub invariant_of-next : goal.invariant_of-next
+invariant_of-next c = search rules
+
+pub returns : goal.returns
+returns c = search rules

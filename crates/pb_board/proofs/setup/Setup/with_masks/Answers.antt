@@ -1,8 +1,0 @@
-use Rattle.std.proofs.Common.{rules}
-use Rattle.pb_board.proofs.setup.Setup.with_masks.Goals as goal
-
-pub returns : goal.returns
-returns c = search rules
-
-pub invariant_of-result : goal.invariant_of-result
-invariant_of-result c = search rules

@@ -1,0 +1,37 @@
+-- Bitboards: sets of squares as numbers, kept beside the board: bit i stands for the square of
+-- index i.
+use Rattle.std.specs.Prelude.{ℕ, ◌+◌, ◌*◌, Bool, true, false, ◌==◌, [], ◌∷◌, Some, None}
+use Rattle.pb_board.specs.declared.piece.Colour.{Colour}
+use Rattle.pb_board.specs.declared.piece.Colour.TheVariants.{White, Black}
+use Rattle.pb_board.specs.declared.piece.Kind.{Kind}
+use Rattle.pb_board.specs.declared.piece.Kind.TheVariants.{Pawn, Knight, Bishop, Rook, Queen, King}
+use Rattle.pb_board.specs.declared.bitboards.Bitboards.{Bitboards}
+use Rattle.pb_board.specs.Piece.{colour_number, kind_number}
+use Rattle.pb_board.specs.Board.{Place, Board}
+
+-- a piece of this side stands there
+abbrev pub is_side : Colour → Place → Bool
+is_side side None = false
+is_side side (Some piece) = colour_number piece.colour == colour_number side
+
+-- a piece of this kind stands there
+abbrev pub is_kind : Kind → Place → Bool
+is_kind k None = false
+is_kind k (Some piece) = kind_number piece.kind == kind_number k
+
+abbrev pub bit_for : Bool → ℕ
+bit_for true = 1
+bit_for false = 0
+
+-- the squares whose places pass the test
+unfoldable pub bitboard_of : (Place → Bool) → Board → ℕ
+bitboard_of test [] = 0
+bitboard_of test (place ∷ rest) = bit_for (test place) + 2 * bitboard_of test rest
+
+-- the squares of each side's pieces, and of each kind's
+unfoldable pub bitboards_of : Board → Bitboards
+bitboards_of board = record {
+  sides = bitboard_of (is_side White) board ∷ bitboard_of (is_side Black) board ∷ [];
+  kinds = bitboard_of (is_kind Pawn) board ∷ bitboard_of (is_kind Knight) board ∷ bitboard_of (is_kind Bishop) board
+      ∷ bitboard_of (is_kind Rook) board ∷ bitboard_of (is_kind Queen) board ∷ bitboard_of (is_kind King) board ∷ [];
+}

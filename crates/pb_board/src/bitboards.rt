@@ -1,0 +1,109 @@
+//! Bitboards, kept beside the board.
+
+ghost use Rattle.std.specs.Prelude.{◌≡◌, ◌<◌, ◌↔◌, ℕ, length, slice_set};
+ghost use Rattle.std.specs.Int.{bit_at};
+ghost use Rattle.pb_board.specs.Board.{Board, IsEmpty, Holds};
+ghost use Rattle.pb_board.specs.Position.{with_piece_moved};
+ghost use Rattle.pb_board.specs.Piece.{colour_number, kind_number};
+ghost use Rattle.pb_board.specs.Bitboards.{bitboards_of};
+
+use crate::piece::{Colour, Kind, Piece};
+use crate::square::Square;
+
+/// The squares of each side's pieces and of each kind's, as numbers: bit `i` stands for the square
+/// of index `i`.
+#[derive(Clone, Copy, PartialEq)]
+pub(crate) struct Bitboards {
+    pub(crate) sides: [u64; 2],
+    pub(crate) kinds: [u64; 6],
+}
+
+/// The place of a side's squares.
+#[inline(always)]
+fn colour_number(colour: Colour) -> usize
+    ensures value { result ≡ colour_number colour }
+    ensures few { result < 2 }
+{
+    match colour {
+        Colour::White => 0,
+        Colour::Black => 1,
+    }
+}
+
+/// The place of a kind's squares.
+#[inline(always)]
+fn kind_number(kind: Kind) -> usize
+    ensures value { result ≡ kind_number kind }
+    ensures few { result < 6 }
+{
+    match kind {
+        Kind::Pawn => 0,
+        Kind::Knight => 1,
+        Kind::Bishop => 2,
+        Kind::Rook => 3,
+        Kind::Queen => 4,
+        Kind::King => 5,
+    }
+}
+
+/// Notes what stands on the square of this index, where nothing stood before.
+#[inline(always)]
+fn set_down(bitboards: &mut Bitboards, index: u8, place: Option<Piece>)
+    requires { index < 64 }
+    ensures { (b : Board) → length b ≡ 64 → bitboards.old ≡ bitboards_of b → IsEmpty b index → bitboards.new ≡ bitboards_of (slice_set b index place) }
+{
+    if let Some(piece) = place {
+        let bit = 1u64 << index;
+        bitboards.sides[colour_number(piece.colour)] |= bit;
+        bitboards.kinds[kind_number(piece.kind)] |= bit;
+    }
+}
+
+/// The squares after a piece has gone from one to another, in the place of what stood there.
+#[inline(always)]
+pub(crate) fn move_piece(bitboards: &mut Bitboards, from: Square, to: Square, piece: Piece)
+    ensures { (b : Board) → length b ≡ 64 → bitboards.old ≡ bitboards_of b → bitboards.new ≡ bitboards_of (with_piece_moved b from to piece) }
+{
+    let bit = 1u64 << to.index();
+    let keep = !(1u64 << from.index() | bit);
+    bitboards.sides[0] &= keep;
+    bitboards.sides[1] &= keep;
+    bitboards.kinds[0] &= keep;
+    bitboards.kinds[1] &= keep;
+    bitboards.kinds[2] &= keep;
+    bitboards.kinds[3] &= keep;
+    bitboards.kinds[4] &= keep;
+    bitboards.kinds[5] &= keep;
+    bitboards.sides[colour_number(piece.colour)] |= bit;
+    bitboards.kinds[kind_number(piece.kind)] |= bit;
+}
+
+/// The squares of a board's pieces.
+pub(crate) fn bitboards_of(board: &[Option<Piece>; 64]) -> Bitboards
+    ensures { result ≡ bitboards_of board.now }
+{
+    let mut bitboards = Bitboards {
+        sides: [0; 2],
+        kinds: [0; 6],
+    };
+    for index in 0..64u8 {
+        set_down(&mut bitboards, index, board[index as usize]);
+    }
+    bitboards
+}
+
+/// The squares on which something stands.
+#[inline(always)]
+pub(crate) fn occupied(bitboards: Bitboards) -> u64
+    ensures { (b : Board) (q : ℕ) → bitboards ≡ bitboards_of b → ((bit_at result q ≡ 1) ↔ ¬ IsEmpty b q) }
+{
+    bitboards.sides[0] | bitboards.sides[1]
+}
+
+/// The squares on which this piece stands.
+#[inline(always)]
+pub(crate) fn by_piece(bitboards: Bitboards, piece: Piece) -> u64
+    ensures { (b : Board) (q : ℕ) → bitboards ≡ bitboards_of b → ((bit_at result q ≡ 1) ↔ Holds b q piece) }
+{
+    bitboards.sides[colour_number(piece.colour)] & bitboards.kinds[kind_number(piece.kind)]
+}

@@ -1,0 +1,142 @@
+//! What is seen of a board in sets of squares.
+
+ghost use Rattle.std.specs.Prelude.{◌≡◌, ◌≢◌, ℕ, ◌<◌, ◌↔◌, [], ◌∷◌, Some, None, IsTrue, max};
+ghost use Rattle.pb_board.specs.Board.{Board, Holds};
+ghost use Rattle.pb_board.specs.declared.piece.Colour.{Colour};
+ghost use Rattle.pb_board.specs.declared.piece.Piece.{Piece};
+ghost use Rattle.pb_moves.specs.Cases.{Differs};
+ghost use Rattle.pb_moves.specs.Attacks.{files_apart, ranks_apart};
+ghost use Rattle.pb_moves.specs.Reach.{IsReached, IsKnightsMove};
+ghost use Rattle.pb_moves.specs.Attackers.{In, AreAttackers, StrikesFrom};
+
+use crate::pawn_targets::{BLACK_PAWN, WHITE_PAWN};
+use crate::piece_targets::{BISHOP, KNIGHT, NEAR};
+use crate::rays::Slider;
+use pb_board::{Colour, Kind, Piece, Setup, Square};
+
+/// What is taken, and where the attackers of one side stand: bit `i` stands for the square of index
+/// `i`.
+#[derive(Clone, Copy)]
+pub(crate) struct Attackers {
+    pub(crate) occupied: u64,
+    pub(crate) pawns: u64,
+    pub(crate) knights: u64,
+    pub(crate) kings: u64,
+    pub(crate) orthogonal: u64,
+    pub(crate) diagonal: u64,
+}
+
+/// What is seen of the setup's board, with the attackers of this side.
+#[inline(always)]
+pub(crate) fn attackers_of(setup: &Setup, colour: Colour) -> Attackers
+    ensures { AreAttackers setup.now.board colour result }
+{
+    // The reader tells that the setup meets its rules.
+    let _turn = setup.turn();
+    let queens = setup.by_piece(Piece {
+        colour,
+        kind: Kind::Queen,
+    });
+    Attackers {
+        occupied: setup.occupied(),
+        pawns: setup.by_piece(Piece {
+            colour,
+            kind: Kind::Pawn,
+        }),
+        knights: setup.by_piece(Piece {
+            colour,
+            kind: Kind::Knight,
+        }),
+        kings: setup.by_piece(Piece {
+            colour,
+            kind: Kind::King,
+        }),
+        orthogonal: setup.by_piece(Piece {
+            colour,
+            kind: Kind::Rook,
+        }) | queens,
+        diagonal: setup.by_piece(Piece {
+            colour,
+            kind: Kind::Bishop,
+        }) | queens,
+    }
+}
+
+/// The squares from which a pawn of this colour attacks the square: those to which a pawn of the
+/// other colour may go from it on a diagonal.
+#[inline(always)]
+fn pawns_from(colour: Colour, square: Square) -> u64
+    ensures { (a : ℕ) → a < 64 → (In result a ↔ StrikesFrom colour a square) }
+{
+    let index = square.index() as usize;
+    match colour {
+        Colour::White => BLACK_PAWN[index] & BISHOP[index],
+        Colour::Black => WHITE_PAWN[index] & BISHOP[index],
+    }
+}
+
+/// The squares from which a knight attacks the square.
+#[inline(always)]
+pub(crate) fn knights_from(square: Square) -> u64
+    ensures moves { (a : ℕ) → a < 64 → (In result a ↔ IsKnightsMove a square) }
+    ensures on_board { square < 64 }
+{
+    KNIGHT[square.index() as usize]
+}
+
+/// The squares from which a king attacks the square.
+#[inline(always)]
+pub(crate) fn kings_from(square: Square) -> u64
+    ensures { (a : ℕ) → a < 64 → (In result a ↔ (max (files_apart a square) (ranks_apart a square) ≡ 1)) }
+{
+    NEAR[square.index() as usize]
+}
+
+/// Whether some piece of the side attacks the square.
+#[inline(always)]
+pub(crate) fn is_attacked(attackers: &Attackers, square: Square, by: Colour) -> bool
+    ensures { (b : Board) → AreAttackers b by attackers.now → (IsTrue result ↔ IsReached b by square) }
+{
+    let near = pawns_from(by, square) & attackers.pawns
+        | knights_from(square) & attackers.knights
+        | kings_from(square) & attackers.kings;
+    if near != 0 {
+        return true;
+    }
+    if Slider::Diagonal.slides(attackers.occupied, attackers.diagonal, square) {
+        return true;
+    }
+    Slider::Orthogonal.slides(attackers.occupied, attackers.orthogonal, square)
+}
+
+/// What is seen after a piece of the other side has gone from one square to another, in the place
+/// of what stood there.
+#[inline(always)]
+pub(crate) fn attackers_after(attackers: Attackers, from: Square, to: Square) -> Attackers
+    requires { ¬ (from ≡ to) }
+    ensures { (old new : Board) (by : Colour) (piece own : Piece) → AreAttackers old by attackers
+        → Differs old new ((from, None) ∷ (to, Some piece) ∷ []) → piece.colour ≢ by → Holds old from own → own.colour ≢ by → AreAttackers new by result }
+{
+    let left = !(1u64 << from.index());
+    let reached = 1u64 << to.index();
+    Attackers {
+        occupied: attackers.occupied & left | reached,
+        pawns: attackers.pawns & !reached,
+        knights: attackers.knights & !reached,
+        kings: attackers.kings & !reached,
+        orthogonal: attackers.orthogonal & !reached,
+        diagonal: attackers.diagonal & !reached,
+    }
+}
+
+/// What is seen after a piece of the other side has gone from its square.
+#[inline(always)]
+pub(crate) fn attackers_without(attackers: Attackers, from: Square) -> Attackers
+    ensures { (old new : Board) (by : Colour) (own : Piece) → AreAttackers old by attackers → Differs old new ((from, None) ∷ [])
+        → Holds old from own → own.colour ≢ by → AreAttackers new by result }
+{
+    Attackers {
+        occupied: attackers.occupied & !(1u64 << from.index()),
+        ..attackers
+    }
+}

@@ -1,0 +1,55 @@
+//! The castling rights and the en passant square after a move.
+
+ghost use Rattle.std.specs.Prelude.{◌≡◌, Some};
+ghost use Rattle.pb_moves.specs.Successor.{en_passant_after as en_passant_by, keeps_right, rights_after as rights_by};
+
+use crate::board::square_at;
+use crate::moves::Move;
+use pb_board::{Castling, Kind, Piece, Rights, Square};
+
+/// Whether a castling that the rights have is kept.
+#[inline(always)]
+fn keeps(castling: Castling, rights: Rights, m: Move) -> bool
+    ensures { result ≡ keeps_right rights m castling }
+{
+    castling.is_allowed(rights) && !castling.is_touched(m.from(), m.to())
+}
+
+/// The castling rights that the move keeps, each by its squares. It is out of line, since few moves
+/// need it.
+#[inline(never)]
+fn kept_rights(rights: Rights, m: Move) -> Rights
+    ensures { result ≡ rights_by rights m }
+{
+    Rights {
+        white_short: keeps(Castling::WhiteShort, rights, m),
+        white_long: keeps(Castling::WhiteLong, rights, m),
+        black_short: keeps(Castling::BlackShort, rights, m),
+        black_long: keeps(Castling::BlackLong, rights, m),
+    }
+}
+
+/// The castling rights after the move.
+#[inline(always)]
+pub(crate) fn rights_after(rights: Rights, m: Move) -> Rights
+    ensures { result ≡ rights_by rights m }
+{
+    // Most moves touch none of these squares.
+    if !Castling::is_home(m.from()) && !Castling::is_home(m.to()) {
+        return rights;
+    }
+    kept_rights(rights, m)
+}
+
+/// The en passant square after the move of this piece: the one that a pawn's double step crosses.
+#[inline(always)]
+pub(crate) fn en_passant_after(m: Move, piece: Piece) -> Option<Square>
+    ensures { result ≡ en_passant_by m (Some piece) }
+{
+    let (from, to) = (m.from(), m.to());
+    if piece.kind == Kind::Pawn && from.rank().abs_diff(to.rank()) == 2 {
+        Some(square_at((from.index() + to.index()) / 2))
+    } else {
+        None
+    }
+}

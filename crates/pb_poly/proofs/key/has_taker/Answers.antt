@@ -1,5 +1,0 @@
-use Rattle.std.proofs.Common.{rules}
-use Rattle.pb_poly.proofs.key.has_taker.Goals as goal
-
-pub returns-then-has_pawn : goal.returns-then-has_pawn
-returns-then-has_pawn c = search rules
