@@ -10,6 +10,7 @@ use Rattle.pb_board.specs.Position.{Position, IsSetup}
 use Rattle.pb_board.specs.Text.{setup_text}
 use Rattle.pb_moves.specs.Moved.{Moved}
 use Rattle.pb_moves.specs.Successor.{after}
+use Rattle.pb_moves.specs.Legal.{Legal}
 use Rattle.pb_moves.specs.Played.{AreLegal, Ply, plies_from}
 use Rattle.pb_epd.specs.Epd.{EpdRecord, EpdText, IsEpd}
 use Rattle.pb_epd.specs.Operation.{IsOperation, Operation}
@@ -28,7 +29,7 @@ use Rattle.pb_export.specs.declared.setups.ListedSetup.{ListedSetup}
 use Rattle.pb_export.proofs.PackedOrder.{same_text}
 use Rattle.pb_accepted.specs.Holding.{IsLedger}
 use Rattle.pb_accepted.specs.Ledger.{LedgerState}
-use Rattle.pb_accepted.proofs.Gifts.{length-plies_from}
+use Rattle.pb_accepted.proofs.GivenPoints.{length-plies_from}
 
 -- ---- one text, one setup
 
@@ -180,6 +181,9 @@ module _ (g : Game) (Old Mid New : List Position → Type 0) (s : Position) (ms 
         all = append_assoc h.done (s ∷ []) (setups_from (after s m) (drop (i + 1) ms)) ∙ all;
         holds = λ known k. subst New (append_assoc known h.done (s ∷ [])) (adds (known ++ h.done) (h.holds known k));
       }
+
+  pub Adding-legal : (d : Moved) → i < length ms → Adding g Old Mid s (drop i ms) → Legal s (get_or ms i d)
+  Adding-legal d lt h = (subst (AreLegal s) (drop_more ms i d lt) h.legal).0
 
   pub Adding-all : length ms ≤ i → Adding g Old Mid s (drop i ms) → (known : List Position) → Old known → Mid (known ++ setups_before g)
   Adding-all past h known k =

@@ -16,7 +16,7 @@ use crate::packed::PackedSetup;
 use pb_accepted::Ledger;
 use pb_board::Setup;
 use pb_games::Game;
-use pb_moves::{Move, try_play};
+use pb_moves::{Move, legal_effect};
 use pb_points::Tally;
 use pb_poly::{Entry, Table, key_next, key_of, move_of};
 use std::alloc::{AllocError, Global};
@@ -93,9 +93,14 @@ impl Listing {
         let mut key = key_of(table, &setup);
         for m in game.moves.as_slice() {
             self.add_setup(book, &setup, key)?;
-            key = key_next(table, key, &setup, *m);
-            let played = try_play(&mut setup, *m);
-            prove!(played);
+            match legal_effect(&setup, *m) {
+                Some(effect) => {
+                    key = key_next(table, key, &setup, *m, &effect);
+                    effect.apply(&mut setup, *m);
+                }
+                // The moves of a game that is held are legal, so this never comes.
+                None => return Ok(()),
+            }
         }
         Ok(())
     }
