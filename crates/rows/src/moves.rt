@@ -4,7 +4,7 @@ use crate::page::{Done, NO_ROW, Page, Trouble};
 use crate::record::{record_of, setup_of};
 use crate::text::small_of;
 use pb_board::Setup;
-use pb_moves::{Move, advance, is_legal, legal_moves, play, try_play, read_move};
+use pb_moves::{Move, advance, is_legal, legal_moves, play, read_move, try_play};
 use std::alloc::{AllocError, Global};
 
 /// The answer to a call.

@@ -162,11 +162,14 @@ fn tell_all_keys(page: &mut Page, table: &Table, setup: Setup, moves: &[&str]) -
 /// The key after a move, made in three ways, and the setup after it.
 fn tell_keys(page: &mut Page, table: &Table, setup: &Setup, m: Move) -> Result<Setup, Trouble> {
     let after = play(setup, m).ok_or(Trouble::Row)?;
-    let effect = legal_effect(setup, m).ok_or(Trouble::Row)?;
     let key = key_of(table, setup);
+    let next = match legal_effect(setup, m) {
+        Some(effect) => key_next(table, key, setup, m, &effect),
+        None => return Err(Trouble::Row),
+    };
     page.put_key(" anew ", key_of(table, &after));
     page.put_key(", by change ", key_after(table, key, setup, m, &after));
-    page.put_key(", of the setup before ", key_next(table, key, setup, m, &effect));
+    page.put_key(", of the setup before ", next);
     page.put("\n");
     Ok(after)
 }

@@ -7,7 +7,7 @@ use crate::command::tell_next;
 use crate::ends::{Output, fills_in, rules_in};
 use crate::game::stream_of;
 use pb_cli::{
-    Continued, Fault, MemPlace, SkippedLines, Rules, collect_into, continue_into, journal_into,
+    Continued, Fault, MemPlace, Rules, SkippedLines, collect_into, continue_into, journal_into,
     run_collect, run_continue, run_journaled,
 };
 use pb_ledger::save;
