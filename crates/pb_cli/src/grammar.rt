@@ -116,9 +116,12 @@ fn program<'a>(alloc: Global) -> Result<Command<'a>, AllocError>
 fn fen<'a>(alloc: Global) -> Result<Command<'a>, AllocError>
     ensures { IfOk result (IsCommand fen_command) }
 {
-    let bare = Command::new(alloc, "fen")
-        .about("Plays moves, and prints the FEN record after them")
-        .after_help(FEN_EXAMPLE);
+    let bare = bare_command(
+        alloc,
+        "fen",
+        "Plays moves, and prints the FEN record after them",
+        FEN_EXAMPLE,
+    );
     let with_record = bare.arg(required(alloc, "FEN", RECORD_HELP))?;
     let whole = with_record.arg(moves(alloc))?;
     Ok(whole)
@@ -128,18 +131,24 @@ fn fen<'a>(alloc: Global) -> Result<Command<'a>, AllocError>
 fn epd<'a>(alloc: Global) -> Command<'a>
     ensures { IsCommand epd_command result }
 {
-    Command::new(alloc, "epd")
-        .about("Rewrites EPD lines, each in its one ordered form")
-        .after_help(EPD_EXAMPLE)
+    bare_command(
+        alloc,
+        "epd",
+        "Rewrites EPD lines, each in its one ordered form",
+        EPD_EXAMPLE,
+    )
 }
 
 /// `show BOOK`
 fn show<'a>(alloc: Global) -> Result<Command<'a>, AllocError>
     ensures { IfOk result (IsCommand show_command) }
 {
-    let bare = Command::new(alloc, "show")
-        .about("Prints the entries of a book in hexadecimal digits")
-        .after_help(SHOW_EXAMPLE);
+    let bare = bare_command(
+        alloc,
+        "show",
+        "Prints the entries of a book in hexadecimal digits",
+        SHOW_EXAMPLE,
+    );
     let whole = bare.arg(required(alloc, "BOOK", BOOK_HELP))?;
     Ok(whole)
 }
@@ -148,9 +157,12 @@ fn show<'a>(alloc: Global) -> Result<Command<'a>, AllocError>
 fn probe<'a>(alloc: Global) -> Result<Command<'a>, AllocError>
     ensures { IfOk result (IsCommand probe_command) }
 {
-    let bare = Command::new(alloc, "probe")
-        .about("Prints the moves that a book has for a FEN record")
-        .after_help(PROBE_EXAMPLE);
+    let bare = bare_command(
+        alloc,
+        "probe",
+        "Prints the moves that a book has for a FEN record",
+        PROBE_EXAMPLE,
+    );
     let with_table = bare.arg(required(alloc, "TABLE", TABLE_HELP))?;
     let with_book = with_table.arg(required(alloc, "BOOK", BOOK_HELP))?;
     let whole = with_book.arg(required(alloc, "FEN", RECORD_HELP))?;
@@ -162,10 +174,11 @@ fn probe<'a>(alloc: Global) -> Result<Command<'a>, AllocError>
 fn collect<'a>(alloc: Global) -> Result<Command<'a>, AllocError>
     ensures { IfOk result (IsCommand collect_command) }
 {
-    let bare = taking_games(
+    let bare = bare_command(
         alloc,
         "collect",
         "Takes games, answers each, and makes their PolyGlot book",
+        GAMES_HELP,
     );
     let keeping = with_keeping(alloc, bare)?;
     let counting = with_counting(alloc, keeping)?;
@@ -179,10 +192,11 @@ fn collect<'a>(alloc: Global) -> Result<Command<'a>, AllocError>
 fn export<'a>(alloc: Global) -> Result<Command<'a>, AllocError>
     ensures { IfOk result (IsCommand export_command) }
 {
-    let bare = taking_games(
+    let bare = bare_command(
         alloc,
         "export",
         "Takes games, and prints their book as EPD lines",
+        GAMES_HELP,
     );
     let counting = with_counting(alloc, bare)?;
     let quieted = counting.arg(quiet(alloc))?;
@@ -190,14 +204,12 @@ fn export<'a>(alloc: Global) -> Result<Command<'a>, AllocError>
     Ok(whole)
 }
 
-/// A command that takes games from standard input, and no words so far. What a line has to be
-/// stands at the end of its help, and not in the list of commands.
-fn taking_games<'a>(alloc: Global, name: &'a str, about: &'a str) -> Command<'a>
+/// A command without words so far. The last text stands at the end of its help, and not in the list
+/// of commands.
+fn bare_command<'a>(alloc: Global, name: &'a str, about: &'a str, after: &'a str) -> Command<'a>
     ensures { IsCommand (new_app name.now) result }
 {
-    Command::new(alloc, name)
-        .about(about)
-        .after_help(GAMES_HELP)
+    Command::new(alloc, name).about(about).after_help(after)
 }
 
 /// The command with the options that say what is kept beside the book.

@@ -3,7 +3,7 @@ use Rattle.pb_cli.proofs.grammar.collect.Goals as goal
 
 pub returns : goal.returns
 returns c =
-    let counting = c.in_ok-counting.ensures _ (c.in_ok-keeping.ensures _ c.taking_games-bare.ensures) in
+    let counting = c.in_ok-counting.ensures _ (c.in_ok-keeping.ensures _ c.bare_command-bare.ensures) in
     let quieted = IsCommand-arg _ _ _ _ _ counting c.in_ok-quieted.ensures
     c.quiet.ensures.rule c.quiet.ensures.local in
     let tabled = IsCommand-arg _ _ _ _ _ quieted c.in_ok-tabled.ensures
