@@ -1,5 +1,5 @@
-//! The accepted games by id, in which a game that comes again counts once, the points of their
-//! moves and the book of them, and the reply line to a submission. Streams and files are the
+//! The ledger: games by id, each counted once however often it comes, and their book. Begin with
+//! `Ledger::new`, `submit` and `make_book`; `Reply` answers a line. Streams and files are the
 //! business of the crates above.
 #![tactic(auto)]
 

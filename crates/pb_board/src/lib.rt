@@ -1,5 +1,10 @@
 //! Chess positions: squares, pieces, setups, and the FEN records that spell them (PGN Standard
 //! 16.1). Castling squares are here; the rules of moving are in `pb_moves`.
+//!
+//! ```rust
+//! let fen = read_fen(b"4k3/8/8/8/8/8/4P3/4K3 w - - 0 1")?;
+//! let side = fen.setup().turn();
+//! ```
 #![tactic(auto)]
 
 mod bitboards;

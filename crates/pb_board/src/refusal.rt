@@ -31,10 +31,10 @@ pub enum FenError {
     /// The second field isn't `w` or `b`.
     #[error("the side to move isn't w or b")]
     Turn,
-    /// The third field isn't `-` and not a selection of `KQkq` in this order.
+    /// The third field is neither `-` nor a selection of `KQkq` in this order.
     #[error("the castling rights aren't - or letters of KQkq in order")]
     Castling,
-    /// The fourth field isn't `-` and not a square of the rank that fits the side to move.
+    /// The fourth field is neither `-` nor a square of the rank that fits the side to move.
     #[error("the en passant square isn't - or a square of the fitting rank")]
     EnPassantText,
     /// The fifth field isn't a decimal number from 0 to 65,535 without leading zeros.

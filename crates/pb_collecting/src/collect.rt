@@ -12,10 +12,10 @@ use pb_poly::Book;
 use std::alloc::Global;
 
 /// Takes submission lines, puts the reply to each, and makes the opening book of the games that are
-/// held at the end: at most 1,000,000, each counted once however often it comes, by its plies that
-/// count by the rules, and of the moves that occur often enough in them. The table of words that
-/// keys are made of is read first. Where it is refused, `refused table` and `long`, `line` or
-/// `count` is put, no submission is read, and there is no book.
+/// held at the end. At most 1,000,000 are held, each counted once however often it comes. The rules
+/// say which plies count, and which moves occur too seldom. The table of words that keys are made
+/// of is read first. Where it is refused, `refused table` and `long`, `line` or `count` is put, no
+/// submission is read, and there is no book.
 ///
 /// Where no id names two games, the book is that of the distinct legal submissions that were
 /// accepted (`laws::one_game`).

@@ -25,13 +25,13 @@ pub struct Continued {
     pub book: Result<Book, Fault>,
 }
 
-/// Goes on from a saved ledger: its games are held from the start, submission lines are taken, the
-/// reply to each is put, and the opening book of all games that are held at the end is made, at
-/// most 1,000,000, by the rules as in `run_collect`. The table of words that keys are made of is
-/// read first, then the saved ledger. Where the table is refused, `refused table` and `long`,
-/// `line` or `count` is put, and where the saved ledger is, `refused ledger line` and the number of
-/// its first line that is refused, or that brings no new game after the header; then no submission
-/// is read, and the answer is None.
+/// Goes on from a saved ledger, whose games are held from the start. Submission lines are taken and
+/// the book is made as in `run_collect`.
+///
+/// The table of words that keys are made of is read first, then the saved ledger. Where the table
+/// is refused, `refused table` and `long`, `line` or `count` is put. Where the saved ledger is,
+/// `refused ledger line` is put, and the number of its first line that is refused, or that brings
+/// no new game after the header. No submission is read then, and the answer is None.
 ///
 /// # Errors
 ///

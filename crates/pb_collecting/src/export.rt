@@ -8,11 +8,11 @@ use pb_io::{Fault, NullSink, Sink, Source};
 use pb_ledger::{Rules, collect, export};
 use std::alloc::Global;
 
-/// Takes submission lines and puts the opening book of the games that are held at the end, at most
-/// 1,000,000, as EPD lines: for each setup before a move of a game, also past the plies that count
-/// by the rules, the moves that the book has for it, each with its weight. Replies are dropped. The
-/// table of words that keys are made of is read first. Where it is refused, `refused table` and
-/// `long`, `line` or `count` is put, no submission is read, and the answer is false.
+/// Takes submission lines, drops the replies, and puts the book of the games that are held at the
+/// end, at most 1,000,000, as EPD lines. There is one for each setup before a move of a game, also
+/// past the counted plies, for which the book has moves. The table of words that keys are made of
+/// is read first. Where it is refused, `refused table` and `long`, `line` or `count` is put, no
+/// submission is read, and the answer is false.
 ///
 /// # Errors
 ///

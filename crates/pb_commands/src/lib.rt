@@ -1,6 +1,6 @@
-//! The commands of `pbook` that need no ledger, as functions over the ends that they are handed,
-//! and what every command shares: its exit status, and the line that refuses a table file. Nothing
-//! here knows the command line or a game.
+//! The commands `fen`, `epd`, `show` and `probe`, as functions over sources and sinks. Here is too
+//! what all commands share: the exit status, and the line that refuses a table. Nothing here knows
+//! the command line or a game.
 #![tactic(auto)]
 
 mod epd;

@@ -15,9 +15,9 @@ pub enum NotApart {
     IsOutput,
 }
 
-/// Makes sure that no two of these paths lead to one file, by whatever names: what is kept at the
-/// one would take the place of what was read at the other, such as a book that of the journal with
-/// all games. Devices and pipes, which keep nothing, may be named twice.
+/// Makes sure that no two of these paths lead to one file, by whatever names. Else a book could
+/// take the place of the journal with all games. Devices and pipes, which keep nothing, may be
+/// named twice.
 ///
 /// # Errors
 ///

@@ -1,9 +1,9 @@
-//! The files and streams of a run: how it comes to hold a file, what it adds to a journal, and how
-//! it makes a book or a ledger anew; what a reader finds there, and what a kill and a crash leave.
+//! The files and streams of a run. It holds its files (`hold_ledger`, `start_journal`), adds to a
+//! journal (`journal_to_file`), and makes a book or a ledger anew (`KeptFile`).
 //!
-//! What a file and a folder do is said by traits, and what stands on them is proved for each that
-//! keeps them: for files in memory, which tell all, and for those of the system, which tell
-//! nothing. That the system's keep the traits is trusted.
+//! Traits say what a file and a folder do, and what kills and crashes leave. Calls over them are
+//! proved for all that keep them. Files in memory tell what they hold, the system's tell nothing.
+//! That the system's keep the traits is trusted.
 #![tactic(auto)]
 
 mod desk;

@@ -5,7 +5,7 @@ use pb_messages::Progress;
 use std::cell::RefCell;
 use std::io::{self, ErrorKind, Read, Write};
 
-/// What gives submissions. The replies that wait are written before each read, so that whoever
+/// Reads submissions. The replies that wait are written before each read, so that whoever
 /// sends a line and waits for its reply has it before this waits for more lines.
 #[derive(Drop)]
 pub struct Submissions<'o, 'k, 'p, 'a, R, K> {
@@ -51,7 +51,7 @@ impl<R: Read, K: Sink> Read for Submissions<'_, '_, '_, '_, R, K> {
     }
 }
 
-/// What takes replies. They wait in the buffer of the output.
+/// Writes replies. They wait in the buffer of the output.
 #[derive(Drop)]
 pub struct Replies<'o, 'k, 'p, 'a, K> {
     output: &'o RefCell<&'k mut K>,

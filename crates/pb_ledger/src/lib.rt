@@ -1,7 +1,7 @@
-//! Streams of lines over a ledger. Submissions: each is submitted, counted and answered by its
-//! reply line; where there is a journal, the line of each new game is on it before the reply. The
-//! saved form of a ledger, written and read back into a new one. A journal, whose last line may be
-//! torn, replayed into a new ledger, and its end mended. Re-exports `pb_accepted` and `pb_export`.
+//! Streams of lines over a ledger. `collect` submits each line and puts its reply. Where there is a
+//! journal, `collect_journaled` puts each new game there before its reply, and `replay` reads it
+//! back and seals its torn end. `save` writes the games, and `load` reads them into a new ledger.
+//! Re-exports `pb_accepted` and `pb_export`.
 //!
 //! ```rust
 //! let mut ledger = Ledger::<MapTally>::new(alloc, &table, MAX_CAP)?;

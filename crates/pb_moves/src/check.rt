@@ -21,8 +21,7 @@ pub fn in_check(setup: &Setup, side: Colour) -> bool
     attacked(setup, setup.king(side), side.opponent())
 }
 
-/// Whether the side that isn't to move isn't in check: then the setup can have come about by a
-/// legal move.
+/// Whether the side that isn't to move isn't in check, as after each legal move.
 pub fn playable(setup: &Setup) -> bool
     ensures { IsTrue result ↔ NoOppositeCheck setup.now }
 {

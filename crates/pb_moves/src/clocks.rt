@@ -46,7 +46,7 @@ fn full_after(fen: &Fen) -> u16
 
 /// The record after the move. None exactly where the move isn't legal.
 ///
-/// The half-move clock is 0 after a pawn's move or a capture, and one more otherwise; the full move
+/// The half-move clock is 0 after a pawn's move or a capture, and one more otherwise. The full move
 /// number is one more after Black's move (PGN Standard 16.1.3.5 and 16.1.3.6). Either stays at
 /// 65,535 once it is there.
 pub fn advance(fen: &Fen, m: Move) -> Option<Fen>

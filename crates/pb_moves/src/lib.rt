@@ -3,7 +3,7 @@
 //!
 //! ```rust
 //! let moves = legal_moves(alloc, &fen.setup())?;
-//! let next = advance(&fen, moves[0]);
+//! let next = advance(&fen, read_move(b"e2e4")?);
 //! ```
 #![tactic(auto)]
 

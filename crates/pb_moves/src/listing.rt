@@ -40,8 +40,8 @@ struct Mover {
     unpinned: bool,
 }
 
-/// All legal moves of the setup, each once, by the square that they leave, then the square that
-/// they reach, both from a1 to h8 by index, then the promotion: knight, bishop, rook, queen.
+/// Lists all legal moves, each once. They go by the square left, then the square reached, both from
+/// a1 to h8 by index, then the promotion: knight, bishop, rook, queen.
 pub fn legal_moves(alloc: Global, setup: &Setup) -> Result<Vec<Move>, AllocError>
     ensures { IfOk result (λ v. ListsLegal setup.now v.items) }
 {

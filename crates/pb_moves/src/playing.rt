@@ -28,9 +28,9 @@ pub fn try_play(setup: &mut Setup, m: Move) -> bool
 
 /// The setup after the move. None exactly where the move isn't legal.
 ///
-/// A castling right is lost for good once its king or its rook has moved or its rook was taken, and
-/// an en passant square stands after each double step of a pawn, whether or not an enemy pawn can
-/// use it (PGN Standard 16.1.3.4).
+/// A castling right is lost for good once its king or its rook has moved or its rook was taken. An
+/// en passant square stands after each double step of a pawn, whether or not an enemy pawn can use
+/// it (PGN Standard 16.1.3.4).
 pub fn play(setup: &Setup, m: Move) -> Option<Setup>
     ensures played { SomeIff result (Legal setup.now m) (after setup.now m) }
     ensures setup { IfSome result IsSetup }

@@ -50,8 +50,8 @@ fn read_parts(bytes: [u8; 4], promotion: Option<Kind>) -> Option<Move>
     Move::new(from, to, promotion)
 }
 
-/// The move that the bytes spell: two squares and, for a promotion, one of the small letters n, b,
-/// r and q, with nothing before, between or after. None exactly where they spell no move.
+/// Reads a move in UCI notation: two squares and, for a promotion, a small n, b, r or q, and
+/// nothing else. None exactly where the bytes spell no move.
 pub fn read_move(text: &[u8]) -> Option<Move>
     ensures { MatchOption result
         ((m : Moved) → IsMove m → text.now ≢ spelling m)

@@ -35,10 +35,9 @@ fn coded_to(setup: &Setup, m: Move) -> Square
     }
 }
 
-/// The code of a move in a PolyGlot book, below 2^15: the square that it reaches, 64 times the
-/// square that it leaves, and 4,096 times the promotion (none, knight, bishop, rook, queen from 0).
-/// Castling counts as the king's move to its rook, as e1h1. It means something of legal moves
-/// alone.
+/// The code of a legal move in a PolyGlot book, below 2^15. It is `to + 64 * from + 4096 *
+/// promotion`, where none, knight, bishop, rook and queen are 0 to 4. Castling is the king's move
+/// to its rook, as e1h1.
 #[inline(always)]
 pub fn code_of(setup: &Setup, m: Move) -> u16
     ensures { result ≡ encode_move setup.now m }
@@ -46,7 +45,7 @@ pub fn code_of(setup: &Setup, m: Move) -> u16
     m.bits() - u16::from(m.to().index()) + u16::from(coded_to(setup, m).index())
 }
 
-/// The target square of a code: where it castles, naming the rook's square, the king's target.
+/// The square that a coded move reaches: the king's target where it castles, else the named one.
 fn reached(setup: &Setup, from: Square, named: Square) -> Square
     ensures { result ≡ reached_by setup.now from named }
 {

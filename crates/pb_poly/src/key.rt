@@ -148,9 +148,8 @@ fn toggle_turn(table: &Table, key: u64, turn: Colour) -> u64
     toggle_if(table, key, turn == Colour::White, WHITE_TO_MOVE)
 }
 
-/// The key of a setup in PolyGlot books: the exclusive or of the table's words for each piece on
-/// its square, for each castling right, for the file of the en passant square, and for White to
-/// move.
+/// The key of a setup in PolyGlot books (its Zobrist hash): the exclusive or of the table's words
+/// for its pieces, castling rights, en passant file and White to move.
 ///
 /// The word of the en passant square counts exactly where a pawn of the side to move stands beside
 /// the pawn that made the double step, whether or not that pawn may take it.

@@ -3,6 +3,7 @@
 //! crates above.
 //!
 //! ```rust
+//! let table = take_table(alloc, &mut table_source, u32::MAX)?;
 //! let book = read_book(alloc, &mut source, u32::MAX)?;
 //! let moves = probe(alloc, &book, &table, &setup)?;
 //! ```

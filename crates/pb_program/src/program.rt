@@ -18,8 +18,8 @@ const OUTPUT: &str = "standard output";
 pub const USAGE: u8 = 2;
 
 /// Reads the words of the command line, of which the first is the program's name, runs their
-/// command and answers the exit status: 0 where all was taken, 1 where an input was refused, 2
-/// where the words give no order, 3 where a device failed or memory was wanting.
+/// command and answers the exit status. That is 0 where all was taken, 1 where an input was
+/// refused, 2 where the words give no order, 3 where a device failed or memory was wanting.
 pub fn run(rt: &HostRuntime, words: &[&str]) -> u8
     ensures { result ≤ 3 }
 {
