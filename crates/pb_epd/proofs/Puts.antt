@@ -1,5 +1,5 @@
 -- Why an operation is not added, and the record after one was.
-use Rattle.std.proofs.Common.{◌≡◌, ◌<◌, ◌↔◌, ◌⊎◌, ℕ, ◌+◌, List, [], length, take, get_or, None, sym, subst, inl, inr, arith}
+use Rattle.std.proofs.Common.{◌≡◌, ◌<◌, ◌↔◌, ◌⊎◌, ℕ, List, None, sym, subst, inl, inr, arith}
 use Rattle.std.specs.Prelude.{All, Contains}
 use Rattle.std.proofs.lemmas.List.Elements.{All-contains}
 use Rattle.pb_epd.specs.declared.operand.Operand.{Operand}
@@ -12,16 +12,12 @@ use Rattle.std.specs.Map.{keys_of}
 use Rattle.std.specs.BTreeMap.{insert_entry}
 use Rattle.pb_board.specs.Position.{Position}
 use Rattle.pb_board.specs.Refusal.{BreaksAt}
-use Rattle.pb_board.proofs.Breaks.{all_middle, all_unbroken, breaks_after}
+use Rattle.pb_board.proofs.Breaks.{all_unbroken}
 use Rattle.pb_epd.specs.Epd.{EpdRecord, IsEpd, operations_of}
 use Rattle.pb_epd.specs.Refusal.{IsDuePut, IsFirstDuePut}
 use Rattle.pb_epd.proofs.Dues.{first_put, put_place}
 use Rattle.pb_epd.proofs.Lists.{all_from_contains}
 use Rattle.pb_epd.proofs.Maps.{Entry, key_order, find, insert_gains, ordered}
-
-pub unlawful_at : (operands : List Operand) (i : ℕ) (d : Operand) → i < length operands → All IsOperand (take i operands) → (IsOperand (get_or operands i d) → ⊥) → BreaksAt (All IsOperand) operands (i + 1)
-unlawful_at operands i d lt lawful bad =
-    breaks_after (All IsOperand) operands i d lt lawful (λ k. bad (all_middle IsOperand (take i operands) (get_or operands i d) [] k))
 
 pub unnamed_first : (e : EpdRecord) (opcode : List ℕ) (operands : List Operand) → ¬ IsOpcode opcode → IsFirstDuePut put.Opcode e opcode operands
 unnamed_first e opcode operands bad = first_put put.Opcode e opcode operands bad first

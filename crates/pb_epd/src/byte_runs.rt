@@ -22,34 +22,19 @@ fn is_text_byte(byte: u8) -> bool
 pub(crate) fn space_run(text: &[u8]) -> usize
     ensures { IsRun (λ b. b ≡ 32) text.now result }
 {
-    for (i, byte) in text.iter().enumerate() {
-        if *byte != b' ' {
-            return i;
-        }
-    }
-    text.len()
+    text.iter().take_while(|byte| **byte == b' ').count()
 }
 
 /// How many bytes of a word begin the text.
 pub(crate) fn word_run(text: &[u8]) -> usize
     ensures { IsRun IsWordByte text.now result }
 {
-    for (i, byte) in text.iter().enumerate() {
-        if !is_word_byte(*byte) {
-            return i;
-        }
-    }
-    text.len()
+    text.iter().take_while(|byte| is_word_byte(**byte)).count()
 }
 
 /// How many bytes of a quoted text begin the text.
 pub(crate) fn text_run(text: &[u8]) -> usize
     ensures { IsRun IsTextByte text.now result }
 {
-    for (i, byte) in text.iter().enumerate() {
-        if !is_text_byte(*byte) {
-            return i;
-        }
-    }
-    text.len()
+    text.iter().take_while(|byte| is_text_byte(**byte)).count()
 }

@@ -73,10 +73,6 @@ fn is_lawful(operand: &Operand) -> bool
 pub(crate) fn first_unlawful(operands: &[Operand]) -> Option<usize>
     ensures { MatchOption result (All IsOperand operands.now) (λ n. BreaksAt (All IsOperand) operands.now n) }
 {
-    for (i, operand) in operands.iter().enumerate() {
-        if !is_lawful(operand) {
-            return Some(i + 1);
-        }
-    }
-    None
+    let before = operands.iter().position(|operand| !is_lawful(operand))?;
+    Some(before + 1)
 }
