@@ -1,9 +1,9 @@
 -- Bitboards of a board, told by their bits, and after a change of one square.
-use Rattle.std.proofs.Common.{◌≡◌, ◌≢◌, ℕ, zero, suc, ◌+◌, ◌*◌, ◌/◌, ◌%◌, ◌^◌, ◌<◌, ◌≤◌, ◌↔◌, refl, sym, ap, ap₂, subst, ◌∙◌, arith, Bool, true, false, ◌==◌, List, [], ◌∷◌, length, ◌⊎◌, Some, None, bit_and, bit_or, w64, inl, inr, min, max, slice_set, slice_index_or}
+use Rattle.std.proofs.Common.{◌≡◌, ◌≢◌, ℕ, zero, suc, ◌+◌, ◌*◌, ◌/◌, ◌%◌, ◌^◌, ◌<◌, ◌≤◌, ◌↔◌, refl, sym, ap, ap₂, subst, ◌∙◌, arith, Bool, true, false, ◌&&◌, ◌==◌, List, [], ◌∷◌, length, ◌⊎◌, Some, None, bit_and, bit_or, w64, inl, inr, min, max, replicate, slice_set, slice_index_or}
 use mir.Val.{bits}
 use Rattle.std.proofs.Math.Nat.{pow-suc}
 use Rattle.std.specs.Int.{bit_at, bit_not}
-use Rattle.std.proofs.lemmas.Bool.{cases_order, eq-eqb, eqb-true}
+use Rattle.std.proofs.lemmas.Bool.{cases_order}
 use Rattle.std.proofs.lemmas.Nat.{and_le_l, or_lt}
 use Rattle.std.proofs.lemmas.Nat.Bits.{bit_at-zero, bit_at_lowest, bit_at-suc, bit_at_and, bit_at_or, bit_at_clear_same, bit_at_clear_other, bit_at_set_same, bit_at_set_other, same_from_bits_below}
 use Rattle.std.proofs.lemmas.List.{get_or-set_same, get_or-set_other, length-set}
@@ -13,8 +13,8 @@ use Rattle.pb_board.specs.declared.piece.Kind.{Kind}
 use Rattle.pb_board.specs.declared.piece.Kind.TheVariants.{Pawn, Knight, Bishop, Rook, Queen, King}
 use Rattle.pb_board.specs.declared.piece.Piece.{Piece}
 use Rattle.pb_board.specs.declared.bitboards.Bitboards.{Bitboards}
-use Rattle.pb_board.specs.Board.{Place, Board, at, Holds, IsEmpty}
-use Rattle.pb_board.proofs.PieceTests.{colour_one, kind_one}
+use Rattle.pb_board.specs.Board.{Place, Board, at, Holds, IsEmpty, is_piece}
+use Rattle.pb_board.proofs.PieceTests.{is_piece-is, is_piece-passes}
 use Rattle.pb_board.specs.Piece.{colour_number, kind_number}
 use Rattle.pb_board.specs.Bitboards.{is_side, is_kind, bit_for, bitboard_of, bitboards_of}
 
@@ -251,29 +251,15 @@ occupied_bit m b q e =
     let place = taken_place (at b q) in
     subst P (sym e) ((λ one. place.0 (sym is ∙ one)), (λ h. is ∙ place.1 h))
 
-one_for : (b : Bool) → bit_for b ≡ 1 → b ≡ true
+pub one_for : (b : Bool) → bit_for b ≡ 1 → b ≡ true
 one_for true e = refl
 one_for false e = absurd (omega arith)
 
-same_number : (n : ℕ) → (n == n) ≡ true
-same_number n = eq-eqb n n refl
-
-held_place : (x : Place) (p : Piece) → (min (bit_for (is_side p.colour x)) (bit_for (is_kind p.kind x)) ≡ 1) ↔ (x ≡ Some p)
-held_place None p = (λ e. absurd (omega arith), λ h. absurd cc)
-held_place (Some r) p = (
-  λ e. let a = bit_small (colour_number r.colour == colour_number p.colour) in
-      let k = bit_small (kind_number r.kind == kind_number p.kind) in
-      let side = eqb-true (colour_number r.colour) (colour_number p.colour) (one_for (colour_number r.colour == colour_number p.colour) (omega arith)) in
-      let colour = colour_one r.colour p.colour side in
-      let number = eqb-true (kind_number r.kind) (kind_number p.kind) (one_for (kind_number r.kind == kind_number p.kind) (omega arith)) in
-      let kind = kind_one r.kind p.kind number in
-      ap₂ (λ (x : Colour) (y : Kind). Some (record { colour = x; kind = y })) colour kind,
-  λ h. let P : Piece → Type 0 = λ z. min (bit_for (colour_number z.colour == colour_number p.colour)) (bit_for (kind_number z.kind == kind_number p.kind)) ≡ 1 in
-      let same : p ≡ r = cc in
-      let colour = same_number (colour_number p.colour) in
-      let number = same_number (kind_number p.kind) in
-      subst P same (ap (λ (t : Bool). min (bit_for t) (bit_for (kind_number p.kind == kind_number p.kind))) colour ∙ ap (λ (t : Bool). min 1 (bit_for t)) number),
-)
+min_bits : (s k : Bool) → min (bit_for s) (bit_for k) ≡ bit_for (k && s)
+min_bits true true = refl
+min_bits true false = refl
+min_bits false true = refl
+min_bits false false = refl
 
 side_bitboard : (b : Board) (c : Colour) → slice_index_or (bitboards_of b).sides (colour_number c) 0 ≡ bitboard_of (is_side c) b
 unfolding bitboards_of
@@ -289,24 +275,28 @@ kind_bitboard b Rook = refl
 kind_bitboard b Queen = refl
 kind_bitboard b King = refl
 
-no_side : (c : Colour) → is_side c None ≡ false
-no_side c = refl
+pub side_bit : (b : Board) (q : ℕ) (c : Colour) → bit_at (slice_index_or (bitboards_of b).sides (colour_number c) 0) q ≡ bit_for (is_side c (at b q))
+side_bit b q c = ap (λ (n : ℕ). bit_at n q) (side_bitboard b c) ∙ bitboard_bit (is_side c) refl b q
+
+pub kind_bit : (b : Board) (q : ℕ) (k : Kind) → bit_at (slice_index_or (bitboards_of b).kinds (kind_number k) 0) q ≡ bit_for (is_kind k (at b q))
+kind_bit b q k = ap (λ (n : ℕ). bit_at n q) (kind_bitboard b k) ∙ bitboard_bit (is_kind k) refl b q
+
+both_bits : (x : Place) (p : Piece) → min (bit_for (is_side p.colour x)) (bit_for (is_kind p.kind x)) ≡ bit_for (is_piece p x)
+both_bits None p = refl
+both_bits (Some r) p = min_bits (colour_number r.colour == colour_number p.colour) (kind_number r.kind == kind_number p.kind)
+
+-- the bit of a square in the bitboards of a piece's side and kind
+pub piece_bit : (b : Board) (q : ℕ) (p : Piece)
+    → bit_at (bit_and (slice_index_or (bitboards_of b).sides (colour_number p.colour) 0) (slice_index_or (bitboards_of b).kinds (kind_number p.kind) 0)) q ≡ bit_for (is_piece p (at b q))
+piece_bit b q p = bit_at_and _ _ q ∙ (ap₂ (λ (m n : ℕ). min m n) (side_bit b q p.colour) (kind_bit b q p.kind) ∙ both_bits (at b q) p)
 
 pub standing_bit : (m : Bitboards) (b : Board) (q c k : ℕ) (p : Piece) → c ≡ colour_number p.colour → k ≡ kind_number p.kind → m ≡ bitboards_of b
     → ((bit_at (bit_and (slice_index_or m.sides c 0) (slice_index_or m.kinds k 0)) q ≡ 1) ↔ Holds b q p)
 standing_bit m b q c k p same_c same_k e =
-    let P : Bitboards → Type 0 = λ x. (bit_at (bit_and (slice_index_or x.sides c 0) (slice_index_or x.kinds k 0)) q ≡ 1) ↔ Holds b q p in
-    let C : ℕ → Type 0 = λ x. (bit_at (bit_and (slice_index_or (bitboards_of b).sides x 0) (slice_index_or (bitboards_of b).kinds k 0)) q ≡ 1) ↔ Holds b q p in
-    let K : ℕ → Type 0 = λ x. (bit_at (bit_and (slice_index_or (bitboards_of b).sides (colour_number p.colour) 0) (slice_index_or (bitboards_of b).kinds x 0)) q ≡ 1) ↔ Holds b q p in
-    let S : ℕ → Type 0 = λ x. (bit_at (bit_and x (slice_index_or (bitboards_of b).kinds (kind_number p.kind) 0)) q ≡ 1) ↔ Holds b q p in
-    let D : ℕ → Type 0 = λ x. (bit_at (bit_and (bitboard_of (is_side p.colour) b) x) q ≡ 1) ↔ Holds b q p in
-    let side = bitboard_bit (is_side p.colour) refl b q in
-    let kind = bitboard_bit (is_kind p.kind) refl b q in
-    let is : bit_at (bit_and (bitboard_of (is_side p.colour) b) (bitboard_of (is_kind p.kind) b)) q ≡ min (bit_for (is_side p.colour (at b q))) (bit_for (is_kind p.kind (at b q))) =
-    bit_at_and (bitboard_of (is_side p.colour) b) (bitboard_of (is_kind p.kind) b) q ∙ (ap (λ (n : ℕ). min n (bit_at (bitboard_of (is_kind p.kind) b) q)) side ∙ ap (λ (n : ℕ). min (bit_for (is_side p.colour (at b q))) n) kind) in
-    let place = held_place (at b q) p in
-    let base : (bit_at (bit_and (bitboard_of (is_side p.colour) b) (bitboard_of (is_kind p.kind) b)) q ≡ 1) ↔ Holds b q p = ((λ one. place.0 (sym is ∙ one)), (λ h. is ∙ place.1 h)) in
-    subst P (sym e) (subst C (sym same_c) (subst K (sym same_k) (subst S (sym (side_bitboard b p.colour)) (subst D (sym (kind_bitboard b p.kind)) base))))
+    rw (e, same_c, same_k) (
+      λ one. is_piece-is p (at b q) (one_for _ (sym (piece_bit b q p) ∙ one)),
+      λ h. piece_bit b q p ∙ ap bit_for (ap (is_piece p) h ∙ is_piece-passes p),
+    )
 
 -- a board of the same length with nothing on it
 abbrev pub none_of : Board → Board
@@ -350,6 +340,13 @@ started_all zero [] le = refl
 started_all zero (x ∷ xs) le = absurd (omega arith)
 started_all (suc n) [] le = refl
 started_all (suc n) (x ∷ xs) le = ap (λ (l : Board). x ∷ l) (started_all n xs (omega arith))
+
+pub started_none : (n : ℕ) (xs : Board) → length xs ≡ n → replicate n None ≡ started 0 xs
+unfolding started
+started_none zero [] e = refl
+started_none zero (x ∷ xs) e = absurd (omega arith)
+started_none (suc n) [] e = absurd (omega arith)
+started_none (suc n) (x ∷ xs) e = ap (λ (l : Board). None ∷ l) (started_none n xs (omega arith))
 
 bitboard_none : (test : Place → Bool) → test None ≡ false → (xs : Board) → bitboard_of test (none_of xs) ≡ 0
 unfolding bitboard_of

@@ -26,8 +26,10 @@ use Rattle.pb_board.specs.declared.refusal.SetupError.{SetupError}
 use Rattle.pb_board.specs.declared.setup.MovedPiece.{MovedPiece}
 use Rattle.pb_board.specs.declared.setup.Rights.{Rights}
 use Rattle.pb_board.specs.Board.{Board}
+use Rattle.pb_board.specs.Bitboards.{bitboards_of, board_of}
 use Rattle.pb_board.specs.Padded.{padded}
-use Rattle.pb_board.specs.Position.{Position, Record, record_of}
+use Rattle.pb_board.proofs.Backs.{board_back}
+use Rattle.pb_board.specs.Position.{IsRecord, IsSetup, Position, Record, record_of}
 
 options : {A : Type 0} {E : A → A → Bool} → ((a b : A) → Decides (E a b) (a ≡ b)) → (x y : Option A) → Decides (option_eq E x y) (x ≡ y)
 options each None None = (λ e. refl, λ e. refl)
@@ -74,21 +76,24 @@ rights a b = Decides-like _
     (Decides-and _ _ (booleans_Decides a.white_long b.white_long)
     (Decides-and _ _ (booleans_Decides a.black_short b.black_short) (booleans_Decides a.black_long b.black_long))))
 
-abbrev same_boards : Board → Board → Bool
-same_boards a b = pointwise (option_eq same_pieces) a b
+abbrev same_bitboards : Board → Board → Bool
+same_bitboards a b = pointwise (λ (m n : ℕ). eqb m n) (bitboards_of a).sides (bitboards_of b).sides && pointwise (λ (m n : ℕ). eqb m n) (bitboards_of a).kinds (bitboards_of b).kinds
 
-boards : (a b : Board) → Decides (same_boards a b) (a ≡ b)
-boards a b = slice_eq-Decides (options pieces) a b _ refl
+boards : (a b : Board) → length a ≡ 64 → length b ≡ 64 → Decides (same_bitboards a b) (a ≡ b)
+boards a b full_a full_b = Decides-like _
+    (λ e. sym (board_back _ a full_a refl) ∙ ap board_of (ap₂ (λ (s k : List ℕ). record { sides = s; kinds = k }) e.0 e.1) ∙ board_back _ b full_b refl)
+    (λ e. (ap (λ (c : Board). (bitboards_of c).sides) e, ap (λ (c : Board). (bitboards_of c).kinds) e))
+    (Decides-and _ _ (slice_eq-Decides Decides-eqb (bitboards_of a).sides (bitboards_of b).sides _ refl) (slice_eq-Decides Decides-eqb (bitboards_of a).kinds (bitboards_of b).kinds _ refl))
 
 abbrev same_positions : Position → Position → Bool
-same_positions p q = same_boards p.board q.board && (sameb colour.the_type p.turn q.turn && (same_rights p.rights q.rights && option_eq (λ (m n : ℕ). eqb m n) p.ep q.ep))
+same_positions p q = same_bitboards p.board q.board && (sameb colour.the_type p.turn q.turn && (same_rights p.rights q.rights && option_eq (λ (m n : ℕ). eqb m n) p.ep q.ep))
 
-pub positions : (p q : Position) → Decides (same_positions p q) (p ≡ q)
-positions p q = Decides-like _
+pub positions : (p q : Position) → IsSetup p → IsSetup q → Decides (same_positions p q) (p ≡ q)
+positions p q p_rules q_rules = Decides-like _
     (λ e. ap₂ (λ (s : Board × Colour) (l : Rights × Option ℕ). record { board = s.0; turn = s.1; rights = l.0; ep = l.1 })
     (ap₂ (λ (s : Board) (c : Colour). (s, c)) e.0 e.1.0) (ap₂ (λ (s : Rights) (o : Option ℕ). (s, o)) e.1.1.0 e.1.1.1))
     (λ e. (ap (λ (s : Position). s.board) e, (ap (λ (s : Position). s.turn) e, (ap (λ (s : Position). s.rights) e, ap (λ (s : Position). s.ep) e))))
-    (Decides-and _ _ (boards p.board q.board) (Decides-and _ _ (colours p.turn q.turn)
+    (Decides-and _ _ (boards p.board q.board p_rules.places q_rules.places) (Decides-and _ _ (colours p.turn q.turn)
     (Decides-and _ _ (rights p.rights q.rights) (options Decides-eqb p.ep q.ep))))
 
 pub moved : (a b : MovedPiece) → Decides (eqb a.from b.from && (eqb a.to b.to && same_pieces a.piece b.piece)) (a ≡ b)
@@ -113,11 +118,11 @@ castling_squares a b = Decides-like _
     (Decides-and _ _ (Decides-eqb a.king_from b.king_from) (Decides-and _ _ (Decides-eqb a.king_to b.king_to)
     (Decides-and _ _ (Decides-eqb a.rook_from b.rook_from) (Decides-eqb a.rook_to b.rook_to))))
 
-pub records : (f g : Record) → Decides (eqb f.half g.half && (eqb f.full g.full && same_positions f.setup g.setup)) (f ≡ g)
-records f g = Decides-like _
+pub records : (f g : Record) → IsRecord f → IsRecord g → Decides (eqb f.half g.half && (eqb f.full g.full && same_positions f.setup g.setup)) (f ≡ g)
+records f g f_rules g_rules = Decides-like _
     (λ e. ap₂ (λ (p : Position) (c : ℕ × ℕ). record_of p c.0 c.1) e.1.1 (ap₂ (λ (m n : ℕ). (m, n)) e.0 e.1.0))
     (λ e. (ap (λ (r : Record). r.half) e, (ap (λ (r : Record). r.full) e, ap (λ (r : Record). r.setup) e)))
-    (Decides-and _ _ (Decides-eqb f.half g.half) (Decides-and _ _ (Decides-eqb f.full g.full) (positions f.setup g.setup)))
+    (Decides-and _ _ (Decides-eqb f.half g.half) (Decides-and _ _ (Decides-eqb f.full g.full) (positions f.setup g.setup f_rules.setup g_rules.setup)))
 
 -- short texts in buffers of one size, of which the bytes and the lengths are compared
 pub texts : (room : ℕ) (a b : List ℕ) → Decides (pointwise (λ (m n : ℕ). eqb m n) (padded room a) (padded room b) && eqb (length a) (length b)) (a ≡ b)

@@ -9,11 +9,9 @@ use Rattle.pb_board.specs.declared.piece.Piece.{Piece}
 use Rattle.pb_board.specs.declared.setup.Rights.{Rights}
 use Rattle.pb_board.specs.Piece.{king_of, pawn_of}
 use Rattle.pb_board.specs.Board.{Place, Board, at, Holds}
-use Rattle.pb_board.specs.Kept.{KeepsBitboards}
-use Rattle.pb_board.specs.Position.{HasNoEdgePawn, IsOnlyKing, position_of}
+use Rattle.pb_board.specs.Position.{HasNoEdgePawn, IsOnlyKing, IsSetup, position_of}
 use Rattle.pb_board.specs.Text.{piece_letter}
 use Rattle.pb_board.specs.Initial.{initial_board}
-use Rattle.pb_board.specs.Bitboards.{bitboards_of}
 use Rattle.pb_board.proofs.Kings.{only_king}
 
 -- each place passes the test at its index
@@ -85,15 +83,12 @@ black_king : IsOnlyKing initial_board Black 60
 unfolding initial_board king_test is_it
 black_king = tested_king initial_board Black 60 refl refl
 
-pub initial_keeps : (rights : Rights) → KeepsBitboards (position_of initial_board White rights None) (bitboards_of initial_board)
+pub initial_rules : (rights : Rights) → IsSetup (position_of initial_board White rights None)
 unfolding initial_board
-initial_keeps rights = record {
-  rules = record {
-    places = refl;
-    white_king = (4, white_king);
-    black_king = (60, black_king);
-    pawns = no_edge_pawn initial_board edges;
-    en_passant = tt;
-  };
-  bitboards_are = refl;
+initial_rules rights = record {
+  places = refl;
+  white_king = (4, white_king);
+  black_king = (60, black_king);
+  pawns = no_edge_pawn initial_board edges;
+  en_passant = tt;
 }

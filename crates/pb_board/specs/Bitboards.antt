@@ -1,12 +1,14 @@
--- Bitboards: sets of squares as numbers, kept beside the board: bit i stands for the square of
--- index i.
-use Rattle.std.specs.Prelude.{ℕ, ◌+◌, ◌*◌, Bool, true, false, ◌==◌, [], ◌∷◌, Some, None}
+-- Bitboards: sets of squares as numbers: bit i stands for the square of index i.
+use Rattle.std.specs.Prelude.{ℕ, ◌+◌, ◌*◌, Bool, true, false, ◌==◌, List, [], ◌∷◌, ◌++◌, map, Some, None, bit_and, slice_index_or}
+use Rattle.std.specs.Int.{bit_at}
+use Rattle.std.specs.List.{find, range_with_len}
 use Rattle.pb_board.specs.declared.piece.Colour.{Colour}
 use Rattle.pb_board.specs.declared.piece.Colour.TheVariants.{White, Black}
 use Rattle.pb_board.specs.declared.piece.Kind.{Kind}
 use Rattle.pb_board.specs.declared.piece.Kind.TheVariants.{Pawn, Knight, Bishop, Rook, Queen, King}
 use Rattle.pb_board.specs.declared.bitboards.Bitboards.{Bitboards}
-use Rattle.pb_board.specs.Piece.{colour_number, kind_number}
+use Rattle.pb_board.specs.declared.piece.Piece.{Piece}
+use Rattle.pb_board.specs.Piece.{colour_number, kind_number, piece_of}
 use Rattle.pb_board.specs.Board.{Place, Board}
 
 -- a piece of this side stands there
@@ -35,3 +37,18 @@ bitboards_of board = record {
   kinds = bitboard_of (is_kind Pawn) board ∷ bitboard_of (is_kind Knight) board ∷ bitboard_of (is_kind Bishop) board
       ∷ bitboard_of (is_kind Rook) board ∷ bitboard_of (is_kind Queen) board ∷ bitboard_of (is_kind King) board ∷ [];
 }
+
+abbrev pub kinds : List Kind
+kinds = Pawn ∷ Knight ∷ Bishop ∷ Rook ∷ Queen ∷ King ∷ []
+
+abbrev pub pieces : List Piece
+pieces = map (piece_of White) kinds ++ map (piece_of Black) kinds
+
+-- the square is one of its side's and one of its kind's
+abbrev pub is_on : Bitboards → ℕ → Piece → Bool
+is_on m square piece =
+    bit_at (bit_and (slice_index_or m.sides (colour_number piece.colour) 0) (slice_index_or m.kinds (kind_number piece.kind) 0)) square == 1
+
+-- the board of these pieces
+unfoldable pub board_of : Bitboards → Board
+board_of m = map (λ square. find (is_on m square) pieces) (range_with_len 0 64)

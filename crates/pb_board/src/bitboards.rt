@@ -1,18 +1,21 @@
-//! Bitboards, kept beside the board.
+//! Bitboards: what stands on the squares of a board, in sets of squares.
 
-ghost use Rattle.std.specs.Prelude.{◌≡◌, ◌<◌, ◌↔◌, ℕ, length, slice_set};
+ghost use Rattle.std.specs.Prelude.{◌≡◌, ◌<◌, ◌↔◌, ℕ, IsTrue, length, slice_set};
 ghost use Rattle.std.specs.Int.{bit_at};
-ghost use Rattle.pb_board.specs.Board.{Board, IsEmpty, Holds};
-ghost use Rattle.pb_board.specs.Position.{with_piece_moved};
+ghost use Rattle.std.specs.Option.{option_map};
+ghost use Rattle.pb_board.specs.Board.{Board, IsEmpty, Holds, at};
+ghost use Rattle.pb_board.specs.MovedPiece.{with_moved};
 ghost use Rattle.pb_board.specs.Piece.{colour_number, kind_number};
 ghost use Rattle.pb_board.specs.Bitboards.{bitboards_of};
+ghost use Rattle.pb_board.specs.declared.piece.Piece.{Piece};
 
 use crate::piece::{Colour, Kind, Piece};
+use crate::setup::MovedPiece;
 use crate::square::Square;
 
 /// The squares of each side's pieces and of each kind's, as numbers: bit `i` stands for the square
 /// of index `i`.
-#[derive(Clone, Copy, PartialEq)]
+#[derive(Clone, Copy, Debug, PartialEq, Eq, Hash)]
 pub(crate) struct Bitboards {
     pub(crate) sides: [u64; 2],
     pub(crate) kinds: [u64; 6],
@@ -61,9 +64,10 @@ fn set_down(bitboards: &mut Bitboards, index: u8, place: Option<Piece>)
 
 /// The squares after a piece has gone from one to another, in the place of what stood there.
 #[inline(always)]
-pub(crate) fn move_piece(bitboards: &mut Bitboards, from: Square, to: Square, piece: Piece)
-    ensures { (b : Board) → length b ≡ 64 → bitboards.old ≡ bitboards_of b → bitboards.new ≡ bitboards_of (with_piece_moved b from to piece) }
+pub(crate) fn move_piece(bitboards: &mut Bitboards, moved: MovedPiece)
+    ensures { (b : Board) → length b ≡ 64 → bitboards.old ≡ bitboards_of b → bitboards.new ≡ bitboards_of (with_moved b moved) }
 {
+    let MovedPiece { from, to, piece } = moved;
     let bit = 1u64 << to.index();
     let keep = !(1u64 << from.index() | bit);
     bitboards.sides[0] &= keep;
@@ -106,4 +110,71 @@ pub(crate) fn by_piece(bitboards: Bitboards, piece: Piece) -> u64
     ensures { (b : Board) (q : ℕ) → bitboards ≡ bitboards_of b → ((bit_at result q ≡ 1) ↔ Holds b q piece) }
 {
     bitboards.sides[colour_number(piece.colour)] & bitboards.kinds[kind_number(piece.kind)]
+}
+
+/// Whether the square of this index is among these.
+#[inline(always)]
+fn has(squares: u64, index: u8) -> bool
+    requires { index < 64 }
+    ensures { IsTrue result ↔ (bit_at squares index ≡ 1) }
+{
+    squares >> index & 1 == 1
+}
+
+/// The side of what stands on the square of this index.
+#[inline(always)]
+fn colour_at(bitboards: &Bitboards, index: u8) -> Option<Colour>
+    requires { index < 64 }
+    ensures { (b : Board) → bitboards.now ≡ bitboards_of b → result ≡ option_map (λ p. p.colour) (at b index) }
+{
+    if has(bitboards.sides[0], index) {
+        Some(Colour::White)
+    } else if has(bitboards.sides[1], index) {
+        Some(Colour::Black)
+    } else {
+        None
+    }
+}
+
+/// The kind of what stands on the square of this index, where something does.
+#[inline(always)]
+fn kind_at(bitboards: &Bitboards, index: u8) -> Kind
+    requires { index < 64 }
+    ensures { (b : Board) (p : Piece) → bitboards.now ≡ bitboards_of b → Holds b index p → result ≡ p.kind }
+{
+    if has(bitboards.kinds[0], index) {
+        Kind::Pawn
+    } else if has(bitboards.kinds[1], index) {
+        Kind::Knight
+    } else if has(bitboards.kinds[2], index) {
+        Kind::Bishop
+    } else if has(bitboards.kinds[3], index) {
+        Kind::Rook
+    } else if has(bitboards.kinds[4], index) {
+        Kind::Queen
+    } else {
+        Kind::King
+    }
+}
+
+/// What stands on the square of this index.
+#[inline(always)]
+pub(crate) fn piece_at(bitboards: &Bitboards, index: u8) -> Option<Piece>
+    requires { index < 64 }
+    ensures { (b : Board) → bitboards.now ≡ bitboards_of b → result ≡ at b index }
+{
+    let colour = colour_at(bitboards, index)?;
+    let kind = kind_at(bitboards, index);
+    Some(Piece { colour, kind })
+}
+
+/// What stands on each square, by index.
+pub(crate) fn board_of(bitboards: &Bitboards) -> [Option<Piece>; 64]
+    ensures { (b : Board) → length b ≡ 64 → bitboards.now ≡ bitboards_of b → result ≡ b }
+{
+    let mut board = [None; 64];
+    for index in 0..64u8 {
+        board[index as usize] = piece_at(bitboards, index);
+    }
+    board
 }

@@ -44,14 +44,14 @@ pub fn none_due()
 /// Setups are equal (`==`) exactly where they are one position, and castling rights where each flag
 /// is the same.
 pub fn equal_setups()
-    ensures setups { (p q : Position) → Decides (⟦<Setup as PartialEq>⟧.eq p q) (p ≡ q) }
+    ensures setups { (p q : Position) → IsSetup p → IsSetup q → Decides (⟦<Setup as PartialEq>⟧.eq p q) (p ≡ q) }
     ensures rights { (a b : Rights) → Decides (⟦<Rights as PartialEq>⟧.eq a b) (a ≡ b) }
 {}
 
 /// Records are equal exactly where setup and clocks are the same, and their texts where the bytes
 /// are.
 pub fn equal_records()
-    ensures records { (f g : Record) → Decides (⟦<Fen as PartialEq>⟧.eq f g) (f ≡ g) }
+    ensures records { (f g : Record) → IsRecord f → IsRecord g → Decides (⟦<Fen as PartialEq>⟧.eq f g) (f ≡ g) }
     ensures texts { (t u : List ℕ) → Decides (⟦<FenBytes as PartialEq>⟧.eq t u) (t ≡ u) }
 {}
 

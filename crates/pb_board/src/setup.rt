@@ -1,11 +1,9 @@
 //! Setups: what the first four fields of a FEN record say.
 
 ghost use Rattle.std.specs.Prelude.{◌≡◌, ◌↔◌, ℕ, IsTrue, MatchResult, length};
-ghost use Rattle.pb_board.specs.MovedPiece.{with_moved};
-ghost use Rattle.pb_board.specs.Bitboards.{bitboards_of};
 
 use crate::bitboards::{self, Bitboards};
-use crate::initial::{initial_bitboards, initial_board};
+use crate::initial::initial_bitboards;
 use crate::piece::{Colour, Piece};
 use crate::refusal::SetupError;
 use crate::setup_rules::{has_no_edge_pawn, is_en_passant_square, one_king, only_king};
@@ -55,41 +53,37 @@ pub struct MovedPiece {
 /// Each setup has one king of each colour and no pawn on rank 1 or 8. A given en passant square is
 /// empty, on rank 6 with White to move and on rank 3 with Black to move, and an enemy pawn stands
 /// directly beyond it.
-#[derive(Clone, Copy)]
-#[derive_where(Debug, PartialEq, Eq, Hash)]
+#[derive(Clone, Copy, Debug, PartialEq, Eq, Hash)]
 pub struct Setup {
-    board: [Option<Piece>; 64],
+    bitboards: Bitboards,
     turn: Colour,
     rights: Rights,
     ep: Option<Square>,
-    // The squares of each side's pieces and of each kind's follow from the board.
-    #[derive_where(skip)]
-    bitboards: Bitboards,
 }
 
 impl Model for Setup {
     ghost use Rattle.pb_board.specs.Kept.{KeepsBitboards, bitboards-back};
-    ghost use Rattle.pb_board.specs.Bitboards.{bitboards_of};
+    ghost use Rattle.pb_board.specs.Bitboards.{bitboards_of, board_of};
     ghost use Rattle.pb_board.specs.Position.{Position, position_of};
 
     ghost Value = { Position };
 
-    ghost view = { λ s. position_of s.board s.turn s.rights s.ep };
+    ghost view = { λ s. position_of (board_of s.bitboards) s.turn s.rights s.ep };
 
-    ghost invariant = { λ s. KeepsBitboards (position_of s.board s.turn s.rights s.ep) s.bitboards };
+    ghost invariant = { λ s. KeepsBitboards (position_of (board_of s.bitboards) s.turn s.rights s.ep) s.bitboards };
 
-    ghost inverse = { λ p. record { board = p.board; turn = p.turn; rights = p.rights; ep = p.ep; bitboards = bitboards_of p.board } };
+    ghost inverse = { λ p. record { bitboards = bitboards_of p.board; turn = p.turn; rights = p.rights; ep = p.ep } };
 
     ghost inverse_ok = { λ s h. bitboards-back
-        (λ m. record { board = s.board; turn = s.turn; rights = s.rights; ep = s.ep; bitboards = m })
-        (position_of s.board s.turn s.rights s.ep) s.bitboards h };
+        (λ m. record { bitboards = m; turn = s.turn; rights = s.rights; ep = s.ep })
+        (position_of (board_of s.bitboards) s.turn s.rights s.ep) s.bitboards h };
 }
 
 impl Setup {
-    ghost use Rattle.pb_board.specs.Board.{at, Holds, IsEmpty};
+    ghost use Rattle.pb_board.specs.Board.{Board, at, Holds, IsEmpty};
+    ghost use Rattle.pb_board.specs.Bitboards.{bitboards_of};
     ghost use Rattle.std.specs.Int.{bit_at};
     ghost use Rattle.pb_board.specs.Initial.{initial};
-    ghost use Rattle.pb_board.specs.Bitboards.{bitboards_of};
     ghost use Rattle.pb_board.specs.Piece.{opponent};
     ghost use Rattle.pb_board.specs.Position.{IsSetup, IsOnlyKing, position_of, with_piece_moved};
     ghost use Rattle.pb_board.specs.MovedPiece.{with_two_moved};
@@ -125,28 +119,25 @@ impl Setup {
         {
             return Err(SetupError::EnPassant);
         }
-        Ok(Setup::with_bitboards(board, turn, rights, ep, bitboards))
+        Ok(Setup::with_bitboards(bitboards, turn, rights, ep))
     }
 
-    /// The setup of parts that are known to meet the rules, with the squares of the board's pieces.
+    /// The setup of parts that are known to meet the rules, with the bitboards of the board.
     #[inline(always)]
     fn with_bitboards(
-        board: [Option<Piece>; 64],
+        bitboards: Bitboards,
         turn: Colour,
         rights: Rights,
         ep: Option<Square>,
-        bitboards: Bitboards,
     ) -> Setup
-        requires rules { IsSetup (position_of board turn rights ep) }
-        requires bitboards { bitboards ≡ bitboards_of board }
-        ensures { result ≡ position_of board turn rights ep }
+        requires { (b : Board) × (bitboards ≡ bitboards_of b) × IsSetup (position_of b turn rights ep) }
+        ensures { (b : Board) → length b ≡ 64 → bitboards ≡ bitboards_of b → result ≡ position_of b turn rights ep }
     {
         Setup {
-            board,
+            bitboards,
             turn,
             rights,
             ep,
-            bitboards,
         }
     }
 
@@ -165,11 +156,7 @@ impl Setup {
         ensures { self.new ≡ position_of (with_piece_moved self.old.board from to piece) (opponent self.old.turn) rights ep }
     {
         let next = self;
-        put_moved(
-            &mut next.board,
-            &mut next.bitboards,
-            MovedPiece { from, to, piece },
-        );
+        bitboards::move_piece(&mut next.bitboards, MovedPiece { from, to, piece });
         next.turn = next.turn.opponent();
         next.rights = rights;
         next.ep = ep;
@@ -188,8 +175,8 @@ impl Setup {
         ensures { self.new ≡ position_of (with_two_moved self.old.board first second) (opponent self.old.turn) rights ep }
     {
         let next = self;
-        put_moved(&mut next.board, &mut next.bitboards, first);
-        put_moved(&mut next.board, &mut next.bitboards, second);
+        bitboards::move_piece(&mut next.bitboards, first);
+        bitboards::move_piece(&mut next.bitboards, second);
         next.turn = next.turn.opponent();
         next.rights = rights;
         next.ep = ep;
@@ -200,11 +187,10 @@ impl Setup {
         ensures { result ≡ initial }
     {
         Setup {
-            board: initial_board(),
+            bitboards: initial_bitboards(),
             turn: Colour::White,
             rights: Rights::ALL,
             ep: None,
-            bitboards: initial_bitboards(),
         }
     }
 
@@ -213,13 +199,11 @@ impl Setup {
         ensures { IsTrue result ↔ (self.now ≡ initial) }
     {
         let Setup {
+            bitboards,
             turn,
             rights,
             ep,
-            bitboards,
-            ..
         } = *self;
-        // Boards with the same bitboards are one, so no square is looked at.
         turn == Colour::White
             && rights == Rights::ALL
             && ep.is_none()
@@ -227,18 +211,19 @@ impl Setup {
     }
 
     /// The places of the board by square index, from a1 to h8.
-    pub fn board(&self) -> &[Option<Piece>; 64]
-        ensures value { result.now ≡ self.now.board }
-        ensures places { length self.now.board ≡ 64 }
+    pub fn board(&self) -> [Option<Piece>; 64]
+        ensures { result ≡ self.now.board }
     {
-        &self.board
+        bitboards::board_of(&self.bitboards)
     }
 
     /// What stands on the square.
+    #[inline(always)]
     pub fn at(&self, square: Square) -> Option<Piece>
-        ensures { result ≡ at self.now.board square }
+        ensures value { result ≡ at self.now.board square }
+        ensures rules { IsSetup self.now }
     {
-        self.board[square.index() as usize]
+        bitboards::piece_at(&self.bitboards, square.index())
     }
 
     /// The side to move.
@@ -258,7 +243,8 @@ impl Setup {
 
     /// The en passant square, where there is one.
     pub fn ep(&self) -> Option<Square>
-        ensures { result ≡ self.now.ep }
+        ensures value { result ≡ self.now.ep }
+        ensures rules { IsSetup self.now }
     {
         self.ep
     }
@@ -266,7 +252,8 @@ impl Setup {
     /// The squares on which something stands: bit `i` stands for the square of index `i`.
     #[inline(always)]
     pub fn occupied(&self) -> u64
-        ensures { (q : ℕ) → (bit_at result q ≡ 1) ↔ ¬ IsEmpty self.now.board q }
+        ensures squares { (q : ℕ) → (bit_at result q ≡ 1) ↔ ¬ IsEmpty self.now.board q }
+        ensures rules { IsSetup self.now }
     {
         bitboards::occupied(self.bitboards)
     }
@@ -285,15 +272,4 @@ impl Setup {
     {
         only_king(self.bitboards, colour)
     }
-}
-
-/// Moves a piece on a board, and in the bitboards beside it.
-#[inline(always)]
-fn put_moved(board: &mut [Option<Piece>; 64], bitboards: &mut Bitboards, moved: MovedPiece)
-    ensures board { board.new ≡ with_moved board.old moved }
-    ensures bitboards { bitboards.old ≡ bitboards_of board.old → bitboards.new ≡ bitboards_of (with_moved board.old moved) }
-{
-    bitboards::move_piece(bitboards, moved.from, moved.to, moved.piece);
-    board[moved.from.index() as usize] = None;
-    board[moved.to.index() as usize] = Some(moved.piece);
 }

@@ -143,7 +143,7 @@ pub(crate) fn put_setup(out: &mut FenBytes, setup: &Setup)
     ensures short { length (setup_text setup.now) ≤ 81 }
     ensures text { out.new ≡ out.old ++ setup_text setup.now }
 {
-    put_placement(out, setup.board());
+    put_placement(out, &setup.board());
     out.push(b' ');
     put_turn(out, setup.turn());
     out.push(b' ');

@@ -1,5 +1,0 @@
-use Rattle.std.proofs.Common.{rules}
-use Rattle.pb_board.proofs.setup.Setup.at.Goals as goal
-
-pub returns : goal.returns
-returns c = search rules
