@@ -1,12 +1,12 @@
 -- The entries of a key in an ordered book.
-use Rattle.std.proofs.Common.{◌≡◌, ℕ, ◌+◌, ◌-◌, ◌<◌, ◌≤◌, Bool, true, false, ltb, List, length, drop, get_or, ap, subst, ◌∙◌, inl, inr, ◌⊎◌, arith}
+use Rattle.std.proofs.Common.{◌≡◌, ℕ, ◌+◌, ◌-◌, ◌*◌, ◌^◌, ◌<◌, ◌≤◌, Bool, true, false, ltb, ltb-true, List, [], ◌∷◌, ◌++◌, length, drop, get_or, ap, subst, sym, ◌∙◌, inl, inr, ◌⊎◌, arith}
 use Rattle.std.specs.Prelude.{take_while}
 use Rattle.std.specs.List.{prefix_len}
 use Rattle.std.specs.List.Sorted.{IsPartitionPoint}
 use Rattle.std.proofs.lemmas.Bool.Decides.{nat_tests}
-use Rattle.std.proofs.lemmas.List.{get_or-drop, length-drop}
+use Rattle.std.proofs.lemmas.List.{get_or-drop, get_or_append_left, get_or_push, length-drop}
 use Rattle.std.proofs.lemmas.List.Folds.{length-prefix_len}
-use Rattle.std.proofs.lemmas.List.Sums.{prefix_len_passes, prefix_len_stops}
+use Rattle.std.proofs.lemmas.List.Sums.{prefix_len-le-length, prefix_len_passes, prefix_len_stops}
 use Rattle.pb_poly.specs.declared.entry.Entry.{Entry}
 use Rattle.pb_poly.specs.Book.{NeverFall}
 use Rattle.pb_poly.proofs.Runs.{keys_rise}
@@ -50,3 +50,32 @@ module _ (key floor : ℕ) (entries : List Entry) (place count : ℕ) (rises : N
           let at : get_or (drop place entries) n d ≡ get_or entries (place + count) d = get_or-drop place entries n d ∙ ap (λ m. get_or entries m d) (omega (arith, many)) in
           let stops = subst (λ (e : Entry). ltb e.key key ≡ false) at (prefix_len_stops test (drop place entries) d (omega (arith, many, from, to, length-drop place entries))) in
           not_lower (get_or entries k d).key key (omega (arith, lower_is (get_or entries (place + count) d).key key stops, keys_rise 0 entries rises (place + count) k d from to))
+
+  pub first_within : place + count ≤ length entries
+  first_within = omega (arith, many, before.within, prefix_len-le-length test (drop place entries), length-drop place entries)
+
+  pub first_before : IsBefore entries (place + count) key
+  first_before = record { within = first_within; lower = λ k d from to. ltb-true (get_or entries k d).key key (first_place.0 k d from to) }
+
+-- ---- the places of fronts
+
+module _ (entries : List Entry) where
+  pub higher_floor : (place floor higher : ℕ) → IsBefore entries place floor → floor ≤ higher → IsBefore entries place higher
+  higher_floor place floor higher h le = record { within = h.within; lower = λ k d from to. omega (arith, h.lower k d from to, le) }
+
+  lower_place : (place least floor : ℕ) → IsBefore entries place floor → least ≤ place → IsBefore entries least floor
+  lower_place place least floor h le = record { within = omega (arith, h.within, le); lower = λ k d from to. h.lower k d from (omega (arith, to, le)) }
+
+  -- one front more
+  pub firsts_more : (firsts new : List ℕ) (n place least : ℕ) → length firsts ≡ n → ((f : ℕ) → f < n → IsBefore entries (get_or firsts f 0) (f * 2 ^ 46))
+      → IsBefore entries place (n * 2 ^ 46) → least ≤ place → new ≡ firsts ++ least ∷ [] → (f : ℕ) → f < n + 1 → IsBefore entries (get_or new f 0) (f * 2 ^ 46)
+  firsts_more firsts new n place least many each here le is f lt = elim (split f n lt) [
+    | inl before ↦
+        subst (λ p. IsBefore entries p (f * 2 ^ 46)) (sym (ap (λ (ps : List ℕ). get_or ps f 0) is ∙ get_or_append_left firsts (least ∷ []) 0 f (omega (arith, before, many)))) (each f before)
+    | inr at ↦
+        let there : get_or new f 0 ≡ least = ap (λ (ps : List ℕ). get_or ps f 0) is ∙ get_or_push firsts least 0 f (many ∙ sym at) in
+        subst (λ p. IsBefore entries p (f * 2 ^ 46)) (sym there) (subst (λ m. IsBefore entries least (m * 2 ^ 46)) (sym at) (lower_place place least (n * 2 ^ 46) here le))
+  ]
+    where
+      split : (f n : ℕ) → f < n + 1 → (f < n) ⊎ (f ≡ n)
+      split f n lt = grind arith

@@ -119,7 +119,7 @@ record Begins (low high : ℕ) (text : List ℕ) : Type 0 where
   below : first ≤ high
 
 -- the digit of some empty squares
-a_run : (g : ℕ) → empty_squares (suc g) ≡ (48 + suc g) ∷ []
+pub a_run : (g : ℕ) → empty_squares (suc g) ≡ (48 + suc g) ∷ []
 a_run g = grind arith
 
 -- after empty squares a text begins with their digit

@@ -1,5 +1,5 @@
 -- The texts of packed setups.
-use Rattle.std.proofs.Common.{◌≡◌, ℕ, suc, zero, ◌+◌, ◌-◌, ◌*◌, ◌/◌, ◌%◌, ◌<◌, ◌≤◌, Bool, false, List, [], ◌∷◌, ◌++◌, Some, None, append_assoc, length, drop, get_or, refl, sym, ap, ◌∙◌, arith}
+use Rattle.std.proofs.Common.{◌≡◌, ℕ, suc, zero, ◌+◌, ◌-◌, ◌*◌, ◌/◌, ◌%◌, ◌<◌, ◌≤◌, Bool, true, false, List, [], ◌∷◌, ◌++◌, Some, None, append-nil, append_assoc, length, drop, get_or, refl, sym, ap, subst, ◌∙◌, arith}
 use Rattle.std.specs.Prelude.{All, is_none}
 use Rattle.std.proofs.lemmas.List.{drop_more, drop_all, length-drop, length-take}
 use Rattle.pb_board.specs.declared.piece.Piece.{Piece}
@@ -7,7 +7,8 @@ use Rattle.pb_board.specs.Board.{Board, Place}
 use Rattle.pb_board.specs.Text.{empty_squares, piece_letter, placement_text, rank_text, setup_text}
 use Rattle.pb_board.specs.Position.{Position}
 use Rattle.pb_board.proofs.Writes.{InRows, row_written, rows_done, rows_start}
-use Rattle.pb_export.specs.Packed.{number_after, place_digit, rank_digits, rank_number, rank_numbers, row, state_text}
+use Rattle.pb_export.specs.Packed.{number_after, piece_digit, place_digit, rank_digits, rank_number, rank_numbers, row, state_text}
+use Rattle.pb_export.proofs.PackedOrder.{a_run, digit_high}
 
 -- ---- digits
 
@@ -42,28 +43,95 @@ digits_back n (a ∷ b ∷ c ∷ d ∷ e ∷ f ∷ g ∷ h ∷ i ∷ ds) eight s
 
 -- ---- ranks
 
--- the text of the first squares was written, but for a run of empty ones at their end
-pub record Written (digits : List ℕ) (i run : ℕ) (start out : List ℕ) (squares : List Place) : Type 0 where
+-- after an empty square the last symbol is the digit of a run, and else all of this was put but it
+abbrev Ends : Bool → ℕ → ℕ → List ℕ → List ℕ → Type 0
+Ends true run last base out = (0 < run) × (base ≡ out) × (last ≡ 48 + run)
+Ends false run last base out = (run ≡ 0) × (base ≡ out ++ last ∷ [])
+
+-- the text of the first squares was put, but for its last symbol
+pub record Written (digits : List ℕ) (i last : ℕ) (start out : List ℕ) (squares : List Place) : Type 0 where
   pub after_empty : Bool
   pub left : drop i digits ≡ rank_digits after_empty (drop i squares)
-  pub completes : out ++ rank_text run (drop i squares) ≡ start ++ rank_text 0 squares
+  pub run : ℕ
+  pub base : List ℕ
+  pub ends : Ends after_empty run last base out
+  pub completes : base ++ rank_text run (drop i squares) ≡ start ++ rank_text 0 squares
 
-pub record PutsRank (number : ℕ) (digits : List ℕ) (i run : ℕ) (start out : List ℕ) : Type 0 where
-  pub few : run ≤ i
+pub record PutsRank (number : ℕ) (digits : List ℕ) (i last : ℕ) (start out : List ℕ) : Type 0 where
+  pub few : last ≤ 114 + i
   pub eight : length digits ≡ 8
-  pub each : (squares : List Place) → length squares ≡ 8 → number ≡ rank_number squares → Written digits i run start out squares
+  pub each : (squares : List Place) → length squares ≡ 8 → number ≡ rank_number squares → Written digits i last start out squares
 
-pub PutsRank-none : (number : ℕ) (digits start : List ℕ) → length digits ≡ 8 → ((squares : List Place) → length squares ≡ 8 → number ≡ rank_number squares → digits ≡ rank_digits false squares)
-    → PutsRank number digits 0 0 start start
-PutsRank-none number digits start eight are = record { few = omega arith; eight = eight; each = λ squares places is. record { after_empty = false; left = are squares places is; completes = refl } }
+-- what a symbol stands for
+pub record IsSymbol (digit symbol : ℕ) : Type 0 where
+  pub piece : (p : Piece) → digit ≡ piece_digit p → symbol ≡ piece_letter p
+  pub empty : digit ≡ 0 → symbol ≡ 49
 
-module _ (number : ℕ) (digits : List ℕ) (i run : ℕ) (start out : List ℕ) (h : PutsRank number digits i run start out) (lt : i < length digits) where
+-- what was put with the last symbol
+whole : (e : Bool) (run last : ℕ) (base out : List ℕ) → Ends e run last base out → base ++ empty_squares run ≡ out ++ last ∷ []
+whole false run last base out h = ap (λ n. base ++ empty_squares n) h.0 ∙ append-nil base ∙ h.1
+whole true zero last base out h = absurd (omega (arith, h.0))
+whole true (suc run) last base out h = (λ i. h.1 i ++ a_run run i) ∙ ap (λ n. out ++ n ∷ []) (sym h.2)
+
+-- only an empty square after an empty one has this digit
+empty_too : (e : Bool) (x : Place) → 15 ≡ place_digit e x → (e ≡ true) × (x ≡ None)
+empty_too true None h = (refl, refl)
+empty_too false None h = absurd (omega (arith, h))
+empty_too e (Some p) h = absurd (omega (arith, h, digit_high p))
+
+-- the text of a square that begins a symbol, after what was put with the last one
+begun : (digits : List ℕ) (i symbol : ℕ) (e : Bool) (x : Place) (run : ℕ) (base put start : List ℕ) (squares rest : List Place)
+    → drop i digits ≡ rank_digits (is_none x) rest → rest ≡ drop i squares → IsSymbol (place_digit e x) symbol → ¬ (place_digit e x ≡ 15)
+    → (e ≡ false → run ≡ 0) → base ++ empty_squares run ≡ put → base ++ rank_text run (x ∷ rest) ≡ start ++ rank_text 0 squares → Written digits i symbol start put squares
+begun digits i symbol e (Some p) run base put start squares rest left at is other none ended h = record {
+  after_empty = false;
+  left = left ∙ ap (rank_digits false) at;
+  run = 0;
+  base = put ++ symbol ∷ [];
+  ends = (refl, refl);
+  completes =
+      ap (λ (xs : List Place). (put ++ symbol ∷ []) ++ rank_text 0 xs) (sym at) ∙ ap (λ n. (put ++ n ∷ []) ++ rank_text 0 rest) (is.piece p refl) ∙ append_assoc put (piece_letter p ∷ []) (rank_text 0 rest)
+      ∙ ap (λ w. w ++ piece_letter p ∷ rank_text 0 rest) (sym ended) ∙ append_assoc base (empty_squares run) (piece_letter p ∷ rank_text 0 rest) ∙ h;
+}
+begun digits i symbol true None run base put start squares rest left at is other none ended h = absurd (other refl)
+begun digits i symbol false None run base put start squares rest left at is other none ended h =
+    let no_run : run ≡ 0 = none refl in
+    let same : base ≡ put = sym (append-nil base) ∙ ap (λ n. base ++ empty_squares n) (sym no_run) ∙ ended in
+    record {
+      after_empty = true;
+      left = left ∙ ap (rank_digits true) at;
+      run = 1;
+      base = put;
+      ends = (omega arith, refl, is.empty refl);
+      completes = ap (λ (xs : List Place). put ++ rank_text 1 xs) (sym at) ∙ ap (λ b. b ++ rank_text 1 rest) (sym same) ∙ ap (λ n. base ++ rank_text (n + 1) rest) (sym no_run) ∙ h;
+    }
+
+none_open : (e : Bool) (run last : ℕ) (base out : List ℕ) → Ends e run last base out → e ≡ false → run ≡ 0
+none_open false run last base out h e = h.0
+none_open true run last base out h e = absurd cc
+
+pub PutsRank-first : (number : ℕ) (digits start : List ℕ) (symbol : ℕ) → length digits ≡ 8 → ((squares : List Place) → length squares ≡ 8 → number ≡ rank_number squares → digits ≡ rank_digits false squares)
+    → IsSymbol (get_or digits 0 0) symbol → symbol ≤ 114 → PutsRank number digits 1 symbol start start
+PutsRank-first number digits start symbol eight are is low = record { few = omega (arith, low); eight = eight; each = λ squares places n. first squares places (are squares places n) }
+  where
+    single : (x : Place) → ¬ (place_digit false x ≡ 15)
+    single None h = absurd (omega (arith, h))
+    single (Some p) h = absurd (omega (arith, h, digit_high p))
+
+    first : (squares : List Place) → length squares ≡ 8 → digits ≡ rank_digits false squares → Written digits 1 symbol start start squares
+    first [] places d = absurd (omega (arith, places))
+    first (x ∷ rest) places d =
+        let digit : get_or digits 0 0 ≡ place_digit false x = ap (λ (ds : List ℕ). get_or ds 0 0) d in
+        begun digits 1 symbol false x 0 start start start (x ∷ rest) rest (ap (drop 1) d) refl (subst (λ n. IsSymbol n symbol) digit is) (single x) (λ e. refl) (append-nil start) refl
+
+module _ (number : ℕ) (digits : List ℕ) (i last : ℕ) (start out : List ℕ) (h : PutsRank number digits i last start out) (lt : i < length digits) where
   record Here (squares : List Place) : Type 0 where
+    written : Written digits i last start out squares
     place : Place
-    after_empty : Bool
-    digit : get_or digits i 0 ≡ place_digit after_empty place
+    digit : get_or digits i 0 ≡ place_digit written.after_empty place
     squares_left : drop i squares ≡ place ∷ drop (i + 1) squares
     left : drop (i + 1) digits ≡ rank_digits (is_none place) (drop (i + 1) squares)
+    text : written.base ++ rank_text written.run (place ∷ drop (i + 1) squares) ≡ start ++ rank_text 0 squares
 
   here : (squares : List Place) → length squares ≡ 8 → number ≡ rank_number squares → Here squares
   here squares places is =
@@ -75,47 +143,47 @@ module _ (number : ℕ) (digits : List ℕ) (i run : ℕ) (start out : List ℕ)
       sym digits_left ∙ w.left ∙ ap (rank_digits w.after_empty) squares_left in
       let first : get_or digits i 0 ≡ place_digit w.after_empty place = cc in
       let later : drop (i + 1) digits ≡ rank_digits (is_none place) (drop (i + 1) squares) = cc in
-      record { place = place; after_empty = w.after_empty; digit = first; squares_left = squares_left; left = later }
+      record { written = w; place = place; digit = first; squares_left = squares_left; left = later; text = ap (λ (s : List Place). w.base ++ rank_text w.run s) (sym squares_left) ∙ w.completes }
 
-  pub put_empty : (d : ℕ) → d ≡ get_or digits i 0 → ((after_empty : Bool) (place : Place) → d ≡ place_digit after_empty place → place ≡ None) → PutsRank number digits (i + 1) (run + 1) start out
-  put_empty d at empty = record {
+  -- one more of a run
+  pub put_empty : get_or digits i 0 ≡ 15 → PutsRank number digits (i + 1) (last + 1) start out
+  put_empty at = record {
     few = omega (arith, h.few);
     eight = h.eight;
-    each = λ squares places is.
-        let w = h.each squares places is in
-        let x = here squares places is in
-        let none : x.place ≡ None = empty x.after_empty x.place (at ∙ x.digit) in
-        record {
-          after_empty = is_none x.place;
-          left = x.left;
-          completes = ap (λ (s : List Place). out ++ rank_text run s) (sym (x.squares_left ∙ ap (λ (y : Place). y ∷ drop (i + 1) squares) none)) ∙ w.completes;
-        };
+    each = λ squares places is. longer squares (here squares places is);
   }
+    where
+      longer : (squares : List Place) → Here squares → Written digits (i + 1) (last + 1) start out squares
+      longer squares x =
+          let w = x.written in
+          let empty = empty_too w.after_empty x.place (sym at ∙ x.digit) in
+          let ends = subst (λ e. Ends e w.run last w.base out) empty.0 w.ends in
+          record {
+            after_empty = true;
+            left = x.left ∙ ap (λ (y : Place). rank_digits (is_none y) (drop (i + 1) squares)) empty.1;
+            run = w.run + 1;
+            base = w.base;
+            ends = (omega arith, ends.1, omega (arith, ends.2));
+            completes = ap (λ (y : Place). w.base ++ rank_text w.run (y ∷ drop (i + 1) squares)) (sym empty.1) ∙ x.text;
+          }
 
-  pub put_piece : (d letter : ℕ) (mid new : List ℕ) → d ≡ get_or digits i 0
-      → ((after_empty : Bool) (place : Place) → d ≡ place_digit after_empty place → (p : Piece) × (place ≡ Some p) × (letter ≡ piece_letter p))
-      → mid ≡ out ++ empty_squares run → new ≡ mid ++ letter ∷ [] → PutsRank number digits (i + 1) 0 start new
-  put_piece d letter mid new at piece first second = record {
-    few = omega arith;
+  -- the last symbol is whole, and another begins
+  pub put_symbol : (symbol : ℕ) (new : List ℕ) → ¬ (get_or digits i 0 ≡ 15) → IsSymbol (get_or digits i 0) symbol → symbol ≤ 114 → new ≡ out ++ last ∷ [] → PutsRank number digits (i + 1) symbol start new
+  put_symbol symbol new other is low put = record {
+    few = omega (arith, low);
     eight = h.eight;
-    each = λ squares places is.
-        let w = h.each squares places is in
-        let x = here squares places is in
-        let p = piece x.after_empty x.place (at ∙ x.digit) in
-        let rest = rank_text 0 (drop (i + 1) squares) in
-        let put : new ≡ (out ++ empty_squares run) ++ piece_letter p.0 ∷ [] = second ∙ (λ j. first j ++ p.2 j ∷ []) in
-        record {
-          after_empty = is_none x.place;
-          left = x.left;
-          completes = ap (λ w. w ++ rest) put ∙ append_assoc (out ++ empty_squares run) (piece_letter p.0 ∷ []) rest ∙ append_assoc out (empty_squares run) (piece_letter p.0 ∷ rest)
-              ∙ ap (λ (s : List Place). out ++ rank_text run s) (sym (x.squares_left ∙ ap (λ (y : Place). y ∷ drop (i + 1) squares) p.1)) ∙ w.completes;
-        };
+    each = λ squares places n.
+        let x = here squares places n in
+        let w = x.written in
+        begun digits (i + 1) symbol w.after_empty x.place w.run w.base new start squares (drop (i + 1) squares) x.left refl (subst (λ d. IsSymbol d symbol) x.digit is) (λ e. other (x.digit ∙ e))
+        (none_open w.after_empty w.run last w.base out w.ends) (whole w.after_empty w.run last w.base out w.ends ∙ sym put) x.text;
   }
 
-pub put_whole : (number : ℕ) (digits : List ℕ) (i run : ℕ) (start out new : List ℕ) → PutsRank number digits i run start out → length digits ≤ i → new ≡ out ++ empty_squares run
+pub put_whole : (number : ℕ) (digits : List ℕ) (i last : ℕ) (start out new : List ℕ) → PutsRank number digits i last start out → length digits ≤ i → new ≡ out ++ last ∷ []
     → (squares : List Place) → length squares ≡ 8 → number ≡ rank_number squares → new ≡ start ++ rank_text 0 squares
-put_whole number digits i run start out new h past put squares places is =
-    put ∙ ap (λ (s : List Place). out ++ rank_text run s) (sym (drop_all i squares (omega (arith, past, places, h.eight)))) ∙ (h.each squares places is).completes
+put_whole number digits i last start out new h past put squares places is =
+    let w = h.each squares places is in
+    put ∙ sym (whole w.after_empty w.run last w.base out w.ends) ∙ ap (λ (s : List Place). w.base ++ rank_text w.run s) (sym (drop_all i squares (omega (arith, past, places, h.eight)))) ∙ w.completes
 
 -- ---- placements
 

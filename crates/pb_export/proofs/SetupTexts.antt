@@ -160,36 +160,30 @@ module _ (words : List ℕ) (book : List Entry) where
 abbrev pub setups_from : Position → List Moved → List Position
 setups_from s ms = map (λ p. p.0) (plies_from s ms)
 
--- the setups of the game were added but for those before these moves, which are left from this
--- setup
-pub record Adding (g : Game) (Old New : List Position → Type 0) (s : Position) (ms : List Moved) : Type 0 where
+-- the setups before the first moves of the game, and the moves that are left from the next setup
+pub record Standing (g : Game) (done : List Position) (s : Position) (ms : List Moved) : Type 0 where
   pub legal : AreLegal s ms
-  pub done : List Position
   pub all : done ++ setups_from s ms ≡ setups_before g
-  pub holds : (known : List Position) → Old known → New (known ++ done)
 
-module _ (g : Game) (Old Mid New : List Position → Type 0) (s : Position) (ms : List Moved) (i : ℕ) where
-  pub Adding-more : (d : Moved) → i < length ms → Adding g Old Mid s (drop i ms) → ((known : List Position) → Mid known → New (known ++ s ∷ [])) → Adding g Old New (after s (get_or ms i d)) (drop (i + 1) ms)
-  Adding-more d lt h adds =
+module _ (g : Game) (done : List Position) (s : Position) (ms : List Moved) (i : ℕ) (h : Standing g done s (drop i ms)) where
+  pub Standing-more : (d : Moved) (new : List Position) → i < length ms → new ≡ done ++ s ∷ [] → Standing g new (after s (get_or ms i d)) (drop (i + 1) ms)
+  Standing-more d new lt is =
       let m = get_or ms i d in
       let cut : drop i ms ≡ m ∷ drop (i + 1) ms = drop_more ms i d lt in
       let legal = subst (AreLegal s) cut h.legal in
-      let all : h.done ++ setups_from s (m ∷ drop (i + 1) ms) ≡ setups_before g = subst (λ xs. h.done ++ setups_from s xs ≡ setups_before g) cut h.all in
+      let all : done ++ setups_from s (m ∷ drop (i + 1) ms) ≡ setups_before g = subst (λ xs. done ++ setups_from s xs ≡ setups_before g) cut h.all in
       record {
         legal = legal.1;
-        done = h.done ++ s ∷ [];
-        all = append_assoc h.done (s ∷ []) (setups_from (after s m) (drop (i + 1) ms)) ∙ all;
-        holds = λ known k. subst New (append_assoc known h.done (s ∷ [])) (adds (known ++ h.done) (h.holds known k));
+        all = ap (λ xs. xs ++ setups_from (after s m) (drop (i + 1) ms)) is ∙ append_assoc done (s ∷ []) (setups_from (after s m) (drop (i + 1) ms)) ∙ all;
       }
 
-  pub Adding-legal : (d : Moved) → i < length ms → Adding g Old Mid s (drop i ms) → Legal s (get_or ms i d)
-  Adding-legal d lt h = (subst (AreLegal s) (drop_more ms i d lt) h.legal).0
+  pub Standing-legal : (d : Moved) → i < length ms → Legal s (get_or ms i d)
+  Standing-legal d lt = (subst (AreLegal s) (drop_more ms i d lt) h.legal).0
 
-  pub Adding-all : length ms ≤ i → Adding g Old Mid s (drop i ms) → (known : List Position) → Old known → Mid (known ++ setups_before g)
-  Adding-all past h known k =
+  pub Standing-all : length ms ≤ i → done ≡ setups_before g
+  Standing-all past =
       let none : setups_from s (drop i ms) ≡ [] = ap (setups_from s) (drop_of_length-le ms past) in
-      let is : h.done ≡ setups_before g = sym (append-nil h.done) ∙ ap (λ xs. h.done ++ xs) (sym none) ∙ h.all in
-      subst (λ xs. Mid (known ++ xs)) is (h.holds known k)
+      sym (append-nil done) ∙ ap (λ xs. done ++ xs) (sym none) ∙ h.all
 
 -- ---- the setups of all games
 

@@ -1,22 +1,22 @@
 //! A book in which the entries of a key are found at once.
 
-ghost use Rattle.std.specs.Prelude.{◌≡◌, ◌==◌, ◌≤◌, true, false, IfOk, filter, length, nat_lt, take_while};
-ghost use Rattle.std.specs.List.Sorted.{IsPartitionPoint};
+ghost use Rattle.std.specs.Prelude.{◌≡◌, ◌≤◌, ◌==◌, IfOk, filter, length, nat_lt, take_while};
 ghost use Rattle.pb_poly.specs.Book.{NeverFall};
-ghost use Rattle.pb_export.specs.Indexing.{AreFirsts, IsBefore};
+ghost use Rattle.pb_export.specs.Indexing.{AreFirsts, AreFirstsUnder, IsBefore, IsFirstUnder};
 
 use pb_poly::{Book, Entry};
 use std::alloc::{AllocError, Global};
 use std::marker::Model;
 
-/// How many fronts of 16 bits a key may have.
-const FRONTS: u64 = 65_536;
+/// How many fronts of 18 bits a key may have. With a million entries, those of a front lie in one or
+/// two lines of the processor's cache.
+const FRONTS: u64 = 262_144;
 
-/// A book, with the place of the first entry for each front that a key may have.
+/// A book, with a place for each front that a key may have, from which on entries are looked for.
 #[derive(Drop)]
 pub(crate) struct IndexedBook {
     book: Book,
-    firsts: Vec<usize>,
+    firsts: Vec<u32>,
 }
 
 impl Model for IndexedBook {
@@ -44,43 +44,70 @@ impl IndexedBook {
         Ok(IndexedBook { book, firsts })
     }
 
-    /// The entries of this key, which stand together.
-    pub(crate) fn under(&self, key: u64) -> &[Entry]
+    /// The entries of this key, which stand together from this place on.
+    pub(crate) fn under(&self, first: usize, key: u64) -> &[Entry]
+        requires { IsFirstUnder self.now key first }
         ensures { result.now ≡ filter (λ e. e.key == key) self.now }
     {
-        let rest = &self.book.entries()[self.first_under(key)..];
+        let rest = &self.book.entries()[first..];
         &rest[..count_under(rest, key)]
+    }
+
+    /// The place of the first entry whose key isn't lower, for each key. What these places read lies
+    /// far apart, and in a short loop the processor waits for several at once.
+    pub(crate) fn firsts_under(
+        &self,
+        alloc: Global,
+        keys: &[u64],
+    ) -> Result<Vec<usize>, AllocError>
+        ensures { IfOk result (λ firsts. AreFirstsUnder self.now keys.now firsts.items) }
+    {
+        let mut firsts = Vec::with_capacity(alloc, keys.len())?;
+        for key in keys {
+            firsts.push(self.first_under(*key))?;
+        }
+        Ok(firsts)
     }
 
     /// The place of the first entry whose key isn't lower.
     fn first_under(&self, key: u64) -> usize
-        ensures point { IsPartitionPoint (λ e. nat_lt e.key key ≡ true) (λ e. nat_lt e.key key ≡ false) self.now result }
-        ensures within { result ≤ length self.now }
+        ensures { IsFirstUnder self.now key result }
     {
         let IndexedBook { book, firsts } = self;
-        let place = firsts[(key >> 48) as usize];
+        let place = firsts[(key >> 46) as usize] as usize;
         place + count_below(&book.entries()[place..], key)
     }
 }
 
-/// The place of the first entry for each front.
-fn firsts_of(alloc: Global, entries: &[Entry]) -> Result<Vec<usize>, AllocError>
+/// The place of the first entry for each front, as far as 32 bits hold it: one that is lower serves
+/// as well.
+fn firsts_of(alloc: Global, entries: &[Entry]) -> Result<Vec<u32>, AllocError>
     requires { NeverFall entries.now }
     ensures { IfOk result (λ firsts. AreFirsts entries.now firsts.items) }
 {
-    let mut firsts = Vec::new(alloc);
+    let mut firsts = Vec::with_capacity(alloc, FRONTS as usize)?;
+    let mut place = 0;
     for front in 0..FRONTS {
-        firsts.push(first_from(entries, front << 48))?;
+        place = first_from(entries, place, front << 46);
+        firsts.push(in_32_bits(place))?;
     }
     Ok(firsts)
 }
 
-/// How many entries have keys below this one.
-fn first_from(entries: &[Entry], floor: u64) -> usize
-    requires { NeverFall entries.now }
+/// The place of the first entry whose key isn't below the floor, where those before a place are.
+fn first_from(entries: &[Entry], place: usize, floor: u64) -> usize
+    requires rises { NeverFall entries.now }
+    requires before { IsBefore entries.now place floor }
     ensures { IsBefore entries.now result floor }
 {
-    entries.partition_point(|entry| entry.key < floor)
+    place + count_below(&entries[place..], floor)
+}
+
+/// The place, or the greatest number of 32 bits where that is lower.
+fn in_32_bits(place: usize) -> u32
+    ensures { result ≤ place }
+{
+    place.min(u32::MAX as usize) as u32
 }
 
 /// How many entries with lower keys these begin with.

@@ -1,9 +1,9 @@
 //! Setups packed in the order of their texts.
 
-ghost use Rattle.std.specs.Prelude.{◌≡◌, ◌≤◌, ◌<◌, ◌++◌, false, Bool, List, MatchOption, None, OnOk, Some, length};
+ghost use Rattle.std.specs.Prelude.{◌≡◌, ◌≤◌, ◌<◌, ◌+◌, ◌++◌, false, List, OnOk, length, vec_capacity, vec_len};
 ghost use Rattle.pb_board.specs.Board.{Place};
 ghost use Rattle.pb_board.specs.Position.{Position};
-ghost use Rattle.pb_board.specs.Text.{castling_text, empty_squares, en_passant_text, piece_letter, rank_text, setup_text};
+ghost use Rattle.pb_board.specs.Text.{castling_text, en_passant_text, piece_letter, rank_text, setup_text};
 ghost use Rattle.pb_board.specs.declared.piece.Piece.{Piece};
 ghost use Rattle.pb_export.specs.Packed.{IsPacked, piece_digit, place_digit, rank_digits, rank_number, rank_numbers, state_text};
 
@@ -11,6 +11,12 @@ use crate::book_moves::put_word;
 use arrayvec::ArrayString;
 use pb_board::{Colour, Kind, Piece, Rights, Setup, Square};
 use std::alloc::AllocError;
+
+/// The digit of an empty square after an empty one.
+const EMPTY_TOO: u32 = 15;
+
+/// How many bytes a placement has at most: eight for each rank, and the slashes between them.
+const MAX_PLACEMENT: usize = 71;
 
 /// A setup in the byte order of its four fields, in half the room of their text.
 #[derive(Clone, Copy, PartialEq, Eq, PartialOrd, Ord)]
@@ -48,7 +54,7 @@ fn digit_of(after_empty: bool, place: Option<Piece>) -> u32
 {
     match place {
         Some(piece) => piece_digit_of(piece),
-        None if after_empty => 15,
+        None if after_empty => EMPTY_TOO,
         None => 0,
     }
 }
@@ -151,10 +157,11 @@ impl PackedSetup {
     pub(crate) fn put_fields(&self, line: &mut Vec<u8>) -> Result<(), AllocError>
         ensures { OnOk result ((s : Position) → length s.board ≡ 64 → IsPacked self.now s → line.new.items ≡ line.old.items ++ setup_text s) }
     {
-        put_rank(line, self.ranks[0])?;
+        line.reserve(MAX_PLACEMENT)?;
+        put_rank(line, self.ranks[0]);
         for row in 1..8 {
-            line.push(b'/')?;
-            put_rank(line, self.ranks[row])?;
+            line.push_reserved(b'/');
+            put_rank(line, self.ranks[row]);
         }
         put_word(line, self.state.as_str().as_bytes())
     }
@@ -178,14 +185,14 @@ fn digits_of(number: u32) -> [u32; 8]
     ]
 }
 
-/// The letter of a digit. None where it is that of an empty square.
+/// The letter of a piece's digit, or the digit with which the text of empty squares begins.
 #[inline(always)]
-fn letter_of(digit: u32) -> Option<u8>
-    ensures { MatchOption result
-        ((after_empty : Bool) (place : Place) → digit ≡ place_digit after_empty place → place ≡ None)
-        (λ letter. (after_empty : Bool) (place : Place) → digit ≡ place_digit after_empty place → (p : Piece) × (place ≡ Some p) × (letter ≡ piece_letter p)) }
+fn symbol_of(digit: u32) -> u8
+    ensures piece { (p : Piece) → digit ≡ piece_digit p → result ≡ piece_letter p }
+    ensures empty { digit ≡ 0 → result ≡ 49 }
+    ensures low { result ≤ 114 }
 {
-    let letter = match digit {
+    match digit {
         1 => b'B',
         2 => b'K',
         3 => b'N',
@@ -198,37 +205,27 @@ fn letter_of(digit: u32) -> Option<u8>
         10 => b'p',
         11 => b'q',
         12 => b'r',
-        _ => return None,
-    };
-    Some(letter)
+        _ => b'1',
+    }
 }
 
-/// Writes the text of a rank.
-fn put_rank(line: &mut Vec<u8>, number: u32) -> Result<(), AllocError>
-    ensures { OnOk result ((squares : List Place) → length squares ≡ 8 → number ≡ rank_number squares → line.new.items ≡ line.old.items ++ rank_text 0 squares) }
+/// Writes the text of a rank, for which there is room.
+fn put_rank(line: &mut Vec<u8>, number: u32)
+    requires { vec_len line.old + 8 ≤ vec_capacity line.old }
+    ensures text { (squares : List Place) → length squares ≡ 8 → number ≡ rank_number squares → line.new.items ≡ line.old.items ++ rank_text 0 squares }
+    ensures len { vec_len line.new ≤ vec_len line.old + 8 }
+    ensures capacity { vec_capacity line.new ≡ vec_capacity line.old }
 {
-    let mut run = 0;
-    for digit in &digits_of(number) {
-        match letter_of(*digit) {
-            Some(letter) => {
-                put_run(line, run)?;
-                run = 0;
-                line.push(letter)?;
-            }
-            None => run += 1,
+    let digits = digits_of(number);
+    // The last symbol is put once it is whole: the digit of empty squares grows with them.
+    let mut last = symbol_of(digits[0]);
+    for file in 1..8 {
+        if digits[file] == EMPTY_TOO {
+            last += 1;
+        } else {
+            line.push_reserved(last);
+            last = symbol_of(digits[file]);
         }
     }
-    put_run(line, run)
-}
-
-/// Writes the digit of a run of empty squares, if there is one.
-#[inline(always)]
-fn put_run(line: &mut Vec<u8>, run: u8) -> Result<(), AllocError>
-    requires { run ≤ 8 }
-    ensures { OnOk result (line.new.items ≡ line.old.items ++ empty_squares run) }
-{
-    if run > 0 {
-        line.push(b'0' + run)?;
-    }
-    Ok(())
+    line.push_reserved(last);
 }

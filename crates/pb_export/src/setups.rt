@@ -1,6 +1,6 @@
 //! The setups that stand before the moves of games and for which a book has moves.
 
-ghost use Rattle.std.specs.Prelude.{◌≡◌, ◌≤◌, ◌<◌, ◌^◌, ◌==◌, ◌++◌, ◌∷◌, [], ℕ, All, AllPairs, Contains, IfOk, IsTrue, filter, List, OnOk, length};
+ghost use Rattle.std.specs.Prelude.{◌≡◌, ◌≤◌, ◌<◌, ◌^◌, ◌==◌, ◌++◌, ◌∷◌, [], ℕ, All, AllPairs, Contains, IfOk, IsTrue, filter, List, OnOk, length, map};
 ghost use Rattle.pb_board.specs.Position.{Position};
 ghost use Rattle.pb_games.specs.Submissions.{IsLegalGame};
 ghost use Rattle.pb_moves.specs.Moved.{Moved};
@@ -36,6 +36,13 @@ pub(crate) struct ListedSetup {
     end: usize,
 }
 
+/// Setups, and the key of each.
+#[derive(Drop)]
+struct KeyedSetups {
+    keys: Vec<u64>,
+    setups: Vec<Setup>,
+}
+
 /// The setups for which a book has moves, and these moves with their weights.
 #[derive(Drop)]
 pub(crate) struct Listing {
@@ -68,7 +75,7 @@ impl Listing {
         };
         for index in 0..ledger.len() {
             let (_, game) = ledger.get(index + 1).unwrap();
-            listing.add_game(book, ledger.table(), game)?;
+            listing.add_game(alloc, book, ledger.table(), game)?;
         }
         put_in_order(&mut listing.setups);
         Ok(listing)
@@ -84,35 +91,39 @@ impl Listing {
     }
 
     /// Adds the setups that stand before the moves of a game.
-    fn add_game(&mut self, book: &IndexedBook, table: &Table, game: &Game) -> Result<(), AllocError>
+    fn add_game(
+        &mut self,
+        alloc: Global,
+        book: &IndexedBook,
+        table: &Table,
+        game: &Game,
+    ) -> Result<(), AllocError>
         requires { IsLegalGame game.now }
         ensures { OnOk result ((known : List Position) → ListsSetups table.now book.now known self.old.moves.items self.old.setups.items
             → ListsSetups table.now book.now (known ++ setups_before game.now) self.new.moves.items self.new.setups.items) }
     {
-        let mut setup = game.start.setup();
-        let mut key = key_of(table, &setup);
-        for m in game.moves.as_slice() {
-            self.add_setup(book, &setup, key)?;
-            match legal_effect(&setup, *m) {
-                Some(effect) => {
-                    key = key_next(table, key, &setup, *m, &effect);
-                    effect.apply(&mut setup, *m);
-                }
-                // The moves of a game that is held are legal, so this never comes.
-                None => return Ok(()),
-            }
+        let KeyedSetups { keys, setups } = keyed_setups(alloc, table, game)?;
+        let firsts = book.firsts_under(alloc, &keys)?;
+        for index in 0..setups.len() {
+            let key = keys[index];
+            self.add_setup(book.under(firsts[index], key), &setups[index], key)?;
         }
         Ok(())
     }
 
-    /// Adds a setup that has this key, where the book has a move for it.
-    fn add_setup(&mut self, book: &IndexedBook, setup: &Setup, key: u64) -> Result<(), AllocError>
-        ensures { OnOk result ((words : List ℕ) (known : List Position) → key ≡ key_by words setup.now → ListsSetups words book.now known self.old.moves.items self.old.setups.items
-            → ListsSetups words book.now (known ++ setup.now ∷ []) self.new.moves.items self.new.setups.items) }
+    /// Adds a setup that has this key, where one of the entries under it is for the setup.
+    fn add_setup(
+        &mut self,
+        entries: &[Entry],
+        setup: &Setup,
+        key: u64,
+    ) -> Result<(), AllocError>
+        ensures { OnOk result ((words : List ℕ) (book : List BookEntry) (known : List Position) → key ≡ key_by words setup.now → entries.now ≡ filter (λ e. e.key == key) book
+            → ListsSetups words book known self.old.moves.items self.old.setups.items
+            → ListsSetups words book (known ++ setup.now ∷ []) self.new.moves.items self.new.setups.items) }
     {
         // The reader tells that the setup meets its rules.
         let _turn = setup.turn();
-        let entries = book.under(key);
         if entries.is_empty() {
             return Ok(());
         }
@@ -177,6 +188,32 @@ impl Listing {
             None => false,
         }
     }
+}
+
+/// The setups that stand before the moves of a game, with their keys.
+fn keyed_setups(alloc: Global, table: &Table, game: &Game) -> Result<KeyedSetups, AllocError>
+    requires { IsLegalGame game.now }
+    ensures setups { IfOk result (λ k. k.setups.items ≡ setups_before game.now) }
+    ensures keys { IfOk result (λ k. k.keys.items ≡ map (key_by table.now) (setups_before game.now)) }
+{
+    let moves = game.moves.as_slice();
+    let mut keys = Vec::with_capacity(alloc, moves.len())?;
+    let mut setups = Vec::with_capacity(alloc, moves.len())?;
+    let mut setup = game.start.setup();
+    let mut key = key_of(table, &setup);
+    for m in moves {
+        keys.push(key)?;
+        setups.push(setup)?;
+        match legal_effect(&setup, *m) {
+            Some(effect) => {
+                key = key_next(table, key, &setup, *m, &effect);
+                effect.apply(&mut setup, *m);
+            }
+            // The moves of a game that is held are legal.
+            None => unreachable!(),
+        }
+    }
+    Ok(KeyedSetups { keys, setups })
 }
 
 /// Adds the moves of entries under the key of a setup.

@@ -1,45 +1,30 @@
-use Rattle.std.proofs.Common.{List, ◌+◌, ◌∙◌, ap, drop, sym, subst}
+use Rattle.std.proofs.Common.{◌≡◌, ℕ, ◌<◌, List, ◌++◌, ◌∷◌, [], ◌+◌, ◌∙◌, ap, append_assoc, arith, get_or, length, map, sym, subst, take}
+use Rattle.std.proofs.lemmas.List.{get_or-map, get_or_read, length-map, take_all, take_more}
 use Rattle.pb_board.specs.Position.{Position}
-use Rattle.pb_moves.specs.Legal.{Legal}
-use Rattle.pb_moves.specs.Moved.{Moved}
-use Rattle.pb_moves.specs.Successor.{after}
 use Rattle.pb_poly.specs.Key.{key}
 use Rattle.pb_export.specs.Setups.{ListsSetups}
-use Rattle.pb_export.proofs.SetupTexts.{Adding, Adding-all, Adding-legal, Adding-more}
 use Rattle.pb_export.proofs.setups.Listing.add_game.Goals as goal
 
-pub loop-m-preserved : goal.loop-m-preserved
-loop-m-preserved c =
+pub loop-index-preserved : goal.loop-index-preserved
+loop-index-preserved c = λ known lists.
     let words = c.args.table.now in
     let book = c.args.book.now in
-    let game = c.args.game.now in
-    let ms = c.as_slice-m-items.result.now in
-    let s = c.loop-m.setup in
-    let i = c.loop-m.m-index in
-    let Old : List Position → Type 0 = λ known. ListsSetups words book known c.args.self.now.moves.items c.args.self.now.setups.items in
-    let Mid : List Position → Type 0 = λ known. ListsSetups words book known c.loop-m.self.moves.items c.loop-m.self.setups.items in
-    let New : List Position → Type 0 = λ known. ListsSetups words book known c.add_setup.new.self.moves.items c.add_setup.new.self.setups.items in
-    let played = c.apply.ensures in
-    let next = sym (played ∙ ap (λ (m : Moved). after s m) c.m-item.is) in
-    record {
-      key_is = c.key_next-key.ensures.value ∙ ap (key words) (sym played);
-      adding = subst (λ (p : Position). Adding game Old New p (drop (i + 1) ms)) next
-          (Adding-more game Old Mid New s ms i c.m-item.result c.loop-m-test.true c.loop-m.invariant.adding (λ known. c.in_ok-add_setup.ensures words known c.loop-m.invariant.key_is));
-    }
-
-pub returns-in-None : goal.returns-in-None
-returns-in-None c =
-    let words = c.args.table.now in
-    let book = c.args.book.now in
-    absurd (subst (λ (m : Moved). ¬ Legal c.loop-m.setup m) c.m-item.is c.in-None.ensures
-    (Adding-legal c.args.game.now (λ known. ListsSetups words book known c.args.self.now.moves.items c.args.self.now.setups.items)
-    (λ known. ListsSetups words book known c.loop-m.self.moves.items c.loop-m.self.setups.items) (λ known. ListsSetups words book known c.loop-m.self.moves.items c.loop-m.self.setups.items)
-    c.loop-m.setup c.as_slice-m-items.result.now c.loop-m.m-index c.m-item.result c.loop-m-test.true c.loop-m.invariant.adding))
+    let setups : List Position = c.in_ok-keys.field-0.setups.items in
+    let keys : List ℕ = c.in_ok-keys.field-0.keys.items in
+    let i = c.loop-index.index in
+    let s = c.index-in-loop-index.result.now in
+    let k = c.index-key.result.now in
+    let lt : i < length setups = omega (arith, c.loop-index-test.true, c.len-index-end.ensures) in
+    let keys_are : keys ≡ map (key words) setups = c.in_ok-keys.ensures.keys ∙ ap (map (key words)) (sym c.in_ok-keys.ensures.setups) in
+    let many : length keys ≡ length setups = ap length keys_are ∙ length-map setups (key words) in
+    let here : s ≡ get_or setups i s = get_or_read setups i s lt c.index-in-loop-index.ensures s in
+    let key_is : k ≡ key words s = get_or_read keys i k (omega (arith, lt, many)) c.index-key.ensures 0 ∙ ap (λ (ks : List ℕ). get_or ks i 0) keys_are ∙ get_or-map (key words) setups i s 0 lt ∙ ap (key words) (sym here) in
+    let more : take (i + 1) setups ≡ take i setups ++ s ∷ [] = take_more setups i s lt ∙ ap (λ (p : Position). take i setups ++ p ∷ []) (sym here) in
+    subst (λ (xs : List Position). ListsSetups words book xs c.add_setup.new.self.moves.items c.add_setup.new.self.setups.items) (append_assoc known (take i setups) (s ∷ []) ∙ ap (λ xs. known ++ xs) (sym more))
+    (c.in_ok-add_setup.ensures words book (known ++ take i setups) key_is c.under.ensures (c.loop-index.invariant known lists))
 
 pub returns : goal.returns
-returns c =
-    let words = c.args.table.now in
-    let book = c.args.book.now in
-    Adding-all c.args.game.now (λ known. ListsSetups words book known c.args.self.now.moves.items c.args.self.now.setups.items)
-    (λ known. ListsSetups words book known c.loop-m.self.moves.items c.loop-m.self.setups.items) (λ known. ListsSetups words book known c.loop-m.self.moves.items c.loop-m.self.setups.items)
-    c.loop-m.setup c.as_slice-m-items.result.now c.loop-m.m-index c.loop-m-test.false c.loop-m.invariant.adding
+returns c = λ known lists.
+    let setups : List Position = c.in_ok-keys.field-0.setups.items in
+    subst (λ (xs : List Position). ListsSetups c.args.table.now c.args.book.now (known ++ xs) c.loop-index.self.moves.items c.loop-index.self.setups.items)
+    (take_all c.loop-index.index setups (omega (arith, c.loop-index-test.false, c.len-index-end.ensures)) ∙ c.in_ok-keys.ensures.setups) (c.loop-index.invariant known lists)

@@ -1,12 +1,10 @@
-use Rattle.std.proofs.Common.{◌≡◌, drop}
-use Rattle.pb_poly.specs.Key.{key}
+use Rattle.std.proofs.Common.{List, ◌++◌, take}
+use Rattle.pb_board.specs.Position.{Position}
 use Rattle.pb_export.specs.Setups.{ListsSetups}
-use Rattle.pb_export.proofs.SetupTexts.{Adding}
 use Rattle.pb_export.proofs.setups.Listing.add_game.Given as goal
 
-abbrev pub invariant-loop-m : goal.invariant-loop-m
-invariant-loop-m l = record {
-  key_is : l.key ≡ key l.table l.setup;
-  adding : Adding l.game (λ known. ListsSetups l.table l.book known l.initial.self.moves.items l.initial.self.setups.items)
-      (λ known. ListsSetups l.table l.book known l.self.moves.items l.self.setups.items) l.setup (drop l.m-index l.m-items);
-}
+-- the first setups have been added
+abbrev pub invariant-loop-index : goal.invariant-loop-index
+invariant-loop-index l =
+    (known : List Position) → ListsSetups l.table l.book known l.initial.self.moves.items l.initial.self.setups.items
+    → ListsSetups l.table l.book (known ++ take l.index l.setups.items) l.self.moves.items l.self.setups.items

@@ -15,23 +15,21 @@ none [] h = refl
 none (x ∷ xs) h = absurd (omega (arith, h))
 
 pub returns-then-is_empty : goal.returns-then-is_empty
-returns-then-is_empty c = λ words known key_is lists.
-    let book = c.args.book.now in
+returns-then-is_empty c = λ words book known key_is under lists.
     let s = c.args.setup.now in
     let moves = c.args.self.now.moves.items in
-    let few : length c.under-entries.result.now ≤ 0 = search rules in
-    let empty : filter (λ (e : Entry). e.key == c.args.key) book ≡ [] = sym c.under-entries.ensures ∙ none c.under-entries.result.now few in
+    let few : length c.args.entries.now ≤ 0 = search rules in
+    let empty : filter (λ (e : Entry). e.key == c.args.key) book ≡ [] = sym under ∙ none c.args.entries.now few in
     no_move words book known moves c.args.self.now.setups.items lists s c.turn-turn.ensures.rules moves (sym (append-nil moves))
     (Found-under words s c.args.key book [] key_is (subst (λ (es : List Entry). Found es words s []) (sym empty) refl))
 
 pub returns-then-is_recent : goal.returns-then-is_recent
-returns-then-is_recent c = λ words known key_is lists.
+returns-then-is_recent c = λ words book known key_is under lists.
     let x = c.is_recent.ensures c.if-is_recent.true in
-    listed_before words c.args.book.now known c.args.self.now.moves.items c.args.self.now.setups.items lists c.args.setup.now c.turn-turn.ensures.rules x.0 c.of-packed.result x.1 x.2 x.3 c.of-packed.ensures
+    listed_before words book known c.args.self.now.moves.items c.args.self.now.setups.items lists c.args.setup.now c.turn-turn.ensures.rules x.0 c.of-packed.result x.1 x.2 x.3 c.of-packed.ensures
 
 pub returns : goal.returns
-returns c = on_ok_weaker c.add_new.result (λ adds words known key_is lists.
-    let book = c.args.book.now in
+returns c = on_ok_weaker c.add_new.result (λ adds words book known key_is under lists.
     let same = subst (λ (ms : List (Moved × ℕ)). ListsSetups words book known ms c.note_recent.new.self.setups.items) (sym c.note_recent.ensures.moves)
     (subst (λ (xs : List ListedSetup). ListsSetups words book known c.args.self.now.moves.items xs) (sym c.note_recent.ensures.setups) lists) in
-    adds words book known c.args.key key_is c.under-entries.ensures same) c.add_new.ensures
+    adds words book known c.args.key key_is under same) c.add_new.ensures
