@@ -1,11 +1,11 @@
--- Ordered rows added up, one for each key and code, and listed.
-use Rattle.std.proofs.Common.{◌≡◌, ℕ, ◌+◌, ◌<◌, ◌≤◌, ◌^◌, zero, suc, Bool, true, false, cond, if◌then◌else◌, Some, None, List, [], ◌∷◌, ◌++◌, length, drop, All, AllPairs, Contains, ◌↔◌, refl, sym, ap, ◌∙◌, inl, inr, arith, subst, add-one}
+-- Ordered rows added up, one for each key and code.
+use Rattle.std.proofs.Common.{◌≡◌, ℕ, ◌+◌, ◌<◌, ◌≤◌, ◌^◌, zero, suc, Bool, true, false, cond, if◌then◌else◌, Some, None, List, [], ◌∷◌, ◌++◌, length, take, drop, set, get_or, All, AllPairs, Contains, ◌↔◌, refl, sym, ap, ◌∙◌, inl, inr, arith, subst}
 use Rattle.std.specs.Prelude.{nat_lt, sum_by}
 use Rattle.std.proofs.lemmas.Bool.{cases_lt}
 use Rattle.std.proofs.lemmas.Bool.Decides.{nat_tests}
 use Rattle.std.proofs.lemmas.List.Sums.{sum_by-cons, sum_by-drop_more, sum_by_push}
 use Rattle.std.proofs.lemmas.List.Elements.{All-push, All-weaker}
-use Rattle.std.proofs.lemmas.List.{drop_all, get_or_default}
+use Rattle.std.proofs.lemmas.List.{drop-drop, drop-set-lt, drop_all, get_or-drop, get_or-set_same, get_or_default, length-set, length-take, nil_from_length, set-get_or, take-set, take_more}
 use Rattle.std.proofs.lemmas.List.Quantifiers.{all_pairs_push}
 use Rattle.pb_points.specs.declared.row.Row.{Row}
 use Rattle.pb_points.specs.Bag.{HoldsSame, IsAddedUp, SumsFit, bag_content, count_of, gain, points_of, times_of, total}
@@ -14,37 +14,28 @@ use Rattle.pb_points.specs.Tally.{Held, held_of, is_pair}
 use Rattle.pb_points.proofs.Pairs.{is_pair_same, is_pair_itself}
 use Rattle.pb_points.proofs.BagRows.{gain_more, new_row, of_other, of_pair, of_sums, one, one_of, points_held, row_at, times_held, with_more}
 
--- rows are a first one and the rest; of the rest, i are added up into `all` and the last one, `sum`
-pub record Adding (rows all rest : List Row) (sum : Row) (i : ℕ) : Type 0 where
-  pub first : Row
-  pub cut : rows ≡ first ∷ rest
+-- rows up to the one at i are added up into `all` and the last one, `sum`
+pub record Adding (rows all : List Row) (sum : Row) (i : ℕ) : Type 0 where
   pub rise : AllPairs IsBelow all
   pub below : All (λ r. IsBelow r sum) all
   pub key : (row_at rows i).key ≡ sum.key
   pub code : (row_at rows i).code ≡ sum.code
-  pub points : (k c : ℕ) → points_of all k c + gain (λ r. r.points) k c sum + points_of (drop i rest) k c ≡ points_of rows k c
-  pub times : (k c : ℕ) → times_of all k c + gain (λ r. r.times) k c sum + times_of (drop i rest) k c ≡ times_of rows k c
-  pub some : (k c : ℕ) → nat_lt 0 (count_of all k c + one k c sum + count_of (drop i rest) k c) ≡ nat_lt 0 (count_of rows k c)
+  pub points : (k c : ℕ) → points_of all k c + gain (λ r. r.points) k c sum + points_of (drop (i + 1) rows) k c ≡ points_of rows k c
+  pub times : (k c : ℕ) → times_of all k c + gain (λ r. r.times) k c sum + times_of (drop (i + 1) rows) k c ≡ times_of rows k c
+  pub some : (k c : ℕ) → nat_lt 0 (count_of all k c + one k c sum + count_of (drop (i + 1) rows) k c) ≡ nat_lt 0 (count_of rows k c)
 
-pub adding_starts : (rows rest : List Row) (first : Row) → rows ≡ first ∷ rest → Adding rows [] rest first 0
-adding_starts rows rest first cut = record {
-  first = first;
-  cut = cut;
+adding_starts : (rows : List Row) → 0 < length rows → Adding rows [] (row_at rows 0) 0
+adding_starts rows some = record {
   rise = λ i j d lt within. absurd (omega arith);
   below = λ j d lt. absurd (omega arith);
-  key = ap (λ l. (row_at l 0).key) cut;
-  code = ap (λ l. (row_at l 0).code) cut;
-  points = λ k c. let e = ap (λ l. points_of l k c) cut in omega (arith, e, sum_by-cons (gain (λ r. r.points) k c) first rest);
-  times = λ k c. let e = ap (λ l. times_of l k c) cut in omega (arith, e, sum_by-cons (gain (λ r. r.times) k c) first rest);
-  some = λ k c. let e = ap (λ l. count_of l k c) cut in ap (nat_lt 0) (sums (one k c first) (count_of rest k c) (count_of rows k c) (sym (e ∙ sum_by-cons (one k c) first rest)));
+  key = refl;
+  code = refl;
+  points = λ k c. omega (arith, sum_by-drop_more (gain (λ r. r.points) k c) rows 0 (new_row 0 0) some);
+  times = λ k c. omega (arith, sum_by-drop_more (gain (λ r. r.times) k c) rows 0 (new_row 0 0) some);
+  some = λ k c.
+      let all : count_of [] k c + one k c (row_at rows 0) + count_of (drop (0 + 1) rows) k c ≡ count_of rows k c = omega (arith, sum_by-drop_more (one k c) rows 0 (new_row 0 0) some) in
+      ap (nat_lt 0) all;
 }
-  where
-    sums : (a b n : ℕ) → a + b ≡ n → 0 + a + b ≡ n
-    sums a b n e = omega arith
-
--- the row that stands at i in the rest stands after i in the rows
-next_row : (rows all rest : List Row) (sum : Row) (i : ℕ) → Adding rows all rest sum i → row_at rows (i + 1) ≡ row_at rest i
-next_row rows all rest sum i a = ap (λ l. row_at l (i + 1)) a.cut ∙ ap (row_at (a.first ∷ rest)) (add-one i)
 
 -- a row of the same key and code goes into the sum
 pub gain_joined : (part : Row → ℕ) (k c : ℕ) (s r : Row) → r.key ≡ s.key → r.code ≡ s.code → part (with_more r.points r.times s) ≡ part s + part r
@@ -59,23 +50,21 @@ one_joined k c s r key code = λ i. cond (is_pair (key i) (code i) k c) 1 0
 some_joined : (a n m : ℕ) → nat_lt 0 (a + n + m) ≡ nat_lt 0 (a + n + (n + m))
 some_joined a n m = grind (arith, nat_tests)
 
-pub adding_joins : (rows all rest : List Row) (sum : Row) (i : ℕ) → Adding rows all rest sum i → i < length rest
-    → (row_at rest i).key ≡ sum.key → (row_at rest i).code ≡ sum.code → Adding rows all rest (with_more (row_at rest i).points (row_at rest i).times sum) (i + 1)
-adding_joins rows all rest sum i a lt key code =
-    let next = next_row rows all rest sum i a in
+adding_joins : (rows all : List Row) (sum : Row) (i : ℕ) → Adding rows all sum i → i + 1 < length rows
+    → (row_at rows (i + 1)).key ≡ sum.key → (row_at rows (i + 1)).code ≡ sum.code → Adding rows all (with_more (row_at rows (i + 1)).points (row_at rows (i + 1)).times sum) (i + 1)
+adding_joins rows all sum i a lt key code =
+    let row = row_at rows (i + 1) in
     record {
-      first = a.first;
-      cut = a.cut;
       rise = a.rise;
       below = a.below;
-      key = ap (λ (r : Row). r.key) next ∙ key;
-      code = ap (λ (r : Row). r.code) next ∙ code;
-      points = λ k c. omega (arith, a.points k c, sum_by-drop_more (gain (λ r. r.points) k c) rest i (new_row 0 0) lt, gain_joined (λ r. r.points) k c sum (row_at rest i) key code refl);
-      times = λ k c. omega (arith, a.times k c, sum_by-drop_more (gain (λ r. r.times) k c) rest i (new_row 0 0) lt, gain_joined (λ r. r.times) k c sum (row_at rest i) key code refl);
+      key = key;
+      code = code;
+      points = λ k c. omega (arith, a.points k c, sum_by-drop_more (gain (λ r. r.points) k c) rows (i + 1) (new_row 0 0) lt, gain_joined (λ r. r.points) k c sum row key code refl);
+      times = λ k c. omega (arith, a.times k c, sum_by-drop_more (gain (λ r. r.times) k c) rows (i + 1) (new_row 0 0) lt, gain_joined (λ r. r.times) k c sum row key code refl);
       some = λ k c.
-          let more : count_of (drop i rest) k c ≡ one k c sum + count_of (drop (i + 1) rest) k c =
-          sum_by-drop_more (one k c) rest i (new_row 0 0) lt ∙ ap (λ n. n + count_of (drop (i + 1) rest) k c) (one_joined k c sum (row_at rest i) key code) in
-          some_joined (count_of all k c) (one k c sum) (count_of (drop (i + 1) rest) k c)
+          let more : count_of (drop (i + 1) rows) k c ≡ one k c sum + count_of (drop (i + 1 + 1) rows) k c =
+          sum_by-drop_more (one k c) rows (i + 1) (new_row 0 0) lt ∙ ap (λ n. n + count_of (drop (i + 1 + 1) rows) k c) (one_joined k c sum row key code) in
+          some_joined (count_of all k c) (one k c sum) (count_of (drop (i + 1 + 1) rows) k c)
           ∙ ap (λ n. nat_lt 0 (count_of all k c + one k c sum + n)) (sym more) ∙ a.some k c;
     }
 
@@ -92,26 +81,22 @@ below_trans r s t p q = elim p [
 below_same : (r s t : Row) → r.key ≡ s.key → r.code ≡ s.code → IsBelow r t → IsBelow s t
 below_same r s t key code p = elim p [ inl a ↦ inl (omega (arith, key)) | inr a ↦ inr (sym key ∙ a.0, omega (arith, a.1, code)) ]
 
-pub adding_pushes : (rows all rest : List Row) (sum : Row) (i : ℕ) → AllPairs IsUpTo rows → Adding rows all rest sum i → i < length rest
-    → ((row_at rest i).key ≡ sum.key → (row_at rest i).code ≡ sum.code → ⊥) → Adding rows (all ++ sum ∷ []) rest (row_at rest i) (i + 1)
-adding_pushes rows all rest sum i ordered a lt other =
-    let next = next_row rows all rest sum i a in
-    let within : i + 1 < length rows = omega (arith, ap length a.cut) in
-    let up : IsUpTo (row_at rows i) (row_at rest i) = subst (IsUpTo (row_at rows i)) next (ordered i (i + 1) (new_row 0 0) (omega arith) within) in
-    let far : IsBelow sum (row_at rest i) = below_same (row_at rows i) sum (row_at rest i) a.key a.code
-    (below_next (row_at rows i) (row_at rest i) up (λ key code. other (key ∙ a.key) (code ∙ a.code))) in
+adding_pushes : (rows all : List Row) (sum : Row) (i : ℕ) → AllPairs IsUpTo rows → Adding rows all sum i → i + 1 < length rows
+    → ((row_at rows (i + 1)).key ≡ sum.key → (row_at rows (i + 1)).code ≡ sum.code → ⊥) → Adding rows (all ++ sum ∷ []) (row_at rows (i + 1)) (i + 1)
+adding_pushes rows all sum i ordered a lt other =
+    let row = row_at rows (i + 1) in
+    let far : IsBelow sum row = below_same (row_at rows i) sum row a.key a.code
+    (below_next (row_at rows i) row (ordered i (i + 1) (new_row 0 0) (omega arith) lt) (λ key code. other (key ∙ a.key) (code ∙ a.code))) in
     record {
-      first = a.first;
-      cut = a.cut;
       rise = all_pairs_push IsBelow all sum a.rise a.below;
-      below = All-push (λ r. IsBelow r (row_at rest i)) all sum (All-weaker (λ r. IsBelow r sum) (λ r. IsBelow r (row_at rest i)) (λ r b. below_trans r sum (row_at rest i) b far) all a.below) far;
-      key = ap (λ (r : Row). r.key) next;
-      code = ap (λ (r : Row). r.code) next;
-      points = λ k c. omega (arith, a.points k c, sum_by-drop_more (gain (λ r. r.points) k c) rest i (new_row 0 0) lt, sum_by_push (gain (λ r. r.points) k c) all sum);
-      times = λ k c. omega (arith, a.times k c, sum_by-drop_more (gain (λ r. r.times) k c) rest i (new_row 0 0) lt, sum_by_push (gain (λ r. r.times) k c) all sum);
+      below = All-push (λ r. IsBelow r row) all sum (All-weaker (λ r. IsBelow r sum) (λ r. IsBelow r row) (λ r b. below_trans r sum row b far) all a.below) far;
+      key = refl;
+      code = refl;
+      points = λ k c. omega (arith, a.points k c, sum_by-drop_more (gain (λ r. r.points) k c) rows (i + 1) (new_row 0 0) lt, sum_by_push (gain (λ r. r.points) k c) all sum);
+      times = λ k c. omega (arith, a.times k c, sum_by-drop_more (gain (λ r. r.times) k c) rows (i + 1) (new_row 0 0) lt, sum_by_push (gain (λ r. r.times) k c) all sum);
       some = λ k c.
-          let more : count_of (all ++ sum ∷ []) k c + one k c (row_at rest i) + count_of (drop (i + 1) rest) k c ≡ count_of all k c + one k c sum + count_of (drop i rest) k c =
-          omega (arith, sum_by-drop_more (one k c) rest i (new_row 0 0) lt, sum_by_push (one k c) all sum) in
+          let more : count_of (all ++ sum ∷ []) k c + one k c row + count_of (drop (i + 1 + 1) rows) k c ≡ count_of all k c + one k c sum + count_of (drop (i + 1) rows) k c =
+          omega (arith, sum_by-drop_more (one k c) rows (i + 1) (new_row 0 0) lt, sum_by_push (one k c) all sum) in
           ap (nat_lt 0) more ∙ a.some k c;
     }
 
@@ -119,29 +104,130 @@ adding_pushes rows all rest sum i ordered a lt other =
 own_gain : (part : Row → ℕ) (s : Row) → gain part s.key s.code s ≡ part s
 own_gain part s = of_pair part s.key s.code s refl refl
 
--- the sums are within bounds
-pub adding_fits : (rows all rest : List Row) (sum : Row) (i : ℕ) → SumsFit rows → Adding rows all rest sum i → i < length rest
-    → (row_at rest i).key ≡ sum.key → (row_at rest i).code ≡ sum.code
-    → (sum.points + (row_at rest i).points ≤ 2 ^ 63) × (sum.times + (row_at rest i).times ≤ 2 ^ 63)
-adding_fits rows all rest sum i fit a lt key code =
-    let joins = adding_joins rows all rest sum i a lt key code in
-    let more : Row = with_more (row_at rest i).points (row_at rest i).times sum in (
-      omega (arith, joins.points sum.key sum.code, own_gain (λ r. r.points) more, fit.points sum.key sum.code),
-      omega (arith, joins.times sum.key sum.code, own_gain (λ r. r.times) more, fit.times sum.key sum.code),
-    )
+-- ---- rows added up at the place where they stand
+
+-- the rows were the `old` ones: of these, n are added up before the place `last` and at it, and the
+-- others stand where they stood
+pub record InPlace (old new : List Row) (last n : ℕ) : Type 0 where
+  pub done : ℕ
+  pub next : n ≡ done + 1
+  pub before : last < n
+  pub within : n ≤ length new
+  pub long : length new ≡ length old
+  pub others : drop n new ≡ drop n old
+  pub adding : Adding old (take last new) (row_at new last) done
+
+pub in_place_starts : (rows : List Row) → 0 < length rows → InPlace rows rows 0 1
+in_place_starts rows some = record {
+  done = 0;
+  next = refl;
+  before = omega arith;
+  within = some;
+  long = refl;
+  others = refl;
+  adding = adding_starts rows some;
+}
+
+-- the row that comes next is that of the old ones
+next_row : (old new : List Row) (last n : ℕ) (p : InPlace old new last n) → row_at old (p.done + 1) ≡ row_at new n
+next_row old new last n p = ap (row_at old) (sym p.next) ∙ sym (front old) ∙ ap (λ l. row_at l 0) (sym p.others) ∙ front new
+  where
+    front : (rows : List Row) → row_at (drop n rows) 0 ≡ row_at rows n
+    front rows = get_or-drop n rows 0 (new_row 0 0) ∙ ap (row_at rows) (omega arith)
+
+-- a row is written among those that are done, and one more is done
+written : (old new : List Row) (last n at : ℕ) (row : Row) → InPlace old new last n → n < length new → at ≤ n
+    → (length (set new at row) ≡ length old) × (drop (n + 1) (set new at row) ≡ drop (n + 1) old)
+written old new last n at row p lt low = (
+  length-set new at row ∙ p.long,
+  drop-set-lt (n + 1) new at row (omega arith) ∙ sym (drop-drop 1 n new) ∙ ap (drop 1) p.others ∙ drop-drop 1 n old,
+)
+
+-- a row is written where it stands
+pub written_again : (rows : List Row) (i : ℕ) (row : Row) → row ≡ get_or rows i row → set rows i row ≡ rows
+written_again rows i row here = ap (set rows i) here ∙ set-get_or rows i row
+
+module _ (old new : List Row) (last n : ℕ) (p : InPlace old new last n) (lt : n < length new) (row sum : Row) (here : row ≡ get_or new n row) (there : sum ≡ get_or new last sum) where
+  next : row_at old (p.done + 1) ≡ row
+  next = next_row old new last n p ∙ sym (here ∙ get_or_default new n row (new_row 0 0) lt)
+
+  last_is : row_at new last ≡ sum
+  last_is = sym (there ∙ get_or_default new last sum (new_row 0 0) (omega (arith, p.before)))
+
+  so_far : Adding old (take last new) sum p.done
+  so_far = subst (λ s. Adding old (take last new) s p.done) last_is p.adding
+
+  within : p.done + 1 < length old
+  within = omega (arith, p.next, p.long)
+
+  joined : row.key ≡ sum.key → row.code ≡ sum.code → Adding old (take last new) (with_more row.points row.times sum) (p.done + 1)
+  joined key code = subst (λ (r : Row). Adding old (take last new) (with_more r.points r.times sum) (p.done + 1)) next
+      (adding_joins old (take last new) sum p.done so_far within (ap (λ (r : Row). r.key) next ∙ key) (ap (λ (r : Row). r.code) next ∙ code))
+
+  -- the row goes into the sum
+  pub in_place_joins : row.key ≡ sum.key → row.code ≡ sum.code → InPlace old (set new last (with_more row.points row.times sum)) last (n + 1)
+  in_place_joins key code =
+      let more = with_more row.points row.times sum in
+      let kept = written old new last n last more p lt (omega (arith, p.before)) in
+      record {
+        done = p.done + 1;
+        next = omega (arith, p.next);
+        before = omega (arith, p.before);
+        within = omega (arith, length-set new last more);
+        long = kept.0;
+        others = kept.1;
+        adding = rw (take-set new last more, get_or-set_same new last more (new_row 0 0) (omega (arith, p.before))) (joined key code);
+      }
+
+  -- the sums are within bounds
+  pub in_place_fits : SumsFit old → row.key ≡ sum.key → row.code ≡ sum.code → (sum.points + row.points ≤ 2 ^ 63) × (sum.times + row.times ≤ 2 ^ 63)
+  in_place_fits fit key code =
+      let joins = joined key code in
+      let more : Row = with_more row.points row.times sum in (
+        omega (arith, joins.points sum.key sum.code, own_gain (λ r. r.points) more, fit.points sum.key sum.code),
+        omega (arith, joins.times sum.key sum.code, own_gain (λ r. r.times) more, fit.times sum.key sum.code),
+      )
+
+  -- the row is the next sum
+  pub in_place_goes_on : AllPairs IsUpTo old → (row.key ≡ sum.key → row.code ≡ sum.code → ⊥) → InPlace old (set new (last + 1) row) (last + 1) (n + 1)
+  in_place_goes_on ordered other =
+      let kept = written old new last n (last + 1) row p lt (omega (arith, p.before)) in
+      let pushes = adding_pushes old (take last new) sum p.done ordered so_far within
+      (λ key code. other (ap (λ (r : Row). r.key) (sym next) ∙ key) (ap (λ (r : Row). r.code) (sym next) ∙ code)) in
+      record {
+        done = p.done + 1;
+        next = omega (arith, p.next);
+        before = omega (arith, p.before);
+        within = omega (arith, length-set new (last + 1) row);
+        long = kept.0;
+        others = kept.1;
+        adding = rw (take-set new (last + 1) row, get_or-set_same new (last + 1) row (new_row 0 0) (omega (arith, p.before)), take_more new last (new_row 0 0) (omega (arith, p.before)), last_is)
+            (subst (λ (r : Row). Adding old (take last new ++ sum ∷ []) r (p.done + 1)) next pushes);
+      }
 
 -- all rows are added up
-pub added_rise : (rows all rest : List Row) (sum : Row) (i : ℕ) → Adding rows all rest sum i → AllPairs IsBelow (all ++ sum ∷ [])
-added_rise rows all rest sum i a = all_pairs_push IsBelow all sum a.rise a.below
-
-pub added_same : (rows all rest : List Row) (sum : Row) (i : ℕ) → Adding rows all rest sum i → length rest ≤ i → HoldsSame rows (all ++ sum ∷ [])
-added_same rows all rest sum i a end k c =
-    let none : drop i rest ≡ [] = drop_all i rest end in
+added_same : (rows all : List Row) (sum : Row) (i : ℕ) → Adding rows all sum i → length rows ≤ i + 1 → HoldsSame rows (all ++ sum ∷ [])
+added_same rows all sum i a end k c =
+    let none : drop (i + 1) rows ≡ [] = drop_all (i + 1) rows end in
     let points : points_of (all ++ sum ∷ []) k c ≡ points_of rows k c = omega (arith, a.points k c, sum_by_push (gain (λ r. r.points) k c) all sum, ap (λ l. points_of l k c) none) in
     let times : times_of (all ++ sum ∷ []) k c ≡ times_of rows k c = omega (arith, a.times k c, sum_by_push (gain (λ r. r.times) k c) all sum, ap (λ l. times_of l k c) none) in
-    let count : count_of (all ++ sum ∷ []) k c ≡ count_of all k c + one k c sum + count_of (drop i rest) k c = omega (arith, sum_by_push (one k c) all sum, ap (λ l. count_of l k c) none) in
+    let count : count_of (all ++ sum ∷ []) k c ≡ count_of all k c + one k c sum + count_of (drop (i + 1) rows) k c = omega (arith, sum_by_push (one k c) all sum, ap (λ l. count_of l k c) none) in
     (λ i. of_sums (count_of (all ++ sum ∷ []) k c) (points i) (times i))
     ∙ ap (λ b. if b then Some (record { points = points_of rows k c; times = times_of rows k c }) else None) (ap (nat_lt 0) count ∙ a.some k c)
+
+pub in_place_ends : (old new : List Row) (last n : ℕ) → length new ≡ length old → (0 < length old → InPlace old new last n) → length new ≤ n → IsAddedUp old (take (last + 1) new)
+in_place_ends old new last n long place end = elim (cases_lt 0 (length old)) [
+  | inl some ↦
+      let p = place some in
+      let all = take last new in
+      let sum = row_at new last in
+      rw (take_more new last (new_row 0 0) (omega (arith, p.before, p.within)))
+      (record { rise = all_pairs_push IsBelow all sum p.adding.rise p.adding.below; same = added_same old all sum p.done p.adding (omega (arith, p.next, p.long)) })
+  | inr none ↦
+      let no_old : old ≡ [] = nil_from_length old (omega arith) in
+      let no_new : take (last + 1) new ≡ [] = nil_from_length (take (last + 1) new) (omega (arith, length-take (last + 1) new)) in
+      rw (no_old, no_new) (record { rise = λ i j d lt within. absurd (omega arith); same = λ k c. refl })
+]
 
 -- ---- the rows listed
 

@@ -1,8 +1,8 @@
 -- Rows that add up.
-use Rattle.std.proofs.Common.{◌≡◌, ℕ, ◌+◌, ◌<◌, Bool, true, false, cond, if◌then◌else◌, Option, Some, None, unwrap_or, List, [], ◌∷◌, ◌++◌, length, get_or, set, take, IsPermutation, refl, sym, ap, ◌∙◌, arith, subst}
+use Rattle.std.proofs.Common.{◌≡◌, ℕ, ◌+◌, ◌<◌, Bool, true, false, cond, if◌then◌else◌, Option, Some, None, unwrap_or, List, [], ◌∷◌, ◌++◌, length, get_or, set, IsPermutation, refl, sym, ap, ◌∙◌, arith, subst}
 use Rattle.std.specs.Prelude.{nat_lt}
 use Rattle.std.proofs.lemmas.Bool.Decides.{nat_tests}
-use Rattle.std.proofs.lemmas.List.Sums.{sum_by-cons, sum_by_push, sum_by-set, get_or-le-sum_by, sum_by_more}
+use Rattle.std.proofs.lemmas.List.Sums.{sum_by-cons, sum_by_push, sum_by-set, get_or-le-sum_by}
 use Rattle.std.proofs.lemmas.List.Sorted.{sum_by-IsPermutation}
 use Rattle.pb_points.specs.declared.row.Row.{Row}
 use Rattle.pb_points.specs.Bag.{HoldsSame, SumsFit, bag_content, count_of, gain, points_of, times_of, total}
@@ -190,10 +190,6 @@ fit_same old new same fit = record {
   points = λ k c. omega (arith, ap points_held (same k c), held_points old k c, held_points new k c, fit.points k c);
   times = λ k c. omega (arith, ap times_held (same k c), held_times old k c, held_times new k c, fit.times k c);
 }
-
--- one row more is summed
-pub total_more : (part : Row → ℕ) (rows : List Row) (i k c : ℕ) → i < length rows → total part (take (i + 1) rows) k c ≡ total part (take i rows) k c + gain part k c (row_at rows i)
-total_more part rows i k c lt = sum_by_more (gain part k c) rows i (new_row 0 0) lt
 
 pub of_pair : (part : Row → ℕ) (k c : ℕ) (r : Row) → r.key ≡ k → r.code ≡ c → gain part k c r ≡ part r
 of_pair part k c r key code = ap (λ b. cond b (part r) 0) ((λ i. is_pair (key i) (code i) k c) ∙ is_pair_itself k c)

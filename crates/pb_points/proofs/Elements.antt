@@ -1,5 +1,5 @@
 -- The elements of lists, and of those that pass a test.
-use Rattle.std.proofs.Common.{◌≡◌, ℕ, zero, suc, ◌<◌, ◌⊎◌, Bool, true, false, cond, List, [], ◌∷◌, length, get_or, All, AllPairs, Contains, refl, sym, subst, inl, inr, arith}
+use Rattle.std.proofs.Common.{◌≡◌, ℕ, zero, suc, ◌<◌, ◌⊎◌, Bool, true, false, ◌&&◌, cond, List, [], ◌∷◌, length, get_or, All, AllPairs, Contains, refl, sym, subst, inl, inr, arith}
 use Rattle.std.specs.List.{filter}
 use Rattle.std.proofs.lemmas.List.Elements.{All-contains, All-contains_itself, All-filter, Contains-get_or}
 
@@ -43,3 +43,12 @@ module _ {X : Type 0} where
         | inl here ↦ (let both : p y ≡ true = subst (λ z. p z ≡ true) (sym here) is in absurd (cc (both, e)))
         | inr later ↦ rest later
       ])
+
+  -- what passes two tests, at once or one after the other
+  pub filter_both : (p q : X → Bool) (xs : List X) → filter (λ x. p x && q x) xs ≡ filter q (filter p xs)
+  filter_both p q [] = refl
+  filter_both p q (x ∷ xs) = by (p x) (q x) refl (filter_both p q xs)
+    where
+      by : (b d : Bool) → q x ≡ d → filter (λ x. p x && q x) xs ≡ filter q (filter p xs) → cond (b && d) (x ∷ filter (λ x. p x && q x) xs) (filter (λ x. p x && q x) xs) ≡ filter q (cond b (x ∷ filter p xs) (filter p xs))
+      by false d e rest = rest
+      by true d e rest = λ i. cond (sym e i) (x ∷ rest i) (rest i)

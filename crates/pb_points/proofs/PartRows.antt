@@ -3,7 +3,7 @@ use Rattle.std.proofs.Common.{◌≡◌, ℕ, ◌+◌, ◌-◌, ◌<◌, ◌≤�
 use Rattle.std.specs.Prelude.{slice_get}
 use Rattle.std.specs.Option.{option_and_then}
 use Rattle.std.proofs.Math.ListN.{get_or-append, length-append}
-use Rattle.std.proofs.lemmas.Bool.{cases_eq, cases_lt, false≢true}
+use Rattle.std.proofs.lemmas.Bool.{cases_eq, cases_lt}
 use Rattle.std.proofs.lemmas.List.{get_or-append_right}
 use Rattle.std.proofs.lemmas.List.Elements.{Contains-append_left, Contains-append_right, Contains-append_cases, Contains-get_or}
 use Rattle.std.proofs.lemmas.Option.{slice_get_past, slice_get_within}
@@ -75,16 +75,6 @@ module _ {T : Type 0} (content : T → Content) where
           own i k c old (ap (slice_get parts) same ∙ was) (is_some (content new k c) (content old k c) kept some)
 
   -- ---- parts without rows
-
-  pub nothing_own : (parts : List T) → HoldNothing content parts → HoldsOwn content parts
-  nothing_own parts none i k c part is some = absurd (false≢true (is_some (content part k c) None (none i k c part is) some))
-
-  pub nothing_held : (parts : List T) → HoldNothing content parts → (k c : ℕ) → parts_content content parts k c ≡ None
-  nothing_held parts none k c = by (slice_get parts (part_of k)) refl
-    where
-      by : (o : Option T) → slice_get parts (part_of k) ≡ o → parts_content content parts k c ≡ None
-      by None e = ap (option_and_then (λ part. content part k c)) e
-      by (Some part) e = ap (option_and_then (λ part. content part k c)) e ∙ none (part_of k) k c part e
 
   pub nothing_pushed : (parts : List T) (t : T) → HoldNothing content parts → ((k c : ℕ) → content t k c ≡ None) → HoldNothing content (parts ++ t ∷ [])
   nothing_pushed [] t none new zero k c part is = ap (λ x. content x k c) (some_is part t (sym is)) ∙ new k c

@@ -118,10 +118,6 @@ module _ (content : Content) (least : ℕ) where
   pub starts : (old : List Entry) → AddsBookOf (stretch_of 0 (Some 0) content) least old old
   starts old = adds_of_nothing (stretch_of 0 (Some 0) content) least old (λ k c. stretched content 0 (Some 0) k c false (none_within k))
 
-  -- after the last
-  pub ends : (old new : List Entry) → AddsBookOf (stretch_of 0 None content) least old new → AddsBookOf content least old new
-  ends old new h = same_content (stretch_of 0 None content) content least old new (λ k c. stretched content 0 None k c true (le-leb 0 k (omega arith))) h
-
   pub goes_on : (first : ℕ) (next : Option ℕ) (old mid new : List Entry) → IfSome next (λ n. first < n) → AddsBookOf (stretch_of 0 (Some first) content) least old mid
       → AddsBookOf (stretch_of first next content) least mid new → AddsBookOf (stretch_of 0 next content) least old new
   goes_on first next old mid new onward a b =

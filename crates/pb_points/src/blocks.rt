@@ -4,10 +4,8 @@
 ghost use Rattle.std.specs.Prelude.{◌≡◌, ◌≤◌, ◌^◌, ◌+◌, ◌++◌, ◌∷◌, [], if◌then◌else◌, is_ok, false, true, vec_capacity, vec_len, IfOk, MatchOption, OnOk};
 ghost use Rattle.pb_points.specs.Bag.{IsRowAt, count_of, points_of as points, times_of as times};
 ghost use Rattle.pb_points.specs.Blocks.{AddsThere, IsRowIn, rows_in, rows_of};
-ghost use Rattle.pb_points.specs.Rows.{from, pointed};
 
 use crate::narrow::NarrowRow;
-use crate::row::Row;
 use std::alloc::{AllocError, Global};
 use std::mem;
 
@@ -72,16 +70,6 @@ pub(crate) fn push_row(alloc: Global, blocks: &mut Blocks, row: NarrowRow) -> Re
     put_block(blocks, block)
 }
 
-/// Puts the rows of a block at the end of a list.
-fn add_rows(rows: &mut Vec<Row>, block: &[NarrowRow]) -> Result<(), AllocError>
-    ensures { OnOk result (rows.new.items ≡ rows.old.items ++ block.now) }
-{
-    for row in block {
-        rows.push(row.row())?;
-    }
-    Ok(())
-}
-
 /// Counts the rows, as if each block but the last were full.
 fn room_of(blocks: &Blocks) -> usize {
     blocks
@@ -92,43 +80,14 @@ fn room_of(blocks: &Blocks) -> usize {
 }
 
 /// Lists the rows of all blocks.
-pub(crate) fn listed(alloc: Global, blocks: &Blocks) -> Result<Vec<Row>, AllocError>
+pub(crate) fn listed(alloc: Global, blocks: &Blocks) -> Result<Vec<NarrowRow>, AllocError>
     ensures { IfOk result (λ v. v.items ≡ rows_of blocks.now) }
 {
     let mut rows = Vec::with_capacity(alloc, room_of(blocks))?;
     for block in &blocks.full {
-        add_rows(&mut rows, block)?;
+        rows.extend_from_slice(block)?;
     }
-    add_rows(&mut rows, &blocks.last)?;
-    Ok(rows)
-}
-
-/// Puts the rows of a block that have points, of the keys from `first` on, at the end of a list.
-fn add_pointed(rows: &mut Vec<NarrowRow>, block: &[NarrowRow], first: u64) -> Result<(), AllocError>
-    ensures { OnOk result (rows.new.items ≡ rows.old.items ++ pointed (from first block.now)) }
-{
-    for narrow in block {
-        let row = narrow.row();
-        if row.key >= first && row.points > 0 {
-            rows.push(*narrow)?;
-        }
-    }
-    Ok(())
-}
-
-/// Lists the rows of all blocks that have points, of the keys from `first` on.
-pub(crate) fn pointed_rows(
-    alloc: Global,
-    blocks: &Blocks,
-    first: u64,
-) -> Result<Vec<NarrowRow>, AllocError>
-    ensures { IfOk result (λ v. v.items ≡ pointed (from first (rows_of blocks.now))) }
-{
-    let mut rows = Vec::with_capacity(alloc, room_of(blocks))?;
-    for block in &blocks.full {
-        add_pointed(&mut rows, block, first)?;
-    }
-    add_pointed(&mut rows, &blocks.last, first)?;
+    rows.extend_from_slice(&blocks.last)?;
     Ok(rows)
 }
 

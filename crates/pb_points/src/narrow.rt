@@ -1,10 +1,11 @@
 //! Rows of few points and plies, which take half the memory.
 
-ghost use Rattle.std.specs.Prelude.{◌≡◌, ◌+◌, ◌≤◌, ◌^◌, ◌&&◌, ◌⊎◌, MatchOption, if◌then◌else◌, nat_lt};
+ghost use Rattle.std.specs.Prelude.{◌≡◌, ◌+◌, ◌++◌, ◌≤◌, ◌^◌, ◌&&◌, ◌⊎◌, MatchOption, OnOk, if◌then◌else◌, nat_lt};
 ghost use Rattle.pb_points.specs.ListTally.{with_more};
 ghost use Rattle.pb_points.specs.Rows.{is_row};
 
 use crate::row::Row;
+use std::alloc::AllocError;
 use std::marker::Model;
 
 /// A row of few points and plies, as nearly all rows are: it takes 16 bytes, and not 32.
@@ -90,4 +91,14 @@ impl NarrowRow {
         self.times += 1;
         true
     }
+}
+
+/// Puts the rows at the end of a list of rows, widened.
+pub(crate) fn add_rows(rows: &mut Vec<Row>, narrow: &[NarrowRow]) -> Result<(), AllocError>
+    ensures { OnOk result (rows.new.items ≡ rows.old.items ++ narrow.now) }
+{
+    for row in narrow {
+        rows.push(row.row())?;
+    }
+    Ok(())
 }

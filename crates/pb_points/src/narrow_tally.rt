@@ -2,22 +2,21 @@
 
 ghost use Rattle.std.specs.Prelude.{◌≡◌, ◌<◌, ◌≤◌, ◌+◌, AllPairs, length, vec_capacity, vec_len, IfOk, OnOk};
 ghost use Rattle.std.proofs.Props.{props};
-ghost use Rattle.pb_points.specs.Bag.{HoldsSame, SumsFit, bag_content};
+ghost use Rattle.pb_points.specs.Bag.{HoldsSame, IsAddedUp, SumsFit, bag_content};
 ghost use Rattle.pb_points.specs.Blocks.{rows_of};
 ghost use Rattle.pb_points.specs.NarrowTally.{IsParted, Keeps, all_of};
 ghost use Rattle.pb_points.specs.Rows.{IsBelow};
 ghost use Rattle.pb_points.specs.Tally.{MakesRow, held};
 
 use crate::blocks::{
-    Blocks, add_ply, held_in_blocks, listed, new_block, no_blocks, pointed_rows, push_row,
-    put_block,
+    Blocks, add_ply, held_in_blocks, listed, new_block, no_blocks, push_row, put_block,
 };
-use crate::book::push_book;
+use crate::book::push_stretch;
 use crate::list_tally::held_in;
-use crate::narrow::NarrowRow;
-use crate::row::{Row, keep_frequent, keep_from};
+use crate::narrow::{NarrowRow, add_rows};
+use crate::row::{Row, sort_rows};
 use crate::spread::order_rows;
-use crate::sums::sums_of;
+use crate::sums::add_up;
 use crate::sums_book::push_sums;
 use crate::tally::Tally;
 use crate::wide::{add_wide, reserve_wide};
@@ -74,12 +73,16 @@ fn parted(alloc: Global, sums: &[Row]) -> Result<Parts, AllocError>
 }
 
 impl NarrowTally {
-    /// Lists the narrow rows and the wide ones.
-    fn all(&self, alloc: Global) -> Result<Vec<Row>, AllocError>
-        ensures { IfOk result (λ v. v.items ≡ all_of self.now.rows self.now.wide) }
+    /// Adds up the narrow rows and the wide ones: lists one for each key and code, in order.
+    fn sums(&self, alloc: Global) -> Result<Vec<Row>, AllocError>
+        ensures { IfOk result (λ v. IsAddedUp (all_of self.now.rows self.now.wide) v.items) }
     {
-        let mut rows = listed(alloc, &self.rows)?;
+        let narrow = listed(alloc, &self.rows)?;
+        let mut rows = Vec::with_capacity(alloc, narrow.len() + self.wide.len())?;
+        add_rows(&mut rows, &narrow)?;
         rows.extend_from_slice(&self.wide)?;
+        sort_rows(&mut rows);
+        add_up(&mut rows);
         Ok(rows)
     }
 
@@ -122,7 +125,7 @@ impl NarrowTally {
         ensures { HoldsSame (all_of self.old.rows self.old.wide)
             (all_of self.new.rows self.new.wide) }
     {
-        let sums = sums_of(self.alloc, self.all(self.alloc)?)?;
+        let sums = self.sums(self.alloc)?;
         let mut parts = parted(self.alloc, &sums)?;
         let many = parts.rows.full.len();
         parts.rows.full.reserve(many)?;
@@ -190,7 +193,7 @@ impl Tally for NarrowTally {
     }
 
     fn rows(&self, alloc: Global) -> Result<Vec<Row>, AllocError> {
-        sums_of(alloc, self.all(alloc)?)
+        self.sums(alloc)
     }
 
     fn add_stretch(
@@ -201,15 +204,16 @@ impl Tally for NarrowTally {
         entries: &mut Vec<Entry>,
     ) -> Result<Option<u64>, AllocError> {
         if least > 1 || !self.wide.is_empty() {
-            let mut rows = self.rows(alloc)?;
-            keep_from(&mut rows, first);
-            keep_frequent(&mut rows, least);
-            push_book(entries, &rows)?;
+            push_stretch(entries, self.rows(alloc)?, least, first)?;
             return Ok(None);
         }
         // A move without points has no entry, and one with points was played: so rows without
         // points are left out, and no occurrence is counted.
-        let mut rows = pointed_rows(alloc, &self.rows, first)?;
+        let mut rows = listed(alloc, &self.rows)?;
+        rows.retain(|narrow| {
+            let row = narrow.row();
+            row.key >= first && row.points > 0
+        });
         order_rows(alloc, &mut rows)?;
         push_sums(alloc, entries, &rows)?;
         Ok(None)

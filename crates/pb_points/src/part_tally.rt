@@ -4,6 +4,7 @@ ghost use Rattle.std.specs.Prelude.{◌≡◌, ◌<◌, ◌≤◌, ◌^◌, ◌=
 ghost use Rattle.pb_points.specs.PartTally.{HoldsOwn, HoldNothing, parts_content, part_of as part};
 ghost use Rattle.pb_points.specs.TallyBook.{is_within};
 
+use crate::narrow_tally::NarrowTally;
 use crate::row::Row;
 use crate::tally::Tally;
 use pb_poly::Entry;
@@ -21,6 +22,11 @@ pub struct PartTally<T: Tally> {
     ghost whole: { 0 < length parts.items → length parts.items ≡ 1024 },
     ghost own: { HoldsOwn T.content parts.items },
 }
+
+/// The tally that the program uses: lists that grow at their ends, one for each value of the upper
+/// ten bits of a key. A ply costs a push and a look at the end of a short list, and what the order
+/// of the rows needs is done once, when they are listed.
+pub type MapTally = PartTally<NarrowTally>;
 
 /// The part of a key.
 fn part_of(key: u64) -> usize

@@ -1,7 +1,7 @@
 //! Rows of points, and their order.
 
-ghost use Rattle.std.specs.Prelude.{◌≡◌, AllPairs, IsPermutation};
-ghost use Rattle.pb_points.specs.Rows.{IsUpTo, frequent, from};
+ghost use Rattle.std.specs.Prelude.{AllPairs, IsPermutation};
+ghost use Rattle.pb_points.specs.Rows.{IsUpTo};
 
 /// The points of one move under one key, and how often it was played.
 #[derive(Clone, Copy, Debug, PartialEq, Eq)]
@@ -22,18 +22,4 @@ pub(crate) fn sort_rows(rows: &mut Vec<Row>)
     ensures permutation { IsPermutation rows.old.items rows.new.items }
 {
     rows.sort_unstable_by_key(|row| (row.key, row.code));
-}
-
-/// Drops the rows whose keys are below this one.
-pub(crate) fn keep_from(rows: &mut Vec<Row>, first: u64)
-    ensures { rows.new.items ≡ from first rows.old.items }
-{
-    rows.retain(|row| row.key >= first);
-}
-
-/// Drops the rows of moves that were played fewer times than this.
-pub(crate) fn keep_frequent(rows: &mut Vec<Row>, least: u64)
-    ensures { rows.new.items ≡ frequent least rows.old.items }
-{
-    rows.retain(|row| row.times >= least);
 }

@@ -2,14 +2,15 @@
 //! of one key alone are listed.
 
 ghost use Rattle.std.specs.Prelude.{◌∷◌, [], AllPairs, OnErr, OnOk};
-ghost use Rattle.pb_points.specs.Bag.{IsAddedUp, SumsFit};
+ghost use Rattle.pb_points.specs.Bag.{SumsFit};
 ghost use Rattle.pb_points.specs.Group.{AddsBook, AddsBookOfSums, IsBagGroup};
 ghost use Rattle.pb_points.specs.Rows.{IsUpTo};
 ghost use Rattle.pb_points.specs.TallyBook.{AddsSome};
 
 use crate::book::{entry_of, push_group};
-use crate::narrow::NarrowRow;
+use crate::narrow::{NarrowRow, add_rows};
 use crate::row::Row;
+use crate::sums::add_up;
 use pb_poly::Entry;
 use std::alloc::{AllocError, Global};
 
@@ -52,7 +53,9 @@ fn push_key(
     if group.len() == 1 {
         return push_only(entries, &group[0].row());
     }
-    add_up(sums, group)?;
+    sums.clear();
+    add_rows(sums, group)?;
+    add_up(sums);
     push_group(entries, sums)
 }
 
@@ -64,30 +67,5 @@ fn push_only(entries: &mut Vec<Entry>, row: &Row) -> Result<(), AllocError>
     if let Some(entry) = entry_of(row, row.points) {
         entries.push(entry)?;
     }
-    Ok(())
-}
-
-/// Makes of the list one row for each key and code of the ordered rows.
-fn add_up(sums: &mut Vec<Row>, rows: &[NarrowRow]) -> Result<(), AllocError>
-    requires ordered { AllPairs IsUpTo rows.now }
-    requires fit { SumsFit rows.now }
-    ensures { OnOk result (IsAddedUp rows.now sums.new.items) }
-{
-    sums.clear();
-    let Some((first, rest)) = rows.split_first() else {
-        return Ok(());
-    };
-    let mut sum = first.row();
-    for row in rest {
-        let row = row.row();
-        if row.key == sum.key && row.code == sum.code {
-            sum.points += row.points;
-            sum.times += row.times;
-        } else {
-            sums.push(sum)?;
-            sum = row;
-        }
-    }
-    sums.push(sum)?;
     Ok(())
 }

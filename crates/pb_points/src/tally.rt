@@ -2,8 +2,8 @@
 
 ghost use Rattle.std.specs.Prelude.{◌≡◌, ℕ, ◌<◌, ◌↔◌, Option, None, Some, IsSome, IfOk, IfSome, OnOk, OnErr, AllPairs, Contains};
 
-use crate::book::push_book;
-use crate::row::{Row, keep_frequent, keep_from};
+use crate::book::push_stretch;
+use crate::row::Row;
 use pb_poly::Entry;
 use std::alloc::{AllocError, Global};
 
@@ -75,10 +75,7 @@ pub trait Tally: Drop {
         ensures onward { IfOk result (λ next. IfSome next (λ n. first < n)) }
         ensures err { OnErr result (AddsSome entries.old.items entries.new.items) }
     {
-        let mut rows = self.rows(alloc)?;
-        keep_from(&mut rows, first);
-        keep_frequent(&mut rows, least);
-        push_book(entries, &rows)?;
+        push_stretch(entries, self.rows(alloc)?, least, first)?;
         Ok(None)
     }
 

@@ -14,7 +14,7 @@ invariant_of-self-clause-keeps c =
     let last = c.in_ok-parts.parts.rows.last in
     let wide = c.in_ok-parts.parts.wide.items in
     let parted : IsParted sums rows wide = subst (λ l. IsParted l rows wide) c.deref.ensures.value c.in_ok-parts.ensures in
-    let added : HoldsSame (rows_of was.rows ++ was.wide.items) sums = subst (λ l. HoldsSame l sums) c.in_ok-all.ensures c.in_ok-sums.ensures.same in
+    let added : HoldsSame (rows_of was.rows ++ was.wide.items) sums = c.in_ok-sums.ensures.same in
     let full : rows_in c.reserve.new.self.items ++ last.items ≡ rows = ap (λ l. rows_in l ++ last.items) c.in_ok-reserve.ensures.items in
     let kept : Keeps rows wide = keeps_parted (rows_of was.rows) was.wide.items sums rows wide was.keeps added parted in
     subst (λ l. Keeps l c.reserve_wide.new.wide.items) (sym full) (subst (Keeps rows) (sym c.reserve_wide.ensures.items) kept)
