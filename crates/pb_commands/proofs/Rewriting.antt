@@ -11,7 +11,7 @@ use Rattle.pb_epd.specs.Epd.{EpdRecord, EpdText, IsEpd}
 use Rattle.pb_epd.specs.Refusal.{IsFirstDueEpd}
 use Rattle.pb_epd.proofs.Texts.{text_memory}
 use Rattle.pb_io.specs.Source.{SourceState}
-use Rattle.pb_io.specs.Fault.{fault_of}
+use Rattle.pb_io.specs.Fault.{fault_of_read}
 use Rattle.pb_io.specs.Sink.{AwaitsFlush, Flush, Put, SinkState}
 use Rattle.pb_io.specs.LineTask.{AtLine, ReadUntil, StopsAtLast, TakesAll, TakesStream, TakesUntil, chunk_len}
 use Rattle.pb_io.specs.declared.fault.ReadFault.{ReadFault}
@@ -25,7 +25,7 @@ use Rattle.pb_io.specs.declared.fault.Fault.{Fault}
 use Rattle.pb_io.specs.declared.fault.Fault.TheVariants.{Read, Write, Endless, Memory}
 use Rattle.pb_commands.specs.EpdShown.{EpdShown, LineShown, epd_verdict}
 use Rattle.pb_commands.specs.EpdRun.{PutsButLast, PutsLines, RewritesStream, RewritesUntil}
-use Rattle.pb_commands.specs.Judged.{HandedOnOnce, PutsFront, PutsText, Verdict}
+use Rattle.pb_commands.specs.Judged.{HandedOnOnce, PutsFrontOfText, PutsText, Verdict}
 use Rattle.pb_commands.specs.Rewriter.{PutsOrStops, RewritesLine}
 use Rattle.pb_commands.proofs.Judging.{until_as}
 
@@ -178,7 +178,7 @@ module _ {K : Type 0} (state : K → SinkState) where
     last_number : (e : Fault) (h : StopsAtLast (RewritesLine state) s ls e t) → next_count h.2.lines ≡ s.lines + 1 + length h.0
     last_number e h = let run = run_before e h in omega (arith, run.counted, fewer h.0 h.1 h.3)
 
-    cut_of : StopsAtLast (RewritesLine state) s ls Write t → PutsFront (EpdShown (s.lines + 1) ls) (state s.sink.now) (state t.sink.now)
+    cut_of : StopsAtLast (RewritesLine state) s ls Write t → PutsFrontOfText (EpdShown (s.lines + 1) ls) (state s.sink.now) (state t.sink.now)
     cut_of h =
         let run = run_before Write h in
         let last = h.5.shows in
@@ -218,7 +218,7 @@ module _ {K : Type 0} (state : K → SinkState) where
     text_from_one : (ls : List (List ℕ)) (mid : SinkState) (answer : Bool) → PutsText (EpdShown (s.lines + 1) ls) sink mid answer → PutsText (EpdShown 1 ls) sink mid answer
     text_from_one ls mid answer h = record { out = h.out; judged = from_one ls (shows answer h.out) h.judged; put = h.put }
 
-    front_from_one : (ls : List (List ℕ)) → PutsFront (EpdShown (s.lines + 1) ls) sink sink' → PutsFront (EpdShown 1 ls) sink sink'
+    front_from_one : (ls : List (List ℕ)) → PutsFrontOfText (EpdShown (s.lines + 1) ls) sink sink' → PutsFrontOfText (EpdShown 1 ls) sink sink'
     front_from_one ls h = record {
       answer = h.answer;
       out = h.out;
@@ -265,20 +265,20 @@ module _ {K : Type 0} (state : K → SinkState) where
     never : (e : Fault) → ((ls : List (List ℕ)) → length ls ≤ fills * chunk_len → Stopped e ls → ⊥) → AtLine fills old new (Stopped e) → ⊥
     never e impossible h = elim (AtLine-weaker fills old new (Stopped e) (λ ls. ⊥) impossible h) [ inl x ↦ x.done | inr x ↦ x.done ]
 
-    read_until : (fault : ReadFault) → ReadUntil (RewritesLine state) fills old new s t fault → RewritesUntil fills old new sink sink' (fault_of fault)
+    read_until : (fault : ReadFault) → ReadUntil (RewritesLine state) fills old new s t fault → RewritesUntil fills old new sink sink' (fault_of_read fault)
     read_until read.Memory h = inl (h.0, ap (λ (x : Rewriter K). state x.sink.now) h.1)
     read_until read.Read h = AtFault-weaker fills old new (λ ls. TakesAll (RewritesLine state) s ls t) (PutsLines sink sink') all_lines h
     read_until read.Endless h = AtNoEnd-weaker fills old new (λ ls. TakesAll (RewritesLine state) s ls t) (PutsLines sink sink') all_lines h
 
     stopped_until : (e : Fault) → AtLine fills old new (Stopped e) → RewritesUntil fills old new sink sink' e
     stopped_until Write h =
-        AtLine-weaker fills old new (Stopped Write) (λ ls. PutsFront (EpdShown 1 ls) sink sink') (λ ls some x. front_from_one ls (cut_of s t ls (few ls some) x)) h
+        AtLine-weaker fills old new (Stopped Write) (λ ls. PutsFrontOfText (EpdShown 1 ls) sink sink') (λ ls some x. front_from_one ls (cut_of s t ls (few ls some) x)) h
     stopped_until Memory h = inr (AtLine-weaker fills old new (Stopped Memory) (PutsButLast sink sink') but_last h)
     stopped_until Read h = absurd (never Read (λ ls some x. never_stops s t ls (few ls some) Read x (λ is. cc is) x.5.shows.0) h)
     stopped_until Endless h = absurd (never Endless (λ ls some x. never_stops s t ls (few ls some) Endless x (λ is. cc is) x.5.shows.0) h)
 
     abbrev Until : Fault → Type 0
-    Until = TakesUntil (λ fault e. e ≡ fault_of fault) (RewritesLine state) fills old new s t
+    Until = TakesUntil (λ fault e. e ≡ fault_of_read fault) (RewritesLine state) fills old new s t
 
     pub until_of : (e : Fault) → Until e → RewritesUntil fills old new sink sink' e
     until_of e (inl h) = subst (RewritesUntil fills old new sink sink') (sym h.1) (read_until h.0 h.2)

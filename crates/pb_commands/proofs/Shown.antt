@@ -4,7 +4,7 @@ use Rattle.std.specs.Prelude.{Err, IfErr, IfOk, Ok, OnOk, Result}
 use Rattle.pb_board.specs.LineEnd.{with_end}
 use Rattle.pb_io.specs.Sink.{SinkState}
 use Rattle.pb_commands.specs.FenShown.{FenShown}
-use Rattle.pb_commands.specs.Judged.{HandedOnOnce, PutsFront, PutsOrEnds, PutsText}
+use Rattle.pb_commands.specs.Judged.{HandedOnOnce, PutsFrontOfText, PutsOrEnds, PutsText}
 use Rattle.pb_io.specs.declared.fault.Fault.{Fault}
 use Rattle.pb_io.specs.declared.fault.Fault.TheVariants.{Read, Write, Endless, Memory}
 use Rattle.pb_commands.proofs.Judging.{hands_on, puts_text}
@@ -32,7 +32,7 @@ module _ (fen : List ℕ) (words : List (List ℕ)) (sink sink' : SinkState) whe
   pub handed_on : (result : Result Bool Fault) → Ends result → OnOk result (HandedOnOnce sink sink')
   handed_on = hands_on (FenShown fen words) sink sink'
 
-  pub ended : (result : Result Bool Fault) → Ends result → IfErr result (λ fault. (fault ≡ Write) × PutsFront (FenShown fen words) sink sink')
+  pub ended : (result : Result Bool Fault) → Ends result → IfErr result (λ fault. (fault ≡ Write) × PutsFrontOfText (FenShown fen words) sink sink')
   ended (Ok answer) h = tt
   ended (Err Write) h = (refl, h)
   ended (Err Read) h = absurd (never Read h.0)

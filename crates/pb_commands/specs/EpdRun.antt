@@ -7,7 +7,7 @@ use Rattle.pb_io.specs.LineTask.{AtEnd, AtFault, AtLine, AtNoEnd}
 use Rattle.pb_io.specs.declared.fault.Fault.{Fault}
 use Rattle.pb_io.specs.declared.fault.Fault.TheVariants.{Read, Write, Endless, Memory}
 use Rattle.pb_commands.specs.EpdShown.{EpdShown, LineShown}
-use Rattle.pb_commands.specs.Judged.{HandedOnOnce, PutsFront, PutsText}
+use Rattle.pb_commands.specs.Judged.{HandedOnOnce, PutsFrontOfText, PutsText}
 
 -- what these lines give was put, and not handed on
 pub record PutsLines (sink sink' : SinkState) (ls : List (List ℕ)) : Type 0 where
@@ -27,7 +27,7 @@ pub record PutsButLast (sink sink' : SinkState) (ls : List (List ℕ)) : Type 0 
 abbrev pub RewritesUntil : ℕ → SourceState → SourceState → SinkState → SinkState → Fault → Type 0
 RewritesUntil fills source source' sink sink' Read = AtFault fills source source' (PutsLines sink sink')
 RewritesUntil fills source source' sink sink' Endless = AtNoEnd fills source source' (PutsLines sink sink')
-RewritesUntil fills source source' sink sink' Write = AtLine fills source source' (λ ls. PutsFront (EpdShown 1 ls) sink sink')
+RewritesUntil fills source source' sink sink' Write = AtLine fills source source' (λ ls. PutsFrontOfText (EpdShown 1 ls) sink sink')
 RewritesUntil fills source source' sink sink' Memory =
     ((source' ≡ source) × (sink' ≡ sink)) ⊎ AtLine fills source source' (PutsButLast sink sink')
 

@@ -27,7 +27,7 @@ pub record PutsText (judges : Verdict → Type 0) (sink sink' : SinkState) (answ
   pub put : Appends sink.bytes sink'.bytes out
 
 -- the sink failed, and a front of the text was put, and none of it handed on
-pub record PutsFront (judges : Verdict → Type 0) (sink sink' : SinkState) : Type 0 where
+pub record PutsFrontOfText (judges : Verdict → Type 0) (sink sink' : SinkState) : Type 0 where
   pub answer : Bool
   pub out : List ℕ
   pub judged : judges (Ok (answer, out))
@@ -38,7 +38,7 @@ pub record PutsFront (judges : Verdict → Type 0) (sink sink' : SinkState) : Ty
 
 -- at a fault that isn't the sink's nothing was put, nor was the sink touched
 abbrev pub PutsUntil : (Verdict → Type 0) → SinkState → SinkState → Fault → Type 0
-PutsUntil judges sink sink' Write = PutsFront judges sink sink'
+PutsUntil judges sink sink' Write = PutsFrontOfText judges sink sink'
 PutsUntil judges sink sink' fault = judges (Err fault) × (sink' ≡ sink)
 
 -- how a command ends: the whole text was put and then handed on, or a fault came

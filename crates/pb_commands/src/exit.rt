@@ -5,7 +5,7 @@ ghost use Rattle.pb_commands.specs.Status.{status_of};
 use pb_io::Fault;
 
 /// The status of a command that stopped before its end.
-pub const STOPPED: u8 = 3;
+pub const FAULT_STATUS: u8 = 3;
 
 /// Gives the exit status for what a command answers: 0 where the input was taken, 1 where it was
 /// refused, 3 where the command met a fault.
@@ -15,6 +15,6 @@ pub fn status(answer: Result<bool, Fault>) -> u8
     match answer {
         Ok(true) => 0,
         Ok(false) => 1,
-        Err(_) => STOPPED,
+        Err(_) => FAULT_STATUS,
     }
 }

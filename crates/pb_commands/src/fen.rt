@@ -10,7 +10,7 @@ ghost use Rattle.pb_moves.specs.Moved.{Moved};
 ghost use Rattle.pb_moves.specs.Played.{IsSpelled, Spells};
 ghost use Rattle.pb_commands.specs.Line.{texts};
 ghost use Rattle.pb_commands.specs.FenShown.{FenShown, Unplayable};
-ghost use Rattle.pb_commands.specs.Judged.{HandedOnOnce, PutsFront, PutsOrEnds, PutsText};
+ghost use Rattle.pb_commands.specs.Judged.{HandedOnOnce, PutsFrontOfText, PutsOrEnds, PutsText};
 ghost use Rattle.pb_commands.specs.Plays.{PlaysWords};
 ghost use Rattle.pb_commands.specs.Refused.{refusal_verdict};
 ghost use Rattle.pb_io.specs.declared.fault.Fault.TheVariants.{Write};
@@ -50,7 +50,7 @@ pub fn run_fen<K: Sink>(
     ensures shown { IfOk result (PutsText (FenShown fen.now (texts moves.now)) (K.state sink.old) (K.state sink.new)) }
     ensures handed_on { OnOk result (HandedOnOnce (K.state sink.old) (K.state sink.new)) }
     ensures fault { IfErr result (λ fault. (fault ≡ Write)
-        × PutsFront (FenShown fen.now (texts moves.now)) (K.state sink.old) (K.state sink.new)) }
+        × PutsFrontOfText (FenShown fen.now (texts moves.now)) (K.state sink.old) (K.state sink.new)) }
 {
     show_record(fen, moves, sink)
 }

@@ -6,7 +6,6 @@
 mod epd;
 mod exit;
 mod fen;
-mod hexadecimal;
 pub mod laws;
 mod output;
 mod probe;
@@ -14,7 +13,7 @@ mod refusal;
 mod show;
 
 pub use epd::run_epd;
-pub use exit::{STOPPED, status};
+pub use exit::{FAULT_STATUS, status};
 pub use fen::run_fen;
 pub use pb_io::Fault;
 pub use pb_poly::{TableFault, take_table};

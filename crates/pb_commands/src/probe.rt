@@ -27,17 +27,17 @@ use std::alloc::Global;
 /// Where both sources tell bytes, don't fail and end within the fills, what is put is what those
 /// bytes show, a fault of the sink and want of memory aside: that follows from the clause, by the
 /// law `probe_ends`.
-pub fn run_probe<T: Source, B: Source, K: Sink>(
+pub fn run_probe<TableIn: Source, BookIn: Source, Out: Sink>(
     alloc: Global,
-    table_source: &mut T,
-    book_source: &mut B,
+    table_source: &mut TableIn,
+    book_source: &mut BookIn,
     fen: &[u8],
-    sink: &mut K,
+    sink: &mut Out,
     fills: u32,
 ) -> Result<bool, Fault>
-    ensures { PutsOrEnds (ProbesSources fills (T.state table_source.old) (T.state table_source.new)
-        (B.state book_source.old) (B.state book_source.new) fen.now)
-        (K.state sink.old) (K.state sink.new) result }
+    ensures { PutsOrEnds (ProbesSources fills (TableIn.state table_source.old) (TableIn.state table_source.new)
+        (BookIn.state book_source.old) (BookIn.state book_source.new) fen.now)
+        (Out.state sink.old) (Out.state sink.new) result }
 {
     let table = match take_table(alloc, table_source, fills) {
         Ok(table) => table,

@@ -1,13 +1,16 @@
 //! The command `show`: a line for each entry of a book.
+ghost use Rattle.std.specs.Prelude.{◌≡◌, ℕ, ◌*◌, length};
+ghost use Rattle.std.specs.Int.{bytes_high_first};
 ghost use Rattle.pb_poly.specs.Reading.{ReadsBook};
 ghost use Rattle.pb_io.specs.Sink.{Put};
 ghost use Rattle.pb_commands.specs.BookShown.{BookShown, entry_line, show_text};
+ghost use Rattle.pb_commands.specs.Hexadecimal.{hexadecimal};
 ghost use Rattle.pb_commands.specs.Judged.{PutsOrEnds};
 ghost use Rattle.pb_commands.specs.Shows.{Shows};
 
-use crate::hexadecimal::digits_of;
 use crate::output::put_line;
 use crate::refusal::refuse_book;
+use hex::encode_to_slice;
 use pb_io::{Failed, Fault, Sink, Source};
 use pb_poly::{Entry, read_book};
 use std::alloc::Global;
@@ -60,4 +63,14 @@ fn put_entry<K: Sink>(sink: &mut K, entry: &Entry) -> Result<(), Failed>
     let weight: [u8; 4] = digits_of(&entry.weight.to_be_bytes());
     let learn: [u8; 8] = digits_of(&entry.learn.to_be_bytes());
     put_line(sink, &[&key, b" ", &code, b" ", &weight, b" ", &learn])
+}
+
+/// Writes the number that has these bytes, the highest first, in digits: two of each byte.
+fn digits_of<const DIGITS: usize>(bytes: &[u8]) -> [u8; DIGITS]
+    requires { DIGITS ≡ 2 * length bytes.now }
+    ensures { (number : ℕ) → bytes.now ≡ bytes_high_first (length bytes.now) number → result ≡ hexadecimal DIGITS number }
+{
+    let mut digits = [0; DIGITS];
+    encode_to_slice(bytes, &mut digits).unwrap();
+    digits
 }

@@ -1,9 +1,9 @@
 //! EPD records.
 
-ghost use Rattle.std.specs.Prelude.{◌≡◌, ◌≤◌, ◌↔◌, ◌⊎◌, [], List, length, Contains, IfErr, OnOk, OnErr, MatchOption};
+ghost use Rattle.std.specs.Prelude.{◌≡◌, ◌↔◌, [], IsTrue, List, length, Contains, MatchOption};
 ghost use Rattle.pb_epd.specs.Epd.{EpdRecord, IsEpd, operations_of};
-ghost use Rattle.pb_epd.specs.Operation.{Operation, IsOperation};
-ghost use Rattle.pb_epd.specs.Refusal.{IsFirstDuePut};
+ghost use Rattle.pb_epd.specs.Operation.{IsOperation};
+ghost use Rattle.pb_epd.specs.Refusal.{Puts};
 ghost use Rattle.pb_epd.specs.declared.operand.Operand.{Operand};
 
 use crate::operand::Operand;
@@ -70,6 +70,13 @@ impl Epd {
         self.operations.len()
     }
 
+    /// Whether there is no operation.
+    pub fn is_empty(&self) -> bool
+        ensures { IsTrue result ↔ (self.now.operations ≡ []) }
+    {
+        self.operations.is_empty()
+    }
+
     /// The operands of an opcode. None exactly where the record has no operation with it.
     pub fn get(&self, opcode: &[u8]) -> Option<&[Operand]>
         ensures { MatchOption result
@@ -86,12 +93,7 @@ impl Epd {
     /// of an opcode that the record has, and at last of memory. The record then stays as it was,
     /// and the operands are dropped.
     pub fn put(&mut self, opcode: &[u8], operands: Vec<Operand>) -> Result<(), PutError>
-        ensures rules { OnOk result (IsEpd self.new) }
-        ensures setup { self.new.setup ≡ self.old.setup }
-        ensures added { OnOk result ((o : Operation) → Contains self.new.operations o ↔ (Contains self.old.operations o ⊎ (o ≡ (opcode.now, operands.items)))) }
-        ensures fresh { OnOk result (IsOperation (opcode.now, operands.items) × ((old : List Operand) → ¬ Contains self.old.operations (opcode.now, old))) }
-        ensures same { OnErr result (self.new ≡ self.old) }
-        ensures refused { IfErr result (λ x. IsFirstDuePut x self.old opcode.now operands.items) }
+        ensures { Puts self.old self.new (opcode.now, operands.items) result }
     {
         if !is_opcode(opcode) {
             return Err(PutError::Opcode);
@@ -106,11 +108,7 @@ impl Epd {
     pub(crate) fn add(&mut self, opcode: &[u8], operands: Vec<Operand>) -> Result<(), PutError>
         requires { IsOperation (opcode.now, operands.items) }
         ensures rules { IsEpd self.new }
-        ensures setup { self.new.setup ≡ self.old.setup }
-        ensures added { OnOk result ((o : Operation) → Contains self.new.operations o ↔ (Contains self.old.operations o ⊎ (o ≡ (opcode.now, operands.items)))) }
-        ensures fresh { OnOk result ((old : List Operand) → ¬ Contains self.old.operations (opcode.now, old)) }
-        ensures same { OnErr result (self.new ≡ self.old) }
-        ensures refused { IfErr result (λ x. IsFirstDuePut x self.old opcode.now operands.items) }
+        ensures puts { Puts self.old self.new (opcode.now, operands.items) result }
     {
         if self.operations.contains_key(opcode) {
             return Err(PutError::Repeated);

@@ -7,7 +7,6 @@ mod fields;
 mod game;
 mod header;
 mod id;
-mod initial;
 mod judge;
 pub mod laws;
 mod line;

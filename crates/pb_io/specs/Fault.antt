@@ -6,10 +6,10 @@ use Rattle.pb_io.specs.declared.fault.ReadFault.{ReadFault}
 use Rattle.pb_io.specs.declared.fault.ReadFault.TheVariants.{Read, Endless, Memory}
 
 -- what a fault of reading is to a run
-abbrev pub fault_of : ReadFault → Fault
-fault_of Read = fault.Read
-fault_of Endless = fault.Endless
-fault_of Memory = fault.Memory
+abbrev pub fault_of_read : ReadFault → Fault
+fault_of_read Read = fault.Read
+fault_of_read Endless = fault.Endless
+fault_of_read Memory = fault.Memory
 
 abbrev pub fault_word : Fault → List ℕ
 fault_word fault.Read = codes "read"

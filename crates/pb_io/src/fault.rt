@@ -1,7 +1,7 @@
 //! Why a run over bytes stopped.
 
 ghost use Rattle.std.specs.Prelude.{◌≡◌};
-ghost use Rattle.pb_io.specs.Fault.{fault_of};
+ghost use Rattle.pb_io.specs.Fault.{fault_of_read};
 ghost use Rattle.pb_io.specs.declared.fault.Fault.TheVariants as fault;
 
 use crate::source::Failed;
@@ -56,7 +56,7 @@ impl Fault {
 }
 
 impl From<ReadFault> for Fault {
-    ghost from_gives = { λ read gives. gives ≡ fault_of read };
+    ghost from_gives = { λ read gives. gives ≡ fault_of_read read };
 
     fn from(read: ReadFault) -> Fault {
         match read {

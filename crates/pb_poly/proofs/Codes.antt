@@ -54,9 +54,9 @@ own_castling s m k c (castles d own x) king is =
     let P : Castling → Type 0 = λ z. (castling_row z).colour ≡ s.turn in
     subst P same (sym x.side)
 
-king_kind : (p : Piece) (side : Colour) (place : Place) → place ≡ Some p → is_piece (king_of side) place ≡ true → p.kind ≡ King
-king_kind p side place stands king =
-    let there : place ≡ Some (king_of side) = is_piece-is (king_of side) place king in
+king_kind : (p : Piece) (side : Colour) (content : Place) → content ≡ Some p → is_piece (king_of side) content ≡ true → p.kind ≡ King
+king_kind p side content stands king =
+    let there : content ≡ Some (king_of side) = is_piece-is (king_of side) content king in
     let K : Piece → Kind = λ z. z.kind in
     let same : p ≡ king_of side = cc in
     ap K same

@@ -1,4 +1,4 @@
--- What a move does to the sum over the places of a board's pieces.
+-- What a move does to the sum over the offsets of a board's pieces.
 use Rattle.std.proofs.Common.{◌≡◌, ◌≢◌, ℕ, zero, suc, ◌+◌, ◌%◌, ◌<◌, Some, None, List, [], ◌∷◌, ◌++◌, length, refl, sym, ap, ◌∙◌, arith}
 use Rattle.pb_board.specs.declared.piece.Piece.{Piece}
 use Rattle.pb_board.specs.declared.setup.MovedPiece.{MovedPiece}
@@ -14,8 +14,8 @@ use Rattle.pb_moves.specs.Moved.{Moved, IsMove}
 use Rattle.pb_moves.specs.Successor.{after}
 use Rattle.pb_moves.proofs.MovedPiece.{put}
 use Rattle.pb_moves.proofs.Differing.{at_put_other, at_put_same, holds_on_board, length_put, same_lists}
-use Rattle.pb_poly.specs.Key.{piece_place, piece_places}
-use Rattle.pb_poly.specs.KeyChange.{going_places, moved_places, square_places}
+use Rattle.pb_poly.specs.Key.{piece_offset, piece_offsets}
+use Rattle.pb_poly.specs.KeyChange.{going_offsets, moved_offsets, square_offsets}
 use Rattle.pb_poly.proofs.Among.{total}
 
 pub total-append : (f : ℕ → ℕ) (xs ys : List ℕ) → total f (xs ++ ys) ≡ total f xs + total f ys
@@ -24,20 +24,20 @@ total-append f (x ∷ xs) ys = let more = total-append f xs ys in omega (arith, 
 
 -- ---- the board
 
-first_square : (f : ℕ → ℕ) (place : Place) (board : Board) (n : ℕ) → total f (piece_places (place ∷ board) n) ≡ total f (square_places place n) + total f (piece_places board (n + 1))
+first_square : (f : ℕ → ℕ) (content : Place) (board : Board) (n : ℕ) → total f (piece_offsets (content ∷ board) n) ≡ total f (square_offsets content n) + total f (piece_offsets board (n + 1))
 first_square f None board n = omega arith
 first_square f (Some p) board n = omega arith
 
 -- where two boards differ on one square at most, their sums differ by what stands there
 one_square : (f : ℕ → ℕ) (old new : Board) (n q : ℕ) → length old ≡ length new → ((r : ℕ) → r ≢ q → at old r ≡ at new r)
-    → total f (piece_places old n) + total f (square_places (at new q) (n + q)) ≡ total f (piece_places new n) + total f (square_places (at old q) (n + q))
+    → total f (piece_offsets old n) + total f (square_offsets (at new q) (n + q)) ≡ total f (piece_offsets new n) + total f (square_offsets (at old q) (n + q))
 one_square f [] [] n q same others = refl
 one_square f [] (y ∷ new) n q same others = absurd (omega arith)
 one_square f (x ∷ old) [] n q same others = absurd (omega arith)
 one_square f (x ∷ old) (y ∷ new) n zero same others =
     let rest : old ≡ new = same_lists old new None (omega arith) (λ r. others (suc r) (omega arith)) in
-    let tail = ap (λ (b : Board). total f (piece_places b (n + 1))) rest in
-    let here : (p : Place) → total f (square_places p (n + 0)) ≡ total f (square_places p n) = λ p. ap (λ m. total f (square_places p m)) (omega arith) in
+    let tail = ap (λ (b : Board). total f (piece_offsets b (n + 1))) rest in
+    let here : (p : Place) → total f (square_offsets p (n + 0)) ≡ total f (square_offsets p n) = λ p. ap (λ m. total f (square_offsets p m)) (omega arith) in
     let left = first_square f x old n in
     let right = first_square f y new n in
     let a = here x in
@@ -45,9 +45,9 @@ one_square f (x ∷ old) (y ∷ new) n zero same others =
     omega (arith, tail, left, right, a, b)
 one_square f (x ∷ old) (y ∷ new) n (suc q) same others =
     let head : x ≡ y = others 0 (omega arith) in
-    let first = ap (λ (p : Place). total f (square_places p n)) head in
+    let first = ap (λ (p : Place). total f (square_offsets p n)) head in
     let more = one_square f old new (n + 1) q (omega arith) (λ r other. others (suc r) (omega arith)) in
-    let there : (p : Place) → total f (square_places p (n + suc q)) ≡ total f (square_places p (n + 1 + q)) = λ p. ap (λ m. total f (square_places p m)) (omega arith) in
+    let there : (p : Place) → total f (square_offsets p (n + suc q)) ≡ total f (square_offsets p (n + 1 + q)) = λ p. ap (λ m. total f (square_offsets p m)) (omega arith) in
     let left = first_square f x old n in
     let right = first_square f y new n in
     let a = there (at old q) in
@@ -57,12 +57,12 @@ one_square f (x ∷ old) (y ∷ new) n (suc q) same others =
 -- ---- a piece that goes
 
 -- the sum over what stands on one square, where that is known
-known : (f : ℕ → ℕ) (board : Board) (q : ℕ) (place : Place) → at board q ≡ place → total f (square_places (at board q) (0 + q)) ≡ total f (square_places place q)
-known f board q place is = ap (λ n. total f (square_places (at board q) n)) (omega arith) ∙ ap (λ (p : Place). total f (square_places p q)) is
+known : (f : ℕ → ℕ) (board : Board) (q : ℕ) (content : Place) → at board q ≡ content → total f (square_offsets (at board q) (0 + q)) ≡ total f (square_offsets content q)
+known f board q content is = ap (λ n. total f (square_offsets (at board q) n)) (omega arith) ∙ ap (λ (p : Place). total f (square_offsets p q)) is
 
 -- the sum follows, as far as it is odd or even
 pub going_changes : (f : ℕ → ℕ) (board : Board) (leaving : Piece) (c : MovedPiece) → length board ≡ 64 → Holds board c.from leaving → c.to < 64 → c.from ≢ c.to
-    → (total f (piece_places board 0) + total f (going_places board leaving c)) % 2 ≡ total f (piece_places (with_moved board c) 0) % 2
+    → (total f (piece_offsets board 0) + total f (going_offsets board leaving c)) % 2 ≡ total f (piece_offsets (with_moved board c) 0) % 2
 going_changes f board leaving c full stands on_to moves =
     let left = put board c.from None in
     let new = with_moved board c in
@@ -75,11 +75,11 @@ going_changes f board leaving c full stands on_to moves =
     let gone = known f left c.from None (at_put_same board c.from None full on_from) in
     let taken = known f left c.to (at board c.to) (at_put_other board c.from c.to None (λ e. moves (sym e))) in
     let come = known f new c.to (Some c.piece) (at_put_same left c.to (Some c.piece) full_left on_to) in
-    let parts = total-append f (square_places (at board c.to) c.to) (piece_place c.piece c.to ∷ []) in
+    let parts = total-append f (square_offsets (at board c.to) c.to) (piece_offset c.piece c.to ∷ []) in
     omega (arith, first, second, stood, gone, taken, come, parts)
 
 kind_changes : (f : ℕ → ℕ) (s : Position) (m : Moved) (piece : Piece) (kind : MoveKind) → length s.board ≡ 64 → IsMove m → Holds s.board m.from piece → Fits kind s
-    → (total f (piece_places s.board 0) + total f (moved_places s.board m piece kind)) % 2 ≡ total f (piece_places (board_by kind m s.board) 0) % 2
+    → (total f (piece_offsets s.board 0) + total f (moved_offsets s.board m piece kind)) % 2 ≡ total f (piece_offsets (board_by kind m s.board) 0) % 2
 kind_changes f s m piece (Normal arriving) full is stands fits =
     let c : MovedPiece = record { from = m.from; to = m.to; piece = arriving } in going_changes f s.board piece c full stands is.to_on_board is.moves
 kind_changes f s m piece (Double first second) full is stands fits =
@@ -88,12 +88,12 @@ kind_changes f s m piece (Double first second) full is stands fits =
     let full_between = length_put (put s.board first.from None) first.to (Some first.piece) full_left in
     let one = going_changes f s.board first.piece first full fits.0.stands fits.0.on_board fits.0.moves in
     let two = going_changes f between second.piece second full_between fits.1.stands fits.1.on_board fits.1.moves in
-    let free = ap (λ (p : Place). total f (square_places p second.to ++ (piece_place second.piece second.to ∷ []))) fits.2 in
-    let parts = total-append f (going_places s.board first.piece first) (piece_place second.piece second.from ∷ piece_place second.piece second.to ∷ []) in
+    let free = ap (λ (p : Place). total f (square_offsets p second.to ++ (piece_offset second.piece second.to ∷ []))) fits.2 in
+    let parts = total-append f (going_offsets s.board first.piece first) (piece_offset second.piece second.from ∷ piece_offset second.piece second.to ∷ []) in
     omega (arith, one, two, free, parts)
 
 pub moved_changes : (f : ℕ → ℕ) (s : Position) (m : Moved) (e : Effect) → IsSetup s → IsEffect s m e
-    → (total f (piece_places s.board 0) + total f (moved_places s.board m e.piece e.kind)) % 2 ≡ total f (piece_places (after s m).board 0) % 2
+    → (total f (piece_offsets s.board 0) + total f (moved_offsets s.board m e.piece e.kind)) % 2 ≡ total f (piece_offsets (after s m).board 0) % 2
 moved_changes f s m e ok is =
-    let T : Position → ℕ = λ t. total f (piece_places t.board 0) % 2 in
+    let T : Position → ℕ = λ t. total f (piece_offsets t.board 0) % 2 in
     kind_changes f s m e.piece e.kind ok.places is.moves.is_move is.stands is.fits ∙ sym (ap T is.after)

@@ -14,9 +14,9 @@ use Rattle.pb_moves.specs.Successor.{after}
 use Rattle.pb_moves.proofs.Differing.{off_two}
 use Rattle.pb_moves.proofs.Passing.{crossed}
 use Rattle.pb_moves.proofs.Effects.{effect_case, effect_ep}
-use Rattle.pb_poly.specs.Key.{has_capturer, en_passant_places, place_if}
-use Rattle.pb_poly.specs.KeyChange.{stepped_places}
-use Rattle.pb_poly.proofs.Places.{passing_places}
+use Rattle.pb_poly.specs.Key.{has_capturer, en_passant_offsets, offset_if}
+use Rattle.pb_poly.specs.KeyChange.{stepped_offsets}
+use Rattle.pb_poly.proofs.Offsets.{passing_offsets}
 
 -- what a piece leaves as it was
 others_two : (s : Position) (m : Moved) (p : Piece) (new : Board) → Goes s m p [] new → (q : ℕ) → q ≢ m.from → q ≢ m.to → at new q ≡ at s.board q
@@ -43,31 +43,31 @@ capturers_stay s m p new side x =
     let above : at new (m.to + 1) ≡ at s.board (m.to + 1) = others_two s m p new x.after (m.to + 1) aside.2 aside.3 in
     rw (below, above) refl
 
-double_places : (s t : Position) (m : Moved) (p : Piece) → t.turn ≡ opponent s.turn → t.ep ≡ Some ((m.from + m.to) / 2) → PawnDouble s m p t.board
-    → en_passant_places t ≡ place_if (has_capturer s.board (opponent s.turn) m.to) (772 + file m.to)
-double_places s t m p turn ep x =
+double_offsets : (s t : Position) (m : Moved) (p : Piece) → t.turn ≡ opponent s.turn → t.ep ≡ Some ((m.from + m.to) / 2) → PawnDouble s m p t.board
+    → en_passant_offsets t ≡ offset_if (has_capturer s.board (opponent s.turn) m.to) (772 + file m.to)
+double_offsets s t m p turn ep x =
     let halfway = (m.from + m.to) / 2 in
     let is = step_beyond s.turn m.from m.to x.same_file x.forward in
-    ap (λ (o : Option ℕ). passing_places t o) ep
-    ∙ ap (λ (side : Colour). place_if (has_capturer t.board side (beyond side halfway)) (772 + file halfway)) turn
-    ∙ ap (λ q. place_if (has_capturer t.board (opponent s.turn) q) (772 + file halfway)) is.0
-    ∙ ap (λ flag. place_if flag (772 + file halfway)) (capturers_stay s m p t.board (opponent s.turn) x)
-    ∙ ap (λ f. place_if (has_capturer s.board (opponent s.turn) m.to) (772 + f)) is.1
+    ap (λ (o : Option ℕ). passing_offsets t o) ep
+    ∙ ap (λ (side : Colour). offset_if (has_capturer t.board side (beyond side halfway)) (772 + file halfway)) turn
+    ∙ ap (λ q. offset_if (has_capturer t.board (opponent s.turn) q) (772 + file halfway)) is.0
+    ∙ ap (λ flag. offset_if flag (772 + file halfway)) (capturers_stay s m p t.board (opponent s.turn) x)
+    ∙ ap (λ f. offset_if (has_capturer s.board (opponent s.turn) m.to) (772 + f)) is.1
 
 -- no other move crosses a square
 by_case : (s t : Position) (m : Moved) (p : Piece) (ep : Option ℕ) (x : CaseOf s m p t.board) → t.turn ≡ opponent s.turn → t.ep ≡ ep → ep ≡ crossed s m p t.board x
-    → en_passant_places t ≡ stepped_places s m.to ep
+    → en_passant_offsets t ≡ stepped_offsets s m.to ep
 by_case s t m p ep (pawn_double x) turn is by =
     let aside = step_beyond s.turn m.from m.to x.same_file x.forward in
-    double_places s t m p turn (is ∙ by) x
-    ∙ ap (λ n. place_if (has_capturer s.board (opponent s.turn) m.to) (772 + n)) (sym aside.1) ∙ sym (ap (λ (o : Option ℕ). stepped_places s m.to o) by)
-by_case s t m p ep (piece_move x) turn is by = ap (λ (o : Option ℕ). passing_places t o) (is ∙ by) ∙ sym (ap (λ (o : Option ℕ). stepped_places s m.to o) by)
-by_case s t m p ep (pawn_step x) turn is by = ap (λ (o : Option ℕ). passing_places t o) (is ∙ by) ∙ sym (ap (λ (o : Option ℕ). stepped_places s m.to o) by)
-by_case s t m p ep (pawn_capture x) turn is by = ap (λ (o : Option ℕ). passing_places t o) (is ∙ by) ∙ sym (ap (λ (o : Option ℕ). stepped_places s m.to o) by)
-by_case s t m p ep (en_passant x) turn is by = ap (λ (o : Option ℕ). passing_places t o) (is ∙ by) ∙ sym (ap (λ (o : Option ℕ). stepped_places s m.to o) by)
-by_case s t m p ep (castles c x) turn is by = ap (λ (o : Option ℕ). passing_places t o) (is ∙ by) ∙ sym (ap (λ (o : Option ℕ). stepped_places s m.to o) by)
+    double_offsets s t m p turn (is ∙ by) x
+    ∙ ap (λ n. offset_if (has_capturer s.board (opponent s.turn) m.to) (772 + n)) (sym aside.1) ∙ sym (ap (λ (o : Option ℕ). stepped_offsets s m.to o) by)
+by_case s t m p ep (piece_move x) turn is by = ap (λ (o : Option ℕ). passing_offsets t o) (is ∙ by) ∙ sym (ap (λ (o : Option ℕ). stepped_offsets s m.to o) by)
+by_case s t m p ep (pawn_step x) turn is by = ap (λ (o : Option ℕ). passing_offsets t o) (is ∙ by) ∙ sym (ap (λ (o : Option ℕ). stepped_offsets s m.to o) by)
+by_case s t m p ep (pawn_capture x) turn is by = ap (λ (o : Option ℕ). passing_offsets t o) (is ∙ by) ∙ sym (ap (λ (o : Option ℕ). stepped_offsets s m.to o) by)
+by_case s t m p ep (en_passant x) turn is by = ap (λ (o : Option ℕ). passing_offsets t o) (is ∙ by) ∙ sym (ap (λ (o : Option ℕ). stepped_offsets s m.to o) by)
+by_case s t m p ep (castles c x) turn is by = ap (λ (o : Option ℕ). passing_offsets t o) (is ∙ by) ∙ sym (ap (λ (o : Option ℕ). stepped_offsets s m.to o) by)
 
-pub steps_after : (s : Position) (m : Moved) (e : Effect) → IsSetup s → IsEffect s m e → en_passant_places (after s m) ≡ stepped_places s m.to e.ep
+pub steps_after : (s : Position) (m : Moved) (e : Effect) → IsSetup s → IsEffect s m e → en_passant_offsets (after s m) ≡ stepped_offsets s m.to e.ep
 steps_after s m e ok is =
     let x = effect_case s m e ok is in
     by_case s (after s m) m e.piece e.ep x (ap (λ (t : Position). t.turn) is.after) (ap (λ (t : Position). t.ep) is.after) (effect_ep s m e is (after s m).board x)

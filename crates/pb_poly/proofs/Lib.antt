@@ -9,9 +9,9 @@ pub mod KeyChanges
 pub mod KeyMoves
 pub mod KeyPlies
 pub mod Keys
+pub mod Offsets
 pub mod OnlyTables
 pub mod Parity
-pub mod Places
 pub mod ReadRows
 pub mod Runs
 pub mod TableFills

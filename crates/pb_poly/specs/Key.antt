@@ -1,4 +1,4 @@
--- Keys of setups: the places of the table that a setup has, and the parity of the random numbers
+-- Keys of setups: the offsets into the table that a setup has, and the parity of the random numbers
 -- there.
 use Rattle.std.specs.Prelude.{◌≡◌, ◌≢◌, ◌↔◌, ℕ, ◌+◌, ◌-◌, ◌*◌, ◌%◌, ◌^◌, ◌<◌, Bool, not, ◌&&◌, ◌||◌, ◌==◌, Some, None, List, [], ◌∷◌, ◌++◌, if◌then◌else◌, IsTrue, AllPairs, Contains, fold, sum_by, slice_index, bit_xor}
 use Rattle.std.specs.Int.{bit_at}
@@ -17,11 +17,11 @@ use Rattle.pb_moves.specs.Attacks.{files_apart}
 use Rattle.pb_poly.specs.Table.{IsTable}
 
 -- where the numbers of castling rights begin, those of en passant files, and that of White to move
-abbrev pub castling_offset : ℕ
-castling_offset = 768
+abbrev pub castling_start : ℕ
+castling_start = 768
 
-abbrev pub en_passant_offset : ℕ
-en_passant_offset = 772
+abbrev pub en_passant_start : ℕ
+en_passant_start = 772
 
 abbrev pub turn_offset : ℕ
 turn_offset = 780
@@ -30,42 +30,42 @@ turn_offset = 780
 abbrev pub number_of : Piece → ℕ
 number_of p = 2 * kind_number p.kind + (1 - colour_number p.colour)
 
-abbrev pub piece_place : Piece → ℕ → ℕ
-piece_place p square = 64 * number_of p + square
+abbrev pub piece_offset : Piece → ℕ → ℕ
+piece_offset p square = 64 * number_of p + square
 
-abbrev pub castling_place : Castling → ℕ
-castling_place c = castling_offset + (castling_row c).number
+abbrev pub castling_offset : Castling → ℕ
+castling_offset c = castling_start + (castling_row c).number
 
 -- ---- the key as a function of the table and the setup
 
--- the places of what stands on the squares from this one on
-abbrev pub piece_places : Board → ℕ → List ℕ
-piece_places [] square = []
-piece_places (None ∷ board) square = piece_places board (square + 1)
-piece_places (Some p ∷ board) square = piece_place p square ∷ piece_places board (square + 1)
+-- the offsets of what stands on the squares from this one on
+abbrev pub piece_offsets : Board → ℕ → List ℕ
+piece_offsets [] square = []
+piece_offsets (None ∷ board) square = piece_offsets board (square + 1)
+piece_offsets (Some p ∷ board) square = piece_offset p square ∷ piece_offsets board (square + 1)
 
-abbrev pub place_if : Bool → ℕ → List ℕ
-place_if flag place = if flag then place ∷ [] else []
+abbrev pub offset_if : Bool → ℕ → List ℕ
+offset_if flag offset = if flag then offset ∷ [] else []
 
 -- a pawn of the side to move stands directly beside the square, one file lower or higher
 abbrev pub has_capturer : Board → Colour → ℕ → Bool
 has_capturer board turn q =
     (not (file q == 0) && is_piece (pawn_of turn) (at board (q - 1))) || (not (file q == 7) && is_piece (pawn_of turn) (at board (q + 1)))
 
--- the places of castling rights, and of an en passant square whose pawn may be taken
-abbrev pub rights_places : Rights → List ℕ
-rights_places r = flat_map (λ c. place_if ((castling_row c).right r) (castling_place c)) castlings
+-- the offsets of castling rights, and of an en passant square whose pawn may be taken
+abbrev pub rights_offsets : Rights → List ℕ
+rights_offsets r = flat_map (λ c. offset_if ((castling_row c).right r) (castling_offset c)) castlings
 
-abbrev pub en_passant_places : Position → List ℕ
-en_passant_places s = option_map_or (λ q. place_if (has_capturer s.board s.turn (beyond s.turn q)) (en_passant_offset + file q)) s.ep []
+abbrev pub en_passant_offsets : Position → List ℕ
+en_passant_offsets s = option_map_or (λ q. offset_if (has_capturer s.board s.turn (beyond s.turn q)) (en_passant_start + file q)) s.ep []
 
--- all places of a setup, each once
-abbrev pub places : Position → List ℕ
-places s = piece_places s.board 0 ++ (rights_places s.rights ++ (en_passant_places s ++ place_if (colour_number s.turn == 0) turn_offset))
+-- all offsets of a setup, each once
+abbrev pub offsets : Position → List ℕ
+offsets s = piece_offsets s.board 0 ++ (rights_offsets s.rights ++ (en_passant_offsets s ++ offset_if (colour_number s.turn == 0) turn_offset))
 
--- the numbers at these places, toggled by exclusive or
+-- the numbers at these offsets, toggled by exclusive or
 unfoldable pub key : List ℕ → Position → ℕ
-key randoms s = fold (λ k place. bit_xor k (slice_index randoms place)) 0 (places s)
+key randoms s = fold (λ k offset. bit_xor k (slice_index randoms offset)) 0 (offsets s)
 
 -- ---- the same as a relation
 
@@ -76,24 +76,24 @@ pub record HasCapturer (s : Position) (square : ℕ) : Type 0 where
   pub same_rank : rank capturer ≡ rank (beyond s.turn square)
   pub next_file : files_apart capturer (beyond s.turn square) ≡ 1
 
--- the setup has this place of the table
-pub data HasPlace (s : Position) (place : ℕ) : Type 0 where
-  of_piece : (square : ℕ) (p : Piece) → Holds s.board square p → place ≡ piece_place p square → HasPlace s place
-  of_right : (c : Castling) → IsTrue ((castling_row c).right s.rights) → place ≡ castling_place c → HasPlace s place
-  en_passant : (square : ℕ) → s.ep ≡ Some square → HasCapturer s square → place ≡ en_passant_offset + file square → HasPlace s place
-  white_to_move : s.turn ≡ White → place ≡ turn_offset → HasPlace s place
+-- the setup has this offset into the table
+pub data HasOffset (s : Position) (offset : ℕ) : Type 0 where
+  of_piece : (square : ℕ) (p : Piece) → Holds s.board square p → offset ≡ piece_offset p square → HasOffset s offset
+  of_right : (c : Castling) → IsTrue ((castling_row c).right s.rights) → offset ≡ castling_offset c → HasOffset s offset
+  en_passant : (square : ℕ) → s.ep ≡ Some square → HasCapturer s square → offset ≡ en_passant_start + file square → HasOffset s offset
+  white_to_move : s.turn ≡ White → offset ≡ turn_offset → HasOffset s offset
 
--- the places that the setup has, each once, in any order
-pub record ArePlaces (s : Position) (places : List ℕ) : Type 0 where
-  pub once : AllPairs (λ a b. a ≢ b) places
-  pub each : (place : ℕ) → Contains places place ↔ HasPlace s place
+-- the offsets that the setup has, each once, in any order
+pub record AreOffsets (s : Position) (offsets : List ℕ) : Type 0 where
+  pub once : AllPairs (λ a b. a ≢ b) offsets
+  pub each : (offset : ℕ) → Contains offsets offset ↔ HasOffset s offset
 
--- bit by bit: 1 exactly if an odd number of the numbers at the setup's places have it
+-- bit by bit: 1 exactly if an odd number of the numbers at the setup's offsets have it
 pub record IsKey (randoms : List ℕ) (s : Position) (key : ℕ) : Type 0 where
   pub below : key < 2 ^ 64
-  pub places : List ℕ
-  pub are : ArePlaces s places
-  pub bits : (bit : ℕ) → bit < 64 → bit_at key bit ≡ sum_by (λ place. bit_at (slice_index randoms place) bit) places % 2
+  pub offsets : List ℕ
+  pub are : AreOffsets s offsets
+  pub bits : (bit : ℕ) → bit < 64 → bit_at key bit ≡ sum_by (λ offset. bit_at (slice_index randoms offset) bit) offsets % 2
 
 -- the function gives the key of a setup
 abbrev pub KeyIsParity : Type 0

@@ -1,4 +1,4 @@
--- The places of the table whose numbers a move toggles in a key.
+-- The offsets into the table whose numbers a move toggles in a key.
 use Rattle.std.specs.Prelude.{ℕ, ◌+◌, not, Option, Some, None, List, [], ◌∷◌, ◌++◌, fold, slice_index, bit_xor}
 use Rattle.std.specs.Bool.{beq}
 use Rattle.std.specs.List.{flat_map}
@@ -13,34 +13,34 @@ use Rattle.pb_board.specs.Position.{Position}
 use Rattle.pb_moves.specs.declared.move_kind.MoveKind.{MoveKind}
 use Rattle.pb_moves.specs.declared.move_kind.MoveKind.TheVariants.{Normal, Double}
 use Rattle.pb_moves.specs.Moved.{Moved}
-use Rattle.pb_poly.specs.Key.{castling_place, en_passant_offset, has_capturer, piece_place, place_if}
+use Rattle.pb_poly.specs.Key.{castling_offset, en_passant_start, has_capturer, piece_offset, offset_if}
 
--- a key with the numbers at these places toggled: exclusive or takes each in, and takes it out
+-- a key with the numbers at these offsets toggled: exclusive or takes each in, and takes it out
 -- where it was in
 abbrev pub toggled : List ℕ → ℕ → List ℕ → ℕ
-toggled randoms key places = fold (λ k place. bit_xor k (slice_index randoms place)) key places
+toggled randoms key offsets = fold (λ k offset. bit_xor k (slice_index randoms offset)) key offsets
 
--- the place of what stands on the square
-abbrev pub square_places : Place → ℕ → List ℕ
-square_places None square = []
-square_places (Some p) square = piece_place p square ∷ []
+-- the offset of what stands on the square
+abbrev pub square_offsets : Place → ℕ → List ℕ
+square_offsets None square = []
+square_offsets (Some p) square = piece_offset p square ∷ []
 
 -- a piece leaves its square, and what it is then arrives in the place of what stood there
-abbrev pub going_places : Board → Piece → MovedPiece → List ℕ
-going_places board leaving c = piece_place leaving c.from ∷ (square_places (at board c.to) c.to ++ (piece_place c.piece c.to ∷ []))
+abbrev pub going_offsets : Board → Piece → MovedPiece → List ℕ
+going_offsets board leaving c = piece_offset leaving c.from ∷ (square_offsets (at board c.to) c.to ++ (piece_offset c.piece c.to ∷ []))
 
 -- the pieces go that a move of this kind puts elsewhere; the second of two goes to an empty square
-abbrev pub moved_places : Board → Moved → Piece → MoveKind → List ℕ
-moved_places board m piece (Normal arriving) = going_places board piece (record { from = m.from; to = m.to; piece = arriving })
-moved_places board m piece (Double first second) =
-    going_places board first.piece first ++ (piece_place second.piece second.from ∷ piece_place second.piece second.to ∷ [])
+abbrev pub moved_offsets : Board → Moved → Piece → MoveKind → List ℕ
+moved_offsets board m piece (Normal arriving) = going_offsets board piece (record { from = m.from; to = m.to; piece = arriving })
+moved_offsets board m piece (Double first second) =
+    going_offsets board first.piece first ++ (piece_offset second.piece second.from ∷ piece_offset second.piece second.to ∷ [])
 
--- the places of the rights that one of the two has
-abbrev pub changed_places : Rights → Rights → List ℕ
-changed_places old new =
-    flat_map (λ c. let row = castling_row c in place_if (not (beq (row.right old) (row.right new))) (castling_place c)) castlings
+-- the offsets of the rights that one of the two has
+abbrev pub changed_offsets : Rights → Rights → List ℕ
+changed_offsets old new =
+    flat_map (λ c. let row = castling_row c in offset_if (not (beq (row.right old) (row.right new))) (castling_offset c)) castlings
 
--- after a double step to this square: the place of the en passant square, where an enemy pawn
+-- after a double step to this square: the offset of the en passant square, where an enemy pawn
 -- stands beside the pawn
-abbrev pub stepped_places : Position → ℕ → Option ℕ → List ℕ
-stepped_places s to ep = option_map_or (λ q. place_if (has_capturer s.board (opponent s.turn) to) (en_passant_offset + file q)) ep []
+abbrev pub stepped_offsets : Position → ℕ → Option ℕ → List ℕ
+stepped_offsets s to ep = option_map_or (λ q. offset_if (has_capturer s.board (opponent s.turn) to) (en_passant_start + file q)) ep []

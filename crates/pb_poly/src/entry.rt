@@ -24,7 +24,7 @@ pub struct Entry {
 
 impl Entry {
     /// The sixteen bytes of the entry.
-    pub(crate) fn to_bytes(self) -> [u8; 16]
+    pub(crate) fn to_bytes(self) -> [u8; ENTRY_LEN]
         ensures { result ≡ entry_bytes self }
     {
         let mut bytes = [0; ENTRY_LEN];

@@ -5,21 +5,27 @@ ghost use Rattle.pb_board.specs.Piece.{colour_number, kind_number, pawn_of};
 ghost use Rattle.pb_board.specs.Castling.{castling_row};
 ghost use Rattle.pb_board.specs.Board.{at, file, is_piece};
 ghost use Rattle.pb_board.specs.Position.{IsSetup, OnEnPassantRank, beyond as beyond_by};
-ghost use Rattle.pb_poly.specs.Key.{IsKey, castling_place as castling_place_by, has_capturer as has_capturer_by, key as key_by, en_passant_offset, en_passant_places, piece_place as piece_place_by, piece_places, place_if, rights_places, turn_offset};
+ghost use Rattle.pb_poly.specs.Key.{IsKey, castling_offset as castling_offset_by, has_capturer as has_capturer_by, key as key_by, en_passant_start, en_passant_offsets, piece_offset as piece_offset_by, piece_offsets, offset_if, rights_offsets, turn_offset};
 ghost use Rattle.pb_poly.specs.KeyChange.{toggled};
 ghost use Rattle.pb_poly.specs.Table.{IsTable};
 
 use crate::table::Table;
 use pb_board::{Castling, Colour, Kind, Piece, Rights, Setup, Square};
 
-/// The place of the word for White to move.
+/// Where the words of castling rights begin.
+const CASTLING_START: usize = 768;
+
+/// Where the words of en passant files begin.
+const EN_PASSANT_START: usize = 772;
+
+/// The offset of the word for White to move.
 pub(crate) const WHITE_TO_MOVE: usize = 780;
 
-/// The place of a piece on the square of this index.
+/// The offset of a piece on the square of this index.
 #[inline(always)]
-pub(crate) fn piece_place(piece: Piece, square: usize) -> usize
+pub(crate) fn piece_offset(piece: Piece, square: usize) -> usize
     requires { square < 64 }
-    ensures value { result ≡ piece_place_by piece square }
+    ensures value { result ≡ piece_offset_by piece square }
     ensures few { result < 768 }
 {
     // Of each kind the black pieces come first.
@@ -29,53 +35,53 @@ pub(crate) fn piece_place(piece: Piece, square: usize) -> usize
 
 /// The words of the pieces, xor-ed.
 fn pieces_key(table: &Table, board: &[Option<Piece>; 64]) -> u64
-    ensures value { result ≡ toggled table.now 0 (piece_places board.now 0) }
+    ensures value { result ≡ toggled table.now 0 (piece_offsets board.now 0) }
     ensures rules { IsTable table.now }
 {
     let words = table.words();
     let mut key = 0;
-    for (square, place) in board.iter().enumerate() {
-        if let Some(piece) = place {
-            key ^= words[piece_place(*piece, square)];
+    for (square, content) in board.iter().enumerate() {
+        if let Some(piece) = content {
+            key ^= words[piece_offset(*piece, square)];
         }
     }
     key
 }
 
-/// Toggles the word at the place, where the flag is set.
+/// Toggles the word at the offset, where the flag is set.
 #[inline(always)]
-pub(crate) fn toggle_if(table: &Table, key: u64, flag: bool, place: usize) -> u64
-    requires { place < 781 }
-    ensures { result ≡ toggled table.now key (place_if flag place) }
+pub(crate) fn toggle_if(table: &Table, key: u64, flag: bool, offset: usize) -> u64
+    requires { offset < 781 }
+    ensures { result ≡ toggled table.now key (offset_if flag offset) }
 {
-    if flag { key ^ table.word(place) } else { key }
+    if flag { key ^ table.word(offset) } else { key }
 }
 
-/// The place of a castling right.
+/// The offset of a castling right.
 #[inline(always)]
-fn castling_place(castling: Castling) -> usize
-    ensures value { result ≡ castling_place_by castling }
+fn castling_offset(castling: Castling) -> usize
+    ensures value { result ≡ castling_offset_by castling }
     ensures few { result < 772 }
 {
-    768 + castling as usize
+    CASTLING_START + castling as usize
 }
 
 /// Toggles the word of a castling right that is there.
 #[inline(always)]
 fn toggle_right(table: &Table, key: u64, rights: Rights, castling: Castling) -> u64
-    ensures { result ≡ toggled table.now key (place_if ((castling_row castling).right rights) (castling_place_by castling)) }
+    ensures { result ≡ toggled table.now key (offset_if ((castling_row castling).right rights) (castling_offset_by castling)) }
 {
     toggle_if(
         table,
         key,
         castling.is_allowed(rights),
-        castling_place(castling),
+        castling_offset(castling),
     )
 }
 
 /// Toggles the words of the castling rights.
 pub(crate) fn toggle_rights(table: &Table, key: u64, rights: Rights) -> u64
-    ensures { result ≡ toggled table.now key (rights_places rights) }
+    ensures { result ≡ toggled table.now key (rights_offsets rights) }
 {
     let short = toggle_right(table, key, rights, Castling::WhiteShort);
     let white = toggle_right(table, short, rights, Castling::WhiteLong);
@@ -115,27 +121,27 @@ pub(crate) fn has_capturer(setup: &Setup, side: Colour, pawn: u8) -> bool
         || (pawn % 8 != 7 && has_pawn(setup, side, pawn + 1))
 }
 
-/// The place of the word of an en passant square on the file of this square.
+/// The offset of the word of an en passant square on the file of this square.
 #[inline(always)]
-pub(crate) fn en_passant_place(square: Square) -> usize
-    ensures value { result ≡ en_passant_offset + file square }
+pub(crate) fn en_passant_offset(square: Square) -> usize
+    ensures value { result ≡ en_passant_start + file square }
     ensures few { result < 780 }
 {
-    772 + square.file() as usize
+    EN_PASSANT_START + square.file() as usize
 }
 
 /// Toggles the word of the en passant square, where a pawn stands beside the pawn that made the
 /// double step.
 #[inline(always)]
 pub(crate) fn toggle_en_passant(table: &Table, key: u64, setup: &Setup) -> u64
-    ensures value { result ≡ toggled table.now key (en_passant_places setup.now) }
+    ensures value { result ≡ toggled table.now key (en_passant_offsets setup.now) }
     ensures rules { IsSetup setup.now }
 {
     let turn = setup.turn();
     match setup.ep() {
         Some(square) => {
             let flag = has_capturer(setup, turn, beyond(turn, square));
-            toggle_if(table, key, flag, en_passant_place(square))
+            toggle_if(table, key, flag, en_passant_offset(square))
         }
         None => key,
     }
@@ -143,7 +149,7 @@ pub(crate) fn toggle_en_passant(table: &Table, key: u64, setup: &Setup) -> u64
 
 /// Toggles the word for White to move, where White is.
 fn toggle_turn(table: &Table, key: u64, turn: Colour) -> u64
-    ensures { result ≡ toggled table.now key (place_if (colour_number turn == 0) turn_offset) }
+    ensures { result ≡ toggled table.now key (offset_if (colour_number turn == 0) turn_offset) }
 {
     toggle_if(table, key, turn == Colour::White, WHITE_TO_MOVE)
 }

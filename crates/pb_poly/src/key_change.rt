@@ -5,11 +5,11 @@ ghost use Rattle.pb_board.specs.Board.{at};
 ghost use Rattle.pb_moves.specs.Effect.{IsEffect};
 ghost use Rattle.pb_moves.specs.Legal.{PseudoLegal};
 ghost use Rattle.pb_moves.specs.Successor.{after as setup_after};
-ghost use Rattle.pb_poly.specs.Key.{IsKey, key as key_by, piece_place as piece_place_by};
-ghost use Rattle.pb_poly.specs.KeyChange.{changed_places, going_places, moved_places, square_places, stepped_places, toggled};
+ghost use Rattle.pb_poly.specs.Key.{IsKey, key as key_by, piece_offset as piece_offset_by};
+ghost use Rattle.pb_poly.specs.KeyChange.{changed_offsets, going_offsets, moved_offsets, square_offsets, stepped_offsets, toggled};
 
 use crate::key::{
-    WHITE_TO_MOVE, en_passant_place, has_capturer, piece_place, toggle_en_passant, toggle_if,
+    WHITE_TO_MOVE, en_passant_offset, has_capturer, piece_offset, toggle_en_passant, toggle_if,
     toggle_rights,
 };
 use crate::table::Table;
@@ -19,15 +19,15 @@ use pb_moves::{Effect, Move, MoveKind, effect_of};
 /// Toggles the word of the piece on the square.
 #[inline(always)]
 fn toggle_piece(table: &Table, key: u64, piece: Piece, square: Square) -> u64
-    ensures { result ≡ toggled table.now key (piece_place_by piece square ∷ []) }
+    ensures { result ≡ toggled table.now key (piece_offset_by piece square ∷ []) }
 {
-    key ^ table.word(piece_place(piece, square.index() as usize))
+    key ^ table.word(piece_offset(piece, square.index() as usize))
 }
 
 /// Toggles the word of what stands on the square.
 #[inline(always)]
 fn toggle_square(table: &Table, key: u64, before: &Setup, square: Square) -> u64
-    ensures { result ≡ toggled table.now key (square_places (at before.now.board square) square) }
+    ensures { result ≡ toggled table.now key (square_offsets (at before.now.board square) square) }
 {
     match before.at(square) {
         Some(piece) => toggle_piece(table, key, piece, square),
@@ -38,7 +38,7 @@ fn toggle_square(table: &Table, key: u64, before: &Setup, square: Square) -> u64
 /// Toggles the words of a piece that goes: of what leaves, of what is taken, and of what arrives.
 #[inline(always)]
 fn toggle_going(table: &Table, key: u64, before: &Setup, leaving: Piece, carried: MovedPiece) -> u64
-    ensures { result ≡ toggled table.now key (going_places before.now.board leaving carried) }
+    ensures { result ≡ toggled table.now key (going_offsets before.now.board leaving carried) }
 {
     let MovedPiece { from, to, piece } = carried;
     let left = toggle_piece(table, key, leaving, from);
@@ -56,8 +56,8 @@ fn toggle_double(
     first: MovedPiece,
     second: MovedPiece,
 ) -> u64
-    ensures { result ≡ toggled table.now key (going_places before.now.board first.piece first
-        ++ (piece_place_by second.piece second.from ∷ piece_place_by second.piece second.to ∷ [])) }
+    ensures { result ≡ toggled table.now key (going_offsets before.now.board first.piece first
+        ++ (piece_offset_by second.piece second.from ∷ piece_offset_by second.piece second.to ∷ [])) }
 {
     let moved = toggle_going(table, key, before, first.piece, first);
     let left = toggle_piece(table, moved, second.piece, second.from);
@@ -74,7 +74,7 @@ fn toggle_moved(
     leaving: Piece,
     kind: MoveKind,
 ) -> u64
-    ensures { result ≡ toggled table.now key (moved_places before.now.board m leaving kind) }
+    ensures { result ≡ toggled table.now key (moved_offsets before.now.board m leaving kind) }
 {
     match kind {
         MoveKind::Normal(piece) => {
@@ -88,7 +88,7 @@ fn toggle_moved(
 /// Toggles the words of the castling rights that one of the two has.
 #[inline(always)]
 fn toggle_changed(table: &Table, key: u64, old: Rights, new: Rights) -> u64
-    ensures { result ≡ toggled table.now key (changed_places old new) }
+    ensures { result ≡ toggled table.now key (changed_offsets old new) }
 {
     // Most moves change none.
     if old == new {
@@ -107,14 +107,14 @@ fn toggle_changed(table: &Table, key: u64, old: Rights, new: Rights) -> u64
 /// pawn stands beside the pawn.
 #[inline(always)]
 fn toggle_stepped(table: &Table, key: u64, before: &Setup, to: Square, ep: Option<Square>) -> u64
-    ensures { result ≡ toggled table.now key (stepped_places before.now to ep) }
+    ensures { result ≡ toggled table.now key (stepped_offsets before.now to ep) }
 {
     let Some(square) = ep else {
         return key;
     };
     // The move leaves the squares beside this one as they were.
     let flag = has_capturer(before, before.turn().opponent(), to.index());
-    toggle_if(table, key, flag, en_passant_place(square))
+    toggle_if(table, key, flag, en_passant_offset(square))
 }
 
 /// The key of the setup after a move, made of the setup before it, its key, and what the move does.

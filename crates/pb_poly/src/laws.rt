@@ -24,7 +24,7 @@ pub fn code_is_one()
 {}
 
 /// The key that the function gives is the one number that is, bit by bit, the parity of the words
-/// at a setup's places.
+/// at a setup's offsets.
 pub fn key_is_one()
     ensures is { KeyIsParity }
     ensures only { KeyIsOne }

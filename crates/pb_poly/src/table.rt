@@ -55,13 +55,13 @@ impl Table {
         self.words.as_slice()
     }
 
-    /// The word at a place.
-    pub fn word(&self, place: usize) -> u64
-        requires { place < 781 }
-        ensures value { result ≡ slice_index self.now place }
+    /// The word at an offset.
+    pub fn word(&self, offset: usize) -> u64
+        requires { offset < 781 }
+        ensures value { result ≡ slice_index self.now offset }
         ensures rules { IsTable self.now }
     {
-        self.words[place]
+        self.words[offset]
     }
 }
 

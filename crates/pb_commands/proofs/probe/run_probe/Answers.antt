@@ -4,7 +4,7 @@ use Rattle.pb_commands.proofs.probe.run_probe.Goals as goal
 
 pub returns-in-Err : goal.returns-in-Err
 returns-in-Err g c =
-    let b = g.B.Source.state in
+    let b = g.BookIn.Source.state in
     at_table _ _ _ (b c.args.book_source.now) (b c.args.book_source.now) _ _ _ refl c.refuse_table.result c.in-Err.error c.in-Err.ensures.reads c.refuse_table.ensures
 
 pub returns-in-Ok-read_book : goal.returns-in-Ok-read_book

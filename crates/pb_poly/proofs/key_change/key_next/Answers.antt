@@ -6,7 +6,7 @@ use Rattle.pb_board.specs.Position.{Position}
 use Rattle.pb_moves.specs.Successor.{after}
 use Rattle.pb_moves.proofs.SameMoves.{after_is_setup}
 use Rattle.pb_poly.specs.Key.{IsKey, key}
-use Rattle.pb_poly.specs.KeyChange.{changed_places, moved_places, stepped_places, toggled}
+use Rattle.pb_poly.specs.KeyChange.{changed_offsets, moved_offsets, stepped_offsets, toggled}
 use Rattle.pb_poly.proofs.KeyChanges.{moved_changes}
 use Rattle.pb_poly.proofs.KeyMoves.{steps_after}
 use Rattle.pb_poly.proofs.KeyPlies.{key_follows}
@@ -27,18 +27,18 @@ returns c =
     let stepped = c.toggle_stepped-stepped.result in
     let l : ℕ = bit_xor stepped c.word.result in
     let value : l ≡ key words (after s m) =
-    key_follows words s (after s m) (moved_places s.board m e.piece e.kind) c.args.key l table (λ f. moved_changes f s m e ok is) c.requires.key
+    key_follows words s (after s m) (moved_offsets s.board m e.piece e.kind) c.args.key l table (λ f. moved_changes f s m e ok is) c.requires.key
     (xor_lt 64 stepped c.word.result c.toggle_stepped-stepped.type_inv c.word.type_inv) (record {
       pieces = pieces;
       rights = c.toggle_changed-changed.result;
       cleared = cleared;
       stepped = stepped;
       pieces_is = c.toggle_moved-pieces.ensures;
-      rights_is = c.toggle_changed-changed.ensures ∙ ap (λ (r : Rights). toggled words pieces (changed_places r e.rights)) c.rights.ensures
-          ∙ ap (λ (t : Position). toggled words pieces (changed_places s.rights t.rights)) (sym is.after);
+      rights_is = c.toggle_changed-changed.ensures ∙ ap (λ (r : Rights). toggled words pieces (changed_offsets r e.rights)) c.rights.ensures
+          ∙ ap (λ (t : Position). toggled words pieces (changed_offsets s.rights t.rights)) (sym is.after);
       cleared_is = c.toggle_en_passant-cleared.ensures.value;
-      stepped_is = c.toggle_stepped-stepped.ensures ∙ ap (λ q. toggled words cleared (stepped_places s q e.ep)) c.to.ensures.value
-          ∙ ap (λ places. toggled words cleared places) (sym (steps_after s m e ok is));
+      stepped_is = c.toggle_stepped-stepped.ensures ∙ ap (λ q. toggled words cleared (stepped_offsets s q e.ep)) c.to.ensures.value
+          ∙ ap (λ offsets. toggled words cleared offsets) (sym (steps_after s m e ok is));
       turn = ap (λ (t : Position). t.turn) is.after;
       is = ap (λ n. bit_xor stepped n) c.word.ensures.value;
     }) in

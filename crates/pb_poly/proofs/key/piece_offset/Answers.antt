@@ -1,5 +1,5 @@
 use Rattle.std.proofs.Common.{rules}
-use Rattle.pb_poly.proofs.key.piece_place.Goals as goal
+use Rattle.pb_poly.proofs.key.piece_offset.Goals as goal
 
 pub returns-clause-value : goal.returns-clause-value
 returns-clause-value c = search rules

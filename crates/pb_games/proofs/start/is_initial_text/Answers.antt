@@ -1,7 +1,7 @@
 use Rattle.std.proofs.Common.{rules, ◌≡◌, ◌↔◌, IsTrue, sym, ◌∙◌}
 use Rattle.std.specs.Prelude.{codes}
 use Rattle.pb_games.proofs.InitialText.{initial_text}
-use Rattle.pb_games.proofs.initial.is_initial_text.Goals as goal
+use Rattle.pb_games.proofs.start.is_initial_text.Goals as goal
 
 pub returns : goal.returns
 returns c =

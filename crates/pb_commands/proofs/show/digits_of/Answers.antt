@@ -2,7 +2,7 @@ use Rattle.std.proofs.Common.{◌∙◌, ap, sym}
 use Rattle.hex.specs.Hex.{encode_lower}
 use Rattle.pb_commands.specs.Hexadecimal.{hexadecimal}
 use Rattle.pb_commands.proofs.Hexadecimals.{digits_of_bytes}
-use Rattle.pb_commands.proofs.hexadecimal.digits_of.Goals as goal
+use Rattle.pb_commands.proofs.show.digits_of.Goals as goal
 
 pub returns : goal.returns
 returns g c number are =

@@ -1,0 +1,339 @@
+-- The offsets that the key's function goes over are those of the setup, each once.
+use Rattle.std.proofs.Common.{◌≡◌, ◌≢◌, ℕ, zero, suc, ◌+◌, ◌-◌, ◌%◌, ◌<◌, ◌≤◌, ◌⊎◌, inl, inr, Bool, true, false, not, ◌&&◌, ◌||◌, ◌==◌, Option, Some, None, List, [], ◌∷◌, ◌++◌, length, refl, sym, ap, ◌∙◌, subst, arith}
+use Rattle.std.specs.Prelude.{IsTrue}
+use Rattle.std.proofs.lemmas.Bool.{and_parts, cases_lt}
+use Rattle.std.proofs.lemmas.Bool.Decides.{nat_tests}
+use Rattle.std.specs.List.{flat_map}
+use Rattle.std.specs.Option.{option_map_or}
+use Rattle.pb_board.specs.declared.castling.Castling.{Castling}
+use Rattle.pb_board.specs.declared.castling.Castling.TheVariants.{WhiteShort, WhiteLong, BlackShort, BlackLong}
+use Rattle.pb_board.specs.Castling.{castling_row, castlings}
+use Rattle.pb_board.specs.declared.piece.Colour.{Colour}
+use Rattle.pb_board.specs.declared.piece.Colour.TheVariants.{White, Black}
+use Rattle.pb_board.specs.declared.piece.Kind.{Kind}
+use Rattle.pb_board.specs.declared.piece.Kind.TheVariants.{Pawn, Knight, Bishop, Rook, Queen, King}
+use Rattle.pb_board.specs.declared.piece.Piece.{Piece}
+use Rattle.pb_board.specs.Piece.{colour_number, kind_number, pawn_of}
+use Rattle.pb_board.specs.Board.{Board, Place, at, file, rank, is_piece}
+use Rattle.pb_board.specs.Position.{Position, IsSetup, beyond}
+use Rattle.pb_board.proofs.PieceTests.{is_piece-is, is_piece-passes}
+use Rattle.pb_moves.specs.Attacks.{files_apart}
+use Rattle.pb_poly.specs.Key.{AreOffsets, HasOffset, of_piece, of_right, en_passant, white_to_move, HasCapturer, castling_offset, has_capturer, number_of, en_passant_offsets, piece_offset, piece_offsets, offset_if, offsets, rights_offsets, en_passant_start, turn_offset}
+use Rattle.pb_poly.proofs.Among.{Among, Distinct, among_contained, among_either, among_left, among_right, contains_among, distinct_append, distinct_pairs}
+
+-- ---- the pieces
+
+-- the offset of a piece that stands on the board from this square on
+pub record IsOffsetOn (board : Board) (square offset : ℕ) : Type 0 where
+  pub ahead : ℕ
+  pub piece : Piece
+  pub stands : at board ahead ≡ Some piece
+  pub on_board : ahead < length board
+  pub is : offset ≡ piece_offset piece (square + ahead)
+
+on_later : (first : Place) (board : Board) (square offset : ℕ) → IsOffsetOn board (square + 1) offset → IsOffsetOn (first ∷ board) square offset
+on_later first board square offset h = record { ahead = suc h.ahead; piece = h.piece; stands = h.stands; on_board = (let below = h.on_board in omega arith); is = h.is ∙ ap (λ q. piece_offset h.piece q) (omega arith) }
+
+offset_on : (board : Board) (square offset : ℕ) → Among (piece_offsets board square) offset → IsOffsetOn board square offset
+offset_on [] square offset h = absurd h
+offset_on (None ∷ board) square offset h = on_later None board square offset (offset_on board (square + 1) offset h)
+offset_on (Some p ∷ board) square offset (inl e) = record { ahead = 0; piece = p; stands = refl; on_board = omega arith; is = e ∙ ap (λ q. piece_offset p q) (omega arith) }
+offset_on (Some p ∷ board) square offset (inr h) = on_later (Some p) board square offset (offset_on board (square + 1) offset h)
+
+among_pieces : (board : Board) (square ahead : ℕ) (p : Piece) → at board ahead ≡ Some p → Among (piece_offsets board square) (piece_offset p (square + ahead))
+among_pieces [] square ahead p h = absurd (cc)
+among_pieces (None ∷ board) square zero p h = absurd (cc)
+among_pieces (None ∷ board) square (suc ahead) p h =
+    let P : ℕ → Type 0 = λ q. Among (piece_offsets board (square + 1)) (piece_offset p q) in
+    let e : square + 1 + ahead ≡ square + suc ahead = omega arith in
+    subst P e (among_pieces board (square + 1) ahead p h)
+among_pieces (Some x ∷ board) square zero p h =
+    let same : p ≡ x = cc in
+    inl (ap (λ (y : Piece). piece_offset y (square + 0)) same ∙ ap (λ q. piece_offset x q) (omega arith))
+among_pieces (Some x ∷ board) square (suc ahead) p h =
+    let P : ℕ → Type 0 = λ q. Among (piece_offsets board (square + 1)) (piece_offset p q) in
+    let e : square + 1 + ahead ≡ square + suc ahead = omega arith in
+    inr (subst P e (among_pieces board (square + 1) ahead p h))
+
+kind_below : (kind : Kind) → kind_number kind < 6
+kind_below Pawn = omega arith
+kind_below Knight = omega arith
+kind_below Bishop = omega arith
+kind_below Rook = omega arith
+kind_below Queen = omega arith
+kind_below King = omega arith
+
+number_below : (p : Piece) → number_of p < 12
+number_below p = let few = kind_below p.kind in omega (arith, few)
+
+low_square : (board : Board) (square offset : ℕ) → square + length board ≤ 64 → IsOffsetOn board square offset → (square ≤ offset % 64) × (offset < 768)
+low_square board square offset fits h =
+    let few = number_below h.piece in
+    let within = h.on_board in
+    let is = h.is in
+    (omega (arith, few, within, is), omega (arith, few, within, is))
+
+distinct_pieces : (board : Board) (square : ℕ) → square + length board ≤ 64 → Distinct (piece_offsets board square)
+distinct_pieces [] square fits = tt
+distinct_pieces (None ∷ board) square fits = distinct_pieces board (square + 1) (omega arith)
+distinct_pieces (Some p ∷ board) square fits = (
+  λ again.
+      let low = (low_square board (square + 1) (piece_offset p square) (omega arith) (offset_on board (square + 1) (piece_offset p square) again)).0 in
+      omega (arith, low),
+  distinct_pieces board (square + 1) (omega arith),
+)
+
+-- ---- flags
+
+among_flag : (flag : Bool) (offset n : ℕ) → Among (offset_if flag offset) n → IsTrue flag × (n ≡ offset)
+among_flag true offset n (inl e) = (refl, e)
+among_flag true offset n (inr h) = absurd h
+among_flag false offset n h = absurd h
+
+flag_among : (flag : Bool) (offset n : ℕ) → IsTrue flag → n ≡ offset → Among (offset_if flag offset) n
+flag_among true offset n set is = inl is
+flag_among false offset n set is = absurd (cc)
+
+distinct_flag : (flag : Bool) (offset : ℕ) → Distinct (offset_if flag offset)
+distinct_flag true offset = (λ h. h, tt)
+distinct_flag false offset = tt
+
+-- the offset of the side to move
+abbrev pub turn_offsets : Colour → List ℕ
+turn_offsets turn = offset_if (colour_number turn == 0) turn_offset
+
+among_turn : (turn : Colour) (n : ℕ) → Among (turn_offsets turn) n → (turn ≡ White) × (n ≡ 780)
+among_turn White n (inl e) = (refl, e)
+among_turn White n (inr h) = absurd h
+among_turn Black n h = absurd h
+
+turn_among : (turn : Colour) (n : ℕ) → turn ≡ White → n ≡ 780 → Among (turn_offsets turn) n
+turn_among White n white is = inl is
+turn_among Black n white is = absurd (cc)
+
+distinct_turn : (turn : Colour) → Distinct (turn_offsets turn)
+distinct_turn White = (λ h. h, tt)
+distinct_turn Black = tt
+
+-- ---- the en passant square
+
+there_pawn : (side : Colour) (content : Place) → content ≡ Some (pawn_of side) → is_piece (pawn_of side) content ≡ true
+there_pawn side content h = let P : Place → Type 0 = λ x. is_piece (pawn_of side) x ≡ true in subst P (sym h) (is_piece-passes (pawn_of side))
+
+either_true : (a b : Bool) → (a || b) ≡ true → (a ≡ true) ⊎ (b ≡ true)
+either_true true b h = inl refl
+either_true false b h = inr h
+
+true_left : (a b : Bool) → a ≡ true → (a || b) ≡ true
+true_left true b h = refl
+true_left false b h = absurd (cc)
+
+true_right : (a b : Bool) → b ≡ true → (a || b) ≡ true
+true_right true b h = refl
+true_right false b h = h
+
+both_true : (a b : Bool) → a ≡ true → b ≡ true → (a && b) ≡ true
+both_true true b h k = k
+both_true false b h k = absurd (cc)
+
+other_than : (n m : ℕ) → not (n == m) ≡ true → n ≢ m
+other_than n m h = grind (arith, nat_tests)
+
+tells_other : (n m : ℕ) → n ≢ m → not (n == m) ≡ true
+tells_other n m h = grind (arith, nat_tests)
+
+rank_before : (pawn : ℕ) → pawn % 8 ≢ 0 → rank (pawn - 1) ≡ rank pawn
+rank_before pawn inside = omega arith
+
+file_before : (pawn : ℕ) → pawn % 8 ≢ 0 → files_apart (pawn - 1) pawn ≡ 1
+file_before pawn inside = omega arith
+
+rank_next : (pawn : ℕ) → pawn % 8 ≢ 7 → rank (pawn + 1) ≡ rank pawn
+rank_next pawn inside = omega arith
+
+file_next : (pawn : ℕ) → pawn % 8 ≢ 7 → files_apart (pawn + 1) pawn ≡ 1
+file_next pawn inside = omega arith
+
+beside_either : (capturer pawn : ℕ) → rank capturer ≡ rank pawn → files_apart capturer pawn ≡ 1 → ((capturer ≡ pawn - 1) × (file pawn ≢ 0)) ⊎ ((capturer ≡ pawn + 1) × (file pawn ≢ 7))
+beside_either capturer pawn same next = elim (cases_lt capturer pawn) [
+  | inl low ↦ inl (omega arith, λ e. omega (arith, e))
+  | inr high ↦ inr (omega arith, λ e. omega (arith, e))
+]
+
+capturer_of : (s : Position) (square : ℕ) → has_capturer s.board s.turn (beyond s.turn square) ≡ true → HasCapturer s square
+capturer_of s square h =
+    let pawn : ℕ = beyond s.turn square in
+    elim (either_true (not (file pawn == 0) && is_piece (pawn_of s.turn) (at s.board (pawn - 1))) (not (file pawn == 7) && is_piece (pawn_of s.turn) (at s.board (pawn + 1))) h) [
+      | inl left ↦
+          let parts = and_parts (not (file pawn == 0)) (is_piece (pawn_of s.turn) (at s.board (pawn - 1))) left in
+          let inside : pawn % 8 ≢ 0 = other_than (file pawn) 0 parts.0 in
+          record { capturer = pawn - 1; stands = is_piece-is (pawn_of s.turn) (at s.board (pawn - 1)) parts.1; same_rank = rank_before pawn inside; next_file = file_before pawn inside }
+      | inr right ↦
+          let parts = and_parts (not (file pawn == 7)) (is_piece (pawn_of s.turn) (at s.board (pawn + 1))) right in
+          let inside : pawn % 8 ≢ 7 = other_than (file pawn) 7 parts.0 in
+          record { capturer = pawn + 1; stands = is_piece-is (pawn_of s.turn) (at s.board (pawn + 1)) parts.1; same_rank = rank_next pawn inside; next_file = file_next pawn inside }
+    ]
+
+of_capturer : (s : Position) (square : ℕ) → HasCapturer s square → has_capturer s.board s.turn (beyond s.turn square) ≡ true
+of_capturer s square h =
+    let pawn : ℕ = beyond s.turn square in
+    let left : Bool = not (file pawn == 0) && is_piece (pawn_of s.turn) (at s.board (pawn - 1)) in
+    let right : Bool = not (file pawn == 7) && is_piece (pawn_of s.turn) (at s.board (pawn + 1)) in
+    let stands = there_pawn s.turn (at s.board h.capturer) h.stands in
+    let P : ℕ → Type 0 = λ q. is_piece (pawn_of s.turn) (at s.board q) ≡ true in
+    elim (beside_either h.capturer pawn h.same_rank h.next_file) [
+      | inl l ↦ true_left left right (both_true (not (file pawn == 0)) (is_piece (pawn_of s.turn) (at s.board (pawn - 1))) (tells_other (file pawn) 0 l.1) (subst P l.0 stands))
+      | inr r ↦ true_right left right (both_true (not (file pawn == 7)) (is_piece (pawn_of s.turn) (at s.board (pawn + 1))) (tells_other (file pawn) 7 r.1) (subst P r.0 stands))
+    ]
+
+-- the offset of such an en passant square
+abbrev pub passing_offsets : Position → Option ℕ → List ℕ
+passing_offsets s ep = option_map_or (λ q. offset_if (has_capturer s.board s.turn (beyond s.turn q)) (en_passant_start + file q)) ep []
+
+among_en_passant : (s : Position) (ep : Option ℕ) (n : ℕ) → Among (passing_offsets s ep) n → (square : ℕ) × (ep ≡ Some square) × HasCapturer s square × (n ≡ 772 + file square)
+among_en_passant s None n h = absurd h
+among_en_passant s (Some square) n h =
+    let flag = among_flag (has_capturer s.board s.turn (beyond s.turn square)) (772 + file square) n h in
+    (square, refl, capturer_of s square flag.0, flag.1)
+
+en_passant_among : (s : Position) (ep : Option ℕ) (square n : ℕ) → ep ≡ Some square → HasCapturer s square → n ≡ 772 + file square → Among (passing_offsets s ep) n
+en_passant_among s ep square n is capturer offset =
+    let P : Option ℕ → Type 0 = λ o. Among (passing_offsets s o) n in
+    subst P (sym is) (flag_among (has_capturer s.board s.turn (beyond s.turn square)) (772 + file square) n (of_capturer s square capturer) offset)
+
+distinct_en_passant : (s : Position) (ep : Option ℕ) → Distinct (passing_offsets s ep)
+distinct_en_passant s None = tt
+distinct_en_passant s (Some square) = distinct_flag (has_capturer s.board s.turn (beyond s.turn square)) (772 + file square)
+
+-- ---- all offsets
+
+flag_or_later : (flag : Bool) (offset : ℕ) (xs : List ℕ) (n : ℕ) → Among (offset_if flag offset ++ xs) n → (IsTrue flag × (n ≡ offset)) ⊎ Among xs n
+flag_or_later flag offset xs n h = elim (among_either (offset_if flag offset) xs n h) [ inl l ↦ inl (among_flag flag offset n l) | inr r ↦ inr r ]
+
+distinct_after_flag : (flag : Bool) (offset : ℕ) (xs : List ℕ) → Distinct xs → ((n : ℕ) → Among xs n → offset < n) → Distinct (offset_if flag offset ++ xs)
+distinct_after_flag true offset xs once above = (λ again. let higher = above offset again in omega (arith, higher), once)
+distinct_after_flag false offset xs once above = once
+
+-- some of the castlings of which this is so
+abbrev some_offsets : (Castling → Bool) → List Castling → List ℕ
+some_offsets has cs = flat_map (λ c. offset_if (has c) (castling_offset c)) cs
+
+-- the offset of a castling of which this is so
+abbrev IsOffsetOf : (Castling → Bool) → ℕ → Type 0
+IsOffsetOf has n = (c : Castling) × IsTrue (has c) × (n ≡ castling_offset c)
+
+among_castlings : (has : Castling → Bool) (cs : List Castling) (n : ℕ) → Among (some_offsets has cs) n → IsOffsetOf has n
+among_castlings has [] n h = absurd h
+among_castlings has (c ∷ cs) n h = elim (flag_or_later (has c) (castling_offset c) (some_offsets has cs) n h) [ inl here ↦ (c, here.0, here.1) | inr later ↦ among_castlings has cs n later ]
+
+castling_among : (has : Castling → Bool) (c : Castling) (n : ℕ) → IsTrue (has c) → n ≡ castling_offset c → Among (some_offsets has castlings) n
+castling_among has WhiteShort n set is = among_left (offset_if (has WhiteShort) 768) _ n (flag_among (has WhiteShort) 768 n set is)
+castling_among has WhiteLong n set is = among_right (offset_if (has WhiteShort) 768) _ n (among_left (offset_if (has WhiteLong) 769) _ n (flag_among (has WhiteLong) 769 n set is))
+castling_among has BlackShort n set is =
+    among_right (offset_if (has WhiteShort) 768) _ n (among_right (offset_if (has WhiteLong) 769) _ n (among_left (offset_if (has BlackShort) 770) _ n (flag_among (has BlackShort) 770 n set is)))
+castling_among has BlackLong n set is =
+    among_right (offset_if (has WhiteShort) 768) _ n (among_right (offset_if (has WhiteLong) 769) _ n
+    (among_right (offset_if (has BlackShort) 770) _ n (among_left (offset_if (has BlackLong) 771) _ n (flag_among (has BlackLong) 771 n set is))))
+
+-- each castling's offset is above this one
+abbrev Above : ℕ → List Castling → Type 0
+Above offset [] = Unit {0}
+Above offset (c ∷ cs) = (offset < castling_offset c) × Above offset cs
+
+-- the offsets of these castlings rise
+abbrev Rise : List Castling → Type 0
+Rise [] = Unit {0}
+Rise (c ∷ cs) = Above (castling_offset c) cs × Rise cs
+
+above_among : (has : Castling → Bool) (offset : ℕ) (cs : List Castling) → Above offset cs → (n : ℕ) → Among (some_offsets has cs) n → offset < n
+above_among has offset [] above n h = absurd h
+above_among has offset (c ∷ cs) above n h = elim (flag_or_later (has c) (castling_offset c) (some_offsets has cs) n h) [
+  | inl here ↦ omega (arith, above.0, here.1)
+  | inr later ↦ above_among has offset cs above.1 n later
+]
+
+distinct_castlings : (has : Castling → Bool) (cs : List Castling) → Rise cs → Distinct (some_offsets has cs)
+distinct_castlings has [] rise = tt
+distinct_castlings has (c ∷ cs) rise =
+    distinct_after_flag (has c) (castling_offset c) (some_offsets has cs) (distinct_castlings has cs rise.1) (above_among has (castling_offset c) cs rise.0)
+
+castlings_rise : Rise castlings
+castlings_rise = ((omega arith, (omega arith, (omega arith, tt))), ((omega arith, (omega arith, tt)), ((omega arith, tt), (tt, tt))))
+
+castling_offsets_low : (c : Castling) → (768 ≤ castling_offset c) × (castling_offset c < 772)
+castling_offsets_low WhiteShort = (omega arith, omega arith)
+castling_offsets_low c = (omega arith, omega arith)
+
+-- the rights of a setup
+abbrev rights_of : Position → Castling → Bool
+rights_of s c = (castling_row c).right s.rights
+
+right_offset : (s : Position) (n : ℕ) → Among (rights_offsets s.rights) n → (768 ≤ n) × (n < 772)
+right_offset s n h =
+    let is = among_castlings (rights_of s) castlings n h in
+    let low = castling_offsets_low is.0 in
+    (omega (arith, is.2, low.0), omega (arith, is.2, low.1))
+
+en_passant_offset : (s : Position) (ep : Option ℕ) (n : ℕ) → Among (passing_offsets s ep) n → (772 ≤ n) × (n < 780)
+en_passant_offset s ep n h = let p = among_en_passant s ep n h in let is = p.3 in (omega (arith, is), omega (arith, is))
+
+distinct_rest : (s : Position) → Distinct (rights_offsets s.rights ++ (en_passant_offsets s ++ turn_offsets s.turn))
+distinct_rest s =
+    let es = en_passant_offsets s in
+    let ts = turn_offsets s.turn in
+    let tail = distinct_append es ts (distinct_en_passant s s.ep) (distinct_turn s.turn) (λ n x y. let a = en_passant_offset s s.ep n x in let b = (among_turn s.turn n y).1 in omega (arith, a.1)) in
+    distinct_append (rights_offsets s.rights) (es ++ ts) (distinct_castlings (rights_of s) castlings castlings_rise) tail (λ n x y.
+    let a = right_offset s n x in
+    elim (among_either es ts n y) [
+      | inl e ↦ let b = en_passant_offset s s.ep n e in omega (arith, a.1, b.0)
+      | inr t ↦ let b = (among_turn s.turn n t).1 in omega (arith, a.1)
+    ])
+
+rest_high : (s : Position) (n : ℕ) → Among (rights_offsets s.rights ++ (en_passant_offsets s ++ turn_offsets s.turn)) n → 768 ≤ n
+rest_high s n h = elim (among_either (rights_offsets s.rights) (en_passant_offsets s ++ turn_offsets s.turn) n h) [
+  | inl a ↦ (right_offset s n a).0
+  | inr b ↦ elim (among_either (en_passant_offsets s) (turn_offsets s.turn) n b) [
+    | inl e ↦ let p = en_passant_offset s s.ep n e in omega (arith, p.0)
+    | inr t ↦ let is = (among_turn s.turn n t).1 in omega arith
+  ]
+]
+
+distinct_offsets : (s : Position) → length s.board ≡ 64 → Distinct (offsets s)
+distinct_offsets s full =
+    distinct_append (piece_offsets s.board 0) (rights_offsets s.rights ++ (en_passant_offsets s ++ turn_offsets s.turn)) (distinct_pieces s.board 0 (omega arith)) (distinct_rest s) (λ n x y.
+    let low = low_square s.board 0 n (omega arith) (offset_on s.board 0 n x) in
+    let high = rest_high s n y in
+    omega (arith, low.1))
+
+has_offset : (s : Position) (n : ℕ) → Among (offsets s) n → HasOffset s n
+has_offset s n h =
+    let rest = rights_offsets s.rights ++ (en_passant_offsets s ++ turn_offsets s.turn) in
+    elim (among_either (piece_offsets s.board 0) rest n h) [
+      | inl p ↦ let at_board = offset_on s.board 0 n p in of_piece at_board.ahead at_board.piece at_board.stands (at_board.is ∙ ap (λ q. piece_offset at_board.piece q) (omega arith))
+      | inr r ↦ elim (among_either (rights_offsets s.rights) (en_passant_offsets s ++ turn_offsets s.turn) n r) [
+        | inl a ↦ (let is = among_castlings (rights_of s) castlings n a in of_right is.0 is.1 is.2)
+        | inr b ↦ elim (among_either (en_passant_offsets s) (turn_offsets s.turn) n b) [
+          | inl e ↦ let p = among_en_passant s s.ep n e in en_passant p.0 p.1 p.2 p.3
+          | inr t ↦ let p = among_turn s.turn n t in white_to_move p.0 p.1
+        ]
+      ]
+    ]
+
+among_offsets : (s : Position) (n : ℕ) → HasOffset s n → Among (offsets s) n
+among_offsets s n (of_piece square p stands is) =
+    let rest = rights_offsets s.rights ++ (en_passant_offsets s ++ turn_offsets s.turn) in
+    let P : ℕ → Type 0 = λ m. Among (piece_offsets s.board 0) m in
+    let e : piece_offset p (0 + square) ≡ n = ap (λ q. piece_offset p q) (omega arith) ∙ sym is in
+    among_left (piece_offsets s.board 0) rest n (subst P e (among_pieces s.board 0 square p stands))
+among_offsets s n (of_right c set is) =
+    among_right (piece_offsets s.board 0) _ n (among_left (rights_offsets s.rights) _ n (castling_among (rights_of s) c n set is))
+among_offsets s n (en_passant square here capturer is) =
+    among_right (piece_offsets s.board 0) _ n (among_right (rights_offsets s.rights) _ n (among_left (en_passant_offsets s) _ n (en_passant_among s s.ep square n here capturer is)))
+among_offsets s n (white_to_move white is) =
+    among_right (piece_offsets s.board 0) _ n (among_right (rights_offsets s.rights) _ n (among_right (en_passant_offsets s) _ n (turn_among s.turn n white is)))
+
+pub are_offsets : (s : Position) → IsSetup s → AreOffsets s (offsets s)
+are_offsets s setup = record {
+  once = distinct_pairs (offsets s) (distinct_offsets s setup.places);
+  each = λ n. (λ h. has_offset s n (among_contained (offsets s) n h), λ h. contains_among (offsets s) n (among_offsets s n h));
+}
