@@ -19,9 +19,9 @@ use Rattle.pb_export.specs.Packed.{number_after, piece_digit, place_digit, rank_
 
 -- ---- pieces
 
--- the letter of a digit
+-- with what the text of a digit begins
 abbrev letter_at : ℕ → ℕ
-letter_at d = slice_index (codes "-BKNPQRbknpqr") d
+letter_at d = slice_index (codes "1BKNPQRbknpqr111") d
 
 -- its digit is below that of a square that is empty as its neighbour, and its letter follows from
 -- it
@@ -49,7 +49,7 @@ digit_low p = (digit_of p.colour p.kind).low
 pub digit_high : (p : Piece) → piece_digit p < 13
 digit_high p = (digit_of p.colour p.kind).high
 
-letter_back : (c : Colour) (k : Kind) → letter_at (piece_digit (piece_of c k)) ≡ piece_letter (piece_of c k)
+pub letter_back : (c : Colour) (k : Kind) → letter_at (piece_digit (piece_of c k)) ≡ piece_letter (piece_of c k)
 letter_back White Pawn = refl
 letter_back White Knight = refl
 letter_back White Bishop = refl
@@ -62,6 +62,25 @@ letter_back Black Bishop = refl
 letter_back Black Rook = refl
 letter_back Black Queen = refl
 letter_back Black King = refl
+
+pub letter_low : (d : ℕ) → letter_at d < 115
+letter_low zero = lit< tt
+letter_low (suc zero) = lit< tt
+letter_low (suc (suc zero)) = lit< tt
+letter_low (suc (suc (suc zero))) = lit< tt
+letter_low (suc (suc (suc (suc zero)))) = lit< tt
+letter_low (suc (suc (suc (suc (suc zero))))) = lit< tt
+letter_low (suc (suc (suc (suc (suc (suc zero)))))) = lit< tt
+letter_low (suc (suc (suc (suc (suc (suc (suc zero))))))) = lit< tt
+letter_low (suc (suc (suc (suc (suc (suc (suc (suc zero)))))))) = lit< tt
+letter_low (suc (suc (suc (suc (suc (suc (suc (suc (suc zero))))))))) = lit< tt
+letter_low (suc (suc (suc (suc (suc (suc (suc (suc (suc (suc zero)))))))))) = lit< tt
+letter_low (suc (suc (suc (suc (suc (suc (suc (suc (suc (suc (suc zero))))))))))) = lit< tt
+letter_low (suc (suc (suc (suc (suc (suc (suc (suc (suc (suc (suc (suc zero)))))))))))) = lit< tt
+letter_low (suc (suc (suc (suc (suc (suc (suc (suc (suc (suc (suc (suc (suc zero))))))))))))) = lit< tt
+letter_low (suc (suc (suc (suc (suc (suc (suc (suc (suc (suc (suc (suc (suc (suc zero)))))))))))))) = lit< tt
+letter_low (suc (suc (suc (suc (suc (suc (suc (suc (suc (suc (suc (suc (suc (suc (suc zero))))))))))))))) = lit< tt
+letter_low (suc (suc (suc (suc (suc (suc (suc (suc (suc (suc (suc (suc (suc (suc (suc (suc i)))))))))))))))) = lit< tt
 
 next_letter : (i : ℕ) → 0 < i → i < 12 → letter_at i < letter_at (suc i)
 next_letter zero low high = absurd (omega (arith, low))

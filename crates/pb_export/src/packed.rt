@@ -15,6 +15,11 @@ use std::alloc::AllocError;
 /// The digit of an empty square after an empty one.
 const EMPTY_TOO: u32 = 15;
 
+/// With what the text of a digit begins. As a table, since no branch of it could be foreseen.
+const SYMBOLS: [u8; 16] = [
+    b'1', b'B', b'K', b'N', b'P', b'Q', b'R', b'b', b'k', b'n', b'p', b'q', b'r', b'1', b'1', b'1',
+];
+
 /// How many bytes a placement has at most: eight for each rank, and the slashes between them.
 const MAX_PLACEMENT: usize = 71;
 
@@ -192,21 +197,7 @@ fn symbol_of(digit: u32) -> u8
     ensures empty { digit ≡ 0 → result ≡ 49 }
     ensures low { result ≤ 114 }
 {
-    match digit {
-        1 => b'B',
-        2 => b'K',
-        3 => b'N',
-        4 => b'P',
-        5 => b'Q',
-        6 => b'R',
-        7 => b'b',
-        8 => b'k',
-        9 => b'n',
-        10 => b'p',
-        11 => b'q',
-        12 => b'r',
-        _ => b'1',
-    }
+    SYMBOLS[(digit % 16) as usize]
 }
 
 /// Writes the text of a rank, for which there is room.

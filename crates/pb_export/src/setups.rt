@@ -31,9 +31,9 @@ pub(crate) struct ListedSetup {
     pub(crate) setup: PackedSetup,
     // The moves follow from the setup.
     #[derive_where(skip)]
-    first: usize,
+    first: u32,
     #[derive_where(skip)]
-    end: usize,
+    end: u32,
 }
 
 /// Setups, and the key of each.
@@ -87,7 +87,7 @@ impl Listing {
         requires within { listed.now.end ≤ length self.now.moves.items }
         ensures { result.now ≡ moves_of self.now.moves.items listed.now }
     {
-        &self.moves[listed.first..listed.end]
+        &self.moves[listed.first as usize..listed.end as usize]
     }
 
     /// Adds the setups that stand before the moves of a game.
@@ -149,9 +149,9 @@ impl Listing {
     {
         // The reader tells that the setup meets its rules.
         let _turn = setup.turn();
-        let first = self.moves.len();
+        let first = in_32_bits(self.moves.len())?;
         add_moves(&mut self.moves, entries, setup)?;
-        let end = self.moves.len();
+        let end = in_32_bits(self.moves.len())?;
         if first < end {
             self.setups.push(ListedSetup {
                 setup: packed,
@@ -214,6 +214,20 @@ fn keyed_setups(alloc: Global, table: &Table, game: &Game) -> Result<KeyedSetups
         }
     }
     Ok(KeyedSetups { keys, setups })
+}
+
+/// How many moves there are, in 32 bits, so that a listed setup takes less room.
+///
+/// # Errors
+///
+/// There are more moves than that, which is counted as want of memory.
+fn in_32_bits(count: usize) -> Result<u32, AllocError>
+    ensures { IfOk result (λ n. n ≡ count) }
+{
+    match u32::try_from(count) {
+        Ok(count) => Ok(count),
+        Err(_) => Err(AllocError),
+    }
 }
 
 /// Adds the moves of entries under the key of a setup.
