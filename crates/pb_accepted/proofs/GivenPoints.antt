@@ -1,9 +1,9 @@
 -- What the plies of a game give, and what plies do to a tally, one after another.
 use Rattle.std.proofs.Common.{suc, ◌≡◌, ℕ, ◌+◌, ◌*◌, ◌<◌, ◌≤◌, ◌^◌, Bool, true, false, cond, if◌then◌else◌, Option, Some, IsSome, unwrap_or, List, [], ◌∷◌, map, take, length, sum_by, get_or, All, refl, sym, ap, subst, ◌∙◌, inl, inr, arith}
 use Rattle.std.proofs.lemmas.Bool.{cases_lt}
-use Rattle.std.proofs.lemmas.List.{get_or_default, length-map, length-take, take-map, take_all}
-use Rattle.std.proofs.lemmas.List.Elements.{All-map, All-weaker}
-use Rattle.std.proofs.lemmas.List.Sums.{sum_by-cons, sum_by_more, sum_by_more_le, sum_by-le}
+use Rattle.std.proofs.lemmas.List.{get_or_default, length-map, length-take, take-map}
+use Rattle.std.proofs.lemmas.List.Elements.{All-map}
+use Rattle.std.proofs.lemmas.List.Sums.{sum_by-cons, sum_by_more_le, sum_by-le}
 use Rattle.pb_board.specs.declared.piece.Colour.{Colour}
 use Rattle.pb_board.specs.declared.piece.Colour.TheVariants as side
 use Rattle.pb_board.specs.Position.{Position}
@@ -16,7 +16,7 @@ use Rattle.pb_games.specs.declared.outcome.Outcome.{Outcome}
 use Rattle.pb_games.specs.declared.outcome.Outcome.TheVariants.{White, Black, Draw}
 use Rattle.pb_games.specs.Submissions.{plies}
 use Rattle.pb_points.proofs.Pairs.{is_pair_itself}
-use Rattle.pb_points.specs.Tally.{Content, HasRoomFor, Held, MakesRow, AddsPly, held, is_pair, more, nothing}
+use Rattle.pb_points.specs.Tally.{Content, HasRoomFor, Held, MakesRow, held, is_pair, nothing}
 use Rattle.pb_accepted.specs.declared.ply_points.PlyPoints.{PlyPoints}
 use Rattle.pb_accepted.specs.Basis.{Basis}
 use Rattle.pb_accepted.specs.Counting.{counted, points_for, occurrences, points}
@@ -141,9 +141,6 @@ Ensured-more f g h ply_points i e made = record { same = λ k c. same_made g h r
           subst (IsThere h) (ap (λ n. given_at ply_points n) (sym same) ∙ get_or_default ply_points j (record { key = 0; code = 0; points = 0 }) d within) now
     ]
 
-pub Ensured-all : (f g : Content) (ply_points : List PlyPoints) (i : ℕ) → length ply_points ≤ i → Ensured f g ply_points i → All (IsThere g) ply_points
-Ensured-all f g ply_points i far e j d lt = e.there j d (omega (arith, lt, far)) lt
-
 -- ---- plies that are added
 
 -- from f to g the first `done` plies were added, and the rows of all are there
@@ -159,48 +156,6 @@ with_none k c h i =
 
 pub Added-none : (f : Content) (ply_points : List PlyPoints) → All (IsThere f) ply_points → Added f f ply_points 0
 Added-none f ply_points there = record { sums = λ k c. with_none k c (held f k c); there = there }
-
-held_added : (g h : Content) (key code n : ℕ) → AddsPly g h key code n → (k c : ℕ) → held h k c ≡ (if is_pair key code k c then more n (held g k c) else held g k c)
-held_added g h key code n adds k c = ap (λ o. unwrap_or o nothing) (adds k c) ∙ by (is_pair key code k c)
-  where
-    by : (b : Bool) → unwrap_or (if b then Some (more n (held g k c)) else g k c) nothing ≡ (if b then more n (held g k c) else held g k c)
-    by true = refl
-    by false = refl
-
-pub Added-more : (f g h : Content) (ply_points : List PlyPoints) (i : ℕ) → i < length ply_points → Added f g ply_points i → AddsPly g h (given_at ply_points i).key (given_at ply_points i).code (given_at ply_points i).points → Added f h ply_points (i + 1)
-Added-more f g h ply_points i lt e adds = record { sums = sums; there = All-weaker (IsThere g) (IsThere h) kept ply_points e.there }
-  where
-    r : PlyPoints
-    r = given_at ply_points i
-
-    kept : (q : PlyPoints) → IsThere g q → IsThere h q
-    kept q had = subst IsSome (sym (adds q.key q.code)) (stays (g q.key q.code) (is_pair r.key r.code q.key q.code) (more r.points (held g q.key q.code)) had)
-
-    gained_more : (k c : ℕ) → gained (take (i + 1) ply_points) k c ≡ gained (take i ply_points) k c + share k c r
-    gained_more k c = sum_by_more (share k c) ply_points i (record { key = 0; code = 0; points = 0 }) lt
-
-    one_more : (k c : ℕ) → occurring (take (i + 1) ply_points) k c ≡ occurring (take i ply_points) k c + one k c r
-    one_more k c = sum_by_more (one k c) ply_points i (record { key = 0; code = 0; points = 0 }) lt
-
-    by : (k c : ℕ) (b : Bool) → is_pair r.key r.code k c ≡ b → (if b then more r.points (held g k c) else held g k c) ≡ with_ply_points (take (i + 1) ply_points) k c (held f k c)
-    by k c true is =
-        let points : (held f k c).points + gained (take i ply_points) k c + r.points ≡ (held f k c).points + gained (take (i + 1) ply_points) k c = omega (arith, gained_more k c, ap (λ b. cond b r.points 0) is) in
-        let times : (held f k c).times + occurring (take i ply_points) k c + 1 ≡ (held f k c).times + occurring (take (i + 1) ply_points) k c = omega (arith, one_more k c, ap {B = ℕ} (λ b. cond b 1 0) is) in
-        ap (more r.points) (e.sums k c) ∙ (λ j. record { points = points j; times = times j })
-    by k c false is =
-        let points : (held f k c).points + gained (take i ply_points) k c ≡ (held f k c).points + gained (take (i + 1) ply_points) k c = omega (arith, gained_more k c, ap (λ b. cond b r.points 0) is) in
-        let times : (held f k c).times + occurring (take i ply_points) k c ≡ (held f k c).times + occurring (take (i + 1) ply_points) k c = omega (arith, one_more k c, ap {B = ℕ} (λ b. cond b 1 0) is) in
-        e.sums k c ∙ (λ j. record { points = points j; times = times j })
-
-    sums : (k c : ℕ) → held h k c ≡ with_ply_points (take (i + 1) ply_points) k c (held f k c)
-    sums k c = held_added g h r.key r.code r.points adds k c ∙ by k c (is_pair r.key r.code k c) refl
-
-pub Added-all : (f g : Content) (ply_points : List PlyPoints) (i : ℕ) → length ply_points ≤ i → Added f g ply_points i → (k c : ℕ) → held g k c ≡ with_ply_points ply_points k c (held f k c)
-Added-all f g ply_points i far e k c = e.sums k c ∙ ap (λ gs. with_ply_points gs k c (held f k c)) (take_all i ply_points far)
-
--- the next row is there, and one ply more fits
-pub Added-there : (f g : Content) (ply_points : List PlyPoints) (i : ℕ) → i < length ply_points → Added f g ply_points i → IsThere g (given_at ply_points i)
-Added-there f g ply_points i lt e = e.there i (record { key = 0; code = 0; points = 0 }) lt
 
 own_share : (r : PlyPoints) → share r.key r.code r ≡ r.points
 own_share r = ap (λ b. if b then r.points else 0) (is_pair_itself r.key r.code)

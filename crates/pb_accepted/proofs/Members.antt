@@ -1,48 +1,30 @@
 -- Lists with the same members.
-use Rattle.std.proofs.Common.{zero, suc, ◌≡◌, ◌≢◌, ℕ, ◌+◌, ◌<◌, ◌⊎◌, List, [], ◌∷◌, ◌++◌, append-nil, length, get_or, Contains, AllPairs, IsPermutation, refl, sym, ap, subst, ◌∙◌, inl, inr, arith}
+use Rattle.std.proofs.Common.{◌≡◌, ◌≢◌, ℕ, ◌+◌, ◌<◌, ◌⊎◌, List, [], ◌∷◌, ◌++◌, append-nil, length, get_or, Contains, AllPairs, IsPermutation, refl, sym, ap, subst, ◌∙◌, inl, inr, arith}
 use Rattle.std.specs.List.{remove}
 use Rattle.std.proofs.lemmas.Bool.{cases_lt}
 use Rattle.std.proofs.lemmas.List.{length-append}
 use Rattle.std.proofs.lemmas.List.Edits.{length-remove, get_or-remove_below, get_or-remove_above}
 use Rattle.std.proofs.lemmas.List.Quantifiers.{all_pairs_remove}
 use Rattle.std.proofs.lemmas.List.Sorted.{IsPermutation-refl, IsPermutation-sym, IsPermutation-trans, IsPermutation-cons, IsPermutation-remove, Contains-permutation}
+use Rattle.pb_points.proofs.Elements.{contains_cases, contains_head, contains_tail, pairs_head, pairs_tail}
 
 module _ {X : Type 0} where
-  pub contains_cases : (x : X) (xs : List X) (z : X) → Contains (x ∷ xs) z → (x ≡ z) ⊎ Contains xs z
-  contains_cases x xs z h = by h.0 h.1 h.2
-    where
-      by : (k : ℕ) → k < length (x ∷ xs) → get_or (x ∷ xs) k z ≡ z → (x ≡ z) ⊎ Contains xs z
-      by zero lt e = inl e
-      by (suc k) lt e = inr (k, omega arith, e)
-
-  pub contains_head : (x : X) (xs : List X) → Contains (x ∷ xs) x
-  contains_head x xs = (0, omega arith, refl)
-
-  pub contains_tail : (x : X) (xs : List X) (z : X) → Contains xs z → Contains (x ∷ xs) z
-  contains_tail x xs z h = (suc h.0, omega (arith, h.1), h.2)
-
   none_in_nil : (z : X) → Contains [] z → ⊥
   none_in_nil z h = omega (arith, h.1)
 
   module _ (R : X → X → Type 0) where
-    pub pairs_head : (x : X) (xs : List X) (z : X) → AllPairs R (x ∷ xs) → Contains xs z → R x z
-    pairs_head x xs z h c = subst (R x) c.2 (h 0 (suc c.0) z (omega arith) (omega (arith, c.1)))
-
-    pub pairs_tail : (x : X) (xs : List X) → AllPairs R (x ∷ xs) → AllPairs R xs
-    pairs_tail x xs h i j d lt fits = h (suc i) (suc j) d (omega arith) (omega arith)
-
     same_heads : ((x y : X) → R x y → R y x → ⊥) → (x y : X) (xs ys : List X) → AllPairs R (x ∷ xs) → AllPairs R (y ∷ ys) → Contains (y ∷ ys) x → Contains (x ∷ xs) y → x ≡ y
     same_heads asym x y xs ys h k to from = elim (contains_cases y ys x to) [
       | inl e ↦ sym e
       | inr below ↦ elim (contains_cases x xs y from) [
         | inl e ↦ e
-        | inr above ↦ absurd (asym x y (pairs_head x xs y h above) (pairs_head y ys x k below))
+        | inr above ↦ absurd (asym x y (pairs_head R x xs y h above) (pairs_head R y ys x k below))
       ]
     ]
 
     into_tail : ((x : X) → R x x → ⊥) → (x y z : X) (xs ys : List X) → AllPairs R (x ∷ xs) → x ≡ y → Contains xs z → Contains (y ∷ ys) z → Contains ys z
     into_tail irr x y z xs ys h heads here there = elim (contains_cases y ys z there) [
-      | inl e ↦ absurd (irr z (subst (λ w. R w z) (heads ∙ e) (pairs_head x xs z h here)))
+      | inl e ↦ absurd (irr z (subst (λ w. R w z) (heads ∙ e) (pairs_head R x xs z h here)))
       | inr later ↦ later
     ]
 
@@ -51,7 +33,7 @@ module _ {X : Type 0} where
     heads_one irr asym x y xs ys h k to (inl from) = same_heads asym x y xs ys h k to from
     heads_one irr asym x y xs ys h k to (inr above) = elim (contains_cases y ys x to) [
       | inl e ↦ sym e
-      | inr below ↦ absurd (asym x y (above x (contains_head x xs)) (pairs_head y ys x k below))
+      | inr below ↦ absurd (asym x y (above x (contains_head x xs)) (pairs_head R y ys x k below))
     ]
 
     -- a list in a strict order begins with another, whose members it has, where its others are
@@ -62,7 +44,7 @@ module _ {X : Type 0} where
     begins_in_order irr asym (x ∷ xs) [] h k to from = absurd (none_in_nil x (to x (contains_head x xs)))
     begins_in_order irr asym (x ∷ xs) (y ∷ ys) h k to from =
         let heads = heads_one irr asym x y xs ys h k (to x (contains_head x xs)) (from y (contains_head y ys)) in
-        let tails = begins_in_order irr asym xs ys (pairs_tail x xs h) (pairs_tail y ys k)
+        let tails = begins_in_order irr asym xs ys (pairs_tail R x xs h) (pairs_tail R y ys k)
         (λ z c. into_tail irr x y z xs ys h heads c (to z (contains_tail x xs z c)))
         (λ z c. elim (from z (contains_tail y ys z c)) [
           | inl here ↦ inl (into_tail irr y x z ys xs k (sym heads) c here)

@@ -1,6 +1,5 @@
 -- What one line is answered and what it does to the list of what is held.
-use Rattle.std.proofs.Common.{◌≡◌, ◌≢◌, ℕ, ◌+◌, ◌-◌, ◌<◌, ◌≤◌, ◌⊎◌, List, [], ◌∷◌, ◌++◌, length, Option, Some, None, slice_get, get_or, Ok, Err, refl, sym, ap, subst, ◌∙◌, inl, inr, arith}
-use Rattle.std.specs.Option.{MatchOption, option_map}
+use Rattle.std.proofs.Common.{◌≡◌, ◌≢◌, ℕ, ◌+◌, ◌-◌, ◌<◌, ◌≤◌, ◌⊎◌, List, [], ◌∷◌, ◌++◌, length, Some, slice_get, get_or, Ok, Err, refl, sym, ap, subst, ◌∙◌, inl, inr, arith}
 use Rattle.std.proofs.lemmas.Bool.{cases_lt}
 use Rattle.std.proofs.lemmas.List.{length_push}
 use Rattle.std.proofs.lemmas.List.Quantifiers.{all_pairs_push}
@@ -36,20 +35,6 @@ one_submission b s t h k = line.one_lawful b s t h k
 pub place_of : (A : List Submission) (k : ℕ) (s : Submission) → slice_get A k ≡ Some s → IsNewId s.0 A → ⊥
 place_of A k s at new = new k s (slice_get_within A k s at) (ap id_of (get_or_from_slice_get A k s s at))
 
--- a line that submits under a new id submits nothing that has a number
-pub new_has_no_number : (A : List Submission) (line : List ℕ) (s t : Submission) (n : ℕ) → IsLawful line s → IsNewId s.0 A → IsLawful line t → IsNumber A n t → ⊥
-new_has_no_number A line s t n law fresh again at = place_of A at.0 t at.2 (subst (λ (u : Submission). IsNewId u.0 A) (one_submission line s t law again) fresh)
-
--- the number of what stands at a place, where `get` looks before it
-pub numbered : {P : Type 0} (f : P → Submission) (A : List Submission) (n : ℕ) (r : Option P) → 0 < n → option_map f r ≡ slice_get A (n - 1)
-    → MatchOption r ((s : Submission) → IsNumber A n s → ⊥) (λ p. IsNumber A n (f p))
-numbered f A n None some e = λ s h.
-    let i : n - 1 ≡ h.0 = omega (arith, h.1) in
-    let at : slice_get A (n - 1) ≡ Some s = ap (slice_get A) i ∙ h.2 in
-    let no : None ≡ Some s = e ∙ at in
-    cc
-numbered f A n (Some p) some e = (n - 1, omega arith, sym e)
-
 -- ---- what may be answered to a lawful submission
 
 pub data Answered (cap : ℕ) (A : List Submission) (s : Submission) (r : Answer) : Type 0 where
@@ -74,10 +59,6 @@ answered cap A s (Err (Spelling n)) h = absurd h
 answered cap A s (Err Plies) h = absurd h
 answered cap A s (Err (Illegal n)) h = absurd h
 
--- a line by itself is never refused so
-pub refuses_no_conflict : (line : List ℕ) (n : ℕ) → Refuses line (Conflict n) → ⊥
-refuses_no_conflict line n h = h.due
-
 -- a submission that is new may be answered with the next number, or with want of room
 pub new_answer : (cap : ℕ) (A : List Submission) (s : Submission) (r : Answer) → IsNewId s.0 A → Answers cap A s r
     → ((r ≡ Ok (length A + 1)) × (length A < cap)) ⊎ ((r ≡ Err Full) × (cap ≤ length A))
@@ -92,12 +73,6 @@ new_answer cap A s r fresh h = by (answered cap A s r h)
 -- ---- what `submit` answers and leaves, case by case
 
 module _ (cap : ℕ) (A : List Submission) (line : List ℕ) (s : Submission) (lawful : IsLawful line s) where
-  pub Allowed-held : (k : ℕ) → slice_get A k ≡ Some s → Allowed cap A line (Ok (k + 1))
-  Allowed-held k at = inl (inl (s, lawful, inl (k, refl, at)))
-
-  pub Allowed-conflict : (k : ℕ) (g : Game) → slice_get A k ≡ Some (s.0, g) → g ≢ s.1 → Allowed cap A line (Err (Conflict (k + 1)))
-  Allowed-conflict k g at differs = inl (inl (s, lawful, (g, (k, refl, at), differs)))
-
   pub Allowed-full : IsNewId s.0 A → cap ≤ length A → Allowed cap A line (Err Full)
   Allowed-full fresh many = inl (inl (s, lawful, (fresh, many)))
 
@@ -138,18 +113,6 @@ Adds-unique IsNew A line r M N (inr h) (inr k) = h.1 ∙ sym k.1
 
 pub Takes-unique : (A : List Submission) (line : List ℕ) (r : Answer) (M N : List Submission) → Takes A line r M → Takes A line r N → M ≡ N
 Takes-unique = Adds-unique (λ A s. IsNewId s.0 A)
-
--- an allowed answer leaves some list
-takes_answered : (cap : ℕ) (A : List Submission) (line : List ℕ) (s : Submission) (r : Answer) → IsLawful line s → Answered cap A s r → (M : List Submission) × Takes A line r M
-takes_answered cap A line s r law (held n e at) = (A, Takes-held cap A line s law at.0 s.1 r at.2)
-takes_answered cap A line s r law (new e fresh room) = (A ++ s ∷ [], subst (λ x. Takes A line x (A ++ s ∷ [])) (sym e) (Takes-new cap A line s law (length A + 1) fresh))
-takes_answered cap A line s r law (other n g e at differs) = (A, Takes-held cap A line s law at.0 g r at.2)
-takes_answered cap A line s r law (full e fresh many) = (A, subst (λ x. Takes A line x A) (sym e) (Takes-full A line))
-
-pub takes_allowed : (cap : ℕ) (A : List Submission) (line : List ℕ) (r : Answer) → Allowed cap A line r → (M : List Submission) × Takes A line r M
-takes_allowed cap A line r (inl (inl h)) = takes_answered cap A line h.0 r h.1 (answered cap A h.0 r h.2)
-takes_allowed cap A line r (inl (inr h)) = (A, subst (λ x. Takes A line x A) (sym h.1) (Takes-refused A line h.0 h.2))
-takes_allowed cap A line r (inr h) = (A, subst (λ x. Takes A line x A) (sym h.0) (Takes-memory A line))
 
 -- ids stay apart
 pub HaveOwnIds-Takes : (A : List Submission) (line : List ℕ) (r : Answer) (M : List Submission) → Takes A line r M → HaveOwnIds A → HaveOwnIds M

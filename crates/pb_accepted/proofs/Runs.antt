@@ -1,10 +1,10 @@
 -- Whole runs, line by line.
-use Rattle.std.proofs.Common.{◌≡◌, ℕ, List, [], ◌∷◌, ◌++◌, refl, sym, subst, ◌∙◌, arith}
+use Rattle.std.proofs.Common.{◌≡◌, ℕ, List, [], ◌∷◌, ◌++◌, sym, subst, ◌∙◌, arith}
 use Rattle.pb_games.specs.Submissions.{Submission}
 use Rattle.pb_accepted.specs.Accepting.{Answer, Along}
 use Rattle.pb_accepted.specs.Holding.{HaveOwnIds}
-use Rattle.pb_accepted.proofs.Allowing.{Accepted, Allowed, AllowedRun, Takes}
-use Rattle.pb_accepted.proofs.Replies.{Takes-unique, takes_allowed, HaveOwnIds-Takes}
+use Rattle.pb_accepted.proofs.Allowing.{Accepted, AllowedRun, Takes}
+use Rattle.pb_accepted.proofs.Replies.{Takes-unique, HaveOwnIds-Takes}
 
 -- ---- steps
 
@@ -38,13 +38,6 @@ own_ids L R A h = Along-keeps Takes HaveOwnIds HaveOwnIds-Takes [] L R A h HaveO
 pub Accepted-unique : (A : List Submission) (L : List (List ℕ)) (R : List Answer) (B C : List Submission) → Accepted A L R B → Accepted A L R C → B ≡ C
 Accepted-unique = Along-unique Takes Takes-unique
 
--- each run leaves some list
-pub accepted_of : (cap : ℕ) (A : List Submission) (L : List (List ℕ)) (R : List Answer) → AllowedRun cap A L R → (B : List Submission) × Accepted A L R B
-accepted_of cap A [] [] run = (A, refl)
-accepted_of cap A (line ∷ L) (r ∷ R) run = let rest = accepted_of cap run.0 L R run.3 in (rest.0, (run.0, run.2, rest.1))
-accepted_of cap A [] (r ∷ R) run = absurd run
-accepted_of cap A (line ∷ L) [] run = absurd run
-
 -- ---- runs that go on
 
 pub Run-append : (cap : ℕ) (A B : List Submission) (K L : List (List ℕ)) (Q R : List Answer)
@@ -62,10 +55,3 @@ Accepted-append A B C [] L [] R accepted more = subst (λ X. Accepted X L R C) a
 Accepted-append A B C (line ∷ K) L (q ∷ Q) R accepted more = (accepted.0, accepted.1, Accepted-append accepted.0 B C K L Q R accepted.2 more)
 Accepted-append A B C [] L (q ∷ Q) R accepted more = absurd accepted
 Accepted-append A B C (line ∷ K) L [] R accepted more = absurd accepted
-
--- by one more line
-pub Run-push : (cap : ℕ) (A : List Submission) (L : List (List ℕ)) (R : List Answer) (B : List Submission) (line : List ℕ) (r : Answer)
-    → AllowedRun cap A L R → Accepted A L R B → Allowed cap B line r → AllowedRun cap A (L ++ line ∷ []) (R ++ r ∷ [])
-Run-push cap A L R B line r run accepted allowed =
-    let taken = takes_allowed cap B line r allowed in
-    Run-append cap A B L (line ∷ []) R (r ∷ []) run accepted (taken.0, allowed, taken.1, tt)

@@ -13,7 +13,6 @@ ghost use Rattle.pb_accepted.specs.Holding.{IsLedger, Tallies, most_games};
 ghost use Rattle.pb_accepted.specs.Noting.{HasNoted};
 ghost use Rattle.pb_accepted.specs.Rules.{all_plies};
 
-use crate::arrival::Arrival;
 use crate::ply_points::{add_ply_points, counted, ensure_rows};
 use crate::recorder::Recorder;
 use crate::reply::first_field;
@@ -27,6 +26,18 @@ use std::marker::Model;
 
 /// The most games that a ledger may be made for.
 pub const MAX_CAP: u32 = 1_000_000;
+
+/// How a line relates to the games held, if it submits a legal game.
+#[derive(Clone, Copy)]
+pub(crate) enum Arrival {
+    /// No game is held under its id.
+    New,
+    /// The game that is held under its id, which has this number, comes again. The line does submit
+    /// it.
+    Repeat(u32),
+    /// Another game is held under its id, and has this number.
+    Other(u32),
+}
 
 /// The accepted games by id, in order of acceptance, with the points of their moves.
 #[derive(Drop)]

@@ -3,7 +3,6 @@
 //! business of the crates above.
 #![tactic(auto)]
 
-mod arrival;
 pub mod laws;
 mod ledger;
 mod ply_log;

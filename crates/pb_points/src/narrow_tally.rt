@@ -77,11 +77,14 @@ impl NarrowTally {
     fn sums(&self, alloc: Global) -> Result<Vec<Row>, AllocError>
         ensures { IfOk result (λ v. IsAddedUp (all_of self.now.rows self.now.wide) v.items) }
     {
-        let narrow = listed(alloc, &self.rows)?;
+        let mut narrow = listed(alloc, &self.rows)?;
+        order_rows(alloc, &mut narrow)?;
         let mut rows = Vec::with_capacity(alloc, narrow.len() + self.wide.len())?;
         add_rows(&mut rows, &narrow)?;
-        rows.extend_from_slice(&self.wide)?;
-        sort_rows(&mut rows);
+        if !self.wide.is_empty() {
+            rows.extend_from_slice(&self.wide)?;
+            sort_rows(&mut rows);
+        }
         add_up(&mut rows);
         Ok(rows)
     }
