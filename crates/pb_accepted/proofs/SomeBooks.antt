@@ -22,7 +22,7 @@ use Rattle.pb_moves.specs.Successor.{after}
 use Rattle.pb_poly.specs.declared.entry.Entry.{Entry}
 use Rattle.pb_poly.specs.Code.{encode_move, encoded_to}
 use Rattle.pb_poly.specs.Entry.{IsEntry}
-use Rattle.pb_poly.specs.Key.{key, places}
+use Rattle.pb_poly.specs.Key.{key, offsets}
 use Rattle.pb_poly.specs.Table.{IsTable}
 use Rattle.pb_poly.proofs.Parity.{toggled_below}
 use Rattle.pb_games.specs.Submissions.{IsSubmission, Submission, plies}
@@ -139,7 +139,7 @@ module _ (T : Basis) (S : List Submission) (least : 1 ≤ T.rules.least) where
 
 key_below : (words : List ℕ) (s : Position) → IsTable words → key words s < 2 ^ 64
 unfolding key
-key_below words s table = toggled_below words 0 (places s) table (omega arith)
+key_below words s table = toggled_below words 0 (offsets s) table (omega arith)
 
 rook_below : (c : Castling) → (castling_row c).rook_from < 64
 rook_below WhiteShort = omega arith

@@ -1,9 +1,10 @@
 //! The ledger.
 
-ghost use Rattle.std.specs.Prelude.{◌≡◌, ◌<◌, ◌≤◌, ◌+◌, ◌*◌, ◌^◌, ◌++◌, ◌∷◌, [], ℕ, List, IfOk, IfSome, MatchOption, OnErr, OnOk, Ok, length};
+ghost use Rattle.std.specs.Prelude.{◌≡◌, ◌<◌, ◌≤◌, ◌+◌, ◌*◌, ◌^◌, ◌++◌, ◌∷◌, [], ℕ, All, List, IfOk, IfSome, MatchOption, OnErr, OnOk, Ok, length};
 ghost use Rattle.pb_games.specs.Submissions.{IsLawful, IsSubmission, Submission};
 ghost use Rattle.pb_points.specs.Tally.{held};
 ghost use Rattle.pb_points.specs.TallyBook.{AddsSome};
+ghost use Rattle.pb_poly.specs.Entry.{IsEntry};
 ghost use Rattle.pb_poly.specs.declared.entry.Entry.{Entry};
 ghost use Rattle.pb_accepted.specs.Accepting.{IsNewId, IsNumber, Step};
 ghost use Rattle.pb_accepted.specs.Arriving.{IsArrival};
@@ -11,7 +12,7 @@ ghost use Rattle.pb_accepted.specs.Counting.{IsBook, stretch};
 ghost use Rattle.pb_accepted.specs.PlyPoints.{ply_points_of, with_ply_points};
 ghost use Rattle.pb_accepted.specs.Holding.{IsLedger, Tallies, most_games};
 ghost use Rattle.pb_accepted.specs.Noting.{HasNoted};
-ghost use Rattle.pb_accepted.specs.Rules.{all_plies};
+ghost use Rattle.pb_accepted.specs.Rules.{AreRules, all_plies};
 
 use crate::ply_points::{add_ply_points, counted, ensure_rows};
 use crate::recorder::Recorder;
@@ -90,7 +91,8 @@ impl<T: Tally> Ledger<T> {
     ) -> Result<Ledger<T>, AllocError>
         requires some { 1 ≤ cap }
         requires few { cap ≤ most_games }
-        ensures { IfOk result (λ l. l ≡ record { basis = record { words = table.now; rules = rules }; cap = cap; accepted = [] }) }
+        ensures empty { IfOk result (λ l. l ≡ record { basis = record { words = table.now; rules = rules }; cap = cap; accepted = [] }) }
+        ensures counting { OnOk result (AreRules rules) }
     {
         // The reader tells that the numbers lie in their ranges.
         let _plies = rules.plies();
@@ -238,6 +240,7 @@ impl<T: Tally> Ledger<T> {
             × (entries.new.items ≡ entries.old.items ++ stretch first next book)) }
         ensures onward { IfOk result (λ next. IfSome next (λ n. first < n)) }
         ensures err { OnErr result (AddsSome entries.old.items entries.new.items) }
+        ensures rules { IsLedger self.now }
     {
         let least = u64::from(self.rules.least());
         self.tally.add_stretch(alloc, least, first, entries)
@@ -249,7 +252,8 @@ impl<T: Tally> Ledger<T> {
     ///
     /// There was no memory for the rows of the tally, or for the entries.
     pub fn make_book(&self, alloc: Global) -> Result<Book, AllocError>
-        ensures { IfOk result (λ book. IsBook self.now.basis self.now.accepted book) }
+        ensures book { IfOk result (λ book. IsBook self.now.basis self.now.accepted book) }
+        ensures bounds { IfOk result (All IsEntry) }
     {
         let mut entries = Vec::new(alloc);
         let least = u64::from(self.rules.least());

@@ -1,16 +1,33 @@
 -- What follows from how commands end.
 use Rattle.std.specs.Prelude.{◌≡◌, ℕ, Bool, false, List, Result, Ok, IfErr, IfOk, IfSome, MatchResult, OnOk}
 use Rattle.std.specs.Io.KnownBytes.{Appends}
+use Rattle.pb_io.specs.LineTask.{AtEnd, IfTold}
 use Rattle.pb_io.specs.Sink.{SinkState}
 use Rattle.pb_io.specs.Source.{SourceState}
 use Rattle.pb_io.specs.declared.fault.Fault.{Fault}
-use Rattle.pb_io.specs.declared.fault.Fault.TheVariants.{Memory}
+use Rattle.pb_io.specs.declared.fault.Fault.TheVariants.{Memory, Write}
 use Rattle.pb_poly.specs.Reading.{ReadsBook, Tells}
 use Rattle.pb_commands.specs.BookJudged.{AsBook}
 use Rattle.pb_commands.specs.BookShown.{BookShown}
-use Rattle.pb_commands.specs.Judged.{HandedOnOnce, PutsText, PutsUntil}
+use Rattle.pb_commands.specs.EpdRun.{RewritesUntil}
+use Rattle.pb_commands.specs.EpdShown.{EpdShown}
+use Rattle.pb_commands.specs.FenShown.{FenShown}
+use Rattle.pb_commands.specs.Judged.{HandedOnOnce, PutsFrontOfText, PutsText, PutsUntil}
 use Rattle.pb_commands.specs.ProbeShown.{ProbeShown, ProbesSources}
 use Rattle.pb_commands.specs.TableJudged.{AsTable}
+
+-- so the command `fen` ends, over the states of its sink before and after
+pub record FenEnds (fen : List ℕ) (words : List (List ℕ)) (sink sink' : SinkState) (result : Result Bool Fault) : Type 0 where
+  pub shown : IfOk result (PutsText (FenShown fen words) sink sink')
+  pub handed_on : OnOk result (HandedOnOnce sink sink')
+  pub fault : IfErr result (λ fault. (fault ≡ Write) × PutsFrontOfText (FenShown fen words) sink sink')
+
+-- so the command `epd` ends, over the states of its source and its sink
+pub record EpdEnds (fills : ℕ) (s s' : SourceState) (sink sink' : SinkState) (result : Result Bool Fault) : Type 0 where
+  pub shown : IfOk result (λ answer. AtEnd fills s s' (λ ls. PutsText (EpdShown 1 ls) sink sink' answer))
+  pub told : IfOk result (λ answer. IfTold s s' (λ ls. PutsText (EpdShown 1 ls) sink sink' answer))
+  pub handed_on : OnOk result (HandedOnOnce sink sink')
+  pub fault : IfErr result (RewritesUntil fills s s' sink sink')
 
 -- so the command `show` ends, over the states of its source and its sink before and after
 pub record ShowEnds (fills : ℕ) (s s' : SourceState) (sink sink' : SinkState) (result : Result Bool Fault) : Type 0 where

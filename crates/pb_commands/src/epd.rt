@@ -1,12 +1,10 @@
 //! The command `epd`: each EPD line is written in its one ordered form, or named as refused.
-ghost use Rattle.std.specs.Prelude.{◌≡◌, ◌≤◌, ◌↔◌, ◌∷◌, ◌++◌, IfErr, IfOk, IsTrue, OnOk, codes, decimal, false, length, true};
+ghost use Rattle.std.specs.Prelude.{◌≡◌, ◌≤◌, ◌↔◌, ◌∷◌, ◌++◌, IfErr, IsTrue, OnOk, codes, decimal, false, length, true};
 ghost use Rattle.pb_board.specs.LineEnd.{with_end};
 ghost use Rattle.pb_io.specs.Lines.{line_limit};
-ghost use Rattle.pb_io.specs.LineTask.{AtEnd, IfTold};
 ghost use Rattle.pb_io.specs.Sink.{AwaitsFlush, Put};
 ghost use Rattle.pb_commands.specs.EpdRun.{RewritesOrEnds, RewritesStream, RewritesUntil};
-ghost use Rattle.pb_commands.specs.EpdShown.{EpdShown, IsBlank, LineShown, epd_verdict, refused_line};
-ghost use Rattle.pb_commands.specs.Judged.{HandedOnOnce, PutsText};
+ghost use Rattle.pb_commands.specs.EpdShown.{IsBlank, LineShown, epd_verdict, refused_line};
 ghost use Rattle.pb_io.specs.Parts.{parts_joined};
 ghost use Rattle.pb_commands.specs.Rewriter.{PutsOrStops};
 
@@ -74,24 +72,10 @@ impl<K: Sink> Rewriter<'_, K> {
 /// LF ended is taken at the end of input, and not at a fault. `Memory` comes where a growth found
 /// no memory, and ends the run after the lines before; it never comes in place of a refusal of a
 /// long line, of one with a bad token or of one that doesn't begin with four words.
+///
+/// Where the source tells its bytes, what is put is what their lines give: that follows from the
+/// clause, by the law `epd_ends`.
 pub fn run_epd<S: Source, K: Sink>(
-    alloc: Global,
-    source: &mut S,
-    sink: &mut K,
-    fills: u32,
-) -> Result<bool, Fault>
-    ensures shown { IfOk result (λ answer. AtEnd fills (S.state source.old) (S.state source.new)
-        (λ ls. PutsText (EpdShown 1 ls) (K.state sink.old) (K.state sink.new) answer)) }
-    ensures told { IfOk result (λ answer. IfTold (S.state source.old) (S.state source.new)
-        (λ ls. PutsText (EpdShown 1 ls) (K.state sink.old) (K.state sink.new) answer)) }
-    ensures handed_on { OnOk result (HandedOnOnce (K.state sink.old) (K.state sink.new)) }
-    ensures fault { IfErr result (RewritesUntil fills (S.state source.old) (S.state source.new) (K.state sink.old) (K.state sink.new)) }
-{
-    rewrite_stream(alloc, source, sink, fills)
-}
-
-/// Rewrites the lines of the source from the first on, and hands on what was put.
-fn rewrite_stream<S: Source, K: Sink>(
     alloc: Global,
     source: &mut S,
     sink: &mut K,

@@ -1,5 +1,5 @@
 //! The command `fen`: moves are played from a FEN record, and the record after them is written.
-ghost use Rattle.std.specs.Prelude.{◌≡◌, ℕ, ◌+◌, ◌↔◌, List, All, IfErr, IfOk, IsTrue, MatchOption, MatchResult, Ok, OnOk, true};
+ghost use Rattle.std.specs.Prelude.{◌≡◌, ℕ, ◌+◌, ◌↔◌, List, All, IsTrue, MatchOption, MatchResult, Ok, true};
 ghost use Rattle.pb_board.specs.Position.{IsRecord};
 ghost use Rattle.pb_board.specs.LineEnd.{with_end};
 ghost use Rattle.pb_board.specs.Refusal.{BreaksAt};
@@ -10,10 +10,9 @@ ghost use Rattle.pb_moves.specs.Moved.{Moved};
 ghost use Rattle.pb_moves.specs.Played.{IsSpelled, Spells};
 ghost use Rattle.pb_commands.specs.Line.{texts};
 ghost use Rattle.pb_commands.specs.FenShown.{FenShown, Unplayable};
-ghost use Rattle.pb_commands.specs.Judged.{HandedOnOnce, PutsFrontOfText, PutsOrEnds, PutsText};
+ghost use Rattle.pb_commands.specs.Judged.{PutsOrEnds};
 ghost use Rattle.pb_commands.specs.Plays.{PlaysWords};
 ghost use Rattle.pb_commands.specs.Refused.{refusal_verdict};
-ghost use Rattle.pb_io.specs.declared.fault.Fault.TheVariants.{Write};
 
 use crate::output::show_line;
 use crate::refusal::{refuse, refuse_with};
@@ -39,24 +38,15 @@ enum Refusal {
 /// `refused illegal` and the number of the first move that isn't legal. Answers whether the input
 /// was taken.
 ///
-/// It takes no memory of its own. `Write` comes where the sink has failed, and then a front of
-/// what was to be shown was put, and none of it handed on.
+/// It takes no memory of its own. `Write` is the only fault: it comes where the sink has failed, and
+/// then a front of what was to be shown was put, and none of it handed on. That follows from the
+/// clause, by the law `fen_ends`.
 pub fn run_fen<K: Sink>(
     _alloc: Global,
     fen: &[u8],
     moves: &[&str],
     sink: &mut K,
 ) -> Result<bool, Fault>
-    ensures shown { IfOk result (PutsText (FenShown fen.now (texts moves.now)) (K.state sink.old) (K.state sink.new)) }
-    ensures handed_on { OnOk result (HandedOnOnce (K.state sink.old) (K.state sink.new)) }
-    ensures fault { IfErr result (λ fault. (fault ≡ Write)
-        × PutsFrontOfText (FenShown fen.now (texts moves.now)) (K.state sink.old) (K.state sink.new)) }
-{
-    show_record(fen, moves, sink)
-}
-
-/// Shows the record after the moves, or why there is none.
-fn show_record<K: Sink>(fen: &[u8], moves: &[&str], sink: &mut K) -> Result<bool, Fault>
     ensures { PutsOrEnds (FenShown fen.now (texts moves.now)) (K.state sink.old) (K.state sink.new) result }
 {
     match record_after(fen, moves) {

@@ -7,9 +7,25 @@ ghost use Rattle.pb_io.specs.Source.{SourceState};
 ghost use Rattle.pb_io.specs.declared.fault.Fault.{Fault};
 ghost use Rattle.pb_poly.specs.Reading.{ReadsBook};
 ghost use Rattle.pb_commands.specs.BookShown.{BookShown};
+ghost use Rattle.pb_commands.specs.EpdRun.{RewritesOrEnds};
+ghost use Rattle.pb_commands.specs.FenShown.{FenShown};
 ghost use Rattle.pb_commands.specs.Judged.{PutsOrEnds};
-ghost use Rattle.pb_commands.specs.Laws.{ProbeEnds, ShowEnds};
+ghost use Rattle.pb_commands.specs.Laws.{EpdEnds, FenEnds, ProbeEnds, ShowEnds};
 ghost use Rattle.pb_commands.specs.ProbeShown.{ProbesSources};
+
+/// However `run_fen` ends: the whole text was put and handed on once; or the sink failed, a front of
+/// the text was put, and none of it handed on.
+pub fn fen_ends()
+    ensures { (fen : List ℕ) (words : List (List ℕ)) (k k' : SinkState) (result : Result Bool Fault)
+        → PutsOrEnds (FenShown fen words) k k' result → FenEnds fen words k k' result }
+{}
+
+/// However `run_epd` ends: what all lines give was put and handed on once, or the fault tells what
+/// was put; and where the source tells its bytes, what was put is what their lines give.
+pub fn epd_ends()
+    ensures { (fills : ℕ) (s s' : SourceState) (k k' : SinkState) (result : Result Bool Fault)
+        → RewritesOrEnds fills s s' k k' result → EpdEnds fills s s' k k' result }
+{}
 
 /// However `run_show` ends: the whole text was put and handed on once, or the fault tells what was
 /// put; and where the source tells its bytes, what was put is what they show.

@@ -1,5 +1,5 @@
 -- The book of a ledger, put stretch by stretch.
-use Rattle.std.proofs.Common.{◌≡◌, ◌∙◌, ℕ, ◌<◌, true, Option, None, Some, List, [], ◌∷◌, ◌++◌, ◌+◌, length, get_or, take, drop, take-append-drop, All, Result, Ok, Err, ap, append_assoc, inl, inr, refl, subst, sym}
+use Rattle.std.proofs.Common.{◌≡◌, ◌∙◌, ◌⊎◌, ℕ, ◌<◌, true, Option, None, Some, List, [], ◌∷◌, ◌++◌, ◌+◌, length, get_or, take, drop, take-append-drop, All, Result, Ok, Err, ap, append_assoc, inl, inr, refl, subst, sym}
 use Rattle.std.specs.Prelude.{IfSome}
 use Rattle.std.specs.Io.KnownBytes.{Appends}
 use Rattle.std.specs.Result.{IsErr}
@@ -65,10 +65,23 @@ pub record Booking (ledger : LedgerState) (next : Option ℕ) (old new : SinkSta
   pub bounds : All IsEntry book
   pub puts : PutsOn old new (book_bytes (stretch 0 next book))
 
-pub starts : (ledger : LedgerState) → IsLedger ledger → (sink : SinkState) → Booking ledger (Some 0) sink sink
+starts : (ledger : LedgerState) → IsLedger ledger → (sink : SinkState) → Booking ledger (Some 0) sink sink
 starts ledger rules sink =
     let book = some_book_of_ledger ledger rules in
     record { book = book.0; is = book.1; bounds = book.2; puts = subst (λ l. PutsOn sink sink (book_bytes l)) (sym (no_stretch book.0)) (puts_none sink) }
+
+-- nothing was put yet, or the entries before the next stretch were
+abbrev pub Begun : LedgerState → Option ℕ → SinkState → SinkState → Type 0
+Begun ledger next old new = ((next ≡ Some 0) × (new ≡ old)) ⊎ Booking ledger next old new
+
+pub booking_of : (ledger : LedgerState) → IsLedger ledger → (next : Option ℕ) (old new : SinkState) → Begun ledger next old new → Booking ledger next old new
+booking_of ledger rules next old new (inl h) =
+    subst (λ (n : Option ℕ). Booking ledger n old new) (sym h.0) (subst (λ (s : SinkState). Booking ledger (Some 0) old s) (sym h.1) (starts ledger rules old))
+booking_of ledger rules next old new (inr h) = h
+
+pub booking_end : (ledger : LedgerState) (old new : SinkState) → Begun ledger None old new → Booking ledger None old new
+booking_end ledger old new (inl h) = let bad = h.0 in absurd (cc)
+booking_end ledger old new (inr h) = h
 
 -- the entries of a stretch of the book
 abbrev pub IsStretch : LedgerState → ℕ → Option ℕ → List Entry → Type 0

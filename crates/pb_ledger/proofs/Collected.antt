@@ -9,7 +9,7 @@ use Rattle.pb_io.specs.Source.{SourceState}
 use Rattle.pb_io.specs.Sink.{AllLasts, AwaitsFlush, Flush, Lasts, LastsFirst, SinkState}
 use Rattle.pb_io.proofs.FlushLemmas.{AwaitsFlush-put, AwaitsFlush-trans, not_flushed}
 use Rattle.pb_io.specs.Lines.{lines, ended_lines}
-use Rattle.pb_io.specs.Fault.{fault_of}
+use Rattle.pb_io.specs.Fault.{fault_of_read}
 use Rattle.pb_io.specs.LineTask.{AtEnd, AtLine, ReadUntil, StopsAtLast, TakesAll, TakesStream, TakesUntil}
 use Rattle.pb_io.specs.declared.fault.Fault.TheVariants as fault
 use Rattle.pb_io.specs.declared.fault.ReadFault.{ReadFault}
@@ -22,7 +22,7 @@ use Rattle.pb_accepted.proofs.Steps.{runs_join}
 use Rattle.pb_accepted.specs.Replies.{replies, reply_line}
 use Rattle.pb_games.specs.Submissions.{Submission}
 use Rattle.pb_ledger.specs.Collecting.{Collects, CollectsButOne, CollectsCounted, Leads}
-use Rattle.pb_ledger.specs.Collector.{Answered, KeepsLent, TakesLine, Unkept, with_answer}
+use Rattle.pb_ledger.specs.Collector.{Answered, KeepsLent, CollectsLine, Unkept, with_answer}
 use Rattle.pb_ledger.specs.Journaling.{CollectsUnkept, Gains, JournalsStream, JournalsUntil}
 use Rattle.pb_ledger.specs.declared.collector.Collector.{Collector}
 use Rattle.pb_ledger.specs.declared.journaling.JournalFault.{JournalFault}
@@ -43,17 +43,17 @@ pub record Grows (games games' : ℕ) (s t : Totals) (more refusals : ℕ) : Typ
   pub new_games : games' + s.new ≡ games + t.new
   pub adds_up : AddsUp t
 
-one_more : (games games' : ℕ) (s t : Totals) (answer : Answer) (is_new : Bool) → t ≡ with_answer s answer is_new → games' ≡ games + added answer is_new
+one_counted : (games games' : ℕ) (s t : Totals) (answer : Answer) (is_new : Bool) → t ≡ with_answer s answer is_new → games' ≡ games + added answer is_new
     → AddsUp s → s.lines + 1 < 2 ^ 64 → Grows games games' s t 1 (cond (is_err answer) 1 0)
-one_more games games' s t (Ok n) true is grown sum few =
+one_counted games games' s t (Ok n) true is grown sum few =
     let all = ap (λ (x : Totals). x.lines) is in let new_games = ap (λ (x : Totals). x.new) is in
     let repeats = ap (λ (x : Totals). x.repeats) is in let refused = ap (λ (x : Totals). x.refused) is in
     record { all = omega arith; refused = omega arith; new_games = omega arith; adds_up = omega arith }
-one_more games games' s t (Ok n) false is grown sum few =
+one_counted games games' s t (Ok n) false is grown sum few =
     let all = ap (λ (x : Totals). x.lines) is in let new_games = ap (λ (x : Totals). x.new) is in
     let repeats = ap (λ (x : Totals). x.repeats) is in let refused = ap (λ (x : Totals). x.refused) is in
     record { all = omega arith; refused = omega arith; new_games = omega arith; adds_up = omega arith }
-one_more games games' s t (Err e) is_new is grown sum few =
+one_counted games games' s t (Err e) is_new is grown sum few =
     let all = ap (λ (x : Totals). x.lines) is in let new_games = ap (λ (x : Totals). x.new) is in
     let repeats = ap (λ (x : Totals). x.repeats) is in let refused = ap (λ (x : Totals). x.refused) is in
     record { all = omega arith; refused = omega arith; new_games = omega arith; adds_up = omega arith }
@@ -98,7 +98,7 @@ lasts_first old mid new text put all lasts = lasting_first mid.lasting new.lasti
 
 -- what a fault of reading is to the journaling
 abbrev Gives : ReadFault → JournalFault → Type 0
-Gives read e = e ≡ Lines (fault_of read)
+Gives read e = e ≡ Lines (fault_of_read read)
 
 module _ {T K J : Type 0} (state : K → SinkState) (kept : J → SinkState) where
   abbrev Sink : Collector T K J → SinkState
@@ -123,7 +123,7 @@ module _ {T K J : Type 0} (state : K → SinkState) (kept : J → SinkState) whe
     gains : GainsTo s t
     same : KeepsLent s t
 
-  taken_of : (s t : Collector T K J) (ls : List (List ℕ)) → TakesAll (TakesLine state kept) s ls t → Taken s t ls
+  taken_of : (s t : Collector T K J) (ls : List (List ℕ)) → TakesAll (CollectsLine state kept) s ls t → Taken s t ls
   taken_of s t [] h = let P : Collector T K J → Type 0 = λ x. Taken s x [] in subst P (sym h) (record {
     collects = record { answers = []; leads = Leads-none s.ledger.now; put = Appends-nil (Sink s).bytes };
     number = refl;
@@ -142,7 +142,7 @@ module _ {T K J : Type 0} (state : K → SinkState) (kept : J → SinkState) whe
         number = omega (arith, rest.number);
         counts = λ sum few.
             let grown = grows s.ledger.now.cap s.ledger.now.accepted line one.answer m.ledger.now.accepted (step_of s.ledger.now m.ledger.now line one.answer one.leads) in
-            let first = one_more _ _ s.totals m.totals one.answer _ one.counted grown sum (omega (arith, few)) in
+            let first = one_counted _ _ s.totals m.totals one.answer _ one.counted grown sum (omega (arith, few)) in
             let others = rest.counts first.adds_up (omega (arith, few, first.all)) in
             let refusals = more_refused one.answer rest.collects.answers in record {
               all = omega (arith, first.all, others.all);
@@ -180,7 +180,7 @@ module _ {T K J : Type 0} (state : K → SinkState) (kept : J → SinkState) whe
     gains : GainsTo s t
     same : KeepsLent s t
 
-  reply_stops : (s t : Collector T K J) (ls : List (List ℕ)) → StopsAtLast (TakesLine state kept) s ls (Lines fault.Write) t → StoppedAt s t ls
+  reply_stops : (s t : Collector T K J) (ls : List (List ℕ)) → StopsAtLast (CollectsLine state kept) s ls (Lines fault.Write) t → StoppedAt s t ls
   reply_stops s t ls h =
       let m : Collector T K J = h.2 in let taken = taken_of s m h.0 h.4 in
       let last : Answered state kept m h.1 (Err (Lines fault.Write)) t = h.5 in let stopped = stopped_of s m t h.0 h.1 (Lines fault.Write) taken last in record {
@@ -208,7 +208,7 @@ module _ {T K J : Type 0} (state : K → SinkState) (kept : J → SinkState) whe
     fails : (kept t.journal.now).failed ≡ true
     same : KeepsLent s t
 
-  journal_stops : (s t : Collector T K J) (ls : List (List ℕ)) → StopsAtLast (TakesLine state kept) s ls Journal t → Unjournaled s t ls
+  journal_stops : (s t : Collector T K J) (ls : List (List ℕ)) → StopsAtLast (CollectsLine state kept) s ls Journal t → Unjournaled s t ls
   journal_stops s t ls h =
       let m : Collector T K J = h.2 in let before = h.0 in let line = h.1 in
       let taken = taken_of s m before h.4 in let last : Unkept kept m line t = h.5 in
@@ -251,7 +251,7 @@ module _ {T K J : Type 0} (state : K → SinkState) (kept : J → SinkState) whe
     at_line P Q follows (inr h) = follows (lines h.came) h.done
 
     stream_of : fills < 2 ^ 32 → s.totals ≡ record { lines = 0; new = 0; repeats = 0; refused = 0 }
-        → TakesStream (TakesLine state kept) fills old new s t → AtEnd fills old new (CollectsCounted (Sink s) (Sink t) s.ledger.now t.ledger.now t.totals)
+        → TakesStream (CollectsLine state kept) fills old new s t → AtEnd fills old new (CollectsCounted (Sink s) (Sink t) s.ledger.now t.ledger.now t.totals)
     stream_of small fresh h = AtEnd-weaker fills old new _ _ (λ ls few taken.
         let all_taken = taken_of s t ls taken in
         let all = ap (λ (x : Totals). x.lines) fresh in let new_games = ap (λ (x : Totals). x.new) fresh in
@@ -267,11 +267,11 @@ module _ {T K J : Type 0} (state : K → SinkState) (kept : J → SinkState) whe
         )) h
 
     -- no reply was handed on before the end
-    unflushed_of : TakesStream (TakesLine state kept) fills old new s t → (Sink t).flushes ≡ (Sink s).flushes
+    unflushed_of : TakesStream (CollectsLine state kept) fills old new s t → (Sink t).flushes ≡ (Sink s).flushes
     unflushed_of h = not_flushed (Sink s) (Sink t) (taken_of s t (lines h.came) h.done).awaits
 
     pub journaled : (sink' : SinkState) (u : Unit {0}) → fills < 2 ^ 32 → s.totals ≡ record { lines = 0; new = 0; repeats = 0; refused = 0 }
-        → TakesStream (TakesLine state kept) fills old new s t → Flush {E = Failed} (Sink t) sink' (Ok u)
+        → TakesStream (CollectsLine state kept) fills old new s t → Flush {E = Failed} (Sink t) sink' (Ok u)
         → JournalsStream fills old new (Sink s) sink' (kept s.journal.now) (kept t.journal.now) s.ledger.now t.ledger.now t.totals
     journaled sink' u small fresh h flush = (
       (
@@ -283,7 +283,7 @@ module _ {T K J : Type 0} (state : K → SinkState) (kept : J → SinkState) whe
     )
 
     -- all lines were taken, and the replies couldn't be handed on
-    pub unflushed : (sink' : SinkState) (e : Failed) → TakesStream (TakesLine state kept) fills old new s t → Flush {E = Failed} (Sink t) sink' (Err e)
+    pub unflushed : (sink' : SinkState) (e : Failed) → TakesStream (CollectsLine state kept) fills old new s t → Flush {E = Failed} (Sink t) sink' (Err e)
         → JournalsUntil fills old new (Sink s) sink' (kept s.journal.now) (kept t.journal.now) s.ledger.now t.ledger.now (Lines fault.Write)
     unflushed sink' e h flush = (
       (
@@ -299,7 +299,7 @@ module _ {T K J : Type 0} (state : K → SinkState) (kept : J → SinkState) whe
     abbrev Until : JournalFault → Type 0
     Until e = JournalsUntil fills old new (Sink s) (Sink t) (kept s.journal.now) (kept t.journal.now) s.ledger.now t.ledger.now e
 
-    until_read : (read : ReadFault) → ReadUntil (TakesLine state kept) fills old new s t read → Until (Lines (fault_of read))
+    until_read : (read : ReadFault) → ReadUntil (CollectsLine state kept) fills old new s t read → Until (Lines (fault_of_read read))
     until_read Memory h = (
       (h.0, ap (λ (x : Collector T K J). Sink x) h.1, ap (λ (x : Collector T K J). x.ledger.now) h.1),
       subst (λ (x : Collector T K J). GainsTo s x) (sym h.1) (Gains-none (kept s.journal.now) s.ledger.now.accepted),
@@ -311,7 +311,7 @@ module _ {T K J : Type 0} (state : K → SinkState) (kept : J → SinkState) whe
         let taken = taken_of s t (ended_lines h.came) h.done in
         ((AtNoEnd-weaker fills old new _ _ (λ ls few taken. (taken_of s t ls taken).collects) h, taken.awaits), taken.gains)
 
-    until_line : (e : JournalFault) → AtLine fills old new (λ ls. StopsAtLast (TakesLine state kept) s ls e t) → Until e
+    until_line : (e : JournalFault) → AtLine fills old new (λ ls. StopsAtLast (CollectsLine state kept) s ls e t) → Until e
     until_line (Lines fault.Write) h = (
       (
         inl (AtLine-weaker fills old new _ _ (λ ls few stops. (reply_stops s t ls stops).collects) h),
@@ -329,27 +329,27 @@ module _ {T K J : Type 0} (state : K → SinkState) (kept : J → SinkState) whe
     until_line (Lines fault.Endless) h = absurd (at_line _ ⊥ (λ ls stops. stops.5) h)
     until_line (Lines fault.Memory) h = absurd (at_line _ ⊥ (λ ls stops. stops.5) h)
 
-    pub journals_until : (e : JournalFault) → TakesUntil Gives (TakesLine state kept) fills old new s t e → Until e
+    pub journals_until : (e : JournalFault) → TakesUntil Gives (CollectsLine state kept) fills old new s t e → Until e
     journals_until e (inl h) = subst Until (sym h.1) (until_read h.0 h.2)
     journals_until e (inr h) = until_line e h
 
     -- the ledger, the sink and the journal are the same, however the lines ended
 
-    pub kept_stream : TakesStream (TakesLine state kept) fills old new s t → KeepsLent s t
+    pub kept_stream : TakesStream (CollectsLine state kept) fills old new s t → KeepsLent s t
     kept_stream h = (taken_of s t (lines h.came) h.done).same
 
-    kept_read : (read : ReadFault) → ReadUntil (TakesLine state kept) fills old new s t read → KeepsLent s t
+    kept_read : (read : ReadFault) → ReadUntil (CollectsLine state kept) fills old new s t read → KeepsLent s t
     kept_read Memory h = subst (λ (x : Collector T K J). KeepsLent s x) (sym h.1) (record { ledger = refl; sink = refl; journal = refl })
     kept_read Read h = (taken_of s t (ended_lines h.came) h.done).same
     kept_read Endless h = (taken_of s t (ended_lines h.came) h.done).same
 
-    kept_line : (e : JournalFault) → AtLine fills old new (λ ls. StopsAtLast (TakesLine state kept) s ls e t) → KeepsLent s t
+    kept_line : (e : JournalFault) → AtLine fills old new (λ ls. StopsAtLast (CollectsLine state kept) s ls e t) → KeepsLent s t
     kept_line (Lines fault.Write) h = at_line _ (KeepsLent s t) (λ ls stops. (reply_stops s t ls stops).same) h
     kept_line Journal h = at_line _ (KeepsLent s t) (λ ls stops. (journal_stops s t ls stops).same) h
     kept_line (Lines fault.Read) h = absurd (at_line _ ⊥ (λ ls stops. stops.5) h)
     kept_line (Lines fault.Endless) h = absurd (at_line _ ⊥ (λ ls stops. stops.5) h)
     kept_line (Lines fault.Memory) h = absurd (at_line _ ⊥ (λ ls stops. stops.5) h)
 
-    pub kept_until : (e : JournalFault) → TakesUntil Gives (TakesLine state kept) fills old new s t e → KeepsLent s t
+    pub kept_until : (e : JournalFault) → TakesUntil Gives (CollectsLine state kept) fills old new s t e → KeepsLent s t
     kept_until e (inl h) = kept_read h.0 h.2
     kept_until e (inr h) = kept_line e h

@@ -13,7 +13,7 @@ use Rattle.pb_accepted.specs.Accepting.{Answer}
 use Rattle.pb_accepted.specs.Ledger.{LedgerState}
 use Rattle.pb_accepted.specs.Replies.{reply_line}
 use Rattle.pb_ledger.specs.Collecting.{Leads}
-use Rattle.pb_ledger.specs.Collector.{Answered, TakesLine, Unkept, with_answer}
+use Rattle.pb_ledger.specs.Collector.{Answered, CollectsLine, Unkept, with_answer}
 use Rattle.pb_ledger.specs.Journaling.{Gains}
 use Rattle.pb_ledger.specs.declared.collector.Collector.{Collector}
 use Rattle.pb_ledger.specs.declared.journaling.JournalFault.{JournalFault}
@@ -42,15 +42,15 @@ pub record Replied {T K J : Type 0} (state : K → SinkState) (m t : Collector T
 
 -- a line that was answered, or whose reply couldn't be put, was taken
 pub takes_answered : {T K J : Type 0} (state : K → SinkState) (kept : J → SinkState) (s t : Collector T K J) (line : List ℕ) (result : Result (Unit {0}) JournalFault)
-    → IfErr result (λ (e : JournalFault). e ≡ Lines Write) → Answered state kept s line result t → TakesLine state kept s line result t
+    → IfErr result (λ (e : JournalFault). e ≡ Lines Write) → Answered state kept s line result t → CollectsLine state kept s line result t
 takes_answered state kept s t line (Ok u) stops h = h
 takes_answered state kept s t line (Err e) stops h =
     let now : Answered state kept s line (Err (Lines Write)) t = subst (λ (x : JournalFault). Answered state kept s line (Err x) t) stops h in
-    subst (λ (x : JournalFault). TakesLine state kept s line (Err x) t) (sym stops) now
+    subst (λ (x : JournalFault). CollectsLine state kept s line (Err x) t) (sym stops) now
 
 -- a line too long to be kept was answered, or its reply couldn't be put
 pub answered_long : {T K J : Type 0} (state : K → SinkState) (kept : J → SinkState) (s t : Collector T K J) (line : List ℕ) (result : Result (Unit {0}) JournalFault)
-    → line_limit < length line → Replied state s t line (Err Long) false result → TakesLine state kept s line result t
+    → line_limit < length line → Replied state s t line (Err Long) false result → CollectsLine state kept s line result t
 answered_long {T} {K} {J} state kept s t line result long replied =
     let same = ap (λ (x : MutBor LedgerState). x.now) replied.ledger in
     takes_answered state kept s t line result replied.stops (record {
@@ -101,7 +101,7 @@ module _ {T K J : Type 0} (state : K → SinkState) (kept : J → SinkState) (s 
 
   -- the journal has failed at the game
   pub takes_unkept : (e : JournalFault) → e ≡ Journal → is_new ≡ true → Wrote (Err e) → journal.ghost_name ≡ m.journal.ghost_name
-      → TakesLine state kept s line (Err e) (record m { journal = journal })
+      → CollectsLine state kept s line (Err e) (record m { journal = journal })
   takes_unkept e is new written lent =
       let came = game_brought new in let wrote = wrote_to (Err e) written in
       let unkept : Unkept kept s line (record m { journal = journal }) = record {
@@ -119,11 +119,11 @@ module _ {T K J : Type 0} (state : K → SinkState) (kept : J → SinkState) (s 
         same_sink = submitted.sink;
         same = record { ledger = submitted.ledger; sink = ap (λ (x : MutBor K). x.ghost_name) submitted.sink; journal = lent ∙ ap (λ (x : MutBor J). x.ghost_name) submitted.journal };
       } in
-      subst (λ (x : JournalFault). TakesLine state kept s line (Err x) (record m { journal = journal })) (sym is) unkept
+      subst (λ (x : JournalFault). CollectsLine state kept s line (Err x) (record m { journal = journal })) (sym is) unkept
 
   -- the line was answered, or its reply couldn't be put
   pub takes_so : (now t : Collector T K J) (result : Result (Unit {0}) JournalFault) → now ≡ record m { journal = journal } → Gains (kept s.journal.now) (kept journal.now) A B
-      → journal.ghost_name ≡ m.journal.ghost_name → Replied state now t line answer is_new result → TakesLine state kept s line result t
+      → journal.ghost_name ≡ m.journal.ghost_name → Replied state now t line answer is_new result → CollectsLine state kept s line result t
   takes_so now t result is gains lent reply =
       let replied : Replied state (record m { journal = journal }) t line answer is_new result = subst (λ (x : Collector T K J). Replied state x t line answer is_new result) is reply in
       takes_answered state kept s t line result replied.stops (record {

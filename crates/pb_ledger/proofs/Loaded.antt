@@ -23,8 +23,8 @@ use Rattle.pb_accepted.proofs.Steps.{refusal_step, step_to}
 use Rattle.pb_ledger.specs.declared.loading.Loader.{Loader}
 use Rattle.pb_ledger.specs.declared.loading.LoadError.{LoadError}
 use Rattle.pb_ledger.specs.declared.loading.LoadError.TheVariants as error
-use Rattle.pb_ledger.specs.Lending.{KeepsLedger}
-use Rattle.pb_ledger.specs.Loader.{Judged, Submits, TakesLine, header, load_error, error_at, one_more, submission}
+use Rattle.pb_ledger.specs.Lending.{SameLedger}
+use Rattle.pb_ledger.specs.Loader.{Judged, Submits, LoadsLine, header, load_error, error_at, with_line, submission}
 use Rattle.pb_ledger.specs.Saving as saving
 use Rattle.pb_ledger.specs.Loading.{EndsAtLine, Loads, LoadsAll, LoadsButOne, LoadsUntil, WantsMemory, has_header, is_header, submission_lines}
 
@@ -64,11 +64,11 @@ judged_refused is_saved n A B (refusal.Conflict m) same = (refl, λ q. (cc), sam
 judged_refused is_saved n A B refusal.Full same = (refl, λ q. (cc), same, inl refl)
 
 -- the ledger that is lent
-pub KeepsLedger-same : (s : MutBor LedgerState) → KeepsLedger s s
-KeepsLedger-same s = record { lent = refl; basis = refl; cap = refl }
+pub SameLedger-refl : (s : MutBor LedgerState) → SameLedger s s
+SameLedger-refl s = record { lent = refl; basis = refl; cap = refl }
 
-pub KeepsLedger-then : (s m t : MutBor LedgerState) → KeepsLedger s m → KeepsLedger m t → KeepsLedger s t
-KeepsLedger-then s m t h k = record { lent = k.lent ∙ h.lent; basis = k.basis ∙ h.basis; cap = k.cap ∙ h.cap }
+pub SameLedger-then : (s m t : MutBor LedgerState) → SameLedger s m → SameLedger m t → SameLedger s t
+SameLedger-then s m t h k = record { lent = k.lent ∙ h.lent; basis = k.basis ∙ h.basis; cap = k.cap ∙ h.cap }
 
 -- what is so at a line whatever the lines are
 done_at : {P : Type 0} {fills : ℕ} {old new : SourceState} → AtLine fills old new (λ _. P) → P
@@ -84,12 +84,12 @@ module _ {T : Type 0} where
     pub new : IsTrue s.is_saved → length t.ledger.now.accepted ≡ length s.ledger.now.accepted + length ls
     pub saved : t.is_saved ≡ s.is_saved
     pub lines : s.lines + length ls < 2 ^ 64 → t.lines ≡ s.lines + length ls
-    pub keeps : KeepsLedger s.ledger t.ledger
+    pub keeps : SameLedger s.ledger t.ledger
 
   Taken-none : (s : Loader T) → Taken s s []
-  Taken-none s = record { answers = []; run = refl; taken = All-nil IsOk; new = λ h. omega arith; saved = refl; lines = λ h. omega arith; keeps = KeepsLedger-same s.ledger }
+  Taken-none s = record { answers = []; run = refl; taken = All-nil IsOk; new = λ h. omega arith; saved = refl; lines = λ h. omega arith; keeps = SameLedger-refl s.ledger }
 
-  Taken-more : (s m t : Loader T) (line : List ℕ) (ls : List (List ℕ)) → Submits (one_more s) line (Ok tt) m → Taken m t ls → Taken s t (line ∷ ls)
+  Taken-more : (s m t : Loader T) (line : List ℕ) (ls : List (List ℕ)) → Submits (with_line s) line (Ok tt) m → Taken m t ls → Taken s t (line ∷ ls)
   Taken-more s m t line ls one rest = record {
     answers = one.answer ∷ rest.answers;
     run = (m.ledger.now.accepted, one.step, subst (λ most. Run most m.ledger.now.accepted ls rest.answers t.ledger.now.accepted) one.keeps.cap rest.run);
@@ -97,15 +97,15 @@ module _ {T : Type 0} where
     new = λ h. let first = one.judged.1 h in let others = rest.new (subst IsTrue (sym one.saved) h) in omega (arith, first, others);
     saved = rest.saved ∙ one.saved;
     lines = λ few. let counted = one.lines in let others = rest.lines (omega (arith, few, counted)) in omega (arith, few, counted, others);
-    keeps = KeepsLedger-then s.ledger m.ledger t.ledger one.keeps rest.keeps;
+    keeps = SameLedger-then s.ledger m.ledger t.ledger one.keeps rest.keeps;
   }
 
   -- no line after the first is a header
-  submitted : (s t : Loader T) (line : List ℕ) (answer : Result (Unit {0}) LoadError) → 1 ≤ s.lines → TakesLine s line answer t → Submits (one_more s) line answer t
+  submitted : (s t : Loader T) (line : List ℕ) (answer : Result (Unit {0}) LoadError) → 1 ≤ s.lines → LoadsLine s line answer t → Submits (with_line s) line answer t
   submitted s t line answer some (header zero is _ same) = absurd (omega (arith, zero, some))
   submitted s t line answer some (submission other one) = one
 
-  later : (s t : Loader T) (ls : List (List ℕ)) → 1 ≤ s.lines → TakesAll TakesLine s ls t → Taken s t ls
+  later : (s t : Loader T) (ls : List (List ℕ)) → 1 ≤ s.lines → TakesAll LoadsLine s ls t → Taken s t ls
   later s t [] some h = subst (λ (x : Loader T). Taken s x []) (sym h) (Taken-none s)
   later s t (line ∷ ls) some h =
       let one = submitted s h.0 line (Ok tt) some h.1 in Taken-more s h.0 t line ls one (later h.0 t ls (omega (arith, one.lines, some)) h.2)
@@ -115,7 +115,7 @@ module _ {T : Type 0} where
     pub loads : Loads s.ledger.now.cap ls t.ledger.now.accepted
     pub saved : t.is_saved ≡ has_header ls
     pub lines : length ls < 2 ^ 64 → t.lines ≡ length ls
-    pub keeps : KeepsLedger s.ledger t.ledger
+    pub keeps : SameLedger s.ledger t.ledger
 
   abbrev pub IsFresh : Loader T → Type 0
   IsFresh s = (s.lines ≡ 0) × (s.is_saved ≡ false) × (s.ledger.now.accepted ≡ [])
@@ -126,7 +126,7 @@ module _ {T : Type 0} where
       loads = record { answers = []; run = fresh.2; taken = All-nil IsOk; new = λ h. ap length fresh.2 };
       saved = fresh.1;
       lines = λ few. fresh.0;
-      keeps = KeepsLedger-same s.ledger;
+      keeps = SameLedger-refl s.ledger;
     }
 
     -- where the first line is the header
@@ -163,11 +163,11 @@ module _ {T : Type 0} where
           keeps = h.keeps;
         }
 
-    pub whole : (t : Loader T) (ls : List (List ℕ)) → TakesAll TakesLine s ls t → Whole s t ls
+    pub whole : (t : Loader T) (ls : List (List ℕ)) → TakesAll LoadsLine s ls t → Whole s t ls
     whole t [] h = subst (λ (x : Loader T). Whole s x []) (sym h) Whole-none
     whole t (line ∷ ls) h = by h.1
       where
-        by : TakesLine s line (Ok tt) h.0 → Whole s t (line ∷ ls)
+        by : LoadsLine s line (Ok tt) h.0 → Whole s t (line ∷ ls)
         by (header zero is answer same) = Whole-saved t line ls is (subst (λ (m : Loader T). Taken m t ls) same (later h.0 t ls (omega (arith, ap (λ (m : Loader T). m.lines) same)) h.2))
         by (submission other one) = Whole-old t line ls (other fresh.0) (Taken-more s h.0 t line ls one (later h.0 t ls (omega (arith, one.lines)) h.2))
 
@@ -200,7 +200,7 @@ module _ {T : Type 0} where
           subst (λ B. Step s.ledger.now.cap B line answer t.ledger.now.accepted) (sym same)
           (subst (λ most. Step most m.ledger.now.accepted line answer t.ledger.now.accepted) w.keeps.cap h)
 
-      stopped_so : (e : LoadError) → Submits (one_more m) line (Err e) t → Stopped s t e ls
+      stopped_so : (e : LoadError) → Submits (with_line m) line (Err e) t → Stopped s t e ls
       unfolding but_one
       stopped_so error.Read sub = absurd sub.judged
       stopped_so error.Endless sub = absurd sub.judged
@@ -223,12 +223,12 @@ module _ {T : Type 0} where
             ];
           }
 
-    stopped_by : (e : LoadError) (before : List (List ℕ)) (line : List ℕ) (m : Loader T) → ls ≡ before ++ line ∷ [] → Whole s m before → TakesLine m line (Err e) t → Stopped s t e ls × KeepsLedger s.ledger t.ledger
+    stopped_by : (e : LoadError) (before : List (List ℕ)) (line : List ℕ) (m : Loader T) → ls ≡ before ++ line ∷ [] → Whole s m before → LoadsLine m line (Err e) t → Stopped s t e ls × SameLedger s.ledger t.ledger
     stopped_by e before line m are w (header zero is answer same) = let no : Err e ≡ Ok tt = answer in cc
     stopped_by e before line m are w (submission other sub) =
-        (stopped_so before line m are w other e sub, KeepsLedger-then s.ledger m.ledger t.ledger w.keeps sub.keeps)
+        (stopped_so before line m are w other e sub, SameLedger-then s.ledger m.ledger t.ledger w.keeps sub.keeps)
 
-    pub stopped : (e : LoadError) → StopsAtLast TakesLine s ls e t → Stopped s t e ls × KeepsLedger s.ledger t.ledger
+    pub stopped : (e : LoadError) → StopsAtLast LoadsLine s ls e t → Stopped s t e ls × SameLedger s.ledger t.ledger
     stopped e h = stopped_by e h.0 h.1 h.2 h.3 (whole s fresh h.2 h.0 h.4) h.5
 
   -- ---- the whole of a stream
@@ -241,12 +241,12 @@ module _ {T : Type 0} where
     Ends = LoadsUntil fills old new s.ledger.now t.ledger.now
 
     last_of : (e : LoadError) (ls : List (List ℕ)) → length ls ≤ fills * chunk_len
-        → StopsAtLast TakesLine s ls e t → Stopped s t e ls × KeepsLedger s.ledger t.ledger
+        → StopsAtLast LoadsLine s ls e t → Stopped s t e ls × SameLedger s.ledger t.ledger
     last_of e ls few = stopped s t ls fresh (omega (arith, small, few)) e
 
     -- by a fault of reading
-    unread : (fault : ReadFault) → ReadUntil TakesLine fills old new s t fault
-        → Ends (load_error fault) × KeepsLedger s.ledger t.ledger
+    unread : (fault : ReadFault) → ReadUntil LoadsLine fills old new s t fault
+        → Ends (load_error fault) × SameLedger s.ledger t.ledger
     unread fault.Read h = (
       AtFault-weaker fills old new _ _ (λ ls few taken. (whole s fresh t ls taken).loads) h,
       (whole s fresh t (ended_lines h.came) h.done).keeps,
@@ -257,7 +257,7 @@ module _ {T : Type 0} where
     )
     unread fault.Memory h = (
       inl (h.0, ap (λ (x : Loader T). x.ledger.now) h.1),
-      subst (λ (x : Loader T). KeepsLedger s.ledger x.ledger) (sym h.1) (KeepsLedger-same s.ledger),
+      subst (λ (x : Loader T). SameLedger s.ledger x.ledger) (sym h.1) (SameLedger-refl s.ledger),
     )
 
     -- at a line
@@ -269,10 +269,10 @@ module _ {T : Type 0} where
 
     -- how the call ends
     pub ends_of : (result : Result (Unit {0}) LoadError)
-        → OnOk result (TakesStream TakesLine fills old new s t)
-        → IfErr result (TakesUntil gives TakesLine fills old new s t)
+        → OnOk result (TakesStream LoadsLine fills old new s t)
+        → IfErr result (TakesUntil gives LoadsLine fills old new s t)
         → OnOk result (LoadsAll fills old new s.ledger.now t.ledger.now)
-        × IfErr result Ends × KeepsLedger s.ledger t.ledger
+        × IfErr result Ends × SameLedger s.ledger t.ledger
     ends_of (Ok x) h k = (
       AtEnd-weaker fills old new _ _ (λ ls few taken. (whole s fresh t ls taken).loads) h,
       tt,
@@ -283,6 +283,6 @@ module _ {T : Type 0} where
     ends_of (Err e) h (inr k) = (
       tt,
       ends_at e (AtLine-weaker fills old new _ _ (λ ls few stops. (last_of e ls few stops).0) k),
-      done_at (AtLine-weaker fills old new _ (λ _. KeepsLedger s.ledger t.ledger)
+      done_at (AtLine-weaker fills old new _ (λ _. SameLedger s.ledger t.ledger)
           (λ ls few stops. (last_of e ls few stops).1) k),
     )

@@ -6,7 +6,7 @@ use Rattle.pb_io.specs.Source.{SourceState}
 use Rattle.pb_io.specs.Lines.{ended_lines, is_torn}
 use Rattle.pb_io.specs.Reads.{ReadsAll, chunk_len}
 use Rattle.pb_io.specs.LineTask.{ReadUntil, StopsAtLast, TakesAll, TakesEnded, TakesEndedUntil}
-use Rattle.pb_io.specs.Fault.{fault_of}
+use Rattle.pb_io.specs.Fault.{fault_of_read}
 use Rattle.pb_io.specs.declared.fault.Fault.{Fault}
 use Rattle.pb_io.specs.declared.fault.ReadFault.{ReadFault}
 use Rattle.pb_io.specs.declared.fault.ReadFault.TheVariants as read
@@ -16,11 +16,11 @@ use Rattle.pb_accepted.specs.Accepting.{Answer, Run, Step}
 use Rattle.pb_accepted.specs.Ledger.{LedgerState}
 use Rattle.pb_accepted.proofs.Steps.{refusal_step}
 use Rattle.pb_ledger.specs.Journal.{Journals, Replays}
-use Rattle.pb_ledger.specs.Lending.{KeepsLedger}
+use Rattle.pb_ledger.specs.Lending.{SameLedger}
 use Rattle.pb_ledger.specs.declared.replaying.Replayer.{Replayer}
-use Rattle.pb_ledger.specs.Replayer.{TakesLine}
+use Rattle.pb_ledger.specs.Replayer.{ReplaysLine}
 use Rattle.pb_ledger.specs.Replaying.{ReplaysUntil, WantsMemoryFor}
-use Rattle.pb_ledger.proofs.Loaded.{KeepsLedger-same, KeepsLedger-then}
+use Rattle.pb_ledger.proofs.Loaded.{SameLedger-refl, SameLedger-then}
 
 -- all bytes of the journal came, the ledger holds its games, and this is whether its end is torn
 pub record HoldsGames (fills : ℕ) (source source' : SourceState) (old new : LedgerState) (torn : Bool) : Type 0 where
@@ -35,27 +35,27 @@ module _ {T W : Type 0} where
     pub answers : List Answer
     pub run : Run s.ledger.now.cap s.ledger.now.accepted ls answers t.ledger.now.accepted
     pub remembered : All (λ r. r ≢ Err refusal.Memory) answers
-    pub keeps : KeepsLedger s.ledger t.ledger
+    pub keeps : SameLedger s.ledger t.ledger
 
   Taken-none : (s : Replayer T W) → Taken s s []
-  Taken-none s = record { answers = []; run = refl; remembered = All-nil (λ r. r ≢ Err refusal.Memory); keeps = KeepsLedger-same s.ledger }
+  Taken-none s = record { answers = []; run = refl; remembered = All-nil (λ r. r ≢ Err refusal.Memory); keeps = SameLedger-refl s.ledger }
 
-  Taken-more : (s m t : Replayer T W) (line : List ℕ) (ls : List (List ℕ)) → TakesLine s line (Ok tt) m → Taken m t ls → Taken s t (line ∷ ls)
+  Taken-more : (s m t : Replayer T W) (line : List ℕ) (ls : List (List ℕ)) → ReplaysLine s line (Ok tt) m → Taken m t ls → Taken s t (line ∷ ls)
   Taken-more s m t line ls one rest = record {
     answers = one.answer ∷ rest.answers;
     run = (m.ledger.now.accepted, one.step, subst (λ most. Run most m.ledger.now.accepted ls rest.answers t.ledger.now.accepted) one.keeps.cap rest.run);
     remembered = All-cons (λ r. r ≢ Err refusal.Memory) one.answer rest.answers one.stops rest.remembered;
-    keeps = KeepsLedger-then s.ledger m.ledger t.ledger one.keeps rest.keeps;
+    keeps = SameLedger-then s.ledger m.ledger t.ledger one.keeps rest.keeps;
   }
 
-  taken : (s t : Replayer T W) (ls : List (List ℕ)) → TakesAll TakesLine s ls t → Taken s t ls
+  taken : (s t : Replayer T W) (ls : List (List ℕ)) → TakesAll ReplaysLine s ls t → Taken s t ls
   taken s t [] h = subst (λ (x : Replayer T W). Taken s x []) (sym h) (Taken-none s)
   taken s t (line ∷ ls) h = Taken-more s h.0 t line ls h.1 (taken h.0 t ls h.2)
 
   -- ---- from no games on
 
   module _ (s t : Replayer T W) (fresh : s.ledger.now.accepted ≡ []) where
-    replayed : (ls : List (List ℕ)) → TakesAll TakesLine s ls t → Replays s.ledger.now.cap ls t.ledger.now.accepted
+    replayed : (ls : List (List ℕ)) → TakesAll ReplaysLine s ls t → Replays s.ledger.now.cap ls t.ledger.now.accepted
     replayed ls h =
         let all = taken s t ls h in record {
           answers = all.answers;
@@ -64,7 +64,7 @@ module _ {T W : Type 0} where
         }
 
   -- the line that stopped the replayer brings a new game, and no memory was left for it
-  module _ (s t : Replayer T W) (fresh : s.ledger.now.accepted ≡ []) (ls : List (List ℕ)) (e : Fault) (h : StopsAtLast TakesLine s ls e t) where
+  module _ (s t : Replayer T W) (fresh : s.ledger.now.accepted ≡ []) (ls : List (List ℕ)) (e : Fault) (h : StopsAtLast ReplaysLine s ls e t) where
     stopped : WantsMemoryFor s.ledger.now.cap t.ledger.now.accepted ls
     stopped =
         let m = h.2 in
@@ -81,21 +81,21 @@ module _ {T W : Type 0} where
           wants = subst (λ B. Step s.ledger.now.cap B line (Err refusal.Memory) t.ledger.now.accepted) (sym same) here;
         }
 
-    stopped_keeps : KeepsLedger s.ledger t.ledger
-    stopped_keeps = KeepsLedger-then s.ledger h.2.ledger t.ledger (taken s h.2 h.0 h.4).keeps h.5.keeps
+    stopped_keeps : SameLedger s.ledger t.ledger
+    stopped_keeps = SameLedger-then s.ledger h.2.ledger t.ledger (taken s h.2 h.0 h.4).keeps h.5.keeps
 
   -- ---- the whole of a stream
 
   module _ (fills : ℕ) (old new : SourceState) (s t : Replayer T W) (fresh : s.ledger.now.accepted ≡ []) where
     abbrev gives : ReadFault → Fault → Type 0
-    gives read fault = fault ≡ fault_of read
+    gives read fault = fault ≡ fault_of_read read
 
     abbrev Ends : Fault → Type 0
     Ends fault = (j : SinkState) → ReplaysUntil fills old new j j s.ledger.now t.ledger.now fault
 
     -- by a fault of reading
-    unread : (read : ReadFault) → ReadUntil TakesLine fills old new s t read
-        → Ends (fault_of read) × KeepsLedger s.ledger t.ledger
+    unread : (read : ReadFault) → ReadUntil ReplaysLine fills old new s t read
+        → Ends (fault_of_read read) × SameLedger s.ledger t.ledger
     unread read.Read h = (
       λ j. (AtFault-weaker fills old new _ _ (λ ls few. replayed s t fresh ls) h, refl),
       (taken s t (ended_lines h.came) h.done).keeps,
@@ -106,15 +106,15 @@ module _ {T W : Type 0} where
     )
     unread read.Memory h = (
       λ j. (inl (h.0, ap (λ (x : Replayer T W). x.ledger.now) h.1), refl),
-      subst (λ (x : Replayer T W). KeepsLedger s.ledger x.ledger) (sym h.1) (KeepsLedger-same s.ledger),
+      subst (λ (x : Replayer T W). SameLedger s.ledger x.ledger) (sym h.1) (SameLedger-refl s.ledger),
     )
 
     -- how the call ends
     pub ends_of : (result : Result Bool Fault)
-        → IfOk result (TakesEnded TakesLine fills old new s t)
-        → IfErr result (TakesEndedUntil gives TakesLine fills old new s t)
+        → IfOk result (TakesEnded ReplaysLine fills old new s t)
+        → IfErr result (TakesEndedUntil gives ReplaysLine fills old new s t)
         → IfOk result (HoldsGames fills old new s.ledger.now t.ledger.now)
-        × IfErr result Ends × KeepsLedger s.ledger t.ledger
+        × IfErr result Ends × SameLedger s.ledger t.ledger
     ends_of (Ok torn) h k =
         let all = taken s t (ended_lines h.came) h.taken in
         let holds = replayed s t fresh (ended_lines h.came) h.taken in

@@ -56,8 +56,8 @@ pub record Unkept {T K J : Type 0} (kept : J → SinkState) (s : Collector T K J
 
 -- what became of the line: it stops the collector where its reply couldn't be put, or the line of
 -- its game
-abbrev pub TakesLine : {T K J : Type 0} → (K → SinkState) → (J → SinkState) → Collector T K J → List ℕ → Result (Unit {0}) JournalFault → Collector T K J → Type 0
-TakesLine state kept s line (Ok u) t = Answered state kept s line (Ok u) t
-TakesLine state kept s line (Err (Lines fault.Write)) t = Answered state kept s line (Err (Lines fault.Write)) t
-TakesLine state kept s line (Err Journal) t = Unkept kept s line t
-TakesLine state kept s line (Err other) t = ⊥
+abbrev pub CollectsLine : {T K J : Type 0} → (K → SinkState) → (J → SinkState) → Collector T K J → List ℕ → Result (Unit {0}) JournalFault → Collector T K J → Type 0
+CollectsLine state kept s line (Ok u) t = Answered state kept s line (Ok u) t
+CollectsLine state kept s line (Err (Lines fault.Write)) t = Answered state kept s line (Err (Lines fault.Write)) t
+CollectsLine state kept s line (Err Journal) t = Unkept kept s line t
+CollectsLine state kept s line (Err other) t = ⊥

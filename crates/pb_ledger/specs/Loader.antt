@@ -10,7 +10,7 @@ use Rattle.pb_accepted.specs.Accepting.{Answer, Step}
 use Rattle.pb_ledger.specs.declared.loading.Loader.{Loader}
 use Rattle.pb_ledger.specs.declared.loading.LoadError.{LoadError}
 use Rattle.pb_ledger.specs.declared.loading.LoadError.TheVariants.{Line, Read, Endless, Memory}
-use Rattle.pb_ledger.specs.Lending.{KeepsLedger}
+use Rattle.pb_ledger.specs.Lending.{SameLedger}
 use Rattle.pb_ledger.specs.Loading.{is_header}
 
 -- what comes of the answer to line n, where A became B: after a header the line has to bring a new
@@ -28,16 +28,16 @@ pub record Submits {T : Type 0} (s : Loader T) (line : List ℕ) (result : Resul
   pub judged : Judged s.is_saved s.lines s.ledger.now.accepted t.ledger.now.accepted answer result
   pub lines : t.lines ≡ s.lines
   pub saved : t.is_saved ≡ s.is_saved
-  pub keeps : KeepsLedger s.ledger t.ledger
+  pub keeps : SameLedger s.ledger t.ledger
 
 -- the loader has counted one line more
-abbrev pub one_more : {T : Type 0} → Loader T → Loader T
-one_more s = record s { lines = next_count s.lines }
+abbrev pub with_line : {T : Type 0} → Loader T → Loader T
+with_line s = record s { lines = next_count s.lines }
 
 -- a line was taken: the first one as the header, where it is that, and any other was submitted
-pub data TakesLine {T : Type 0} (s : Loader T) (line : List ℕ) (result : Result (Unit {0}) LoadError) (t : Loader T) : Type 0 where
-  header : s.lines ≡ 0 → is_header line ≡ true → result ≡ Ok tt → t ≡ record s { lines = 1; is_saved = true } → TakesLine s line result t
-  submission : (s.lines ≡ 0 → is_header line ≡ false) → Submits (one_more s) line result t → TakesLine s line result t
+pub data LoadsLine {T : Type 0} (s : Loader T) (line : List ℕ) (result : Result (Unit {0}) LoadError) (t : Loader T) : Type 0 where
+  header : s.lines ≡ 0 → is_header line ≡ true → result ≡ Ok tt → t ≡ record s { lines = 1; is_saved = true } → LoadsLine s line result t
+  submission : (s.lines ≡ 0 → is_header line ≡ false) → Submits (with_line s) line result t → LoadsLine s line result t
 
 -- what a refusal of the line with this number is to the loading
 abbrev pub error_at : ℕ → Refusal → LoadError

@@ -4,7 +4,7 @@ use Rattle.pb_io.specs.declared.fault.Fault.{Fault}
 use Rattle.pb_io.specs.declared.fault.Fault.TheVariants.{Memory}
 use Rattle.pb_games.specs.declared.refusal.Refusal.TheVariants as refusal
 use Rattle.pb_accepted.specs.Accepting.{Answer, Step}
-use Rattle.pb_ledger.specs.Lending.{KeepsLedger}
+use Rattle.pb_ledger.specs.Lending.{SameLedger}
 use Rattle.pb_ledger.specs.declared.replaying.Replayer.{Replayer}
 
 -- want of memory alone stops the replayer, with `Memory`
@@ -13,8 +13,8 @@ Stops answer (Ok x) = answer ≢ Err refusal.Memory
 Stops answer (Err fault) = (answer ≡ Err refusal.Memory) × (fault ≡ Memory)
 
 -- a line was submitted
-pub record TakesLine {T W : Type 0} (s : Replayer T W) (line : List ℕ) (result : Result (Unit {0}) Fault) (t : Replayer T W) : Type 0 where
+pub record ReplaysLine {T W : Type 0} (s : Replayer T W) (line : List ℕ) (result : Result (Unit {0}) Fault) (t : Replayer T W) : Type 0 where
   pub answer : Answer
   pub step : Step s.ledger.now.cap s.ledger.now.accepted line answer t.ledger.now.accepted
   pub stops : Stops answer result
-  pub keeps : KeepsLedger s.ledger t.ledger
+  pub keeps : SameLedger s.ledger t.ledger

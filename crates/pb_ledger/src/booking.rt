@@ -54,8 +54,6 @@ pub fn save_book<T: Tally, K: Sink>(
 ) -> Result<(), WriteFault>
     ensures { (bytes : List ℕ) × BookText ledger.now bytes × WritesOrWants (K.state sink.old) (K.state sink.new) result bytes }
 {
-    // The proof reads from this use that the games are those of a ledger, and so have a book.
-    let _held = ledger.len();
     let mut entries = Vec::new(alloc);
     let mut next = Some(0);
     while let Some(first) = next {

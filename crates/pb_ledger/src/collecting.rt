@@ -23,19 +23,19 @@ use std::alloc::Global;
 /// in its reply. After the other faults the ledger holds what the lines so far brought: at `Read`
 /// and `Endless` the lines that an LF ended were taken and answered, and at `Write` the ledger
 /// holds also what the line brought whose reply couldn't be put.
-pub fn collect<T: Tally, S: Source, K: Sink>(
+pub fn collect<T: Tally, In: Source, Out: Sink>(
     alloc: Global,
-    source: &mut S,
-    sink: &mut K,
+    source: &mut In,
+    sink: &mut Out,
     ledger: &mut Ledger<T>,
     fills: u32,
 ) -> Result<Totals, CollectFault>
     // All lines were taken and answered, and the replies were handed on, once.
-    ensures ok { IfOk result (CollectsStream fills (S.state source.old) (S.state source.new) (K.state sink.old) (K.state sink.new) ledger.old ledger.new) }
+    ensures ok { IfOk result (CollectsStream fills (In.state source.old) (In.state source.new) (Out.state sink.old) (Out.state sink.new) ledger.old ledger.new) }
     // They are the lines of all bytes that the source tells.
-    ensures told { IfOk result (CollectsTold (S.state source.old) (S.state source.new) (K.state sink.old) (K.state sink.new) ledger.old ledger.new) }
+    ensures told { IfOk result (CollectsTold (In.state source.old) (In.state source.new) (Out.state sink.old) (Out.state sink.new) ledger.old ledger.new) }
     // The lines taken before a fault, and where the fault lies.
-    ensures fault { IfErr result (CollectsUntil fills (S.state source.old) (S.state source.new) (K.state sink.old) (K.state sink.new) ledger.old ledger.new) }
+    ensures fault { IfErr result (CollectsUntil fills (In.state source.old) (In.state source.new) (Out.state sink.old) (Out.state sink.new) ledger.old ledger.new) }
 {
     let mut no_journal = NullSink::default();
     match collect_journaled(alloc, source, sink, &mut no_journal, ledger, fills) {

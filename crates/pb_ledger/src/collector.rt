@@ -68,9 +68,9 @@ impl<T: Tally, K: Sink, J: Sink> Collector<'_, '_, '_, T, K, J> {
 impl<T: Tally, K: Sink, J: Sink> LineTask for Collector<'_, '_, '_, T, K, J> {
     type Stop = JournalFault;
 
-    ghost use Rattle.pb_ledger.specs.Collector.{TakesLine};
+    ghost use Rattle.pb_ledger.specs.Collector.{CollectsLine};
 
-    ghost takes = { TakesLine K.state J.state };
+    ghost takes = { CollectsLine K.state J.state };
 
     fn take(&mut self, line: &[u8]) -> Result<(), JournalFault> {
         let (answer, is_new) = self.submit(line);

@@ -1,7 +1,7 @@
 //! Submissions in, new games to a journal, replies out.
 
 ghost use Rattle.std.specs.Prelude.{◌≡◌, IfErr, IfOk};
-ghost use Rattle.pb_io.specs.Fault.{fault_of};
+ghost use Rattle.pb_io.specs.Fault.{fault_of_read};
 ghost use Rattle.pb_io.specs.declared.fault.Fault.TheVariants.{Write};
 ghost use Rattle.pb_ledger.specs.Journaling.{JournalsStream, JournalsUntil, fault_of_journal};
 ghost use Rattle.pb_ledger.specs.declared.journaling.JournalFault.TheVariants.{Lines};
@@ -27,7 +27,7 @@ pub enum JournalFault {
 }
 
 impl From<ReadFault> for JournalFault {
-    ghost from_gives = { λ read gives. gives ≡ Lines (fault_of read) };
+    ghost from_gives = { λ read gives. gives ≡ Lines (fault_of_read read) };
 
     fn from(read: ReadFault) -> JournalFault {
         JournalFault::Lines(read.into())
@@ -66,22 +66,22 @@ impl From<JournalFault> for Fault {
 /// `Lines` with what `collect` answers: the journal has the games of all lines that were submitted.
 /// `Journal` where the journal fails at a new game: its line has no reply, the ledger holds the
 /// game, and its line, or a front of it, may be on the journal. No more lines are taken then.
-pub fn collect_journaled<T: Tally, S: Source, K: Sink, J: Sink>(
+pub fn collect_journaled<T: Tally, In: Source, Out: Sink, Journal: Sink>(
     alloc: Global,
-    source: &mut S,
-    sink: &mut K,
-    journal: &mut J,
+    source: &mut In,
+    sink: &mut Out,
+    journal: &mut Journal,
     ledger: &mut Ledger<T>,
     fills: u32,
 ) -> Result<Totals, JournalFault>
     // All lines were taken and answered, and the new games are on the journal, each handed on by
     // itself.
-    ensures ok { IfOk result (JournalsStream fills (S.state source.old) (S.state source.new) (K.state sink.old) (K.state sink.new)
-        (J.state journal.old) (J.state journal.new) ledger.old ledger.new) }
+    ensures ok { IfOk result (JournalsStream fills (In.state source.old) (In.state source.new) (Out.state sink.old) (Out.state sink.new)
+        (Journal.state journal.old) (Journal.state journal.new) ledger.old ledger.new) }
     // The lines taken before a fault, what of their games is on the journal, and where the fault
     // lies.
-    ensures fault { IfErr result (JournalsUntil fills (S.state source.old) (S.state source.new) (K.state sink.old) (K.state sink.new)
-        (J.state journal.old) (J.state journal.new) ledger.old ledger.new) }
+    ensures fault { IfErr result (JournalsUntil fills (In.state source.old) (In.state source.new) (Out.state sink.old) (Out.state sink.new)
+        (Journal.state journal.old) (Journal.state journal.new) ledger.old ledger.new) }
 {
     let mut collector = Collector {
         ledger,

@@ -72,9 +72,9 @@ impl<T: Tally> Loader<'_, T> {
 impl<T: Tally> LineTask for Loader<'_, T> {
     type Stop = LoadError;
 
-    ghost use Rattle.pb_ledger.specs.Loader.{TakesLine};
+    ghost use Rattle.pb_ledger.specs.Loader.{LoadsLine};
 
-    ghost takes = { TakesLine };
+    ghost takes = { LoadsLine };
 
     fn take(&mut self, line: &[u8]) -> Result<(), LoadError> {
         let is_first = self.lines == 0;

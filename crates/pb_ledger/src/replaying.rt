@@ -52,9 +52,9 @@ impl<T: Tally, W: SkippedLines> Replayer<'_, T, W> {
 impl<T: Tally, W: SkippedLines> LineTask for Replayer<'_, T, W> {
     type Stop = Fault;
 
-    ghost use Rattle.pb_ledger.specs.Replayer.{TakesLine};
+    ghost use Rattle.pb_ledger.specs.Replayer.{ReplaysLine};
 
-    ghost takes = { TakesLine };
+    ghost takes = { ReplaysLine };
 
     fn take(&mut self, line: &[u8]) -> Result<(), Fault> {
         self.lines = self.lines.saturating_add(1);
@@ -97,19 +97,19 @@ impl<T: Tally, W: SkippedLines> LineTask for Replayer<'_, T, W> {
 /// `Write`: the sink has failed when the torn end was to be sealed. The ledger holds all games of
 /// the journal, and a front of the TABs and the LF may have been put. With the other errors nothing
 /// was put on the sink.
-pub fn replay<T: Tally, S: Source, J: Sink, W: SkippedLines>(
+pub fn replay<T: Tally, In: Source, Journal: Sink, Skipped: SkippedLines>(
     alloc: Global,
-    source: &mut S,
-    journal: &mut J,
+    source: &mut In,
+    journal: &mut Journal,
     ledger: &mut Ledger<T>,
-    skipped: &mut W,
+    skipped: &mut Skipped,
     fills: u32,
 ) -> Result<(), Fault>
     requires { ledger.old.accepted ≡ [] }
     // The games of all lines that an LF ended were taken, and the end was mended.
-    ensures ok { OnOk result (ReplaysAll fills (S.state source.old) (S.state source.new) (J.state journal.old) (J.state journal.new) ledger.old ledger.new) }
+    ensures ok { OnOk result (ReplaysAll fills (In.state source.old) (In.state source.new) (Journal.state journal.old) (Journal.state journal.new) ledger.old ledger.new) }
     // The games of the lines before the fault were taken, and where the fault lies.
-    ensures fault { IfErr result (ReplaysUntil fills (S.state source.old) (S.state source.new) (J.state journal.old) (J.state journal.new) ledger.old ledger.new) }
+    ensures fault { IfErr result (ReplaysUntil fills (In.state source.old) (In.state source.new) (Journal.state journal.old) (Journal.state journal.new) ledger.old ledger.new) }
     ensures basis { ledger.new.basis ≡ ledger.old.basis }
     ensures cap { ledger.new.cap ≡ ledger.old.cap }
 {

@@ -1,14 +1,9 @@
-use Rattle.pb_commands.proofs.EpdClauses.{ends, handed_on, shown, told}
+use Rattle.std.proofs.Common.{rules}
+use Rattle.std.proofs.lemmas.Result.{err_from_is_err_and}
+use Rattle.pb_commands.proofs.Rewriting.{unflushed}
 use Rattle.pb_commands.proofs.epd.run_epd.Goals as goal
 
-pub returns-clause-shown : goal.returns-clause-shown
-returns-clause-shown g c = shown _ _ _ _ _ c.rewrite_stream.result c.rewrite_stream.ensures
-
-pub returns-clause-told : goal.returns-clause-told
-returns-clause-told g c = told _ _ _ _ _ c.rewrite_stream.result c.rewrite_stream.ensures
-
-pub returns-clause-handed_on : goal.returns-clause-handed_on
-returns-clause-handed_on g c = handed_on _ _ _ _ _ c.rewrite_stream.result c.rewrite_stream.ensures
-
-pub returns-clause-fault : goal.returns-clause-fault
-returns-clause-fault g c = ends _ _ _ _ _ c.rewrite_stream.result c.rewrite_stream.ensures
+pub returns-in_err-flush : goal.returns-in_err-flush
+returns-in_err-flush g c =
+    let p = err_from_is_err_and c.from_residual-in_err-flush.result c.from_residual-in_err-flush.ensures.1 in
+    let fails = unflushed _ _ _ _ _ _ _ _ c.in_ok-ended.ensures.ok c.in_ok-ended.ensures.awaits c.in_err-flush.ensures in rw (p.1, p.2) (search rules)

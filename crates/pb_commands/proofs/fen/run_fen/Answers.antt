@@ -1,11 +1,23 @@
-use Rattle.pb_commands.proofs.Shown.{ended, handed_on, shown}
+use Rattle.std.proofs.Common.{true, ◌∙◌}
+use Rattle.std.proofs.lemmas.Result.{err_from_is_err_and}
+use Rattle.pb_commands.specs.FenShown.{FenShown}
+use Rattle.pb_commands.specs.Line.{texts}
+use Rattle.pb_commands.specs.Refused.{refusal_verdict}
+use Rattle.pb_commands.proofs.Judging.{shows, text_not_shown, text_shown}
+use Rattle.pb_commands.proofs.Shown.{shown_by}
 use Rattle.pb_commands.proofs.fen.run_fen.Goals as goal
 
-pub returns-clause-shown : goal.returns-clause-shown
-returns-clause-shown g c = shown _ _ _ _ c.show_record.result c.show_record.ensures
+pub returns-in_err-show_line-in-Ok : goal.returns-in_err-show_line-in-Ok
+returns-in_err-show_line-in-Ok g c =
+    let p = err_from_is_err_and c.from_residual.result c.from_residual.ensures.1 in
+    rw (p.1, p.2) (text_not_shown (FenShown c.args.fen.now (texts c.args.moves.now)) _ _ true _
+    (shown_by c.args.fen.now (texts c.args.moves.now) _ _ c.in-Ok.ensures (c.as_bytes.ensures.value ∙ c.text.ensures)) c.in_err-show_line-in-Ok.field-0.0 c.in_err-show_line-in-Ok.ensures)
 
-pub returns-clause-handed_on : goal.returns-clause-handed_on
-returns-clause-handed_on g c = handed_on _ _ _ _ c.show_record.result c.show_record.ensures
+pub returns-in_ok-show_line-in-Ok : goal.returns-in_ok-show_line-in-Ok
+returns-in_ok-show_line-in-Ok g c =
+    text_shown (FenShown c.args.fen.now (texts c.args.moves.now)) _ _ true _
+    (shown_by c.args.fen.now (texts c.args.moves.now) _ _ c.in-Ok.ensures (c.as_bytes.ensures.value ∙ c.text.ensures)) _ c.in_ok-show_line-in-Ok.ensures
 
-pub returns-clause-fault : goal.returns-clause-fault
-returns-clause-fault g c = ended _ _ _ _ c.show_record.result c.show_record.ensures
+pub returns-in-Err : goal.returns-in-Err
+returns-in-Err g c =
+    shows (FenShown c.args.fen.now (texts c.args.moves.now)) (refusal_verdict c.in-Err.refusal) c.in-Err.ensures _ _ c.show_refusal.result c.show_refusal.ensures

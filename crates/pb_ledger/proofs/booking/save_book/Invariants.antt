@@ -1,11 +1,11 @@
 use Rattle.std.proofs.Common.{◌-◌, ◌^◌}
 use Rattle.std.specs.Option.{option_map_or}
-use Rattle.pb_ledger.proofs.Booked.{Booking}
+use Rattle.pb_ledger.proofs.Booked.{Begun}
 use Rattle.pb_ledger.proofs.booking.save_book.Given as goal
 
--- the entries before the next stretch were put
+-- nothing was put yet, or the entries before the next stretch were
 abbrev pub invariant-loop-next : goal.invariant-loop-next
-invariant-loop-next g l = Booking l.ledger l.next (g.K.Sink.state l.initial.sink) (g.K.Sink.state l.sink)
+invariant-loop-next g l = Begun l.ledger l.next (g.K.Sink.state l.initial.sink) (g.K.Sink.state l.sink)
 
 -- the keys from the next stretch on
 abbrev pub decreases-loop-next : goal.decreases-loop-next

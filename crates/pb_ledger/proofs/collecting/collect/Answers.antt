@@ -3,4 +3,4 @@ use Rattle.pb_ledger.proofs.collecting.collect.Goals as goal
 
 pub returns-in-Ok-clause-told : goal.returns-in-Ok-clause-told
 returns-in-Ok-clause-told g c =
-    told_of c.args.fills (g.S.Source.state c.args.source.now) (g.S.Source.state c.collect_journaled.new.source) _ c.in-Ok.ensures.ok.0.0
+    told_of c.args.fills (g.In.Source.state c.args.source.now) (g.In.Source.state c.collect_journaled.new.source) _ c.in-Ok.ensures.ok.0.0

@@ -8,7 +8,7 @@ returns-in_err-is_torn g c =
     let is = err_from_is_err_and c.from_residual.result c.from_residual.ensures.1 in
     let ends = ends_of _ _ _ _ c.take_ended_lines.new.task c.requires (Err c.in_err-is_torn.field-0.0) tt
     c.in_err-is_torn.ensures.err in
-    let until = ends.1 (g.J.Sink.state c.args.journal.now) in
+    let until = ends.1 (g.Journal.Sink.state c.args.journal.now) in
     rw (is.1, is.2) (record { ok = tt; fault = search rules; basis = search rules; cap = search rules })
 
 pub returns-in_err-put_seal : goal.returns-in_err-put_seal

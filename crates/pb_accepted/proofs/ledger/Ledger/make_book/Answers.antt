@@ -18,8 +18,8 @@ unwrap-requires g c =
     let ordered : AllPairs Before entries = subst (AllPairs Before) (sym are) adds.is.ordered in
     ok_unless _ _ c.of.result c.of.ensures (λ p f. none_falls entries p.0 (NeverFall-ordered entries ordered) f.1)
 
-pub returns : goal.returns
-returns g c =
+pub returns-clause-book : goal.returns-clause-book
+returns-clause-book g c =
     let inside = c.self.inside in
     let games = inside.games.entries in
     let T : Basis = record { words = inside.recorder.table; rules = inside.rules } in

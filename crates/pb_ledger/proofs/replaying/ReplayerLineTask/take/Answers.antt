@@ -1,6 +1,6 @@
 use Rattle.std.proofs.Common.{refl, subst, sym}
 use Rattle.pb_accepted.specs.Accepting.{Step}
-use Rattle.pb_ledger.specs.Lending.{KeepsLedger}
+use Rattle.pb_ledger.specs.Lending.{SameLedger}
 use Rattle.pb_ledger.specs.Replayer.{Stops}
 use Rattle.pb_ledger.proofs.replaying.ReplayerLineTask.take.Goals as goal
 
@@ -11,7 +11,7 @@ returns-in-Err g c =
       answer = c.submit.result;
       step = subst (λ l. Step old.now.cap old.now.accepted c.args.line.now c.submit.result l.now.accepted) same c.submit.ensures.step;
       stops = subst (λ r. Stops r c.pass_over.result) (sym c.in-Err.is) c.pass_over.ensures.stops;
-      keeps = subst (λ l. KeepsLedger old l) same (record { lent = refl; basis = c.submit.ensures.basis; cap = c.submit.ensures.cap });
+      keeps = subst (λ l. SameLedger old l) same (record { lent = refl; basis = c.submit.ensures.basis; cap = c.submit.ensures.cap });
     }
 
 pub returns-in-Ok : goal.returns-in-Ok
