@@ -1,6 +1,6 @@
 //! Bitboards: what stands on the squares of a board, in sets of squares.
 
-ghost use Rattle.std.specs.Prelude.{◌≡◌, ◌<◌, ◌↔◌, ℕ, IsTrue, length, slice_set};
+ghost use Rattle.std.specs.Prelude.{◌≡◌, ◌<◌, ◌↔◌, ℕ, IsTrue, None, length, slice_set};
 ghost use Rattle.std.specs.Int.{bit_at};
 ghost use Rattle.std.specs.Option.{option_map};
 ghost use Rattle.pb_board.specs.Board.{Board, IsEmpty, Holds, at};
@@ -62,24 +62,31 @@ fn set_down(bitboards: &mut Bitboards, index: u8, place: Option<Piece>)
     }
 }
 
-/// The squares after a piece has gone from one to another, in the place of what stood there.
+/// Takes away what stands on the square of this index.
+#[inline(always)]
+fn clear(bitboards: &mut Bitboards, index: u8)
+    requires { index < 64 }
+    ensures { (b : Board) → length b ≡ 64 → bitboards.old ≡ bitboards_of b → bitboards.new ≡ bitboards_of (slice_set b index None) }
+{
+    let others = !(1u64 << index);
+    bitboards.sides[0] &= others;
+    bitboards.sides[1] &= others;
+    bitboards.kinds[0] &= others;
+    bitboards.kinds[1] &= others;
+    bitboards.kinds[2] &= others;
+    bitboards.kinds[3] &= others;
+    bitboards.kinds[4] &= others;
+    bitboards.kinds[5] &= others;
+}
+
+/// Moves a piece from one square to another, in the place of what stood there.
 #[inline(always)]
 pub(crate) fn move_piece(bitboards: &mut Bitboards, moved: MovedPiece)
     ensures { (b : Board) → length b ≡ 64 → bitboards.old ≡ bitboards_of b → bitboards.new ≡ bitboards_of (with_moved b moved) }
 {
-    let MovedPiece { from, to, piece } = moved;
-    let bit = 1u64 << to.index();
-    let keep = !(1u64 << from.index() | bit);
-    bitboards.sides[0] &= keep;
-    bitboards.sides[1] &= keep;
-    bitboards.kinds[0] &= keep;
-    bitboards.kinds[1] &= keep;
-    bitboards.kinds[2] &= keep;
-    bitboards.kinds[3] &= keep;
-    bitboards.kinds[4] &= keep;
-    bitboards.kinds[5] &= keep;
-    bitboards.sides[colour_number(piece.colour)] |= bit;
-    bitboards.kinds[kind_number(piece.kind)] |= bit;
+    clear(bitboards, moved.from.index());
+    clear(bitboards, moved.to.index());
+    set_down(bitboards, moved.to.index(), Some(moved.piece));
 }
 
 /// The squares of a board's pieces.
