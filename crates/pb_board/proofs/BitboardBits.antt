@@ -3,7 +3,7 @@ use Rattle.std.proofs.Common.{◌≡◌, ◌≢◌, ℕ, zero, suc, ◌+◌, ◌
 use mir.Val.{bits}
 use Rattle.std.proofs.Math.Nat.{pow-suc}
 use Rattle.std.specs.Int.{bit_at, bit_not}
-use Rattle.std.proofs.lemmas.Bool.{cases_order}
+use Rattle.std.proofs.lemmas.Bool.{cases_order, eq-eqb, eqb-true}
 use Rattle.std.proofs.lemmas.Nat.{and_le_l, or_lt}
 use Rattle.std.proofs.lemmas.Nat.Bits.{bit_at-zero, bit_at_lowest, bit_at-suc, bit_at_and, bit_at_or, bit_at_clear_same, bit_at_clear_other, bit_at_set_same, bit_at_set_other, same_from_bits_below}
 use Rattle.std.proofs.lemmas.List.{get_or-set_same, get_or-set_other, length-set}
@@ -14,8 +14,8 @@ use Rattle.pb_board.specs.declared.piece.Kind.TheVariants.{Pawn, Knight, Bishop,
 use Rattle.pb_board.specs.declared.piece.Piece.{Piece}
 use Rattle.pb_board.specs.declared.bitboards.Bitboards.{Bitboards}
 use Rattle.pb_board.specs.Board.{Place, Board, at, Holds, IsEmpty, is_piece}
-use Rattle.pb_board.proofs.PieceTests.{is_piece-is, is_piece-passes}
-use Rattle.pb_board.specs.Piece.{colour_number, kind_number}
+use Rattle.pb_board.proofs.PieceTests.{kind_one, is_piece-is, is_piece-passes}
+use Rattle.pb_board.specs.Piece.{colour_number, kind_number, piece_of}
 use Rattle.pb_board.specs.Bitboards.{is_side, is_kind, bit_for, bitboard_of, bitboards_of, colours, kinds}
 
 map_same : {A : Type 0} (f g : A → ℕ) → ((x : A) → f x ≡ g x) → (xs : List A) → map f xs ≡ map g xs
@@ -182,6 +182,16 @@ side_bit b q c = ap (λ (n : ℕ). bit_at n q) (side_bitboard b c) ∙ bitboard_
 
 pub kind_bit : (b : Board) (q : ℕ) (k : Kind) → bit_at (slice_index_or (bitboards_of b).kinds (kind_number k) 0) q ≡ bit_for (is_kind k (at b q))
 kind_bit b q k = ap (λ (n : ℕ). bit_at n q) (kind_bitboard b k) ∙ bitboard_bit (is_kind k) refl b q
+
+kind_there : (x : Place) (k : Kind) → bit_for (is_kind k x) ≡ 1 → (c : Colour) × (x ≡ Some (piece_of c k))
+kind_there None k one = absurd (omega arith)
+kind_there (Some p) k one = (p.colour, ap (λ (j : Kind). Some (piece_of p.colour j)) (kind_one p.kind k (eqb-true (kind_number p.kind) (kind_number k) (one_for _ one))))
+
+pub kind_told : (x : Place) (k : Kind) → (bit_for (is_kind k x) ≡ 1) ↔ ((c : Colour) × (x ≡ Some (piece_of c k)))
+kind_told x k = (
+  kind_there x k,
+  λ h. ap (λ (y : Place). bit_for (is_kind k y)) h.1 ∙ ap bit_for (eq-eqb (kind_number k) (kind_number k) refl),
+)
 
 both_bits : (x : Place) (p : Piece) → min (bit_for (is_side p.colour x)) (bit_for (is_kind p.kind x)) ≡ bit_for (is_piece p x)
 both_bits None p = refl

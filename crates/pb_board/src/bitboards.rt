@@ -5,8 +5,9 @@ ghost use Rattle.std.specs.Int.{bit_at};
 ghost use Rattle.std.specs.Option.{option_map};
 ghost use Rattle.pb_board.specs.Board.{Board, IsEmpty, Holds, at};
 ghost use Rattle.pb_board.specs.MovedPiece.{with_moved};
-ghost use Rattle.pb_board.specs.Piece.{colour_number, kind_number};
+ghost use Rattle.pb_board.specs.Piece.{colour_number, kind_number, piece_of};
 ghost use Rattle.pb_board.specs.Bitboards.{bitboards_of};
+ghost use Rattle.pb_board.specs.declared.piece.Colour.{Colour};
 ghost use Rattle.pb_board.specs.declared.piece.Piece.{Piece};
 
 use crate::piece::{Colour, Kind, Piece};
@@ -117,6 +118,14 @@ pub(crate) fn by_piece(bitboards: Bitboards, piece: Piece) -> u64
     ensures { (b : Board) (q : ℕ) → bitboards ≡ bitboards_of b → ((bit_at result q ≡ 1) ↔ Holds b q piece) }
 {
     bitboards.sides[colour_number(piece.colour)] & bitboards.kinds[kind_number(piece.kind)]
+}
+
+/// The squares on which a piece of this kind stands, of either side.
+#[inline(always)]
+pub(crate) fn by_kind(bitboards: Bitboards, kind: Kind) -> u64
+    ensures { (b : Board) (q : ℕ) → bitboards ≡ bitboards_of b → ((bit_at result q ≡ 1) ↔ ((c : Colour) × Holds b q (piece_of c kind))) }
+{
+    bitboards.kinds[kind_number(kind)]
 }
 
 /// Whether the square of this index is among these.

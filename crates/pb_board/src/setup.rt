@@ -110,7 +110,7 @@ impl Setup {
         let Some(_black) = one_king(bitboards, Colour::Black) else {
             return Err(SetupError::Kings);
         };
-        if !has_no_edge_pawn(&board) {
+        if !has_no_edge_pawn(bitboards) {
             return Err(SetupError::Pawns);
         }
         if let Some(square) = ep
