@@ -34,17 +34,8 @@ one_is false = refl
 
 piece_found : (c : Colour) (k : Kind) → find (λ p. is_piece p (Some (piece_of c k))) pieces ≡ Some (piece_of c k)
 piece_found White Pawn = refl
-piece_found White Knight = refl
-piece_found White Bishop = refl
-piece_found White Rook = refl
-piece_found White Queen = refl
-piece_found White King = refl
 piece_found Black Pawn = refl
-piece_found Black Knight = refl
-piece_found Black Bishop = refl
-piece_found Black Rook = refl
-piece_found Black Queen = refl
-piece_found Black King = refl
+piece_found c k = refl
 
 -- of the twelve pieces the one that stands there is found
 found : (x : Place) → find (λ p. is_piece p x) pieces ≡ x

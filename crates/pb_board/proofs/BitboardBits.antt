@@ -10,7 +10,7 @@ use Rattle.std.proofs.lemmas.List.{get_or-set_same, get_or-set_other, length-set
 use Rattle.pb_board.specs.declared.piece.Colour.{Colour}
 use Rattle.pb_board.specs.declared.piece.Colour.TheVariants.{White, Black}
 use Rattle.pb_board.specs.declared.piece.Kind.{Kind}
-use Rattle.pb_board.specs.declared.piece.Kind.TheVariants.{Pawn, Knight, Bishop, Rook, Queen, King}
+use Rattle.pb_board.specs.declared.piece.Kind.TheVariants.{Pawn}
 use Rattle.pb_board.specs.declared.piece.Piece.{Piece}
 use Rattle.pb_board.specs.declared.bitboards.Bitboards.{Bitboards}
 use Rattle.pb_board.specs.Board.{Place, Board, at, Holds, IsEmpty, is_piece}
@@ -118,11 +118,7 @@ module _ (board : Board) (s : ℕ) (full : length board ≡ 64) (on : s < 64) wh
       ≡ map (λ j. cond (kind_number k == kind_number j) (with_bit (bitboard_of (is_kind j) board) s) (bitboard_of (is_kind j) board)) kinds
   unfolding bitboards_of
   kinds_put Pawn = refl
-  kinds_put Knight = refl
-  kinds_put Bishop = refl
-  kinds_put Rook = refl
-  kinds_put Queen = refl
-  kinds_put King = refl
+  kinds_put k = refl
 
   pub bitboards_put : (p : Piece) → IsEmpty board s → record {
     sides = slice_set (bitboards_of board).sides (colour_number p.colour) (with_bit (slice_index_or (bitboards_of board).sides (colour_number p.colour) 0) s);
@@ -171,11 +167,7 @@ side_bitboard b Black = refl
 kind_bitboard : (b : Board) (k : Kind) → slice_index_or (bitboards_of b).kinds (kind_number k) 0 ≡ bitboard_of (is_kind k) b
 unfolding bitboards_of
 kind_bitboard b Pawn = refl
-kind_bitboard b Knight = refl
-kind_bitboard b Bishop = refl
-kind_bitboard b Rook = refl
-kind_bitboard b Queen = refl
-kind_bitboard b King = refl
+kind_bitboard b k = refl
 
 pub side_bit : (b : Board) (q : ℕ) (c : Colour) → bit_at (slice_index_or (bitboards_of b).sides (colour_number c) 0) q ≡ bit_for (is_side c (at b q))
 side_bit b q c = ap (λ (n : ℕ). bit_at n q) (side_bitboard b c) ∙ bitboard_bit (is_side c) refl b q
