@@ -29,6 +29,7 @@ is_effect s m piece kind rights ep ok own leads rights_is ep_is =
     let R : Rights → Position = λ r. position_of new (opponent s.turn) r (en_passant_after m (at s.board m.from)) in
     let E : Option ℕ → Position = λ o. position_of new (opponent s.turn) rights o in
     record {
+      rules = ok;
       moves = case_moves s m new ok case;
       stands = own.stands;
       fits = leads.0;

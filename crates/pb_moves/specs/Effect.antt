@@ -2,7 +2,7 @@
 use Rattle.std.specs.Prelude.{◌≡◌}
 use Rattle.pb_board.specs.Board.{Holds}
 use Rattle.pb_board.specs.Piece.{opponent}
-use Rattle.pb_board.specs.Position.{Position, position_of}
+use Rattle.pb_board.specs.Position.{IsSetup, Position, position_of}
 use Rattle.pb_moves.specs.declared.effect.Effect.{Effect}
 use Rattle.pb_moves.specs.Legal.{PseudoLegal}
 use Rattle.pb_moves.specs.MoveKind.{Fits, board_by}
@@ -11,6 +11,7 @@ use Rattle.pb_moves.specs.Successor.{after}
 
 -- its piece stands where the move begins, and the setup after the move is made of its parts
 pub record IsEffect (s : Position) (m : Moved) (e : Effect) : Type 0 where
+  pub rules : IsSetup s
   pub moves : PseudoLegal s m
   pub stands : Holds s.board m.from e.piece
   pub fits : Fits e.kind s

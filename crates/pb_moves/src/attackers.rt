@@ -31,8 +31,6 @@ pub(crate) struct Attackers {
 pub(crate) fn attackers_of(setup: &Setup, colour: Colour) -> Attackers
     ensures { AreAttackers setup.now.board colour result }
 {
-    // The reader tells that the setup meets its rules.
-    let _turn = setup.turn();
     let queens = setup.by_piece(Piece {
         colour,
         kind: Kind::Queen,

@@ -1,13 +1,12 @@
-//! What stands on the squares of a board.
+//! What stands on the squares of a setup.
 
 ghost use Rattle.std.specs.Prelude.{◌≡◌, ◌<◌, ◌↔◌, IsTrue};
 ghost use Rattle.pb_board.specs.Board.{Holds, IsEmpty};
+ghost use Rattle.pb_board.specs.Position.{IsSetup};
 ghost use Rattle.pb_moves.specs.Cases.{IsCapturable};
 
-use pb_board::{Colour, Kind, Piece, Square};
-
-/// The places of a board by square index.
-pub(crate) type Board = [Option<Piece>; 64];
+use crate::rays::has;
+use pb_board::{Colour, Kind, Piece, Setup, Square};
 
 /// The square of an index that is known to be on the board.
 #[inline(always)]
@@ -20,10 +19,11 @@ pub(crate) fn square_at(index: u8) -> Square
 
 /// Whether an enemy piece other than the king stands there.
 #[inline(always)]
-pub(crate) fn is_capturable(board: &Board, side: Colour, square: Square) -> bool
-    ensures { IsTrue result ↔ IsCapturable board.now side square }
+pub(crate) fn is_capturable(setup: &Setup, side: Colour, square: Square) -> bool
+    ensures value { IsTrue result ↔ IsCapturable setup.now.board side square }
+    ensures rules { IsSetup setup.now }
 {
-    match board[square.index() as usize] {
+    match setup.at(square) {
         Some(piece) => piece.colour != side && piece.kind != Kind::King,
         None => false,
     }
@@ -31,19 +31,17 @@ pub(crate) fn is_capturable(board: &Board, side: Colour, square: Square) -> bool
 
 /// Whether nothing stands there.
 #[inline(always)]
-pub(crate) fn is_empty(board: &Board, square: Square) -> bool
-    ensures { IsTrue result ↔ IsEmpty board.now square }
+pub(crate) fn is_empty(setup: &Setup, square: Square) -> bool
+    ensures value { IsTrue result ↔ IsEmpty setup.now.board square }
+    ensures rules { IsSetup setup.now }
 {
-    board[square.index() as usize].is_none()
+    !has(setup.occupied(), square)
 }
 
 /// Whether this piece stands there.
 #[inline(always)]
-pub(crate) fn holds(board: &Board, square: Square, piece: Piece) -> bool
-    ensures { IsTrue result ↔ Holds board.now square piece }
+pub(crate) fn holds(setup: &Setup, square: Square, piece: Piece) -> bool
+    ensures { IsTrue result ↔ Holds setup.now.board square piece }
 {
-    match board[square.index() as usize] {
-        Some(other) => other == piece,
-        None => false,
-    }
+    has(setup.by_piece(piece), square)
 }

@@ -21,10 +21,9 @@ pub(crate) fn piece_move(setup: &Setup, m: Move, piece: Piece) -> Option<MoveKin
     requires no_pawn { piece.kind ≢ Pawn }
     ensures { Finds (PieceMove setup.now m piece) setup.now m result }
 {
-    let board = setup.board();
     let (from, to) = (m.from(), m.to());
     if m.promo().is_none()
-        && (is_empty(board, to) || is_capturable(board, piece.colour, to))
+        && (is_empty(setup, to) || is_capturable(setup, piece.colour, to))
         && reaches(piece, setup, from, to)
     {
         Some(MoveKind::Normal(piece))
@@ -59,7 +58,7 @@ pub(crate) fn pawn_step(setup: &Setup, m: Move, pawn: Piece, kind: Kind) -> Opti
 {
     let colour = pawn.colour;
     let (from, to) = (m.from(), m.to());
-    if to.file() == from.file() && is_forward(colour, 1, from, to) && is_empty(setup.board(), to) {
+    if to.file() == from.file() && is_forward(colour, 1, from, to) && is_empty(setup, to) {
         Some(MoveKind::Normal(Piece { colour, kind }))
     } else {
         None
@@ -75,9 +74,8 @@ pub(crate) fn pawn_capture(setup: &Setup, m: Move, pawn: Piece, kind: Kind) -> O
     ensures { Finds (PawnCapture setup.now m pawn) setup.now m result }
 {
     let colour = pawn.colour;
-    let board = setup.board();
     let (from, to) = (m.from(), m.to());
-    if is_capturable(board, colour, to) && reaches(pawn, setup, from, to) {
+    if is_capturable(setup, colour, to) && reaches(pawn, setup, from, to) {
         Some(MoveKind::Normal(Piece { colour, kind }))
     } else {
         None
@@ -93,13 +91,12 @@ pub(crate) fn pawn_double(setup: &Setup, m: Move, pawn: Piece, kind: Kind) -> Op
     ensures { Finds (PawnDouble setup.now m pawn) setup.now m result }
 {
     let colour = pawn.colour;
-    let board = setup.board();
     let (from, to) = (m.from(), m.to());
     if to.file() == from.file()
         && from.rank() == pawn_rank(colour)
         && is_forward(colour, 2, from, to)
-        && is_empty(board, to)
-        && is_empty(board, halfway(from, to))
+        && is_empty(setup, to)
+        && is_empty(setup, halfway(from, to))
     {
         Some(MoveKind::Normal(Piece { colour, kind }))
     } else {
@@ -135,8 +132,6 @@ pub(crate) fn en_passant(setup: &Setup, m: Move, pawn: Piece, kind: Kind) -> Opt
     requires becomes { Becomes pawn.colour m Pawn kind }
     ensures { Finds (EnPassant setup.now m pawn) setup.now m result }
 {
-    // The reader tells that the setup meets its rules.
-    let _turn = setup.turn();
     let (from, to) = (m.from(), m.to());
     match setup.ep() {
         Some(ep) if ep.index() == to.index() && reaches(pawn, setup, from, to) => {

@@ -5,6 +5,7 @@ ghost use Rattle.pb_board.specs.declared.castling.Castling.{Castling};
 ghost use Rattle.pb_board.specs.declared.piece.Kind.TheVariants.{King};
 ghost use Rattle.pb_board.specs.Piece.{opponent};
 ghost use Rattle.pb_board.specs.Castling.{castling_row};
+ghost use Rattle.pb_board.specs.Position.{IsSetup};
 ghost use Rattle.pb_moves.specs.Attacks.{IsAttacked};
 ghost use Rattle.pb_moves.specs.Reach.{WayIsClear};
 ghost use Rattle.pb_moves.specs.Castling.{RowAllows};
@@ -39,7 +40,8 @@ fn way_is_safe(castling: Castling, setup: &Setup) -> bool
 
 /// Whether all that this castling needs holds, but for the square that the king reaches.
 fn may_castle(castling: Castling, setup: &Setup) -> bool
-    ensures { IsTrue result ↔ RowAllows (castling_row castling) setup.now }
+    ensures rules { IsSetup setup.now }
+    ensures allows { IsTrue result ↔ RowAllows (castling_row castling) setup.now }
 {
     let colour = castling.colour();
     let rook = Piece {
@@ -49,7 +51,7 @@ fn may_castle(castling: Castling, setup: &Setup) -> bool
     if setup.turn() != colour || !castling.is_allowed(setup.rights()) {
         return false;
     }
-    if !holds(setup.board(), castling.squares().rook_from, rook) {
+    if !holds(setup, castling.squares().rook_from, rook) {
         return false;
     }
     way_is_clear(castling, setup) && way_is_safe(castling, setup)
@@ -61,8 +63,6 @@ pub(crate) fn castles(setup: &Setup, m: Move, king: Piece) -> Option<MoveKind>
     requires king { king.kind ≡ King }
     ensures { Finds (λ b. (c : Castling) × Castles (castling_row c) setup.now m king b) setup.now m result }
 {
-    // The reader tells that the setup meets its rules.
-    let _turn = setup.turn();
     match Castling::of(m.from(), m.to()) {
         Some(castling) if m.promo().is_none() && may_castle(castling, setup) => {
             let (from, to) = (m.from(), m.to());

@@ -19,7 +19,7 @@ fn resets(setup: &Setup, m: Move) -> bool
         colour: setup.turn(),
         kind: Kind::Pawn,
     };
-    holds(setup.board(), m.from(), pawn) || !is_empty(setup.board(), m.to())
+    holds(setup, m.from(), pawn) || !is_empty(setup, m.to())
 }
 
 /// The half-move clock after the move.

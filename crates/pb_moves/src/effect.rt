@@ -29,8 +29,6 @@ pub struct Effect {
 pub fn effect_of(setup: &Setup, m: Move) -> Option<Effect>
     ensures { MatchOption result (¬ PseudoLegal setup.now m) (IsEffect setup.now m) }
 {
-    // The reader tells that the setup meets its rules.
-    let _turn = setup.turn();
     let piece = own_piece(setup, m.from())?;
     let kind = change_of(setup, m, piece)?;
     Some(Effect {
@@ -46,8 +44,6 @@ pub fn effect_of(setup: &Setup, m: Move) -> Option<Effect>
 pub fn legal_effect(setup: &Setup, m: Move) -> Option<Effect>
     ensures { MatchOption result (¬ Legal setup.now m) (λ e. Legal setup.now m × IsEffect setup.now m e) }
 {
-    // The reader tells that the setup meets its rules.
-    let _turn = setup.turn();
     let effect = effect_of(setup, m)?;
     if is_safe(setup, m, effect.piece, &effect.kind) {
         Some(effect)
@@ -73,8 +69,6 @@ impl Effect {
         requires { IsEffect setup.old m self }
         ensures { setup.new ≡ after setup.old m }
     {
-        // The reader tells that the setup meets its rules.
-        let _turn = setup.turn();
         let Effect {
             kind,
             rights,

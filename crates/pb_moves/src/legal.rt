@@ -5,7 +5,7 @@ ghost use Rattle.pb_board.specs.declared.piece.Kind.TheVariants.{Pawn, King};
 ghost use Rattle.pb_board.specs.declared.piece.Piece.{Piece};
 ghost use Rattle.pb_board.specs.Board.{Board};
 ghost use Rattle.pb_board.specs.Piece.{opponent};
-ghost use Rattle.pb_board.specs.Position.{IsOnlyKing};
+ghost use Rattle.pb_board.specs.Position.{IsOnlyKing, IsSetup};
 ghost use Rattle.pb_moves.specs.Candidate.{HoldsOwn};
 ghost use Rattle.pb_moves.specs.Cases.{CaseOf, SafeCase};
 ghost use Rattle.pb_moves.specs.MoveKind.{Finds, LeadsTo};
@@ -25,7 +25,8 @@ use pb_board::{Kind, MovedPiece, Piece, Setup, Square};
 /// The piece of the side to move that stands there.
 #[inline(always)]
 pub(crate) fn own_piece(setup: &Setup, square: Square) -> Option<Piece>
-    ensures { MatchOption result ((p : Piece) → ¬ HoldsOwn setup.now square p) (HoldsOwn setup.now square) }
+    ensures rules { IsSetup setup.now }
+    ensures found { MatchOption result ((p : Piece) → ¬ HoldsOwn setup.now square p) (HoldsOwn setup.now square) }
 {
     match setup.at(square) {
         Some(piece) if piece.colour == setup.turn() => Some(piece),
@@ -88,7 +89,7 @@ pub(crate) fn has_way(setup: &Setup, piece: Piece, from: Square, to: Square) -> 
     if piece.kind != Kind::Pawn {
         return true;
     }
-    let empty = is_empty(setup.board(), to);
+    let empty = is_empty(setup, to);
     if from.file() == to.file() {
         empty
     } else {

@@ -87,8 +87,6 @@ impl<'a> Lister<'a> {
         let Some(piece) = own_piece(self.setup, from) else {
             return Ok(());
         };
-        // The reader tells that the setup meets its rules.
-        let _turn = self.setup.turn();
         let unpinned = is_unpinned(self.setup, &self.enemy, from, piece);
         let mover = Mover {
             piece,

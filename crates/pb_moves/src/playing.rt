@@ -15,6 +15,7 @@ use pb_board::Setup;
 pub fn try_play(setup: &mut Setup, m: Move) -> bool
     ensures legal { IsTrue result ↔ Legal setup.old m }
     ensures played { IsTrue result → (setup.new ≡ after setup.old m) }
+    ensures setup { IsTrue result → IsSetup setup.new }
     ensures refused { ¬ IsTrue result → (setup.new ≡ setup.old) }
 {
     match legal_effect(setup, m) {
@@ -35,8 +36,6 @@ pub fn play(setup: &Setup, m: Move) -> Option<Setup>
     ensures played { SomeIff result (Legal setup.now m) (after setup.now m) }
     ensures setup { IfSome result IsSetup }
 {
-    // The reader tells that the setup meets its rules.
-    let _turn = setup.turn();
     let mut next = *setup;
     if try_play(&mut next, m) {
         Some(next)

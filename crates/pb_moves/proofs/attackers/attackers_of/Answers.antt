@@ -8,8 +8,8 @@ returns c =
     let rooks = c.by_piece-4.ensures in
     let bishops = c.by_piece-5.ensures in
     record {
-      full = c.turn-turn.ensures.rules.places;
-      occupied = λ q on. c.occupied.ensures q;
+      full = c.occupied.ensures.rules.places;
+      occupied = λ q on. c.occupied.ensures.squares q;
       pawns = λ q on. c.by_piece.ensures q;
       knights = λ q on. c.by_piece-2.ensures q;
       kings = λ q on. c.by_piece-3.ensures q;

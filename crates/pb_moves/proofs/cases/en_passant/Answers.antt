@@ -11,5 +11,5 @@ returns-in-Some c =
     let square : s.ep ≡ Some m.to = search rules in
     let reaches : Reaches c.args.pawn s.board m.from m.to = search rules in
     let taken : c.square_at-taken.result ≡ 8 * rank m.from + file m.to = omega arith in
-    takes_past s m c.args.pawn c.args.kind c.from-from.result c.to-to.result c.square_at-taken.result c.turn-turn.ensures.rules c.from-from.ensures.rules c.requires.own c.requires.pawn
+    takes_past s m c.args.pawn c.args.kind c.from-from.result c.to-to.result c.square_at-taken.result c.ep.ensures.rules c.from-from.ensures.rules c.requires.own c.requires.pawn
     c.requires.becomes square reaches c.from-from.ensures.value c.to-to.ensures.value taken

@@ -9,6 +9,6 @@ returns-then-reaches c = (
     pawn = c.requires.pawn;
     reaches = search rules;
     target = search rules;
-    after = pawn_goes c.args.setup.now c.args.m c.args.pawn c.args.kind c.board-board.ensures.places c.from-from.ensures.rules c.requires.own c.requires.pawn c.requires.becomes;
+    after = pawn_goes c.args.setup.now c.args.m c.args.pawn c.args.kind c.is_capturable.ensures.rules.places c.from-from.ensures.rules c.requires.own c.requires.pawn c.requires.becomes;
   },
 )

@@ -12,6 +12,6 @@ returns-then-is_empty-2 c = (
     forward = search rules;
     way = search rules;
     empty = search rules;
-    after = pawn_goes c.args.setup.now c.args.m c.args.pawn c.args.kind c.board-board.ensures.places c.from-from.ensures.rules c.requires.own c.requires.pawn c.requires.becomes;
+    after = pawn_goes c.args.setup.now c.args.m c.args.pawn c.args.kind c.is_empty.ensures.rules.places c.from-from.ensures.rules c.requires.own c.requires.pawn c.requires.becomes;
   },
 )

@@ -10,6 +10,6 @@ returns-then-is_empty c = (
     same_file = search rules;
     forward = search rules;
     empty = search rules;
-    after = pawn_goes c.args.setup.now c.args.m c.args.pawn c.args.kind c.board.ensures.places c.from-from.ensures.rules c.requires.own c.requires.pawn c.requires.becomes;
+    after = pawn_goes c.args.setup.now c.args.m c.args.pawn c.args.kind c.is_empty.ensures.rules.places c.from-from.ensures.rules c.requires.own c.requires.pawn c.requires.becomes;
   },
 )

@@ -10,6 +10,6 @@ returns-then-reaches c =
         no_pawn = c.requires.no_pawn;
         reaches = search rules;
         target = search rules;
-        after = piece_goes c.args.setup.now c.args.m c.args.piece c.board-board.ensures.places c.from-from.ensures.rules c.requires.own c.requires.no_pawn none;
+        after = piece_goes c.args.setup.now c.args.m c.args.piece c.is_empty.ensures.rules.places c.from-from.ensures.rules c.requires.own c.requires.no_pawn none;
       },
     )

@@ -14,5 +14,5 @@ returns-in-Some c =
     let squares = castling_found m.from m.to c.in-Some.castling found in
     let none : m.promo ≡ None = search rules in
     castles_so c.in-Some.castling s m c.args.king _ c.from-from.result c.to-to.result c.squares-squares.result.rook_from c.squares-squares.result.rook_to
-    c.turn-turn.ensures.rules c.from-from.ensures.rules c.requires.own c.requires.king none squares.0 squares.1 (c.may_castle.ensures.0 c.if-may_castle.true)
+    c.may_castle.ensures.rules c.from-from.ensures.rules c.requires.own c.requires.king none squares.0 squares.1 (c.may_castle.ensures.allows.0 c.if-may_castle.true)
     c.from-from.ensures.value c.to-to.ensures.value (ap rook_of c.colour.ensures) c.squares-squares.ensures.rook_from c.squares-squares.ensures.rook_to

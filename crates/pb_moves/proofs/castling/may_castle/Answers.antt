@@ -1,5 +1,5 @@
 use Rattle.std.proofs.Common.{ℕ, rules, subst}
-use Rattle.pb_board.specs.Board.{Board, Holds}
+use Rattle.pb_board.specs.Board.{Holds}
 use Rattle.pb_board.specs.declared.piece.Colour.{Colour}
 use Rattle.pb_board.specs.declared.piece.Kind.TheVariants.{Rook}
 use Rattle.pb_board.specs.Castling.{castling_row}
@@ -7,20 +7,18 @@ use Rattle.pb_board.specs.Piece.{opponent}
 use Rattle.pb_moves.proofs.SameAttacks.{attacked_from, attacked_to}
 use Rattle.pb_moves.proofs.castling.may_castle.Goals as goal
 
-pub returns-then-way_is_clear : goal.returns-then-way_is_clear
-returns-then-way_is_clear c =
+pub returns-then-way_is_clear-clause-allows : goal.returns-then-way_is_clear-clause-allows
+returns-then-way_is_clear-clause-allows c =
     let row = castling_row c.args.castling in
     let enemy = opponent row.colour in
-    let board = c.board.ensures.value in
-    let HasRook : Colour → ℕ → Board → Type 0 = λ colour q b. Holds b q (record { colour = colour; kind = Rook }) in
+    let HasRook : Colour → ℕ → Type 0 = λ colour q. Holds c.args.setup.now.board q (record { colour = colour; kind = Rook }) in
     let square = c.squares.ensures.rook_from in (
       λ safe. record {
         side = search rules;
         flag = cc;
         rook =
-            subst (λ (x : Board). HasRook row.colour row.rook_from x) board
-            (subst (λ (x : ℕ). HasRook row.colour x c.board.result.now) square
-            (subst (λ (x : Colour). HasRook x c.squares.result.rook_from c.board.result.now) c.colour-colour.ensures (c.holds.ensures.0 c.if-not-holds.false)));
+            subst (λ (x : ℕ). HasRook row.colour x) square
+            (subst (λ (x : Colour). HasRook x c.squares.result.rook_from) c.colour-colour.ensures (c.holds.ensures.0 c.if-not-holds.false));
         way = c.way_is_clear.ensures.0 c.if-way_is_clear.true;
         unchecked = λ x. (c.way_is_safe.ensures.0 safe).0 (attacked_to c.args.setup.now.board enemy row.king_from x);
         crosses = λ x. (c.way_is_safe.ensures.0 safe).1 (attacked_to c.args.setup.now.board enemy row.rook_to x);

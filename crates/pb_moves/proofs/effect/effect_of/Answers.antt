@@ -10,7 +10,7 @@ returns-in_err-kind c =
     let s = c.args.setup.now in
     let piece = c.in_ok-piece.piece in
     let H : ℕ → Type 0 = λ q. HoldsOwn s q piece in
-    rw c.from_residual-in_err-kind.ensures (not_pseudo_legal s c.args.m piece c.turn-turn.ensures.rules (subst H c.from.ensures.value c.in_ok-piece.ensures) c.in_err-kind.ensures)
+    rw c.from_residual-in_err-kind.ensures (not_pseudo_legal s c.args.m piece c.own_piece.ensures.rules (subst H c.from.ensures.value c.in_ok-piece.ensures.found) c.in_err-kind.ensures)
 
 pub returns : goal.returns
 returns c =
@@ -18,5 +18,5 @@ returns c =
     let m = c.args.m in
     let piece = c.in_ok-piece.piece in
     let H : ℕ → Type 0 = λ q. HoldsOwn s q piece in
-    is_effect s m piece c.in_ok-kind.kind c.rights_after.result c.en_passant_after.result c.turn-turn.ensures.rules (subst H c.from.ensures.value c.in_ok-piece.ensures)
+    is_effect s m piece c.in_ok-kind.kind c.rights_after.result c.en_passant_after.result c.own_piece.ensures.rules (subst H c.from.ensures.value c.in_ok-piece.ensures.found)
     c.in_ok-kind.ensures (c.rights_after.ensures ∙ ap (λ (r : Rights). rights_after r m) c.rights.ensures) c.en_passant_after.ensures

@@ -14,7 +14,7 @@ returns-then-not-has c =
     (λ p held. let inside = c.has.ensures.inside.1 ((c.requires.own c.args.from c.has.ensures.on_board).1 (p, held)) in let out = c.if-not-has.true in cc) c.requires.before
 
 pub returns-in_default : goal.returns-in_default
-returns-in_default c = lists_pass_from c.args.self.now.setup.now c.args.moves.now.items c.args.from c.in_default.ensures c.requires.before
+returns-in_default c = lists_pass_from c.args.self.now.setup.now c.args.moves.now.items c.args.from c.in_default.ensures.found c.requires.before
 
 pub loop-rest-init : goal.loop-rest-init
 loop-rest-init c =
@@ -29,7 +29,7 @@ loop-rest-init c =
           (in_others own q (omega arith) on (λ stands. let held = (c.requires.own q on).0 stands in unpinned held.0 held.1));
     } in
     record {
-      before = lists_to_lowest c.args.self.now.setup.now c.args.moves.now.items c.in-Some.piece c.args.from 0 (bit_and may (bit_not w64 own)) c.turn-turn.ensures.rules c.in-Some.ensures (omega (arith, and_le_l may (bit_not w64 own))) (omega arith)
+      before = lists_to_lowest c.args.self.now.setup.now c.args.moves.now.items c.in-Some.piece c.args.from 0 (bit_and may (bit_not w64 own)) c.own_piece.ensures.rules c.in-Some.ensures.found (omega (arith, and_le_l may (bit_not w64 own))) (omega arith)
           targets (subst L first c.requires.before);
       targets = record { every = λ q on after goes unpinned. targets.every q on (omega arith) goes unpinned };
     }
@@ -45,7 +45,7 @@ pub loop-rest-preserved : goal.loop-rest-preserved
 loop-rest-preserved c =
     let bits = c.loop-rest.rest in
     let some = zeros_some bits (omega arith) (omega arith) in
-    let next = lists_next c.args.self.now.setup.now c.push_to.new.moves.items c.in-Some.piece c.args.from bits c.square_at.result c.turn-turn.ensures.rules c.in-Some.ensures (omega arith) some
+    let next = lists_next c.args.self.now.setup.now c.push_to.new.moves.items c.in-Some.piece c.args.from bits c.square_at.result c.own_piece.ensures.rules c.in-Some.ensures.found (omega arith) some
     c.square_at.ensures c.loop-rest.invariant.targets c.in_ok-push_to.ensures in
     record { before = next.0; targets = next.1 }
 
