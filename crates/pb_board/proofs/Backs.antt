@@ -3,7 +3,8 @@ use Rattle.std.proofs.Common.{◌≡◌, ◌↔◌, ℕ, IsTrue, Bool, true, fal
 use Rattle.std.specs.Int.{bit_at}
 use Rattle.std.specs.List.{find}
 use Rattle.std.specs.Option.{option_map}
-use Rattle.std.proofs.lemmas.Bool.{eq-eqb, eqb-true, false≢true}
+use Rattle.std.proofs.lemmas.Bool.{eqb-true, false≢true}
+use Rattle.std.proofs.lemmas.Option.{same_Some}
 use Rattle.std.proofs.lemmas.List.{length-set}
 use Rattle.std.proofs.lemmas.List.FromFn.{fill_by_all}
 use Rattle.pb_board.specs.declared.piece.Colour.{Colour}
@@ -19,9 +20,9 @@ use Rattle.pb_board.specs.Kept.{KeepsBitboards}
 use Rattle.pb_board.specs.Position.{IsSetup, Position, position_of}
 use Rattle.pb_board.specs.Piece.{colour_number, kind_number, piece_of}
 use Rattle.pb_board.specs.Board.{Place, Board, Holds, at, is_piece}
-use Rattle.pb_board.specs.Bitboards.{bit_for, is_kind, is_on, is_side, pieces, bitboards_of, board_of}
-use Rattle.pb_board.proofs.BitboardBits.{kind_bit, one_for, piece_bit, side_bit}
-use Rattle.pb_board.proofs.PieceTests.{colour_one, kind_one}
+use Rattle.pb_board.specs.Bitboards.{bit_for, is_on, is_side, pieces, bitboards_of, board_of}
+use Rattle.pb_board.proofs.BitboardBits.{kind_bit, kind_told, one_for, piece_bit, side_bit}
+use Rattle.pb_board.proofs.PieceTests.{colour_one}
 
 find_same : {A : Type 0} (f g : A → Bool) → ((x : A) → f x ≡ g x) → (xs : List A) → find f xs ≡ find g xs
 find_same f g same [] = refl
@@ -33,17 +34,8 @@ one_is false = refl
 
 piece_found : (c : Colour) (k : Kind) → find (λ p. is_piece p (Some (piece_of c k))) pieces ≡ Some (piece_of c k)
 piece_found White Pawn = refl
-piece_found White Knight = refl
-piece_found White Bishop = refl
-piece_found White Rook = refl
-piece_found White Queen = refl
-piece_found White King = refl
 piece_found Black Pawn = refl
-piece_found Black Knight = refl
-piece_found Black Bishop = refl
-piece_found Black Rook = refl
-piece_found Black Queen = refl
-piece_found Black King = refl
+piece_found c k = refl
 
 -- of the twelve pieces the one that stands there is found
 found : (x : Place) → find (λ p. is_piece p x) pieces ≡ x
@@ -65,11 +57,11 @@ denied b test e p = false≢true (sym e ∙ test.1 p)
 -- a kind whose bitboard has the square is that of the piece on it
 pub kind_here : (m : Bitboards) (b : Board) (q : ℕ) (p : Piece) (k : Kind) → bit_at (slice_index_or m.kinds (kind_number k) 0) q ≡ 1 → m ≡ bitboards_of b → Holds b q p → k ≡ p.kind
 kind_here m b q p k one e here =
-    let bit = rw here at (kind_bit b q k) in
-    sym (kind_one p.kind k (eqb-true (kind_number p.kind) (kind_number k) (one_for _ (sym bit ∙ (rw e at one)))))
+    let found = (kind_told (at b q) k).0 (sym (kind_bit b q k) ∙ (rw e at one)) in
+    ap (λ (x : Piece). x.kind) (same_Some _ _ (sym found.1 ∙ here))
 
 pub own_kind : (m : Bitboards) (b : Board) (q : ℕ) (p : Piece) → m ≡ bitboards_of b → Holds b q p → bit_at (slice_index_or m.kinds (kind_number p.kind) 0) q ≡ 1
-own_kind m b q p e here = rw e (kind_bit b q p.kind ∙ ap (λ (x : Place). bit_for (is_kind p.kind x)) here ∙ ap bit_for (eq-eqb (kind_number p.kind) (kind_number p.kind) refl))
+own_kind m b q p e here = rw e (kind_bit b q p.kind ∙ (kind_told (at b q) p.kind).1 (p.colour, here))
 
 abbrev KindLacks : Bitboards → ℕ → ℕ → Type 0
 KindLacks m q k = ¬ (bit_at (slice_index_or m.kinds k 0) q ≡ 1)

@@ -1,22 +1,29 @@
 -- Bitboards of a board, told by their bits, and after a change of one square.
-use Rattle.std.proofs.Common.{◌≡◌, ◌≢◌, ℕ, zero, suc, ◌+◌, ◌*◌, ◌/◌, ◌%◌, ◌^◌, ◌<◌, ◌≤◌, ◌↔◌, refl, sym, ap, ap₂, subst, ◌∙◌, arith, Bool, true, false, ◌&&◌, ◌==◌, List, [], ◌∷◌, length, ◌⊎◌, Some, None, bit_and, bit_or, w64, inl, inr, min, max, replicate, slice_set, slice_index_or}
+use Rattle.std.proofs.Common.{◌≡◌, ◌≢◌, ℕ, zero, suc, ◌+◌, ◌*◌, ◌/◌, ◌%◌, ◌^◌, ◌<◌, ◌≤◌, ◌↔◌, refl, sym, ap, ap₂, subst, ◌∙◌, arith, Bool, true, false, ◌&&◌, ◌==◌, List, [], ◌∷◌, length, ◌⊎◌, Some, None, bit_and, bit_or, w64, inl, inr, min, max, map, cond, replicate, slice_set, slice_index_or}
 use mir.Val.{bits}
 use Rattle.std.proofs.Math.Nat.{pow-suc}
 use Rattle.std.specs.Int.{bit_at, bit_not}
-use Rattle.std.proofs.lemmas.Bool.{cases_order}
+use Rattle.std.proofs.lemmas.Bool.{cases_order, eq-eqb, eqb-true}
 use Rattle.std.proofs.lemmas.Nat.{and_le_l, or_lt}
 use Rattle.std.proofs.lemmas.Nat.Bits.{bit_at-zero, bit_at_lowest, bit_at-suc, bit_at_and, bit_at_or, bit_at_clear_same, bit_at_clear_other, bit_at_set_same, bit_at_set_other, same_from_bits_below}
 use Rattle.std.proofs.lemmas.List.{get_or-set_same, get_or-set_other, length-set}
 use Rattle.pb_board.specs.declared.piece.Colour.{Colour}
 use Rattle.pb_board.specs.declared.piece.Colour.TheVariants.{White, Black}
 use Rattle.pb_board.specs.declared.piece.Kind.{Kind}
-use Rattle.pb_board.specs.declared.piece.Kind.TheVariants.{Pawn, Knight, Bishop, Rook, Queen, King}
+use Rattle.pb_board.specs.declared.piece.Kind.TheVariants.{Pawn}
 use Rattle.pb_board.specs.declared.piece.Piece.{Piece}
 use Rattle.pb_board.specs.declared.bitboards.Bitboards.{Bitboards}
 use Rattle.pb_board.specs.Board.{Place, Board, at, Holds, IsEmpty, is_piece}
-use Rattle.pb_board.proofs.PieceTests.{is_piece-is, is_piece-passes}
-use Rattle.pb_board.specs.Piece.{colour_number, kind_number}
-use Rattle.pb_board.specs.Bitboards.{is_side, is_kind, bit_for, bitboard_of, bitboards_of}
+use Rattle.pb_board.proofs.PieceTests.{kind_one, is_piece-is, is_piece-passes}
+use Rattle.pb_board.specs.Piece.{colour_number, kind_number, piece_of}
+use Rattle.pb_board.specs.Bitboards.{is_side, is_kind, bit_for, bitboard_of, bitboards_of, colours, kinds}
+
+map_same : {A : Type 0} (f g : A → ℕ) → ((x : A) → f x ≡ g x) → (xs : List A) → map f xs ≡ map g xs
+map_same f g same [] = refl
+map_same f g same (x ∷ xs) = ap₂ (λ n ns. n ∷ ns) (same x) (map_same f g same xs)
+
+abbrev made : List ℕ → List ℕ → Bitboards
+made sides kinds = record { sides = sides; kinds = kinds }
 
 bit_small : (b : Bool) → bit_for b < 2
 bit_small true = omega arith
@@ -48,6 +55,25 @@ pub bitboard_is : (test : Place → Bool) → test None ≡ false → (board : B
 bitboard_is test none board n full small bit =
     same_from_bits_below 64 n (bitboard_of test board) small (bitboard_small test board 64 full) (λ q on. bit q on ∙ sym (bitboard_bit test none board q))
 
+pub same_or_not : (a b : ℕ) → (a ≡ b) ⊎ (a ≢ b)
+same_or_not a b =
+    elim (cases_order a b) [
+      | inl same ↦ inl same
+      | inr o ↦ elim o [ inl l ↦ inr (λ e. omega arith) | inr g ↦ inr (λ e. omega arith) ]
+    ]
+
+-- what has the bits of a bitboard but for one square is that of the board with that square changed
+pub bitboard_set : (test : Place → Bool) → test None ≡ false → (board : Board) (s n : ℕ) (x : Place) → length board ≡ 64 → s < 64 → n < 2 ^ 64
+    → bit_at n s ≡ bit_for (test x) → ((q : ℕ) → q < 64 → q ≢ s → bit_at n q ≡ bit_at (bitboard_of test board) q) → n ≡ bitboard_of test (slice_set board s x)
+bitboard_set test none board s n x full on small here others =
+    let bit : Place → ℕ = λ place. bit_for (test place) in
+    bitboard_is test none (slice_set board s x) n (length-set board s x ∙ full) small (λ q in_q. elim (same_or_not q s) [
+      | inl e ↦
+          (let P : ℕ → Type 0 = λ k. bit_at n k ≡ bit (at (slice_set board s x) k) in
+          subst P (sym e) (here ∙ sym (ap bit (get_or-set_same board s x None (omega arith)))))
+      | inr ne ↦ others q in_q ne ∙ (bitboard_bit test none board q ∙ ap bit (sym (get_or-set_other board s q x None ne)))
+    ])
+
 -- the bitboard without a square
 abbrev pub cleared : ℕ → ℕ → ℕ
 cleared m s = bit_and m (bit_not w64 (1 * 2 ^ s % 2 ^ bits w64))
@@ -56,180 +82,52 @@ cleared m s = bit_and m (bit_not w64 (1 * 2 ^ s % 2 ^ bits w64))
 abbrev pub with_bit : ℕ → ℕ → ℕ
 with_bit m s = bit_or m (1 * 2 ^ s % 2 ^ bits w64)
 
-pub same_or_not : (a b : ℕ) → (a ≡ b) ⊎ (a ≢ b)
-same_or_not a b =
-    elim (cases_order a b) [
-      | inl same ↦ inl same
-      | inr o ↦ elim o [ inl l ↦ inr (λ e. omega arith) | inr g ↦ inr (λ e. omega arith) ]
-    ]
+module _ (board : Board) (s : ℕ) (full : length board ≡ 64) (on : s < 64) where
+  bitboard_cleared : (test : Place → Bool) → test None ≡ false → cleared (bitboard_of test board) s ≡ bitboard_of test (slice_set board s None)
+  bitboard_cleared test none =
+      let m = bitboard_of test board in
+      let small = bitboard_small test board 64 full in
+      let le = and_le_l m (bit_not w64 (1 * 2 ^ s % 2 ^ bits w64)) in
+      bitboard_set test none board s (cleared m s) None full on (omega arith) (bit_at_clear_same w64 m s on ∙ sym (ap bit_for none)) (λ q in_q ne. bit_at_clear_other w64 m s on q in_q ne)
 
-pub bitboard_cleared : (test : Place → Bool) → test None ≡ false → (board : Board) (s : ℕ) → length board ≡ 64 → s < 64
-    → cleared (bitboard_of test board) s ≡ bitboard_of test (slice_set board s None)
-bitboard_cleared test none board s full on =
-    let m = bitboard_of test board in
-    let small = bitboard_small test board 64 full in
-    let le = and_le_l m (bit_not w64 (1 * 2 ^ s % 2 ^ bits w64)) in
-    bitboard_is test none (slice_set board s None) (cleared m s) (length-set board s None ∙ full) (omega arith)
-    (λ q in_q. elim (same_or_not q s) [
-      | inl e ↦
-          (let P : ℕ → Type 0 = λ k. bit_at (cleared m s) k ≡ bit_for (test (at (slice_set board s None) k)) in
-          let gone : at (slice_set board s None) s ≡ None = get_or-set_same board s None None (omega arith) in
-          subst P (sym e) (bit_at_clear_same w64 m s on ∙ sym (ap (λ (x : Place). bit_for (test x)) gone ∙ ap bit_for none)))
-      | inr ne ↦
-          (let stays : at (slice_set board s None) q ≡ at board q = get_or-set_other board s q None None ne in
-          bit_at_clear_other w64 m s on q in_q ne ∙ (bitboard_bit test none board q ∙ ap (λ (x : Place). bit_for (test x)) (sym stays)))
-    ])
+  bitboard_put : (test : Place → Bool) → test None ≡ false → (p : Piece) → IsEmpty board s → (passes : Bool) → test (Some p) ≡ passes
+      → cond passes (with_bit (bitboard_of test board) s) (bitboard_of test board) ≡ bitboard_of test (slice_set board s (Some p))
+  bitboard_put test none p empty true passes =
+      let m = bitboard_of test board in
+      let small = or_lt 64 m (1 * 2 ^ s % 2 ^ bits w64) (bitboard_small test board 64 full) (omega arith) in
+      bitboard_set test none board s (with_bit m s) (Some p) full on small (bit_at_set_same w64 m s on ∙ sym (ap bit_for passes)) (λ q in_q ne. bit_at_set_other w64 m s on q ne)
+  bitboard_put test none p empty false passes =
+      let nothing = bitboard_bit test none board s ∙ ap (λ (x : Place). bit_for (test x)) empty ∙ ap bit_for none in
+      bitboard_set test none board s (bitboard_of test board) (Some p) full on (bitboard_small test board 64 full) (nothing ∙ sym (ap bit_for passes)) (λ q in_q ne. refl)
 
-pub bitboard_placed : (test : Place → Bool) → test None ≡ false → (board : Board) (s : ℕ) (p : Piece) → length board ≡ 64 → s < 64 → test (Some p) ≡ true
-    → with_bit (bitboard_of test board) s ≡ bitboard_of test (slice_set board s (Some p))
-bitboard_placed test none board s p full on passes =
-    let m = bitboard_of test board in
-    let small = bitboard_small test board 64 full in
-    let bit_below : 1 * 2 ^ s % 2 ^ bits w64 < 2 ^ 64 = omega arith in
-    bitboard_is test none (slice_set board s (Some p)) (with_bit m s) (length-set board s (Some p) ∙ full) (or_lt 64 m (1 * 2 ^ s % 2 ^ bits w64) small bit_below)
-    (λ q in_q. elim (same_or_not q s) [
-      | inl e ↦
-          (let P : ℕ → Type 0 = λ k. bit_at (with_bit m s) k ≡ bit_for (test (at (slice_set board s (Some p)) k)) in
-          let here : at (slice_set board s (Some p)) s ≡ Some p = get_or-set_same board s (Some p) None (omega arith) in
-          subst P (sym e) (bit_at_set_same w64 m s on ∙ sym (ap (λ (x : Place). bit_for (test x)) here ∙ ap bit_for passes)))
-      | inr ne ↦
-          (let stays : at (slice_set board s (Some p)) q ≡ at board q = get_or-set_other board s q (Some p) None ne in
-          bit_at_set_other w64 m s on q ne ∙ (bitboard_bit test none board q ∙ ap (λ (x : Place). bit_for (test x)) (sym stays)))
-    ])
+  pub bitboards_cleared : record {
+    sides = map (λ c. cleared (bitboard_of (is_side c) board) s) colours;
+    kinds = map (λ k. cleared (bitboard_of (is_kind k) board) s) kinds;
+  } ≡ bitboards_of (slice_set board s None)
+  unfolding bitboards_of
+  bitboards_cleared = ap₂ made (map_same _ _ (λ c. bitboard_cleared (is_side c) refl) colours) (map_same _ _ (λ k. bitboard_cleared (is_kind k) refl) kinds)
 
-pub bitboard_kept : (test : Place → Bool) → test None ≡ false → (board : Board) (s : ℕ) (p : Piece) → length board ≡ 64 → s < 64 → IsEmpty board s → test (Some p) ≡ false
-    → bitboard_of test board ≡ bitboard_of test (slice_set board s (Some p))
-bitboard_kept test none board s p full on empty fails =
-    bitboard_is test none (slice_set board s (Some p)) (bitboard_of test board) (length-set board s (Some p) ∙ full) (bitboard_small test board 64 full)
-    (λ q in_q. elim (same_or_not q s) [
-      | inl e ↦
-          (let P : ℕ → Type 0 = λ k. bit_at (bitboard_of test board) k ≡ bit_for (test (at (slice_set board s (Some p)) k)) in
-          let here : at (slice_set board s (Some p)) s ≡ Some p = get_or-set_same board s (Some p) None (omega arith) in
-          subst P (sym e) (bitboard_bit test none board s ∙ (ap (λ (x : Place). bit_for (test x)) empty ∙ (ap bit_for none ∙ sym (ap (λ (x : Place). bit_for (test x)) here ∙ ap bit_for fails)))))
-      | inr ne ↦
-          (let stays : at (slice_set board s (Some p)) q ≡ at board q = get_or-set_other board s q (Some p) None ne in
-          bitboard_bit test none board q ∙ ap (λ (x : Place). bit_for (test x)) (sym stays))
-    ])
+  -- a piece is put on an empty square
+  sides_put : (c : Colour) → slice_set (bitboards_of board).sides (colour_number c) (with_bit (slice_index_or (bitboards_of board).sides (colour_number c) 0) s)
+      ≡ map (λ d. cond (colour_number c == colour_number d) (with_bit (bitboard_of (is_side d) board) s) (bitboard_of (is_side d) board)) colours
+  unfolding bitboards_of
+  sides_put White = refl
+  sides_put Black = refl
 
--- the bitboards without a square, as the code computes them
-abbrev pub cleared_bitboards : Bitboards → ℕ → Bitboards
-cleared_bitboards m s = record {
-  sides = cleared (slice_index_or m.sides 0 0) s ∷ cleared (slice_index_or m.sides 1 0) s ∷ [];
-  kinds = cleared (slice_index_or m.kinds 0 0) s ∷ cleared (slice_index_or m.kinds 1 0) s ∷ cleared (slice_index_or m.kinds 2 0) s
-      ∷ cleared (slice_index_or m.kinds 3 0) s ∷ cleared (slice_index_or m.kinds 4 0) s ∷ cleared (slice_index_or m.kinds 5 0) s ∷ [];
-}
+  kinds_put : (k : Kind) → slice_set (bitboards_of board).kinds (kind_number k) (with_bit (slice_index_or (bitboards_of board).kinds (kind_number k) 0) s)
+      ≡ map (λ j. cond (kind_number k == kind_number j) (with_bit (bitboard_of (is_kind j) board) s) (bitboard_of (is_kind j) board)) kinds
+  unfolding bitboards_of
+  kinds_put Pawn = refl
+  kinds_put k = refl
 
-pub bitboards_cleared_base : (b : Board) (s : ℕ) → length b ≡ 64 → s < 64 → cleared_bitboards (bitboards_of b) s ≡ bitboards_of (slice_set b s None)
-unfolding bitboards_of
-bitboards_cleared_base b s full on =
-    let a0 = bitboard_cleared (is_side White) refl b s full on in
-    let a1 = bitboard_cleared (is_side Black) refl b s full on in
-    let k0 = bitboard_cleared (is_kind Pawn) refl b s full on in
-    let k1 = bitboard_cleared (is_kind Knight) refl b s full on in
-    let k2 = bitboard_cleared (is_kind Bishop) refl b s full on in
-    let k3 = bitboard_cleared (is_kind Rook) refl b s full on in
-    let k4 = bitboard_cleared (is_kind Queen) refl b s full on in
-    let k5 = bitboard_cleared (is_kind King) refl b s full on in
-    cc
-
-pub bitboards_cleared : (m : Bitboards) (b : Board) (s : ℕ) → length b ≡ 64 → s < 64 → m ≡ bitboards_of b → cleared_bitboards m s ≡ bitboards_of (slice_set b s None)
-bitboards_cleared m b s full on e =
-    let P : Bitboards → Type 0 = λ x. cleared_bitboards x s ≡ bitboards_of (slice_set b s None) in
-    subst P (sym e) (bitboards_cleared_base b s full on)
-
--- the bitboards with a square, as the code computes them
-abbrev pub placed_bitboards : Bitboards → ℕ → ℕ → ℕ → Bitboards
-placed_bitboards m s c k = record {
-  sides = slice_set m.sides c (with_bit (slice_index_or m.sides c 0) s);
-  kinds = slice_set m.kinds k (with_bit (slice_index_or m.kinds k 0) s);
-}
-
-sides_placed : (c : Colour) (k : Kind) (b : Board) (s : ℕ) → length b ≡ 64 → s < 64 → IsEmpty b s
-    → slice_set (bitboards_of b).sides (colour_number c) (with_bit (slice_index_or (bitboards_of b).sides (colour_number c) 0) s)
-    ≡ (bitboards_of (slice_set b s (Some (record { colour = c; kind = k })))).sides
-unfolding bitboards_of
-sides_placed White k b s full on empty =
-    let p : Piece = record { colour = White; kind = k } in
-    let a0 = bitboard_placed (is_side White) refl b s p full on refl in
-    let a1 = bitboard_kept (is_side Black) refl b s p full on empty refl in
-    cc
-sides_placed Black k b s full on empty =
-    let p : Piece = record { colour = Black; kind = k } in
-    let a0 = bitboard_kept (is_side White) refl b s p full on empty refl in
-    let a1 = bitboard_placed (is_side Black) refl b s p full on refl in
-    cc
-
-kinds_placed : (c : Colour) (k : Kind) (b : Board) (s : ℕ) → length b ≡ 64 → s < 64 → IsEmpty b s
-    → slice_set (bitboards_of b).kinds (kind_number k) (with_bit (slice_index_or (bitboards_of b).kinds (kind_number k) 0) s)
-    ≡ (bitboards_of (slice_set b s (Some (record { colour = c; kind = k })))).kinds
-unfolding bitboards_of
-kinds_placed c Pawn b s full on empty =
-    let p : Piece = record { colour = c; kind = Pawn } in
-    let k0 = bitboard_placed (is_kind Pawn) refl b s p full on refl in
-    let k1 = bitboard_kept (is_kind Knight) refl b s p full on empty refl in
-    let k2 = bitboard_kept (is_kind Bishop) refl b s p full on empty refl in
-    let k3 = bitboard_kept (is_kind Rook) refl b s p full on empty refl in
-    let k4 = bitboard_kept (is_kind Queen) refl b s p full on empty refl in
-    let k5 = bitboard_kept (is_kind King) refl b s p full on empty refl in
-    cc
-kinds_placed c Knight b s full on empty =
-    let p : Piece = record { colour = c; kind = Knight } in
-    let k0 = bitboard_kept (is_kind Pawn) refl b s p full on empty refl in
-    let k1 = bitboard_placed (is_kind Knight) refl b s p full on refl in
-    let k2 = bitboard_kept (is_kind Bishop) refl b s p full on empty refl in
-    let k3 = bitboard_kept (is_kind Rook) refl b s p full on empty refl in
-    let k4 = bitboard_kept (is_kind Queen) refl b s p full on empty refl in
-    let k5 = bitboard_kept (is_kind King) refl b s p full on empty refl in
-    cc
-kinds_placed c Bishop b s full on empty =
-    let p : Piece = record { colour = c; kind = Bishop } in
-    let k0 = bitboard_kept (is_kind Pawn) refl b s p full on empty refl in
-    let k1 = bitboard_kept (is_kind Knight) refl b s p full on empty refl in
-    let k2 = bitboard_placed (is_kind Bishop) refl b s p full on refl in
-    let k3 = bitboard_kept (is_kind Rook) refl b s p full on empty refl in
-    let k4 = bitboard_kept (is_kind Queen) refl b s p full on empty refl in
-    let k5 = bitboard_kept (is_kind King) refl b s p full on empty refl in
-    cc
-kinds_placed c Rook b s full on empty =
-    let p : Piece = record { colour = c; kind = Rook } in
-    let k0 = bitboard_kept (is_kind Pawn) refl b s p full on empty refl in
-    let k1 = bitboard_kept (is_kind Knight) refl b s p full on empty refl in
-    let k2 = bitboard_kept (is_kind Bishop) refl b s p full on empty refl in
-    let k3 = bitboard_placed (is_kind Rook) refl b s p full on refl in
-    let k4 = bitboard_kept (is_kind Queen) refl b s p full on empty refl in
-    let k5 = bitboard_kept (is_kind King) refl b s p full on empty refl in
-    cc
-kinds_placed c Queen b s full on empty =
-    let p : Piece = record { colour = c; kind = Queen } in
-    let k0 = bitboard_kept (is_kind Pawn) refl b s p full on empty refl in
-    let k1 = bitboard_kept (is_kind Knight) refl b s p full on empty refl in
-    let k2 = bitboard_kept (is_kind Bishop) refl b s p full on empty refl in
-    let k3 = bitboard_kept (is_kind Rook) refl b s p full on empty refl in
-    let k4 = bitboard_placed (is_kind Queen) refl b s p full on refl in
-    let k5 = bitboard_kept (is_kind King) refl b s p full on empty refl in
-    cc
-kinds_placed c King b s full on empty =
-    let p : Piece = record { colour = c; kind = King } in
-    let k0 = bitboard_kept (is_kind Pawn) refl b s p full on empty refl in
-    let k1 = bitboard_kept (is_kind Knight) refl b s p full on empty refl in
-    let k2 = bitboard_kept (is_kind Bishop) refl b s p full on empty refl in
-    let k3 = bitboard_kept (is_kind Rook) refl b s p full on empty refl in
-    let k4 = bitboard_kept (is_kind Queen) refl b s p full on empty refl in
-    let k5 = bitboard_placed (is_kind King) refl b s p full on refl in
-    cc
-
-pub bitboards_placed : (m : Bitboards) (b : Board) (s c k : ℕ) (p : Piece) → length b ≡ 64 → s < 64 → IsEmpty b s → c ≡ colour_number p.colour → k ≡ kind_number p.kind
-    → m ≡ bitboards_of b → placed_bitboards m s c k ≡ bitboards_of (slice_set b s (Some p))
-bitboards_placed m b s c k p full on empty same_c same_k e =
-    let P : Bitboards → Type 0 = λ x. placed_bitboards x s c k ≡ bitboards_of (slice_set b s (Some p)) in
-    let C : ℕ → Type 0 = λ x. placed_bitboards (bitboards_of b) s x k ≡ bitboards_of (slice_set b s (Some p)) in
-    let K : ℕ → Type 0 = λ x. placed_bitboards (bitboards_of b) s (colour_number p.colour) x ≡ bitboards_of (slice_set b s (Some p)) in
-    let sides = sides_placed p.colour p.kind b s full on empty in
-    let kinds = kinds_placed p.colour p.kind b s full on empty in
-    let both : placed_bitboards (bitboards_of b) s (colour_number p.colour) (kind_number p.kind) ≡ bitboards_of (slice_set b s (Some p)) =
-    ap (λ (x : List ℕ). record { sides = x; kinds = slice_set (bitboards_of b).kinds (kind_number p.kind) (with_bit (slice_index_or (bitboards_of b).kinds (kind_number p.kind) 0) s) }) sides
-    ∙ ap (λ (x : List ℕ). record { sides = (bitboards_of (slice_set b s (Some p))).sides; kinds = x }) kinds in
-    subst P (sym e) (subst C (sym same_c) (subst K (sym same_k) both))
+  pub bitboards_put : (p : Piece) → IsEmpty board s → record {
+    sides = slice_set (bitboards_of board).sides (colour_number p.colour) (with_bit (slice_index_or (bitboards_of board).sides (colour_number p.colour) 0) s);
+    kinds = slice_set (bitboards_of board).kinds (kind_number p.kind) (with_bit (slice_index_or (bitboards_of board).kinds (kind_number p.kind) 0) s);
+  } ≡ bitboards_of (slice_set board s (Some p))
+  unfolding bitboards_of
+  bitboards_put p empty = ap₂ made
+      (sides_put p.colour ∙ map_same _ _ (λ c. bitboard_put (is_side c) refl p empty _ refl) colours)
+      (kinds_put p.kind ∙ map_same _ _ (λ k. bitboard_put (is_kind k) refl p empty _ refl) kinds)
 
 side_either : (c : Colour) → max (bit_for (is_side White (Some (record { colour = c; kind = Pawn })))) (bit_for (is_side Black (Some (record { colour = c; kind = Pawn })))) ≡ 1
 side_either White = refl
@@ -269,17 +167,23 @@ side_bitboard b Black = refl
 kind_bitboard : (b : Board) (k : Kind) → slice_index_or (bitboards_of b).kinds (kind_number k) 0 ≡ bitboard_of (is_kind k) b
 unfolding bitboards_of
 kind_bitboard b Pawn = refl
-kind_bitboard b Knight = refl
-kind_bitboard b Bishop = refl
-kind_bitboard b Rook = refl
-kind_bitboard b Queen = refl
-kind_bitboard b King = refl
+kind_bitboard b k = refl
 
 pub side_bit : (b : Board) (q : ℕ) (c : Colour) → bit_at (slice_index_or (bitboards_of b).sides (colour_number c) 0) q ≡ bit_for (is_side c (at b q))
 side_bit b q c = ap (λ (n : ℕ). bit_at n q) (side_bitboard b c) ∙ bitboard_bit (is_side c) refl b q
 
 pub kind_bit : (b : Board) (q : ℕ) (k : Kind) → bit_at (slice_index_or (bitboards_of b).kinds (kind_number k) 0) q ≡ bit_for (is_kind k (at b q))
 kind_bit b q k = ap (λ (n : ℕ). bit_at n q) (kind_bitboard b k) ∙ bitboard_bit (is_kind k) refl b q
+
+kind_there : (x : Place) (k : Kind) → bit_for (is_kind k x) ≡ 1 → (c : Colour) × (x ≡ Some (piece_of c k))
+kind_there None k one = absurd (omega arith)
+kind_there (Some p) k one = (p.colour, ap (λ (j : Kind). Some (piece_of p.colour j)) (kind_one p.kind k (eqb-true (kind_number p.kind) (kind_number k) (one_for _ one))))
+
+pub kind_told : (x : Place) (k : Kind) → (bit_for (is_kind k x) ≡ 1) ↔ ((c : Colour) × (x ≡ Some (piece_of c k)))
+kind_told x k = (
+  kind_there x k,
+  λ h. ap (λ (y : Place). bit_for (is_kind k y)) h.1 ∙ ap bit_for (eq-eqb (kind_number k) (kind_number k) refl),
+)
 
 both_bits : (x : Place) (p : Piece) → min (bit_for (is_side p.colour x)) (bit_for (is_kind p.kind x)) ≡ bit_for (is_piece p x)
 both_bits None p = refl
@@ -355,13 +259,6 @@ bitboard_none test none (x ∷ xs) = let rest = bitboard_none test none xs in le
 
 pub bitboards_none : (xs : Board) → record { sides = 0 ∷ 0 ∷ []; kinds = 0 ∷ 0 ∷ 0 ∷ 0 ∷ 0 ∷ 0 ∷ [] } ≡ bitboards_of (started 0 xs)
 unfolding started bitboards_of
-bitboards_none xs =
-    let a0 = bitboard_none (is_side White) refl xs in
-    let a1 = bitboard_none (is_side Black) refl xs in
-    let k0 = bitboard_none (is_kind Pawn) refl xs in
-    let k1 = bitboard_none (is_kind Knight) refl xs in
-    let k2 = bitboard_none (is_kind Bishop) refl xs in
-    let k3 = bitboard_none (is_kind Rook) refl xs in
-    let k4 = bitboard_none (is_kind Queen) refl xs in
-    let k5 = bitboard_none (is_kind King) refl xs in
-    cc
+bitboards_none xs = ap₂ made
+    (map_same (λ _. 0) _ (λ c. sym (bitboard_none (is_side c) refl xs)) colours)
+    (map_same (λ _. 0) _ (λ k. sym (bitboard_none (is_kind k) refl xs)) kinds)

@@ -1,15 +1,15 @@
 -- Where a king stands alone, told by a number of one bit, and pawns at the edge, square by square.
-use Rattle.std.proofs.Common.{◌≡◌, ℕ, ◌+◌, ◌-◌, ◌<◌, ◌≤◌, ◌^◌, ◌↔◌, false, length, None, ap, refl, sym, subst, ◌∙◌, inl, inr, arith, IsTrue, w64}
+use Rattle.std.proofs.Common.{◌≡◌, ℕ, ◌*◌, ◌-◌, ◌<◌, ◌^◌, ◌↔◌, ◌⊎◌, length, None, ap, refl, sym, subst, ◌∙◌, inl, inr, arith, bit_and, w64}
 use Rattle.std.proofs.Math.Pow.{pow-lt}
 use Rattle.std.specs.Int.{bit_at, trailing_zeros}
-use Rattle.std.proofs.lemmas.Bool.{cases_lt, false≢true}
+use Rattle.std.proofs.lemmas.Bool.{cases_lt}
 use Rattle.std.proofs.lemmas.List.{get_or_past}
-use Rattle.std.proofs.lemmas.Nat.{pow_pos}
-use Rattle.std.proofs.lemmas.Nat.Bits.{bit_at_above, bit_at-lt, bit_at-pow_other, bit_at-pow_same, bit_at-trailing_zeros, same_from_bits_below}
+use Rattle.std.proofs.lemmas.Nat.{and_le_l, pow_pos}
+use Rattle.std.proofs.lemmas.Nat.Bits.{bit_at-zero, bit_at_above, bit_at_and, bit_at_cat_high, bit_at_cat_low, bit_at_ones, bit_at-lt, bit_at-pow_other, bit_at-pow_same, bit_at-trailing_zeros, same_from_bits_below}
 use Rattle.pb_board.specs.declared.piece.Colour.{Colour}
 use Rattle.pb_board.specs.declared.piece.Piece.{Piece}
 use Rattle.pb_board.specs.Piece.{king_of, pawn_of}
-use Rattle.pb_board.specs.Board.{Board, Holds}
+use Rattle.pb_board.specs.Board.{Board, Holds, rank}
 use Rattle.pb_board.specs.Position.{HasNoEdgePawn, HasOneKing, IsOnlyKing}
 use Rattle.pb_board.proofs.BitboardBits.{same_or_not}
 
@@ -60,35 +60,46 @@ module _ (board : Board) (side : Colour) (kings : ℕ) (told : (q : ℕ) → (bi
       let is : trailing_zeros w64 kings ≡ h.0 = (h.1 (trailing_zeros w64 kings)).0 ((told (trailing_zeros w64 kings)).0 lowest.1) in
       (lowest.0, bit.1 ∙ ap (λ k. 2 ^ k) (sym is))
 
--- no pawn stands on the first n files of rank 1 and of rank 8
-abbrev pub NoPawnBelow : Board → ℕ → Type 0
-NoPawnBelow board n = (q : ℕ) (side : Colour) → q < n → (Holds board q (pawn_of side) → ⊥) × (Holds board (56 + q) (pawn_of side) → ⊥)
+-- the squares of ranks 1 and 8, as a number
+abbrev edge_ranks : ℕ
+edge_ranks = 18374686479671623935
 
-abbrev IsPawnAt : Board → ℕ → Type 0
-IsPawnAt board q = (side : Colour) × Holds board q (pawn_of side)
+IsInside : ℕ → Type 0
+IsInside q = (0 < rank q) × (rank q < 7)
 
-pub no_pawn_more : (board : Board) (n : ℕ) → NoPawnBelow board n → (IsPawnAt board n → IsTrue false) → (IsPawnAt board (56 + n) → IsTrue false) → NoPawnBelow board (n + 1)
-no_pawn_more board n below low high q side lt =
-    elim (cases_lt q n) [
-      | inl less ↦ below q side less
-      | inr more ↦
-          let here : q ≡ n = omega arith in (
-            λ h. false≢true (low (side, subst (λ k. Holds board k (pawn_of side)) here h)),
-            λ h. false≢true (high (side, subst (λ k. Holds board (56 + k) (pawn_of side)) here h)),
-          )
+edge_bit : (q : ℕ) → q < 64 → ((bit_at edge_ranks q ≡ 1) × ¬ IsInside q) ⊎ ((bit_at edge_ranks q ≡ 0) × IsInside q)
+unfolding IsInside
+edge_bit q on =
+    elim (cases_lt q 8) [
+      | inl low ↦ inl (bit_at_cat_low (255 * 2 ^ 48) 8 255 q low ∙ bit_at_ones 8 q low, λ inside. omega (arith, inside.0))
+      | inr above ↦
+          let high = bit_at_cat_high (255 * 2 ^ 48) 8 255 q (omega arith) above in
+          elim (cases_lt q 56) [
+            | inl between ↦ inr (high ∙ bit_at_cat_low 255 48 0 (q - 8) (omega arith) ∙ bit_at-zero (q - 8), (omega arith, omega arith))
+            | inr edge ↦ inl (high ∙ bit_at_cat_high 255 48 0 (q - 8) (omega arith) (omega arith) ∙ bit_at_ones 8 (q - 8 - 48) (omega arith), λ inside. omega (arith, inside.1))
+          ]
     ]
 
-pub no_pawn_at_edge : (board : Board) (n : ℕ) → length board ≡ 64 → 8 ≤ n → NoPawnBelow board n → HasNoEdgePawn board
-no_pawn_at_edge board n len le below q side h =
-    let within : q < 64 = omega (arith, holds_on_board board q (pawn_of side) h, len) in (
-      elim (cases_lt q 8) [
-        | inl less ↦ absurd ((below q side (omega arith)).0 h)
-        | inr more ↦ omega arith
-      ],
-      elim (cases_lt q 56) [
-        | inl less ↦ omega arith
-        | inr more ↦
-            let place : q ≡ 56 + (q - 56) = omega arith in
-            absurd ((below (q - 56) side (omega arith)).1 (subst (λ k. Holds board k (pawn_of side)) place h))
-      ],
-    )
+module _ (board : Board) (pawns : ℕ) (full : length board ≡ 64) (told : (q : ℕ) → (bit_at pawns q ≡ 1) ↔ ((c : Colour) × Holds board q (pawn_of c))) where
+  pub no_edge_pawn : bit_and pawns edge_ranks ≡ 0 → HasNoEdgePawn board
+  unfolding IsInside
+  no_edge_pawn none q side h =
+      let both = sym (bit_at_and pawns edge_ranks q) ∙ ap (λ n. bit_at n q) none ∙ bit_at-zero q in
+      elim (edge_bit q (omega (arith, holds_on_board board q (pawn_of side) h, full))) [
+        | inl edge ↦ absurd (omega (arith, (told q).1 (side, h), both, edge.0))
+        | inr inside ↦ inside.1
+      ]
+
+  pub no_edge_bit : pawns < 2 ^ 64 → HasNoEdgePawn board → bit_and pawns edge_ranks ≡ 0
+  unfolding IsInside
+  no_edge_bit small inside =
+      same_from_bits_below 64 (bit_and pawns edge_ranks) 0 (omega (arith, and_le_l pawns edge_ranks)) (omega arith) (λ q on.
+      let both = bit_at_and pawns edge_ranks q in
+      let nothing = bit_at-zero q in
+      elim (edge_bit q on) [
+        | inl edge ↦ elim (cases_lt (bit_at pawns q) 1) [
+          | inl none ↦ omega arith
+          | inr one ↦ absurd (let pawn = (told q).0 (omega (arith, bit_at-lt pawns q)) in edge.1 (inside q pawn.0 pawn.1))
+        ]
+        | inr between ↦ omega (arith, between.0)
+      ])

@@ -52,13 +52,6 @@ digit_twice n c s t is low high h =
     let d = digit_first n c s t is high h.text in
     begins_empty n s d.0 low d.1 (h.start refl)
 
-pub no_first : (c : ℕ) (s : List Place) (t : List ℕ) → ((p : Piece) → piece_letter p ≡ c → ⊥) → ((49 ≤ c) × (c ≤ 56) → ⊥) → RankText s (c ∷ t) → ⊥
-no_first c s t letters digits h =
-    elim h.1 [
-      | inl q ↦ letters q.0 (sym q.1)
-      | inr q ↦ digits (omega (arith, q.3, q.1), omega (arith, q.3, q.2))
-    ]
-
 pub nothing_left : (c : ℕ) (t : List ℕ) → RankText [] (c ∷ t) → ⊥
 nothing_left c t h =
     elim h.1 [

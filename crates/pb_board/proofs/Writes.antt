@@ -130,8 +130,3 @@ setup_short p r e r-is e-is h four two =
 pub setup_written : (p : Position) (start s1 s2 s3 s4 s5 s6 s7 : List ℕ) (b : List Place) (t : Colour) (r : Rights) (e : Option ℕ) → b ≡ p.board → t ≡ p.turn → r ≡ p.rights → e ≡ p.ep → s1 ≡ start ++ placement_text b → s2 ≡ s1 ++ 32 ∷ [] → s3 ≡ s2 ++ turn_text t → s4 ≡ s3 ++ 32 ∷ [] → s5 ≡ s4 ++ castling_text r → s6 ≡ s5 ++ 32 ∷ [] → s7 ≡ s6 ++ en_passant_text e → s7 ≡ start ++ setup_text p
 setup_written p start s1 s2 s3 s4 s5 s6 s7 b t r e b-is t-is r-is e-is h h2 h3 h4 h5 h6 h7 =
     rw (h7, h6, h5, h4, h3, h2, h, b-is, t-is, r-is, e-is) (join_four start (placement_text p.board) (turn_text p.turn) (castling_text p.rights) (en_passant_text p.ep))
-
--- ---- a record
-
-join_six : (s e h f : List ℕ) → ((((s ++ e) ++ 32 ∷ []) ++ h) ++ 32 ∷ []) ++ f ≡ s ++ (e ++ 32 ∷ (h ++ 32 ∷ f))
-join_six s e h f = simp append_assoc

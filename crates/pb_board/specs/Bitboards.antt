@@ -30,16 +30,18 @@ unfoldable pub bitboard_of : (Place → Bool) → Board → ℕ
 bitboard_of test [] = 0
 bitboard_of test (place ∷ rest) = bit_for (test place) + 2 * bitboard_of test rest
 
--- the squares of each side's pieces, and of each kind's
-unfoldable pub bitboards_of : Board → Bitboards
-bitboards_of board = record {
-  sides = bitboard_of (is_side White) board ∷ bitboard_of (is_side Black) board ∷ [];
-  kinds = bitboard_of (is_kind Pawn) board ∷ bitboard_of (is_kind Knight) board ∷ bitboard_of (is_kind Bishop) board
-      ∷ bitboard_of (is_kind Rook) board ∷ bitboard_of (is_kind Queen) board ∷ bitboard_of (is_kind King) board ∷ [];
-}
+abbrev pub colours : List Colour
+colours = White ∷ Black ∷ []
 
 abbrev pub kinds : List Kind
 kinds = Pawn ∷ Knight ∷ Bishop ∷ Rook ∷ Queen ∷ King ∷ []
+
+-- the squares of each side's pieces, and of each kind's
+unfoldable pub bitboards_of : Board → Bitboards
+bitboards_of board = record {
+  sides = map (λ c. bitboard_of (is_side c) board) colours;
+  kinds = map (λ k. bitboard_of (is_kind k) board) kinds;
+}
 
 abbrev pub pieces : List Piece
 pieces = map (piece_of White) kinds ++ map (piece_of Black) kinds

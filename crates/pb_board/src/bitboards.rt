@@ -1,12 +1,13 @@
 //! Bitboards: what stands on the squares of a board, in sets of squares.
 
-ghost use Rattle.std.specs.Prelude.{◌≡◌, ◌<◌, ◌↔◌, ℕ, IsTrue, length, slice_set};
+ghost use Rattle.std.specs.Prelude.{◌≡◌, ◌<◌, ◌↔◌, ℕ, IsTrue, None, length, slice_set};
 ghost use Rattle.std.specs.Int.{bit_at};
 ghost use Rattle.std.specs.Option.{option_map};
 ghost use Rattle.pb_board.specs.Board.{Board, IsEmpty, Holds, at};
 ghost use Rattle.pb_board.specs.MovedPiece.{with_moved};
-ghost use Rattle.pb_board.specs.Piece.{colour_number, kind_number};
+ghost use Rattle.pb_board.specs.Piece.{colour_number, kind_number, piece_of};
 ghost use Rattle.pb_board.specs.Bitboards.{bitboards_of};
+ghost use Rattle.pb_board.specs.declared.piece.Colour.{Colour};
 ghost use Rattle.pb_board.specs.declared.piece.Piece.{Piece};
 
 use crate::piece::{Colour, Kind, Piece};
@@ -62,24 +63,31 @@ fn set_down(bitboards: &mut Bitboards, index: u8, place: Option<Piece>)
     }
 }
 
-/// The squares after a piece has gone from one to another, in the place of what stood there.
+/// Takes away what stands on the square of this index.
+#[inline(always)]
+fn clear(bitboards: &mut Bitboards, index: u8)
+    requires { index < 64 }
+    ensures { (b : Board) → length b ≡ 64 → bitboards.old ≡ bitboards_of b → bitboards.new ≡ bitboards_of (slice_set b index None) }
+{
+    let others = !(1u64 << index);
+    bitboards.sides[0] &= others;
+    bitboards.sides[1] &= others;
+    bitboards.kinds[0] &= others;
+    bitboards.kinds[1] &= others;
+    bitboards.kinds[2] &= others;
+    bitboards.kinds[3] &= others;
+    bitboards.kinds[4] &= others;
+    bitboards.kinds[5] &= others;
+}
+
+/// Moves a piece from one square to another, in the place of what stood there.
 #[inline(always)]
 pub(crate) fn move_piece(bitboards: &mut Bitboards, moved: MovedPiece)
     ensures { (b : Board) → length b ≡ 64 → bitboards.old ≡ bitboards_of b → bitboards.new ≡ bitboards_of (with_moved b moved) }
 {
-    let MovedPiece { from, to, piece } = moved;
-    let bit = 1u64 << to.index();
-    let keep = !(1u64 << from.index() | bit);
-    bitboards.sides[0] &= keep;
-    bitboards.sides[1] &= keep;
-    bitboards.kinds[0] &= keep;
-    bitboards.kinds[1] &= keep;
-    bitboards.kinds[2] &= keep;
-    bitboards.kinds[3] &= keep;
-    bitboards.kinds[4] &= keep;
-    bitboards.kinds[5] &= keep;
-    bitboards.sides[colour_number(piece.colour)] |= bit;
-    bitboards.kinds[kind_number(piece.kind)] |= bit;
+    clear(bitboards, moved.from.index());
+    clear(bitboards, moved.to.index());
+    set_down(bitboards, moved.to.index(), Some(moved.piece));
 }
 
 /// The squares of a board's pieces.
@@ -110,6 +118,14 @@ pub(crate) fn by_piece(bitboards: Bitboards, piece: Piece) -> u64
     ensures { (b : Board) (q : ℕ) → bitboards ≡ bitboards_of b → ((bit_at result q ≡ 1) ↔ Holds b q piece) }
 {
     bitboards.sides[colour_number(piece.colour)] & bitboards.kinds[kind_number(piece.kind)]
+}
+
+/// The squares on which a piece of this kind stands, of either side.
+#[inline(always)]
+pub(crate) fn by_kind(bitboards: Bitboards, kind: Kind) -> u64
+    ensures { (b : Board) (q : ℕ) → bitboards ≡ bitboards_of b → ((bit_at result q ≡ 1) ↔ ((c : Colour) × Holds b q (piece_of c kind))) }
+{
+    bitboards.kinds[kind_number(kind)]
 }
 
 /// Whether the square of this index is among these.

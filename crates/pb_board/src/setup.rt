@@ -1,6 +1,6 @@
 //! Setups: what the first four fields of a FEN record say.
 
-ghost use Rattle.std.specs.Prelude.{◌≡◌, ◌↔◌, ℕ, IsTrue, MatchResult, length};
+ghost use Rattle.std.specs.Prelude.{◌≡◌, ◌↔◌, ℕ, IsTrue, MatchResult};
 
 use crate::bitboards::{self, Bitboards};
 use crate::initial::initial_bitboards;
@@ -80,8 +80,7 @@ impl Model for Setup {
 }
 
 impl Setup {
-    ghost use Rattle.pb_board.specs.Board.{Board, at, Holds, IsEmpty};
-    ghost use Rattle.pb_board.specs.Bitboards.{bitboards_of};
+    ghost use Rattle.pb_board.specs.Board.{at, Holds, IsEmpty};
     ghost use Rattle.std.specs.Int.{bit_at};
     ghost use Rattle.pb_board.specs.Initial.{initial};
     ghost use Rattle.pb_board.specs.Piece.{opponent};
@@ -110,7 +109,7 @@ impl Setup {
         let Some(_black) = one_king(bitboards, Colour::Black) else {
             return Err(SetupError::Kings);
         };
-        if !has_no_edge_pawn(&board) {
+        if !has_no_edge_pawn(bitboards) {
             return Err(SetupError::Pawns);
         }
         if let Some(square) = ep
@@ -119,26 +118,12 @@ impl Setup {
         {
             return Err(SetupError::EnPassant);
         }
-        Ok(Setup::with_bitboards(bitboards, turn, rights, ep))
-    }
-
-    /// The setup of parts that are known to meet the rules, with the bitboards of the board.
-    #[inline(always)]
-    fn with_bitboards(
-        bitboards: Bitboards,
-        turn: Colour,
-        rights: Rights,
-        ep: Option<Square>,
-    ) -> Setup
-        requires { (b : Board) × (bitboards ≡ bitboards_of b) × IsSetup (position_of b turn rights ep) }
-        ensures { (b : Board) → length b ≡ 64 → bitboards ≡ bitboards_of b → result ≡ position_of b turn rights ep }
-    {
-        Setup {
+        Ok(Setup {
             bitboards,
             turn,
             rights,
             ep,
-        }
+        })
     }
 
     /// Moves a piece from one square to another, in place: the other side is then to move, with

@@ -1,6 +1,6 @@
 //! The rules that every setup meets.
 
-ghost use Rattle.std.specs.Prelude.{◌≡◌, ◌↔◌, IsTrue, MatchOption, Some};
+ghost use Rattle.std.specs.Prelude.{◌≡◌, ◌↔◌, IsTrue, MatchOption, Some, length};
 ghost use Rattle.pb_board.specs.declared.piece.Colour.{Colour};
 ghost use Rattle.pb_board.specs.Board.{Board};
 ghost use Rattle.pb_board.specs.Bitboards.{bitboards_of};
@@ -37,16 +37,14 @@ pub(crate) fn only_king(bitboards: Bitboards, colour: Colour) -> Square
     Square::from_index((kings.trailing_zeros() % 64) as u8).unwrap()
 }
 
-/// Tells whether no pawn stands on rank 1 or 8.
-pub(crate) fn has_no_edge_pawn(board: &[Option<Piece>; 64]) -> bool
-    ensures { IsTrue result ↔ HasNoEdgePawn board.now }
+/// The squares of ranks 1 and 8.
+const EDGE_RANKS: u64 = 0xFF00_0000_0000_00FF;
+
+/// Tells whether no pawn stands on rank 1 or 8 of the board that these squares are of.
+pub(crate) fn has_no_edge_pawn(bitboards: Bitboards) -> bool
+    ensures { (b : Board) → length b ≡ 64 → bitboards ≡ bitboards_of b → (IsTrue result ↔ HasNoEdgePawn b) }
 {
-    for file in 0..8 {
-        if is_any_pawn(board[file]) || is_any_pawn(board[56 + file]) {
-            return false;
-        }
-    }
-    true
+    bitboards::by_kind(bitboards, Kind::Pawn) & EDGE_RANKS == 0
 }
 
 /// Tells whether the square is empty, with an enemy pawn directly beyond it.
@@ -72,17 +70,4 @@ fn is_pawn(place: Option<Piece>, colour: Colour) -> bool
 {
     let kind = Kind::Pawn;
     place == Some(Piece { colour, kind })
-}
-
-/// Tells whether a pawn stands there.
-fn is_any_pawn(place: Option<Piece>) -> bool
-    ensures { IsTrue result ↔ ((c : Colour) × (place ≡ Some (pawn_of c))) }
-{
-    matches!(
-        place,
-        Some(Piece {
-            kind: Kind::Pawn,
-            ..
-        })
-    )
 }

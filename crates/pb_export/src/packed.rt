@@ -153,7 +153,7 @@ impl PackedSetup {
         ensures { IsPacked result setup.now }
     {
         PackedSetup {
-            ranks: pack_ranks(setup.board()),
+            ranks: pack_ranks(&setup.board()),
             state: state_of(setup),
         }
     }

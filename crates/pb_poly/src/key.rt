@@ -94,7 +94,7 @@ fn has_pawn(setup: &Setup, side: Colour, square: u8) -> bool
     requires { square < 64 }
     ensures { result ≡ is_piece (pawn_of side) (at setup.now.board square) }
 {
-    match setup.board()[square as usize] {
+    match setup.at(Square::from_index(square).unwrap()) {
         Some(piece) => piece.kind == Kind::Pawn && piece.colour == side,
         None => false,
     }
@@ -163,7 +163,7 @@ pub fn key_of(table: &Table, setup: &Setup) -> u64
     ensures parity { IsKey table.now setup.now result }
     ensures value { result ≡ key_by table.now setup.now }
 {
-    let pieces = pieces_key(table, setup.board());
+    let pieces = pieces_key(table, &setup.board());
     let rights = toggle_rights(table, pieces, setup.rights());
     let en_passant = toggle_en_passant(table, rights, setup);
     toggle_turn(table, en_passant, setup.turn())

@@ -152,7 +152,7 @@ fn build(page: &mut Page, words: &[&str]) -> Done {
         return NO_ROW;
     };
     let setup = setup_of(record)?;
-    let mut board = *setup.board();
+    let mut board = setup.board();
     for word in moves {
         carry(&mut board, spelled(word)?);
     }

@@ -2,14 +2,12 @@ use Rattle.std.proofs.Common.{◌≡◌, Option, None, slice_set, ap, sym, subst
 use Rattle.std.proofs.lemmas.List.{set-get_or}
 use Rattle.pb_board.specs.Board.{Board, Place}
 use Rattle.pb_board.specs.Bitboards.{bitboards_of}
-use Rattle.pb_board.proofs.BitboardBits.{placed_bitboards, bitboards_placed}
+use Rattle.pb_board.proofs.BitboardBits.{bitboards_put}
 use Rattle.pb_board.proofs.bitboards.set_down.Goals as goal
 
 pub returns-in-Some : goal.returns-in-Some
 returns-in-Some c = λ b full e empty.
-    let P : Option _ → Type 0 = λ o. placed_bitboards c.args.bitboards.now c.args.index c.colour_number.result c.kind_number.result ≡ bitboards_of (slice_set b c.args.index o) in
-    subst P (sym c.in-Some.is)
-    (bitboards_placed c.args.bitboards.now b c.args.index c.colour_number.result c.kind_number.result c.in-Some.piece full c.requires empty c.colour_number.ensures.value c.kind_number.ensures.value e)
+    rw (c.in-Some.is, c.colour_number.ensures.value, c.kind_number.ensures.value, e) (bitboards_put b c.args.index full c.requires c.in-Some.piece empty)
 
 pub returns-in_default : goal.returns-in_default
 returns-in_default c = λ b full e empty.

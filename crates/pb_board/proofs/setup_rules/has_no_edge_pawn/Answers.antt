@@ -1,9 +1,10 @@
-use Rattle.std.proofs.Common.{refl}
-use Rattle.pb_board.proofs.Kings.{no_pawn_more, no_pawn_at_edge}
+use Rattle.std.proofs.Common.{ℕ}
+use Rattle.std.proofs.lemmas.Bool.{eq-eqb, eqb-true}
+use Rattle.pb_board.proofs.Kings.{no_edge_bit, no_edge_pawn}
 use Rattle.pb_board.proofs.setup_rules.has_no_edge_pawn.Goals as goal
 
-pub loop-file-preserved : goal.loop-file-preserved
-loop-file-preserved c = no_pawn_more _ _ c.loop-file.invariant c.if-is_any_pawn.ensures.1 c.if-is_any_pawn-2.ensures.1
-
 pub returns : goal.returns
-returns c = (λ _. no_pawn_at_edge _ _ c.told-board c.loop-file-test.false c.loop-file.invariant, λ _. refl)
+returns c = λ b full e.
+    let told = λ (q : ℕ). c.by_kind.ensures b q e in
+    let kept = c.by_kind.type_inv in
+    (λ none. no_edge_pawn b _ full told (eqb-true _ 0 none), λ inside. eq-eqb _ 0 (no_edge_bit b _ full told kept inside))

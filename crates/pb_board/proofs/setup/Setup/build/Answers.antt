@@ -1,5 +1,6 @@
-use Rattle.std.proofs.Common.{rules}
-use Rattle.pb_board.specs.Position.{position_of}
+use Rattle.std.proofs.Common.{◌≡◌, rules}
+use Rattle.pb_board.specs.Position.{IsSetup, position_of}
+use Rattle.pb_board.proofs.Backs.{keeps_setup, setup_is}
 use Rattle.pb_board.proofs.Firsts.{en_passant_first, kings_first, pawns_first}
 use Rattle.pb_board.proofs.setup.Setup.build.Goals as goal
 
@@ -20,3 +21,12 @@ returns c =
     let white = c.in-Some.ensures c.args.board c.bitboards_of-bitboards.ensures in
     let black = c.in-Some-one_king.ensures c.args.board c.bitboards_of-bitboards.ensures in
     en_passant_first _ (_, white) (_, black) (search rules) (search rules)
+
+pub invariant_of-result : goal.invariant_of-result
+invariant_of-result c = keeps_setup _ c.args.board _ _ _ c.bitboards_of-bitboards.ensures (search rules)
+
+pub returns-2 : goal.returns-2
+returns-2 c =
+    let lawful : IsSetup (position_of c.args.board c.args.turn c.args.rights c.args.ep) = search rules in
+    let same : c.in_default.ep ≡ c.args.ep = search rules in
+    (rw same (setup_is _ c.args.board _ _ _ lawful.places c.bitboards_of-bitboards.ensures), lawful)
