@@ -48,8 +48,9 @@ struct KeyedSetups {
 pub(crate) struct Listing {
     pub(crate) setups: Vec<ListedSetup>,
     moves: Vec<(Move, u16)>,
-    // The last key of each remainder, and the place of its setup. Any others would do no harm.
-    recent: Vec<(u64, usize)>,
+    // Half of the last key of each remainder, and the place of its setup. Any others would do no
+    // harm.
+    recent: Vec<(u32, u32)>,
 }
 
 impl Listing {
@@ -167,8 +168,9 @@ impl Listing {
         ensures setups { self.new.setups.items ≡ self.old.setups.items }
         ensures moves { self.new.moves.items ≡ self.old.moves.items }
     {
+        let place = u32::try_from(self.setups.len()).unwrap_or(u32::MAX);
         if let Some(recent) = self.recent.get_mut((key % RECENT as u64) as usize) {
-            *recent = (key, self.setups.len());
+            *recent = ((key >> 32) as u32, place);
         }
     }
 
@@ -180,10 +182,10 @@ impl Listing {
         let Some((noted, place)) = self.recent.get((key % RECENT as u64) as usize) else {
             return false;
         };
-        if *noted != key {
+        if u64::from(*noted) != key >> 32 {
             return false;
         }
-        match self.setups.get(*place) {
+        match self.setups.get(*place as usize) {
             Some(listed) => listed.setup == *packed,
             None => false,
         }
