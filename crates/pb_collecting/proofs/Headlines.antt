@@ -14,7 +14,7 @@ use Rattle.pb_accepted.specs.Counting.{IsBook}
 use Rattle.pb_accepted.specs.Holding.{most_games}
 use Rattle.pb_accepted.specs.Ledger.{LedgerState}
 use Rattle.pb_accepted.specs.Replies.{replies}
-use Rattle.pb_accepted.specs.Rules.{AreRules, CountingRules}
+use Rattle.pb_accepted.specs.Rules.{CountingRules}
 use Rattle.pb_accepted.proofs.Replies.{id_of}
 use Rattle.pb_accepted.proofs.Steps.{distinct_ids, numbers_kept, numbers_of_run}
 use Rattle.pb_collecting.specs.Headline.{Effect, HasHeadline}
@@ -37,9 +37,9 @@ effect L R games run T entries bounds book = record {
   text = has_one_text T games entries bounds book;
 }
 
-pub has_headline : (rules : CountingRules) (fills : ℕ) (t t' s s' : SourceState) (sink sink' : SinkState) (ledger left : LedgerState) (entries : List Entry) → AreRules rules → All IsEntry entries
+pub has_headline : (rules : CountingRules) (fills : ℕ) (t t' s s' : SourceState) (sink sink' : SinkState) (ledger left : LedgerState) (entries : List Entry) → All IsEntry entries
     → TakesTable rules fills t t' ledger → Takes fills s s' sink sink' ledger left → IsBook left.basis left.accepted entries → HasHeadline rules t t' s s' sink sink' entries
-has_headline rules fills t t' s s' sink sink' ledger left entries counting bounds first takes book =
+has_headline rules fills t t' s s' sink sink' ledger left entries bounds first takes book =
     let table = found_table fills t t' first.randoms first.table in
     let took = subst (λ (l : LedgerState). Takes fills s s' sink sink' l left) first.is takes in
     let collects = took.0.done in
@@ -52,7 +52,7 @@ has_headline rules fills t t' s s' sink sink' ledger left entries counting bound
       handed_out _ _ _ _ _ took.0.reads,
       collects.put,
       record {
-        counting = counting;
+        counting = first.counting;
         randoms = first.randoms;
         table = table.is;
         answers = collects.answers;

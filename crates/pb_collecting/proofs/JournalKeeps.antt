@@ -1,4 +1,4 @@
--- What a run with a journal leaves at the place of its book, from what its parts do.
+-- What a run with a journal leaves at the store of its book, from what its parts do.
 use Rattle.std.proofs.Common.{◌≡◌, ℕ, ◌⊎◌, List, Option, None, Some, Result, Ok, Err, refl, subst}
 use Rattle.pb_io.specs.Source.{HandsOut, SourceState}
 use Rattle.pb_io.specs.Sink.{AllLasts, SinkState}
@@ -9,17 +9,17 @@ use Rattle.pb_accepted.specs.Rules.{CountingRules}
 use Rattle.pb_ledger.specs.Booking.{BookText}
 use Rattle.pb_collecting.specs.JournalHeadline.{Outlives, Survives}
 use Rattle.pb_collecting.specs.JournalInto.{KeepsJournaled}
-use Rattle.pb_collecting.specs.Place.{Keeps, PlaceState}
+use Rattle.pb_collecting.specs.Store.{Keeps, StoreState}
 use Rattle.pb_collecting.specs.Run.{LeavesLedger}
 use Rattle.pb_collecting.specs.Runs.{JournalRun}
-use Rattle.pb_collecting.specs.declared.place.NotKept.{NotKept}
+use Rattle.pb_collecting.specs.declared.store.StoreError.{StoreError}
 use Rattle.pb_collecting.proofs.JournalClauses.{headline, outlives, survives}
 
 module _ (rules : CountingRules) (fills : ℕ) (t t' v v' s s' : SourceState) (j j' sink sink' : SinkState) where
   abbrev pub Leaves : Result (Option LedgerState) Fault → Type 0
   Leaves = LeavesLedger (JournalRun rules fills t t' v v' s s' j j' sink sink')
 
-  pub kept_book : (left : LedgerState) → Leaves (Ok (Some left)) → (p p' : PlaceState) (answer : Result (Unit {0}) NotKept)
+  pub kept_book : (left : LedgerState) → Leaves (Ok (Some left)) → (p p' : StoreState) (answer : Result (Unit {0}) StoreError)
       → (bytes : List ℕ) × BookText left bytes × Keeps p p' answer bytes → KeepsJournaled rules fills t t' v v' s s' j j' sink sink' p p' answer
   kept_book left leaves p p' answer keeps =
       let book = keeps.1 in

@@ -1,10 +1,10 @@
 -- The theorem of a run of `collect` with a journal, for the bytes of a table file, of the journal
 -- and of submissions, which three sources handed out. Below, `j` and `j'` are the states of the
 -- journal's sink before and after. A list is counted from 0.
-use Rattle.std.specs.Prelude.{◌≡◌, ℕ, List, ◌++◌, Some, Ok, slice_get, take}
+use Rattle.std.specs.Prelude.{◌≡◌, ◌⊎◌, ℕ, List, ◌++◌, Some, Ok, slice_get, take}
 use Rattle.std.specs.Io.KnownBytes.{Appends}
 use Rattle.pb_io.specs.Lines.{ended_lines, lines}
-use Rattle.pb_io.specs.Sink.{LastsFirst, SinkState}
+use Rattle.pb_io.specs.Sink.{AllLasts, LastsFirst, SinkState}
 use Rattle.pb_io.specs.Source.{HandsOut, SourceState}
 use Rattle.pb_poly.specs.Table.{IsTableFile}
 use Rattle.pb_poly.specs.declared.entry.Entry.{Entry}
@@ -72,3 +72,12 @@ pub record Outlives (kept : List ℕ) (s s' : SourceState) (j j' sink sink' : Si
   pub gained : List ℕ
   pub lasts : LastsFirst j j' gained
   pub holds : HoldsAnswered (kept ++ gained) s s' sink sink'
+
+-- no submission was read, or no acknowledged game is lost, over the states of the journal's source,
+-- of the submissions', of the journal's sink and of the replies'
+abbrev pub LosesNone : SourceState → SourceState → SourceState → SourceState → SinkState → SinkState → SinkState → SinkState → Type 0
+LosesNone v v' s s' j j' sink sink' = (s' ≡ s) ⊎ ((kept : List ℕ) × HandsOut v v' kept × Survives kept s s' j j' sink sink')
+
+-- nor is one lost whatever ends the run, where what the journal had before lasts
+abbrev pub LosesNoneLater : SourceState → SourceState → SourceState → SourceState → SinkState → SinkState → SinkState → SinkState → Type 0
+LosesNoneLater v v' s s' j j' sink sink' = AllLasts j → (s' ≡ s) ⊎ ((kept : List ℕ) × HandsOut v v' kept × Outlives kept s s' j j' sink sink')

@@ -8,6 +8,6 @@ pub mod JournalInto
 pub mod Keeping
 pub mod Laws
 pub mod OneText
-pub mod Place
 pub mod Run
 pub mod Runs
+pub mod Store

@@ -17,7 +17,7 @@ use Rattle.pb_games.specs.Submissions.{Submission}
 use Rattle.pb_accepted.specs.Counting.{IsBook}
 use Rattle.pb_accepted.specs.Holding.{most_games}
 use Rattle.pb_accepted.specs.Ledger.{LedgerState}
-use Rattle.pb_accepted.specs.Rules.{CountingRules}
+use Rattle.pb_accepted.specs.Rules.{AreRules, CountingRules}
 use Rattle.pb_export.specs.Exporting.{ExportLines, ExportsUntil, fault_of_export, text_of_lines}
 use Rattle.pb_export.specs.declared.exporting.ExportFault.{ExportFault}
 use Rattle.pb_ledger.specs.Loading.{Loads, LoadsUntil}
@@ -67,11 +67,12 @@ ledger_of rules randoms held = record { basis = record { words = randoms; rules 
 abbrev pub new_ledger : CountingRules → List ℕ → LedgerState
 new_ledger rules randoms = ledger_of rules randoms []
 
--- the table was read, and this is a ledger of its random numbers without games; or there is no
--- table, and this comes of it
+-- the table was read, the rules are within their bounds, and this is a ledger of its random numbers
+-- without games; or there is no table, and this comes of it
 pub record TakesTable (rules : CountingRules) (fills : ℕ) (t t' : SourceState) (ledger : LedgerState) : Type 0 where
   pub randoms : List ℕ
   pub table : ReadsTable fills t t' (Ok randoms)
+  pub counting : AreRules rules
   pub is : ledger ≡ new_ledger rules randoms
 
 pub record LacksTable (fills : ℕ) (t t' : SourceState) (verdict : Verdict) : Type 0 where

@@ -25,28 +25,26 @@ use std::alloc::Global;
 /// `Memory` comes where a growth of the ledger's or the book's own found no memory; a submission
 /// that wants memory is refused in its reply. At a fault no book is made; the replies to the lines
 /// that were taken before have been put.
-pub fn run_collect<T: Source, S: Source, K: Sink>(
+pub fn run_collect<Table: Source, In: Source, Out: Sink>(
     alloc: Global,
     rules: Rules,
-    table_source: &mut T,
-    source: &mut S,
-    sink: &mut K,
+    table_source: &mut Table,
+    source: &mut In,
+    sink: &mut Out,
     fills: u32,
 ) -> Result<Option<Book>, Fault>
     // The table was read, all submissions were taken and answered, and this is the book of the
     // games that are held; or the line was put that refuses the table; or this was done before the
     // fault.
     ensures ends { CollectRun rules fills
-        (T.state table_source.old) (T.state table_source.new) (S.state source.old) (S.state source.new)
-        (K.state sink.old) (K.state sink.new) result }
+        (Table.state table_source.old) (Table.state table_source.new) (In.state source.old) (In.state source.new)
+        (Out.state sink.old) (Out.state sink.new) result }
     // All that is promised of the bytes that the sources handed out and the sink took: which lines
     // are accepted, that each game counts once, and that the book has one text.
     ensures headline { IfOk result (λ answer. IfSome answer (HasHeadline rules
-        (T.state table_source.old) (T.state table_source.new) (S.state source.old) (S.state source.new)
-        (K.state sink.old) (K.state sink.new))) }
+        (Table.state table_source.old) (Table.state table_source.new) (In.state source.old) (In.state source.new)
+        (Out.state sink.old) (Out.state sink.new))) }
 {
-    // The reader tells that the numbers lie in their ranges.
-    let _plies = rules.plies();
     let Some(ledger) = take(alloc, rules, table_source, source, sink, fills)? else {
         return Ok(None);
     };
@@ -54,17 +52,17 @@ pub fn run_collect<T: Source, S: Source, K: Sink>(
 }
 
 /// Takes submission lines as `run_collect` does, up to the book. None where the table is refused.
-pub(crate) fn take<T: Source, S: Source, K: Sink>(
+pub(crate) fn take<Table: Source, In: Source, Out: Sink>(
     alloc: Global,
     rules: Rules,
-    table_source: &mut T,
-    source: &mut S,
-    sink: &mut K,
+    table_source: &mut Table,
+    source: &mut In,
+    sink: &mut Out,
     fills: u32,
 ) -> Result<Option<Ledger<MapTally>>, Fault>
     ensures { LeavesLedger (CollectRun rules fills
-        (T.state table_source.old) (T.state table_source.new) (S.state source.old) (S.state source.new)
-        (K.state sink.old) (K.state sink.new)) result }
+        (Table.state table_source.old) (Table.state table_source.new) (In.state source.old) (In.state source.new)
+        (Out.state sink.old) (Out.state sink.new)) result }
 {
     let Some(mut ledger) = open(alloc, rules, table_source, sink, fills)? else {
         return Ok(None);

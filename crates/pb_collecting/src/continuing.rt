@@ -37,26 +37,26 @@ pub struct Continued {
 ///
 /// A fault of the table or of the saved ledger, or in telling that one is refused; no submission
 /// was read then. A fault that comes later stands in `book`, beside the games that were taken.
-pub fn run_continue<T: Source, V: Source, S: Source, K: Sink>(
+pub fn run_continue<Table: Source, Saved: Source, In: Source, Out: Sink>(
     alloc: Global,
     rules: Rules,
-    table_source: &mut T,
-    saved: &mut V,
-    source: &mut S,
-    sink: &mut K,
+    table_source: &mut Table,
+    saved: &mut Saved,
+    source: &mut In,
+    sink: &mut Out,
     fills: u32,
 ) -> Result<Option<Continued>, Fault>
     // The table was read, the saved ledger was loaded, and the submissions were taken from there,
     // which left this ledger and its book, or the fault that came then; or the line was put that
     // refuses the table or the saved ledger, or there was a fault, and no submission was read.
     ensures ends { ContinueRun rules fills
-        (T.state table_source.old) (T.state table_source.new) (V.state saved.old) (V.state saved.new)
-        (S.state source.old) (S.state source.new) (K.state sink.old) (K.state sink.new) result }
+        (Table.state table_source.old) (Table.state table_source.new) (Saved.state saved.old) (Saved.state saved.new)
+        (In.state source.old) (In.state source.new) (Out.state sink.old) (Out.state sink.new) result }
     // The games of the saved ledger were held first. Whatever run left them, the book is that of
     // the games that were accepted in both runs, each of them once.
     ensures headline { IfOk result (λ answer. IfSome answer (λ run. IfOk run.book (HasHeadlineOfBoth rules
-        (T.state table_source.old) (T.state table_source.new) (V.state saved.old) (V.state saved.new)
-        (S.state source.old) (S.state source.new) (K.state sink.old) (K.state sink.new) run.ledger))) }
+        (Table.state table_source.old) (Table.state table_source.new) (Saved.state saved.old) (Saved.state saved.new)
+        (In.state source.old) (In.state source.new) (Out.state sink.old) (Out.state sink.new) run.ledger))) }
 {
     let Some(gone) = go_on(alloc, rules, table_source, saved, source, sink, fills)? else {
         return Ok(None);
@@ -89,18 +89,18 @@ impl Gone {
 
 /// Goes on from a saved ledger as `run_continue` does, up to the book. None where the table or the
 /// saved ledger is refused.
-pub(crate) fn go_on<T: Source, V: Source, S: Source, K: Sink>(
+pub(crate) fn go_on<Table: Source, Saved: Source, In: Source, Out: Sink>(
     alloc: Global,
     rules: Rules,
-    table_source: &mut T,
-    saved: &mut V,
-    source: &mut S,
-    sink: &mut K,
+    table_source: &mut Table,
+    saved: &mut Saved,
+    source: &mut In,
+    sink: &mut Out,
     fills: u32,
 ) -> Result<Option<Gone>, Fault>
     ensures { LeavesGone (ContinueRun rules fills
-        (T.state table_source.old) (T.state table_source.new) (V.state saved.old) (V.state saved.new)
-        (S.state source.old) (S.state source.new) (K.state sink.old) (K.state sink.new)) result }
+        (Table.state table_source.old) (Table.state table_source.new) (Saved.state saved.old) (Saved.state saved.new)
+        (In.state source.old) (In.state source.new) (Out.state sink.old) (Out.state sink.new)) result }
 {
     let Some(mut ledger) = open(alloc, rules, table_source, sink, fills)? else {
         return Ok(None);

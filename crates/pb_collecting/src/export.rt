@@ -19,22 +19,22 @@ use std::alloc::Global;
 /// `Memory` comes where a growth of the ledger's or the export's own found no memory; a submission
 /// that wants memory is refused. Nothing is put before all submissions were taken, so a fault of
 /// theirs leaves the sink alone.
-pub fn run_export<T: Source, S: Source, K: Sink>(
+pub fn run_export<Table: Source, In: Source, Out: Sink>(
     alloc: Global,
     rules: Rules,
-    table_source: &mut T,
-    source: &mut S,
-    sink: &mut K,
+    table_source: &mut Table,
+    source: &mut In,
+    sink: &mut Out,
     fills: u32,
 ) -> Result<bool, Fault>
     // The table was read, all submissions were taken, and the export of the games that are held was
     // put, and the answer is true; or the line was put that refuses the table, and it is false; or
     // this was done before the fault.
     ensures ends { SilentExportRun rules fills
-        (T.state table_source.old) (T.state table_source.new) (S.state source.old) (S.state source.new)
-        (K.state sink.old) (K.state sink.new) result }
+        (Table.state table_source.old) (Table.state table_source.new) (In.state source.old) (In.state source.new)
+        (Out.state sink.old) (Out.state sink.new) result }
     // The sink is blamed only where it has failed, and always where it has failed since.
-    ensures blame { IfErr result (BlamesSink (K.state sink.old) (K.state sink.new)) }
+    ensures blame { IfErr result (BlamesSink (Out.state sink.old) (Out.state sink.new)) }
 {
     let mut replies = NullSink::default();
     export_submissions(
@@ -55,18 +55,18 @@ pub fn run_export<T: Source, S: Source, K: Sink>(
 /// # Errors
 ///
 /// As for `run_export`; `Write` comes where either sink has failed.
-pub fn export_submissions<T: Source, S: Source, D: Sink, K: Sink>(
+pub fn export_submissions<Table: Source, In: Source, Replies: Sink, Out: Sink>(
     alloc: Global,
     rules: Rules,
-    table_source: &mut T,
-    source: &mut S,
-    replies: &mut D,
-    sink: &mut K,
+    table_source: &mut Table,
+    source: &mut In,
+    replies: &mut Replies,
+    sink: &mut Out,
     fills: u32,
 ) -> Result<bool, Fault>
     ensures { ExportRun rules fills
-        (T.state table_source.old) (T.state table_source.new) (S.state source.old) (S.state source.new)
-        (D.state replies.old) (D.state replies.new) (K.state sink.old) (K.state sink.new) result }
+        (Table.state table_source.old) (Table.state table_source.new) (In.state source.old) (In.state source.new)
+        (Replies.state replies.old) (Replies.state replies.new) (Out.state sink.old) (Out.state sink.new) result }
 {
     let Some(mut ledger) = open(alloc, rules, table_source, sink, fills)? else {
         return Ok(false);

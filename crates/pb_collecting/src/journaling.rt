@@ -1,9 +1,7 @@
 //! The command `collect` with a journal.
 
-ghost use Rattle.std.specs.Prelude.{◌≡◌, ◌⊎◌, ℕ, IfOk, IfSome, List};
-ghost use Rattle.pb_io.specs.Source.{HandsOut};
-ghost use Rattle.pb_io.specs.Sink.{AllLasts};
-ghost use Rattle.pb_collecting.specs.JournalHeadline.{HasHeadlineOfJournal, Outlives, Survives};
+ghost use Rattle.std.specs.Prelude.{IfOk, IfSome};
+ghost use Rattle.pb_collecting.specs.JournalHeadline.{HasHeadlineOfJournal, LosesNone, LosesNoneLater};
 ghost use Rattle.pb_collecting.specs.Run.{LeavesLedger};
 ghost use Rattle.pb_collecting.specs.Runs.{JournalRun};
 
@@ -32,40 +30,45 @@ use std::alloc::Global;
 /// the journal. A game whose line the journal didn't take isn't answered. `Memory` comes where a
 /// growth of the ledger's or the book's own found no memory, or a game of the journal; a submission
 /// that wants memory is refused in its reply.
-pub fn run_journaled<T: Source, V: Source, J: Sink, W: SkippedLines, S: Source, K: Sink>(
+pub fn run_journaled<
+    Table: Source,
+    Kept: Source,
+    Journal: Sink,
+    Skipped: SkippedLines,
+    In: Source,
+    Out: Sink,
+>(
     alloc: Global,
     rules: Rules,
-    table_source: &mut T,
-    kept: &mut V,
-    journal: &mut J,
-    skipped: &mut W,
-    source: &mut S,
-    sink: &mut K,
+    table_source: &mut Table,
+    kept: &mut Kept,
+    journal: &mut Journal,
+    skipped: &mut Skipped,
+    source: &mut In,
+    sink: &mut Out,
     fills: u32,
 ) -> Result<Option<Book>, Fault>
     // The table was read, the journal was replayed, all submissions were taken from there, and this
     // is the book of the games that are held; or the line was put that refuses the table, and
     // neither the journal nor a submission was read; or this was done before the fault.
     ensures ends { JournalRun rules fills
-        (T.state table_source.old) (T.state table_source.new) (V.state kept.old) (V.state kept.new)
-        (S.state source.old) (S.state source.new) (J.state journal.old) (J.state journal.new)
-        (K.state sink.old) (K.state sink.new) result }
+        (Table.state table_source.old) (Table.state table_source.new) (Kept.state kept.old) (Kept.state kept.new)
+        (In.state source.old) (In.state source.new) (Journal.state journal.old) (Journal.state journal.new)
+        (Out.state sink.old) (Out.state sink.new) result }
     // The lines of the journal and of the submissions are those of one run, and this is its effect.
     ensures headline { IfOk result (λ answer. IfSome answer (HasHeadlineOfJournal rules
-        (T.state table_source.old) (T.state table_source.new) (V.state kept.old) (V.state kept.new)
-        (S.state source.old) (S.state source.new) (J.state journal.old) (J.state journal.new)
-        (K.state sink.old) (K.state sink.new))) }
+        (Table.state table_source.old) (Table.state table_source.new) (Kept.state kept.old) (Kept.state kept.new)
+        (In.state source.old) (In.state source.new) (Journal.state journal.old) (Journal.state journal.new)
+        (Out.state sink.old) (Out.state sink.new))) }
     // No acknowledged game is lost: no submission was read, or the journal was read to its end and
     // holds each game that a reply calls `ok`.
-    ensures survives { (S.state source.new ≡ S.state source.old)
-        ⊎ ((bytes : List ℕ) × HandsOut (V.state kept.old) (V.state kept.new) bytes
-        × Survives bytes (S.state source.old) (S.state source.new) (J.state journal.old) (J.state journal.new)
-        (K.state sink.old) (K.state sink.new)) }
+    ensures survives { LosesNone (Kept.state kept.old) (Kept.state kept.new)
+        (In.state source.old) (In.state source.new) (Journal.state journal.old) (Journal.state journal.new)
+        (Out.state sink.old) (Out.state sink.new) }
     // Nor by whatever ends the run, where what the journal had before lasts.
-    ensures outlives { AllLasts (J.state journal.old) → (S.state source.new ≡ S.state source.old)
-        ⊎ ((bytes : List ℕ) × HandsOut (V.state kept.old) (V.state kept.new) bytes
-        × Outlives bytes (S.state source.old) (S.state source.new) (J.state journal.old) (J.state journal.new)
-        (K.state sink.old) (K.state sink.new)) }
+    ensures outlives { LosesNoneLater (Kept.state kept.old) (Kept.state kept.new)
+        (In.state source.old) (In.state source.new) (Journal.state journal.old) (Journal.state journal.new)
+        (Out.state sink.old) (Out.state sink.new) }
 {
     let left = take_journaled(
         alloc,
@@ -86,21 +89,28 @@ pub fn run_journaled<T: Source, V: Source, J: Sink, W: SkippedLines, S: Source, 
 
 /// Takes the journal and submission lines as `run_journaled` does, up to the book. None where the
 /// table is refused.
-pub(crate) fn take_journaled<T: Source, V: Source, J: Sink, W: SkippedLines, S: Source, K: Sink>(
+pub(crate) fn take_journaled<
+    Table: Source,
+    Kept: Source,
+    Journal: Sink,
+    Skipped: SkippedLines,
+    In: Source,
+    Out: Sink,
+>(
     alloc: Global,
     rules: Rules,
-    table_source: &mut T,
-    kept: &mut V,
-    journal: &mut J,
-    skipped: &mut W,
-    source: &mut S,
-    sink: &mut K,
+    table_source: &mut Table,
+    kept: &mut Kept,
+    journal: &mut Journal,
+    skipped: &mut Skipped,
+    source: &mut In,
+    sink: &mut Out,
     fills: u32,
 ) -> Result<Option<Ledger<MapTally>>, Fault>
     ensures { LeavesLedger (JournalRun rules fills
-        (T.state table_source.old) (T.state table_source.new) (V.state kept.old) (V.state kept.new)
-        (S.state source.old) (S.state source.new) (J.state journal.old) (J.state journal.new)
-        (K.state sink.old) (K.state sink.new)) result }
+        (Table.state table_source.old) (Table.state table_source.new) (Kept.state kept.old) (Kept.state kept.new)
+        (In.state source.old) (In.state source.new) (Journal.state journal.old) (Journal.state journal.new)
+        (Out.state sink.old) (Out.state sink.new)) result }
 {
     let Some(mut ledger) = open(alloc, rules, table_source, sink, fills)? else {
         return Ok(None);

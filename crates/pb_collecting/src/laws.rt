@@ -6,11 +6,11 @@ ghost use Rattle.std.specs.Bool.{Decides};
 ghost use Rattle.pb_collecting.specs.Laws.{GoesOnAsOneRun, HasOneEffect, RefusalsLeaveTheGames, RefusedIsUnread};
 ghost use Rattle.pb_collecting.specs.declared.continuing_into.NotContinued.{NotContinued};
 ghost use Rattle.pb_collecting.specs.declared.keeping.NoBook.{NoBook};
-ghost use Rattle.pb_collecting.specs.declared.place.NotKept.{NotKept};
+ghost use Rattle.pb_collecting.specs.declared.store.StoreError.{StoreError};
 
 use crate::continuing_into::NotContinued;
 use crate::keeping::NoBook;
-use crate::place::NotKept;
+use crate::store::StoreError;
 
 /// Whatever the submissions are, a refused submission changes nothing.
 pub fn every_run()
@@ -39,7 +39,7 @@ pub fn unread()
 /// Reasons why a text, a book, or a ledger and its book aren't kept are equal (`==`) exactly where
 /// they are one.
 pub fn equal_values()
-    ensures text { (a b : NotKept) → Decides (⟦<NotKept as PartialEq>⟧.eq a b) (a ≡ b) }
+    ensures text { (a b : StoreError) → Decides (⟦<StoreError as PartialEq>⟧.eq a b) (a ≡ b) }
     ensures book { (a b : NoBook) → Decides (⟦<NoBook as PartialEq>⟧.eq a b) (a ≡ b) }
     ensures both { (a b : NotContinued) → Decides (⟦<NotContinued as PartialEq>⟧.eq a b) (a ≡ b) }
 {}

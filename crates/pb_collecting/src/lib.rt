@@ -1,5 +1,5 @@
 //! The commands of `pbook` that take games, `collect` and `export`, as functions over the ends that
-//! they are handed and over the places where a ledger and its book are kept. Nothing here knows the
+//! they are handed and over the stores where a ledger and its book are kept. Nothing here knows the
 //! command line or a file.
 #![tactic(auto)]
 
@@ -12,8 +12,8 @@ mod journaling;
 mod journaling_into;
 mod keeping;
 pub mod laws;
-mod place;
 mod run;
+mod store;
 mod text;
 
 pub use bytes::collect_bytes;
@@ -25,5 +25,5 @@ pub use journaling::run_journaled;
 pub use journaling_into::journal_into;
 pub use keeping::{NoBook, collect_into};
 pub use pb_ledger::{MAX_LEAST, MAX_PLIES, Rules, SkippedLines, WriteFault};
-pub use place::{MemPlace, NotKept, Place};
+pub use store::{MemStore, Store, StoreError};
 pub use text::{LedgerBook, Text};

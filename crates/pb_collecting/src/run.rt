@@ -67,8 +67,5 @@ pub(crate) fn take_submissions<S: Source, K: Sink>(
 pub(crate) fn book_of(alloc: Global, ledger: &Ledger<MapTally>) -> Result<Book, Fault>
     ensures { MayBeBook ledger.now result }
 {
-    let book = ledger.make_book(alloc)?;
-    // The proof reads from this use that the entries are in their ranges.
-    let _ = book.entries();
-    Ok(book)
+    Ok(ledger.make_book(alloc)?)
 }

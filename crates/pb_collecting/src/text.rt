@@ -1,13 +1,11 @@
 //! What has a text.
 
 ghost use Rattle.std.specs.Prelude.{◌≡◌, ℕ, List};
-ghost use Rattle.pb_poly.specs.Book.{book_bytes};
 ghost use Rattle.pb_ledger.specs.Booking.{BookText, WritesOrWants};
 ghost use Rattle.pb_ledger.specs.Saving.{Saved};
 
 use pb_io::Sink;
 use pb_ledger::{Ledger, Tally, WriteFault, save, save_book};
-use pb_poly::{Book, write_book};
 use std::alloc::Global;
 
 /// What has a text, as a book and a ledger have.
@@ -23,15 +21,6 @@ pub trait Text {
     /// may have been put then.
     fn write<K: Sink>(&self, sink: &mut K) -> Result<(), WriteFault>
         ensures { (bytes : List ℕ) × is_text self.now bytes × WritesOrWants (K.state sink.old) (K.state sink.new) result bytes };
-}
-
-impl Text for Book {
-    ghost is_text = { λ book bytes. bytes ≡ book_bytes book };
-
-    fn write<K: Sink>(&self, sink: &mut K) -> Result<(), WriteFault> {
-        write_book(sink, self)?;
-        Ok(())
-    }
 }
 
 impl<T: Tally> Text for Ledger<T> {

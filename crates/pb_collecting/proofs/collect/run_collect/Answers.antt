@@ -20,4 +20,4 @@ pub returns-clause-ends : goal.returns-clause-ends
 returns-clause-ends g c = let leaves = rw c.in-Some.is at c.in_ok-ledger.ensures in leaves (Ok c.in_ok-book_of.field-0) c.in_ok-book_of.ensures
 
 pub returns-clause-headline : goal.returns-clause-headline
-returns-clause-headline g c = headline _ c.plies-plies.ensures.rules _ _ _ _ _ _ _ _ (returns-clause-ends g c)
+returns-clause-headline g c = headline _ _ _ _ _ _ _ _ _ (returns-clause-ends g c)

@@ -25,11 +25,11 @@ pub returns-in_err-collect_journaled : goal.returns-in_err-collect_journaled
 returns-in_err-collect_journaled g c =
     let on = opened _ _ _ _ _ _ c.in_ok-ledger.field-0 c.in-Some.ledger c.in-Some.is c.in_ok-ledger.ensures in let replay = c.in_ok-replay.ensures in let e = c.in_err-collect_journaled.field-0.0 in
     let p = err_from_is_err_and c.from_residual-in_err-collect_journaled.result c.from_residual-in_err-collect_journaled.ensures.1 in rw (p.1, p.2) (
-    begun _ _ _ _ _ (c.replay.new.ledger, g.J.Sink.state c.replay.new.journal) (replayed _ _ _ _ _ _ _ _ _ _ on.0 replay.ok replay.basis replay.cap) (Err (fault_of_journal e))
+    begun _ _ _ _ _ (c.replay.new.ledger, g.Journal.Sink.state c.replay.new.journal) (replayed _ _ _ _ _ _ _ _ _ _ on.0 replay.ok replay.basis replay.cap) (Err (fault_of_journal e))
     (unjournaled _ _ _ _ _ _ on.1 _ c.collect_journaled.new.ledger _ _ e c.in_err-collect_journaled.ensures.fault))
 
 pub returns : goal.returns
 returns g c book may =
     let on = opened _ _ _ _ _ _ c.in_ok-ledger.field-0 c.in-Some.ledger c.in-Some.is c.in_ok-ledger.ensures in let replay = c.in_ok-replay.ensures in
-    begun _ _ _ _ _ (c.replay.new.ledger, g.J.Sink.state c.replay.new.journal) (replayed _ _ _ _ _ _ _ _ _ _ on.0 replay.ok replay.basis replay.cap) book
+    begun _ _ _ _ _ (c.replay.new.ledger, g.Journal.Sink.state c.replay.new.journal) (replayed _ _ _ _ _ _ _ _ _ _ on.0 replay.ok replay.basis replay.cap) book
     (journaled _ _ _ _ _ _ on.1 _ c.collect_journaled.new.ledger _ _ c.in_ok-collect_journaled.field-0 c.in_ok-collect_journaled.ensures.ok book may)

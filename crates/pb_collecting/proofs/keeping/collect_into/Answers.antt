@@ -13,8 +13,8 @@ keep-requires g c = rw c.of.ensures.ledger c.of.ensures.text
 
 pub returns-in-Ok : goal.returns-in-Ok
 returns-in-Ok g c =
-    kept_book _ c.plies-plies.ensures.rules _ _ _ _ _ _ _ c.in-Ok-Some.ledger (rw c.in-Ok-Some.field-0-is at c.in-Ok-Some.ensures) _ _ _ (rw c.of.ensures.ledger at c.in-Ok.ensures)
+    kept_book _ _ _ _ _ _ _ _ c.in-Ok-Some.ledger (rw c.in-Ok-Some.field-0-is at c.in-Ok-Some.ensures) _ _ _ (rw c.of.ensures.ledger at c.in-Ok.ensures)
 
 pub returns : goal.returns
 returns g c =
-    kept_book _ c.plies-plies.ensures.rules _ _ _ _ _ _ _ c.in-Ok-Some.ledger (rw c.in-Ok-Some.field-0-is at c.in-Ok-Some.ensures) _ _ _ (rw c.of.ensures.ledger at c.in-Err-keep.ensures)
+    kept_book _ _ _ _ _ _ _ _ c.in-Ok-Some.ledger (rw c.in-Ok-Some.field-0-is at c.in-Ok-Some.ensures) _ _ _ (rw c.of.ensures.ledger at c.in-Err-keep.ensures)

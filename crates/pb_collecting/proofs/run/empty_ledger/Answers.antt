@@ -10,7 +10,7 @@ returns-in_err-table g c =
     rw (is.1, is.2) c.in_err-table.ensures.reads
 
 pub returns-in-Ok : goal.returns-in-Ok
-returns-in-Ok g c = record { randoms = c.in_ok-table.table; table = c.in_ok-table.ensures.reads; is = c.in-Ok.ensures }
+returns-in-Ok g c = record { randoms = c.in_ok-table.table; table = c.in_ok-table.ensures.reads; counting = c.in-Ok.ensures.counting; is = c.in-Ok.ensures.empty }
 
 -- where there is no memory for the ledger, the bytes are a table
 pub returns : goal.returns

@@ -1,5 +1,5 @@
 use Rattle.std.proofs.Common.{rules}
-use Rattle.pb_collecting.proofs.place.MemPlacePlace.keep.Goals as goal
+use Rattle.pb_collecting.proofs.store.MemStoreStore.keep.Goals as goal
 
 pub returns-clause-kept : goal.returns-clause-kept
 returns-clause-kept g c = search rules

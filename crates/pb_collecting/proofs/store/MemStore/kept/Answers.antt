@@ -1,5 +1,5 @@
 use Rattle.std.proofs.Common.{rules}
-use Rattle.pb_collecting.proofs.place.MemPlace.kept.Goals as goal
+use Rattle.pb_collecting.proofs.store.MemStore.kept.Goals as goal
 
 pub returns-in-Some : goal.returns-in-Some
 returns-in-Some c = search rules

@@ -1,0 +1,40 @@
+-- A store where a text is kept, such as that of a book, as a file is, and what keeping one does
+-- there.
+use Rattle.std.specs.Prelude.{◌≡◌, ◌⊎◌, ℕ, List, Option, Some, Result, IfErr, IfSome, OnOk, take}
+use Rattle.std.specs.Result.{result_err}
+use Rattle.pb_ledger.specs.declared.booking.WriteFault.{WriteFault}
+use Rattle.pb_ledger.specs.declared.booking.WriteFault.TheVariants as fault
+use Rattle.pb_collecting.specs.declared.store.StoreError.{StoreError}
+use Rattle.pb_collecting.specs.declared.store.StoreError.TheVariants.{Open, Write, Memory}
+
+-- What is known of a store: what a reader finds there, bytes or nothing, where the store tells it;
+-- and why the last text that came wasn't kept, if it wasn't.
+pub record StoreState : Type 0 where
+  pub found : Option (Option (List ℕ))
+  pub fault : Option StoreError
+
+-- a reader of the store finds these bytes and nothing else, where the store told what is found
+abbrev pub HoldsBytes : StoreState → StoreState → List ℕ → Type 0
+HoldsBytes old new bytes = IfSome old.found (λ before. new.found ≡ Some (Some bytes))
+
+-- what keeping these bytes may leave, when it fails, in the place of what was there: nothing else
+-- where the store couldn't be opened, a front of the bytes where a write failed or memory was
+-- wanting
+abbrev pub Spoils : StoreState → StoreState → StoreError → List ℕ → Type 0
+Spoils old new Open bytes = ⊥
+Spoils old new why bytes = (count : ℕ) × HoldsBytes old new (take count bytes)
+
+-- Keeping bytes: the store holds them, or it tells why not, and is as it was or spoilt.
+pub record Keeps (old new : StoreState) (answer : Result (Unit {0}) StoreError) (bytes : List ℕ) : Type 0 where
+  pub holds : OnOk answer (HoldsBytes old new bytes)
+  pub leaves : IfErr answer (λ why. (new.found ≡ old.found) ⊎ Spoils old new why bytes)
+  pub fault : new.fault ≡ result_err answer
+
+-- memory was wanting, and a reader of the store finds what was there before
+abbrev pub KeepsWhatItHad : StoreState → StoreState → StoreError → Type 0
+KeepsWhatItHad old new why = (why ≡ Memory) × (new.found ≡ old.found)
+
+-- what a fault of writing is to a store
+abbrev pub store_error : WriteFault → StoreError
+store_error fault.Write = Write
+store_error fault.Memory = Memory
