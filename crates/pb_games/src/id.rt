@@ -101,9 +101,7 @@ fn padded(bytes: &[u8]) -> [u8; MAX_LEN]
     ensures { result ≡ padded_text MAX_LEN bytes.now }
 {
     let mut kept = [0; MAX_LEN];
-    for (i, byte) in bytes.iter().enumerate() {
-        kept[i] = *byte;
-    }
+    kept[..bytes.len()].copy_from_slice(bytes);
     kept
 }
 
