@@ -3,58 +3,11 @@
 use std::fmt::{self, Display};
 use std::str;
 
-/// Why a submission is refused.
-#[derive(Clone, Copy)]
-enum Reason {
-    Long,
-    Shape,
-    Id,
-    Result,
-    Fen,
-    Start,
-    Spelling,
-    Plies,
-    Illegal,
-    Conflict,
-    Full,
-    Memory,
-}
-
-/// The reasons, in the order in which they are told.
-const REASONS: [Reason; 12] = [
-    Reason::Long,
-    Reason::Shape,
-    Reason::Id,
-    Reason::Result,
-    Reason::Fen,
-    Reason::Start,
-    Reason::Spelling,
-    Reason::Plies,
-    Reason::Illegal,
-    Reason::Conflict,
-    Reason::Full,
-    Reason::Memory,
+/// Why submissions are refused, by the words that replies give, in the order in which it is told.
+const REASONS: [&str; 12] = [
+    "long", "shape", "id", "result", "fen", "start", "spelling", "plies", "illegal", "conflict",
+    "full", "memory",
 ];
-
-impl Reason {
-    /// The word that replies give.
-    fn word(self) -> &'static str {
-        match self {
-            Reason::Long => "long",
-            Reason::Shape => "shape",
-            Reason::Id => "id",
-            Reason::Result => "result",
-            Reason::Fen => "fen",
-            Reason::Start => "start",
-            Reason::Spelling => "spelling",
-            Reason::Plies => "plies",
-            Reason::Illegal => "illegal",
-            Reason::Conflict => "conflict",
-            Reason::Full => "full",
-            Reason::Memory => "memory",
-        }
-    }
-}
 
 /// How a game that is new is told from one that came again.
 #[derive(Clone, Copy)]
@@ -165,7 +118,7 @@ impl Counts {
     /// Counts a refused submission.
     fn add_refusal(&mut self, reason: &str) {
         for (known, count) in REASONS.iter().zip(self.refused.iter_mut()) {
-            if known.word() == reason {
+            if *known == reason {
                 *count = count.saturating_add(1);
             }
         }
@@ -197,8 +150,7 @@ impl Display for Counts {
             if *count > 0 {
                 let before = if is_first { " (" } else { ", " };
                 let count = Grouped(*count);
-                let word = reason.word();
-                write!(f, "{before}{count} {word}")?;
+                write!(f, "{before}{count} {reason}")?;
                 is_first = false;
             }
         }

@@ -87,7 +87,7 @@ impl<'a> Progress<'a> {
     /// Shows how far the run is, where that is wanted and the last line has stood for a while, or
     /// made room for replies.
     pub fn show(&self) {
-        if self.is_shown && (self.messages.share_terminal() || self.is_due()) {
+        if self.is_shown && (self.messages.share_terminal() || self.take_turn()) {
             self.draw("");
         }
     }
@@ -99,8 +99,9 @@ impl<'a> Progress<'a> {
         }
     }
 
-    /// Whether the last line has stood for a while. Without a clock it never has.
-    fn is_due(&self) -> bool {
+    /// Tells whether the last line has stood for a while, and then begins a new while. Without a
+    /// clock it never has.
+    fn take_turn(&self) -> bool {
         let Ok(mut shown) = self.shown.try_borrow_mut() else {
             return false;
         };
