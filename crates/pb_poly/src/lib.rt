@@ -26,7 +26,7 @@ pub use key::key_of;
 pub use key_change::{key_after, key_next};
 pub use pb_io::{
     Failed, FromRead, FuseSink, FuseSource, LINE_LIMIT, LineTask, MemSink, MemSource, NeverSource,
-    Sink, Source, ToWrite, take_lines,
+    ReadFault, Sink, Source, ToWrite, take_lines,
 };
 pub use probing::probe;
 pub use reading::{BookError, read_book};
