@@ -5,7 +5,6 @@
 pub mod book;
 pub mod ends;
 pub mod epd;
-pub mod files;
 pub mod moves;
 pub mod page;
 pub mod record;

@@ -1,16 +1,16 @@
 //! How a run comes to hold a journal's file, and what of it is found and on the disk after a call
 //! that fails.
 
-use crate::page::{Done, NO_ROW, Page};
-use crate::text::{count_of, small_of};
 use pb_files::{
     Durability, JournalSink, MemJournal, MemOpener, Opener, Others, Synced, Written, hold, start,
 };
 use pb_poly::{Sink, Source};
+use rows::page::{Done, NO_ROW, Page};
+use rows::text::{count_of, small_of};
 use std::alloc::AllocError;
 
 /// The answer to a call.
-pub fn answer(page: &mut Page, call: &[&str]) -> Done {
+pub(crate) fn answer(page: &mut Page, call: &[&str]) -> Done {
     let [name, words @ ..] = call else {
         return NO_ROW;
     };

@@ -26,6 +26,7 @@ mod command;
 mod ends;
 mod files;
 mod game;
+mod journal_files;
 mod ledger;
 mod points;
 mod restarting;
@@ -45,7 +46,7 @@ fn answer(rt: &HostRuntime, page: &mut Page, topic: &str, call: &[&str]) -> Done
         "record" => rows::record::answer(page, call),
         "moves" => rows::moves::answer(page, call),
         "epd" => rows::epd::answer(page, call),
-        "file" => rows::files::answer(page, call),
+        "file" => journal_files::answer(page, call),
         "table" => rows::table::answer(page, call),
         "book" => rows::book::answer(page, call),
         "stream" => rows::stream::answer(page, call),
