@@ -100,7 +100,7 @@ impl Castling {
     /// Whether a move between these squares loses the right to castle so: it leaves or reaches the
     /// king's or the rook's first square.
     #[inline(always)]
-    pub fn is_touched(self, from: Square, to: Square) -> bool
+    pub fn is_lost_by(self, from: Square, to: Square) -> bool
         ensures { let row = castling_row self in
             result ≡ (from == row.king_from || to == row.king_from || (from == row.rook_from || to == row.rook_from)) }
     {

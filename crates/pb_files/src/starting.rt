@@ -59,7 +59,7 @@ pub struct Started<J: ReadFile> {
 /// # Errors
 ///
 /// `Sync` where it can't be put on the disk, `Failed` where it can't be read.
-pub fn read_whole<J: ReadFile>(journal: &mut J, sync: bool) -> Result<J::Reader, NotRead>
+pub fn whole_reader<J: ReadFile>(journal: &mut J, sync: bool) -> Result<J::Reader, NotRead>
     requires { (J.state journal.old).ready ≡ true }
     ensures ready { OnOk result ((J.state journal.new).ready ≡ true) }
     ensures all { IfOk result (λ reader. ReadsAll (J.state journal.new).told (J.Reader.state reader)) }
@@ -96,7 +96,7 @@ pub fn start<O: JournalOpener>(
         Err(why) => return Err(NotStarted::NotHeld(why)),
     };
     let mut journal = opener.journal(file);
-    match read_whole(&mut journal, sync) {
+    match whole_reader(&mut journal, sync) {
         Ok(reader) => Ok(Started { journal, reader }),
         Err(why) => Err(NotStarted::NotRead(why)),
     }

@@ -18,7 +18,7 @@ use Rattle.pb_moves.specs.Attacks.{files_apart, ranks_apart}
 use Rattle.pb_moves.specs.Candidate.{HoldsOwn}
 use Rattle.pb_moves.specs.Castling.{RowAllows, rook_goes}
 use Rattle.pb_moves.specs.Cases.{Becomes, Castles, Differs, EnPassant, Goes}
-use Rattle.pb_moves.specs.declared.move_kind.MoveKind.TheVariants.{Double}
+use Rattle.pb_moves.specs.declared.move_kind.MoveKind.TheVariants.{Two}
 use Rattle.pb_moves.specs.MoveKind.{LeadsTo}
 use Rattle.pb_moves.specs.Moved.{Moved, IsMove}
 use Rattle.pb_moves.specs.Reach.{Reaches}
@@ -90,7 +90,7 @@ goes_past p old from to gone full on_from on_to on_gone ne apart_from apart_to =
 
 pub takes_past : (s : Position) (m : Moved) (pawn : Piece) (kind : Kind) (from to gone : ℕ) → IsSetup s → IsMove m → HoldsOwn s m.from pawn → pawn.kind ≡ Pawn
     → Becomes pawn.colour m Pawn kind → s.ep ≡ Some m.to → Reaches pawn s.board m.from m.to → from ≡ m.from → to ≡ m.to → gone ≡ 8 * rank m.from + file m.to
-    → LeadsTo (EnPassant s m pawn) s m (Double (going from gone pawn) (going gone to pawn))
+    → LeadsTo (EnPassant s m pawn) s m (Two (going from gone pawn) (going gone to pawn))
 takes_past s m pawn kind from to gone ok is own is_pawn becomes square reaches from_is to_is gone_is =
     let side = s.turn in
     let B : Colour → Type 0 = λ c. Becomes c m Pawn kind in
@@ -115,7 +115,7 @@ takes_past s m pawn kind from to gone ok is own is_pawn becomes square reaches f
     let P : Piece → Type 0 = λ p. Differs s.board new ((m.from, None) ∷ (m.to, Some p) ∷ (gone, None) ∷ []) in
     let D : ℕ → Type 0 = λ g. Differs s.board new ((m.from, None) ∷ (m.to, Some (pawn_of side)) ∷ (g, None) ∷ []) in
     let moved = subst P piece (goes_past pawn s.board m.from m.to gone ok.places on_from on_to on_gone is.moves off_from off_to) in
-    let L : ℕ → ℕ → Type 0 = λ f t. LeadsTo (EnPassant s m pawn) s m (Double (going f gone pawn) (going gone t pawn)) in
+    let L : ℕ → ℕ → Type 0 = λ f t. LeadsTo (EnPassant s m pawn) s m (Two (going f gone pawn) (going gone t pawn)) in
     let leads : L m.from m.to = (
       (
         record { own = own.own; stands = own.stands; on_board = on_gone; moves = λ e. off_from (sym e) },
@@ -129,7 +129,7 @@ takes_past s m pawn kind from to gone ok is own is_pawn becomes square reaches f
 pub castles_so : (c : Castling) (s : Position) (m : Moved) (king rook : Piece) (from to rook_from rook_to : ℕ) → IsSetup s → IsMove m → HoldsOwn s m.from king → king.kind ≡ King
     → m.promo ≡ None → m.from ≡ (castling_row c).king_from → m.to ≡ (castling_row c).king_to → RowAllows (castling_row c) s
     → from ≡ m.from → to ≡ m.to → rook ≡ rook_of (castling_row c).colour → rook_from ≡ (castling_row c).rook_from → rook_to ≡ (castling_row c).rook_to
-    → LeadsTo (λ b. (d : Castling) × Castles (castling_row d) s m king b) s m (Double (going from to king) (going rook_from rook_to rook))
+    → LeadsTo (λ b. (d : Castling) × Castles (castling_row d) s m king b) s m (Two (going from to king) (going rook_from rook_to rook))
 castles_so c s m king rook from to rook_from rook_to ok is own is_king none home target may from_is to_is rook_is rook_from_is rook_to_is =
     let row = castling_row c in
     let squares = rows c in
@@ -162,7 +162,7 @@ castles_so c s m king rook from to rook_from rook_to ok is own is_king none home
         };
       },
     ) in
-    let L : ℕ → ℕ → ℕ → ℕ → Piece → Type 0 = λ f t g u p. LeadsTo (λ b. (d : Castling) × Castles (castling_row d) s m king b) s m (Double (going f t king) (going g u p)) in
+    let L : ℕ → ℕ → ℕ → ℕ → Piece → Type 0 = λ f t g u p. LeadsTo (λ b. (d : Castling) × Castles (castling_row d) s m king b) s m (Two (going f t king) (going g u p)) in
     let leads : L m.from m.to row.rook_from row.rook_to (rook_of row.colour) = (
       (
         record { own = own.own; stands = own.stands; on_board = is.to_on_board; moves = is.moves },

@@ -9,7 +9,7 @@ use Rattle.pb_board.specs.Board.{Board, Holds}
 use Rattle.pb_board.specs.MovedPiece.{with_moved, with_two_moved}
 use Rattle.pb_board.specs.Position.{Position, IsSetup, IsOnlyKing, with_piece_moved}
 use Rattle.pb_moves.specs.declared.move_kind.MoveKind.{MoveKind}
-use Rattle.pb_moves.specs.declared.move_kind.MoveKind.TheVariants.{Double}
+use Rattle.pb_moves.specs.declared.move_kind.MoveKind.TheVariants.{Two}
 use Rattle.pb_moves.specs.declared.attackers.Attackers.{Attackers}
 use Rattle.pb_moves.specs.Moved.{Moved, IsMove}
 use Rattle.pb_moves.specs.MoveKind.{CanGo, Fits, LeadsTo, board_by}
@@ -50,10 +50,10 @@ sees_going s board c seen after full can sees carries =
     carries board (with_moved board c) c.piece c.piece sees
     (carried_put board c.from c.to c.piece full (holds_on_board board c.from c.piece full can.stands) can.on_board can.moves) can.own can.stands can.own
 
-pub sees_double : (s : Position) (first second : MovedPiece) (seen one two : Attackers) → IsSetup s → Fits (Double first second) s
+pub sees_two : (s : Position) (first second : MovedPiece) (seen one two : Attackers) → IsSetup s → Fits (Two first second) s
     → AreAttackers s.board (opponent s.turn) seen → Follows s seen first.from first.to one → Follows s one second.from second.to two
     → AreAttackers (with_two_moved s.board first second) (opponent s.turn) two
-sees_double s first second seen one two ok fits sees there on =
+sees_two s first second seen one two ok fits sees there on =
     let between = with_moved s.board first in
     let full = length_put _ first.to (Some first.piece) (length_put s.board first.from None ok.places) in
     sees_going s between second one two full fits.1 (sees_going s s.board first seen one ok.places fits.0 sees there) on

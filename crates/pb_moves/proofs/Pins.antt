@@ -15,7 +15,7 @@ use Rattle.pb_moves.specs.Unpinned.{IsUnpinned}
 use Rattle.pb_moves.specs.Cases.{Differs, CaseOf, SafeCase}
 use Rattle.pb_moves.specs.MoveKind.{LeadsTo}
 use Rattle.pb_moves.proofs.MovedPiece.{put}
-use Rattle.pb_moves.specs.declared.move_kind.MoveKind.TheVariants.{Normal}
+use Rattle.pb_moves.specs.declared.move_kind.MoveKind.TheVariants.{One}
 use Rattle.pb_moves.proofs.Differing.{arrived, carried_put, left, lifted_put, moved_board, off_one, off_two, same_or_not}
 use Rattle.pb_moves.proofs.Kings.{holds_one, holds_at, empty_holds, king_stays, no_king}
 use Rattle.pb_moves.proofs.Legality.{legal_out_of_check}
@@ -67,7 +67,7 @@ attacked_lifted old new lifted side from to king p moved gone own attack =
 
 -- so the move of a piece that its king doesn't need is legal
 pub legal_unpinned : (s : Position) (m : Moved) (p arriving : Piece) → IsMove m → HoldsOwn s m.from p
-    → LeadsTo (CaseOf s m p) s m (Normal arriving) → IsUnpinned s m.from p → SafeCase s m
+    → LeadsTo (CaseOf s m p) s m (One arriving) → IsUnpinned s m.from p → SafeCase s m
 legal_unpinned s m p arriving is own leads unpinned =
     let new = moved_board s.board m.from m.to arriving in
     let lifted = put s.board m.from None in

@@ -26,7 +26,7 @@ pub(crate) fn piece_move(setup: &Setup, m: Move, piece: Piece) -> Option<MoveKin
         && (is_empty(setup, to) || is_capturable(setup, piece.colour, to))
         && reaches(piece, setup, from, to)
     {
-        Some(MoveKind::Normal(piece))
+        Some(MoveKind::One(piece))
     } else {
         None
     }
@@ -59,7 +59,7 @@ pub(crate) fn pawn_step(setup: &Setup, m: Move, pawn: Piece, kind: Kind) -> Opti
     let colour = pawn.colour;
     let (from, to) = (m.from(), m.to());
     if to.file() == from.file() && is_forward(colour, 1, from, to) && is_empty(setup, to) {
-        Some(MoveKind::Normal(Piece { colour, kind }))
+        Some(MoveKind::One(Piece { colour, kind }))
     } else {
         None
     }
@@ -76,7 +76,7 @@ pub(crate) fn pawn_capture(setup: &Setup, m: Move, pawn: Piece, kind: Kind) -> O
     let colour = pawn.colour;
     let (from, to) = (m.from(), m.to());
     if is_capturable(setup, colour, to) && reaches(pawn, setup, from, to) {
-        Some(MoveKind::Normal(Piece { colour, kind }))
+        Some(MoveKind::One(Piece { colour, kind }))
     } else {
         None
     }
@@ -98,7 +98,7 @@ pub(crate) fn pawn_double(setup: &Setup, m: Move, pawn: Piece, kind: Kind) -> Op
         && is_empty(setup, to)
         && is_empty(setup, halfway(from, to))
     {
-        Some(MoveKind::Normal(Piece { colour, kind }))
+        Some(MoveKind::One(Piece { colour, kind }))
     } else {
         None
     }
@@ -136,7 +136,7 @@ pub(crate) fn en_passant(setup: &Setup, m: Move, pawn: Piece, kind: Kind) -> Opt
     match setup.ep() {
         Some(ep) if ep.index() == to.index() && reaches(pawn, setup, from, to) => {
             let taken = square_at(8 * from.rank() + to.file());
-            Some(MoveKind::Double(
+            Some(MoveKind::Two(
                 MovedPiece {
                     from,
                     to: taken,

@@ -71,7 +71,7 @@ pub(crate) fn castles(setup: &Setup, m: Move, king: Piece) -> Option<MoveKind>
                 colour: castling.colour(),
                 kind: Kind::Rook,
             };
-            Some(MoveKind::Double(
+            Some(MoveKind::Two(
                 MovedPiece {
                     from,
                     to,

@@ -76,10 +76,10 @@ impl Effect {
             ..
         } = self;
         match kind {
-            MoveKind::Normal(piece) => {
+            MoveKind::One(piece) => {
                 setup.move_piece(m.from(), m.to(), piece, rights, ep);
             }
-            MoveKind::Double(first, second) => {
+            MoveKind::Two(first, second) => {
                 setup.move_two(first, second, rights, ep);
             }
         }

@@ -9,7 +9,7 @@ ghost use Rattle.pb_board.specs.Position.{IsOnlyKing, IsSetup};
 ghost use Rattle.pb_moves.specs.Candidate.{HoldsOwn};
 ghost use Rattle.pb_moves.specs.Cases.{CaseOf, SafeCase};
 ghost use Rattle.pb_moves.specs.MoveKind.{Finds, LeadsTo};
-ghost use Rattle.pb_moves.specs.declared.move_kind.MoveKind.TheVariants.{Double};
+ghost use Rattle.pb_moves.specs.declared.move_kind.MoveKind.TheVariants.{Two};
 ghost use Rattle.pb_moves.specs.Moved.{Moved};
 ghost use Rattle.pb_moves.specs.Attackers.{AreAttackers};
 ghost use Rattle.pb_moves.specs.Unpinned.{IsUnpinned};
@@ -136,18 +136,18 @@ pub(crate) fn is_safe(setup: &Setup, m: Move, piece: Piece, kind: &MoveKind) -> 
     ensures { IsTrue result ↔ SafeCase setup.now m }
 {
     match *kind {
-        MoveKind::Normal(_) => {
+        MoveKind::One(_) => {
             let enemy = setup.turn().opponent();
             let seen = attackers_after(attackers_of(setup, enemy), m.from(), m.to());
             !is_attacked(&seen, king_after(setup, m, piece), enemy)
         }
-        MoveKind::Double(first, second) => is_safe_double(setup, m, piece, first, second),
+        MoveKind::Two(first, second) => is_safe_two(setup, m, piece, first, second),
     }
 }
 
 /// `is_safe` for two pieces that go one after the other, not inlined, since few moves need it.
 #[inline(never)]
-fn is_safe_double(
+fn is_safe_two(
     setup: &Setup,
     m: Move,
     piece: Piece,
@@ -155,7 +155,7 @@ fn is_safe_double(
     second: MovedPiece,
 ) -> bool
     requires own { HoldsOwn setup.now m.from piece }
-    requires leads { LeadsTo (CaseOf setup.now m piece) setup.now m (Double first second) }
+    requires leads { LeadsTo (CaseOf setup.now m piece) setup.now m (Two first second) }
     ensures { IsTrue result ↔ SafeCase setup.now m }
 {
     let enemy = setup.turn().opponent();
@@ -175,7 +175,7 @@ pub(crate) fn is_legal_for(setup: &Setup, m: Move, piece: Piece, unpinned: bool)
     // The reader tells that the move meets its rules.
     let _from = m.from();
     match change_of(setup, m, piece) {
-        Some(MoveKind::Normal(_)) if unpinned => true,
+        Some(MoveKind::One(_)) if unpinned => true,
         Some(kind) => is_safe(setup, m, piece, &kind),
         None => false,
     }

@@ -7,8 +7,8 @@ use pb_board::{MovedPiece, Piece};
 #[derive(Clone, Copy)]
 pub enum MoveKind {
     /// This piece arrives where the move goes, in the place of what stood there.
-    Normal(Piece),
+    One(Piece),
     /// These two go one after the other: king and rook castle, or a pawn takes another en passant,
     /// by way of that pawn's square.
-    Double(MovedPiece, MovedPiece),
+    Two(MovedPiece, MovedPiece),
 }

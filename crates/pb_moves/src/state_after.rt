@@ -12,7 +12,7 @@ use pb_board::{Castling, Kind, Piece, Rights, Square};
 fn keeps(castling: Castling, rights: Rights, m: Move) -> bool
     ensures { result ≡ keeps_right rights m castling }
 {
-    castling.is_allowed(rights) && !castling.is_touched(m.from(), m.to())
+    castling.is_allowed(rights) && !castling.is_lost_by(m.from(), m.to())
 }
 
 /// The castling rights that the move keeps, each by its squares. It is out of line, since few moves

@@ -7,7 +7,7 @@ use Rattle.pb_board.specs.MovedPiece.{with_moved}
 use Rattle.pb_board.specs.Position.{Position, IsSetup}
 use Rattle.pb_moves.specs.declared.effect.Effect.{Effect}
 use Rattle.pb_moves.specs.declared.move_kind.MoveKind.{MoveKind}
-use Rattle.pb_moves.specs.declared.move_kind.MoveKind.TheVariants.{Normal, Double}
+use Rattle.pb_moves.specs.declared.move_kind.MoveKind.TheVariants.{One, Two}
 use Rattle.pb_moves.specs.Effect.{IsEffect}
 use Rattle.pb_moves.specs.MoveKind.{Fits, board_by}
 use Rattle.pb_moves.specs.Moved.{Moved, IsMove}
@@ -80,9 +80,9 @@ going_changes f board leaving c full stands on_to moves =
 
 kind_changes : (f : ℕ → ℕ) (s : Position) (m : Moved) (piece : Piece) (kind : MoveKind) → length s.board ≡ 64 → IsMove m → Holds s.board m.from piece → Fits kind s
     → (total f (piece_offsets s.board 0) + total f (moved_offsets s.board m piece kind)) % 2 ≡ total f (piece_offsets (board_by kind m s.board) 0) % 2
-kind_changes f s m piece (Normal arriving) full is stands fits =
+kind_changes f s m piece (One arriving) full is stands fits =
     let c : MovedPiece = record { from = m.from; to = m.to; piece = arriving } in going_changes f s.board piece c full stands is.to_on_board is.moves
-kind_changes f s m piece (Double first second) full is stands fits =
+kind_changes f s m piece (Two first second) full is stands fits =
     let between = with_moved s.board first in
     let full_left = length_put s.board first.from None full in
     let full_between = length_put (put s.board first.from None) first.to (Some first.piece) full_left in

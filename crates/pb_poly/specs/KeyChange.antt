@@ -11,7 +11,7 @@ use Rattle.pb_board.specs.Board.{Board, Place, file, at}
 use Rattle.pb_board.specs.Piece.{opponent}
 use Rattle.pb_board.specs.Position.{Position}
 use Rattle.pb_moves.specs.declared.move_kind.MoveKind.{MoveKind}
-use Rattle.pb_moves.specs.declared.move_kind.MoveKind.TheVariants.{Normal, Double}
+use Rattle.pb_moves.specs.declared.move_kind.MoveKind.TheVariants.{One, Two}
 use Rattle.pb_moves.specs.Moved.{Moved}
 use Rattle.pb_poly.specs.Key.{castling_offset, en_passant_start, has_capturer, piece_offset, offset_if}
 
@@ -31,8 +31,8 @@ going_offsets board leaving c = piece_offset leaving c.from ∷ (square_offsets 
 
 -- the pieces go that a move of this kind puts elsewhere; the second of two goes to an empty square
 abbrev pub moved_offsets : Board → Moved → Piece → MoveKind → List ℕ
-moved_offsets board m piece (Normal arriving) = going_offsets board piece (record { from = m.from; to = m.to; piece = arriving })
-moved_offsets board m piece (Double first second) =
+moved_offsets board m piece (One arriving) = going_offsets board piece (record { from = m.from; to = m.to; piece = arriving })
+moved_offsets board m piece (Two first second) =
     going_offsets board first.piece first ++ (piece_offset second.piece second.from ∷ piece_offset second.piece second.to ∷ [])
 
 -- the offsets of the rights that one of the two has

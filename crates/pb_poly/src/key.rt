@@ -83,10 +83,10 @@ fn toggle_right(table: &Table, key: u64, rights: Rights, castling: Castling) -> 
 pub(crate) fn toggle_rights(table: &Table, key: u64, rights: Rights) -> u64
     ensures { result ≡ toggled table.now key (rights_offsets rights) }
 {
-    let short = toggle_right(table, key, rights, Castling::WhiteShort);
-    let white = toggle_right(table, short, rights, Castling::WhiteLong);
-    let long = toggle_right(table, white, rights, Castling::BlackShort);
-    toggle_right(table, long, rights, Castling::BlackLong)
+    let key = toggle_right(table, key, rights, Castling::WhiteShort);
+    let key = toggle_right(table, key, rights, Castling::WhiteLong);
+    let key = toggle_right(table, key, rights, Castling::BlackShort);
+    toggle_right(table, key, rights, Castling::BlackLong)
 }
 
 /// Whether a pawn of this side stands on the square of this index.

@@ -49,7 +49,7 @@ fn toggle_going(table: &Table, key: u64, before: &Setup, leaving: Piece, carried
 /// Toggles the words of two pieces that go one after the other. It is out of line, since few moves
 /// need it.
 #[inline(never)]
-fn toggle_double(
+fn toggle_two(
     table: &Table,
     key: u64,
     before: &Setup,
@@ -77,11 +77,11 @@ fn toggle_moved(
     ensures { result ≡ toggled table.now key (moved_offsets before.now.board m leaving kind) }
 {
     match kind {
-        MoveKind::Normal(piece) => {
+        MoveKind::One(piece) => {
             let (from, to) = (m.from(), m.to());
             toggle_going(table, key, before, leaving, MovedPiece { from, to, piece })
         }
-        MoveKind::Double(first, second) => toggle_double(table, key, before, first, second),
+        MoveKind::Two(first, second) => toggle_two(table, key, before, first, second),
     }
 }
 

@@ -25,7 +25,7 @@ pub fn run(rt: &HostRuntime, words: &[&str]) -> u8
 {
     match parse(rt.alloc(), words) {
         Ok(order) => perform(rt, &order),
-        Err(ParseFault::Memory) => want_of_memory(rt),
+        Err(ParseFault::Memory) => tell_no_memory(rt),
         Err(ParseFault::Usage(text)) => {
             show_usage(rt, text.as_str());
             USAGE
@@ -57,7 +57,7 @@ fn perform(rt: &HostRuntime, order: &Order<'_>) -> u8
     let told = Told::new(Named::new(messages, OUTPUT), io::writer(rt));
     let output = Fronted::new(told, &front);
     let Ok(writer) = BufWriter::with_capacity(rt.alloc(), PIECE, output) else {
-        return want_of_memory(rt);
+        return tell_no_memory(rt);
     };
     let mut output = ToWrite::new(writer);
     match answer(messages, order, &mut output) {
@@ -111,7 +111,7 @@ fn name_of<'a>(order: &Order<'a>, kind: Part) -> &'a str {
 }
 
 /// Tells that there was no memory to begin with, and answers the status of a fault.
-pub fn want_of_memory(rt: &HostRuntime) -> u8
+pub fn tell_no_memory(rt: &HostRuntime) -> u8
     ensures { result ≡ 3 }
 {
     let mut output = ToWrite::new(io::writer(rt));

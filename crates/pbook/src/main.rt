@@ -1,7 +1,7 @@
 //! The program `pbook`: hands the words of its command line on.
 #![tactic(auto)]
 
-use pb_program::{USAGE, run, want_of_memory};
+use pb_program::{USAGE, run, tell_no_memory};
 use std::alloc::AllocError;
 use std::process::ExitCode;
 use std::{env, io};
@@ -14,7 +14,7 @@ fn main(rt: HostRuntime) -> ExitCode {
 fn status(rt: &HostRuntime) -> u8 {
     let given = match arguments(rt) {
         Ok(given) => given,
-        Err(error) if error.kind() == io::ErrorKind::OutOfMemory => return want_of_memory(rt),
+        Err(error) if error.kind() == io::ErrorKind::OutOfMemory => return tell_no_memory(rt),
         Err(_) => return USAGE,
     };
     let words: Result<Vec<&str>, AllocError> = given
@@ -23,7 +23,7 @@ fn status(rt: &HostRuntime) -> u8 {
         .collect(rt.alloc());
     match words {
         Ok(words) => run(rt, words.as_slice()),
-        Err(_) => want_of_memory(rt),
+        Err(_) => tell_no_memory(rt),
     }
 }
 

@@ -6,7 +6,7 @@ use crate::collecting::Passed;
 use crate::files::{book_of, rules};
 use crate::game::stream_of;
 use pb_cli::{MemPlace, NoBook, journal_into};
-use pb_files::{Durability, JournalSink, MemJournal, Synced, Written, read_whole};
+use pb_files::{Durability, JournalSink, MemJournal, Synced, Written, whole_reader};
 use pb_poly::{FromRead, MemSink, Source};
 use rows::page::{Done, NO_ROW, Page, Trouble};
 use rows::text::{count_of, text_of};
@@ -68,7 +68,7 @@ impl<D: Durability> Ran<D> {
     /// The run over a journal of these bytes and over these submissions.
     fn of(alloc: Global, bytes: &[u8], calls: usize, lines: &str) -> Result<Ran<D>, Trouble> {
         let mut file = MemJournal::new(Vec::from_slice(alloc, bytes)?, calls);
-        let reader = read_whole(&mut file, D::syncs());
+        let reader = whole_reader(&mut file, D::syncs());
         let mut ran = Ran {
             answer: Page::new(alloc),
             journal: JournalSink::new(alloc, file)?,
