@@ -14,7 +14,7 @@ use Rattle.pb_export.specs.Exporting.{SaysMoves, with_book_moves}
 use Rattle.pb_export.specs.Setups.{AreListed, HoldsSetups, InTextOrder, IsNamedAs, ListsSetups, Named, TextBelow, moves_of}
 use Rattle.pb_export.specs.declared.setups.ListedSetup.{ListedSetup}
 use Rattle.pb_export.specs.declared.setups.Listing.{Listing}
-use Rattle.pb_export.proofs.SetupTexts.{one_setup}
+use Rattle.pb_export.proofs.ListedSetups.{one_setup}
 
 module _ (words : List ℕ) (book : List Entry) (known : List Position) (moves : List (Moved × ℕ)) where
   -- a known setup that stands there under its text
@@ -92,8 +92,7 @@ names_setups words book known listing h order = record {
       | inl none ↦ inl none
       | inr w ↦
           let m = r.reach w.0 w.1 in
-          let is : m.0.1 ≡ s = one_setup m.0.1 s m.2.named.setup (All-contains IsSetup known s h.setups c)
-          (sym m.2.named.listed.packed.ranks ∙ w.2.packed.ranks) (sym m.2.named.listed.packed.state ∙ w.2.packed.state) in
+          let is : m.0.1 ≡ s = one_setup m.0.1 s w.0.setup w.0.setup m.2.named.setup (All-contains IsSetup known s h.setups c) m.2.named.listed.packed w.2.packed refl refl in
           let pair : m.0 ≡ (setup_text s, s) = λ i. ((m.2.named.text ∙ ap setup_text is) i, is i) in
           inr (subst (Contains r.named) pair m.1)
     ];
@@ -116,12 +115,16 @@ pub record NamedHere (words : List ℕ) (book : List Entry) (named : List Named)
   pub cut : drop i named ≡ first ∷ drop (i + 1) named
   pub is : IsNamedAs words book moves first x
 
-pub named_here : (words : List ℕ) (book : List Entry) (named : List Named) (listing : Listing) (items : List ListedSetup) (i : ℕ) (x : ListedSetup) → AreListed words book named listing → items ≡ listing.setups.items → i < length items → x ≡ get_or items i x
+-- what is read past the end of a list
+abbrev pub unlisted : ListedSetup
+unlisted = record { setup = record { ranks = []; state = 0 }; first = 0; end = 0 }
+
+pub named_here : (words : List ℕ) (book : List Entry) (named : List Named) (listing : Listing) (items : List ListedSetup) (i : ℕ) (d x : ListedSetup) → AreListed words book named listing → items ≡ listing.setups.items → i < length items → x ≡ get_or items i d
     → NamedHere words book named listing.moves.items i x
-named_here words book named listing items i x are value lt here =
-    let p = are.each i x (omega (arith, lt, ap length value)) in
+named_here words book named listing items i d x are value lt here =
+    let p = are.each i d (omega (arith, lt, ap length value)) in
     let next : suc i ≡ i + 1 = omega arith in
-    let there : get_or listing.setups.items i x ≡ x = sym (here ∙ ap (λ (xs : List ListedSetup). get_or xs i x) value) in
+    let there : get_or listing.setups.items i d ≡ x = sym (here ∙ ap (λ (xs : List ListedSetup). get_or xs i d) value) in
     record {
       first = p.first;
       cut = p.cut ∙ ap (λ n. p.first ∷ drop n named) next;

@@ -121,7 +121,7 @@ digit_injective p q e = letter_injective p q (digit_letter p q e)
 -- ---- ranks
 
 -- what is alike before a difference
-below_after : (t U V : List ℕ) → IsBytesBelow U V → IsBytesBelow (t ++ U) (t ++ V)
+pub below_after : (t U V : List ℕ) → IsBytesBelow U V → IsBytesBelow (t ++ U) (t ++ V)
 below_after [] U V h = h
 below_after (c ∷ t) U V h = inr (refl, below_after t U V h)
 

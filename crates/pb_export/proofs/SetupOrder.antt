@@ -1,9 +1,9 @@
 -- Listed setups in the order of their texts, each once.
-use Rattle.std.proofs.Common.{◌≡◌, ℕ, ◌<◌, Bool, true, false, ◌&&◌, List, [], ◌∷◌, get_or, length, refl, sym, subst, ◌∙◌}
+use Rattle.std.proofs.Common.{◌≡◌, ℕ, ◌<◌, ◌==◌, Bool, true, false, ◌&&◌, List, [], ◌∷◌, arith, cond, eqb-true, get_or, length, ltb, ltb-true, refl, sym, subst, ◌∙◌}
 use Rattle.std.specs.Prelude.{AllPairs, Contains, IsPermutation}
 use Rattle.std.specs.declared.cmp.Ordering.{Ordering}
 use Rattle.std.specs.declared.cmp.Ordering.TheVariants.{Less, Equal, Greater}
-use Rattle.std.specs.Cmp.{IsEquivalence, IsTotalOrder}
+use Rattle.std.specs.Cmp.{IsEquivalence, IsTotalOrder, nat_cmp_total, nat_eq_equiv, on_equiv, on_total, unsigned_ties}
 use Rattle.std.specs.Ordering.{is_eq, nat_cmp, ordering_then}
 use Rattle.std.specs.Prelude.{nat_eq}
 use Rattle.std.specs.Cmp.Lexicographic.{on_texts, on_texts_equal, pointwise, slice_cmp, texts_ties}
@@ -18,22 +18,23 @@ use Rattle.pb_board.specs.Text.{setup_text}
 use Rattle.pb_epd.specs.ByteOrder.{IsBytesBelow}
 use Rattle.pb_epd.proofs.Lists.{pairs_cons, pairs_none}
 use Rattle.pb_epd.proofs.Maps.{below_from_order, equal_is}
-use Rattle.pb_export.specs.Packed.{rank_numbers, state_text}
+use Rattle.pb_export.specs.Packed.{rank_numbers}
 use Rattle.pb_export.specs.Setups.{SameSetup, TextBelow}
 use Rattle.pb_export.specs.declared.setups.ListedSetup.{ListedSetup}
 use Rattle.pb_export.proofs.PackedOrder.{lower_ranks, lower_state}
+use Rattle.pb_export.proofs.StateOrder.{state_below}
 
 abbrev pub order : ListedSetup → ListedSetup → Ordering
-order x y = ordering_then (slice_cmp nat_cmp x.setup.ranks y.setup.ranks) (slice_cmp nat_cmp x.setup.state.bytes y.setup.state.bytes)
+order x y = ordering_then (slice_cmp nat_cmp x.setup.ranks y.setup.ranks) (nat_cmp x.setup.state y.setup.state)
 
 abbrev pub same : ListedSetup → ListedSetup → Bool
-same x y = pointwise nat_eq x.setup.ranks y.setup.ranks && pointwise nat_eq x.setup.state.bytes y.setup.state.bytes
+same x y = pointwise nat_eq x.setup.ranks y.setup.ranks && nat_eq x.setup.state y.setup.state
 
 order_total : IsTotalOrder order
-order_total = then_total (on_texts (λ (x : ListedSetup). x.setup.ranks)) (on_texts (λ (x : ListedSetup). x.setup.state.bytes))
+order_total = then_total (on_texts (λ (x : ListedSetup). x.setup.ranks)) (on_total (λ (x : ListedSetup). x.setup.state) nat_cmp_total)
 
 same_equiv : IsEquivalence same
-same_equiv = and_equiv (on_texts_equal (λ (x : ListedSetup). x.setup.ranks)) (on_texts_equal (λ (x : ListedSetup). x.setup.state.bytes))
+same_equiv = and_equiv (on_texts_equal (λ (x : ListedSetup). x.setup.ranks)) (on_equiv (λ (x : ListedSetup). x.setup.state) nat_eq_equiv)
 
 both_equal : (a b : Ordering) → is_eq (ordering_then a b) ≡ is_eq a && is_eq b
 both_equal Less b = refl
@@ -42,13 +43,13 @@ both_equal Greater b = refl
 
 ties : (x y : ListedSetup) → same x y ≡ is_eq (order x y)
 ties x y =
-    (λ i. texts_ties x.setup.ranks y.setup.ranks i && texts_ties x.setup.state.bytes y.setup.state.bytes i)
-    ∙ sym (both_equal (slice_cmp nat_cmp x.setup.ranks y.setup.ranks) (slice_cmp nat_cmp x.setup.state.bytes y.setup.state.bytes))
+    (λ i. texts_ties x.setup.ranks y.setup.ranks i && unsigned_ties x.setup.state y.setup.state i)
+    ∙ sym (both_equal (slice_cmp nat_cmp x.setup.ranks y.setup.ranks) (nat_cmp x.setup.state y.setup.state))
 
 pub same_is : (x y : ListedSetup) → same x y ≡ true → SameSetup x y
 same_is x y h =
-    let both = each_true (pointwise nat_eq x.setup.ranks y.setup.ranks) (pointwise nat_eq x.setup.state.bytes y.setup.state.bytes) h in
-    record { ranks = alike x.setup.ranks y.setup.ranks both.0; state = alike x.setup.state.bytes y.setup.state.bytes both.1 }
+    let both = each_true (pointwise nat_eq x.setup.ranks y.setup.ranks) (nat_eq x.setup.state y.setup.state) h in
+    record { ranks = alike x.setup.ranks y.setup.ranks both.0; state = eqb-true x.setup.state y.setup.state both.1 }
   where
     each_true : (a b : Bool) → (a && b) ≡ true → (a ≡ true) × (b ≡ true)
     each_true true b h = (refl, h)
@@ -60,17 +61,25 @@ same_is x y h =
 moved_below : (a b c d : List ℕ) → a ≡ c → b ≡ d → IsBytesBelow a b → IsBytesBelow c d
 moved_below a b c d first second h = subst (λ (w : List ℕ). IsBytesBelow c w) second (subst (λ (w : List ℕ). IsBytesBelow w b) first h)
 
+less_number : (m n : ℕ) → nat_cmp m n ≡ Less → m < n
+less_number m n h = go (ltb m n) (m == n) refl h
+  where
+    go : (a b : Bool) → ltb m n ≡ a → cond a Less (cond b Equal Greater) ≡ Less → m < n
+    go true b e h = ltb-true m n e
+    go false true e h = absurd cc
+    go false false e h = absurd cc
+
 less_is : (x y : ListedSetup) → order x y ≡ Less → TextBelow x y
 less_is x y h s t hs ht ps pt = go (slice_cmp nat_cmp x.setup.ranks y.setup.ranks) refl h
   where
     size : length s.board ≡ length t.board
     size = hs.places ∙ sym ht.places
 
-    go : (r : Ordering) → slice_cmp nat_cmp x.setup.ranks y.setup.ranks ≡ r → ordering_then r (slice_cmp nat_cmp x.setup.state.bytes y.setup.state.bytes) ≡ Less → IsBytesBelow (setup_text s) (setup_text t)
+    go : (r : Ordering) → slice_cmp nat_cmp x.setup.ranks y.setup.ranks ≡ r → ordering_then r (nat_cmp x.setup.state y.setup.state) ≡ Less → IsBytesBelow (setup_text s) (setup_text t)
     go Less e h = lower_ranks s t size (moved_below x.setup.ranks y.setup.ranks (rank_numbers s.board) (rank_numbers t.board) ps.ranks pt.ranks (below_from_order x.setup.ranks y.setup.ranks e))
     go Equal e h =
         let ranks : x.setup.ranks ≡ y.setup.ranks = exact_bytes x.setup.ranks y.setup.ranks e in
-        lower_state s t size (sym ps.ranks ∙ ranks ∙ pt.ranks) (moved_below x.setup.state.bytes y.setup.state.bytes (state_text s) (state_text t) ps.state pt.state (below_from_order x.setup.state.bytes y.setup.state.bytes h))
+        lower_state s t size (sym ps.ranks ∙ ranks ∙ pt.ranks) (state_below s t ps.ep pt.ep (omega (arith, ps.state, pt.state, less_number x.setup.state y.setup.state h)))
     go Greater e h = absurd cc
 
 each_below : (x : ListedSetup) (xs : List ListedSetup) → AllByRecursion (λ y. order x y ≡ Less) xs → (k : ℕ) (d : ListedSetup) → k < length xs → TextBelow x (get_or xs k d)

@@ -1,8 +1,12 @@
 -- A setup packed so that its order is that of its text.
-use Rattle.std.specs.Prelude.{◌≡◌, ℕ, ◌+◌, ◌*◌, Bool, false, List, [], ◌∷◌, take, drop, map, slice_index, is_none, Some, None, if◌then◌else◌}
+use Rattle.std.specs.Prelude.{◌≡◌, ℕ, ◌+◌, ◌*◌, ◌<◌, Bool, false, List, [], ◌∷◌, IfSome, Option, take, drop, map, slice_index, slice_index_or, codes, is_none, Some, None, if◌then◌else◌}
+use Rattle.std.specs.Int.{from_bool}
 use Rattle.std.specs.List.{join_with_byte}
 use Rattle.pb_board.specs.declared.piece.Piece.{Piece}
-use Rattle.pb_board.specs.Board.{Board, Place}
+use Rattle.pb_board.specs.declared.piece.Colour.{Colour}
+use Rattle.pb_board.specs.declared.piece.Colour.TheVariants.{White, Black}
+use Rattle.pb_board.specs.declared.setup.Rights.{Rights}
+use Rattle.pb_board.specs.Board.{Board, Place, file, rank}
 use Rattle.pb_board.specs.Fields.{space}
 use Rattle.pb_board.specs.Piece.{colour_number, kind_number}
 use Rattle.pb_board.specs.Position.{Position}
@@ -40,11 +44,40 @@ row board r = take 8 (drop (8 * r) board)
 abbrev pub rank_numbers : Board → List ℕ
 rank_numbers board = map (λ r. rank_number (row board r)) (7 ∷ 6 ∷ 5 ∷ 4 ∷ 3 ∷ 2 ∷ 1 ∷ 0 ∷ [])
 
+-- the castling rights in the order of their texts: -, K, KQ, KQk, KQkq, KQq, Kk, Kkq, Kq, Q, Qk, Qkq,
+-- Qq, k, kq and q
+abbrev pub castling_number : Rights → ℕ
+castling_number r = slice_index (0 ∷ 1 ∷ 9 ∷ 2 ∷ 13 ∷ 6 ∷ 10 ∷ 3 ∷ 15 ∷ 8 ∷ 12 ∷ 5 ∷ 14 ∷ 7 ∷ 11 ∷ 4 ∷ [])
+    (from_bool r.white_short + 2 * from_bool r.white_long + 4 * from_bool r.black_short + 8 * from_bool r.black_long)
+
+abbrev pub castling_at : ℕ → List ℕ
+castling_at n = slice_index_or
+    (codes "-" ∷ codes "K" ∷ codes "KQ" ∷ codes "KQk" ∷ codes "KQkq" ∷ codes "KQq" ∷ codes "Kk" ∷ codes "Kkq" ∷ codes "Kq" ∷ codes "Q" ∷ codes "Qk" ∷ codes "Qkq" ∷ codes "Qq" ∷ codes "k" ∷ codes "kq" ∷ codes "q" ∷ [])
+    n []
+
+-- no en passant square, and then the squares in the order of their texts
+abbrev pub en_passant_number : Option ℕ → ℕ
+en_passant_number None = 0
+en_passant_number (Some square) = 1 + 8 * file square + rank square
+
+-- Black is below White
+abbrev pub turn_number : Colour → ℕ
+turn_number Black = 0
+turn_number White = 1
+
 -- the fields after the placement
 abbrev pub state_text : Position → List ℕ
 state_text p = join_with_byte space (turn_text p.turn ∷ castling_text p.rights ∷ en_passant_text p.ep ∷ [])
 
--- these are the numbers of the ranks, and the fields after the placement
+-- their number in the order of these texts
+abbrev pub state_number : Position → ℕ
+state_number p = 2048 * turn_number p.turn + 128 * castling_number p.rights + en_passant_number p.ep
+
+abbrev pub IsOnBoard : Option ℕ → Type 0
+IsOnBoard ep = IfSome ep (λ square. square < 64)
+
+-- these are the numbers of the ranks, and that of the fields after the placement
 pub record IsPacked (packed : PackedSetup) (s : Position) : Type 0 where
   pub ranks : packed.ranks ≡ rank_numbers s.board
-  pub state : packed.state.bytes ≡ state_text s
+  pub state : packed.state ≡ state_number s
+  pub ep : IsOnBoard s.ep

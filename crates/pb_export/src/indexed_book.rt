@@ -55,11 +55,7 @@ impl IndexedBook {
 
     /// The place of the first entry whose key isn't lower, for each key. What these places read lies
     /// far apart, and in a short loop the processor waits for several at once.
-    pub(crate) fn firsts_under(
-        &self,
-        alloc: Global,
-        keys: &[u64],
-    ) -> Result<Vec<usize>, AllocError>
+    pub(crate) fn firsts_under(&self, alloc: Global, keys: &[u64]) -> Result<Vec<usize>, AllocError>
         ensures { IfOk result (λ firsts. AreFirstsUnder self.now keys.now firsts.items) }
     {
         let mut firsts = Vec::with_capacity(alloc, keys.len())?;

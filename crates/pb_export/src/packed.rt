@@ -1,14 +1,14 @@
 //! Setups packed in the order of their texts.
 
-ghost use Rattle.std.specs.Prelude.{◌≡◌, ◌≤◌, ◌<◌, ◌+◌, ◌++◌, false, List, OnOk, length, vec_capacity, vec_len};
+ghost use Rattle.std.specs.Prelude.{◌≡◌, ◌≤◌, ◌<◌, ◌+◌, ◌++◌, ◌∷◌, ℕ, false, List, OnOk, Option, length, vec_capacity, vec_len};
 ghost use Rattle.pb_board.specs.Board.{Place};
 ghost use Rattle.pb_board.specs.Position.{Position};
-ghost use Rattle.pb_board.specs.Text.{castling_text, en_passant_text, piece_letter, rank_text, setup_text};
+ghost use Rattle.pb_board.specs.Text.{en_passant_text, piece_letter, rank_text, setup_text, turn_text};
+ghost use Rattle.pb_board.specs.declared.piece.Colour.{Colour};
 ghost use Rattle.pb_board.specs.declared.piece.Piece.{Piece};
-ghost use Rattle.pb_export.specs.Packed.{IsPacked, piece_digit, place_digit, rank_digits, rank_number, rank_numbers, state_text};
+ghost use Rattle.pb_export.specs.Packed.{IsOnBoard, IsPacked, castling_at, castling_number, en_passant_number, piece_digit, place_digit, rank_digits, rank_number, rank_numbers, state_number, state_text, turn_number};
 
 use crate::book_moves::put_word;
-use arrayvec::ArrayString;
 use pb_board::{Colour, Kind, Piece, Rights, Setup, Square};
 use std::alloc::AllocError;
 
@@ -20,16 +20,19 @@ const SYMBOLS: [u8; 16] = [
     b'1', b'B', b'K', b'N', b'P', b'Q', b'R', b'b', b'k', b'n', b'p', b'q', b'r', b'1', b'1', b'1',
 ];
 
+/// The number of castling rights for their bits, from `K` as 1 to `q` as 8.
+const CASTLING_NUMBERS: [u16; 16] = [0, 1, 9, 2, 13, 6, 10, 3, 15, 8, 12, 5, 14, 7, 11, 4];
+
 /// How many bytes a placement has at most: eight for each rank, and the slashes between them.
 const MAX_PLACEMENT: usize = 71;
 
-/// A setup in the byte order of its four fields, in half the room of their text.
+/// A setup in the byte order of its four fields, in less than half the room of their text.
 #[derive(Clone, Copy, PartialEq, Eq, PartialOrd, Ord)]
 pub(crate) struct PackedSetup {
     /// The ranks from rank 8 to rank 1, four bits a square.
     ranks: [u32; 8],
-    /// The fields after the placement.
-    state: ArrayString<9>,
+    /// The fields after the placement, by their number in the order of their texts.
+    state: u16,
 }
 
 /// The place of the piece in the order of the letters, from 1.
@@ -94,57 +97,96 @@ fn pack_ranks(board: &[Option<Piece>; 64]) -> [u32; 8]
     ]
 }
 
-/// Writes the letters of the castling rights, or a `-`.
-fn push_rights(text: &mut ArrayString<9>, rights: Rights)
-    requires { length text.old.bytes ≤ 2 }
-    ensures short { length (castling_text rights) ≤ 4 }
-    ensures text { text.new.bytes ≡ text.old.bytes ++ castling_text rights }
+/// The number of the castling rights in the order of their texts.
+fn castling_number_of(rights: Rights) -> u16
+    ensures { result ≡ castling_number rights }
 {
-    if !(rights.white_short || rights.white_long || rights.black_short || rights.black_long) {
-        text.push_str("-");
-        return;
-    }
-    if rights.white_short {
-        text.push_str("K");
-    }
-    if rights.white_long {
-        text.push_str("Q");
-    }
-    if rights.black_short {
-        text.push_str("k");
-    }
-    if rights.black_long {
-        text.push_str("q");
-    }
+    let white = usize::from(rights.white_short) + 2 * usize::from(rights.white_long);
+    let black = usize::from(rights.black_short) + 2 * usize::from(rights.black_long);
+    CASTLING_NUMBERS[white + 4 * black]
 }
 
-/// Writes the en passant square, or a `-`.
-fn push_en_passant(text: &mut ArrayString<9>, ep: Option<Square>)
-    requires { length text.old.bytes ≤ 7 }
-    ensures { text.new.bytes ≡ text.old.bytes ++ en_passant_text ep }
+/// The number of the en passant square in the order of the texts.
+fn en_passant_number_of(ep: Option<Square>) -> u16
+    ensures value { result ≡ en_passant_number ep }
+    ensures on_board { IsOnBoard ep }
+    ensures few { result ≤ 64 }
 {
     match ep {
-        Some(square) => {
-            text.push(char::from(b'a' + square.file()));
-            text.push(char::from(b'1' + square.rank()));
-        }
-        None => text.push_str("-"),
+        Some(square) => 1 + 8 * u16::from(square.file()) + u16::from(square.rank()),
+        None => 0,
     }
 }
 
-/// The fields of a setup after the placement.
-fn state_of(setup: &Setup) -> ArrayString<9>
-    ensures { result.bytes ≡ state_text setup.now }
+/// The number of the fields of a setup after the placement, in the order of their texts.
+fn state_of(setup: &Setup) -> u16
+    ensures value { result ≡ state_number setup.now }
+    ensures on_board { IsOnBoard setup.now.ep }
 {
-    let mut text = ArrayString::new();
-    text.push_str(match setup.turn() {
-        Colour::White => "w ",
-        Colour::Black => "b ",
-    });
-    push_rights(&mut text, setup.rights());
-    text.push_str(" ");
-    push_en_passant(&mut text, setup.ep());
-    text
+    let turn = match setup.turn() {
+        Colour::Black => 0,
+        Colour::White => 2_048,
+    };
+    turn + 128 * castling_number_of(setup.rights()) + en_passant_number_of(setup.ep())
+}
+
+/// The letter of the side with this number.
+fn turn_of(number: u16) -> &'static [u8]
+    ensures { (side : Colour) → number ≡ turn_number side → result.now ≡ turn_text side }
+{
+    match number {
+        0 => b"b",
+        _ => b"w",
+    }
+}
+
+/// The text of castling rights with this number.
+fn castling_of(number: u16) -> &'static [u8]
+    ensures { result.now ≡ castling_at number }
+{
+    match number {
+        0 => b"-",
+        1 => b"K",
+        2 => b"KQ",
+        3 => b"KQk",
+        4 => b"KQkq",
+        5 => b"KQq",
+        6 => b"Kk",
+        7 => b"Kkq",
+        8 => b"Kq",
+        9 => b"Q",
+        10 => b"Qk",
+        11 => b"Qkq",
+        12 => b"Qq",
+        13 => b"k",
+        14 => b"kq",
+        15 => b"q",
+        _ => b"",
+    }
+}
+
+/// Writes the fields after the placement, each after a space.
+fn put_state(line: &mut Vec<u8>, state: u16) -> Result<(), AllocError>
+    ensures { OnOk result ((s : Position) → IsOnBoard s.ep → state ≡ state_number s → line.new.items ≡ line.old.items ++ 32 ∷ state_text s) }
+{
+    put_word(line, turn_of(state / 2_048))?;
+    put_word(line, castling_of(state / 128 % 16))?;
+    put_en_passant(line, state % 128)
+}
+
+/// Writes the en passant square with this number, or a `-`, after a space.
+fn put_en_passant(line: &mut Vec<u8>, number: u16) -> Result<(), AllocError>
+    requires { number < 128 }
+    ensures { OnOk result ((ep : Option ℕ) → IsOnBoard ep → number ≡ en_passant_number ep → line.new.items ≡ line.old.items ++ 32 ∷ en_passant_text ep) }
+{
+    if number == 0 {
+        return put_word(line, b"-");
+    }
+    let square = number - 1;
+    put_word(
+        line,
+        &[b'a' + (square / 8) as u8, b'1' + (square % 8) as u8],
+    )
 }
 
 impl PackedSetup {
@@ -168,7 +210,7 @@ impl PackedSetup {
             line.push_reserved(b'/');
             put_rank(line, self.ranks[row]);
         }
-        put_word(line, self.state.as_str().as_bytes())
+        put_state(line, self.state)
     }
 }
 

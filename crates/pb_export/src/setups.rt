@@ -113,12 +113,7 @@ impl Listing {
     }
 
     /// Adds a setup that has this key, where one of the entries under it is for the setup.
-    fn add_setup(
-        &mut self,
-        entries: &[Entry],
-        setup: &Setup,
-        key: u64,
-    ) -> Result<(), AllocError>
+    fn add_setup(&mut self, entries: &[Entry], setup: &Setup, key: u64) -> Result<(), AllocError>
         ensures { OnOk result ((words : List ℕ) (book : List BookEntry) (known : List Position) → key ≡ key_by words setup.now → entries.now ≡ filter (λ e. e.key == key) book
             → ListsSetups words book known self.old.moves.items self.old.setups.items
             → ListsSetups words book (known ++ setup.now ∷ []) self.new.moves.items self.new.setups.items) }
@@ -177,7 +172,7 @@ impl Listing {
     /// Whether this setup is the last that was listed for the key, where that is still kept. So a
     /// setup that many games meet is mostly listed once.
     fn is_recent(&self, key: u64, packed: &PackedSetup) -> bool
-        ensures { IsTrue result → (x : ListedSetup) × Contains self.now.setups.items x × (x.setup.ranks ≡ packed.now.ranks) × (x.setup.state.bytes ≡ packed.now.state.bytes) }
+        ensures { IsTrue result → (x : ListedSetup) × Contains self.now.setups.items x × (x.setup.ranks ≡ packed.now.ranks) × (x.setup.state ≡ packed.now.state) }
     {
         let Some((noted, place)) = self.recent.get((key % RECENT as u64) as usize) else {
             return false;

@@ -19,10 +19,10 @@ loop-file-preserved c =
     let lt : i < length digits = omega (arith, c.loop-file-test.true, c.digits_of-digits.ensures.eight) in
     elim c.if-digits-file-eq-EMPTY_TOO.branch [
       | then-digits-file-eq-EMPTY_TOO w ↦ rw (w.line-is, w.last-is) (record {
-          puts = put_empty c.args.number digits i c.loop-file.last c.args.line.now.items c.loop-file.line.items h.puts lt w.if-digits-file-eq-EMPTY_TOO.true;
-          short = omega (arith, h.short);
-          capacity = h.capacity;
-        })
+        puts = put_empty c.args.number digits i c.loop-file.last c.args.line.now.items c.loop-file.line.items h.puts lt w.if-digits-file-eq-EMPTY_TOO.true;
+        short = omega (arith, h.short);
+        capacity = h.capacity;
+      })
       | else-digits-file-eq-EMPTY_TOO w ↦
           let symbol = w.symbol_of-last-else-digits-file-eq-EMPTY_TOO in
           rw (w.line-is, w.last-is) (record {

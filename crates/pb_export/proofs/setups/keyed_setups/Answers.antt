@@ -1,11 +1,11 @@
-use Rattle.std.proofs.Common.{◌≡◌, List, ◌++◌, ◌∷◌, [], ◌+◌, ◌∙◌, ap, drop, map, sym, subst}
+use Rattle.std.proofs.Common.{◌++◌, ◌∷◌, [], ◌+◌, ◌∙◌, ap, drop, map, sym, subst}
 use Rattle.std.proofs.lemmas.List.{map_push}
 use Rattle.pb_board.specs.Position.{Position}
 use Rattle.pb_moves.specs.Legal.{Legal}
 use Rattle.pb_moves.specs.Moved.{Moved}
 use Rattle.pb_moves.specs.Successor.{after}
 use Rattle.pb_poly.specs.Key.{key}
-use Rattle.pb_export.proofs.SetupTexts.{Standing, Standing-all, Standing-legal, Standing-more}
+use Rattle.pb_export.proofs.ListedSetups.{Standing, Standing-all, Standing-legal, Standing-more}
 use Rattle.pb_export.proofs.setups.keyed_setups.Goals as goal
 
 pub loop-m-preserved : goal.loop-m-preserved

@@ -1,6 +1,6 @@
 use Rattle.std.proofs.Common.{◌≡◌, drop, map}
 use Rattle.pb_poly.specs.Key.{key}
-use Rattle.pb_export.proofs.SetupTexts.{Standing}
+use Rattle.pb_export.proofs.ListedSetups.{Standing}
 use Rattle.pb_export.proofs.setups.keyed_setups.Given as goal
 
 abbrev pub invariant-loop-m : goal.invariant-loop-m

@@ -1,6 +1,7 @@
-use Rattle.std.proofs.Common.{◌++◌, ◌∷◌, ap, ◌∙◌, arith, refl, subst}
+use Rattle.std.proofs.Common.{◌++◌, ap, ◌∙◌, arith, refl, subst}
 use Rattle.std.proofs.lemmas.Result.{on_ok_weaker}
 use Rattle.pb_board.specs.Text.{rank_text}
+use Rattle.pb_export.specs.Packed.{state_text}
 use Rattle.pb_export.proofs.PackedTexts.{PutsRows, fields_put, rows_begun, rows_more}
 use Rattle.pb_export.proofs.packed.PackedSetup.put_fields.Goals as goal
 
@@ -21,6 +22,5 @@ loop-row-preserved c = record {
 pub returns : goal.returns
 returns c =
     let all = subst (λ n. PutsRows c.args.self.now.ranks n c.args.line.now.items c.loop-row.line.items) (omega (arith, c.loop-row-test.false, c.loop-row.auto.row-end)) c.loop-row.invariant.puts in
-    let state = c.as_bytes.ensures.value ∙ c.as_str.ensures.value in
-    on_ok_weaker c.put_word.result (λ put s size is. fields_put c.args.self.now.ranks c.args.line.now.items c.loop-row.line.items c.put_word.new.line.items c.args.self.now.state.bytes
-    all (put ∙ ap (λ w. c.loop-row.line.items ++ 32 ∷ w) state) s size is.ranks is.state) c.put_word.ensures
+    on_ok_weaker c.put_state.result (λ put s size is. fields_put c.args.self.now.ranks c.args.line.now.items c.loop-row.line.items c.put_state.new.line.items (state_text s)
+    all (put s is.ep is.state) s size is.ranks refl) c.put_state.ensures

@@ -8,7 +8,7 @@ use Rattle.pb_poly.specs.Key.{key}
 use Rattle.pb_poly.proofs.Finding.{Found-under, is_under}
 use Rattle.pb_export.specs.Setups.{ListsSetups}
 use Rattle.pb_export.specs.declared.setups.ListedSetup.{ListedSetup}
-use Rattle.pb_export.proofs.SetupTexts.{no_move, one_listed}
+use Rattle.pb_export.proofs.ListedSetups.{no_move, one_listed}
 use Rattle.pb_export.proofs.setups.Listing.add_new.Goals as goal
 
 -- what was found under the key is what the book has

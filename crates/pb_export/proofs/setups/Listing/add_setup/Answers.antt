@@ -7,7 +7,7 @@ use Rattle.pb_poly.specs.Found.{Found}
 use Rattle.pb_poly.proofs.Finding.{Found-under}
 use Rattle.pb_export.specs.Setups.{ListsSetups}
 use Rattle.pb_export.specs.declared.setups.ListedSetup.{ListedSetup}
-use Rattle.pb_export.proofs.SetupTexts.{listed_before, no_move}
+use Rattle.pb_export.proofs.ListedSetups.{listed_before, no_move}
 use Rattle.pb_export.proofs.setups.Listing.add_setup.Goals as goal
 
 none : (xs : List Entry) → length xs ≤ 0 → xs ≡ []

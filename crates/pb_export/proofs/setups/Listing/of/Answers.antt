@@ -8,7 +8,7 @@ use Rattle.pb_moves.specs.Moved.{Moved}
 use Rattle.pb_poly.specs.declared.entry.Entry.{Entry}
 use Rattle.pb_export.specs.declared.setups.ListedSetup.{ListedSetup}
 use Rattle.pb_export.specs.Setups.{ListsSetups, all_setups}
-use Rattle.pb_export.proofs.SetupTexts.{all_setups-more, each_once, none_listed, numbered_game, setups_fit}
+use Rattle.pb_export.proofs.ListedSetups.{all_setups-more, each_once, none_listed, numbered_game, setups_fit}
 use Rattle.pb_export.proofs.setups.Listing.of.Goals as goal
 
 pub unwrap-requires : goal.unwrap-requires

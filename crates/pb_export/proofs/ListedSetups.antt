@@ -22,11 +22,12 @@ use Rattle.pb_games.specs.Submissions.{IsLegalGame, IsSubmission, Submission, pl
 use Rattle.pb_accepted.specs.Accepting.{IsNumber}
 use Rattle.pb_poly.specs.declared.entry.Entry.{Entry}
 use Rattle.pb_poly.specs.Found.{Found}
-use Rattle.pb_export.specs.Packed.{IsPacked, rank_numbers, state_text}
+use Rattle.pb_export.specs.Packed.{IsPacked}
 use Rattle.pb_export.specs.Setups.{IsListedAs, ListsSetups, SameSetup, all_setups, moves_of, setups_before}
 use Rattle.pb_export.specs.declared.packed.PackedSetup.{PackedSetup}
 use Rattle.pb_export.specs.declared.setups.ListedSetup.{ListedSetup}
 use Rattle.pb_export.proofs.PackedOrder.{same_text}
+use Rattle.pb_export.proofs.StateOrder.{state_same}
 use Rattle.pb_accepted.specs.Holding.{IsLedger}
 use Rattle.pb_accepted.specs.Ledger.{LedgerState}
 use Rattle.pb_accepted.proofs.GivenPoints.{length-plies_from}
@@ -46,8 +47,10 @@ pub setup_of_text : (p q : Position) (t : List ℕ) → IsSetup p → IsSetup q 
 setup_of_text p q t hp hq ht hu = ap (λ (e : EpdRecord). e.setup) (record_is_one (bare p) (bare q) t (is_epd p hp) (is_epd q hq) (bare_text p t hp ht) (bare_text q t hq hu))
 
 -- packed alike, they are one
-pub one_setup : (s t : Position) → IsSetup s → IsSetup t → rank_numbers s.board ≡ rank_numbers t.board → state_text s ≡ state_text t → s ≡ t
-one_setup s t hs ht ranks state = setup_of_text s t (setup_text s) hs ht refl (same_text s t (hs.places ∙ sym ht.places) ranks state)
+pub one_setup : (s t : Position) (x y : PackedSetup) → IsSetup s → IsSetup t → IsPacked x s → IsPacked y t → x.ranks ≡ y.ranks → x.state ≡ y.state → s ≡ t
+one_setup s t x y hs ht px py ranks state =
+    let texts = state_same s t px.ep py.ep (sym px.state ∙ state ∙ py.state) in
+    setup_of_text s t (setup_text s) hs ht refl (same_text s t (hs.places ∙ sym ht.places) (sym px.ranks ∙ ranks ∙ py.ranks) texts)
 
 -- ---- ranges of moves
 
@@ -95,10 +98,10 @@ module _ (words : List ℕ) (book : List Entry) where
     })
 
     -- one that is listed
-    pub listed_before : (x : ListedSetup) (packed : PackedSetup) → Contains listed x → x.setup.ranks ≡ packed.ranks → x.setup.state.bytes ≡ packed.state.bytes → IsPacked packed s → ListsSetups words book (known ++ s ∷ []) moves listed
+    pub listed_before : (x : ListedSetup) (packed : PackedSetup) → Contains listed x → x.setup.ranks ≡ packed.ranks → x.setup.state ≡ packed.state → IsPacked packed s → ListsSetups words book (known ++ s ∷ []) moves listed
     listed_before x packed c ranks state is =
         let w = h.sound x c in
-        let same : w.0 ≡ s = one_setup w.0 s (All-contains IsSetup known w.0 h.setups w.1) rules (sym w.2.packed.ranks ∙ ranks ∙ is.ranks) (sym w.2.packed.state ∙ state ∙ is.state) in
+        let same : w.0 ≡ s = one_setup w.0 s x.setup packed (All-contains IsSetup known w.0 h.setups w.1) rules w.2.packed is ranks state in
         record {
           setups = All-push IsSetup known s h.setups rules;
           sound = λ y k. let v = h.sound y k in (v.0, Contains-append_left known (s ∷ []) v.0 v.1, v.2);
@@ -147,8 +150,7 @@ module _ (words : List ℕ) (book : List Entry) where
       | inr w ↦
           let y = whole w.0 w.1 in
           let v = h.sound y.0 (sound y.0 y.1) in
-          let is : v.0 ≡ s = one_setup v.0 s (All-contains IsSetup known v.0 h.setups v.1) (All-contains IsSetup known s h.setups c)
-          (sym v.2.packed.ranks ∙ y.2.ranks ∙ w.2.packed.ranks) (sym v.2.packed.state ∙ y.2.state ∙ w.2.packed.state) in
+          let is : v.0 ≡ s = one_setup v.0 s y.0.setup w.0.setup (All-contains IsSetup known v.0 h.setups v.1) (All-contains IsSetup known s h.setups c) v.2.packed w.2.packed y.2.ranks y.2.state in
           inr (y.0, y.1, subst (λ (p : Position). IsListedAs words book moves p y.0) is v.2)
     ];
     few = omega (arith, h.few, few);
