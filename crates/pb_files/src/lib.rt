@@ -45,6 +45,6 @@ pub use mem_journal::{MemFile, MemJournal, MemOpener, Others};
 pub use replies::{Replies, Submissions};
 pub use saving::{NotSaved, save_whole};
 pub use skipped::TellSkipped;
-pub use starting::{JournalOpener, NotRead, NotStarted, Started, whole_reader, start};
+pub use starting::{JournalOpener, NotRead, NotStarted, Started, start, whole_reader};
 pub use stop::Stop;
 pub use streams::expect_open;

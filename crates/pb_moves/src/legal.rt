@@ -147,13 +147,7 @@ pub(crate) fn is_safe(setup: &Setup, m: Move, piece: Piece, kind: &MoveKind) -> 
 
 /// `is_safe` for two pieces that go one after the other, not inlined, since few moves need it.
 #[inline(never)]
-fn is_safe_two(
-    setup: &Setup,
-    m: Move,
-    piece: Piece,
-    first: MovedPiece,
-    second: MovedPiece,
-) -> bool
+fn is_safe_two(setup: &Setup, m: Move, piece: Piece, first: MovedPiece, second: MovedPiece) -> bool
     requires own { HoldsOwn setup.now m.from piece }
     requires leads { LeadsTo (CaseOf setup.now m piece) setup.now m (Two first second) }
     ensures { IsTrue result ↔ SafeCase setup.now m }

@@ -49,13 +49,7 @@ fn toggle_going(table: &Table, key: u64, before: &Setup, leaving: Piece, carried
 /// Toggles the words of two pieces that go one after the other. It is out of line, since few moves
 /// need it.
 #[inline(never)]
-fn toggle_two(
-    table: &Table,
-    key: u64,
-    before: &Setup,
-    first: MovedPiece,
-    second: MovedPiece,
-) -> u64
+fn toggle_two(table: &Table, key: u64, before: &Setup, first: MovedPiece, second: MovedPiece) -> u64
     ensures { result ≡ toggled table.now key (going_offsets before.now.board first.piece first
         ++ (piece_offset_by second.piece second.from ∷ piece_offset_by second.piece second.to ∷ [])) }
 {
