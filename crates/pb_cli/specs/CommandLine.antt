@@ -40,9 +40,12 @@ quiet_flag = flag_with_short (codes "quiet") 113
 abbrev pub with_keeping : App → App
 with_keeping app = with_rule (with_rule (with_rule app (option_if_given (codes "ledger"))) (option_if_given (codes "journal"))) (flag (codes "sync"))
 
--- a command with the two options that say what of the games counts
-abbrev pub with_counting : App → App
-with_counting app = with_rule (with_rule app (option_with (codes "plies") (codes "1024"))) (option_with (codes "least") (codes "1"))
+-- a command that takes games: with the two options that say what of them counts, the flag for errors
+-- alone, and the table
+abbrev pub with_games : App → App
+with_games app = with_rule (with_rule
+    (with_rule (with_rule app (option_with (codes "plies") (codes "1024"))) (option_with (codes "least") (codes "1"))) quiet_flag)
+    (required_word (codes "TABLE"))
 
 abbrev pub fen_command : App
 fen_command = with_rule (with_rule (new_app (codes "fen")) (required_word (codes "FEN")))
@@ -59,13 +62,10 @@ probe_command = with_rule (with_rule (with_rule (new_app (codes "probe")) (requi
     (required_word (codes "FEN"))
 
 abbrev pub collect_command : App
-collect_command = with_rule (with_rule
-    (with_rule (with_counting (with_keeping (new_app (codes "collect")))) quiet_flag)
-    (required_word (codes "TABLE"))) (required_word (codes "BOOK"))
+collect_command = with_rule (with_games (with_keeping (new_app (codes "collect")))) (required_word (codes "BOOK"))
 
 abbrev pub export_command : App
-export_command = with_rule (with_rule (with_counting (new_app (codes "export"))) quiet_flag)
-    (required_word (codes "TABLE"))
+export_command = with_games (new_app (codes "export"))
 
 -- the program, before its commands
 abbrev pub program_alone : App

@@ -2,7 +2,7 @@
 ghost use Rattle.std.specs.Prelude.{◌≡◌, IfOk, codes, false};
 ghost use Rattle.clap.specs.Words.{App, new_app, rule_of};
 ghost use Rattle.pb_cli.specs.Built.{IsCommand};
-ghost use Rattle.pb_cli.specs.CommandLine.{collect_command, epd_command, export_command, fen_command, flag, flag_with_short, further_words, option_if_given, option_with, pbook, probe_command, program_alone, quiet_flag, required_word, show_command, with_counting, with_keeping};
+ghost use Rattle.pb_cli.specs.CommandLine.{collect_command, epd_command, export_command, fen_command, flag, flag_with_short, further_words, option_if_given, option_with, pbook, probe_command, program_alone, quiet_flag, required_word, show_command, with_games, with_keeping};
 
 use clap::{Arg, ArgAction, Command};
 use std::alloc::{AllocError, Global};
@@ -181,10 +181,8 @@ fn collect<'a>(alloc: Global) -> Result<Command<'a>, AllocError>
         GAMES_HELP,
     );
     let keeping = with_keeping(alloc, bare)?;
-    let counting = with_counting(alloc, keeping)?;
-    let quieted = counting.arg(quiet(alloc))?;
-    let tabled = quieted.arg(required(alloc, "TABLE", TABLE_HELP))?;
-    let whole = tabled.arg(required(alloc, "BOOK", MADE_HELP))?;
+    let taking = with_games(alloc, keeping)?;
+    let whole = taking.arg(required(alloc, "BOOK", MADE_HELP))?;
     Ok(whole)
 }
 
@@ -198,10 +196,7 @@ fn export<'a>(alloc: Global) -> Result<Command<'a>, AllocError>
         "Takes games, and prints their book as EPD lines",
         GAMES_HELP,
     );
-    let counting = with_counting(alloc, bare)?;
-    let quieted = counting.arg(quiet(alloc))?;
-    let whole = quieted.arg(required(alloc, "TABLE", TABLE_HELP))?;
-    Ok(whole)
+    with_games(alloc, bare)
 }
 
 /// A command without words so far. The last text stands at the end of its help, and not in the list
@@ -222,13 +217,16 @@ fn with_keeping<'a>(alloc: Global, command: Command<'a>) -> Result<Command<'a>, 
     Ok(keeping)
 }
 
-/// The command with the options that say what of the games counts.
-fn with_counting<'a>(alloc: Global, command: Command<'a>) -> Result<Command<'a>, AllocError>
-    ensures { IfOk result (λ counting. (app : App) → IsCommand app command.entry → IsCommand (with_counting app) counting) }
+/// The command that takes games: with the options that say what of them counts, `--quiet`, and the
+/// table.
+fn with_games<'a>(alloc: Global, command: Command<'a>) -> Result<Command<'a>, AllocError>
+    ensures { IfOk result (λ taking. (app : App) → IsCommand app command.entry → IsCommand (with_games app) taking) }
 {
     let some_plies = command.arg(option(alloc, "plies", "N", "1024", PLIES_HELP))?;
     let counting = some_plies.arg(option(alloc, "least", "G", "1", LEAST_HELP))?;
-    Ok(counting)
+    let quieted = counting.arg(quiet(alloc))?;
+    let taking = quieted.arg(required(alloc, "TABLE", TABLE_HELP))?;
+    Ok(taking)
 }
 
 /// An option with a value, which help calls `letter`, and the value where it isn't given.

@@ -1,5 +1,5 @@
 //! Parses the command line of `pbook` into an `Order`. Re-exports a function for each command, and
-//! the places where a ledger and its book are kept. What a command does is known below.
+//! the stores where a ledger and its book are kept. What a command does is known below.
 #![tactic(auto)]
 
 mod grammar;
@@ -8,8 +8,8 @@ mod order;
 
 pub use order::{Keeping, Order, ParseFault, parse};
 pub use pb_collecting::{
-    Continued, MAX_LEAST, MAX_PLIES, MemPlace, NoBook, NotContinued, NotKept, Place, Rules,
-    SkippedLines, Text, collect_into, continue_into, journal_into, run_collect, run_continue,
+    Continued, MAX_LEAST, MAX_PLIES, MemStore, NoBook, NotContinued, Rules, SkippedLines, Store,
+    StoreError, Text, collect_into, continue_into, journal_into, run_collect, run_continue,
     run_export, run_journaled,
 };
-pub use pb_commands::{Fault, STOPPED, run_epd, run_fen, run_probe, run_show, status};
+pub use pb_commands::{FAULT_STATUS, Fault, run_epd, run_fen, run_probe, run_show, status};

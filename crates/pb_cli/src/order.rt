@@ -142,7 +142,7 @@ fn order_of<'a>(alloc: Global, matches: &ArgMatches<'a>) -> Result<Order<'a>, Pa
         Some(("probe", given)) => probe(alloc, given),
         Some(("collect", given)) => collect(alloc, given),
         Some(("export", given)) => export(alloc, given),
-        _ => Err(ParseFault::Usage(String::new(alloc))),
+        _ => Err(incomplete(alloc)),
     }
 }
 
@@ -296,8 +296,14 @@ fn word<'a>(alloc: Global, given: &ArgMatches<'a>, id: &str) -> Result<&'a str, 
 {
     match word_if_given(given, id) {
         Some(text) => Ok(text),
-        None => Err(ParseFault::Usage(String::new(alloc))),
+        None => Err(incomplete(alloc)),
     }
+}
+
+/// The answer to a command line that lacks what it has to have. Clap gives no matches for one, and
+/// the text of its own error instead: so nobody sees this one, which is empty.
+fn incomplete(alloc: Global) -> ParseFault {
+    ParseFault::Usage(String::new(alloc))
 }
 
 /// The word of an argument, if it was given one.

@@ -1,16 +1,16 @@
 -- What a run holds it goes on holding, whatever other runs do.
 use Rattle.std.proofs.Common.{◌≡◌, ◌∙◌, ℕ, ◌==◌, Bool, true, false, if◌then◌else◌, List, [], ◌∷◌, None, Some, ap, rules, sym}
-use Rattle.pb_files.specs.Runs.{Step, Makes, Locks, Unnames, Ends, Names, Holds, OfOthers, after, after_step, lock, make, run_of, unlock, unname, unname_held}
+use Rattle.pb_files.specs.Runs.{Step, Makes, Locks, Unnames, Ends, Names, HoldsDraft, OfOthers, after, after_step, lock, make, run_of, unlock, unname, unname_held}
 
 same_of : (x y : ℕ) → (Some x) ≡ (Some y) → x ≡ y
 same_of x y same = search (rules, same)
 
-pub one_run : (run other : ℕ) (names : Names) → Holds run names → Holds other names → run ≡ other
+pub one_run : (run other : ℕ) (names : Names) → HoldsDraft run names → HoldsDraft other names → run ≡ other
 one_run run other names h k =
     let file : h.file ≡ k.file = same_of _ _ (sym h.leads ∙ k.leads) in
     same_of _ _ (sym h.locked ∙ ap names.locked file ∙ k.locked)
 
-stays : (run : ℕ) (names : Names) (step : Step) → Holds run names → run == run_of step ≡ false → Holds run (after_step names step)
+stays : (run : ℕ) (names : Names) (step : Step) → HoldsDraft run names → run == run_of step ≡ false → HoldsDraft run (after_step names step)
 stays run names (Makes other) h apart = record { file = h.file; leads = ap (make names.next) h.leads; locked = h.locked }
 stays run names (Locks other file) h apart = record {
   file = h.file;
@@ -31,6 +31,6 @@ stays run names (Ends other) h apart = record {
   locked = ap (unlock other) h.locked ∙ ap (λ (b : Bool). if b then None else Some run) apart;
 }
 
-pub still_held : (run : ℕ) (names : Names) (steps : List Step) → Holds run names → OfOthers run steps → Holds run (after names steps)
+pub still_held : (run : ℕ) (names : Names) (steps : List Step) → HoldsDraft run names → OfOthers run steps → HoldsDraft run (after names steps)
 still_held run names [] h others = h
 still_held run names (step ∷ steps) h others = still_held run (after_step names step) steps (stays run names step h others.0) others.1

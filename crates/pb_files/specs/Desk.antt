@@ -2,7 +2,7 @@
 -- a crash leaves under it.
 use Rattle.std.specs.Prelude.{◌≡◌, ◌⊎◌, ℕ, Bool, false, true, List, [], ◌∷◌, ◌++◌, Option, Some, Result, Ok, Err}
 use Rattle.pb_io.specs.Sink.{SinkState}
-use Rattle.pb_collecting.specs.declared.place.NotKept.{NotKept}
+use Rattle.pb_collecting.specs.declared.store.StoreError.{StoreError}
 use Rattle.pb_files.specs.declared.desk.NotMade.{NotMade}
 use Rattle.pb_files.specs.declared.desk.NotMade.TheVariants as made
 use Rattle.pb_files.specs.declared.desk.NotNamed.{NotNamed}
@@ -32,7 +32,7 @@ pub record DeskState : Type 0 where
   pub unsettled : Bool
 
 -- whether the answer is that no draft can take the place of what stands there
-abbrev pub is_untakable : Result Bool NotKept → Bool
+abbrev pub is_untakable : Result Bool StoreError → Bool
 is_untakable (Ok true) = false
 is_untakable (Ok false) = true
 is_untakable (Err why) = false

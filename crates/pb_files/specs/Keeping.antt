@@ -1,4 +1,4 @@
--- What a place knows that is a name in a folder.
+-- What a store knows that is a name in a folder.
 use Rattle.std.specs.Prelude.{◌≡◌, ◌⊎◌, false, true, List, ℕ, Option, None, Some, IfSome}
 use Rattle.std.specs.Option.{is_some, option_map}
 use Rattle.pb_io.specs.Sink.{SinkState}

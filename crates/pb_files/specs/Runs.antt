@@ -26,7 +26,7 @@ run_of (Unnames run) = run
 run_of (Ends run) = run
 
 -- the run has the lock of the file that the name leads to
-pub record Holds (run : ℕ) (names : Names) : Type 0 where
+pub record HoldsDraft (run : ℕ) (names : Names) : Type 0 where
   pub file : ℕ
   pub leads : names.leads ≡ Some file
   pub locked : names.locked file ≡ Some run

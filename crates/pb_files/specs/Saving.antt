@@ -4,7 +4,7 @@ use Rattle.pb_files.specs.Desk.{MayHaveLeft, Names, NamesNot, Shelf}
 use Rattle.pb_files.specs.Steps.{Steps}
 use Rattle.pb_files.specs.declared.desk.NotMade.{NotMade}
 use Rattle.pb_files.specs.declared.desk.NotMade.TheVariants as made
-use Rattle.pb_collecting.specs.declared.place.NotKept.TheVariants.{Open}
+use Rattle.pb_collecting.specs.declared.store.StoreError.TheVariants.{Open}
 use Rattle.pb_files.specs.declared.saving.NotSaved.{NotSaved}
 use Rattle.pb_files.specs.declared.saving.NotSaved.TheVariants.{Refused, Failed, Unsettled}
 

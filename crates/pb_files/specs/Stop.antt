@@ -4,7 +4,7 @@ use Rattle.pb_io.specs.Fault.{fault_word}
 use Rattle.pb_io.specs.declared.fault.Fault.{Fault}
 use Rattle.pb_collecting.specs.declared.continuing_into.NotContinued.{NotContinued}
 use Rattle.pb_collecting.specs.declared.keeping.NoBook.{NoBook}
-use Rattle.pb_collecting.specs.declared.place.NotKept.{NotKept}
+use Rattle.pb_collecting.specs.declared.store.StoreError.{StoreError}
 use Rattle.pb_files.specs.declared.distinct_files.NotApart.{NotApart}
 use Rattle.pb_files.specs.declared.starting.NotRead.{NotRead}
 use Rattle.pb_files.specs.declared.starting.NotStarted.{NotStarted}
@@ -15,22 +15,22 @@ abbrev pub stop_word : Stop → List ℕ
 stop_word Stop.NotOpened = codes "open"
 stop_word (Stop.Fault fault) = fault_word fault
 
--- a text isn't kept at its place
-abbrev pub stop_of_place : NotKept → Stop
-stop_of_place NotKept.Open = Stop.NotOpened
-stop_of_place NotKept.Write = Stop.Fault Fault.Write
-stop_of_place NotKept.Memory = Stop.Fault Fault.Memory
+-- a text isn't kept at its store
+abbrev pub stop_of_store : StoreError → Stop
+stop_of_store StoreError.Open = Stop.NotOpened
+stop_of_store StoreError.Write = Stop.Fault Fault.Write
+stop_of_store StoreError.Memory = Stop.Fault Fault.Memory
 
 -- there is no book, or it isn't kept
 abbrev pub stop_of_book : NoBook → Stop
 stop_of_book (NoBook.Run fault) = Stop.Fault fault
-stop_of_book (NoBook.Keep why) = stop_of_place why
+stop_of_book (NoBook.Keep why) = stop_of_store why
 
 -- there is no book, or not both the ledger and the book are kept
 abbrev pub stop_of_both : NotContinued → Stop
 stop_of_both (NotContinued.Run fault) = Stop.Fault fault
-stop_of_both (NotContinued.Ledger why) = stop_of_place why
-stop_of_both (NotContinued.Book why) = stop_of_place why
+stop_of_both (NotContinued.Ledger why) = stop_of_store why
+stop_of_both (NotContinued.Book why) = stop_of_store why
 
 -- the names can't be those of one run
 abbrev pub stop_of_names : NotApart → Stop

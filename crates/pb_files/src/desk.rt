@@ -8,7 +8,7 @@ ghost use Rattle.pb_files.specs.Desk.{is_untakable};
 ghost use Rattle.pb_files.specs.Steps.{Steps};
 ghost use Rattle.pb_files.specs.declared.desk.NotMade.TheVariants as made;
 
-use pb_collecting::NotKept;
+use pb_collecting::StoreError;
 use pb_io::Sink;
 use thiserror::Error;
 
@@ -23,13 +23,13 @@ pub enum NotMade {
     Refused,
     /// It can't be made.
     #[error("{0}")]
-    Failed(NotKept),
+    Failed(StoreError),
 }
 
-impl From<NotKept> for NotMade {
+impl From<StoreError> for NotMade {
     ghost from_gives = { λ why result. result ≡ made.Failed why };
 
-    fn from(why: NotKept) -> NotMade {
+    fn from(why: StoreError) -> NotMade {
         NotMade::Failed(why)
     }
 }
@@ -59,7 +59,7 @@ pub trait Desk {
     /// # Errors
     ///
     /// `Open` where that can't be told, or another run holds the file.
-    fn takes_draft(&mut self) -> Result<bool, NotKept>
+    fn takes_draft(&mut self) -> Result<bool, StoreError>
         ensures refused { (state self.new).refused ≡ is_untakable result }
         ensures drafted { (state self.new).drafted ≡ (state self.old).drafted }
         ensures same { (state self.new).told ≡ (state self.old).told };
@@ -104,7 +104,7 @@ pub trait Desk {
         ensures same { (state self.new).told ≡ (state self.old).told };
 
     /// Puts the folder's names on the disk. Once this has failed, another try would tell nothing.
-    fn sync_folder(&mut self) -> Result<(), NotKept>
+    fn sync_folder(&mut self) -> Result<(), StoreError>
         requires { (state self.old).unsettled ≡ false }
         ensures unsettled { (state self.new).unsettled ≡ is_err result }
         ensures refused { (state self.new).refused ≡ (state self.old).refused }
@@ -119,7 +119,7 @@ pub trait Desk {
     /// # Errors
     ///
     /// It can't be opened, or not be emptied, or there is no memory to write with.
-    fn open_in_place(&mut self) -> Result<Self::End, NotKept>
+    fn open_in_place(&mut self) -> Result<Self::End, StoreError>
         requires { (state self.old).refused ≡ true }
         ensures refused { (state self.new).refused ≡ true }
         ensures begins { IfOk result (λ end. Begins (Self.End.state end)) }

@@ -25,8 +25,8 @@ pub enum NotApart {
 /// output: the replies would be written over its games, and so no line can tell of it there.
 pub fn keep_apart(messages: Messages<'_>, files: &[(Part, &str)]) -> Result<(), NotApart> {
     let rt = messages.rt();
-    for (place, (part, path)) in files.iter().enumerate() {
-        let mut others = files.iter().take(place);
+    for (index, (part, path)) in files.iter().enumerate() {
+        let mut others = files.iter().take(index);
         if let Some((one, _)) = others.find(|(_, other)| is_one_file(rt, path, other)) {
             messages.tell(&Message::OneFile {
                 one: *one,

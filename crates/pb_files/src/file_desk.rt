@@ -8,7 +8,7 @@ use crate::desk::{Desk, NotMade, NotNamed};
 use crate::file_writer::FileWriter;
 use crate::folder::sync_folder;
 use crate::one_file::{INPUT, OUTPUT, is_one_file, leads_to, tell_of_one};
-use pb_collecting::NotKept;
+use pb_collecting::StoreError;
 use pb_io::{Sink, ToWrite};
 use pb_messages::{Cause, Left, Message, Messages, Named, Part};
 use std::fs::{self, File, Metadata, OpenOptions, TryLockError};
@@ -83,7 +83,7 @@ impl<'a, 'f> FileDesk<'a, 'f> {
     /// # Errors
     ///
     /// `Memory` where there is none for the name of a draft.
-    pub fn warn_of_folder(&mut self) -> Result<(), NotKept> {
+    pub fn warn_of_folder(&mut self) -> Result<(), StoreError> {
         if !self.is_free() {
             return Ok(());
         }
@@ -137,7 +137,7 @@ impl<'a, 'f> FileDesk<'a, 'f> {
     }
 
     /// The name of the draft of this number. None where the path doesn't end in a file's name.
-    fn name_beside(&self, number: u32) -> Result<Option<PathBuf>, NotKept> {
+    fn name_beside(&self, number: u32) -> Result<Option<PathBuf>, StoreError> {
         let path = Path::new(self.path);
         let Some(file) = path.file_name() else {
             return Ok(None);
@@ -147,11 +147,11 @@ impl<'a, 'f> FileDesk<'a, 'f> {
         }
         let alloc = self.messages.rt().alloc();
         let Ok(name) = format!(in alloc; ".{file}.pbook-{number}") else {
-            return Err(NotKept::Memory);
+            return Err(StoreError::Memory);
         };
         match path.with_file_name(alloc, name.as_str()) {
             Ok(name) => Ok(Some(name)),
-            Err(_) => Err(NotKept::Memory),
+            Err(_) => Err(StoreError::Memory),
         }
     }
 
@@ -220,7 +220,7 @@ impl<'a, 'f> FileDesk<'a, 'f> {
             }
             Err(_) => {
                 let _ = fs::remove_file(rt, name.as_path());
-                Err(NotMade::Failed(NotKept::Memory))
+                Err(NotMade::Failed(StoreError::Memory))
             }
         }
     }
@@ -231,7 +231,7 @@ impl<'a> Desk for FileDesk<'a, '_> {
 
     ghost state = { λ s. record { told = None; refused = s.refused; drafted = is_some s.draft; unsettled = s.unsettled } };
 
-    fn takes_draft(&mut self) -> Result<bool, NotKept> {
+    fn takes_draft(&mut self) -> Result<bool, StoreError> {
         let rt = self.messages.rt();
         self.old = None;
         self.refused = false;
@@ -241,13 +241,13 @@ impl<'a> Desk for FileDesk<'a, '_> {
                     Ok(told) => told,
                     Err(error) => {
                         self.named(Left::Old(self.part)).fail(&error);
-                        return Err(NotKept::Open);
+                        return Err(StoreError::Open);
                     }
                 };
                 let old = Old { file, told };
                 if self.is_anothers(&old) {
                     self.messages.tell(&Message::InUse { name: self.path });
-                    return Err(NotKept::Open);
+                    return Err(StoreError::Open);
                 }
                 let takes = old.told.nlink() == 1 && leads_to(rt, Path::new(self.path), &old.told);
                 self.old = Some(old);
@@ -290,7 +290,7 @@ impl<'a> Desk for FileDesk<'a, '_> {
             Err(error) if is_of_folder(error.kind()) => Err(self.refuse()),
             Err(error) => {
                 self.named_before().fail(&error);
-                Err(NotMade::Failed(NotKept::Open))
+                Err(NotMade::Failed(StoreError::Open))
             }
         }
     }
@@ -326,18 +326,18 @@ impl<'a> Desk for FileDesk<'a, '_> {
         }
     }
 
-    fn sync_folder(&mut self) -> Result<(), NotKept> {
+    fn sync_folder(&mut self) -> Result<(), StoreError> {
         match sync_folder(self.messages.rt(), self.path) {
             Ok(()) => Ok(()),
             Err(error) => {
                 self.named(Left::New).fail(&error);
                 self.unsettled = true;
-                Err(NotKept::Write)
+                Err(StoreError::Write)
             }
         }
     }
 
-    fn open_in_place(&mut self) -> Result<ToWrite<FileWriter<'a>>, NotKept> {
+    fn open_in_place(&mut self) -> Result<ToWrite<FileWriter<'a>>, StoreError> {
         let rt = self.messages.rt();
         let (opened, left) = match self.old.take() {
             Some(old) if old.told.is_file() => {
@@ -350,14 +350,14 @@ impl<'a> Desk for FileDesk<'a, '_> {
             Ok(file) => file,
             Err(error) => {
                 self.named(left).fail(&error);
-                return Err(NotKept::Open);
+                return Err(StoreError::Open);
             }
         };
         let is_file = file.metadata().is_ok_and(|told| told.is_file());
         let named = self.named(if is_file { Left::Front } else { Left::All });
         match FileWriter::new(rt.alloc(), named, file, is_file) {
             Ok(end) => Ok(ToWrite::new(end)),
-            Err(_) => Err(NotKept::Memory),
+            Err(_) => Err(StoreError::Memory),
         }
     }
 }

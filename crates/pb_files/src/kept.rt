@@ -1,14 +1,14 @@
-//! A name in a folder as the place of a text.
+//! A name in a folder as the store of a text.
 
 ghost use Rattle.std.specs.Option.{option_map};
 ghost use Rattle.std.specs.Prelude.{◌≡◌, ℕ, List, None, OnErr, OnOk, true};
 ghost use Rattle.std.specs.Result.{result_err};
 ghost use Rattle.pb_files.specs.Keeping.{IsNamedByDraft, LeadsWhereItLed, OldOrNewByDraft, SavedByDraft, found_at};
-ghost use Rattle.pb_collecting.specs.Place.{Keeps};
+ghost use Rattle.pb_collecting.specs.Store.{Keeps};
 
 use crate::desk::Desk;
 use crate::saving::{NotSaved, save_whole};
-use pb_collecting::{NotKept, Place, Text};
+use pb_collecting::{Store, StoreError, Text};
 
 /// A file that is made anew whole where a draft can take its place, and is written in place where
 /// none can.
@@ -20,13 +20,13 @@ pub struct KeptFile<D: Desk> {
     pub in_place: Option<D::End>,
     /// The end into the file that a draft became. The lock on it lasts as long as its end.
     pub named: Option<D::End>,
-    fault: Option<NotKept>,
+    fault: Option<StoreError>,
 }
 
 impl<D: Desk> KeptFile<D> {
-    /// The place of this name, where nothing was kept yet.
+    /// The store of this name, where nothing was kept yet.
     pub fn new(desk: D) -> KeptFile<D>
-        ensures state { ⟦<KeptFile<D> as Place>⟧.state result ≡ record { found = option_map (λ shelf. shelf.found) (D.state desk).told; fault = None } }
+        ensures state { ⟦<KeptFile<D> as Store>⟧.state result ≡ record { found = option_map (λ shelf. shelf.found) (D.state desk).told; fault = None } }
         ensures desk { result.desk ≡ desk }
     {
         KeptFile {
@@ -38,13 +38,13 @@ impl<D: Desk> KeptFile<D> {
     }
 
     /// Writes the text over what is there.
-    fn write_in_place<X: Text>(&mut self, text: &X) -> Result<(), NotKept>
+    fn write_in_place<X: Text>(&mut self, text: &X) -> Result<(), StoreError>
         requires text { (bytes : List ℕ) × X.is_text text.now bytes }
         requires refused { (D.state self.old.desk).refused ≡ true }
         ensures refused { (D.state self.new.desk).refused ≡ true }
         ensures named { self.new.named ≡ self.old.named }
         ensures kept { (bytes : List ℕ) × X.is_text text.now bytes
-            × Keeps (⟦<KeptFile<D> as Place>⟧.state self.old) (⟦<KeptFile<D> as Place>⟧.state self.new) result bytes }
+            × Keeps (⟦<KeptFile<D> as Store>⟧.state self.old) (⟦<KeptFile<D> as Store>⟧.state self.new) result bytes }
     {
         let mut end = match self.desk.open_in_place() {
             Ok(end) => end,
@@ -54,12 +54,12 @@ impl<D: Desk> KeptFile<D> {
         self.in_place = Some(end);
         match written {
             Ok(()) => self.answer(Ok(())),
-            Err(fault) => self.answer(Err(NotKept::from(fault))),
+            Err(fault) => self.answer(Err(StoreError::from(fault))),
         }
     }
 
     /// Answers how the text was kept, and remembers it.
-    fn answer(&mut self, kept: Result<(), NotKept>) -> Result<(), NotKept>
+    fn answer(&mut self, kept: Result<(), StoreError>) -> Result<(), StoreError>
         ensures kept { result ≡ kept }
         ensures fault { self.new ≡ record self.old { fault = result_err kept } }
     {
@@ -68,18 +68,18 @@ impl<D: Desk> KeptFile<D> {
     }
 }
 
-impl<D: Desk> Place for KeptFile<D> {
+impl<D: Desk> Store for KeptFile<D> {
     ghost state = { λ p. record { found = found_at (D.state p.desk).told (option_map D.End.state p.in_place); fault = p.fault } };
 
-    fn keep<X: Text>(&mut self, text: &X) -> Result<(), NotKept>
+    fn keep<X: Text>(&mut self, text: &X) -> Result<(), StoreError>
         requires { (bytes : List ℕ) × X.is_text text.now bytes }
         ensures kept { (bytes : List ℕ) × X.is_text text.now bytes
-            × Keeps (⟦<KeptFile<D> as Place>⟧.state self.old) (⟦<KeptFile<D> as Place>⟧.state self.new) result bytes }
+            × Keeps (⟦<KeptFile<D> as Store>⟧.state self.old) (⟦<KeptFile<D> as Store>⟧.state self.new) result bytes }
         // A crash leaves no part of the text, unless the file is written in place.
         ensures whole { (bytes : List ℕ) × X.is_text text.now bytes × OldOrNewByDraft bytes (D.state self.old.desk) (D.state self.new.desk) }
         // What was kept outlives each crash from now on, unless it is written in place.
         ensures settled { (bytes : List ℕ) × X.is_text text.now bytes × OnOk result (SavedByDraft bytes (D.state self.old.desk) (D.state self.new.desk)) }
-        // The place goes on holding the file that has the name, and lets none go where it fails.
+        // The store goes on holding the file that has the name, and lets none go where it fails.
         ensures held { OnOk result (IsNamedByDraft (option_map D.End.state self.new.named) (D.state self.new.desk)) }
         ensures still_held { OnErr result (self.new.named ≡ self.old.named) }
         // A reader finds what an end has taken only as long as the name leads to its file.
@@ -93,7 +93,7 @@ impl<D: Desk> Place for KeptFile<D> {
             }
             Err(NotSaved::Unsettled) => {
                 self.in_place = None;
-                self.answer(Err(NotKept::Write))
+                self.answer(Err(StoreError::Write))
             }
             Err(NotSaved::Failed(why)) => self.answer(Err(why)),
             Err(NotSaved::Refused) => self.write_in_place(text),

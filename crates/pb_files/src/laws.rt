@@ -5,7 +5,7 @@ ghost use Rattle.std.specs.Prelude.{◌≡◌, List, ℕ};
 ghost use Rattle.pb_io.specs.Lines.{ended_lines};
 ghost use Rattle.pb_files.specs.Disk.{Disk, Grows, IsOnDisk, Leaves, OutlivesCrash, on_disk};
 ghost use Rattle.pb_files.specs.Begins.{BeginsWith};
-ghost use Rattle.pb_files.specs.Runs.{Holds, Names, OfOthers, Step, after};
+ghost use Rattle.pb_files.specs.Runs.{HoldsDraft, Names, OfOthers, Step, after};
 
 /// Lines that are found outlive every later kill, which leaves what is found then: whatever is
 /// added later, they are the first.
@@ -35,12 +35,12 @@ pub fn on_disk_is_what_outlives_crashes()
 /// Two runs never hold the draft of one name, in a model of their steps.
 #[tactic(auto, using(crate::proofs::RunLemmas::one_run))]
 pub fn one_run_holds_a_draft()
-    ensures { (run other : ℕ) (names : Names) → Holds run names → Holds other names → run ≡ other }
+    ensures { (run other : ℕ) (names : Names) → HoldsDraft run names → HoldsDraft other names → run ≡ other }
 {}
 
 /// A run that holds a draft holds it on, whatever other runs do and in whatever order: so a run
 /// that has seen that it does may write the draft.
 #[tactic(auto, using(crate::proofs::RunLemmas::still_held))]
 pub fn a_held_draft_stays_held()
-    ensures { (run : ℕ) (names : Names) (steps : List Step) → Holds run names → OfOthers run steps → Holds run (after names steps) }
+    ensures { (run : ℕ) (names : Names) (steps : List Step) → HoldsDraft run names → OfOthers run steps → HoldsDraft run (after names steps) }
 {}

@@ -7,7 +7,7 @@ ghost use Rattle.std.specs.Prelude.{length, nat_lt};
 ghost use Rattle.pb_files.specs.MemDesk.{contents_of, found_of, leaves_of};
 
 use crate::desk::{Desk, NotMade, NotNamed};
-use pb_collecting::NotKept;
+use pb_collecting::StoreError;
 use pb_io::FuseSink;
 use std::alloc::Global;
 
@@ -120,10 +120,10 @@ impl Desk for MemDesk {
       unsettled = m.unsettled;
     } };
 
-    fn takes_draft(&mut self) -> Result<bool, NotKept> {
+    fn takes_draft(&mut self) -> Result<bool, StoreError> {
         self.refused = false;
         if !self.goes_on() || matches!(self.before, Before::Held) {
-            return Err(NotKept::Open);
+            return Err(StoreError::Open);
         }
         self.refused = matches!(self.before, Before::Special);
         Ok(!self.refused)
@@ -137,7 +137,7 @@ impl Desk for MemDesk {
 
     fn make(&mut self, number: u32) -> Result<FuseSink, NotMade> {
         if !self.goes_on() {
-            return Err(NotMade::Failed(NotKept::Open));
+            return Err(NotMade::Failed(StoreError::Open));
         }
         if number == 0 && !matches!(self.before, Before::Free) {
             return Err(NotMade::Taken);
@@ -166,18 +166,18 @@ impl Desk for MemDesk {
         self.drafted = false;
     }
 
-    fn sync_folder(&mut self) -> Result<(), NotKept> {
+    fn sync_folder(&mut self) -> Result<(), StoreError> {
         if !self.goes_on() {
             self.unsettled = true;
-            return Err(NotKept::Write);
+            return Err(StoreError::Write);
         }
         self.settled = true;
         Ok(())
     }
 
-    fn open_in_place(&mut self) -> Result<FuseSink, NotKept> {
+    fn open_in_place(&mut self) -> Result<FuseSink, StoreError> {
         if !self.goes_on() {
-            return Err(NotKept::Open);
+            return Err(StoreError::Open);
         }
         self.named = Some(Vec::new(self.alloc));
         self.settled = false;

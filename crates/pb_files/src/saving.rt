@@ -5,7 +5,7 @@ ghost use Rattle.pb_files.specs.Desk.{Begins, is_refused_draft};
 ghost use Rattle.pb_files.specs.Saving.{Saves, is_refused, is_unsettled, not_saved};
 
 use crate::desk::{Desk, NotMade, NotNamed};
-use pb_collecting::{NotKept, Text};
+use pb_collecting::{StoreError, Text};
 use thiserror::Error;
 
 /// How many names are tried for a draft: as many runs may make one file at a time.
@@ -19,7 +19,7 @@ pub enum NotSaved {
     Refused,
     /// The draft can't be made, written or named. The old file is there.
     #[error("{0}")]
-    Failed(NotKept),
+    Failed(StoreError),
     /// The new file is there, and a crash may undo it.
     #[error("the folder can't be put on the disk")]
     Unsettled,
@@ -30,7 +30,7 @@ impl From<NotMade> for NotSaved {
 
     fn from(why: NotMade) -> NotSaved {
         match why {
-            NotMade::Taken => NotSaved::Failed(NotKept::Open),
+            NotMade::Taken => NotSaved::Failed(StoreError::Open),
             NotMade::Refused => NotSaved::Refused,
             NotMade::Failed(why) => NotSaved::Failed(why),
         }
@@ -77,7 +77,7 @@ pub fn save_whole<D: Desk, X: Text>(desk: &mut D, text: &X) -> Result<D::End, No
     let mut draft = new_draft(desk)?;
     if let Err(fault) = text.write(&mut draft) {
         desk.remove(draft);
-        return Err(NotSaved::Failed(NotKept::from(fault)));
+        return Err(NotSaved::Failed(StoreError::from(fault)));
     }
     match desk.rename(&draft) {
         Ok(()) => {}
@@ -87,7 +87,7 @@ pub fn save_whole<D: Desk, X: Text>(desk: &mut D, text: &X) -> Result<D::End, No
         }
         Err(NotNamed::Failed) => {
             desk.remove(draft);
-            return Err(NotSaved::Failed(NotKept::Write));
+            return Err(NotSaved::Failed(StoreError::Write));
         }
     }
     if desk.sync_folder().is_err() {

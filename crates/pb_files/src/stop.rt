@@ -1,14 +1,14 @@
 //! Why a run stops before its end.
 
 ghost use Rattle.std.specs.Prelude.{◌≡◌};
-ghost use Rattle.pb_files.specs.Stop.{stop_of_book, stop_of_both, stop_of_names, stop_of_place};
+ghost use Rattle.pb_files.specs.Stop.{stop_of_book, stop_of_both, stop_of_names, stop_of_store};
 ghost use Rattle.pb_files.specs.Stop.{stop_of_start, stop_word};
 ghost use Rattle.pb_files.specs.declared.stop.Stop.TheVariants as stops;
 
 use crate::distinct_files::NotApart;
 use crate::holding::NotHeld;
 use crate::starting::{NotRead, NotStarted};
-use pb_collecting::{NoBook, NotContinued, NotKept};
+use pb_collecting::{NoBook, NotContinued, StoreError};
 use pb_io::Fault;
 
 /// Why a run stops.
@@ -40,14 +40,14 @@ impl From<Fault> for Stop {
     }
 }
 
-impl From<NotKept> for Stop {
-    ghost from_gives = { λ why result. result ≡ stop_of_place why };
+impl From<StoreError> for Stop {
+    ghost from_gives = { λ why result. result ≡ stop_of_store why };
 
-    fn from(why: NotKept) -> Stop {
+    fn from(why: StoreError) -> Stop {
         match why {
-            NotKept::Open => Stop::NotOpened,
-            NotKept::Write => Stop::Fault(Fault::Write),
-            NotKept::Memory => Stop::Fault(Fault::Memory),
+            StoreError::Open => Stop::NotOpened,
+            StoreError::Write => Stop::Fault(Fault::Write),
+            StoreError::Memory => Stop::Fault(Fault::Memory),
         }
     }
 }

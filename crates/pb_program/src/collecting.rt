@@ -51,7 +51,7 @@ impl<'a> Collecting<'a> {
     /// old file.
     fn collect<K: Sink>(&self, output: &RefCell<&mut K>) -> Result<bool, Stop> {
         let mut table = self.table_beside(None)?;
-        let mut book = self.place()?;
+        let mut book = self.store()?;
         let progress = Progress::new(self.messages, News::Above(0));
         let has_book = collect_into(
             self.messages.rt().alloc(),
@@ -76,7 +76,7 @@ impl<'a> Collecting<'a> {
         let named = Named::new(self.messages, ledger);
         let progress = Progress::new(self.messages, News::Unknown);
         let file = hold_ledger(named, &progress)?;
-        let mut book = self.place()?;
+        let mut book = self.store()?;
         let lines = LedgerLines::new(Told::new(named, &file), &progress);
         let has_book = continue_into(
             self.messages.rt().alloc(),
@@ -103,7 +103,7 @@ impl<'a> Collecting<'a> {
         let named = Named::new(self.messages, journal);
         let progress = Progress::new(self.messages, News::Journaled(false));
         let mut started = start_journal(named, &progress, D::syncs())?;
-        let mut book = self.place()?;
+        let mut book = self.store()?;
         let alloc = self.messages.rt().alloc();
         let Ok(mut lines) = JournalSink::<_, D>::new(alloc, started.journal) else {
             return Err(Stop::Fault(Fault::Memory));
@@ -134,8 +134,8 @@ impl<'a> Collecting<'a> {
         source(self.messages, self.table)
     }
 
-    /// The place of the book, after a warning where it can't be made.
-    fn place<'f>(&self) -> Result<KeptFile<FileDesk<'a, 'f>>, Stop> {
+    /// The store of the book, after a warning where it can't be made.
+    fn store<'f>(&self) -> Result<KeptFile<FileDesk<'a, 'f>>, Stop> {
         let mut desk = FileDesk::of_book(self.messages, self.book);
         desk.warn_of_folder()?;
         Ok(KeptFile::new(desk))

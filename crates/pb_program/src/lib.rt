@@ -9,4 +9,4 @@ mod program;
 mod stop;
 
 pub use command::FILLS;
-pub use program::{USAGE, run, tell_no_memory};
+pub use program::{USAGE_STATUS, run, tell_no_memory};

@@ -15,7 +15,7 @@ use std::io::{self, BufWriter, IsTerminal};
 const OUTPUT: &str = "standard output";
 
 /// The status for words that give no order.
-pub const USAGE: u8 = 2;
+pub const USAGE_STATUS: u8 = 2;
 
 /// Reads the words of the command line, of which the first is the program's name, runs their
 /// command and answers the exit status. That is 0 where all was taken, 1 where an input was
@@ -28,7 +28,7 @@ pub fn run(rt: &HostRuntime, words: &[&str]) -> u8
         Err(ParseFault::Memory) => tell_no_memory(rt),
         Err(ParseFault::Usage(text)) => {
             show_usage(rt, text.as_str());
-            USAGE
+            USAGE_STATUS
         }
     }
 }

@@ -2,7 +2,7 @@
 
 ghost use Rattle.std.specs.Prelude.{◌≡◌};
 
-use pb_cli::{Fault, STOPPED};
+use pb_cli::{FAULT_STATUS, Fault};
 use pb_files::Stop;
 use pb_io::{Sink, ToWrite};
 use pb_messages::{Message, Messages};
@@ -22,5 +22,5 @@ pub(crate) fn tell_stop<W: Write>(messages: Messages<'_>, output: &mut ToWrite<W
     if output.flush().is_ok() && !matches!(stop, Stop::Fault(Fault::Write)) {
         let _ = println!(messages.rt(); "fault {}", stop.word());
     }
-    STOPPED
+    FAULT_STATUS
 }

@@ -5,7 +5,7 @@ use crate::games::{ALL, BOOK, FIRST, LATER, START, lines_of, replies_of, saved_o
 use crate::kit::{Due, KINGS, Kit};
 use crate::text::Text;
 use pb_cli::{
-    Continued, Fault, MemPlace, NoBook, NotContinued, NotKept, Order, ParseFault, Rules,
+    Continued, Fault, MemStore, NoBook, NotContinued, Order, ParseFault, Rules, StoreError,
     collect_into, continue_into, journal_into, parse, run_collect, run_continue, run_epd,
     run_export, run_fen, run_journaled, run_probe, run_show,
 };
@@ -117,7 +117,7 @@ pub(crate) fn taken(kit: &Kit, name: &str) -> Answer {
             judged(is_want(fault, has_failed), 1 + u32::from(is_lost))
         }
         Err(NotContinued::Ledger(why) | NotContinued::Book(why)) => {
-            judged(why == NotKept::Memory, due.missing().saturating_add(1))
+            judged(why == StoreError::Memory, due.missing().saturating_add(1))
         }
     }
 }
@@ -152,7 +152,7 @@ fn run(kit: &Kit, name: &str, lines: &[u8], put: &mut MemSink, gained: &mut MemS
     let old = &mut MemSource::new(saved.as_bytes(), 7);
     let kept = &mut MemSource::new(kept.as_bytes(), 7);
     let lines = &mut MemSource::new(lines, 100);
-    let (ledger, book) = (&mut MemPlace::new(alloc), &mut MemPlace::new(alloc));
+    let (ledger, book) = (&mut MemStore::new(alloc), &mut MemStore::new(alloc));
     let mut left = match name {
         "run_collect" => Left::booked(run_collect(alloc, rules, table, lines, put, MAX)),
         "collect_into" => Left::kept(collect_into(alloc, rules, table, lines, put, book, MAX)),

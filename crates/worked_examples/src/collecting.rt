@@ -7,7 +7,7 @@ use crate::command::tell_next;
 use crate::ends::{Output, fills_in, rules_in};
 use crate::game::stream_of;
 use pb_cli::{
-    Continued, Fault, MemPlace, Rules, SkippedLines, collect_into, continue_into, journal_into,
+    Continued, Fault, MemStore, Rules, SkippedLines, collect_into, continue_into, journal_into,
     run_collect, run_continue, run_journaled,
 };
 use pb_ledger::save;
@@ -30,9 +30,9 @@ struct Run<'a> {
     first: NamedSource<'a>,
     input: NamedSource<'a>,
     /// Where the ledger is kept.
-    ledger: MemPlace,
+    ledger: MemStore,
     /// Where the book is kept.
-    book: MemPlace,
+    book: MemStore,
 }
 
 /// The numbers of the journal's lines that are skipped, each after a space.
@@ -79,8 +79,8 @@ pub(crate) fn answer(page: &mut Page, name: &str, words: &[&str]) -> Done {
         table: named_source(end_of(ends, "table", "reader:1000"), table.as_bytes()),
         first: named_source(end_of(ends, "first", "reader:7"), first.as_bytes()),
         input: named_source(end_of(ends, "input", "reader:100"), later.as_bytes()),
-        ledger: MemPlace::new(page.alloc),
-        book: MemPlace::new(page.alloc),
+        ledger: MemStore::new(page.alloc),
+        book: MemStore::new(page.alloc),
     };
     run.tell(page, name)?;
     tell_next(page, ends, &mut run.input);

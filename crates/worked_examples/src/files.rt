@@ -3,12 +3,16 @@
 //! may that of the puts and flushes which each file takes. A `;` stands between the entries of a
 //! book.
 
+ghost use Rattle.std.specs.Prelude.{◌≡◌};
+ghost use Rattle.pb_poly.specs.Book.{book_bytes};
+
 use crate::ends::rules_in;
 use crate::game::stream_of;
 use crate::restarting;
-use pb_cli::{Place, Rules, collect_into, continue_into};
+use pb_cli::{Rules, Store, Text, collect_into, continue_into};
 use pb_files::{Before, KeptFile, MemDesk};
-use pb_poly::{FromRead, MemSink, read_book};
+use pb_ledger::WriteFault;
+use pb_poly::{Book, FromRead, MemSink, Sink, read_book, write_book};
 use rows::book::file_of;
 use rows::page::{Done, NO_ROW, Page, Trouble};
 use rows::text::{count_of, fills_of, text_of};
@@ -16,6 +20,21 @@ use std::alloc::Global;
 
 /// The file that was there before.
 const OLD: &[u8] = b"an older file";
+
+/// A book as a text, whatever its entries are.
+#[derive(Drop)]
+struct BookText<'b> {
+    book: &'b Book,
+}
+
+impl Text for BookText<'_> {
+    ghost is_text = { λ text bytes. bytes ≡ book_bytes text.book.now };
+
+    fn write<K: Sink>(&self, sink: &mut K) -> Result<(), WriteFault> {
+        write_book(sink, self.book)?;
+        Ok(())
+    }
+}
 
 /// The answer to a call.
 pub(crate) fn answer(page: &mut Page, call: &[&str]) -> Done {
@@ -107,7 +126,7 @@ fn keep(page: &mut Page, words: &[&str]) -> Done {
         return NO_ROW
     };
     let mut place = place_of(page.alloc, OLD, before, calls, good)?;
-    page.put_debug(&place.keep(&book));
+    page.put_debug(&place.keep(&BookText { book: &book }));
     page.put(": ");
     tell_found(page, &place, OLD, new.as_bytes());
     Ok(())

@@ -5,7 +5,7 @@
 use crate::collecting::Passed;
 use crate::files::{book_of, rules};
 use crate::game::stream_of;
-use pb_cli::{MemPlace, NoBook, journal_into};
+use pb_cli::{MemStore, NoBook, journal_into};
 use pb_files::{Durability, JournalSink, MemJournal, Synced, Written, whole_reader};
 use pb_poly::{FromRead, MemSink, Source};
 use rows::page::{Done, NO_ROW, Page, Trouble};
@@ -22,7 +22,7 @@ struct Ran<D: Durability> {
     /// Its replies.
     replies: MemSink,
     /// Where its book is kept.
-    book: MemPlace,
+    book: MemStore,
 }
 
 /// The answer to a call: a run over a journal that is synced or not, of which so many calls
@@ -73,7 +73,7 @@ impl<D: Durability> Ran<D> {
             answer: Page::new(alloc),
             journal: JournalSink::new(alloc, file)?,
             replies: MemSink::new(alloc),
-            book: MemPlace::new(alloc),
+            book: MemStore::new(alloc),
         };
         let table = text_of(alloc, "{powers}")?;
         match reader {

@@ -1,10 +1,5 @@
-use Rattle.pb_cli.proofs.Commands.{IsCommand-arg}
+use Rattle.std.proofs.lemmas.Result.{IfOk-weaker}
 use Rattle.pb_cli.proofs.grammar.export.Goals as goal
 
 pub returns : goal.returns
-returns c =
-    let counting = c.in_ok-counting.ensures _ c.bare_command-bare.ensures in
-    let quieted = IsCommand-arg _ _ _ _ _ counting c.in_ok-quieted.ensures
-    c.quiet.ensures.rule c.quiet.ensures.local in
-    IsCommand-arg _ _ _ _ _ quieted c.in_ok-whole.ensures
-    c.required.ensures.rule c.required.ensures.local
+returns c = IfOk-weaker c.with_games.result _ _ (λ taking made. made _ c.bare_command-bare.ensures) c.with_games.ensures

@@ -2,7 +2,7 @@ use Rattle.std.proofs.Common.{ap}
 use Rattle.std.specs.Option.{option_map}
 use Rattle.pb_files.specs.Keeping.{found_at}
 use Rattle.pb_files.proofs.DeskLemmas.{named_keeps}
-use Rattle.pb_files.proofs.kept.KeptFilePlace.keep.Goals as goal
+use Rattle.pb_files.proofs.kept.KeptFileStore.keep.Goals as goal
 
 pub returns-in-Err-Unsettled-clause-kept : goal.returns-in-Err-Unsettled-clause-kept
 returns-in-Err-Unsettled-clause-kept g c =
