@@ -9,6 +9,7 @@ use pb_cli::{
     collect_into, continue_into, journal_into, parse, run_collect, run_continue, run_epd,
     run_export, run_fen, run_journaled, run_probe, run_show,
 };
+use pb_collecting::collect_bytes;
 use pb_poly::{Book, MemSink, MemSource, Sink};
 
 /// More than any source is asked.
@@ -118,6 +119,28 @@ pub(crate) fn taken(kit: &Kit, name: &str) -> Answer {
         Err(NotContinued::Ledger(why) | NotContinued::Book(why)) => {
             judged(why == NotKept::Memory, due.missing().saturating_add(1))
         }
+    }
+}
+
+/// The replies and the book that come of bytes in memory. For some of the five games both have to
+/// be what is due where they are held.
+pub(crate) fn collected_bytes(kit: &Kit) -> Answer {
+    let (table, lines) = (kit.table_file.as_bytes(), lines_of(ALL));
+    let lines = lines.as_bytes();
+    let (replies, book) = match collect_bytes(kit.alloc, Rules::all_plies(), table, lines) {
+        Ok(Some(made)) => made,
+        Ok(None) => return Ok(false),
+        Err(fault) => return Err(Want::once(matches!(fault, Fault::Memory))),
+    };
+    let book = Text::of_book(&book);
+    let mut dues = kit.dues.iter();
+    let due = dues.find(|due| {
+        book.as_bytes() == due.book.as_bytes()
+            && replies.as_slice() == replies_of(&due.ledger, lines).as_bytes()
+    });
+    match due {
+        Some(due) => judged(true, due.missing()),
+        None => Ok(false),
     }
 }
 
