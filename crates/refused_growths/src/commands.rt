@@ -124,7 +124,7 @@ pub(crate) fn taken(kit: &Kit, name: &str) -> Answer {
 
 /// The replies and the book that come of bytes in memory. For some of the five games both have to
 /// be what is due where they are held.
-pub(crate) fn collected(kit: &Kit) -> Answer {
+pub(crate) fn collected_bytes(kit: &Kit) -> Answer {
     let (table, lines) = (kit.table_file.as_bytes(), lines_of(ALL));
     let lines = lines.as_bytes();
     let (replies, book) = match collect_bytes(kit.alloc, Rules::all_plies(), table, lines) {

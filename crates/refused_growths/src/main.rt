@@ -24,7 +24,7 @@ mod text;
 mod values;
 
 use crate::answer::{Answer, parts};
-use crate::commands::{collected, shown, taken};
+use crate::commands::{collected_bytes, shown, taken};
 use crate::games::START;
 use crate::kit::{KINGS, Kit, Ones};
 use crate::values::bytes;
@@ -128,7 +128,7 @@ fn judged_commands(kit: &Kit) -> [(&'static str, Answer); 16] {
         ("run_probe", shown(kit, "run_probe")),
         ("run_collect", taken(kit, "run_collect")),
         ("collect_into", taken(kit, "collect_into")),
-        ("collect_bytes", collected(kit)),
+        ("collect_bytes", collected_bytes(kit)),
         ("run_continue", taken(kit, "run_continue")),
         ("continue_into", taken(kit, "continue_into")),
         ("run_journaled", taken(kit, "run_journaled")),
