@@ -50,6 +50,7 @@ abbrev pub castling_number : Rights → ℕ
 castling_number r = slice_index (0 ∷ 1 ∷ 9 ∷ 2 ∷ 13 ∷ 6 ∷ 10 ∷ 3 ∷ 15 ∷ 8 ∷ 12 ∷ 5 ∷ 14 ∷ 7 ∷ 11 ∷ 4 ∷ [])
     (from_bool r.white_short + 2 * from_bool r.white_long + 4 * from_bool r.black_short + 8 * from_bool r.black_long)
 
+-- the text of the rights with this number
 abbrev pub castling_at : ℕ → List ℕ
 castling_at n = slice_index_or
     (codes "-" ∷ codes "K" ∷ codes "KQ" ∷ codes "KQk" ∷ codes "KQkq" ∷ codes "KQq" ∷ codes "Kk" ∷ codes "Kkq" ∷ codes "Kq" ∷ codes "Q" ∷ codes "Qk" ∷ codes "Qkq" ∷ codes "Qq" ∷ codes "k" ∷ codes "kq" ∷ codes "q" ∷ [])
