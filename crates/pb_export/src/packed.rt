@@ -8,6 +8,7 @@ ghost use Rattle.pb_board.specs.declared.piece.Colour.{Colour};
 ghost use Rattle.pb_board.specs.declared.piece.Piece.{Piece};
 ghost use Rattle.pb_export.specs.Packed.{IsOnBoard, IsPacked, castling_at, castling_number, en_passant_number, piece_digit, place_digit, rank_digits, rank_number, rank_numbers, state_number, state_text, turn_number};
 
+use crate::board::Board;
 use crate::book_moves::put_word;
 use pb_board::{Colour, Kind, Piece, Rights, Setup, Square};
 use std::alloc::AllocError;
@@ -82,7 +83,7 @@ fn pack_rank(squares: &[Option<Piece>]) -> u32
 }
 
 /// The numbers of the ranks, from rank 8 to rank 1.
-fn pack_ranks(board: &[Option<Piece>; 64]) -> [u32; 8]
+fn pack_ranks(board: &Board) -> [u32; 8]
     ensures { result ≡ rank_numbers board.now }
 {
     [
@@ -190,12 +191,13 @@ fn put_en_passant(line: &mut Vec<u8>, number: u16) -> Result<(), AllocError>
 }
 
 impl PackedSetup {
-    /// The setup, packed.
-    pub(crate) fn of(setup: &Setup) -> PackedSetup
+    /// The setup with this board, packed.
+    pub(crate) fn of(setup: &Setup, board: &Board) -> PackedSetup
+        requires { board.now ≡ setup.now.board }
         ensures { IsPacked result setup.now }
     {
         PackedSetup {
-            ranks: pack_ranks(&setup.board()),
+            ranks: pack_ranks(board),
             state: state_of(setup),
         }
     }
