@@ -1,15 +1,16 @@
 -- A setup packed so that its order is that of its text.
-use Rattle.std.specs.Prelude.{◌≡◌, ℕ, ◌+◌, ◌*◌, ◌<◌, Bool, false, List, [], ◌∷◌, IfSome, Option, take, drop, map, slice_index, slice_index_or, codes, is_none, Some, None, if◌then◌else◌}
-use Rattle.std.specs.Int.{from_bool}
+use Rattle.std.specs.Prelude.{◌≡◌, ℕ, ◌+◌, ◌-◌, ◌*◌, ◌<◌, ◌==◌, ◌&&◌, Bool, false, not, List, [], ◌∷◌, IfSome, Option, take, drop, map, slice_index, slice_index_or, codes, is_none, Some, None, if◌then◌else◌}
+use Rattle.std.specs.Int.{bit_at, from_bool}
 use Rattle.std.specs.List.{join_with_byte}
 use Rattle.pb_board.specs.declared.piece.Piece.{Piece}
 use Rattle.pb_board.specs.declared.piece.Colour.{Colour}
 use Rattle.pb_board.specs.declared.piece.Colour.TheVariants.{White, Black}
 use Rattle.pb_board.specs.declared.setup.Rights.{Rights}
-use Rattle.pb_board.specs.Board.{Board, Place, file, rank}
+use Rattle.pb_board.specs.Board.{Board, Place, at, file, rank}
 use Rattle.pb_board.specs.Fields.{space}
 use Rattle.pb_board.specs.Piece.{colour_number, kind_number}
 use Rattle.pb_board.specs.Position.{Position}
+use Rattle.pb_export.specs.declared.packed.DigitBits.{DigitBits}
 use Rattle.pb_export.specs.declared.packed.PackedSetup.{PackedSetup}
 use Rattle.pb_board.specs.Text.{castling_text, en_passant_text, turn_text}
 
@@ -43,6 +44,22 @@ row board r = take 8 (drop (8 * r) board)
 -- the ranks from rank 8 to rank 1
 abbrev pub rank_numbers : Board → List ℕ
 rank_numbers board = map (λ r. rank_number (row board r)) (7 ∷ 6 ∷ 5 ∷ 4 ∷ 3 ∷ 2 ∷ 1 ∷ 0 ∷ [])
+
+-- whether the square beside it, towards the a-file, is empty
+abbrev pub is_after_empty : Board → ℕ → Bool
+is_after_empty board square = not (file square == 0) && is_none (at board (square - 1))
+
+-- the digit of a square, whose bits these have
+abbrev pub digit_of : DigitBits → ℕ → ℕ
+digit_of bits square = bit_at bits.ones square + 2 * bit_at bits.twos square + 4 * bit_at bits.fours square + 8 * bit_at bits.eights square
+
+-- these have the bits of each square's digit
+abbrev pub HasDigits : DigitBits → Board → Type 0
+HasDigits bits board = (square : ℕ) → square < 64 → digit_of bits square ≡ place_digit (is_after_empty board square) (at board square)
+
+-- the number whose digits are the bits of a rank, from the a-file on
+abbrev pub spread : ℕ → ℕ → ℕ
+spread squares r = number_after 0 (map (λ f. bit_at squares (8 * r + f)) (0 ∷ 1 ∷ 2 ∷ 3 ∷ 4 ∷ 5 ∷ 6 ∷ 7 ∷ []))
 
 -- the castling rights in the order of their texts: -, K, KQ, KQk, KQkq, KQq, Kk, Kkq, Kq, Q, Qk, Qkq,
 -- Qq, k, kq and q

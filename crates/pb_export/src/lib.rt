@@ -1,7 +1,6 @@
 //! The opening book of a ledger as EPD lines.
 #![tactic(auto)]
 
-mod board;
 mod book_moves;
 mod exporting;
 mod indexed_book;

@@ -1,14 +1,15 @@
 //! Setups packed in the order of their texts.
 
-ghost use Rattle.std.specs.Prelude.{◌≡◌, ◌≤◌, ◌<◌, ◌+◌, ◌++◌, ◌∷◌, ℕ, false, List, OnOk, Option, length, vec_capacity, vec_len};
-ghost use Rattle.pb_board.specs.Board.{Place};
+ghost use Rattle.std.specs.Prelude.{◌≡◌, ◌≤◌, ◌<◌, ◌+◌, ◌++◌, ◌∷◌, ◌&&◌, ℕ, false, is_none, List, OnOk, Option, length, vec_capacity, vec_len};
+ghost use Rattle.std.specs.Int.{bit_at, from_bool};
+ghost use Rattle.pb_board.specs.Board.{Board, Place, at, is_piece};
+ghost use Rattle.pb_board.specs.Piece.{piece_of};
 ghost use Rattle.pb_board.specs.Position.{Position};
 ghost use Rattle.pb_board.specs.Text.{en_passant_text, piece_letter, rank_text, setup_text, turn_text};
 ghost use Rattle.pb_board.specs.declared.piece.Colour.{Colour};
 ghost use Rattle.pb_board.specs.declared.piece.Piece.{Piece};
-ghost use Rattle.pb_export.specs.Packed.{IsOnBoard, IsPacked, castling_at, castling_number, en_passant_number, piece_digit, place_digit, rank_digits, rank_number, rank_numbers, state_number, state_text, turn_number};
+ghost use Rattle.pb_export.specs.Packed.{HasDigits, IsOnBoard, IsPacked, castling_at, castling_number, en_passant_number, is_after_empty, piece_digit, rank_digits, rank_number, rank_numbers, row, spread, state_number, state_text, turn_number};
 
-use crate::board::Board;
 use crate::book_moves::put_word;
 use pb_board::{Colour, Kind, Piece, Rights, Setup, Square};
 use std::alloc::AllocError;
@@ -24,8 +25,27 @@ const SYMBOLS: [u8; 16] = [
 /// The number of castling rights for their bits, from `K` as 1 to `q` as 8.
 const CASTLING_NUMBERS: [u16; 16] = [0, 1, 9, 2, 13, 6, 10, 3, 15, 8, 12, 5, 14, 7, 11, 4];
 
+/// The squares of the a-file.
+const FILE_A: u64 = 0x0101_0101_0101_0101;
+
+/// Four bits as digits of four bits each, the lowest bit first. As a table, since it is made of
+/// fewer steps.
+const SPREAD: [u32; 16] = [
+    0x0000, 0x1000, 0x0100, 0x1100, 0x0010, 0x1010, 0x0110, 0x1110, 0x0001, 0x1001, 0x0101, 0x1101,
+    0x0011, 0x1011, 0x0111, 0x1111,
+];
+
 /// How many bytes a placement has at most: eight for each rank, and the slashes between them.
 const MAX_PLACEMENT: usize = 71;
+
+/// For each bit of a square's digit, the squares whose digits have it.
+#[derive(Clone, Copy)]
+pub(crate) struct DigitBits {
+    pub(crate) ones: u64,
+    pub(crate) twos: u64,
+    pub(crate) fours: u64,
+    pub(crate) eights: u64,
+}
 
 /// A setup in the byte order of its four fields, in less than half the room of their text.
 #[derive(Clone, Copy, PartialEq, Eq, PartialOrd, Ord)]
@@ -36,65 +56,89 @@ pub(crate) struct PackedSetup {
     state: u16,
 }
 
-/// The place of the piece in the order of the letters, from 1.
+/// The squares on which a piece of this side and kind stands.
 #[inline(always)]
-fn piece_digit_of(piece: Piece) -> u32
-    ensures { result ≡ piece_digit piece }
+fn squares_of(setup: &Setup, colour: Colour, kind: Kind) -> u64
+    ensures { (q : ℕ) → bit_at result q ≡ from_bool (is_piece (piece_of colour kind) (at setup.now.board q)) }
 {
-    let white = match piece.kind {
-        Kind::Bishop => 1,
-        Kind::King => 2,
-        Kind::Knight => 3,
-        Kind::Pawn => 4,
-        Kind::Queen => 5,
-        Kind::Rook => 6,
-    };
-    match piece.colour {
-        Colour::White => white,
-        Colour::Black => white + 6,
+    setup.by_piece(Piece { colour, kind })
+}
+
+/// The empty squares beside which, towards the a-file, another one is empty.
+#[inline(always)]
+fn empty_after_empty(setup: &Setup) -> u64
+    ensures { (q : ℕ) → q < 64 → bit_at result q ≡ from_bool (is_none (at setup.now.board q) && is_after_empty setup.now.board q) }
+{
+    let occupied = setup.occupied();
+    !(occupied | occupied << 1 | FILE_A)
+}
+
+/// The squares whose digits have each bit.
+#[inline(always)]
+fn digit_bits_of(setup: &Setup) -> DigitBits
+    ensures digits { HasDigits result setup.now.board }
+    ensures squares { length setup.now.board ≡ 64 }
+{
+    // The reader tells that the setup meets its rules.
+    let _turn = setup.turn();
+    let pawns = squares_of(setup, Colour::White, Kind::Pawn);
+    let knights = squares_of(setup, Colour::White, Kind::Knight);
+    let bishops = squares_of(setup, Colour::White, Kind::Bishop);
+    let rooks = squares_of(setup, Colour::White, Kind::Rook);
+    let queens = squares_of(setup, Colour::White, Kind::Queen);
+    let kings = squares_of(setup, Colour::White, Kind::King);
+    let black_pawns = squares_of(setup, Colour::Black, Kind::Pawn);
+    let black_knights = squares_of(setup, Colour::Black, Kind::Knight);
+    let black_bishops = squares_of(setup, Colour::Black, Kind::Bishop);
+    let black_rooks = squares_of(setup, Colour::Black, Kind::Rook);
+    let black_queens = squares_of(setup, Colour::Black, Kind::Queen);
+    let black_kings = squares_of(setup, Colour::Black, Kind::King);
+    let empty = empty_after_empty(setup);
+    DigitBits {
+        ones: bishops | knights | queens | black_bishops | black_knights | black_queens | empty,
+        twos: kings | knights | rooks | black_bishops | black_pawns | black_queens | empty,
+        fours: pawns | queens | rooks | black_bishops | black_rooks | empty,
+        eights: black_kings | black_knights | black_pawns | black_queens | black_rooks | empty,
     }
 }
 
-/// The digit of what stands on a square.
+/// The number whose digits of four bits are the bits of a rank, from the a-file on.
 #[inline(always)]
-fn digit_of(after_empty: bool, place: Option<Piece>) -> u32
-    ensures value { result ≡ place_digit after_empty place }
-    ensures few { result < 16 }
+fn spread(squares: u64, rank: u32) -> u32
+    requires { rank < 8 }
+    ensures value { result ≡ spread squares rank }
+    ensures few { result ≤ 286331153 }
 {
-    match place {
-        Some(piece) => piece_digit_of(piece),
-        None if after_empty => EMPTY_TOO,
-        None => 0,
-    }
+    let row = squares >> (8 * rank);
+    65_536 * SPREAD[(row % 16) as usize] + SPREAD[(row / 16 % 16) as usize]
 }
 
-/// The number of a rank.
-fn pack_rank(squares: &[Option<Piece>]) -> u32
-    requires { length squares.now ≤ 8 }
-    ensures { result ≡ rank_number squares.now }
+/// The number of a rank, from 0 for rank 1.
+#[inline(always)]
+fn pack_rank(bits: &DigitBits, rank: u32) -> u32
+    requires { rank < 8 }
+    ensures { (b : Board) → length b ≡ 64 → HasDigits bits.now b → result ≡ rank_number (row b rank) }
 {
-    let mut number = 0;
-    let mut after_empty = false;
-    for place in squares {
-        number = 16 * number + digit_of(after_empty, *place);
-        after_empty = place.is_none();
-    }
-    number
+    spread(bits.ones, rank)
+        + 2 * spread(bits.twos, rank)
+        + 4 * spread(bits.fours, rank)
+        + 8 * spread(bits.eights, rank)
 }
 
 /// The numbers of the ranks, from rank 8 to rank 1.
-fn pack_ranks(board: &Board) -> [u32; 8]
-    ensures { result ≡ rank_numbers board.now }
+fn pack_ranks(setup: &Setup) -> [u32; 8]
+    ensures { result ≡ rank_numbers setup.now.board }
 {
+    let bits = digit_bits_of(setup);
     [
-        pack_rank(&board[56..64]),
-        pack_rank(&board[48..56]),
-        pack_rank(&board[40..48]),
-        pack_rank(&board[32..40]),
-        pack_rank(&board[24..32]),
-        pack_rank(&board[16..24]),
-        pack_rank(&board[8..16]),
-        pack_rank(&board[0..8]),
+        pack_rank(&bits, 7),
+        pack_rank(&bits, 6),
+        pack_rank(&bits, 5),
+        pack_rank(&bits, 4),
+        pack_rank(&bits, 3),
+        pack_rank(&bits, 2),
+        pack_rank(&bits, 1),
+        pack_rank(&bits, 0),
     ]
 }
 
@@ -192,12 +236,11 @@ fn put_en_passant(line: &mut Vec<u8>, number: u16) -> Result<(), AllocError>
 
 impl PackedSetup {
     /// The setup with this board, packed.
-    pub(crate) fn of(setup: &Setup, board: &Board) -> PackedSetup
-        requires { board.now ≡ setup.now.board }
+    pub(crate) fn of(setup: &Setup) -> PackedSetup
         ensures { IsPacked result setup.now }
     {
         PackedSetup {
-            ranks: pack_ranks(board),
+            ranks: pack_ranks(setup),
             state: state_of(setup),
         }
     }

@@ -11,7 +11,6 @@ ghost use Rattle.pb_poly.specs.Key.{key as key_by};
 ghost use Rattle.pb_export.specs.Setups.{ListsSetups, SameSetup, TextBelow, all_setups, moves_of, setups_before};
 ghost use Rattle.pb_export.specs.declared.setups.ListedSetup.{ListedSetup};
 
-use crate::board::{Board, move_pieces};
 use crate::indexed_book::IndexedBook;
 use crate::packed::PackedSetup;
 use pb_accepted::Ledger;
@@ -42,7 +41,6 @@ pub(crate) struct ListedSetup {
 struct KeyedSetups {
     keys: Vec<u64>,
     setups: Vec<Setup>,
-    boards: Vec<Board>,
 }
 
 /// The setups for which a book has moves, and these moves with their weights.
@@ -105,30 +103,19 @@ impl Listing {
         ensures { OnOk result ((known : List Position) → ListsSetups table.now book.now known self.old.moves.items self.old.setups.items
             → ListsSetups table.now book.now (known ++ setups_before game.now) self.new.moves.items self.new.setups.items) }
     {
-        let KeyedSetups {
-            keys,
-            setups,
-            boards,
-        } = keyed_setups(alloc, table, game)?;
+        let KeyedSetups { keys, setups } = keyed_setups(alloc, table, game)?;
         let firsts = book.firsts_under(alloc, &keys)?;
         for index in 0..setups.len() {
             let key = keys[index];
             let entries = book.under(firsts[index], key);
-            self.add_setup(entries, &setups[index], &boards[index], key)?;
+            self.add_setup(entries, &setups[index], key)?;
         }
         Ok(())
     }
 
     /// Adds a setup that has this board and key, where one of the entries under the key is for the
     /// setup.
-    fn add_setup(
-        &mut self,
-        entries: &[Entry],
-        setup: &Setup,
-        board: &Board,
-        key: u64,
-    ) -> Result<(), AllocError>
-        requires { board.now ≡ setup.now.board }
+    fn add_setup(&mut self, entries: &[Entry], setup: &Setup, key: u64) -> Result<(), AllocError>
         ensures { OnOk result ((words : List ℕ) (book : List BookEntry) (known : List Position) → key ≡ key_by words setup.now → entries.now ≡ filter (λ e. e.key == key) book
             → ListsSetups words book known self.old.moves.items self.old.setups.items
             → ListsSetups words book (known ++ setup.now ∷ []) self.new.moves.items self.new.setups.items) }
@@ -138,7 +125,7 @@ impl Listing {
         if entries.is_empty() {
             return Ok(());
         }
-        let packed = PackedSetup::of(setup, board);
+        let packed = PackedSetup::of(setup);
         if self.is_recent(key, &packed) {
             return Ok(());
         }
@@ -207,34 +194,25 @@ fn keyed_setups(alloc: Global, table: &Table, game: &Game) -> Result<KeyedSetups
     requires { IsLegalGame game.now }
     ensures setups { IfOk result (λ k. k.setups.items ≡ setups_before game.now) }
     ensures keys { IfOk result (λ k. k.keys.items ≡ map (key_by table.now) (setups_before game.now)) }
-    ensures boards { IfOk result (λ k. k.boards.items ≡ map (λ s. s.board) (setups_before game.now)) }
 {
     let moves = game.moves.as_slice();
     let mut keys = Vec::with_capacity(alloc, moves.len())?;
     let mut setups = Vec::with_capacity(alloc, moves.len())?;
-    let mut boards = Vec::with_capacity(alloc, moves.len())?;
     let mut setup = game.start.setup();
-    let mut board = setup.board();
     let mut key = key_of(table, &setup);
     for m in moves {
         keys.push(key)?;
         setups.push(setup)?;
-        boards.push(board)?;
         match legal_effect(&setup, *m) {
             Some(effect) => {
                 key = key_next(table, key, &setup, *m, &effect);
-                move_pieces(&mut board, *m, effect.kind);
                 effect.apply(&mut setup, *m);
             }
             // The moves of a game that is held are legal.
             None => unreachable!(),
         }
     }
-    Ok(KeyedSetups {
-        keys,
-        setups,
-        boards,
-    })
+    Ok(KeyedSetups { keys, setups })
 }
 
 /// How many moves there are, in 32 bits, so that a listed setup takes less room.

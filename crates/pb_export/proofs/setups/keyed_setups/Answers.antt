@@ -2,7 +2,6 @@ use Rattle.std.proofs.Common.{◌++◌, ◌∷◌, [], ◌+◌, ◌∙◌, ap, d
 use Rattle.std.proofs.lemmas.List.{map_push}
 use Rattle.pb_board.specs.Position.{Position}
 use Rattle.pb_moves.specs.Legal.{Legal}
-use Rattle.pb_moves.specs.MoveKind.{board_by}
 use Rattle.pb_moves.specs.Moved.{Moved}
 use Rattle.pb_moves.specs.Successor.{after}
 use Rattle.pb_poly.specs.Key.{key}
@@ -19,13 +18,9 @@ loop-m-preserved c =
     let done = c.loop-m.setups.items in
     let new = c.push-in-loop-m.new.self.items in
     let played = c.apply.ensures in
-    let effect = c.in-Some.effect in
-    let m = c.m-item.result in
     let next = sym (played ∙ ap (λ (m : Moved). after s m) c.m-item.is) in
     record {
       key_is = c.key_next-key.ensures.value ∙ ap (key words) (sym played);
-      board_is = c.move_pieces.ensures ∙ ap (board_by effect.kind m) c.loop-m.invariant.board_is ∙ sym (ap (λ (p : Position). p.board) (played ∙ c.in-Some.ensures.1.after));
-      boards = c.in_ok-push-3.ensures.items ∙ (λ j. c.loop-m.invariant.boards j ++ c.loop-m.invariant.board_is j ∷ []) ∙ sym (map_push (λ (p : Position). p.board) done s) ∙ ap (map (λ (p : Position). p.board)) (sym c.in_ok-push-2.ensures.items);
       keys = c.in_ok-push.ensures.items ∙ (λ j. c.loop-m.invariant.keys j ++ c.loop-m.invariant.key_is j ∷ []) ∙ sym (map_push (key words) done s) ∙ ap (map (key words)) (sym c.in_ok-push-2.ensures.items);
       standing = subst (λ (p : Position). Standing game new p (drop (i + 1) ms)) next (Standing-more game done s ms i c.loop-m.invariant.standing c.m-item.result new c.loop-m-test.true c.in_ok-push-2.ensures.items);
     }
@@ -37,9 +32,6 @@ unreachable-requires c =
 
 pub returns-clause-setups : goal.returns-clause-setups
 returns-clause-setups c = Standing-all c.args.game.now c.loop-m.setups.items c.loop-m.setup c.as_slice-moves.result.now c.loop-m.m-index c.loop-m.invariant.standing c.loop-m-test.false
-
-pub returns-clause-boards : goal.returns-clause-boards
-returns-clause-boards c = c.loop-m.invariant.boards ∙ ap (map (λ (p : Position). p.board)) (returns-clause-setups c)
 
 pub returns-clause-keys : goal.returns-clause-keys
 returns-clause-keys c = c.loop-m.invariant.keys ∙ ap (map (key c.args.table.now)) (returns-clause-setups c)

@@ -1,5 +1,4 @@
 use Rattle.std.proofs.Common.{◌≡◌, drop, map}
-use Rattle.pb_board.specs.Position.{Position}
 use Rattle.pb_poly.specs.Key.{key}
 use Rattle.pb_export.proofs.ListedSetups.{Standing}
 use Rattle.pb_export.proofs.setups.keyed_setups.Given as goal
@@ -7,8 +6,6 @@ use Rattle.pb_export.proofs.setups.keyed_setups.Given as goal
 abbrev pub invariant-loop-m : goal.invariant-loop-m
 invariant-loop-m l = record {
   key_is : l.key ≡ key l.table l.setup;
-  board_is : l.board ≡ l.setup.board;
   keys : l.keys.items ≡ map (key l.table) l.setups.items;
-  boards : l.boards.items ≡ map (λ (s : Position). s.board) l.setups.items;
   standing : Standing l.game l.setups.items l.setup (drop l.m-index l.moves);
 }
