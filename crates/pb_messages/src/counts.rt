@@ -163,7 +163,7 @@ pub(crate) fn plural(count: u64) -> &'static str {
     if count == 1 { "" } else { "s" }
 }
 
-/// A number that is written with commas between its thousands.
+/// A number that is written with commas before its last three digits and the three before these.
 #[derive(Clone, Copy)]
 pub(crate) struct Grouped(pub(crate) u64);
 

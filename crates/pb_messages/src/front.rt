@@ -70,7 +70,7 @@ impl<W: Write> Write for Fronted<'_, W> {
     fn write(&mut self, bytes: &[u8]) -> io::Result<usize> {
         let count = self.writer.write(bytes)?;
         if let Ok(mut front) = self.front.try_borrow_mut() {
-            front.take(bytes);
+            front.take(&bytes[..count]);
         }
         Ok(count)
     }
