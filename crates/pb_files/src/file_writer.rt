@@ -6,7 +6,7 @@ use std::fs::File;
 use std::io::{self, BufWriter, Write};
 
 /// The room, in bytes, for what waits to go into a file.
-pub const PIECE: usize = 65_536;
+pub const BUFFER_LEN: usize = 65_536;
 
 /// Writes into a file, which a flush puts on the disk. What fails is told.
 #[derive(Drop)]
@@ -28,7 +28,7 @@ impl<'a> FileWriter<'a> {
         file: File,
         is_synced: bool,
     ) -> Result<FileWriter<'a>, AllocError> {
-        match BufWriter::with_capacity(alloc, PIECE, Told::new(named, file)) {
+        match BufWriter::with_capacity(alloc, BUFFER_LEN, Told::new(named, file)) {
             Ok(file) => Ok(FileWriter {
                 named,
                 file,

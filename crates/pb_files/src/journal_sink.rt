@@ -7,7 +7,7 @@ ghost use Rattle.pb_files.specs.Disk.{Adds, IsOnDisk, OutlivesCrash};
 ghost use Rattle.pb_files.specs.JournalSink.{EndState, FlushAtEnd, PutAtEnd, bytes_lasting, bytes_put};
 ghost use Rattle.pb_files.specs.Steps.{Steps};
 
-use crate::file_writer::PIECE;
+use crate::file_writer::BUFFER_LEN;
 use crate::journal_file::JournalFile;
 use pb_io::{Failed, Sink};
 use std::alloc::{AllocError, Global};
@@ -75,7 +75,7 @@ impl<J: JournalFile + Drop, D: Durability> JournalSink<J, D> {
         ensures state { IfOk result (λ sink. ⟦<JournalSink<J, D> as Sink>⟧.state sink ≡ record { bytes = bytes_put (J.state file).told []; lasting = bytes_lasting D.syncs (J.state file).told; failed = not (J.state file).ready; flushed = false; flushes = 0 }) }
         ensures end { IfOk result (λ sink. ⟦<JournalSink<J, D> as FileEnd>⟧.end sink ≡ record { told = (J.state file).told; waits = [] }) }
     {
-        let waiting = Vec::with_capacity(alloc, PIECE)?;
+        let waiting = Vec::with_capacity(alloc, BUFFER_LEN)?;
         Ok(JournalSink {
             file,
             durability: PhantomData,

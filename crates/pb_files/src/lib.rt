@@ -34,7 +34,7 @@ pub use distinct_files::{NotApart, keep_apart};
 pub use file_desk::FileDesk;
 pub use file_journal::FileJournal;
 pub use file_opener::{hold_ledger, open, start_journal};
-pub use file_writer::{FileWriter, PIECE};
+pub use file_writer::{BUFFER_LEN, FileWriter};
 pub use holding::{Lock, NotHeld, Opener, hold};
 pub use journal_file::{JournalFile, ReadFile};
 pub use journal_sink::{Durability, FileEnd, JournalSink, Synced, Written};

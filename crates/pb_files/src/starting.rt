@@ -76,7 +76,7 @@ pub fn whole_reader<J: ReadFile>(journal: &mut J, sync: bool) -> Result<J::Reade
     }
 }
 
-/// HoldsDraft the journal of a name, and then has it read: what other runs added before is read too, and
+/// Holds the journal of a name, and then has it read: what other runs added before is read too, and
 /// no other adds to it from then on. With `sync` all that is read is put on the disk before.
 ///
 /// # Errors
