@@ -110,10 +110,12 @@ test-journal: build
 	@sh examples/workers.sh
 	@sh tests/journal.sh
 
-# Compares counts of sequences of moves with published ones, times playing moves and the commands,
-# and compares a book with PolyGlot's own.
+# Compares counts of sequences of moves with published ones, and legal moves, FENs and keys with
+# those of other programs; times playing moves and the commands, and compares a book with PolyGlot's
+# own.
 bench: build $(EXAMPLES)
 	@sh bench/sequences.sh
+	@sh bench/legal_moves.sh
 	@sh bench/moves.sh
 	@sh bench/epd.sh
 	@sh bench/books.sh
