@@ -12,9 +12,10 @@ use Rattle.pb_board.specs.declared.piece.Colour.TheVariants.{White, Black}
 use Rattle.pb_board.specs.declared.piece.Kind.{Kind}
 use Rattle.pb_board.specs.declared.piece.Kind.TheVariants.{Pawn, Knight, Bishop, Rook, Queen, King}
 use Rattle.pb_board.specs.declared.piece.Piece.{Piece}
-use Rattle.pb_board.specs.Board.{Board, Place, at, file, Holds, IsEmpty, is_piece}
+use Rattle.pb_board.specs.Board.{Board, Place, at, file, Holds, is_piece}
 use Rattle.pb_board.specs.Piece.{piece_of}
 use Rattle.pb_board.proofs.PieceTests.{is_piece-is, is_piece-passes}
+use Rattle.pb_moves.specs.Attackers.{IsTaken}
 use Rattle.pb_moves.proofs.Below.{all_below_at}
 use Rattle.pb_export.specs.Packed.{HasDigits, digit_of, is_after_empty, number_after, piece_digit, place_digit, rank_digits, rank_number, row, spread}
 use Rattle.pb_export.specs.declared.packed.DigitBits.{DigitBits}
@@ -71,15 +72,15 @@ free_bit taken q m n small lt here left =
     bit_at_not w64 (bit_or (bit_or taken (taken * 2 ^ 1 % 2 ^ 64)) FILE_A) q (or_lt 64 _ FILE_A (or_lt 64 taken _ small next) (lit< tt)) lt
     ∙ ap (λ k. 1 - k) (bit_at_or (bit_or taken (taken * 2 ^ 1 % 2 ^ 64)) FILE_A q ∙ ap₂ max (bit_at_or taken _ q ∙ ap₂ max here left) (on_file_a q lt))
 
-pub empty_bit : (board : Board) (taken q : ℕ) → taken < 2 ^ 64 → q < 64 → ((k : ℕ) → (bit_at taken k ≡ 1) ↔ ¬ IsEmpty board k) → bit_at (free taken) q ≡ from_bool (is_none (at board q) && is_after_empty board q)
+pub empty_bit : (board : Board) (taken q : ℕ) → taken < 2 ^ 64 → q < 64 → IsTaken taken board → bit_at (free taken) q ≡ from_bool (is_none (at board q) && is_after_empty board q)
 empty_bit board taken q small lt h = by q lt
   where
-    bit : (k : ℕ) → bit_at taken k ≡ from_bool (not (is_none (at board k)))
-    bit k = taken_or_not (at board k) (bit_at taken k) (bit_at-lt taken k) (h k)
+    bit : (k : ℕ) → k < 64 → bit_at taken k ≡ from_bool (not (is_none (at board k)))
+    bit k lt = taken_or_not (at board k) (bit_at taken k) (bit_at-lt taken k) (h k lt)
 
     by : (q : ℕ) → q < 64 → bit_at (free taken) q ≡ from_bool (is_none (at board q) && is_after_empty board q)
-    by zero lt = free_bit taken 0 _ _ small lt (bit 0) (first_free taken) ∙ empty_test (is_none (at board 0)) true true
-    by (suc k) lt = free_bit taken (suc k) _ _ small lt (bit (suc k)) (moved_on taken k (omega (arith, lt)) ∙ bit k) ∙ empty_test (is_none (at board (suc k))) (is_none (at board k)) (file (suc k) == 0)
+    by zero lt = free_bit taken 0 _ _ small lt (bit 0 lt) (first_free taken) ∙ empty_test (is_none (at board 0)) true true
+    by (suc k) lt = free_bit taken (suc k) _ _ small lt (bit (suc k) lt) (moved_on taken k (omega (arith, lt)) ∙ bit k (omega (arith, lt))) ∙ empty_test (is_none (at board (suc k))) (is_none (at board k)) (file (suc k) == 0)
         ∙ ap (λ n. from_bool (is_none (at board (suc k)) && (not (file (suc k) == 0) && is_none (at board n)))) (omega arith)
 
 -- ---- the digit of a square

@@ -5,6 +5,7 @@ ghost use Rattle.std.specs.Int.{bit_at, from_bool};
 ghost use Rattle.pb_board.specs.Board.{Board, Place, at, is_piece};
 ghost use Rattle.pb_board.specs.Piece.{piece_of};
 ghost use Rattle.pb_board.specs.Position.{Position};
+ghost use Rattle.pb_moves.specs.Attackers.{IsTaken};
 ghost use Rattle.pb_board.specs.Text.{en_passant_text, piece_letter, rank_text, setup_text, turn_text};
 ghost use Rattle.pb_board.specs.declared.piece.Colour.{Colour};
 ghost use Rattle.pb_board.specs.declared.piece.Piece.{Piece};
@@ -28,8 +29,7 @@ const CASTLING_NUMBERS: [u16; 16] = [0, 1, 9, 2, 13, 6, 10, 3, 15, 8, 12, 5, 14,
 /// The squares of the a-file.
 const FILE_A: u64 = 0x0101_0101_0101_0101;
 
-/// Four bits as digits of four bits each, the lowest bit first. As a table, since it is made of
-/// fewer steps.
+/// The four bits of an index as digits of four bits each, the lowest bit first.
 const SPREAD: [u32; 16] = [
     0x0000, 0x1000, 0x0100, 0x1100, 0x0010, 0x1010, 0x0110, 0x1110, 0x0001, 0x1001, 0x0101, 0x1101,
     0x0011, 0x1011, 0x0111, 0x1111,
@@ -59,17 +59,18 @@ pub(crate) struct PackedSetup {
 /// The squares on which a piece of this side and kind stands.
 #[inline(always)]
 fn squares_of(setup: &Setup, colour: Colour, kind: Kind) -> u64
-    ensures { (q : ℕ) → bit_at result q ≡ from_bool (is_piece (piece_of colour kind) (at setup.now.board q)) }
+    ensures { let piece = piece_of colour kind in
+        (q : ℕ) → bit_at result q ≡ from_bool (is_piece piece (at setup.now.board q)) }
 {
     setup.by_piece(Piece { colour, kind })
 }
 
 /// The empty squares beside which, towards the a-file, another one is empty.
 #[inline(always)]
-fn empty_after_empty(setup: &Setup) -> u64
-    ensures { (q : ℕ) → q < 64 → bit_at result q ≡ from_bool (is_none (at setup.now.board q) && is_after_empty setup.now.board q) }
+fn empty_after_empty(occupied: u64) -> u64
+    ensures { (b : Board) (q : ℕ) → IsTaken occupied b → q < 64
+        → bit_at result q ≡ from_bool (is_none (at b q) && is_after_empty b q) }
 {
-    let occupied = setup.occupied();
     !(occupied | occupied << 1 | FILE_A)
 }
 
@@ -79,8 +80,6 @@ fn digit_bits_of(setup: &Setup) -> DigitBits
     ensures digits { HasDigits result setup.now.board }
     ensures squares { length setup.now.board ≡ 64 }
 {
-    // The reader tells that the setup meets its rules.
-    let _turn = setup.turn();
     let pawns = squares_of(setup, Colour::White, Kind::Pawn);
     let knights = squares_of(setup, Colour::White, Kind::Knight);
     let bishops = squares_of(setup, Colour::White, Kind::Bishop);
@@ -93,7 +92,7 @@ fn digit_bits_of(setup: &Setup) -> DigitBits
     let black_rooks = squares_of(setup, Colour::Black, Kind::Rook);
     let black_queens = squares_of(setup, Colour::Black, Kind::Queen);
     let black_kings = squares_of(setup, Colour::Black, Kind::King);
-    let empty = empty_after_empty(setup);
+    let empty = empty_after_empty(setup.occupied());
     DigitBits {
         ones: bishops | knights | queens | black_bishops | black_knights | black_queens | empty,
         twos: kings | knights | rooks | black_bishops | black_pawns | black_queens | empty,
@@ -117,7 +116,8 @@ fn spread(squares: u64, rank: u32) -> u32
 #[inline(always)]
 fn pack_rank(bits: &DigitBits, rank: u32) -> u32
     requires { rank < 8 }
-    ensures { (b : Board) → length b ≡ 64 → HasDigits bits.now b → result ≡ rank_number (row b rank) }
+    ensures { (b : Board) → length b ≡ 64 → HasDigits bits.now b
+        → result ≡ rank_number (row b rank) }
 {
     spread(bits.ones, rank)
         + 2 * spread(bits.twos, rank)
