@@ -28,7 +28,8 @@ fn look_up(
     ensures key { IfOk result (λ r. r.0 ≡ key table.now setup.now) }
     // The bytes are those of some entries, and the moves are what these have for the setup, so each
     // is legal.
-    ensures found { IfOk result (λ r. (entries : List Entry) × BookBytes entries bytes.now × Found entries table.now setup.now r.1.items) }
+    ensures found { IfOk result (λ r. (entries : List Entry) × BookBytes entries bytes.now
+        × Found entries table.now setup.now r.1.items) }
 {
     let mut source = MemSource::new(bytes, 4096);
     let book = read_book(alloc, &mut source, u32::MAX)?;

@@ -21,7 +21,8 @@ const LINES: [&[u8]; 4] = [
 /// Submits a line, and makes the reply to it.
 fn reply_to<T: Tally>(ledger: &mut Ledger<T>, line: &[u8]) -> Reply
     // The reply is that of the answer by which the ledger steps on.
-    ensures { (answer : Answer) × Step ledger.old.cap ledger.old.accepted line.now answer ledger.new.accepted
+    ensures { (answer : Answer) × Step ledger.old.cap ledger.old.accepted line.now answer
+        ledger.new.accepted
         × (result ≡ reply_line line.now answer) }
 {
     let answer = ledger.submit(line);

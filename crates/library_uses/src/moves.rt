@@ -28,8 +28,10 @@ fn choices(alloc: Global, fen: &Fen) -> Result<Vec<Move>, AllocError>
 /// that isn't legal.
 fn after(fen: &Fen, text: &[u8]) -> Option<Fen>
     ensures { MatchOption result
-        (((m : Moved) → IsMove m → text.now ≢ spelling m) ⊎ ((m : Moved) × (text.now ≡ spelling m) × ¬ Legal fen.now.setup m))
-        (λ next. (m : Moved) × (text.now ≡ spelling m) × Legal fen.now.setup m × (next ≡ record_after fen.now m)) }
+        (((m : Moved) → IsMove m → text.now ≢ spelling m)
+        ⊎ ((m : Moved) × (text.now ≡ spelling m) × ¬ Legal fen.now.setup m))
+        (λ next. (m : Moved) × (text.now ≡ spelling m) × Legal fen.now.setup m
+        × (next ≡ record_after fen.now m)) }
 {
     advance(fen, read_move(text)?)
 }

@@ -6,7 +6,12 @@ ghost use Rattle.std.specs.Bool.{Decides};
 ghost use Rattle.pb_accepted.specs.declared.ledger.TheConstants.{MAX_CAP};
 ghost use Rattle.pb_accepted.specs.declared.rules.TheConstants.{MAX_LEAST};
 ghost use Rattle.pb_accepted.specs.Holding.{most_games};
-ghost use Rattle.pb_accepted.specs.Laws.{AcceptsTheTaken, BookByMembers, CountsByMembers, HeldIsAnswered, IdsAreDistinct, LawfulArrives, NamesAreShort, NoConflict, NumbersAreDistinct, NumbersAreGiven, OneBook, OneBookText, OneRun, OneStep, RefusalsChangeNothing, RepeatsKeepTheirNumber, RunsJoin, SameBytes, TakenHasNoRepeats, TakenIsOne};
+ghost use Rattle.pb_accepted.specs.Laws.{AcceptsTheTaken, BookByMembers, CountsByMembers};
+ghost use Rattle.pb_accepted.specs.Laws.{HeldIsAnswered, IdsAreDistinct, LawfulArrives};
+ghost use Rattle.pb_accepted.specs.Laws.{NamesAreShort, NoConflict, NumbersAreDistinct};
+ghost use Rattle.pb_accepted.specs.Laws.{NumbersAreGiven, OneBook, OneBookText, OneRun, OneStep};
+ghost use Rattle.pb_accepted.specs.Laws.{RefusalsChangeNothing, RepeatsKeepTheirNumber, RunsJoin};
+ghost use Rattle.pb_accepted.specs.Laws.{SameBytes, TakenHasNoRepeats, TakenIsOne};
 ghost use Rattle.pb_accepted.specs.Rules.{CountingRules, most_occurrences};
 
 use crate::rules::Rules;

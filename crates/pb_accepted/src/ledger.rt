@@ -1,6 +1,7 @@
 //! The ledger.
 
-ghost use Rattle.std.specs.Prelude.{◌≡◌, ◌<◌, ◌≤◌, ◌+◌, ◌*◌, ◌^◌, ◌++◌, ◌∷◌, [], ℕ, All, List, IfOk, IfSome, MatchOption, OnErr, OnOk, Ok, length};
+ghost use Rattle.std.specs.Prelude.{◌≡◌, ◌<◌, ◌≤◌, ◌+◌, ◌*◌, ◌^◌, ◌++◌, ◌∷◌, [], ℕ, All, List};
+ghost use Rattle.std.specs.Prelude.{IfOk, IfSome, MatchOption, OnErr, OnOk, Ok, length};
 ghost use Rattle.pb_games.specs.Submissions.{IsLawful, IsSubmission, Submission};
 ghost use Rattle.pb_points.specs.Tally.{held};
 ghost use Rattle.pb_points.specs.TallyBook.{AddsSome};
@@ -58,9 +59,18 @@ impl<T: Tally> Model for Ledger<T> {
 
     ghost Value = { LedgerState };
 
-    ghost view = { λ a. record { basis = record { words = a.recorder.table; rules = a.rules }; cap = a.cap; accepted = a.games.entries } };
+    ghost view = { λ a. record {
+      basis = record { words = a.recorder.table; rules = a.rules };
+      cap = a.cap;
+      accepted = a.games.entries;
+    } };
 
-    ghost invariant = { λ a. HoldsCounts (T.content a.tally) (record { basis = record { words = a.recorder.table; rules = a.rules }; cap = a.cap; accepted = a.games.entries }) };
+    ghost invariant = { λ a. HoldsCounts (T.content a.tally)
+        (record {
+          basis = record { words = a.recorder.table; rules = a.rules };
+          cap = a.cap;
+          accepted = a.games.entries;
+        }) };
 }
 
 impl<T: Tally> Ledger<T> {
@@ -73,7 +83,11 @@ impl<T: Tally> Ledger<T> {
     pub fn new(alloc: Global, table: &Table, cap: u32) -> Result<Ledger<T>, AllocError>
         requires some { 1 ≤ cap }
         requires few { cap ≤ most_games }
-        ensures { IfOk result (λ l. l ≡ record { basis = record { words = table.now; rules = all_plies }; cap = cap; accepted = [] }) }
+        ensures { IfOk result (λ l. l ≡ record {
+          basis = record { words = table.now; rules = all_plies };
+          cap = cap;
+          accepted = [];
+        }) }
     {
         Ledger::with_rules(alloc, table, cap, Rules::all_plies())
     }
@@ -91,7 +105,11 @@ impl<T: Tally> Ledger<T> {
     ) -> Result<Ledger<T>, AllocError>
         requires some { 1 ≤ cap }
         requires few { cap ≤ most_games }
-        ensures empty { IfOk result (λ l. l ≡ record { basis = record { words = table.now; rules = rules }; cap = cap; accepted = [] }) }
+        ensures empty { IfOk result (λ l. l ≡ record {
+          basis = record { words = table.now; rules = rules };
+          cap = cap;
+          accepted = [];
+        }) }
         ensures counting { OnOk result (AreRules rules) }
     {
         // The reader tells that the numbers lie in their ranges.
@@ -121,7 +139,8 @@ impl<T: Tally> Ledger<T> {
         // A legal game under a new id is added where there is room and memory, and nothing else is.
         ensures step { Step self.old.cap self.old.accepted line.now result self.new.accepted }
         // One that is held gets its number, and no other answer.
-        ensures held { (s : Submission) (n : ℕ) → IsLawful line.now s → IsNumber self.old.accepted n s → result ≡ Ok n }
+        ensures held { (s : Submission) (n : ℕ) → IsLawful line.now s
+            → IsNumber self.old.accepted n s → result ≡ Ok n }
         ensures basis { self.new.basis ≡ self.old.basis }
         ensures cap { self.new.cap ≡ self.old.cap }
     {
@@ -236,7 +255,8 @@ impl<T: Tally> Ledger<T> {
         first: u64,
         entries: &mut Vec<Entry>,
     ) -> Result<Option<u64>, AllocError>
-        ensures ok { IfOk result (λ next. (book : List Entry) × IsBook self.now.basis self.now.accepted book
+        ensures ok { IfOk result (λ next. (book : List Entry)
+            × IsBook self.now.basis self.now.accepted book
             × (entries.new.items ≡ entries.old.items ++ stretch first next book)) }
         ensures onward { IfOk result (λ next. IfSome next (λ n. first < n)) }
         ensures err { OnErr result (AddsSome entries.old.items entries.new.items) }
@@ -274,12 +294,17 @@ fn accept<T: Tally>(
 ) -> Result<(), AllocError>
     requires noted { HasNoted recorder.now.table recorder.now.log read.now.1 }
     requires new { IsNewId read.now.0 games.old.entries }
-    requires points_fit { (k c : ℕ) → (held (T.content tally.old) k c).points + 2 * length read.now.1.moves ≤ 2 ^ 63 }
-    requires times_fit { (k c : ℕ) → (held (T.content tally.old) k c).times + length read.now.1.moves ≤ 2 ^ 63 }
+    requires points_fit { (k c : ℕ) → (held (T.content tally.old) k c).points
+        + 2 * length read.now.1.moves ≤ 2 ^ 63 }
+    requires times_fit { (k c : ℕ) → (held (T.content tally.old) k c).times
+        + length read.now.1.moves ≤ 2 ^ 63 }
     ensures game { OnOk result (games.new.entries ≡ games.old.entries ++ read.now ∷ []) }
-    ensures added { OnOk result ((k c : ℕ) → held (T.content tally.new) k c ≡ with_ply_points (ply_points_of (record { words = recorder.now.table; rules = rules }) read.now.1) k c (held (T.content tally.old) k c)) }
+    ensures added { OnOk result ((k c : ℕ) → held (T.content tally.new) k c
+        ≡ with_ply_points (ply_points_of (record { words = recorder.now.table; rules = rules })
+        read.now.1) k c (held (T.content tally.old) k c)) }
     ensures same_games { OnErr result (games.new.entries ≡ games.old.entries) }
-    ensures same_points { OnErr result ((k c : ℕ) → held (T.content tally.new) k c ≡ held (T.content tally.old) k c) }
+    ensures same_points { OnErr result ((k c : ℕ)
+        → held (T.content tally.new) k c ≡ held (T.content tally.old) k c) }
 {
     let game = recorder.game(alloc, read)?;
     let ply_points = counted(recorder.ply_points(), rules);

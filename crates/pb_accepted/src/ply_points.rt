@@ -47,7 +47,8 @@ pub(crate) fn ensure_rows<T: Tally>(
     ply_points: &[PlyPoints],
 ) -> Result<(), AllocError>
     ensures same { (k c : ℕ) → held (T.content tally.new) k c ≡ held (T.content tally.old) k c }
-    ensures rows { OnOk result (All (λ r. IsSome (T.content tally.new r.key r.code)) ply_points.now) }
+    ensures rows { OnOk result (All (λ r. IsSome (T.content tally.new r.key r.code))
+        ply_points.now) }
 {
     for given in ply_points {
         tally.ensure(given.key, given.code)?;
@@ -59,9 +60,12 @@ pub(crate) fn ensure_rows<T: Tally>(
 pub(crate) fn add_ply_points<T: Tally>(tally: &mut T, ply_points: &[PlyPoints])
     requires rows { All (λ r. IsSome (T.content tally.old r.key r.code)) ply_points.now }
     requires small { All (λ r. r.points ≤ 2) ply_points.now }
-    requires points_fit { (k c : ℕ) → (held (T.content tally.old) k c).points + 2 * length ply_points.now ≤ 2 ^ 63 }
-    requires times_fit { (k c : ℕ) → (held (T.content tally.old) k c).times + length ply_points.now ≤ 2 ^ 63 }
-    ensures { (k c : ℕ) → held (T.content tally.new) k c ≡ with_ply_points ply_points.now k c (held (T.content tally.old) k c) }
+    requires points_fit { (k c : ℕ) → (held (T.content tally.old) k c).points
+        + 2 * length ply_points.now ≤ 2 ^ 63 }
+    requires times_fit { (k c : ℕ) → (held (T.content tally.old) k c).times + length ply_points.now
+        ≤ 2 ^ 63 }
+    ensures { (k c : ℕ) → held (T.content tally.new) k c
+        ≡ with_ply_points ply_points.now k c (held (T.content tally.old) k c) }
 {
     for given in ply_points {
         tally.add(given.key, given.code, u64::from(given.points));

@@ -33,7 +33,8 @@ impl Rules {
     /// The rules with these numbers. None exactly where `plies` isn't in 1 to 1,024, or `least` not
     /// in 1 to 1,000,000.
     pub fn new(plies: u32, least: u32) -> Option<Rules>
-        ensures { SomeIff result (AreRules (record { plies = plies; least = least })) (record { plies = plies; least = least }) }
+        ensures { SomeIff result (AreRules (record { plies = plies; least = least }))
+            (record { plies = plies; least = least }) }
     {
         if (1..=MAX_PLIES).contains(&plies) && (1..=MAX_LEAST).contains(&least) {
             Some(Rules { plies, least })

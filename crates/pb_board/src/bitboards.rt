@@ -54,7 +54,8 @@ fn kind_number(kind: Kind) -> usize
 #[inline(always)]
 fn set_down(bitboards: &mut Bitboards, index: u8, place: Option<Piece>)
     requires { index < 64 }
-    ensures { (b : Board) → length b ≡ 64 → bitboards.old ≡ bitboards_of b → IsEmpty b index → bitboards.new ≡ bitboards_of (slice_set b index place) }
+    ensures { (b : Board) → length b ≡ 64 → bitboards.old ≡ bitboards_of b → IsEmpty b index
+        → bitboards.new ≡ bitboards_of (slice_set b index place) }
 {
     if let Some(piece) = place {
         let bit = 1u64 << index;
@@ -67,7 +68,8 @@ fn set_down(bitboards: &mut Bitboards, index: u8, place: Option<Piece>)
 #[inline(always)]
 fn clear(bitboards: &mut Bitboards, index: u8)
     requires { index < 64 }
-    ensures { (b : Board) → length b ≡ 64 → bitboards.old ≡ bitboards_of b → bitboards.new ≡ bitboards_of (slice_set b index None) }
+    ensures { (b : Board) → length b ≡ 64 → bitboards.old ≡ bitboards_of b
+        → bitboards.new ≡ bitboards_of (slice_set b index None) }
 {
     let others = !(1u64 << index);
     bitboards.sides[0] &= others;
@@ -83,7 +85,8 @@ fn clear(bitboards: &mut Bitboards, index: u8)
 /// Moves a piece from one square to another, in the place of what stood there.
 #[inline(always)]
 pub(crate) fn move_piece(bitboards: &mut Bitboards, moved: MovedPiece)
-    ensures { (b : Board) → length b ≡ 64 → bitboards.old ≡ bitboards_of b → bitboards.new ≡ bitboards_of (with_moved b moved) }
+    ensures { (b : Board) → length b ≡ 64 → bitboards.old ≡ bitboards_of b
+        → bitboards.new ≡ bitboards_of (with_moved b moved) }
 {
     clear(bitboards, moved.from.index());
     clear(bitboards, moved.to.index());
@@ -107,7 +110,8 @@ pub(crate) fn bitboards_of(board: &[Option<Piece>; 64]) -> Bitboards
 /// The squares on which something stands.
 #[inline(always)]
 pub(crate) fn occupied(bitboards: Bitboards) -> u64
-    ensures { (b : Board) (q : ℕ) → bitboards ≡ bitboards_of b → ((bit_at result q ≡ 1) ↔ ¬ IsEmpty b q) }
+    ensures { (b : Board) (q : ℕ) → bitboards ≡ bitboards_of b
+        → ((bit_at result q ≡ 1) ↔ ¬ IsEmpty b q) }
 {
     bitboards.sides[0] | bitboards.sides[1]
 }
@@ -115,7 +119,8 @@ pub(crate) fn occupied(bitboards: Bitboards) -> u64
 /// The squares on which this piece stands.
 #[inline(always)]
 pub(crate) fn by_piece(bitboards: Bitboards, piece: Piece) -> u64
-    ensures { (b : Board) (q : ℕ) → bitboards ≡ bitboards_of b → ((bit_at result q ≡ 1) ↔ Holds b q piece) }
+    ensures { (b : Board) (q : ℕ) → bitboards ≡ bitboards_of b
+        → ((bit_at result q ≡ 1) ↔ Holds b q piece) }
 {
     bitboards.sides[colour_number(piece.colour)] & bitboards.kinds[kind_number(piece.kind)]
 }
@@ -123,7 +128,8 @@ pub(crate) fn by_piece(bitboards: Bitboards, piece: Piece) -> u64
 /// The squares on which a piece of this kind stands, of either side.
 #[inline(always)]
 pub(crate) fn by_kind(bitboards: Bitboards, kind: Kind) -> u64
-    ensures { (b : Board) (q : ℕ) → bitboards ≡ bitboards_of b → ((bit_at result q ≡ 1) ↔ ((c : Colour) × Holds b q (piece_of c kind))) }
+    ensures { (b : Board) (q : ℕ) → bitboards ≡ bitboards_of b
+        → ((bit_at result q ≡ 1) ↔ ((c : Colour) × Holds b q (piece_of c kind))) }
 {
     bitboards.kinds[kind_number(kind)]
 }
@@ -141,7 +147,8 @@ fn has(squares: u64, index: u8) -> bool
 #[inline(always)]
 fn colour_at(bitboards: &Bitboards, index: u8) -> Option<Colour>
     requires { index < 64 }
-    ensures { (b : Board) → bitboards.now ≡ bitboards_of b → result ≡ option_map (λ p. p.colour) (at b index) }
+    ensures { (b : Board) → bitboards.now ≡ bitboards_of b
+        → result ≡ option_map (λ p. p.colour) (at b index) }
 {
     if has(bitboards.sides[0], index) {
         Some(Colour::White)
@@ -156,7 +163,8 @@ fn colour_at(bitboards: &Bitboards, index: u8) -> Option<Colour>
 #[inline(always)]
 fn kind_at(bitboards: &Bitboards, index: u8) -> Kind
     requires { index < 64 }
-    ensures { (b : Board) (p : Piece) → bitboards.now ≡ bitboards_of b → Holds b index p → result ≡ p.kind }
+    ensures { (b : Board) (p : Piece) → bitboards.now ≡ bitboards_of b → Holds b index p
+        → result ≡ p.kind }
 {
     if has(bitboards.kinds[0], index) {
         Kind::Pawn

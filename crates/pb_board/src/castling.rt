@@ -102,7 +102,8 @@ impl Castling {
     #[inline(always)]
     pub fn is_lost_by(self, from: Square, to: Square) -> bool
         ensures { let row = castling_row self in
-            result ≡ (from == row.king_from || to == row.king_from || (from == row.rook_from || to == row.rook_from)) }
+            result ≡ (from == row.king_from || to == row.king_from
+            || (from == row.rook_from || to == row.rook_from)) }
     {
         let CastlingSquares {
             king_from,

@@ -45,7 +45,8 @@ impl Model for FenBytes {
 
     ghost inverse = { λ text. record { bytes = padded 93 text; len = length text } };
 
-    ghost inverse_ok = { λ b h. padded-back 93 (λ bytes len. record { bytes = bytes; len = len }) b.bytes b.len h };
+    ghost inverse_ok = { λ b h. padded-back 93 (λ bytes len.
+        record { bytes = bytes; len = len }) b.bytes b.len h };
 }
 
 impl FenBytes {

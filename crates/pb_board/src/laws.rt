@@ -28,30 +28,35 @@ use crate::square::Square;
 
 /// No text has two records.
 pub fn one_record()
-    ensures { (f g : Record) (t : List ℕ) → IsRecord f → IsRecord g → t ≡ fen_text f → t ≡ fen_text g → f ≡ g }
+    ensures { (f g : Record) (t : List ℕ) → IsRecord f → IsRecord g → t ≡ fen_text f
+        → t ≡ fen_text g → f ≡ g }
 {}
 
 /// No four texts have two setups.
 pub fn one_setup()
-    ensures { (p q : Position) (four : List (List ℕ)) → IsSetup p → IsSetup q → four ≡ setup_fields p → four ≡ setup_fields q → p ≡ q }
+    ensures { (p q : Position) (four : List (List ℕ)) → IsSetup p → IsSetup q
+        → four ≡ setup_fields p → four ≡ setup_fields q → p ≡ q }
 {}
 
 /// No refusal is due for a text of a record.
 pub fn none_due()
-    ensures { (f : Record) (t : List ℕ) (e : FenError) → IsRecord f → t ≡ fen_text f → ¬ IsFirstOf fen_errors (IsDueFen (fields space t)) e }
+    ensures { (f : Record) (t : List ℕ) (e : FenError) → IsRecord f → t ≡ fen_text f
+        → ¬ IsFirstOf fen_errors (IsDueFen (fields space t)) e }
 {}
 
 /// Setups are equal (`==`) exactly where they are one position, and castling rights where each flag
 /// is the same.
 pub fn equal_setups()
-    ensures setups { (p q : Position) → IsSetup p → IsSetup q → Decides (⟦<Setup as PartialEq>⟧.eq p q) (p ≡ q) }
+    ensures setups { (p q : Position) → IsSetup p → IsSetup q
+        → Decides (⟦<Setup as PartialEq>⟧.eq p q) (p ≡ q) }
     ensures rights { (a b : Rights) → Decides (⟦<Rights as PartialEq>⟧.eq a b) (a ≡ b) }
 {}
 
 /// Records are equal exactly where setup and clocks are the same, and their texts where the bytes
 /// are.
 pub fn equal_records()
-    ensures records { (f g : Record) → IsRecord f → IsRecord g → Decides (⟦<Fen as PartialEq>⟧.eq f g) (f ≡ g) }
+    ensures records { (f g : Record) → IsRecord f → IsRecord g
+        → Decides (⟦<Fen as PartialEq>⟧.eq f g) (f ≡ g) }
     ensures texts { (t u : List ℕ) → Decides (⟦<FenBytes as PartialEq>⟧.eq t u) (t ≡ u) }
 {}
 
@@ -68,16 +73,21 @@ pub fn equal_pieces()
 /// bishop, rook and queen to king, and pieces are ordered by colour and then by kind.
 pub fn ordered_pieces()
     ensures squares { (a b : ℕ) → ⟦<Square as Ord>⟧.cmp a b ≡ nat_cmp a b }
-    ensures colours { (a b : Colour) → ⟦<Colour as Ord>⟧.cmp a b ≡ nat_cmp (colour_number a) (colour_number b) }
-    ensures kinds { (a b : Kind) → ⟦<Kind as Ord>⟧.cmp a b ≡ nat_cmp (kind_number a) (kind_number b) }
-    ensures pieces { (a b : Piece) → ⟦<Piece as Ord>⟧.cmp a b ≡ ordering_then (⟦<Colour as Ord>⟧.cmp a.colour b.colour) (⟦<Kind as Ord>⟧.cmp a.kind b.kind) }
+    ensures colours { (a b : Colour) → ⟦<Colour as Ord>⟧.cmp a b
+        ≡ nat_cmp (colour_number a) (colour_number b) }
+    ensures kinds { (a b : Kind) → ⟦<Kind as Ord>⟧.cmp a b
+        ≡ nat_cmp (kind_number a) (kind_number b) }
+    ensures pieces { (a b : Piece) → ⟦<Piece as Ord>⟧.cmp a b
+        ≡ ordering_then (⟦<Colour as Ord>⟧.cmp a.colour b.colour)
+        (⟦<Kind as Ord>⟧.cmp a.kind b.kind) }
 {}
 
 /// Castlings, and the squares between which king and rook go, are equal exactly where they are the
 /// same.
 pub fn equal_castlings()
     ensures castlings { (a b : Castling) → Decides (⟦<Castling as PartialEq>⟧.eq a b) (a ≡ b) }
-    ensures squares { (a b : CastlingSquares) → Decides (⟦<CastlingSquares as PartialEq>⟧.eq a b) (a ≡ b) }
+    ensures squares { (a b : CastlingSquares) → Decides (⟦<CastlingSquares as PartialEq>⟧.eq a b)
+        (a ≡ b) }
 {}
 
 /// Refusals of setups, and of records, are equal exactly where the cause is the same.

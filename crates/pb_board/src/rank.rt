@@ -1,6 +1,7 @@
 //! The text of one rank.
 
-ghost use Rattle.std.specs.Prelude.{◌≡◌, ◌≢◌, ◌↔◌, ◌≤◌, ◌+◌, ◌-◌, ◌<◌, List, length, MatchOption, SomeIff};
+ghost use Rattle.std.specs.Prelude.{◌≡◌, ◌≢◌, ◌↔◌, ◌≤◌, ◌+◌, ◌-◌, ◌<◌, List, length, MatchOption};
+ghost use Rattle.std.specs.Prelude.{SomeIff};
 ghost use Rattle.pb_board.specs.Board.{Place};
 ghost use Rattle.pb_board.specs.Ranks.{RankText};
 ghost use Rattle.pb_board.specs.Text.{piece_letter};
@@ -10,7 +11,8 @@ use crate::piece::{Colour, Kind, Piece};
 
 /// The piece of this letter.
 fn piece_of(letter: u8) -> Option<Piece>
-    ensures { MatchOption result ((p : Piece) → piece_letter p ≢ letter) (λ p. letter ≡ piece_letter p) }
+    ensures { MatchOption result ((p : Piece) → piece_letter p ≢ letter) (λ p.
+        letter ≡ piece_letter p) }
 {
     let colour = if letter.is_ascii_uppercase() {
         Colour::White

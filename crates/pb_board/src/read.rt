@@ -34,8 +34,10 @@ fn read_parts(
     castling: &[u8],
     en_passant: &[u8],
 ) -> Result<Parts, FenError>
-    ensures { MatchResult result (λ p. AreParts (position_of p.board p.turn p.rights p.ep) (placement.now ∷ turn.now ∷ castling.now ∷ en_passant.now ∷ []))
-        (IsFirstOf (take 4 of_setup) (IsDueFen (placement.now ∷ turn.now ∷ castling.now ∷ en_passant.now ∷ []))) }
+    ensures { MatchResult result (λ p. AreParts (position_of p.board p.turn p.rights p.ep)
+        (placement.now ∷ turn.now ∷ castling.now ∷ en_passant.now ∷ []))
+        (IsFirstOf (take 4 of_setup) (IsDueFen (placement.now ∷ turn.now ∷ castling.now
+        ∷ en_passant.now ∷ []))) }
 {
     let Some(board) = read_placement(placement) else {
         return Err(FenError::Placement);
@@ -96,7 +98,8 @@ pub fn read_setup(four: [&[u8]; 4]) -> Result<Setup, FenError>
     // What is read is a setup, and the texts spell it.
     ensures found { IfOk result (λ s. IsSetup s × (map (λ t. t.now) four.entry ≡ setup_fields s)) }
     // The texts of a setup are read.
-    ensures only { (p : Position) → IsSetup p → map (λ t. t.now) four.entry ≡ setup_fields p → result ≡ Ok p }
+    ensures only { (p : Position) → IsSetup p → map (λ t. t.now) four.entry ≡ setup_fields p
+        → result ≡ Ok p }
     // A refusal is the first whose condition holds.
     ensures refused { IfErr result (IsFirstOf of_setup (IsDueFen (map (λ t. t.now) four.entry))) }
 {

@@ -70,9 +70,15 @@ impl Model for Setup {
 
     ghost view = { λ s. position_of (board_of s.bitboards) s.turn s.rights s.ep };
 
-    ghost invariant = { λ s. KeepsBitboards (position_of (board_of s.bitboards) s.turn s.rights s.ep) s.bitboards };
+    ghost invariant = { λ s. KeepsBitboards (position_of (board_of s.bitboards) s.turn s.rights
+        s.ep) s.bitboards };
 
-    ghost inverse = { λ p. record { bitboards = bitboards_of p.board; turn = p.turn; rights = p.rights; ep = p.ep } };
+    ghost inverse = { λ p. record {
+      bitboards = bitboards_of p.board;
+      turn = p.turn;
+      rights = p.rights;
+      ep = p.ep;
+    } };
 
     ghost inverse_ok = { λ s h. bitboards-back
         (λ m. record { bitboards = m; turn = s.turn; rights = s.rights; ep = s.ep })
@@ -137,8 +143,10 @@ impl Setup {
         rights: Rights,
         ep: Option<Square>,
     )
-        requires rules { IsSetup (position_of (with_piece_moved self.old.board from to piece) (opponent self.old.turn) rights ep) }
-        ensures { self.new ≡ position_of (with_piece_moved self.old.board from to piece) (opponent self.old.turn) rights ep }
+        requires rules { IsSetup (position_of (with_piece_moved self.old.board from to piece)
+            (opponent self.old.turn) rights ep) }
+        ensures { self.new ≡ position_of (with_piece_moved self.old.board from to piece)
+            (opponent self.old.turn) rights ep }
     {
         let next = self;
         bitboards::move_piece(&mut next.bitboards, MovedPiece { from, to, piece });
@@ -156,8 +164,10 @@ impl Setup {
         rights: Rights,
         ep: Option<Square>,
     )
-        requires rules { IsSetup (position_of (with_two_moved self.old.board first second) (opponent self.old.turn) rights ep) }
-        ensures { self.new ≡ position_of (with_two_moved self.old.board first second) (opponent self.old.turn) rights ep }
+        requires rules { IsSetup (position_of (with_two_moved self.old.board first second)
+            (opponent self.old.turn) rights ep) }
+        ensures { self.new ≡ position_of (with_two_moved self.old.board first second)
+            (opponent self.old.turn) rights ep }
     {
         let next = self;
         bitboards::move_piece(&mut next.bitboards, first);

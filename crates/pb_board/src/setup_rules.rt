@@ -5,7 +5,8 @@ ghost use Rattle.pb_board.specs.declared.piece.Colour.{Colour};
 ghost use Rattle.pb_board.specs.Board.{Board};
 ghost use Rattle.pb_board.specs.Bitboards.{bitboards_of};
 ghost use Rattle.pb_board.specs.Piece.{pawn_of};
-ghost use Rattle.pb_board.specs.Position.{HasOneKing, HasNoEdgePawn, IsOnlyKing, WasSteppedOver, OnEnPassantRank};
+ghost use Rattle.pb_board.specs.Position.{HasOneKing, HasNoEdgePawn, IsOnlyKing, WasSteppedOver};
+ghost use Rattle.pb_board.specs.Position.{OnEnPassantRank};
 
 use crate::bitboards::{self, Bitboards};
 use crate::piece::{Colour, Kind, Piece};
@@ -13,7 +14,8 @@ use crate::square::Square;
 
 /// The square of this colour's king, if exactly one stands on the board that these squares are of.
 pub(crate) fn one_king(bitboards: Bitboards, colour: Colour) -> Option<Square>
-    ensures { (b : Board) → bitboards ≡ bitboards_of b → MatchOption result (¬ HasOneKing b colour) (IsOnlyKing b colour) }
+    ensures { (b : Board) → bitboards ≡ bitboards_of b
+        → MatchOption result (¬ HasOneKing b colour) (IsOnlyKing b colour) }
 {
     let kind = Kind::King;
     let kings = bitboards::by_piece(bitboards, Piece { colour, kind });
@@ -28,7 +30,8 @@ pub(crate) fn one_king(bitboards: Bitboards, colour: Colour) -> Option<Square>
 /// The square of this colour's king, where it is known that one stands there alone.
 #[inline(always)]
 pub(crate) fn only_king(bitboards: Bitboards, colour: Colour) -> Square
-    ensures { (b : Board) → bitboards ≡ bitboards_of b → HasOneKing b colour → IsOnlyKing b colour result }
+    ensures { (b : Board) → bitboards ≡ bitboards_of b → HasOneKing b colour
+        → IsOnlyKing b colour result }
 {
     let kind = Kind::King;
     let kings = bitboards::by_piece(bitboards, Piece { colour, kind });
@@ -42,7 +45,8 @@ const EDGE_RANKS: u64 = 0xFF00_0000_0000_00FF;
 
 /// Tells whether no pawn stands on rank 1 or 8 of the board that these squares are of.
 pub(crate) fn has_no_edge_pawn(bitboards: Bitboards) -> bool
-    ensures { (b : Board) → length b ≡ 64 → bitboards ≡ bitboards_of b → (IsTrue result ↔ HasNoEdgePawn b) }
+    ensures { (b : Board) → length b ≡ 64 → bitboards ≡ bitboards_of b
+        → (IsTrue result ↔ HasNoEdgePawn b) }
 {
     bitboards::by_kind(bitboards, Kind::Pawn) & EDGE_RANKS == 0
 }

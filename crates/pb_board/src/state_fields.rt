@@ -1,6 +1,7 @@
 //! Reads the side to move, the castling rights and the en passant square of a FEN record.
 
-ghost use Rattle.std.specs.Prelude.{◌≡◌, ◌≢◌, ◌↔◌, ◌<◌, ◌∷◌, ◌++◌, [], List, ℕ, Option, MatchOption, MatchBool, IfSome};
+ghost use Rattle.std.specs.Prelude.{◌≡◌, ◌≢◌, ◌↔◌, ◌<◌, ◌∷◌, ◌++◌, [], List, ℕ, Option};
+ghost use Rattle.std.specs.Prelude.{MatchOption, MatchBool, IfSome};
 ghost use Rattle.pb_board.specs.declared.piece.Colour.{Colour};
 ghost use Rattle.pb_board.specs.declared.setup.Rights.{Rights};
 ghost use Rattle.pb_board.specs.Board.{rank};
@@ -14,7 +15,8 @@ use crate::square::Square;
 
 /// The side to move.
 pub(crate) fn read_turn(text: &[u8]) -> Option<Colour>
-    ensures { MatchOption result ((turn : Colour) → text.now ≢ turn_text turn) (λ turn. text.now ≡ turn_text turn) }
+    ensures { MatchOption result ((turn : Colour) → text.now ≢ turn_text turn) (λ turn.
+        text.now ≡ turn_text turn) }
 {
     match text {
         [b'w'] => Some(Colour::White),
@@ -25,7 +27,8 @@ pub(crate) fn read_turn(text: &[u8]) -> Option<Colour>
 
 /// The castling flags.
 pub(crate) fn read_rights(text: &[u8]) -> Option<Rights>
-    ensures { MatchOption result ((rights : Rights) → text.now ≢ castling_text rights) (λ rights. text.now ≡ castling_text rights) }
+    ensures { MatchOption result ((rights : Rights) → text.now ≢ castling_text rights) (λ rights.
+        text.now ≡ castling_text rights) }
 {
     if let [b'-'] = text {
         return Some(Rights {
@@ -52,7 +55,8 @@ pub(crate) fn read_rights(text: &[u8]) -> Option<Rights>
 
 /// Tells whether the text begins with the letter, and gives what is left without it.
 fn strip(text: &[u8], letter: u8) -> (bool, &[u8])
-    ensures { MatchBool result.0 (text.now ≡ letter ∷ result.1.now) ((result.1.now ≡ text.now) × NotFirst letter text.now) }
+    ensures { MatchBool result.0 (text.now ≡ letter ∷ result.1.now)
+        ((result.1.now ≡ text.now) × NotFirst letter text.now) }
 {
     match text {
         [first, rest @ ..] if *first == letter => (true, rest),
@@ -62,7 +66,8 @@ fn strip(text: &[u8], letter: u8) -> (bool, &[u8])
 
 /// The en passant square, on the rank that fits the side to move.
 pub(crate) fn read_en_passant(text: &[u8], turn: Colour) -> Option<Option<Square>>
-    ensures { MatchOption result ((ep : Option ℕ) → text.now ≡ en_passant_text ep → ¬ IfSome ep (OnEnPassantRank turn))
+    ensures { MatchOption result ((ep : Option ℕ) → text.now ≡ en_passant_text ep
+        → ¬ IfSome ep (OnEnPassantRank turn))
         (λ ep. (text.now ≡ en_passant_text ep) × IfSome ep (OnEnPassantRank turn)) }
 {
     match text {

@@ -1,7 +1,8 @@
 //! Writing a FEN record.
 
 ghost use Rattle.std.specs.Prelude.{◌≡◌, ◌≤◌, ◌<◌, ◌+◌, ◌++◌, IfOk, decimal, length};
-ghost use Rattle.pb_board.specs.Text.{piece_letter, empty_squares, rank_text, placement_text, turn_text, castling_text};
+ghost use Rattle.pb_board.specs.Text.{piece_letter, empty_squares, rank_text, placement_text};
+ghost use Rattle.pb_board.specs.Text.{turn_text, castling_text};
 ghost use Rattle.pb_board.specs.Text.{en_passant_text, setup_text, fen_text};
 
 use crate::fen::{Fen, FenBytes};

@@ -2,18 +2,24 @@
 ghost use Rattle.std.specs.Prelude.{◌≡◌, IfOk, codes, false};
 ghost use Rattle.clap.specs.Words.{App, new_app, rule_of};
 ghost use Rattle.pb_cli.specs.Built.{IsCommand};
-ghost use Rattle.pb_cli.specs.CommandLine.{collect_command, epd_command, export_command, fen_command, flag, flag_with_short, further_words, option_if_given, option_with, pbook, probe_command, program_alone, quiet_flag, required_word, show_command, with_games, with_keeping};
+ghost use Rattle.pb_cli.specs.CommandLine.{collect_command, epd_command, export_command};
+ghost use Rattle.pb_cli.specs.CommandLine.{fen_command, flag, flag_with_short, further_words};
+ghost use Rattle.pb_cli.specs.CommandLine.{option_if_given, option_with, pbook, probe_command};
+ghost use Rattle.pb_cli.specs.CommandLine.{program_alone, quiet_flag, required_word, show_command};
+ghost use Rattle.pb_cli.specs.CommandLine.{with_games, with_keeping};
 
 use clap::{Arg, ArgAction, Command};
 use std::alloc::{AllocError, Global};
 
 /// What a FEN record is, for the help of each command that takes one.
-const RECORD_HELP: &str =
-    "A FEN record, its six fields as one quoted word, like 'rnbqkbnr/pppppppp/8/8/8/8/PPPPPPPP/RNBQKBNR w KQkq - 0 1'";
+const RECORD_HELP: &str = "\
+A FEN record, its six fields as one quoted word, like \
+'rnbqkbnr/pppppppp/8/8/8/8/PPPPPPPP/RNBQKBNR w KQkq - 0 1'";
 
 /// How moves are spelt, for the help of the command that plays them.
-const MOVES_HELP: &str =
-    "Moves in turn, each as the square it leaves, the square it reaches and the letter of a promotion, like e2e4, e1g1 or e7e8q";
+const MOVES_HELP: &str = "\
+Moves in turn, each as the square it leaves, the square it reaches and the letter of a promotion, \
+like e2e4, e1g1 or e7e8q";
 
 /// What a book file is, for the help of each command that reads one.
 const BOOK_HELP: &str = "A PolyGlot book file";
@@ -209,7 +215,8 @@ fn bare_command<'a>(alloc: Global, name: &'a str, about: &'a str, after: &'a str
 
 /// The command with the options that say what is kept beside the book.
 fn with_keeping<'a>(alloc: Global, command: Command<'a>) -> Result<Command<'a>, AllocError>
-    ensures { IfOk result (λ keeping. (app : App) → IsCommand app command.entry → IsCommand (with_keeping app) keeping) }
+    ensures { IfOk result (λ keeping. (app : App) → IsCommand app command.entry
+        → IsCommand (with_keeping app) keeping) }
 {
     let saved = command.arg(option_if_given(alloc, "ledger", "FILE", LEDGER_HELP))?;
     let journaled = saved.arg(option_if_given(alloc, "journal", "FILE", JOURNAL_HELP))?;
@@ -220,7 +227,8 @@ fn with_keeping<'a>(alloc: Global, command: Command<'a>) -> Result<Command<'a>, 
 /// The command that takes games: with the options that say what of them counts, `--quiet`, and the
 /// table.
 fn with_games<'a>(alloc: Global, command: Command<'a>) -> Result<Command<'a>, AllocError>
-    ensures { IfOk result (λ taking. (app : App) → IsCommand app command.entry → IsCommand (with_games app) taking) }
+    ensures { IfOk result (λ taking. (app : App) → IsCommand app command.entry
+        → IsCommand (with_games app) taking) }
 {
     let some_plies = command.arg(option(alloc, "plies", "N", "1024", PLIES_HELP))?;
     let counting = some_plies.arg(option(alloc, "least", "G", "1", LEAST_HELP))?;

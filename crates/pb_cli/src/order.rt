@@ -1,12 +1,15 @@
 //! The words of the command line as an order to one command.
-ghost use Rattle.std.specs.Prelude.{◌≡◌, ◌≤◌, ◌^◌, ℕ, Ok, Some, IfErr, IfOk, MatchOption, OnErr, OnOk, None, [], codes, unwrap_or};
+ghost use Rattle.std.specs.Prelude.{◌≡◌, ◌≤◌, ◌^◌, ℕ, Ok, Some, IfErr, IfOk, MatchOption, OnErr};
+ghost use Rattle.std.specs.Prelude.{OnOk, None, [], codes, unwrap_or};
 ghost use Rattle.std.specs.Str.Parse.{IsNumeral, digits_value};
 ghost use Rattle.clap.specs.Walk.{texts};
-ghost use Rattle.clap.specs.Words.{all_of, fault_of, first_of, found_of, kind_of, rows_of, subcommand_of, subcommand_rows_of};
+ghost use Rattle.clap.specs.Words.{all_of, fault_of, first_of, found_of, kind_of, rows_of};
+ghost use Rattle.clap.specs.Words.{subcommand_of, subcommand_rows_of};
 ghost use Rattle.clap.specs.declared.error.ErrorKind.TheVariants.{OutOfMemory};
 ghost use Rattle.pb_cli.specs.CommandLine.{pbook};
 ghost use Rattle.pb_accepted.specs.Rules.{CountingRules};
-ghost use Rattle.pb_cli.specs.Orders.{HasFlag, HasKeeping, HasNumber, HasRules, HasWordIfGiven, HasWords, IsOrderOf, RefusesFor, RefusesRightly, name_of};
+ghost use Rattle.pb_cli.specs.Orders.{HasFlag, HasKeeping, HasNumber, HasRules, HasWordIfGiven};
+ghost use Rattle.pb_cli.specs.Orders.{HasWords, IsOrderOf, RefusesFor, RefusesRightly, name_of};
 ghost use Rattle.pb_cli.specs.declared.order.Keeping.{Keeping};
 ghost use Rattle.pb_cli.specs.declared.order.ParseFault.TheVariants.{Memory};
 
@@ -217,7 +220,8 @@ fn export<'a>(alloc: Global, given: &ArgMatches<'a>) -> Result<Order<'a>, ParseF
 /// What the options say is kept beside the book.
 fn kept_beside<'a>(alloc: Global, given: &ArgMatches<'a>) -> Result<Keeping<'a>, ParseFault>
     ensures said { IfOk result (λ kept. HasKeeping kept (rows_of (found_of given.now))) }
-    ensures refused { IfErr result (λ fault. (kept : Keeping) → HasKeeping kept (rows_of (found_of given.now)) → fault ≡ Memory) }
+    ensures refused { IfErr result (λ fault. (kept : Keeping)
+        → HasKeeping kept (rows_of (found_of given.now)) → fault ≡ Memory) }
 {
     let ledger = word_if_given(given, "ledger");
     let journal = word_if_given(given, "journal");
@@ -251,7 +255,8 @@ fn flag(given: &ArgMatches<'_>, id: &str) -> bool
 /// The rules that the options say.
 fn rules<'a>(alloc: Global, given: &ArgMatches<'a>) -> Result<Rules, ParseFault>
     ensures said { IfOk result (λ rules. HasRules rules (rows_of (found_of given.now))) }
-    ensures refused { IfErr result (λ fault. (rules : CountingRules) → HasRules rules (rows_of (found_of given.now)) → fault ≡ Memory) }
+    ensures refused { IfErr result (λ fault. (rules : CountingRules)
+        → HasRules rules (rows_of (found_of given.now)) → fault ≡ Memory) }
 {
     let plies = number(alloc, given, "plies", MAX_PLIES)?;
     let least = number(alloc, given, "least", MAX_LEAST)?;
@@ -265,14 +270,18 @@ fn number<'a>(
     option: &str,
     most: u32,
 ) -> Result<u32, ParseFault>
-    ensures given { IfOk result (λ n. HasNumber option.now n (rows_of (found_of given.now)) × (1 ≤ n) × (n ≤ most)) }
-    ensures refused { IfErr result (λ fault. (n : ℕ) → HasNumber option.now n (rows_of (found_of given.now)) → 1 ≤ n → n ≤ most → fault ≡ Memory) }
+    ensures given { IfOk result (λ n. HasNumber option.now n (rows_of (found_of given.now))
+        × (1 ≤ n) × (n ≤ most)) }
+    ensures refused { IfErr result (λ fault. (n : ℕ)
+        → HasNumber option.now n (rows_of (found_of given.now)) → 1 ≤ n → n ≤ most
+        → fault ≡ Memory) }
 {
     let text = word(alloc, given, option)?;
     match number_of(text) {
         Some(number) if (1..=most).contains(&number) => Ok(number),
         _ => Err(ParseFault::Usage(format!(in alloc;
-            "error: invalid value '{text}' for '--{option}': a number from 1 to {most} is wanted\n\nFor more information, try '--help'.\n"
+            "error: invalid value '{text}' for '--{option}': a number from 1 to {most} is wanted\n\n\
+             For more information, try '--help'.\n"
         )?)),
     }
 }

@@ -1,12 +1,14 @@
 -- The theorem of `pbook collect` on bytes in memory.
-use Rattle.std.proofs.Common.{◌≡◌, ◌≢◌, ◌⊎◌, ◌∙◌, ℕ, true, false, List, [], ◌++◌, Option, Some, None, Result, Ok, Err, arith, inl, inr, refl, subst, sym}
+use Rattle.std.proofs.Common.{◌≡◌, ◌≢◌, ◌<◌, ◌≤◌, ◌⊎◌, ◌∙◌, ℕ, true, false, List, [], ◌++◌, Option, Some, None, Result, Ok, Err, ap, arith, inl, inr, length, length-append, refl, subst, sym}
 use Rattle.std.proofs.lemmas.Option.{same_Some}
 use Rattle.std.specs.Prelude.{IfSome}
 use Rattle.std.specs.Io.KnownBytes.{Appends}
 use Rattle.pb_io.specs.Sink.{SinkState}
 use Rattle.pb_io.specs.Source.{SourceState}
+use Rattle.pb_io.specs.Reads.{chunk_len}
 use Rattle.pb_poly.proofs.Tables.{only_memory}
-use Rattle.pb_poly.specs.Table.{IsTableFile}
+use Rattle.pb_poly.proofs.ToldReads.{came_first}
+use Rattle.pb_poly.specs.Table.{IsTableFile, table_limit}
 use Rattle.pb_poly.specs.declared.entry.Entry.{Entry}
 use Rattle.pb_poly.specs.declared.table.TableError.TheVariants as poly
 use Rattle.pb_poly.specs.declared.table_file.TableFault.{TableFault}
@@ -71,22 +73,34 @@ never_refused rules fills t t' s s' sink sink' file None told none run randoms i
 
 -- ---- faults of a run whose sources can't fail
 
-table_fault : (fills : ℕ) (t t' : SourceState) (e : TableFault) (fault : Fault) → t'.failed ≡ false → ReadsTable fills t t' (Err e) → Err fault ≡ table_verdict e
-    → (fault ≡ Memory) ⊎ (fault ≡ Endless)
-table_fault fills t t' table.Long fault works read is = absurd (cc)
-table_fault fills t t' (table.Line n) fault works read is = absurd (cc)
-table_fault fills t t' (table.Count n) fault works read is = absurd (cc)
-table_fault fills t t' table.Read fault works read is =
-    let h = found_no_table fills t t' table.Read read in let fails : t'.failed ≡ true = h.reads.fails in absurd (cc)
-table_fault fills t t' table.Endless fault works read is = inr (cc)
-table_fault fills t t' table.Memory fault works read is = inl (cc)
+-- the reads of a table end before they are too many
+no_endless_table : (fills : ℕ) (came : List ℕ) → table_limit < fills → fills ≤ length came → length came ≤ table_limit → ⊥
+no_endless_table fills came more many few = omega (arith, more, many, few)
 
-stop_fault : (fills : ℕ) (s s' : SourceState) (sink sink' : SinkState) (ledger left : LedgerState) (fault : Fault) → s'.failed ≡ false → fault ≢ Write
-    → CollectsUntil fills s s' sink sink' ledger left fault → (fault ≡ Memory) ⊎ (fault ≡ Endless)
-stop_fault fills s s' sink sink' ledger left Read works other h = let fails : s'.failed ≡ true = h.0.reads.fails in absurd (cc)
-stop_fault fills s s' sink sink' ledger left Write works other h = absurd (other refl)
-stop_fault fills s s' sink sink' ledger left Endless works other h = inr refl
-stop_fault fills s s' sink sink' ledger left Memory works other h = inl refl
+table_fault : (fills : ℕ) (t t' : SourceState) (e : TableFault) (fault : Fault) → table_limit < fills → t'.failed ≡ false → ReadsTable fills t t' (Err e) → Err fault ≡ table_verdict e
+    → fault ≡ Memory
+table_fault fills t t' table.Long fault more works read is = absurd (cc)
+table_fault fills t t' (table.Line n) fault more works read is = absurd (cc)
+table_fault fills t t' (table.Count n) fault more works read is = absurd (cc)
+table_fault fills t t' table.Read fault more works read is =
+    let h = found_no_table fills t t' table.Read read in let fails : t'.failed ≡ true = h.reads.fails in absurd (cc)
+table_fault fills t t' table.Endless fault more works read is =
+    let h = found_no_table fills t t' table.Endless read in absurd (no_endless_table fills h.came more h.reads.many h.due)
+table_fault fills t t' table.Memory fault more works read is = cc
+
+-- it is want of memory, or each of so many reads gave one of these bytes at least
+abbrev pub MemoryOrMany : ℕ → List ℕ → Fault → Type 0
+MemoryOrMany fills bytes fault = (fault ≡ Memory) ⊎ ((fault ≡ Endless) × (fills ≤ length bytes))
+
+stop_fault : (fills : ℕ) (s s' : SourceState) (sink sink' : SinkState) (ledger left : LedgerState) (bytes : List ℕ) (fault : Fault) → s.to_come ≡ Some bytes → s'.failed ≡ false
+    → fault ≢ Write → CollectsUntil fills s s' sink sink' ledger left fault → MemoryOrMany fills bytes fault
+stop_fault fills s s' sink sink' ledger left bytes Read told works other h = let fails : s'.failed ≡ true = h.0.reads.fails in absurd (cc)
+stop_fault fills s s' sink sink' ledger left bytes Write told works other h = absurd (other refl)
+stop_fault fills s s' sink sink' ledger left bytes Endless told works other h =
+    let came = h.0.came in
+    let c = came_first chunk_len fills s s' bytes told came h.0.reads.reads in
+    inr (refl, omega (arith, h.0.reads.many, ap length c.1, length-append came c.0))
+stop_fault fills s s' sink sink' ledger left bytes Memory told works other h = inl refl
 
 same_fault : {X : Type 0} {f g : Fault} → (let r : Result X Fault = Err f in r) ≡ Err g → f ≡ g
 same_fault is = cc
@@ -94,13 +108,14 @@ same_fault is = cc
 is_judged : {X : Type 0} {f g : Fault} {v : Verdict} → (let r : Result X Fault = Err f in r) ≡ Err g → Err g ≡ v → Err f ≡ v
 is_judged is verdict = cc
 
-pub faults : (rules : CountingRules) (fills : ℕ) (t t' s s' : SourceState) (sink sink' : SinkState) (fault : Fault) → t'.failed ≡ false → s'.failed ≡ false → fault ≢ Write
-    → CollectRun rules fills t t' s s' sink sink' (Err fault) → (fault ≡ Memory) ⊎ (fault ≡ Endless)
-faults rules fills t t' s s' sink sink' fault table works other (runs.went m x first goes is) = absurd (cc)
-faults rules fills t t' s s' sink sink' fault table works other (runs.broke m f first (inl (left, until)) is) =
-    stop_fault fills s s' sink sink' m left fault works other (subst (CollectsUntil fills s s' sink sink' m left) (sym (same_fault is)) until)
-faults rules fills t t' s s' sink sink' fault table works other (runs.broke m f first (inr (memory, left)) is) = inl (same_fault is ∙ memory)
-faults rules fills t t' s s' sink sink' fault table works other (runs.told out judged put handed is) = absurd (cc)
-faults rules fills t t' s s' sink sink' fault table works other (runs.untold out count judged put fails flushes is) = absurd (other (same_fault is))
-faults rules fills t t' s s' sink sink' fault table works other (runs.stopped f (lacks, unread) kept is) =
-    table_fault fills t t' lacks.cause fault table lacks.found (is_judged is lacks.is)
+module _ (rules : CountingRules) (fills : ℕ) (t t' s s' : SourceState) (sink sink' : SinkState) (bytes : List ℕ) (fault : Fault) (more : table_limit < fills)
+    (told : s.to_come ≡ Some bytes) (table : t'.failed ≡ false) (works : s'.failed ≡ false) (other : fault ≢ Write) where
+  pub faults : CollectRun rules fills t t' s s' sink sink' (Err fault) → MemoryOrMany fills bytes fault
+  faults (runs.went m x first goes is) = absurd (cc)
+  faults (runs.broke m f first (inl (left, until)) is) =
+      stop_fault fills s s' sink sink' m left bytes fault told works other (subst (CollectsUntil fills s s' sink sink' m left) (sym (same_fault is)) until)
+  faults (runs.broke m f first (inr (memory, left)) is) = inl (same_fault is ∙ memory)
+  faults (runs.told out judged put handed is) = absurd (cc)
+  faults (runs.untold out count judged put fails flushes is) = absurd (other (same_fault is))
+  faults (runs.stopped f (lacks, unread) kept is) =
+      inl (table_fault fills t t' lacks.cause fault more table lacks.found (is_judged is lacks.is))

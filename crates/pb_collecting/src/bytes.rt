@@ -1,7 +1,8 @@
 //! The theorem of `pbook collect` on bytes in memory, in which nothing is said of sources and
 //! sinks.
 
-ghost use Rattle.std.specs.Prelude.{◌≡◌, ◌⊎◌, ℕ, IfErr, IfNone, IfOk, IfSome, List};
+ghost use Rattle.std.specs.Prelude.{◌≡◌, ◌⊎◌, ◌≤◌, ◌-◌, ◌^◌, ℕ, IfErr, IfNone, IfOk, IfSome, List};
+ghost use Rattle.std.specs.Prelude.{length};
 ghost use Rattle.pb_poly.specs.Table.{IsTableFile};
 ghost use Rattle.pb_io.specs.declared.fault.Fault.TheVariants.{Endless, Memory};
 ghost use Rattle.pb_collecting.specs.Headline.{Headline};
@@ -19,7 +20,7 @@ use std::alloc::Global;
 /// # Errors
 ///
 /// `Memory` comes where a growth of the ledger, of the replies or of the book found no memory, and
-/// `Endless` where there are more bytes than can be asked for.
+/// `Endless` where so many submissions can't be asked for: never below 2^32 - 1 bytes of them.
 pub fn collect_bytes(
     alloc: Global,
     rules: Rules,
@@ -31,7 +32,8 @@ pub fn collect_bytes(
     // Without a book, the bytes are no table file, whatever the numbers.
     ensures refused { IfOk result (λ answer. IfNone answer
         ((randoms : List ℕ) → ¬ IsTableFile randoms table.now)) }
-    ensures fault { IfErr result (λ fault. (fault ≡ Memory) ⊎ (fault ≡ Endless)) }
+    ensures fault { IfErr result (λ fault.
+        (fault ≡ Memory) ⊎ ((fault ≡ Endless) × (2 ^ 32 - 1 ≤ length submissions.now))) }
 {
     let mut table_source = MemSource::new(table, CHUNK_LEN);
     let mut source = MemSource::new(submissions, CHUNK_LEN);

@@ -37,12 +37,14 @@ pub fn run_collect<Table: Source, In: Source, Out: Sink>(
     // games that are held; or the line was put that refuses the table; or this was done before the
     // fault.
     ensures ends { CollectRun rules fills
-        (Table.state table_source.old) (Table.state table_source.new) (In.state source.old) (In.state source.new)
+        (Table.state table_source.old) (Table.state table_source.new)
+        (In.state source.old) (In.state source.new)
         (Out.state sink.old) (Out.state sink.new) result }
     // All that is promised of the bytes that the sources handed out and the sink took: which lines
     // are accepted, that each game counts once, and that the book has one text.
     ensures headline { IfOk result (λ answer. IfSome answer (HasHeadline rules
-        (Table.state table_source.old) (Table.state table_source.new) (In.state source.old) (In.state source.new)
+        (Table.state table_source.old) (Table.state table_source.new)
+        (In.state source.old) (In.state source.new)
         (Out.state sink.old) (Out.state sink.new))) }
 {
     let Some(ledger) = take(alloc, rules, table_source, source, sink, fills)? else {
@@ -61,7 +63,8 @@ pub(crate) fn take<Table: Source, In: Source, Out: Sink>(
     fills: u32,
 ) -> Result<Option<Ledger<MapTally>>, Fault>
     ensures { LeavesLedger (CollectRun rules fills
-        (Table.state table_source.old) (Table.state table_source.new) (In.state source.old) (In.state source.new)
+        (Table.state table_source.old) (Table.state table_source.new)
+        (In.state source.old) (In.state source.new)
         (Out.state sink.old) (Out.state sink.new)) result }
 {
     let Some(mut ledger) = open(alloc, rules, table_source, sink, fills)? else {

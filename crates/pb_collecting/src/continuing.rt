@@ -50,13 +50,18 @@ pub fn run_continue<Table: Source, Saved: Source, In: Source, Out: Sink>(
     // which left this ledger and its book, or the fault that came then; or the line was put that
     // refuses the table or the saved ledger, or there was a fault, and no submission was read.
     ensures ends { ContinueRun rules fills
-        (Table.state table_source.old) (Table.state table_source.new) (Saved.state saved.old) (Saved.state saved.new)
-        (In.state source.old) (In.state source.new) (Out.state sink.old) (Out.state sink.new) result }
+        (Table.state table_source.old) (Table.state table_source.new)
+        (Saved.state saved.old) (Saved.state saved.new)
+        (In.state source.old) (In.state source.new) (Out.state sink.old) (Out.state sink.new)
+        result }
     // The games of the saved ledger were held first. Whatever run left them, the book is that of
     // the games that were accepted in both runs, each of them once.
-    ensures headline { IfOk result (λ answer. IfSome answer (λ run. IfOk run.book (HasHeadlineOfBoth rules
-        (Table.state table_source.old) (Table.state table_source.new) (Saved.state saved.old) (Saved.state saved.new)
-        (In.state source.old) (In.state source.new) (Out.state sink.old) (Out.state sink.new) run.ledger))) }
+    ensures headline { IfOk result (λ answer. IfSome answer (λ run.
+        IfOk run.book (HasHeadlineOfBoth rules
+        (Table.state table_source.old) (Table.state table_source.new)
+        (Saved.state saved.old) (Saved.state saved.new)
+        (In.state source.old) (In.state source.new) (Out.state sink.old) (Out.state sink.new)
+        run.ledger))) }
 {
     let Some(gone) = go_on(alloc, rules, table_source, saved, source, sink, fills)? else {
         return Ok(None);
@@ -99,8 +104,10 @@ pub(crate) fn go_on<Table: Source, Saved: Source, In: Source, Out: Sink>(
     fills: u32,
 ) -> Result<Option<Gone>, Fault>
     ensures { LeavesGone (ContinueRun rules fills
-        (Table.state table_source.old) (Table.state table_source.new) (Saved.state saved.old) (Saved.state saved.new)
-        (In.state source.old) (In.state source.new) (Out.state sink.old) (Out.state sink.new)) result }
+        (Table.state table_source.old) (Table.state table_source.new)
+        (Saved.state saved.old) (Saved.state saved.new)
+        (In.state source.old) (In.state source.new) (Out.state sink.old) (Out.state sink.new))
+        result }
 {
     let Some(mut ledger) = open(alloc, rules, table_source, sink, fills)? else {
         return Ok(None);
@@ -116,7 +123,8 @@ pub(crate) fn go_on<Table: Source, Saved: Source, In: Source, Out: Sink>(
 /// Shows that the saved ledger is refused and answers false, or puts nothing and answers the fault
 /// that ended its reading.
 fn refuse_ledger<K: Sink>(sink: &mut K, error: LoadError) -> Result<bool, Fault>
-    ensures { PutsOrEnds (λ verdict. verdict ≡ saved_verdict error) (K.state sink.old) (K.state sink.new) result }
+    ensures { PutsOrEnds (λ verdict. verdict ≡ saved_verdict error) (K.state sink.old)
+        (K.state sink.new) result }
 {
     match error {
         LoadError::Line(number) => refuse_with(sink, b"refused ledger line ", number as usize),

@@ -60,9 +60,11 @@ pub fn continue_into<
     book_store: &mut BookStore,
     fills: u32,
 ) -> Result<bool, NotContinued>
-    ensures { KeepsOrStops rules fills (Table.state table_source.old) (Table.state table_source.new) (Saved.state saved.old) (Saved.state saved.new)
+    ensures { KeepsOrStops rules fills (Table.state table_source.old) (Table.state table_source.new)
+        (Saved.state saved.old) (Saved.state saved.new)
         (In.state source.old) (In.state source.new) (Out.state sink.old) (Out.state sink.new)
-        (LedgerStore.state ledger_store.old) (LedgerStore.state ledger_store.new) (BookStore.state book_store.old) (BookStore.state book_store.new) result }
+        (LedgerStore.state ledger_store.old) (LedgerStore.state ledger_store.new)
+        (BookStore.state book_store.old) (BookStore.state book_store.new) result }
 {
     match go_on(alloc, rules, table_source, saved, source, sink, fills) {
         Ok(Some(run)) => keep_run(alloc, &run, ledger_store, book_store),
@@ -80,9 +82,11 @@ fn keep_run<LedgerStore: Store, BookStore: Store>(
     book_store: &mut BookStore,
 ) -> Result<bool, NotContinued>
     // Whatever sources the run read, it ends so.
-    ensures { (rules : CountingRules) (fills : ℕ) (t t' v v' s s' : SourceState) (sink sink' : SinkState)
+    ensures { (rules : CountingRules) (fills : ℕ) (t t' v v' s s' : SourceState)
+        (sink sink' : SinkState)
         → LeavesGone (ContinueRun rules fills t t' v v' s s' sink sink') (Ok (Some run.now))
-        → KeepsOrStops rules fills t t' v v' s s' sink sink' (LedgerStore.state ledger_store.old) (LedgerStore.state ledger_store.new)
+        → KeepsOrStops rules fills t t' v v' s s' sink sink' (LedgerStore.state ledger_store.old)
+        (LedgerStore.state ledger_store.new)
         (BookStore.state book_store.old) (BookStore.state book_store.new) result }
 {
     let book = LedgerBook::of(alloc, &run.ledger);

@@ -31,7 +31,8 @@ pub fn run_export<Table: Source, In: Source, Out: Sink>(
     // put, and the answer is true; or the line was put that refuses the table, and it is false; or
     // this was done before the fault.
     ensures ends { SilentExportRun rules fills
-        (Table.state table_source.old) (Table.state table_source.new) (In.state source.old) (In.state source.new)
+        (Table.state table_source.old) (Table.state table_source.new)
+        (In.state source.old) (In.state source.new)
         (Out.state sink.old) (Out.state sink.new) result }
     // The sink is blamed only where it has failed, and always where it has failed since.
     ensures blame { IfErr result (BlamesSink (Out.state sink.old) (Out.state sink.new)) }
@@ -65,8 +66,10 @@ pub fn export_submissions<Table: Source, In: Source, Replies: Sink, Out: Sink>(
     fills: u32,
 ) -> Result<bool, Fault>
     ensures { ExportRun rules fills
-        (Table.state table_source.old) (Table.state table_source.new) (In.state source.old) (In.state source.new)
-        (Replies.state replies.old) (Replies.state replies.new) (Out.state sink.old) (Out.state sink.new) result }
+        (Table.state table_source.old) (Table.state table_source.new)
+        (In.state source.old) (In.state source.new)
+        (Replies.state replies.old) (Replies.state replies.new)
+        (Out.state sink.old) (Out.state sink.new) result }
 {
     let Some(mut ledger) = open(alloc, rules, table_source, sink, fills)? else {
         return Ok(false);

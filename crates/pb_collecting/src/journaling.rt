@@ -1,7 +1,8 @@
 //! The command `collect` with a journal.
 
 ghost use Rattle.std.specs.Prelude.{IfOk, IfSome};
-ghost use Rattle.pb_collecting.specs.JournalHeadline.{HasHeadlineOfJournal, LosesNone, LosesNoneLater};
+ghost use Rattle.pb_collecting.specs.JournalHeadline.{HasHeadlineOfJournal, LosesNone};
+ghost use Rattle.pb_collecting.specs.JournalHeadline.{LosesNoneLater};
 ghost use Rattle.pb_collecting.specs.Run.{LeavesLedger};
 ghost use Rattle.pb_collecting.specs.Runs.{JournalRun};
 
@@ -52,22 +53,28 @@ pub fn run_journaled<
     // is the book of the games that are held; or the line was put that refuses the table, and
     // neither the journal nor a submission was read; or this was done before the fault.
     ensures ends { JournalRun rules fills
-        (Table.state table_source.old) (Table.state table_source.new) (Kept.state kept.old) (Kept.state kept.new)
-        (In.state source.old) (In.state source.new) (Journal.state journal.old) (Journal.state journal.new)
+        (Table.state table_source.old) (Table.state table_source.new)
+        (Kept.state kept.old) (Kept.state kept.new)
+        (In.state source.old) (In.state source.new)
+        (Journal.state journal.old) (Journal.state journal.new)
         (Out.state sink.old) (Out.state sink.new) result }
     // The lines of the journal and of the submissions are those of one run, and this is its effect.
     ensures headline { IfOk result (λ answer. IfSome answer (HasHeadlineOfJournal rules
-        (Table.state table_source.old) (Table.state table_source.new) (Kept.state kept.old) (Kept.state kept.new)
-        (In.state source.old) (In.state source.new) (Journal.state journal.old) (Journal.state journal.new)
+        (Table.state table_source.old) (Table.state table_source.new)
+        (Kept.state kept.old) (Kept.state kept.new)
+        (In.state source.old) (In.state source.new)
+        (Journal.state journal.old) (Journal.state journal.new)
         (Out.state sink.old) (Out.state sink.new))) }
     // No acknowledged game is lost: no submission was read, or the journal was read to its end and
     // holds each game that a reply calls `ok`.
     ensures survives { LosesNone (Kept.state kept.old) (Kept.state kept.new)
-        (In.state source.old) (In.state source.new) (Journal.state journal.old) (Journal.state journal.new)
+        (In.state source.old) (In.state source.new)
+        (Journal.state journal.old) (Journal.state journal.new)
         (Out.state sink.old) (Out.state sink.new) }
     // Nor by whatever ends the run, where what the journal had before lasts.
     ensures outlives { LosesNoneLater (Kept.state kept.old) (Kept.state kept.new)
-        (In.state source.old) (In.state source.new) (Journal.state journal.old) (Journal.state journal.new)
+        (In.state source.old) (In.state source.new)
+        (Journal.state journal.old) (Journal.state journal.new)
         (Out.state sink.old) (Out.state sink.new) }
 {
     let left = take_journaled(
@@ -108,8 +115,10 @@ pub(crate) fn take_journaled<
     fills: u32,
 ) -> Result<Option<Ledger<MapTally>>, Fault>
     ensures { LeavesLedger (JournalRun rules fills
-        (Table.state table_source.old) (Table.state table_source.new) (Kept.state kept.old) (Kept.state kept.new)
-        (In.state source.old) (In.state source.new) (Journal.state journal.old) (Journal.state journal.new)
+        (Table.state table_source.old) (Table.state table_source.new)
+        (Kept.state kept.old) (Kept.state kept.new)
+        (In.state source.old) (In.state source.new)
+        (Journal.state journal.old) (Journal.state journal.new)
         (Out.state sink.old) (Out.state sink.new)) result }
 {
     let Some(mut ledger) = open(alloc, rules, table_source, sink, fills)? else {

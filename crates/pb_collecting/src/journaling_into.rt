@@ -40,16 +40,21 @@ pub fn journal_into<
     store: &mut BookStore,
     fills: u32,
 ) -> Result<bool, NoBook>
-    ensures ends { JournalsInto rules fills (Table.state table_source.old) (Table.state table_source.new) (Kept.state kept.old) (Kept.state kept.new)
-        (In.state source.old) (In.state source.new) (Journal.state journal.old) (Journal.state journal.new) (Out.state sink.old) (Out.state sink.new)
+    ensures ends { JournalsInto rules fills (Table.state table_source.old)
+        (Table.state table_source.new) (Kept.state kept.old) (Kept.state kept.new)
+        (In.state source.old) (In.state source.new)
+        (Journal.state journal.old) (Journal.state journal.new)
+        (Out.state sink.old) (Out.state sink.new)
         (BookStore.state store.old) (BookStore.state store.new) result }
     // No acknowledged game is lost, whatever becomes of the book.
     ensures survives { LosesNone (Kept.state kept.old) (Kept.state kept.new)
-        (In.state source.old) (In.state source.new) (Journal.state journal.old) (Journal.state journal.new)
+        (In.state source.old) (In.state source.new)
+        (Journal.state journal.old) (Journal.state journal.new)
         (Out.state sink.old) (Out.state sink.new) }
     // Nor by whatever ends the run, where what the journal had before lasts.
     ensures outlives { LosesNoneLater (Kept.state kept.old) (Kept.state kept.new)
-        (In.state source.old) (In.state source.new) (Journal.state journal.old) (Journal.state journal.new)
+        (In.state source.old) (In.state source.new)
+        (Journal.state journal.old) (Journal.state journal.new)
         (Out.state sink.old) (Out.state sink.new) }
 {
     let left = take_journaled(

@@ -44,8 +44,10 @@ pub fn collect_into<Table: Source, In: Source, Out: Sink, BookStore: Store>(
     // The store holds the bytes of the book of the games that are held, and all that is promised of
     // it is so; or the line that refuses the table was put; or this was done before the fault, and
     // this is left at the store.
-    ensures { KeepsOrEnds rules fills (Table.state table_source.old) (Table.state table_source.new) (In.state source.old) (In.state source.new)
-        (Out.state sink.old) (Out.state sink.new) (BookStore.state store.old) (BookStore.state store.new) result }
+    ensures { KeepsOrEnds rules fills (Table.state table_source.old) (Table.state table_source.new)
+        (In.state source.old) (In.state source.new)
+        (Out.state sink.old) (Out.state sink.new)
+        (BookStore.state store.old) (BookStore.state store.new) result }
 {
     let ledger = match take(alloc, rules, table_source, source, sink, fills) {
         Ok(Some(ledger)) => ledger,

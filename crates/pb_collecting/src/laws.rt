@@ -3,7 +3,8 @@
 
 ghost use Rattle.std.specs.Prelude.{◌≡◌};
 ghost use Rattle.std.specs.Bool.{Decides};
-ghost use Rattle.pb_collecting.specs.Laws.{GoesOnAsOneRun, HasOneEffect, RefusalsLeaveTheGames, RefusedIsUnread};
+ghost use Rattle.pb_collecting.specs.Laws.{GoesOnAsOneRun, HasOneEffect, RefusalsLeaveTheGames};
+ghost use Rattle.pb_collecting.specs.Laws.{RefusedIsUnread};
 ghost use Rattle.pb_collecting.specs.declared.continuing_into.NotContinued.{NotContinued};
 ghost use Rattle.pb_collecting.specs.declared.keeping.NoBook.{NoBook};
 ghost use Rattle.pb_collecting.specs.declared.store.StoreError.{StoreError};

@@ -20,7 +20,8 @@ pub(crate) fn open<T: Source, K: Sink>(
     sink: &mut K,
     fills: u32,
 ) -> Result<Option<Ledger<MapTally>>, Fault>
-    ensures { Opens rules fills (T.state table_source.old) (T.state table_source.new) (K.state sink.old) (K.state sink.new) result }
+    ensures { Opens rules fills (T.state table_source.old) (T.state table_source.new)
+        (K.state sink.old) (K.state sink.new) result }
 {
     match empty_ledger(alloc, rules, table_source, fills) {
         Ok(ledger) => Ok(Some(ledger)),
@@ -39,7 +40,8 @@ fn empty_ledger<T: Source>(
     table_source: &mut T,
     fills: u32,
 ) -> Result<Ledger<MapTally>, TableFault>
-    ensures { MatchResult result (TakesTable rules fills (T.state table_source.old) (T.state table_source.new))
+    ensures { MatchResult result (TakesTable rules fills (T.state table_source.old)
+        (T.state table_source.new))
         (λ e. ReadsTable fills (T.state table_source.old) (T.state table_source.new) (Err e)) }
 {
     let table = take_table(alloc, table_source, fills)?;
@@ -57,7 +59,8 @@ pub(crate) fn take_submissions<S: Source, K: Sink>(
     ledger: &mut Ledger<MapTally>,
     fills: u32,
 ) -> Result<(), Fault>
-    ensures { TakesOrBreaks fills (S.state source.old) (S.state source.new) (K.state sink.old) (K.state sink.new) ledger.old ledger.new result }
+    ensures { TakesOrBreaks fills (S.state source.old) (S.state source.new)
+        (K.state sink.old) (K.state sink.new) ledger.old ledger.new result }
 {
     collect(alloc, source, sink, ledger, fills)?;
     Ok(())

@@ -46,7 +46,8 @@ pub trait Store {
         // There is a text. A store that can't be opened doesn't write it, and so learns this here
         // alone.
         requires { (bytes : List ℕ) × X.is_text text.now bytes }
-        ensures { (bytes : List ℕ) × X.is_text text.now bytes × Keeps (state self.old) (state self.new) result bytes };
+        ensures { (bytes : List ℕ) × X.is_text text.now bytes
+            × Keeps (state self.old) (state self.new) result bytes };
 }
 
 /// A store in memory. It fails only for want of memory, and then it keeps what it had.
@@ -81,12 +82,18 @@ impl MemStore {
 }
 
 impl Store for MemStore {
-    ghost state = { λ p. record { found = Some (option_and_then (λ s. (⟦<MemSink as Sink>⟧.state s).bytes) p.kept); fault = p.fault } };
+    ghost state = { λ p. record {
+      found = Some
+          (option_and_then (λ s. (⟦<MemSink as Sink>⟧.state s).bytes) p.kept);
+      fault = p.fault;
+    } };
 
     fn keep<X: Text>(&mut self, text: &X) -> Result<(), StoreError>
         ensures kept { (bytes : List ℕ) × X.is_text text.now bytes
-            × Keeps (⟦<MemStore as Store>⟧.state self.old) (⟦<MemStore as Store>⟧.state self.new) result bytes }
-        ensures fault { IfErr result (KeepsWhatItHad (⟦<MemStore as Store>⟧.state self.old) (⟦<MemStore as Store>⟧.state self.new)) }
+            × Keeps (⟦<MemStore as Store>⟧.state self.old) (⟦<MemStore as Store>⟧.state self.new)
+            result bytes }
+        ensures fault { IfErr result (KeepsWhatItHad (⟦<MemStore as Store>⟧.state self.old)
+            (⟦<MemStore as Store>⟧.state self.new)) }
     {
         let mut draft = MemSink::new(self.alloc);
         if text.write(&mut draft).is_err() {

@@ -20,7 +20,8 @@ pub trait Text {
     /// The sink has failed, or there was no memory for what was to be put next. A front of the text
     /// may have been put then.
     fn write<K: Sink>(&self, sink: &mut K) -> Result<(), WriteFault>
-        ensures { (bytes : List ℕ) × is_text self.now bytes × WritesOrWants (K.state sink.old) (K.state sink.new) result bytes };
+        ensures { (bytes : List ℕ) × is_text self.now bytes
+            × WritesOrWants (K.state sink.old) (K.state sink.new) result bytes };
 }
 
 impl<T: Tally> Text for Ledger<T> {

@@ -1,5 +1,6 @@
 //! The command `epd`: each EPD line is written in its one ordered form, or named as refused.
-ghost use Rattle.std.specs.Prelude.{◌≡◌, ◌≤◌, ◌↔◌, ◌∷◌, ◌++◌, IfErr, IsTrue, OnOk, codes, decimal, false, length, true};
+ghost use Rattle.std.specs.Prelude.{◌≡◌, ◌≤◌, ◌↔◌, ◌∷◌, ◌++◌, IfErr, IsTrue, OnOk, codes, decimal};
+ghost use Rattle.std.specs.Prelude.{false, length, true};
 ghost use Rattle.pb_board.specs.LineEnd.{with_end};
 ghost use Rattle.pb_io.specs.Lines.{line_limit};
 ghost use Rattle.pb_io.specs.Sink.{AwaitsFlush, Put};
@@ -57,7 +58,8 @@ impl<K: Sink> Rewriter<'_, K> {
             (K.state self.old.sink.now) (K.state self.new.sink.now) self.new.all_taken) }
         ensures err { IfErr result (RewritesUntil fills (S.state source.old) (S.state source.new)
             (K.state self.old.sink.now) (K.state self.new.sink.now)) }
-        ensures awaits { OnOk result (AwaitsFlush (K.state self.old.sink.now) (K.state self.new.sink.now)) }
+        ensures awaits { OnOk result (AwaitsFlush (K.state self.old.sink.now)
+            (K.state self.new.sink.now)) }
         ensures same_sink { self.new.sink.ghost_name ≡ self.old.sink.ghost_name }
     {
         take_lines(self.alloc, source, self, fills)
@@ -81,7 +83,8 @@ pub fn run_epd<S: Source, K: Sink>(
     sink: &mut K,
     fills: u32,
 ) -> Result<bool, Fault>
-    ensures { RewritesOrEnds fills (S.state source.old) (S.state source.new) (K.state sink.old) (K.state sink.new) result }
+    ensures { RewritesOrEnds fills (S.state source.old) (S.state source.new)
+        (K.state sink.old) (K.state sink.new) result }
 {
     let mut rewriter = Rewriter {
         alloc,
@@ -134,7 +137,8 @@ fn is_blank(text: &[u8]) -> bool
 /// Puts why the line of this number is refused and answers that it was, or puts nothing where
 /// memory was wanting.
 fn put_refusal<K: Sink>(sink: &mut K, number: u64, error: EpdError) -> Result<bool, Fault>
-    ensures { PutsOrStops (λ verdict. verdict ≡ epd_verdict number error) (K.state sink.old) (K.state sink.new) result }
+    ensures { PutsOrStops (λ verdict. verdict ≡ epd_verdict number error) (K.state sink.old)
+        (K.state sink.new) result }
 {
     match error {
         EpdError::Token(at) => refuse_at(sink, number, b"token ", at),
@@ -153,7 +157,8 @@ fn put_refusal<K: Sink>(sink: &mut K, number: u64, error: EpdError) -> Result<bo
 
 /// Puts that the line of this number is refused, with a reason that ends with a place.
 fn refuse_at<K: Sink>(sink: &mut K, number: u64, word: &[u8], place: usize) -> Result<bool, Fault>
-    ensures { PutsOrStops (λ verdict. verdict ≡ refused_line number (word.now ++ decimal place)) (K.state sink.old) (K.state sink.new) result }
+    ensures { PutsOrStops (λ verdict. verdict ≡ refused_line number (word.now ++ decimal place))
+        (K.state sink.old) (K.state sink.new) result }
 {
     let mut buffer = Buffer::new();
     refuse_line(sink, number, &[word, buffer.format(place).as_bytes()])
@@ -161,7 +166,8 @@ fn refuse_at<K: Sink>(sink: &mut K, number: u64, word: &[u8], place: usize) -> R
 
 /// Puts that the line of this number is refused, with a reason in parts, and answers that it was.
 fn refuse_line<K: Sink>(sink: &mut K, number: u64, why: &[&[u8]]) -> Result<bool, Fault>
-    ensures { PutsOrStops (λ verdict. verdict ≡ refused_line number (parts_joined why.now)) (K.state sink.old) (K.state sink.new) result }
+    ensures { PutsOrStops (λ verdict. verdict ≡ refused_line number (parts_joined why.now))
+        (K.state sink.old) (K.state sink.new) result }
 {
     put_refused(sink, number, why)?;
     Ok(false)
@@ -169,7 +175,8 @@ fn refuse_line<K: Sink>(sink: &mut K, number: u64, why: &[&[u8]]) -> Result<bool
 
 /// Puts the line that refuses the line of this number.
 fn put_refused<K: Sink>(sink: &mut K, number: u64, why: &[&[u8]]) -> Result<(), Failed>
-    ensures { Put (K.state sink.old) (K.state sink.new) result (with_end (codes "refused " ++ (decimal number ++ (32 ∷ parts_joined why.now)))) }
+    ensures { Put (K.state sink.old) (K.state sink.new) result
+        (with_end (codes "refused " ++ (decimal number ++ (32 ∷ parts_joined why.now)))) }
 {
     let mut buffer = Buffer::new();
     sink.put(b"refused ")?;

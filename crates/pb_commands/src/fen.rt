@@ -1,5 +1,6 @@
 //! The command `fen`: moves are played from a FEN record, and the record after them is written.
-ghost use Rattle.std.specs.Prelude.{◌≡◌, ℕ, ◌+◌, ◌↔◌, List, All, IsTrue, MatchOption, MatchResult, Ok, true};
+ghost use Rattle.std.specs.Prelude.{◌≡◌, ℕ, ◌+◌, ◌↔◌, List, All, IsTrue, MatchOption, MatchResult};
+ghost use Rattle.std.specs.Prelude.{Ok, true};
 ghost use Rattle.pb_board.specs.Position.{IsRecord};
 ghost use Rattle.pb_board.specs.LineEnd.{with_end};
 ghost use Rattle.pb_board.specs.Refusal.{BreaksAt};
@@ -38,16 +39,17 @@ enum Refusal {
 /// `refused illegal` and the number of the first move that isn't legal. Answers whether the input
 /// was taken.
 ///
-/// It takes no memory of its own. `Write` is the only fault: it comes where the sink has failed, and
-/// then a front of what was to be shown was put, and none of it handed on. That follows from the
-/// clause, by the law `fen_ends`.
+/// It takes no memory of its own. `Write` is the only fault: it comes where the sink has failed,
+/// and then a front of what was to be shown was put, and none of it handed on. That follows from
+/// the clause, by the law `fen_ends`.
 pub fn run_fen<K: Sink>(
     _alloc: Global,
     fen: &[u8],
     moves: &[&str],
     sink: &mut K,
 ) -> Result<bool, Fault>
-    ensures { PutsOrEnds (FenShown fen.now (texts moves.now)) (K.state sink.old) (K.state sink.new) result }
+    ensures { PutsOrEnds (FenShown fen.now (texts moves.now)) (K.state sink.old) (K.state sink.new)
+        result }
 {
     match record_after(fen, moves) {
         Ok(last) => {
@@ -79,7 +81,8 @@ fn record_after(fen: &[u8], moves: &[&str]) -> Result<Fen, Refusal>
 
 /// Finds the first word that spells no move, and gives its number, from 1.
 fn misspelt(words: &[&str]) -> Option<usize>
-    ensures { MatchOption result (All IsSpelled (texts words.now)) (BreaksAt (All IsSpelled) (texts words.now)) }
+    ensures { MatchOption result (All IsSpelled (texts words.now))
+        (BreaksAt (All IsSpelled) (texts words.now)) }
 {
     for (index, word) in words.iter().enumerate() {
         if !spells_move(word) {
@@ -119,7 +122,8 @@ fn play_words(start: Fen, words: &[&str]) -> Result<Fen, usize>
 fn play_word(before: &Fen, word: &str) -> Option<Fen>
     ensures { MatchOption result
         (IsSpelled word.now → (m : Moved) × Spells word.now m × ¬ Legal before.now.setup m)
-        (λ next. (m : Moved) × Spells word.now m × Legal before.now.setup m × (next ≡ next_record before.now m)) }
+        (λ next. (m : Moved) × Spells word.now m × Legal before.now.setup m
+        × (next ≡ next_record before.now m)) }
 {
     let m = read_move(word.as_bytes())?;
     advance(before, m)
@@ -127,7 +131,8 @@ fn play_word(before: &Fen, word: &str) -> Option<Fen>
 
 /// Shows why the input is refused, and answers that it was.
 fn show_refusal<K: Sink>(sink: &mut K, refusal: Refusal) -> Result<bool, Fault>
-    ensures { PutsOrEnds (λ verdict. verdict ≡ refusal_verdict refusal) (K.state sink.old) (K.state sink.new) result }
+    ensures { PutsOrEnds (λ verdict. verdict ≡ refusal_verdict refusal) (K.state sink.old)
+        (K.state sink.new) result }
 {
     match refusal {
         Refusal::Record(error) => refuse(sink, &[b"refused fen ", error.word().as_bytes()]),

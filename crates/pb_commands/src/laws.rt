@@ -13,8 +13,8 @@ ghost use Rattle.pb_commands.specs.Judged.{PutsOrEnds};
 ghost use Rattle.pb_commands.specs.Laws.{EpdEnds, FenEnds, ProbeEnds, ShowEnds};
 ghost use Rattle.pb_commands.specs.ProbeShown.{ProbesSources};
 
-/// However `run_fen` ends: the whole text was put and handed on once; or the sink failed, a front of
-/// the text was put, and none of it handed on.
+/// However `run_fen` ends: the whole text was put and handed on once; or the sink failed, a front
+/// of the text was put, and none of it handed on.
 pub fn fen_ends()
     ensures { (fen : List ℕ) (words : List (List ℕ)) (k k' : SinkState) (result : Result Bool Fault)
         → PutsOrEnds (FenShown fen words) k k' result → FenEnds fen words k k' result }

@@ -16,7 +16,8 @@ pub(crate) fn put_line<K: Sink>(sink: &mut K, parts: &[&[u8]]) -> Result<(), Fai
 
 /// Puts the parts of a line in turn and its end, and hands on what was put.
 pub(crate) fn show_line<K: Sink>(sink: &mut K, parts: &[&[u8]]) -> Result<(), Fault>
-    ensures { Shows (K.state sink.old) (K.state sink.new) result (with_end (parts_joined parts.now)) }
+    ensures { Shows (K.state sink.old) (K.state sink.new) result
+        (with_end (parts_joined parts.now)) }
 {
     put_line(sink, parts)?;
     sink.flush()?;

@@ -35,7 +35,8 @@ pub fn run_probe<TableIn: Source, BookIn: Source, Out: Sink>(
     sink: &mut Out,
     fills: u32,
 ) -> Result<bool, Fault>
-    ensures { PutsOrEnds (ProbesSources fills (TableIn.state table_source.old) (TableIn.state table_source.new)
+    ensures { PutsOrEnds (ProbesSources fills (TableIn.state table_source.old)
+        (TableIn.state table_source.new)
         (BookIn.state book_source.old) (BookIn.state book_source.new) fen.now)
         (Out.state sink.old) (Out.state sink.new) result }
 {
@@ -58,8 +59,10 @@ fn show_under<K: Sink>(
     sink: &mut K,
 ) -> Result<bool, Fault>
     // However the two were read, the command ends so.
-    ensures { (fills : ℕ) (t t' b b' : SourceState) → ReadsTable fills t t' (Ok table.now) → ReadsBook fills b b' (Ok book.now)
-        → PutsOrEnds (ProbesSources fills t t' b b' fen.now) (K.state sink.old) (K.state sink.new) result }
+    ensures { (fills : ℕ) (t t' b b' : SourceState) → ReadsTable fills t t' (Ok table.now)
+        → ReadsBook fills b b' (Ok book.now)
+        → PutsOrEnds (ProbesSources fills t t' b b' fen.now) (K.state sink.old) (K.state sink.new)
+        result }
 {
     let record = match read_fen(fen) {
         Ok(record) => record,

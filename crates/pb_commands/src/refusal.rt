@@ -13,7 +13,8 @@ use pb_poly::{BookError, TableFault};
 
 /// Shows the line of these parts and answers that the input was refused.
 pub(crate) fn refuse<K: Sink>(sink: &mut K, parts: &[&[u8]]) -> Result<bool, Fault>
-    ensures { PutsOrEnds (λ verdict. verdict ≡ Ok (false, with_end (parts_joined parts.now))) (K.state sink.old) (K.state sink.new) result }
+    ensures { PutsOrEnds (λ verdict. verdict ≡ Ok (false, with_end (parts_joined parts.now)))
+        (K.state sink.old) (K.state sink.new) result }
 {
     show_line(sink, parts)?;
     Ok(false)
@@ -21,7 +22,8 @@ pub(crate) fn refuse<K: Sink>(sink: &mut K, parts: &[&[u8]]) -> Result<bool, Fau
 
 /// Shows the line of these words and this number and answers that the input was refused.
 pub fn refuse_with<K: Sink>(sink: &mut K, words: &[u8], number: usize) -> Result<bool, Fault>
-    ensures { PutsOrEnds (λ verdict. verdict ≡ Ok (false, with_end (words.now ++ decimal number))) (K.state sink.old) (K.state sink.new) result }
+    ensures { PutsOrEnds (λ verdict. verdict ≡ Ok (false, with_end (words.now ++ decimal number)))
+        (K.state sink.old) (K.state sink.new) result }
 {
     let mut buffer = Buffer::new();
     let digits = buffer.format(number);
@@ -30,7 +32,8 @@ pub fn refuse_with<K: Sink>(sink: &mut K, words: &[u8], number: usize) -> Result
 
 /// Shows why a book is refused, or answers the fault that ended its reading.
 pub(crate) fn refuse_book<K: Sink>(sink: &mut K, error: BookError) -> Result<bool, Fault>
-    ensures { PutsOrEnds (λ verdict. verdict ≡ book_verdict error) (K.state sink.old) (K.state sink.new) result }
+    ensures { PutsOrEnds (λ verdict. verdict ≡ book_verdict error) (K.state sink.old)
+        (K.state sink.new) result }
 {
     match error {
         BookError::Unsorted(number) => refuse_with(sink, b"refused book unsorted ", number),
@@ -44,7 +47,8 @@ pub(crate) fn refuse_book<K: Sink>(sink: &mut K, error: BookError) -> Result<boo
 /// Shows why a table file is refused, `refused table` and `long`, or `line` or `count` and its
 /// number, and answers false; or puts nothing, and answers the fault that ended its reading.
 pub fn refuse_table<K: Sink>(sink: &mut K, error: TableFault) -> Result<bool, Fault>
-    ensures { PutsOrEnds (λ verdict. verdict ≡ table_verdict error) (K.state sink.old) (K.state sink.new) result }
+    ensures { PutsOrEnds (λ verdict. verdict ≡ table_verdict error) (K.state sink.old)
+        (K.state sink.new) result }
 {
     match error {
         TableFault::Long => refuse(sink, &[b"refused table long"]),

@@ -68,7 +68,8 @@ fn put_entry<K: Sink>(sink: &mut K, entry: &Entry) -> Result<(), Failed>
 /// Writes the number that has these bytes, the highest first, in digits: two of each byte.
 fn digits_of<const DIGITS: usize>(bytes: &[u8]) -> [u8; DIGITS]
     requires { DIGITS ≡ 2 * length bytes.now }
-    ensures { (number : ℕ) → bytes.now ≡ bytes_high_first (length bytes.now) number → result ≡ hexadecimal DIGITS number }
+    ensures { (number : ℕ) → bytes.now ≡ bytes_high_first (length bytes.now) number
+        → result ≡ hexadecimal DIGITS number }
 {
     let mut digits = [0; DIGITS];
     encode_to_slice(bytes, &mut digits).unwrap();

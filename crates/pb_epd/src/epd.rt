@@ -30,7 +30,10 @@ impl Model for Epd {
 
     ghost view = { λ e. record { setup = e.setup; operations = operations_of e.operations.entries } };
 
-    ghost invariant = { λ e. IsEpd (record { setup = e.setup; operations = operations_of e.operations.entries }) };
+    ghost invariant = { λ e. IsEpd (record {
+      setup = e.setup;
+      operations = operations_of e.operations.entries;
+    }) };
 }
 
 impl Epd {

@@ -71,7 +71,8 @@ fn is_lawful(operand: &Operand) -> bool
 
 /// The first unlawful operand, counted from 1.
 pub(crate) fn first_unlawful(operands: &[Operand]) -> Option<usize>
-    ensures { MatchOption result (All IsOperand operands.now) (λ n. BreaksAt (All IsOperand) operands.now n) }
+    ensures { MatchOption result (All IsOperand operands.now) (λ n.
+        BreaksAt (All IsOperand) operands.now n) }
 {
     let before = operands.iter().position(|operand| !is_lawful(operand))?;
     Some(before + 1)

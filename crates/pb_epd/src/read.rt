@@ -1,12 +1,16 @@
 //! Reading an EPD record.
 
-ghost use Rattle.std.specs.Prelude.{◌≡◌, ◌≢◌, ◌∷◌, ◌++◌, ◌+◌, ◌^◌, ◌<◌, ◌≤◌, [], ℕ, List, All, length, map, IfOk, IfErr, IfSome, MatchOption, MatchResult, OnErr, OnOk};
+ghost use Rattle.std.specs.Prelude.{◌≡◌, ◌≢◌, ◌∷◌, ◌++◌, ◌+◌, ◌^◌, ◌<◌, ◌≤◌, [], ℕ, List, All};
+ghost use Rattle.std.specs.Prelude.{length, map, IfOk, IfErr, IfSome, MatchOption, MatchResult};
+ghost use Rattle.std.specs.Prelude.{OnErr, OnOk};
 ghost use Rattle.pb_epd.specs.Token.{Token, word, end_mark, Tokens, TokensAfter};
 ghost use Rattle.pb_epd.specs.Lexeme.{IsOperandToken, token_of};
 ghost use Rattle.pb_epd.specs.Epd.{EpdRecord, IsEpd, EpdText};
 ghost use Rattle.pb_epd.specs.Operation.{IsOpcode, IsOperand, IsOperation, operand_token};
 ghost use Rattle.pb_epd.specs.Refusal.{IsFirstDueEpd, IsFourWords, IsNamed};
-ghost use Rattle.pb_epd.specs.Reading.{HasTokens, EndsSoundly, Follow, FourFollow, EndsWithOperands, AreOperands, IsTaken, IsSound, AreOperations, IsRefused, StandsWith};
+ghost use Rattle.pb_epd.specs.Reading.{HasTokens, EndsSoundly, Follow, FourFollow};
+ghost use Rattle.pb_epd.specs.Reading.{EndsWithOperands, AreOperands, IsTaken, IsSound};
+ghost use Rattle.pb_epd.specs.Reading.{AreOperations, IsRefused, StandsWith};
 ghost use Rattle.pb_epd.specs.declared.refusal.EpdError.TheVariants as epd;
 
 use crate::epd::Epd;
@@ -56,9 +60,12 @@ pub(crate) struct SoFar {
 /// The word that comes next, and what follows it.
 fn next_word<'a>(before: Lexeme<'_>, text: &'a [u8]) -> Option<(&'a [u8], &'a [u8])>
     ensures next { MatchOption result
-        ((bytes : List ℕ) (ts : List Token) → ¬ TokensAfter (token_of before.entry) (word bytes ∷ ts) text.now)
-        (λ cut. (ts : List Token) → TokensAfter (token_of before.entry) ts text.now → Follow (word cut.0.now) ts cut.1.now) }
-    ensures back { IfSome result (λ cut. HasTokens (word cut.0.now) cut.1.now → HasTokens (token_of before.entry) text.now) }
+        ((bytes : List ℕ) (ts : List Token) → ¬ TokensAfter (token_of before.entry)
+        (word bytes ∷ ts) text.now)
+        (λ cut. (ts : List Token) → TokensAfter (token_of before.entry) ts text.now
+        → Follow (word cut.0.now) ts cut.1.now) }
+    ensures back { IfSome result (λ cut. HasTokens (word cut.0.now) cut.1.now
+        → HasTokens (token_of before.entry) text.now) }
 {
     let Step::Found(token, rest) = next_token(before, text) else {
         return None;
@@ -72,9 +79,12 @@ fn next_word<'a>(before: Lexeme<'_>, text: &'a [u8]) -> Option<(&'a [u8], &'a [u
 /// The four words that a line begins with.
 fn four_words(text: &[u8]) -> Option<FourWords<'_>>
     ensures next { MatchOption result
-        ((four : List (List ℕ)) (ts : List Token) → length four ≡ 4 → ¬ Tokens (map word four ++ ts) text.now)
-        (λ f. (ts : List Token) → Tokens ts text.now → FourFollow f.placement.now f.turn.now f.castling.now f.en_passant.now f.rest.now ts) }
-    ensures back { IfSome result (λ f. HasTokens (word f.en_passant.now) f.rest.now → HasTokens end_mark text.now) }
+        ((four : List (List ℕ)) (ts : List Token) → length four ≡ 4
+        → ¬ Tokens (map word four ++ ts) text.now)
+        (λ f. (ts : List Token) → Tokens ts text.now
+        → FourFollow f.placement.now f.turn.now f.castling.now f.en_passant.now f.rest.now ts) }
+    ensures back { IfSome result (λ f. HasTokens (word f.en_passant.now) f.rest.now
+        → HasTokens end_mark text.now) }
 {
     let (placement, rest) = next_word(Lexeme::End, text)?;
     let (turn, rest) = next_word(Lexeme::Word(placement), rest)?;
@@ -91,7 +101,8 @@ fn four_words(text: &[u8]) -> Option<FourWords<'_>>
 
 /// The operand that a word or a text is.
 fn operand_of(alloc: Global, token: Lexeme<'_>) -> Result<Option<Operand>, AllocError>
-    ensures { IfOk result (λ r. MatchOption r (token_of token.entry ≡ end_mark) (λ o. token_of token.entry ≡ operand_token o)) }
+    ensures { IfOk result (λ r. MatchOption r (token_of token.entry ≡ end_mark) (λ o.
+        token_of token.entry ≡ operand_token o)) }
 {
     let operand = match token {
         Lexeme::Word(bytes) => Operand::Word(OperandBytes::of(bytes.to_vec(alloc)?)),
@@ -146,9 +157,11 @@ fn next_operation<'a>(
     before: Lexeme<'_>,
     text: &'a [u8],
 ) -> Result<Taken<'a>, AllocError>
-    ensures taken { IfOk result (λ r. (ts : List Token) → TokensAfter (token_of before.entry) ts text.now → IsTaken r ts) }
+    ensures taken { IfOk result (λ r. (ts : List Token)
+        → TokensAfter (token_of before.entry) ts text.now → IsTaken r ts) }
     ensures sound { IfOk result (λ r. IsSound r (token_of before.entry) text.now) }
-    ensures memory { OnErr result ((ts : List Token) → TokensAfter (token_of before.entry) ts text.now → ts ≢ []) }
+    ensures memory { OnErr result ((ts : List Token)
+        → TokensAfter (token_of before.entry) ts text.now → ts ≢ []) }
 {
     let (first, rest) = match next_token(before, text) {
         Step::Done => return Ok(Taken::Done),
@@ -200,8 +213,12 @@ fn read_operations(
     before: Lexeme<'_>,
     text: &[u8],
 ) -> Result<Epd, EpdError>
-    ensures found { IfOk result (λ e. (e.setup ≡ setup) × IsEpd e × HasTokens (token_of before.entry) text.now × ((ts : List Token) → TokensAfter (token_of before.entry) ts text.now → AreOperations ts e.operations)) }
-    ensures refused { IfErr result (λ x. (ts : List Token) → TokensAfter (token_of before.entry) ts text.now → IsRefused x ts) }
+    ensures found { IfOk result (λ e. (e.setup ≡ setup) × IsEpd e
+        × HasTokens (token_of before.entry) text.now
+        × ((ts : List Token) → TokensAfter (token_of before.entry) ts text.now
+        → AreOperations ts e.operations)) }
+    ensures refused { IfErr result (λ x. (ts : List Token)
+        → TokensAfter (token_of before.entry) ts text.now → IsRefused x ts) }
 {
     let mut so_far = SoFar {
         epd: Epd::new(alloc, setup),
@@ -239,7 +256,8 @@ fn read_operations(
 /// bad.
 fn read_tokens(alloc: Global, text: &[u8]) -> Result<Epd, EpdError>
     ensures found { IfOk result (λ e. IsEpd e × EpdText e text.now) }
-    ensures refused { IfErr result (λ x. (ts : List Token) → Tokens ts text.now → IsFirstDueEpd x text.now) }
+    ensures refused { IfErr result (λ x. (ts : List Token) → Tokens ts text.now
+        → IsFirstDueEpd x text.now) }
     ensures memory { IfErr result (λ x. x ≡ epd.Memory → ¬ IsFourWords text.now) }
 {
     let Some(fields) = four_words(text) else {
@@ -283,7 +301,8 @@ pub fn read_epd(alloc: Global, text: &[u8]) -> Result<Epd, EpdError>
     // What is read is a record, and the text spells it.
     ensures found { IfOk result (λ e. IsEpd e × EpdText e text.now) }
     // The text of a record is read, where memory suffices.
-    ensures only { (e : EpdRecord) → IsEpd e → EpdText e text.now → MatchResult result (λ r. r ≡ e) (λ x. x ≡ epd.Memory) }
+    ensures only { (e : EpdRecord) → IsEpd e → EpdText e text.now
+        → MatchResult result (λ r. r ≡ e) (λ x. x ≡ epd.Memory) }
     // A refusal is the first whose condition holds.
     ensures refused { IfErr result (λ x. IsFirstDueEpd x text.now) }
     // Four words alone take no memory.

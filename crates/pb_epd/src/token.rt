@@ -51,7 +51,8 @@ fn word_at(text: &[u8]) -> Option<(&[u8], &[u8])>
 
 /// What stands before the closing quote, and what follows that.
 fn quoted_at(text: &[u8]) -> Option<(&[u8], &[u8])>
-    ensures { MatchOption result ((bytes rest : List ℕ) → IsToken (text_token bytes) → text.now ≢ bytes ++ 34 ∷ rest)
+    ensures { MatchOption result ((bytes rest : List ℕ) → IsToken (text_token bytes)
+        → text.now ≢ bytes ++ 34 ∷ rest)
         (λ cut. IsToken (text_token cut.0.now) × (text.now ≡ cut.0.now ++ 34 ∷ cut.1.now)) }
 {
     let length = text_run(text);
@@ -99,7 +100,8 @@ pub(crate) fn next_token<'a>(before: Lexeme<'_>, text: &'a [u8]) -> Step<'a>
 
 /// The offset of the first bad token.
 pub(crate) fn first_bad(text: &[u8]) -> Option<usize>
-    ensures { MatchOption result ((ts : List Token) × Tokens ts text.now) (λ at. IsBadAt text.now at) }
+    ensures { MatchOption result ((ts : List Token) × Tokens ts text.now) (λ at.
+        IsBadAt text.now at) }
 {
     let mut before = Lexeme::End;
     let mut rest = text;

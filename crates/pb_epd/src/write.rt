@@ -12,7 +12,8 @@ use std::alloc::{AllocError, Global};
 
 /// Writes an operand, a text in quotes.
 fn put_operand(out: &mut Vec<u8>, operand: &Operand) -> Result<(), AllocError>
-    ensures { OnOk result (out.new.items ≡ out.old.items ++ token_text (operand_token operand.now)) }
+    ensures { OnOk result (out.new.items ≡ out.old.items
+        ++ token_text (operand_token operand.now)) }
 {
     match operand {
         Operand::Word(bytes) => out.extend_from_slice(bytes.as_bytes())?,
@@ -27,7 +28,8 @@ fn put_operand(out: &mut Vec<u8>, operand: &Operand) -> Result<(), AllocError>
 
 /// Writes a space and an operation, its operands after single spaces and its end after none.
 fn put_operation(out: &mut Vec<u8>, opcode: &[u8], operands: &[Operand]) -> Result<(), AllocError>
-    ensures { OnOk result (out.new.items ≡ out.old.items ++ 32 ∷ operation_text (opcode.now, operands.now)) }
+    ensures { OnOk result (out.new.items ≡ out.old.items ++ 32
+        ∷ operation_text (opcode.now, operands.now)) }
 {
     out.push(b' ')?;
     out.extend_from_slice(opcode)?;

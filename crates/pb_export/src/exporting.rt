@@ -92,9 +92,11 @@ fn list_setups<T: Tally>(alloc: Global, ledger: &Ledger<T>) -> Result<Listing, A
 fn put_lines<K: Sink>(alloc: Global, listing: &Listing, sink: &mut K) -> Result<u32, ExportFault>
     requires listed { CanBeNamed listing.now }
     requires few { length listing.now.setups.items < 2 ^ 32 }
-    ensures ok { IfOk result (λ count. (words : List ℕ) (book : List Entry) (named : List Named) → AreListed words book named listing.now
+    ensures ok { IfOk result (λ count. (words : List ℕ) (book : List Entry) (named : List Named)
+        → AreListed words book named listing.now
         → PutsListing words book named (K.state sink.old) (K.state sink.new) count) }
-    ensures fault { IfErr result (λ e. (words : List ℕ) (book : List Entry) (named : List Named) → AreListed words book named listing.now
+    ensures fault { IfErr result (λ e. (words : List ℕ) (book : List Entry) (named : List Named)
+        → AreListed words book named listing.now
         → PutsFront words book named (K.state sink.old) (K.state sink.new) e) }
 {
     let mut line = Vec::new(alloc);

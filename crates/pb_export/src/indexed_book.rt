@@ -8,8 +8,8 @@ use pb_poly::{Book, Entry};
 use std::alloc::{AllocError, Global};
 use std::marker::Model;
 
-/// How many fronts of 18 bits a key may have. With a million entries, those of a front lie in one or
-/// two lines of the processor's cache.
+/// How many fronts of 18 bits a key may have. With a million entries, those of a front lie in one
+/// or two lines of the processor's cache.
 const FRONTS: u64 = 262_144;
 
 /// A book, with a place for each front that a key may have, from which on entries are looked for.
@@ -53,8 +53,8 @@ impl IndexedBook {
         &rest[..count_under(rest, key)]
     }
 
-    /// The place of the first entry whose key isn't lower, for each key. What these places read lies
-    /// far apart, and in a short loop the processor waits for several at once.
+    /// The place of the first entry whose key isn't lower, for each key. What these places read
+    /// lies far apart, and in a short loop the processor waits for several at once.
     pub(crate) fn firsts_under(&self, alloc: Global, keys: &[u64]) -> Result<Vec<usize>, AllocError>
         ensures { IfOk result (λ firsts. AreFirstsUnder self.now keys.now firsts.items) }
     {

@@ -1,15 +1,20 @@
 //! Setups packed in the order of their texts.
 
-ghost use Rattle.std.specs.Prelude.{◌≡◌, ◌≤◌, ◌<◌, ◌+◌, ◌++◌, ◌∷◌, ◌&&◌, ℕ, false, is_none, List, OnOk, Option, length, vec_capacity, vec_len};
+ghost use Rattle.std.specs.Prelude.{◌≡◌, ◌≤◌, ◌<◌, ◌+◌, ◌++◌, ◌∷◌, ◌&&◌, ℕ, false, is_none, List};
+ghost use Rattle.std.specs.Prelude.{OnOk, Option, length, vec_capacity, vec_len};
 ghost use Rattle.std.specs.Int.{bit_at, from_bool};
 ghost use Rattle.pb_board.specs.Board.{Board, Place, at, is_piece};
 ghost use Rattle.pb_board.specs.Piece.{piece_of};
 ghost use Rattle.pb_board.specs.Position.{Position};
 ghost use Rattle.pb_moves.specs.Attackers.{IsTaken};
-ghost use Rattle.pb_board.specs.Text.{en_passant_text, piece_letter, rank_text, setup_text, turn_text};
+ghost use Rattle.pb_board.specs.Text.{en_passant_text, piece_letter, rank_text, setup_text};
+ghost use Rattle.pb_board.specs.Text.{turn_text};
 ghost use Rattle.pb_board.specs.declared.piece.Colour.{Colour};
 ghost use Rattle.pb_board.specs.declared.piece.Piece.{Piece};
-ghost use Rattle.pb_export.specs.Packed.{HasDigits, IsOnBoard, IsPacked, castling_at, castling_number, en_passant_number, is_after_empty, piece_digit, rank_digits, rank_number, rank_numbers, row, spread, state_number, state_text, turn_number};
+ghost use Rattle.pb_export.specs.Packed.{HasDigits, IsOnBoard, IsPacked, castling_at};
+ghost use Rattle.pb_export.specs.Packed.{castling_number, en_passant_number, is_after_empty};
+ghost use Rattle.pb_export.specs.Packed.{piece_digit, rank_digits, rank_number, rank_numbers, row};
+ghost use Rattle.pb_export.specs.Packed.{spread, state_number, state_text, turn_number};
 
 use crate::book_moves::put_word;
 use pb_board::{Colour, Kind, Piece, Rights, Setup, Square};
@@ -92,12 +97,23 @@ fn digit_bits_of(setup: &Setup) -> DigitBits
     let black_rooks = squares_of(setup, Colour::Black, Kind::Rook);
     let black_queens = squares_of(setup, Colour::Black, Kind::Queen);
     let black_kings = squares_of(setup, Colour::Black, Kind::King);
-    let empty = empty_after_empty(setup.occupied());
+    let after_empty = empty_after_empty(setup.occupied());
     DigitBits {
-        ones: bishops | knights | queens | black_bishops | black_knights | black_queens | empty,
-        twos: kings | knights | rooks | black_bishops | black_pawns | black_queens | empty,
-        fours: pawns | queens | rooks | black_bishops | black_rooks | empty,
-        eights: black_kings | black_knights | black_pawns | black_queens | black_rooks | empty,
+        ones: bishops
+            | knights
+            | queens
+            | black_bishops
+            | black_knights
+            | black_queens
+            | after_empty,
+        twos: kings | knights | rooks | black_bishops | black_pawns | black_queens | after_empty,
+        fours: pawns | queens | rooks | black_bishops | black_rooks | after_empty,
+        eights: black_kings
+            | black_knights
+            | black_pawns
+            | black_queens
+            | black_rooks
+            | after_empty,
     }
 }
 
@@ -212,7 +228,8 @@ fn castling_of(number: u16) -> &'static [u8]
 
 /// Writes the fields after the placement, each after a space.
 fn put_state(line: &mut Vec<u8>, state: u16) -> Result<(), AllocError>
-    ensures { OnOk result ((s : Position) → IsOnBoard s.ep → state ≡ state_number s → line.new.items ≡ line.old.items ++ 32 ∷ state_text s) }
+    ensures { OnOk result ((s : Position) → IsOnBoard s.ep → state ≡ state_number s
+        → line.new.items ≡ line.old.items ++ 32 ∷ state_text s) }
 {
     put_word(line, turn_of(state / 2_048))?;
     put_word(line, castling_of(state / 128 % 16))?;
@@ -222,7 +239,8 @@ fn put_state(line: &mut Vec<u8>, state: u16) -> Result<(), AllocError>
 /// Writes the en passant square with this number, or a `-`, after a space.
 fn put_en_passant(line: &mut Vec<u8>, number: u16) -> Result<(), AllocError>
     requires { number < 128 }
-    ensures { OnOk result ((ep : Option ℕ) → IsOnBoard ep → number ≡ en_passant_number ep → line.new.items ≡ line.old.items ++ 32 ∷ en_passant_text ep) }
+    ensures { OnOk result ((ep : Option ℕ) → IsOnBoard ep → number ≡ en_passant_number ep
+        → line.new.items ≡ line.old.items ++ 32 ∷ en_passant_text ep) }
 {
     if number == 0 {
         return put_word(line, b"-");
@@ -247,7 +265,8 @@ impl PackedSetup {
 
     /// Writes the four fields of the setup.
     pub(crate) fn put_fields(&self, line: &mut Vec<u8>) -> Result<(), AllocError>
-        ensures { OnOk result ((s : Position) → length s.board ≡ 64 → IsPacked self.now s → line.new.items ≡ line.old.items ++ setup_text s) }
+        ensures { OnOk result ((s : Position) → length s.board ≡ 64 → IsPacked self.now s
+            → line.new.items ≡ line.old.items ++ setup_text s) }
     {
         line.reserve(MAX_PLACEMENT)?;
         put_rank(line, self.ranks[0]);
@@ -263,7 +282,8 @@ impl PackedSetup {
 #[inline(always)]
 fn digits_of(number: u32) -> [u32; 8]
     ensures eight { length result ≡ 8 }
-    ensures digits { (squares : List Place) → length squares ≡ 8 → number ≡ rank_number squares → result ≡ rank_digits false squares }
+    ensures digits { (squares : List Place) → length squares ≡ 8 → number ≡ rank_number squares
+        → result ≡ rank_digits false squares }
 {
     [
         number / 268_435_456,
@@ -290,7 +310,8 @@ fn symbol_of(digit: u32) -> u8
 /// Writes the text of a rank, for which there is room.
 fn put_rank(line: &mut Vec<u8>, number: u32)
     requires { vec_len line.old + 8 ≤ vec_capacity line.old }
-    ensures text { (squares : List Place) → length squares ≡ 8 → number ≡ rank_number squares → line.new.items ≡ line.old.items ++ rank_text 0 squares }
+    ensures text { (squares : List Place) → length squares ≡ 8 → number ≡ rank_number squares
+        → line.new.items ≡ line.old.items ++ rank_text 0 squares }
     ensures len { vec_len line.new ≤ vec_len line.old + 8 }
     ensures capacity { vec_capacity line.new ≡ vec_capacity line.old }
 {

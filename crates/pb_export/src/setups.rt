@@ -1,6 +1,7 @@
 //! The setups that stand before the moves of games and for which a book has moves.
 
-ghost use Rattle.std.specs.Prelude.{◌≡◌, ◌≤◌, ◌<◌, ◌^◌, ◌==◌, ◌++◌, ◌∷◌, [], ℕ, All, AllPairs, Contains, IfOk, IsTrue, filter, List, OnOk, length, map};
+ghost use Rattle.std.specs.Prelude.{◌≡◌, ◌≤◌, ◌<◌, ◌^◌, ◌==◌, ◌++◌, ◌∷◌, [], ℕ, All, AllPairs};
+ghost use Rattle.std.specs.Prelude.{Contains, IfOk, IsTrue, filter, List, OnOk, length, map};
 ghost use Rattle.pb_board.specs.Position.{Position};
 ghost use Rattle.pb_games.specs.Submissions.{IsLegalGame};
 ghost use Rattle.pb_moves.specs.Moved.{Moved};
@@ -8,7 +9,8 @@ ghost use Rattle.pb_poly.specs.Found.{Found};
 ghost use Rattle.pb_poly.specs.declared.entry.Entry.{Entry as BookEntry};
 ghost use Rattle.pb_export.specs.Packed.{IsPacked};
 ghost use Rattle.pb_poly.specs.Key.{key as key_by};
-ghost use Rattle.pb_export.specs.Setups.{ListsSetups, SameSetup, TextBelow, all_setups, moves_of, setups_before};
+ghost use Rattle.pb_export.specs.Setups.{ListsSetups, SameSetup, TextBelow, all_setups, moves_of};
+ghost use Rattle.pb_export.specs.Setups.{setups_before};
 ghost use Rattle.pb_export.specs.declared.setups.ListedSetup.{ListedSetup};
 
 use crate::indexed_book::IndexedBook;
@@ -65,7 +67,8 @@ impl Listing {
         ledger: &Ledger<T>,
         book: &IndexedBook,
     ) -> Result<Listing, AllocError>
-        ensures setups { IfOk result (λ l. ListsSetups ledger.now.basis.words book.now (all_setups ledger.now.accepted) l.moves.items l.setups.items) }
+        ensures setups { IfOk result (λ l. ListsSetups ledger.now.basis.words book.now
+            (all_setups ledger.now.accepted) l.moves.items l.setups.items) }
         ensures ordered { IfOk result (λ l. AllPairs TextBelow l.setups.items) }
         ensures few { IfOk result (λ l. length l.setups.items < 2 ^ 32) }
     {
@@ -100,8 +103,10 @@ impl Listing {
         game: &Game,
     ) -> Result<(), AllocError>
         requires { IsLegalGame game.now }
-        ensures { OnOk result ((known : List Position) → ListsSetups table.now book.now known self.old.moves.items self.old.setups.items
-            → ListsSetups table.now book.now (known ++ setups_before game.now) self.new.moves.items self.new.setups.items) }
+        ensures { OnOk result ((known : List Position)
+            → ListsSetups table.now book.now known self.old.moves.items self.old.setups.items
+            → ListsSetups table.now book.now (known ++ setups_before game.now) self.new.moves.items
+            self.new.setups.items) }
     {
         let KeyedSetups { keys, setups } = keyed_setups(alloc, table, game)?;
         let firsts = book.firsts_under(alloc, &keys)?;
@@ -116,9 +121,11 @@ impl Listing {
     /// Adds a setup that has this board and key, where one of the entries under the key is for the
     /// setup.
     fn add_setup(&mut self, entries: &[Entry], setup: &Setup, key: u64) -> Result<(), AllocError>
-        ensures { OnOk result ((words : List ℕ) (book : List BookEntry) (known : List Position) → key ≡ key_by words setup.now → entries.now ≡ filter (λ e. e.key == key) book
+        ensures { OnOk result ((words : List ℕ) (book : List BookEntry) (known : List Position)
+            → key ≡ key_by words setup.now → entries.now ≡ filter (λ e. e.key == key) book
             → ListsSetups words book known self.old.moves.items self.old.setups.items
-            → ListsSetups words book (known ++ setup.now ∷ []) self.new.moves.items self.new.setups.items) }
+            → ListsSetups words book (known ++ setup.now ∷ []) self.new.moves.items
+            self.new.setups.items) }
     {
         // The reader tells that the setup meets its rules.
         let _turn = setup.turn();
@@ -141,9 +148,11 @@ impl Listing {
         setup: &Setup,
     ) -> Result<(), AllocError>
         requires { IsPacked packed setup.now }
-        ensures { OnOk result ((words : List ℕ) (book : List BookEntry) (known : List Position) (key : ℕ) → key ≡ key_by words setup.now → entries.now ≡ filter (λ e. e.key == key) book
+        ensures { OnOk result ((words : List ℕ) (book : List BookEntry) (known : List Position)
+            (key : ℕ) → key ≡ key_by words setup.now → entries.now ≡ filter (λ e. e.key == key) book
             → ListsSetups words book known self.old.moves.items self.old.setups.items
-            → ListsSetups words book (known ++ setup.now ∷ []) self.new.moves.items self.new.setups.items) }
+            → ListsSetups words book (known ++ setup.now ∷ []) self.new.moves.items
+            self.new.setups.items) }
     {
         // The reader tells that the setup meets its rules.
         let _turn = setup.turn();
@@ -174,7 +183,8 @@ impl Listing {
     /// Whether this setup is the last that was listed for the key, where that is still kept. So a
     /// setup that many games meet is mostly listed once.
     fn is_recent(&self, key: u64, packed: &PackedSetup) -> bool
-        ensures { IsTrue result → (x : ListedSetup) × Contains self.now.setups.items x × (x.setup.ranks ≡ packed.now.ranks) × (x.setup.state ≡ packed.now.state) }
+        ensures { IsTrue result → (x : ListedSetup) × Contains self.now.setups.items x
+            × (x.setup.ranks ≡ packed.now.ranks) × (x.setup.state ≡ packed.now.state) }
     {
         let Some((noted, place)) = self.recent.get((key % RECENT as u64) as usize) else {
             return false;
@@ -193,7 +203,8 @@ impl Listing {
 fn keyed_setups(alloc: Global, table: &Table, game: &Game) -> Result<KeyedSetups, AllocError>
     requires { IsLegalGame game.now }
     ensures setups { IfOk result (λ k. k.setups.items ≡ setups_before game.now) }
-    ensures keys { IfOk result (λ k. k.keys.items ≡ map (key_by table.now) (setups_before game.now)) }
+    ensures keys { IfOk result (λ k. k.keys.items
+        ≡ map (key_by table.now) (setups_before game.now)) }
 {
     let moves = game.moves.as_slice();
     let mut keys = Vec::with_capacity(alloc, moves.len())?;
@@ -236,7 +247,8 @@ fn add_moves(
     setup: &Setup,
 ) -> Result<(), AllocError>
     ensures { OnOk result ((words : List ℕ) → All (λ e. e.key ≡ key_by words setup.now) entries.now
-        → (found : List (Moved × ℕ)) × Found entries.now words setup.now found × (moves.new.items ≡ moves.old.items ++ found)) }
+        → (found : List (Moved × ℕ)) × Found entries.now words setup.now found
+        × (moves.new.items ≡ moves.old.items ++ found)) }
 {
     for entry in entries {
         if let Some(m) = move_of(setup, entry.code) {
@@ -250,7 +262,8 @@ fn add_moves(
 fn put_in_order(setups: &mut Vec<ListedSetup>)
     ensures ordered { AllPairs TextBelow setups.new.items }
     ensures sound { (x : ListedSetup) → Contains setups.new.items x → Contains setups.old.items x }
-    ensures whole { (x : ListedSetup) → Contains setups.old.items x → (y : ListedSetup) × Contains setups.new.items y × SameSetup y x }
+    ensures whole { (x : ListedSetup) → Contains setups.old.items x
+        → (y : ListedSetup) × Contains setups.new.items y × SameSetup y x }
     ensures few { length setups.new.items ≤ length setups.old.items }
 {
     setups.sort_unstable();

@@ -203,10 +203,14 @@ impl<'a, 'f> FileDesk<'a, 'f> {
     /// An end into the draft of this name.
     fn end_into(&mut self, file: File, name: PathBuf) -> Result<ToWrite<FileWriter<'a>>, NotMade>
         requires { (⟦<FileDesk<'a, 'f> as Desk>⟧.state self.now).refused ≡ false }
-        ensures begins { IfOk result (λ end. Begins (⟦<ToWrite<FileWriter<'a>> as Sink>⟧.state end)) }
-        ensures refused { (⟦<FileDesk<'a, 'f> as Desk>⟧.state self.exit.now).refused ≡ is_refused_draft result }
-        ensures drafted { OnOk result ((⟦<FileDesk<'a, 'f> as Desk>⟧.state self.exit.now).drafted ≡ true) }
-        ensures not_drafted { OnErr result ((⟦<FileDesk<'a, 'f> as Desk>⟧.state self.exit.now).drafted ≡ (⟦<FileDesk<'a, 'f> as Desk>⟧.state self.entry.now).drafted) }
+        ensures begins { IfOk result (λ end. Begins
+            (⟦<ToWrite<FileWriter<'a>> as Sink>⟧.state end)) }
+        ensures refused { (⟦<FileDesk<'a, 'f> as Desk>⟧.state self.exit.now).refused
+            ≡ is_refused_draft result }
+        ensures drafted { OnOk result ((⟦<FileDesk<'a, 'f> as Desk>⟧.state self.exit.now).drafted
+            ≡ true) }
+        ensures not_drafted { OnErr result ((⟦<FileDesk<'a, 'f> as Desk>⟧.state
+            self.exit.now).drafted ≡ (⟦<FileDesk<'a, 'f> as Desk>⟧.state self.entry.now).drafted) }
     {
         let rt = self.messages.rt();
         if !self.takes_after(&file) {
@@ -229,7 +233,12 @@ impl<'a, 'f> FileDesk<'a, 'f> {
 impl<'a> Desk for FileDesk<'a, '_> {
     type End = ToWrite<FileWriter<'a>>;
 
-    ghost state = { λ s. record { told = None; refused = s.refused; drafted = is_some s.draft; unsettled = s.unsettled } };
+    ghost state = { λ s. record {
+      told = None;
+      refused = s.refused;
+      drafted = is_some s.draft;
+      unsettled = s.unsettled;
+    } };
 
     fn takes_draft(&mut self) -> Result<bool, StoreError> {
         let rt = self.messages.rt();

@@ -1,6 +1,7 @@
 //! A file that this run holds and adds to.
 
-ghost use Rattle.std.specs.Prelude.{◌≡◌, ◌≤◌, ◌<◌, [], IfOk, OnErr, OnOk, is_ok, length, take, true};
+ghost use Rattle.std.specs.Prelude.{◌≡◌, ◌≤◌, ◌<◌, [], IfOk, OnErr, OnOk, is_ok, length, take};
+ghost use Rattle.std.specs.Prelude.{true};
 ghost use Rattle.pb_files.specs.Disk.{Adds, FileState, Syncs};
 ghost use Rattle.pb_files.specs.JournalFile.{ReadsAll};
 ghost use Rattle.pb_files.specs.Steps.{Steps};
@@ -27,7 +28,8 @@ pub trait JournalFile {
         ensures ready { (state self.new).ready ≡ is_ok result }
         ensures within { IfOk result (λ count. count ≤ length bytes.now) }
         ensures some { IfOk result (λ count. 0 < length bytes.now → 0 < count) }
-        ensures front { IfOk result (λ count. Steps (Adds (take count bytes.now)) (state self.old).told (state self.new).told) }
+        ensures front { IfOk result (λ count. Steps (Adds (take count bytes.now))
+            (state self.old).told (state self.new).told) }
         ensures none { OnErr result (Steps (Adds []) (state self.old).told (state self.new).told) };
 
     /// Puts all that is found on the disk, and the file's name.
@@ -54,6 +56,7 @@ pub trait ReadFile: JournalFile {
     ///
     /// `Failed` where the file can't be read.
     fn reader(&mut self) -> Result<Self::Reader, Failed>
-        ensures all { IfOk result (λ reader. ReadsAll (Self.state self.old).told (Self.Reader.state reader)) }
+        ensures all { IfOk result (λ reader. ReadsAll (Self.state self.old).told
+            (Self.Reader.state reader)) }
         ensures same { Self.state self.new ≡ Self.state self.old };
 }

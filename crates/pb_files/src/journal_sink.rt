@@ -1,10 +1,12 @@
 //! The end of a journal's file, as a sink.
 
-ghost use Rattle.std.specs.Prelude.{◌≡◌, ◌≤◌, ◌||◌, Bool, IfOk, IfSome, [], drop, false, length, not, take, true};
+ghost use Rattle.std.specs.Prelude.{◌≡◌, ◌≤◌, ◌||◌, Bool, IfOk, IfSome, [], drop, false, length};
+ghost use Rattle.std.specs.Prelude.{not, take, true};
 ghost use Rattle.std.specs.Option.{ForSome};
 ghost use Rattle.pb_io.specs.Sink.{Flush, Put};
 ghost use Rattle.pb_files.specs.Disk.{Adds, IsOnDisk, OutlivesCrash};
-ghost use Rattle.pb_files.specs.JournalSink.{EndState, FlushAtEnd, PutAtEnd, bytes_lasting, bytes_put};
+ghost use Rattle.pb_files.specs.JournalSink.{EndState, FlushAtEnd, PutAtEnd, bytes_lasting};
+ghost use Rattle.pb_files.specs.JournalSink.{bytes_put};
 ghost use Rattle.pb_files.specs.Steps.{Steps};
 
 use crate::file_writer::BUFFER_LEN;
@@ -72,8 +74,16 @@ impl<J: JournalFile + Drop, D: Durability> JournalSink<J, D> {
     ///
     /// Want of memory for what waits.
     pub fn new(alloc: Global, file: J) -> Result<JournalSink<J, D>, AllocError>
-        ensures state { IfOk result (λ sink. ⟦<JournalSink<J, D> as Sink>⟧.state sink ≡ record { bytes = bytes_put (J.state file).told []; lasting = bytes_lasting D.syncs (J.state file).told; failed = not (J.state file).ready; flushed = false; flushes = 0 }) }
-        ensures end { IfOk result (λ sink. ⟦<JournalSink<J, D> as FileEnd>⟧.end sink ≡ record { told = (J.state file).told; waits = [] }) }
+        ensures state { IfOk result (λ sink. ⟦<JournalSink<J, D> as Sink>⟧.state sink
+            ≡ record {
+              bytes = bytes_put (J.state file).told [];
+              lasting = bytes_lasting D.syncs (J.state file).told;
+              failed = not (J.state file).ready;
+              flushed = false;
+              flushes = 0;
+            }) }
+        ensures end { IfOk result (λ sink. ⟦<JournalSink<J, D> as FileEnd>⟧.end sink
+            ≡ record { told = (J.state file).told; waits = [] }) }
     {
         let waiting = Vec::with_capacity(alloc, BUFFER_LEN)?;
         Ok(JournalSink {
@@ -92,7 +102,8 @@ impl<J: JournalFile + Drop, D: Durability> JournalSink<J, D> {
     pub fn handed_on(&self) -> bool
         ensures flushed { result ≡ (⟦<JournalSink<J, D> as Sink>⟧.state self.now).flushed }
         ensures found { result ≡ true → (⟦<JournalSink<J, D> as FileEnd>⟧.end self.now).waits ≡ [] }
-        ensures outlives { result ≡ true → D.syncs ≡ true → IfSome (⟦<JournalSink<J, D> as FileEnd>⟧.end self.now).told OutlivesCrash }
+        ensures outlives { result ≡ true → D.syncs ≡ true
+            → IfSome (⟦<JournalSink<J, D> as FileEnd>⟧.end self.now).told OutlivesCrash }
     {
         self.flushed
     }
@@ -110,11 +121,19 @@ impl<J: JournalFile, D: Durability> FileEnd for JournalSink<J, D> {
 }
 
 impl<J: JournalFile, D: Durability> Sink for JournalSink<J, D> {
-    ghost state = { λ s. record { bytes = bytes_put (J.state s.file).told s.waiting.items; lasting = bytes_lasting D.syncs (J.state s.file).told; failed = s.no_memory || not (J.state s.file).ready; flushed = s.flushed; flushes = s.flushes } };
+    ghost state = { λ s. record {
+      bytes = bytes_put (J.state s.file).told s.waiting.items;
+      lasting = bytes_lasting D.syncs (J.state s.file).told;
+      failed = s.no_memory || not (J.state s.file).ready;
+      flushed = s.flushed;
+      flushes = s.flushes;
+    } };
 
     fn put(&mut self, bytes: &[u8]) -> Result<(), Failed>
-        ensures put { Put (⟦<JournalSink<J, D> as Sink>⟧.state self.old) (⟦<JournalSink<J, D> as Sink>⟧.state self.new) result bytes.now }
-        ensures end { PutAtEnd (⟦<JournalSink<J, D> as FileEnd>⟧.end self.old) (⟦<JournalSink<J, D> as FileEnd>⟧.end self.new) }
+        ensures put { Put (⟦<JournalSink<J, D> as Sink>⟧.state self.old)
+            (⟦<JournalSink<J, D> as Sink>⟧.state self.new) result bytes.now }
+        ensures end { PutAtEnd (⟦<JournalSink<J, D> as FileEnd>⟧.end self.old)
+            (⟦<JournalSink<J, D> as FileEnd>⟧.end self.new) }
     {
         self.flushed = false;
         if self.failed() {
@@ -131,8 +150,10 @@ impl<J: JournalFile, D: Durability> Sink for JournalSink<J, D> {
 
     #[tactic(auto, using(crate::proofs::FileLemmas::told_sync, crate::proofs::FileLemmas::told_grows, crate::proofs::FileLemmas::told_bytes, crate::proofs::FileLemmas::told_outlives, crate::proofs::FileLemmas::told_on_disk, crate::proofs::FileLemmas::lasting_grows, crate::proofs::FileLemmas::lasting_all))]
     fn flush(&mut self) -> Result<(), Failed>
-        ensures flush { Flush (⟦<JournalSink<J, D> as Sink>⟧.state self.old) (⟦<JournalSink<J, D> as Sink>⟧.state self.new) result }
-        ensures end { FlushAtEnd D.syncs (⟦<JournalSink<J, D> as FileEnd>⟧.end self.old) (⟦<JournalSink<J, D> as FileEnd>⟧.end self.new) result }
+        ensures flush { Flush (⟦<JournalSink<J, D> as Sink>⟧.state self.old)
+            (⟦<JournalSink<J, D> as Sink>⟧.state self.new) result }
+        ensures end { FlushAtEnd D.syncs (⟦<JournalSink<J, D> as FileEnd>⟧.end self.old)
+            (⟦<JournalSink<J, D> as FileEnd>⟧.end self.new) result }
     {
         self.flushed = false;
         if self.failed() {
@@ -162,7 +183,8 @@ fn write_all<J: JournalFile>(file: &mut J, bytes: &[u8]) -> usize
     requires { (J.state file.old).ready ≡ true }
     ensures within { result ≤ length bytes.now }
     ensures all { (J.state file.new).ready ≡ true → result ≡ length bytes.now }
-    ensures added { Steps (Adds (take result bytes.now)) (J.state file.old).told (J.state file.new).told }
+    ensures added { Steps (Adds (take result bytes.now)) (J.state file.old).told
+        (J.state file.new).told }
 {
     let mut count = 0;
     while count < bytes.len() {

@@ -39,12 +39,19 @@ pub fn journal_to_file<
     store: &mut BookStore,
     fills: u32,
 ) -> Result<bool, NoBook>
-    ensures ends { JournalsInto rules fills (Table.state table_source.old) (Table.state table_source.new) (Kept.state kept.old) (Kept.state kept.new)
-        (In.state source.old) (In.state source.new) (⟦<JournalSink<File, Durable> as Sink>⟧.state journal.old) (⟦<JournalSink<File, Durable> as Sink>⟧.state journal.new)
-        (Out.state sink.old) (Out.state sink.new) (BookStore.state store.old) (BookStore.state store.new) result }
+    ensures ends { JournalsInto rules fills (Table.state table_source.old)
+        (Table.state table_source.new) (Kept.state kept.old) (Kept.state kept.new)
+        (In.state source.old) (In.state source.new)
+        (⟦<JournalSink<File, Durable> as Sink>⟧.state journal.old)
+        (⟦<JournalSink<File, Durable> as Sink>⟧.state journal.new)
+        (Out.state sink.old) (Out.state sink.new)
+        (BookStore.state store.old) (BookStore.state store.new) result }
     // No submission was read, or each game that was acknowledged is in what is left of the file.
-    ensures leaves { (disk : Disk) → IsStarted Durable.syncs disk (⟦<JournalSink<File, Durable> as FileEnd>⟧.end journal.old) (Kept.state kept.old)
-        → (In.state source.new ≡ In.state source.old) ⊎ LeavesAnswered Durable.syncs disk (⟦<JournalSink<File, Durable> as FileEnd>⟧.end journal.new)
+    ensures leaves { (disk : Disk) → IsStarted Durable.syncs disk
+        (⟦<JournalSink<File, Durable> as FileEnd>⟧.end journal.old) (Kept.state kept.old)
+        → (In.state source.new ≡ In.state source.old)
+        ⊎ LeavesAnswered Durable.syncs disk (⟦<JournalSink<File, Durable> as FileEnd>⟧.end
+        journal.new)
         (In.state source.old) (In.state source.new) (Out.state sink.old) (Out.state sink.new) }
 {
     journal_into(

@@ -3,7 +3,8 @@
 ghost use Rattle.std.specs.Option.{option_map};
 ghost use Rattle.std.specs.Prelude.{◌≡◌, ℕ, List, None, OnErr, OnOk, true};
 ghost use Rattle.std.specs.Result.{result_err};
-ghost use Rattle.pb_files.specs.Keeping.{IsNamedByDraft, LeadsWhereItLed, OldOrNewByDraft, SavedByDraft, found_at};
+ghost use Rattle.pb_files.specs.Keeping.{IsNamedByDraft, LeadsWhereItLed, OldOrNewByDraft};
+ghost use Rattle.pb_files.specs.Keeping.{SavedByDraft, found_at};
 ghost use Rattle.pb_collecting.specs.Store.{Keeps};
 
 use crate::desk::Desk;
@@ -26,7 +27,11 @@ pub struct KeptFile<D: Desk> {
 impl<D: Desk> KeptFile<D> {
     /// The store of this name, where nothing was kept yet.
     pub fn new(desk: D) -> KeptFile<D>
-        ensures state { ⟦<KeptFile<D> as Store>⟧.state result ≡ record { found = option_map (λ shelf. shelf.found) (D.state desk).told; fault = None } }
+        ensures state { ⟦<KeptFile<D> as Store>⟧.state result
+            ≡ record {
+              found = option_map (λ shelf. shelf.found) (D.state desk).told;
+              fault = None;
+            } }
         ensures desk { result.desk ≡ desk }
     {
         KeptFile {
@@ -44,7 +49,8 @@ impl<D: Desk> KeptFile<D> {
         ensures refused { (D.state self.new.desk).refused ≡ true }
         ensures named { self.new.named ≡ self.old.named }
         ensures kept { (bytes : List ℕ) × X.is_text text.now bytes
-            × Keeps (⟦<KeptFile<D> as Store>⟧.state self.old) (⟦<KeptFile<D> as Store>⟧.state self.new) result bytes }
+            × Keeps (⟦<KeptFile<D> as Store>⟧.state self.old)
+            (⟦<KeptFile<D> as Store>⟧.state self.new) result bytes }
     {
         let mut end = match self.desk.open_in_place() {
             Ok(end) => end,
@@ -69,21 +75,31 @@ impl<D: Desk> KeptFile<D> {
 }
 
 impl<D: Desk> Store for KeptFile<D> {
-    ghost state = { λ p. record { found = found_at (D.state p.desk).told (option_map D.End.state p.in_place); fault = p.fault } };
+    ghost state = { λ p. record {
+      found = found_at (D.state p.desk).told
+          (option_map D.End.state p.in_place);
+      fault = p.fault;
+    } };
 
     fn keep<X: Text>(&mut self, text: &X) -> Result<(), StoreError>
         requires { (bytes : List ℕ) × X.is_text text.now bytes }
         ensures kept { (bytes : List ℕ) × X.is_text text.now bytes
-            × Keeps (⟦<KeptFile<D> as Store>⟧.state self.old) (⟦<KeptFile<D> as Store>⟧.state self.new) result bytes }
+            × Keeps (⟦<KeptFile<D> as Store>⟧.state self.old)
+            (⟦<KeptFile<D> as Store>⟧.state self.new) result bytes }
         // A crash leaves no part of the text, unless the file is written in place.
-        ensures whole { (bytes : List ℕ) × X.is_text text.now bytes × OldOrNewByDraft bytes (D.state self.old.desk) (D.state self.new.desk) }
+        ensures whole { (bytes : List ℕ) × X.is_text text.now bytes
+            × OldOrNewByDraft bytes (D.state self.old.desk) (D.state self.new.desk) }
         // What was kept outlives each crash from now on, unless it is written in place.
-        ensures settled { (bytes : List ℕ) × X.is_text text.now bytes × OnOk result (SavedByDraft bytes (D.state self.old.desk) (D.state self.new.desk)) }
+        ensures settled { (bytes : List ℕ) × X.is_text text.now bytes
+            × OnOk result (SavedByDraft bytes (D.state self.old.desk) (D.state self.new.desk)) }
         // The store goes on holding the file that has the name, and lets none go where it fails.
-        ensures held { OnOk result (IsNamedByDraft (option_map D.End.state self.new.named) (D.state self.new.desk)) }
+        ensures held { OnOk result (IsNamedByDraft (option_map D.End.state self.new.named)
+            (D.state self.new.desk)) }
         ensures still_held { OnErr result (self.new.named ≡ self.old.named) }
         // A reader finds what an end has taken only as long as the name leads to its file.
-        ensures in_place { LeadsWhereItLed (option_map D.End.state self.old.in_place) (option_map D.End.state self.new.in_place) (D.state self.old.desk) (D.state self.new.desk) }
+        ensures in_place { LeadsWhereItLed (option_map D.End.state self.old.in_place)
+            (option_map D.End.state self.new.in_place) (D.state self.old.desk)
+            (D.state self.new.desk) }
     {
         match save_whole(&mut self.desk, text) {
             Ok(end) => {

@@ -11,18 +11,21 @@ ghost use Rattle.pb_files.specs.Runs.{HoldsDraft, Names, OfOthers, Step, after};
 /// added later, they are the first.
 #[tactic(auto, using(crate::proofs::BeginLemmas::lines_outlive_kills))]
 pub fn lines_outlive_kills()
-    ensures { (now later : Disk) → Grows now later → BeginsWith (ended_lines later.found) (ended_lines now.found) }
+    ensures { (now later : Disk) → Grows now later
+        → BeginsWith (ended_lines later.found) (ended_lines now.found) }
 {}
 
 /// Lines that are on the disk outlive every later crash: whatever is added later, and whatever
 /// bytes a crash leaves behind them, they are the first.
 pub fn lines_on_disk_outlive_crashes()
-    ensures { (now later : Disk) → Grows now later → (left : List ℕ) → Leaves later left → BeginsWith (ended_lines left) (ended_lines (on_disk now)) }
+    ensures { (now later : Disk) → Grows now later → (left : List ℕ) → Leaves later left
+        → BeginsWith (ended_lines left) (ended_lines (on_disk now)) }
 {}
 
 /// Where all that is found outlives crashes, its lines are the first after every later crash.
 pub fn synced_lines_outlive_crashes()
-    ensures { (now later : Disk) → OutlivesCrash now → Grows now later → (left : List ℕ) → Leaves later left → BeginsWith (ended_lines left) (ended_lines now.found) }
+    ensures { (now later : Disk) → OutlivesCrash now → Grows now later → (left : List ℕ)
+        → Leaves later left → BeginsWith (ended_lines left) (ended_lines now.found) }
 {}
 
 /// All that is found outlives crashes just where it is on the disk.
@@ -35,12 +38,14 @@ pub fn on_disk_is_what_outlives_crashes()
 /// Two runs never hold the draft of one name, in a model of their steps.
 #[tactic(auto, using(crate::proofs::RunLemmas::one_run))]
 pub fn one_run_holds_a_draft()
-    ensures { (run other : ℕ) (names : Names) → HoldsDraft run names → HoldsDraft other names → run ≡ other }
+    ensures { (run other : ℕ) (names : Names) → HoldsDraft run names → HoldsDraft other names
+        → run ≡ other }
 {}
 
 /// A run that holds a draft holds it on, whatever other runs do and in whatever order: so a run
 /// that has seen that it does may write the draft.
 #[tactic(auto, using(crate::proofs::RunLemmas::still_held))]
 pub fn a_held_draft_stays_held()
-    ensures { (run : ℕ) (names : Names) (steps : List Step) → HoldsDraft run names → OfOthers run steps → HoldsDraft run (after names steps) }
+    ensures { (run : ℕ) (names : Names) (steps : List Step) → HoldsDraft run names
+        → OfOthers run steps → HoldsDraft run (after names steps) }
 {}

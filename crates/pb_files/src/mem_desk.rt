@@ -53,7 +53,17 @@ impl MemDesk {
         good: u32,
     ) -> MemDesk
         ensures { let content = option_map (λ v. v.items) first in ⟦<MemDesk as Desk>⟧.state result
-            ≡ record { told = Some (record { found = content; leaves = content ∷ []; left = content ∷ []; torn = false }); refused = false; drafted = false; unsettled = false } }
+            ≡ record {
+              told = Some (record {
+                found = content;
+                leaves = content ∷ [];
+                left = content ∷ [];
+                torn = false;
+              });
+              refused = false;
+              drafted = false;
+              unsettled = false;
+            } }
     {
         MemDesk {
             alloc,
@@ -72,7 +82,8 @@ impl MemDesk {
 
     /// What a reader finds.
     pub fn found(&self) -> Option<&[u8]>
-        ensures { IfSome (⟦<MemDesk as Desk>⟧.state self.now).told (λ shelf. shelf.found ≡ option_copied result) }
+        ensures { IfSome (⟦<MemDesk as Desk>⟧.state self.now).told (λ shelf.
+            shelf.found ≡ option_copied result) }
     {
         match (&self.named, &self.first) {
             (Some(named), _) => Some(named.as_slice()),
@@ -113,12 +124,18 @@ impl MemDesk {
 impl Desk for MemDesk {
     type End = FuseSink;
 
-    ghost state = { λ m. let first = option_map (λ v. v.items) m.first in let named = option_map (λ v. v.items) m.named in record {
-      told = Some (record { found = found_of first named; leaves = leaves_of m.settled first named; left = contents_of first named; torn = m.torn });
-      refused = m.refused;
-      drafted = m.drafted;
-      unsettled = m.unsettled;
-    } };
+    ghost state = { λ m. let first = option_map (λ v. v.items) m.first in
+        let named = option_map (λ v. v.items) m.named in record {
+          told = Some (record {
+            found = found_of first named;
+            leaves = leaves_of m.settled first named;
+            left = contents_of first named;
+            torn = m.torn;
+          });
+          refused = m.refused;
+          drafted = m.drafted;
+          unsettled = m.unsettled;
+        } };
 
     fn takes_draft(&mut self) -> Result<bool, StoreError> {
         self.refused = false;

@@ -25,7 +25,8 @@ pub struct MemJournal {
 impl MemJournal {
     /// A file that has these bytes, none of them on the disk, and of which this many calls succeed.
     pub fn new(bytes: Vec<u8>, calls: usize) -> MemJournal
-        ensures { ⟦<MemJournal as JournalFile>⟧.state result ≡ record { told = Some (record { found = bytes.items; kept = 0 }); ready = true } }
+        ensures { ⟦<MemJournal as JournalFile>⟧.state result
+            ≡ record { told = Some (record { found = bytes.items; kept = 0 }); ready = true } }
     {
         MemJournal {
             bytes,
@@ -37,14 +38,16 @@ impl MemJournal {
 
     /// What a reader finds, which is what a kill leaves.
     pub fn found(&self) -> &[u8]
-        ensures { IfSome (⟦<MemJournal as JournalFile>⟧.state self.now).told (λ disk. result.now ≡ disk.found) }
+        ensures { IfSome (⟦<MemJournal as JournalFile>⟧.state self.now).told (λ disk.
+            result.now ≡ disk.found) }
     {
         self.bytes.as_slice()
     }
 
     /// What is on the disk, which is the least that a crash leaves.
     pub fn after_crash(&self) -> &[u8]
-        ensures { IfSome (⟦<MemJournal as JournalFile>⟧.state self.now).told (λ disk. result.now ≡ on_disk disk) }
+        ensures { IfSome (⟦<MemJournal as JournalFile>⟧.state self.now).told (λ disk.
+            result.now ≡ on_disk disk) }
     {
         let count = self.kept.min(self.bytes.len());
         &self.bytes[..count]
@@ -65,7 +68,10 @@ impl MemJournal {
 }
 
 impl JournalFile for MemJournal {
-    ghost state = { λ m. record { told = Some (record { found = m.bytes.items; kept = m.kept }); ready = m.ready } };
+    ghost state = { λ m. record {
+      told = Some (record { found = m.bytes.items; kept = m.kept });
+      ready = m.ready;
+    } };
 
     fn is_ready(&self) -> bool {
         self.ready

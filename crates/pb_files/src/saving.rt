@@ -68,8 +68,10 @@ fn new_draft<D: Desk>(desk: &mut D) -> Result<D::End, NotMade>
 /// Those of `NotSaved`. There is no draft any more.
 pub fn save_whole<D: Desk, X: Text>(desk: &mut D, text: &X) -> Result<D::End, NotSaved>
     requires { (bytes : List ℕ) × X.is_text text.now bytes }
-    ensures saves { (bytes : List ℕ) × X.is_text text.now bytes × Saves bytes (D.state desk.old).told (D.state desk.new).told result }
-    ensures end { IfOk result (λ end. IfSome (D.state desk.new).told (λ shelf. shelf.found ≡ (D.End.state end).bytes)) }
+    ensures saves { (bytes : List ℕ) × X.is_text text.now bytes
+        × Saves bytes (D.state desk.old).told (D.state desk.new).told result }
+    ensures end { IfOk result (λ end. IfSome (D.state desk.new).told (λ shelf.
+        shelf.found ≡ (D.End.state end).bytes)) }
     ensures refused { (D.state desk.new).refused ≡ is_refused result }
     ensures unsettled { is_unsettled result ≡ true → (D.state desk.new).unsettled ≡ true }
     ensures no_draft { (D.state desk.new).drafted ≡ true → (D.state desk.old).drafted ≡ true }

@@ -62,7 +62,8 @@ pub struct Started<J: ReadFile> {
 pub fn whole_reader<J: ReadFile>(journal: &mut J, sync: bool) -> Result<J::Reader, NotRead>
     requires { (J.state journal.old).ready ≡ true }
     ensures ready { OnOk result ((J.state journal.new).ready ≡ true) }
-    ensures all { IfOk result (λ reader. ReadsAll (J.state journal.new).told (J.Reader.state reader)) }
+    ensures all { IfOk result (λ reader. ReadsAll (J.state journal.new).told
+        (J.Reader.state reader)) }
     ensures on_disk { OnOk result (sync ≡ true → IfSome (J.state journal.new).told IsOnDisk) }
     ensures fault { IfErr result (λ why. IfSyncFault why ((J.state journal.new).ready ≡ false)) }
     ensures same { Steps (Adds []) (J.state journal.old).told (J.state journal.new).told }
@@ -87,8 +88,10 @@ pub fn start<O: JournalOpener>(
     sync: bool,
 ) -> Result<Started<O::Journal>, NotStarted>
     ensures ready { IfOk result (λ started. (O.Journal.state started.journal).ready ≡ true) }
-    ensures all { IfOk result (λ started. ReadsAll (O.Journal.state started.journal).told (O.Journal.Reader.state started.reader)) }
-    ensures on_disk { IfOk result (λ started. sync ≡ true → IfSome (O.Journal.state started.journal).told IsOnDisk) }
+    ensures all { IfOk result (λ started. ReadsAll (O.Journal.state started.journal).told
+        (O.Journal.Reader.state started.reader)) }
+    ensures on_disk { IfOk result (λ started. sync ≡ true
+        → IfSome (O.Journal.state started.journal).told IsOnDisk) }
     ensures denied { IfErr result (λ why. IfNotHeld why (O.denies opener.new)) }
 {
     let file = match hold(opener) {

@@ -1,6 +1,7 @@
 //! Ids of submissions.
 
-ghost use Rattle.std.specs.Prelude.{◌≡◌, ◌-◌, ◌≤◌, ◌↔◌, ◌++◌, All, IsTrue, Ok, length, replicate, SomeIff};
+ghost use Rattle.std.specs.Prelude.{◌≡◌, ◌-◌, ◌≤◌, ◌↔◌, ◌++◌, All, IsTrue, Ok, length, replicate};
+ghost use Rattle.std.specs.Prelude.{SomeIff};
 ghost use Rattle.std.specs.Cmp.Rules.{comparing, hashing};
 ghost use Rattle.std.specs.Str.{bytes_eq};
 ghost use Rattle.std.proofs.Common.{rules};
@@ -34,7 +35,8 @@ impl Model for Id {
 
     ghost inverse = { λ id. record { bytes = padded MAX_LEN id; len = length id } };
 
-    ghost inverse_ok = { λ a h. padded-back MAX_LEN (λ bytes len. record { bytes = bytes; len = len }) a.bytes a.len h.1 };
+    ghost inverse_ok = { λ a h. padded-back MAX_LEN (λ bytes len.
+        record { bytes = bytes; len = len }) a.bytes a.len h.1 };
 }
 
 impl Clone for Id {

@@ -92,9 +92,11 @@ fn read_moves<P: MoveVisitor>(
     field: &[u8],
 ) -> Result<u32, Refusal>
     requires { length field.now ≤ MAX_BYTES }
-    ensures read { MatchResult result (AreRead start.now field.now) (AreRefused start.now field.now) }
+    ensures read { MatchResult result (AreRead start.now field.now)
+        (AreRefused start.now field.now) }
     ensures told { let moves = moves_named field.now in
-        IfOk result (λ _. P.holds visitor.new outcome (plies_from start.now moves) (setup_after start.now moves)) }
+        IfOk result (λ _. P.holds visitor.new outcome (plies_from start.now moves)
+        (setup_after start.now moves)) }
     ensures fixed { P.fixed visitor.new ≡ P.fixed visitor.old }
 {
     visitor.begin(start, outcome);

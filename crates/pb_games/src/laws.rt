@@ -10,7 +10,8 @@ ghost use Rattle.pb_games.specs.declared.header.TheConstants.{MAX_BYTES};
 ghost use Rattle.pb_games.specs.declared.id.TheConstants.{MAX_LEN};
 ghost use Rattle.pb_games.specs.declared.outcome.Outcome.{Outcome};
 ghost use Rattle.pb_games.specs.declared.refusal.Refusal.{Refusal};
-ghost use Rattle.pb_games.specs.Laws.{OneRefusal, OneSubmission, PartsHaveNoTab, RefusedByItself, RefusedIsUnlawful, TextIsOneLine, TextIsShort};
+ghost use Rattle.pb_games.specs.Laws.{OneRefusal, OneSubmission, PartsHaveNoTab, RefusedByItself};
+ghost use Rattle.pb_games.specs.Laws.{RefusedIsUnlawful, TextIsOneLine, TextIsShort};
 
 use crate::id::Id;
 use crate::outcome::Outcome;
@@ -59,5 +60,6 @@ pub fn equal_values()
     ensures ids { (a b : List ℕ) → Decides (⟦<Id as PartialEq>⟧.eq a b) (a ≡ b) }
     ensures outcomes { (a b : Outcome) → Decides (⟦<Outcome as PartialEq>⟧.eq a b) (a ≡ b) }
     ensures refusals { (a b : Refusal) → Decides (⟦<Refusal as PartialEq>⟧.eq a b) (a ≡ b) }
-    ensures hashes { (a b : List ℕ) → ⟦<Id as Hash>⟧.hash_input a ≡ ⟦<Id as Hash>⟧.hash_input b → a ≡ b }
+    ensures hashes { (a b : List ℕ) → ⟦<Id as Hash>⟧.hash_input a ≡ ⟦<Id as Hash>⟧.hash_input b
+        → a ≡ b }
 {}

@@ -29,14 +29,17 @@ impl<'a> Model for Line<'a> {
 
     ghost view = { λ a. submission_of a.id.now a.start a.outcome a.moves.now };
 
-    ghost invariant = { λ a. IsChecked (submission_of a.id.now a.start a.outcome a.moves.now) a.moves.now a.plies };
+    ghost invariant = { λ a. IsChecked (submission_of a.id.now a.start a.outcome a.moves.now)
+        a.moves.now a.plies };
 }
 
 impl<'a> Line<'a> {
     /// The line of a header and moves that were judged.
     pub(crate) fn of(header: Header<'a>, plies: u32) -> Line<'a>
-        requires { IsChecked (submission_of header.id.now header.start header.outcome header.moves.now) header.moves.now plies }
-        ensures { let h = header.entry in result ≡ submission_of h.id.now h.start h.outcome h.moves.now }
+        requires { IsChecked (submission_of header.id.now header.start header.outcome
+            header.moves.now) header.moves.now plies }
+        ensures { let h = header.entry in result
+            ≡ submission_of h.id.now h.start h.outcome h.moves.now }
     {
         Line {
             id: header.id,

@@ -28,7 +28,8 @@ pub fn repeats(line: &[u8], id: &Id, game: &Game) -> bool
 /// Whether the fields are those of this id and this game.
 fn are_fields_of(fields: &LineFields<'_>, id: &Id, game: &Game) -> bool
     ensures { let f = fields.now in
-        IsTrue result ↔ AreFieldsOf (id.now, game.now) f.id.now f.outcome.now f.start.now f.moves.now }
+        IsTrue result ↔ AreFieldsOf (id.now, game.now) f.id.now f.outcome.now f.start.now
+        f.moves.now }
 {
     fields.id == id.as_bytes()
         && fields.outcome == game.outcome.text()

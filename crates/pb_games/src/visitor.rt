@@ -36,7 +36,8 @@ pub trait MoveVisitor {
         requires { CanTake (holds self.old) setup.old }
         ensures legal { IsTrue result ↔ Legal setup.old m }
         ensures played { IsTrue result → (setup.new ≡ after setup.old m) }
-        ensures told { IsTrue result → (o : Outcome) (ps : List Ply) → holds self.old o ps setup.old → holds self.new o (ps ++ (setup.old, m) ∷ []) setup.new }
+        ensures told { IsTrue result → (o : Outcome) (ps : List Ply) → holds self.old o ps setup.old
+            → holds self.new o (ps ++ (setup.old, m) ∷ []) setup.new }
         ensures fixed { fixed self.new ≡ fixed self.old };
 }
 

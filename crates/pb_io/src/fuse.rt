@@ -1,7 +1,8 @@
 //! Ends that try a program: a source and a sink that fail once their fuse blows, and a source that
 //! never ends.
 
-ghost use Rattle.std.specs.Prelude.{◌≡◌, ℕ, ◌+◌, ◌^◌, ◌<◌, ◌≤◌, [], OnErr, OnOk, Some, None, false, length};
+ghost use Rattle.std.specs.Prelude.{◌≡◌, ℕ, ◌+◌, ◌^◌, ◌<◌, ◌≤◌, [], OnErr, OnOk, Some, None, false};
+ghost use Rattle.std.specs.Prelude.{length};
 ghost use Rattle.pb_io.specs.Fuse.{FuseFill, FuseFlush, FusePut, GivesOne, GivesPiece};
 ghost use Rattle.pb_io.specs.Sink.{Flush, Put};
 ghost use Rattle.pb_io.specs.Source.{Fill};
@@ -29,7 +30,15 @@ impl<'a> FuseSource<'a> {
     /// The bytes, in pieces of at most `piece`, until `good` fills have passed.
     pub fn new(bytes: &'a [u8], piece: usize, good: u32) -> FuseSource<'a>
         requires { 1 ≤ piece }
-        ensures state { ⟦<FuseSource<'a> as Source>⟧.state result ≡ record { to_come = Some bytes.now; handed = []; fills = 0; empty_fills = 0; ended = false; failed = false } }
+        ensures state { ⟦<FuseSource<'a> as Source>⟧.state result
+            ≡ record {
+              to_come = Some bytes.now;
+              handed = [];
+              fills = 0;
+              empty_fills = 0;
+              ended = false;
+              failed = false;
+            } }
         ensures good { result.good ≡ good }
         ensures piece { result.source.piece ≡ piece }
     {
@@ -43,12 +52,23 @@ impl<'a> FuseSource<'a> {
 }
 
 impl<'a> Source for FuseSource<'a> {
-    ghost state = { λ s. record { to_come = (⟦<MemSource<'a> as Source>⟧.state s.source).to_come; handed = (⟦<MemSource<'a> as Source>⟧.state s.source).handed; fills = s.fills.some; empty_fills = s.fills.empty; ended = (⟦<MemSource<'a> as Source>⟧.state s.source).ended; failed = s.failed } };
+    ghost state = { λ s. record {
+      to_come = (⟦<MemSource<'a> as Source>⟧.state s.source).to_come;
+      handed = (⟦<MemSource<'a> as Source>⟧.state s.source).handed;
+      fills = s.fills.some;
+      empty_fills = s.fills.empty;
+      ended = (⟦<MemSource<'a> as Source>⟧.state s.source).ended;
+      failed = s.failed;
+    } };
 
     fn fill(&mut self, into: &mut [u8]) -> Result<usize, Failed>
-        ensures fill { Fill (⟦<FuseSource<'a> as Source>⟧.state self.old) (⟦<FuseSource<'a> as Source>⟧.state self.new) result into.new }
-        ensures fuse { FuseFill (⟦<FuseSource<'a> as Source>⟧.state self.old) self.old.good self.new.good result into.new }
-        ensures gives { OnOk result (GivesPiece (⟦<FuseSource<'a> as Source>⟧.state self.old).to_come self.old.source.piece result into.old into.new) }
+        ensures fill { Fill (⟦<FuseSource<'a> as Source>⟧.state self.old)
+            (⟦<FuseSource<'a> as Source>⟧.state self.new) result into.new }
+        ensures fuse { FuseFill (⟦<FuseSource<'a> as Source>⟧.state self.old) self.old.good
+            self.new.good result into.new }
+        ensures gives { OnOk result (GivesPiece
+            (⟦<FuseSource<'a> as Source>⟧.state self.old).to_come self.old.source.piece result
+            into.old into.new) }
         ensures untouched { OnErr result (into.new ≡ into.old) }
         ensures piece { self.new.source.piece ≡ self.old.source.piece }
     {
@@ -88,7 +108,14 @@ pub struct FuseSink {
 impl FuseSink {
     /// A sink with no bytes, of which `good` puts and flushes pass.
     pub fn new(alloc: Global, good: u32) -> FuseSink
-        ensures state { ⟦<FuseSink as Sink>⟧.state result ≡ record { bytes = Some []; lasting = Some []; failed = false; flushed = false; flushes = 0 } }
+        ensures state { ⟦<FuseSink as Sink>⟧.state result
+            ≡ record {
+              bytes = Some [];
+              lasting = Some [];
+              failed = false;
+              flushed = false;
+              flushes = 0;
+            } }
         ensures good { result.good ≡ good }
         ensures fed { result.starved ≡ false }
     {
@@ -111,11 +138,20 @@ impl FuseSink {
 }
 
 impl Sink for FuseSink {
-    ghost state = { λ s. record { bytes = Some s.bytes.items; lasting = Some s.bytes.items; failed = s.failed; flushed = s.flushed; flushes = s.flushes } };
+    ghost state = { λ s. record {
+      bytes = Some s.bytes.items;
+      lasting = Some s.bytes.items;
+      failed = s.failed;
+      flushed = s.flushed;
+      flushes = s.flushes;
+    } };
 
     fn put(&mut self, bytes: &[u8]) -> Result<(), Failed>
-        ensures put { Put (⟦<FuseSink as Sink>⟧.state self.old) (⟦<FuseSink as Sink>⟧.state self.new) result bytes.now }
-        ensures fuse { FusePut (⟦<FuseSink as Sink>⟧.state self.old) (⟦<FuseSink as Sink>⟧.state self.new) self.old.good self.new.good self.old.starved self.new.starved result bytes.now }
+        ensures put { Put (⟦<FuseSink as Sink>⟧.state self.old)
+            (⟦<FuseSink as Sink>⟧.state self.new) result bytes.now }
+        ensures fuse { FusePut (⟦<FuseSink as Sink>⟧.state self.old)
+            (⟦<FuseSink as Sink>⟧.state self.new) self.old.good self.new.good self.old.starved
+            self.new.starved result bytes.now }
     {
         let blows = self.good == 0;
         self.good = self.good.saturating_sub(1);
@@ -134,8 +170,10 @@ impl Sink for FuseSink {
     }
 
     fn flush(&mut self) -> Result<(), Failed>
-        ensures flush { Flush (⟦<FuseSink as Sink>⟧.state self.old) (⟦<FuseSink as Sink>⟧.state self.new) result }
-        ensures fuse { FuseFlush (⟦<FuseSink as Sink>⟧.state self.old) self.old.good self.new.good result }
+        ensures flush { Flush (⟦<FuseSink as Sink>⟧.state self.old)
+            (⟦<FuseSink as Sink>⟧.state self.new) result }
+        ensures fuse { FuseFlush (⟦<FuseSink as Sink>⟧.state self.old) self.old.good self.new.good
+            result }
         ensures starved { self.new.starved ≡ self.old.starved }
     {
         self.failed = self.failed || self.good == 0;
@@ -165,7 +203,15 @@ pub struct NeverSource {
 impl NeverSource {
     /// A source of nothing but this byte.
     pub fn new(byte: u8) -> NeverSource
-        ensures state { ⟦<NeverSource as Source>⟧.state result ≡ record { to_come = None; handed = []; fills = 0; empty_fills = 0; ended = false; failed = false } }
+        ensures state { ⟦<NeverSource as Source>⟧.state result
+            ≡ record {
+              to_come = None;
+              handed = [];
+              fills = 0;
+              empty_fills = 0;
+              ended = false;
+              failed = false;
+            } }
         ensures byte { result.byte ≡ byte }
     {
         NeverSource {
@@ -177,10 +223,18 @@ impl NeverSource {
 }
 
 impl Source for NeverSource {
-    ghost state = { λ s. record { to_come = None; handed = s.history.bytes; fills = s.fills.some; empty_fills = s.fills.empty; ended = false; failed = false } };
+    ghost state = { λ s. record {
+      to_come = None;
+      handed = s.history.bytes;
+      fills = s.fills.some;
+      empty_fills = s.fills.empty;
+      ended = false;
+      failed = false;
+    } };
 
     fn fill(&mut self, into: &mut [u8]) -> Result<usize, Failed>
-        ensures fill { Fill (⟦<NeverSource as Source>⟧.state self.old) (⟦<NeverSource as Source>⟧.state self.new) result into.new }
+        ensures fill { Fill (⟦<NeverSource as Source>⟧.state self.old)
+            (⟦<NeverSource as Source>⟧.state self.new) result into.new }
         ensures one { GivesOne self.old.byte result into.old into.new }
         ensures byte { self.new.byte ≡ self.old.byte }
     {

@@ -36,7 +36,8 @@ pub fn pieces_join()
 
 /// The lines that an LF ended in a front of a text are the first lines of the text.
 pub fn lines_begin()
-    ensures { (front bytes : List ℕ) → (later : List (List ℕ)) × (lines (front ++ bytes) ≡ ended_lines front ++ later) }
+    ensures { (front bytes : List ℕ) → (later : List (List ℕ))
+        × (lines (front ++ bytes) ≡ ended_lines front ++ later) }
 {}
 
 /// A text has no more lines than bytes.

@@ -13,7 +13,13 @@ pub struct NullSink {
 }
 
 impl Sink for NullSink {
-    ghost state = { λ s. record { bytes = None; lasting = None; failed = false; flushed = s.flushed; flushes = s.flushes } };
+    ghost state = { λ s. record {
+      bytes = None;
+      lasting = None;
+      failed = false;
+      flushed = s.flushed;
+      flushes = s.flushes;
+    } };
 
     fn put(&mut self, _bytes: &[u8]) -> Result<(), Failed> {
         self.flushed = false;

@@ -52,7 +52,8 @@ pub fn save_book<T: Tally, K: Sink>(
     ledger: &Ledger<T>,
     sink: &mut K,
 ) -> Result<(), WriteFault>
-    ensures { (bytes : List ℕ) × BookText ledger.now bytes × WritesOrWants (K.state sink.old) (K.state sink.new) result bytes }
+    ensures { (bytes : List ℕ) × BookText ledger.now bytes
+        × WritesOrWants (K.state sink.old) (K.state sink.new) result bytes }
 {
     let mut entries = Vec::new(alloc);
     let mut next = Some(0);
@@ -67,8 +68,10 @@ pub fn save_book<T: Tally, K: Sink>(
 
 /// Puts the bytes of the entries in order.
 fn put_entries<K: Sink>(sink: &mut K, entries: &[Entry]) -> Result<(), Failed>
-    ensures ok { OnOk result (PutsOn (K.state sink.old) (K.state sink.new) (book_bytes entries.now)) }
-    ensures err { OnErr result (Put (K.state sink.old) (K.state sink.new) result (book_bytes entries.now)) }
+    ensures ok { OnOk result (PutsOn (K.state sink.old) (K.state sink.new)
+        (book_bytes entries.now)) }
+    ensures err { OnErr result (Put (K.state sink.old) (K.state sink.new) result
+        (book_bytes entries.now)) }
 {
     for entry in entries {
         write_entry(sink, entry)?;

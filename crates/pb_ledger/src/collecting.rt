@@ -31,11 +31,14 @@ pub fn collect<T: Tally, In: Source, Out: Sink>(
     fills: u32,
 ) -> Result<Totals, CollectFault>
     // All lines were taken and answered, and the replies were handed on, once.
-    ensures ok { IfOk result (CollectsStream fills (In.state source.old) (In.state source.new) (Out.state sink.old) (Out.state sink.new) ledger.old ledger.new) }
+    ensures ok { IfOk result (CollectsStream fills (In.state source.old) (In.state source.new)
+        (Out.state sink.old) (Out.state sink.new) ledger.old ledger.new) }
     // They are the lines of all bytes that the source tells.
-    ensures told { IfOk result (CollectsTold (In.state source.old) (In.state source.new) (Out.state sink.old) (Out.state sink.new) ledger.old ledger.new) }
+    ensures told { IfOk result (CollectsTold (In.state source.old) (In.state source.new)
+        (Out.state sink.old) (Out.state sink.new) ledger.old ledger.new) }
     // The lines taken before a fault, and where the fault lies.
-    ensures fault { IfErr result (CollectsUntil fills (In.state source.old) (In.state source.new) (Out.state sink.old) (Out.state sink.new) ledger.old ledger.new) }
+    ensures fault { IfErr result (CollectsUntil fills (In.state source.old) (In.state source.new)
+        (Out.state sink.old) (Out.state sink.new) ledger.old ledger.new) }
 {
     let mut no_journal = NullSink::default();
     match collect_journaled(alloc, source, sink, &mut no_journal, ledger, fills) {

@@ -34,11 +34,14 @@ pub(crate) struct Collector<'l, 's, 'j, T: Tally, K, J> {
 impl<T: Tally, K: Sink, J: Sink> Collector<'_, '_, '_, T, K, J> {
     /// Submits a line. The answer to it, and whether it brought a new game.
     fn submit(&mut self, line: &[u8]) -> (Result<u32, Refusal>, bool)
-        ensures leads { Leads self.old.ledger.now self.new.ledger.now (line.now ∷ []) (result.0 ∷ []) }
-        ensures new { result.1 ≡ nat_lt (length self.old.ledger.now.accepted) (length self.new.ledger.now.accepted) }
+        ensures leads { Leads self.old.ledger.now self.new.ledger.now (line.now ∷ [])
+            (result.0 ∷ []) }
+        ensures new { result.1 ≡ nat_lt (length self.old.ledger.now.accepted)
+            (length self.new.ledger.now.accepted) }
         ensures short { length (named line.now result.0) ≤ 64 }
         ensures ledger { self.new.ledger.ghost_name ≡ self.old.ledger.ghost_name }
-        ensures same { (self.new.sink ≡ self.old.sink) × (self.new.journal ≡ self.old.journal) × (self.new.totals ≡ self.old.totals) }
+        ensures same { (self.new.sink ≡ self.old.sink) × (self.new.journal ≡ self.old.journal)
+            × (self.new.totals ≡ self.old.totals) }
     {
         let held = self.ledger.len();
         let answer = self.ledger.submit(line);
@@ -54,7 +57,8 @@ impl<T: Tally, K: Sink, J: Sink> Collector<'_, '_, '_, T, K, J> {
     ) -> Result<(), JournalFault>
         requires { length (named line.now answer) ≤ 64 }
         ensures counted { self.new.totals ≡ with_answer self.old.totals answer is_new }
-        ensures put { Put (K.state self.old.sink.now) (K.state self.new.sink.now) result (reply_line line.now answer) }
+        ensures put { Put (K.state self.old.sink.now) (K.state self.new.sink.now) result
+            (reply_line line.now answer) }
         ensures stops { IfErr result (λ e. e ≡ Lines Write) }
         ensures sink { self.new.sink.ghost_name ≡ self.old.sink.ghost_name }
         ensures same { (self.new.ledger ≡ self.old.ledger) × (self.new.journal ≡ self.old.journal) }
@@ -96,10 +100,12 @@ impl<T: Tally, K: Sink, J: Sink> Collector<'_, '_, '_, T, K, J> {
     ) -> Result<(), JournalFault>
         requires { self.old.totals ≡ record { lines = 0; new = 0; repeats = 0; refused = 0 } }
         ensures ok { OnOk result (JournalsStream fills (S.state source.old) (S.state source.new)
-            (K.state self.old.sink.now) (K.state self.new.sink.now) (J.state self.old.journal.now) (J.state self.new.journal.now)
+            (K.state self.old.sink.now) (K.state self.new.sink.now) (J.state self.old.journal.now)
+            (J.state self.new.journal.now)
             self.old.ledger.now self.new.ledger.now self.new.totals) }
         ensures err { IfErr result (JournalsUntil fills (S.state source.old) (S.state source.new)
-            (K.state self.old.sink.now) (K.state self.new.sink.now) (J.state self.old.journal.now) (J.state self.new.journal.now)
+            (K.state self.old.sink.now) (K.state self.new.sink.now) (J.state self.old.journal.now)
+            (J.state self.new.journal.now)
             self.old.ledger.now self.new.ledger.now) }
         ensures same { KeepsLent self.old self.new }
     {
@@ -112,7 +118,8 @@ impl<T: Tally, K: Sink, J: Sink> Collector<'_, '_, '_, T, K, J> {
 /// Puts a line that brought a game on the journal, and hands it on. It is the game's one text, but
 /// for a CR at its end.
 fn journal_line<J: Sink>(journal: &mut J, line: &[u8]) -> Result<(), JournalFault>
-    ensures written { Writes (J.state journal.old) (J.state journal.new) result (with_end (strip_carriage_return line.now)) }
+    ensures written { Writes (J.state journal.old) (J.state journal.new) result
+        (with_end (strip_carriage_return line.now)) }
     ensures stops { IfErr result (λ e. e ≡ Journal) }
 {
     match write_line(journal, line) {
@@ -123,7 +130,8 @@ fn journal_line<J: Sink>(journal: &mut J, line: &[u8]) -> Result<(), JournalFaul
 
 /// Puts a line without its CR, and an LF, and hands them on.
 fn write_line<J: Sink>(journal: &mut J, line: &[u8]) -> Result<(), Failed>
-    ensures { Writes (J.state journal.old) (J.state journal.new) result (with_end (strip_carriage_return line.now)) }
+    ensures { Writes (J.state journal.old) (J.state journal.new) result
+        (with_end (strip_carriage_return line.now)) }
 {
     put_line(journal, line)?;
     journal.flush()
@@ -131,7 +139,8 @@ fn write_line<J: Sink>(journal: &mut J, line: &[u8]) -> Result<(), Failed>
 
 /// Puts a line without its CR, and an LF.
 fn put_line<J: Sink>(journal: &mut J, line: &[u8]) -> Result<(), Failed>
-    ensures { Put (J.state journal.old) (J.state journal.new) result (with_end (strip_carriage_return line.now)) }
+    ensures { Put (J.state journal.old) (J.state journal.new) result
+        (with_end (strip_carriage_return line.now)) }
 {
     put_parts(journal, &[without_return(line)], b"\n")
 }

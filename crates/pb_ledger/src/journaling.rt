@@ -76,11 +76,13 @@ pub fn collect_journaled<T: Tally, In: Source, Out: Sink, Journal: Sink>(
 ) -> Result<Totals, JournalFault>
     // All lines were taken and answered, and the new games are on the journal, each handed on by
     // itself.
-    ensures ok { IfOk result (JournalsStream fills (In.state source.old) (In.state source.new) (Out.state sink.old) (Out.state sink.new)
+    ensures ok { IfOk result (JournalsStream fills (In.state source.old) (In.state source.new)
+        (Out.state sink.old) (Out.state sink.new)
         (Journal.state journal.old) (Journal.state journal.new) ledger.old ledger.new) }
     // The lines taken before a fault, what of their games is on the journal, and where the fault
     // lies.
-    ensures fault { IfErr result (JournalsUntil fills (In.state source.old) (In.state source.new) (Out.state sink.old) (Out.state sink.new)
+    ensures fault { IfErr result (JournalsUntil fills (In.state source.old) (In.state source.new)
+        (Out.state sink.old) (Out.state sink.new)
         (Journal.state journal.old) (Journal.state journal.new) ledger.old ledger.new) }
 {
     let mut collector = Collector {

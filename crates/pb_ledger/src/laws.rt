@@ -4,7 +4,8 @@
 
 ghost use Rattle.std.specs.Bool.{Decides};
 ghost use Rattle.std.specs.Prelude.{◌≡◌};
-ghost use Rattle.pb_ledger.specs.JournalLaws.{JournalGoesOn, JournalGrows, JournalIsOne, JournalMayTear, JournalMendingMayTear};
+ghost use Rattle.pb_ledger.specs.JournalLaws.{JournalGoesOn, JournalGrows, JournalIsOne};
+ghost use Rattle.pb_ledger.specs.JournalLaws.{JournalMayTear, JournalMendingMayTear};
 ghost use Rattle.pb_ledger.specs.SavedLaws.{ContinuedIsOneRun, SavedIsOne, SavedLoads};
 ghost use Rattle.pb_ledger.specs.declared.journaling.JournalFault.{JournalFault};
 ghost use Rattle.pb_ledger.specs.declared.loading.LoadError.{LoadError};
@@ -44,6 +45,7 @@ pub fn journaled()
 /// value.
 pub fn equal_values()
     ensures totals { (a b : Totals) → Decides (⟦<Totals as PartialEq>⟧.eq a b) (a ≡ b) }
-    ensures journal { (e f : JournalFault) → Decides (⟦<JournalFault as PartialEq>⟧.eq e f) (e ≡ f) }
+    ensures journal { (e f : JournalFault) → Decides (⟦<JournalFault as PartialEq>⟧.eq e f)
+        (e ≡ f) }
     ensures load { (e f : LoadError) → Decides (⟦<LoadError as PartialEq>⟧.eq e f) (e ≡ f) }
 {}

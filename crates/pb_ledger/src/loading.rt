@@ -120,11 +120,14 @@ pub fn load<T: Tally, S: Source>(
 ) -> Result<u32, LoadError>
     requires { ledger.old.accepted ≡ [] }
     // The games of all lines were taken.
-    ensures ok { IfOk result (LoadsStream fills (S.state source.old) (S.state source.new) ledger.old ledger.new) }
+    ensures ok { IfOk result (LoadsStream fills (S.state source.old) (S.state source.new) ledger.old
+        ledger.new) }
     // The games of the lines before the fault were taken, and where the fault lies.
-    ensures fault { IfErr result (LoadsUntil fills (S.state source.old) (S.state source.new) ledger.old ledger.new) }
+    ensures fault { IfErr result (LoadsUntil fills (S.state source.old) (S.state source.new)
+        ledger.old ledger.new) }
     // What was saved is loaded, where it fits.
-    ensures saved { LoadsSaved fills (S.state source.old) (S.state source.new) ledger.old ledger.new result }
+    ensures saved { LoadsSaved fills (S.state source.old) (S.state source.new) ledger.old ledger.new
+        result }
     ensures basis { ledger.new.basis ≡ ledger.old.basis }
     ensures cap { ledger.new.cap ≡ ledger.old.cap }
 {

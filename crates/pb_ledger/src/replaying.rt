@@ -107,9 +107,11 @@ pub fn replay<T: Tally, In: Source, Journal: Sink, Skipped: SkippedLines>(
 ) -> Result<(), Fault>
     requires { ledger.old.accepted ≡ [] }
     // The games of all lines that an LF ended were taken, and the end was mended.
-    ensures ok { OnOk result (ReplaysAll fills (In.state source.old) (In.state source.new) (Journal.state journal.old) (Journal.state journal.new) ledger.old ledger.new) }
+    ensures ok { OnOk result (ReplaysAll fills (In.state source.old) (In.state source.new)
+        (Journal.state journal.old) (Journal.state journal.new) ledger.old ledger.new) }
     // The games of the lines before the fault were taken, and where the fault lies.
-    ensures fault { IfErr result (ReplaysUntil fills (In.state source.old) (In.state source.new) (Journal.state journal.old) (Journal.state journal.new) ledger.old ledger.new) }
+    ensures fault { IfErr result (ReplaysUntil fills (In.state source.old) (In.state source.new)
+        (Journal.state journal.old) (Journal.state journal.new) ledger.old ledger.new) }
     ensures basis { ledger.new.basis ≡ ledger.old.basis }
     ensures cap { ledger.new.cap ≡ ledger.old.cap }
 {

@@ -25,7 +25,8 @@ pub(crate) const HEADER: &[u8] = b"pbook-ledger 1";
 ///
 /// The sink has failed. A front of the bytes may have been put then.
 pub fn save<T: Tally, K: Sink>(ledger: &Ledger<T>, sink: &mut K) -> Result<(), Failed>
-    ensures { (bytes : List ℕ) × Saved ledger.now.accepted bytes × Writes (K.state sink.old) (K.state sink.new) result bytes }
+    ensures { (bytes : List ℕ) × Saved ledger.now.accepted bytes
+        × Writes (K.state sink.old) (K.state sink.new) result bytes }
 {
     put_parts(sink, &[HEADER], b"\n")?;
     for index in 0..ledger.len() {
@@ -41,7 +42,8 @@ pub fn save<T: Tally, K: Sink>(ledger: &Ledger<T>, sink: &mut K) -> Result<(), F
 ///
 /// The sink has failed. A front of the line may have been put then.
 pub fn put_game<K: Sink>(sink: &mut K, id: &Id, game: &Game) -> Result<(), Failed>
-    ensures { Put (K.state sink.old) (K.state sink.new) result (with_end (submission_text (id.now, game.now))) }
+    ensures { Put (K.state sink.old) (K.state sink.new) result
+        (with_end (submission_text (id.now, game.now))) }
 {
     let start = game.start.text();
     put_field(sink, id.as_bytes())?;

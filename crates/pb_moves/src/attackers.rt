@@ -85,7 +85,8 @@ pub(crate) fn knights_from(square: Square) -> u64
 /// The squares from which a king attacks the square.
 #[inline(always)]
 pub(crate) fn kings_from(square: Square) -> u64
-    ensures { (a : ℕ) → a < 64 → (In result a ↔ (max (files_apart a square) (ranks_apart a square) ≡ 1)) }
+    ensures { (a : ℕ) → a < 64 → (In result a ↔ (max (files_apart a square) (ranks_apart a square)
+        ≡ 1)) }
 {
     NEAR[square.index() as usize]
 }
@@ -93,7 +94,8 @@ pub(crate) fn kings_from(square: Square) -> u64
 /// Whether some piece of the side attacks the square.
 #[inline(always)]
 pub(crate) fn is_attacked(attackers: &Attackers, square: Square, by: Colour) -> bool
-    ensures { (b : Board) → AreAttackers b by attackers.now → (IsTrue result ↔ IsReached b by square) }
+    ensures { (b : Board) → AreAttackers b by attackers.now
+        → (IsTrue result ↔ IsReached b by square) }
 {
     let near = pawns_from(by, square) & attackers.pawns
         | knights_from(square) & attackers.knights
@@ -113,7 +115,8 @@ pub(crate) fn is_attacked(attackers: &Attackers, square: Square, by: Colour) -> 
 pub(crate) fn attackers_after(attackers: Attackers, from: Square, to: Square) -> Attackers
     requires { ¬ (from ≡ to) }
     ensures { (old new : Board) (by : Colour) (piece own : Piece) → AreAttackers old by attackers
-        → Differs old new ((from, None) ∷ (to, Some piece) ∷ []) → piece.colour ≢ by → Holds old from own → own.colour ≢ by → AreAttackers new by result }
+        → Differs old new ((from, None) ∷ (to, Some piece) ∷ []) → piece.colour ≢ by
+        → Holds old from own → own.colour ≢ by → AreAttackers new by result }
 {
     let left = !(1u64 << from.index());
     let reached = 1u64 << to.index();
@@ -130,7 +133,8 @@ pub(crate) fn attackers_after(attackers: Attackers, from: Square, to: Square) ->
 /// What is seen after a piece of the other side has gone from its square.
 #[inline(always)]
 pub(crate) fn attackers_without(attackers: Attackers, from: Square) -> Attackers
-    ensures { (old new : Board) (by : Colour) (own : Piece) → AreAttackers old by attackers → Differs old new ((from, None) ∷ [])
+    ensures { (old new : Board) (by : Colour) (own : Piece) → AreAttackers old by attackers
+        → Differs old new ((from, None) ∷ [])
         → Holds old from own → own.colour ≢ by → AreAttackers new by result }
 {
     Attackers {

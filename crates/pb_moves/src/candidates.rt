@@ -34,7 +34,8 @@ pub(crate) fn candidates(piece: Piece, from: Square) -> u64
 #[inline(always)]
 fn king_candidates(index: usize) -> u64
     requires { index < 64 }
-    ensures { (colour : Colour) (to : ℕ) → to < 64 → (bit_at result to ≡ 1) ↔ MayGo colour King index to }
+    ensures { (colour : Colour) (to : ℕ) → to < 64
+        → (bit_at result to ≡ 1) ↔ MayGo colour King index to }
 {
     let rank = 0xffu64 << (index & 56);
     NEAR[index] | (1u64 << index << 2 | 1u64 << index >> 2) & rank

@@ -4,7 +4,8 @@ ghost use Rattle.std.specs.Prelude.{◌≡◌, ◌≢◌, ◌+◌, ◌/◌, ◌<
 ghost use Rattle.pb_board.specs.declared.piece.Kind.{Kind};
 ghost use Rattle.pb_board.specs.declared.piece.Kind.TheVariants.{Pawn};
 ghost use Rattle.pb_board.specs.Board.{file, rank};
-ghost use Rattle.pb_moves.specs.Cases.{Becomes, PieceMove, PawnStep, PawnDouble, PawnCapture, EnPassant, pawn_rank};
+ghost use Rattle.pb_moves.specs.Cases.{Becomes, PieceMove, PawnStep, PawnDouble, PawnCapture};
+ghost use Rattle.pb_moves.specs.Cases.{EnPassant, pawn_rank};
 ghost use Rattle.pb_moves.specs.Candidate.{HoldsOwn};
 ghost use Rattle.pb_moves.specs.MoveKind.{Finds};
 
@@ -119,7 +120,8 @@ fn pawn_rank(side: Colour) -> u8
 #[inline(always)]
 pub(crate) fn halfway(from: Square, to: Square) -> Square
     requires { file to ≡ file from }
-    ensures { (file result ≡ file from) × (rank result ≡ (rank from + rank to) / 2) × (result < 64) }
+    ensures { (file result ≡ file from) × (rank result ≡ (rank from + rank to) / 2)
+        × (result < 64) }
 {
     square_at(8 * ((from.rank() + to.rank()) / 2) + from.file())
 }

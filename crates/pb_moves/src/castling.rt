@@ -22,7 +22,8 @@ use pb_board::{Castling, Kind, MovedPiece, Piece, Setup};
 
 /// Whether nothing stands between king and rook.
 fn way_is_clear(castling: Castling, setup: &Setup) -> bool
-    ensures { let row = castling_row castling in IsTrue result ↔ WayIsClear setup.now.board row.king_from row.rook_from }
+    ensures { let row = castling_row castling in
+        IsTrue result ↔ WayIsClear setup.now.board row.king_from row.rook_from }
 {
     let squares = castling.squares();
     Slider::Orthogonal.is_clear(setup.occupied(), squares.rook_from, squares.king_from)
@@ -31,7 +32,8 @@ fn way_is_clear(castling: Castling, setup: &Setup) -> bool
 /// Whether the enemy attacks neither the king's square nor the one that it crosses.
 fn way_is_safe(castling: Castling, setup: &Setup) -> bool
     ensures { let row = castling_row castling in let enemy = opponent row.colour in
-        IsTrue result ↔ (¬ IsAttacked setup.now.board enemy row.king_from × ¬ IsAttacked setup.now.board enemy row.rook_to) }
+        IsTrue result ↔ (¬ IsAttacked setup.now.board enemy row.king_from
+        × ¬ IsAttacked setup.now.board enemy row.rook_to) }
 {
     let squares = castling.squares();
     let enemy = castling.colour().opponent();
@@ -61,7 +63,8 @@ fn may_castle(castling: Castling, setup: &Setup) -> bool
 pub(crate) fn castles(setup: &Setup, m: Move, king: Piece) -> Option<MoveKind>
     requires own { HoldsOwn setup.now m.from king }
     requires king { king.kind ≡ King }
-    ensures { Finds (λ b. (c : Castling) × Castles (castling_row c) setup.now m king b) setup.now m result }
+    ensures { Finds (λ b. (c : Castling) × Castles (castling_row c) setup.now m king b) setup.now m
+        result }
 {
     match Castling::of(m.from(), m.to()) {
         Some(castling) if m.promo().is_none() && may_castle(castling, setup) => {

@@ -42,7 +42,8 @@ pub fn effect_of(setup: &Setup, m: Move) -> Option<Effect>
 /// What the move does. None exactly where it isn't legal.
 #[inline(always)]
 pub fn legal_effect(setup: &Setup, m: Move) -> Option<Effect>
-    ensures { MatchOption result (¬ Legal setup.now m) (λ e. Legal setup.now m × IsEffect setup.now m e) }
+    ensures { MatchOption result (¬ Legal setup.now m) (λ e.
+        Legal setup.now m × IsEffect setup.now m e) }
 {
     let effect = effect_of(setup, m)?;
     if is_safe(setup, m, effect.piece, &effect.kind) {

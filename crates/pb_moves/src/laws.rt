@@ -19,6 +19,7 @@ pub fn after_is_setup()
 /// Moves are equal (`==`) exactly where squares and promotion are the same, and their texts where
 /// the bytes are.
 pub fn equal_moves()
-    ensures moves { (a b : Moved) → IsMove a → IsMove b → Decides (⟦<Move as PartialEq>⟧.eq a b) (a ≡ b) }
+    ensures moves { (a b : Moved) → IsMove a → IsMove b
+        → Decides (⟦<Move as PartialEq>⟧.eq a b) (a ≡ b) }
     ensures texts { (t u : List ℕ) → Decides (⟦<MoveText as PartialEq>⟧.eq t u) (t ≡ u) }
 {}

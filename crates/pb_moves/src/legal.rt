@@ -26,7 +26,8 @@ use pb_board::{Kind, MovedPiece, Piece, Setup, Square};
 #[inline(always)]
 pub(crate) fn own_piece(setup: &Setup, square: Square) -> Option<Piece>
     ensures rules { IsSetup setup.now }
-    ensures found { MatchOption result ((p : Piece) → ¬ HoldsOwn setup.now square p) (HoldsOwn setup.now square) }
+    ensures found { MatchOption result ((p : Piece) → ¬ HoldsOwn setup.now square p)
+        (HoldsOwn setup.now square) }
 {
     match setup.at(square) {
         Some(piece) if piece.colour == setup.turn() => Some(piece),
@@ -84,7 +85,8 @@ pub(crate) fn change_of(setup: &Setup, m: Move, piece: Piece) -> Option<MoveKind
 /// true for other pieces. It is a cheap test before the rules of a pawn.
 #[inline(always)]
 pub(crate) fn has_way(setup: &Setup, piece: Piece, from: Square, to: Square) -> bool
-    ensures { (m : Moved) (b : Board) → m.from ≡ from → m.to ≡ to → CaseOf setup.now m piece b → IsTrue result }
+    ensures { (m : Moved) (b : Board) → m.from ≡ from → m.to ≡ to → CaseOf setup.now m piece b
+        → IsTrue result }
 {
     if piece.kind != Kind::Pawn {
         return true;

@@ -76,7 +76,8 @@ fn may_promote(kind: Kind, to: Square) -> bool
 impl<'a> Lister<'a> {
     /// Adds the legal moves from one square.
     fn push_from(&self, from: Square, moves: &mut Vec<Move>) -> Result<(), AllocError>
-        requires seen { AreAttackers self.now.setup.now.board (opponent self.now.setup.now.turn) self.now.enemy }
+        requires seen { AreAttackers self.now.setup.now.board (opponent self.now.setup.now.turn)
+            self.now.enemy }
         requires own { AreOwn self.now.own self.now.setup.now }
         requires before { ListsBelow self.now.setup.now moves.old.items (320 * from) }
         ensures { OnOk result (ListsBelow self.now.setup.now moves.new.items (320 * from + 320)) }
@@ -105,10 +106,13 @@ impl<'a> Lister<'a> {
     /// Adds the legal moves of this piece to one square.
     #[inline(always)]
     fn push_to(&self, mover: &Mover, to: Square, moves: &mut Vec<Move>) -> Result<(), AllocError>
-        requires unpinned { IsTrue mover.now.unpinned → IsUnpinned self.now.setup.now mover.now.from mover.now.piece }
+        requires unpinned { IsTrue mover.now.unpinned
+            → IsUnpinned self.now.setup.now mover.now.from mover.now.piece }
         requires own { HoldsOwn self.now.setup.now mover.now.from mover.now.piece }
-        requires before { ListsBelow self.now.setup.now moves.old.items (320 * mover.now.from + 5 * to) }
-        ensures { OnOk result (ListsBelow self.now.setup.now moves.new.items (320 * mover.now.from + 5 * to + 5)) }
+        requires before { ListsBelow self.now.setup.now moves.old.items
+            (320 * mover.now.from + 5 * to) }
+        ensures { OnOk result (ListsBelow self.now.setup.now moves.new.items
+            (320 * mover.now.from + 5 * to + 5)) }
     {
         let promotes = may_promote(mover.piece.kind, to);
         if !has_way(self.setup, mover.piece, mover.from, to) {
@@ -134,11 +138,14 @@ impl<'a> Lister<'a> {
         promotion: Option<Kind>,
         moves: &mut Vec<Move>,
     ) -> Result<(), AllocError>
-        requires unpinned { IsTrue mover.now.unpinned → IsUnpinned self.now.setup.now mover.now.from mover.now.piece }
+        requires unpinned { IsTrue mover.now.unpinned
+            → IsUnpinned self.now.setup.now mover.now.from mover.now.piece }
         requires own { HoldsOwn self.now.setup.now mover.now.from mover.now.piece }
         requires promotion { ForSome promotion IsPromotion }
-        requires before { ListsBelow self.now.setup.now moves.old.items (320 * mover.now.from + 5 * to + promotion_number promotion) }
-        ensures { OnOk result (ListsBelow self.now.setup.now moves.new.items (320 * mover.now.from + 5 * to + promotion_number promotion + 1)) }
+        requires before { ListsBelow self.now.setup.now moves.old.items
+            (320 * mover.now.from + 5 * to + promotion_number promotion) }
+        ensures { OnOk result (ListsBelow self.now.setup.now moves.new.items
+            (320 * mover.now.from + 5 * to + promotion_number promotion + 1)) }
     {
         let Some(m) = Move::new(mover.from, to, promotion) else {
             return Ok(());

@@ -42,7 +42,8 @@ impl Move {
     #[inline]
     pub fn new(from: Square, to: Square, promo: Option<Kind>) -> Option<Move>
         ensures on_board { (from < 64) × (to < 64) }
-        ensures made { SomeIff result ((from ≢ to) × ForSome promo IsPromotion) (moved_of from to promo) }
+        ensures made { SomeIff result ((from ≢ to) × ForSome promo IsPromotion)
+            (moved_of from to promo) }
     {
         if from.index() == to.index() || matches!(promo, Some(Kind::Pawn | Kind::King)) {
             None

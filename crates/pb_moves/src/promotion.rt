@@ -1,7 +1,8 @@
 //! The numbers of promotions, as codes of moves have them.
 
 ghost use Rattle.std.specs.Prelude.{◌≡◌, ◌≤◌};
-ghost use Rattle.pb_moves.specs.Moved.{promotion_number as promotion_number_by, promotion_of as promotion_by};
+ghost use Rattle.pb_moves.specs.Moved.{promotion_number as promotion_number_by};
+ghost use Rattle.pb_moves.specs.Moved.{promotion_of as promotion_by};
 
 use pb_board::Kind;
 

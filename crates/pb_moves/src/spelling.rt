@@ -41,7 +41,8 @@ fn read_promotion(byte: u8) -> Option<Kind>
 fn read_parts(bytes: [u8; 4], promotion: Option<Kind>) -> Option<Move>
     requires { ForSome promotion IsPromotion }
     ensures { MatchOption result
-        ((m : Moved) → IsMove m → m.promo ≡ promotion → bytes ≢ square_text m.from ++ square_text m.to)
+        ((m : Moved) → IsMove m → m.promo ≡ promotion
+        → bytes ≢ square_text m.from ++ square_text m.to)
         (λ m. IsMove m × (m.promo ≡ promotion) × (bytes ≡ square_text m.from ++ square_text m.to)) }
 {
     let [from_file, from_rank, to_file, to_rank] = bytes;

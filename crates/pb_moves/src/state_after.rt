@@ -1,7 +1,8 @@
 //! The castling rights and the en passant square after a move.
 
 ghost use Rattle.std.specs.Prelude.{◌≡◌, Some};
-ghost use Rattle.pb_moves.specs.Successor.{en_passant_after as en_passant_by, keeps_right, rights_after as rights_by};
+ghost use Rattle.pb_moves.specs.Successor.{en_passant_after as en_passant_by, keeps_right};
+ghost use Rattle.pb_moves.specs.Successor.{rights_after as rights_by};
 
 use crate::board::square_at;
 use crate::moves::Move;

@@ -25,7 +25,8 @@ impl Model for MoveText {
 
     ghost invariant = { λ t. IsPadded 5 t.bytes t.len };
 
-    ghost inverse_ok = { λ t h. padded-back 5 (λ bytes len. record { bytes = bytes; len = len }) t.bytes t.len h };
+    ghost inverse_ok = { λ t h. padded-back 5 (λ bytes len.
+        record { bytes = bytes; len = len }) t.bytes t.len h };
 }
 
 impl MoveText {

@@ -1,7 +1,8 @@
 //! Narrow rows in blocks: a list that grows by one block more, so that no row moves and little room
 //! is left unused.
 
-ghost use Rattle.std.specs.Prelude.{◌≡◌, ◌≤◌, ◌^◌, ◌+◌, ◌++◌, ◌∷◌, [], if◌then◌else◌, is_ok, false, true, vec_capacity, vec_len, IfOk, MatchOption, OnOk};
+ghost use Rattle.std.specs.Prelude.{◌≡◌, ◌≤◌, ◌^◌, ◌+◌, ◌++◌, ◌∷◌, [], if◌then◌else◌, is_ok, false};
+ghost use Rattle.std.specs.Prelude.{true, vec_capacity, vec_len, IfOk, MatchOption, OnOk};
 ghost use Rattle.pb_points.specs.Bag.{IsRowAt, count_of, points_of as points, times_of as times};
 ghost use Rattle.pb_points.specs.Blocks.{AddsThere, IsRowIn, rows_in, rows_of};
 

@@ -1,6 +1,7 @@
 //! The book of rows of points, and the weights of moves.
 
-ghost use Rattle.std.specs.Prelude.{◌≡◌, ◌<◌, ◌≤◌, All, AllPairs, Any, MatchOption, OnErr, OnOk, length};
+ghost use Rattle.std.specs.Prelude.{◌≡◌, ◌<◌, ◌≤◌, All, AllPairs, Any, MatchOption, OnErr, OnOk};
+ghost use Rattle.std.specs.Prelude.{length};
 ghost use Rattle.pb_points.specs.Group.{AddsBook, IsEntryGroup, IsGroup, Orders, entry_with};
 ghost use Rattle.pb_points.specs.Rows.{IsBelow, frequent, from};
 ghost use Rattle.pb_points.specs.TallyBook.{AddsSome};
@@ -24,7 +25,8 @@ pub(crate) fn push_stretch(
     first: u64,
 ) -> Result<(), AllocError>
     requires { AllPairs IsBelow rows.items }
-    ensures ok { OnOk result (AddsBook (frequent least (from first rows.items)) entries.old.items entries.new.items) }
+    ensures ok { OnOk result (AddsBook (frequent least (from first rows.items)) entries.old.items
+        entries.new.items) }
     ensures err { OnErr result (AddsSome entries.old.items entries.new.items) }
 {
     rows.retain(|row| row.key >= first);

@@ -1,6 +1,6 @@
 //! Points of moves under keys, kept as games arrive, and the weights and entries that are made of
-//! them. The program takes `MapTally`; `ListTally` is the plainest. Keys and codes are numbers here,
-//! without a setup or a game.
+//! them. The program takes `MapTally`; `ListTally` is the plainest. Keys and codes are numbers
+//! here, without a setup or a game.
 #![tactic(auto)]
 
 mod blocks;

@@ -1,6 +1,7 @@
 //! A tally over a plain list of rows.
 
-ghost use Rattle.std.specs.Prelude.{◌≡◌, ◌<◌, ℕ, IsOk, IsSome, OnErr, OnOk, length, position, slice_set, vec_capacity};
+ghost use Rattle.std.specs.Prelude.{◌≡◌, ◌<◌, ℕ, IsOk, IsSome, OnErr, OnOk, length, position};
+ghost use Rattle.std.specs.Prelude.{slice_set, vec_capacity};
 ghost use Rattle.pb_points.specs.ListTally.{list_content, with_more};
 ghost use Rattle.pb_points.specs.Rows.{is_row, row_at};
 ghost use Rattle.pb_points.specs.Tally.{HasRoomFor, MakesRow, held, held_of};
@@ -85,8 +86,10 @@ impl Tally for ListTally {
     }
 
     fn ensure(&mut self, key: u64, code: u16) -> Result<(), AllocError>
-        ensures ok { OnOk result (MakesRow (list_content self.old) (list_content self.new) key code) }
-        ensures err { OnErr result ((k c : ℕ) → list_content self.new k c ≡ list_content self.old k c) }
+        ensures ok { OnOk result (MakesRow (list_content self.old) (list_content self.new) key
+            code) }
+        ensures err { OnErr result ((k c : ℕ) → list_content self.new k c
+            ≡ list_content self.old k c) }
         // A row that is there takes no memory.
         ensures there { IsSome (list_content self.old key code) → IsOk result }
     {

@@ -1,6 +1,7 @@
 //! Rows of few points and plies, which take half the memory.
 
-ghost use Rattle.std.specs.Prelude.{◌≡◌, ◌+◌, ◌++◌, ◌≤◌, ◌^◌, ◌&&◌, ◌⊎◌, MatchOption, OnOk, if◌then◌else◌, nat_lt};
+ghost use Rattle.std.specs.Prelude.{◌≡◌, ◌+◌, ◌++◌, ◌≤◌, ◌^◌, ◌&&◌, ◌⊎◌, MatchOption, OnOk};
+ghost use Rattle.std.specs.Prelude.{if◌then◌else◌, nat_lt};
 ghost use Rattle.pb_points.specs.ListTally.{with_more};
 ghost use Rattle.pb_points.specs.Rows.{is_row};
 

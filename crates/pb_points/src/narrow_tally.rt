@@ -1,6 +1,7 @@
 //! The tally over narrow rows in blocks.
 
-ghost use Rattle.std.specs.Prelude.{◌≡◌, ◌<◌, ◌≤◌, ◌+◌, AllPairs, length, vec_capacity, vec_len, IfOk, OnOk};
+ghost use Rattle.std.specs.Prelude.{◌≡◌, ◌<◌, ◌≤◌, ◌+◌, AllPairs, length, vec_capacity, vec_len};
+ghost use Rattle.std.specs.Prelude.{IfOk, OnOk};
 ghost use Rattle.std.proofs.Props.{props};
 ghost use Rattle.pb_points.specs.Bag.{HoldsSame, IsAddedUp, SumsFit, bag_content};
 ghost use Rattle.pb_points.specs.Blocks.{rows_of};

@@ -1,6 +1,7 @@
 //! Points by key and code, kept one way or another.
 
-ghost use Rattle.std.specs.Prelude.{◌≡◌, ℕ, ◌<◌, ◌↔◌, Option, None, Some, IsSome, IfOk, IfSome, OnOk, OnErr, AllPairs, Contains};
+ghost use Rattle.std.specs.Prelude.{◌≡◌, ℕ, ◌<◌, ◌↔◌, Option, None, Some, IsSome, IfOk, IfSome};
+ghost use Rattle.std.specs.Prelude.{OnOk, OnErr, AllPairs, Contains};
 
 use crate::book::push_stretch;
 use crate::row::Row;
@@ -53,7 +54,8 @@ pub trait Tally: Drop {
     /// The list needed memory that wasn't there.
     fn rows(&self, alloc: Global) -> Result<Vec<Row>, AllocError>
         ensures order { IfOk result (λ v. AllPairs IsBelow v.items) }
-        ensures each { IfOk result (λ v. (r : Row) → Contains v.items r ↔ (content self.now r.key r.code ≡ Some (held_of r))) };
+        ensures each { IfOk result (λ v. (r : Row)
+            → Contains v.items r ↔ (content self.now r.key r.code ≡ Some (held_of r))) };
 
     /// Adds the book of the rows of a stretch of keys to the entries, of the moves that were played
     /// at least so many times. The stretch begins with the key `first`. The answer is the key with
@@ -71,7 +73,8 @@ pub trait Tally: Drop {
         first: u64,
         entries: &mut Vec<Entry>,
     ) -> Result<Option<u64>, AllocError>
-        ensures ok { IfOk result (λ next. AddsBookOf (stretch_of first next (content self.now)) least entries.old.items entries.new.items) }
+        ensures ok { IfOk result (λ next. AddsBookOf (stretch_of first next (content self.now))
+            least entries.old.items entries.new.items) }
         ensures onward { IfOk result (λ next. IfSome next (λ n. first < n)) }
         ensures err { OnErr result (AddsSome entries.old.items entries.new.items) }
     {
@@ -92,7 +95,8 @@ pub trait Tally: Drop {
         least: u64,
         entries: &mut Vec<Entry>,
     ) -> Result<(), AllocError>
-        ensures ok { OnOk result (AddsBookOf (content self.now) least entries.old.items entries.new.items) }
+        ensures ok { OnOk result (AddsBookOf (content self.now) least entries.old.items
+            entries.new.items) }
         ensures err { OnErr result (AddsSome entries.old.items entries.new.items) }
     {
         let mut next = Some(0);

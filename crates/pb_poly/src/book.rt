@@ -87,7 +87,8 @@ fn count_under(entries: &[Entry], key: u64) -> usize
 
 /// The number, from 1, of the first entry whose key is below the key before it.
 fn first_fall(entries: &[Entry]) -> Option<usize>
-    ensures { MatchOption result (NeverFall entries.now × All IsEntry entries.now) (BreaksAt NeverFall entries.now) }
+    ensures { MatchOption result (NeverFall entries.now × All IsEntry entries.now)
+        (BreaksAt NeverFall entries.now) }
 {
     let mut last = 0;
     for (before, &entry) in entries.iter().enumerate() {

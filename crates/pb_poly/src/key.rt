@@ -5,7 +5,11 @@ ghost use Rattle.pb_board.specs.Piece.{colour_number, kind_number, pawn_of};
 ghost use Rattle.pb_board.specs.Castling.{castling_row};
 ghost use Rattle.pb_board.specs.Board.{at, file, is_piece};
 ghost use Rattle.pb_board.specs.Position.{IsSetup, OnEnPassantRank, beyond as beyond_by};
-ghost use Rattle.pb_poly.specs.Key.{IsKey, castling_offset as castling_offset_by, has_capturer as has_capturer_by, key as key_by, en_passant_start, en_passant_offsets, piece_offset as piece_offset_by, piece_offsets, offset_if, rights_offsets, turn_offset};
+ghost use Rattle.pb_poly.specs.Key.{IsKey, castling_offset as castling_offset_by};
+ghost use Rattle.pb_poly.specs.Key.{has_capturer as has_capturer_by, key as key_by};
+ghost use Rattle.pb_poly.specs.Key.{en_passant_start, en_passant_offsets};
+ghost use Rattle.pb_poly.specs.Key.{piece_offset as piece_offset_by, piece_offsets, offset_if};
+ghost use Rattle.pb_poly.specs.Key.{rights_offsets, turn_offset};
 ghost use Rattle.pb_poly.specs.KeyChange.{toggled};
 ghost use Rattle.pb_poly.specs.Table.{IsTable};
 
@@ -69,7 +73,8 @@ fn castling_offset(castling: Castling) -> usize
 /// Toggles the word of a castling right that is there.
 #[inline(always)]
 fn toggle_right(table: &Table, key: u64, rights: Rights, castling: Castling) -> u64
-    ensures { result ≡ toggled table.now key (offset_if ((castling_row castling).right rights) (castling_offset_by castling)) }
+    ensures { result ≡ toggled table.now key (offset_if ((castling_row castling).right rights)
+        (castling_offset_by castling)) }
 {
     toggle_if(
         table,

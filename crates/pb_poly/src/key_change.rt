@@ -6,7 +6,8 @@ ghost use Rattle.pb_moves.specs.Effect.{IsEffect};
 ghost use Rattle.pb_moves.specs.Legal.{PseudoLegal};
 ghost use Rattle.pb_moves.specs.Successor.{after as setup_after};
 ghost use Rattle.pb_poly.specs.Key.{IsKey, key as key_by, piece_offset as piece_offset_by};
-ghost use Rattle.pb_poly.specs.KeyChange.{changed_offsets, going_offsets, moved_offsets, square_offsets, stepped_offsets, toggled};
+ghost use Rattle.pb_poly.specs.KeyChange.{changed_offsets, going_offsets, moved_offsets};
+ghost use Rattle.pb_poly.specs.KeyChange.{square_offsets, stepped_offsets, toggled};
 
 use crate::key::{
     WHITE_TO_MOVE, en_passant_offset, has_capturer, piece_offset, toggle_en_passant, toggle_if,
@@ -51,7 +52,8 @@ fn toggle_going(table: &Table, key: u64, before: &Setup, leaving: Piece, carried
 #[inline(never)]
 fn toggle_two(table: &Table, key: u64, before: &Setup, first: MovedPiece, second: MovedPiece) -> u64
     ensures { result ≡ toggled table.now key (going_offsets before.now.board first.piece first
-        ++ (piece_offset_by second.piece second.from ∷ piece_offset_by second.piece second.to ∷ [])) }
+        ++ (piece_offset_by second.piece second.from ∷ piece_offset_by second.piece second.to
+        ∷ [])) }
 {
     let moved = toggle_going(table, key, before, first.piece, first);
     let left = toggle_piece(table, moved, second.piece, second.from);

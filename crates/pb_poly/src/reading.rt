@@ -1,6 +1,7 @@
 //! Books from sources.
 
-ghost use Rattle.std.specs.Prelude.{◌-◌, min, ◌≡◌, ◌<◌, ◌≤◌, ℕ, List, [], ◌∷◌, ◌++◌, IfOk, IfErr, MatchResult, OnOk, length, take};
+ghost use Rattle.std.specs.Prelude.{◌-◌, min, ◌≡◌, ◌<◌, ◌≤◌, ℕ, List, [], ◌∷◌, ◌++◌, IfOk, IfErr};
+ghost use Rattle.std.specs.Prelude.{MatchResult, OnOk, length, take};
 ghost use Rattle.pb_io.specs.Reads.{chunk_len};
 ghost use Rattle.pb_poly.specs.Book.{BookBytes, NeverFall};
 ghost use Rattle.pb_poly.specs.Entry.{IsEntry, entry_bytes};
@@ -74,7 +75,8 @@ impl Reading {
     /// Adds an entry.
     fn add(&mut self, entry: Entry) -> Result<(), BookError>
         requires { IsEntry entry }
-        ensures ok { OnOk result ((self.new.0 ≡ self.old.0 ++ entry ∷ []) × (self.new.1 ≡ self.old.1) × NeverFall self.new.0) }
+        ensures ok { OnOk result ((self.new.0 ≡ self.old.0 ++ entry ∷ [])
+            × (self.new.1 ≡ self.old.1) × NeverFall self.new.0) }
         ensures err { IfErr result (RefusesEntry self.old.0 entry) }
     {
         if entry.key < self.last_key {
@@ -107,8 +109,10 @@ impl Reading {
         requires partial { length self.old.1 < 16 }
         ensures count { IfOk result (λ count. (0 < count) × (count ≤ length bytes.now)) }
         ensures partial { OnOk result (length self.new.1 < 16) }
-        ensures ok { (came : List ℕ) → Splits came self.old.0 self.old.1 → IfOk result (λ count. Splits (came ++ take count bytes.now) self.new.0 self.new.1) }
-        ensures err { (came : List ℕ) → Splits came self.old.0 self.old.1 → IfErr result (FailsWithin came bytes.now) }
+        ensures ok { (came : List ℕ) → Splits came self.old.0 self.old.1
+            → IfOk result (λ count. Splits (came ++ take count bytes.now) self.new.0 self.new.1) }
+        ensures err { (came : List ℕ) → Splits came self.old.0 self.old.1
+            → IfErr result (FailsWithin came bytes.now) }
     {
         // An entry that stands whole in the bytes isn't copied.
         if self.len == 0 && bytes.len() >= ENTRY_LEN {
@@ -128,8 +132,10 @@ impl Reading {
     fn feed(&mut self, chunk: &[u8]) -> Result<(), BookError>
         requires { length self.old.1 < 16 }
         ensures partial { OnOk result (length self.new.1 < 16) }
-        ensures ok { (came : List ℕ) → Splits came self.old.0 self.old.1 → OnOk result (Splits (came ++ chunk.now) self.new.0 self.new.1) }
-        ensures err { (came : List ℕ) → Splits came self.old.0 self.old.1 → IfErr result (FailsWithin came chunk.now) }
+        ensures ok { (came : List ℕ) → Splits came self.old.0 self.old.1
+            → OnOk result (Splits (came ++ chunk.now) self.new.0 self.new.1) }
+        ensures err { (came : List ℕ) → Splits came self.old.0 self.old.1
+            → IfErr result (FailsWithin came chunk.now) }
     {
         let mut rest = chunk;
         while !rest.is_empty() {
@@ -186,7 +192,9 @@ impl Reading {
 /// end of input. `Memory` may come at any whole entry, and before the first fill.
 pub fn read_book<S: Source>(alloc: Global, source: &mut S, fills: u32) -> Result<Book, BookError>
     ensures reads { ReadsBook fills (S.state source.old) (S.state source.new) result }
-    ensures only { (entries : List Entry) (bytes : List ℕ) → Tells fills (S.state source.old) (S.state source.new) bytes → BookBytes entries bytes → NeverFall entries
+    ensures only { (entries : List Entry) (bytes : List ℕ)
+        → Tells fills (S.state source.old) (S.state source.new) bytes → BookBytes entries bytes
+        → NeverFall entries
         → MatchResult result (λ book. book ≡ entries) (λ e. e ≡ Memory) }
 {
     let Ok(mut chunk) = vec![in alloc; 0; CHUNK_LEN] else {

@@ -1,9 +1,11 @@
 //! Tables of the words that keys are made of.
 
-ghost use Rattle.std.specs.Prelude.{◌≡◌, ◌+◌, ◌<◌, ℕ, List, ◌∷◌, All, IfOk, IfErr, MatchOption, MatchResult, length, slice_index};
+ghost use Rattle.std.specs.Prelude.{◌≡◌, ◌+◌, ◌<◌, ℕ, List, ◌∷◌, All, IfOk, IfErr, MatchOption};
+ghost use Rattle.std.specs.Prelude.{MatchResult, length, slice_index};
 ghost use Rattle.std.specs.List.{AllZip};
 ghost use Rattle.pb_io.specs.Lines.{lines};
-ghost use Rattle.pb_poly.specs.Table.{IsDueTable, IsRandomLine, IsTable, SpellsRandom, TableText, WritesRandom};
+ghost use Rattle.pb_poly.specs.Table.{IsDueTable, IsRandomLine, IsTable, SpellsRandom, TableText};
+ghost use Rattle.pb_poly.specs.Table.{WritesRandom};
 ghost use Rattle.pb_poly.specs.declared.table.TableError.TheVariants.{Memory};
 
 use memchr::memchr;
@@ -125,7 +127,8 @@ fn words_of(bytes: &[u8]) -> Result<[u64; TABLE_LEN], TableError>
 /// are not 781, and `Memory` only for bytes that are a table.
 pub fn read_table(alloc: Global, bytes: &[u8]) -> Result<Table, TableError>
     ensures found { IfOk result (λ t. TableText t bytes.now) }
-    ensures only { (words : List ℕ) → TableText words bytes.now → MatchResult result (λ t. t ≡ words) (λ e. e ≡ Memory) }
+    ensures only { (words : List ℕ) → TableText words bytes.now
+        → MatchResult result (λ t. t ≡ words) (λ e. e ≡ Memory) }
     ensures refused { IfErr result (λ e. IsDueTable e bytes.now) }
 {
     let words = words_of(bytes)?;

@@ -1,5 +1,6 @@
 //! Table files from sources.
-ghost use Rattle.std.specs.Prelude.{◌≡◌, ℕ, ◌<◌, ◌≤◌, List, [], IfErr, IfOk, MatchResult, OnOk, length};
+ghost use Rattle.std.specs.Prelude.{◌≡◌, ℕ, ◌<◌, ◌≤◌, List, [], IfErr, IfOk, MatchResult, OnOk};
+ghost use Rattle.std.specs.Prelude.{length};
 ghost use Rattle.pb_poly.specs.Reading.{Tells};
 ghost use Rattle.pb_io.specs.Reads.{ReadsAll};
 ghost use Rattle.pb_poly.specs.Table.{IsTableFile, table_limit};
@@ -80,7 +81,8 @@ impl TableBytes {
     /// Takes what one fill of the source gives, and answers how many bytes. Where there is no more
     /// room, it asks for one byte, to tell whether the source is at its end.
     fn fill<S: Source>(&mut self, source: &mut S) -> Result<usize, TableFault>
-        ensures fills { FillsTable (S.state source.old) (S.state source.new) self.old self.new result }
+        ensures fills { FillsTable (S.state source.old) (S.state source.new) self.old self.new
+            result }
         ensures few { length self.new ≤ table_limit }
     {
         if self.len == TABLE_LIMIT {
@@ -96,7 +98,8 @@ impl TableBytes {
     /// Reads the source to its end.
     fn drain<S: Source>(&mut self, source: &mut S, fills: u32) -> Result<(), TableFault>
         requires { self.old ≡ [] }
-        ensures all { OnOk result (ReadsAll table_limit fills (S.state source.old) (S.state source.new) self.new) }
+        ensures all { OnOk result (ReadsAll table_limit fills (S.state source.old)
+            (S.state source.new) self.new) }
         ensures err { IfErr result (FindsNoTable fills (S.state source.old) (S.state source.new)) }
     {
         for _made in 0..fills {
@@ -153,7 +156,8 @@ fn expect_end<S: Source>(source: &mut S) -> Result<usize, TableFault>
 /// `Memory` comes before the first fill, or where the bytes are a table.
 pub fn take_table<S: Source>(alloc: Global, source: &mut S, fills: u32) -> Result<Table, TableFault>
     ensures reads { ReadsTable fills (S.state source.old) (S.state source.new) result }
-    ensures only { (words bytes : List ℕ) → Tells fills (S.state source.old) (S.state source.new) bytes → IsTableFile words bytes
+    ensures only { (words bytes : List ℕ) → Tells fills (S.state source.old) (S.state source.new)
+        bytes → IsTableFile words bytes
         → MatchResult result (λ table. table ≡ words) (λ e. e ≡ Memory) }
 {
     let Ok(held) = TableBytes::new(alloc) else {

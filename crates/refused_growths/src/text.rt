@@ -55,7 +55,13 @@ impl Text {
 }
 
 impl Sink for Text {
-    ghost state = { λ s. record { bytes = None; lasting = None; failed = false; flushed = s.flushed; flushes = s.flushes } };
+    ghost state = { λ s. record {
+      bytes = None;
+      lasting = None;
+      failed = false;
+      flushed = s.flushed;
+      flushes = s.flushes;
+    } };
 
     fn put(&mut self, bytes: &[u8]) -> Result<(), Failed> {
         let _ = self.bytes.try_extend_from_slice(bytes);

@@ -1,7 +1,8 @@
 //! Ends as words of rows: a source by its kind, its piece and its failure, and a writer by its
 //! room.
 
-ghost use Rattle.rows.specs.declared.ends.NamedSource.TheVariants.{Memory, Slice, Reader, Fuse, Endless};
+ghost use Rattle.rows.specs.declared.ends.NamedSource.TheVariants.{Memory, Slice, Reader, Fuse};
+ghost use Rattle.rows.specs.declared.ends.NamedSource.TheVariants.{Endless};
 
 use crate::text::{count_of, small_of};
 use pb_poly::{Failed, FromRead, FuseSource, MemSource, NeverSource, Source};
@@ -59,7 +60,17 @@ pub enum NamedSource<'a> {
 }
 
 impl Source for NamedSource<'_> {
-    ghost state = { elim [ Memory s ↦ ⟦<MemSource<'static> as Source>⟧.state s | Slice s ↦ ⟦<FromRead<&'static [u8]> as Source>⟧.state s | Reader s ↦ ⟦<FromRead<Giver<'static>> as Source>⟧.state s | Fuse s ↦ ⟦<FuseSource<'static> as Source>⟧.state s | Endless s ↦ ⟦<NeverSource as Source>⟧.state s ] };
+    ghost state = { elim [
+      | Memory s ↦ ⟦<MemSource<'static> as Source>⟧.state s
+      | Slice s ↦
+          ⟦<FromRead<&'static [u8]> as Source>⟧.state s
+      | Reader s ↦
+          ⟦<FromRead<Giver<'static>> as Source>⟧.state s
+      | Fuse s ↦
+          ⟦<FuseSource<'static> as Source>⟧.state s
+      | Endless s ↦
+          ⟦<NeverSource as Source>⟧.state s
+    ] };
 
     fn fill(&mut self, into: &mut [u8]) -> Result<usize, Failed> {
         match self {

@@ -9,8 +9,10 @@ returns-in-Ok-None-clause-refused c =
     never_refused _ _ _ _ _ _ _ _ _ c.in-Ok-None.field-0 told c.in-Ok-None.field-0-is c.in-Ok-None.ensures.ends
 
 pub returns-in-Err : goal.returns-in-Err
-returns-in-Err c = record {
-  headline = tt;
-  refused = tt;
-  fault = faults _ _ _ _ _ _ _ _ c.in-Err.fault refl refl (search rules) c.in-Err.ensures.ends;
-}
+returns-in-Err c =
+    let told = ap (λ (s : SourceState). s.to_come) c.new-source.ensures.state in
+    record {
+      headline = tt;
+      refused = tt;
+      fault = faults _ _ _ _ _ _ _ _ _ c.in-Err.fault (search rules) told refl refl (search rules) c.in-Err.ensures.ends;
+    }

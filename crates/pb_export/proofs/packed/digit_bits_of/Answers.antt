@@ -7,7 +7,7 @@ use Rattle.pb_export.proofs.packed.digit_bits_of.Goals as goal
 pub returns-clause-digits : goal.returns-clause-digits
 returns-clause-digits c = λ q lt.
     let board = c.args.setup.now.board in
-    let empty = c.empty_after_empty-empty.ensures board q (λ k on. c.occupied.ensures.squares k) lt in
+    let empty = c.empty_after_empty-after_empty.ensures board q (λ k on. c.occupied.ensures.squares k) lt in
     let bishops = c.squares_of-bishops.ensures q in
     let knights = c.squares_of-knights.ensures q in
     let queens = c.squares_of-queens.ensures q in
