@@ -34,7 +34,7 @@ input=games
 
 missing_files() {
     prepare
-    for words in 'collect no.txt book.bin' 'export no.txt' 'probe no.txt book.bin x' \
+    for words in 'collect no.txt book.bin' 'export no.txt' 'probe no.txt no.bin x' \
         'collect --ledger games no.txt book.bin' 'collect --journal games no.txt book.bin'; do
         # shellcheck disable=SC2086 # each word is one
         holds tells_of 3 'no.txt: no such file or directory' "$PROGRAM" $words
@@ -439,6 +439,10 @@ terminal_progress() {
     holds test "$(wc -l < replies)" -eq 6
     holds in_terminal "{ $slowly; } | '$PROGRAM' collect -q table.txt book.bin > replies"
     holds test ! -s typescript
+    # An export tells no summary, and leaves the line empty.
+    holds in_terminal "{ $slowly; } | '$PROGRAM' export table.txt > lines"
+    holds grep -Eq '^pbook: [0-9,]+ lines?' shown
+    holds test -z "$(tail -c 1 shown)"
     # To a file goes none of it.
     holds in_terminal "{ $slowly; } | '$PROGRAM' collect table.txt book.bin > replies 2> told"
     holds test ! -s told
