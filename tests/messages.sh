@@ -443,6 +443,8 @@ terminal_progress() {
     holds in_terminal "{ $slowly; } | '$PROGRAM' export table.txt > lines"
     holds grep -Eq '^pbook: [0-9,]+ lines?' shown
     holds test -z "$(tail -c 1 shown)"
+    holds in_terminal "{ $slowly; } | '$PROGRAM' export -q table.txt > lines"
+    holds test ! -s typescript
     # To a file goes none of it.
     holds in_terminal "{ $slowly; } | '$PROGRAM' collect table.txt book.bin > replies 2> told"
     holds test ! -s told
