@@ -9,7 +9,8 @@
 --   repeat      a game that is held under its id    ok, its number         stays
 --   conflict    another game under an id held       conflict               stays
 --   refused     no legal game                       why not                stays
-use Rattle.std.specs.Prelude.{◌≡◌, ◌≢◌, ℕ, ◌+◌, ◌<◌, ◌≤◌, ◌⊎◌, List, [], ◌∷◌, ◌++◌, length, All, Contains, Result, Ok, Err, slice_get, Some}
+use Rattle.std.specs.Prelude.{◌≡◌, ◌≢◌, ℕ, ◌+◌, ◌<◌, ◌≤◌, ◌⊎◌, List, [], ◌∷◌, ◌++◌}
+use Rattle.std.specs.Prelude.{length, All, Contains, Result, Ok, Err, slice_get, Some}
 use Rattle.pb_games.specs.declared.game.Game.{Game}
 use Rattle.pb_games.specs.declared.refusal.Refusal.{Refusal}
 use Rattle.pb_games.specs.declared.refusal.Refusal.TheVariants.{Conflict, Full, Memory}
@@ -29,16 +30,23 @@ abbrev pub IsNewId : List ℕ → List Submission → Type 0
 IsNewId id A = All (λ s. s.0 ≢ id) A
 
 -- A line is answered r, where the list A may have at most cap members, and it becomes B.
-pub data Step (cap : ℕ) (A : List Submission) (line : List ℕ) (r : Answer) (B : List Submission) : Type 0 where
-  new : (s : Submission) → IsLawful line s → IsNewId s.0 A → length A < cap → r ≡ Ok (length A + 1) → B ≡ A ++ s ∷ [] → Step cap A line r B
-  full : (s : Submission) → IsLawful line s → IsNewId s.0 A → cap ≤ length A → r ≡ Err Full → B ≡ A → Step cap A line r B
-  memory : (s : Submission) → IsLawful line s → IsNewId s.0 A → length A < cap → r ≡ Err Memory → B ≡ A → Step cap A line r B
-  repeat : (s : Submission) (n : ℕ) → IsLawful line s → IsNumber A n s → r ≡ Ok n → B ≡ A → Step cap A line r B
-  conflict : (s : Submission) (g : Game) (n : ℕ) → IsLawful line s → IsNumber A n (s.0, g) → g ≢ s.1 → r ≡ Err (Conflict n) → B ≡ A → Step cap A line r B
+pub data Step (cap : ℕ) (A : List Submission) (line : List ℕ) (r : Answer)
+    (B : List Submission) : Type 0 where
+  new : (s : Submission) → IsLawful line s → IsNewId s.0 A → length A < cap → r ≡ Ok (length A + 1)
+      → B ≡ A ++ s ∷ [] → Step cap A line r B
+  full : (s : Submission) → IsLawful line s → IsNewId s.0 A → cap ≤ length A → r ≡ Err Full → B ≡ A
+      → Step cap A line r B
+  memory : (s : Submission) → IsLawful line s → IsNewId s.0 A → length A < cap → r ≡ Err Memory
+      → B ≡ A → Step cap A line r B
+  repeat : (s : Submission) (n : ℕ) → IsLawful line s → IsNumber A n s → r ≡ Ok n → B ≡ A
+      → Step cap A line r B
+  conflict : (s : Submission) (g : Game) (n : ℕ) → IsLawful line s → IsNumber A n (s.0, g) → g ≢ s.1
+      → r ≡ Err (Conflict n) → B ≡ A → Step cap A line r B
   refused : (e : Refusal) → Refuses line e → r ≡ Err e → B ≡ A → Step cap A line r B
 
 -- B is what these steps make of A, one for each line with its answer
-abbrev pub Along : (List Submission → List ℕ → Answer → List Submission → Type 0) → List Submission → List (List ℕ) → List Answer → List Submission → Type 0
+abbrev pub Along : (List Submission → List ℕ → Answer → List Submission → Type 0) → List Submission
+    → List (List ℕ) → List Answer → List Submission → Type 0
 Along Steps A [] [] B = B ≡ A
 Along Steps A (line ∷ L) (r ∷ R) B = (M : List Submission) × Steps A line r M × Along Steps M L R B
 Along Steps A L R B = ⊥
@@ -55,7 +63,8 @@ HasRoom r = (r ≢ Err Full) × (r ≢ Err Memory)
 
 -- what a line that was answered r makes of the list: a lawful submission that is new to it is
 -- added, and nothing else is
-abbrev pub Adds : (List Submission → Submission → Type 0) → List Submission → List ℕ → Answer → List Submission → Type 0
+abbrev pub Adds : (List Submission → Submission → Type 0) → List Submission → List ℕ → Answer
+    → List Submission → Type 0
 Adds IsNew A line r B =
     ((s : Submission) × IsLawful line s × IsNew A s × HasRoom r × (B ≡ A ++ s ∷ []))
     ⊎ (((s : Submission) → IsLawful line s → IsNew A s → ¬ HasRoom r) × (B ≡ A))
@@ -67,4 +76,5 @@ Taken = Along (Adds (λ A s. ¬ Contains A s))
 
 -- no two of the lines submit legal games that differ under one id
 abbrev pub OneGame : List (List ℕ) → Type 0
-OneGame L = (b c : List ℕ) (s t : Submission) → Contains L b → Contains L c → IsLawful b s → IsLawful c t → s.0 ≡ t.0 → s ≡ t
+OneGame L = (b c : List ℕ) (s t : Submission) → Contains L b → Contains L c → IsLawful b s
+    → IsLawful c t → s.0 ≡ t.0 → s ≡ t

@@ -11,4 +11,5 @@ use Rattle.pb_accepted.specs.Accepting.{IsNewId, IsNumber}
 abbrev pub IsArrival : List Submission → List ℕ → Arrival → Type 0
 IsArrival A line New = (s : Submission) → IsLawful line s → IsNewId s.0 A
 IsArrival A line (Repeat n) = (s : Submission) × IsLawful line s × IsNumber A n s
-IsArrival A line (Other n) = (s : Submission) → IsLawful line s → (g : Game) × IsNumber A n (s.0, g) × (g ≢ s.1)
+IsArrival A line (Other n) = (s : Submission) → IsLawful line s
+    → (g : Game) × IsNumber A n (s.0, g) × (g ≢ s.1)

@@ -1,6 +1,7 @@
 -- Points, counts, weights and the book of a list of games. T is the basis, S the list of
 -- submissions.
-use Rattle.std.specs.Prelude.{◌≡◌, ℕ, ◌≤◌, ◌↔◌, Bool, List, Option, take, sum_by, count_by, AllPairs, Contains, if◌then◌else◌}
+use Rattle.std.specs.Prelude.{◌≡◌, ℕ, ◌≤◌, ◌↔◌, Bool, List, Option, take, sum_by}
+use Rattle.std.specs.Prelude.{count_by, AllPairs, Contains, if◌then◌else◌}
 use Rattle.std.specs.List.{filter}
 use Rattle.pb_board.specs.declared.piece.Colour.{Colour}
 use Rattle.pb_board.specs.declared.piece.Colour.TheVariants as side
@@ -36,7 +37,8 @@ is_of words k c p = is_pair (key words p.0) (encode_move p.0 p.1) k c
 
 -- the points that a game gives to a key and a code: those of its plies that count and have them
 abbrev pub points : Basis → Game → ℕ → ℕ → ℕ
-points T g k c = sum_by (λ p. if is_of T.words k c p then points_for g.outcome p.0.turn else 0) (counted T g)
+points T g k c =
+    sum_by (λ p. if is_of T.words k c p then points_for g.outcome p.0.turn else 0) (counted T g)
 
 -- how often they occur among the plies of a game that count
 abbrev pub occurrences : Basis → Game → ℕ → ℕ → ℕ
@@ -67,7 +69,8 @@ IsWeight T S k c w = (M : ℕ) × IsGreatest T S k M × (w ≡ scaled (count T S
 -- with its weight, unless that is 0
 pub record IsBook (T : Basis) (S : List Submission) (E : List Entry) : Type 0 where
   pub ordered : AllPairs Before E
-  pub members : (e : Entry) → Contains E e ↔ (Occurs T S e.key e.code × IsWeight T S e.key e.code e.weight × (1 ≤ e.weight) × (e.learn ≡ 0))
+  pub members : (e : Entry) → Contains E e ↔ (Occurs T S e.key e.code
+      × IsWeight T S e.key e.code e.weight × (1 ≤ e.weight) × (e.learn ≡ 0))
 
 -- the entries of a book whose keys are in the stretch that begins with `first` and ends before the
 -- next one, if there is one

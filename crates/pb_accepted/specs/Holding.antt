@@ -28,7 +28,8 @@ pub record IsLedger (l : LedgerState) : Type 0 where
 -- the tally holds the counts of the games and how often each move occurs, and a row that isn't
 -- there counts 0
 abbrev pub Tallies : Content → Basis → List Submission → Type 0
-Tallies content T A = (k c : ℕ) → held content k c ≡ record { points = count T A k c; times = times T A k c }
+Tallies content T A = (k c : ℕ)
+    → held content k c ≡ record { points = count T A k c; times = times T A k c }
 
 -- the ledger meets its rules, and its tally holds the counts of its games
 pub record HoldsCounts (content : Content) (l : LedgerState) : Type 0 where

@@ -1,5 +1,6 @@
 -- Laws of ledgers, over the definitions alone.
-use Rattle.std.specs.Prelude.{◌≡◌, ◌≢◌, ℕ, ◌<◌, ◌≤◌, ◌⊎◌, ◌↔◌, List, [], ◌++◌, length, take, All, AllPairs, Contains, Ok, Err, Some, slice_get}
+use Rattle.std.specs.Prelude.{◌≡◌, ◌≢◌, ℕ, ◌<◌, ◌≤◌, ◌⊎◌, ◌↔◌, List, [], ◌++◌, length}
+use Rattle.std.specs.Prelude.{take, All, AllPairs, Contains, Ok, Err, Some, slice_get}
 use Rattle.pb_poly.specs.declared.entry.Entry.{Entry}
 use Rattle.pb_poly.specs.Book.{BookBytes}
 use Rattle.pb_games.specs.declared.refusal.Refusal.{Refusal}
@@ -16,50 +17,61 @@ use Rattle.pb_accepted.specs.Replies.{named}
 -- where no id stands twice, a line has one answer, want of memory aside, and leaves one list
 abbrev pub OneStep : Type 0
 OneStep = (cap : ℕ) (A : List Submission) (line : List ℕ) (q r : Answer) (B C : List Submission)
-    → HaveOwnIds A → Step cap A line q B → Step cap A line r C → q ≢ Err Memory → r ≢ Err Memory → (q ≡ r) × (B ≡ C)
+    → HaveOwnIds A → Step cap A line q B → Step cap A line r C → q ≢ Err Memory → r ≢ Err Memory
+    → (q ≡ r) × (B ≡ C)
 
 -- a submission that is held is answered with its number, whatever room and memory there are
 abbrev pub HeldIsAnswered : Type 0
-HeldIsAnswered = (cap : ℕ) (A : List Submission) (line : List ℕ) (s : Submission) (n : ℕ) (r : Answer) (B : List Submission)
+HeldIsAnswered = (cap : ℕ) (A : List Submission) (line : List ℕ) (s : Submission) (n : ℕ)
+    (r : Answer) (B : List Submission)
     → HaveOwnIds A → IsLawful line s → IsNumber A n s → Step cap A line r B → r ≡ Ok n
 
 -- a line that is refused changes nothing
 abbrev pub RefusalsChangeNothing : Type 0
-RefusalsChangeNothing = (cap : ℕ) (A : List Submission) (line : List ℕ) (e : Refusal) (B : List Submission) → Step cap A line (Err e) B → B ≡ A
+RefusalsChangeNothing = (cap : ℕ) (A : List Submission) (line : List ℕ) (e : Refusal)
+    (B : List Submission) → Step cap A line (Err e) B → B ≡ A
 
 -- the reply to a line names at most 64 bytes
 abbrev pub NamesAreShort : Type 0
-NamesAreShort = (cap : ℕ) (A : List Submission) (line : List ℕ) (r : Answer) (B : List Submission) → Step cap A line r B → length (named line r) ≤ 64
+NamesAreShort = (cap : ℕ) (A : List Submission) (line : List ℕ) (r : Answer) (B : List Submission)
+    → Step cap A line r B → length (named line r) ≤ 64
 
 -- ---- runs
 
 -- no id stands twice in what a ledger holds
 abbrev pub IdsAreDistinct : Type 0
-IdsAreDistinct = (cap : ℕ) (L : List (List ℕ)) (R : List Answer) (A : List Submission) → Run cap [] L R A → HaveOwnIds A
+IdsAreDistinct = (cap : ℕ) (L : List (List ℕ)) (R : List Answer) (A : List Submission)
+    → Run cap [] L R A → HaveOwnIds A
 
 -- the lines with their answers fix what is held, whatever room there was
 abbrev pub OneRun : Type 0
-OneRun = (cap most : ℕ) (A : List Submission) (L : List (List ℕ)) (R : List Answer) (B C : List Submission) → Run cap A L R B → Run most A L R C → B ≡ C
+OneRun = (cap most : ℕ) (A : List Submission) (L : List (List ℕ)) (R : List Answer)
+    (B C : List Submission) → Run cap A L R B → Run most A L R C → B ≡ C
 
 -- and the distinct submissions
 abbrev pub TakenIsOne : Type 0
-TakenIsOne = (A : List Submission) (L : List (List ℕ)) (R : List Answer) (B C : List Submission) → Taken A L R B → Taken A L R C → B ≡ C
+TakenIsOne = (A : List Submission) (L : List (List ℕ)) (R : List Answer) (B C : List Submission)
+    → Taken A L R B → Taken A L R C → B ≡ C
 
 -- two runs, the second from what the first left, are one
 abbrev pub RunsJoin : Type 0
-RunsJoin = (cap : ℕ) (A B C : List Submission) (K L : List (List ℕ)) (Q R : List Answer) → Run cap A K Q B → Run cap B L R C → Run cap A (K ++ L) (Q ++ R) C
+RunsJoin = (cap : ℕ) (A B C : List Submission) (K L : List (List ℕ)) (Q R : List Answer)
+    → Run cap A K Q B → Run cap B L R C → Run cap A (K ++ L) (Q ++ R) C
 
 -- ---- numbers
 
 -- a submission has one number
 abbrev pub NumbersAreDistinct : Type 0
-NumbersAreDistinct = (cap : ℕ) (L : List (List ℕ)) (R : List Answer) (A : List Submission) (m n : ℕ) (s : Submission)
+NumbersAreDistinct = (cap : ℕ) (L : List (List ℕ)) (R : List Answer) (A : List Submission) (m n : ℕ)
+    (s : Submission)
     → Run cap [] L R A → IsNumber A m s → IsNumber A n s → m ≡ n
 
 -- the numbers of what is held are 1 to its length, and they are just those that were answered
 abbrev pub NumbersAreGiven : Type 0
-NumbersAreGiven = (cap : ℕ) (L : List (List ℕ)) (R : List Answer) (A : List Submission) → Run cap [] L R A → (n : ℕ) (s : Submission)
-    → IsNumber A n s ↔ ((j : ℕ) × (line : List ℕ) × (slice_get L j ≡ Some line) × IsLawful line s × (slice_get R j ≡ Some (Ok n)))
+NumbersAreGiven = (cap : ℕ) (L : List (List ℕ)) (R : List Answer) (A : List Submission)
+    → Run cap [] L R A → (n : ℕ) (s : Submission)
+    → IsNumber A n s ↔ ((j : ℕ) × (line : List ℕ) × (slice_get L j ≡ Some line) × IsLawful line s
+    × (slice_get R j ≡ Some (Ok n)))
 
 -- once one of these lines was answered with a number, each later arrival of its submission is
 -- answered with that number
@@ -70,29 +82,35 @@ RepeatsAreAnsweredAlike L R = (i j n : ℕ) (b c : List ℕ) (s : Submission) �
 
 -- so it is in each run
 abbrev pub RepeatsKeepTheirNumber : Type 0
-RepeatsKeepTheirNumber = (cap : ℕ) (L : List (List ℕ)) (R : List Answer) (A : List Submission) → Run cap [] L R A → RepeatsAreAnsweredAlike L R
+RepeatsKeepTheirNumber = (cap : ℕ) (L : List (List ℕ)) (R : List Answer) (A : List Submission)
+    → Run cap [] L R A → RepeatsAreAnsweredAlike L R
 
 -- ---- where no id names two games
 
 -- what is held is the list of the distinct submissions taken
 abbrev pub AcceptsTheTaken : Type 0
-AcceptsTheTaken = (cap : ℕ) (L : List (List ℕ)) (R : List Answer) (A : List Submission) → OneGame L → Run cap [] L R A → Taken [] L R A
+AcceptsTheTaken = (cap : ℕ) (L : List (List ℕ)) (R : List Answer) (A : List Submission) → OneGame L
+    → Run cap [] L R A → Taken [] L R A
 
 -- no answer is a conflict
 abbrev pub NoConflict : Type 0
-NoConflict = (cap : ℕ) (L : List (List ℕ)) (R : List Answer) (A : List Submission) → OneGame L → Run cap [] L R A → All (λ r. (n : ℕ) → r ≢ Err (Conflict n)) R
+NoConflict = (cap : ℕ) (L : List (List ℕ)) (R : List Answer) (A : List Submission) → OneGame L
+    → Run cap [] L R A → All (λ r. (n : ℕ) → r ≢ Err (Conflict n)) R
 
 -- each lawful one of these lines gets a number, unless its id is new and there is no room, or room
 -- and no memory
 abbrev pub ArrivalsAreNumbered : ℕ → List (List ℕ) → List Answer → Type 0
 ArrivalsAreNumbered cap L R =
-    (i : ℕ) (line : List ℕ) (s : Submission) (r : Answer) → slice_get L i ≡ Some line → IsLawful line s → slice_get R i ≡ Some r
+    (i : ℕ) (line : List ℕ) (s : Submission) (r : Answer) → slice_get L i ≡ Some line
+    → IsLawful line s → slice_get R i ≡ Some r
     → (A : List Submission) → Run cap [] (take i L) (take i R) A
-    → ((n : ℕ) × (r ≡ Ok n)) ⊎ (((r ≡ Err Full) × IsNewId s.0 A × (length A ≡ cap)) ⊎ ((r ≡ Err Memory) × IsNewId s.0 A × (length A < cap)))
+    → ((n : ℕ) × (r ≡ Ok n)) ⊎ (((r ≡ Err Full) × IsNewId s.0 A × (length A ≡ cap))
+    ⊎ ((r ≡ Err Memory) × IsNewId s.0 A × (length A < cap)))
 
 -- so it is in each run
 abbrev pub LawfulArrives : Type 0
-LawfulArrives = (cap : ℕ) (L : List (List ℕ)) (R : List Answer) (A : List Submission) → OneGame L → Run cap [] L R A → ArrivalsAreNumbered cap L R
+LawfulArrives = (cap : ℕ) (L : List (List ℕ)) (R : List Answer) (A : List Submission) → OneGame L
+    → Run cap [] L R A → ArrivalsAreNumbered cap L R
 
 -- ---- lists without repeats
 
@@ -105,7 +123,8 @@ SameMembers S U = (s : Submission) → Contains S s ↔ Contains U s
 
 -- the distinct submissions have no repeats
 abbrev pub TakenHasNoRepeats : Type 0
-TakenHasNoRepeats = (L : List (List ℕ)) (R : List Answer) (S : List Submission) → Taken [] L R S → NoRepeats S
+TakenHasNoRepeats = (L : List (List ℕ)) (R : List Answer) (S : List Submission) → Taken [] L R S
+    → NoRepeats S
 
 -- ---- books
 
@@ -115,17 +134,23 @@ OneBook = (T : Basis) (S : List Submission) (E F : List Entry) → IsBook T S E 
 
 -- lists without repeats that have the same members have the same counts and the same book
 abbrev pub CountsByMembers : Type 0
-CountsByMembers = (T : Basis) (S U : List Submission) → NoRepeats S → NoRepeats U → SameMembers S U → (k c : ℕ) → count T S k c ≡ count T U k c
+CountsByMembers = (T : Basis) (S U : List Submission) → NoRepeats S → NoRepeats U → SameMembers S U
+    → (k c : ℕ) → count T S k c ≡ count T U k c
 
 abbrev pub BookByMembers : Type 0
-BookByMembers = (T : Basis) (S U : List Submission) → NoRepeats S → NoRepeats U → SameMembers S U → (E : List Entry) → IsBook T S E → IsBook T U E
+BookByMembers = (T : Basis) (S U : List Submission) → NoRepeats S → NoRepeats U → SameMembers S U
+    → (E : List Entry) → IsBook T S E → IsBook T U E
 
 -- the bytes of the book are one text
 abbrev pub OneBookText : Type 0
-OneBookText = (T : Basis) (S : List Submission) (E F : List Entry) (b c : List ℕ) → IsBook T S E → BookBytes E b → IsBook T S F → BookBytes F c → b ≡ c
+OneBookText = (T : Basis) (S : List Submission) (E F : List Entry) (b c : List ℕ) → IsBook T S E
+    → BookBytes E b → IsBook T S F → BookBytes F c → b ≡ c
 
 -- whatever the order of arrival, the same distinct submissions give the same bytes
 abbrev pub SameBytes : Type 0
-SameBytes = (T : Basis) (m n : ℕ) (K L : List (List ℕ)) (Q R : List Answer) (A B S U : List Submission)
-    → OneGame K → Run m [] K Q A → Taken [] K Q S → OneGame L → Run n [] L R B → Taken [] L R U → SameMembers S U
-    → (E F : List Entry) (b c : List ℕ) → IsBook T A E → BookBytes E b → IsBook T B F → BookBytes F c → b ≡ c
+SameBytes = (T : Basis) (m n : ℕ) (K L : List (List ℕ)) (Q R : List Answer)
+    (A B S U : List Submission)
+    → OneGame K → Run m [] K Q A → Taken [] K Q S → OneGame L → Run n [] L R B → Taken [] L R U
+    → SameMembers S U
+    → (E F : List Entry) (b c : List ℕ) → IsBook T A E → BookBytes E b → IsBook T B F
+    → BookBytes F c → b ≡ c

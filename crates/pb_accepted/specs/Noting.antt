@@ -10,7 +10,8 @@ use Rattle.pb_accepted.specs.declared.ply_log.PlyLog.{PlyLog}
 use Rattle.pb_accepted.specs.PlyPoints.{given_by}
 
 -- these plies of a game with this outcome were noted, and the key is that of the setup
-pub record Holds (words : List ℕ) (o : Outcome) (k : ℕ) (log : PlyLog) (outcome : Outcome) (ps : List Ply) (t : Position) : Type 0 where
+pub record Holds (words : List ℕ) (o : Outcome) (k : ℕ) (log : PlyLog) (outcome : Outcome)
+    (ps : List Ply) (t : Position) : Type 0 where
   pub outcome_is : o ≡ outcome
   pub key_is : k ≡ key words t
   pub ply_points : log.ply_points.items ≡ map (given_by words outcome) ps

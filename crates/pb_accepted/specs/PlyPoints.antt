@@ -12,7 +12,8 @@ use Rattle.pb_accepted.specs.Counting.{counted, points_for}
 
 -- a ply's key, code and points
 abbrev pub given_by : List ℕ → Outcome → Ply → PlyPoints
-given_by words o p = record { key = key words p.0; code = encode_move p.0 p.1; points = points_for o p.0.turn }
+given_by words o p =
+    record { key = key words p.0; code = encode_move p.0 p.1; points = points_for o p.0.turn }
 
 -- what the plies of a game that count give
 abbrev pub ply_points_of : Basis → Game → List PlyPoints
@@ -32,4 +33,5 @@ occurring ply_points k c = count_by (λ r. is_pair r.key r.code k c) ply_points
 
 -- what is held of a key and a code, with these plies more
 abbrev pub with_ply_points : List PlyPoints → ℕ → ℕ → Held → Held
-with_ply_points ply_points k c h = record { points = h.points + gained ply_points k c; times = h.times + occurring ply_points k c }
+with_ply_points ply_points k c h =
+    record { points = h.points + gained ply_points k c; times = h.times + occurring ply_points k c }

@@ -1,5 +1,6 @@
 -- Bitboards: sets of squares as numbers: bit i stands for the square of index i.
-use Rattle.std.specs.Prelude.{ℕ, ◌+◌, ◌*◌, Bool, true, false, ◌==◌, List, [], ◌∷◌, ◌++◌, map, Some, None, bit_and, slice_index_or}
+use Rattle.std.specs.Prelude.{ℕ, ◌+◌, ◌*◌, Bool, true, false, ◌==◌, List, [], ◌∷◌}
+use Rattle.std.specs.Prelude.{◌++◌, map, Some, None, bit_and, slice_index_or}
 use Rattle.std.specs.Int.{bit_at}
 use Rattle.std.specs.List.{find, range_with_len}
 use Rattle.pb_board.specs.declared.piece.Colour.{Colour}
@@ -49,7 +50,8 @@ pieces = map (piece_of White) kinds ++ map (piece_of Black) kinds
 -- the square is one of its side's and one of its kind's
 abbrev pub is_on : Bitboards → ℕ → Piece → Bool
 is_on m square piece =
-    bit_at (bit_and (slice_index_or m.sides (colour_number piece.colour) 0) (slice_index_or m.kinds (kind_number piece.kind) 0)) square == 1
+    bit_at (bit_and (slice_index_or m.sides (colour_number piece.colour) 0)
+    (slice_index_or m.kinds (kind_number piece.kind) 0)) square == 1
 
 -- the board of these pieces
 unfoldable pub board_of : Bitboards → Board

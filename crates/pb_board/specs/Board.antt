@@ -1,6 +1,7 @@
 -- A board, by what stands on each of its squares. A square is its index, 8 * rank + file, with a1
 -- at 0 and h8 at 63.
-use Rattle.std.specs.Prelude.{◌≡◌, ℕ, ◌/◌, ◌%◌, ◌+◌, ◌-◌, Bool, false, ◌&&◌, ◌==◌, List, Option, Some, None, slice_index_or}
+use Rattle.std.specs.Prelude.{◌≡◌, ℕ, ◌/◌, ◌%◌, ◌+◌, ◌-◌, Bool, false, ◌&&◌}
+use Rattle.std.specs.Prelude.{◌==◌, List, Option, Some, None, slice_index_or}
 use Rattle.pb_board.specs.declared.piece.Colour.{Colour}
 use Rattle.pb_board.specs.declared.piece.Colour.TheVariants.{White, Black}
 use Rattle.pb_board.specs.declared.piece.Piece.{Piece}
@@ -47,4 +48,5 @@ IsForward Black n a b = rank a ≡ rank b + n
 -- this piece stands there
 abbrev pub is_piece : Piece → Place → Bool
 is_piece piece None = false
-is_piece piece (Some p) = kind_number p.kind == kind_number piece.kind && colour_number p.colour == colour_number piece.colour
+is_piece piece (Some p) = kind_number p.kind == kind_number piece.kind
+    && colour_number p.colour == colour_number piece.colour

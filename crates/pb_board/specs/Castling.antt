@@ -5,7 +5,8 @@ use Rattle.pb_board.specs.declared.piece.Colour.{Colour}
 use Rattle.pb_board.specs.declared.piece.Colour.TheVariants.{White, Black}
 use Rattle.pb_board.specs.declared.setup.Rights.{Rights}
 use Rattle.pb_board.specs.declared.castling.Castling.{Castling}
-use Rattle.pb_board.specs.declared.castling.Castling.TheVariants.{WhiteShort, WhiteLong, BlackShort, BlackLong}
+use Rattle.pb_board.specs.declared.castling.Castling.TheVariants.{WhiteShort, WhiteLong}
+use Rattle.pb_board.specs.declared.castling.Castling.TheVariants.{BlackShort, BlackLong}
 
 -- a row of the table, and its number in the order of the rights
 pub record CastlingRow : Type 0 where
@@ -17,12 +18,24 @@ pub record CastlingRow : Type 0 where
   pub rook_from : ℕ
   pub rook_to : ℕ
 
+-- a row of these values, in the order of the fields
+abbrev pub row : ℕ → Colour → (Rights → Bool) → ℕ → ℕ → ℕ → ℕ → CastlingRow
+row number colour right king_from king_to rook_from rook_to = record {
+  number = number;
+  colour = colour;
+  right = right;
+  king_from = king_from;
+  king_to = king_to;
+  rook_from = rook_from;
+  rook_to = rook_to;
+}
+
 -- the table, by the squares' indices: a1 is 0, e1 is 4, h1 is 7, a8 is 56, e8 is 60, h8 is 63
 abbrev pub castling_row : Castling → CastlingRow
-castling_row WhiteShort = record { number = 0; colour = White; right = λ r. r.white_short; king_from = 4; king_to = 6; rook_from = 7; rook_to = 5 }
-castling_row WhiteLong = record { number = 1; colour = White; right = λ r. r.white_long; king_from = 4; king_to = 2; rook_from = 0; rook_to = 3 }
-castling_row BlackShort = record { number = 2; colour = Black; right = λ r. r.black_short; king_from = 60; king_to = 62; rook_from = 63; rook_to = 61 }
-castling_row BlackLong = record { number = 3; colour = Black; right = λ r. r.black_long; king_from = 60; king_to = 58; rook_from = 56; rook_to = 59 }
+castling_row WhiteShort = row 0 White (λ r. r.white_short) 4 6 7 5
+castling_row WhiteLong = row 1 White (λ r. r.white_long) 4 2 0 3
+castling_row BlackShort = row 2 Black (λ r. r.black_short) 60 62 63 61
+castling_row BlackLong = row 3 Black (λ r. r.black_long) 60 58 56 59
 
 -- the four in their order
 abbrev pub castlings : List Castling
@@ -30,12 +43,15 @@ castlings = WhiteShort ∷ WhiteLong ∷ BlackShort ∷ BlackLong ∷ []
 
 -- the castling whose king goes between these squares
 abbrev pub castling_of : ℕ → ℕ → Option Castling
-castling_of from to = find (λ c. (castling_row c).king_from == from && (castling_row c).king_to == to) castlings
+castling_of from to =
+    find (λ c. (castling_row c).king_from == from && (castling_row c).king_to == to) castlings
 
 -- the castling whose king and rook begin on these squares
 abbrev pub castling_from_home : ℕ → ℕ → Option Castling
-castling_from_home king rook = find (λ c. (castling_row c).king_from == king && (castling_row c).rook_from == rook) castlings
+castling_from_home king rook =
+    find (λ c. (castling_row c).king_from == king && (castling_row c).rook_from == rook) castlings
 
 -- a king or a rook that may castle begins on the square
 abbrev pub IsHome : ℕ → Type 0
-IsHome square = (c : Castling) × ((square ≡ (castling_row c).king_from) ⊎ (square ≡ (castling_row c).rook_from))
+IsHome square =
+    (c : Castling) × ((square ≡ (castling_row c).king_from) ⊎ (square ≡ (castling_row c).rook_from))

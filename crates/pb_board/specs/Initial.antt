@@ -16,7 +16,8 @@ back_rank c = place_of c Rook ∷ place_of c Knight ∷ place_of c Bishop ∷ pl
     ∷ place_of c King ∷ place_of c Bishop ∷ place_of c Knight ∷ place_of c Rook ∷ []
 
 unfoldable pub initial_board : Board
-initial_board = back_rank White ++ (replicate 8 (place_of White Pawn) ++ (replicate 32 None ++ (replicate 8 (place_of Black Pawn) ++ back_rank Black)))
+initial_board = back_rank White ++ (replicate 8 (place_of White Pawn)
+    ++ (replicate 32 None ++ (replicate 8 (place_of Black Pawn) ++ back_rank Black)))
 
 -- White is to move, and every castling is open
 abbrev pub initial : Position

@@ -10,5 +10,6 @@ pub record KeepsBitboards (p : Position) (bitboards : Bitboards) : Type 0 where
   pub bitboards_are : bitboards ≡ bitboards_of p.board
 
 -- the sets come back from the board
-pub bitboards-back : {A : Type 0} (make : Bitboards → A) (p : Position) (bitboards : Bitboards) → KeepsBitboards p bitboards → make (bitboards_of p.board) ≡ make bitboards
+pub bitboards-back : {A : Type 0} (make : Bitboards → A) (p : Position) (bitboards : Bitboards)
+    → KeepsBitboards p bitboards → make (bitboards_of p.board) ≡ make bitboards
 bitboards-back make p bitboards kept = ap (λ (m : Bitboards). make m) (sym kept.bitboards_are)

@@ -1,5 +1,6 @@
 -- Positions and records, and the rules that they meet (PGN Standard 1994, section 16.1).
-use Rattle.std.specs.Prelude.{◌≡◌, ◌↔◌, ℕ, ◌+◌, ◌-◌, ◌<◌, ◌^◌, length, Option, Some, None, IfSome, slice_set}
+use Rattle.std.specs.Prelude.{◌≡◌, ◌↔◌, ℕ, ◌+◌, ◌-◌, ◌<◌, ◌^◌, length}
+use Rattle.std.specs.Prelude.{Option, Some, None, IfSome, slice_set}
 use Rattle.pb_board.specs.declared.piece.Colour.{Colour}
 use Rattle.pb_board.specs.declared.piece.Colour.TheVariants.{White, Black}
 use Rattle.pb_board.specs.declared.piece.Piece.{Piece}
@@ -27,7 +28,8 @@ HasOneKing board side = (king : ℕ) × IsOnlyKing board side king
 
 -- no pawn stands on rank 1 or 8
 abbrev pub HasNoEdgePawn : Board → Type 0
-HasNoEdgePawn board = (q : ℕ) (side : Colour) → Holds board q (piece_of side Pawn) → (0 < rank q) × (rank q < 7)
+HasNoEdgePawn board = (q : ℕ) (side : Colour) → Holds board q (piece_of side Pawn)
+    → (0 < rank q) × (rank q < 7)
 
 -- the square directly beyond an en passant square, where the pawn stands that made the double step
 abbrev pub beyond : Colour → ℕ → ℕ
@@ -40,7 +42,8 @@ OnEnPassantRank turn q = rank_for turn q ≡ 5
 
 -- the square is empty, and beyond it stands an enemy pawn, as after a double step
 abbrev pub WasSteppedOver : Board → Colour → ℕ → Type 0
-WasSteppedOver board turn q = IsEmpty board q × Holds board (beyond turn q) (piece_of (opponent turn) Pawn)
+WasSteppedOver board turn q =
+    IsEmpty board q × Holds board (beyond turn q) (piece_of (opponent turn) Pawn)
 
 abbrev pub EnPassantHolds : Board → Colour → Option ℕ → Type 0
 EnPassantHolds board turn ep = IfSome ep (λ q. OnEnPassantRank turn q × WasSteppedOver board turn q)

@@ -19,9 +19,11 @@ PieceThen c squares rest = (p : Piece) × (c ≡ piece_letter p) × (squares ≡
 -- rest
 abbrev pub EmptyThen : ℕ → List Place → List Place → Type 0
 EmptyThen c squares rest =
-    (n : ℕ) × (1 ≤ n) × (n ≤ 8) × (c ≡ 48 + n) × (squares ≡ replicate n None ++ rest) × BeginsOccupied rest
+    (n : ℕ) × (1 ≤ n) × (n ≤ 8) × (c ≡ 48 + n) × (squares ≡ replicate n None ++ rest)
+    × BeginsOccupied rest
 
 -- squares in a row, from file a on, and their text
 abbrev pub RankText : List Place → List ℕ → Type 0
 RankText squares [] = squares ≡ []
-RankText squares (c ∷ text) = (rest : List Place) × (PieceThen c squares rest ⊎ EmptyThen c squares rest) × RankText rest text
+RankText squares (c ∷ text) =
+    (rest : List Place) × (PieceThen c squares rest ⊎ EmptyThen c squares rest) × RankText rest text

@@ -1,6 +1,7 @@
 -- Which refusal is answered: the first of a list whose condition holds; and where a list first
 -- breaks a rule.
-use Rattle.std.specs.Prelude.{◌≡◌, ◌≢◌, ℕ, ◌-◌, ◌<◌, ◌^◌, List, [], ◌∷◌, ◌++◌, length, take, Option, IfSome, All, decimal}
+use Rattle.std.specs.Prelude.{◌≡◌, ◌≢◌, ℕ, ◌-◌, ◌<◌, ◌^◌, List, [], ◌∷◌, ◌++◌}
+use Rattle.std.specs.Prelude.{length, take, Option, IfSome, All, decimal}
 use Rattle.pb_board.specs.declared.piece.Colour.{Colour}
 use Rattle.pb_board.specs.declared.piece.Colour.TheVariants.{White, Black}
 use Rattle.pb_board.specs.declared.setup.Rights.{Rights}
@@ -10,7 +11,8 @@ use Rattle.pb_board.specs.declared.refusal.FenError.{FenError}
 use Rattle.pb_board.specs.declared.refusal.FenError.TheVariants as fen
 use Rattle.pb_board.specs.Board.{Board}
 use Rattle.pb_board.specs.Fields.{field}
-use Rattle.pb_board.specs.Position.{Position, HasOneKing, HasNoEdgePawn, EnPassantHolds, OnEnPassantRank, WasSteppedOver}
+use Rattle.pb_board.specs.Position.{Position, HasOneKing, HasNoEdgePawn}
+use Rattle.pb_board.specs.Position.{EnPassantHolds, OnEnPassantRank, WasSteppedOver}
 use Rattle.pb_board.specs.Text.{castling_text, en_passant_text, placement_text, turn_text}
 
 -- this one of the list is due, and none before it
@@ -63,9 +65,11 @@ IsDueFen parts fen.EnPassantPawn = (board : Board) (turn : Colour) (ep : Option 
 
 -- in the order in which they are looked for
 abbrev pub fen_errors : List FenError
-fen_errors = fen.Fields ∷ fen.Placement ∷ fen.Turn ∷ fen.Castling ∷ fen.EnPassantText ∷ fen.Half ∷ fen.Full
+fen_errors =
+    fen.Fields ∷ fen.Placement ∷ fen.Turn ∷ fen.Castling ∷ fen.EnPassantText ∷ fen.Half ∷ fen.Full
     ∷ fen.Kings ∷ fen.Pawns ∷ fen.EnPassantPawn ∷ []
 
 -- those of the first four parts alone, in order
 abbrev pub of_setup : List FenError
-of_setup = fen.Placement ∷ fen.Turn ∷ fen.Castling ∷ fen.EnPassantText ∷ fen.Kings ∷ fen.Pawns ∷ fen.EnPassantPawn ∷ []
+of_setup = fen.Placement ∷ fen.Turn ∷ fen.Castling ∷ fen.EnPassantText ∷ fen.Kings ∷ fen.Pawns
+    ∷ fen.EnPassantPawn ∷ []

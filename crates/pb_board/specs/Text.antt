@@ -1,5 +1,6 @@
 -- The texts of FEN records and of their parts (PGN Standard 1994, section 16.1).
-use Rattle.std.specs.Prelude.{ℕ, ◌+◌, ◌*◌, ◌==◌, List, [], ◌∷◌, ◌++◌, length, map, filter, take, drop, codes, decimal, slice_index, Option, Some, None, if◌then◌else◌}
+use Rattle.std.specs.Prelude.{ℕ, ◌+◌, ◌*◌, ◌==◌, List, [], ◌∷◌, ◌++◌, length, map, filter, take}
+use Rattle.std.specs.Prelude.{drop, codes, decimal, slice_index, Option, Some, None, if◌then◌else◌}
 use Rattle.std.specs.List.{join_with_byte}
 use Rattle.std.specs.Option.{option_map_or}
 use Rattle.pb_board.specs.declared.piece.Colour.{Colour}
@@ -14,7 +15,8 @@ use Rattle.pb_board.specs.Position.{Position, Record}
 
 -- White's pieces have capital letters
 abbrev pub piece_letter : Piece → ℕ
-piece_letter p = slice_index (codes "PNBRQKpnbrqk") (6 * colour_number p.colour + kind_number p.kind)
+piece_letter p =
+    slice_index (codes "PNBRQKpnbrqk") (6 * colour_number p.colour + kind_number p.kind)
 
 -- the digit of so many empty squares
 abbrev pub empty_squares : ℕ → List ℕ

@@ -38,13 +38,15 @@ quiet_flag = flag_with_short (codes "quiet") 113
 
 -- a command with the three options that say what is kept beside the book
 abbrev pub with_keeping : App → App
-with_keeping app = with_rule (with_rule (with_rule app (option_if_given (codes "ledger"))) (option_if_given (codes "journal"))) (flag (codes "sync"))
+with_keeping app = with_rule (with_rule (with_rule app (option_if_given (codes "ledger")))
+    (option_if_given (codes "journal"))) (flag (codes "sync"))
 
--- a command that takes games: with the two options that say what of them counts, the flag for errors
--- alone, and the table
+-- a command that takes games: with the two options that say what of them counts, the flag for
+-- errors alone, and the table
 abbrev pub with_games : App → App
 with_games app = with_rule (with_rule
-    (with_rule (with_rule app (option_with (codes "plies") (codes "1024"))) (option_with (codes "least") (codes "1"))) quiet_flag)
+    (with_rule (with_rule app (option_with (codes "plies") (codes "1024")))
+    (option_with (codes "least") (codes "1"))) quiet_flag)
     (required_word (codes "TABLE"))
 
 abbrev pub fen_command : App
@@ -58,11 +60,13 @@ abbrev pub show_command : App
 show_command = with_rule (new_app (codes "show")) (required_word (codes "BOOK"))
 
 abbrev pub probe_command : App
-probe_command = with_rule (with_rule (with_rule (new_app (codes "probe")) (required_word (codes "TABLE"))) (required_word (codes "BOOK")))
+probe_command = with_rule (with_rule (with_rule (new_app (codes "probe"))
+    (required_word (codes "TABLE"))) (required_word (codes "BOOK")))
     (required_word (codes "FEN"))
 
 abbrev pub collect_command : App
-collect_command = with_rule (with_games (with_keeping (new_app (codes "collect")))) (required_word (codes "BOOK"))
+collect_command =
+    with_rule (with_games (with_keeping (new_app (codes "collect")))) (required_word (codes "BOOK"))
 
 abbrev pub export_command : App
 export_command = with_games (new_app (codes "export"))

@@ -1,5 +1,6 @@
 -- What an order has of the words of the command line.
-use Rattle.std.specs.Prelude.{◌≡◌, ◌↔◌, ℕ, Bool, false, IsTrue, List, [], Option, Some, None, codes, option_map, unwrap_or}
+use Rattle.std.specs.Prelude.{◌≡◌, ◌↔◌, ℕ, Bool, false, IsTrue, List, []}
+use Rattle.std.specs.Prelude.{Option, Some, None, codes, option_map, unwrap_or}
 use Rattle.std.specs.Borrow.{Bor}
 use Rattle.std.specs.Str.Parse.{IsNumeral, digits_value}
 use Rattle.clap.specs.Words.{Row, Text, all_of, first_of}
@@ -36,20 +37,25 @@ HasFlag id flag rows = IsTrue flag ↔ (first_of id rows ≡ Some (codes "true")
 -- the options say what is kept beside the book; a saved ledger and a journal aren't kept at once,
 -- and a journal alone is synced
 abbrev pub HasKeeping : Keeping → List Row → Type 0
-HasKeeping keeping.Book rows = (first_of (codes "ledger") rows ≡ None) × (first_of (codes "journal") rows ≡ None) × HasFlag (codes "sync") false rows
-HasKeeping (keeping.Ledger path) rows = HasWord (codes "ledger") path rows × (first_of (codes "journal") rows ≡ None) × HasFlag (codes "sync") false rows
-HasKeeping (keeping.Journal path sync) rows = (first_of (codes "ledger") rows ≡ None) × HasWord (codes "journal") path rows × HasFlag (codes "sync") sync rows
+HasKeeping keeping.Book rows = (first_of (codes "ledger") rows ≡ None)
+    × (first_of (codes "journal") rows ≡ None) × HasFlag (codes "sync") false rows
+HasKeeping (keeping.Ledger path) rows = HasWord (codes "ledger") path rows
+    × (first_of (codes "journal") rows ≡ None) × HasFlag (codes "sync") false rows
+HasKeeping (keeping.Journal path sync) rows = (first_of (codes "ledger") rows ≡ None)
+    × HasWord (codes "journal") path rows × HasFlag (codes "sync") sync rows
 
 -- the same is kept: it is of one kind, at paths of the same text, and synced alike
 abbrev pub KeepsTheSame : Keeping → Keeping → Type 0
 KeepsTheSame keeping.Book keeping.Book = Unit {0}
 KeepsTheSame (keeping.Ledger path) (keeping.Ledger other) = path.now ≡ other.now
-KeepsTheSame (keeping.Journal path sync) (keeping.Journal other synced) = (path.now ≡ other.now) × (sync ≡ synced)
+KeepsTheSame (keeping.Journal path sync) (keeping.Journal other synced) =
+    (path.now ≡ other.now) × (sync ≡ synced)
 KeepsTheSame kept other = ⊥
 
 -- the argument of this name was given a word that writes this number in digits
 abbrev pub HasNumber : Text → ℕ → List Row → Type 0
-HasNumber id number rows = (word : Text) × (first_of id rows ≡ Some word) × IsNumeral 10 word × (digits_value 10 word ≡ number)
+HasNumber id number rows = (word : Text) × (first_of id rows ≡ Some word) × IsNumeral 10 word
+    × (digits_value 10 word ≡ number)
 
 -- the options say these rules
 pub record HasRules (rules : CountingRules) (rows : List Row) : Type 0 where
@@ -59,10 +65,12 @@ pub record HasRules (rules : CountingRules) (rows : List Row) : Type 0 where
 
 -- the order has the words of these matches
 abbrev pub HasWords : Order → List Row → Type 0
-HasWords (order.Fen fen moves) rows = HasWord (codes "FEN") fen rows × (texts moves.items ≡ unwrap_or (all_of (codes "MOVES") rows) [])
+HasWords (order.Fen fen moves) rows = HasWord (codes "FEN") fen rows
+    × (texts moves.items ≡ unwrap_or (all_of (codes "MOVES") rows) [])
 HasWords order.Epd rows = Unit {0}
 HasWords (order.Show book) rows = HasWord (codes "BOOK") book rows
-HasWords (order.Probe table book fen) rows = HasWord (codes "TABLE") table rows × HasWord (codes "BOOK") book rows × HasWord (codes "FEN") fen rows
+HasWords (order.Probe table book fen) rows = HasWord (codes "TABLE") table rows
+    × HasWord (codes "BOOK") book rows × HasWord (codes "FEN") fen rows
 HasWords (order.Collect rules kept table book quiet) rows = HasRules rules rows
     × HasKeeping kept rows × HasWord (codes "TABLE") table rows × HasWord (codes "BOOK") book rows
     × HasFlag (codes "quiet") quiet rows

@@ -280,7 +280,8 @@ fn number<'a>(
     match number_of(text) {
         Some(number) if (1..=most).contains(&number) => Ok(number),
         _ => Err(ParseFault::Usage(format!(in alloc;
-            "error: invalid value '{text}' for '--{option}': a number from 1 to {most} is wanted\n\n\
+            "error: invalid value '{text}' for '--{option}': \
+             a number from 1 to {most} is wanted\n\n\
              For more information, try '--help'.\n"
         )?)),
     }

@@ -21,7 +21,8 @@ use Rattle.pb_collecting.specs.Runs.{ledger_of}
 -- The games of the saved ledger were held first, the lines of the submissions were answered from
 -- there, and this ledger is left; the replies were put in order, and the entries are the book of
 -- the games that are held then.
-pub record ContinuesBytes (rules : CountingRules) (file saved bytes put : List ℕ) (left : LedgerState) (entries : List Entry) : Type 0 where
+pub record ContinuesBytes (rules : CountingRules) (file saved bytes put : List ℕ)
+    (left : LedgerState) (entries : List Entry) : Type 0 where
   pub randoms : List ℕ
   pub table : IsTableFile randoms file
   pub held : List Submission
@@ -39,8 +40,11 @@ pub record ContinuesBytes (rules : CountingRules) (file saved bytes put : List �
 
 -- It is so of all bytes that the sources handed out, and of those that the sink took; `v` and `v'`
 -- are the states of the saved ledger's source.
-abbrev pub HasHeadlineOfBoth : CountingRules → SourceState → SourceState → SourceState → SourceState → SourceState → SourceState
+abbrev pub HasHeadlineOfBoth : CountingRules → SourceState → SourceState → SourceState → SourceState
+    → SourceState → SourceState
     → SinkState → SinkState → LedgerState → List Entry → Type 0
-HasHeadlineOfBoth rules t t' v v' s s' sink sink' left entries = (file : List ℕ) × (saved : List ℕ) × (bytes : List ℕ) × (put : List ℕ)
-    × HandsOut t t' file × HandsOut v v' saved × HandsOut s s' bytes × Appends sink.bytes sink'.bytes put
+HasHeadlineOfBoth rules t t' v v' s s' sink sink' left entries =
+    (file : List ℕ) × (saved : List ℕ) × (bytes : List ℕ) × (put : List ℕ)
+    × HandsOut t t' file × HandsOut v v' saved × HandsOut s s' bytes
+    × Appends sink.bytes sink'.bytes put
     × ContinuesBytes rules file saved bytes put left entries

@@ -28,21 +28,24 @@ IsAccepted L R i s n = Arrives L i s × (slice_get R i ≡ Some (Ok n))
 
 -- What is made of lines with their answers, wherever the lines came from: the games that are held
 -- in the end, and their book.
-pub record Effect (T : Basis) (L : List (List ℕ)) (R : List Answer) (games : List Submission) (entries : List Entry) : Type 0 where
+pub record Effect (T : Basis) (L : List (List ℕ)) (R : List Answer) (games : List Submission)
+    (entries : List Entry) : Type 0 where
   -- each line is answered, and games are added, by the table of six steps
   pub run : Run most_games [] L R games
   -- the games are those that were answered `ok`, under their numbers, each once
   pub are : (n : ℕ) (s : Submission) → IsNumber games n s ↔ ((i : ℕ) × IsAccepted L R i s n)
   pub once : NoRepeats games
   -- one that comes again gets its number again
-  pub repeats : (i j n : ℕ) (s : Submission) → i < j → IsAccepted L R i s n → Arrives L j s → slice_get R j ≡ Some (Ok n)
+  pub repeats : (i j n : ℕ) (s : Submission) → i < j → IsAccepted L R i s n → Arrives L j s
+      → slice_get R j ≡ Some (Ok n)
   -- the book is that of these games; it has one text, which decodes to its entries and to no others
   pub book : IsBook T games entries
   pub text : HasOneText T games entries
 
 -- What is made of a table file and of submissions, by rules that say which plies count: replies,
 -- and the entries of a book.
-pub record Headline (rules : CountingRules) (file bytes put : List ℕ) (entries : List Entry) : Type 0 where
+pub record Headline (rules : CountingRules) (file bytes put : List ℕ)
+    (entries : List Entry) : Type 0 where
   -- the rules are within their bounds, and the file is a table
   pub counting : AreRules rules
   pub randoms : List ℕ
@@ -50,12 +53,15 @@ pub record Headline (rules : CountingRules) (file bytes put : List ℕ) (entries
   -- the lines of the submissions are answered, and just the replies were put, in order
   pub answers : List Answer
   pub games : List Submission
-  pub effect : Effect (record { words = randoms; rules = rules }) (lines bytes) answers games entries
+  pub effect : Effect (record { words = randoms; rules = rules })
+      (lines bytes) answers games entries
   pub replied : put ≡ replies (lines bytes) answers
 
 -- It is so of all bytes that the two sources handed out, and of those that the sink took. `t` and
 -- `t'` are the states of the table's source before and after, `s` and `s'` those of the
 -- submissions'.
-abbrev pub HasHeadline : CountingRules → SourceState → SourceState → SourceState → SourceState → SinkState → SinkState → List Entry → Type 0
+abbrev pub HasHeadline : CountingRules → SourceState → SourceState → SourceState → SourceState
+    → SinkState → SinkState → List Entry → Type 0
 HasHeadline rules t t' s s' sink sink' entries = (file : List ℕ) × (bytes : List ℕ) × (put : List ℕ)
-    × HandsOut t t' file × HandsOut s s' bytes × Appends sink.bytes sink'.bytes put × Headline rules file bytes put entries
+    × HandsOut t t' file × HandsOut s s' bytes × Appends sink.bytes sink'.bytes put
+    × Headline rules file bytes put entries

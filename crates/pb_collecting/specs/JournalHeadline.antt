@@ -19,7 +19,8 @@ use Rattle.pb_collecting.specs.Headline.{Arrives, Effect}
 -- The lines of the journal and then those of the submissions were answered as the lines of one run,
 -- whose effect this is, and the replies to the submissions were put. The journal was mended and
 -- gained the line of each new game in order, so that it now holds all games.
-pub record JournalsBytes (rules : CountingRules) (file kept bytes put gained : List ℕ) (entries : List Entry) : Type 0 where
+pub record JournalsBytes (rules : CountingRules) (file kept bytes put gained : List ℕ)
+    (entries : List Entry) : Type 0 where
   pub randoms : List ℕ
   pub table : IsTableFile randoms file
   pub held : List Submission
@@ -28,7 +29,8 @@ pub record JournalsBytes (rules : CountingRules) (file kept bytes put gained : L
   pub replied : put ≡ replies (lines bytes) answers
   pub new : List Submission
   pub run : Run most_games held (lines bytes) answers (held ++ new)
-  pub effect : Effect (record { words = randoms; rules = rules }) (ended_lines kept ++ lines bytes) (holds.answers ++ answers) (held ++ new) entries
+  pub effect : Effect (record { words = randoms; rules = rules }) (ended_lines kept ++ lines bytes)
+      (holds.answers ++ answers) (held ++ new) entries
   pub text : List ℕ
   pub are : GameLines new text
   pub grows : gained ≡ mending kept ++ text
@@ -36,21 +38,25 @@ pub record JournalsBytes (rules : CountingRules) (file kept bytes put gained : L
 
 -- It is so of all bytes that the sources handed out, and of those that the sinks took; `v` and `v'`
 -- are the states of the journal's source.
-abbrev pub HasHeadlineOfJournal : CountingRules → SourceState → SourceState → SourceState → SourceState → SourceState → SourceState
+abbrev pub HasHeadlineOfJournal : CountingRules → SourceState → SourceState → SourceState
+    → SourceState → SourceState → SourceState
     → SinkState → SinkState → SinkState → SinkState → List Entry → Type 0
 HasHeadlineOfJournal rules t t' v v' s s' j j' sink sink' entries =
     (file : List ℕ) × (kept : List ℕ) × (bytes : List ℕ) × (put : List ℕ) × (gained : List ℕ)
-    × HandsOut t t' file × HandsOut v v' kept × HandsOut s s' bytes × Appends sink.bytes sink'.bytes put × Appends j.bytes j'.bytes gained
+    × HandsOut t t' file × HandsOut v v' kept × HandsOut s s' bytes
+    × Appends sink.bytes sink'.bytes put × Appends j.bytes j'.bytes gained
     × JournalsBytes rules file kept bytes put gained entries
 
 -- these are the first lines of what the source handed out
 abbrev pub AreFirst : List (List ℕ) → SourceState → SourceState → Type 0
-AreFirst first s s' = (bytes : List ℕ) × (later : List (List ℕ)) × (s'.handed ≡ s.handed ++ bytes) × (lines bytes ≡ first ++ later)
+AreFirst first s s' = (bytes : List ℕ) × (later : List (List ℕ)) × (s'.handed ≡ s.handed ++ bytes)
+    × (lines bytes ≡ first ++ later)
 
 -- A journal of these bytes holds all that was acknowledged: of these lines, the first of the
 -- submissions, a front of the replies was put, and each game that one of them calls `ok` stands
 -- under its number in the games of the journal.
-pub record HoldsAnswered (journal : List ℕ) (s s' : SourceState) (sink sink' : SinkState) : Type 0 where
+pub record HoldsAnswered (journal : List ℕ) (s s' : SourceState)
+    (sink sink' : SinkState) : Type 0 where
   pub lines : List (List ℕ)
   pub first : AreFirst lines s s'
   pub answers : List Answer
@@ -58,26 +64,33 @@ pub record HoldsAnswered (journal : List ℕ) (s s' : SourceState) (sink sink' :
   pub replied : Appends sink.bytes sink'.bytes (take count (replies lines answers))
   pub games : List Submission
   pub holds : Journals most_games journal games
-  pub has : (i n : ℕ) → slice_get answers i ≡ Some (Ok n) → (g : Submission) × Arrives lines i g × IsNumber games n g
+  pub has : (i n : ℕ) → slice_get answers i ≡ Some (Ok n)
+      → (g : Submission) × Arrives lines i g × IsNumber games n g
 
 -- No acknowledged game is lost, however the run ends: the journal, of which the source handed out
 -- these bytes, now holds them.
-pub record Survives (kept : List ℕ) (s s' : SourceState) (j j' sink sink' : SinkState) : Type 0 where
+pub record Survives (kept : List ℕ) (s s' : SourceState)
+    (j j' sink sink' : SinkState) : Type 0 where
   pub gained : List ℕ
   pub put : Appends j.bytes j'.bytes gained
   pub holds : HoldsAnswered (kept ++ gained) s s' sink sink'
 
 -- Nor whatever ends it: what lasts of the journal holds them, first, whatever lasts behind that.
-pub record Outlives (kept : List ℕ) (s s' : SourceState) (j j' sink sink' : SinkState) : Type 0 where
+pub record Outlives (kept : List ℕ) (s s' : SourceState)
+    (j j' sink sink' : SinkState) : Type 0 where
   pub gained : List ℕ
   pub lasts : LastsFirst j j' gained
   pub holds : HoldsAnswered (kept ++ gained) s s' sink sink'
 
 -- no submission was read, or no acknowledged game is lost, over the states of the journal's source,
 -- of the submissions', of the journal's sink and of the replies'
-abbrev pub LosesNone : SourceState → SourceState → SourceState → SourceState → SinkState → SinkState → SinkState → SinkState → Type 0
-LosesNone v v' s s' j j' sink sink' = (s' ≡ s) ⊎ ((kept : List ℕ) × HandsOut v v' kept × Survives kept s s' j j' sink sink')
+abbrev pub LosesNone : SourceState → SourceState → SourceState → SourceState → SinkState → SinkState
+    → SinkState → SinkState → Type 0
+LosesNone v v' s s' j j' sink sink' =
+    (s' ≡ s) ⊎ ((kept : List ℕ) × HandsOut v v' kept × Survives kept s s' j j' sink sink')
 
 -- nor is one lost whatever ends the run, where what the journal had before lasts
-abbrev pub LosesNoneLater : SourceState → SourceState → SourceState → SourceState → SinkState → SinkState → SinkState → SinkState → Type 0
-LosesNoneLater v v' s s' j j' sink sink' = AllLasts j → (s' ≡ s) ⊎ ((kept : List ℕ) × HandsOut v v' kept × Outlives kept s s' j j' sink sink')
+abbrev pub LosesNoneLater : SourceState → SourceState → SourceState → SourceState → SinkState
+    → SinkState → SinkState → SinkState → Type 0
+LosesNoneLater v v' s s' j j' sink sink' = AllLasts j
+    → (s' ≡ s) ⊎ ((kept : List ℕ) × HandsOut v v' kept × Outlives kept s s' j j' sink sink')

@@ -17,7 +17,9 @@ use Rattle.pb_collecting.specs.declared.keeping.NoBook.TheVariants.{Run, Keep}
 
 -- a run ends with these entries, which are its book, with all that the theorem says, and their
 -- bytes were kept with this answer
-pub record KeepsJournaled (rules : CountingRules) (fills : ℕ) (t t' v v' s s' : SourceState) (j j' sink sink' : SinkState) (p p' : StoreState) (answer : Result (Unit {0}) StoreError) : Type 0 where
+pub record KeepsJournaled (rules : CountingRules)
+    (fills : ℕ) (t t' v v' s s' : SourceState) (j j' sink sink' : SinkState) (p p' : StoreState)
+    (answer : Result (Unit {0}) StoreError) : Type 0 where
   pub entries : List Entry
   pub run : JournalRun rules fills t t' v v' s s' j j' sink sink' (Ok (Some entries))
   pub headline : HasHeadlineOfJournal rules t t' v v' s s' j j' sink sink' entries
@@ -25,10 +27,14 @@ pub record KeepsJournaled (rules : CountingRules) (fills : ℕ) (t t' v v' s s' 
 
 -- how a run ends: with its book at the store; with the line that refuses the table, or with a
 -- fault, and the store as it was; or with a book that wasn't kept
-abbrev pub JournalsInto : CountingRules → ℕ → SourceState → SourceState → SourceState → SourceState → SourceState → SourceState → SinkState → SinkState → SinkState → SinkState → StoreState → StoreState → Result Bool NoBook → Type 0
-JournalsInto rules fills t t' v v' s s' j j' sink sink' p p' (Ok true) = KeepsJournaled rules fills t t' v v' s s' j j' sink sink' p p' (Ok tt)
+abbrev pub JournalsInto : CountingRules → ℕ → SourceState → SourceState → SourceState → SourceState
+    → SourceState → SourceState → SinkState → SinkState → SinkState → SinkState → StoreState
+    → StoreState → Result Bool NoBook → Type 0
+JournalsInto rules fills t t' v v' s s' j j' sink sink' p p' (Ok true) =
+    KeepsJournaled rules fills t t' v v' s s' j j' sink sink' p p' (Ok tt)
 JournalsInto rules fills t t' v v' s s' j j' sink sink' p p' (Ok false) =
     JournalRun rules fills t t' v v' s s' j j' sink sink' (Ok None) × (p' ≡ p)
 JournalsInto rules fills t t' v v' s s' j j' sink sink' p p' (Err (Run fault)) =
     JournalRun rules fills t t' v v' s s' j j' sink sink' (Err fault) × (p' ≡ p)
-JournalsInto rules fills t t' v v' s s' j j' sink sink' p p' (Err (Keep why)) = KeepsJournaled rules fills t t' v v' s s' j j' sink sink' p p' (Err why)
+JournalsInto rules fills t t' v v' s s' j j' sink sink' p p' (Err (Keep why)) =
+    KeepsJournaled rules fills t t' v v' s s' j j' sink sink' p p' (Err why)

@@ -1,5 +1,6 @@
 -- Laws of the theorem of `pbook collect`: what follows from an effect.
-use Rattle.std.specs.Prelude.{◌≡◌, ◌≢◌, ℕ, ◌+◌, ◌++◌, List, [], Some, None, Ok, Err, All, slice_get, take}
+use Rattle.std.specs.Prelude.{◌≡◌, ◌≢◌, ℕ, ◌+◌, ◌++◌, List, [], Some}
+use Rattle.std.specs.Prelude.{None, Ok, Err, All, slice_get, take}
 use Rattle.pb_io.specs.Lines.{lines}
 use Rattle.pb_io.specs.Sink.{SinkState}
 use Rattle.pb_io.specs.Source.{SourceState}
@@ -23,12 +24,15 @@ use Rattle.pb_collecting.specs.Runs.{CollectRun, ContinueRun, JournalRun}
 
 -- in every run a line that was refused left the games that are held as they were
 abbrev pub RefusalsLeaveTheGames : Type 0
-RefusalsLeaveTheGames = (L : List (List ℕ)) (R : List Answer) (games : List Submission) → Run most_games [] L R games
+RefusalsLeaveTheGames = (L : List (List ℕ)) (R : List Answer) (games : List Submission)
+    → Run most_games [] L R games
     → (i : ℕ) (e : Refusal) (A B : List Submission) → slice_get R i ≡ Some (Err e)
-    → Run most_games [] (take i L) (take i R) A → Run most_games [] (take (i + 1) L) (take (i + 1) R) B → B ≡ A
+    → Run most_games [] (take i L) (take i R) A
+    → Run most_games [] (take (i + 1) L) (take (i + 1) R) B → B ≡ A
 
 -- What more is so of lines in which no id names two games.
-pub record OneEffect (T : Basis) (L : List (List ℕ)) (R : List Answer) (games : List Submission) (entries : List Entry) : Type 0 where
+pub record OneEffect (T : Basis) (L : List (List ℕ)) (R : List Answer) (games : List Submission)
+    (entries : List Entry) : Type 0 where
   -- the games are the distinct legal submissions that were accepted, and the book is that of these,
   -- each of them once
   pub taken : List Submission
@@ -43,12 +47,14 @@ pub record OneEffect (T : Basis) (L : List (List ℕ)) (R : List Answer) (games 
 
 -- where no id names two games, each submission has its one effect
 abbrev pub HasOneEffect : Type 0
-HasOneEffect = (T : Basis) (L : List (List ℕ)) (R : List Answer) (games : List Submission) (entries : List Entry)
+HasOneEffect = (T : Basis) (L : List (List ℕ)) (R : List Answer) (games : List Submission)
+    (entries : List Entry)
     → Effect T L R games entries → OneGame L → OneEffect T L R games entries
 
 -- What more is so where a run held these games first, went on with lines L and answers R to the
 -- games `left`, and an earlier run, of lines K with answers Q, saved these.
-pub record OneLongRun (T : Basis) (K L : List (List ℕ)) (Q R : List Answer) (saved held left : List Submission) (entries : List Entry) : Type 0 where
+pub record OneLongRun (T : Basis) (K L : List (List ℕ)) (Q R : List Answer)
+    (saved held left : List Submission) (entries : List Entry) : Type 0 where
   -- what was saved is what was held
   pub held_is_saved : held ≡ saved
   -- the effect, and the replies, are those of one run of the lines of both
@@ -57,8 +63,10 @@ pub record OneLongRun (T : Basis) (K L : List (List ℕ)) (Q R : List Answer) (s
 
 -- a run that goes on from what an earlier one saved makes of both what one long run makes
 abbrev pub GoesOnAsOneRun : Type 0
-GoesOnAsOneRun = (rules : CountingRules) (file saved bytes put : List ℕ) (left : LedgerState) (entries : List Entry)
-    (h : ContinuesBytes rules file saved bytes put left entries) (K : List (List ℕ)) (Q : List Answer) (A : List Submission)
+GoesOnAsOneRun = (rules : CountingRules) (file saved bytes put : List ℕ) (left : LedgerState)
+    (entries : List Entry)
+    (h : ContinuesBytes rules file saved bytes put left entries) (K : List (List ℕ))
+    (Q : List Answer) (A : List Submission)
     → Run most_games [] K Q A → Saved A saved
     → OneLongRun left.basis K (lines bytes) Q h.answers A h.held left.accepted entries
 
@@ -67,9 +75,13 @@ GoesOnAsOneRun = (rules : CountingRules) (file saved bytes put : List ℕ) (left
 -- those of a saved ledger or a journal that is read, `s` and `s'` those of the submissions, `j` and
 -- `j'` those of the journal that is written.
 pub record RefusedIsUnread : Type 0 where
-  pub collect : (rules : CountingRules) (fills : ℕ) (t t' s s' : SourceState) (sink sink' : SinkState)
+  pub collect : (rules : CountingRules) (fills : ℕ) (t t' s s' : SourceState)
+      (sink sink' : SinkState)
       → CollectRun rules fills t t' s s' sink sink' (Ok None) → s' ≡ s
-  pub continued : (rules : CountingRules) (fills : ℕ) (t t' v v' s s' : SourceState) (sink sink' : SinkState)
+  pub continued : (rules : CountingRules) (fills : ℕ) (t t' v v' s s' : SourceState)
+      (sink sink' : SinkState)
       → ContinueRun rules fills t t' v v' s s' sink sink' (Ok None) → s' ≡ s
-  pub journaled : (rules : CountingRules) (fills : ℕ) (t t' v v' s s' : SourceState) (j j' sink sink' : SinkState)
-      → JournalRun rules fills t t' v v' s s' j j' sink sink' (Ok None) → (s' ≡ s) × (v' ≡ v) × (j' ≡ j)
+  pub journaled : (rules : CountingRules) (fills : ℕ) (t t' v v' s s' : SourceState)
+      (j j' sink sink' : SinkState)
+      → JournalRun rules fills t t' v v' s s' j j' sink sink' (Ok None)
+      → (s' ≡ s) × (v' ≡ v) × (j' ≡ j)

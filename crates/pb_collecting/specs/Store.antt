@@ -25,7 +25,8 @@ Spoils old new Open bytes = ⊥
 Spoils old new why bytes = (count : ℕ) × HoldsBytes old new (take count bytes)
 
 -- Keeping bytes: the store holds them, or it tells why not, and is as it was or spoilt.
-pub record Keeps (old new : StoreState) (answer : Result (Unit {0}) StoreError) (bytes : List ℕ) : Type 0 where
+pub record Keeps (old new : StoreState) (answer : Result (Unit {0}) StoreError)
+    (bytes : List ℕ) : Type 0 where
   pub holds : OnOk answer (HoldsBytes old new bytes)
   pub leaves : IfErr answer (λ why. (new.found ≡ old.found) ⊎ Spoils old new why bytes)
   pub fault : new.fault ≡ result_err answer

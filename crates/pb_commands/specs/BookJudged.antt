@@ -20,5 +20,6 @@ book_verdict book.Memory = Err Memory
 -- give
 abbrev pub AsBook : List ℕ → Result (List Entry) BookError → Type 0
 AsBook bytes (Err (book.Unsorted n)) =
-    (front : List ℕ) × (rest : List ℕ) × (bytes ≡ front ++ rest) × BookIs so_far front (Err (book.Unsorted n))
+    (front : List ℕ) × (rest : List ℕ) × (bytes ≡ front ++ rest)
+    × BookIs so_far front (Err (book.Unsorted n))
 AsBook bytes result = BookIs at_end bytes result

@@ -9,12 +9,15 @@ use Rattle.pb_commands.specs.Judged.{Verdict}
 
 -- key, code, weight and learn, one space between
 abbrev pub entry_line : Entry → List ℕ
-entry_line e = with_end (hexadecimal 16 e.key ++ (32 ∷ (hexadecimal 4 e.code ++ (32 ∷ (hexadecimal 4 e.weight ++ (32 ∷ hexadecimal 8 e.learn))))))
+entry_line e = with_end (hexadecimal 16 e.key ++ (32 ∷ (hexadecimal 4 e.code
+    ++ (32 ∷ (hexadecimal 4 e.weight ++ (32 ∷ hexadecimal 8 e.learn))))))
 
 abbrev pub show_text : List Entry → List ℕ
 show_text entries = flat_map entry_line entries
 
 -- what the command comes to, where `book` tells what its input is as a book
-pub data BookShown (book : Result (List Entry) BookError → Type 0) (verdict : Verdict) : Type 0 where
-  shown : (entries : List Entry) → book (Ok entries) → verdict ≡ Ok (true, show_text entries) → BookShown book verdict
+pub data BookShown (book : Result (List Entry) BookError → Type 0)
+    (verdict : Verdict) : Type 0 where
+  shown : (entries : List Entry) → book (Ok entries) → verdict ≡ Ok (true, show_text entries)
+      → BookShown book verdict
   no_book : (e : BookError) → book (Err e) → verdict ≡ book_verdict e → BookShown book verdict

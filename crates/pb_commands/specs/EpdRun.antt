@@ -25,18 +25,24 @@ pub record PutsButLast (sink sink' : SinkState) (ls : List (List ℕ)) : Type 0 
 
 -- how a run ends with each fault; for want of memory before the first fill or at a line
 abbrev pub RewritesUntil : ℕ → SourceState → SourceState → SinkState → SinkState → Fault → Type 0
-RewritesUntil fills source source' sink sink' Read = AtFault fills source source' (PutsLines sink sink')
-RewritesUntil fills source source' sink sink' Endless = AtNoEnd fills source source' (PutsLines sink sink')
-RewritesUntil fills source source' sink sink' Write = AtLine fills source source' (λ ls. PutsFrontOfText (EpdShown 1 ls) sink sink')
+RewritesUntil fills source source' sink sink' Read =
+    AtFault fills source source' (PutsLines sink sink')
+RewritesUntil fills source source' sink sink' Endless =
+    AtNoEnd fills source source' (PutsLines sink sink')
+RewritesUntil fills source source' sink sink' Write =
+    AtLine fills source source' (λ ls. PutsFrontOfText (EpdShown 1 ls) sink sink')
 RewritesUntil fills source source' sink sink' Memory =
     ((source' ≡ source) × (sink' ≡ sink)) ⊎ AtLine fills source source' (PutsButLast sink sink')
 
 -- all lines of the stream gave this answer, and what they give was put
 abbrev pub RewritesStream : ℕ → SourceState → SourceState → SinkState → SinkState → Bool → Type 0
-RewritesStream fills source source' sink sink' answer = AtEnd fills source source' (λ ls. PutsText (EpdShown 1 ls) sink sink' answer)
+RewritesStream fills source source' sink sink' answer =
+    AtEnd fills source source' (λ ls. PutsText (EpdShown 1 ls) sink sink' answer)
 
 -- how a run ends
-abbrev pub RewritesOrEnds : ℕ → SourceState → SourceState → SinkState → SinkState → Result Bool Fault → Type 0
+abbrev pub RewritesOrEnds : ℕ → SourceState → SourceState → SinkState → SinkState
+    → Result Bool Fault → Type 0
 RewritesOrEnds fills source source' sink sink' (Ok answer) =
     RewritesStream fills source source' sink sink' answer × HandedOnOnce sink sink'
-RewritesOrEnds fills source source' sink sink' (Err fault) = RewritesUntil fills source source' sink sink' fault
+RewritesOrEnds fills source source' sink sink' (Err fault) =
+    RewritesUntil fills source source' sink sink' fault

@@ -1,5 +1,6 @@
 -- What the command `epd` writes: for each line its one ordered form, or why it is refused.
-use Rattle.std.specs.Prelude.{◌≡◌, ℕ, ◌+◌, ◌<◌, ◌≤◌, ◌&&◌, Bool, true, List, [], ◌∷◌, ◌++◌, Ok, Err, length, All, codes, decimal}
+use Rattle.std.specs.Prelude.{◌≡◌, ℕ, ◌+◌, ◌<◌, ◌≤◌, ◌&&◌, Bool, true, List, []}
+use Rattle.std.specs.Prelude.{◌∷◌, ◌++◌, Ok, Err, length, All, codes, decimal}
 use Rattle.pb_board.specs.Words.{word_of}
 use Rattle.std.specs.Str.Lines.{strip_carriage_return}
 use Rattle.pb_board.specs.LineEnd.{with_end}
@@ -31,16 +32,21 @@ epd_verdict number epd.Memory = Err Memory
 
 -- what the line of this number gives, and whether it was taken
 pub data LineShown (number : ℕ) (line : List ℕ) (verdict : Verdict) : Type 0 where
-  long : line_limit < length line → verdict ≡ refused_line number (codes "long") → LineShown number line verdict
-  blank : length line ≤ line_limit → IsBlank (strip_carriage_return line) → verdict ≡ Ok (true, []) → LineShown number line verdict
-  written : (e : EpdRecord) → length line ≤ line_limit → IsEpd e → EpdText e (strip_carriage_return line)
+  long : line_limit < length line → verdict ≡ refused_line number (codes "long")
+      → LineShown number line verdict
+  blank : length line ≤ line_limit → IsBlank (strip_carriage_return line) → verdict ≡ Ok (true, [])
+      → LineShown number line verdict
+  written : (e : EpdRecord) → length line ≤ line_limit → IsEpd e
+      → EpdText e (strip_carriage_return line)
       → verdict ≡ Ok (true, with_end (epd_form e)) → LineShown number line verdict
-  no_record : (x : EpdError) → length line ≤ line_limit → ¬ IsBlank (strip_carriage_return line) → IsFirstDueEpd x (strip_carriage_return line)
+  no_record : (x : EpdError) → length line ≤ line_limit → ¬ IsBlank (strip_carriage_return line)
+      → IsFirstDueEpd x (strip_carriage_return line)
       → verdict ≡ epd_verdict number x → LineShown number line verdict
 
 -- the lines in order, the first of this number
 abbrev pub EpdShown : ℕ → List (List ℕ) → Verdict → Type 0
 EpdShown number [] verdict = verdict ≡ Ok (true, [])
 EpdShown number (line ∷ lines) verdict =
-    (taken others : Bool) × (first rest : List ℕ) × LineShown number line (Ok (taken, first)) × EpdShown (number + 1) lines (Ok (others, rest))
+    (taken others : Bool) × (first rest : List ℕ) × LineShown number line (Ok (taken, first))
+    × EpdShown (number + 1) lines (Ok (others, rest))
     × (verdict ≡ Ok ((taken && others), first ++ rest))

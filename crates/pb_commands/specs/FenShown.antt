@@ -1,5 +1,6 @@
 -- What the command `fen` writes.
-use Rattle.std.specs.Prelude.{◌≡◌, ℕ, ◌+◌, true, List, ◌∷◌, ◌++◌, All, Ok, Err, codes, decimal, length}
+use Rattle.std.specs.Prelude.{◌≡◌, ℕ, ◌+◌, true, List, ◌∷◌, ◌++◌}
+use Rattle.std.specs.Prelude.{All, Ok, Err, codes, decimal, length}
 use Rattle.std.specs.List.{AllZip}
 use Rattle.pb_board.specs.declared.refusal.FenError.{FenError}
 use Rattle.pb_board.specs.Position.{Record}
@@ -26,7 +27,8 @@ pub record Unplayable (start : Record) (words : List (List ℕ)) (n : ℕ) : Typ
 
 -- the record is judged first, then the spelling of all words, then the moves in order
 pub data FenShown (fen : List ℕ) (words : List (List ℕ)) (verdict : Verdict) : Type 0 where
-  no_record : (e : FenError) → AsRecord fen (Err e) → verdict ≡ record_verdict e → FenShown fen words verdict
+  no_record : (e : FenError) → AsRecord fen (Err e) → verdict ≡ record_verdict e
+      → FenShown fen words verdict
   misspelt : (start : Record) (n : ℕ) → AsRecord fen (Ok start) → BreaksAt (All IsSpelled) words n
       → verdict ≡ refused (codes "spelling " ++ decimal n) → FenShown fen words verdict
   unplayable : (start : Record) (n : ℕ) → AsRecord fen (Ok start) → Unplayable start words n

@@ -21,7 +21,8 @@ abbrev pub HandedOnOnce : SinkState → SinkState → Type 0
 HandedOnOnce sink sink' = HandedOn sink' × (sink'.flushes ≡ next_count sink.flushes)
 
 -- the whole text was put
-pub record PutsText (judges : Verdict → Type 0) (sink sink' : SinkState) (answer : Bool) : Type 0 where
+pub record PutsText (judges : Verdict → Type 0) (sink sink' : SinkState)
+    (answer : Bool) : Type 0 where
   pub out : List ℕ
   pub judged : judges (Ok (answer, out))
   pub put : Appends sink.bytes sink'.bytes out
@@ -43,5 +44,6 @@ PutsUntil judges sink sink' fault = judges (Err fault) × (sink' ≡ sink)
 
 -- how a command ends: the whole text was put and then handed on, or a fault came
 abbrev pub PutsOrEnds : (Verdict → Type 0) → SinkState → SinkState → Result Bool Fault → Type 0
-PutsOrEnds judges sink sink' (Ok answer) = PutsText judges sink sink' answer × HandedOnOnce sink sink'
+PutsOrEnds judges sink sink' (Ok answer) =
+    PutsText judges sink sink' answer × HandedOnOnce sink sink'
 PutsOrEnds judges sink sink' (Err fault) = PutsUntil judges sink sink' fault

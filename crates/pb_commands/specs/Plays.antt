@@ -7,4 +7,5 @@ use Rattle.pb_moves.specs.Played.{Spells, Plays}
 
 -- the words spell moves that may be played in turn, and this is the record after them
 abbrev pub PlaysWords : Record → List (List ℕ) → Record → Type 0
-PlaysWords start words last = (moves : List Moved) × AllZip Spells words moves × Plays start moves last
+PlaysWords start words last =
+    (moves : List Moved) × AllZip Spells words moves × Plays start moves last

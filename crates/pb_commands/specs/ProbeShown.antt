@@ -1,5 +1,6 @@
 -- What the command `probe` writes: a line for each move that a book has for a position.
-use Rattle.std.specs.Prelude.{◌≡◌, ℕ, true, List, ◌∷◌, ◌++◌, OnErr, Result, Ok, Err, decimal, flat_map}
+use Rattle.std.specs.Prelude.{◌≡◌, ℕ, true, List, ◌∷◌, ◌++◌, OnErr}
+use Rattle.std.specs.Prelude.{Result, Ok, Err, decimal, flat_map}
 use Rattle.pb_board.specs.declared.refusal.FenError.{FenError}
 use Rattle.pb_board.specs.Position.{Record}
 use Rattle.pb_board.specs.LineEnd.{with_end}
@@ -26,21 +27,31 @@ abbrev pub probe_text : List (Moved × ℕ) → List ℕ
 probe_text found = flat_map found_line found
 
 -- where there are a table, a book and a record: the moves and their weights, or want of memory
-pub data FoundShown (words : List ℕ) (entries : List Entry) (f : Record) (verdict : Verdict) : Type 0 where
-  found : (pairs : List (Moved × ℕ)) → Found entries words f.setup pairs → verdict ≡ Ok (true, probe_text pairs) → FoundShown words entries f verdict
+pub data FoundShown (words : List ℕ) (entries : List Entry) (f : Record)
+    (verdict : Verdict) : Type 0 where
+  found : (pairs : List (Moved × ℕ)) → Found entries words f.setup pairs
+      → verdict ≡ Ok (true, probe_text pairs) → FoundShown words entries f verdict
   no_memory : verdict ≡ Err Memory → FoundShown words entries f verdict
 
 -- what the command comes to, where `table` and `book` tell what its inputs are; they are judged in
 -- this order
-pub data ProbeShown (table : Result (List ℕ) TableFault → Type 0) (book : Result (List Entry) BookError → Type 0) (fen : List ℕ) (verdict : Verdict) : Type 0 where
-  no_table : (e : TableFault) → table (Err e) → verdict ≡ table_verdict e → ProbeShown table book fen verdict
-  no_book : (words : List ℕ) (e : BookError) → table (Ok words) → book (Err e) → verdict ≡ book_verdict e → ProbeShown table book fen verdict
-  no_record : (words : List ℕ) (entries : List Entry) (e : FenError) → table (Ok words) → book (Ok entries) → AsRecord fen (Err e)
+pub data ProbeShown (table : Result (List ℕ) TableFault → Type 0)
+    (book : Result (List Entry) BookError → Type 0) (fen : List ℕ)
+    (verdict : Verdict) : Type 0 where
+  no_table : (e : TableFault) → table (Err e) → verdict ≡ table_verdict e
+      → ProbeShown table book fen verdict
+  no_book : (words : List ℕ) (e : BookError) → table (Ok words) → book (Err e)
+      → verdict ≡ book_verdict e → ProbeShown table book fen verdict
+  no_record : (words : List ℕ) (entries : List Entry) (e : FenError) → table (Ok words)
+      → book (Ok entries) → AsRecord fen (Err e)
       → verdict ≡ record_verdict e → ProbeShown table book fen verdict
-  probed : (words : List ℕ) (entries : List Entry) (f : Record) → table (Ok words) → book (Ok entries) → AsRecord fen (Ok f)
+  probed : (words : List ℕ) (entries : List Entry) (f : Record) → table (Ok words)
+      → book (Ok entries) → AsRecord fen (Ok f)
       → FoundShown words entries f verdict → ProbeShown table book fen verdict
 
 -- the same over the states of the table's source and of the book's, which is left alone where there
 -- is no table
-abbrev pub ProbesSources : ℕ → SourceState → SourceState → SourceState → SourceState → List ℕ → Verdict → Type 0
-ProbesSources fills t t' b b' fen = ProbeShown (λ r. ReadsTable fills t t' r × OnErr r (b' ≡ b)) (ReadsBook fills b b') fen
+abbrev pub ProbesSources : ℕ → SourceState → SourceState → SourceState → SourceState → List ℕ
+    → Verdict → Type 0
+ProbesSources fills t t' b b' fen =
+    ProbeShown (λ r. ReadsTable fills t t' r × OnErr r (b' ≡ b)) (ReadsBook fills b b') fen

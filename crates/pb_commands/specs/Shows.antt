@@ -8,7 +8,8 @@ use Rattle.pb_commands.specs.Judged.{HandedOnOnce}
 
 -- all the bytes are put and then handed on, or the sink has failed, and of these bytes a front was
 -- put, and none handed on
-pub record Shows {A : Type 0} (old new : SinkState) (answer : Result A Fault) (bytes : List ℕ) : Type 0 where
+pub record Shows {A : Type 0} (old new : SinkState) (answer : Result A Fault)
+    (bytes : List ℕ) : Type 0 where
   pub all : OnOk answer (Appends old.bytes new.bytes bytes)
   pub handed_on : OnOk answer (HandedOnOnce old new)
   pub fault : IfErr answer (λ fault. (fault ≡ Write) × (new.failed ≡ true))

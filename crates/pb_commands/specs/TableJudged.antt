@@ -1,5 +1,6 @@
 -- What is a table file and what is none, and what is put of it then.
-use Rattle.std.specs.Prelude.{◌≡◌, ℕ, ◌<◌, List, ◌++◌, Result, Ok, Err, codes, decimal, false, length}
+use Rattle.std.specs.Prelude.{◌≡◌, ℕ, ◌<◌, List, ◌++◌, Result, Ok}
+use Rattle.std.specs.Prelude.{Err, codes, decimal, false, length}
 use Rattle.pb_poly.specs.Streams.{at_end}
 use Rattle.pb_poly.specs.Table.{table_limit}
 use Rattle.pb_poly.specs.TableReading.{TableIs}
@@ -26,4 +27,5 @@ AsTable bytes result = TableIs at_end bytes result
 
 -- the bytes are no table file, and this is the line that says why
 abbrev pub TableRefused : List ℕ → List ℕ → Type 0
-TableRefused bytes out = (e : TableFault) × AsTable bytes (Err e) × (table_verdict e ≡ Ok (false, out))
+TableRefused bytes out =
+    (e : TableFault) × AsTable bytes (Err e) × (table_verdict e ≡ Ok (false, out))

@@ -1,5 +1,6 @@
 -- What the parts of the reader tell of the tokens of a line.
-use Rattle.std.specs.Prelude.{◌≡◌, ◌≢◌, ◌<◌, ◌↔◌, ℕ, ◌+◌, List, [], ◌∷◌, ◌++◌, length, map, flat_map, All, AllPairs, Contains, MatchOption, Option}
+use Rattle.std.specs.Prelude.{◌≡◌, ◌≢◌, ◌<◌, ◌↔◌, ℕ, ◌+◌, List, [], ◌∷◌, ◌++◌, length}
+use Rattle.std.specs.Prelude.{map, flat_map, All, AllPairs, Contains, MatchOption, Option}
 use Rattle.std.specs.List.{slice_split}
 use Rattle.pb_board.specs.Refusal.{BreaksAt}
 use Rattle.pb_epd.specs.declared.operand.Operand.{Operand}
@@ -10,7 +11,8 @@ use Rattle.pb_epd.specs.declared.refusal.EpdError.{EpdError}
 use Rattle.pb_epd.specs.declared.refusal.EpdError.TheVariants as epd
 use Rattle.pb_epd.specs.Token.{Token, word, end_mark, TokensAfter}
 use Rattle.pb_epd.specs.Lexeme.{IsOperandToken}
-use Rattle.pb_epd.specs.Operation.{Operation, IsOperand, IsOperation, operand_token, operation_tokens}
+use Rattle.pb_epd.specs.Operation.{Operation, IsOperand, IsOperation}
+use Rattle.pb_epd.specs.Operation.{operand_token, operation_tokens}
 use Rattle.pb_epd.specs.Refusal.{is_end, BeginOtherwise, IsNamed}
 
 -- the bytes are tokens that follow this one
@@ -24,7 +26,8 @@ pub record Follow (t : Token) (ts : List Token) (rest : List ℕ) : Type 0 where
   pub after : TokensAfter t others rest
 
 -- these words are the first four of the list, and the others follow them
-pub record FourFollow (placement turn castling en_passant rest : List ℕ) (ts : List Token) : Type 0 where
+pub record FourFollow (placement turn castling en_passant rest : List ℕ)
+    (ts : List Token) : Type 0 where
   pub others : List Token
   pub is : ts ≡ word placement ∷ word turn ∷ word castling ∷ word en_passant ∷ others
   pub after : TokensAfter (word en_passant) others rest
@@ -34,13 +37,15 @@ abbrev pub AreOperands : List Token → Type 0
 AreOperands ts = All IsOperandToken ts
 
 -- these operands, an end, and others that follow it
-pub record EndsWithOperands (ts : List Token) (operands : List Operand) (rest : List ℕ) : Type 0 where
+pub record EndsWithOperands (ts : List Token) (operands : List Operand)
+    (rest : List ℕ) : Type 0 where
   pub others : List Token
   pub is : ts ≡ map operand_token operands ++ end_mark ∷ others
   pub after : TokensAfter end_mark others rest
 
 -- the bytes begin with lawful operands and an end, and they are tokens if what follows is
-pub record EndsSoundly (before : Token) (bytes : List ℕ) (operands : List Operand) (rest : List ℕ) : Type 0 where
+pub record EndsSoundly (before : Token) (bytes : List ℕ) (operands : List Operand)
+    (rest : List ℕ) : Type 0 where
   pub shorter : length rest < length bytes
   pub lawful : All IsOperand operands
   pub back : HasTokens end_mark rest → HasTokens before bytes
@@ -64,7 +69,8 @@ abbrev pub IsTaken : Taken → List Token → Type 0
 IsTaken taken.Done ts = ts ≡ []
 IsTaken taken.Unended ts = (ts ≢ []) × AreOperands ts
 IsTaken taken.Unnamed ts = BeginsUnnamed ts
-IsTaken (taken.Operation opcode operands rest) ts = BeginsWithOperation ts (opcode.now, operands.items) rest.now
+IsTaken (taken.Operation opcode operands rest) ts =
+    BeginsWithOperation ts (opcode.now, operands.items) rest.now
 
 -- an operation is lawful and takes some bytes, and the bytes are tokens if what follows it is
 abbrev pub IsSound : Taken → Token → List ℕ → Type 0
@@ -72,7 +78,8 @@ IsSound taken.Done before bytes = HasTokens before bytes
 IsSound taken.Unended before bytes = Unit {0}
 IsSound taken.Unnamed before bytes = Unit {0}
 IsSound (taken.Operation opcode operands rest) before bytes =
-    (length rest.now < length bytes) × IsOperation (opcode.now, operands.items) × (HasTokens end_mark rest.now → HasTokens before bytes)
+    (length rest.now < length bytes) × IsOperation (opcode.now, operands.items)
+    × (HasTokens end_mark rest.now → HasTokens before bytes)
 
 -- the tokens are lawful operations with distinct opcodes that are, as a map, these
 pub record AreOperations (ts : List Token) (map : List Operation) : Type 0 where
@@ -103,16 +110,19 @@ pub record AreHeld (operations held : List Operation) : Type 0 where
   pub same : (o : Operation) → Contains operations o ↔ Contains held o
 
 abbrev pub Standing : Option ℕ → List Operation → List Operation → Type 0
-Standing repeated operations held = MatchOption repeated (AreHeld operations held) (λ n. RepeatsAt n operations)
+Standing repeated operations held =
+    MatchOption repeated (AreHeld operations held) (λ n. RepeatsAt n operations)
 
 -- where the operations that were read stand so, they do with one more
 abbrev pub StandsWith : Operation → SoFar → SoFar → Type 0
 StandsWith x old new =
-    (operations : List Operation) → old.count ≡ length operations → Standing old.repeated operations old.epd.operations
+    (operations : List Operation) → old.count ≡ length operations
+    → Standing old.repeated operations old.epd.operations
     → Standing new.repeated (operations ++ x ∷ []) new.epd.operations
 
 -- each ended operation begins with an opcode
-pub record AreNamed (ts : List Token) (ended : List (List Token)) (unended : List Token) : Type 0 where
+pub record AreNamed (ts : List Token) (ended : List (List Token))
+    (unended : List Token) : Type 0 where
   pub cut : slice_split is_end ts ≡ ended ++ unended ∷ []
   pub named : All IsNamed ended
 
@@ -126,7 +136,9 @@ pub record IsUnnamedAt (n : ℕ) (ts : List Token) : Type 0 where
 -- why operations are refused
 abbrev pub IsRefused : EpdError → List Token → Type 0
 IsRefused (epd.Opcode n) ts = IsUnnamedAt n ts
-IsRefused epd.Unended ts = (ended : List (List Token)) × (unended : List Token) × AreNamed ts ended unended × (unended ≢ [])
-IsRefused (epd.Repeated n) ts = (ended : List (List Token)) × AreNamed ts ended [] × BreaksAt (AllPairs BeginOtherwise) ended n
+IsRefused epd.Unended ts = (ended : List (List Token)) × (unended : List Token)
+    × AreNamed ts ended unended × (unended ≢ [])
+IsRefused (epd.Repeated n) ts =
+    (ended : List (List Token)) × AreNamed ts ended [] × BreaksAt (AllPairs BeginOtherwise) ended n
 IsRefused epd.Memory ts = ts ≢ []
 IsRefused _ ts = ⊥

@@ -9,18 +9,23 @@ use Rattle.pb_accepted.specs.Laws.{NoRepeats, SameMembers}
 
 -- at most one text is the export of a list of games
 abbrev pub OneExport : Type 0
-OneExport = (T : Basis) (S : List Submission) (a b : List ℕ) → ExportText T S a → ExportText T S b → a ≡ b
+OneExport = (T : Basis) (S : List Submission) (a b : List ℕ) → ExportText T S a → ExportText T S b
+    → a ≡ b
 
 -- no setup has two lines
 abbrev pub SetupsAreListedOnce : Type 0
-SetupsAreListedOnce = (T : Basis) (S : List Submission) (book : List Entry) (listed : List Listed) → IsListing (IsListed T S book) listed → AllPairs (λ x y. x.setup ≢ y.setup) listed
+SetupsAreListedOnce = (T : Basis) (S : List Submission) (book : List Entry) (listed : List Listed)
+    → IsListing (IsListed T S book) listed → AllPairs (λ x y. x.setup ≢ y.setup) listed
 
 -- lists without repeats that have the same members have the same export
 abbrev pub ExportByMembers : Type 0
-ExportByMembers = (T : Basis) (S U : List Submission) → NoRepeats S → NoRepeats U → SameMembers S U → (a : List ℕ) → ExportText T S a → ExportText T U a
+ExportByMembers = (T : Basis) (S U : List Submission) → NoRepeats S → NoRepeats U → SameMembers S U
+    → (a : List ℕ) → ExportText T S a → ExportText T U a
 
 -- whatever the order of arrival, the same distinct submissions give the same export
 abbrev pub SameExports : Type 0
-SameExports = (T : Basis) (m n : ℕ) (K L : List (List ℕ)) (Q R : List Answer) (A B S U : List Submission)
-    → OneGame K → Run m [] K Q A → Taken [] K Q S → OneGame L → Run n [] L R B → Taken [] L R U → SameMembers S U
+SameExports = (T : Basis) (m n : ℕ) (K L : List (List ℕ)) (Q R : List Answer)
+    (A B S U : List Submission)
+    → OneGame K → Run m [] K Q A → Taken [] K Q S → OneGame L → Run n [] L R B → Taken [] L R U
+    → SameMembers S U
     → (a b : List ℕ) → ExportText T A a → ExportText T B b → a ≡ b

@@ -1,6 +1,7 @@
 -- The book of games as EPD (PGN Standard 1994, section 16.2): a line for each setup of the games
 -- that the book has moves for.
-use Rattle.std.specs.Prelude.{◌≡◌, ◌≢◌, ◌↔◌, ℕ, true, false, List, [], ◌∷◌, ◌++◌, length, map, flat_map, AllPairs, Contains, codes, decimal}
+use Rattle.std.specs.Prelude.{◌≡◌, ◌≢◌, ◌↔◌, ℕ, true, false, List, [], ◌∷◌, ◌++◌}
+use Rattle.std.specs.Prelude.{length, map, flat_map, AllPairs, Contains, codes, decimal}
 use Rattle.std.specs.Io.KnownBytes.{Appends}
 use Rattle.pb_board.specs.Position.{Position}
 use Rattle.pb_board.specs.LineEnd.{with_end}
@@ -35,7 +36,8 @@ move_and_weight p = Word (spelling p.0) ∷ Word (decimal p.1) ∷ []
 -- the setup with the one operation `bkm`, whose operands are these moves, each followed by its
 -- weight
 abbrev pub with_book_moves : Position → List (Moved × ℕ) → EpdRecord
-with_book_moves s moves = record { setup = s; operations = (codes "bkm", flat_map move_and_weight moves) ∷ [] }
+with_book_moves s moves =
+    record { setup = s; operations = (codes "bkm", flat_map move_and_weight moves) ∷ [] }
 
 -- a setup, its four fields, the moves that a book has for it with their weights, and the line that
 -- says so
@@ -46,14 +48,16 @@ pub record Listed : Type 0 where
   pub line : List ℕ
 
 -- these moves, one at least, are what the book has for the setup, and the line says so
-pub record SaysMoves (words : List ℕ) (book : List Entry) (s : Position) (moves : List (Moved × ℕ)) (line : List ℕ) : Type 0 where
+pub record SaysMoves (words : List ℕ) (book : List Entry) (s : Position) (moves : List (Moved × ℕ))
+    (line : List ℕ) : Type 0 where
   pub found : Found book words s moves
   pub some : moves ≢ []
   pub says : line ≡ epd_form (with_book_moves s moves)
 
 -- the setup stands before a ply, with these four fields, and the line says what the book has for it
 abbrev pub IsListed : Basis → List Submission → List Entry → Listed → Type 0
-IsListed T S book x = StandsBefore S x.setup × (x.fields ≡ setup_text x.setup) × SaysMoves T.words book x.setup x.moves x.line
+IsListed T S book x = StandsBefore S x.setup × (x.fields ≡ setup_text x.setup)
+    × SaysMoves T.words book x.setup x.moves x.line
 
 -- those of which this is so, each once, in byte order of their four fields
 pub record IsListing (is : Listed → Type 0) (listed : List Listed) : Type 0 where
@@ -89,14 +93,17 @@ pub record Exports (ledger : LedgerState) (sink sink' : SinkState) (count : ℕ)
 
 -- what a fault says of the sink: nothing was handed on
 abbrev pub FaultOf : ExportFault → SinkState → SinkState → Type 0
-FaultOf fault.Write sink sink' = (sink'.failed ≡ true) × (sink'.flushed ≡ false) × (sink'.flushes ≡ sink.flushes)
+FaultOf fault.Write sink sink' =
+    (sink'.failed ≡ true) × (sink'.flushed ≡ false) × (sink'.flushes ≡ sink.flushes)
 FaultOf fault.Memory sink sink' = AwaitsFlush sink sink'
 
 -- the export ended with a fault: a front of the text was put, and not handed on
-pub record ExportsUntil (ledger : LedgerState) (sink sink' : SinkState) (e : ExportFault) : Type 0 where
+pub record ExportsUntil (ledger : LedgerState) (sink sink' : SinkState)
+    (e : ExportFault) : Type 0 where
   pub some : List ℕ
   pub put : Appends sink.bytes sink'.bytes some
-  pub front : (text : List ℕ) → ExportText ledger.basis ledger.accepted text → (rest : List ℕ) × (text ≡ some ++ rest)
+  pub front : (text : List ℕ) → ExportText ledger.basis ledger.accepted text
+      → (rest : List ℕ) × (text ≡ some ++ rest)
   pub cause : FaultOf e sink sink'
 
 -- what a fault of exporting is to a run

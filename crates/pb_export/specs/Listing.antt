@@ -15,7 +15,8 @@ spaced_move p = 32 ∷ (spelling p.0 ++ 32 ∷ decimal p.1)
 
 -- one of these setups, and the line says what the book has for it
 abbrev pub IsListedOf : List ℕ → List Entry → List Named → Listed → Type 0
-IsListedOf words book named x = Contains named (x.fields, x.setup) × SaysMoves words book x.setup x.moves x.line
+IsListedOf words book named x =
+    Contains named (x.fields, x.setup) × SaysMoves words book x.setup x.moves x.line
 
 -- those of these setups for which the book has moves
 abbrev pub IsListingOf : List ℕ → List Entry → List Named → List Listed → Type 0
@@ -26,7 +27,8 @@ abbrev pub text_of : List Listed → List ℕ
 text_of listed = text_of_lines (map (λ x. x.line) listed)
 
 -- their lines were put, so many
-pub record PutsListing (words : List ℕ) (book : List Entry) (named : List Named) (sink sink' : SinkState) (count : ℕ) : Type 0 where
+pub record PutsListing (words : List ℕ) (book : List Entry) (named : List Named)
+    (sink sink' : SinkState) (count : ℕ) : Type 0 where
   pub listed : List Listed
   pub is : IsListingOf words book named listed
   pub counted : count ≡ length listed
@@ -34,7 +36,8 @@ pub record PutsListing (words : List ℕ) (book : List Entry) (named : List Name
   pub awaits : AwaitsFlush sink sink'
 
 -- a front of the lines of the first of these setups was put, and not handed on
-pub record PutsFront (words : List ℕ) (book : List Entry) (named : List Named) (sink sink' : SinkState) (e : ExportFault) : Type 0 where
+pub record PutsFront (words : List ℕ) (book : List Entry) (named : List Named)
+    (sink sink' : SinkState) (e : ExportFault) : Type 0 where
   pub front : List Named
   pub back : List Named
   pub are : named ≡ front ++ back

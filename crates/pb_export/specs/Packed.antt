@@ -1,5 +1,7 @@
 -- A setup packed so that its order is that of its text.
-use Rattle.std.specs.Prelude.{◌≡◌, ℕ, ◌+◌, ◌-◌, ◌*◌, ◌<◌, ◌==◌, ◌&&◌, Bool, false, not, List, [], ◌∷◌, IfSome, Option, take, drop, map, slice_index, slice_index_or, codes, is_none, Some, None, if◌then◌else◌}
+use Rattle.std.specs.Prelude.{◌≡◌, ℕ, ◌+◌, ◌-◌, ◌*◌, ◌<◌, ◌==◌, ◌&&◌, Bool, false, not}
+use Rattle.std.specs.Prelude.{List, [], ◌∷◌, IfSome, Option, take, drop, map, slice_index}
+use Rattle.std.specs.Prelude.{slice_index_or, codes, is_none, Some, None, if◌then◌else◌}
 use Rattle.std.specs.Int.{bit_at, from_bool}
 use Rattle.std.specs.List.{join_with_byte}
 use Rattle.pb_board.specs.declared.piece.Piece.{Piece}
@@ -16,7 +18,9 @@ use Rattle.pb_board.specs.Text.{castling_text, en_passant_text, turn_text}
 
 -- the pieces from 1 on in the order of their letters: B K N P Q R b k n p q r
 abbrev pub piece_digit : Piece → ℕ
-piece_digit p = slice_index (4 ∷ 3 ∷ 1 ∷ 6 ∷ 5 ∷ 2 ∷ 10 ∷ 9 ∷ 7 ∷ 12 ∷ 11 ∷ 8 ∷ []) (6 * colour_number p.colour + kind_number p.kind)
+piece_digit p =
+    slice_index (4 ∷ 3 ∷ 1 ∷ 6 ∷ 5 ∷ 2 ∷ 10 ∷ 9 ∷ 7 ∷ 12 ∷ 11 ∷ 8 ∷ [])
+    (6 * colour_number p.colour + kind_number p.kind)
 
 -- an empty square after an empty one is above all pieces, since its run is longer, and any other is
 -- below them, since digits are below letters
@@ -51,26 +55,33 @@ is_after_empty board square = not (file square == 0) && is_none (at board (squar
 
 -- the digit of a square, whose bits these have
 abbrev pub digit_of : DigitBits → ℕ → ℕ
-digit_of bits square = bit_at bits.ones square + 2 * bit_at bits.twos square + 4 * bit_at bits.fours square + 8 * bit_at bits.eights square
+digit_of bits square = bit_at bits.ones square + 2 * bit_at bits.twos square
+    + 4 * bit_at bits.fours square + 8 * bit_at bits.eights square
 
 -- these have the bits of each square's digit
 abbrev pub HasDigits : DigitBits → Board → Type 0
-HasDigits bits board = (square : ℕ) → square < 64 → digit_of bits square ≡ place_digit (is_after_empty board square) (at board square)
+HasDigits bits board = (square : ℕ) → square < 64
+    → digit_of bits square ≡ place_digit (is_after_empty board square) (at board square)
 
 -- the number whose digits are the bits of a rank, from the a-file on
 abbrev pub spread : ℕ → ℕ → ℕ
-spread squares r = number_after 0 (map (λ f. bit_at squares (8 * r + f)) (0 ∷ 1 ∷ 2 ∷ 3 ∷ 4 ∷ 5 ∷ 6 ∷ 7 ∷ []))
+spread squares r =
+    number_after 0 (map (λ f. bit_at squares (8 * r + f)) (0 ∷ 1 ∷ 2 ∷ 3 ∷ 4 ∷ 5 ∷ 6 ∷ 7 ∷ []))
 
--- the castling rights in the order of their texts: -, K, KQ, KQk, KQkq, KQq, Kk, Kkq, Kq, Q, Qk, Qkq,
--- Qq, k, kq and q
+-- the castling rights in the order of their texts: -, K, KQ, KQk, KQkq, KQq, Kk, Kkq, Kq, Q, Qk,
+-- Qkq, Qq, k, kq and q
 abbrev pub castling_number : Rights → ℕ
-castling_number r = slice_index (0 ∷ 1 ∷ 9 ∷ 2 ∷ 13 ∷ 6 ∷ 10 ∷ 3 ∷ 15 ∷ 8 ∷ 12 ∷ 5 ∷ 14 ∷ 7 ∷ 11 ∷ 4 ∷ [])
-    (from_bool r.white_short + 2 * from_bool r.white_long + 4 * from_bool r.black_short + 8 * from_bool r.black_long)
+castling_number r =
+    slice_index (0 ∷ 1 ∷ 9 ∷ 2 ∷ 13 ∷ 6 ∷ 10 ∷ 3 ∷ 15 ∷ 8 ∷ 12 ∷ 5 ∷ 14 ∷ 7 ∷ 11 ∷ 4 ∷ [])
+    (from_bool r.white_short + 2 * from_bool r.white_long + 4 * from_bool r.black_short
+    + 8 * from_bool r.black_long)
 
 -- the text of the rights with this number
 abbrev pub castling_at : ℕ → List ℕ
 castling_at n = slice_index_or
-    (codes "-" ∷ codes "K" ∷ codes "KQ" ∷ codes "KQk" ∷ codes "KQkq" ∷ codes "KQq" ∷ codes "Kk" ∷ codes "Kkq" ∷ codes "Kq" ∷ codes "Q" ∷ codes "Qk" ∷ codes "Qkq" ∷ codes "Qq" ∷ codes "k" ∷ codes "kq" ∷ codes "q" ∷ [])
+    (codes "-" ∷ codes "K" ∷ codes "KQ" ∷ codes "KQk" ∷ codes "KQkq" ∷ codes "KQq" ∷ codes "Kk"
+    ∷ codes "Kkq" ∷ codes "Kq" ∷ codes "Q" ∷ codes "Qk" ∷ codes "Qkq" ∷ codes "Qq" ∷ codes "k"
+    ∷ codes "kq" ∷ codes "q" ∷ [])
     n []
 
 -- no en passant square, and then the squares in the order of their texts
@@ -85,7 +96,8 @@ turn_number White = 1
 
 -- the fields after the placement
 abbrev pub state_text : Position → List ℕ
-state_text p = join_with_byte space (turn_text p.turn ∷ castling_text p.rights ∷ en_passant_text p.ep ∷ [])
+state_text p =
+    join_with_byte space (turn_text p.turn ∷ castling_text p.rights ∷ en_passant_text p.ep ∷ [])
 
 -- their number in the order of these texts
 abbrev pub state_number : Position → ℕ

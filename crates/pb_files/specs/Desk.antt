@@ -1,6 +1,7 @@
 -- What is known of a name in a folder whose file is made anew by way of a draft beside it, and what
 -- a crash leaves under it.
-use Rattle.std.specs.Prelude.{◌≡◌, ◌⊎◌, ℕ, Bool, false, true, List, [], ◌∷◌, ◌++◌, Option, Some, Result, Ok, Err}
+use Rattle.std.specs.Prelude.{◌≡◌, ◌⊎◌, ℕ, Bool, false, true, List, []}
+use Rattle.std.specs.Prelude.{◌∷◌, ◌++◌, Option, Some, Result, Ok, Err}
 use Rattle.pb_io.specs.Sink.{SinkState}
 use Rattle.pb_collecting.specs.declared.store.StoreError.{StoreError}
 use Rattle.pb_files.specs.declared.desk.NotMade.{NotMade}

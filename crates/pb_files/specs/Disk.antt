@@ -42,4 +42,5 @@ pub record Syncs (old new : Disk) : Type 0 where
 
 -- whatever is added later, a crash leaves these bytes first
 abbrev pub OutlivesCrash : Disk → Type 0
-OutlivesCrash disk = (later : Disk) → Grows disk later → (left : List ℕ) → Leaves later left → BeginsWith left disk.found
+OutlivesCrash disk = (later : Disk) → Grows disk later → (left : List ℕ) → Leaves later left
+    → BeginsWith left disk.found

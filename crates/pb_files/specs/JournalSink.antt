@@ -1,5 +1,6 @@
 -- What is known of a sink at the end of a journal's file.
-use Rattle.std.specs.Prelude.{◌≡◌, Bool, false, true, List, [], ℕ, ◌++◌, Option, None, Some, IfSome, Result, OnOk}
+use Rattle.std.specs.Prelude.{◌≡◌, Bool, false, true, List, [], ℕ, ◌++◌}
+use Rattle.std.specs.Prelude.{Option, None, Some, IfSome, Result, OnOk}
 use Rattle.pb_files.specs.Disk.{Disk, Grows, OutlivesCrash, on_disk}
 use Rattle.pb_files.specs.Steps.{Steps}
 
@@ -26,7 +27,8 @@ pub record PutAtEnd (old new : EndState) : Type 0 where
 
 -- A flush writes all that waits, and with sync each crash from then on leaves it, whatever is added
 -- later.
-pub record FlushAtEnd {E : Type 0} (sync : Bool) (old new : EndState) (answer : Result (Unit {0}) E) : Type 0 where
+pub record FlushAtEnd {E : Type 0} (sync : Bool) (old new : EndState)
+    (answer : Result (Unit {0}) E) : Type 0 where
   pub found : OnOk answer (new.waits ≡ [])
   pub outlives : OnOk answer (sync ≡ true → IfSome new.told OutlivesCrash)
   -- what was found stays, and what was on the disk

@@ -9,7 +9,8 @@ use Rattle.pb_files.specs.JournalSink.{EndState}
 
 -- A journal that a run has come to: it is read from its first byte, nothing waits, and where a
 -- flush syncs all that is found is on the disk.
-pub record IsStarted (sync : Bool) (disk : Disk) (end : EndState) (reader : SourceState) : Type 0 where
+pub record IsStarted (sync : Bool) (disk : Disk) (end : EndState)
+    (reader : SourceState) : Type 0 where
   pub told : end.told ≡ Some disk
   pub reads : reader.to_come ≡ Some disk.found
   pub none_waits : end.waits ≡ []
@@ -22,9 +23,11 @@ MayBeLeft false disk left = left ≡ disk.found
 
 -- Whatever is added later, what may be left then begins with the journal as it was and what it
 -- gained: this holds each game that a reply calls `ok`.
-pub record LeavesAnswered (sync : Bool) (before : Disk) (end : EndState) (s s' : SourceState) (sink sink' : SinkState) : Type 0 where
+pub record LeavesAnswered (sync : Bool) (before : Disk) (end : EndState) (s s' : SourceState)
+    (sink sink' : SinkState) : Type 0 where
   pub disk : Disk
   pub told : end.told ≡ Some disk
   pub gained : List ℕ
   pub holds : HoldsAnswered (before.found ++ gained) s s' sink sink'
-  pub first : (later : Disk) → Grows disk later → (left : List ℕ) → MayBeLeft sync later left → BeginsWith left (before.found ++ gained)
+  pub first : (later : Disk) → Grows disk later → (left : List ℕ) → MayBeLeft sync later left
+      → BeginsWith left (before.found ++ gained)

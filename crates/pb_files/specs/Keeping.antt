@@ -26,9 +26,11 @@ SavedByDraft bytes old new = new.refused ≡ false → Steps (Saved bytes) old.t
 
 -- unless a draft was refused, this is an end into the file that has the name
 abbrev pub IsNamedByDraft : Option SinkState → DeskState → Type 0
-IsNamedByDraft named desk = desk.refused ≡ false → (is_some named ≡ true) × IfSome named (λ end. IfSome desk.told (λ shelf. shelf.found ≡ end.bytes))
+IsNamedByDraft named desk = desk.refused ≡ false → (is_some named ≡ true)
+    × IfSome named (λ end. IfSome desk.told (λ shelf. shelf.found ≡ end.bytes))
 
 -- unless a draft was refused, an end into a file that is written in place is let go, or the name
 -- leads where it led
 abbrev pub LeadsWhereItLed : Option SinkState → Option SinkState → DeskState → DeskState → Type 0
-LeadsWhereItLed before after old new = new.refused ≡ false → (after ≡ None) ⊎ ((after ≡ before) × Steps (λ (a b : Shelf). b.found ≡ a.found) old.told new.told)
+LeadsWhereItLed before after old new = new.refused ≡ false → (after ≡ None)
+    ⊎ ((after ≡ before) × Steps (λ (a b : Shelf). b.found ≡ a.found) old.told new.told)

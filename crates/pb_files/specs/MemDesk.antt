@@ -14,4 +14,5 @@ contents_of first (Some named) = first ∷ Some named ∷ []
 
 -- what a crash may leave there: until the folder is on the disk, each of them
 abbrev pub leaves_of : Bool → Content → Option (List ℕ) → List Content
-leaves_of settled first named = if settled then found_of first named ∷ [] else contents_of first named
+leaves_of settled first named = if settled then found_of first named ∷ []
+    else contents_of first named

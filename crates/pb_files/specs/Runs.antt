@@ -1,6 +1,7 @@
 -- A model of runs that make drafts by one name, in any order: what a lock on the file that the name
 -- leads to is good for. Each step of a run is one call of the system.
-use Rattle.std.specs.Prelude.{◌≡◌, ℕ, false, ◌+◌, ◌==◌, if◌then◌else◌, List, [], ◌∷◌, Option, None, Some, ⊤}
+use Rattle.std.specs.Prelude.{◌≡◌, ℕ, false, ◌+◌, ◌==◌, if◌then◌else◌}
+use Rattle.std.specs.Prelude.{List, [], ◌∷◌, Option, None, Some, ⊤}
 
 -- the file that the name leads to, the run that has the lock of each file, and the number of the
 -- next new file
@@ -55,10 +56,21 @@ unname_held run locked None = None
 unname_held run locked (Some file) = unname run file (locked file)
 
 abbrev pub after_step : Names → Step → Names
-after_step names (Makes run) = record { leads = make names.next names.leads; locked = names.locked; next = names.next + 1 }
-after_step names (Locks run file) = record { leads = names.leads; locked = λ k. if k == file then lock run (names.locked k) else names.locked k; next = names.next }
-after_step names (Unnames run) = record { leads = unname_held run names.locked names.leads; locked = names.locked; next = names.next }
-after_step names (Ends run) = record { leads = names.leads; locked = λ k. unlock run (names.locked k); next = names.next }
+after_step names (Makes run) =
+    record { leads = make names.next names.leads; locked = names.locked; next = names.next + 1 }
+after_step names (Locks run file) = record {
+  leads = names.leads;
+  locked = λ k. if k == file
+      then lock run (names.locked k) else names.locked k;
+  next = names.next;
+}
+after_step names (Unnames run) = record {
+  leads = unname_held run names.locked names.leads;
+  locked = names.locked;
+  next = names.next;
+}
+after_step names (Ends run) =
+    record { leads = names.leads; locked = λ k. unlock run (names.locked k); next = names.next }
 
 abbrev pub after : Names → List Step → Names
 after names [] = names

@@ -1,5 +1,6 @@
 -- What making a file anew whole leaves under its name, whenever a crash comes.
-use Rattle.std.specs.Prelude.{◌≡◌, ℕ, Bool, false, true, List, [], ◌∷◌, ◌++◌, Option, Some, Result, Ok, Err}
+use Rattle.std.specs.Prelude.{◌≡◌, ℕ, Bool, false, true, List, [], ◌∷◌}
+use Rattle.std.specs.Prelude.{◌++◌, Option, Some, Result, Ok, Err}
 use Rattle.pb_files.specs.Desk.{MayHaveLeft, Names, NamesNot, Shelf}
 use Rattle.pb_files.specs.Steps.{Steps}
 use Rattle.pb_files.specs.declared.desk.NotMade.{NotMade}

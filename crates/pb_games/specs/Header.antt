@@ -15,7 +15,8 @@ fields_of line = fields tab (strip_carriage_return line)
 
 -- the line isn't too long and has four fields: this id, the texts of this outcome and of this
 -- record, and the moves
-pub record IsHeader (line id : List ℕ) (outcome : Outcome) (start : Record) (moves : List ℕ) : Type 0 where
+pub record IsHeader (line id : List ℕ) (outcome : Outcome) (start : Record)
+    (moves : List ℕ) : Type 0 where
   pub short : length line ≤ MAX_BYTES
   pub room : length moves ≤ length line
   pub cut : fields_of line ≡ id ∷ outcome_text outcome ∷ fen_text start ∷ moves ∷ []

@@ -12,7 +12,8 @@ use Rattle.pb_games.specs.Refusing.{IsOfLine, Refuses}
 -- no text has two submissions (OneLine.one_submission)
 abbrev pub OneSubmission : Type 0
 OneSubmission =
-    (s t : Submission) → IsId s.0 → IsGame s.1 → IsId t.0 → IsGame t.1 → submission_text s ≡ submission_text t → s ≡ t
+    (s t : Submission) → IsId s.0 → IsGame s.1 → IsId t.0 → IsGame t.1
+    → submission_text s ≡ submission_text t → s ≡ t
 
 -- no text has more than 6,311 bytes (Texts.short_text)
 abbrev pub TextIsShort : Type 0
@@ -27,7 +28,8 @@ TextIsOneLine =
 abbrev pub PartsHaveNoTab : Type 0
 PartsHaveNoTab =
     (s : Submission) → IsId s.0 → IsGame s.1
-    → fields tab (submission_text s) ≡ s.0 ∷ outcome_text s.1.outcome ∷ fen_text s.1.start ∷ moves_text s.1.moves ∷ []
+    → fields tab (submission_text s) ≡ s.0 ∷ outcome_text s.1.outcome ∷ fen_text s.1.start
+    ∷ moves_text s.1.moves ∷ []
 
 -- a line is refused for a cause of its own, never for `Conflict`, `Full` or `Memory`
 -- (Refused.of_line)
@@ -36,7 +38,8 @@ RefusedByItself = (line : List ℕ) (e : Refusal) → Refuses line e → IsOfLin
 
 -- a line that is refused by itself submits no legal game (Refused.unlawful)
 abbrev pub RefusedIsUnlawful : Type 0
-RefusedIsUnlawful = (line : List ℕ) (e : Refusal) (s : Submission) → Refuses line e → ¬ IsLawful line s
+RefusedIsUnlawful = (line : List ℕ) (e : Refusal) (s : Submission) → Refuses line e
+    → ¬ IsLawful line s
 
 -- no line is refused by itself in two ways (OneRefused.one_refusal)
 abbrev pub OneRefusal : Type 0

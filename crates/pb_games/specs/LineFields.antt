@@ -8,7 +8,8 @@ use Rattle.pb_games.specs.Words.{words_of, moves_named}
 
 -- the submission of an id, a start, an outcome and the field of the moves
 abbrev pub submission_of : List ℕ → Record → Outcome → List ℕ → Submission
-submission_of id start outcome field = (id, record { start = start; outcome = outcome; moves = moves_named field })
+submission_of id start outcome field =
+    (id, record { start = start; outcome = outcome; moves = moves_named field })
 
 -- each word of the field spells a move
 abbrev pub AreMoves : List ℕ → Type 0

@@ -32,7 +32,8 @@ AreRefused start field refusal.Result = ⊥
 AreRefused start field (refusal.Fen e) = ⊥
 AreRefused start field refusal.Start = ⊥
 AreRefused start field (refusal.Spelling n) = BreaksAt (All IsSpelled) (words_of field) n
-AreRefused start field refusal.Plies = All IsSpelled (words_of field) × (MAX_PLIES < length (words_of field))
+AreRefused start field refusal.Plies =
+    All IsSpelled (words_of field) × (MAX_PLIES < length (words_of field))
 AreRefused start field (refusal.Illegal n) = IsStopped start field n
 AreRefused start field (refusal.Conflict n) = ⊥
 AreRefused start field refusal.Full = ⊥
@@ -40,4 +41,5 @@ AreRefused start field refusal.Memory = ⊥
 
 -- some plies of some game are held, which led here, and a further one isn't too many
 abbrev pub CanTake : (Outcome → List Ply → Position → Type 0) → Position → Type 0
-CanTake holds setup = (outcome : Outcome) × (told : List Ply) × holds outcome told setup × (length told < MAX_PLIES)
+CanTake holds setup =
+    (outcome : Outcome) × (told : List Ply) × holds outcome told setup × (length told < MAX_PLIES)

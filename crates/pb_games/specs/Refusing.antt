@@ -42,7 +42,8 @@ IsDue line parts _ = ⊥
 
 -- in the order in which they are looked for: one has a cause, two have a number
 abbrev pub in_order : FenError → ℕ → ℕ → List Refusal
-in_order e m n = refusal.Long ∷ refusal.Shape ∷ refusal.Id ∷ refusal.Result ∷ refusal.Fen e ∷ refusal.Start
+in_order e m n =
+    refusal.Long ∷ refusal.Shape ∷ refusal.Id ∷ refusal.Result ∷ refusal.Fen e ∷ refusal.Start
     ∷ refusal.Spelling m ∷ refusal.Plies ∷ refusal.Illegal n ∷ []
 
 -- a refusal that looks at the line alone
@@ -53,5 +54,6 @@ IsOfLine r = (e : FenError) × (m : ℕ) × (n : ℕ) × Contains (in_order e m 
 -- and numbers
 pub record Refuses (line : List ℕ) (r : Refusal) : Type 0 where
   pub due : IsDue line (fields tab (strip_carriage_return line)) r
-  pub first : (e : FenError) (m n : ℕ) (before after : List Refusal) → in_order e m n ≡ before ++ r ∷ after
+  pub first : (e : FenError) (m n : ℕ) (before after : List Refusal)
+      → in_order e m n ≡ before ++ r ∷ after
       → All (λ d. ¬ IsDue line (fields tab (strip_carriage_return line)) d) before

@@ -1,5 +1,6 @@
 -- The words of a field, and the moves that they spell.
-use Rattle.std.specs.Prelude.{ℕ, ◌+◌, ◌-◌, ◌*◌, List, [], ◌∷◌, map, slice_index, Option, Some, None, ◌==◌, if◌then◌else◌}
+use Rattle.std.specs.Prelude.{ℕ, ◌+◌, ◌-◌, ◌*◌, List, [], ◌∷◌, map, slice_index}
+use Rattle.std.specs.Prelude.{Option, Some, None, ◌==◌, if◌then◌else◌}
 use Rattle.std.specs.Borrow.{Bor}
 use Rattle.pb_board.specs.Fields.{fields, space}
 use Rattle.pb_board.specs.declared.piece.Kind.{Kind}
@@ -30,7 +31,8 @@ promotion_named c =
 
 abbrev pub move_named : List ℕ → Moved
 move_named word =
-    moved_of (square_named (slice_index word 0) (slice_index word 1)) (square_named (slice_index word 2) (slice_index word 3)) (promotion_named (slice_index word 4))
+    moved_of (square_named (slice_index word 0) (slice_index word 1))
+    (square_named (slice_index word 2) (slice_index word 3)) (promotion_named (slice_index word 4))
 
 abbrev pub moves_named : List ℕ → List Moved
 moves_named field = map move_named (words_of field)

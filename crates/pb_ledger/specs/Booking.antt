@@ -12,7 +12,8 @@ use Rattle.pb_ledger.specs.declared.booking.WriteFault.TheVariants as fault
 
 -- these are the bytes of the book of the games that are held
 abbrev pub BookText : LedgerState → List ℕ → Type 0
-BookText ledger bytes = (book : List Entry) × IsBook ledger.basis ledger.accepted book × BookBytes book bytes
+BookText ledger bytes =
+    (book : List Entry) × IsBook ledger.basis ledger.accepted book × BookBytes book bytes
 
 -- These bytes were put, and nothing was handed on.
 pub record PutsOn (old new : SinkState) (bytes : List ℕ) : Type 0 where

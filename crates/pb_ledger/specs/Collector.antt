@@ -1,5 +1,6 @@
 -- What the collector does with a line.
-use Rattle.std.specs.Prelude.{◌≡◌, ℕ, Bool, true, false, List, [], ◌∷◌, ◌++◌, length, nat_lt, take, Result, Ok, Err}
+use Rattle.std.specs.Prelude.{◌≡◌, ℕ, Bool, true, false, List, [], ◌∷◌}
+use Rattle.std.specs.Prelude.{◌++◌, length, nat_lt, take, Result, Ok, Err}
 use Rattle.std.specs.Io.KnownBytes.{Appends}
 use Rattle.pb_board.specs.LineEnd.{with_end}
 use Rattle.pb_io.specs.Count.{next_count}
@@ -17,9 +18,12 @@ use Rattle.pb_ledger.specs.declared.totals.Totals.{Totals}
 
 -- the totals with one more answer, to a line that brought a new game or didn't
 abbrev pub with_answer : Totals → Answer → Bool → Totals
-with_answer totals (Ok n) true = record totals { lines = next_count totals.lines; new = next_count totals.new }
-with_answer totals (Ok n) false = record totals { lines = next_count totals.lines; repeats = next_count totals.repeats }
-with_answer totals (Err e) is_new = record totals { lines = next_count totals.lines; refused = next_count totals.refused }
+with_answer totals (Ok n) true =
+    record totals { lines = next_count totals.lines; new = next_count totals.new }
+with_answer totals (Ok n) false =
+    record totals { lines = next_count totals.lines; repeats = next_count totals.repeats }
+with_answer totals (Err e) is_new =
+    record totals { lines = next_count totals.lines; refused = next_count totals.refused }
 
 -- the same ledger, sink and journal are lent
 pub record KeepsLent {T K J : Type 0} (s t : Collector T K J) : Type 0 where
@@ -29,17 +33,22 @@ pub record KeepsLent {T K J : Type 0} (s t : Collector T K J) : Type 0 where
 
 -- The line was submitted, counted as a new game where the ledger has grown, and its reply put; the
 -- game that it brought, if any, is on the journal.
-pub record Answered {T K J : Type 0} (state : K → SinkState) (kept : J → SinkState) (s : Collector T K J) (line : List ℕ) (result : Result (Unit {0}) JournalFault) (t : Collector T K J) : Type 0 where
+pub record Answered {T K J : Type 0} (state : K → SinkState) (kept : J → SinkState)
+    (s : Collector T K J) (line : List ℕ) (result : Result (Unit {0}) JournalFault)
+    (t : Collector T K J) : Type 0 where
   pub answer : Answer
   pub leads : Leads s.ledger.now t.ledger.now (line ∷ []) (answer ∷ [])
-  pub counted : t.totals ≡ with_answer s.totals answer (nat_lt (length s.ledger.now.accepted) (length t.ledger.now.accepted))
+  pub counted : t.totals ≡ with_answer s.totals answer
+      (nat_lt (length s.ledger.now.accepted) (length t.ledger.now.accepted))
   pub put : Put (state s.sink.now) (state t.sink.now) result (reply_line line answer)
-  pub gains : Gains (kept s.journal.now) (kept t.journal.now) s.ledger.now.accepted t.ledger.now.accepted
+  pub gains : Gains (kept s.journal.now)
+      (kept t.journal.now) s.ledger.now.accepted t.ledger.now.accepted
   pub same : KeepsLent s t
 
 -- The line brought a game, of whose line a front was put before the journal failed, and not handed
 -- on; and no reply was put.
-pub record Unkept {T K J : Type 0} (kept : J → SinkState) (s : Collector T K J) (line : List ℕ) (t : Collector T K J) : Type 0 where
+pub record Unkept {T K J : Type 0} (kept : J → SinkState) (s : Collector T K J) (line : List ℕ)
+    (t : Collector T K J) : Type 0 where
   pub number : ℕ
   pub leads : Leads s.ledger.now t.ledger.now (line ∷ []) (Ok number ∷ [])
   pub game : Submission
@@ -47,7 +56,8 @@ pub record Unkept {T K J : Type 0} (kept : J → SinkState) (s : Collector T K J
   pub text : List ℕ
   pub spells : text ≡ submission_text game
   pub count : ℕ
-  pub put : Appends (kept s.journal.now).bytes (kept t.journal.now).bytes (take count (with_end text))
+  pub put : Appends (kept s.journal.now).bytes (kept t.journal.now).bytes
+      (take count (with_end text))
   pub lasts : Lasts (kept s.journal.now).lasting (kept t.journal.now).lasting
   pub fails : (kept t.journal.now).failed ≡ true
   pub flushes : (kept t.journal.now).flushes ≡ (kept s.journal.now).flushes
@@ -56,8 +66,10 @@ pub record Unkept {T K J : Type 0} (kept : J → SinkState) (s : Collector T K J
 
 -- what became of the line: it stops the collector where its reply couldn't be put, or the line of
 -- its game
-abbrev pub CollectsLine : {T K J : Type 0} → (K → SinkState) → (J → SinkState) → Collector T K J → List ℕ → Result (Unit {0}) JournalFault → Collector T K J → Type 0
+abbrev pub CollectsLine : {T K J : Type 0} → (K → SinkState) → (J → SinkState) → Collector T K J
+    → List ℕ → Result (Unit {0}) JournalFault → Collector T K J → Type 0
 CollectsLine state kept s line (Ok u) t = Answered state kept s line (Ok u) t
-CollectsLine state kept s line (Err (Lines fault.Write)) t = Answered state kept s line (Err (Lines fault.Write)) t
+CollectsLine state kept s line (Err (Lines fault.Write)) t =
+    Answered state kept s line (Err (Lines fault.Write)) t
 CollectsLine state kept s line (Err Journal) t = Unkept kept s line t
 CollectsLine state kept s line (Err other) t = ⊥

@@ -1,6 +1,7 @@
 -- What taking the lines of a stream does to a ledger, a sink and a journal, and how it ends. The
 -- line of each new game is on the journal before its reply is put.
-use Rattle.std.specs.Prelude.{◌≡◌, ◌≢◌, ℕ, ◌+◌, ◌-◌, ◌^◌, ◌<◌, true, List, [], ◌∷◌, ◌++◌, length, take, Ok}
+use Rattle.std.specs.Prelude.{◌≡◌, ◌≢◌, ℕ, ◌+◌, ◌-◌, ◌^◌, ◌<◌, true}
+use Rattle.std.specs.Prelude.{List, [], ◌∷◌, ◌++◌, length, take, Ok}
 use Rattle.std.specs.Io.KnownBytes.{Appends}
 use Rattle.pb_board.specs.LineEnd.{with_end}
 use Rattle.pb_io.specs.LineTask.{AtLine}
@@ -21,7 +22,8 @@ use Rattle.pb_ledger.specs.declared.totals.Totals.{Totals}
 -- each of these games was handed on by itself: by the journal's count of flushes, below its
 -- greatest value
 abbrev pub HandedOnEach : List Submission → SinkState → SinkState → Type 0
-HandedOnEach games journal journal' = journal'.flushes < 2 ^ 64 - 1 → journal'.flushes ≡ journal.flushes + length games
+HandedOnEach games journal journal' = journal'.flushes < 2 ^ 64 - 1
+    → journal'.flushes ≡ journal.flushes + length games
 
 -- the games that B has after those of A are on the journal, their lines handed on one by one; where
 -- there are none it is as it was
@@ -38,7 +40,8 @@ pub record Gains (journal journal' : SinkState) (A B : List Submission) : Type 0
 
 -- each line was taken, and all but the last answered; the last one brought a game whose line the
 -- journal didn't take, or a front of it
-pub record CollectsUnkept (sink sink' journal journal' : SinkState) (ledger ledger' : LedgerState) (L : List (List ℕ)) : Type 0 where
+pub record CollectsUnkept (sink sink' journal journal' : SinkState) (ledger ledger' : LedgerState)
+    (L : List (List ℕ)) : Type 0 where
   pub before : List (List ℕ)
   pub line : List ℕ
   pub are : L ≡ before ++ line ∷ []
@@ -63,17 +66,22 @@ pub record CollectsUnkept (sink sink' journal journal' : SinkState) (ledger ledg
   pub each : HandedOnEach new journal journal'
 
 -- all lines of the stream were taken, counted and answered, and the new games are on the journal
-abbrev pub JournalsStream : ℕ → SourceState → SourceState → SinkState → SinkState → SinkState → SinkState → LedgerState → LedgerState → Totals → Type 0
+abbrev pub JournalsStream : ℕ → SourceState → SourceState → SinkState → SinkState → SinkState
+    → SinkState → LedgerState → LedgerState → Totals → Type 0
 JournalsStream fills source source' sink sink' journal journal' ledger ledger' totals =
-    CollectsStream fills source source' sink sink' ledger ledger' totals × Gains journal journal' ledger.accepted ledger'.accepted
+    CollectsStream fills source source' sink sink' ledger ledger' totals
+    × Gains journal journal' ledger.accepted ledger'.accepted
 
 -- how it ends with each fault: as without a journal, and then the new games are on it; or the
 -- journal fails at a new game
-abbrev pub JournalsUntil : ℕ → SourceState → SourceState → SinkState → SinkState → SinkState → SinkState → LedgerState → LedgerState → JournalFault → Type 0
+abbrev pub JournalsUntil : ℕ → SourceState → SourceState → SinkState → SinkState → SinkState
+    → SinkState → LedgerState → LedgerState → JournalFault → Type 0
 JournalsUntil fills source source' sink sink' journal journal' ledger ledger' (Lines e) =
-    CollectsUntil fills source source' sink sink' ledger ledger' e × Gains journal journal' ledger.accepted ledger'.accepted
+    CollectsUntil fills source source' sink sink' ledger ledger' e
+    × Gains journal journal' ledger.accepted ledger'.accepted
 JournalsUntil fills source source' sink sink' journal journal' ledger ledger' Journal =
-    AtLine fills source source' (CollectsUnkept sink sink' journal journal' ledger ledger') × AwaitsFlush sink sink' × (journal'.failed ≡ true)
+    AtLine fills source source' (CollectsUnkept sink sink' journal journal' ledger ledger')
+    × AwaitsFlush sink sink' × (journal'.failed ≡ true)
 
 -- what a fault of journaling is to a run that tells only what kind of end has failed: a journal is
 -- written

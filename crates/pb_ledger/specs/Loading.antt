@@ -1,6 +1,7 @@
 -- What the lines of a saved ledger, or of an old list of submission lines, make of a ledger without
 -- games.
-use Rattle.std.specs.Prelude.{◌≡◌, ◌≢◌, ℕ, ◌≤◌, ◌⊎◌, Bool, false, if◌then◌else◌, List, [], ◌∷◌, ◌++◌, length, All, Err, IsOk, IsErr, IsTrue, Result, MatchResult}
+use Rattle.std.specs.Prelude.{◌≡◌, ◌≢◌, ℕ, ◌≤◌, ◌⊎◌, Bool, false, if◌then◌else◌, List, [], ◌∷◌}
+use Rattle.std.specs.Prelude.{◌++◌, length, All, Err, IsOk, IsErr, IsTrue, Result, MatchResult}
 use Rattle.std.specs.Str.{bytes_eq}
 use Rattle.std.specs.Str.Lines.{strip_carriage_return}
 use Rattle.pb_io.specs.LineTask.{AtEnd, AtFault, AtLine, AtNoEnd}
@@ -63,22 +64,31 @@ pub record WantsMemory (cap : ℕ) (B : List Submission) (ls : List (List ℕ)) 
 
 -- all lines of the stream were loaded
 abbrev pub LoadsAll : ℕ → SourceState → SourceState → LedgerState → LedgerState → Type 0
-LoadsAll fills source source' old new = AtEnd fills source source' (λ ls. Loads old.cap ls new.accepted)
+LoadsAll fills source source' old new =
+    AtEnd fills source source' (λ ls. Loads old.cap ls new.accepted)
 
 -- and so many games are held
 abbrev pub LoadsStream : ℕ → SourceState → SourceState → LedgerState → LedgerState → ℕ → Type 0
-LoadsStream fills source source' old new n = LoadsAll fills source source' old new × (n ≡ length new.accepted)
+LoadsStream fills source source' old new n =
+    LoadsAll fills source source' old new × (n ≡ length new.accepted)
 
 -- how loading ends with each error
-abbrev pub LoadsUntil : ℕ → SourceState → SourceState → LedgerState → LedgerState → LoadError → Type 0
-LoadsUntil fills source source' old new (Line n) = AtLine fills source source' (EndsAtLine old.cap n new.accepted)
-LoadsUntil fills source source' old new Read = AtFault fills source source' (λ ls. Loads old.cap ls new.accepted)
-LoadsUntil fills source source' old new Endless = AtNoEnd fills source source' (λ ls. Loads old.cap ls new.accepted)
-LoadsUntil fills source source' old new Memory = ((source' ≡ source) × (new ≡ old)) ⊎ AtLine fills source source' (WantsMemory old.cap new.accepted)
+abbrev pub LoadsUntil : ℕ → SourceState → SourceState → LedgerState → LedgerState → LoadError
+    → Type 0
+LoadsUntil fills source source' old new (Line n) =
+    AtLine fills source source' (EndsAtLine old.cap n new.accepted)
+LoadsUntil fills source source' old new Read =
+    AtFault fills source source' (λ ls. Loads old.cap ls new.accepted)
+LoadsUntil fills source source' old new Endless =
+    AtNoEnd fills source source' (λ ls. Loads old.cap ls new.accepted)
+LoadsUntil fills source source' old new Memory = ((source' ≡ source) × (new ≡ old))
+    ⊎ AtLine fills source source' (WantsMemory old.cap new.accepted)
 
 -- where the source tells a saved ledger that fits, doesn't fail and ends within the fills, its
 -- games are held, want of memory aside
-abbrev pub LoadsSaved : ℕ → SourceState → SourceState → LedgerState → LedgerState → Result ℕ LoadError → Type 0
+abbrev pub LoadsSaved : ℕ → SourceState → SourceState → LedgerState → LedgerState
+    → Result ℕ LoadError → Type 0
 LoadsSaved fills source source' old new answer = (A : List Submission) (bytes : List ℕ)
-    → All IsSubmission A → HaveOwnIds A → length A ≤ old.cap → Saved A bytes → Tells fills source source' bytes
+    → All IsSubmission A → HaveOwnIds A → length A ≤ old.cap → Saved A bytes
+    → Tells fills source source' bytes
     → MatchResult answer (λ n. (n ≡ length A) × (new.accepted ≡ A)) (λ e. e ≡ Memory)

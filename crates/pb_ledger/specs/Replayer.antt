@@ -13,7 +13,8 @@ Stops answer (Ok x) = answer ≢ Err refusal.Memory
 Stops answer (Err fault) = (answer ≡ Err refusal.Memory) × (fault ≡ Memory)
 
 -- a line was submitted
-pub record ReplaysLine {T W : Type 0} (s : Replayer T W) (line : List ℕ) (result : Result (Unit {0}) Fault) (t : Replayer T W) : Type 0 where
+pub record ReplaysLine {T W : Type 0} (s : Replayer T W) (line : List ℕ)
+    (result : Result (Unit {0}) Fault) (t : Replayer T W) : Type 0 where
   pub answer : Answer
   pub step : Step s.ledger.now.cap s.ledger.now.accepted line answer t.ledger.now.accepted
   pub stops : Stops answer result

@@ -26,7 +26,8 @@ pub record Mends (came : List ℕ) (journal journal' : SinkState) : Type 0 where
   pub flushes : is_torn came ≡ true → journal'.flushes ≡ next_count journal.flushes
 
 -- all bytes of the journal came, the ledger holds its games, and its end was mended
-pub record ReplaysAll (fills : ℕ) (source source' : SourceState) (journal journal' : SinkState) (old new : LedgerState) : Type 0 where
+pub record ReplaysAll (fills : ℕ) (source source' : SourceState) (journal journal' : SinkState)
+    (old new : LedgerState) : Type 0 where
   pub came : List ℕ
   pub reads : ReadsAll chunk_len fills source source' came
   pub holds : Journals old.cap came new.accepted
@@ -34,7 +35,8 @@ pub record ReplaysAll (fills : ℕ) (source source' : SourceState) (journal jour
 
 -- all bytes came and the ledger holds the games, but the torn end couldn't be sealed, and nothing
 -- was handed on
-pub record MendsNot (fills : ℕ) (source source' : SourceState) (journal journal' : SinkState) (old new : LedgerState) : Type 0 where
+pub record MendsNot (fills : ℕ) (source source' : SourceState) (journal journal' : SinkState)
+    (old new : LedgerState) : Type 0 where
   pub came : List ℕ
   pub reads : ReadsAll chunk_len fills source source' came
   pub holds : Journals old.cap came new.accepted
@@ -54,9 +56,14 @@ pub record WantsMemoryFor (cap : ℕ) (B : List Submission) (ls : List (List ℕ
   pub wants : Step cap B line (Err refusal.Memory) B
 
 -- how the replay ends with each fault; the journal gains nothing but what mends it
-abbrev pub ReplaysUntil : ℕ → SourceState → SourceState → SinkState → SinkState → LedgerState → LedgerState → Fault → Type 0
-ReplaysUntil fills source source' journal journal' old new Read = AtFault fills source source' (λ ls. Replays old.cap ls new.accepted) × (journal' ≡ journal)
-ReplaysUntil fills source source' journal journal' old new Endless = AtNoEnd fills source source' (λ ls. Replays old.cap ls new.accepted) × (journal' ≡ journal)
-ReplaysUntil fills source source' journal journal' old new Write = MendsNot fills source source' journal journal' old new
+abbrev pub ReplaysUntil : ℕ → SourceState → SourceState → SinkState → SinkState → LedgerState
+    → LedgerState → Fault → Type 0
+ReplaysUntil fills source source' journal journal' old new Read =
+    AtFault fills source source' (λ ls. Replays old.cap ls new.accepted) × (journal' ≡ journal)
+ReplaysUntil fills source source' journal journal' old new Endless =
+    AtNoEnd fills source source' (λ ls. Replays old.cap ls new.accepted) × (journal' ≡ journal)
+ReplaysUntil fills source source' journal journal' old new Write =
+    MendsNot fills source source' journal journal' old new
 ReplaysUntil fills source source' journal journal' old new Memory =
-    (((source' ≡ source) × (new ≡ old)) ⊎ AtEndedLine fills source source' (WantsMemoryFor old.cap new.accepted)) × (journal' ≡ journal)
+    (((source' ≡ source) × (new ≡ old))
+    ⊎ AtEndedLine fills source source' (WantsMemoryFor old.cap new.accepted)) × (journal' ≡ journal)

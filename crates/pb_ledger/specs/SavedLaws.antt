@@ -14,12 +14,14 @@ SavedIsOne = (A : List Submission) (a b : List ℕ) → Saved A a → Saved A b 
 
 -- the lines of a saved form make the list that was saved, where it fits, and no other
 abbrev pub SavedLoads : Type 0
-SavedLoads = (cap : ℕ) (A : List Submission) (bytes : List ℕ) → All IsSubmission A → HaveOwnIds A → length A ≤ cap → Saved A bytes
+SavedLoads = (cap : ℕ) (A : List Submission) (bytes : List ℕ) → All IsSubmission A → HaveOwnIds A
+    → length A ≤ cap → Saved A bytes
     → Loads cap (lines bytes) A × ((B : List Submission) → Loads cap (lines bytes) B → B ≡ A)
 
 -- a run, what it holds saved and loaded, and a further run from there are one run, with the same
 -- answers and so the same replies
 abbrev pub ContinuedIsOneRun : Type 0
-ContinuedIsOneRun = (cap : ℕ) (K L : List (List ℕ)) (Q R : List Answer) (A B C : List Submission) (bytes : List ℕ)
+ContinuedIsOneRun = (cap : ℕ) (K L : List (List ℕ)) (Q R : List Answer) (A B C : List Submission)
+    (bytes : List ℕ)
     → Run cap [] K Q A → Saved A bytes → Loads cap (lines bytes) B → Run cap B L R C
     → Run cap [] (K ++ L) (Q ++ R) C × (replies (K ++ L) (Q ++ R) ≡ replies K Q ++ replies L R)

@@ -23,11 +23,14 @@ Between a b q = ((a < q) × (q < b)) ⊎ ((b < q) × (q < a))
 
 -- the squares of a board that are not empty
 abbrev pub IsTaken : ℕ → Board → Type 0
-IsTaken bitboard board = (q : ℕ) → q < 64 → (In bitboard q → ¬ IsEmpty board q) × (¬ IsEmpty board q → In bitboard q)
+IsTaken bitboard board = (q : ℕ) → q < 64
+    → (In bitboard q → ¬ IsEmpty board q) × (¬ IsEmpty board q → In bitboard q)
 
 -- the squares on which this piece stands
 abbrev pub AreOf : ℕ → Board → Colour → Kind → Type 0
-AreOf bitboard board side kind = (q : ℕ) → q < 64 → (In bitboard q → Holds board q (piece_of side kind)) × (Holds board q (piece_of side kind) → In bitboard q)
+AreOf bitboard board side kind = (q : ℕ) → q < 64
+    → (In bitboard q → Holds board q (piece_of side kind))
+    × (Holds board q (piece_of side kind) → In bitboard q)
 
 -- the squares on which one of two pieces stands
 abbrev pub AreOfEither : ℕ → Board → Colour → Kind → Kind → Type 0

@@ -20,7 +20,8 @@ Pattern Pawn files ranks = (files ≡ 1) × (ranks ≡ 1)
 Pattern Knight files ranks = ((files ≡ 1) × (ranks ≡ 2)) ⊎ ((files ≡ 2) × (ranks ≡ 1))
 Pattern Bishop files ranks = (files ≡ ranks) × (0 < files)
 Pattern Rook files ranks = ((files ≡ 0) × (0 < ranks)) ⊎ ((0 < files) × (ranks ≡ 0))
-Pattern Queen files ranks = ((files ≡ ranks) × (0 < files)) ⊎ (((files ≡ 0) × (0 < ranks)) ⊎ ((0 < files) × (ranks ≡ 0)))
+Pattern Queen files ranks =
+    ((files ≡ ranks) × (0 < files)) ⊎ (((files ≡ 0) × (0 < ranks)) ⊎ ((0 < files) × (ranks ≡ 0)))
 Pattern King files ranks = max files ranks ≡ 1
 
 -- q lies strictly between a and b, on the line through them
@@ -42,11 +43,13 @@ Attacks side kind board a b = Pattern kind (files_apart a b) (ranks_apart a b)
 
 -- some piece of this side attacks the square
 abbrev pub IsAttacked : Board → Colour → ℕ → Type 0
-IsAttacked board side square = (a : ℕ) × (kind : Kind) × Holds board a (piece_of side kind) × Attacks side kind board a square
+IsAttacked board side square =
+    (a : ℕ) × (kind : Kind) × Holds board a (piece_of side kind) × Attacks side kind board a square
 
 -- some enemy piece attacks the king's square
 abbrev pub InCheck : Board → Colour → Type 0
-InCheck board side = (king : ℕ) × Holds board king (piece_of side King) × IsAttacked board (opponent side) king
+InCheck board side =
+    (king : ℕ) × Holds board king (piece_of side King) × IsAttacked board (opponent side) king
 
 -- the side that isn't to move isn't in check
 abbrev pub NoOppositeCheck : Position → Type 0

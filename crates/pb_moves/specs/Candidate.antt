@@ -25,7 +25,8 @@ AreOwn own s = (q : ℕ) → q < 64 → In own q ↔ ((piece : Piece) × HoldsOw
 -- a piece of this colour and kind can go from one square to the other on some board
 abbrev pub MayGo : Colour → Kind → ℕ → ℕ → Type 0
 MayGo colour Pawn a b =
-    (IsForward colour 1 a b × (files_apart a b ≤ 1)) ⊎ (IsForward colour 2 a b × (files_apart a b ≡ 0))
+    (IsForward colour 1 a b × (files_apart a b ≤ 1))
+    ⊎ (IsForward colour 2 a b × (files_apart a b ≡ 0))
 MayGo colour Knight a b = IsKnightsMove a b
 MayGo colour Bishop a b = IsDiagonal a b
 MayGo colour Rook a b = IsOrthogonal a b

@@ -2,13 +2,14 @@
 -- functions and the proofs of this crate speak of it. Its public functions speak of `Legal`, which
 -- is shown to say the same (proofs/SameMoves).
 --
---   case          who              from, to                              besides
---   piece_move    not a pawn       it attacks `to`                       `to` is empty or holds an enemy, not the king
---   pawn_step     a pawn           one rank forward on its file          `to` is empty
---   pawn_double   a pawn           two ranks forward from its first rank both squares are empty
---   pawn_capture  a pawn           it attacks `to`                       `to` holds an enemy, not the king
---   en_passant    a pawn           it attacks the en passant square      the pawn beside `from` is taken
---   castles       the king         a row of the castling table           see Castling
+--   case          who         from, to                            besides
+--   piece_move    not a pawn  it attacks `to`                     `to` is empty, or an enemy's but
+--                                                                 the king's
+--   pawn_step     a pawn      one rank forward on its file        `to` is empty
+--   pawn_double   a pawn      two ranks forward from its first    both squares are empty
+--   pawn_capture  a pawn      it attacks `to`                     `to` is an enemy's but the king's
+--   en_passant    a pawn      it attacks the en passant square    the pawn beside `from` is taken
+--   castles       the king    by a row of the castling table      see Castling
 --
 -- A pawn that reaches the last rank becomes a knight, bishop, rook or queen, and no other move
 -- names a promotion.
@@ -58,10 +59,12 @@ Becomes side m before kind =
     ⊎ ((before ≡ Pawn → rank m.to ≢ last_rank side) × (m.promo ≡ None) × (kind ≡ before))
 
 -- the piece goes from `from` to `to`, and besides these two squares the named ones change
-pub record Goes (s : Position) (m : Moved) (piece : Piece) (besides : List (ℕ × Place)) (new : Board) : Type 0 where
+pub record Goes (s : Position) (m : Moved) (piece : Piece) (besides : List (ℕ × Place))
+    (new : Board) : Type 0 where
   pub kind : Kind
   pub becomes : Becomes s.turn m piece.kind kind
-  pub board : Differs s.board new ((m.from, None) ∷ (m.to, Some (record { colour = s.turn; kind = kind })) ∷ besides)
+  pub board : Differs s.board new ((m.from, None)
+      ∷ (m.to, Some (record { colour = s.turn; kind = kind })) ∷ besides)
 
 -- a knight, bishop, rook, queen or king goes where it attacks
 pub record PieceMove (s : Position) (m : Moved) (piece : Piece) (new : Board) : Type 0 where
@@ -103,7 +106,8 @@ pub record EnPassant (s : Position) (m : Moved) (piece : Piece) (new : Board) : 
   pub after : Goes s m piece ((beyond s.turn m.to, None) ∷ []) new
 
 -- castling by a row of the table
-pub record Castles (row : CastlingRow) (s : Position) (m : Moved) (piece : Piece) (new : Board) : Type 0 where
+pub record Castles (row : CastlingRow) (s : Position) (m : Moved) (piece : Piece)
+    (new : Board) : Type 0 where
   pub king : piece.kind ≡ King
   pub from_home : m.from ≡ row.king_from
   pub to_table : m.to ≡ row.king_to
@@ -117,7 +121,8 @@ pub data CaseOf (s : Position) (m : Moved) (piece : Piece) (new : Board) : Type 
   pawn_double : PawnDouble s m piece new → CaseOf s m piece new
   pawn_capture : PawnCapture s m piece new → CaseOf s m piece new
   en_passant : EnPassant s m piece new → CaseOf s m piece new
-  castles : (castling : Castling) → Castles (castling_row castling) s m piece new → CaseOf s m piece new
+  castles : (castling : Castling) → Castles (castling_row castling) s m piece new
+      → CaseOf s m piece new
 
 -- a piece of the side to move stands on `from`, and one of its cases leads to the new board
 pub record Case (s : Position) (m : Moved) (new : Board) : Type 0 where

@@ -1,11 +1,11 @@
 -- The legal moves of chess. A square is its index, 8 * rank + file.
 --
---   case          who           to                                     besides
---   quiet         not a pawn    an empty square that it attacks
---   captures      any piece     an enemy that it attacks, not the king
---   pushes        a pawn        one or two ranks forward, all empty
---   en_passant    a pawn        the en passant square, if attacked     the pawn beside `from` is captured
---   castles       the king      by a row of the castling table         the rook moves too
+--   case        who         to                                      besides
+--   quiet       not a pawn  an empty square that it attacks
+--   captures    any piece   an enemy that it attacks, not the king
+--   pushes      a pawn      one or two ranks forward, all empty
+--   en_passant  a pawn      the en passant square, if attacked      the pawn beside `from` goes
+--   castles     the king    by a row of the castling table          the rook moves too
 use Rattle.std.specs.Prelude.{◌≡◌, ◌≢◌, ℕ, ◌⊎◌, ◌↔◌, Some, IsTrue, IsSome}
 use Rattle.pb_board.specs.declared.piece.Colour.{Colour}
 use Rattle.pb_board.specs.declared.piece.Kind.{Kind}
@@ -27,7 +27,8 @@ IsCapturable board side square =
 -- a pawn may go straight on: one rank, or two from its first square
 pub record Pushes (s : Position) (m : Moved) : Type 0 where
   pub same_file : file m.to ≡ file m.from
-  pub forward : IsForward s.turn 1 m.from m.to ⊎ ((rank_for s.turn m.from ≡ 1) × IsForward s.turn 2 m.from m.to)
+  pub forward : IsForward s.turn 1 m.from m.to
+      ⊎ ((rank_for s.turn m.from ≡ 1) × IsForward s.turn 2 m.from m.to)
   pub way : Clear s.board m.from m.to
   pub empty : IsEmpty s.board m.to
 
@@ -46,10 +47,13 @@ pub record MayCastle (row : CastlingRow) (s : Position) (m : Moved) : Type 0 whe
 
 -- where a piece of this kind of the side to move may go, its own king's safety apart
 pub data MayMove (s : Position) (m : Moved) (kind : Kind) : Type 0 where
-  quiet : kind ≢ Pawn → Attacks s.turn kind s.board m.from m.to → IsEmpty s.board m.to → MayMove s m kind
-  captures : Attacks s.turn kind s.board m.from m.to → IsCapturable s.board s.turn m.to → MayMove s m kind
+  quiet : kind ≢ Pawn → Attacks s.turn kind s.board m.from m.to → IsEmpty s.board m.to
+      → MayMove s m kind
+  captures : Attacks s.turn kind s.board m.from m.to → IsCapturable s.board s.turn m.to
+      → MayMove s m kind
   pushes : kind ≡ Pawn → Pushes s m → MayMove s m kind
-  en_passant : kind ≡ Pawn → Attacks s.turn kind s.board m.from m.to → s.ep ≡ Some m.to → MayMove s m kind
+  en_passant : kind ≡ Pawn → Attacks s.turn kind s.board m.from m.to → s.ep ≡ Some m.to
+      → MayMove s m kind
   castles : (c : Castling) → kind ≡ King → MayCastle (castling_row c) s m → MayMove s m kind
 
 -- a piece of the side to move goes by one of these cases, and a promotion is named just where a

@@ -32,4 +32,5 @@ promotion_number _ = 0
 
 -- the promotion of a number
 abbrev pub promotion_of : ℕ → Option Kind
-promotion_of n = if n == 1 then Some Knight else (if n == 2 then Some Bishop else (if n == 3 then Some Rook else (if n == 4 then Some Queen else None)))
+promotion_of n = if n == 1 then Some Knight else (if n == 2 then Some Bishop
+    else (if n == 3 then Some Rook else (if n == 4 then Some Queen else None)))

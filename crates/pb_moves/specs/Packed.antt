@@ -3,7 +3,8 @@ use Rattle.std.specs.Prelude.{◌≡◌, ℕ, ◌+◌, ◌*◌, ◌/◌, ◌%◌
 use Rattle.std.proofs.Common.{zero, suc, ap, refl, arith}
 use Rattle.pb_board.specs.declared.piece.Kind.{Kind}
 use Rattle.pb_board.specs.declared.piece.Kind.TheVariants.{Pawn, Knight, Bishop, Rook, Queen, King}
-use Rattle.pb_moves.specs.Moved.{IsMove, IsPromotion, Moved, moved_of, promotion_number, promotion_of}
+use Rattle.pb_moves.specs.Moved.{IsMove, IsPromotion, Moved, moved_of}
+use Rattle.pb_moves.specs.Moved.{promotion_number, promotion_of}
 
 -- the square reached, 64 times the square left, and 4,096 times the promotion
 abbrev pub packed : Moved → ℕ
@@ -22,7 +23,8 @@ promotion_small None = omega arith
 promotion_small (Some Pawn) = omega arith
 promotion_small (Some k) = omega arith
 
-pub promotion_back : (promo : Option Kind) → ((kind : Kind) → promo ≡ Some kind → IsPromotion kind) → promotion_of (promotion_number promo) ≡ promo
+pub promotion_back : (promo : Option Kind) → ((kind : Kind) → promo ≡ Some kind → IsPromotion kind)
+    → promotion_of (promotion_number promo) ≡ promo
 promotion_back None lawful = refl
 promotion_back (Some Pawn) lawful = absurd ((lawful Pawn refl).0 refl)
 promotion_back (Some Knight) lawful = refl
@@ -40,7 +42,8 @@ promotion_again (suc (suc (suc (suc zero)))) small = refl
 promotion_again (suc (suc (suc (suc (suc n))))) small = absurd (omega arith)
 
 -- the number comes back from its move
-pub packed-back : {A : Type 0} (make : ℕ → A) (n : ℕ) → IsPacked n → make (packed (unpacked n)) ≡ make n
+pub packed-back : {A : Type 0} (make : ℕ → A) (n : ℕ) → IsPacked n
+    → make (packed (unpacked n)) ≡ make n
 packed-back make n h =
     let few : n / 4096 < 5 = omega (arith, h.small) in
     let promotion = promotion_again (n / 4096) few in

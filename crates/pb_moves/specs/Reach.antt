@@ -17,7 +17,8 @@ IsDiagonal a b = (files_apart a b ≡ ranks_apart a b) × (0 < files_apart a b)
 -- exactly one difference is 0
 abbrev pub IsOrthogonal : ℕ → ℕ → Type 0
 IsOrthogonal a b =
-    ((files_apart a b ≡ 0) × (0 < ranks_apart a b)) ⊎ ((0 < files_apart a b) × (ranks_apart a b ≡ 0))
+    ((files_apart a b ≡ 0) × (0 < ranks_apart a b))
+    ⊎ ((0 < files_apart a b) × (ranks_apart a b ≡ 0))
 
 -- q lies strictly between a and b, which are on one file, rank or diagonal
 pub record LiesBetween (a q b : ℕ) : Type 0 where
@@ -34,7 +35,8 @@ WayIsClear board a b = (q : ℕ) → q < 64 → LiesBetween a q b → IsEmpty bo
 -- the absolute differences are 1 and 2
 abbrev pub IsKnightsMove : ℕ → ℕ → Type 0
 IsKnightsMove a b =
-    ((files_apart a b ≡ 1) × (ranks_apart a b ≡ 2)) ⊎ ((files_apart a b ≡ 2) × (ranks_apart a b ≡ 1))
+    ((files_apart a b ≡ 1) × (ranks_apart a b ≡ 2))
+    ⊎ ((files_apart a b ≡ 2) × (ranks_apart a b ≡ 1))
 
 -- a piece of this colour and kind on a attacks b
 abbrev pub ReachesBy : Colour → Kind → Board → ℕ → ℕ → Type 0

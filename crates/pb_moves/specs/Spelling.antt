@@ -8,4 +8,5 @@ use Rattle.pb_moves.specs.Moved.{Moved}
 
 -- the square that the move leaves, the square that it reaches, and the promotion's letter
 abbrev pub spelling : Moved → List ℕ
-spelling m = square_text m.from ++ (square_text m.to ++ map (λ kind. piece_letter (piece_of Black kind)) (option_to_list m.promo))
+spelling m = square_text m.from ++ (square_text m.to
+    ++ map (λ kind. piece_letter (piece_of Black kind)) (option_to_list m.promo))

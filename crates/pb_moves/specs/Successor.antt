@@ -1,10 +1,12 @@
 -- The setup after a move as a function of the two, which means nothing where the move isn't legal.
-use Rattle.std.specs.Prelude.{ℕ, ◌+◌, ◌*◌, ◌/◌, Bool, not, ◌&&◌, ◌||◌, ◌==◌, List, [], ◌∷◌, fold, Option, Some, None, is_none, unwrap_or, if◌then◌else◌, slice_set}
+use Rattle.std.specs.Prelude.{ℕ, ◌+◌, ◌*◌, ◌/◌, Bool, not, ◌&&◌, ◌||◌, ◌==◌, List, [], ◌∷◌, fold}
+use Rattle.std.specs.Prelude.{Option, Some, None, is_none, unwrap_or, if◌then◌else◌, slice_set}
 use Rattle.pb_board.specs.declared.piece.Kind.{Kind}
 use Rattle.pb_board.specs.declared.piece.Kind.TheVariants.{Pawn, King}
 use Rattle.pb_board.specs.declared.setup.Rights.{Rights}
 use Rattle.pb_board.specs.declared.castling.Castling.{Castling}
-use Rattle.pb_board.specs.declared.castling.Castling.TheVariants.{WhiteShort, WhiteLong, BlackShort, BlackLong}
+use Rattle.pb_board.specs.declared.castling.Castling.TheVariants.{WhiteShort, WhiteLong}
+use Rattle.pb_board.specs.declared.castling.Castling.TheVariants.{BlackShort, BlackLong}
 use Rattle.pb_board.specs.Piece.{opponent, piece_of, kind_number}
 use Rattle.pb_board.specs.Board.{Board, Place, file, rank, at}
 use Rattle.pb_board.specs.Position.{Position}
@@ -29,14 +31,16 @@ besides board m _ _ = []
 -- does that it is promoted to
 abbrev pub changes : Board → Moved → Place → List (ℕ × Place)
 changes board m None = []
-changes board m (Some p) = (m.from, None) ∷ (m.to, Some (piece_of p.colour (unwrap_or m.promo p.kind)))
+changes board m (Some p) =
+    (m.from, None) ∷ (m.to, Some (piece_of p.colour (unwrap_or m.promo p.kind)))
     ∷ besides board m p.kind (castling_of m.from m.to)
 
 -- a castling right is kept where the move leaves and reaches neither the king's square nor the
 -- rook's
 abbrev pub keeps_right : Rights → Moved → Castling → Bool
 keeps_right r m c = let row = castling_row c in
-    row.right r && not (m.from == row.king_from || m.to == row.king_from || (m.from == row.rook_from || m.to == row.rook_from))
+    row.right r && not (m.from == row.king_from || m.to == row.king_from
+    || (m.from == row.rook_from || m.to == row.rook_from))
 
 abbrev pub rights_after : Rights → Moved → Rights
 rights_after r m = record {

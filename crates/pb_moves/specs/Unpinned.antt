@@ -14,4 +14,5 @@ pub record IsUnpinned (s : Position) (from : ℕ) (piece : Piece) : Type 0 where
   pub no_king : piece.kind ≢ King
   pub king : ℕ
   pub only : IsOnlyKing s.board s.turn king
-  pub covered : (b : Board) → Differs s.board b ((from, None) ∷ []) → ¬ IsReached b (opponent s.turn) king
+  pub covered : (b : Board) → Differs s.board b ((from, None) ∷ [])
+      → ¬ IsReached b (opponent s.turn) king

@@ -1,5 +1,6 @@
 -- Rows of which a key and a code may have several: their points and plies add up.
-use Rattle.std.specs.Prelude.{◌≡◌, ℕ, ◌<◌, ◌≤◌, ◌^◌, nat_lt, if◌then◌else◌, IsTrue, Option, Some, None, List, AllPairs, count_by, sum_by, length, slice_index_or}
+use Rattle.std.specs.Prelude.{◌≡◌, ℕ, ◌<◌, ◌≤◌, ◌^◌, nat_lt, if◌then◌else◌, IsTrue, Option, Some}
+use Rattle.std.specs.Prelude.{None, List, AllPairs, count_by, sum_by, length, slice_index_or}
 use Rattle.pb_points.specs.declared.row.Row.{Row}
 use Rattle.pb_points.specs.Rows.{IsBelow, is_row}
 use Rattle.pb_points.specs.Tally.{Held}
@@ -24,7 +25,8 @@ times_of = total (λ r. r.times)
 
 -- what the rows of a key and a code hold together
 abbrev pub bag_content : List Row → ℕ → ℕ → Option Held
-bag_content rows k c = if nat_lt 0 (count_of rows k c) then Some (record { points = points_of rows k c; times = times_of rows k c }) else None
+bag_content rows k c = if nat_lt 0 (count_of rows k c)
+    then Some (record { points = points_of rows k c; times = times_of rows k c }) else None
 
 -- no sum of points or of plies is greater than 2^63
 pub record SumsFit (rows : List Row) : Type 0 where
@@ -41,7 +43,8 @@ HoldsSame old new = (k c : ℕ) → bag_content new k c ≡ bag_content old k c
 
 -- at the place is a row of this key and this code
 abbrev pub IsRowAt : List Row → ℕ → ℕ → ℕ → Type 0
-IsRowAt rows place k c = (place < length rows) × IsTrue (is_row k c (slice_index_or rows place (record { key = 0; code = 0; points = 0; times = 0 })))
+IsRowAt rows place k c = (place < length rows) × IsTrue
+    (is_row k c (slice_index_or rows place (record { key = 0; code = 0; points = 0; times = 0 })))
 
 -- one row for each key and code of the rows, in order, with what they hold together
 pub record IsAddedUp (rows sums : List Row) : Type 0 where

@@ -18,7 +18,8 @@ rows_of blocks = rows_in blocks.full.items ++ blocks.last.items
 
 -- in this block, at the place, is a row of this key and this code
 abbrev pub IsRowIn : List (Vec Row Global) → ℕ → ℕ → ℕ → ℕ → Type 0
-IsRowIn blocks i place k c = (block : Vec Row Global) × (slice_get blocks i ≡ Some block) × IsRowAt block.items place k c
+IsRowIn blocks i place k c =
+    (block : Vec Row Global) × (slice_get blocks i ≡ Some block) × IsRowAt block.items place k c
 
 -- one ply more, of n points, is in a row of this key and this code, and no other row has changed
 pub record AddsThere (old new : List Row) (k c n : ℕ) : Type 0 where

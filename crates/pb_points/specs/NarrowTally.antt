@@ -15,13 +15,15 @@ all_of blocks wide = rows_of blocks ++ wide.items
 -- one ply more, of n points, is in the row of this key and this code, or in a new one where there
 -- was none
 abbrev pub AddsWide : List Row → List Row → ℕ → ℕ → ℕ → Type 0
-AddsWide old new k c n = AddsThere old new k c n ⊎ ((count_of old k c ≡ 0) × (new ≡ old ++ record { key = k; code = c; points = n; times = 1 } ∷ []))
+AddsWide old new k c n = AddsThere old new k c n ⊎ ((count_of old k c ≡ 0)
+    × (new ≡ old ++ record { key = k; code = c; points = n; times = 1 } ∷ []))
 
 -- of the wide rows no two are of one key and one code, and each has a narrow row of its key and
 -- code
 pub record Spills (narrow wide : List Row) : Type 0 where
   pub distinct : IsDistinct same_pair wide
-  pub there : (j : ℕ) → j < length wide → 0 < count_of narrow (row_at wide j).key (row_at wide j).code
+  pub there : (j : ℕ) → j < length wide
+      → 0 < count_of narrow (row_at wide j).key (row_at wide j).code
 
 -- what is always true of the narrow rows and the wide ones
 pub record Keeps (narrow wide : List Row) : Type 0 where

@@ -9,12 +9,15 @@ part_of k = k / 2 ^ 54
 
 -- what the part of a key holds, where `content` says what a part holds
 abbrev pub parts_content : {T : Type 0} → (T → Content) → List T → ℕ → ℕ → Option Held
-parts_content content parts k c = option_and_then (λ part. content part k c) (slice_get parts (part_of k))
+parts_content content parts k c =
+    option_and_then (λ part. content part k c) (slice_get parts (part_of k))
 
 -- each part holds keys of its own alone
 abbrev pub HoldsOwn : {T : Type 0} → (T → Content) → List T → Type 0
-HoldsOwn {T} content parts = (i k c : ℕ) (part : T) → slice_get parts i ≡ Some part → IsSome (content part k c) → part_of k ≡ i
+HoldsOwn {T} content parts = (i k c : ℕ) (part : T) → slice_get parts i ≡ Some part
+    → IsSome (content part k c) → part_of k ≡ i
 
 -- no part holds anything
 abbrev pub HoldNothing : {T : Type 0} → (T → Content) → List T → Type 0
-HoldNothing {T} content parts = (i k c : ℕ) (part : T) → slice_get parts i ≡ Some part → content part k c ≡ None
+HoldNothing {T} content parts = (i k c : ℕ) (part : T) → slice_get parts i ≡ Some part
+    → content part k c ≡ None

@@ -1,5 +1,6 @@
 -- Rows of points, at most one for each key and code, and the book that is made of them.
-use Rattle.std.specs.Prelude.{◌≡◌, ℕ, ◌<◌, ◌≤◌, ◌⊎◌, ◌↔◌, Bool, List, AllPairs, Contains, nat_le, nat_lt, slice_index_or}
+use Rattle.std.specs.Prelude.{◌≡◌, ℕ, ◌<◌, ◌≤◌, ◌⊎◌, ◌↔◌, Bool, List, AllPairs}
+use Rattle.std.specs.Prelude.{Contains, nat_le, nat_lt, slice_index_or}
 use Rattle.std.specs.List.{filter}
 use Rattle.pb_poly.specs.declared.entry.Entry.{Entry}
 use Rattle.pb_points.specs.declared.row.Row.{Row}

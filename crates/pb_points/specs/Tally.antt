@@ -1,5 +1,6 @@
 -- What a tally holds of keys and codes.
-use Rattle.std.specs.Prelude.{◌≡◌, ℕ, ◌+◌, ◌≤◌, ◌^◌, Bool, ◌==◌, ◌&&◌, if◌then◌else◌, Option, Some, unwrap_or}
+use Rattle.std.specs.Prelude.{◌≡◌, ℕ, ◌+◌, ◌≤◌, ◌^◌, Bool, ◌==◌, ◌&&◌}
+use Rattle.std.specs.Prelude.{if◌then◌else◌, Option, Some, unwrap_or}
 use Rattle.pb_points.specs.declared.row.Row.{Row}
 
 -- what is held of one key and one code: points, and of how many plies
@@ -37,8 +38,10 @@ is_pair key code k c = (key == k) && (code == c)
 
 -- there is a row of this key and this code, a new one holds nothing, and no other has changed
 abbrev pub MakesRow : Content → Content → ℕ → ℕ → Type 0
-MakesRow old new key code = (k c : ℕ) → new k c ≡ (if is_pair key code k c then Some (held old k c) else old k c)
+MakesRow old new key code = (k c : ℕ)
+    → new k c ≡ (if is_pair key code k c then Some (held old k c) else old k c)
 
 -- the row of this key and this code holds one ply more, of n points, and no other has changed
 abbrev pub AddsPly : Content → Content → ℕ → ℕ → ℕ → Type 0
-AddsPly old new key code n = (k c : ℕ) → new k c ≡ (if is_pair key code k c then Some (more n (held old k c)) else old k c)
+AddsPly old new key code n = (k c : ℕ)
+    → new k c ≡ (if is_pair key code k c then Some (more n (held old k c)) else old k c)

@@ -8,4 +8,5 @@ scaled n M = if nat_le M 65535 then n else (n * 65535) / M
 
 -- key rising, then weight falling, then code rising
 abbrev pub Before : Entry → Entry → Type 0
-Before e f = (e.key < f.key) ⊎ ((e.key ≡ f.key) × ((f.weight < e.weight) ⊎ ((e.weight ≡ f.weight) × (e.code < f.code))))
+Before e f = (e.key < f.key)
+    ⊎ ((e.key ≡ f.key) × ((f.weight < e.weight) ⊎ ((e.weight ≡ f.weight) × (e.code < f.code))))

@@ -34,8 +34,10 @@ pub record IsBookFile (entries : List Entry) (bytes : List ℕ) : Type 0 where
 
 -- no two books have the same bytes
 abbrev pub BookIsOne : Type 0
-BookIsOne = (entries others : List Entry) (bytes : List ℕ) → BookBytes entries bytes → BookBytes others bytes → entries ≡ others
+BookIsOne = (entries others : List Entry) (bytes : List ℕ) → BookBytes entries bytes
+    → BookBytes others bytes → entries ≡ others
 
 -- no book has two texts
 abbrev pub BytesAreOne : Type 0
-BytesAreOne = (entries : List Entry) (bytes others : List ℕ) → BookBytes entries bytes → BookBytes entries others → bytes ≡ others
+BytesAreOne = (entries : List Entry) (bytes others : List ℕ) → BookBytes entries bytes
+    → BookBytes entries others → bytes ≡ others

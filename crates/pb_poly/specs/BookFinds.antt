@@ -5,7 +5,8 @@ use Rattle.pb_io.specs.Source.{SourceState}
 use Rattle.pb_io.specs.Reads.{ReadsAll, ReadsFront, ReadsOn, ReadsToFault, chunk_len}
 use Rattle.pb_poly.specs.declared.entry.Entry.{Entry}
 use Rattle.pb_poly.specs.declared.reading.BookError.{BookError}
-use Rattle.pb_poly.specs.declared.reading.BookError.TheVariants.{Unsorted, Cut, Read, Endless, Memory}
+use Rattle.pb_poly.specs.declared.reading.BookError.TheVariants.{Unsorted, Cut, Read}
+use Rattle.pb_poly.specs.declared.reading.BookError.TheVariants.{Endless, Memory}
 use Rattle.pb_poly.specs.Book.{BookBytes, NeverFall}
 use Rattle.pb_poly.specs.Reading.{Splits}
 
@@ -27,9 +28,12 @@ BookRead Memory = ReadsFront
 -- what is so of the bytes that came: the key of an entry falls, less than an entry is left, or an
 -- entry came in order for which memory was wanting
 abbrev pub BookDue : BookError → List ℕ → Type 0
-BookDue (Unsorted number) came = (entries : List Entry) × BookBytes entries came × BreaksAt NeverFall entries number
-BookDue (Cut extra) came = (entries : List Entry) × (part : List ℕ) × Splits came entries part × (0 < extra) × (extra ≡ length part)
-BookDue Memory came = (before : List Entry) × (entry : Entry) × BookBytes (before ++ entry ∷ []) came × NeverFall (before ++ entry ∷ [])
+BookDue (Unsorted number) came =
+    (entries : List Entry) × BookBytes entries came × BreaksAt NeverFall entries number
+BookDue (Cut extra) came = (entries : List Entry) × (part : List ℕ) × Splits came entries part
+    × (0 < extra) × (extra ≡ length part)
+BookDue Memory came = (before : List Entry) × (entry : Entry)
+    × BookBytes (before ++ entry ∷ []) came × NeverFall (before ++ entry ∷ [])
 BookDue fault came = (entries : List Entry) × (part : List ℕ) × Splits came entries part
 
 -- bytes came that give no book for this reason

@@ -18,7 +18,8 @@ encoded_to s m = if is_piece (king_of s.turn) (at s.board m.from)
 
 abbrev pub encode_move : Position → Moved → ℕ
 encode_move s m =
-    file (encoded_to s m) + 8 * rank (encoded_to s m) + 64 * file m.from + 512 * rank m.from + 4096 * option_map_or kind_number m.promo 0
+    file (encoded_to s m) + 8 * rank (encoded_to s m) + 64 * file m.from + 512 * rank m.from
+    + 4096 * option_map_or kind_number m.promo 0
 
 -- a legal move with this code
 pub record HasCode (s : Position) (m : Moved) (number : ℕ) : Type 0 where
@@ -27,4 +28,5 @@ pub record HasCode (s : Position) (m : Moved) (number : ℕ) : Type 0 where
 
 -- a code is that of one legal move at most
 abbrev pub CodeIsOne : Type 0
-CodeIsOne = (s : Position) (m n : Moved) (number : ℕ) → IsSetup s → HasCode s m number → HasCode s n number → m ≡ n
+CodeIsOne = (s : Position) (m n : Moved) (number : ℕ) → IsSetup s → HasCode s m number
+    → HasCode s n number → m ≡ n

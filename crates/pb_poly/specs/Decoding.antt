@@ -11,8 +11,10 @@ use Rattle.pb_board.specs.Board.{at, is_piece}
 -- castles, and else the one named
 abbrev pub king_or : Colour → ℕ → Option Castling → ℕ
 king_or side named None = named
-king_or side named (Some c) = let row = castling_row c in if colour_number row.colour == colour_number side then row.king_to else named
+king_or side named (Some c) = let row = castling_row c in
+    if colour_number row.colour == colour_number side then row.king_to else named
 
 -- the square that a move from this square reaches where its code names that one
 abbrev pub reached : Position → ℕ → ℕ → ℕ
-reached s from named = if is_piece (king_of s.turn) (at s.board from) then king_or s.turn named (castling_from_home from named) else named
+reached s from named = if is_piece (king_of s.turn) (at s.board from)
+    then king_or s.turn named (castling_from_home from named) else named

@@ -12,4 +12,5 @@ pub record IsEntry (e : Entry) : Type 0 where
 
 -- 8 bytes of key, 2 of code, 2 of weight and 4 of learn, each big-endian
 abbrev pub entry_bytes : Entry → List ℕ
-entry_bytes e = to_be_bytes w64 e.key ++ to_be_bytes w16 e.code ++ to_be_bytes w16 e.weight ++ to_be_bytes w32 e.learn
+entry_bytes e = to_be_bytes w64 e.key ++ to_be_bytes w16 e.code ++ to_be_bytes w16 e.weight
+    ++ to_be_bytes w32 e.learn

@@ -2,7 +2,8 @@
 use Rattle.std.specs.Prelude.{◌≡◌, ℕ, ◌+◌, List, [], ◌∷◌, ◌++◌, length}
 use Rattle.pb_poly.specs.declared.entry.Entry.{Entry}
 use Rattle.pb_poly.specs.declared.reading.BookError.{BookError}
-use Rattle.pb_poly.specs.declared.reading.BookError.TheVariants.{Unsorted, Cut, Read, Endless, Memory}
+use Rattle.pb_poly.specs.declared.reading.BookError.TheVariants.{Unsorted, Cut, Read}
+use Rattle.pb_poly.specs.declared.reading.BookError.TheVariants.{Endless, Memory}
 use Rattle.pb_poly.specs.Book.{BookBytes, NeverFall}
 
 -- after the bytes that came, a front of the chunk makes this entry whole
@@ -15,7 +16,8 @@ pub record MeetsWithin (came chunk : List ℕ) (before : List Entry) (entry : En
 
 -- why an entry isn't added
 abbrev pub RefusesEntry : List Entry → Entry → BookError → Type 0
-RefusesEntry before entry (Unsorted number) = (¬ NeverFall (before ++ entry ∷ [])) × (number ≡ length before + 1)
+RefusesEntry before entry (Unsorted number) =
+    (¬ NeverFall (before ++ entry ∷ [])) × (number ≡ length before + 1)
 RefusesEntry before entry Memory = NeverFall (before ++ entry ∷ [])
 RefusesEntry before entry (Cut _) = ⊥
 RefusesEntry before entry Read = ⊥
@@ -23,4 +25,5 @@ RefusesEntry before entry Endless = ⊥
 
 -- after the bytes that came, an entry within the chunk isn't added
 abbrev pub FailsWithin : List ℕ → List ℕ → BookError → Type 0
-FailsWithin came chunk e = (before : List Entry) × (entry : Entry) × MeetsWithin came chunk before entry × RefusesEntry before entry e
+FailsWithin came chunk e = (before : List Entry) × (entry : Entry)
+    × MeetsWithin came chunk before entry × RefusesEntry before entry e

@@ -15,11 +15,14 @@ pub record IsFor (words : List ℕ) (s : Position) (e : Entry) (m : Moved) : Typ
 abbrev pub Found : List Entry → List ℕ → Position → List (Moved × ℕ) → Type 0
 Found [] words s pairs = pairs ≡ []
 Found (e ∷ entries) words s pairs =
-    ((m : Moved) × (rest : List (Moved × ℕ)) × IsFor words s e m × (pairs ≡ (m, e.weight) ∷ rest) × Found entries words s rest)
+    ((m : Moved) × (rest : List (Moved × ℕ)) × IsFor words s e m × (pairs ≡ (m, e.weight) ∷ rest)
+    × Found entries words s rest)
     ⊎ (((m : Moved) → ¬ IsFor words s e m) × Found entries words s pairs)
 
 -- ---- laws
 
 -- a book holds one list of moves and weights for a setup
 abbrev pub FoundIsOne : Type 0
-FoundIsOne = (entries : List Entry) (words : List ℕ) (s : Position) (pairs others : List (Moved × ℕ)) → IsSetup s → Found entries words s pairs → Found entries words s others → pairs ≡ others
+FoundIsOne = (entries : List Entry) (words : List ℕ) (s : Position)
+    (pairs others : List (Moved × ℕ)) → IsSetup s → Found entries words s pairs
+    → Found entries words s others → pairs ≡ others

@@ -1,6 +1,8 @@
 -- Keys of setups: the offsets into the table that a setup has, and the parity of the random numbers
 -- there.
-use Rattle.std.specs.Prelude.{◌≡◌, ◌≢◌, ◌↔◌, ℕ, ◌+◌, ◌-◌, ◌*◌, ◌%◌, ◌^◌, ◌<◌, Bool, not, ◌&&◌, ◌||◌, ◌==◌, Some, None, List, [], ◌∷◌, ◌++◌, if◌then◌else◌, IsTrue, AllPairs, Contains, fold, sum_by, slice_index, bit_xor}
+use Rattle.std.specs.Prelude.{◌≡◌, ◌≢◌, ◌↔◌, ℕ, ◌+◌, ◌-◌, ◌*◌, ◌%◌, ◌^◌, ◌<◌, Bool, not, ◌&&◌}
+use Rattle.std.specs.Prelude.{◌||◌, ◌==◌, Some, None, List, [], ◌∷◌, ◌++◌, if◌then◌else◌}
+use Rattle.std.specs.Prelude.{IsTrue, AllPairs, Contains, fold, sum_by, slice_index, bit_xor}
 use Rattle.std.specs.Int.{bit_at}
 use Rattle.std.specs.List.{flat_map}
 use Rattle.std.specs.Option.{option_map_or}
@@ -50,18 +52,22 @@ offset_if flag offset = if flag then offset ∷ [] else []
 -- a pawn of the side to move stands directly beside the square, one file lower or higher
 abbrev pub has_capturer : Board → Colour → ℕ → Bool
 has_capturer board turn q =
-    (not (file q == 0) && is_piece (pawn_of turn) (at board (q - 1))) || (not (file q == 7) && is_piece (pawn_of turn) (at board (q + 1)))
+    (not (file q == 0) && is_piece (pawn_of turn) (at board (q - 1)))
+    || (not (file q == 7) && is_piece (pawn_of turn) (at board (q + 1)))
 
 -- the offsets of castling rights, and of an en passant square whose pawn may be taken
 abbrev pub rights_offsets : Rights → List ℕ
-rights_offsets r = flat_map (λ c. offset_if ((castling_row c).right r) (castling_offset c)) castlings
+rights_offsets r =
+    flat_map (λ c. offset_if ((castling_row c).right r) (castling_offset c)) castlings
 
 abbrev pub en_passant_offsets : Position → List ℕ
-en_passant_offsets s = option_map_or (λ q. offset_if (has_capturer s.board s.turn (beyond s.turn q)) (en_passant_start + file q)) s.ep []
+en_passant_offsets s = option_map_or (λ q. offset_if (has_capturer s.board s.turn (beyond s.turn q))
+    (en_passant_start + file q)) s.ep []
 
 -- all offsets of a setup, each once
 abbrev pub offsets : Position → List ℕ
-offsets s = piece_offsets s.board 0 ++ (rights_offsets s.rights ++ (en_passant_offsets s ++ offset_if (colour_number s.turn == 0) turn_offset))
+offsets s = piece_offsets s.board 0 ++ (rights_offsets s.rights
+    ++ (en_passant_offsets s ++ offset_if (colour_number s.turn == 0) turn_offset))
 
 -- the numbers at these offsets, toggled by exclusive or
 unfoldable pub key : List ℕ → Position → ℕ
@@ -78,9 +84,12 @@ pub record HasCapturer (s : Position) (square : ℕ) : Type 0 where
 
 -- the setup has this offset into the table
 pub data HasOffset (s : Position) (offset : ℕ) : Type 0 where
-  of_piece : (square : ℕ) (p : Piece) → Holds s.board square p → offset ≡ piece_offset p square → HasOffset s offset
-  of_right : (c : Castling) → IsTrue ((castling_row c).right s.rights) → offset ≡ castling_offset c → HasOffset s offset
-  en_passant : (square : ℕ) → s.ep ≡ Some square → HasCapturer s square → offset ≡ en_passant_start + file square → HasOffset s offset
+  of_piece : (square : ℕ) (p : Piece) → Holds s.board square p → offset ≡ piece_offset p square
+      → HasOffset s offset
+  of_right : (c : Castling) → IsTrue ((castling_row c).right s.rights) → offset ≡ castling_offset c
+      → HasOffset s offset
+  en_passant : (square : ℕ) → s.ep ≡ Some square → HasCapturer s square
+      → offset ≡ en_passant_start + file square → HasOffset s offset
   white_to_move : s.turn ≡ White → offset ≡ turn_offset → HasOffset s offset
 
 -- the offsets that the setup has, each once, in any order
@@ -93,12 +102,15 @@ pub record IsKey (randoms : List ℕ) (s : Position) (key : ℕ) : Type 0 where
   pub below : key < 2 ^ 64
   pub offsets : List ℕ
   pub are : AreOffsets s offsets
-  pub bits : (bit : ℕ) → bit < 64 → bit_at key bit ≡ sum_by (λ offset. bit_at (slice_index randoms offset) bit) offsets % 2
+  pub bits : (bit : ℕ) → bit < 64
+      → bit_at key bit ≡ sum_by (λ offset. bit_at (slice_index randoms offset) bit) offsets % 2
 
 -- the function gives the key of a setup
 abbrev pub KeyIsParity : Type 0
-KeyIsParity = (randoms : List ℕ) (s : Position) → IsTable randoms → IsSetup s → IsKey randoms s (key randoms s)
+KeyIsParity = (randoms : List ℕ) (s : Position) → IsTable randoms → IsSetup s
+    → IsKey randoms s (key randoms s)
 
 -- a setup has one key
 abbrev pub KeyIsOne : Type 0
-KeyIsOne = (randoms : List ℕ) (s : Position) (k l : ℕ) → IsKey randoms s k → IsKey randoms s l → k ≡ l
+KeyIsOne = (randoms : List ℕ) (s : Position) (k l : ℕ) → IsKey randoms s k → IsKey randoms s l
+    → k ≡ l

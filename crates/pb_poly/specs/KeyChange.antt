@@ -1,5 +1,6 @@
 -- The offsets into the table whose numbers a move toggles in a key.
-use Rattle.std.specs.Prelude.{ℕ, ◌+◌, not, Option, Some, None, List, [], ◌∷◌, ◌++◌, fold, slice_index, bit_xor}
+use Rattle.std.specs.Prelude.{ℕ, ◌+◌, not, Option, Some, None, List, []}
+use Rattle.std.specs.Prelude.{◌∷◌, ◌++◌, fold, slice_index, bit_xor}
 use Rattle.std.specs.Bool.{beq}
 use Rattle.std.specs.List.{flat_map}
 use Rattle.std.specs.Option.{option_map_or}
@@ -13,7 +14,8 @@ use Rattle.pb_board.specs.Position.{Position}
 use Rattle.pb_moves.specs.declared.move_kind.MoveKind.{MoveKind}
 use Rattle.pb_moves.specs.declared.move_kind.MoveKind.TheVariants.{One, Two}
 use Rattle.pb_moves.specs.Moved.{Moved}
-use Rattle.pb_poly.specs.Key.{castling_offset, en_passant_start, has_capturer, piece_offset, offset_if}
+use Rattle.pb_poly.specs.Key.{castling_offset, en_passant_start}
+use Rattle.pb_poly.specs.Key.{has_capturer, piece_offset, offset_if}
 
 -- a key with the numbers at these offsets toggled: exclusive or takes each in, and takes it out
 -- where it was in
@@ -27,20 +29,25 @@ square_offsets (Some p) square = piece_offset p square ∷ []
 
 -- a piece leaves its square, and what it is then arrives in the place of what stood there
 abbrev pub going_offsets : Board → Piece → MovedPiece → List ℕ
-going_offsets board leaving c = piece_offset leaving c.from ∷ (square_offsets (at board c.to) c.to ++ (piece_offset c.piece c.to ∷ []))
+going_offsets board leaving c = piece_offset leaving c.from
+    ∷ (square_offsets (at board c.to) c.to ++ (piece_offset c.piece c.to ∷ []))
 
 -- the pieces go that a move of this kind puts elsewhere; the second of two goes to an empty square
 abbrev pub moved_offsets : Board → Moved → Piece → MoveKind → List ℕ
-moved_offsets board m piece (One arriving) = going_offsets board piece (record { from = m.from; to = m.to; piece = arriving })
+moved_offsets board m piece (One arriving) =
+    going_offsets board piece (record { from = m.from; to = m.to; piece = arriving })
 moved_offsets board m piece (Two first second) =
-    going_offsets board first.piece first ++ (piece_offset second.piece second.from ∷ piece_offset second.piece second.to ∷ [])
+    going_offsets board first.piece first
+    ++ (piece_offset second.piece second.from ∷ piece_offset second.piece second.to ∷ [])
 
 -- the offsets of the rights that one of the two has
 abbrev pub changed_offsets : Rights → Rights → List ℕ
 changed_offsets old new =
-    flat_map (λ c. let row = castling_row c in offset_if (not (beq (row.right old) (row.right new))) (castling_offset c)) castlings
+    flat_map (λ c. let row = castling_row c in offset_if (not (beq (row.right old) (row.right new)))
+    (castling_offset c)) castlings
 
 -- after a double step to this square: the offset of the en passant square, where an enemy pawn
 -- stands beside the pawn
 abbrev pub stepped_offsets : Position → ℕ → Option ℕ → List ℕ
-stepped_offsets s to ep = option_map_or (λ q. offset_if (has_capturer s.board (opponent s.turn) to) (en_passant_start + file q)) ep []
+stepped_offsets s to ep = option_map_or
+    (λ q. offset_if (has_capturer s.board (opponent s.turn) to) (en_passant_start + file q)) ep []

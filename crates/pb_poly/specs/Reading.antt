@@ -1,11 +1,13 @@
 -- What reading a book gives.
-use Rattle.std.specs.Prelude.{◌≡◌, ℕ, ◌<◌, ◌⊎◌, List, [], ◌∷◌, ◌++◌, All, Result, Ok, Err, length, Some, false}
+use Rattle.std.specs.Prelude.{◌≡◌, ℕ, ◌<◌, ◌⊎◌, List, [], ◌∷◌, ◌++◌}
+use Rattle.std.specs.Prelude.{All, Result, Ok, Err, length, Some, false}
 use Rattle.pb_board.specs.Refusal.{BreaksAt}
 use Rattle.pb_io.specs.Source.{SourceState}
 use Rattle.pb_io.specs.Reads.{chunk_len}
 use Rattle.pb_poly.specs.declared.entry.Entry.{Entry}
 use Rattle.pb_poly.specs.declared.reading.BookError.{BookError}
-use Rattle.pb_poly.specs.declared.reading.BookError.TheVariants.{Unsorted, Cut, Read, Endless, Memory}
+use Rattle.pb_poly.specs.declared.reading.BookError.TheVariants.{Unsorted, Cut, Read}
+use Rattle.pb_poly.specs.declared.reading.BookError.TheVariants.{Endless, Memory}
 use Rattle.pb_poly.specs.Entry.{IsEntry}
 use Rattle.pb_poly.specs.Book.{BookBytes, IsBookFile, NeverFall, book_bytes}
 use Rattle.pb_poly.specs.Streams.{Reads, Way, at_end, at_fault, at_no_end, so_far}
@@ -20,17 +22,23 @@ pub record Splits (came : List ℕ) (entries : List Entry) (part : List ℕ) : T
 -- the bytes of a book, read in this way, come to these entries or to this fault
 abbrev pub BookIs : Way → List ℕ → Result (List Entry) BookError → Type 0
 BookIs at_end bytes (Ok entries) = IsBookFile entries bytes
-BookIs so_far bytes (Err (Unsorted n)) = (entries : List Entry) × BookBytes entries bytes × BreaksAt NeverFall entries n
-BookIs at_end bytes (Err (Cut n)) = (entries : List Entry) × (part : List ℕ) × Splits bytes entries part × (0 < n) × (n ≡ length part)
-BookIs at_fault bytes (Err Read) = (entries : List Entry) × (part : List ℕ) × Splits bytes entries part
-BookIs at_no_end bytes (Err Endless) = (entries : List Entry) × (part : List ℕ) × Splits bytes entries part
-BookIs so_far bytes (Err Memory) = (before : List Entry) × (entry : Entry) × IsBookFile (before ++ entry ∷ []) bytes
+BookIs so_far bytes (Err (Unsorted n)) =
+    (entries : List Entry) × BookBytes entries bytes × BreaksAt NeverFall entries n
+BookIs at_end bytes (Err (Cut n)) = (entries : List Entry) × (part : List ℕ)
+    × Splits bytes entries part × (0 < n) × (n ≡ length part)
+BookIs at_fault bytes (Err Read) =
+    (entries : List Entry) × (part : List ℕ) × Splits bytes entries part
+BookIs at_no_end bytes (Err Endless) =
+    (entries : List Entry) × (part : List ℕ) × Splits bytes entries part
+BookIs so_far bytes (Err Memory) =
+    (before : List Entry) × (entry : Entry) × IsBookFile (before ++ entry ∷ []) bytes
 BookIs way bytes result = ⊥
 
 -- reading a book gives this; for want of memory at the start nothing is read
 abbrev pub ReadsBook : ℕ → SourceState → SourceState → Result (List Entry) BookError → Type 0
 ReadsBook fills old new result =
-    ((way : Way) × (bytes : List ℕ) × Reads way chunk_len fills old new bytes × BookIs way bytes result)
+    ((way : Way) × (bytes : List ℕ) × Reads way chunk_len fills old new bytes
+    × BookIs way bytes result)
     ⊎ ((result ≡ Err Memory) × (new ≡ old))
 
 -- the source tells that just these bytes come, it doesn't fail, and the fills are more than the

@@ -18,7 +18,8 @@ pub record IsTable (randoms : List ℕ) : Type 0 where
 
 -- these are 16 hexadecimal digits of either case that write the number
 abbrev pub WritesRandom : List ℕ → ℕ → Type 0
-WritesRandom digits random = (length digits ≡ 16) × IsNumeral 16 digits × (random ≡ digits_value 16 digits)
+WritesRandom digits random =
+    (length digits ≡ 16) × IsNumeral 16 digits × (random ≡ digits_value 16 digits)
 
 -- the line does so, without one final CR
 abbrev pub SpellsRandom : List ℕ → ℕ → Type 0
@@ -44,5 +45,6 @@ pub record IsTableFile (randoms bytes : List ℕ) : Type 0 where
 -- when each refusal is due
 abbrev pub IsDueTable : TableError → List ℕ → Type 0
 IsDueTable (Line number) bytes = BreaksAt (All IsRandomLine) (lines bytes) number
-IsDueTable (Count number) bytes = (number ≡ length (lines bytes)) × (number ≢ table_length) × All IsRandomLine (lines bytes)
+IsDueTable (Count number) bytes =
+    (number ≡ length (lines bytes)) × (number ≢ table_length) × All IsRandomLine (lines bytes)
 IsDueTable Memory bytes = (randoms : List ℕ) × TableText randoms bytes

@@ -3,11 +3,13 @@ use Rattle.std.specs.Prelude.{◌≡◌, ℕ, ◌<◌, ◌≤◌, List, ◌++◌
 use Rattle.pb_io.specs.Source.{Fill, SourceState}
 use Rattle.pb_io.specs.declared.source.Failed.{Failed}
 use Rattle.pb_poly.specs.declared.table_file.TableFault.{TableFault}
-use Rattle.pb_poly.specs.declared.table_file.TableFault.TheVariants.{Long, Line, Count, Read, Endless, Memory}
+use Rattle.pb_poly.specs.declared.table_file.TableFault.TheVariants.{Long, Line, Count}
+use Rattle.pb_poly.specs.declared.table_file.TableFault.TheVariants.{Read, Endless, Memory}
 use Rattle.pb_poly.specs.Table.{table_limit}
 
 -- a fill of some room, of which this is what came
-pub record FillsSome (old new : SourceState) (answer : Result ℕ Failed) (slice : List ℕ) : Type 0 where
+pub record FillsSome (old new : SourceState) (answer : Result ℕ Failed)
+    (slice : List ℕ) : Type 0 where
   pub room : 0 < length slice
   pub fits : length slice ≤ table_limit
   pub fill : Fill old new answer slice

@@ -6,7 +6,8 @@ use Rattle.pb_io.specs.Reads.{ReadsAll, ReadsOn, ReadsSome, ReadsToFault}
 use Rattle.pb_poly.specs.Table.{IsDueTable, IsTableFile, table_limit}
 use Rattle.pb_poly.specs.declared.table.TableError.TheVariants as poly
 use Rattle.pb_poly.specs.declared.table_file.TableFault.{TableFault}
-use Rattle.pb_poly.specs.declared.table_file.TableFault.TheVariants.{Long, Line, Count, Read, Endless, Memory}
+use Rattle.pb_poly.specs.declared.table_file.TableFault.TheVariants.{Long, Line, Count}
+use Rattle.pb_poly.specs.declared.table_file.TableFault.TheVariants.{Read, Endless, Memory}
 
 -- the stream is the table file of these words and no more
 pub record FindsTable (fills : ℕ) (old new : SourceState) (words : List ℕ) : Type 0 where
