@@ -429,6 +429,20 @@ terminal() {
     holds is_new book.bin
 }
 
+# What FILE holds is told from new games, where no new one comes too.
+terminal_again() {
+    prepare
+    for option in ledger journal; do
+        : > "$option"
+        holds in_terminal \
+            "'$PROGRAM' collect --$option $option table.txt book.bin < '$work/games' > replies"
+        holds grep -qxF "$summary; book.bin: 367 entries" shown
+        holds in_terminal \
+            "'$PROGRAM' collect --$option $option table.txt book.bin < '$work/games' > replies"
+        holds grep -qF 'pbook: 322 lines: 320 ok (0 new, 320 again), 2 refused' shown
+    done
+}
+
 progress='^pbook: [0-9,]+ lines?, [0-9,]+ games?, [0-9,]+ refused'
 terminal_progress() {
     prepare
@@ -467,7 +481,7 @@ if [ $# -eq 0 ]; then
     choose 'has gzip' 'gzip is wanted' other_input
     choose can_be_other 'setpriv is wanted' no_permission
     choose can_mount 'nothing can be mounted' full_disk
-    choose 'has script' 'script is wanted' terminal terminal_progress terminal_use
+    choose 'has script' 'script is wanted' terminal terminal_again terminal_progress terminal_use
     # shellcheck disable=SC2086 # each name is a word
     set -- $chosen
 fi
