@@ -57,6 +57,7 @@ runs collect games.txt collect table.txt "$work/book.bin"
 runs show /dev/null show book.bin
 runs probe /dev/null probe table.txt book.bin "$start"
 runs export games.txt export table.txt
+runs first games.txt export --plies 1 table.txt
 runs epd export.epd epd
 count=0
 while IFS='|' read -r record moves; do
@@ -88,6 +89,9 @@ for words in "$work"/cases/*.args; do
 done
 cmp "$work/book.bin" book.bin
 tells export | cmp - export.epd
+# Each game begins at the start, so its line is the same where first plies alone count.
+grep "^${start% 0 1} " export.epd > "$work/first"
+tells first | cmp - "$work/first"
 tells epd | cmp - export.epd
 
 echo '$ pbook collect table.txt book.bin < games.txt'
