@@ -1,5 +1,5 @@
 -- What is known of a file that is only added to, and what a kill and a crash leave of it.
-use Rattle.std.specs.Prelude.{◌≡◌, ℕ, ◌≤◌, Bool, List, ◌++◌, take, Option}
+use Rattle.std.specs.Prelude.{◌≡◌, ℕ, ◌≤◌, Bool, List, ◌++◌, length, take, Option}
 use Rattle.pb_files.specs.Begins.{BeginsWith}
 
 -- the bytes that a reader finds, and how many from the first on are on the disk
@@ -34,11 +34,12 @@ pub record Adds (bytes : List ℕ) (old new : Disk) : Type 0 where
 abbrev pub Grows : Disk → Disk → Type 0
 Grows old new = (bytes : List ℕ) × Adds bytes old new
 
--- No byte was added, and all are on the disk.
+-- No byte was added, and all are on the disk, which are as many as are found.
 pub record Syncs (old new : Disk) : Type 0 where
   pub found : new.found ≡ old.found
   pub all : IsOnDisk new
   pub kept : old.kept ≤ new.kept
+  pub within : new.kept ≤ length new.found
 
 -- whatever is added later, a crash leaves these bytes first
 abbrev pub OutlivesCrash : Disk → Type 0

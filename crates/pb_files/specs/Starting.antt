@@ -1,5 +1,5 @@
 -- Why a run doesn't come to a journal.
-use Rattle.std.specs.Prelude.{⊤}
+use Rattle.std.specs.Prelude.{⊤, Bool, false, true}
 use Rattle.pb_files.specs.declared.holding.NotHeld.{NotHeld}
 use Rattle.pb_files.specs.declared.starting.NotRead.{NotRead}
 use Rattle.pb_files.specs.declared.starting.NotStarted.{NotStarted}
@@ -9,7 +9,7 @@ abbrev pub IfNotHeld : NotStarted → (NotHeld → Type 0) → Type 0
 IfNotHeld (NotStarted.NotHeld why) denied = denied why
 IfNotHeld (NotStarted.NotRead why) denied = ⊤
 
--- a fault of the sync
-abbrev pub IfSyncFault : NotRead → Type 0 → Type 0
-IfSyncFault NotRead.Sync fault = fault
-IfSyncFault NotRead.Failed fault = ⊤
+-- whether a journal that can't be read may still be added to: unless its sync has failed
+abbrev pub is_still_ready : NotRead → Bool
+is_still_ready NotRead.Sync = false
+is_still_ready NotRead.Failed = true

@@ -122,6 +122,7 @@ pub trait Desk {
     fn open_in_place(&mut self) -> Result<Self::End, StoreError>
         requires { (state self.old).refused ≡ true }
         ensures refused { (state self.new).refused ≡ true }
+        ensures drafted { (state self.new).drafted ≡ (state self.old).drafted }
         ensures begins { IfOk result (λ end. Begins (Self.End.state end)) }
         ensures emptied { OnOk result (Steps Empties (state self.old).told (state self.new).told) }
         ensures same { OnErr result ((state self.new).told ≡ (state self.old).told) };

@@ -48,6 +48,7 @@ impl<D: Desk> KeptFile<D> {
         requires refused { (D.state self.old.desk).refused ≡ true }
         ensures refused { (D.state self.new.desk).refused ≡ true }
         ensures named { self.new.named ≡ self.old.named }
+        ensures drafted { (D.state self.new.desk).drafted ≡ (D.state self.old.desk).drafted }
         ensures kept { (bytes : List ℕ) × X.is_text text.now bytes
             × Keeps (⟦<KeptFile<D> as Store>⟧.state self.old)
             (⟦<KeptFile<D> as Store>⟧.state self.new) result bytes }
@@ -92,10 +93,15 @@ impl<D: Desk> Store for KeptFile<D> {
         // What was kept outlives each crash from now on, unless it is written in place.
         ensures settled { (bytes : List ℕ) × X.is_text text.now bytes
             × OnOk result (SavedByDraft bytes (D.state self.old.desk) (D.state self.new.desk)) }
-        // The store goes on holding the file that has the name, and lets none go where it fails.
+        // The store goes on holding the file that has the name, and lets none go where it fails or
+        // writes in place. It leaves no draft.
         ensures held { OnOk result (IsNamedByDraft (option_map D.End.state self.new.named)
             (D.state self.new.desk)) }
         ensures still_held { OnErr result (self.new.named ≡ self.old.named) }
+        ensures held_in_place { (D.state self.new.desk).refused ≡ true
+            → self.new.named ≡ self.old.named }
+        ensures no_draft { (D.state self.new.desk).drafted ≡ true
+            → (D.state self.old.desk).drafted ≡ true }
         // A reader finds what an end has taken only as long as the name leads to its file.
         ensures in_place { LeadsWhereItLed (option_map D.End.state self.old.in_place)
             (option_map D.End.state self.new.in_place) (D.state self.old.desk)

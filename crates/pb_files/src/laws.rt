@@ -1,11 +1,19 @@
-//! Laws of what kills and crashes leave of a file that is added to. Each is the contract of a
-//! function that does nothing.
+//! Laws of what kills and crashes leave of a file. Each is the contract of a function that does
+//! nothing.
 
-ghost use Rattle.std.specs.Prelude.{◌≡◌, List, ℕ};
+ghost use Rattle.std.specs.Prelude.{◌≡◌, ◌++◌, ◌∷◌, [], List, None, Some, false, true, ℕ};
 ghost use Rattle.pb_io.specs.Lines.{ended_lines};
+ghost use Rattle.pb_io.specs.Source.{SourceState};
+ghost use Rattle.pb_files.specs.Desk.{Content, NamesNot, Shelf};
 ghost use Rattle.pb_files.specs.Disk.{Disk, Grows, IsOnDisk, Leaves, OutlivesCrash, on_disk};
 ghost use Rattle.pb_files.specs.Begins.{BeginsWith};
+ghost use Rattle.pb_files.specs.JournalSink.{EndState};
+ghost use Rattle.pb_files.specs.Journaling.{IsStarted, MayBeLeft};
 ghost use Rattle.pb_files.specs.Runs.{HoldsDraft, Names, OfOthers, Step, after};
+ghost use Rattle.pb_files.specs.Runs.Step.{Locks, Makes};
+ghost use Rattle.pb_files.specs.Saving.{OldOrNew};
+
+use crate::journal_sink::{Durability, Synced, Written};
 
 /// Lines that are found outlive every later kill, which leaves what is found then: whatever is
 /// added later, they are the first.
@@ -35,11 +43,45 @@ pub fn on_disk_is_what_outlives_crashes()
     ensures on_disk { (disk : Disk) → OutlivesCrash disk → IsOnDisk disk }
 {}
 
+/// A crash may leave any bytes behind those that are on the disk, and with `sync` that may be left
+/// of a journal. Without, all that is found may be, and a run has come to a journal as soon as it
+/// reads all of it and nothing waits.
+pub fn what_may_be_left()
+    ensures crash { (disk : Disk) (behind : List ℕ) → Leaves disk (on_disk disk ++ behind) }
+    ensures synced { (disk : Disk) (left : List ℕ) → Leaves disk left → MayBeLeft true disk left }
+    ensures killed { (disk : Disk) → MayBeLeft false disk disk.found }
+    ensures started { (disk : Disk) (end : EndState) (reader : SourceState)
+        → end.told ≡ Some disk → reader.to_come ≡ Some disk.found → end.waits ≡ []
+        → IsStarted false disk end reader }
+{}
+
+/// `Synced` syncs what is flushed, and `Written` doesn't.
+pub fn durabilities()
+    ensures synced { ⟦<Synced as Durability>⟧.syncs ≡ true }
+    ensures written { ⟦<Written as Durability>⟧.syncs ≡ false }
+{}
+
+/// A name that a reader doesn't see given may be there after a crash all the same. What is old or
+/// new is whole.
+pub fn what_a_name_may_lead_to()
+    ensures given { (content : Content) (old new : Shelf) → new.found ≡ old.found
+        → new.leaves ≡ old.leaves ++ content ∷ [] → new.left ≡ old.left ++ content ∷ []
+        → new.torn ≡ old.torn → NamesNot content old new }
+    ensures whole { (bytes : List ℕ) (old new : Shelf) → OldOrNew bytes (Some old) (Some new)
+        → new.torn ≡ old.torn }
+{}
+
 /// Two runs never hold the draft of one name, in a model of their steps.
 #[tactic(auto, using(crate::proofs::RunLemmas::one_run))]
 pub fn one_run_holds_a_draft()
     ensures { (run other : ℕ) (names : Names) → HoldsDraft run names → HoldsDraft other names
         → run ≡ other }
+{}
+
+/// A run that makes a draft of a free name, and locks it, holds it.
+pub fn a_locked_draft_is_held()
+    ensures { (run : ℕ) (names : Names) → names.leads ≡ None → names.locked names.next ≡ None
+        → HoldsDraft run (after names (Makes run ∷ Locks run names.next ∷ [])) }
 {}
 
 /// A run that holds a draft holds it on, whatever other runs do and in whatever order: so a run

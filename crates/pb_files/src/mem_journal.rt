@@ -1,6 +1,6 @@
 //! A journal in memory, which tells all and fails at a call that is chosen.
 
-ghost use Rattle.std.specs.Prelude.{◌≡◌, IfSome, Some, true};
+ghost use Rattle.std.specs.Prelude.{◌≡◌, ◌≤◌, IfSome, Some, length, true};
 ghost use Rattle.pb_files.specs.declared.holding.NotHeld.{NotHeld};
 ghost use Rattle.pb_files.specs.declared.mem_journal.MemFile.{MemFile};
 ghost use Rattle.pb_files.specs.Disk.{on_disk};
@@ -20,6 +20,7 @@ pub struct MemJournal {
     kept: usize,
     ready: bool,
     calls: usize,
+    ghost within: { kept ≤ length bytes.items },
 }
 
 impl MemJournal {
@@ -49,8 +50,7 @@ impl MemJournal {
         ensures { IfSome (⟦<MemJournal as JournalFile>⟧.state self.now).told (λ disk.
             result.now ≡ on_disk disk) }
     {
-        let count = self.kept.min(self.bytes.len());
-        &self.bytes[..count]
+        &self.bytes[..self.kept]
     }
 
     /// Whether this call succeeds.
@@ -98,7 +98,7 @@ impl JournalFile for MemJournal {
         if !self.ready {
             return Err(Failed);
         }
-        self.kept = self.kept.max(self.bytes.len());
+        self.kept = self.bytes.len();
         Ok(())
     }
 }

@@ -3,7 +3,7 @@
 ghost use Rattle.std.specs.Prelude.{◌≡◌, [], IfErr, IfOk, IfSome, OnOk, false, true};
 ghost use Rattle.pb_files.specs.Disk.{Adds, IsOnDisk};
 ghost use Rattle.pb_files.specs.JournalFile.{ReadsAll};
-ghost use Rattle.pb_files.specs.Starting.{IfNotHeld, IfSyncFault};
+ghost use Rattle.pb_files.specs.Starting.{IfNotHeld, is_still_ready};
 ghost use Rattle.pb_files.specs.Steps.{Steps};
 
 use crate::holding::{NotHeld, Opener, hold};
@@ -65,7 +65,8 @@ pub fn whole_reader<J: ReadFile>(journal: &mut J, sync: bool) -> Result<J::Reade
     ensures all { IfOk result (λ reader. ReadsAll (J.state journal.new).told
         (J.Reader.state reader)) }
     ensures on_disk { OnOk result (sync ≡ true → IfSome (J.state journal.new).told IsOnDisk) }
-    ensures fault { IfErr result (λ why. IfSyncFault why ((J.state journal.new).ready ≡ false)) }
+    ensures fault { IfErr result (λ why. (J.state journal.new).ready ≡ is_still_ready why) }
+    ensures unasked { sync ≡ false → J.state journal.new ≡ J.state journal.old }
     ensures same { Steps (Adds []) (J.state journal.old).told (J.state journal.new).told }
 {
     if sync && journal.sync().is_err() {
