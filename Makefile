@@ -15,7 +15,7 @@ INSTALLED := crates/worked_examples/data/installed
 GROWTHS := crates/refused_growths/out/refused_growths
 EXAMPLES := crates/worked_examples/out/worked_examples
 
-.PHONY: build install dist demo test test-hostile test-files test-order test-locks test-messages test-memory test-growths test-io \
+.PHONY: build install dist demo test test-bodies test-hostile test-files test-order test-locks test-messages test-memory test-growths test-io \
     test-noise test-replies test-dist test-journal test-wrong-programs bench clean
 
 build: build/pbook
@@ -41,8 +41,17 @@ dist: $(PROGRAM)
 demo:
 	@sh scripts/demo.sh
 
+# The gate: proves every crate from nothing, tries the mistakes that nobody may make, and runs what
+# the programs print. It leaves the libraries that it proved for `make test-bodies`.
 test:
+	@sh scripts/named_mistakes.sh
+	@scripts/bodies.py --before-gate
 	rt ci
+	@scripts/bodies.py --after-gate
+
+# Has the prover refuse all other wrong bodies, many in a run. CRATE=pb_io tries those of one crate.
+test-bodies:
+	@scripts/bodies.py $(CRATE)
 
 # All that is tried of the program in a hostile world, but for collectors that are killed on their
 # journal; and what shellcheck says of the scripts. PROGRAM=program tries another than build/pbook.

@@ -3,7 +3,7 @@
 
 Usage: scripts/wrong_body.py CRATE NAME (at the top of the repository, where the crate was proved by `rt check`).
 
-CRATE is a folder below crates/ and NAME a file of its must-fail/, with or without `.edit`. The crate is checked with the body in its
+CRATE is a folder below crates/ and NAME a file of its must-fail/ or bodies/, with or without `.edit`. The crate is checked with the body in its
 place; then its files are as they were. Goals of the second list have no answer: the prover searches for them to the end, and runs once
 more (`offers`) to print what one might write. Those of the third are told by a note alone.
 """
@@ -44,7 +44,11 @@ def main():
     if len(sys.argv) != 3:
         sys.exit(__doc__)
     crate = pathlib.Path("crates") / sys.argv[1]
-    texts = texts_with(crate, crate / "must-fail" / (sys.argv[2].removesuffix(".edit") + ".edit"))
+    name = sys.argv[2].removesuffix(".edit") + ".edit"
+    edits = [it for part in ("must-fail", "bodies") if (it := crate / part / name).is_file()]
+    if not edits:
+        sys.exit(f"{crate} has no {name}")
+    texts = texts_with(crate, edits[0])
     try:
         for path, (_, wrong) in texts.items():
             path.write_text(wrong, encoding="utf-8")
