@@ -1,0 +1,5 @@
+use Rattle.std.proofs.Common.{rules}
+use Rattle.pb_poly.proofs.key_change.toggle_stepped.Goals as goal
+
+pub returns : goal.returns
+returns c = search rules

@@ -1,0 +1,46 @@
+#!/bin/sh
+# Compares the table of docs/WRONG_BODIES.md under `What nobody may do` with the edits of
+# crates/*/must-fail: each line of the table names an edit of its own that is there, and no other
+# edit is. Usage: scripts/named_mistakes.sh (at the top of the repository).
+set -eu
+document=docs/WRONG_BODIES.md
+refused=0
+
+# refuse WHAT LINE: says what is wrong, and of which line or edit
+refuse() {
+    printf '%s: %s\n' "$1" "$2" >&2
+    refused=1
+}
+
+# edits LINES: the edits that these lines name
+edits() {
+    printf '%s\n' "$1" | tr '`' '\n' | grep -x 'crates/[^/]*/must-fail/[^/]*\.edit' || true
+}
+
+# The lines of the table, without its head and the rule below that.
+table=$(sed -n '/^## What nobody may do$/,/^## /p' "$document" | grep '^|' | sed '1,2d')
+named=$(edits "$table")
+
+if [ -z "$table" ]; then
+    refuse "$document" 'the table of what nobody may do is empty'
+    exit 1
+fi
+while IFS= read -r line; do
+    paths=$(edits "$line")
+    [ -n "$paths" ] || refuse 'no edit is named' "$line"
+    for path in $paths; do
+        [ -f "$path" ] || refuse "there is no $path" "$line"
+    done
+done << END
+$table
+END
+for path in $(printf '%s\n' "$named" | sort | uniq -d); do
+    refuse 'it is named twice' "$path"
+done
+for path in crates/*/must-fail/*; do
+    [ -e "$path" ] || continue
+    printf '%s\n' "$named" | grep -qxF "$path" || refuse 'no line names it' "$path"
+done
+
+[ "$refused" = 0 ] || exit 1
+printf '%s named mistakes have their edits\n' "$(printf '%s\n' "$table" | wc -l)"
