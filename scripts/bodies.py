@@ -235,8 +235,8 @@ class Said:
                 return line
         if self.has_judged:
             return None
-        lines = self.text.split("\n")
-        return next((it for it in lines if "error" in it), lines[0])
+        lines = self.text.strip().split("\n")
+        return next((it for it in lines if "error" in it), lines[-1])
 
 
 class Crate:
@@ -428,8 +428,10 @@ class Trial:
 
     def try_alone(self, body):
         """Tries a body on its own: a law breaks, or its function, or where it has none, a function
-        of its module."""
+        of the module that it turns or that its name begins with."""
         files = [path for path, *_ in body.pairs if path.startswith("src/")]
+        named = f"src/{body.name.partition('-')[0]}.rt"
+        files += [named] if (self.crate.folder / named).is_file() else []
         places = self.functions_of(["src/laws.rt"])
         places += body.functions or self.functions_of(files)
         said = self.run([body], sorted({it.path for it in places}))
