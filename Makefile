@@ -15,7 +15,7 @@ INSTALLED := crates/worked_examples/data/installed
 GROWTHS := crates/refused_growths/out/refused_growths
 EXAMPLES := crates/worked_examples/out/worked_examples
 
-.PHONY: build install dist demo test test-hostile test-files test-order test-locks test-messages test-memory test-growths test-io \
+.PHONY: build install dist demo check test test-hostile test-files test-order test-locks test-messages test-memory test-growths test-io \
     test-noise test-replies test-dist test-journal test-wrong-programs bench clean
 
 build: build/pbook
@@ -40,6 +40,11 @@ dist: $(PROGRAM)
 # else by a build without proof.
 demo:
 	@sh scripts/demo.sh
+
+# Builds the program once without proof, with a check in the place of each, and tries it in a few
+# minutes. Nothing is proved.
+check:
+	@sh scripts/check.sh
 
 test:
 	rt ci
