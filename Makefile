@@ -15,7 +15,7 @@ INSTALLED := crates/worked_examples/data/installed
 GROWTHS := crates/refused_growths/out/refused_growths
 EXAMPLES := crates/worked_examples/out/worked_examples
 
-.PHONY: build install dist demo check test test-hostile test-files test-order test-locks test-messages test-memory test-growths test-io \
+.PHONY: build install dist demo check dev test test-hostile test-files test-order test-locks test-messages test-memory test-growths test-io \
     test-noise test-replies test-dist test-journal test-wrong-programs bench clean
 
 build: build/pbook
@@ -45,6 +45,11 @@ demo:
 # minutes. Nothing is proved.
 check:
 	@sh scripts/check.sh
+
+# Proves each crate and keeps what is proved where `rt check` takes it, so that a changed body has its
+# answer in half a minute. JOBS=number has so many crates proved at a time.
+dev:
+	@sh scripts/dev.sh
 
 test:
 	rt ci
