@@ -3,8 +3,9 @@
 # with AddressSanitizer and a check in the place of each proof. Then scripts/demo.sh runs over it,
 # and those scripts of tests/ that so slow a program ends in time. `worked_examples` is built
 # likewise, and tests/rows.sh compares what it answers.
-# Usage: scripts/check.sh [PART..] (at the top of the repository; all parts where none is given:
-# files, messages, demo, replies, locks, order, rows).
+# Usage: ROWS=pattern PATIENCE=seconds scripts/check.sh [PART..] (at the top of the repository; all
+# parts where none is given: files, messages, demo, replies, locks, order, rows; ROWS is told of in
+# tests/rows.sh).
 #
 # Parts run side by side, each in a folder of its own. What a part says is in build/check/PART.log,
 # and is shown at the end where the part has failed.
@@ -19,8 +20,8 @@ for part; do
 done
 top=$PWD
 logs=build/check
-# A part that takes longer than these seconds hangs.
-limit=1800
+# A part that takes longer than these seconds hangs. A check of it waits for PATIENCE at most.
+limit=$((${PATIENCE:-300} * 6))
 mkdir -p "$logs"
 exec 9> build/check.lock
 flock -n 9 || { echo 'check: another run tries here'; exit 1; }

@@ -5,7 +5,8 @@
 # below without their slow rows.
 # Usage: PROGRAM=program ROWS=pattern PATIENCE=seconds tests/rows.sh (at the top of the repository;
 # scripts/check.sh builds the program). ROWS takes the rows in which that extended expression is
-# found, in the place of the topics.
+# found, in the place of the topics. Those that count sequences of moves take minutes, those of
+# seventy thousand games an hour; PATIENCE is 300 where it isn't given.
 set -eu
 : "${PROGRAM:?scripts/check.sh rows builds it}"
 . tests/lib/harness.sh

@@ -13,7 +13,7 @@ held=0
 untried=0
 # Seconds after which a check fails that still waits for something. It is no measure of anything:
 # a program with a check in the place of each proof is slow, and so is a busy machine.
-patience=300
+patience=${PATIENCE:-300}
 
 # leave: unmounts what the checks have mounted, and removes their folder
 leave() {
