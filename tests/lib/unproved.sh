@@ -6,13 +6,14 @@
 # holder_of FIFO: the process that has a pipe open as a program that `rt try` has built, and the
 # file of that program, where there is one by now
 holder_of() {
-    for opened in /proc/[0-9]*/fd/*; do
-        [ "$(readlink "$opened" 2> /dev/null)" = "$1" ] || continue
+    # Processes end while this looks.
+    find /proc/[0-9]*/fd -lname "$1" > "$work/holders" 2> /dev/null || true
+    while read -r opened; do
         process=${opened#/proc/}
         process=${process%%/*}
         built=$(tr '\0' '\n' 2> /dev/null < "/proc/$process/cmdline" | grep '/program$') || continue
         [ ! -x "$built" ] || return 0
-    done
+    done < "$work/holders"
     return 1
 }
 
@@ -35,7 +36,7 @@ copy_built() {
             found=true
             break
         fi
-        sleep 0.2
+        sleep 0.5
     done
     exec 8>&-
     wait "$building" || true
