@@ -319,10 +319,11 @@ killed_run() {
 }
 
 # saw WORD: writes down what a killed run left; the moments get later after a kill that left the
-# old file, and earlier after one that came too late
+# old file, and earlier after one that came too late, in longer steps where fewer runs are killed
 saw() {
     echo "$1" >> "$work/seen"
-    if [ "$1" = old ]; then about=$((about + about / 40)); else about=$((about - about / 40)); fi
+    step=$((about / (1 + kills * 2 / 5)))
+    if [ "$1" = old ]; then about=$((about + step)); else about=$((about - step)); fi
 }
 
 # seen WORD: how often that was so
