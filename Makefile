@@ -46,8 +46,8 @@ demo:
 check:
 	@sh scripts/check.sh
 
-# Proves each crate and keeps what is proved where `rt check` takes it, so that a changed body has its
-# answer in half a minute. JOBS=number has so many crates proved at a time.
+# Proves each crate and keeps what is proved where `rt check` takes it, so that a changed body has
+# its answer in half a minute. JOBS=number has so many crates proved at a time.
 dev:
 	@sh scripts/dev.sh
 

@@ -128,7 +128,7 @@ wants() {
 
 rows_lane() { run worked_examples && lane rows; }
 
-echo 'Nothing is proved here: the program is built without proof, with a check in the place of each.'
+echo 'Nothing is proved here: the program is built without proof, with a check in place of each.'
 builds=
 if wants rows; then
     builds=worked_examples

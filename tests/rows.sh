@@ -12,9 +12,9 @@ set -eu
 . tests/lib/harness.sh
 given=$PWD/crates/worked_examples
 tab=$(printf '\t')
-# Rows that count sequences of moves, cut a table at each byte, have hundreds of games or entries, or
-# export a book of 218 moves.
-slow="$tab(moves${tab}count|table${tab}cut)$tab|[0-9]{3}[*][a-z]*#|^line-of-218-moves-is-exported$tab"
+# Rows that count sequences of moves, cut a table at each byte, have hundreds of games or entries,
+# or export a book of 218 moves.
+slow="$tab(moves${tab}count|table${tab}cut)$tab|[0-9]{3}[*][a-z]*#|^line-of-218-moves-is-exported"
 
 # rows_of PATTERN: the rows in which this is found
 rows_of() { grep -v '^#' "$given/data/rows.txt" | grep -E "$1"; }
