@@ -15,7 +15,8 @@ INSTALLED := crates/worked_examples/data/installed
 GROWTHS := crates/refused_growths/out/refused_growths
 EXAMPLES := crates/worked_examples/out/worked_examples
 
-.PHONY: build install dist demo test test-bodies test-hostile test-files test-order test-locks test-messages test-memory test-growths test-io \
+.PHONY: build install dist demo check dev test test-bodies test-hostile test-files test-order \
+    test-locks test-messages test-memory test-growths test-io \
     test-noise test-replies test-dist test-journal test-wrong-programs bench clean
 
 build: build/pbook
@@ -40,6 +41,16 @@ dist: $(PROGRAM)
 # else by a build without proof.
 demo:
 	@sh scripts/demo.sh
+
+# Builds the program once without proof, with a check in the place of each, and tries it in a few
+# minutes. Nothing is proved.
+check:
+	@sh scripts/check.sh
+
+# Proves each crate and keeps what is proved where `rt check` takes it, so that a changed body has
+# its answer in half a minute. JOBS=number has so many crates proved at a time.
+dev:
+	@sh scripts/dev.sh
 
 # The gate: proves every crate from nothing, tries the mistakes that nobody may make, and runs what
 # the programs print. It leaves the libraries that it proved for `make test-bodies`.

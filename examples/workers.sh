@@ -71,7 +71,7 @@ worker "$work/odd" & odd=$!
 tries=0
 while [ "$(wc -l < "$work/replies")" -lt 100 ]; do
     tries=$((tries + 1))
-    [ "$tries" -lt 6000 ] || { echo 'no hundred answers came'; exit 1; }
+    [ "$tries" -lt 30000 ] || { echo 'no hundred answers came'; exit 1; }
     sleep 0.01
 done
 kill -9 "$collector"

@@ -2,12 +2,15 @@
 # Shows the main job on the bundled examples: a book is made of 300 games and looked into, games are
 # played from their records, and EPD lines are rewritten. The book and the export are compared with
 # examples/book.bin and examples/export.epd, which other programs made of the same games.
-# Usage: scripts/demo.sh (at the top of the repository).
+# Usage: PROGRAM=program scripts/demo.sh (at the top of the repository).
 #
-# It runs the proved program where `make` has left it and no source is newer. Else it builds the
-# same source once without proof, with a check in the place of each, and leaves no program behind.
+# It runs PROGRAM where that is given, and else the proved program where `make` has left it and no
+# source is newer. Else it builds the same source once without proof, with a check in the place of
+# each, and leaves no program behind.
 set -eu
 top=$PWD
+program=${PROGRAM:-}
+[ -z "$program" ] || program=$(realpath "$program")
 work=$top/build/demo
 start='rnbqkbnr/pppppppp/8/8/8/8/PPPPPPPP/RNBQKBNR w KQkq - 0 1'
 begin=$(date +%s)
@@ -25,19 +28,19 @@ runs() {
 # tells NAME: what the run of this name printed
 tells() { cat "$work/told/$1"; }
 
-# Runs all by the proved program, and writes down how each ended.
-run_proved() {
+# Runs all by $program, and writes down how each ended.
+run_program() {
     for words in "$work"/cases/*.args; do
         name=$(basename "$words" .args)
         set --
         while IFS= read -r word; do set -- "$@" "$word"; done < "$words"
         status=0
-        "$top/build/pbook" "$@" < "$work/cases/$name" > "$work/told/$name" || status=$?
+        "$program" "$@" < "$work/cases/$name" > "$work/told/$name" || status=$?
         echo "$name $status"
     done > "$work/ended"
 }
 
-# The same by a build without proof.
+# The same by a build without proof, which is left nowhere.
 run_unproved() {
     cd "$top/crates/pbook"
     rt try --data table.txt="$top/examples/table.txt" --data book.bin="$top/examples/book.bin" \
@@ -67,9 +70,13 @@ while IFS='|' read -r record moves; do
 done < moves.txt
 runs lines lines.epd epd
 
-if [ -x "$top/build/pbook" ] && make -s -C "$top" -q build/pbook; then
+if [ -n "$program" ]; then
+    how="by $PROGRAM"
+    run_program
+elif [ -x "$top/build/pbook" ] && make -s -C "$top" -q build/pbook; then
     how='by the proved program, build/pbook'
-    run_proved
+    program=$top/build/pbook
+    run_program
 else
     how='without proof, with a check in the place of each'
     echo 'No proved program stands at build/pbook; make proves and builds it. The source is built'

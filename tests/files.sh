@@ -3,10 +3,14 @@
 # devices, links, folders, missing permissions, full disks, a killed run. As root it tries more,
 # on file systems that it mounts, and where strace is installed it has calls of the system fail.
 # The first check that doesn't hold ends it.
-# Usage: PROGRAM=program tests/files.sh [CHECK..] (at the top of the repository; all checks where
-# none is given).
+# Usage: PROGRAM=program KILLS=number GAMES=number tests/files.sh [CHECK..] (at the top of the
+# repository; all checks where none is given). A run that is killed goes over 4000 games, or as many
+# as GAMES says, for slow programs. KILLS runs that make BOOK are killed, and three fifths as many
+# that make FILE too; 100 and 60 where it isn't given.
 set -eu
 PROGRAM=${PROGRAM:-build/pbook}
+kills=${KILLS:-100}
+games=${GAMES:-4000}
 . tests/lib/harness.sh
 . tests/lib/places.sh
 
@@ -78,7 +82,8 @@ null_device() {
 
 pipe() {
     mkfifo pipe
-    timeout 60 cat pipe > piped &
+    timeout "$patience" cat pipe > piped &
+    runner="timeout $patience"
     holds collects 0 "$place/pipe"
     wait
     holds is_new piped
@@ -255,8 +260,10 @@ draft_in_use() {
     holds test "$(find "$place" -name '.*.pbook-*')" = "$place/.book.bin.pbook-0"
 }
 
+# A run that took the pipe for a draft would wait for another end of it.
 draft_is_a_link() {
     with_old
+    runner="timeout $patience"
     cp "$work/old" precious
     ln -s precious .book.bin.pbook-0
     mkfifo .book.bin.pbook-1
@@ -312,14 +319,20 @@ killed_run() {
 }
 
 # saw WORD: writes down what a killed run left; the moments get later after a kill that left the
-# old file, and earlier after one that came too late
+# old file, and earlier after one that came too late, in longer steps where fewer runs are killed
 saw() {
     echo "$1" >> "$work/seen"
-    if [ "$1" = old ]; then about=$((about + about / 40)); else about=$((about - about / 40)); fi
+    step=$((about / (1 + kills * 2 / 5)))
+    if [ "$1" = old ]; then about=$((about + step)); else about=$((about - step)); fi
 }
 
 # seen WORD: how often that was so
 seen() { count "$1" "$work/seen"; }
+
+# is_enough COUNT: whether so many runs were killed, and some left the old file and some the new one
+is_enough() {
+    [ "$(seen 'old|new')" -ge "$1" ] && [ "$(seen old)" -gt 0 ] && [ "$(seen new)" -gt 0 ]
+}
 
 # odd_size FILE WHOLE: ends the check at a file that is neither the old one nor the whole new one
 odd_size() {
@@ -328,14 +341,16 @@ odd_size() {
     exit 1
 }
 
-# A hundred runs are killed, and each leaves the old BOOK or the new one. The moments are random,
-# about the one at which BOOK gets to be the new one.
+# Runs are killed, and each leaves the old BOOK or the new one. The moments are random, about the
+# one at which BOOK gets to be the new one. Where that was guessed wrong more runs are killed, ten
+# times as many at most, until both were left.
 killed() {
-    long_games 4000 > "$work/lines"
+    long_games "$games" > "$work/lines"
     : > "$work/seen"
     whole_run "$work/whole"
-    moments 100 1 > "$work/moments"
+    moments $((kills * 10)) 1 > "$work/moments"
     while read -r thousandths; do
+        if is_enough "$kills"; then break; fi
         with_old
         killed_run "$thousandths"
         if is_old "$book"; then
@@ -464,16 +479,17 @@ full_disk_of_ledger() {
     holds no_draft
 }
 
-# Sixty runs that go on are killed: FILE is the old or the new one, and so is BOOK, which is new
+# Runs that go on are killed likewise: FILE is the old or the new one, and so is BOOK, which is new
 # only where FILE is.
 killed_while_saving() {
     with_ledger
-    long_games 4000 > "$work/lines"
+    long_games "$games" > "$work/lines"
     : > "$work/seen"
     cp before after
     whole_run "$work/made" --ledger "$place/after"
-    moments 60 2 > "$work/moments"
+    moments $((kills * 6)) 2 > "$work/moments"
     while read -r thousandths; do
+        if is_enough $((kills * 3 / 5)); then break; fi
         cp before "$ledger"
         with_old
         killed_run "$thousandths" --ledger "$ledger"

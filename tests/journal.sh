@@ -60,11 +60,13 @@ end() {
     wait "$1" 2> /dev/null || true
 }
 
-# wait_for_replies: waits for the first reply, three seconds at most
+# wait_for_replies: waits for the first reply. It looks more often than `awaits`, as all replies
+# have come soon after it.
 wait_for_replies() {
     tries=0
-    while [ ! -s replies ] && [ "$tries" -lt 3000 ]; do
+    while [ ! -s replies ]; do
         tries=$((tries + 1))
+        holds test "$tries" -lt $((patience * 1000))
         sleep 0.001
     done
 }

@@ -63,7 +63,7 @@ held_new_ledger() {
     exec 3>&-
     holds awaits is_made "$before"
     holds is_refused 'games.ledger is in use by another run' --ledger games.ledger
-    timeout 20 cat book.bin > piped &
+    timeout "$patience" cat book.bin > piped &
     holds end 0
     wait
     holds test -s piped
@@ -72,11 +72,8 @@ held_new_ledger() {
     holds collects 0 "$place/other.bin" "$work/games" --ledger games.ledger
 }
 
-# has_event FILE PATTERN: whether a call of this pattern stands in the file
-has_event() { [ -e "$1" ] && events "$1" | grep -Eq "$2"; }
-
-# A run that has opened FILE, and waits, finds another file by that name once it holds the one that
-# it has opened: it goes on with the other one.
+# A run that has opened FILE, and is held there, finds another file by that name once it has locked
+# the one that it has opened: it goes on with the other one.
 new_ledger_under_way() {
     games_of 1 > games
     : > games.ledger
@@ -84,31 +81,21 @@ new_ledger_under_way() {
     cp games.ledger later
     games_of 2 >> later
     games_of 3 > games
-    strace -y -s 0 -e signal=none -o calls -P "$ledger" -e trace=openat,flock \
-        -e inject=flock:delay_enter=3000000:when=1 \
-        "$PROGRAM" collect --ledger "$ledger" "$table" "$book" < games > replies 2> told &
-    collector=$!
-    trap 'kill -9 "$collector" 2> /dev/null || true' EXIT
-    holds awaits has_event calls '^open games.ledger rw'
+    holds begin_held openat "-P $ledger" "$PROGRAM" collect --ledger "$ledger" "$table" "$book"
     mv later games.ledger
-    holds wait "$collector"
-    trap - EXIT
+    holds go_on 0
     holds test "$(cat replies)" = "ok $(id_of 3) 3"
     { echo 'pbook-ledger 1' && games_of 1,3; } > whole
     holds cmp whole games.ledger
 }
 
-# is_under_way DRAFT: whether another run has written this draft
-is_under_way() { [ -s "$1" ]; }
-
-# The first run stops before its draft takes BOOK's name; the second one leaves that draft alone.
+# The first run is held once its draft is on the disk, before that takes BOOK's name; the second one
+# leaves the draft alone.
 two_drafts() {
     with_old
-    strace -f -o calls.first -e trace=rename -e inject=rename:delay_enter=4000000 \
-        "$PROGRAM" collect "$table" book.bin < "$work/games" > replies 2> told &
-    collector=$!
-    trap 'kill -9 "$collector" 2> /dev/null || true' EXIT
-    holds awaits is_under_way .book.bin.pbook-0
+    cp "$work/games" games
+    holds begin_held fsync '' "$PROGRAM" collect "$table" book.bin
+    holds test -s .book.bin.pbook-0
     holds ran 0 traced calls "$PROGRAM" collect "$table" book.bin < "$work/games"
     holds is_new "$book"
     holds test -e .book.bin.pbook-0
@@ -116,8 +103,7 @@ two_drafts() {
 open .book.bin.pbook-1 new 0600
 rename .book.bin.pbook-1 to book.bin
 END
-    holds wait "$collector"
-    trap - EXIT
+    holds go_on 0
     holds test ! -s told
     holds is_new "$book"
     holds no_draft

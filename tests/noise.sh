@@ -81,7 +81,7 @@ run_all() {
     done
     cd "$top/crates/pbook"
     # It ends with 0 whatever the statuses of the runs are, unless a check has failed.
-    rt try --seconds 120 "$@" --cases "$work/cases" > "$work/printed" 2> "$work/said" || {
+    rt try --seconds "$patience" "$@" --cases "$work/cases" > "$work/printed" 2> "$work/said" || {
         cat "$work/said"
         exit 1
     }

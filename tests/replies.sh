@@ -1,7 +1,7 @@
 #!/bin/sh
 # Tries that the reply to a line has gone out before the collector waits for the next one: a
 # worker sends the games of examples/games.txt one by one, each once, and waits for the answer in
-# between, as long as ten seconds. So it goes with a saved ledger and a journal too.
+# between. So it goes with a saved ledger and a journal too.
 # Usage: PROGRAM=program tests/replies.sh (at the top of the repository).
 set -eu
 PROGRAM=${PROGRAM:-build/pbook}
@@ -9,7 +9,7 @@ PROGRAM=${PROGRAM:-build/pbook}
 
 # is_answered LINE: whether an answer comes before another line is sent
 is_answered() {
-    timeout 10 head -n 1 <&4 > "$work/answer"
+    timeout "$patience" head -n 1 <&4 > "$work/answer"
     cat "$work/answer" >> "$work/answers"
     [ -s "$work/answer" ]
 }

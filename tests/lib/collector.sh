@@ -2,7 +2,7 @@
 # Shared by the scripts that talk with a collector while it runs, or write down in which order it
 # calls the system. It is read by `.` after tests/lib/places.sh. All of it is called in a check,
 # in the folder of that check.
-: "${place=}" "${work:?tests/lib/harness.sh is read first}" "${PROGRAM:?}"
+: "${place=}" "${work:?tests/lib/harness.sh is read first}" "${patience:?}" "${PROGRAM:?}"
 
 # Games of three workers, and the number of bytes of each line with its LF.
 games_of() { sed -n "$1p" "$work/games"; }
@@ -114,10 +114,44 @@ begin() {
     exec 3> games 4< replies
 }
 
+# begin_held CALL FLAGS COMMAND..: starts a collector in the background, which reads `games`. It
+# stops right after its first call of this name, of those that these flags of strace let through,
+# until `go_on`. It has stopped when this ends.
+begin_held() {
+    call=$1 flags=$2
+    shift 2
+    # shellcheck disable=SC2016 # the shell that is started knows its own number
+    as_process='echo $$ > process; exec "$@"'
+    : > held
+    # shellcheck disable=SC2086 # each flag is a word
+    strace -o held $flags -e "trace=$call" -e "inject=$call:signal=SIGSTOP:when=1" \
+        sh -c "$as_process" sh "$@" < games > replies 2> told &
+    collector=$!
+    trap 'kill -9 "$(cat process)" 2> /dev/null || true' EXIT
+    awaits grep -q 'stopped by SIGSTOP\|^+++ exited' held && grep -q 'stopped by SIGSTOP' held
+}
+
+# go_on STATUS: whether the collector that was held goes on, and ends with this status
+go_on() {
+    due=$1 status=0
+    kill -CONT "$(cat process)"
+    wait "$collector" || status=$?
+    trap - EXIT
+    is_status "$due"
+}
+
+# is_status DUE: whether the collector has ended with this status, which is in $status
+is_status() {
+    if [ "$status" -eq "$1" ]; then return; fi
+    echo "    the status is $status"
+    cat told
+    return 1
+}
+
 # say NUMBER REPLY: sends the game of this number, and whether the reply to it is this one
 say() {
     games_of "$1" >&3
-    reply=$(timeout 20 head -n 1 <&4) || true
+    reply=$(timeout "$patience" head -n 1 <&4) || true
     if [ "$reply" = "$2" ]; then return; fi
     echo "    the reply to game $1 is: $reply"
     return 1
@@ -127,14 +161,11 @@ say() {
 # lines of its output are in `rest`
 end() {
     exec 3>&-
-    timeout 20 cat <&4 > rest || return 1
+    timeout "$patience" cat <&4 > rest || return 1
     exec 4<&-
     due=$1 status=0
     wait "$collector" || status=$?
     trap - EXIT
     rm games replies
-    if [ "$status" -eq "$due" ]; then return; fi
-    echo "    the status is $status"
-    cat told
-    return 1
+    is_status "$due"
 }

@@ -11,6 +11,9 @@ work=$(mktemp -d)
 chmod 755 "$work"
 held=0
 untried=0
+# Seconds after which a check fails that still waits for something. It is no measure of anything:
+# a program with a check in the place of each proof is slow, and so is a busy machine.
+patience=${PATIENCE:-300}
 
 # leave: unmounts what the checks have mounted, and removes their folder
 leave() {
@@ -62,6 +65,15 @@ holds() {
 
 # not CONDITION..: whether this command fails
 not() { if "$@"; then return 1; fi; }
+
+# awaits CONDITION..: whether this comes true
+awaits() {
+    late=$(($(date +%s) + patience))
+    until "$@"; do
+        [ "$(date +%s)" -lt "$late" ] || return 1
+        sleep 0.01
+    done
+}
 
 # ends STATUS COMMAND..: whether this command ends with this status. It runs in a subshell.
 ends() {

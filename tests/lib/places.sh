@@ -72,16 +72,6 @@ has_node() { [ "$(node "$2")" = "$1" ]; }
 has_mode() { [ "$(stat -c %a "$2")" = "$1" ]; }
 no_draft() { [ -z "$(find "$place" -name '.*.pbook-*')" ]; }
 
-# awaits CONDITION..: whether this comes true within ten seconds
-awaits() {
-    tries=0
-    until "$@"; do
-        tries=$((tries + 1))
-        [ "$tries" -lt 1000 ] || return 1
-        sleep 0.01
-    done
-}
-
 # can_mount: whether file systems can be mounted
 can_mount() {
     # Root of a container may not mount; that is told by the caller.

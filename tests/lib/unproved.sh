@@ -6,38 +6,37 @@
 # holder_of FIFO: the process that has a pipe open as a program that `rt try` has built, and the
 # file of that program, where there is one by now
 holder_of() {
-    for opened in /proc/[0-9]*/fd/*; do
-        [ "$(readlink "$opened" 2> /dev/null)" = "$1" ] || continue
+    # Processes end while this looks.
+    find /proc/[0-9]*/fd -lname "$1" > "$work/holders" 2> /dev/null || true
+    while read -r opened; do
         process=${opened#/proc/}
         process=${process%%/*}
         built=$(tr '\0' '\n' 2> /dev/null < "/proc/$process/cmdline" | grep '/program$') || continue
         [ ! -x "$built" ] || return 0
-    done
+    done < "$work/holders"
     return 1
 }
 
-# build_unproved TREE PROGRAM: builds the program of this tree without proof, with a check in the
-# place of each. `rt try` leaves no program behind, so its file is copied while it waits to read a
-# book from a pipe. What is said is in $work/said.
-build_unproved() {
-    rm -rf "$work/cases"
-    mkdir "$work/cases"
-    : > "$work/cases/waits"
+# copy_built FOLDER PROGRAM FLAG..: has `rt try` build the program of this crate's folder with these
+# flags, without proof and with a check in the place of each. It leaves no program behind, so its
+# file is copied while it waits to read the pipe $work/waits. What is said is in $work/said.
+copy_built() {
+    crate=$1 copied=$2
+    shift 2
     mkfifo "$work/waits"
-    printf 'show\n%s\n' "$work/waits" > "$work/cases/waits.args"
-    (cd "$1/crates/pbook" && exec rt try --seconds 600 --cases "$work/cases") \
-        > "$work/printed" 2> "$work/said" &
+    (cd "$crate" && exec rt try --seconds 600 "$@") \
+        < /dev/null > "$work/printed" 2> "$work/said" &
     building=$!
     # The program waits as long as there is a writer.
     exec 8<> "$work/waits"
     found=false
     while kill -0 "$building" 2> /dev/null; do
         if holder_of "$work/waits"; then
-            cp "$built" "$2"
+            cp "$built" "$copied"
             found=true
             break
         fi
-        sleep 0.2
+        sleep 0.5
     done
     exec 8>&-
     wait "$building" || true
@@ -46,4 +45,19 @@ build_unproved() {
         cat "$work/printed" "$work/said"
         return 1
     }
+}
+
+# build_unproved TREE PROGRAM: builds `pbook` of this tree so. It waits for a book.
+build_unproved() {
+    rm -rf "$work/cases"
+    mkdir "$work/cases"
+    : > "$work/cases/waits"
+    printf 'show\n%s\n' "$work/waits" > "$work/cases/waits.args"
+    copy_built "$1/crates/pbook" "$2" --cases "$work/cases"
+}
+
+# build_unproved_examples TREE PROGRAM: builds `worked_examples` so. Its only row waits for a text.
+build_unproved_examples() {
+    printf 'waits\twords\tfile\t%s\n' "$work/waits" > "$work/rows.txt"
+    copy_built "$1/crates/worked_examples" "$2" --data "rows.txt=$work/rows.txt"
 }

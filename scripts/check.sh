@@ -1,0 +1,157 @@
+#!/bin/sh
+# Tries the program in a few minutes, and proves nothing. The program is built once without proof,
+# with AddressSanitizer and a check in the place of each proof. Then scripts/demo.sh runs over it,
+# and those scripts of tests/ that so slow a program ends in time. `worked_examples` is built
+# likewise, and tests/rows.sh compares what it answers.
+# Usage: ROWS=pattern PATIENCE=seconds scripts/check.sh [PART..] (at the top of the repository; all
+# parts where none is given: files, messages, demo, replies, locks, order, rows; ROWS is told of in
+# tests/rows.sh).
+#
+# Parts run side by side, each in a folder of its own. What a part says is in build/check/PART.log,
+# and is shown at the end where the part has failed.
+set -eu
+[ $# -gt 0 ] || set -- files messages demo replies locks order rows
+parts=$*
+for part; do
+    case $part in
+        files | messages | demo | replies | locks | order | rows) ;;
+        *) echo "check: no part is named $part"; exit 2 ;;
+    esac
+done
+top=$PWD
+logs=build/check
+# A part that takes longer than these seconds hangs. A check of it waits for PATIENCE at most.
+limit=$((${PATIENCE:-300} * 6))
+mkdir -p "$logs"
+exec 9> build/check.lock
+flock -n 9 || { echo 'check: another run tries here'; exit 1; }
+rm -f "$logs"/*.log
+room=$(mktemp -d)
+# The program runs as another user too.
+chmod 755 "$room"
+lanes=
+running=
+leave() {
+    for lane in $lanes $running; do kill "$lane" 2> /dev/null || true; done
+    wait
+    rm -rf "$room"
+}
+trap leave EXIT
+trap 'exit 1' HUP INT TERM
+
+# build HOW NAME: has this function of tests/lib/unproved.sh build a program as $room/NAME
+build() {
+    work=$room/of-$2
+    mkdir "$work"
+    building=
+    trap '[ -z "$building" ] || kill "$building"; exit 1' TERM
+    . tests/lib/unproved.sh
+    "$1" "$top" "$room/$2"
+}
+
+# script FILE: runs this script in the place of the shell. A signal that ends it reaches all that
+# it has started.
+script() { exec timeout -k 10 "$limit" sh "$1"; }
+
+# work_on NAME: builds what has this name, or runs the part
+work_on() {
+    export PROGRAM="$room/pbook"
+    case $1 in
+        pbook) build build_unproved pbook ;;
+        worked_examples) build build_unproved_examples worked_examples ;;
+        demo) script scripts/demo.sh ;;
+        rows)
+            PROGRAM=$room/worked_examples
+            script tests/rows.sh
+            ;;
+        *)
+            # AddressSanitizer looks for leaks by a means that strace has taken. Fewer runs are
+            # killed, over fewer games, than of a proved program.
+            export ASAN_OPTIONS=detect_leaks=0 GAMES=40 KILLS=20
+            script "tests/$1.sh"
+            ;;
+    esac
+}
+
+# told_by NAME: what its log tells of it in short
+told_by() {
+    case $1 in
+        pbook | worked_examples) echo 'built without proof' ;;
+        demo) echo 'the book and the export are those of other programs' ;;
+        *)
+            tail -n 1 "$logs/$1.log"
+            sed -n 's/^not tried, /; not tried, /p' "$logs/$1.log"
+            ;;
+    esac
+}
+
+# run NAME: does this, and tells how it ended
+run() {
+    begin=$(date +%s)
+    work_on "$1" > "$logs/$1.log" 2>&1 9>&- &
+    running=$!
+    if wait "$running"; then word=ok; else word=FAILED; fi
+    running=
+    took=$(($(date +%s) - begin))
+    if [ "$word" = FAILED ]; then
+        echo "FAILED: $1, $took s"
+        return 1
+    fi
+    : > "$room/$1.passed"
+    echo "ok: $1, $took s: $(told_by "$1" | tr -d '\n')"
+}
+
+# lane NAME..: those of these parts that are wanted, one after the other
+lane() {
+    for part; do
+        ! wants "$part" || run "$part" || true
+    done
+}
+
+# begin_lane COMMAND..: runs this function beside the others
+begin_lane() {
+    (
+        running=
+        trap '[ -z "$running" ] || kill "$running"; wait; exit 1' HUP INT TERM
+        "$@"
+    ) &
+    lanes="$lanes $!"
+}
+
+# wants NAME..: whether one of these parts is wanted
+wants() {
+    for name; do
+        case " $parts " in *" $name "*) return ;; esac
+    done
+    return 1
+}
+
+rows_lane() { run worked_examples && lane rows; }
+
+echo 'Nothing is proved here: the program is built without proof, with a check in place of each.'
+builds=
+if wants rows; then
+    builds=worked_examples
+    begin_lane rows_lane
+fi
+if wants files messages demo replies locks order; then
+    builds="$builds pbook"
+    if run pbook; then
+        # The slowest part has a lane of its own. With that of the rows there are four.
+        begin_lane lane files
+        begin_lane lane messages demo
+        begin_lane lane replies locks order
+    fi
+fi
+wait
+lanes=
+
+failed=
+for name in $builds $parts; do
+    [ ! -e "$room/$name.passed" ] || continue
+    failed="$failed $name"
+    echo "== $name failed:"
+    if [ -e "$logs/$name.log" ]; then cat "$logs/$name.log"; else echo 'It was not run.'; fi
+done
+[ -z "$failed" ] || { echo "FAILED:$failed. Nothing was proved."; exit 1; }
+echo "All of it passed: $parts. Nothing was proved; make proves the program."

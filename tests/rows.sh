@@ -1,0 +1,57 @@
+#!/bin/sh
+# Has a build of `worked_examples` without proof answer rows of its data, and compares each answer
+# with the one due. The gate has the proved one answer all rows. A build with a check in the place
+# of each proof is a hundred times slower, so it gets those that it answers in a minute: the topics
+# below without their slow rows.
+# Usage: PROGRAM=program ROWS=pattern PATIENCE=seconds tests/rows.sh (at the top of the repository;
+# scripts/check.sh builds the program). ROWS takes the rows in which that extended expression is
+# found, in the place of the topics. Those that count sequences of moves take minutes, those of
+# seventy thousand games an hour; PATIENCE is 300 where it isn't given.
+set -eu
+: "${PROGRAM:?scripts/check.sh rows builds it}"
+. tests/lib/harness.sh
+given=$PWD/crates/worked_examples
+tab=$(printf '\t')
+# Rows that count sequences of moves, cut a table at each byte, have hundreds of games or entries,
+# or export a book of 218 moves.
+slow="$tab(moves${tab}count|table${tab}cut)$tab|[0-9]{3}[*][a-z]*#|^line-of-218-moves-is-exported"
+
+# rows_of PATTERN: the rows in which this is found
+rows_of() { grep -v '^#' "$given/data/rows.txt" | grep -E "$1"; }
+
+# due_to FILE: the lines that are due to the rows of this file. Each begins with its row's name.
+due_to() {
+    awk 'NR == FNR { sub(/\t.*/, ""); named[$0]; next }
+        { name = $0; sub(/: .*/, "", name) }
+        name in named' "$1" "$given/stdout"
+}
+
+# answers PATTERN [PATTERN]: the rows in which the first pattern is found, and the second one isn't,
+# are answered as is due
+answers() {
+    rm -rf "$work/run"
+    cp -R "$given/data" "$work/run"
+    rows_of "$1" | grep -Ev "${2-^$}" > "$work/run/rows.txt"
+    due_to "$work/run/rows.txt" > "$work/due"
+    rows=$(wc -l < "$work/run/rows.txt")
+    note "$rows rows, $(wc -l < "$work/due") lines"
+    holds test "$(sed 's/: .*//' "$work/due" | sort -u | wc -l)" -eq "$rows"
+    cd "$work/run"
+    status=0
+    timeout "$patience" env -i "$PROGRAM" < "$given/stdin" > "$work/put" 2> "$work/errors" ||
+        status=$?
+    diff "$work/due" "$work/put" > "$work/differs" || true
+    if [ "$status" -eq 0 ] && [ ! -s "$work/errors" ] && [ ! -s "$work/differs" ]; then return; fi
+    echo "    the status is $status; what is due (<), what was answered (>), and errors:"
+    head -n 20 "$work/differs" "$work/errors"
+    return 1
+}
+
+if [ -n "${ROWS:-}" ]; then
+    check "rows of $ROWS" answers "$ROWS"
+else
+    for topic in record epd moves table book stream file game points ledger words command; do
+        check "$topic" answers "^[^$tab]*$tab$topic$tab" "$slow"
+    done
+fi
+finish
