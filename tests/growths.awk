@@ -9,8 +9,9 @@
 # - `either TEXT..`: one of these is all that is told. `%` stands for a digit from 0 to 4.
 # - `ended LINE..`: one of these comes in the place of the first line, and after it a front of what
 #   is due after that. `#` stands for the number of bytes of this front.
-# - `lines OLD NEW`: in a line of which the answer is due, NEW stands for OLD where that line hasn't
-#   come before; what comes after it is as due.
+# - `lines OLD NEW [NONE]`: in a line of what is due, NEW stands for OLD where that line hasn't come
+#   before; what comes after it is as due. Where OLD ends in a star, NEW stands for a line that it
+#   begins. NONE is the last line where each line before it wanted memory.
 # - `replies KIND SAVED`: replies to submissions of five games of which so many are held before, and
 #   then what such a call makes of the games that are held. A game is refused in place, and its
 #   second line takes it; or a fault ends the call (see `is_tail`).
@@ -97,7 +98,7 @@ function wants(row,    parts, n, d, p, times) {
     }
     if (parts[2] == "either") times = is_either(p, parts, n)
     if (parts[2] == "ended") times = is_ended(p, d, parts, n)
-    if (parts[2] == "lines") times = is_in_lines(p, d, parts[3], parts[4])
+    if (parts[2] == "lines") times = is_in_lines(p, d, parts[3], parts[4], parts[5])
     if (parts[2] == "replies") times = is_replied(p, d, parts[3], parts[4])
     return times ? times + cut : 0
 }
@@ -150,16 +151,14 @@ function is_ended(p, d, parts, n,    at, first, rest, count, line, i, k, more) {
     return 0
 }
 
-function is_in_lines(p, d, old, new,    lines, found, n, i, count, seen, times) {
+function is_in_lines(p, d, old, new, none,    lines, found, n, i, count, seen, times) {
     count = split(d, lines, "\n")
     n = split(p, found, "\n")
     if (n > count || !cut && n != count) return 0
     for (i = 1; i <= n; i++) {
-        if (found[i] != lines[i]) {
-            if (lines[i] in seen || !changes(lines[i], old, new, found[i])) return 0
-            times++
-        }
-        seen[lines[i]]
+        if (found[i] == lines[i]) seen[lines[i]]
+        else if (!(lines[i] in seen) && changes(lines[i], old, new, found[i])) times++
+        else return none != "" && found[i] == none && i == count && times == i - 1 ? times : 0
     }
     return times
 }
