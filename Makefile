@@ -11,8 +11,7 @@ PROGRAM ?= build/pbook
 # What is put in place beside the program. It lies where the gate reads it.
 INSTALLED := crates/worked_examples/data/installed
 
-# The programs that tests and measurements run. The gate leaves them there.
-GROWTHS := crates/refused_growths/out/refused_growths
+# The program that tests and measurements run. The gate leaves it there.
 EXAMPLES := crates/worked_examples/out/worked_examples
 
 .PHONY: build install dist demo check dev test test-bodies test-hostile test-files test-order \
@@ -99,11 +98,8 @@ test-memory: build
 	@sh tests/memory.sh
 
 # Refuses each growth of memory of the library's calls in turn, and looks at what they answer.
-test-growths: $(GROWTHS)
+test-growths: $(EXAMPLES)
 	@sh tests/growths.sh
-
-$(GROWTHS): $(SOURCES) $(wildcard crates/refused_growths/src/*.rt)
-	@cd crates/refused_growths && rt run > /dev/null < /dev/null
 
 # Fails each read, write and sync of each command in turn, or has it move one byte alone, and looks
 # at the same.

@@ -1,67 +1,123 @@
 #!/bin/sh
-# Refuses memory to calls of the library, growth by growth: `refused_growths` makes each call that
-# takes memory and judges what it answers. It is run with the n-th call that asks for memory
-# refused, for n = 1, 2, .. until a run has no such call, and then so with all calls from the n-th
-# on refused. What may come of a run:
-# - where one call is refused, what is printed with ample memory, and status 0;
-# - where all that follow it are refused too, the same but for `wanting in all` in the last line;
-#   or, before the first call is judged, `want of memory in a preparation` alone and status 3.
+# Refuses memory to calls of the library, growth by growth. The program `worked_examples` answers
+# the rows that tests/growths.rows names, all of them in a run, with the n-th call that asks for
+# memory refused, for n = 1, 2, .. until a run has no such call, and then so with all calls from
+# the n-th on refused. What is due with ample memory is that program's expected output, which the
+# gate compares. What may come of a run:
+# - all that is due, and status 0;
+# - one row that tells want of memory in one of the ways that tests/growths.rows has for it. The
+#   rows before it are as due, and so are those after it where one call was refused. Where all that
+#   follow are refused too, the next row can't be read;
+# - where a row can't be read, the rows before it and status 1, and want of memory as the error of
+#   `main` on standard error.
+# Each row has to be seen to want memory, both ways: in the answer of its call, but for those of
+# which the call tells none.
 # The first run that may not be ends all; what was found is shown, and the folder with it stays:
 # the output (put) and what is due.
 # Usage: tests/growths.sh (at the top of the repository; `make test-growths` builds the program;
-# cc has to be there). REFUSED_GROWTHS names another program than
-# crates/refused_growths/out/refused_growths.
+# cc has to be there). WORKED_EXAMPLES names another program than
+# crates/worked_examples/out/worked_examples.
 set -eu
-PROGRAM=${REFUSED_GROWTHS:-crates/refused_growths/out/refused_growths}
+examples=crates/worked_examples
+PROGRAM=${WORKED_EXAMPLES:-$examples/out/worked_examples}
 . tests/lib/harness.sh
 . tests/lib/shim.sh
 . tests/lib/refusals.sh
 
-cp crates/refused_growths/stdout "$work/due"
-sed 's/^ok in all$/wanting in all/' "$work/due" > "$work/wanting"
-echo 'want of memory in a preparation' > "$work/unprepared"
-
 describe() { describe_refusals; }
 
-# judge_errors: nothing is on standard error
+# take_rows: makes the file of the rows and what is due of them, in the order of tests/growths.rows
+take_rows() {
+    awk -F '\t' -v rows="$work/old/rows.txt" -v due="$work/due" '
+        FILENAME == ARGV[1] {
+            if ($0 !~ /^#/ && $0 != "") name[++count] = $1
+            next
+        }
+        FILENAME == ARGV[2] { row[$1] = $0; next }
+        {
+            first = substr($0, 1, index($0, ": ") - 1)
+            answer[first] = answer[first] $0 "\n"
+        }
+        END {
+            for (i = 1; i <= count; i++) {
+                if (!(name[i] in row) || !(name[i] in answer)) {
+                    print "    no such row: " name[i]
+                    exit 1
+                }
+                print row[name[i]] > rows
+                printf "%s", answer[name[i]] > due
+            }
+        }' tests/growths.rows "$examples/data/rows.txt" "$examples/stdout"
+    note "$(wc -l < "$work/old/rows.txt")"
+}
+
+# judge_errors: standard error has the error of `main` where the status is 1, and else nothing
 judge_errors() {
-    [ ! -s "$work/errors" ] || fails 'something is on standard error' /dev/null "$work/errors"
+    : > "$work/error"
+    [ "$status" -ne 1 ] || echo 'Error: Kind(OutOfMemory)' > "$work/error"
+    cmp -s "$work/error" "$work/errors" ||
+        fails 'standard error is not as it is due' "$work/error" "$work/errors"
 }
 
-# is_put NAME: whether the output is this one, and the status that of a run that judged all calls
-is_put() { [ "$status" -eq 0 ] && cmp -s "$work/$1" "$work/put"; }
+# is_due: whether the run is as with ample memory
+is_due() { [ "$status" -eq 0 ] && cmp -s "$work/due" "$work/put"; }
 
-# judged_alone: what may be printed where one call is refused
-judged_alone() {
-    is_put due || fails 'the output is not that of ample memory' "$work/due" "$work/put"
+# judge: tells which row wants memory in what was printed, or why that may not be
+judge() {
+    awk -v how="$how" -v refused="$refused" -v status="$status" -f tests/growths.awk \
+        tests/growths.rows "$work/due" "$work/put"
 }
 
-# judged_all: what may be printed where all calls from one on are refused. In the first run that
-# judges a call none has memory.
-judged_all() {
-    if [ "$prepared" = false ]; then
-        if [ "$status" -eq 3 ] && cmp -s "$work/unprepared" "$work/put"; then return; fi
-        prepared=true
-        is_put wanting ||
-            fails 'no memory was there, and it was wanting once at most' "$work/wanting" "$work/put"
-    fi
-    if is_put due || is_put wanting; then return; fi
-    fails 'a call was answered as it may not be' "$work/due" "$work/put"
+# judged: what may be printed where memory was refused
+judged() {
+    # No row changes the folder.
+    untouched=true
+    came=due
+    if is_due; then return; fi
+    came=$(judge) || fails "$came" "$work/due" "$work/put"
 }
 
-# refused_in HOW JUDGE: refuses each call in turn
+# changes_seen: the judge refuses what is due, but for the end of a line, whichever it is
+changes_seen() {
+    how=alone refused=1 status=0
+    for line in $(seq "$(wc -l < "$work/due")"); do
+        sed "${line}s/.\$/~/" "$work/due" > "$work/put"
+        holds not judge > "$work/verdict"
+        holds grep -q '^a row is answered as it may not be' "$work/verdict"
+    done
+    note "$line"
+}
+
+# are_seen HOW: whether each row was seen to want memory, as it may tell that
+are_seen() {
+    awk -F '\t' -v how="$1" '
+        FILENAME == ARGV[1] {
+            split($0, word, " ")
+            if (word[1] == how) seen[word[3], word[4]]
+            next
+        }
+        /^#/ || /^$/ { next }
+        !(($1, $2 == "alone" ? "failed" : "own") in seen) {
+            print "    a row is not seen to want memory: " $1
+            failed = 1
+        }
+        END { exit failed }' "$work/log" tests/growths.rows
+}
+
+# refused_in HOW: refuses each call in turn
 refused_in() {
-    prepared=false
-    refuse_each "$1" "$2" /dev/null
-    is_put due || fails 'no memory was refused, and the output is another' "$work/due" "$work/put"
+    refuse_each "$1" judged /dev/null
+    is_due || fails 'no memory was refused, and the output is another' "$work/due" "$work/put"
     [ "$calls" -gt 0 ] || fails 'it asks for no memory'
-    [ "$1" = alone ] || [ "$prepared" = true ] || fails 'no run with refused calls judged one'
     growths=$calls
     as_counted /dev/null
+    are_seen "$1"
     note "$calls growths refused"
 }
 
-check 'each growth is refused alone' refused_in alone judged_alone
-check 'each growth is refused with all that follow it' refused_in all judged_all
+check 'the rows and what is due of them are there' take_rows
+check 'a change in any line is seen' changes_seen
+check 'each growth is refused alone' refused_in alone
+check 'each growth is refused with all that follow it' refused_in all
 echo "$(logged '^alone 1') growths refused, $(logged .) runs"
 finish

@@ -58,7 +58,7 @@ run_shimmed() {
     for left in "$work"/run/* "$work"/run/.*; do
         [ -e "$left" ] || [ -L "$left" ] || continue
         case ${left##*/} in
-            book | file | linked | . | ..) ;;
+            book | file | linked | rows.txt | . | ..) ;;
             *) fails "a file is left: ${left##*/}" ;;
         esac
     done

@@ -10,16 +10,10 @@ use pb_board::Setup;
 use pb_moves::Move;
 use pb_poly::{BookError, MemSource, Table, key_of, probe, read_book};
 use std::alloc::Global;
-use std::io::{self, Write};
-
-/// A book of two entries, e2e4 with weight 5 and d2d4 with weight 3: 8 bytes of key, 2 of code, 2
-/// of weight and 4 more.
-const BOOK: &[u8] =
-    b"\xff\xff\0\0\0\0\xef\xf0\x03\x1c\0\x05\0\0\0\0\xff\xff\0\0\0\0\xef\xf0\x02\xdb\0\x03\0\0\0\0";
 
 /// The setup's key, and the moves that the book of these bytes has for the setup, each with its
 /// weight.
-fn look_up(
+pub fn look_up(
     alloc: Global,
     table: &Table,
     bytes: &[u8],
@@ -37,17 +31,4 @@ fn look_up(
         Ok(found) => Ok((key_of(table, setup), found)),
         Err(_) => Err(BookError::Memory),
     }
-}
-
-/// Prints the key of the initial array, and what the book has for it.
-pub(crate) fn print(rt: &HostRuntime, table: &Table) -> io::Result<()> {
-    let Ok((key, found)) = look_up(rt.alloc(), table, BOOK, &Setup::start()) else {
-        return println!(rt; "no book");
-    };
-    println!(rt; "{key:016x}")?;
-    for (m, weight) in &found {
-        io::writer(rt).write_all(m.text().as_bytes())?;
-        println!(rt; " {weight}")?;
-    }
-    Ok(())
 }

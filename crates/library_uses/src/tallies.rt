@@ -1,27 +1,14 @@
-//! A tally of one's own, by pb_ledger: points of moves in a tree, and the book of a ledger that
-//! counts in it. The tally gives the six calls that `Tally` asks for; the book comes with the
-//! trait.
+//! A tally of one's own, by pb_ledger: points of moves in a tree. The tally gives the six calls that
+//! `Tally` asks for. The book of a ledger that counts in it comes with the trait.
 
 ghost use Rattle.std.specs.Prelude.{◌≡◌, IfOk, map};
 ghost use Rattle.std.specs.BTreeMap.{IsOrdered, get};
 ghost use Rattle.std.specs.Option.{option_map};
 ghost use Rattle.library_uses.specs.Sums.{row_of, sum_held};
 
-use crate::games;
 use pb_ledger::{Row, Tally};
-use pb_poly::Table;
 use std::alloc::{AllocError, Global};
 use std::collections::BTreeMap;
-use std::io;
-
-/// Five games, of which two begin with e2e4 and e7e5, one with e2e4 alone, and two with d2d4.
-const LINES: [&[u8]; 5] = [
-    b"g1\t1-0\trnbqkbnr/pppppppp/8/8/8/8/PPPPPPPP/RNBQKBNR w KQkq - 0 1\te2e4 e7e5",
-    b"g2\t1/2-1/2\trnbqkbnr/pppppppp/8/8/8/8/PPPPPPPP/RNBQKBNR w KQkq - 0 1\te2e4 e7e5",
-    b"g3\t0-1\trnbqkbnr/pppppppp/8/8/8/8/PPPPPPPP/RNBQKBNR w KQkq - 0 1\td2d4",
-    b"g4\t1-0\trnbqkbnr/pppppppp/8/8/8/8/PPPPPPPP/RNBQKBNR w KQkq - 0 1\td2d4",
-    b"g5\t1/2-1/2\trnbqkbnr/pppppppp/8/8/8/8/PPPPPPPP/RNBQKBNR w KQkq - 0 1\te2e4",
-];
 
 /// Points, and the plies that gave them.
 #[derive(Clone, Copy)]
@@ -32,7 +19,7 @@ struct Sum {
 
 /// Points and plies by key and code, in the order of both.
 #[derive(Drop)]
-struct TreeTally {
+pub struct TreeTally {
     sums: BTreeMap<(u64, u16), Sum>,
 }
 
@@ -89,9 +76,4 @@ fn listed(alloc: Global, sums: &BTreeMap<(u64, u16), Sum>) -> Result<Vec<Row>, A
             times: sum.times,
         })
         .collect(alloc)
-}
-
-/// Prints the replies to the lines, and the entries of the book, of a ledger that counts in a tree.
-pub(crate) fn print(rt: &HostRuntime, table: &Table) -> io::Result<()> {
-    games::print_by::<TreeTally>(rt, table, &LINES)
 }

@@ -104,7 +104,10 @@ fn read(page: &mut Page, words: &[&str]) -> Done {
 fn tell_read(page: &mut Page, book: &Book, file: &[u8]) -> Done {
     tell(page, book);
     let mut again = MemSink::new(page.alloc);
-    write_book(&mut again, book)?;
+    if write_book(&mut again, book).is_err() {
+        page.put_count("not written, a front ", &file.starts_with(again.as_bytes()));
+        return Ok(());
+    }
     page.put_count("written the same ", &(again.as_bytes() == file));
     Ok(())
 }

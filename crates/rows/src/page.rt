@@ -4,6 +4,10 @@ use pb_poly::Failed;
 use std::alloc::{AllocError, AllocFailed, Global};
 use std::fmt::{self, Debug, Display, Write};
 
+/// How many bytes an answer has room for from the start. So a short one is told whole also where
+/// memory is wanting from some call on.
+const ROOM: usize = 4096;
+
 /// How many equal bytes are written one by one at most.
 const LONGEST_RUN: usize = 31;
 
@@ -40,26 +44,54 @@ pub type Done = Result<(), Trouble>;
 /// The answer to a row that names no call, or gives it no such arguments.
 pub const NO_ROW: Done = Err(Trouble::Row);
 
-/// What has been written down so far. What finds no memory is left out, so that the answer is
-/// another one.
+/// What has been written down so far. Where memory is wanting for a part, that and all after it are
+/// left out, and the page is short.
 #[derive(Drop)]
 pub struct Page {
     pub alloc: Global,
     text: String,
+    is_short: bool,
 }
 
 impl Write for Page {
     fn write_str(&mut self, text: &str) -> fmt::Result {
-        self.text.push_str(text).map_err(|_| fmt::Error)
+        self.is_short = self.is_short || self.text.push_str(text).is_err();
+        if self.is_short {
+            Err(fmt::Error)
+        } else {
+            Ok(())
+        }
     }
 }
 
 impl Page {
     /// Nothing yet.
     pub fn new(alloc: Global) -> Page {
+        let (text, is_short) = match String::with_capacity(alloc, ROOM) {
+            Ok(text) => (text, false),
+            Err(AllocError) => (String::new(alloc), true),
+        };
         Page {
             alloc,
-            text: String::new(alloc),
+            text,
+            is_short,
+        }
+    }
+
+    /// Done, where memory was there for all of it.
+    pub fn done(&self) -> Done {
+        if self.is_short {
+            Err(Trouble::Memory)
+        } else {
+            Ok(())
+        }
+    }
+
+    /// The lines of the answer that have ended.
+    pub fn ended_lines(&self) -> &str {
+        match self.text.as_str().rsplit_once('\n') {
+            Some((lines, _)) => lines,
+            None => "",
         }
     }
 
@@ -70,22 +102,22 @@ impl Page {
 
     /// Adds a text.
     pub fn put(&mut self, text: &str) {
-        let _ = self.text.push_str(text);
+        let _ = self.write_str(text);
     }
 
     /// Adds a value as it is told to a user.
     pub fn put_display<T: Display>(&mut self, value: &T) {
-        let _ = write!(self.text, "{value}");
+        let _ = write!(self, "{value}");
     }
 
     /// Adds a value as it is told to a programmer.
     pub fn put_debug<T: Debug>(&mut self, value: &T) {
-        let _ = write!(self.text, "{value:?}");
+        let _ = write!(self, "{value:?}");
     }
 
     /// Adds a name and a number after it.
     pub fn put_count<T: Display>(&mut self, name: &str, count: &T) {
-        let _ = write!(self.text, "{name}{count}");
+        let _ = write!(self, "{name}{count}");
     }
 
     /// Adds a refusal.
@@ -96,18 +128,18 @@ impl Page {
 
     /// Adds a name and a key after it, as 16 hexadecimal digits.
     pub fn put_key(&mut self, name: &str, key: u64) {
-        let _ = write!(self.text, "{name}{key:016x}");
+        let _ = write!(self, "{name}{key:016x}");
     }
 
     /// Adds a name and a code after it, as four hexadecimal digits.
     pub fn put_code(&mut self, name: &str, code: u16) {
-        let _ = write!(self.text, "{name}{code:04x}");
+        let _ = write!(self, "{name}{code:04x}");
     }
 
     /// Adds the bytes as two hexadecimal digits each.
     pub fn put_digits(&mut self, bytes: &[u8]) {
         for byte in bytes {
-            let _ = write!(self.text, "{byte:02x}");
+            let _ = write!(self, "{byte:02x}");
         }
     }
 

@@ -44,6 +44,7 @@ pub fn each<F: FnMut(&mut Page, &str) -> Done>(
     for number in first..=last {
         let mut next = Page::new(page.alloc);
         answer(&mut next, row_at(page.alloc, row, number)?.as_str())?;
+        next.done()?;
         if number > first && next.as_str() != told.as_str() {
             tell_run(page, first, number - 1, &told);
             first = number;
@@ -69,6 +70,7 @@ pub fn fuses<F: FnMut(&mut Page, &str) -> Done>(page: &mut Page, row: &str, mut 
     for good in 0..MOST_CALLS {
         let mut next = Page::new(page.alloc);
         answer(&mut next, row_at(page.alloc, row, good)?.as_str())?;
+        next.done()?;
         if good == 0 || next.as_str() != told.as_str() {
             page.put(next.as_str());
             page.put("\n");

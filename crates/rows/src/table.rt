@@ -1,12 +1,15 @@
 //! Tables of words, and the keys and codes that are made with them.
 
+use crate::ends::named_source;
 use crate::moves::{spelled, tell_move};
 use crate::page::{Done, NO_ROW, Page, Trouble};
 use crate::record::setup_of;
 use crate::text::hexadecimal;
 use pb_board::Setup;
 use pb_moves::{Move, legal_effect, legal_moves, play};
-use pb_poly::{Table, TableError, code_of, key_after, key_next, key_of, move_of, read_table};
+use pb_poly::{
+    Table, TableError, code_of, key_after, key_next, key_of, move_of, read_table, take_table,
+};
 use std::alloc::{AllocError, Global};
 use std::fmt::Write;
 
@@ -52,6 +55,7 @@ pub fn answer(page: &mut Page, call: &[&str]) -> Done {
     match *name {
         "read" => read(page, words),
         "words" => read_words(page, words),
+        "take" => take(page, words),
         "cut" => cut(page, words),
         "key" => key(page, words),
         "keys" => keys(page, words),
@@ -64,7 +68,11 @@ pub fn answer(page: &mut Page, call: &[&str]) -> Done {
 
 /// The table that a text writes.
 pub fn table_of(alloc: Global, text: &str) -> Result<Table, Trouble> {
-    read_table(alloc, text.as_bytes()).ok().ok_or(Trouble::Row)
+    match read_table(alloc, text.as_bytes()) {
+        Ok(table) => Ok(table),
+        Err(TableError::Memory) => Err(Trouble::Memory),
+        Err(_refusal) => Err(Trouble::Row),
+    }
 }
 
 /// Whether the text is a table, or why not.
@@ -98,6 +106,20 @@ fn read_words(page: &mut Page, words: &[&str]) -> Done {
 /// Whether a text is read as the table of a name.
 fn is_read_as(alloc: Global, text: &str, name: &str) -> Result<bool, Trouble> {
     Ok(is_named(&table_of(alloc, text)?, name))
+}
+
+/// Whether the file of a table is taken as its words from the source that a word names, or why it
+/// is refused.
+fn take(page: &mut Page, words: &[&str]) -> Done {
+    let [source, name] = words else { return NO_ROW };
+    let mut file = String::new(page.alloc);
+    push_file(&mut file, name, "\n")?;
+    let mut source = named_source(source, file.as_bytes());
+    match take_table(page.alloc, &mut source, u32::MAX) {
+        Ok(table) => page.put_count("whole ", &is_named(&table, name)),
+        Err(refusal) => page.put_refusal(&refusal),
+    }
+    Ok(())
 }
 
 /// Why the first so many bytes of a table's file, of which each line has 17, are no table.

@@ -6,9 +6,10 @@ use crate::collecting;
 use crate::ends::{Output, fills_in, rules_in};
 use crate::game::stream_of;
 use pb_cli::{Fault, ParseFault, parse, run_epd, run_export, run_fen, run_probe, run_show, status};
+use pb_collecting::collect_bytes;
 use pb_poly::{FromRead, Source, ToWrite};
 use pb_program::FILLS;
-use rows::book::file_of;
+use rows::book::{self, file_of};
 use rows::ends::{NamedSource, end_of, named_source};
 use rows::page::{Done, NO_ROW, Page, Trouble};
 use std::io::Cursor;
@@ -35,6 +36,7 @@ pub(crate) fn answer(page: &mut Page, call: &[&str]) -> Done {
         "show" => return show(page, words),
         "probe" => return probe(page, words),
         "export" => return export(page, words),
+        "collect-bytes" => return tell_collected(page, words),
         _ => return collecting::answer(page, name, words),
     }
     Ok(())
@@ -180,5 +182,26 @@ fn export(page: &mut Page, words: &[&str]) -> Done {
     );
     tell(page, ends, answer, &output)?;
     tell_next(page, ends, &mut source);
+    Ok(())
+}
+
+/// The replies to lines and their book, as they come of bytes in memory.
+fn tell_collected(page: &mut Page, words: &[&str]) -> Done {
+    let [ends, table, lines @ ..] = words else {
+        return NO_ROW
+    };
+    let rules = rules_in(ends).ok_or(Trouble::Row)?;
+    let stream = stream_of(page.alloc, lines)?;
+    match collect_bytes(page.alloc, rules, table.as_bytes(), stream.as_bytes()) {
+        Ok(Some((replies, made))) => {
+            page.put_bytes(replies.as_slice());
+            book::tell(page, &made);
+        }
+        Ok(None) => page.put("no table"),
+        Err(fault) => {
+            page.put("fault ");
+            page.put_debug(&fault);
+        }
+    }
     Ok(())
 }

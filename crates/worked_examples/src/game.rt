@@ -21,12 +21,21 @@ pub(crate) fn answer(page: &mut Page, call: &[&str]) -> Done {
 
 /// The lines that a text writes, with this number.
 pub(crate) fn lines_of(alloc: Global, text: &str, number: u64) -> Result<String, AllocError> {
-    let digits = format!(in alloc; "{number}")?;
-    let ranks = ranks_of(alloc, number)?;
     let start = format!(in alloc; "\t{START}\t")?;
     let lines = text.replace(alloc, "|", "\t")?;
     let lines = lines.as_str().replace(alloc, "\tS\t", start.as_str())?;
-    let lines = lines.as_str().replace(alloc, "%", ranks.as_str())?;
+    if lines.as_str().contains('%') || lines.as_str().contains('#') {
+        numbered(alloc, lines.as_str(), number)
+    } else {
+        Ok(lines)
+    }
+}
+
+/// Lines with this number in the places for it.
+fn numbered(alloc: Global, lines: &str, number: u64) -> Result<String, AllocError> {
+    let digits = format!(in alloc; "{number}")?;
+    let ranks = ranks_of(alloc, number)?;
+    let lines = lines.replace(alloc, "%", ranks.as_str())?;
     lines.as_str().replace(alloc, "#", digits.as_str())
 }
 

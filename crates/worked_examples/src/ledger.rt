@@ -1,14 +1,16 @@
 //! Ledgers of submitted games, their books and their exports, over both tallies. The answer stands
 //! once where both give the same. The first word of each call says over which table, for how many
 //! games, by which rules and over which ends the ledger is: `cap=1 input=memory:5`. With `by=map`
-//! the tally of plain lists is left out, which would take minutes over 70,000 positions.
+//! the tally of plain lists is left out, which would take minutes over 70,000 positions, and with
+//! `by=list` the other one.
 
 ghost use Rattle.std.specs.Prelude.{◌≡◌, [], IfOk};
 
 use crate::ends::{Output, fills_in, rules_in};
 use crate::game::{lines_of, stream_of};
 use pb_ledger::{
-    CollectFault, Ledger, ListTally, MAX_CAP, MapTally, Tally, Totals, collect, export, load, save,
+    CollectFault, Ledger, ListTally, MAX_CAP, MapTally, Tally, Totals, collect, export, load,
+    replay, save,
 };
 use pb_poly::{MemSink, Sink, ToWrite};
 use rows::book::tell;
@@ -21,15 +23,19 @@ use std::alloc::Global;
 
 /// The answer to a call.
 pub(crate) fn answer(page: &mut Page, call: &[&str]) -> Done {
-    if let [_, ends, ..] = call
-        && end_of(ends, "by", "both") == "map"
-    {
-        return answer_by::<MapTally>(page, call);
+    if let [_, ends, ..] = call {
+        match end_of(ends, "by", "both") {
+            "map" => return answer_by::<MapTally>(page, call),
+            "list" => return answer_by::<ListTally>(page, call),
+            _ => {}
+        }
     }
     let mut by_map = Page::new(page.alloc);
     answer_by::<MapTally>(&mut by_map, call)?;
+    by_map.done()?;
     let mut by_list = Page::new(page.alloc);
     answer_by::<ListTally>(&mut by_list, call)?;
+    by_list.done()?;
     if by_map.as_str() != by_list.as_str() {
         page.put("another by list\n");
         page.put(by_list.as_str());
@@ -55,6 +61,7 @@ fn answer_by<T: Tally>(page: &mut Page, call: &[&str]) -> Done {
         "save" => saved::<T>(page, ends, lines),
         "load" => loaded::<T>(page, ends, lines),
         "load-saved" => load_saved::<T>(page, ends, lines),
+        "replay" => replayed::<T>(page, ends, lines),
         _ => NO_ROW,
     }
 }
@@ -158,10 +165,10 @@ fn tell_held<T: Tally>(page: &mut Page, ledger: &Ledger<T>) -> Done {
 fn exported<T: Tally>(page: &mut Page, ends: &str, lines: &[&str]) -> Done {
     let ledger = ledger_with::<T>(page.alloc, ends, lines)?;
     let mut sink = MemSink::new(page.alloc);
-    let Ok(count) = export(page.alloc, &ledger, &mut sink) else {
-        return Err(Trouble::Memory);
-    };
-    page.put_count("lines: ", &count);
+    match export(page.alloc, &ledger, &mut sink) {
+        Ok(count) => page.put_count("lines: ", &count),
+        Err(fault) => page.put_debug(&fault),
+    }
     page.put("\n");
     page.put_bytes(sink.as_bytes());
     Ok(())
@@ -208,7 +215,7 @@ fn collected_twice<T: Tally>(page: &mut Page, ends: &str, lines: &[&str]) -> Don
     page.put_count(", a front of the replies ", &is_front);
     page.put("\n");
     page.put(again.as_str());
-    Ok(())
+    again.done()
 }
 
 /// What becomes of the lines over an output.
@@ -260,6 +267,29 @@ fn load_new<T: Tally>(page: &mut Page, ends: &str, bytes: &[u8]) -> Result<Ledge
 fn loaded<T: Tally>(page: &mut Page, ends: &str, lines: &[&str]) -> Done {
     let stream = stream_of(page.alloc, lines)?;
     load_new::<T>(page, ends, stream.as_bytes())?;
+    Ok(())
+}
+
+/// The answer to the replay of a journal of these lines, how many games are held, and what the
+/// journal has gained.
+fn replayed<T: Tally>(page: &mut Page, ends: &str, lines: &[&str]) -> Done {
+    let stream = stream_of(page.alloc, lines)?;
+    let mut ledger = new_ledger::<T>(page.alloc, ends)?;
+    let mut source = named_source(end_of(ends, "input", "memory:64"), stream.as_bytes());
+    let mut journal = Output::of(page.alloc, ends, "journal");
+    let mut sink = ToWrite::new(&mut journal);
+    let fills = fills_in(ends);
+    let answer = replay(
+        page.alloc,
+        &mut source,
+        &mut sink,
+        &mut ledger,
+        &mut (),
+        fills,
+    );
+    page.put_debug(&answer);
+    page.put_count(", held: ", &ledger.len());
+    journal.tell_all(page);
     Ok(())
 }
 

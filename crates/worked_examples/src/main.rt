@@ -3,7 +3,8 @@
 //! Each line of its answer is printed after the row's name. What the answers have to be stands in
 //! the file `stdout` beside this crate's sources: the values come from the standards, from worked
 //! tables and from other programs, never from a run. Empty lines and lines that begin with `#` are
-//! skipped.
+//! skipped. Where memory is wanting for a row, or the row names no call, `failed` and why comes
+//! after the lines of its answer that had ended.
 //!
 //! `each` and two numbers in front of the topic stand for a row for each number from the first to
 //! the last, which goes into the places of `{n}`. So does `fuses` for 0, 1, 2, .. up to the first
@@ -72,10 +73,14 @@ fn print_row(rt: &HostRuntime, row: &str) -> io::Result<()> {
         println!(rt; "{name}: run")?;
     }
     let mut page = Page::new(rt.alloc());
-    if let Err(trouble) = answer_row(rt, &mut page, call) {
-        return println!(rt; "{name}: failed {trouble:?}");
+    match answer_row(rt, &mut page, call).and_then(|()| page.done()) {
+        Ok(()) if page.as_str().is_empty() => println!(rt; "{name}: nothing"),
+        Ok(()) => print_lines(rt, name, page.as_str()),
+        Err(trouble) => {
+            print_lines(rt, name, page.ended_lines())?;
+            println!(rt; "{name}: failed {trouble:?}")
+        }
     }
-    print_answer(rt, name, page.as_str())
 }
 
 /// The answer to a row without its name, for each number where it says so.
@@ -92,6 +97,7 @@ fn answer_row(rt: &HostRuntime, page: &mut Page, row: &str) -> Done {
 fn digest(rt: &HostRuntime, page: &mut Page, written: &str) -> Done {
     let mut answer = Page::new(page.alloc);
     answer_words(rt, &mut answer, written)?;
+    answer.done()?;
     tell_digest(page, answer.as_str());
     Ok(())
 }
@@ -115,11 +121,8 @@ fn texts_of(alloc: Global, row: &str) -> Result<Vec<String>, AllocError> {
     Ok(texts)
 }
 
-/// Prints an answer, each line after the row's name.
-fn print_answer(rt: &HostRuntime, name: &str, text: &str) -> io::Result<()> {
-    if text.is_empty() {
-        return println!(rt; "{name}: nothing");
-    }
+/// Prints lines of an answer, each after the row's name.
+fn print_lines(rt: &HostRuntime, name: &str, text: &str) -> io::Result<()> {
     for line in text.lines() {
         if !line.is_empty() {
             println!(rt; "{name}: {line}")?;

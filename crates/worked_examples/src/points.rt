@@ -7,8 +7,11 @@ use pb_ledger::{Game, Ledger, ListTally, MapTally, Outcome, Row, Tally, scale};
 use pb_moves::play;
 use pb_poly::{Table, code_of, key_of};
 use rows::page::{Done, NO_ROW, Page, Trouble};
-use rows::text::number_of;
+use rows::text::{number_of, small_of};
 use std::alloc::Global;
+
+/// The key of rows that belong to no position.
+const KEY: u64 = 5;
 
 /// The answer to a call.
 pub(crate) fn answer(page: &mut Page, call: &[&str]) -> Done {
@@ -18,6 +21,8 @@ pub(crate) fn answer(page: &mut Page, call: &[&str]) -> Done {
     match *name {
         "recount" => tell_recount(page, first, rest),
         "scale" => tell_scale(page, first, rest),
+        "ensure" if *first == "map" => ensure_all::<MapTally>(page, rest),
+        "ensure" => ensure_all::<ListTally>(page, rest),
         _ => NO_ROW,
     }
 }
@@ -38,6 +43,26 @@ fn tell_scale(page: &mut Page, count: &str, words: &[&str]) -> Done {
     let [greatest] = words else { return NO_ROW };
     let count = number_of(count);
     page.put_display(&scale(count, number_of(greatest).max(count)));
+    Ok(())
+}
+
+/// Makes rows of these codes in a new tally: the answer to each, the points and the plies that its
+/// row has then, and the codes of all rows.
+fn ensure_all<T: Tally>(page: &mut Page, codes: &[&str]) -> Done {
+    let mut tally = T::new(page.alloc);
+    for word in codes {
+        let code = small_of(word).min(0xffff) as u16;
+        page.put_display(&code);
+        page.put(" ");
+        page.put_debug(&tally.ensure(KEY, code));
+        page.put_count(", points ", &tally.points(KEY, code));
+        page.put_count(", plies ", &tally.times(KEY, code));
+        page.put("\n");
+    }
+    page.put("rows");
+    for row in &tally.rows(page.alloc)? {
+        page.put_count(" ", &row.code);
+    }
     Ok(())
 }
 

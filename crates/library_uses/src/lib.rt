@@ -1,0 +1,9 @@
+//! The libraries in use, as another program uses them. Each module is one use: a function, or a
+//! type, over the calls of a library, with a contract of its own that says what its caller may
+//! rely on.
+#![tactic(auto)]
+
+pub mod books;
+pub mod games;
+pub mod moves;
+pub mod tallies;
