@@ -108,8 +108,10 @@ def functions_of(crate, path):
         begun = re.match(r"( *)(?:pub(?:\([a-z ]+\))? )?(?:const |unsafe )*fn (\w+)", line)
         body, last = lines_of(lines[at:], begun[1]) if begun else (0, 0)
         if body:
+            # (the prover's notes begin with a function's attribute)
+            first = at if lines[at - 1].lstrip().startswith("#[") else at + 1
             name = "::".join([crate, *owner, begun[2]])
-            found.append(Function(name, path, at + 1, at + body, at + last))
+            found.append(Function(name, path, first, at + body, at + last))
     return found
 
 
