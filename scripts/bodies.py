@@ -17,7 +17,7 @@ function's answers, by a note at its lines, or by its line of the report. That t
 proved is not enough, since one that calls a wrong one isn't either. Nor is an answer that names
 what the edit took away. A body whose goals wait for the proof of another wrong one is tried again
 without that one. A type, a constant, a derived comparison or a definition has a run of its own,
-and is refused at a goal of a law or of a function of its module.
+and is refused at a goal of a law, or of a function of its module or of that which its name names.
 
 What has passed is kept in ~/.cache/pbook, by a sum of the crate, its bodies, what it stands on,
 the toolchain and this script. --anew looks at nothing kept. RT_JOBS says how many runs go side by
@@ -247,6 +247,7 @@ class Crate:
     known = {}
 
     def __init__(self, line):
+        self.line = line
         self.name, _, words = (it.strip() for it in line.partition(":"))
         self.deps = [Crate.known[it] for it in words.split() if it in Crate.known]
         self.of_kit = ["std", *[it for it in words.split() if it not in Crate.known]]
@@ -275,14 +276,20 @@ class Crate:
 
     def made_of(self, more=()):
         """A sum of the toolchain, of this crate, of those below it, and of more files."""
-        total = hashlib.sha256(VERSION.encode())
-        files = [file for part in PARTS for it in [*self.below(), self] for file in it.files(part)]
+        crates = [*self.below(), self]
+        total = hashlib.sha256(repr([VERSION, *[it.line for it in crates]]).encode())
+        files = [file for it in crates for part in PARTS for file in it.files(part)]
         for file in [*files, *more]:
             total.update(repr((str(file), file.read_bytes())).encode())
         return total.hexdigest()
 
     def files(self, part):
+        """The files of one of its parts."""
         return sorted(it for it in (self.folder / part).rglob("*") if it.is_file())
+
+    def kept(self):
+        """The file that says that its bodies have passed, as they are and over what they are of."""
+        return KEPT / f"{self.name}-{self.made_of([*self.bodies(), SCRIPT])}"
 
     def is_made(self):
         """Whether its library is there, and made of what the crate is now."""
@@ -446,13 +453,10 @@ class Trial:
             self.fail(body.name, "NOT REFUSED: laws and the functions that it turns are proved")
 
 
-def try_crate(crate, anew):
-    """Tries a crate's bodies, unless they have passed, and returns what came of it."""
-    bodies = crate.bodies()
-    kept = KEPT / f"{crate.name}-{crate.made_of([*bodies, SCRIPT])}"
-    if kept.is_file() and not anew:
-        text = f"{crate.name}: {len(bodies)} refused, as is kept\n"
-        return kept.read_text(encoding="utf-8") + text, len(bodies), 0, 0.0
+def try_crate(crate):
+    """Tries a crate's bodies, and keeps it where all have passed. The answer is what to print, how
+    many have passed and failed, and the seconds that it took."""
+    kept = crate.kept()
     with tempfile.TemporaryDirectory(prefix="pbook-kept-") as room:
         trial = Trial(crate, room)
         trial.try_all()
@@ -460,7 +464,7 @@ def try_crate(crate, anew):
     if not trial.failed:
         KEPT.mkdir(parents=True, exist_ok=True)
         kept.write_text(text, encoding="utf-8")
-    passed = len(bodies) - trial.failed
+    passed = len(trial.lines) - trial.failed
     text += f"{crate.name}: {passed} refused, {trial.failed} failed, in {trial.runs} runs, "
     return f"{text}{trial.seconds:.0f} s of processor time\n", passed, trial.failed, trial.seconds
 
@@ -479,18 +483,20 @@ def try_crates(names, anew):
         sys.exit("crates.txt doesn't name each of these crates")
     crates = [it for it in crates if it.bodies() and (not names or it.name in names)]
     begin, passed, failed, seconds = time.time(), 0, 0, 0.0
-    if all(it.has_below() for it in crates):
-        crates.sort(key=lambda it: -len(it.bodies()))
-        with concurrent.futures.ThreadPoolExecutor(lanes()) as pool:
-            trials = [pool.submit(try_crate, it, anew) for it in crates]
-            for trial in concurrent.futures.as_completed(trials):
-                text, good, bad, took = trial.result()
-                print(text, end="", flush=True)
-                passed, failed, seconds = passed + good, failed + bad, seconds + took
-        minutes = (time.time() - begin) / 60
-        print(f"{seconds / 60:.1f} minutes of processor time, {minutes:.1f} by the clock")
-    else:
-        failed = 1
+    for crate in [it for it in crates if it.kept().is_file() and not anew]:
+        print(f"{crate.kept().read_text(encoding='utf-8')}{crate.name}: as is kept", flush=True)
+        passed += len(crate.bodies())
+        crates.remove(crate)
+    if not all(it.has_below() for it in crates):
+        crates, failed = [], 1
+    crates.sort(key=lambda it: -len(it.bodies()))
+    with concurrent.futures.ThreadPoolExecutor(lanes()) as pool:
+        for trial in concurrent.futures.as_completed([pool.submit(try_crate, it) for it in crates]):
+            text, good, bad, took = trial.result()
+            print(text, end="", flush=True)
+            passed, failed, seconds = passed + good, failed + bad, seconds + took
+    minutes = (time.time() - begin) / 60
+    print(f"{seconds / 60:.1f} minutes of processor time, {minutes:.1f} by the clock")
     print(f"{passed} passed, {failed} failed")
     return 1 if failed or not passed else 0
 
