@@ -1,10 +1,10 @@
-//! A tally of one's own, by pb_ledger: points of moves in a tree. The tally gives the six calls that
-//! `Tally` asks for. The book of a ledger that counts in it comes with the trait.
+//! A tally of one's own, by pb_ledger: points of moves in a tree. The tally gives the six calls
+//! that `Tally` asks for. The book of a ledger that counts in it comes with the trait.
 
 ghost use Rattle.std.specs.Prelude.{◌≡◌, IfOk, map};
 ghost use Rattle.std.specs.BTreeMap.{IsOrdered, get};
 ghost use Rattle.std.specs.Option.{option_map};
-ghost use Rattle.library_uses.specs.Sums.{row_of, sum_held};
+ghost use Rattle.library_uses.specs.Sums.{row_of, sum_held, sums_of};
 
 use pb_ledger::{Row, Tally};
 use std::alloc::{AllocError, Global};
@@ -24,7 +24,8 @@ pub struct TreeTally {
 }
 
 impl Tally for TreeTally {
-    ghost content = { λ t k c. option_map sum_held (get ⟦<(u64, u16) as Ord>⟧.cmp t.sums (k, c)) };
+    ghost content = { λ t k c.
+        option_map sum_held (get ⟦<(u64, u16) as Ord>⟧.cmp (sums_of t) (k, c)) };
 
     fn new(alloc: Global) -> TreeTally {
         TreeTally {
