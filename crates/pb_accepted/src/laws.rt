@@ -1,17 +1,19 @@
 //! Laws of ledgers, and of equality (`==`) between rules. Each is the contract of a function that
 //! does nothing, over the definitions alone.
 
-ghost use Rattle.std.specs.Prelude.{◌≡◌};
+ghost use Rattle.std.specs.Prelude.{◌≡◌, ◌↔◌, ℕ, Contains, List};
 ghost use Rattle.std.specs.Bool.{Decides};
 ghost use Rattle.pb_accepted.specs.declared.ledger.TheConstants.{MAX_CAP};
 ghost use Rattle.pb_accepted.specs.declared.rules.TheConstants.{MAX_LEAST};
+ghost use Rattle.pb_games.specs.Submissions.{IsLawful, Submission};
+ghost use Rattle.pb_accepted.specs.Accepting.{OneGame};
 ghost use Rattle.pb_accepted.specs.Holding.{most_games};
 ghost use Rattle.pb_accepted.specs.Laws.{AcceptsTheTaken, BookByMembers, CountsByMembers};
 ghost use Rattle.pb_accepted.specs.Laws.{HeldIsAnswered, IdsAreDistinct, LawfulArrives};
 ghost use Rattle.pb_accepted.specs.Laws.{NamesAreShort, NoConflict, NumbersAreDistinct};
 ghost use Rattle.pb_accepted.specs.Laws.{NumbersAreGiven, OneBook, OneBookText, OneRun, OneStep};
 ghost use Rattle.pb_accepted.specs.Laws.{RefusalsChangeNothing, RepeatsKeepTheirNumber, RunsJoin};
-ghost use Rattle.pb_accepted.specs.Laws.{SameBytes, TakenHasNoRepeats, TakenIsOne};
+ghost use Rattle.pb_accepted.specs.Laws.{SameBytes, SameMembers, TakenHasNoRepeats, TakenIsOne};
 ghost use Rattle.pb_accepted.specs.Rules.{CountingRules, most_occurrences};
 
 use crate::rules::Rules;
@@ -77,4 +79,14 @@ pub fn books()
 /// Rules are equal (`==`) exactly where their numbers are.
 pub fn equal_values()
     ensures rules { (a b : CountingRules) → Decides (⟦<Rules as PartialEq>⟧.eq a b) (a ≡ b) }
+{}
+
+/// What the laws above ask of lines and of lists. No id names two games where lawful lines with one
+/// id are one submission, and lists have the same members where each member of one is one of the
+/// other.
+pub fn premises()
+    ensures one_game { (L : List (List ℕ)) → ((b c : List ℕ) (s t : Submission) → Contains L b
+        → Contains L c → IsLawful b s → IsLawful c t → s.0 ≡ t.0 → s ≡ t) → OneGame L }
+    ensures members { (S U : List Submission)
+        → ((s : Submission) → Contains S s ↔ Contains U s) → SameMembers S U }
 {}

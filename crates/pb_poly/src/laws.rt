@@ -2,11 +2,13 @@
 //! that does nothing.
 
 ghost use Rattle.std.specs.Bool.{Decides};
-ghost use Rattle.std.specs.Prelude.{◌≡◌};
+ghost use Rattle.std.specs.Prelude.{◌≡◌, ◌<◌, ℕ, List, Some, false, length};
+ghost use Rattle.pb_io.specs.Source.{SourceState};
 ghost use Rattle.pb_poly.specs.Book.{BookIsOne, BytesAreOne};
 ghost use Rattle.pb_poly.specs.Code.{CodeIsOne};
 ghost use Rattle.pb_poly.specs.Found.{FoundIsOne};
 ghost use Rattle.pb_poly.specs.Key.{KeyIsOne, KeyIsParity};
+ghost use Rattle.pb_poly.specs.Reading.{Tells};
 ghost use Rattle.pb_poly.specs.declared.entry.Entry.{Entry};
 ghost use Rattle.pb_poly.specs.declared.reading.BookError.{BookError};
 ghost use Rattle.pb_poly.specs.declared.table.TableError.{TableError};
@@ -49,4 +51,11 @@ pub fn equal_values()
 /// A book holds one list of moves and weights for a setup.
 pub fn found_is_one()
     ensures { FoundIsOne }
+{}
+
+/// A source that tells what comes, and doesn't fail, gives a text that is shorter than the fills
+/// that a call may make: so there are such reads.
+pub fn told_texts()
+    ensures { (fills : ℕ) (old new : SourceState) (bytes : List ℕ) → old.to_come ≡ Some bytes
+        → new.failed ≡ false → length bytes < fills → Tells fills old new bytes }
 {}
