@@ -15,16 +15,18 @@ module _ (rows : List Row) (fault : ParseFault) (none : (rules : CountingRules) 
   refuses_collect order.Epd named has = absurd (cc named)
   refuses_collect (order.Show book) named has = absurd (cc named)
   refuses_collect (order.Probe table book fen) named has = absurd (cc named)
-  refuses_collect (order.Collect rules kept table book quiet) named has = none rules has.0
-  refuses_collect (order.Export rules table quiet) named has = absurd (cc named)
+  refuses_collect (order.Collect given) named has = none given.rules has.0
+  refuses_collect (order.Export given) named has = absurd (cc named)
+  refuses_collect (order.Games files) named has = absurd (cc named)
 
   pub refuses_export : RefusesFor (codes "export") rows fault
   refuses_export (order.Fen fen moves) named has = absurd (cc named)
   refuses_export order.Epd named has = absurd (cc named)
   refuses_export (order.Show book) named has = absurd (cc named)
   refuses_export (order.Probe table book fen) named has = absurd (cc named)
-  refuses_export (order.Collect rules kept table book quiet) named has = absurd (cc named)
-  refuses_export (order.Export rules table quiet) named has = none rules has.0
+  refuses_export (order.Collect given) named has = absurd (cc named)
+  refuses_export (order.Export given) named has = none given.rules has.0
+  refuses_export (order.Games files) named has = absurd (cc named)
 
 module _ (rows : List Row) (fault : ParseFault) (none : (kept : Keeping) → HasKeeping kept rows → fault ≡ Memory) where
   -- nor has `collect` without what it keeps
@@ -33,5 +35,6 @@ module _ (rows : List Row) (fault : ParseFault) (none : (kept : Keeping) → Has
   refuses_kept order.Epd named has = absurd (cc named)
   refuses_kept (order.Show book) named has = absurd (cc named)
   refuses_kept (order.Probe table book fen) named has = absurd (cc named)
-  refuses_kept (order.Collect rules kept table book quiet) named has = none kept has.1
-  refuses_kept (order.Export rules table quiet) named has = absurd (cc named)
+  refuses_kept (order.Collect given) named has = none given.kept has.1
+  refuses_kept (order.Export given) named has = absurd (cc named)
+  refuses_kept (order.Games files) named has = absurd (cc named)

@@ -178,6 +178,10 @@ pub enum Message<'m> {
     PassedOverMore {
         name: &'m str,
     },
+    /// The last line of a file isn't ended.
+    TornEnd {
+        name: &'m str,
+    },
     /// The submissions don't look like any.
     LooksLike(Looks),
     /// No line was a game.
@@ -208,6 +212,9 @@ impl Display for Message<'_> {
                 write!(f, "{name}: line {number} can't be taken; it is skipped")
             }
             Message::PassedOverMore { name } => write!(f, "{name}: more lines can't be taken"),
+            Message::TornEnd { name } => {
+                write!(f, "{name}: the last line has no end; it is left out")
+            }
             Message::LooksLike(Looks::Pgn) => {
                 write!(f, "standard input looks like PGN, not like submissions")
             }

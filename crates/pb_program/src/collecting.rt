@@ -1,45 +1,37 @@
 //! The command `collect` over the files that it names.
 
-use crate::command::{FILLS, FileSource, input, source};
-use pb_cli::{Fault, Keeping, Rules, collect_into, continue_into};
+ghost use Rattle.std.specs.Prelude.{◌≡◌};
+ghost use Rattle.pb_program.specs.Ordered.{is_synced};
+
+use crate::command::{FileSource, input, source};
+use crate::ordered;
+use pb_cli::{CollectOrder, Fault, Keeping};
 use pb_files::{
     Durability, FileDesk, JournalSink, KeptFile, Replies, Stop, Submissions, Synced, TellSkipped,
-    Written, hold_ledger, journal_to_file, keep_apart, start_journal,
+    Written, hold_ledger, keep_apart, start_journal,
 };
 use pb_io::{FromRead, Sink, ToWrite};
 use pb_messages::{LedgerLines, Messages, Named, News, Part, Progress, Told};
 use std::cell::RefCell;
 
-/// A run of `collect`: its rules, the table that it reads and the book that it makes.
+/// A run of `collect`, and what it was asked for.
 #[derive(Clone, Copy)]
 pub(crate) struct Collecting<'a> {
     messages: Messages<'a>,
-    rules: Rules,
-    table: &'a str,
-    book: &'a str,
+    order: &'a CollectOrder<'a>,
 }
 
 impl<'a> Collecting<'a> {
-    /// A run by these rules, with the paths of its table and its book.
-    pub(crate) fn new(
-        messages: Messages<'a>,
-        rules: Rules,
-        table: &'a str,
-        book: &'a str,
-    ) -> Collecting<'a> {
-        Collecting {
-            messages,
-            rules,
-            table,
-            book,
-        }
+    /// The run of this order.
+    pub(crate) fn new(messages: Messages<'a>, order: &'a CollectOrder<'a>) -> Collecting<'a> {
+        Collecting { messages, order }
     }
 
     /// Takes the submissions on standard input, keeps what is wanted beside the book, and answers
     /// whether there is a book.
-    pub(crate) fn run<K: Sink>(&self, kept: Keeping<'a>, output: &mut K) -> Result<bool, Stop> {
+    pub(crate) fn run<K: Sink>(&self, output: &mut K) -> Result<bool, Stop> {
         let output = RefCell::new(output);
-        match kept {
+        match self.order.kept {
             Keeping::Book => self.collect(&output),
             Keeping::Ledger(ledger) => self.continue_from(ledger, &output),
             Keeping::Journal { path, sync: true } => self.journal_to::<K, Synced>(path, &output),
@@ -53,14 +45,13 @@ impl<'a> Collecting<'a> {
         let mut table = self.table_beside(None)?;
         let mut book = self.store()?;
         let progress = Progress::new(self.messages, News::Above(0));
-        let has_book = collect_into(
+        let has_book = ordered::collect(
             self.messages.rt().alloc(),
-            self.rules,
+            self.order,
             &mut table,
             &mut FromRead::new(Submissions::new(input(self.messages), output, &progress)),
             &mut ToWrite::new(Replies::new(output, &progress)),
             &mut book,
-            FILLS,
         )?;
         Ok(self.end(&progress, has_book))
     }
@@ -78,16 +69,15 @@ impl<'a> Collecting<'a> {
         let file = hold_ledger(named, &progress)?;
         let mut book = self.store()?;
         let lines = LedgerLines::new(Told::new(named, &file), &progress);
-        let has_book = continue_into(
+        let has_book = ordered::go_on(
             self.messages.rt().alloc(),
-            self.rules,
+            self.order,
             &mut table,
             &mut FromRead::new(lines),
             &mut FromRead::new(Submissions::new(input(self.messages), output, &progress)),
             &mut ToWrite::new(Replies::new(output, &progress)),
             &mut KeptFile::new(FileDesk::of_ledger(self.messages, ledger, &file)),
             &mut book,
-            FILLS,
         )?;
         Ok(self.end(&progress, has_book))
     }
@@ -98,7 +88,9 @@ impl<'a> Collecting<'a> {
         &self,
         journal: &'a str,
         output: &RefCell<&mut K>,
-    ) -> Result<bool, Stop> {
+    ) -> Result<bool, Stop>
+        requires { D.syncs ≡ is_synced self.now.order.now.kept }
+    {
         let mut table = self.table_beside(Some((Part::Journal, journal)))?;
         let named = Named::new(self.messages, journal);
         let progress = Progress::new(self.messages, News::Journaled(false));
@@ -108,9 +100,9 @@ impl<'a> Collecting<'a> {
         let Ok(mut lines) = JournalSink::<_, D>::new(alloc, started.journal) else {
             return Err(Stop::Fault(Fault::Memory));
         };
-        let has_book = journal_to_file(
+        let has_book = ordered::journal(
             alloc,
-            self.rules,
+            self.order,
             &mut table,
             &mut started.reader,
             &mut lines,
@@ -118,25 +110,24 @@ impl<'a> Collecting<'a> {
             &mut FromRead::new(Submissions::new(input(self.messages), output, &progress)),
             &mut ToWrite::new(Replies::new(output, &progress)),
             &mut book,
-            FILLS,
         )?;
         Ok(self.end(&progress, has_book))
     }
 
     /// The table as a source, once it is seen that the files of the run are different ones.
     fn table_beside(&self, kept: Option<(Part, &str)>) -> Result<FileSource<'a>, Stop> {
-        let table = (Part::Table, self.table);
-        let book = (Part::Book, self.book);
+        let table = (Part::Table, self.order.table);
+        let book = (Part::Book, self.order.book);
         match kept {
             Some(kept) => keep_apart(self.messages, &[table, kept, book])?,
             None => keep_apart(self.messages, &[table, book])?,
         }
-        source(self.messages, self.table)
+        source(self.messages, self.order.table)
     }
 
     /// The store of the book, after a warning where it can't be made.
     fn store<'f>(&self) -> Result<KeptFile<FileDesk<'a, 'f>>, Stop> {
-        let mut desk = FileDesk::of_book(self.messages, self.book);
+        let mut desk = FileDesk::of_book(self.messages, self.order.book);
         desk.warn_of_folder()?;
         Ok(KeptFile::new(desk))
     }
@@ -144,7 +135,7 @@ impl<'a> Collecting<'a> {
     /// Ends the run, which has made a book or refused the table or the ledger.
     fn end(&self, progress: &Progress<'_>, has_book: bool) -> bool {
         if has_book {
-            progress.end(self.book);
+            progress.end(self.order.book);
         }
         has_book
     }

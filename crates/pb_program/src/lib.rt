@@ -5,8 +5,11 @@
 
 mod collecting;
 mod command;
+mod games;
+mod games_of;
+mod ordered;
 mod program;
 mod stop;
 
-pub use command::FILLS;
+pub use ordered::FILLS;
 pub use program::{USAGE_STATUS, run, tell_no_memory};
