@@ -1,10 +1,10 @@
 //! Stand-in.
 
+ghost use Rattle.std.specs.Prelude.{⊤};
+
 use pb_cli::SkippedLines;
 use pb_io::{Failed, Fault, LineTask, ReadFault, Sink, Source, take_ended_lines};
 use std::alloc::Global;
-
-ghost use Rattle.std.specs.Prelude.{⊤};
 
 #[derive(Drop)]
 struct Putter<'k, K: Sink, W: SkippedLines> {
@@ -50,7 +50,11 @@ pub(crate) fn run_games<S: Source, K: Sink, W: SkippedLines>(
     fills: u32,
 ) -> Result<bool, Fault> {
     let torn = {
-        let mut putter = Putter { sink, skipped, lines: 0 };
+        let mut putter = Putter {
+            sink,
+            skipped,
+            lines: 0,
+        };
         take_ended_lines(alloc, source, &mut putter, fills)?
     };
     sink.flush()?;

@@ -97,10 +97,12 @@ fn tell_refused(messages: Messages<'_>, order: &Order<'_>, front: &RefCell<Front
 fn name_of<'a>(order: &Order<'a>, kind: Part) -> &'a str {
     match (order, kind) {
         (
-            Order::Collect(CollectOrder {
-                kept: Keeping::Ledger(path),
-                ..
-            }),
+            Order::Collect(
+                CollectOrder {
+                    kept: Keeping::Ledger(path),
+                    ..
+                },
+            ),
             Part::Ledger,
         ) => path,
         (Order::Show { book } | Order::Probe { book, .. }, Part::Book) => book,
