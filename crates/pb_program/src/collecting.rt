@@ -3,8 +3,8 @@
 use crate::command::{FILLS, FileSource, input, source};
 use pb_cli::{Fault, Keeping, Rules, collect_into, continue_into};
 use pb_files::{
-    Durability, FileDesk, JournalSink, KeptFile, Replies, Stop, Submissions, Synced, TellSkipped,
-    Written, hold_ledger, journal_to_file, keep_apart, start_journal,
+    Durability, FileDesk, JournalGuard, JournalSink, KeptFile, Replies, Stop, Submissions, Synced,
+    TellSkipped, Written, hold_ledger, journal_to_file, keep_apart, start_journal,
 };
 use pb_io::{FromRead, Sink, ToWrite};
 use pb_messages::{LedgerLines, Messages, Named, News, Part, Progress, Told};
@@ -12,23 +12,26 @@ use std::cell::RefCell;
 
 /// A run of `collect`: its rules, the table that it reads and the book that it makes.
 #[derive(Clone, Copy)]
-pub(crate) struct Collecting<'a> {
+pub(crate) struct Collecting<'g, 'a> {
     messages: Messages<'a>,
+    guard: &'g JournalGuard<'a>,
     rules: Rules,
     table: &'a str,
     book: &'a str,
 }
 
-impl<'a> Collecting<'a> {
+impl<'g, 'a> Collecting<'g, 'a> {
     /// A run by these rules, with the paths of its table and its book.
     pub(crate) fn new(
         messages: Messages<'a>,
+        guard: &'g JournalGuard<'a>,
         rules: Rules,
         table: &'a str,
         book: &'a str,
-    ) -> Collecting<'a> {
+    ) -> Collecting<'g, 'a> {
         Collecting {
             messages,
+            guard,
             rules,
             table,
             book,
@@ -57,7 +60,7 @@ impl<'a> Collecting<'a> {
             self.messages.rt().alloc(),
             self.rules,
             &mut table,
-            &mut FromRead::new(Submissions::new(input(self.messages), output, &progress)),
+            &mut Submissions::new(input(self.messages), output, &progress),
             &mut ToWrite::new(Replies::new(output, &progress)),
             &mut book,
             FILLS,
@@ -75,17 +78,19 @@ impl<'a> Collecting<'a> {
         let mut table = self.table_beside(Some((Part::Ledger, ledger)))?;
         let named = Named::new(self.messages, ledger);
         let progress = Progress::new(self.messages, News::Unknown);
-        let file = hold_ledger(named, &progress)?;
+        let file = hold_ledger(named, &progress, self.guard)?;
+        let mut kept = FileDesk::of_ledger(self.messages, ledger, &file);
+        kept.expect_place()?;
         let mut book = self.store()?;
-        let lines = LedgerLines::new(Told::new(named, &file), &progress);
+        let lines = LedgerLines::new(Told::new(named, file.file()), named, &progress);
         let has_book = continue_into(
             self.messages.rt().alloc(),
             self.rules,
             &mut table,
             &mut FromRead::new(lines),
-            &mut FromRead::new(Submissions::new(input(self.messages), output, &progress)),
+            &mut Submissions::new(input(self.messages), output, &progress),
             &mut ToWrite::new(Replies::new(output, &progress)),
-            &mut KeptFile::new(FileDesk::of_ledger(self.messages, ledger, &file)),
+            &mut KeptFile::new(kept),
             &mut book,
             FILLS,
         )?;
@@ -102,7 +107,7 @@ impl<'a> Collecting<'a> {
         let mut table = self.table_beside(Some((Part::Journal, journal)))?;
         let named = Named::new(self.messages, journal);
         let progress = Progress::new(self.messages, News::Journaled(false));
-        let mut started = start_journal(named, &progress, D::syncs())?;
+        let mut started = start_journal(named, &progress, self.guard, D::syncs())?;
         let mut book = self.store()?;
         let alloc = self.messages.rt().alloc();
         let Ok(mut lines) = JournalSink::<_, D>::new(alloc, started.journal) else {
@@ -115,7 +120,7 @@ impl<'a> Collecting<'a> {
             &mut started.reader,
             &mut lines,
             &mut TellSkipped::new(named),
-            &mut FromRead::new(Submissions::new(input(self.messages), output, &progress)),
+            &mut Submissions::new(input(self.messages), output, &progress),
             &mut ToWrite::new(Replies::new(output, &progress)),
             &mut book,
             FILLS,
@@ -134,10 +139,10 @@ impl<'a> Collecting<'a> {
         source(self.messages, self.table)
     }
 
-    /// The store of the book, after a warning where it can't be made.
+    /// The store of the book, once it is known to be one that can be made.
     fn store<'f>(&self) -> Result<KeptFile<FileDesk<'a, 'f>>, Stop> {
         let mut desk = FileDesk::of_book(self.messages, self.book);
-        desk.warn_of_folder()?;
+        desk.expect_place()?;
         Ok(KeptFile::new(desk))
     }
 

@@ -2,7 +2,7 @@
 
 use crate::collecting::Collecting;
 use pb_cli::{Order, Rules, run_epd, run_export, run_fen, run_probe, run_show};
-use pb_files::{Stop, expect_open, open};
+use pb_files::{JournalGuard, Stop, expect_open, open};
 use pb_io::{FromRead, Sink};
 use pb_messages::{Messages, Named, News, Progress, Told, Watched};
 use std::fs::File;
@@ -17,9 +17,10 @@ pub const FILLS: u32 = u32::MAX;
 
 /// Runs the order's command, and answers whether all was taken. The standard streams have to be
 /// open, and the files that it reads are opened before anything is read.
-pub(crate) fn answer<K: Sink>(
-    messages: Messages<'_>,
-    order: &Order<'_>,
+pub(crate) fn answer<'a, K: Sink>(
+    messages: Messages<'a>,
+    order: &Order<'a>,
+    guard: &JournalGuard<'a>,
     output: &mut K,
 ) -> Result<bool, Stop> {
     let rt = messages.rt();
@@ -52,7 +53,7 @@ pub(crate) fn answer<K: Sink>(
             table,
             book,
             ..
-        } => { Collecting::new(messages, *rules, table, book).run(*kept, output) }
+        } => { Collecting::new(messages, guard, *rules, table, book).run(*kept, output) }
         Order::Export { rules, table, .. } => export(messages, *rules, table, output),
     }
 }
