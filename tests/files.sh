@@ -488,7 +488,7 @@ two_journals() {
     holds test "$status" -eq 0
     holds test "$(wc -l < told)" -eq 2
     for part in one two; do
-        holds grep -q "^pbook: $part.journal: the last line has no end" told
+        holds grep -q "^pbook: $part.journal: its last line has no end" told
         holds cmp "$part.journal" "$part.before"
     done
     holds collects 0 "$book" lines

@@ -350,7 +350,7 @@ left_out_lines() {
         printf 'torn'
     } > kept
     holds tells_of 0 "kept: line 12 can't be taken; it is skipped
-kept: the last line has no end; it is left out" "$PROGRAM" games kept
+kept: its last line has no end; it is left out" "$PROGRAM" games kept
     holds cmp "$work/replies" games
     holds tells_of 0 '' "$PROGRAM" games games
 }

@@ -7,7 +7,7 @@ use Rattle.std.proofs.lemmas.List.{take-append-le, take_min, take_rest}
 use Rattle.std.proofs.Math.Seq.{take-add}
 use Rattle.pb_io.specs.Sink.{Flush, Lasts, SinkState}
 use Rattle.pb_files.specs.Begins.{BeginsWith}
-use Rattle.pb_files.specs.Disk.{Adds, Disk, Grows, IsOnDisk, Leaves, OutlivesCrash, Syncs, on_disk}
+use Rattle.pb_files.specs.Disk.{Adds, Disk, Grows, IsOnDisk, IsSound, Leaves, OutlivesCrash, StaysSound, Syncs, on_disk}
 use Rattle.pb_files.specs.JournalSink.{bytes_lasting, bytes_put}
 use Rattle.pb_files.specs.Steps.{Steps}
 
@@ -84,12 +84,38 @@ told_bytes bytes rest waits (Some old) None is adds = absurd adds
 told_bytes bytes rest waits (Some old) (Some new) is adds =
     ap (λ f. f ++ rest) adds.found ∙ append_assoc old.found bytes rest ∙ ap (λ bs. old.found ++ bs) is
 
+-- where nothing was called clean that isn't on the disk, that stays so
+
+pub told_same : (told : Option Disk) → Steps StaysSound told told
+told_same None = tt
+told_same (Some disk) = λ sound. sound
+
+pub told_stays : (old mid new : Option Disk) → Steps StaysSound old mid → Steps StaysSound mid new → Steps StaysSound old new
+told_stays None None None first second = tt
+told_stays None None (Some new) first second = absurd second
+told_stays None (Some mid) new first second = absurd first
+told_stays (Some old) None new first second = absurd first
+told_stays (Some old) (Some mid) None first second = absurd second
+told_stays (Some old) (Some mid) (Some new) first second = λ sound. second (first sound)
+
+pub told_sound : (old new : Option Disk) → Steps StaysSound old new → IfSome old IsSound → IfSome new IsSound
+told_sound None None stays sound = tt
+told_sound None (Some new) stays sound = absurd stays
+told_sound (Some old) None stays sound = absurd stays
+told_sound (Some old) (Some new) stays sound = stays sound
+
+pub told_synced : (mid new : Option Disk) → Steps Syncs mid new → IfSome mid IsSound → IfSome new IsSound
+told_synced None None syncs sound = tt
+told_synced None (Some new) syncs sound = absurd syncs
+told_synced (Some mid) None syncs sound = absurd syncs
+told_synced (Some mid) (Some new) syncs sound = syncs.sound sound
+
 -- what a sync put on the disk
-pub told_outlives : (mid new : Option Disk) → Steps Syncs mid new → IfSome new OutlivesCrash
-told_outlives None None syncs = tt
-told_outlives None (Some new) syncs = absurd syncs
-told_outlives (Some mid) None syncs = absurd syncs
-told_outlives (Some mid) (Some new) syncs = outlives new syncs.all
+pub told_outlives : (mid new : Option Disk) → IfSome mid IsSound → Steps Syncs mid new → IfSome new OutlivesCrash
+told_outlives None None sound syncs = tt
+told_outlives None (Some new) sound syncs = absurd syncs
+told_outlives (Some mid) None sound syncs = absurd syncs
+told_outlives (Some mid) (Some new) sound syncs = outlives new (syncs.all sound)
 
 -- One write more takes a front of the rest.
 pub told_more : (bytes : List ℕ) (count more : ℕ) (old mid new : Option Disk) → Steps (Adds (take count bytes)) old mid
@@ -102,10 +128,10 @@ told_more bytes count more old mid new first second =
 pub told_failed : (bytes : List ℕ) (old mid new : Option Disk) → Steps (Adds bytes) old mid → Steps (Adds []) mid new → Steps (Adds bytes) old new
 told_failed bytes old mid new first second = told_then bytes [] bytes old mid new (append-nil bytes) first second
 
-pub told_on_disk : (mid new : Option Disk) → Steps Syncs mid new → ForSome new IsOnDisk
-told_on_disk None (Some new) syncs disk is = absurd syncs
-told_on_disk (Some mid) (Some new) syncs disk is = subst IsOnDisk (search rules) syncs.all
-told_on_disk mid None syncs disk is = cc
+pub told_on_disk : (mid new : Option Disk) → IfSome mid IsSound → Steps Syncs mid new → ForSome new IsOnDisk
+told_on_disk None (Some new) sound syncs disk is = absurd syncs
+told_on_disk (Some mid) (Some new) sound syncs disk is = subst IsOnDisk (search rules) (syncs.all sound)
+told_on_disk mid None sound syncs disk is = cc
 
 pub told_on_disk_outlives : (told : Option Disk) → ForSome told IsOnDisk → IfSome told OutlivesCrash
 told_on_disk_outlives None on_disk = tt

@@ -1,11 +1,15 @@
 -- What is known of a file that is only added to, and what a kill and a crash leave of it.
-use Rattle.std.specs.Prelude.{◌≡◌, ℕ, ◌≤◌, Bool, List, ◌++◌, length, take, Option}
+use Rattle.std.specs.Prelude.{◌≡◌, ℕ, ◌≤◌, Bool, true, false, List, ◌++◌, length, take}
+use Rattle.std.specs.Prelude.{Option, IfSome}
 use Rattle.pb_files.specs.Begins.{BeginsWith}
 
--- the bytes that a reader finds, and how many from the first on are on the disk
+-- The bytes that a reader finds; how many from the first on are on the disk; and whether the system
+-- calls some clean that aren't. A sync that failed leaves it so, in whichever run that was. No later
+-- sync writes such bytes, and each tells all the same that it did.
 pub record Disk : Type 0 where
   pub found : List ℕ
   pub kept : ℕ
+  pub lost : Bool
 
 -- What a run knows of its file: the disk, where the file tells of it, and whether each write and
 -- sync so far has succeeded.
@@ -21,6 +25,18 @@ on_disk disk = take disk.kept disk.found
 abbrev pub IsOnDisk : Disk → Type 0
 IsOnDisk disk = on_disk disk ≡ disk.found
 
+-- a sync writes all that isn't on the disk yet
+abbrev pub IsSound : Disk → Type 0
+IsSound disk = disk.lost ≡ false
+
+-- no byte is called clean that isn't on the disk, unless one was
+abbrev pub StaysSound : Disk → Disk → Type 0
+StaysSound old new = IsSound old → IsSound new
+
+-- where lines are to be synced, and the file works, a sync of it writes all that isn't on the disk
+abbrev pub SyncsAll : Bool → FileState → Type 0
+SyncsAll sync file = sync ≡ true → file.ready ≡ true → IfSome file.told IsSound
+
 -- A crash leaves what is on the disk, and behind it anything at all.
 abbrev pub Leaves : Disk → List ℕ → Type 0
 Leaves disk left = BeginsWith left (on_disk disk)
@@ -34,12 +50,14 @@ pub record Adds (bytes : List ℕ) (old new : Disk) : Type 0 where
 abbrev pub Grows : Disk → Disk → Type 0
 Grows old new = (bytes : List ℕ) × Adds bytes old new
 
--- No byte was added, and all are on the disk, which are as many as are found.
+-- No byte was added, and all are on the disk but those that the system called clean before. No more
+-- bytes are there than are found.
 pub record Syncs (old new : Disk) : Type 0 where
   pub found : new.found ≡ old.found
-  pub all : IsOnDisk new
+  pub all : IsSound old → IsOnDisk new
   pub kept : old.kept ≤ new.kept
   pub within : new.kept ≤ length new.found
+  pub sound : StaysSound old new
 
 -- whatever is added later, a crash leaves these bytes first
 abbrev pub OutlivesCrash : Disk → Type 0

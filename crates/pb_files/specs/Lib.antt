@@ -1,3 +1,4 @@
+pub mod Apart
 pub mod Begins
 pub mod Desk
 pub mod Disk

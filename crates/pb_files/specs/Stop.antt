@@ -34,8 +34,8 @@ stop_of_both (NotContinued.Book why) = stop_of_store why
 
 -- the names can't be those of one run
 abbrev pub stop_of_names : NotApart → Stop
-stop_of_names NotApart.OneFile = Stop.NotOpened
-stop_of_names NotApart.IsOutput = Stop.Fault Fault.Write
+stop_of_names (NotApart.OneFile one other) = Stop.NotOpened
+stop_of_names (NotApart.IsOutput part) = Stop.Fault Fault.Write
 
 -- the run doesn't come to its journal
 abbrev pub stop_of_start : NotStarted → Stop

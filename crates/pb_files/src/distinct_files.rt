@@ -1,43 +1,105 @@
 //! The files of one run, which have to be different ones.
 
+ghost use Rattle.std.specs.Prelude.{◌≡◌, ℕ, All, AllPairs, IfErr, IfNone, IfSome, List, OnOk};
+ghost use Rattle.std.specs.Prelude.{false, true, ⊤};
+ghost use Rattle.pb_files.specs.Apart.{Clashes, IsAmong, IsNoOutput};
+
 use crate::one_file::{OUTPUT, is_one_file};
-use pb_messages::{Message, Messages, Part};
+use pb_messages::{Messages, Part};
 use thiserror::Error;
+
+/// Paths, and which of them lead to one file.
+pub trait Places {
+    /// The paths were looked at, and lead to different files.
+    ghost apart: { Self → List ℕ → List ℕ → Type 0 };
+
+    /// The paths were looked at, and lead to one file.
+    ghost one: { Self → List ℕ → List ℕ → Type 0 };
+
+    /// Whether both paths lead to one file, by whatever names. Where there is none yet the two are
+    /// taken for different ones; so are devices and pipes, which keep nothing.
+    fn are_one(&self, path: &str, other: &str) -> bool
+        ensures apart { result ≡ false → apart self.now path.now other.now }
+        ensures one { result ≡ true → one self.now path.now other.now };
+}
 
 /// Why files can't be those of one run.
 #[derive(Clone, Copy, Debug, Error)]
 pub enum NotApart {
     /// Two of the paths lead to one file.
-    #[error("two files of a run are one")]
-    OneFile,
+    #[error("{one} and {other} are one file")]
+    OneFile {
+        /// The part of the first of them.
+        one: Part,
+        /// The part of the second.
+        other: Part,
+    },
     /// A file that is read is standard output.
-    #[error("a file of the run is standard output")]
-    IsOutput,
+    #[error("{0} is standard output")]
+    IsOutput(Part),
 }
 
-/// Makes sure that no two of these paths lead to one file, by whatever names. Else a book could
-/// take the place of the journal with all games. Devices and pipes, which keep nothing, may be
-/// named twice.
+/// Makes sure that no two of these paths lead to one file. Else a book could take the place of the
+/// journal with all games.
 ///
 /// # Errors
 ///
 /// `OneFile` where two of them lead to one file. `IsOutput` where one that is read is standard
 /// output: the replies would be written over its games, and so no line can tell of it there.
-pub fn keep_apart(messages: Messages<'_>, files: &[(Part, &str)]) -> Result<(), NotApart> {
-    let rt = messages.rt();
-    for (index, (part, path)) in files.iter().enumerate() {
-        let mut others = files.iter().take(index);
-        if let Some((one, _)) = others.find(|(_, other)| is_one_file(rt, path, other)) {
-            messages.tell(&Message::OneFile {
-                one: *one,
-                other: *part,
-            });
-            return Err(NotApart::OneFile);
-        }
-        if !matches!(part, Part::Book) && is_one_file(rt, path, OUTPUT) {
-            messages.tell(&Message::IsOutput { part: *part });
-            return Err(NotApart::IsOutput);
-        }
+pub fn are_apart<P: Places>(places: &P, files: &[(Part, &str)]) -> Result<(), NotApart>
+    ensures apart { OnOk result
+        (AllPairs (λ a b. P.apart places.now a.1.now b.1.now) files.now) }
+    ensures no_output { OnOk result (All (IsNoOutput (P.apart places.now)) files.now) }
+    ensures clash { IfErr result (Clashes (P.one places.now) files.now) }
+{
+    let Some(((part, path), rest)) = files.split_first() else {
+        return Ok(());
+    };
+    if !matches!(part, Part::Book) && places.are_one(path, OUTPUT) {
+        return Err(NotApart::IsOutput(*part));
     }
-    Ok(())
+    if let Some(other) = same_among(places, path, rest) {
+        return Err(NotApart::OneFile { one: *part, other });
+    }
+    are_apart(places, rest)
+}
+
+/// The part of a file among these that the path leads to as well.
+fn same_among<P: Places>(places: &P, path: &str, files: &[(Part, &str)]) -> Option<Part>
+    ensures none { IfNone result (All (λ file. P.apart places.now path.now file.1.now) files.now) }
+    ensures some { IfSome result (λ part. IsAmong (P.one places.now path.now) part files.now) }
+{
+    let ((part, other), rest) = files.split_first()?;
+    if places.are_one(path, other) {
+        return Some(*part);
+    }
+    same_among(places, path, rest)
+}
+
+/// The paths of the system.
+#[derive(Clone, Copy)]
+struct SystemPlaces<'a>(&'a HostRuntime);
+
+impl Places for SystemPlaces<'_> {
+    ghost apart = { λ _ _ _. ⊤ };
+
+    ghost one = { λ _ _ _. ⊤ };
+
+    fn are_one(&self, path: &str, other: &str) -> bool {
+        is_one_file(self.0, path, other)
+    }
+}
+
+/// Makes sure that no two of these paths of the system lead to one file, as `are_apart` does, and
+/// tells which do.
+///
+/// # Errors
+///
+/// Those of `are_apart`.
+pub fn keep_apart(messages: Messages<'_>, files: &[(Part, &str)]) -> Result<(), NotApart> {
+    let apart = are_apart(&SystemPlaces(messages.rt()), files);
+    if let Err(why) = apart {
+        messages.tell(&why);
+    }
+    apart
 }

@@ -1,16 +1,18 @@
 //! A name in a folder of the system.
 
 ghost use Rattle.std.specs.Option.{is_some};
-ghost use Rattle.std.specs.Prelude.{◌≡◌, IfOk, None, OnErr, OnOk, false, true};
+ghost use Rattle.std.specs.Prelude.{◌≡◌, Err, IfOk, None, OnErr, OnOk, false, true};
 ghost use Rattle.pb_files.specs.Desk.{Begins, is_refused_draft};
 
 use crate::desk::{Desk, NotMade, NotNamed};
 use crate::file_writer::FileWriter;
-use crate::folder::sync_folder;
+use crate::ledger_file::LedgerFile;
 use crate::one_file::{INPUT, OUTPUT, is_one_file, leads_to, tell_of_one};
+use crate::place::Place;
+use crate::saving::new_draft;
 use pb_collecting::StoreError;
 use pb_io::{Sink, ToWrite};
-use pb_messages::{Cause, Left, Message, Messages, Named, Part};
+use pb_messages::{Cause, Left, Message, Messages, Named, Part, Unreplaceable};
 use std::fs::{self, File, Metadata, OpenOptions, TryLockError};
 use std::io::{self, ErrorKind};
 use std::os::unix::fs::{MetadataExt, OpenOptionsExt};
@@ -29,20 +31,22 @@ struct Old {
     told: Metadata,
 }
 
-/// The file of a path, and its drafts beside it: `.NAME.pbook-0` and so on. A draft's name belongs
-/// to whoever holds a lock on the file that it leads to. No contract knows what is on them, so this
-/// desk tells nothing; it tells users what has failed.
+/// The file that a path leads to, by links too, and its drafts beside it: `.NAME.pbook-0` and so
+/// on. A draft's name belongs to whoever holds a lock on the file that it leads to. No contract
+/// knows what is on them, so this desk tells nothing; it tells users what has failed.
 ///
-/// A draft can replace a file of one name, and of this run's owner and group. Devices, pipes,
-/// links, files with a second name, and files whose folder takes no draft or whose name a mount
-/// holds are written in place.
+/// A draft can replace a file of one name, and of this run's owner and group. Devices, pipes and
+/// links that lead nowhere are written in place. So is a book with a second name, or whose folder
+/// takes no draft, or whose name a mount holds. Such a ledger isn't made at all: the games of all
+/// earlier runs would be lost to a kill.
 #[derive(Drop)]
 pub struct FileDesk<'a, 'f> {
     messages: Messages<'a>,
     part: Part,
     path: &'a str,
-    // The file of a ledger, which this run holds.
-    held: Option<&'f File>,
+    // What a ledger is read from.
+    read: Option<&'f LedgerFile<'a>>,
+    place: Place<'a>,
     old: Option<Old>,
     draft: Option<PathBuf>,
     refused: bool,
@@ -55,22 +59,27 @@ impl<'a, 'f> FileDesk<'a, 'f> {
         FileDesk::new(messages, Part::Book, path, None)
     }
 
-    /// The file of a saved ledger, which this run holds. It holds the new one as well.
-    pub fn of_ledger(messages: Messages<'a>, path: &'a str, held: &'f File) -> FileDesk<'a, 'f> {
-        FileDesk::new(messages, Part::Ledger, path, Some(held))
+    /// The file of a saved ledger, which this run has read. It holds the new one as well.
+    pub fn of_ledger(
+        messages: Messages<'a>,
+        path: &'a str,
+        read: &'f LedgerFile<'a>,
+    ) -> FileDesk<'a, 'f> {
+        FileDesk::new(messages, Part::Ledger, path, Some(read))
     }
 
     fn new(
         messages: Messages<'a>,
         part: Part,
         path: &'a str,
-        held: Option<&'f File>,
+        read: Option<&'f LedgerFile<'a>>,
     ) -> FileDesk<'a, 'f> {
         FileDesk {
             messages,
             part,
             path,
-            held,
+            read,
+            place: Place::of_name(path),
             old: None,
             draft: None,
             refused: false,
@@ -78,15 +87,54 @@ impl<'a, 'f> FileDesk<'a, 'f> {
         }
     }
 
-    /// Warns where there is no file, and none can be made. So a user knows it before all is taken.
+    /// Makes sure that the file can be made, as far as that is known before it is. So a user knows
+    /// it before all is taken. Where a book isn't there and its folder takes none, that is a
+    /// warning.
     ///
     /// # Errors
     ///
-    /// `Memory` where there is none for the name of a draft.
-    pub fn warn_of_folder(&mut self) -> Result<(), StoreError> {
-        if !self.is_free() {
+    /// `Open` where a book that is there can't be written, or no draft can take the place of a
+    /// ledger, which is told; `Memory` where there is none for a draft.
+    pub fn expect_place(&mut self) -> Result<(), StoreError> {
+        if self.is_ledger() {
+            return match new_draft(self) {
+                Ok(draft) => {
+                    self.remove(draft);
+                    Ok(())
+                }
+                Err(NotMade::Failed(why)) => Err(why),
+                Err(_) => Err(StoreError::Open),
+            };
+        }
+        if self.read.is_some() {
             return Ok(());
         }
+        if self.is_free() {
+            return self.warn_of_folder();
+        }
+        match fs::metadata(self.messages.rt(), self.path) {
+            // Opening a pipe may wait.
+            Ok(told) if told.is_file() || told.is_dir() => self.expect_writable(),
+            _ => Ok(()),
+        }
+    }
+
+    /// Makes sure that the file, which is there, can be opened to be written.
+    fn expect_writable(&self) -> Result<(), StoreError> {
+        match OpenOptions::new()
+            .write(true)
+            .open(self.messages.rt(), self.path)
+        {
+            Ok(_) => Ok(()),
+            Err(error) => {
+                self.named(Left::Old(self.part)).fail(&error);
+                Err(StoreError::Open)
+            }
+        }
+    }
+
+    /// Warns where no file can be made of a name that is free.
+    fn warn_of_folder(&mut self) -> Result<(), StoreError> {
         self.remove_left_over(0);
         let Some(name) = self.name_beside(0)? else {
             return Ok(());
@@ -105,6 +153,11 @@ impl<'a, 'f> FileDesk<'a, 'f> {
             _ => {}
         }
         Ok(())
+    }
+
+    /// Whether this is the ordinary file of a ledger, and no pipe or device.
+    fn is_ledger(&self) -> bool {
+        self.read.is_some_and(|read| read.is_file())
     }
 
     /// Whether nothing has the path's name, no link that leads nowhere either.
@@ -128,7 +181,8 @@ impl<'a, 'f> FileDesk<'a, 'f> {
     /// Whether another run holds this file. A shared lock tells: that of a run which has only put a
     /// book there doesn't count.
     fn is_anothers(&self, old: &Old) -> bool {
-        let is_own = self.held.is_some_and(|held| held
+        let is_own = self.read.is_some_and(|read| read
+            .file()
             .metadata()
             .is_ok_and(|held| tell_of_one(&held, &old.told)));
         old.told.is_file()
@@ -138,11 +192,11 @@ impl<'a, 'f> FileDesk<'a, 'f> {
 
     /// The name of the draft of this number. None where the path doesn't end in a file's name.
     fn name_beside(&self, number: u32) -> Result<Option<PathBuf>, StoreError> {
-        let path = Path::new(self.path);
+        let path = Path::new(self.place.path());
         let Some(file) = path.file_name() else {
             return Ok(None);
         };
-        if !self.path.ends_with(file) {
+        if !path.as_str().ends_with(file) {
             return Ok(None);
         }
         let alloc = self.messages.rt().alloc();
@@ -169,7 +223,7 @@ impl<'a, 'f> FileDesk<'a, 'f> {
     /// over, nor removed by such a run. The lock on a book's can be shared, so that the next run
     /// may replace it.
     fn is_held(&self, file: &File, name: Path<'_>) -> bool {
-        let lock = match self.held {
+        let lock = match self.read {
             Some(_) => file.try_lock(),
             None => file.try_lock_shared(),
         };
@@ -181,23 +235,79 @@ impl<'a, 'f> FileDesk<'a, 'f> {
         }
     }
 
-    /// Whether the new file has the owner, the group and now the permissions of the old one.
-    fn takes_after(&self, file: &File) -> bool {
+    /// Whether the new file has the owner and the group of the old one. Then it has the permissions
+    /// too.
+    fn takes_after(&self, file: &File) -> io::Result<bool> {
         let Some(old) = &self.old else {
-            return true;
+            return Ok(true);
         };
-        file.metadata().is_ok_and(|made| made.uid() == old.told.uid()
-            && made.gid() == old.told.gid())
-            && file.set_permissions(old.told.permissions()).is_ok()
+        let made = file.metadata()?;
+        if made.uid() != old.told.uid() || made.gid() != old.told.gid() {
+            return Ok(false);
+        }
+        if made.mode() != old.told.mode() {
+            file.set_permissions(old.told.permissions())?;
+        }
+        Ok(true)
     }
 
-    /// Remembers that no draft can take the file's place.
-    fn refuse(&mut self) -> NotMade
-        ensures refused { self.exit.now ≡ record self.entry.now { refused = true } }
-        ensures answer { result ≡ NotMade.Refused }
+    /// Remembers that no draft can take the file's place, which is told of a ledger: that isn't
+    /// written in place.
+    fn refuse(&mut self, why: Unreplaceable) -> NotMade
+        requires { self.entry.now.refused ≡ false }
+        ensures { self.exit.now
+            ≡ record self.entry.now { refused = is_refused_draft {E = Unit {0}} (Err result) } }
     {
+        if self.is_ledger() {
+            self.tell_unreplaceable(why);
+            return NotMade::Failed(StoreError::Open);
+        }
         self.refused = true;
         NotMade::Refused
+    }
+
+    /// Tells why no new file can take the place of the ledger.
+    fn tell_unreplaceable(&self, why: Unreplaceable) {
+        self.messages.tell(&Message::CannotBeReplaced {
+            name: self.path,
+            why,
+        });
+    }
+
+    /// What is known of the file that the path leads to, its place, and why no draft can replace
+    /// it.
+    fn look_at(&self, file: File) -> Result<(Old, Place<'a>, Option<Unreplaceable>), StoreError> {
+        let rt = self.messages.rt();
+        let told = match file.metadata() {
+            Ok(told) => told,
+            Err(error) => {
+                self.named(Left::Old(self.part)).fail(&error);
+                return Err(StoreError::Open);
+            }
+        };
+        let old = Old { file, told };
+        if self.is_anothers(&old) {
+            self.messages.tell(&Message::InUse { name: self.path });
+            return Err(StoreError::Open);
+        }
+        // Replies are written where a link such as `/dev/stdout` leads.
+        let place = if is_one_file(rt, self.path, OUTPUT) {
+            Ok(Place::of_name(self.path))
+        } else {
+            Place::followed(rt, self.path)
+        };
+        match place {
+            Ok(place) if !leads_to(rt, Path::new(place.path()), &old.told) => {
+                Ok((old, place, Some(Unreplaceable::Link)))
+            }
+            Ok(place) if old.told.nlink() > 1 => Ok((old, place, Some(Unreplaceable::SecondName))),
+            Ok(place) => Ok((old, place, None)),
+            Err(error) if error.kind() == ErrorKind::OutOfMemory => Err(StoreError::Memory),
+            Err(error) => {
+                let why = Unreplaceable::Folder(Cause::of(&error));
+                Ok((old, Place::of_name(self.path), Some(why)))
+            }
+        }
     }
 
     /// An end into the draft of this name.
@@ -213,18 +323,24 @@ impl<'a, 'f> FileDesk<'a, 'f> {
             self.exit.now).drafted ≡ (⟦<FileDesk<'a, 'f> as Desk>⟧.state self.entry.now).drafted) }
     {
         let rt = self.messages.rt();
-        if !self.takes_after(&file) {
-            let _ = fs::remove_file(rt, name.as_path());
-            return Err(self.refuse());
-        }
-        match FileWriter::new(rt.alloc(), self.named_before(), file, true) {
+        let made = match self.takes_after(&file) {
+            Ok(true) => FileWriter::new(rt.alloc(), self.named_before(), file, true).map_err(
+                |_| NotMade::Failed(StoreError::Memory),
+            ),
+            Ok(false) => Err(self.refuse(Unreplaceable::Owner)),
+            Err(error) => {
+                self.named_before().fail(&error);
+                Err(NotMade::Failed(StoreError::Open))
+            }
+        };
+        match made {
             Ok(end) => {
                 self.draft = Some(name);
                 Ok(ToWrite::new(end))
             }
-            Err(_) => {
+            Err(why) => {
                 let _ = fs::remove_file(rt, name.as_path());
-                Err(NotMade::Failed(StoreError::Memory))
+                Err(why)
             }
         }
     }
@@ -241,31 +357,30 @@ impl<'a> Desk for FileDesk<'a, '_> {
     } };
 
     fn takes_draft(&mut self) -> Result<bool, StoreError> {
-        let rt = self.messages.rt();
         self.old = None;
         self.refused = false;
-        let takes = match OpenOptions::new().write(true).open(rt, self.path) {
+        let opened = OpenOptions::new()
+            .write(true)
+            .open(self.messages.rt(), self.path);
+        match opened {
             Ok(file) => {
-                let told = match file.metadata() {
-                    Ok(told) => told,
-                    Err(error) => {
-                        self.named(Left::Old(self.part)).fail(&error);
+                let (old, place, why) = self.look_at(file)?;
+                self.old = Some(old);
+                self.place = place;
+                if let Some(why) = why {
+                    if self.is_ledger() {
+                        self.tell_unreplaceable(why);
                         return Err(StoreError::Open);
                     }
-                };
-                let old = Old { file, told };
-                if self.is_anothers(&old) {
-                    self.messages.tell(&Message::InUse { name: self.path });
-                    return Err(StoreError::Open);
+                    self.refused = true;
                 }
-                let takes = old.told.nlink() == 1 && leads_to(rt, Path::new(self.path), &old.told);
-                self.old = Some(old);
-                takes
             }
-            Err(error) => error.kind() == ErrorKind::NotFound && self.is_free(),
-        };
-        self.refused = !takes;
-        Ok(takes)
+            Err(error) => {
+                self.place = Place::of_name(self.path);
+                self.refused = error.kind() != ErrorKind::NotFound || !self.is_free();
+            }
+        }
+        Ok(!self.refused)
     }
 
     fn remove_left_over(&mut self, number: u32) {
@@ -289,14 +404,16 @@ impl<'a> Desk for FileDesk<'a, '_> {
 
     fn make(&mut self, number: u32) -> Result<ToWrite<FileWriter<'a>>, NotMade> {
         let Some(name) = self.name_beside(number)? else {
-            return Err(self.refuse());
+            return Err(self.refuse(Unreplaceable::NoName));
         };
         match self.create(name.as_path()) {
             Ok(file) if self.is_held(&file, name.as_path()) => self.end_into(file, name),
             // Another run took the name.
             Ok(_) => Err(NotMade::Taken),
             Err(error) if error.kind() == ErrorKind::AlreadyExists => Err(NotMade::Taken),
-            Err(error) if is_of_folder(error.kind()) => Err(self.refuse()),
+            Err(error) if is_of_folder(error.kind()) => {
+                Err(self.refuse(Unreplaceable::Folder(Cause::of(&error))))
+            }
             Err(error) => {
                 self.named_before().fail(&error);
                 Err(NotMade::Failed(StoreError::Open))
@@ -312,13 +429,16 @@ impl<'a> Desk for FileDesk<'a, '_> {
         let Some(name) = &self.draft else {
             return Err(NotNamed::Failed);
         };
-        match fs::rename(self.messages.rt(), name.as_path(), self.path) {
+        if !self.read.is_none_or(|read| read.is_as_left()) {
+            return Err(NotNamed::Failed);
+        }
+        match fs::rename(self.messages.rt(), name.as_path(), self.place.path()) {
             Ok(()) => {
                 self.draft = None;
                 self.unsettled = false;
                 Ok(())
             }
-            Err(error) if error.kind() == ErrorKind::ResourceBusy => {
+            Err(error) if error.kind() == ErrorKind::ResourceBusy && !self.is_ledger() => {
                 self.refused = true;
                 Err(NotNamed::Refused)
             }
@@ -336,7 +456,7 @@ impl<'a> Desk for FileDesk<'a, '_> {
     }
 
     fn sync_folder(&mut self) -> Result<(), StoreError> {
-        match sync_folder(self.messages.rt(), self.path) {
+        match self.place.sync_folder(self.messages.rt()) {
             Ok(()) => Ok(()),
             Err(error) => {
                 self.named(Left::New).fail(&error);

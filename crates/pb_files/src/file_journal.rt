@@ -1,16 +1,23 @@
 //! A journal over a file of the system.
 
-ghost use Rattle.std.specs.Prelude.{◌≡◌, ◌≤◌, IfOk, None, length, true};
+ghost use Rattle.std.specs.Prelude.{◌≡◌, ◌≤◌, ◌&&◌, IfOk, None, is_ok, length, true};
 
-use crate::folder::sync_folder;
+use crate::held_file::HeldFile;
 use crate::journal_file::{JournalFile, ReadFile};
+use crate::journal_guard::JournalGuard;
+use crate::one_file::tell_of_one;
+use crate::place::Place;
 use pb_io::{Failed, FromRead};
 use pb_messages::{Named, News, Progress, Told};
-use std::fs::File;
+use std::fs::{File, OpenOptions};
 use std::io::{self, ErrorKind, Write};
+use std::os::unix::fs::FileExt;
 
 /// How often a write is tried that a signal interrupts.
 const TRIES: u32 = 100;
+
+/// How many bytes are written over themselves at a time.
+const PIECE: usize = 16_384;
 
 /// A file that this run holds, open to be read from its start and written at its end. No contract
 /// knows what is on it, so it tells nothing; it tells users what has failed.
@@ -18,6 +25,7 @@ const TRIES: u32 = 100;
 pub struct FileJournal<'p, 'a> {
     named: Named<'a>,
     progress: &'p Progress<'a>,
+    guard: &'p JournalGuard<'a>,
     file: File,
     // Whether the file's name, and what an earlier run wrote, are on the disk.
     is_synced: bool,
@@ -29,6 +37,7 @@ impl<'p, 'a> FileJournal<'p, 'a> {
     pub(crate) fn new(
         named: Named<'a>,
         progress: &'p Progress<'a>,
+        guard: &'p JournalGuard<'a>,
         file: File,
     ) -> FileJournal<'p, 'a>
         ensures { (⟦<FileJournal<'p, 'a> as JournalFile>⟧.state result).ready ≡ true }
@@ -36,10 +45,63 @@ impl<'p, 'a> FileJournal<'p, 'a> {
         FileJournal {
             named,
             progress,
+            guard,
             file,
             is_synced: false,
             ready: true,
         }
+    }
+
+    /// Has replies go out only as long as the file is there as this run leaves it.
+    ///
+    /// # Errors
+    ///
+    /// `Failed` where the system tells nothing of the file, which is told.
+    pub(crate) fn guard(&self) -> Result<(), Failed> {
+        match self.file.metadata() {
+            Ok(told) => {
+                self.guard.begin(HeldFile::new(self.named, told));
+                Ok(())
+            }
+            Err(error) => {
+                self.named.fail(&error);
+                Err(Failed)
+            }
+        }
+    }
+
+    /// Answers whether it was done. If not, that is told, and nothing may be written any more.
+    fn answer(&mut self, done: io::Result<()>) -> Result<(), Failed>
+        ensures { (⟦<FileJournal<'p, 'a> as JournalFile>⟧.state self.new).ready
+            ≡ ((⟦<FileJournal<'p, 'a> as JournalFile>⟧.state self.old).ready && is_ok result) }
+    {
+        match done {
+            Ok(()) => Ok(()),
+            Err(error) => {
+                self.named.fail(&error);
+                self.ready = false;
+                Err(Failed)
+            }
+        }
+    }
+
+    /// Puts the file and its name on the disk.
+    fn sync_all(&self) -> io::Result<()> {
+        self.file.sync_all()?;
+        let rt = self.named.messages.rt();
+        Place::followed(rt, self.named.name)?.sync_folder(rt)
+    }
+
+    /// The file once more, to be written at any place: what is open to be added to is written at
+    /// its end alone.
+    fn reopened(&self) -> io::Result<File> {
+        let rt = self.named.messages.rt();
+        let mut options = OpenOptions::new();
+        let file = options.read(true).write(true).open(rt, self.named.name)?;
+        if tell_of_one(&self.file.metadata()?, &file.metadata()?) {
+            return Ok(file);
+        }
+        Err(io::Error::from(ErrorKind::ResourceBusy))
     }
 }
 
@@ -53,6 +115,7 @@ impl JournalFile for FileJournal<'_, '_> {
     fn append(&mut self, bytes: &[u8]) -> Result<usize, Failed> {
         match write_some(&self.file, bytes) {
             Ok(count) if count > 0 || bytes.is_empty() => {
+                self.guard.grow(count);
                 self.progress.tell_new_by(News::Journaled(true));
                 return Ok(count);
             }
@@ -67,27 +130,20 @@ impl JournalFile for FileJournal<'_, '_> {
         let synced = if self.is_synced {
             self.file.sync_data()
         } else {
-            self.file.sync_all().and_then(|()| sync_folder(
-                self.named.messages.rt(),
-                self.named.name,
-            ))
+            self.sync_all()
         };
-        match synced {
-            Ok(()) => {
-                self.is_synced = true;
-                Ok(())
-            }
-            Err(error) => {
-                self.named.fail(&error);
-                self.ready = false;
-                Err(Failed)
-            }
-        }
+        self.is_synced = synced.is_ok();
+        self.answer(synced)
     }
 }
 
 impl<'a> ReadFile for FileJournal<'_, 'a> {
     type Reader = FromRead<Told<'a, File>>;
+
+    fn write_over(&mut self) -> Result<(), Failed> {
+        let written = self.reopened().and_then(|file| write_over(&file));
+        self.answer(written)
+    }
 
     fn reader(&mut self) -> Result<FromRead<Told<'a, File>>, Failed> {
         match self.file.try_clone() {
@@ -111,4 +167,17 @@ fn write_some(mut file: &File, bytes: &[u8]) -> io::Result<usize>
         }
     }
     Err(io::Error::from(ErrorKind::Interrupted))
+}
+
+/// Writes all bytes of the file over themselves, which the system then has to write anew.
+fn write_over(file: &File) -> io::Result<()> {
+    let len = file.metadata()?.len();
+    let mut piece = [0; PIECE];
+    for number in 0..=len / PIECE as u64 {
+        let at = number * PIECE as u64;
+        let count = usize::try_from(len - at).map_or(PIECE, |rest| rest.min(PIECE));
+        file.read_exact_at(&mut piece[..count], at)?;
+        file.write_all_at(&piece[..count], at)?;
+    }
+    Ok(())
 }

@@ -3,9 +3,12 @@
 ghost use Rattle.std.specs.Prelude.{⊤};
 
 use crate::file_journal::FileJournal;
+use crate::held_file::HeldFile;
 use crate::holding::{Lock, NotHeld, Opener, hold};
+use crate::journal_guard::JournalGuard;
+use crate::ledger_file::LedgerFile;
 use crate::one_file::tell_of_one;
-use crate::starting::{JournalOpener, NotStarted, Started, start};
+use crate::starting::{JournalOpener, NotRead, NotStarted, Started, start};
 use pb_messages::{Message, Named, Part, Progress};
 use std::fs::{self, File, OpenOptions, TryLockError};
 use std::io::ErrorKind;
@@ -36,23 +39,35 @@ pub fn open(named: Named<'_>) -> Result<File, NotHeld> {
 ///
 /// # Errors
 ///
-/// Those of `hold`, which are told.
-pub fn hold_ledger<'a>(named: Named<'a>, progress: &Progress<'a>) -> Result<File, NotHeld> {
+/// Those of `hold`, and `Failed` where the system tells nothing of the file. They are told.
+pub fn hold_ledger<'p, 'a>(
+    named: Named<'a>,
+    progress: &'p Progress<'a>,
+    guard: &'p JournalGuard<'a>,
+) -> Result<LedgerFile<'a>, NotHeld> {
     // A pipe that is opened to be written would wait for itself to end.
     if fs::metadata(named.messages.rt(), named.name).is_ok_and(|told| !told.is_file()) {
-        return open(named);
+        return Ok(LedgerFile::new(open(named)?, None));
     }
-    let held = hold(&mut FileOpener::of_ledger(named, progress));
+    let held = hold(&mut FileOpener::of_ledger(named, progress, guard));
     if matches!(held, Err(NotHeld::InUse)) {
         tell_in_use(named);
     }
-    held
+    let file = held?;
+    match file.metadata() {
+        Ok(told) => Ok(LedgerFile::new(file, Some(HeldFile::new(named, told)))),
+        Err(error) => {
+            named.fail(&error);
+            Err(NotHeld::Failed)
+        }
+    }
 }
 
 /// The journal of this name, which this run holds until it ends, and its reader: two runs that
 /// wrote one journal at a time would each give numbers of their own. With `sync` all that is read
 /// is on the disk: the games that an earlier run wrote may be in the system's memory alone, and the
-/// workers that send them again take their answer for a promise.
+/// workers that send them again take their answer for a promise. From then on the guard has the
+/// journal.
 ///
 /// # Errors
 ///
@@ -60,13 +75,18 @@ pub fn hold_ledger<'a>(named: Named<'a>, progress: &Progress<'a>) -> Result<File
 pub fn start_journal<'p, 'a>(
     named: Named<'a>,
     progress: &'p Progress<'a>,
+    guard: &'p JournalGuard<'a>,
     sync: bool,
 ) -> Result<Started<FileJournal<'p, 'a>>, NotStarted> {
-    let started = start(&mut FileOpener::of_journal(named, progress), sync);
+    let started = start(&mut FileOpener::of_journal(named, progress, guard), sync);
     if matches!(started, Err(NotStarted::NotHeld(NotHeld::InUse))) {
         tell_in_use(named);
     }
-    started
+    let started = started?;
+    match started.journal.guard() {
+        Ok(()) => Ok(started),
+        Err(_) => Err(NotStarted::NotRead(NotRead::Failed)),
+    }
 }
 
 /// Tells that another run holds the file.
@@ -81,11 +101,16 @@ pub(crate) struct FileOpener<'p, 'a> {
     part: Part,
     options: OpenOptions,
     progress: &'p Progress<'a>,
+    guard: &'p JournalGuard<'a>,
 }
 
 impl<'p, 'a> FileOpener<'p, 'a> {
     /// The name of a saved ledger, whose file is read, and has to be one that can be written.
-    fn of_ledger(named: Named<'a>, progress: &'p Progress<'a>) -> FileOpener<'p, 'a> {
+    fn of_ledger(
+        named: Named<'a>,
+        progress: &'p Progress<'a>,
+        guard: &'p JournalGuard<'a>,
+    ) -> FileOpener<'p, 'a> {
         let mut options = OpenOptions::new();
         options.read(true).write(true);
         FileOpener {
@@ -93,11 +118,16 @@ impl<'p, 'a> FileOpener<'p, 'a> {
             part: Part::Ledger,
             options,
             progress,
+            guard,
         }
     }
 
     /// The name of a journal, whose file is read from its start and written at its end.
-    fn of_journal(named: Named<'a>, progress: &'p Progress<'a>) -> FileOpener<'p, 'a> {
+    fn of_journal(
+        named: Named<'a>,
+        progress: &'p Progress<'a>,
+        guard: &'p JournalGuard<'a>,
+    ) -> FileOpener<'p, 'a> {
         let mut options = OpenOptions::new();
         options.read(true).append(true);
         FileOpener {
@@ -105,7 +135,20 @@ impl<'p, 'a> FileOpener<'p, 'a> {
             part: Part::Journal,
             options,
             progress,
+            guard,
         }
+    }
+
+    /// The file that was opened, if it is an ordinary one: a device keeps nothing.
+    fn ordinary(&self, file: File) -> Result<File, NotHeld> {
+        if file.metadata().is_ok_and(|told| told.is_file()) {
+            return Ok(file);
+        }
+        self.named.messages.tell(&Message::NoOrdinaryFile {
+            name: self.named.name,
+            part: self.part,
+        });
+        Err(NotHeld::Failed)
     }
 }
 
@@ -121,7 +164,7 @@ impl Opener for FileOpener<'_, '_> {
     fn open(&mut self) -> Result<File, NotHeld> {
         let named = self.named;
         match self.options.open(named.messages.rt(), named.name) {
-            Ok(file) => Ok(file),
+            Ok(file) => self.ordinary(file),
             Err(error) if error.kind() == ErrorKind::NotFound => {
                 named.messages.tell(&Message::NoFile {
                     name: named.name,
@@ -144,13 +187,12 @@ impl Opener for FileOpener<'_, '_> {
         }
     }
 
-    /// A device or a pipe isn't replaced by another.
     fn is_named(&mut self, file: &File) -> bool {
         match (
             file.metadata(),
             fs::metadata(self.named.messages.rt(), self.named.name),
         ) {
-            (Ok(told), Ok(named)) => !told.is_file() || tell_of_one(&told, &named),
+            (Ok(told), Ok(named)) => tell_of_one(&told, &named),
             _ => false,
         }
     }
@@ -160,6 +202,6 @@ impl<'p, 'a> JournalOpener for FileOpener<'p, 'a> {
     type Journal = FileJournal<'p, 'a>;
 
     fn journal(&mut self, file: File) -> FileJournal<'p, 'a> {
-        FileJournal::new(self.named, self.progress, file)
+        FileJournal::new(self.named, self.progress, self.guard, file)
     }
 }

@@ -1,8 +1,8 @@
 //! A file that this run holds and adds to.
 
-ghost use Rattle.std.specs.Prelude.{◌≡◌, ◌≤◌, ◌<◌, [], IfOk, OnErr, OnOk, is_ok, length, take};
-ghost use Rattle.std.specs.Prelude.{true};
-ghost use Rattle.pb_files.specs.Disk.{Adds, FileState, Syncs};
+ghost use Rattle.std.specs.Prelude.{◌≡◌, ◌≤◌, ◌<◌, [], IfOk, IfSome, OnErr, OnOk, is_ok, length};
+ghost use Rattle.std.specs.Prelude.{take, true};
+ghost use Rattle.pb_files.specs.Disk.{Adds, FileState, IsSound, StaysSound, Syncs};
 ghost use Rattle.pb_files.specs.JournalFile.{ReadsAll};
 ghost use Rattle.pb_files.specs.Steps.{Steps};
 
@@ -30,9 +30,11 @@ pub trait JournalFile {
         ensures some { IfOk result (λ count. 0 < length bytes.now → 0 < count) }
         ensures front { IfOk result (λ count. Steps (Adds (take count bytes.now))
             (state self.old).told (state self.new).told) }
+        ensures sound { OnOk result (Steps StaysSound (state self.old).told (state self.new).told) }
         ensures none { OnErr result (Steps (Adds []) (state self.old).told (state self.new).told) };
 
-    /// Puts all that is found on the disk, and the file's name.
+    /// Puts all that is found on the disk, and the file's name; but for bytes that the system calls
+    /// clean though they aren't there.
     ///
     /// # Errors
     ///
@@ -49,6 +51,19 @@ pub trait JournalFile {
 pub trait ReadFile: JournalFile {
     /// What reads the file from its first byte.
     type Reader: Source;
+
+    /// Writes all that is found over itself: the next sync then puts all of it on the disk. After
+    /// a sync that failed, of whichever run, the system calls bytes clean that never got there, and
+    /// syncs pass over them.
+    ///
+    /// # Errors
+    ///
+    /// `Failed` where not all could be written. Nothing may be written any more then.
+    fn write_over(&mut self) -> Result<(), Failed>
+        requires { (Self.state self.old).ready ≡ true }
+        ensures ready { (Self.state self.new).ready ≡ is_ok result }
+        ensures sound { OnOk result (IfSome (Self.state self.new).told IsSound) }
+        ensures same { Steps (Adds []) (Self.state self.old).told (Self.state self.new).told };
 
     /// A reader of all that is found.
     ///

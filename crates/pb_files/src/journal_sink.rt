@@ -4,7 +4,7 @@ ghost use Rattle.std.specs.Prelude.{◌≡◌, ◌≤◌, ◌||◌, Bool, IfOk, 
 ghost use Rattle.std.specs.Prelude.{not, take, true};
 ghost use Rattle.std.specs.Option.{ForSome};
 ghost use Rattle.pb_io.specs.Sink.{Flush, Put};
-ghost use Rattle.pb_files.specs.Disk.{Adds, IsOnDisk, OutlivesCrash};
+ghost use Rattle.pb_files.specs.Disk.{Adds, IsOnDisk, OutlivesCrash, StaysSound, SyncsAll};
 ghost use Rattle.pb_files.specs.JournalSink.{EndState, FlushAtEnd, PutAtEnd, bytes_lasting};
 ghost use Rattle.pb_files.specs.JournalSink.{bytes_put};
 ghost use Rattle.pb_files.specs.Steps.{Steps};
@@ -65,15 +65,18 @@ pub struct JournalSink<J: JournalFile, D: Durability> {
     flushes: u64,
     ghost none_waits: { flushed ≡ true → waiting.items ≡ [] },
     ghost on_disk: { flushed ≡ true → D.syncs ≡ true → ForSome (J.state file).told IsOnDisk },
+    ghost sound: { SyncsAll D.syncs (J.state file) },
 }
 
 impl<J: JournalFile + Drop, D: Durability> JournalSink<J, D> {
-    /// The end of the file, where nothing waits.
+    /// The end of the file, where nothing waits. Where `D` syncs, the file is one that was written
+    /// over and synced when the run came to it, or has failed.
     ///
     /// # Errors
     ///
     /// Want of memory for what waits.
     pub fn new(alloc: Global, file: J) -> Result<JournalSink<J, D>, AllocError>
+        requires { SyncsAll D.syncs (J.state file) }
         ensures state { IfOk result (λ sink. ⟦<JournalSink<J, D> as Sink>⟧.state sink
             ≡ record {
               bytes = bytes_put (J.state file).told [];
@@ -148,7 +151,7 @@ impl<J: JournalFile, D: Durability> Sink for JournalSink<J, D> {
         }
     }
 
-    #[tactic(auto, using(crate::proofs::FileLemmas::told_sync, crate::proofs::FileLemmas::told_grows, crate::proofs::FileLemmas::told_bytes, crate::proofs::FileLemmas::told_outlives, crate::proofs::FileLemmas::told_on_disk, crate::proofs::FileLemmas::lasting_grows, crate::proofs::FileLemmas::lasting_all))]
+    #[tactic(auto, using(crate::proofs::FileLemmas::told_sync, crate::proofs::FileLemmas::told_sound, crate::proofs::FileLemmas::told_synced, crate::proofs::FileLemmas::told_grows, crate::proofs::FileLemmas::told_bytes, crate::proofs::FileLemmas::told_outlives, crate::proofs::FileLemmas::told_on_disk, crate::proofs::FileLemmas::lasting_grows, crate::proofs::FileLemmas::lasting_all))]
     fn flush(&mut self) -> Result<(), Failed>
         ensures flush { Flush (⟦<JournalSink<J, D> as Sink>⟧.state self.old)
             (⟦<JournalSink<J, D> as Sink>⟧.state self.new) result }
@@ -178,13 +181,15 @@ impl<J: JournalFile, D: Durability> Sink for JournalSink<J, D> {
 }
 
 /// Writes the bytes, or as many as the file takes before it fails, and answers how many.
-#[tactic(auto, using(crate::proofs::FileLemmas::told_none, crate::proofs::FileLemmas::told_more, crate::proofs::FileLemmas::told_failed))]
+#[tactic(auto, using(crate::proofs::FileLemmas::told_none, crate::proofs::FileLemmas::told_same, crate::proofs::FileLemmas::told_more, crate::proofs::FileLemmas::told_failed))]
 fn write_all<J: JournalFile>(file: &mut J, bytes: &[u8]) -> usize
     requires { (J.state file.old).ready ≡ true }
     ensures within { result ≤ length bytes.now }
     ensures all { (J.state file.new).ready ≡ true → result ≡ length bytes.now }
     ensures added { Steps (Adds (take result bytes.now)) (J.state file.old).told
         (J.state file.new).told }
+    ensures sound { (J.state file.new).ready ≡ true
+        → Steps StaysSound (J.state file.old).told (J.state file.new).told }
 {
     let mut count = 0;
     while count < bytes.len() {

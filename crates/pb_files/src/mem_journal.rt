@@ -1,6 +1,6 @@
 //! A journal in memory, which tells all and fails at a call that is chosen.
 
-ghost use Rattle.std.specs.Prelude.{◌≡◌, ◌≤◌, IfSome, Some, length, true};
+ghost use Rattle.std.specs.Prelude.{◌≡◌, ◌≤◌, IfSome, Some, false, length, true};
 ghost use Rattle.pb_files.specs.declared.holding.NotHeld.{NotHeld};
 ghost use Rattle.pb_files.specs.declared.mem_journal.MemFile.{MemFile};
 ghost use Rattle.pb_files.specs.Disk.{on_disk};
@@ -13,11 +13,13 @@ use std::alloc::Global;
 use std::io::Cursor;
 
 /// A file in memory. The first of its calls succeed, as many as were asked for, and the others
-/// fail. A write that is the last call to succeed takes half of the bytes.
+/// fail. A write that is the last call to succeed takes half of the bytes. A sync that fails leaves
+/// what isn't on the disk as if it were, so that later ones pass over it.
 #[derive(Drop)]
 pub struct MemJournal {
     bytes: Vec<u8>,
     kept: usize,
+    lost: bool,
     ready: bool,
     calls: usize,
     ghost within: { kept ≤ length bytes.items },
@@ -27,11 +29,32 @@ impl MemJournal {
     /// A file that has these bytes, none of them on the disk, and of which this many calls succeed.
     pub fn new(bytes: Vec<u8>, calls: usize) -> MemJournal
         ensures { ⟦<MemJournal as JournalFile>⟧.state result
-            ≡ record { told = Some (record { found = bytes.items; kept = 0 }); ready = true } }
+            ≡ record {
+              told = Some (record { found = bytes.items; kept = 0; lost = false });
+              ready = true;
+            } }
     {
         MemJournal {
             bytes,
             kept: 0,
+            lost: false,
+            ready: true,
+            calls,
+        }
+    }
+
+    /// The same after a sync has failed, so that the next ones put none of these bytes on the disk.
+    pub fn after_failed_sync(bytes: Vec<u8>, calls: usize) -> MemJournal
+        ensures { ⟦<MemJournal as JournalFile>⟧.state result
+            ≡ record {
+              told = Some (record { found = bytes.items; kept = 0; lost = true });
+              ready = true;
+            } }
+    {
+        MemJournal {
+            bytes,
+            kept: 0,
+            lost: true,
             ready: true,
             calls,
         }
@@ -57,6 +80,7 @@ impl MemJournal {
     fn goes_well(&mut self) -> bool
         ensures bytes { self.new.bytes ≡ self.old.bytes }
         ensures kept { self.new.kept ≡ self.old.kept }
+        ensures lost { self.new.lost ≡ self.old.lost }
         ensures ready { self.new.ready ≡ self.old.ready }
     {
         if self.calls == 0 {
@@ -69,7 +93,7 @@ impl MemJournal {
 
 impl JournalFile for MemJournal {
     ghost state = { λ m. record {
-      told = Some (record { found = m.bytes.items; kept = m.kept });
+      told = Some (record { found = m.bytes.items; kept = m.kept; lost = m.lost });
       ready = m.ready;
     } };
 
@@ -96,15 +120,27 @@ impl JournalFile for MemJournal {
     fn sync(&mut self) -> Result<(), Failed> {
         self.ready = self.goes_well();
         if !self.ready {
+            self.lost = self.lost || self.kept < self.bytes.len();
             return Err(Failed);
         }
-        self.kept = self.bytes.len();
+        if !self.lost {
+            self.kept = self.bytes.len();
+        }
         Ok(())
     }
 }
 
 impl ReadFile for MemJournal {
     type Reader = FromRead<Cursor<Vec<u8>>>;
+
+    fn write_over(&mut self) -> Result<(), Failed> {
+        self.ready = self.goes_well();
+        if !self.ready {
+            return Err(Failed);
+        }
+        self.lost = false;
+        Ok(())
+    }
 
     fn reader(&mut self) -> Result<FromRead<Cursor<Vec<u8>>>, Failed> {
         if !self.goes_well() {
@@ -212,6 +248,6 @@ impl JournalOpener for MemOpener {
 
     fn journal(&mut self, _file: MemFile) -> MemJournal {
         let bytes = std::mem::replace(&mut self.bytes, Vec::new(self.alloc));
-        MemJournal::new(bytes, self.calls)
+        MemJournal::after_failed_sync(bytes, self.calls)
     }
 }

@@ -1,18 +1,25 @@
 //! Replies that wait in the buffer of standard output until more submissions are read.
 
-use pb_io::Sink;
+ghost use Rattle.std.specs.Prelude.{◌≡◌, [], false};
+
+use pb_io::{Failed, FromRead, Sink, Source};
 use pb_messages::Progress;
 use std::cell::RefCell;
 use std::io::{self, ErrorKind, Read, Write};
 
-/// Reads submissions. The replies that wait are written before each read, so that whoever
-/// sends a line and waits for its reply has it before this waits for more lines.
+/// The submissions of a run. The replies that wait are written before each fill, so that whoever
+/// sends a line and waits for its reply has it before this waits for more lines. Where they can't be
+/// written nothing more is read, and the fill fails: an end would make a submission of a torn last
+/// line. That fault isn't told, since the output has failed.
 #[derive(Drop)]
 pub struct Submissions<'o, 'k, 'p, 'a, R, K> {
-    reader: R,
+    input: FromRead<R>,
     output: &'o RefCell<&'k mut K>,
     progress: &'p Progress<'a>,
+    fills: u64,
+    empty_fills: u64,
     has_begun: bool,
+    failed: bool,
 }
 
 impl<'o, 'k, 'p, 'a, R: Read, K: Sink> Submissions<'o, 'k, 'p, 'a, R, K> {
@@ -21,33 +28,75 @@ impl<'o, 'k, 'p, 'a, R: Read, K: Sink> Submissions<'o, 'k, 'p, 'a, R, K> {
         reader: R,
         output: &'o RefCell<&'k mut K>,
         progress: &'p Progress<'a>,
-    ) -> Submissions<'o, 'k, 'p, 'a, R, K> {
+    ) -> Submissions<'o, 'k, 'p, 'a, R, K>
+        ensures { ⟦<Submissions<'o, 'k, 'p, 'a, R, K> as Source>⟧.state result
+            ≡ record {
+              to_come = R.remaining reader;
+              handed = [];
+              fills = 0;
+              empty_fills = 0;
+              ended = false;
+              failed = false;
+            } }
+    {
         Submissions {
-            reader,
+            input: FromRead::new(reader),
             output,
             progress,
+            fills: 0,
+            empty_fills: 0,
             has_begun: false,
+            failed: false,
+        }
+    }
+
+    /// Tells what has come, which is empty at the end.
+    fn tell(&mut self, piece: &[u8])
+        ensures { self.exit.now ≡ record self.entry.now { has_begun = self.exit.now.has_begun } }
+    {
+        if !self.has_begun {
+            self.has_begun = true;
+            self.progress.begin(piece);
+        }
+        self.progress.read(piece);
+        if piece.is_empty() {
+            self.progress.show_step(", making the book");
         }
     }
 }
 
-impl<R: Read, K: Sink> Read for Submissions<'_, '_, '_, '_, R, K> {
-    // Where the replies can't be written nothing more is read, and the read fails: an end of input
-    // would make a submission of a torn last line. The run then ends as by a fault of reading,
-    // which isn't told, since the output has failed and `tell_stop` leaves it alone.
-    fn read(&mut self, into: &mut [u8]) -> io::Result<usize> {
+impl<R: Read, K: Sink> Source for Submissions<'_, '_, '_, '_, R, K> {
+    ghost state = { λ s. record {
+      to_come = (⟦<FromRead<R> as Source>⟧.state s.input).to_come;
+      handed = (⟦<FromRead<R> as Source>⟧.state s.input).handed;
+      fills = s.fills;
+      empty_fills = s.empty_fills;
+      ended = (⟦<FromRead<R> as Source>⟧.state s.input).ended;
+      failed = s.failed;
+    } };
+
+    fn fill(&mut self, into: &mut [u8]) -> Result<usize, Failed> {
+        if into.is_empty() {
+            self.empty_fills = self.empty_fills.saturating_add(1);
+        } else {
+            self.fills = self.fills.saturating_add(1);
+        }
         self.progress.give_way();
-        hand_on(self.output)?;
+        if self.failed || hand_on(self.output).is_err() {
+            self.failed = true;
+            return Err(Failed);
+        }
         self.progress.show();
-        let count = self.reader.read(into)?;
-        if !self.has_begun {
-            self.has_begun = true;
-            self.progress.begin(&into[..count]);
+        let filled = self.input.fill(into);
+        match filled {
+            Ok(count) => self.tell(&into[..count]),
+            Err(_) => self.failed = true,
         }
-        if count == 0 {
-            self.progress.show_step(", making the book");
-        }
-        Ok(count)
+        filled
+    }
+
+    fn failed(&self) -> bool {
+        self.failed
     }
 }
 

@@ -38,7 +38,7 @@ impl From<NotMade> for NotSaved {
 }
 
 /// An empty draft: by the first number that no run has.
-fn new_draft<D: Desk>(desk: &mut D) -> Result<D::End, NotMade>
+pub(crate) fn new_draft<D: Desk>(desk: &mut D) -> Result<D::End, NotMade>
     ensures begins { IfOk result (λ end. Begins (D.End.state end)) }
     ensures refused { (D.state desk.new).refused ≡ is_refused_draft result }
     ensures drafted { OnOk result ((D.state desk.new).drafted ≡ true) }

@@ -1,7 +1,7 @@
 //! How a run comes to a journal.
 
 ghost use Rattle.std.specs.Prelude.{◌≡◌, [], IfErr, IfOk, IfSome, OnOk, false, true};
-ghost use Rattle.pb_files.specs.Disk.{Adds, IsOnDisk};
+ghost use Rattle.pb_files.specs.Disk.{Adds, IsOnDisk, SyncsAll};
 ghost use Rattle.pb_files.specs.JournalFile.{ReadsAll};
 ghost use Rattle.pb_files.specs.Starting.{IfNotHeld, is_still_ready};
 ghost use Rattle.pb_files.specs.Steps.{Steps};
@@ -54,7 +54,8 @@ pub struct Started<J: ReadFile> {
 }
 
 /// A reader of all that a held journal has. With `sync` all of it is put on the disk before, since
-/// an earlier run may have left it in the system's memory alone.
+/// an earlier run may have left it in the system's memory alone. It is written over itself first:
+/// where an earlier run's sync failed, the system takes it for written.
 ///
 /// # Errors
 ///
@@ -65,11 +66,12 @@ pub fn whole_reader<J: ReadFile>(journal: &mut J, sync: bool) -> Result<J::Reade
     ensures all { IfOk result (λ reader. ReadsAll (J.state journal.new).told
         (J.Reader.state reader)) }
     ensures on_disk { OnOk result (sync ≡ true → IfSome (J.state journal.new).told IsOnDisk) }
+    ensures sound { SyncsAll sync (J.state journal.new) }
     ensures fault { IfErr result (λ why. (J.state journal.new).ready ≡ is_still_ready why) }
     ensures unasked { sync ≡ false → J.state journal.new ≡ J.state journal.old }
     ensures same { Steps (Adds []) (J.state journal.old).told (J.state journal.new).told }
 {
-    if sync && journal.sync().is_err() {
+    if sync && (journal.write_over().is_err() || journal.sync().is_err()) {
         return Err(NotRead::Sync);
     }
     match journal.reader() {
@@ -93,6 +95,7 @@ pub fn start<O: JournalOpener>(
         (O.Journal.Reader.state started.reader)) }
     ensures on_disk { IfOk result (λ started. sync ≡ true
         → IfSome (O.Journal.state started.journal).told IsOnDisk) }
+    ensures sound { IfOk result (λ started. SyncsAll sync (O.Journal.state started.journal)) }
     ensures denied { IfErr result (λ why. IfNotHeld why (O.denies opener.new)) }
 {
     let file = match hold(opener) {

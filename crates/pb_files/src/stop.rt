@@ -79,8 +79,8 @@ impl From<NotApart> for Stop {
 
     fn from(why: NotApart) -> Stop {
         match why {
-            NotApart::OneFile => Stop::NotOpened,
-            NotApart::IsOutput => Stop::Fault(Fault::Write),
+            NotApart::OneFile { .. } => Stop::NotOpened,
+            NotApart::IsOutput(_) => Stop::Fault(Fault::Write),
         }
     }
 }

@@ -16,7 +16,7 @@ mod told;
 pub use counts::News;
 pub use front::{Front, Fronted};
 pub use ledger_lines::LedgerLines;
-pub use message::{Cause, Left, Looks, Message, RefusedFile, Wrong};
+pub use message::{Cause, Change, Left, Looks, Message, RefusedFile, Unreplaceable, Wrong};
 pub use messages::{Messages, Named};
 pub use open::is_open;
 pub use part::Part;

@@ -116,6 +116,57 @@ impl Display for Wrong<'_> {
     }
 }
 
+/// What another program has done to a file that this run holds.
+#[derive(Clone, Copy)]
+pub enum Change {
+    /// Nothing has its name any more.
+    Removed,
+    /// Another file has its name.
+    Replaced,
+    /// It is longer or shorter than this run has left it.
+    Length,
+}
+
+impl Display for Change {
+    fn fmt<W: fmt::Write>(&self, f: &mut fmt::Formatter<W>) -> fmt::Result {
+        match self {
+            Change::Removed => write!(f, "it was removed or renamed while this run held it"),
+            Change::Replaced => write!(f, "another file took its name while this run held it"),
+            Change::Length => write!(f, "another program changed it while this run held it"),
+        }
+    }
+}
+
+/// Why no new file can take the place of an old one.
+#[derive(Drop)]
+pub enum Unreplaceable {
+    /// The path doesn't end in a file's name.
+    NoName,
+    /// The path is a link, and its file isn't found by following it.
+    Link,
+    /// The file has another name too, which would keep the old one.
+    SecondName,
+    /// The new file would have another owner or another group.
+    Owner,
+    /// Something is mounted on the file.
+    Mount,
+    /// The folder takes no new file.
+    Folder(Cause),
+}
+
+impl Display for Unreplaceable {
+    fn fmt<W: fmt::Write>(&self, f: &mut fmt::Formatter<W>) -> fmt::Result {
+        match self {
+            Unreplaceable::NoName => write!(f, "the path doesn't end in a name"),
+            Unreplaceable::Link => write!(f, "it is a link that can't be followed"),
+            Unreplaceable::SecondName => write!(f, "the file has a second name"),
+            Unreplaceable::Owner => write!(f, "its owner or its group would be another"),
+            Unreplaceable::Mount => write!(f, "something is mounted on it"),
+            Unreplaceable::Folder(cause) => write!(f, "no file can be made beside it: {cause}"),
+        }
+    }
+}
+
 /// What submissions look like that are none.
 #[derive(Clone, Copy)]
 pub enum Looks {
@@ -139,18 +190,9 @@ pub enum Message<'m> {
         name: &'m str,
         part: Part,
     },
-    /// Two parts lead to one file.
-    OneFile {
-        one: Part,
-        other: Part,
-    },
     /// Another run holds the file.
     InUse {
         name: &'m str,
-    },
-    /// What standard output takes would go into this file.
-    IsOutput {
-        part: Part,
     },
     /// A standard stream isn't open.
     NotOpen {
@@ -169,6 +211,31 @@ pub enum Message<'m> {
         name: &'m str,
         cause: Cause,
     },
+    /// No new file can take the place of the one that a run goes on from.
+    CannotBeReplaced {
+        name: &'m str,
+        why: Unreplaceable,
+    },
+    /// Another program has changed a file that this run holds.
+    Changed {
+        name: &'m str,
+        change: Change,
+    },
+    /// What has to be an ordinary file is none.
+    NoOrdinaryFile {
+        name: &'m str,
+        part: Part,
+    },
+    /// A saved ledger was cut: its last line has no end.
+    CutLedger {
+        name: &'m str,
+    },
+    /// The last line of a file has no end and is left out.
+    TornEnd {
+        name: &'m str,
+    },
+    /// The last line of standard input has no end and is taken.
+    Unended,
     /// A line of a journal is no game, and nothing has sealed it.
     PassedOver {
         name: &'m str,
@@ -176,10 +243,6 @@ pub enum Message<'m> {
     },
     /// There are more such lines than are told.
     PassedOverMore {
-        name: &'m str,
-    },
-    /// The last line of a file isn't ended.
-    TornEnd {
         name: &'m str,
     },
     /// The submissions don't look like any.
@@ -200,21 +263,36 @@ impl Display for Message<'_> {
                 let noun = part.noun();
                 write!(f, "{name}: no such file (an empty one begins a {noun})")
             }
-            Message::OneFile { one, other } => write!(f, "{one} and {other} are one file"),
             Message::InUse { name } => write!(f, "{name} is in use by another run"),
-            Message::IsOutput { part } => write!(f, "{part} is standard output"),
             Message::NotOpen { stream } => write!(f, "{stream} isn't open"),
             Message::Memory => write!(f, "out of memory"),
             Message::Endless => write!(f, "an input has no end"),
             Message::Usage { text } => write!(f, "{text}"),
             Message::CannotBeMade { name, cause } => write!(f, "{name} can't be made: {cause}"),
+            Message::CannotBeReplaced { name, why } => {
+                write!(f, "{name} can't be replaced by a new ledger: {why}")
+            }
+            Message::Changed { name, change } => write!(f, "{name}: {change}"),
+            Message::NoOrdinaryFile { name, part } => {
+                let noun = part.noun();
+                write!(f, "{name}: a {noun} has to be an ordinary file")
+            }
+            Message::CutLedger { name } => {
+                write!(f, "{name}: it was cut short: its last line has no end")
+            }
+            Message::TornEnd { name } => {
+                write!(f, "{name}: its last line has no end; it is left out")
+            }
+            Message::Unended => {
+                write!(
+                    f,
+                    "the last line of standard input has no end; it may be a cut game"
+                )
+            }
             Message::PassedOver { name, number } => {
                 write!(f, "{name}: line {number} can't be taken; it is skipped")
             }
             Message::PassedOverMore { name } => write!(f, "{name}: more lines can't be taken"),
-            Message::TornEnd { name } => {
-                write!(f, "{name}: the last line has no end; it is left out")
-            }
             Message::LooksLike(Looks::Pgn) => {
                 write!(f, "standard input looks like PGN, not like submissions")
             }

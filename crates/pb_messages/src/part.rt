@@ -3,7 +3,7 @@
 use std::fmt::{self, Display};
 
 /// What a file is to a run.
-#[derive(Clone, Copy)]
+#[derive(Clone, Copy, Debug)]
 pub enum Part {
     Table,
     Ledger,

@@ -4,7 +4,7 @@ use crate::counts::{Counts, Grouped, News, plural};
 use crate::looks::looks_of;
 use crate::message::{Message, Summary};
 use crate::messages::{CLEAR, Messages};
-use std::cell::RefCell;
+use std::cell::{Cell, RefCell};
 use std::fs;
 use std::io::{self, IsTerminal, Read};
 use std::time::Instant;
@@ -22,6 +22,8 @@ pub struct Progress<'a> {
     is_shown: bool,
     counts: RefCell<Counts>,
     shown: RefCell<Option<Instant>>,
+    // The last byte of the submissions so far.
+    last: Cell<Option<u8>>,
 }
 
 impl<'a> Progress<'a> {
@@ -33,6 +35,7 @@ impl<'a> Progress<'a> {
             is_shown: messages.are_watched() && !messages.rt().stdin().is_terminal(),
             counts: RefCell::new(Counts::new(news)),
             shown: RefCell::new(None),
+            last: Cell::new(None),
         }
     }
 
@@ -43,6 +46,19 @@ impl<'a> Progress<'a> {
         }
         if let Some(looks) = looks_of(bytes) {
             self.messages.warn(&Message::LooksLike(looks));
+        }
+    }
+
+    /// Takes a piece of the submissions, which is empty at their end. A last line that has no end
+    /// may be a game that was cut, which is told.
+    pub fn read(&self, bytes: &[u8]) {
+        match (bytes.last(), self.last.get()) {
+            (Some(last), _) => self.last.set(Some(*last)),
+            (None, Some(last)) if last != b'\n' => {
+                self.last.set(None);
+                self.messages.warn(&Message::Unended);
+            }
+            _ => {}
         }
     }
 
@@ -184,6 +200,7 @@ impl<R: Read> Read for Watched<'_, '_, R> {
     fn read(&mut self, into: &mut [u8]) -> io::Result<usize> {
         self.progress.show();
         let count = self.reader.read(into)?;
+        self.progress.read(&into[..count]);
         self.progress.take(&into[..count]);
         Ok(count)
     }

@@ -7,8 +7,8 @@ use crate::command::{FileSource, input, source};
 use crate::ordered;
 use pb_cli::{CollectOrder, Fault, Keeping};
 use pb_files::{
-    Durability, FileDesk, JournalSink, KeptFile, Replies, Stop, Submissions, Synced, TellSkipped,
-    Written, hold_ledger, keep_apart, start_journal,
+    Durability, FileDesk, JournalGuard, JournalSink, KeptFile, Replies, Stop, Submissions, Synced,
+    TellSkipped, Written, hold_ledger, keep_apart, start_journal,
 };
 use pb_io::{FromRead, Sink, ToWrite};
 use pb_messages::{LedgerLines, Messages, Named, News, Part, Progress, Told};
@@ -16,15 +16,24 @@ use std::cell::RefCell;
 
 /// A run of `collect`, and what it was asked for.
 #[derive(Clone, Copy)]
-pub(crate) struct Collecting<'a> {
+pub(crate) struct Collecting<'g, 'a> {
     messages: Messages<'a>,
-    order: &'a CollectOrder<'a>,
+    guard: &'g JournalGuard<'a>,
+    order: &'g CollectOrder<'a>,
 }
 
-impl<'a> Collecting<'a> {
+impl<'g, 'a> Collecting<'g, 'a> {
     /// The run of this order.
-    pub(crate) fn new(messages: Messages<'a>, order: &'a CollectOrder<'a>) -> Collecting<'a> {
-        Collecting { messages, order }
+    pub(crate) fn new(
+        messages: Messages<'a>,
+        guard: &'g JournalGuard<'a>,
+        order: &'g CollectOrder<'a>,
+    ) -> Collecting<'g, 'a> {
+        Collecting {
+            messages,
+            guard,
+            order,
+        }
     }
 
     /// Takes the submissions on standard input, keeps what is wanted beside the book, and answers
@@ -49,7 +58,7 @@ impl<'a> Collecting<'a> {
             self.messages.rt().alloc(),
             self.order,
             &mut table,
-            &mut FromRead::new(Submissions::new(input(self.messages), output, &progress)),
+            &mut Submissions::new(input(self.messages), output, &progress),
             &mut ToWrite::new(Replies::new(output, &progress)),
             &mut book,
         )?;
@@ -66,17 +75,19 @@ impl<'a> Collecting<'a> {
         let mut table = self.table_beside(Some((Part::Ledger, ledger)))?;
         let named = Named::new(self.messages, ledger);
         let progress = Progress::new(self.messages, News::Unknown);
-        let file = hold_ledger(named, &progress)?;
+        let file = hold_ledger(named, &progress, self.guard)?;
+        let mut kept = FileDesk::of_ledger(self.messages, ledger, &file);
+        kept.expect_place()?;
         let mut book = self.store()?;
-        let lines = LedgerLines::new(Told::new(named, &file), &progress);
+        let lines = LedgerLines::new(Told::new(named, file.file()), named, &progress);
         let has_book = ordered::go_on(
             self.messages.rt().alloc(),
             self.order,
             &mut table,
             &mut FromRead::new(lines),
-            &mut FromRead::new(Submissions::new(input(self.messages), output, &progress)),
+            &mut Submissions::new(input(self.messages), output, &progress),
             &mut ToWrite::new(Replies::new(output, &progress)),
-            &mut KeptFile::new(FileDesk::of_ledger(self.messages, ledger, &file)),
+            &mut KeptFile::new(kept),
             &mut book,
         )?;
         Ok(self.end(&progress, has_book))
@@ -94,7 +105,7 @@ impl<'a> Collecting<'a> {
         let mut table = self.table_beside(Some((Part::Journal, journal)))?;
         let named = Named::new(self.messages, journal);
         let progress = Progress::new(self.messages, News::Journaled(false));
-        let mut started = start_journal(named, &progress, D::syncs())?;
+        let mut started = start_journal(named, &progress, self.guard, D::syncs())?;
         let mut book = self.store()?;
         let alloc = self.messages.rt().alloc();
         let Ok(mut lines) = JournalSink::<_, D>::new(alloc, started.journal) else {
@@ -107,7 +118,7 @@ impl<'a> Collecting<'a> {
             &mut started.reader,
             &mut lines,
             &mut TellSkipped::new(named),
-            &mut FromRead::new(Submissions::new(input(self.messages), output, &progress)),
+            &mut Submissions::new(input(self.messages), output, &progress),
             &mut ToWrite::new(Replies::new(output, &progress)),
             &mut book,
         )?;
@@ -125,10 +136,10 @@ impl<'a> Collecting<'a> {
         source(self.messages, self.order.table)
     }
 
-    /// The store of the book, after a warning where it can't be made.
+    /// The store of the book, once it is known to be one that can be made.
     fn store<'f>(&self) -> Result<KeptFile<FileDesk<'a, 'f>>, Stop> {
         let mut desk = FileDesk::of_book(self.messages, self.order.book);
-        desk.warn_of_folder()?;
+        desk.expect_place()?;
         Ok(KeptFile::new(desk))
     }
 

@@ -4,7 +4,7 @@ use crate::collecting::Collecting;
 use crate::games::games;
 use crate::ordered;
 use pb_cli::{ExportOrder, Order, run_fen};
-use pb_files::{Stop, expect_open, open};
+use pb_files::{JournalGuard, Stop, expect_open, open};
 use pb_io::{FromRead, Sink};
 use pb_messages::{Messages, Named, News, Progress, Told, Watched};
 use std::fs::File;
@@ -15,9 +15,10 @@ pub(crate) type FileSource<'a> = FromRead<Told<'a, File>>;
 
 /// Runs the order's command, and answers whether all was taken. The standard streams have to be
 /// open, and the files that it reads are opened before anything is read.
-pub(crate) fn answer<K: Sink>(
-    messages: Messages<'_>,
-    order: &Order<'_>,
+pub(crate) fn answer<'a, K: Sink>(
+    messages: Messages<'a>,
+    order: &Order<'a>,
+    guard: &JournalGuard<'a>,
     output: &mut K,
 ) -> Result<bool, Stop> {
     let rt = messages.rt();
@@ -41,7 +42,7 @@ pub(crate) fn answer<K: Sink>(
             book,
             record,
         } => probe(messages, table, book, record, output),
-        Order::Collect(order) => Collecting::new(messages, order).run(output),
+        Order::Collect(order) => Collecting::new(messages, guard, order).run(output),
         Order::Export(order) => export(messages, order, output),
         Order::Games { files } => games(messages, files.as_slice(), output),
     }

@@ -5,7 +5,7 @@ ghost use Rattle.std.specs.Prelude.{◌≡◌, ◌≤◌};
 use crate::command::answer;
 use crate::stop::tell_stop;
 use pb_cli::{CollectOrder, ExportOrder, Fault, Keeping, Order, ParseFault, parse, status};
-use pb_files::{BUFFER_LEN, Stop};
+use pb_files::{BUFFER_LEN, Guarded, JournalGuard, Stop};
 use pb_io::ToWrite;
 use pb_messages::{Front, Fronted, Message, Messages, Named, Part, RefusedFile, Told};
 use std::cell::RefCell;
@@ -54,13 +54,14 @@ fn perform(rt: &HostRuntime, order: &Order<'_>) -> u8
 {
     let messages = Messages::new(rt, is_quiet(order));
     let front = RefCell::new(Front::new());
+    let guard = JournalGuard::new();
     let told = Told::new(Named::new(messages, OUTPUT), io::writer(rt));
-    let output = Fronted::new(told, &front);
+    let output = Guarded::new(Fronted::new(told, &front), &guard);
     let Ok(writer) = BufWriter::with_capacity(rt.alloc(), BUFFER_LEN, output) else {
         return tell_no_memory(rt);
     };
     let mut output = ToWrite::new(writer);
-    match answer(messages, order, &mut output) {
+    match answer(messages, order, &guard, &mut output) {
         Ok(taken) => {
             if !taken {
                 tell_refused(messages, order, &front);

@@ -1,5 +1,5 @@
 use Rattle.std.proofs.Common.{◌≡◌, ◌≤◌, ◌-◌, length, take, true}
-use Rattle.pb_files.specs.Disk.{Adds}
+use Rattle.pb_files.specs.Disk.{Adds, StaysSound}
 use Rattle.pb_files.specs.Steps.{Steps}
 use Rattle.pb_files.proofs.journal_sink.write_all.Given as goal
 
@@ -9,6 +9,7 @@ invariant-loop-count g l = record {
   within : l.count ≤ length l.bytes;
   ready : (g.J.JournalFile.state l.file).ready ≡ true;
   added : Steps (Adds (take l.count l.bytes)) (g.J.JournalFile.state l.initial.file).told (g.J.JournalFile.state l.file).told;
+  sound : Steps StaysSound (g.J.JournalFile.state l.initial.file).told (g.J.JournalFile.state l.file).told;
 }
 
 abbrev pub decreases-loop-count : goal.decreases-loop-count

@@ -1,12 +1,13 @@
 use Rattle.std.proofs.Common.{◌≡◌, ◌∙◌, ℕ, ap, arith, length, List, [], Option, append-nil, drop, refl, rules, subst, sym, take, take-append-drop, true, Bool}
 use Rattle.std.proofs.Math.ListN.{drop_of_length-le}
 use Rattle.std.specs.Option.{ForSome}
+use Rattle.std.specs.Prelude.{IfSome}
 use Rattle.std.specs.Io.KnownBytes.{Keeps}
 use Rattle.pb_io.specs.Sink.{Lasts}
-use Rattle.pb_files.specs.Disk.{Adds, Disk, IsOnDisk}
+use Rattle.pb_files.specs.Disk.{Adds, Disk, IsOnDisk, IsSound}
 use Rattle.pb_files.specs.JournalSink.{bytes_lasting, bytes_put}
 use Rattle.pb_files.specs.Steps.{Steps}
-use Rattle.pb_files.proofs.FileLemmas.{all_last, flush_failed, lasting_all, lasting_grows, told_bytes, told_grows, told_on_disk, told_sync, told_then}
+use Rattle.pb_files.proofs.FileLemmas.{all_last, flush_failed, lasting_all, lasting_grows, told_bytes, told_grows, told_on_disk, told_sound, told_sync, told_then}
 use Rattle.pb_files.proofs.journal_sink.JournalSinkSink.flush.Goals as goal
 use Rattle.pb_files.proofs.journal_sink.JournalSinkSink.flush.Goals.{then-syncs+in_ok-sync, else-syncs}
 
@@ -54,8 +55,10 @@ returns-clause-flush g c =
       | then-syncs+in_ok-sync w ↦ rw w.self-is (told_sync (take wrote.result bytes) _ _ _ wrote.ensures.added w.in_ok-sync.ensures.all)
       | else-syncs w ↦ rw w.self-is wrote.ensures.added
     ] in
+    let sound : sync ≡ true → IfSome (state wrote.new.file).told IsSound =
+    λ synced. told_sound _ _ (wrote.ensures.sound (search rules)) (now.sound synced (search rules)) in
     let on_disk : sync ≡ true → ForSome (state file).told IsOnDisk = elim c.if-syncs.branch [
-      | then-syncs+in_ok-sync w ↦ rw w.self-is (λ synced. told_on_disk _ _ w.in_ok-sync.ensures.all)
+      | then-syncs+in_ok-sync w ↦ rw w.self-is (λ synced. told_on_disk _ _ (sound synced) w.in_ok-sync.ensures.all)
       | else-syncs w ↦ rw w.self-is (λ synced. cc)
     ] in
     let ready : (state file).ready ≡ true = elim c.if-syncs.branch [

@@ -1,0 +1,81 @@
+//! The journal that replies speak of, and the output that they go to.
+
+use crate::held_file::HeldFile;
+use std::cell::RefCell;
+use std::io::{self, ErrorKind, Write};
+
+/// The journal of a run, once it has come to one. It has to be there when a reply goes out.
+#[derive(Drop)]
+pub struct JournalGuard<'a> {
+    held: RefCell<Option<HeldFile<'a>>>,
+}
+
+impl<'a> JournalGuard<'a> {
+    /// The guard of a run that has no journal so far.
+    pub fn new() -> JournalGuard<'a> {
+        JournalGuard {
+            held: RefCell::new(None),
+        }
+    }
+
+    /// Guards this journal from now on.
+    pub(crate) fn begin(&self, journal: HeldFile<'a>) {
+        if let Ok(mut held) = self.held.try_borrow_mut() {
+            *held = Some(journal);
+        }
+    }
+
+    /// Notes that this run has added so many bytes to the journal.
+    pub(crate) fn grow(&self, count: usize) {
+        if let Ok(held) = self.held.try_borrow()
+            && let Some(held) = &*held
+        {
+            held.grow(count);
+        }
+    }
+
+    /// Whether the journal, if there is one, is as this run has left it. If not, that is told.
+    fn is_kept(&self) -> bool {
+        match self.held.try_borrow() {
+            Ok(held) => match &*held {
+                Some(held) => held.is_as_left(),
+                None => true,
+            },
+            Err(_) => false,
+        }
+    }
+}
+
+/// An output that takes replies as long as the journal that they speak of is kept. It fails each
+/// write once it isn't.
+#[derive(Drop)]
+pub struct Guarded<'g, 'a, W> {
+    writer: W,
+    guard: &'g JournalGuard<'a>,
+    failed: bool,
+}
+
+impl<'g, 'a, W: Write> Guarded<'g, 'a, W> {
+    /// The writer, of replies that speak of this journal.
+    pub fn new(writer: W, guard: &'g JournalGuard<'a>) -> Guarded<'g, 'a, W> {
+        Guarded {
+            writer,
+            guard,
+            failed: false,
+        }
+    }
+}
+
+impl<W: Write> Write for Guarded<'_, '_, W> {
+    fn write(&mut self, bytes: &[u8]) -> io::Result<usize> {
+        self.failed = self.failed || !self.guard.is_kept();
+        if self.failed {
+            return Err(io::Error::from(ErrorKind::BrokenPipe));
+        }
+        self.writer.write(bytes)
+    }
+
+    fn flush(&mut self) -> io::Result<()> {
+        self.writer.flush()
+    }
+}
