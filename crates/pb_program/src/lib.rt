@@ -6,9 +6,9 @@
 mod collecting;
 mod command;
 mod games;
-mod games_of;
 mod ordered;
 mod program;
+mod run_games;
 mod stop;
 
 pub use ordered::FILLS;

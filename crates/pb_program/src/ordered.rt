@@ -17,6 +17,7 @@ ghost use Rattle.pb_files.specs.Journaling.{IsStarted, LeavesAnswered};
 ghost use Rattle.pb_poly.specs.Reading.{ReadsBook};
 ghost use Rattle.pb_program.specs.Ordered.{is_synced, most_fills};
 
+use crate::run_games::run_games;
 use pb_cli::{
     CollectOrder, ExportOrder, Fault, NoBook, NotContinued, SkippedLines, Store, collect_into,
     continue_into, run_epd, run_export, run_probe, run_show,
@@ -228,5 +229,5 @@ pub(crate) fn games<In: Source, Out: Sink, Skipped: SkippedLines>(
     sink: &mut Out,
     skipped: &mut Skipped,
 ) -> Result<bool, Fault> {
-    crate::games_of::run_games(alloc, source, sink, skipped, FILLS)
+    run_games(alloc, source, sink, skipped, FILLS)
 }

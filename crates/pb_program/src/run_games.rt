@@ -1,4 +1,4 @@
-//! Stand-in.
+//! A stand-in for the proved call of the same name.
 
 ghost use Rattle.std.specs.Prelude.{⊤};
 
