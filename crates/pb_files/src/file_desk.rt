@@ -258,7 +258,7 @@ impl<'a, 'f> FileDesk<'a, 'f> {
     /// Remembers that no draft can take the file's place, which is told of a ledger: that isn't
     /// written in place.
     fn refuse(&mut self, why: Unreplaceable) -> NotMade
-        requires { self.entry.now.refused ≡ false }
+        requires { self.now.refused ≡ false }
         ensures { self.exit.now
             ≡ record self.entry.now { refused = is_refused_draft {E = Unit {0}} (Err result) } }
     {
