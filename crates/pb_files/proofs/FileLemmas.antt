@@ -100,12 +100,12 @@ told_stays (Some old) (Some mid) (Some new) first second = λ sound. second (fir
 
 pub told_sound : (old new : Option Disk) → Steps StaysSound old new → ForSome old IsSound → ForSome new IsSound
 told_sound None (Some new) stays sound disk is = absurd stays
-told_sound (Some old) (Some new) stays sound disk is = subst IsSound (search rules) (stays (sound old refl))
+told_sound (Some old) (Some new) stays sound disk is = let one : new ≡ disk = cc in subst IsSound one (stays (sound old refl))
 told_sound old None stays sound disk is = cc
 
 pub told_synced : (mid new : Option Disk) → Steps Syncs mid new → ForSome mid IsSound → ForSome new IsSound
 told_synced None (Some new) syncs sound disk is = absurd syncs
-told_synced (Some mid) (Some new) syncs sound disk is = subst IsSound (search rules) (syncs.sound (sound mid refl))
+told_synced (Some mid) (Some new) syncs sound disk is = let one : new ≡ disk = cc in subst IsSound one (syncs.sound (sound mid refl))
 told_synced mid None syncs sound disk is = cc
 
 -- what a sync put on the disk
@@ -128,7 +128,7 @@ told_failed bytes old mid new first second = told_then bytes [] bytes old mid ne
 
 pub told_on_disk : (mid new : Option Disk) → ForSome mid IsSound → Steps Syncs mid new → ForSome new IsOnDisk
 told_on_disk None (Some new) sound syncs disk is = absurd syncs
-told_on_disk (Some mid) (Some new) sound syncs disk is = subst IsOnDisk (search rules) (syncs.all (sound mid refl))
+told_on_disk (Some mid) (Some new) sound syncs disk is = let one : new ≡ disk = cc in subst IsOnDisk one (syncs.all (sound mid refl))
 told_on_disk mid None sound syncs disk is = cc
 
 pub told_on_disk_outlives : (told : Option Disk) → ForSome told IsOnDisk → IfSome told OutlivesCrash
