@@ -2,6 +2,7 @@
 # Tries what `pbook collect` leaves of BOOK, and of the FILE of `--ledger`, in a hostile world:
 # devices, links, folders, missing permissions, full disks, a killed run. As root it tries more,
 # on file systems that it mounts, and where strace is installed it has calls of the system fail.
+# It also tries that options say what counts, and what `pbook games` takes of torn journals.
 # The first check that doesn't hold ends it.
 # Usage: PROGRAM=program KILLS=number GAMES=number tests/files.sh [CHECK..] (at the top of the
 # repository; all checks where none is given). A run that is killed goes over 4000 games, or as many
@@ -13,6 +14,9 @@ kills=${KILLS:-100}
 games=${GAMES:-4000}
 . tests/lib/harness.sh
 . tests/lib/places.sh
+cp tests/data/few.bin tests/data/few.epd "$work"
+start='rnbqkbnr/pppppppp/8/8/8/8/PPPPPPPP/RNBQKBNR w KQkq - 0 1'
+grep "^${start% 0 1} " examples/export.epd > "$work/first.epd"
 
 # Distinct games: kings that walk round between random rows of pawns. As many are made as are
 # asked for.
@@ -443,6 +447,64 @@ broken_ledger() {
     holds no_draft
 }
 
+# What counts is what the options say, whatever is kept beside the book. Other programs made the
+# book and the export of the first two plies without moves that occur less than three times
+# (docs/TESTING.md says how), and told how many lines the export of such moves has.
+rules() {
+    for option in '' ledger journal; do
+        : > kept
+        holds collects 0 "$book" "$work/games" --plies 2 --least 3 ${option:+"--$option" kept}
+        holds cmp "$book" "$work/few.bin"
+    done
+    holds ran 0 "$PROGRAM" export --plies 2 --least 3 "$table" < "$work/games"
+    holds cmp "$work/replies" "$work/few.epd"
+    holds ran 0 "$PROGRAM" export --least 3 "$table" < "$work/games"
+    holds test "$(wc -l < "$work/replies")" -eq 268
+    # Each game begins at the start, so its line is the same where first plies alone count.
+    holds ran 0 "$PROGRAM" export --plies 1 "$table" < "$work/games"
+    holds cmp "$work/replies" "$work/first.epd"
+}
+
+# torn_journal NAME FIRST LAST: the journal of a collector that took these lines of the games. It
+# was killed twice as it wrote a line, and the first of the two was sealed by a later run.
+torn_journal() {
+    sed -n "$2,$3p" "$work/games" > "$1.lines"
+    : > "$1.journal"
+    holds collects 0 "$place/$1.bin" "$1.lines" --journal "$place/$1.journal"
+    for _ in 1 2; do
+        holds collects 0 "$place/$1.bin" /dev/null --journal "$place/$1.journal"
+        printf '%s-torn\t1-0\t%s\ta2a3' "$1" "$start" >> "$1.journal"
+    done
+    cp "$1.journal" "$1.before"
+}
+
+# The journals of two collectors make the book of the games that these have answered, also where a
+# torn line stands before a whole one.
+two_journals() {
+    torn_journal one 1 150
+    torn_journal two 151 322
+    status=0
+    "$PROGRAM" games one.journal two.journal > lines 2> told || status=$?
+    holds test "$status" -eq 0
+    holds test "$(wc -l < told)" -eq 2
+    for part in one two; do
+        holds grep -q "^pbook: $part.journal: its last line has no end" told
+        holds cmp "$part.journal" "$part.before"
+    done
+    holds collects 0 "$book" lines
+    holds not grep -q '^refused - ' "$work/replies"
+    holds is_new "$book"
+}
+
+# A journal that a run holds can be read all the same.
+live_journal() {
+    head -n 9 "$work/games" > "$journal"
+    exec 9>> "$journal"
+    flock -x 9
+    holds ran 0 "$PROGRAM" games "$journal"
+    holds cmp "$work/replies" "$journal"
+}
+
 missing_ledger() {
     with_old
     cannot_open "$book" "$work/games" --ledger "$ledger"
@@ -516,8 +578,8 @@ if [ $# -eq 0 ]; then
     choose true '' new_book here old_book full_device null_device pipe standard_output symlink \
         dangling_symlink hard_link folder missing_folder no_name long_name limit draft_left \
         draft_is_a_link side_by_side cut_in_three old_list one_file broken_ledger missing_ledger \
-        ledger_without_book
-    choose 'has flock' 'flock is wanted' draft_in_use
+        ledger_without_book rules two_journals
+    choose 'has flock' 'flock is wanted' draft_in_use live_journal
     choose 'has strace' 'strace is wanted' device_faults
     choose can_be_other 'setpriv is wanted' no_permission folder_without_drafts unread_folder \
         closed_ledger

@@ -35,6 +35,7 @@ input=games
 missing_files() {
     prepare
     for words in 'collect no.txt book.bin' 'export no.txt' 'probe no.txt no.bin x' \
+        'games no.txt' 'games games no.txt' \
         'collect --ledger games no.txt book.bin' 'collect --journal games no.txt book.bin'; do
         # shellcheck disable=SC2086 # each word is one
         holds tells_of 3 'no.txt: no such file or directory' "$PROGRAM" $words
@@ -96,6 +97,7 @@ failed_reads() {
     prepare
     mkdir folder
     for words in 'collect folder book.bin' 'export folder' 'show folder' 'probe folder book.bin x' \
+        'games folder' \
         'probe table.txt folder x'; do
         # shellcheck disable=SC2086
         holds tells_of 3 'folder: is a directory' "$PROGRAM" $words
@@ -117,7 +119,7 @@ full_output() {
     prepare
     echo "${start% 0 1} ce 1;" > lines
     runner=to_full
-    for words in 'collect table.txt book.bin' 'export table.txt' 'show book.bin'; do
+    for words in 'collect table.txt book.bin' 'export table.txt' 'show book.bin' 'games games'; do
         # shellcheck disable=SC2086
         holds tells_of 3 'standard output: no space left on device' "$PROGRAM" $words
     done
@@ -338,6 +340,37 @@ bad_journal_line() {
     holds tells_of 0 '' "$PROGRAM" collect --journal kept table.txt book.bin
 }
 
+# What `games` leaves out is told, but for the first line of a saved ledger and for sealed lines.
+left_out_lines() {
+    prepare
+    {
+        echo 'pbook-ledger 1'
+        cat games
+        printf 'sealed\t\t\t\t\nno game\n'
+        printf 'torn'
+    } > kept
+    holds tells_of 0 "kept: line 12 can't be taken; it is skipped
+kept: its last line has no end; it is left out" "$PROGRAM" games kept
+    holds cmp "$work/replies" games
+    holds tells_of 0 '' "$PROGRAM" games games
+}
+
+# to_itself: prints the games behind those that are read, up to a limit
+to_itself() (
+    trap '' XFSZ
+    ulimit -f 100
+    exec "$PROGRAM" games games >> games
+)
+
+# What is printed into a file that is read would be read again, for ever.
+games_to_themselves() {
+    prepare
+    cp games before
+    input=/dev/null
+    holds tells_of 3 'FILE is standard output' to_itself
+    holds cmp games before
+}
+
 # Faults are told with -q too.
 quiet_faults() {
     prepare
@@ -362,6 +395,7 @@ each_told() {
     "$1" new collect table.txt new.bin
     "$1" one_file collect table.txt table.txt
     "$1" export export table.txt
+    "$1" games games rotten
     "$1" book show table.txt
     "$1" use colect
 }
@@ -475,7 +509,7 @@ terminal_use() {
 if [ $# -eq 0 ]; then
     choose true '' missing_files one_file failed_reads refused_tables refused_books \
         refused_ledger refused_words wrong_use asked_help no_game bad_journal_line no_place \
-        told_at_once
+        told_at_once left_out_lines games_to_themselves
     choose 'test -c /dev/full' '/dev/full is wanted' full_output full_book quiet_faults \
         without_errors
     choose 'has gzip' 'gzip is wanted' other_input

@@ -66,6 +66,9 @@ case_of export 0 games export table
 case_of export_rules 0 games export --plies 8 --least 2 table
 case_of export_noise 0 noise export table
 case_of export_table 1 games export noise
+case_of games 0 empty games journal ledger journal
+case_of games_noise 0 empty games noise book
+case_of games_missing 3 empty games journal missing
 case_of help 2 empty --help
 case_of version 2 empty --version
 case_of words_missing 2 empty collect

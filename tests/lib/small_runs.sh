@@ -125,6 +125,7 @@ each_run() {
     "$1" 'show' shown nothing show ../book
     "$1" 'show, refused' shown nothing show ../cut_book
     "$1" 'probe' shown nothing probe ../table ../book "$start"
+    "$1" 'games' shown nothing games ../first ../first
     "$1" 'collect without an old BOOK' collected games collect --plies 8 --least 2 ../table book
     head -c 1600 "$work/book" > "$work/old/book"
     "$1" 'collect' collected games collect ../table book

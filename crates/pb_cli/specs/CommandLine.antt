@@ -16,6 +16,14 @@ further_words id = record (new_rule id) {
   range = Some (record { start_inclusive = 0; end_inclusive = usize_max });
 }
 
+-- words of which one has to be given
+abbrev pub required_words : Text → Rule
+required_words id = record (new_rule id) {
+  required = true;
+  action = Some Append;
+  range = Some (record { start_inclusive = 1; end_inclusive = usize_max });
+}
+
 -- an option with a value, which has none where it isn't given
 abbrev pub option_if_given : Text → Rule
 option_if_given id = record (new_rule id) { long = Some id; action = Some Set; value_names = 1 }
@@ -71,6 +79,9 @@ collect_command =
 abbrev pub export_command : App
 export_command = with_games (new_app (codes "export"))
 
+abbrev pub games_command : App
+games_command = with_rule (new_app (codes "games")) (required_words (codes "FILE"))
+
 -- the program, before its commands
 abbrev pub program_alone : App
 program_alone = on_top (λ s. record s {
@@ -82,5 +93,5 @@ program_alone = on_top (λ s. record s {
 -- the whole command line
 abbrev pub pbook : App
 pbook = with_subcommand (with_subcommand (with_subcommand (with_subcommand (with_subcommand
-    (with_subcommand program_alone collect_command.top) export_command.top) fen_command.top)
-    epd_command.top) show_command.top) probe_command.top
+    (with_subcommand (with_subcommand program_alone collect_command.top) export_command.top)
+    games_command.top) fen_command.top) epd_command.top) show_command.top) probe_command.top

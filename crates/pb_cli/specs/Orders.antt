@@ -19,8 +19,9 @@ name_of (order.Fen _ _) = codes "fen"
 name_of order.Epd = codes "epd"
 name_of (order.Show _) = codes "show"
 name_of (order.Probe _ _ _) = codes "probe"
-name_of (order.Collect _ _ _ _ _) = codes "collect"
-name_of (order.Export _ _ _) = codes "export"
+name_of (order.Collect _) = codes "collect"
+name_of (order.Export _) = codes "export"
+name_of (order.Games _) = codes "games"
 
 -- the argument of this name was given this word
 abbrev pub HasWord : Text → Bor Text → List Row → Type 0
@@ -71,11 +72,12 @@ HasWords order.Epd rows = Unit {0}
 HasWords (order.Show book) rows = HasWord (codes "BOOK") book rows
 HasWords (order.Probe table book fen) rows = HasWord (codes "TABLE") table rows
     × HasWord (codes "BOOK") book rows × HasWord (codes "FEN") fen rows
-HasWords (order.Collect rules kept table book quiet) rows = HasRules rules rows
-    × HasKeeping kept rows × HasWord (codes "TABLE") table rows × HasWord (codes "BOOK") book rows
-    × HasFlag (codes "quiet") quiet rows
-HasWords (order.Export rules table quiet) rows = HasRules rules rows
-    × HasWord (codes "TABLE") table rows × HasFlag (codes "quiet") quiet rows
+HasWords (order.Collect given) rows = HasRules given.rules rows × HasKeeping given.kept rows
+    × HasWord (codes "TABLE") given.table rows × HasWord (codes "BOOK") given.book rows
+    × HasFlag (codes "quiet") given.quiet rows
+HasWords (order.Export given) rows = HasRules given.rules rows
+    × HasWord (codes "TABLE") given.table rows × HasFlag (codes "quiet") given.quiet rows
+HasWords (order.Games files) rows = all_of (codes "FILE") rows ≡ Some (texts files.items)
 
 -- the order is that of the command that was found, with its words as the matches give them
 abbrev pub IsOrderOf : Order → Option (Text × List Row) → Type 0

@@ -4,8 +4,9 @@ ghost use Rattle.clap.specs.Words.{App, new_app, rule_of};
 ghost use Rattle.pb_cli.specs.Built.{IsCommand};
 ghost use Rattle.pb_cli.specs.CommandLine.{collect_command, epd_command, export_command};
 ghost use Rattle.pb_cli.specs.CommandLine.{fen_command, flag, flag_with_short, further_words};
-ghost use Rattle.pb_cli.specs.CommandLine.{option_if_given, option_with, pbook, probe_command};
-ghost use Rattle.pb_cli.specs.CommandLine.{program_alone, quiet_flag, required_word, show_command};
+ghost use Rattle.pb_cli.specs.CommandLine.{games_command, option_if_given, option_with, pbook};
+ghost use Rattle.pb_cli.specs.CommandLine.{probe_command, program_alone, quiet_flag};
+ghost use Rattle.pb_cli.specs.CommandLine.{required_word, required_words, show_command};
 ghost use Rattle.pb_cli.specs.CommandLine.{with_games, with_keeping};
 
 use clap::{Arg, ArgAction, Command};
@@ -64,6 +65,18 @@ Examples:
   pbook collect --journal games.journal table.txt book.bin < games.txt > replies
   pbook export table.txt < games.txt > book.epd";
 
+/// What a file of submission lines is, for the help of the command that prints them.
+const FILE_HELP: &str = "A journal, a saved ledger or a list of submission lines";
+
+/// What the command that prints submission lines leaves out, and a call of it.
+const FILES_EXAMPLE: &str = "\
+Left out are the first line of a saved ledger, sealed lines of a journal, other
+lines that no submission has the shape of, and a last line without its end. The
+files stay as they are, and a journal may be in use.
+
+For example, a book of the games of two collectors:
+  pbook games a.journal b.journal | pbook collect table.txt book.bin > replies";
+
 /// A call of the command that plays moves, and what it prints.
 const FEN_EXAMPLE: &str = "\
 For example
@@ -98,7 +111,8 @@ pub(crate) fn command_line<'a>(alloc: Global) -> Result<Command<'a>, AllocError>
     let alone = program(alloc)?;
     let with_collect = alone.subcommand(collect(alloc)?)?;
     let with_export = with_collect.subcommand(export(alloc)?)?;
-    let with_fen = with_export.subcommand(fen(alloc)?)?;
+    let with_games = with_export.subcommand(games(alloc)?)?;
+    let with_fen = with_games.subcommand(fen(alloc)?)?;
     let with_epd = with_fen.subcommand(epd(alloc))?;
     let with_show = with_epd.subcommand(show(alloc)?)?;
     let with_probe = with_show.subcommand(probe(alloc)?)?;
@@ -205,6 +219,20 @@ fn export<'a>(alloc: Global) -> Result<Command<'a>, AllocError>
     with_games(alloc, bare)
 }
 
+/// `games FILE..`
+fn games<'a>(alloc: Global) -> Result<Command<'a>, AllocError>
+    ensures { IfOk result (IsCommand games_command) }
+{
+    let bare = bare_command(
+        alloc,
+        "games",
+        "Prints the submission lines of journals, saved ledgers and lists",
+        FILES_EXAMPLE,
+    );
+    let whole = bare.arg(some_files(alloc))?;
+    Ok(whole)
+}
+
 /// A command without words so far. The last text stands at the end of its help, and not in the list
 /// of commands.
 fn bare_command<'a>(alloc: Global, name: &'a str, about: &'a str, after: &'a str) -> Command<'a>
@@ -299,6 +327,18 @@ fn required<'a>(alloc: Global, id: &'a str, help: &'a str) -> Arg<'a>
         .required(true)
         .action(ArgAction::Set)
         .help(help)
+}
+
+/// One file, or more.
+fn some_files<'a>(alloc: Global) -> Arg<'a>
+    ensures rule { rule_of result ≡ required_words (codes "FILE") }
+    ensures local { result.global ≡ false }
+{
+    Arg::new(alloc, "FILE")
+        .required(true)
+        .num_args(1..)
+        .action(ArgAction::Append)
+        .help(FILE_HELP)
 }
 
 /// Any number of moves.

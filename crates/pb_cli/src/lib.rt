@@ -6,9 +6,10 @@ mod grammar;
 pub mod laws;
 mod order;
 
-pub use order::{Keeping, Order, ParseFault, parse};
+pub use order::{CollectOrder, ExportOrder, Keeping, Order, ParseFault, parse};
+// What counts is said by the words alone: a program that knows no `Rules` has no others to hand on.
 pub use pb_collecting::{
-    Continued, MAX_LEAST, MAX_PLIES, MemStore, NoBook, NotContinued, Rules, SkippedLines, Store,
+    Continued, MAX_LEAST, MAX_PLIES, MemStore, NoBook, NotContinued, SkippedLines, Store,
     StoreError, Text, collect_into, continue_into, journal_into, run_collect, run_continue,
     run_export, run_journaled,
 };

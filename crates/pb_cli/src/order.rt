@@ -64,27 +64,40 @@ pub enum Order<'a> {
         record: &'a str,
     },
     /// Makes a book of the submissions on standard input.
-    Collect {
-        /// What of the games counts.
-        rules: Rules,
-        /// What is kept beside the book.
-        kept: Keeping<'a>,
-        /// The path of the table.
-        table: &'a str,
-        /// The path of the book that is made.
-        book: &'a str,
-        /// Whether standard error gets nothing but errors.
-        quiet: bool,
-    },
+    Collect(CollectOrder<'a>),
     /// Writes the book of the submissions on standard input as EPD lines.
-    Export {
-        /// What of the games counts.
-        rules: Rules,
-        /// The path of the table.
-        table: &'a str,
-        /// Whether standard error gets nothing but errors.
-        quiet: bool,
+    Export(ExportOrder<'a>),
+    /// Prints the submission lines of files.
+    Games {
+        /// The paths of the files.
+        files: Vec<&'a str>,
     },
+}
+
+/// What `collect` was asked for.
+#[derive(Clone, Copy, Debug)]
+pub struct CollectOrder<'a> {
+    /// What of the games counts.
+    pub rules: Rules,
+    /// What is kept beside the book.
+    pub kept: Keeping<'a>,
+    /// The path of the table.
+    pub table: &'a str,
+    /// The path of the book that is made.
+    pub book: &'a str,
+    /// Whether standard error gets nothing but errors.
+    pub quiet: bool,
+}
+
+/// What `export` was asked for.
+#[derive(Clone, Copy, Debug)]
+pub struct ExportOrder<'a> {
+    /// What of the games counts.
+    pub rules: Rules,
+    /// The path of the table.
+    pub table: &'a str,
+    /// Whether standard error gets nothing but errors.
+    pub quiet: bool,
 }
 
 /// Why the command line gives no order.
@@ -145,6 +158,7 @@ fn order_of<'a>(alloc: Global, matches: &ArgMatches<'a>) -> Result<Order<'a>, Pa
         Some(("probe", given)) => probe(alloc, given),
         Some(("collect", given)) => collect(alloc, given),
         Some(("export", given)) => export(alloc, given),
+        Some(("games", given)) => games(alloc, given),
         _ => Err(incomplete(alloc)),
     }
 }
@@ -195,13 +209,13 @@ fn collect<'a>(alloc: Global, given: &ArgMatches<'a>) -> Result<Order<'a>, Parse
     let table = word(alloc, given, "TABLE")?;
     let book = word(alloc, given, "BOOK")?;
     let quiet = flag(given, "quiet");
-    Ok(Order::Collect {
+    Ok(Order::Collect(CollectOrder {
         rules,
         kept,
         table,
         book,
         quiet,
-    })
+    }))
 }
 
 /// The order of `export`.
@@ -210,11 +224,25 @@ fn export<'a>(alloc: Global, given: &ArgMatches<'a>) -> Result<Order<'a>, ParseF
         × HasWords order (rows_of (found_of given.now))) }
     ensures refused { IfErr result (RefusesFor (codes "export") (rows_of (found_of given.now))) }
 {
-    Ok(Order::Export {
+    Ok(Order::Export(ExportOrder {
         rules: rules(alloc, given)?,
         table: word(alloc, given, "TABLE")?,
         quiet: flag(given, "quiet"),
-    })
+    }))
+}
+
+/// The order of `games`.
+fn games<'a>(alloc: Global, given: &ArgMatches<'a>) -> Result<Order<'a>, ParseFault>
+    ensures words { IfOk result (λ order. (name_of order ≡ codes "games")
+        × HasWords order (rows_of (found_of given.now))) }
+    ensures refused { IfErr result (RefusesFor (codes "games") (rows_of (found_of given.now))) }
+{
+    match given.get_strs("FILE") {
+        Some(found) => Ok(Order::Games {
+            files: copy_of(alloc, found)?,
+        }),
+        None => Err(incomplete(alloc)),
+    }
 }
 
 /// What the options say is kept beside the book.

@@ -9,6 +9,7 @@ pub enum Part {
     Ledger,
     Journal,
     Book,
+    Games,
 }
 
 impl Part {
@@ -19,6 +20,7 @@ impl Part {
             Part::Ledger => "ledger",
             Part::Journal => "journal",
             Part::Book => "book",
+            Part::Games => "file of games",
         }
     }
 }
@@ -31,6 +33,7 @@ impl Display for Part {
             Part::Ledger => write!(f, "the ledger"),
             Part::Journal => write!(f, "the journal"),
             Part::Book => write!(f, "BOOK"),
+            Part::Games => write!(f, "FILE"),
         }
     }
 }

@@ -1,48 +1,46 @@
 //! The command `collect` over the files that it names.
 
-use crate::command::{FILLS, FileSource, input, source};
-use pb_cli::{Fault, Keeping, Rules, collect_into, continue_into};
+ghost use Rattle.std.specs.Prelude.{◌≡◌};
+ghost use Rattle.pb_program.specs.Ordered.{is_synced};
+
+use crate::command::{FileSource, input, source};
+use crate::ordered;
+use pb_cli::{CollectOrder, Fault, Keeping};
 use pb_files::{
     Durability, FileDesk, JournalGuard, JournalSink, KeptFile, Replies, Stop, Submissions, Synced,
-    TellSkipped, Written, hold_ledger, journal_to_file, keep_apart, start_journal,
+    TellSkipped, Written, hold_ledger, keep_apart, start_journal,
 };
 use pb_io::{FromRead, Sink, ToWrite};
 use pb_messages::{LedgerLines, Messages, Named, News, Part, Progress, Told};
 use std::cell::RefCell;
 
-/// A run of `collect`: its rules, the table that it reads and the book that it makes.
+/// A run of `collect`, and what it was asked for.
 #[derive(Clone, Copy)]
 pub(crate) struct Collecting<'g, 'a> {
     messages: Messages<'a>,
     guard: &'g JournalGuard<'a>,
-    rules: Rules,
-    table: &'a str,
-    book: &'a str,
+    order: &'g CollectOrder<'a>,
 }
 
 impl<'g, 'a> Collecting<'g, 'a> {
-    /// A run by these rules, with the paths of its table and its book.
+    /// The run of this order.
     pub(crate) fn new(
         messages: Messages<'a>,
         guard: &'g JournalGuard<'a>,
-        rules: Rules,
-        table: &'a str,
-        book: &'a str,
+        order: &'g CollectOrder<'a>,
     ) -> Collecting<'g, 'a> {
         Collecting {
             messages,
             guard,
-            rules,
-            table,
-            book,
+            order,
         }
     }
 
     /// Takes the submissions on standard input, keeps what is wanted beside the book, and answers
     /// whether there is a book.
-    pub(crate) fn run<K: Sink>(&self, kept: Keeping<'a>, output: &mut K) -> Result<bool, Stop> {
+    pub(crate) fn run<K: Sink>(&self, output: &mut K) -> Result<bool, Stop> {
         let output = RefCell::new(output);
-        match kept {
+        match self.order.kept {
             Keeping::Book => self.collect(&output),
             Keeping::Ledger(ledger) => self.continue_from(ledger, &output),
             Keeping::Journal { path, sync: true } => self.journal_to::<K, Synced>(path, &output),
@@ -56,14 +54,13 @@ impl<'g, 'a> Collecting<'g, 'a> {
         let mut table = self.table_beside(None)?;
         let mut book = self.store()?;
         let progress = Progress::new(self.messages, News::Above(0));
-        let has_book = collect_into(
+        let has_book = ordered::collect(
             self.messages.rt().alloc(),
-            self.rules,
+            self.order,
             &mut table,
             &mut Submissions::new(input(self.messages), output, &progress),
             &mut ToWrite::new(Replies::new(output, &progress)),
             &mut book,
-            FILLS,
         )?;
         Ok(self.end(&progress, has_book))
     }
@@ -83,16 +80,15 @@ impl<'g, 'a> Collecting<'g, 'a> {
         kept.expect_place()?;
         let mut book = self.store()?;
         let lines = LedgerLines::new(Told::new(named, file.file()), named, &progress);
-        let has_book = continue_into(
+        let has_book = ordered::go_on(
             self.messages.rt().alloc(),
-            self.rules,
+            self.order,
             &mut table,
             &mut FromRead::new(lines),
             &mut Submissions::new(input(self.messages), output, &progress),
             &mut ToWrite::new(Replies::new(output, &progress)),
             &mut KeptFile::new(kept),
             &mut book,
-            FILLS,
         )?;
         Ok(self.end(&progress, has_book))
     }
@@ -103,7 +99,9 @@ impl<'g, 'a> Collecting<'g, 'a> {
         &self,
         journal: &'a str,
         output: &RefCell<&mut K>,
-    ) -> Result<bool, Stop> {
+    ) -> Result<bool, Stop>
+        requires { D.syncs ≡ is_synced self.now.order.now.kept }
+    {
         let mut table = self.table_beside(Some((Part::Journal, journal)))?;
         let named = Named::new(self.messages, journal);
         let progress = Progress::new(self.messages, News::Journaled(false));
@@ -113,9 +111,9 @@ impl<'g, 'a> Collecting<'g, 'a> {
         let Ok(mut lines) = JournalSink::<_, D>::new(alloc, started.journal) else {
             return Err(Stop::Fault(Fault::Memory));
         };
-        let has_book = journal_to_file(
+        let has_book = ordered::journal(
             alloc,
-            self.rules,
+            self.order,
             &mut table,
             &mut started.reader,
             &mut lines,
@@ -123,25 +121,24 @@ impl<'g, 'a> Collecting<'g, 'a> {
             &mut Submissions::new(input(self.messages), output, &progress),
             &mut ToWrite::new(Replies::new(output, &progress)),
             &mut book,
-            FILLS,
         )?;
         Ok(self.end(&progress, has_book))
     }
 
     /// The table as a source, once it is seen that the files of the run are different ones.
     fn table_beside(&self, kept: Option<(Part, &str)>) -> Result<FileSource<'a>, Stop> {
-        let table = (Part::Table, self.table);
-        let book = (Part::Book, self.book);
+        let table = (Part::Table, self.order.table);
+        let book = (Part::Book, self.order.book);
         match kept {
             Some(kept) => keep_apart(self.messages, &[table, kept, book])?,
             None => keep_apart(self.messages, &[table, book])?,
         }
-        source(self.messages, self.table)
+        source(self.messages, self.order.table)
     }
 
     /// The store of the book, once it is known to be one that can be made.
     fn store<'f>(&self) -> Result<KeptFile<FileDesk<'a, 'f>>, Stop> {
-        let mut desk = FileDesk::of_book(self.messages, self.book);
+        let mut desk = FileDesk::of_book(self.messages, self.order.book);
         desk.expect_place()?;
         Ok(KeptFile::new(desk))
     }
@@ -149,7 +146,7 @@ impl<'g, 'a> Collecting<'g, 'a> {
     /// Ends the run, which has made a book or refused the table or the ledger.
     fn end(&self, progress: &Progress<'_>, has_book: bool) -> bool {
         if has_book {
-            progress.end(self.book);
+            progress.end(self.order.book);
         }
         has_book
     }

@@ -1,7 +1,9 @@
 //! Each command over the files that it names and the standard streams.
 
 use crate::collecting::Collecting;
-use pb_cli::{Order, Rules, run_epd, run_export, run_fen, run_probe, run_show};
+use crate::games::games;
+use crate::ordered;
+use pb_cli::{ExportOrder, Order, run_fen};
 use pb_files::{JournalGuard, Stop, expect_open, open};
 use pb_io::{FromRead, Sink};
 use pb_messages::{Messages, Named, News, Progress, Told, Watched};
@@ -10,10 +12,6 @@ use std::io::{Input, StdinLock};
 
 /// A file as a source.
 pub(crate) type FileSource<'a> = FromRead<Told<'a, File>>;
-
-/// How many fills a command may make of a source: as many as can be counted, so that only a source
-/// without an end meets the limit.
-pub const FILLS: u32 = u32::MAX;
 
 /// Runs the order's command, and answers whether all was taken. The standard streams have to be
 /// open, and the files that it reads are opened before anything is read.
@@ -24,10 +22,7 @@ pub(crate) fn answer<'a, K: Sink>(
     output: &mut K,
 ) -> Result<bool, Stop> {
     let rt = messages.rt();
-    let reads_input = matches!(
-        order,
-        Order::Epd | Order::Collect { .. } | Order::Export { .. }
-    );
+    let reads_input = matches!(order, Order::Epd | Order::Collect(_) | Order::Export(_));
     expect_open(messages, reads_input)?;
     match order {
         Order::Fen { record, moves } => {
@@ -36,25 +31,20 @@ pub(crate) fn answer<'a, K: Sink>(
         }
         Order::Epd => {
             let mut input = FromRead::new(input(messages));
-            Ok(run_epd(rt.alloc(), &mut input, output, FILLS)?)
+            Ok(ordered::epd(rt.alloc(), &mut input, output)?)
         }
         Order::Show { book } => {
             let mut book = source(messages, book)?;
-            Ok(run_show(rt.alloc(), &mut book, output, FILLS)?)
+            Ok(ordered::show(rt.alloc(), &mut book, output)?)
         }
         Order::Probe {
             table,
             book,
             record,
         } => probe(messages, table, book, record, output),
-        Order::Collect {
-            rules,
-            kept,
-            table,
-            book,
-            ..
-        } => { Collecting::new(messages, guard, *rules, table, book).run(*kept, output) }
-        Order::Export { rules, table, .. } => export(messages, *rules, table, output),
+        Order::Collect(order) => Collecting::new(messages, guard, order).run(output),
+        Order::Export(order) => export(messages, order, output),
+        Order::Games { files } => games(messages, files.as_slice(), output),
     }
 }
 
@@ -70,21 +60,20 @@ fn probe<K: Sink>(
     let mut book = source(messages, book)?;
     let alloc = messages.rt().alloc();
     let record = record.as_bytes();
-    Ok(run_probe(alloc, &mut table, &mut book, record, output, FILLS)?)
+    Ok(ordered::probe(alloc, &mut table, &mut book, record, output)?)
 }
 
 /// Opens the table, then takes the submissions.
 fn export<K: Sink>(
     messages: Messages<'_>,
-    rules: Rules,
-    table: &str,
+    order: &ExportOrder<'_>,
     output: &mut K,
 ) -> Result<bool, Stop> {
-    let mut table = source(messages, table)?;
+    let mut table = source(messages, order.table)?;
     let progress = Progress::new(messages, News::Unknown);
     let mut input = FromRead::new(Watched::new(input(messages), &progress));
     let alloc = messages.rt().alloc();
-    let taken = run_export(alloc, rules, &mut table, &mut input, output, FILLS);
+    let taken = ordered::export(alloc, order, &mut table, &mut input, output);
     progress.clear();
     Ok(taken?)
 }

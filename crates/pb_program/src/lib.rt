@@ -5,8 +5,11 @@
 
 mod collecting;
 mod command;
+mod games;
+mod ordered;
 mod program;
+mod run_games;
 mod stop;
 
-pub use command::FILLS;
+pub use ordered::FILLS;
 pub use program::{USAGE_STATUS, run, tell_no_memory};

@@ -4,7 +4,7 @@ ghost use Rattle.std.specs.Prelude.{◌≡◌, ◌≤◌};
 
 use crate::command::answer;
 use crate::stop::tell_stop;
-use pb_cli::{Fault, Keeping, Order, ParseFault, parse, status};
+use pb_cli::{CollectOrder, ExportOrder, Fault, Keeping, Order, ParseFault, parse, status};
 use pb_files::{BUFFER_LEN, Guarded, JournalGuard, Stop};
 use pb_io::ToWrite;
 use pb_messages::{Front, Fronted, Message, Messages, Named, Part, RefusedFile, Told};
@@ -75,7 +75,9 @@ fn perform(rt: &HostRuntime, order: &Order<'_>) -> u8
 /// Whether the command is to tell faults and refused files alone.
 fn is_quiet(order: &Order<'_>) -> bool {
     match order {
-        Order::Collect { quiet, .. } | Order::Export { quiet, .. } => *quiet,
+        Order::Collect(CollectOrder { quiet, .. }) | Order::Export(ExportOrder { quiet, .. }) => {
+            *quiet
+        }
         _ => false,
     }
 }
@@ -96,15 +98,19 @@ fn tell_refused(messages: Messages<'_>, order: &Order<'_>, front: &RefCell<Front
 fn name_of<'a>(order: &Order<'a>, kind: Part) -> &'a str {
     match (order, kind) {
         (
-            Order::Collect {
-                kept: Keeping::Ledger(path),
-                ..
-            },
+            Order::Collect(
+                CollectOrder {
+                    kept: Keeping::Ledger(path),
+                    ..
+                },
+            ),
             Part::Ledger,
         ) => path,
         (Order::Show { book } | Order::Probe { book, .. }, Part::Book) => book,
         (
-            Order::Probe { table, .. } | Order::Collect { table, .. } | Order::Export { table, .. },
+            Order::Probe { table, .. }
+            | Order::Collect(CollectOrder { table, .. })
+            | Order::Export(ExportOrder { table, .. }),
             _,
         ) => table,
         _ => "",

@@ -7,9 +7,10 @@ use crate::command::tell_next;
 use crate::ends::{Output, fills_in, rules_in};
 use crate::game::stream_of;
 use pb_cli::{
-    Continued, Fault, MemStore, Rules, SkippedLines, collect_into, continue_into, journal_into,
+    Continued, Fault, MemStore, SkippedLines, collect_into, continue_into, journal_into,
     run_collect, run_continue, run_journaled,
 };
+use pb_collecting::Rules;
 use pb_ledger::save;
 use pb_poly::{Book, MemSink, ToWrite};
 use rows::book;

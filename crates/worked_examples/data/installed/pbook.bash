@@ -10,7 +10,7 @@ _pbook() {
     local word=${COMP_WORDS[COMP_CWORD]} last=${COMP_WORDS[COMP_CWORD - 1]}
     COMPREPLY=()
     if [ "$COMP_CWORD" -eq 1 ]; then
-        COMPREPLY=($(compgen -W 'collect export fen epd show probe help --help --version' -- "$word"))
+        COMPREPLY=($(compgen -W 'collect export games fen epd show probe help --help --version' -- "$word"))
         return
     fi
     # Bash has the `=` of `--ledger=FILE` as a word of its own.
@@ -46,7 +46,8 @@ _pbook() {
     case ${COMP_WORDS[1]} in
         show | export) files=1 ;;
         probe | collect) files=2 ;;
-        help) COMPREPLY=($(compgen -W 'collect export fen epd show probe' -- "$word")) ;;
+        games) files=$COMP_CWORD ;;
+        help) COMPREPLY=($(compgen -W 'collect export games fen epd show probe' -- "$word")) ;;
     esac
     if [ "$before" -lt "$files" ]; then
         _pbook_files "$word"

@@ -1,6 +1,6 @@
 # Completions of pbook for fish: its commands and their options, then files where a command takes one.
 
-set -l commands collect export fen epd show probe
+set -l commands collect export games fen epd show probe
 set -l first "not __fish_seen_subcommand_from $commands help"
 
 complete -c pbook -f
@@ -8,6 +8,7 @@ complete -c pbook -s h -l help -d 'Say how it is used'
 complete -c pbook -n $first -s V -l version -d 'Print the version'
 complete -c pbook -n $first -a collect -d 'Make a book of the games on standard input'
 complete -c pbook -n $first -a export -d 'Print the book of the games on standard input as EPD lines'
+complete -c pbook -n $first -a games -d 'Print the submission lines of journals, saved ledgers and lists'
 complete -c pbook -n $first -a fen -d 'Play moves from a FEN record'
 complete -c pbook -n $first -a epd -d 'Rewrite EPD lines from standard input'
 complete -c pbook -n $first -a show -d 'Print the entries of a book'
@@ -15,7 +16,7 @@ complete -c pbook -n $first -a probe -d 'Print the moves that a book has for a F
 complete -c pbook -n $first -a help -d 'Say how a command is used'
 complete -c pbook -n '__fish_seen_subcommand_from help' -a "$commands"
 
-complete -c pbook -n '__fish_seen_subcommand_from collect export show probe' -F
+complete -c pbook -n '__fish_seen_subcommand_from collect export games show probe' -F
 complete -c pbook -n '__fish_seen_subcommand_from collect export' -l plies -x -d 'Count the first plies of each game'
 complete -c pbook -n '__fish_seen_subcommand_from collect export' -l least -x -d 'Leave out moves that occur fewer times'
 complete -c pbook -n '__fish_seen_subcommand_from collect export' -s q -l quiet -d 'Print only errors on standard error'
