@@ -98,24 +98,22 @@ told_stays (Some old) None new first second = absurd first
 told_stays (Some old) (Some mid) None first second = absurd second
 told_stays (Some old) (Some mid) (Some new) first second = λ sound. second (first sound)
 
-pub told_sound : (old new : Option Disk) → Steps StaysSound old new → IfSome old IsSound → IfSome new IsSound
-told_sound None None stays sound = tt
-told_sound None (Some new) stays sound = absurd stays
-told_sound (Some old) None stays sound = absurd stays
-told_sound (Some old) (Some new) stays sound = stays sound
+pub told_sound : (old new : Option Disk) → Steps StaysSound old new → ForSome old IsSound → ForSome new IsSound
+told_sound None (Some new) stays sound disk is = absurd stays
+told_sound (Some old) (Some new) stays sound disk is = let one : new ≡ disk = cc in subst IsSound one (stays (sound old refl))
+told_sound old None stays sound disk is = cc
 
-pub told_synced : (mid new : Option Disk) → Steps Syncs mid new → IfSome mid IsSound → IfSome new IsSound
-told_synced None None syncs sound = tt
-told_synced None (Some new) syncs sound = absurd syncs
-told_synced (Some mid) None syncs sound = absurd syncs
-told_synced (Some mid) (Some new) syncs sound = syncs.sound sound
+pub told_synced : (mid new : Option Disk) → Steps Syncs mid new → ForSome mid IsSound → ForSome new IsSound
+told_synced None (Some new) syncs sound disk is = absurd syncs
+told_synced (Some mid) (Some new) syncs sound disk is = let one : new ≡ disk = cc in subst IsSound one (syncs.sound (sound mid refl))
+told_synced mid None syncs sound disk is = cc
 
 -- what a sync put on the disk
-pub told_outlives : (mid new : Option Disk) → IfSome mid IsSound → Steps Syncs mid new → IfSome new OutlivesCrash
+pub told_outlives : (mid new : Option Disk) → ForSome mid IsSound → Steps Syncs mid new → IfSome new OutlivesCrash
 told_outlives None None sound syncs = tt
 told_outlives None (Some new) sound syncs = absurd syncs
 told_outlives (Some mid) None sound syncs = absurd syncs
-told_outlives (Some mid) (Some new) sound syncs = outlives new (syncs.all sound)
+told_outlives (Some mid) (Some new) sound syncs = outlives new (syncs.all (sound mid refl))
 
 -- One write more takes a front of the rest.
 pub told_more : (bytes : List ℕ) (count more : ℕ) (old mid new : Option Disk) → Steps (Adds (take count bytes)) old mid
@@ -128,9 +126,9 @@ told_more bytes count more old mid new first second =
 pub told_failed : (bytes : List ℕ) (old mid new : Option Disk) → Steps (Adds bytes) old mid → Steps (Adds []) mid new → Steps (Adds bytes) old new
 told_failed bytes old mid new first second = told_then bytes [] bytes old mid new (append-nil bytes) first second
 
-pub told_on_disk : (mid new : Option Disk) → IfSome mid IsSound → Steps Syncs mid new → ForSome new IsOnDisk
+pub told_on_disk : (mid new : Option Disk) → ForSome mid IsSound → Steps Syncs mid new → ForSome new IsOnDisk
 told_on_disk None (Some new) sound syncs disk is = absurd syncs
-told_on_disk (Some mid) (Some new) sound syncs disk is = subst IsOnDisk (search rules) (syncs.all sound)
+told_on_disk (Some mid) (Some new) sound syncs disk is = let one : new ≡ disk = cc in subst IsOnDisk one (syncs.all (sound mid refl))
 told_on_disk mid None sound syncs disk is = cc
 
 pub told_on_disk_outlives : (told : Option Disk) → ForSome told IsOnDisk → IfSome told OutlivesCrash

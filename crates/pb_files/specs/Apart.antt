@@ -1,5 +1,5 @@
 -- Which files of a run have to be different ones.
-use Rattle.std.specs.Prelude.{◌≡◌, ◌≢◌, ◌⊎◌, ℕ, List, [], ◌∷◌, Any, codes}
+use Rattle.std.specs.Prelude.{◌≡◌, ◌≢◌, ◌⊎◌, ℕ, List, [], ◌∷◌, codes}
 use Rattle.std.specs.Borrow.{Bor}
 use Rattle.pb_messages.specs.declared.part.Part.{Part}
 use Rattle.pb_messages.specs.declared.part.Part.TheVariants.{Book}
@@ -18,9 +18,10 @@ output = codes "/dev/stdout"
 abbrev pub IsNoOutput : (List ℕ → List ℕ → Type 0) → File → Type 0
 IsNoOutput apart file = file.0 ≢ Book → apart file.1.now output
 
--- the file of this part is one of these, and so has a path of this kind
+-- the file of this part is one of these, and its path is of this kind
 abbrev pub IsAmong : (List ℕ → Type 0) → Part → List File → Type 0
-IsAmong is part files = Any (λ (file : File). (part ≡ file.0) × is file.1.now) files
+IsAmong is part [] = ⊥
+IsAmong is part (file ∷ files) = ((part ≡ file.0) × is file.1.now) ⊎ IsAmong is part files
 
 -- the reason names a file and a later one that are one file, or one that is read and is standard
 -- output

@@ -1,6 +1,7 @@
 -- What is known of a file that is only added to, and what a kill and a crash leave of it.
 use Rattle.std.specs.Prelude.{◌≡◌, ℕ, ◌≤◌, Bool, true, false, List, ◌++◌, length, take}
-use Rattle.std.specs.Prelude.{Option, IfSome}
+use Rattle.std.specs.Prelude.{Option}
+use Rattle.std.specs.Option.{ForSome}
 use Rattle.pb_files.specs.Begins.{BeginsWith}
 
 -- The bytes that a reader finds; how many from the first on are on the disk; and whether the system
@@ -35,7 +36,7 @@ StaysSound old new = IsSound old → IsSound new
 
 -- where lines are to be synced, and the file works, a sync of it writes all that isn't on the disk
 abbrev pub SyncsAll : Bool → FileState → Type 0
-SyncsAll sync file = sync ≡ true → file.ready ≡ true → IfSome file.told IsSound
+SyncsAll sync file = sync ≡ true → file.ready ≡ true → ForSome file.told IsSound
 
 -- A crash leaves what is on the disk, and behind it anything at all.
 abbrev pub Leaves : Disk → List ℕ → Type 0

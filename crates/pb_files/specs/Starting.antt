@@ -9,7 +9,8 @@ abbrev pub IfNotHeld : NotStarted → (NotHeld → Type 0) → Type 0
 IfNotHeld (NotStarted.NotHeld why) denied = denied why
 IfNotHeld (NotStarted.NotRead why) denied = ⊤
 
--- whether a journal that can't be read may still be added to: unless its sync has failed
+-- whether a journal that can't be read may still be added to: unless it couldn't be put on the disk
 abbrev pub is_still_ready : NotRead → Bool
 is_still_ready NotRead.Sync = false
+is_still_ready NotRead.Reading = false
 is_still_ready NotRead.Failed = true

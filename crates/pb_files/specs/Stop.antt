@@ -41,4 +41,5 @@ stop_of_names (NotApart.IsOutput part) = Stop.Fault Fault.Write
 abbrev pub stop_of_start : NotStarted → Stop
 stop_of_start (NotStarted.NotHeld why) = Stop.NotOpened
 stop_of_start (NotStarted.NotRead NotRead.Sync) = Stop.Fault Fault.Write
+stop_of_start (NotStarted.NotRead NotRead.Reading) = Stop.Fault Fault.Read
 stop_of_start (NotStarted.NotRead NotRead.Failed) = Stop.Fault Fault.Read

@@ -114,20 +114,21 @@ impl<'a, 'f> FileDesk<'a, 'f> {
         }
         match fs::metadata(self.messages.rt(), self.path) {
             // Opening a pipe may wait.
-            Ok(told) if told.is_file() || told.is_dir() => self.expect_writable(),
+            Ok(told) if told.is_file() => self.expect_writable(Left::Old(self.part)),
+            Ok(told) if told.is_dir() => self.expect_writable(Left::All),
             _ => Ok(()),
         }
     }
 
-    /// Makes sure that the file, which is there, can be opened to be written.
-    fn expect_writable(&self) -> Result<(), StoreError> {
+    /// Makes sure that what is there can be opened to be written, which leaves this of it.
+    fn expect_writable(&self, left: Left) -> Result<(), StoreError> {
         match OpenOptions::new()
             .write(true)
             .open(self.messages.rt(), self.path)
         {
             Ok(_) => Ok(()),
             Err(error) => {
-                self.named(Left::Old(self.part)).fail(&error);
+                self.named(left).fail(&error);
                 Err(StoreError::Open)
             }
         }
@@ -235,26 +236,29 @@ impl<'a, 'f> FileDesk<'a, 'f> {
         }
     }
 
-    /// Whether the new file has the owner and the group of the old one. Then it has the permissions
-    /// too.
-    fn takes_after(&self, file: &File) -> io::Result<bool> {
+    /// Gives the new file the permissions of the old one, and tells why it can't take its place all
+    /// the same.
+    fn take_after(&self, file: &File) -> io::Result<Option<Unreplaceable>> {
         let Some(old) = &self.old else {
-            return Ok(true);
+            return Ok(None);
         };
         let made = file.metadata()?;
+        if made.dev() != old.told.dev() {
+            return Ok(Some(Unreplaceable::Mount));
+        }
         if made.uid() != old.told.uid() || made.gid() != old.told.gid() {
-            return Ok(false);
+            return Ok(Some(Unreplaceable::Owner));
         }
         if made.mode() != old.told.mode() {
             file.set_permissions(old.told.permissions())?;
         }
-        Ok(true)
+        Ok(None)
     }
 
     /// Remembers that no draft can take the file's place, which is told of a ledger: that isn't
     /// written in place.
     fn refuse(&mut self, why: Unreplaceable) -> NotMade
-        requires { self.entry.now.refused ≡ false }
+        requires { self.now.refused ≡ false }
         ensures { self.exit.now
             ≡ record self.entry.now { refused = is_refused_draft {E = Unit {0}} (Err result) } }
     {
@@ -323,11 +327,11 @@ impl<'a, 'f> FileDesk<'a, 'f> {
             self.exit.now).drafted ≡ (⟦<FileDesk<'a, 'f> as Desk>⟧.state self.entry.now).drafted) }
     {
         let rt = self.messages.rt();
-        let made = match self.takes_after(&file) {
-            Ok(true) => FileWriter::new(rt.alloc(), self.named_before(), file, true).map_err(
+        let made = match self.take_after(&file) {
+            Ok(None) => FileWriter::new(rt.alloc(), self.named_before(), file, true).map_err(
                 |_| NotMade::Failed(StoreError::Memory),
             ),
-            Ok(false) => Err(self.refuse(Unreplaceable::Owner)),
+            Ok(Some(why)) => Err(self.refuse(why)),
             Err(error) => {
                 self.named_before().fail(&error);
                 Err(NotMade::Failed(StoreError::Open))

@@ -1,12 +1,14 @@
 //! A journal over a file of the system.
 
-ghost use Rattle.std.specs.Prelude.{◌≡◌, ◌≤◌, ◌&&◌, IfOk, None, is_ok, length, true};
+ghost use Rattle.std.specs.Prelude.{◌≡◌, ◌≤◌, ◌&&◌, IfOk, None, false, is_ok, length, true};
+ghost use Rattle.pb_files.specs.Starting.{is_still_ready};
 
 use crate::held_file::HeldFile;
 use crate::journal_file::{JournalFile, ReadFile};
 use crate::journal_guard::JournalGuard;
 use crate::one_file::tell_of_one;
 use crate::place::Place;
+use crate::starting::NotRead;
 use pb_io::{Failed, FromRead};
 use pb_messages::{Named, News, Progress, Told};
 use std::fs::{File, OpenOptions};
@@ -60,7 +62,7 @@ impl<'p, 'a> FileJournal<'p, 'a> {
     pub(crate) fn guard(&self) -> Result<(), Failed> {
         match self.file.metadata() {
             Ok(told) => {
-                self.guard.begin(HeldFile::new(self.named, told));
+                self.guard.begin(HeldFile::new(self.named, told, true));
                 Ok(())
             }
             Err(error) => {
@@ -140,9 +142,16 @@ impl JournalFile for FileJournal<'_, '_> {
 impl<'a> ReadFile for FileJournal<'_, 'a> {
     type Reader = FromRead<Told<'a, File>>;
 
-    fn write_over(&mut self) -> Result<(), Failed> {
-        let written = self.reopened().and_then(|file| write_over(&file));
-        self.answer(written)
+    fn write_over(&mut self) -> Result<(), NotRead> {
+        let mut why = NotRead::Sync;
+        let written = match self.reopened() {
+            Ok(file) => write_over(&file, &mut why),
+            Err(error) => Err(error),
+        };
+        match self.answer(written) {
+            Ok(()) => Ok(()),
+            Err(_) => Err(why),
+        }
     }
 
     fn reader(&mut self) -> Result<FromRead<Told<'a, File>>, Failed> {
@@ -169,14 +178,20 @@ fn write_some(mut file: &File, bytes: &[u8]) -> io::Result<usize>
     Err(io::Error::from(ErrorKind::Interrupted))
 }
 
-/// Writes all bytes of the file over themselves, which the system then has to write anew.
-fn write_over(file: &File) -> io::Result<()> {
+/// Writes all bytes of the file over themselves, which the system then has to write anew. `why` says
+/// what has failed.
+fn write_over(file: &File, why: &mut NotRead) -> io::Result<()>
+    requires { is_still_ready why.old ≡ false }
+    ensures { is_still_ready why.new ≡ false }
+{
     let len = file.metadata()?.len();
     let mut piece = [0; PIECE];
     for number in 0..=len / PIECE as u64 {
         let at = number * PIECE as u64;
         let count = usize::try_from(len - at).map_or(PIECE, |rest| rest.min(PIECE));
+        *why = NotRead::Reading;
         file.read_exact_at(&mut piece[..count], at)?;
+        *why = NotRead::Sync;
         file.write_all_at(&piece[..count], at)?;
     }
     Ok(())

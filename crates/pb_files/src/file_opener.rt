@@ -55,7 +55,7 @@ pub fn hold_ledger<'p, 'a>(
     }
     let file = held?;
     match file.metadata() {
-        Ok(told) => Ok(LedgerFile::new(file, Some(HeldFile::new(named, told)))),
+        Ok(told) => Ok(LedgerFile::new(file, Some(HeldFile::new(named, told, false)))),
         Err(error) => {
             named.fail(&error);
             Err(NotHeld::Failed)

@@ -1,11 +1,14 @@
 //! A file that this run holds and adds to.
 
-ghost use Rattle.std.specs.Prelude.{◌≡◌, ◌≤◌, ◌<◌, [], IfOk, IfSome, OnErr, OnOk, is_ok, length};
-ghost use Rattle.std.specs.Prelude.{take, true};
+ghost use Rattle.std.specs.Option.{ForSome};
+ghost use Rattle.std.specs.Prelude.{◌≡◌, ◌≤◌, ◌<◌, [], IfErr, IfOk, OnErr, OnOk, is_ok};
+ghost use Rattle.std.specs.Prelude.{false, length, take, true};
 ghost use Rattle.pb_files.specs.Disk.{Adds, FileState, IsSound, StaysSound, Syncs};
 ghost use Rattle.pb_files.specs.JournalFile.{ReadsAll};
+ghost use Rattle.pb_files.specs.Starting.{is_still_ready};
 ghost use Rattle.pb_files.specs.Steps.{Steps};
 
+use crate::starting::NotRead;
 use pb_io::{Failed, Source};
 
 /// A file that this run holds, so that no other run adds to it.
@@ -58,11 +61,14 @@ pub trait ReadFile: JournalFile {
     ///
     /// # Errors
     ///
-    /// `Failed` where not all could be written. Nothing may be written any more then.
-    fn write_over(&mut self) -> Result<(), Failed>
+    /// `Reading` where not all could be read, and `Sync` where not all could be written. Nothing may
+    /// be written any more then.
+    fn write_over(&mut self) -> Result<(), NotRead>
         requires { (Self.state self.old).ready ≡ true }
-        ensures ready { (Self.state self.new).ready ≡ is_ok result }
-        ensures sound { OnOk result (IfSome (Self.state self.new).told IsSound) }
+        ensures ready { OnOk result ((Self.state self.new).ready ≡ true) }
+        ensures fault { IfErr result (λ why. ((Self.state self.new).ready ≡ false)
+            × (is_still_ready why ≡ false)) }
+        ensures sound { OnOk result (ForSome (Self.state self.new).told IsSound) }
         ensures same { Steps (Adds []) (Self.state self.old).told (Self.state self.new).told };
 
     /// A reader of all that is found.

@@ -47,11 +47,13 @@ impl<'a> JournalGuard<'a> {
 }
 
 /// An output that takes replies as long as the journal that they speak of is kept. It fails each
-/// write once it isn't.
+/// call once it isn't.
 #[derive(Drop)]
 pub struct Guarded<'g, 'a, W> {
     writer: W,
     guard: &'g JournalGuard<'a>,
+    // The journal was looked at since the last flush.
+    has_looked: bool,
     failed: bool,
 }
 
@@ -61,21 +63,34 @@ impl<'g, 'a, W: Write> Guarded<'g, 'a, W> {
         Guarded {
             writer,
             guard,
+            has_looked: false,
             failed: false,
         }
+    }
+
+    /// Looks whether the journal is kept.
+    fn look(&mut self) -> io::Result<()> {
+        self.failed = self.failed || !self.guard.is_kept();
+        self.has_looked = true;
+        if self.failed {
+            return Err(io::Error::from(ErrorKind::BrokenPipe));
+        }
+        Ok(())
     }
 }
 
 impl<W: Write> Write for Guarded<'_, '_, W> {
     fn write(&mut self, bytes: &[u8]) -> io::Result<usize> {
-        self.failed = self.failed || !self.guard.is_kept();
-        if self.failed {
-            return Err(io::Error::from(ErrorKind::BrokenPipe));
-        }
+        self.look()?;
         self.writer.write(bytes)
     }
 
+    // A run that has no more replies to write looks all the same before it ends.
     fn flush(&mut self) -> io::Result<()> {
+        if !self.has_looked {
+            self.look()?;
+        }
+        self.has_looked = false;
         self.writer.flush()
     }
 }

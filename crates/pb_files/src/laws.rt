@@ -1,16 +1,18 @@
 //! Laws of what kills and crashes leave of a file. Each is the contract of a function that does
 //! nothing.
 
-ghost use Rattle.std.specs.Prelude.{◌≡◌, ◌++◌, ◌∷◌, [], List, None, Some, false, true, ℕ};
+ghost use Rattle.std.specs.Prelude.{◌≡◌, ◌≤◌, ◌==◌, ◌++◌, ◌∷◌, [], List, None, Some, false};
+ghost use Rattle.std.specs.Prelude.{length, true, ℕ};
 ghost use Rattle.pb_io.specs.Lines.{ended_lines};
 ghost use Rattle.pb_io.specs.Source.{SourceState};
 ghost use Rattle.pb_files.specs.Desk.{Content, NamesNot, Shelf};
-ghost use Rattle.pb_files.specs.Disk.{Disk, Grows, IsOnDisk, Leaves, OutlivesCrash, on_disk};
+ghost use Rattle.pb_files.specs.Disk.{Disk, Grows, IsOnDisk, Leaves, OutlivesCrash, Syncs};
+ghost use Rattle.pb_files.specs.Disk.{on_disk};
 ghost use Rattle.pb_files.specs.Begins.{BeginsWith};
 ghost use Rattle.pb_files.specs.JournalSink.{EndState};
 ghost use Rattle.pb_files.specs.Journaling.{IsStarted, MayBeLeft};
-ghost use Rattle.pb_files.specs.Runs.{HoldsDraft, Names, OfOthers, Step, after};
-ghost use Rattle.pb_files.specs.Runs.Step.{Locks, Makes};
+ghost use Rattle.pb_files.specs.Runs.{HoldsDraft, Names, OfOthers, Step, after, run_of};
+ghost use Rattle.pb_files.specs.Runs.Step.{Ends, Locks, Makes, Unnames};
 ghost use Rattle.pb_files.specs.Saving.{OldOrNew};
 
 use crate::journal_sink::{Durability, Synced, Written};
@@ -53,6 +55,15 @@ pub fn what_may_be_left()
     ensures started { (disk : Disk) (end : EndState) (reader : SourceState)
         → end.told ≡ Some disk → reader.to_come ≡ Some disk.found → end.waits ≡ []
         → IsStarted false disk end reader }
+    ensures synced_start { (disk : Disk) (end : EndState) (reader : SourceState)
+        → end.told ≡ Some disk → reader.to_come ≡ Some disk.found → end.waits ≡ []
+        → IsOnDisk disk → IsStarted true disk end reader }
+{}
+
+/// Where the system calls bytes clean that aren't on the disk, a sync that succeeds may put nothing
+/// there.
+pub fn what_a_sync_may_pass_over()
+    ensures { (disk : Disk) → disk.lost ≡ true → disk.kept ≤ length disk.found → Syncs disk disk }
 {}
 
 /// `Synced` syncs what is flushed, and `Written` doesn't.
@@ -76,6 +87,17 @@ pub fn what_a_name_may_lead_to()
 pub fn one_run_holds_a_draft()
     ensures { (run other : ℕ) (names : Names) → HoldsDraft run names → HoldsDraft other names
         → run ≡ other }
+{}
+
+/// What others do in a model of runs: steps that are none of a run's are those of others. Who holds
+/// a draft may take its name, and a run that ends lets its locks go.
+pub fn what_steps_do()
+    ensures others { (run : ℕ) (step : Step) (steps : List Step) → (run == run_of step ≡ false)
+        → OfOthers run steps → OfOthers run (step ∷ steps) }
+    ensures unnamed { (run : ℕ) (names : Names) → HoldsDraft run names
+        → (after names (Unnames run ∷ [])).leads ≡ None }
+    ensures ended { (run file : ℕ) (names : Names) → names.locked file ≡ Some run
+        → (after names (Ends run ∷ [])).locked file ≡ None }
 {}
 
 /// A run that makes a draft of a free name, and locks it, holds it.

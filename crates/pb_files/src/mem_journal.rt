@@ -7,7 +7,7 @@ ghost use Rattle.pb_files.specs.Disk.{on_disk};
 
 use crate::holding::{Lock, NotHeld, Opener};
 use crate::journal_file::{JournalFile, ReadFile};
-use crate::starting::JournalOpener;
+use crate::starting::{JournalOpener, NotRead};
 use pb_io::{Failed, FromRead};
 use std::alloc::Global;
 use std::io::Cursor;
@@ -133,10 +133,10 @@ impl JournalFile for MemJournal {
 impl ReadFile for MemJournal {
     type Reader = FromRead<Cursor<Vec<u8>>>;
 
-    fn write_over(&mut self) -> Result<(), Failed> {
+    fn write_over(&mut self) -> Result<(), NotRead> {
         self.ready = self.goes_well();
         if !self.ready {
-            return Err(Failed);
+            return Err(NotRead::Sync);
         }
         self.lost = false;
         Ok(())

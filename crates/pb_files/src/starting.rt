@@ -28,6 +28,9 @@ pub enum NotRead {
     /// What is found can't be put on the disk.
     #[error("the file can't be put on the disk")]
     Sync,
+    /// What is found can't be read, to be put on the disk.
+    #[error("the file can't be read and put on the disk")]
+    Reading,
     /// There is no reader of it.
     #[error("the file can't be read")]
     Failed,
@@ -59,7 +62,7 @@ pub struct Started<J: ReadFile> {
 ///
 /// # Errors
 ///
-/// `Sync` where it can't be put on the disk, `Failed` where it can't be read.
+/// `Sync` or `Reading` where it can't be put on the disk, `Failed` where there is no reader.
 pub fn whole_reader<J: ReadFile>(journal: &mut J, sync: bool) -> Result<J::Reader, NotRead>
     requires { (J.state journal.old).ready ≡ true }
     ensures ready { OnOk result ((J.state journal.new).ready ≡ true) }
@@ -71,8 +74,11 @@ pub fn whole_reader<J: ReadFile>(journal: &mut J, sync: bool) -> Result<J::Reade
     ensures unasked { sync ≡ false → J.state journal.new ≡ J.state journal.old }
     ensures same { Steps (Adds []) (J.state journal.old).told (J.state journal.new).told }
 {
-    if sync && (journal.write_over().is_err() || journal.sync().is_err()) {
-        return Err(NotRead::Sync);
+    if sync {
+        journal.write_over()?;
+        if journal.sync().is_err() {
+            return Err(NotRead::Sync);
+        }
     }
     match journal.reader() {
         Ok(reader) => Ok(reader),

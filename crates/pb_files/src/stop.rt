@@ -100,7 +100,7 @@ impl From<NotStarted> for Stop {
         match why {
             NotStarted::NotHeld(why) => Stop::from(why),
             NotStarted::NotRead(NotRead::Sync) => Stop::Fault(Fault::Write),
-            NotStarted::NotRead(NotRead::Failed) => Stop::Fault(Fault::Read),
+            NotStarted::NotRead(NotRead::Reading | NotRead::Failed) => Stop::Fault(Fault::Read),
         }
     }
 }

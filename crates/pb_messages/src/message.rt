@@ -123,8 +123,8 @@ pub enum Change {
     Removed,
     /// Another file has its name.
     Replaced,
-    /// It is longer or shorter than this run has left it.
-    Length,
+    /// It was written, or made longer or shorter.
+    Content,
 }
 
 impl Display for Change {
@@ -132,7 +132,7 @@ impl Display for Change {
         match self {
             Change::Removed => write!(f, "it was removed or renamed while this run held it"),
             Change::Replaced => write!(f, "another file took its name while this run held it"),
-            Change::Length => write!(f, "another program changed it while this run held it"),
+            Change::Content => write!(f, "another program changed it while this run held it"),
         }
     }
 }

@@ -22,8 +22,9 @@ pub struct Progress<'a> {
     is_shown: bool,
     counts: RefCell<Counts>,
     shown: RefCell<Option<Instant>>,
-    // The last byte of the submissions so far.
+    // The last byte of the submissions so far, unless they don't look like any.
     last: Cell<Option<u8>>,
+    is_odd: Cell<bool>,
 }
 
 impl<'a> Progress<'a> {
@@ -36,6 +37,7 @@ impl<'a> Progress<'a> {
             counts: RefCell::new(Counts::new(news)),
             shown: RefCell::new(None),
             last: Cell::new(None),
+            is_odd: Cell::new(false),
         }
     }
 
@@ -45,6 +47,7 @@ impl<'a> Progress<'a> {
             counts.begin();
         }
         if let Some(looks) = looks_of(bytes) {
+            self.is_odd.set(true);
             self.messages.warn(&Message::LooksLike(looks));
         }
     }
@@ -53,7 +56,7 @@ impl<'a> Progress<'a> {
     /// may be a game that was cut, which is told.
     pub fn read(&self, bytes: &[u8]) {
         match (bytes.last(), self.last.get()) {
-            (Some(last), _) => self.last.set(Some(*last)),
+            (Some(last), _) if !self.is_odd.get() => self.last.set(Some(*last)),
             (None, Some(last)) if last != b'\n' => {
                 self.last.set(None);
                 self.messages.warn(&Message::Unended);

@@ -1,6 +1,6 @@
 //! A run over a journal in memory of which so many calls succeed, and then the run that is started
-//! again on what a crash or a kill has left of it. Its submissions are the same, but the first
-//! comes last: a game that the journal has lost gets another number.
+//! again on what a crash or a kill has left of it. A sync of it had failed before. The submissions
+//! are the same, but the first comes last: a game that the journal has lost gets another number.
 
 use crate::collecting::Passed;
 use crate::files::{book_of, rules};
@@ -67,7 +67,8 @@ fn ended<D: Durability>(page: &mut Page, words: &[&str]) -> Done {
 impl<D: Durability> Ran<D> {
     /// The run over a journal of these bytes and over these submissions.
     fn of(alloc: Global, bytes: &[u8], calls: usize, lines: &str) -> Result<Ran<D>, Trouble> {
-        let mut file = MemJournal::new(Vec::from_slice(alloc, bytes)?, calls);
+        let found = Vec::from_slice(alloc, bytes)?;
+        let mut file = MemJournal::after_failed_sync(found, calls);
         let reader = whole_reader(&mut file, D::syncs());
         let mut ran = Ran {
             answer: Page::new(alloc),

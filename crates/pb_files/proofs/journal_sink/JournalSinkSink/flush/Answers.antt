@@ -1,7 +1,6 @@
 use Rattle.std.proofs.Common.{◌≡◌, ◌∙◌, ℕ, ap, arith, length, List, [], Option, append-nil, drop, refl, rules, subst, sym, take, take-append-drop, true, Bool}
 use Rattle.std.proofs.Math.ListN.{drop_of_length-le}
 use Rattle.std.specs.Option.{ForSome}
-use Rattle.std.specs.Prelude.{IfSome}
 use Rattle.std.specs.Io.KnownBytes.{Keeps}
 use Rattle.pb_io.specs.Sink.{Lasts}
 use Rattle.pb_files.specs.Disk.{Adds, Disk, IsOnDisk, IsSound}
@@ -55,7 +54,7 @@ returns-clause-flush g c =
       | then-syncs+in_ok-sync w ↦ rw w.self-is (told_sync (take wrote.result bytes) _ _ _ wrote.ensures.added w.in_ok-sync.ensures.all)
       | else-syncs w ↦ rw w.self-is wrote.ensures.added
     ] in
-    let sound : sync ≡ true → IfSome (state wrote.new.file).told IsSound =
+    let sound : sync ≡ true → ForSome (state wrote.new.file).told IsSound =
     λ synced. told_sound _ _ (wrote.ensures.sound (search rules)) (now.sound synced (search rules)) in
     let on_disk : sync ≡ true → ForSome (state file).told IsOnDisk = elim c.if-syncs.branch [
       | then-syncs+in_ok-sync w ↦ rw w.self-is (λ synced. told_on_disk _ _ (sound synced) w.in_ok-sync.ensures.all)
