@@ -13,6 +13,8 @@
 mod booking;
 mod collecting;
 mod collector;
+mod ending;
+mod games;
 mod journaling;
 pub mod laws;
 mod loading;
@@ -20,9 +22,11 @@ mod replaying;
 mod saving;
 mod skipped;
 mod totals;
+mod whole;
 
 pub use booking::{WriteFault, save_book};
 pub use collecting::{CollectFault, collect};
+pub use games::pick_games;
 pub use journaling::{JournalFault, collect_journaled};
 pub use loading::{LoadError, load};
 pub use pb_accepted::{
@@ -34,3 +38,4 @@ pub use replaying::replay;
 pub use saving::{put_game, save};
 pub use skipped::SkippedLines;
 pub use totals::Totals;
+pub use whole::load_whole;
