@@ -1,6 +1,7 @@
 //! Streams of lines over a ledger. `collect` submits each line and puts its reply. Where there is a
 //! journal, `collect_journaled` puts each new game there before its reply, and `replay` reads it
-//! back and seals its torn end. `save` writes the games, and `load` reads them into a new ledger.
+//! back and seals its torn end. `save` writes the games, and `load` reads them into a new ledger;
+//! `load_whole` does unless they were cut short. `pick_games` puts the lines of games of a file.
 //! Re-exports `pb_accepted` and `pb_export`.
 //!
 //! ```rust
