@@ -19,9 +19,9 @@ use Rattle.pb_ledger.specs.Whole.{is_cut}
 use Rattle.pb_collecting.specs.Headline.{Effect}
 use Rattle.pb_collecting.specs.Runs.{ledger_of}
 
--- The games of the saved ledger, which wasn't cut, were held first, the lines of the submissions were answered from
--- there, and this ledger is left; the replies were put in order, and the entries are the book of
--- the games that are held then.
+-- The saved ledger wasn't cut and its games were held first, the lines of the submissions were
+-- answered from there, and this ledger is left; the replies were put in order, and the entries are
+-- the book of the games that are held then.
 pub record ContinuesBytes (rules : CountingRules) (file saved bytes put : List ℕ)
     (left : LedgerState) (entries : List Entry) : Type 0 where
   pub randoms : List ℕ

@@ -92,8 +92,8 @@ pub record LacksTable (fills : ℕ) (t t' : SourceState) (verdict : Verdict) : T
   pub found : ReadsTable fills t t' (Err cause)
   pub is : verdict ≡ table_verdict cause
 
--- the table was read, and all lines of the saved ledger, which wasn't cut, were loaded into a ledger
--- of its random numbers, which is this one; or it wasn't loaded for this reason
+-- the table was read, and all lines of the saved ledger, which wasn't cut, were loaded into a
+-- ledger of its random numbers, which is this one; or it wasn't loaded for this reason
 pub record LoadsFirst (rules : CountingRules) (fills : ℕ) (t t' v v' : SourceState)
     (loaded : LedgerState) : Type 0 where
   pub randoms : List ℕ

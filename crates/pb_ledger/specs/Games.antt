@@ -1,4 +1,4 @@
--- The lines of games that the bytes of a journal, a saved ledger or a list of submission lines hold.
+-- The lines of games that the bytes of a journal, a saved ledger or a list of submissions hold.
 use Rattle.std.specs.Prelude.{◌≡◌, ℕ, ◌⊎◌, Bool, true, ◌&&◌, ◌==◌, nat_le, List, [], ◌∷◌, ◌++◌}
 use Rattle.std.specs.Prelude.{length, take, map, filter, flat_map}
 use Rattle.std.specs.Io.KnownBytes.{Appends}
@@ -17,7 +17,8 @@ use Rattle.pb_games.specs.Header.{fields_of}
 
 -- no more than one CR ends the line
 abbrev pub has_one_end : List ℕ → Bool
-has_one_end line = let text = strip_carriage_return line in bytes_eq (strip_carriage_return text) text
+has_one_end line =
+    let text = strip_carriage_return line in bytes_eq (strip_carriage_return text) text
 
 -- the line has the shape of a submission: it isn't too long, and has four fields
 abbrev pub has_shape : List ℕ → Bool

@@ -1,6 +1,6 @@
 //! Laws of ledgers and of their exports, as the crates below have them; of their saved forms, of
-//! journals and of the lines of games; and of equality (`==`) between totals and between faults. Each is the contract of a
-//! function that does nothing, over the definitions alone.
+//! journals and of the lines of games; and of equality (`==`) between totals and between faults.
+//! Each is the contract of a function that does nothing, over the definitions alone.
 
 ghost use Rattle.std.specs.Bool.{Decides};
 ghost use Rattle.std.specs.Prelude.{◌≡◌};
