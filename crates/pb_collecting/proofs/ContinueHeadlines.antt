@@ -40,8 +40,9 @@ has_headline rules fills t t' v v' s s' sink sink' loaded left entries first tak
       record {
         randoms = first.randoms;
         table = table.is;
+        whole = first.loads.whole;
         held = first.held;
-        loads = first.loads.done;
+        loads = first.loads.loads;
         answers = collects.answers;
         run = leads.run;
         is = ap (λ (T : Basis). record left { basis = T }) leads.basis ∙ ap (λ n. record (ledger_of rules first.randoms left.accepted) { cap = n }) leads.cap;

@@ -1,6 +1,6 @@
 -- The theorem of a run of `collect` that goes on from a saved ledger, for the bytes of a table
 -- file, of the saved ledger and of submissions, which three sources handed out.
-use Rattle.std.specs.Prelude.{◌≡◌, ℕ, List, [], ◌++◌}
+use Rattle.std.specs.Prelude.{◌≡◌, ℕ, false, List, [], ◌++◌}
 use Rattle.std.specs.Io.KnownBytes.{Appends}
 use Rattle.pb_io.specs.Lines.{lines}
 use Rattle.pb_io.specs.Sink.{SinkState}
@@ -15,16 +15,18 @@ use Rattle.pb_accepted.specs.Ledger.{LedgerState}
 use Rattle.pb_accepted.specs.Replies.{replies}
 use Rattle.pb_accepted.specs.Rules.{CountingRules}
 use Rattle.pb_ledger.specs.Loading.{Loads}
+use Rattle.pb_ledger.specs.Whole.{is_cut}
 use Rattle.pb_collecting.specs.Headline.{Effect}
 use Rattle.pb_collecting.specs.Runs.{ledger_of}
 
--- The games of the saved ledger were held first, the lines of the submissions were answered from
--- there, and this ledger is left; the replies were put in order, and the entries are the book of
--- the games that are held then.
+-- The saved ledger wasn't cut and its games were held first, the lines of the submissions were
+-- answered from there, and this ledger is left; the replies were put in order, and the entries are
+-- the book of the games that are held then.
 pub record ContinuesBytes (rules : CountingRules) (file saved bytes put : List ℕ)
     (left : LedgerState) (entries : List Entry) : Type 0 where
   pub randoms : List ℕ
   pub table : IsTableFile randoms file
+  pub whole : is_cut saved ≡ false
   pub held : List Submission
   pub loads : Loads most_games (lines saved) held
   pub answers : List Answer

@@ -21,11 +21,11 @@ use Rattle.pb_accepted.specs.Ledger.{LedgerState}
 use Rattle.pb_accepted.specs.Rules.{AreRules, CountingRules}
 use Rattle.pb_export.specs.Exporting.{ExportLines, ExportsUntil, fault_of_export, text_of_lines}
 use Rattle.pb_export.specs.declared.exporting.ExportFault.{ExportFault}
-use Rattle.pb_ledger.specs.Loading.{Loads, LoadsUntil}
 use Rattle.pb_ledger.specs.Replaying.{ReplaysAll, ReplaysUntil}
 use Rattle.pb_ledger.specs.declared.loading.LoadError.{LoadError}
 use Rattle.pb_ledger.specs.Collecting.{Collects, CollectsUntil}
 use Rattle.pb_ledger.specs.Journaling.{Gains, JournalsUntil, fault_of_journal}
+use Rattle.pb_ledger.specs.Whole.{LoadsBytes, LoadsWholeUntil}
 use Rattle.pb_ledger.specs.declared.journaling.JournalFault.{JournalFault}
 use Rattle.pb_commands.specs.Judged.{HandedOnOnce, Verdict}
 use Rattle.pb_commands.specs.TableJudged.{table_verdict}
@@ -92,14 +92,14 @@ pub record LacksTable (fills : ℕ) (t t' : SourceState) (verdict : Verdict) : T
   pub found : ReadsTable fills t t' (Err cause)
   pub is : verdict ≡ table_verdict cause
 
--- the table was read, and all lines of the saved ledger were loaded into a ledger of its random
--- numbers, which is this one; or it wasn't loaded for this reason
+-- the table was read, and all lines of the saved ledger, which wasn't cut, were loaded into a
+-- ledger of its random numbers, which is this one; or it wasn't loaded for this reason
 pub record LoadsFirst (rules : CountingRules) (fills : ℕ) (t t' v v' : SourceState)
     (loaded : LedgerState) : Type 0 where
   pub randoms : List ℕ
   pub table : ReadsTable fills t t' (Ok randoms)
   pub held : List Submission
-  pub loads : AtEnd fills v v' (λ ls. Loads most_games ls held)
+  pub loads : LoadsBytes most_games fills v v' held
   pub is : loaded ≡ ledger_of rules randoms held
 
 pub record LoadsNot (rules : CountingRules) (fills : ℕ) (t t' v v' : SourceState)
@@ -107,7 +107,7 @@ pub record LoadsNot (rules : CountingRules) (fills : ℕ) (t t' v v' : SourceSta
   pub randoms : List ℕ
   pub table : ReadsTable fills t t' (Ok randoms)
   pub left : LedgerState
-  pub until : LoadsUntil fills v v' (new_ledger rules randoms) left e
+  pub until : LoadsWholeUntil fills v v' (new_ledger rules randoms) left e
 
 -- the table was read, and the journal was replayed into a ledger of its random numbers, and its end
 -- mended; or it wasn't replayed for this reason

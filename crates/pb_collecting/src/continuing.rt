@@ -10,7 +10,7 @@ ghost use Rattle.pb_collecting.specs.Runs.{ContinueRun};
 use crate::run::{book_of, open, take_submissions};
 use pb_commands::refuse_with;
 use pb_io::{Fault, Sink, Source};
-use pb_ledger::{Ledger, LoadError, MapTally, Rules, load};
+use pb_ledger::{Ledger, LoadError, MapTally, Rules, load_whole};
 use pb_poly::Book;
 use std::alloc::Global;
 
@@ -31,7 +31,8 @@ pub struct Continued {
 /// The table of words that keys are made of is read first, then the saved ledger. Where the table
 /// is refused, `refused table` and `long`, `line` or `count` is put. Where the saved ledger is,
 /// `refused ledger line` is put, and the number of its first line that is refused, or that brings
-/// no new game after the header. No submission is read then, and the answer is None.
+/// no new game after the header; or of its last line, where no LF ends that after the header. No
+/// submission is read then, and the answer is None.
 ///
 /// # Errors
 ///
@@ -112,7 +113,7 @@ pub(crate) fn go_on<Table: Source, Saved: Source, In: Source, Out: Sink>(
     let Some(mut ledger) = open(alloc, rules, table_source, sink, fills)? else {
         return Ok(None);
     };
-    if let Err(error) = load(alloc, saved, &mut ledger, fills) {
+    if let Err(error) = load_whole(alloc, saved, &mut ledger, fills) {
         refuse_ledger(sink, error)?;
         return Ok(None);
     }

@@ -24,6 +24,6 @@ pub use export::{export_submissions, run_export};
 pub use journaling::run_journaled;
 pub use journaling_into::journal_into;
 pub use keeping::{NoBook, collect_into};
-pub use pb_ledger::{MAX_LEAST, MAX_PLIES, Rules, SkippedLines, WriteFault};
+pub use pb_ledger::{MAX_LEAST, MAX_PLIES, Rules, SkippedLines, WriteFault, pick_games};
 pub use store::{MemStore, Store, StoreError};
 pub use text::{LedgerBook, Text};

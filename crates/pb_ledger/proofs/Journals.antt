@@ -30,7 +30,8 @@ use Rattle.pb_accepted.proofs.Runs.{HaveOwnIds-nil}
 use Rattle.pb_accepted.proofs.Steps.{one_step, runs_join, step_to}
 use Rattle.pb_ledger.specs.Journal.{GameLines, Journals, Replays, mending, seal}
 use Rattle.pb_ledger.specs.JournalLaws.{JournalGoesOn, JournalGrows, JournalIsOne, JournalMayTear}
-use Rattle.pb_ledger.proofs.SavedLoading.{Given, HaveOwnIds-front, given, quiet_text, texts_of}
+use Rattle.pb_ledger.proofs.LinesPut.{lines_put}
+use Rattle.pb_ledger.proofs.SavedLoading.{Given, HaveOwnIds-front, given, quiet_text, quiet_texts, texts_of}
 
 -- ---- a journal is of one list
 
@@ -85,10 +86,10 @@ journal_is_one cap bytes A B h k =
 -- ---- a sealed line
 
 -- what ends the line that is sealed
-abbrev tabs : List ℕ
+abbrev pub tabs : List ℕ
 tabs = 9 ∷ 9 ∷ 9 ∷ 9 ∷ []
 
-tabs_quiet : IsQuiet tabs
+pub tabs_quiet : IsQuiet tabs
 tabs_quiet = All-from_recursion (λ b. is_line_feed b ≡ false) tabs (refl, (refl, (refl, (refl, tt))))
 
 no_return : (p : List ℕ) → strip_carriage_return (p ++ tabs) ≡ p ++ tabs
@@ -99,7 +100,7 @@ no_return p = strip_same (p ++ tabs) (λ front e.
 four_tabs : (p : List ℕ) → 4 ≤ count_by (λ b. eqb b 9) (p ++ tabs)
 four_tabs p = let parts = sum_by-append (λ b. cond (eqb b 9) 1 0) p tabs in omega (arith, parts)
 
-five_fields : (p : List ℕ) → length (fields_of (p ++ tabs)) ≢ 4
+pub five_fields : (p : List ℕ) → length (fields_of (p ++ tabs)) ≢ 4
 five_fields p is =
     let cut = ap (λ w. length (slice_split (λ b. eqb b 9) w)) (no_return p) in
     omega (arith, is, cut, length-slice_split (λ b. eqb b 9) (p ++ tabs), four_tabs p)
@@ -115,18 +116,6 @@ kept_refusal : (e : Refusal) → e ≢ Memory → Kept (Err e)
 kept_refusal e other is = other (cc)
 
 -- ---- lines that are put on
-
--- texts with their LFs after an LF are the next lines
-lines_put : (front : List ℕ) (G : List Submission) → last_piece front ≡ [] → All IsSubmission G
-    → ended_lines (front ++ flat_map with_end (texts_of G)) ≡ ended_lines front ++ texts_of G
-lines_put front [] ended games = ap ended_lines (append-nil front) ∙ sym (append-nil (ended_lines front))
-lines_put front (s ∷ G) ended games =
-    let t = submission_text s in
-    let texts = texts_of G in
-    let quiet = quiet_text s (All-head IsSubmission s G games) in
-    ap ended_lines (sym (append_assoc front (with_end t) (flat_map with_end texts)))
-    ∙ lines_put (front ++ with_end t) G (last_piece-ended front t quiet) (All-tail IsSubmission s G games)
-    ∙ ap (λ ls. ls ++ texts) (ended_lines-ended front t quiet ∙ ap (λ p. ended_lines front ++ (p ++ t) ∷ []) ended) ∙ append_assoc (ended_lines front) (t ∷ []) texts
 
 replays_on : (cap : ℕ) (A B : List Submission) (ls more : List (List ℕ)) (R : List Answer) → Replays cap ls A → Run cap A more R B → All Kept R
     → Replays cap (ls ++ more) B
@@ -173,7 +162,7 @@ put_on cap bytes text A G h games own room put = by (given cap A G games own (om
   where
     by : Given cap A G (texts_of G) → Journals cap (bytes ++ text) (A ++ G)
     by k =
-        subst (λ ls. Replays cap ls (A ++ G)) (sym (ap (λ t. ended_lines (bytes ++ t)) put ∙ lines_put bytes G h.ended games))
+        subst (λ ls. Replays cap ls (A ++ G)) (sym (ap (λ t. ended_lines (bytes ++ t)) put ∙ (lines_put bytes (texts_of G) h.ended (quiet_texts G games)).0))
         (replays_on cap A (A ++ G) (ended_lines bytes) (texts_of G) k.answers h.holds k.run (All-weaker IsOk Kept remembered k.answers k.taken))
       where
         remembered : (r : Answer) → IsOk r → Kept r

@@ -3,9 +3,15 @@ mod Collected
 mod CollectorLine
 pub mod Continued
 mod Gaining
+mod GamesHeld
 pub mod Journals
+mod LinesPut
 pub mod Loaded
+mod Passed
+mod Picked
 pub mod Replayed
 pub mod SavedForms
 pub mod SavedLoading
 mod Submitting
+mod WholeForms
+mod WholeLoaded

@@ -4,7 +4,7 @@ use Rattle.std.specs.List.{flat_map}
 use Rattle.std.proofs.Math.Seq.{get_or-append_seam}
 use Rattle.std.proofs.lemmas.Bool.{eqb-true, false_from_ne_true}
 use Rattle.std.proofs.lemmas.List.{get_or_append_left, get_or_default, length-append, length-map, length_push}
-use Rattle.std.proofs.lemmas.List.Elements.{All-cons, All-from_recursion, All-head, All-nil, All-tail}
+use Rattle.std.proofs.lemmas.List.Elements.{All-cons, All-from_recursion, All-head, All-map, All-nil, All-tail, All-weaker}
 use Rattle.pb_board.specs.LineEnd.{with_end}
 use Rattle.pb_io.specs.Source.{SourceState}
 use Rattle.pb_io.specs.Lines.{ended_lines, lines}
@@ -39,6 +39,9 @@ texts_of A = map submission_text A
 pub quiet_text : (s : Submission) → IsSubmission s → IsQuiet (submission_text s)
 quiet_text s lawful k d lt = false_from_ne_true _ (λ is. (one_line s lawful.id lawful.game k d lt).0 (eqb-true _ 10 is))
 
+pub quiet_texts : (A : List Submission) → All IsSubmission A → All IsQuiet (texts_of A)
+quiet_texts A games = All-map IsQuiet submission_text A (All-weaker IsSubmission (λ s. IsQuiet (submission_text s)) quiet_text A games)
+
 lines_of_texts : (A : List Submission) → All IsSubmission A → lines (flat_map with_end (texts_of A)) ≡ texts_of A
 lines_of_texts [] games = refl
 lines_of_texts (s ∷ A) games =
@@ -47,7 +50,7 @@ lines_of_texts (s ∷ A) games =
     ap lines (append_assoc t (10 ∷ []) rest) ∙ lines-ended t rest (quiet_text s (All-head IsSubmission s A games))
     ∙ ap (λ ts. t ∷ ts) (lines_of_texts A (All-tail IsSubmission s A games))
 
-header_quiet : IsQuiet header
+pub header_quiet : IsQuiet header
 header_quiet = All-from_recursion (λ b. is_line_feed b ≡ false) header (refl, (refl, (refl, (refl, (refl, (refl, (refl, (refl, (refl, (refl, (refl, (refl, (refl, (refl, tt))))))))))))))
 
 header_is : is_header header ≡ true
@@ -60,7 +63,7 @@ lines_of_saved A bytes games h =
 
 -- ---- texts as lines that are submitted
 
-lawful_text : (s : Submission) → IsSubmission s → IsLawful (submission_text s) s
+pub lawful_text : (s : Submission) → IsSubmission s → IsLawful (submission_text s) s
 lawful_text s h = submits (submission_text s) s h (inl refl)
 
 module _ (A B : List Submission) (s : Submission) (own : HaveOwnIds (A ++ s ∷ B)) where

@@ -138,9 +138,9 @@ fn write_line<J: Sink>(journal: &mut J, line: &[u8]) -> Result<(), Failed>
 }
 
 /// Puts a line without its CR, and an LF.
-fn put_line<J: Sink>(journal: &mut J, line: &[u8]) -> Result<(), Failed>
-    ensures { Put (J.state journal.old) (J.state journal.new) result
+pub(crate) fn put_line<K: Sink>(sink: &mut K, line: &[u8]) -> Result<(), Failed>
+    ensures { Put (K.state sink.old) (K.state sink.new) result
         (with_end (strip_carriage_return line.now)) }
 {
-    put_parts(journal, &[without_return(line)], b"\n")
+    put_parts(sink, &[without_return(line)], b"\n")
 }

@@ -1,12 +1,15 @@
-//! Laws of ledgers and of their exports, as the crates below have them; of their saved forms and of
-//! journals; and of equality (`==`) between totals and between faults. Each is the contract of a
-//! function that does nothing, over the definitions alone.
+//! Laws of ledgers and of their exports, as the crates below have them; of their saved forms, of
+//! journals and of the lines of games; and of equality (`==`) between totals and between faults.
+//! Each is the contract of a function that does nothing, over the definitions alone.
 
 ghost use Rattle.std.specs.Bool.{Decides};
 ghost use Rattle.std.specs.Prelude.{◌≡◌};
+ghost use Rattle.pb_ledger.specs.GamesLaws.{GameLinesArePicked, GamesAreHeld, MendingAddsNoGame};
+ghost use Rattle.pb_ledger.specs.GamesLaws.{SavedGamesArePicked, TornAddsNoGame};
 ghost use Rattle.pb_ledger.specs.JournalLaws.{JournalGoesOn, JournalGrows, JournalIsOne};
 ghost use Rattle.pb_ledger.specs.JournalLaws.{JournalMayTear, JournalMendingMayTear};
-ghost use Rattle.pb_ledger.specs.SavedLaws.{ContinuedIsOneRun, SavedIsOne, SavedLoads};
+ghost use Rattle.pb_ledger.specs.SavedLaws.{ContinuedIsOneRun, SavedFrontIsCut, SavedIsOne};
+ghost use Rattle.pb_ledger.specs.SavedLaws.{SavedIsWhole, SavedLoads};
 ghost use Rattle.pb_ledger.specs.declared.journaling.JournalFault.{JournalFault};
 ghost use Rattle.pb_ledger.specs.declared.loading.LoadError.{LoadError};
 ghost use Rattle.pb_ledger.specs.declared.totals.Totals.{Totals};
@@ -18,10 +21,12 @@ pub use pb_accepted::laws::{books, distinct, numbers, one_game, one_line, runs};
 pub use pb_export::laws::exports;
 
 /// The games that are held have one saved form, and what is saved loads as these games and as no
-/// others.
+/// others. It isn't cut, and a front of it is that has the header and ends within a line.
 pub fn saved()
     ensures one { SavedIsOne }
     ensures loads { SavedLoads }
+    ensures whole { SavedIsWhole }
+    ensures cut { SavedFrontIsCut }
 {}
 
 /// A run, what it holds saved and loaded, and a further run from there are one long run: the same
@@ -39,6 +44,16 @@ pub fn journaled()
     ensures mends { JournalMendingMayTear }
     ensures grows { JournalGrows }
     ensures tears { JournalMayTear }
+{}
+
+/// The lines of games that are picked from a journal hold what it holds; of a saved ledger and of
+/// lines of games they are the lines of its games. Neither a torn line nor what seals it adds one.
+pub fn picked()
+    ensures held { GamesAreHeld }
+    ensures saved { SavedGamesArePicked }
+    ensures lines { GameLinesArePicked }
+    ensures torn { TornAddsNoGame }
+    ensures mended { MendingAddsNoGame }
 {}
 
 /// Totals, faults of journaling and errors of loading are equal (`==`) exactly where they are one

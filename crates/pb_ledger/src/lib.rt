@@ -1,6 +1,7 @@
 //! Streams of lines over a ledger. `collect` submits each line and puts its reply. Where there is a
 //! journal, `collect_journaled` puts each new game there before its reply, and `replay` reads it
-//! back and seals its torn end. `save` writes the games, and `load` reads them into a new ledger.
+//! back and seals its torn end. `save` writes the games, and `load` reads them into a new ledger;
+//! `load_whole` does unless they were cut short. `pick_games` puts the lines of games of a file.
 //! Re-exports `pb_accepted` and `pb_export`.
 //!
 //! ```rust
@@ -13,6 +14,8 @@
 mod booking;
 mod collecting;
 mod collector;
+mod ending;
+mod games;
 mod journaling;
 pub mod laws;
 mod loading;
@@ -20,9 +23,11 @@ mod replaying;
 mod saving;
 mod skipped;
 mod totals;
+mod whole;
 
 pub use booking::{WriteFault, save_book};
 pub use collecting::{CollectFault, collect};
+pub use games::pick_games;
 pub use journaling::{JournalFault, collect_journaled};
 pub use loading::{LoadError, load};
 pub use pb_accepted::{
@@ -34,3 +39,4 @@ pub use replaying::replay;
 pub use saving::{put_game, save};
 pub use skipped::SkippedLines;
 pub use totals::Totals;
+pub use whole::load_whole;

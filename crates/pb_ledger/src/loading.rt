@@ -48,11 +48,11 @@ impl From<ReadFault> for LoadError {
 
 /// Submits the lines of a file and counts them.
 #[derive(Drop)]
-struct Loader<'l, T: Tally> {
-    ledger: &'l mut Ledger<T>,
-    lines: u64,
+pub(crate) struct Loader<'l, T: Tally> {
+    pub(crate) ledger: &'l mut Ledger<T>,
+    pub(crate) lines: u64,
     // The first line was the header.
-    is_saved: bool,
+    pub(crate) is_saved: bool,
 }
 
 impl<T: Tally> Loader<'_, T> {

@@ -6,10 +6,8 @@ ghost use Rattle.pb_ledger.specs.Journal.{seal};
 ghost use Rattle.pb_ledger.specs.Replayer.{Stops};
 ghost use Rattle.pb_ledger.specs.Replaying.{ReplaysAll, ReplaysUntil};
 
-use crate::saving::HEADER;
-use crate::skipped::SkippedLines;
+use crate::skipped::{SkippedLines, tell_skipped};
 use pb_accepted::Ledger;
-use pb_board::without_return;
 use pb_games::Refusal;
 use pb_io::{Failed, Fault, LineTask, Sink, Source, take_ended_lines};
 use pb_points::Tally;
@@ -18,9 +16,6 @@ use std::alloc::Global;
 /// What ends a torn line so that it never is a submission: a TAB more than a submission has, and
 /// LF.
 const SEAL: &[u8] = b"\t\t\t\t\n";
-
-/// The end of a line that was sealed, without its LF.
-const SEALED: &[u8] = b"\t\t\t\t";
 
 /// Submits the lines of a journal and counts them.
 #[derive(Drop)]
@@ -41,10 +36,7 @@ impl<T: Tally, W: SkippedLines> Replayer<'_, T, W> {
         if refusal == Refusal::Memory {
             return Err(Fault::Memory);
         }
-        let is_header = self.lines == 1 && without_return(line) == HEADER;
-        if !is_header && !line.ends_with(SEALED) {
-            self.skipped.tell(self.lines);
-        }
+        tell_skipped(self.skipped, self.lines, line);
         Ok(())
     }
 }

@@ -57,7 +57,7 @@ impl Passed {
     }
 
     /// Tells them, where the word for the row's ends asks for them.
-    fn tell_all(&self, page: &mut Page, ends: &str) {
+    pub(crate) fn tell_all(&self, page: &mut Page, ends: &str) {
         if end_of(ends, "passed", "hidden") == "told" {
             page.put("\npassed");
             page.put(self.numbers.as_str());

@@ -2,11 +2,11 @@
 //! `input=reader:5 output=room:9`. With `put=hidden` what was put isn't told, and with `next=told`
 //! the next three bytes of the input are.
 
-use crate::collecting;
+use crate::collecting::{self, Passed};
 use crate::ends::{Output, fills_in, rules_in};
 use crate::game::stream_of;
 use pb_cli::{Fault, ParseFault, parse, run_epd, run_export, run_fen, run_probe, run_show, status};
-use pb_collecting::collect_bytes;
+use pb_collecting::{collect_bytes, pick_games};
 use pb_poly::{FromRead, Source, ToWrite};
 use pb_program::FILLS;
 use rows::book::{self, file_of};
@@ -37,6 +37,7 @@ pub(crate) fn answer(page: &mut Page, call: &[&str]) -> Done {
         "probe" => return probe(page, words),
         "export" => return export(page, words),
         "collect-bytes" => return tell_collected(page, words),
+        "games" => return games(page, words),
         _ => return collecting::answer(page, name, words),
     }
     Ok(())
@@ -203,5 +204,23 @@ fn tell_collected(page: &mut Page, words: &[&str]) -> Done {
             page.put_debug(&fault);
         }
     }
+    Ok(())
+}
+
+/// The answer of `pick_games` over these lines, what it put, and which lines it skipped.
+fn games(page: &mut Page, words: &[&str]) -> Done {
+    let [ends, lines @ ..] = words else {
+        return NO_ROW
+    };
+    let stream = stream_of(page.alloc, lines)?;
+    let mut source = named_source(end_of(ends, "input", "memory:64"), stream.as_bytes());
+    let mut output = Output::of(page.alloc, ends, "output");
+    let mut passed = Passed::new(page.alloc);
+    let mut sink = ToWrite::new(&mut output);
+    let fills = fills_in(ends);
+    let answer = pick_games(page.alloc, &mut source, &mut sink, &mut passed, fills);
+    page.put_debug(&answer);
+    output.tell_all(page);
+    passed.tell_all(page, ends);
     Ok(())
 }

@@ -10,7 +10,7 @@ use crate::ends::{Output, fills_in, rules_in};
 use crate::game::{lines_of, stream_of};
 use pb_ledger::{
     CollectFault, Ledger, ListTally, MAX_CAP, MapTally, Tally, Totals, collect, export, load,
-    replay, save,
+    load_whole, replay, save,
 };
 use pb_poly::{MemSink, Sink, ToWrite};
 use rows::book::tell;
@@ -60,6 +60,7 @@ fn answer_by<T: Tally>(page: &mut Page, call: &[&str]) -> Done {
         "collect-twice" => collected_twice::<T>(page, ends, lines),
         "save" => saved::<T>(page, ends, lines),
         "load" => loaded::<T>(page, ends, lines),
+        "load-whole" => loaded_whole::<T>(page, ends, lines),
         "load-saved" => load_saved::<T>(page, ends, lines),
         "replay" => replayed::<T>(page, ends, lines),
         _ => NO_ROW,
@@ -267,6 +268,17 @@ fn load_new<T: Tally>(page: &mut Page, ends: &str, bytes: &[u8]) -> Result<Ledge
 fn loaded<T: Tally>(page: &mut Page, ends: &str, lines: &[&str]) -> Done {
     let stream = stream_of(page.alloc, lines)?;
     load_new::<T>(page, ends, stream.as_bytes())?;
+    Ok(())
+}
+
+/// The same where a saved ledger that was cut short is refused.
+fn loaded_whole<T: Tally>(page: &mut Page, ends: &str, lines: &[&str]) -> Done {
+    let stream = stream_of(page.alloc, lines)?;
+    let mut ledger = new_ledger::<T>(page.alloc, ends)?;
+    let mut source = named_source(end_of(ends, "input", "memory:64"), stream.as_bytes());
+    let answer = load_whole(page.alloc, &mut source, &mut ledger, fills_in(ends));
+    page.put_debug(&answer);
+    page.put_count(", held: ", &ledger.len());
     Ok(())
 }
 

@@ -15,4 +15,4 @@ pub returns : goal.returns
 returns g c =
     let state = g.J.Sink.state in
     let line = c.in_ok-put_line.ensures in
-    Writes-flushed (state c.args.journal.now) (state c.put_line.new.journal) (state c.flush.new.self) c.flush.result _ line.all (λ before. let bad = line.stays_failed before in cc) line.lasts line.flushes c.flush.ensures
+    Writes-flushed (state c.args.journal.now) (state c.put_line.new.sink) (state c.flush.new.self) c.flush.result _ line.all (λ before. let bad = line.stays_failed before in cc) line.lasts line.flushes c.flush.ensures
