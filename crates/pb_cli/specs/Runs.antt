@@ -5,3 +5,4 @@ pub use Rattle.pb_collecting.specs.ExportRun.{BlamesSink}
 pub use Rattle.pb_collecting.specs.JournalInto.{JournalsInto}
 pub use Rattle.pb_collecting.specs.Keeping.{KeepsOrEnds}
 pub use Rattle.pb_collecting.specs.Runs.{SilentExportRun}
+pub use Rattle.pb_collecting.specs.Games.{PicksAll, PicksUntil}

@@ -11,3 +11,4 @@ pub mod OneText
 pub mod Run
 pub mod Runs
 pub mod Store
+pub use Rattle.pb_ledger.specs.Games

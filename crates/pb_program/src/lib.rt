@@ -8,7 +8,6 @@ mod command;
 mod games;
 mod ordered;
 mod program;
-mod run_games;
 mod stop;
 
 pub use ordered::FILLS;

@@ -2,22 +2,21 @@
 //! counted. Nothing else in this crate hands on rules or fills, and no name of it leads to other
 //! rules.
 
-ghost use Rattle.std.specs.Prelude.{◌≡◌, ◌⊎◌, IfErr};
+ghost use Rattle.std.specs.Prelude.{◌≡◌, ◌⊎◌, IfErr, IfOk};
 ghost use Rattle.pb_commands.specs.BookShown.{BookShown};
 ghost use Rattle.pb_commands.specs.EpdRun.{RewritesOrEnds};
 ghost use Rattle.pb_commands.specs.Judged.{PutsOrEnds};
 ghost use Rattle.pb_commands.specs.ProbeShown.{ProbesSources};
 ghost use Rattle.pb_cli.specs.Runs.{BlamesSink, JournalsInto, KeepsOrEnds, KeepsOrStops};
-ghost use Rattle.pb_cli.specs.Runs.{SilentExportRun};
+ghost use Rattle.pb_cli.specs.Runs.{PicksAll, PicksUntil, SilentExportRun};
 ghost use Rattle.pb_files.specs.Disk.{Disk};
 ghost use Rattle.pb_files.specs.Journaling.{IsStarted, LeavesAnswered};
 ghost use Rattle.pb_poly.specs.Reading.{ReadsBook};
 ghost use Rattle.pb_program.specs.Ordered.{is_synced, most_fills};
 
-use crate::run_games::run_games;
 use pb_cli::{
     CollectOrder, ExportOrder, Fault, NoBook, NotContinued, SkippedLines, Store, collect_into,
-    continue_into, run_epd, run_export, run_probe, run_show,
+    continue_into, pick_games, run_epd, run_export, run_probe, run_show,
 };
 use pb_files::{Durability, FileEnd, JournalFile, JournalSink, journal_to_file};
 use pb_io::{Sink, Source};
@@ -215,16 +214,21 @@ pub(crate) fn epd<In: Source, Out: Sink>(
     run_epd(alloc, source, sink, FILLS)
 }
 
-/// Runs `run_games`.
+/// Runs `pick_games`.
 ///
 /// # Errors
 ///
-/// Those of `run_games`.
+/// Those of `pick_games`.
 pub(crate) fn games<In: Source, Out: Sink, Skipped: SkippedLines>(
     alloc: Global,
     source: &mut In,
     sink: &mut Out,
     skipped: &mut Skipped,
-) -> Result<bool, Fault> {
-    run_games(alloc, source, sink, skipped, FILLS)
+) -> Result<bool, Fault>
+    ensures ok { IfOk result (PicksAll most_fills (In.state source.old) (In.state source.new)
+        (Out.state sink.old) (Out.state sink.new)) }
+    ensures fault { IfErr result (PicksUntil most_fills (In.state source.old) (In.state source.new)
+        (Out.state sink.old) (Out.state sink.new)) }
+{
+    pick_games(alloc, source, sink, skipped, FILLS)
 }
