@@ -2,10 +2,13 @@
 is the disk under a loop device."""
 from __future__ import annotations
 
+import argparse
+import concurrent.futures
 import contextlib
 import os
 import pathlib
 import random
+import re
 import shutil
 import struct
 import subprocess
@@ -14,9 +17,9 @@ import time
 from collections.abc import Iterator, Sequence
 from dataclasses import dataclass
 
-from lib.crash_model import Entry, Write
-from lib.crash_scenarios import (BOOK, LEDGER, PROGRAM, ROOM, TABLE, Crash, Promise, Promises, Run,
-                                 Scenario, book_of, got, id_of, put, replied)
+from lib.crash_model import State, Write
+from lib.crash_scenarios import (BOOK, JOURNAL, ROOM, SYNCED, Progress, Promise, Run, Scenario, book_of,
+                                 command, complaint, examples, files, got, id_of, put, scenarios)
 
 # How large a disk of each file system is at least, and what makes it.
 MAKERS = {"ext4": (8 << 20, ("mkfs.ext4", "-q", "-F")), "xfs": (300 << 20, ("mkfs.xfs", "-q", "-f"))}
@@ -24,7 +27,10 @@ HEAD = struct.Struct("=QQQ")
 
 
 def run(*words: str | pathlib.Path) -> str:
-    return subprocess.run(words, check=True, capture_output=True, text=True).stdout.strip()
+    done = subprocess.run(words, capture_output=True, text=True, check=False)
+    if done.returncode:
+        raise ValueError(f"{words[0]} fails: {done.stderr.strip()}")
+    return done.stdout.strip()
 
 
 def wanting() -> str:
@@ -97,3 +103,121 @@ def mounted(kind: str, server: str) -> Iterator[Disk]:
         run("mount", "-t", kind, loop, disk.files)
         undo.callback(run, "umount", disk.files)
         yield disk
+
+
+def written_to(disk: Disk, scenario: Scenario) -> None:
+    """Has the runs of a scenario write to the disk, which is told their replies and ends."""
+    place = disk.files / "place"
+    put(scenario.files, str(place))
+    run("sync", "-f", disk.files)
+    for one in scenario.runs:
+        disk.tell(b"begin")
+        if one.failing:
+            disk.tell(b"!" + one.failing.encode())
+        with subprocess.Popen(command(one.options), cwd=place, stdin=subprocess.PIPE,
+                              stdout=subprocess.PIPE, stderr=subprocess.DEVNULL) as process:
+            for line in one.lines:
+                process.stdin.write(line)
+                process.stdin.flush()
+                if reply := process.stdout.readline():
+                    disk.tell(reply)
+            process.communicate()
+        if process.returncode != one.status:
+            raise ValueError(f"a run ends with status {process.returncode}, and not {one.status}")
+        disk.tell(b"end")
+
+
+def put_down(disk: pathlib.Path, writes: Sequence[Write]) -> None:
+    with open(disk, "r+b") as file:
+        for write in writes:
+            file.seek(write.at)
+            file.write(write.data)
+
+
+def found_with(disk: Disk, writes: Sequence[Write]) -> State:
+    """The files after a power cut that took all that isn't flushed but these writes."""
+    run("cp", "--sparse=always", disk.room / "kept", disk.room / "cut")
+    put_down(disk.room / "cut", writes)
+    options = "loop,nouuid" if disk.kind == "xfs" else "loop"
+    run("mount", "-t", disk.kind, "-o", options, disk.room / "cut", disk.room / "found")
+    try:
+        return got(str(disk.room / "found/place"))
+    finally:
+        run("umount", disk.room / "found")
+
+
+def some_of(writes: Sequence[Write], chance: random.Random) -> list[Write]:
+    """Sectors of these writes that are on the disk already: none, all, the first ones, or any. They
+    are those of today's disks, since ext4 can't be mounted where its first 1024 bytes are torn."""
+    sectors = [sector for write in writes for sector in write.pieces(4096, chance)]
+    likely = chance.choice((0, 1, chance.random(), chance.random()))
+    if chance.randrange(2):
+        return sectors[:round(len(sectors) * likely)]
+    return [sector for sector in sectors if chance.random() < likely]
+
+
+def power_cuts(disk: Disk, scenario: Scenario, chance: random.Random,
+               most: int) -> Iterator[tuple[str, State, Promise]]:
+    """What power cuts leave of the files, and what they may not take."""
+    records = disk.records()
+    first = next(n for n, (_, write) in enumerate(records) if write.data == b"begin")
+    points = {*chance.sample(range(first, len(records)), min(most, len(records) - first))}
+    points |= {n for n, (_, write) in enumerate(records) if write.data == b"end"}
+    progress = Progress.at_first(scenario, book_found(scenario))
+    runs, flushed, unflushed = iter(scenario.runs), [], []
+    for number, (letter, write) in enumerate(records):
+        if letter == "W":
+            unflushed.append(write)
+        elif letter == "F":
+            flushed, unflushed = flushed + unflushed, []
+        elif write.data == b"begin":
+            progress.begin(one := next(runs))
+        elif write.data == b"end":
+            progress.end(one)
+        else:
+            progress.reply(one, write.data)
+        if number in points:
+            put_down(disk.room / "kept", flushed)
+            flushed = []
+            state = found_with(disk, some_of(unflushed, chance))
+            yield f"power cut after {number} of {len(records)} records", state, progress.power
+
+
+def book_found(scenario: Scenario) -> bytes | None:
+    return next((entry.data for entry in scenario.files if entry.path == BOOK), None)
+
+
+def judged(kind: str, scenario: Scenario, server: str, seed: int,
+           most: int) -> tuple[int, list[tuple[str, str]]]:
+    """Judges what power cuts of a disk leave of the runs of a scenario."""
+    chance = random.Random(f"{seed} {kind} {scenario.name}")
+    with mounted(kind, server) as disk:
+        written_to(disk, scenario)
+        found = {(state, repr(promise)): (where, state, promise)
+                 for where, state, promise in power_cuts(disk, scenario, chance, most)}
+    wrong = [(where, complaint(scenario, state, promise)) for where, state, promise in found.values()]
+    return len(wrong), [failure for failure in wrong if failure[1]]
+
+
+def on_disks() -> list[Scenario]:
+    """The scenarios that are tried so."""
+    lines, old, _ = examples()
+    found = files({JOURNAL: old, BOOK: book_of(old)})
+    refused = Scenario("journal --sync, after a write that the disk has refused", (
+        Run(SYNCED, lines[:2]), Run(SYNCED, lines[2:3], failing=id_of(lines[2]).decode(), status=3),
+        Run(SYNCED, lines[2:3])), found)
+    return [s for s in scenarios() if s.name in ("book", "ledger", "journal --sync")] + [refused]
+
+
+def begun(pool: concurrent.futures.Executor, given: argparse.Namespace,
+          room: str) -> Iterator[tuple[str, list[concurrent.futures.Future]]]:
+    """Begins what is tried of disks, or tells why it isn't."""
+    chosen = [s for s in on_disks() if re.search(given.only, s.name)]
+    if why := wanting():
+        print(f"not tried, {why}: power cuts of ext4 and XFS")
+        return
+    server = build(room)
+    for kind in MAKERS:
+        for s in chosen:
+            yield f"{s.name}, on {kind}", [
+                pool.submit(judged, kind, s, server, given.seed, given.states // 3)]

@@ -27,13 +27,13 @@ class Write:
     def on(self, old: bytes) -> bytes:
         return old[:self.at].ljust(self.at, b"\0") + self.data + old[self.at + len(self.data):]
 
-    def edges(self, unit: int) -> range:
-        """Where a piece of this size ends within the bytes."""
-        return range(unit - self.at % unit, len(self.data), unit)
-
-    def pieces(self, unit: int) -> Iterator[Write]:
-        ends = [0, *self.edges(unit), len(self.data)]
-        return (Write(self.at + a, self.data[a:b]) for a, b in zip(ends, ends[1:]))
+    def pieces(self, unit: int, chance: random.Random) -> list[Write]:
+        """The pieces of this size, or two that are cut anywhere where it is 1."""
+        edges: Sequence[int] = range(unit - self.at % unit, len(self.data), unit)
+        if unit == 1:
+            edges = chance.sample(edges, min(1, len(edges)))
+        ends = [0, *edges, len(self.data)]
+        return [Write(self.at + a, self.data[a:b]) for a, b in zip(ends, ends[1:])]
 
 
 @dataclass(frozen=True)
@@ -44,8 +44,8 @@ class Resize:
     def on(self, old: bytes) -> bytes:
         return old[:self.size].ljust(self.size, b"\0")
 
-    def pieces(self, _unit: int) -> Iterator[Resize]:
-        return iter((self,))
+    def pieces(self, _unit: int, _chance: random.Random) -> list[Resize]:
+        return [self]
 
 
 Change = Write | Resize
@@ -74,35 +74,21 @@ class File:
             self.disk = applied(self.disk, self.pending)
         self.pending = []
 
-    def after_power_cut(self, chance: random.Random) -> list[bytes]:
+    def after_power_cut(self, chance: random.Random, most: int) -> list[bytes]:
         """Some of what may be found, the least first and then the most."""
         found = [self.disk, applied(self.disk, self.pending)]
-        for index, change in enumerate(self.pending):
-            before = applied(self.disk, self.pending[:index])
-            found.append(change.on(before))
-            if isinstance(change, Write):
-                found += torn(before, change, chance)
-        found += [self.scattered(chance) for _ in range(8 if self.pending else 0)]
+        if self.pending:
+            found += [applied(self.disk, self.pending[:n]) for n in range(1, len(self.pending))]
+            found += [self.scattered(chance) for _ in range(most)]
         return list(dict.fromkeys(found))
 
     def scattered(self, chance: random.Random) -> bytes:
-        """Any pieces of what was changed, of a size that may have grown already."""
-        unit, likely = chance.choice(UNITS[1:]), chance.random()
-        pieces = [piece for change in self.pending for piece in change.pieces(unit)]
+        """Any pieces of what was changed, in a size that may have grown already."""
+        unit, likely = chance.choice(UNITS), chance.random()
+        pieces = [piece for change in self.pending for piece in change.pieces(unit, chance)]
         found = applied(self.disk, [piece for piece in pieces if chance.random() < likely])
         grown = chance.choice((0, len(applied(self.disk, self.pending))))
         return found.ljust(grown, b"\0")
-
-
-def torn(old: bytes, write: Write, chance: random.Random) -> Iterator[bytes]:
-    """One end of a write without the other, cut between bytes, sectors and pages."""
-    for unit in UNITS:
-        if edges := write.edges(unit):
-            cut = chance.choice(edges)
-            head = Write(write.at, write.data[:cut]).on(old)
-            yield head
-            yield head.ljust(write.at + len(write.data), b"\0")
-            yield Write(write.at + cut, write.data[cut:]).on(old)
 
 
 @dataclass(frozen=True)
@@ -236,7 +222,7 @@ class World:
 
     def after_power_cut(self, chance: random.Random, most: int) -> Iterator[State]:
         """Some of the states that may be found: the least, the most, and others."""
-        found = {n: file.after_power_cut(chance) for n, file in enumerate(self.files)}
+        found = {n: file.after_power_cut(chance, most) for n, file in enumerate(self.files)}
         tables = self.tables(chance)
         for names in tables:
             yield self.state(names, {n: data[0] for n, data in found.items()})

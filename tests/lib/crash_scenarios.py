@@ -7,7 +7,7 @@ import pathlib
 import subprocess
 import tempfile
 from collections.abc import Iterator
-from dataclasses import dataclass
+from dataclasses import dataclass, field
 
 from lib.crash_model import Entry, State
 from lib.crash_trace import PATIENCE
@@ -125,17 +125,14 @@ class Scenario:
         return b"".join(reversed(self.sent.values()))
 
 
-@dataclass(frozen=True)
-class Promise:
-    """What a crash may not take: games with their numbers, and the book or books that are due."""
-    games: Games
-    books: tuple[bytes | None, ...]
+def command(options: tuple[str, ...]) -> list[str]:
+    return [PROGRAM, "collect", *options, "-q", TABLE, BOOK]
 
 
 def collect(place: str, options: tuple[str, ...], lines: bytes) -> tuple[int, bytes]:
     """Runs `collect` in this folder. The answer is its status and its replies."""
-    run = subprocess.run([PROGRAM, "collect", *options, "-q", TABLE, BOOK], cwd=place, input=lines,
-                         capture_output=True, timeout=PATIENCE, check=False)
+    run = subprocess.run(command(options), cwd=place, input=lines, capture_output=True,
+                         timeout=PATIENCE, check=False)
     return run.returncode, run.stdout
 
 
@@ -148,6 +145,52 @@ def book_of(lines: bytes) -> bytes:
         return pathlib.Path(place, BOOK).read_bytes()
 
 
+@dataclass(frozen=True)
+class Promise:
+    """What a crash may not take: games with their numbers, and the book or books that are due."""
+    games: Games
+    books: tuple[bytes | None, ...]
+
+
+@dataclass
+class Progress:
+    """What may not be taken by a kill, and what not by a power cut, as runs go on."""
+    scenario: Scenario
+    kill: Promise
+    power: Promise
+    lines: bytes = b""
+    answered: Games = field(default_factory=dict)
+
+    @classmethod
+    def at_first(cls, scenario: Scenario, book: bytes | None) -> Progress:
+        """What is found before the first run."""
+        kept = [] if scenario.unsynced else scenario.found
+        promise = Promise({id_of(line): n for n, line in enumerate(kept, 1)}, (book,))
+        return cls(scenario, promise, promise, b"".join(scenario.found))
+
+    def add(self, kill: Games, power: Games, *books: bytes | None) -> None:
+        self.kill = Promise(self.kill.games | kill, books)
+        self.power = Promise(self.power.games | power, books)
+
+    def begin(self, run: Run) -> None:
+        """A run begins, whose book is that of all lines so far."""
+        self.lines, self.answered = self.lines + b"".join(run.lines), {}
+        if run.status == 0:
+            self.add({}, {}, *self.kill.books, book_of(self.lines))
+
+    def reply(self, run: Run, replies: bytes) -> None:
+        """The run has answered: a journal keeps these games, and a ledger only once it has ended."""
+        games = replied(replies)
+        self.answered |= games
+        if self.scenario.keeper == JOURNAL:
+            self.add(games, games if "--sync" in run.options else {}, *self.kill.books)
+
+    def end(self, run: Run) -> None:
+        if run.status == 0:
+            games = self.answered if self.scenario.keeper == LEDGER else {}
+            self.add(games, games, self.kill.books[-1])
+
+
 def complaint(scenario: Scenario, state: State, promise: Promise) -> str:
     """What is wrong with what a crash has left, or with what a run then makes of it: the first
     such thing, or nothing."""
@@ -157,106 +200,110 @@ def complaint(scenario: Scenario, state: State, promise: Promise) -> str:
 
 
 def complaints(scenario: Scenario, place: str, promise: Promise) -> Iterator[str]:
-    yield from of_what_is_found(scenario, place, promise)
+    kept = games_in(read(place, scenario.keeper) or b"") if scenario.keeper else []
+    if lost := [game for game in promise.games if scenario.sent[game] not in kept]:
+        yield f"lost: {b' '.join(lost).decode()}"
+    book = read(place, BOOK)
+    if book not in promise.books:
+        yield f"the book is neither the old nor the new one: {book and len(book)} bytes"
     if scenario.keeper and read(place, scenario.keeper) is None:
         # It was made just before, and is made again.
         pathlib.Path(place, scenario.keeper).touch()
     status, replies = collect(place, scenario.options, scenario.again)
-    if status != 0:
+    if status != scenario.runs[-1].status:
         yield f"the run that goes on ends with status {status}: {replies[-80:]!r}"
-    numbers = replied(replies)
-    if numbers.keys() != scenario.sent.keys():
-        yield f"games sent again aren't taken: {sorted(scenario.sent.keys() - numbers.keys())}"
-    for game, number in promise.games.items():
-        if numbers[game] != number:
-            yield f"{game.decode()} was {number} and is {numbers[game]}"
-    if sorted(numbers.values()) != list(range(1, len(numbers) + 1)):
-        yield f"a game that nobody sent has a number: {sorted(numbers.values())}"
-    yield from of_what_is_left(scenario, place, numbers)
-
-
-def of_what_is_found(scenario: Scenario, place: str, promise: Promise) -> Iterator[str]:
-    book = read(place, BOOK)
-    if book not in promise.books:
-        size = "not there" if book is None else f"of {len(book)} bytes"
-        yield f"the book is {size}, and neither the old nor the new one"
-    if scenario.keeper:
-        kept = games_in(read(place, scenario.keeper) or b"")
-        lost = [game for game in promise.games if scenario.sent[game] not in kept]
-        if lost:
-            yield f"lost: {b' '.join(lost).decode()}"
-
-
-def of_what_is_left(scenario: Scenario, place: str, numbers: Games) -> Iterator[str]:
-    """What a run that went on to its end has left of the files."""
-    names = {entry.path for entry in got(place)}
-    if drafts := [name for name in names if ".pbook-" in name]:
+    left = got(place)
+    if drafts := [entry.path for entry in left if ".pbook-" in entry.path]:
         yield f"drafts are left: {drafts}"
-    if gone := {entry.path for entry in scenario.files if entry.link} - {
-            entry.path for entry in got(place) if entry.link}:
-        yield f"links are gone: {gone}"
+    if status != 0:
+        if left != scenario.files:
+            yield "a run that was refused has changed files"
+        return
+    links = {entry.path for entry in left if entry.link}
+    if not links.issuperset(entry.path for entry in scenario.files if entry.link):
+        yield "a link is gone"
     if read(place, BOOK) != book_of(scenario.again):
         yield "the book at the end isn't that of all games"
-    if not scenario.keeper:
-        return
-    kept = games_in(read(place, scenario.keeper))
+    yield from of_numbers(scenario, replied(replies), promise.games)
+    if scenario.keeper:
+        yield from of_games_kept(scenario, replied(replies), read(place, scenario.keeper) or b"")
+
+
+def of_numbers(scenario: Scenario, numbers: Games, due: Games) -> Iterator[str]:
+    if numbers.keys() != scenario.sent.keys():
+        yield f"games sent again aren't taken: {sorted(scenario.sent.keys() - numbers.keys())}"
+    for game, number in due.items():
+        if numbers[game] != number:
+            yield f"a number has changed: {game.decode()} was {number} and is {numbers[game]}"
+    if sorted(numbers.values()) != list(range(1, len(numbers) + 1)):
+        yield f"a game that nobody sent has a number: {sorted(numbers.values())}"
+
+
+def of_games_kept(scenario: Scenario, numbers: Games, kept: bytes) -> Iterator[str]:
     by_number = [scenario.sent[game] for game in sorted(numbers, key=numbers.__getitem__)]
-    if scenario.keeper == JOURNAL:
-        # Lines that were torn stand between them, and are none of those that were sent.
-        sent = set(by_number)
-        kept = [line for line in kept if line in sent]
-    if kept != by_number:
-        yield f"{scenario.keeper} has other games than those that were answered"
+    if scenario.keeper == LEDGER and kept != HEADER + b"".join(by_number):
+        yield "the ledger isn't that of the games that were answered"
+    # Between them a journal may have lines that were torn.
+    if scenario.keeper == JOURNAL and [line for line in lines_of(kept) if line in by_number] != by_number:
+        yield "the journal hasn't each game that was answered"
 
 
 def files(data: dict[str, bytes], links: dict[str, str] | None = None,
-          seconds: dict[str, str] | None = None) -> State:
+          second_names: dict[str, str] | None = None) -> State:
     """Files of these names, links that lead somewhere, and second names of files."""
-    numbers = {path: number for number, path in enumerate(data)}
-    return (*(Entry(path, numbers[path], text) for path, text in data.items()),
-            *(Entry(path, -1 - n, os.fsencode(to), True) for n, (path, to) in enumerate(
-                (links or {}).items())),
-            *(Entry(path, numbers[of], data[of]) for path, of in (seconds or {}).items()))
+    with tempfile.TemporaryDirectory(dir=ROOM) as place:
+        numbers = {path: n for n, path in enumerate((*data, *(links or {})))}
+        put((*(Entry(path, numbers[path], text) for path, text in data.items()),
+             *(Entry(path, numbers[path], os.fsencode(to), True) for path, to in (links or {}).items()),
+             *(Entry(path, numbers[of], data[of]) for path, of in (second_names or {}).items())), place)
+        return got(place)
 
 
-def scenarios() -> list[Scenario]:
-    """All scenarios: games of the examples, one that comes again, and lines of many sectors."""
-    played = pathlib.Path("examples/games.txt").read_bytes()
-    games = list({id_of(line): line for line in reversed(lines_of(played))}.values())[::-1]
+def examples() -> tuple[tuple[bytes, ...], bytes, bytes]:
+    """Lines for runs, of which two come again and two have many sectors; older games; and a line
+    that was torn."""
+    played = lines_of(pathlib.Path("examples/games.txt").read_bytes())
+    games = list({id_of(line): line for line in reversed(played)}.values())[::-1]
     long = [b"long-%d\t1/2-1/2\t%b %d\t%b\n" % (
         n, b"rnbqkbnr/pppppppp/8/8/8/8/PPPPPPPP/RNBQKBNR w KQkq - 0", n,
         b" ".join([b"g1f3 g8f6 f3g1 f6g8"] * 60)) for n in (1, 2)]
     lines = (*games[:4], games[0], *long, games[4], games[2])
-    old = b"".join(games[12:18])
+    return lines, b"".join(games[12:18]), games[20][:60]
+
+
+def scenarios() -> list[Scenario]:
+    lines, old, _ = examples()
     book = {BOOK: book_of(old)}
-    far_book, second_book = files({"far/" + BOOK: book[BOOK]}, {BOOK: "far/" + BOOK}), files(
-        book, None, {"second": BOOK})
     run = (Run((), lines),)
     return [
         Scenario("book", run, files(book)),
         Scenario("new book", run),
-        Scenario("book behind a link", run, far_book),
-        Scenario("book with a second name", run, second_book),
+        Scenario("book behind a link", run, files({"far/" + BOOK: book[BOOK]}, {BOOK: "far/" + BOOK})),
         *of_ledgers(lines, HEADER + old, book),
-        *of_journals("journal", TO_JOURNAL, lines, old, games[20][:60], book),
-        *of_journals("journal --sync", SYNCED, lines, old, games[20][:60], book),
-        *of_runs_in_a_row(lines, old, book)]
+        *of_journals("journal", TO_JOURNAL),
+        *of_journals("journal --sync", SYNCED),
+        *of_runs_in_a_row(lines, files({JOURNAL: old, **book}))]
 
 
 def of_ledgers(lines: tuple[bytes, ...], ledger: bytes, book: dict[str, bytes]) -> list[Scenario]:
     run = (Run(TO_LEDGER, lines),)
-    far = {LEDGER: "far/" + LEDGER}
+    found = files({LEDGER: ledger, **book})
+    far = files({"far/" + LEDGER: ledger, **book}, {LEDGER: "far/" + LEDGER})
+    second = files({LEDGER: ledger, **book}, None, {"second": LEDGER})
+    # Without its last move the last line is a shorter game.
+    cut = files({LEDGER: ledger[:ledger.rindex(b" ")], **book})
     return [
-        Scenario("ledger", run, files({LEDGER: ledger, **book})),
+        Scenario("ledger", run, found),
         Scenario("new ledger", run, files({LEDGER: b""})),
-        Scenario("ledger behind a link", run, files({"far/" + LEDGER: ledger, **book}, far)),
-        Scenario("ledger with a second name", run, files(
-            {LEDGER: ledger, **book}, None, {"second": LEDGER}))]
+        Scenario("ledger behind a link", run, far),
+        Scenario("ledger with a second name", (Run(TO_LEDGER, lines, status=3),), second),
+        Scenario("ledger that was cut", (Run(TO_LEDGER, lines, status=1),), cut)]
 
 
-def of_journals(name: str, options: tuple[str, ...], lines: tuple[bytes, ...], old: bytes,
-                torn: bytes, book: dict[str, bytes]) -> list[Scenario]:
+def of_journals(name: str, options: tuple[str, ...]) -> list[Scenario]:
+    lines, old, torn = examples()
     run = (Run(options, lines),)
+    book = {BOOK: book_of(old)}
     far, link = "far/" + JOURNAL, {JOURNAL: "far/" + JOURNAL}
     return [
         Scenario(name, run, files({JOURNAL: old, **book})),
@@ -267,10 +314,9 @@ def of_journals(name: str, options: tuple[str, ...], lines: tuple[bytes, ...], o
                  frozenset({far}))]
 
 
-def of_runs_in_a_row(lines: tuple[bytes, ...], old: bytes, book: dict[str, bytes]) -> list[Scenario]:
+def of_runs_in_a_row(lines: tuple[bytes, ...], found: State) -> list[Scenario]:
     """Journals that earlier runs have left in the system's memory alone."""
     fails = "fsync,fdatasync:error=EIO:when="
-    found = files({JOURNAL: old, **book})
     return [
         Scenario("journal --sync, after runs without", (
             Run(TO_JOURNAL, lines[:3]), Run(TO_JOURNAL, lines[2:5]), Run(SYNCED, lines)), found),
