@@ -7,15 +7,15 @@ Usage: PROGRAM=program python3 -B tests/crashes.py [--seed N] [--only PATTERN] [
 
 strace tells the calls of a run. After each call a model of the files (tests/lib/crash_model.py)
 builds states that a kill and a power cut may leave. The book has to be the old or the new one in
-each, and the games are there that FORMATS says: `--journal` keeps what was answered from kills, with
-`--sync` from power cuts, and `--ledger` from both once the run has ended. Then a run goes on, to
-which all lines are sent again. Of some states it meets a second crash. At last the same is judged as
-if syncs had not been called, and has to be seen to fail. As root, real file systems lose what wasn't
-flushed (tests/lib/crash_disk.py).
+each, and the games are there that FORMATS says: `--journal` keeps what was answered from kills,
+with `--sync` from power cuts, and `--ledger` from both once the run has ended. Then a run goes on,
+to which all lines are sent again. Of some states it meets a second crash. At last the same is
+judged as if syncs had not been called, and has to be seen to fail. As root, real file systems lose
+what wasn't flushed (tests/lib/crash_disk.py).
 
---states is how many states of a scenario are tried, and --again how many of them meet a second crash.
---without leaves the syncs of files or of folders out of the model, to show what fails then. The last
-line is `N passed, N failed`, where each state counts.
+--states is how many states of a scenario are tried, and --again how many of them meet a second
+crash. --without leaves the syncs of files or of folders out of the model, to show what fails then.
+The last line is `N passed, N failed`, where each state counts.
 """
 from __future__ import annotations
 
@@ -36,8 +36,8 @@ from dataclasses import dataclass
 
 from lib import crash_disk
 from lib.crash_model import State, World
-from lib.crash_scenarios import (BOOK, ROOM, Progress, Promise, Run, Scenario, command, complaint, put,
-                                 read, scenarios)
+from lib.crash_scenarios import (BOOK, ROOM, Progress, Promise, Run, Scenario, command, complaint,
+                                 put, read, scenarios)
 from lib.crash_trace import Call, trace
 
 # The calls after which crashes are looked at.
@@ -73,7 +73,8 @@ def killed(where: str, world: World, progress: Progress) -> Crash:
     return Crash(f"kill {where}", world.after_kill(), progress.kill, progress.power, world)
 
 
-def crashes_at(where: str, world: World, progress: Progress, chance: random.Random) -> Iterator[Crash]:
+def crashes_at(where: str, world: World, progress: Progress,
+               chance: random.Random) -> Iterator[Crash]:
     """What a kill and what power cuts leave at this moment."""
     yield killed(where, world, progress)
     for state in world.after_power_cut(chance, most=30):
@@ -87,8 +88,8 @@ def crashes_in(run: Run, calls: Sequence[Call], world: World, progress: Progress
     yield from crashes_at("before the first call", world, progress, chance)
     for number, call in enumerate(calls):
         if call.name == "write" and len(call.data) > 1:
-            torn = copy.deepcopy(world)
-            torn.step(dataclasses.replace(call, data=call.data[:chance.randrange(1, len(call.data))]))
+            torn, cut = copy.deepcopy(world), chance.randrange(1, len(call.data))
+            torn.step(dataclasses.replace(call, data=call.data[:cut]))
             yield killed(f"in call {number}, {call}", torn, progress)
         world.step(call)
         if call.name == "reply":
@@ -204,7 +205,7 @@ def tell(name: str, futures: Sequence[concurrent.futures.Future[Verdict]]) -> Ve
 
 def begun(pool: concurrent.futures.Executor, given: argparse.Namespace,
           room: str) -> Iterator[tuple[str, list[concurrent.futures.Future[Verdict]]]]:
-    """Begins all that is tried, in the processes of the pool: its names, and what will come of it."""
+    """Begins all that is tried, in the processes of the pool: names, and what will come of them."""
     chosen = {s.name: s for s in scenarios() if re.search(given.only, s.name)}
     plans = {name: pool.submit(planned, s, given) for name, s in chosen.items()}
     disks = list(crash_disk.begun(pool, given, room))

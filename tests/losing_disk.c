@@ -2,10 +2,10 @@
  * lose what wasn't flushed. Its folder is served by FUSE.
  * Usage: losing_disk IMAGE LOG FOLDER. It ends when FOLDER is unmounted.
  *
- * IMAGE has the disk's bytes. LOG gets a record for each write ('W'), each flush ('F') and each text
- * that is written to the file `control` ('M'): the letter, the place and the length, as three numbers
- * of 64 bits, and then the bytes. A text that begins with `!` isn't told: the next write that has
- * the rest of it in its bytes is refused by EIO, as that of a bad sector is. */
+ * IMAGE has the disk's bytes. LOG gets a record for each write ('W'), each flush ('F') and each
+ * text that is written to the file `control` ('M'): the letter, the place and the length, as three
+ * numbers of 64 bits, and then the bytes. A text that begins with `!` isn't told: the next write
+ * that has the rest of it in its bytes is refused by EIO, as that of a bad sector is. */
 #define FUSE_USE_VERSION 31
 #define _GNU_SOURCE
 #include <errno.h>
@@ -36,7 +36,8 @@ static int put(int file, const char *bytes, size_t size, off_t at) {
 
 static void tell(char what, off_t at, const char *bytes, size_t size) {
     uint64_t head[3] = {(uint64_t)what, (uint64_t)at, size};
-    if (!put(log_file, (const char *)head, sizeof head, -1) || !put(log_file, bytes, size, -1)) abort();
+    if (!put(log_file, (const char *)head, sizeof head, -1)) abort();
+    if (!put(log_file, bytes, size, -1)) abort();
 }
 
 static int is_disk(const char *path) { return strcmp(path, "/disk") == 0; }

@@ -18,11 +18,13 @@ from collections.abc import Iterator, Sequence
 from dataclasses import dataclass
 
 from lib.crash_model import State, Write
-from lib.crash_scenarios import (BOOK, JOURNAL, ROOM, SYNCED, Progress, Promise, Run, Scenario, book_of,
-                                 command, complaint, examples, files, got, id_of, put, scenarios)
+from lib.crash_scenarios import (BOOK, JOURNAL, ROOM, SYNCED, Progress, Promise, Run, Scenario,
+                                 book_of, command, complaint, examples, files, got, id_of, put,
+                                 scenarios)
 
-# How large a disk of each file system is at least, and what makes it.
-MAKERS = {"ext4": (8 << 20, ("mkfs.ext4", "-q", "-F")), "xfs": (300 << 20, ("mkfs.xfs", "-q", "-f"))}
+# How large a disk of each file system is, and what makes it.
+MAKERS = {"ext4": (8 << 20, ("mkfs.ext4", "-q", "-F")),
+          "xfs": (300 << 20, ("mkfs.xfs", "-q", "-f"))}
 HEAD = struct.Struct("=QQQ")
 
 
@@ -37,15 +39,16 @@ def wanting() -> str:
     """What is wanted here for such disks, and isn't to be had."""
     if os.geteuid() != 0:
         return "root is wanted"
-    tools = [words[0] for _, words in MAKERS.values()] + ["cc", "pkg-config", "fusermount3", "losetup"]
+    makers = (words[0] for _, words in MAKERS.values())
+    tools = ("cc", "pkg-config", "fusermount3", "losetup", *makers)
     if missing := [tool for tool in tools if not shutil.which(tool)]:
         return f"{', '.join(missing)} is wanted"
-    if subprocess.run(["pkg-config", "--exists", "fuse3"], check=False).returncode:
-        return "libfuse3-dev is wanted"
-    if not os.path.exists("/dev/fuse") or subprocess.run(
-            ["losetup", "-f"], capture_output=True, check=False).returncode:
-        return "/dev/fuse and a loop device are wanted"
-    return ""
+    try:
+        run("pkg-config", "--exists", "fuse3")
+        run("losetup", "-f")
+    except ValueError as unlike_it:
+        return f"fuse3 and a loop device are wanted ({unlike_it})"
+    return "" if os.path.exists("/dev/fuse") else "/dev/fuse is wanted"
 
 
 def build(room: str) -> str:
@@ -93,8 +96,8 @@ def mounted(kind: str, server: str) -> Iterator[Disk]:
         os.truncate(disk.room / "image", size)
         run(*make, disk.room / "image")
         run("cp", "--sparse=always", disk.room / "image", disk.room / "kept")
-        served = subprocess.Popen([server, disk.room / "image", disk.room / "log", disk.room / "served"])
-        undo.callback(served.wait)
+        serves = [server, disk.room / "image", disk.room / "log", disk.room / "served"]
+        undo.callback(subprocess.Popen(serves).wait)
         while not (disk.room / "served/disk").exists():
             time.sleep(0.01)
         undo.callback(run, "umount", disk.room / "served")
@@ -195,7 +198,8 @@ def judged(kind: str, scenario: Scenario, server: str, seed: int,
         written_to(disk, scenario)
         found = {(state, repr(promise)): (where, state, promise)
                  for where, state, promise in power_cuts(disk, scenario, chance, most)}
-    wrong = [(where, complaint(scenario, state, promise)) for where, state, promise in found.values()]
+    wrong = [(where, complaint(scenario, state, promise))
+             for where, state, promise in found.values()]
     return len(wrong), [failure for failure in wrong if failure[1]]
 
 

@@ -1,8 +1,8 @@
 """Models what a kill and what a power cut may leave of the files of a run.
 
-A kill leaves all that was called. A power cut is as hard as a file system may be: bytes that no sync
-has put down are lost, torn or zeroed, in any order, and a new name comes early, late or beside the
-old one until its folder is synced.
+A kill leaves all that was called. A power cut is as hard as a file system may be: bytes that no
+sync has put down are lost, torn or zeroed, in any order, and a new name comes early, late or beside
+the old one until its folder is synced.
 """
 from __future__ import annotations
 
@@ -28,7 +28,7 @@ class Write:
         return old[:self.at].ljust(self.at, b"\0") + self.data + old[self.at + len(self.data):]
 
     def pieces(self, unit: int, chance: random.Random) -> list[Write]:
-        """The pieces of this size, or two that are cut anywhere where it is 1."""
+        """The pieces of this size, or two of any size where it is 1."""
         edges: Sequence[int] = range(unit - self.at % unit, len(self.data), unit)
         if unit == 1:
             edges = chance.sample(edges, min(1, len(edges)))

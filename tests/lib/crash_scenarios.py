@@ -54,7 +54,8 @@ def put(state: State, place: str) -> None:
         if entry.file in made:
             os.link(made[entry.file], path)
         elif entry.link:
-            os.makedirs(os.path.dirname(os.path.join(place, os.fsdecode(entry.data))), exist_ok=True)
+            target = os.path.join(place, os.fsdecode(entry.data))
+            os.makedirs(os.path.dirname(target), exist_ok=True)
             os.symlink(entry.data, path)
         else:
             pathlib.Path(path).write_bytes(entry.data)
@@ -179,7 +180,7 @@ class Progress:
             self.add({}, {}, *self.kill.books, book_of(self.lines))
 
     def reply(self, run: Run, replies: bytes) -> None:
-        """The run has answered: a journal keeps these games, and a ledger only once it has ended."""
+        """The run has answered: a journal keeps these games now, a ledger once it has ended."""
         games = replied(replies)
         self.answered |= games
         if self.scenario.keeper == JOURNAL:
@@ -244,19 +245,15 @@ def of_games_kept(scenario: Scenario, numbers: Games, kept: bytes) -> Iterator[s
     if scenario.keeper == LEDGER and kept != HEADER + b"".join(by_number):
         yield "the ledger isn't that of the games that were answered"
     # Between them a journal may have lines that were torn.
-    if scenario.keeper == JOURNAL and [line for line in lines_of(kept) if line in by_number] != by_number:
-        yield "the journal hasn't each game that was answered"
+    whole = [line for line in lines_of(kept) if line in by_number]
+    if scenario.keeper == JOURNAL and whole != by_number:
+        yield "the journal hasn't each game that was answered once"
 
 
-def files(data: dict[str, bytes], links: dict[str, str] | None = None,
-          second_names: dict[str, str] | None = None) -> State:
-    """Files of these names, links that lead somewhere, and second names of files."""
-    with tempfile.TemporaryDirectory(dir=ROOM) as place:
-        numbers = {path: n for n, path in enumerate((*data, *(links or {})))}
-        put((*(Entry(path, numbers[path], text) for path, text in data.items()),
-             *(Entry(path, numbers[path], os.fsencode(to), True) for path, to in (links or {}).items()),
-             *(Entry(path, numbers[of], data[of]) for path, of in (second_names or {}).items())), place)
-        return got(place)
+def files(data: dict[str, bytes | str]) -> State:
+    """Files of these names, and links where there is the name of what they lead to."""
+    return tuple(Entry(path, number, os.fsencode(text), isinstance(text, str))
+                 for number, (path, text) in enumerate(sorted(data.items())))
 
 
 def examples() -> tuple[tuple[bytes, ...], bytes, bytes]:
@@ -273,55 +270,56 @@ def examples() -> tuple[tuple[bytes, ...], bytes, bytes]:
 
 def scenarios() -> list[Scenario]:
     lines, old, _ = examples()
-    book = {BOOK: book_of(old)}
     run = (Run((), lines),)
+    book = book_of(old)
     return [
-        Scenario("book", run, files(book)),
+        Scenario("book", run, files({BOOK: book})),
         Scenario("new book", run),
-        Scenario("book behind a link", run, files({"far/" + BOOK: book[BOOK]}, {BOOK: "far/" + BOOK})),
-        *of_ledgers(lines, HEADER + old, book),
+        Scenario("book behind a link", run, files({"far/" + BOOK: book, BOOK: "far/" + BOOK})),
+        *of_ledgers(),
         *of_journals("journal", TO_JOURNAL),
         *of_journals("journal --sync", SYNCED),
-        *of_runs_in_a_row(lines, files({JOURNAL: old, **book}))]
+        *of_runs_in_a_row()]
 
 
-def of_ledgers(lines: tuple[bytes, ...], ledger: bytes, book: dict[str, bytes]) -> list[Scenario]:
-    run = (Run(TO_LEDGER, lines),)
+def of_ledgers() -> list[Scenario]:
+    lines, old, _ = examples()
+    run, far, ledger = (Run(TO_LEDGER, lines),), "far/" + LEDGER, HEADER + old
+    book = {BOOK: book_of(old)}
     found = files({LEDGER: ledger, **book})
-    far = files({"far/" + LEDGER: ledger, **book}, {LEDGER: "far/" + LEDGER})
-    second = files({LEDGER: ledger, **book}, None, {"second": LEDGER})
+    second = (*found, Entry("second", found[1].file, ledger))
     # Without its last move the last line is a shorter game.
     cut = files({LEDGER: ledger[:ledger.rindex(b" ")], **book})
     return [
         Scenario("ledger", run, found),
         Scenario("new ledger", run, files({LEDGER: b""})),
-        Scenario("ledger behind a link", run, far),
+        Scenario("ledger behind a link", run, files({far: ledger, LEDGER: far, **book})),
         Scenario("ledger with a second name", (Run(TO_LEDGER, lines, status=3),), second),
         Scenario("ledger that was cut", (Run(TO_LEDGER, lines, status=1),), cut)]
 
 
 def of_journals(name: str, options: tuple[str, ...]) -> list[Scenario]:
     lines, old, torn = examples()
-    run = (Run(options, lines),)
+    run, far = (Run(options, lines),), "far/" + JOURNAL
     book = {BOOK: book_of(old)}
-    far, link = "far/" + JOURNAL, {JOURNAL: "far/" + JOURNAL}
     return [
         Scenario(name, run, files({JOURNAL: old, **book})),
         Scenario(f"{name}, torn", run, files({JOURNAL: old + torn, **book})),
+        Scenario(f"{name}, behind a link", run, files({far: old, JOURNAL: far})),
         Scenario(f"{name}, made just before", run, files({JOURNAL: b""}), frozenset({JOURNAL})),
-        Scenario(f"{name}, behind a link", run, files({far: old}, link)),
-        Scenario(f"{name}, made just before behind a link", run, files({far: b""}, link),
+        Scenario(f"{name}, made just before behind a link", run, files({far: b"", JOURNAL: far}),
                  frozenset({far}))]
 
 
-def of_runs_in_a_row(lines: tuple[bytes, ...], found: State) -> list[Scenario]:
+def of_runs_in_a_row() -> list[Scenario]:
     """Journals that earlier runs have left in the system's memory alone."""
-    fails = "fsync,fdatasync:error=EIO:when="
+    lines, old, _ = examples()
+    found = files({JOURNAL: old, BOOK: book_of(old)})
+    fails, last = "fsync,fdatasync:error=EIO:when=", Run(SYNCED, lines)
     return [
         Scenario("journal --sync, after runs without", (
-            Run(TO_JOURNAL, lines[:3]), Run(TO_JOURNAL, lines[2:5]), Run(SYNCED, lines)), found),
+            Run(TO_JOURNAL, lines[:3]), Run(TO_JOURNAL, lines[2:5]), last), found),
         Scenario("journal --sync, after a sync that failed", (
-            Run(SYNCED, lines[:3], fails + "3", 3), Run(SYNCED, lines)), found),
+            Run(SYNCED, lines[:3], fails + "3", 3), last), found),
         Scenario("journal --sync, after a run without whose bytes the disk has refused", (
-            Run(TO_JOURNAL, lines[:3]), Run(SYNCED, lines[:1], fails + "1", 3), Run(SYNCED, lines)),
-            found)]
+            Run(TO_JOURNAL, lines[:3]), Run(SYNCED, lines[:1], fails + "1", 3), last), found)]

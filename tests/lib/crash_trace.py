@@ -10,8 +10,8 @@ from dataclasses import dataclass
 
 # The calls that are followed, and what they are called here.
 FOLLOWED = {
-    "open": "open", "openat": "open", "creat": "open", "close": "close", "dup": "dup", "dup2": "dup",
-    "dup3": "dup", "fcntl": "dup", "read": "read", "readv": "read", "lseek": "seek",
+    "open": "open", "openat": "open", "creat": "open", "close": "close", "dup": "dup",
+    "dup2": "dup", "dup3": "dup", "fcntl": "dup", "read": "read", "readv": "read", "lseek": "seek",
     "write": "write", "writev": "write", "pwrite64": "write", "pwritev": "write",
     "ftruncate": "resize", "fsync": "sync", "fdatasync": "sync", "rename": "rename",
     "renameat": "rename", "unlink": "unlink", "unlinkat": "unlink"}
@@ -67,8 +67,8 @@ def call_of(name: str, given: str, value: int, opened: str, place: str) -> Call 
     fd = int(held[1]) if held else -1
     if kind == "open":
         path = os.fsdecode(text(opened))
-        flags = [*re.findall(r"O_\w+", given), "folder" if os.path.isdir(path) else ""]
-        return Call(kind, fd, (inside(place, path),), value, flags=frozenset(flags))
+        how = [*re.findall(r"O_\w+", given), "folder" if os.path.isdir(path) else ""]
+        return Call(kind, fd, (inside(place, path),), value, flags=frozenset(how))
     if kind in ("rename", "unlink"):
         words = [os.path.join(base, os.fsdecode(word)) for base, word in texts]
         return Call(kind, fd, tuple(inside(place, word) for word in words), value)
@@ -76,9 +76,10 @@ def call_of(name: str, given: str, value: int, opened: str, place: str) -> Call 
     if kind == "write" and fd == 1:
         kind, path = "reply", None
     at = int(given.rsplit(", ", 1)[1]) if name in ("pwrite64", "pwritev", "ftruncate") else None
-    data = b"".join(word for _, word in texts)[:max(value, 0)] if kind in ("write", "reply") else b""
+    written = b"".join(word for _, word in texts) if kind in ("write", "reply") else b""
     is_folder = path is not None and os.path.isdir(os.path.join(place, path))
-    return Call(kind, fd, (path,), value, data, at, frozenset({"folder"} if is_folder else ()))
+    flags = frozenset({"folder"} if is_folder else ())
+    return Call(kind, fd, (path,), value, written[:max(value, 0)], at, flags)
 
 
 def calls_of(log: str, place: str) -> list[Call]:
