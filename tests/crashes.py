@@ -2,7 +2,7 @@
 """Tries what crashes leave of the files of `pbook collect`, and that a run goes on over it.
 
 Usage: PROGRAM=program python3 -B tests/crashes.py [--seed N] [--only PATTERN] [--states N]
-           [--again N] [--jobs N] [--without files|folders]
+           [--again N] [--jobs N] [--without files|folders] [--whole-renames]
 (at the top of the repository).
 
 strace tells the calls of a run. After each call a model of the files (tests/lib/crash_model.py)
@@ -15,6 +15,7 @@ what wasn't flushed (tests/lib/crash_disk.py).
 
 --states is how many states of a scenario are tried, and --again how many of them meet a second
 crash. --without leaves the syncs of files or of folders out of the model, to show what fails then.
+--whole-renames lets no power cut leave both names of a rename, as the journals of ext4 and XFS do.
 The last line is `N passed, N failed`, where each state counts.
 """
 from __future__ import annotations
@@ -232,7 +233,9 @@ def main() -> None:
     words.add_argument("--jobs", type=int, default=os.cpu_count())
     words.add_argument("--only", default="")
     words.add_argument("--without", choices=("files", "folders"), default="")
+    words.add_argument("--whole-renames", action="store_true")
     given = words.parse_args()
+    World.both_names = not given.whole_renames
     if not shutil.which("strace"):
         sys.exit("not tried, strace is wanted: crashes")
     os.environ.setdefault("ASAN_OPTIONS", "detect_leaks=0")

@@ -11,6 +11,7 @@ import os
 import random
 from collections.abc import Iterator, Sequence
 from dataclasses import dataclass, field
+from typing import ClassVar
 
 from lib.crash_trace import Call
 
@@ -131,6 +132,8 @@ class Opened:
 @dataclass
 class World:
     """The files of a folder and of those in it, as calls change them."""
+    # Whether a power cut may leave both names of a rename, as rename(2) warns.
+    both_names: ClassVar[bool] = True
     files: list[File] = field(default_factory=list)
     names: dict[str, int] = field(default_factory=dict)
     kept_names: dict[str, int] = field(default_factory=dict)
@@ -234,7 +237,8 @@ class World:
     def tables(self, chance: random.Random) -> list[dict[str, int]]:
         """Some of the tables of names that may be found."""
         picks: list[Sequence[int]] = [[0] * len(self.namings), [1] * len(self.namings)]
-        picks += [[chance.randrange(3) for _ in self.namings] for _ in range(4)]
+        hows = 3 if self.both_names else 2
+        picks += [[chance.randrange(hows) for _ in self.namings] for _ in range(4)]
         found = []
         for pick in picks:
             names = self.kept_names

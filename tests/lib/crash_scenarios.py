@@ -256,16 +256,21 @@ def files(data: dict[str, bytes | str]) -> State:
                  for number, (path, text) in enumerate(sorted(data.items())))
 
 
+def without_last_move(text: bytes) -> bytes:
+    """A text whose last line was cut so that it is a shorter game, and has no LF."""
+    return text[:text.rindex(b" ")]
+
+
 def examples() -> tuple[tuple[bytes, ...], bytes, bytes]:
-    """Lines for runs, of which two come again and two have many sectors; older games; and a line
-    that was torn."""
+    """Lines for runs, of which two come again and two have many sectors; older games; and the
+    front of a line, which is a shorter game."""
     played = lines_of(pathlib.Path("examples/games.txt").read_bytes())
     games = list({id_of(line): line for line in reversed(played)}.values())[::-1]
     long = [b"long-%d\t1/2-1/2\t%b %d\t%b\n" % (
         n, b"rnbqkbnr/pppppppp/8/8/8/8/PPPPPPPP/RNBQKBNR w KQkq - 0", n,
         b" ".join([b"g1f3 g8f6 f3g1 f6g8"] * 60)) for n in (1, 2)]
     lines = (*games[:4], games[0], *long, games[4], games[2])
-    return lines, b"".join(games[12:18]), games[20][:60]
+    return lines, b"".join(games[12:18]), without_last_move(games[20])
 
 
 def scenarios() -> list[Scenario]:
@@ -288,8 +293,7 @@ def of_ledgers() -> list[Scenario]:
     book = {BOOK: book_of(old)}
     found = files({LEDGER: ledger, **book})
     second = (*found, Entry("second", found[1].file, ledger))
-    # Without its last move the last line is a shorter game.
-    cut = files({LEDGER: ledger[:ledger.rindex(b" ")], **book})
+    cut = files({LEDGER: without_last_move(ledger), **book})
     return [
         Scenario("ledger", run, found),
         Scenario("new ledger", run, files({LEDGER: b""})),
