@@ -16,7 +16,7 @@ EXAMPLES := crates/worked_examples/out/worked_examples
 
 .PHONY: build install dist demo check dev test test-bodies test-hostile test-files test-order \
     test-locks test-messages test-memory test-growths test-io \
-    test-noise test-replies test-dist test-journal test-wrong-programs bench clean
+    test-noise test-replies test-dist test-journal test-crashes test-wrong-programs bench clean
 
 build: build/pbook
 
@@ -64,8 +64,9 @@ test-bodies:
 	@scripts/bodies.py $(CRATE)
 
 # All that is tried of the program in a hostile world, but for collectors that are killed on their
-# journal; and what shellcheck says of the scripts. PROGRAM=program tries another than build/pbook.
-# WRONG_PROGRAMS=1 tries too that wrong programs are seen, which takes some minutes more.
+# journal, and for crashes; and what shellcheck says of the scripts. PROGRAM=program tries another
+# than build/pbook. WRONG_PROGRAMS=1 tries too that wrong programs are seen, which takes some minutes
+# more.
 test-hostile: test-files test-order test-locks test-messages test-memory test-growths test-io \
     test-noise test-replies test-dist $(if $(WRONG_PROGRAMS),test-wrong-programs)
 	@sh tests/shellcheck.sh
@@ -125,6 +126,12 @@ test-dist: $(PROGRAM)
 test-journal: build
 	@sh examples/workers.sh
 	@sh tests/journal.sh
+
+# Tries what kills and power cuts may leave of the files of `collect`, by a model of a file system
+# over the calls that strace tells, and goes on over each state. As root it takes ext4 and XFS on a
+# disk that loses what wasn't flushed too. SEED=number draws other states.
+test-crashes: $(PROGRAM)
+	@PROGRAM='$(PROGRAM)' python3 -B tests/crashes.py $(if $(SEED),--seed $(SEED))
 
 # Compares counts of sequences of moves with published ones, and legal moves, FENs and keys with
 # those of other programs; times playing moves and the commands, and compares a book with PolyGlot's
