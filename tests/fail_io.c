@@ -93,6 +93,8 @@ ssize_t pread(int file, void *bytes, size_t count, off_t at) {
     return fate == FAILS ? -1 : syscall(SYS_pread64, file, bytes, moved(fate, count), at);
 }
 
+ssize_t pread64(int file, void *bytes, size_t count, off_t at) { return pread(file, bytes, count, at); }
+
 ssize_t write(int file, const void *bytes, size_t count) {
     const enum fate fate = fate_of(WRITE, file);
     return fate == FAILS ? -1 : syscall(SYS_write, file, bytes, moved(fate, count));
@@ -102,6 +104,8 @@ ssize_t pwrite(int file, const void *bytes, size_t count, off_t at) {
     const enum fate fate = fate_of(WRITE, file);
     return fate == FAILS ? -1 : syscall(SYS_pwrite64, file, bytes, moved(fate, count), at);
 }
+
+ssize_t pwrite64(int file, const void *bytes, size_t count, off_t at) { return pwrite(file, bytes, count, at); }
 
 // The first of some parts that has bytes, where one byte alone is moved.
 static const struct iovec *first_of(const struct iovec *parts, int count) {

@@ -1,5 +1,5 @@
 #!/bin/sh
-# Tries what `pbook collect` leaves of BOOK, and of the FILE of `--ledger`, in a hostile world:
+# Tries what `pbook collect` leaves of BOOK, and of the FILE of an option, in a hostile world:
 # devices, links, folders, missing permissions, full disks, a killed run. As root it tries more,
 # on file systems that it mounts, and where strace is installed it has calls of the system fail.
 # It also tries that options say what counts, and what `pbook games` takes of torn journals.
@@ -100,16 +100,35 @@ standard_output() {
     holds test ! -s errors
 }
 
+# A link stays one. The file that it leads to is replaced, by a draft beside it.
 symlink() {
-    with_old
-    ln -s book.bin link
-    makes "$place/link" "$book"
-    holds test -L link
+    mkdir far
+    cp "$work/old" far/real
+    chmod 640 far/real
+    before=$(node far/real)
+    ln -s real far/second
+    ln -s far/second link
+    makes link far/real
+    holds not has_node "$before" far/real
+    holds has_mode 640 far/real
+    holds test "$(readlink link) $(readlink far/second)" = 'far/second real'
 }
 
 dangling_symlink() {
-    ln -s book.bin link
-    makes "$place/link" "$book"
+    mkdir far
+    ln -s far/real link
+    makes "$place/link" far/real
+    holds test -L link
+}
+
+# In place, by a link too.
+linked_hard_link() {
+    mkdir far
+    cp "$work/old" far/real
+    ln far/real far/other
+    ln -s far/real link
+    makes link far/other
+    holds has_node "$(node far/other)" far/real
     holds test -L link
 }
 
@@ -122,7 +141,7 @@ hard_link() {
 
 folder() {
     mkdir folder
-    cannot_open "$place/folder"
+    holds stops_unread "$place/folder" "$place/folder"
     holds no_draft
 }
 
@@ -147,7 +166,7 @@ no_permission() {
     chmod 444 "$book"
     chmod 777 "$place"
     runner=as_other
-    cannot_open "$book"
+    holds stops_unread "$book" "$book"
     holds is_old "$book"
     holds no_draft
 }
@@ -181,6 +200,49 @@ other_owner() {
     runner=as_other
     makes "$book"
     holds has_node "$before" "$book"
+}
+
+other_group() {
+    with_old
+    chown 65534:0 "$book"
+    chmod 777 "$place"
+    before=$(node "$book")
+    runner=as_other
+    makes "$book"
+    holds has_node "$before" "$book"
+    holds test "$(stat -c %g "$book")" -eq 0
+}
+
+# with_umask MASK COMMAND..: runs the command, whose new files lack these permissions
+with_umask() (
+    umask "$1"
+    shift
+    "$@"
+)
+
+# A new BOOK has the permissions that its user gives to new files.
+own_umask() {
+    holds with_umask 002 collects 0 "$book"
+    holds has_mode 664 "$book"
+    rm "$book"
+    holds with_umask 077 collects 0 "$book"
+    holds has_mode 600 "$book"
+}
+
+all_names_taken() {
+    with_old
+    for number in $(seq 0 99); do mkdir ".book.bin.pbook-$number"; done
+    cannot_open "$book"
+    holds tells "$book is in use by another run"
+    holds is_old "$book"
+}
+
+# Where no book comes of a run, no draft of one is left.
+no_book_made() {
+    head -n 400 "$table" > half
+    table=$place/half
+    holds collects 1 "$book"
+    holds test "$(find "$place" -type f)" = "$place/half"
 }
 
 # limited COMMAND..: runs the command, whose files may have two kilobytes
@@ -247,6 +309,70 @@ device_faults() {
     where flock:error=ENOLCK 0 is_new
 }
 
+# A draft that can't get the old file's permissions is a fault, and nothing is written in place.
+unset_mode() {
+    with_ledger
+    before=$(node "$book")
+    where fchmod:error=EIO 3 is_old
+    holds has_node "$before" "$book"
+    runner="strace -f -o /dev/null -e trace=fchmod -e inject=fchmod:error=EIO"
+    before=$(node "$ledger")
+    holds collects 3 "$book" "$work/games" --ledger "$ledger"
+    holds cmp "$ledger" before
+    holds has_node "$before" "$ledger"
+    holds is_old "$book"
+    holds no_draft
+}
+
+# unopened ERROR: the folder `far` can't be opened, which fails so
+unopened() {
+    runner="strace -f -o /dev/null -P $place/far -e trace=openat -e inject=openat:error=$1"
+}
+
+# unsettled STATUS: a run ends with this status where the folder of BOOK, FILE or a synced journal
+# can't be opened. A fault is told, and what could be made is made.
+unsettled() {
+    cp "$work/old" far/book.bin
+    holds collects "$1" "$place/far/book.bin"
+    holds is_new far/book.bin
+    [ "$1" -eq 0 ] || holds may_be_undone far/book.bin
+    cp before far/kept
+    holds collects "$1" "$book" "$work/games" --ledger "$place/far/kept"
+    holds cmp far/kept after
+    [ "$1" -eq 0 ] || holds may_be_undone far/kept
+    cp "$work/first" far/journal
+    holds collects "$1" "$book" "$work/games" --journal "$place/far/journal" --sync
+    [ "$1" -eq 0 ] || holds unanswered far/journal
+    # Nobody wants this folder synced.
+    holds collects 0 "$book" "$work/games" --journal "$place/far/journal"
+}
+
+# may_be_undone FILE: whether it is told that a crash may undo this file
+may_be_undone() {
+    grep -q "^pbook: $place/$1: .*; the new one is there, and a crash may undo it$" "$work/errors"
+}
+
+# unanswered FILE: whether a run was ended by this file, which is as before, and answered nothing
+unanswered() {
+    tells_name "$place/$1" && not grep -q '^ok ' "$work/replies" && cmp "$1" "$work/first"
+}
+
+# A folder whose sync can't be tried has to be one that may not be read.
+unopened_folder() {
+    with_ledger
+    mkdir far
+    cp before after
+    holds collects 0 "$book" "$work/games" --ledger after
+    for error in EIO ENOMEM EMFILE ENFILE; do
+        unopened "$error"
+        unsettled 3
+    done
+    for error in EACCES EPERM; do
+        unopened "$error"
+        unsettled 0
+    done
+}
+
 draft_left() {
     with_old
     cp "$work/old" .book.bin.pbook-0
@@ -276,6 +402,39 @@ draft_is_a_link() {
     holds is_old precious
     holds test -L .book.bin.pbook-0
     holds test -p .book.bin.pbook-1
+}
+
+# Where the replies can't be written, a torn last line isn't taken for a game.
+torn_at_full_output() {
+    : > "$journal"
+    head -n 1 "$work/games" > lines
+    cp lines due
+    # Its moves but for the last one are a game too.
+    sed -n '2s/ [^ ]*$//p' "$work/games" | tr -d '\n' >> lines
+    status=0
+    "$PROGRAM" collect --journal "$journal" "$table" "$book" \
+        < lines > /dev/full 2> told || status=$?
+    holds test "$status" -eq 3
+    holds test "$(cat told)" = 'pbook: standard output: no space left on device'
+    holds cmp "$journal" due
+    holds not test -e "$book"
+}
+
+# What keeps nothing is no journal.
+special_journal() {
+    with_old
+    mkfifo pipe
+    mkdir folder
+    ln -s /dev/null link
+    runner="timeout $patience"
+    for name in /dev/null link /dev/zero /dev/full pipe folder; do
+        for option in '' --sync -q; do
+            # shellcheck disable=SC2086 # no option is no word
+            holds stops_unread "$name" "$book" --journal "$name" $option
+            holds is_old "$book"
+        done
+    done
+    holds test -p pipe
 }
 
 side_by_side() {
@@ -505,6 +664,40 @@ live_journal() {
     holds cmp "$work/replies" "$journal"
 }
 
+# A saved ledger that doesn't end in LF was cut short. Its last line may spell a shorter game.
+cut_ledger() {
+    with_ledger
+    whole=$(wc -c < before)
+    move=$(tail -n 1 before | grep -o ' [^ ]*$' | wc -c)
+    for gone in 1 2 3 "$move"; do
+        head -c $((whole - gone)) before > "$ledger"
+        is_cut $(($(wc -l < before)))
+    done
+    printf 'pbook-ledger 1' > "$ledger"
+    is_cut 1
+    # What is no saved ledger may end so.
+    sed 1d before | head -c -1 > "$ledger"
+    holds collects 0 "$place/list.bin" /dev/null --ledger "$ledger"
+    holds cmp "$ledger" before
+}
+
+# continued: a run over FILE, which may tell more than one line
+continued() {
+    "$PROGRAM" collect --ledger "$ledger" "$table" "$book" \
+        < "$work/games" > "$work/replies" 2> "$work/errors"
+}
+
+# is_cut LINE: FILE is refused since this line of it has no end, and nothing is read or changed
+is_cut() {
+    cp "$ledger" found
+    holds ends 1 continued
+    holds says_only "refused ledger line $1"
+    holds grep -q "^pbook: $ledger: .*cut" "$work/errors"
+    holds cmp "$ledger" found
+    holds is_old "$book"
+    holds no_draft
+}
+
 missing_ledger() {
     with_old
     cannot_open "$book" "$work/games" --ledger "$ledger"
@@ -519,6 +712,98 @@ closed_ledger() {
     holds collects 3 "$book" "$work/games" --ledger "$ledger"
     holds says_only 'fault open'
     holds is_old "$book"
+}
+
+# A link to FILE stays one. The file that it leads to is replaced, by a draft beside it.
+linked_ledger() {
+    with_ledger
+    mkdir far
+    cp before far/real
+    chmod 640 far/real
+    ln -s real far/second
+    ln -s far/second link
+    before=$(node far/real)
+    holds collects 0 "$book" "$work/games" --ledger link
+    holds not has_node "$before" far/real
+    holds has_mode 640 far/real
+    holds test "$(readlink link) $(readlink far/second)" = 'far/second real'
+    holds collects 0 "$book" "$work/games" --ledger "$ledger"
+    holds cmp far/real "$ledger"
+    holds no_draft
+    ln -s nothing dangling
+    cannot_open "$book" "$work/games" --ledger dangling
+    holds not test -e nothing
+}
+
+# stays NAME: no draft can replace the FILE of this name, so a run ends before it reads a
+# submission, and FILE stays
+stays() {
+    before=$(node "$1")
+    holds stops_unread "$1" "$book" --ledger "$1"
+    holds has_node "$before" "$1"
+    holds cmp "$1" before
+    holds is_old "$book"
+    holds no_draft
+}
+
+ledger_of_two_names() {
+    with_ledger
+    ln games.ledger other
+    ln -s other link
+    for name in games.ledger "$place/other" link; do stays "$name"; done
+}
+
+ledger_of_long_name() {
+    with_ledger
+    name=$(printf '%0255d' 0)
+    cp before "$name"
+    stays "$name"
+    ln -s "$name" link
+    stays link
+    name=$(printf '%0246d' 0)
+    cp before "$name"
+    holds collects 0 "$book" "$work/games" --ledger "$name"
+    holds not cmp -s before "$name"
+}
+
+ledger_without_drafts() {
+    with_ledger
+    chmod 666 "$ledger"
+    chmod 555 "$place"
+    runner=as_other
+    stays games.ledger
+    chmod 755 "$place"
+}
+
+ledger_of_another() {
+    with_ledger
+    chmod 777 "$place"
+    runner=as_other
+    for owner in 0:65534 65534:0; do
+        chown "$owner" "$ledger"
+        chmod 666 "$ledger"
+        stays games.ledger
+        holds test "$(stat -c %u:%g "$ledger")" = "$owner"
+    done
+}
+
+# A mount can't be renamed over. One of the same file system is met when the games are answered.
+mounted_ledger() {
+    with_ledger
+    mkdir disk
+    mount -t tmpfs tmpfs "$place/disk"
+    cp before disk/kept
+    mount --bind "$place/disk/kept" "$ledger"
+    stays games.ledger
+    holds cmp disk/kept before
+    umount "$ledger"
+    cp before far
+    mount --bind "$place/far" "$ledger"
+    holds collects 3 "$book" "$work/games" --ledger games.ledger
+    holds tells_name games.ledger
+    holds cmp far before
+    holds is_old "$book"
+    holds no_draft
 }
 
 # The ledger is kept though the book can't be.
@@ -574,18 +859,72 @@ killed_while_saving() {
     holds no_draft
 }
 
+# killed_at NUMBER COMMAND..: runs the command, which is killed as it makes the call of this number,
+# of those that change files; whether it was
+killed_at() {
+    changing='/^(p?write|ftruncate|fchmod|f(data)?sync|rename|unlink)'
+    number=$1 status=0
+    shift
+    strace -f -o /dev/null -e "trace=$changing" -e "inject=$changing:signal=SIGKILL:when=$number" \
+        "$@" < "$work/games" > "$work/replies" 2> "$work/errors" || status=$?
+    case $status in
+        0) return 1 ;;
+        137) ;;
+        *) cat "$work/errors" && exit 1 ;;
+    esac
+}
+
+# A run whose FILE and BOOK are links is killed at each call: what they lead to is whole, and BOOK
+# is new only where FILE is.
+killed_behind_links() {
+    with_ledger
+    mkdir far
+    ln -s far/kept link
+    ln -s far/book.bin book
+    cp before far/kept
+    holds collects 0 made "$work/games" --ledger link
+    cp far/kept after
+    at=1
+    : > "$work/seen"
+    while
+        cp before far/kept
+        cp "$work/old" far/book.bin
+        killed_at "$at" "$PROGRAM" collect --ledger link "$table" book
+    do
+        if cmp -s far/kept after; then
+            echo new >> "$work/seen"
+            is_old far/book.bin || holds cmp far/book.bin made
+        else
+            echo old >> "$work/seen"
+            holds cmp far/kept before
+            holds is_old far/book.bin
+        fi
+        holds test -L link -a -L book
+        at=$((at + 1))
+    done
+    note "killed at $((at - 1)) calls, $(count new "$work/seen") times with the new FILE"
+    holds grep -q old "$work/seen"
+    holds grep -q new "$work/seen"
+    holds cmp far/kept after
+    holds cmp far/book.bin made
+    holds no_draft
+}
+
 if [ $# -eq 0 ]; then
     choose true '' new_book here old_book full_device null_device pipe standard_output symlink \
-        dangling_symlink hard_link folder missing_folder no_name long_name limit draft_left \
-        draft_is_a_link side_by_side cut_in_three old_list one_file broken_ledger missing_ledger \
-        ledger_without_book rules two_journals
+        dangling_symlink hard_link linked_hard_link folder missing_folder no_name long_name \
+        own_umask all_names_taken no_book_made limit draft_left draft_is_a_link special_journal \
+        side_by_side cut_in_three old_list one_file broken_ledger cut_ledger missing_ledger \
+        linked_ledger ledger_of_two_names ledger_of_long_name ledger_without_book rules two_journals
+    choose 'test -c /dev/full' '/dev/full is wanted' torn_at_full_output
     choose 'has flock' 'flock is wanted' draft_in_use live_journal
-    choose 'has strace' 'strace is wanted' device_faults
+    choose can_trace 'strace is wanted' device_faults unset_mode unopened_folder \
+        killed_behind_links
     choose can_be_other 'setpriv is wanted' no_permission folder_without_drafts unread_folder \
-        closed_ledger
-    choose can_own 'root and setpriv are wanted' other_owner
+        closed_ledger ledger_without_drafts
+    choose can_own 'root and setpriv are wanted' other_owner other_group ledger_of_another
     choose can_mount 'nothing can be mounted' full_disk full_of_names mount_point \
-        full_disk_of_ledger
+        full_disk_of_ledger mounted_ledger
     choose true '' killed killed_while_saving
     # shellcheck disable=SC2086 # each name is a word
     set -- $chosen

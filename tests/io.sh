@@ -7,8 +7,8 @@
 #   failed, it is whole lines and then `fault read`. Only where a text is put because the words
 #   gave no order does the status stay.
 # - BOOK is the old one, or none where there was none; it is the new one only where a sync failed,
-#   that of the folder. Through a link, where it is made in place, it may be empty or a front of
-#   the new one too.
+#   that of the folder. A file with a second name, which is made in place, may be empty or a front
+#   of the new one too.
 # - The FILE of `--ledger` is the one that is made of the first lines of the submissions, at least
 #   of all that were answered; or it is the old one, where nothing was answered, or where FILE
 #   itself couldn't be made. No draft of it or of BOOK is left.
@@ -20,13 +20,16 @@
 # A line is printed for each command. The first run that may not be ends all; what was found is
 # shown, and the folder with it stays: the files before (old) and after (run), the output (put)
 # and all inputs.
-# Usage: PROGRAM=program tests/io.sh (at the top of the repository; cc has to be there).
+# Usage: PROGRAM=program tests/io.sh [RUN..] (at the top of the repository; all runs where none is
+# given; cc has to be there).
 set -eu
 PROGRAM=${PROGRAM:-build/pbook}
 . tests/lib/harness.sh
 . tests/lib/shim.sh
 . tests/lib/small_runs.sh
 
+# The runs that are wanted, a line each.
+wanted=$(printf '%s\n' "$@")
 hit='?' at='?' calls='?' kind='?' file='?' file_name='?'
 
 # set_shim: has the call of the number $at fail, or move one byte, as the variable $hit says
@@ -53,6 +56,7 @@ name_of_hit() {
         '1 '*) echo 'standard output' ;;
         *' run') echo '(book|file)' ;;
         *' linked') echo book ;;
+        *' '.linked.pbook-*) echo book ;;
         *' '.*.pbook-*) echo "$file_name" | sed 's/^\.\(.*\)\.pbook-.*/\1/' ;;
         *) echo "(\.\./)?$file_name" ;;
     esac
@@ -119,7 +123,7 @@ judge_output() {
 judge_book() {
     if is_of old book; then return; fi
     if [ "$kind" = sync ] && is_of ample book; then return; fi
-    [ -L "$work/run/book" ] || fails 'BOOK is not the old one'
+    [ "$in_place" = true ] || fails 'BOOK is not the old one'
     [ "$kind" != read ] || fails 'BOOK is not the old one, and a read failed'
     is_front "$work/run/book" "$work/ample/book" || fails 'BOOK is no front of the new one'
 }
@@ -198,7 +202,7 @@ hit_each() {
 # in their order, `read`, `write` or `sync`, but for those by which the program was loaded
 see_calls() {
     rm -rf "$work/counted"
-    cp -RP "$work/old" "$work/counted"
+    cp -Rd "$work/old" "$work/counted"
     (
         cd "$work/counted"
         exec strace -f -y -s 0 -e signal=none -o "$work/calls" \
@@ -237,8 +241,9 @@ hits() {
 $(logged 'FAIL_AT sync') syncs failed; $(logged SHORT_AT) calls moved one byte alone"
 }
 
-# try NAME JUDGE INPUT WORD..: checks a command
+# try NAME JUDGE INPUT WORD..: checks a command, if it is wanted
 try() {
+    [ -z "$wanted" ] || printf '%s\n' "$wanted" | grep -qxF "$1" || return 0
     name=$1
     shift
     check "$name" hits "$@"

@@ -1,8 +1,9 @@
 #!/bin/sh
 # Tries that two runs don't spoil each other's files, and one run doesn't spoil its own: a journal
 # and the FILE of `--ledger` are held, as drafts are; no file of a run is taken for a draft that
-# was left; standard input and output are open, and are no file that the run keeps. The first check
-# that doesn't hold ends it.
+# was left; standard input and output are open, and are no file that the run keeps; no game is
+# answered by a journal that another program has changed, and no changed FILE is replaced. The first
+# check that doesn't hold ends it.
 # Usage: PROGRAM=program tests/locks.sh [CHECK..] (at the top of the repository; all checks where
 # none is given).
 set -eu
@@ -116,6 +117,20 @@ left_draft() {
     holds collects 0 "$book"
     holds is_new "$book"
     holds no_draft
+}
+
+# A draft that was left may have gone by the time that it is locked, and another have its name.
+left_draft_replaced() {
+    with_old
+    cp "$work/games" games
+    cp "$work/old" .book.bin.pbook-0
+    cp "$table" another
+    draft=$place/.book.bin.pbook-0
+    holds begin_held openat "-P $draft" "$PROGRAM" collect "$table" "$book"
+    mv another "$draft"
+    holds go_on 0
+    holds is_new "$book"
+    holds cmp "$draft" "$table"
 }
 
 held_draft() {
@@ -323,6 +338,18 @@ closed_output() {
     without_output probe "$table" "$work/new" '4k3/8/8/8/8/8/8/4K3 w - - 0 1'
 }
 
+# What reads no submissions needs no standard input.
+unread_input() {
+    start='rnbqkbnr/pppppppp/8/8/8/8/PPPPPPPP/RNBQKBNR w KQkq - 0 1'
+    "$PROGRAM" show "$work/new" <&- > listed 2> told
+    holds test "$(wc -l < listed)" -eq $(($(wc -c < "$work/new") / 16))
+    "$PROGRAM" probe "$table" "$work/new" "$start" <&- > listed 2>> told
+    holds grep -q '^e2e4 ' listed
+    "$PROGRAM" fen "$start" e2e4 <&- > listed 2>> told
+    holds grep -q '^rnbqkbnr/pppppppp/8/8/4P3/' listed
+    holds test ! -s told
+}
+
 closed_both() {
     with_kept ledger
     for command in "collect --ledger kept $table $book" "export $table"; do
@@ -350,13 +377,168 @@ unwritable_ledger() {
     holds is_old "$book"
 }
 
+# A BOOK that is there and can't be written ends it likewise, as its owner's and by any name.
+unwritable_book() {
+    with_kept ledger
+    ! is_root || chown 65534:65534 kept
+    chmod 444 book.bin
+    chmod 777 .
+    ln -s book.bin link
+    mkdir folder
+    cp "$work/old" other.bin
+    chmod 644 other.bin
+    runner=as_other
+    for option in '' '--ledger kept' '--journal kept' -q; do
+        # shellcheck disable=SC2086 # each word is one
+        for name in book.bin link folder; do
+            holds stops_unread "$name" "$name" $option
+        done
+        # shellcheck disable=SC2086
+        ! is_root || holds stops_unread other.bin other.bin $option
+        holds cmp kept before
+        holds is_old "$book"
+        holds is_old other.bin
+        holds no_draft
+    done
+}
+
+# change HOW FILE: another program does this to the file of a run
+change() {
+    case $1 in
+        removed) rm "$2" ;;
+        renamed) mv "$2" elsewhere ;;
+        replaced) cp "$2" copy && mv copy "$2" ;;
+        emptied) : > "$2" ;;
+        shorter) truncate -s -1 "$2" ;;
+        longer) printf 'torn' >> "$2" ;;
+        edited) printf '#' | dd of="$2" bs=1 seek=20 conv=notrunc status=none ;;
+        linked) ln -sf "$work/first" "$2" ;;
+    esac
+}
+
+# is_changed FILE: whether the file, or that there is none, is as another program left it
+is_changed() {
+    if [ -e left ]; then cmp left "$1"; else not test -e "$1"; fi
+}
+
+# has_stopped NAME: whether the run that has just ended has answered nothing any more, tells of
+# this file in one line, and has made no book
+has_stopped() {
+    cp told "$work/errors"
+    [ ! -s rest ] && [ "$(wc -l < told)" -eq 1 ] && tells_name "$1" && [ ! -e book.bin ]
+}
+
+# changed_journal HOW OPTION..: another program changes the journal in the midst of a run
+changed_journal() {
+    how=$1
+    shift
+    mkdir "$how$*"
+    cd "$how$*"
+    : > games.journal
+    begin "$PROGRAM" collect --journal games.journal "$@" "$table" book.bin
+    holds say 1 "ok $(id_of 1) 1"
+    change "$how" games.journal
+    [ ! -e games.journal ] || cp games.journal left
+    holds say 2 ''
+    holds end 3
+    holds has_stopped games.journal
+    case $how in
+        removed | renamed | replaced | linked) holds is_changed games.journal ;;
+    esac
+    cd ..
+}
+
+changed_journals() {
+    games_of 1 > "$work/first"
+    for how in removed renamed replaced linked emptied shorter longer; do
+        changed_journal "$how"
+        changed_journal "$how" --sync
+    done
+}
+
+# Replies that wait when the journal is changed don't go out. The run is held once it has added the
+# first of three games, and once it has put it on the disk.
+waiting_replies() {
+    for held_at in write write--sync fdatasync--sync; do
+        mkdir "$held_at"
+        cd "$held_at"
+        journal=$place/$held_at/games.journal
+        games_of 1,3 > games
+        : > games.journal
+        option=${held_at#"${held_at%--sync}"}
+        # shellcheck disable=SC2086 # no option is no word
+        holds begin_held "${held_at%--sync}" "-P $journal" \
+            "$PROGRAM" collect --journal "$journal" $option "$table" book.bin
+        rm games.journal
+        holds go_on 3
+        cp replies rest
+        holds has_stopped "$journal"
+        holds not test -e games.journal
+        cd ..
+    done
+}
+
+# With --sync a journal is opened once more, to be written over itself. It is held right before. A
+# file that has got its name by then isn't written over in its place, and the run ends.
+replaced_when_reopened() {
+    games_of 1 > games.journal
+    cp games.journal before
+    games_of 2 > games
+    set -- "$PROGRAM" collect --journal "$journal" --sync "$table" "$book"
+    holds ran 0 strace -o calls -P "$journal" -e trace=openat,statx "$@" < /dev/null
+    looks=$(awk '/^openat/ && opened++ { exit } /^statx/ { looks++ } END { print looks }' calls)
+    rm "$book"
+    holds begin_held "statx:$looks" "-P $journal" "$@"
+    mv games.journal kept
+    cp kept games.journal
+    holds go_on 3
+    cp replies rest
+    holds has_stopped "$journal"
+    holds cmp kept before
+    holds cmp games.journal before
+}
+
+# A run that has no more games to answer doesn't end as if its journal were there.
+journal_gone_at_end() {
+    : > games.journal
+    begin "$PROGRAM" collect --journal games.journal "$table" book.bin
+    holds say 1 "ok $(id_of 1) 1"
+    rm games.journal
+    holds end 3
+    holds has_stopped games.journal
+}
+
+# FILE isn't replaced where another program has changed it in the midst of a run.
+changed_ledger() {
+    games_of 9 > "$work/first"
+    for how in removed renamed replaced linked emptied shorter longer edited; do
+        mkdir "$how"
+        cd "$how"
+        games_of 1,2 > games.ledger
+        begin "$PROGRAM" collect --ledger games.ledger "$table" book.bin
+        holds say 3 "ok $(id_of 3) 3"
+        change "$how" games.ledger
+        [ ! -e games.ledger ] || cp games.ledger left
+        holds end 3
+        holds not grep -q '^ok' rest
+        : > rest
+        holds has_stopped games.ledger
+        holds is_changed games.ledger
+        holds test -z "$(find . -name '.*.pbook-*')"
+        cd ..
+    done
+    holds test "$(cat "$work/first")" = "$(games_of 9)"
+}
+
 if [ $# -eq 0 ]; then
     choose true '' held_journal held_ledger held_new_ledger left_draft table_like_draft \
         ledger_like_draft journal_like_draft table_like_ledger_draft input_like_draft \
-        output_like_draft table_of_another book_is_held kept_is_output closed_input closed_output closed_both
+        output_like_draft table_of_another book_is_held kept_is_output closed_input closed_output \
+        closed_both unread_input changed_journals journal_gone_at_end changed_ledger
     choose 'has flock' 'flock is wanted' held_draft
-    choose can_trace 'strace is wanted' new_ledger_under_way two_drafts
-    choose can_be_other 'setpriv is wanted' unwritable_ledger
+    choose can_trace 'strace is wanted' new_ledger_under_way two_drafts left_draft_replaced \
+        waiting_replies replaced_when_reopened
+    choose can_be_other 'setpriv is wanted' unwritable_ledger unwritable_book
     # shellcheck disable=SC2086 # each name is a word
     set -- $chosen
 fi

@@ -4,9 +4,9 @@
 # all calls from the n-th on refused. What may come of a run in which memory was refused, beside
 # what comes with ample memory, is
 # - status 3 and `fault memory` as the last line, after a front of the lines that are put else;
-#   BOOK is the old one, or none where there was none (through a link, where it is made in place,
-#   it may be empty or a front of the new one too); so is the FILE of `--ledger`, or it is the new
-#   one with the games that were answered `ok`, and the journal has each of them in any case;
+#   BOOK is the old one, or none where there was none (a file with a second name, which is made in
+#   place, may be empty or a front of the new one too); so is the FILE of `--ledger`, or it is the
+#   new one with the games that were answered `ok`, and the journal has each of them in any case;
 # - where submissions are taken: status 0, `refused <id> memory` in place of an `ok`, the other
 #   replies as they are due after that, and the files or the export of the games that were
 #   answered `ok` alone.
@@ -36,7 +36,7 @@ judge_errors() {
     if is_same_output && is_same_told; then return; fi
     if [ "$status" -eq 3 ]; then
         one_line_told 'pbook: out of memory'
-    elif [ "$status" -eq 0 ] && [ -s "$work/errors" ]; then
+    elif [ "$status" -eq 0 ] && ! is_same_told; then
         one_line_told 'pbook: no game was accepted(; book is an empty book)?'
         if grep -q '^ok ' "$work/put"; then fails 'a game was accepted, and none is told'; fi
     else
@@ -162,9 +162,8 @@ make_masked() {
     if grep -v '^ok ' "$work/made.put"; then fails 'a game that was answered ok is refused'; fi
 }
 
-# is_begun: whether BOOK is a link, so that it is made in place, and nothing but a front of the
-# new one is left
-is_begun() { [ -L "$work/run/book" ] && is_front "$work/run/book" "$work/made-$mask/book"; }
+# is_begun: whether BOOK is made in place, and nothing but a front of the new one is left
+is_begun() { [ "$in_place" = true ] && is_front "$work/run/book" "$work/made-$mask/book"; }
 
 # collected WORD..: what a command that takes submissions may put, and what it leaves
 collected() {

@@ -69,8 +69,9 @@ no_permission() {
         holds says_only 'fault open'
     done
     chmod 444 book.bin
-    holds tells_of 3 'book.bin: permission denied' \
+    holds tells_of 3 'book.bin: permission denied; the old book is unchanged' \
         "$PROGRAM" collect table.txt book.bin
+    holds says_only 'fault open'
 }
 
 one_file() {
@@ -88,6 +89,9 @@ one_file() {
         holds says_only 'fault open'
         holds tells_of 3 "the $option and BOOK are one file" \
             "$PROGRAM" collect "--$option" games table.txt games.link
+        holds says_only 'fault open'
+        holds tells_of 3 'TABLE and BOOK are one file' \
+            "$PROGRAM" collect "--$option" games table.txt table.link
         holds says_only 'fault open'
     done
     holds cmp table.txt "$work/table"
@@ -220,6 +224,23 @@ refused_ledger() {
     holds says_only 'refused ledger line 5'
 }
 
+# A saved ledger ends in LF, and an old list needn't.
+cut_ledger() {
+    prepare
+    : > whole
+    holds tells_of 0 '' "$PROGRAM" collect --ledger whole table.txt book.bin
+    head -c -1 whole > games.ledger
+    text="games.ledger: it was cut short: its last line has no end
+games.ledger: line $(wc -l < whole) isn't a game that can be taken"
+    for option in '' -q; do
+        # shellcheck disable=SC2086 # no option is no word
+        holds tells_of 1 "$text" "$PROGRAM" collect $option --ledger games.ledger table.txt book.bin
+        holds says_only "refused ledger line $(wc -l < whole)"
+    done
+    head -c -1 games > games.ledger
+    holds tells_of 0 '' "$PROGRAM" collect --ledger games.ledger table.txt book.bin
+}
+
 # What no file has refused isn't told: the output has it.
 refused_words() {
     prepare
@@ -278,9 +299,10 @@ no_game() {
     done
 }
 
+# What looks like no submissions isn't told to have no end too.
 other_input() {
     prepare
-    printf '[Event "one game"]\n[Result "1-0"]\n\n1. e4 e5 2. Nf3 1-0\n' > pgn
+    printf '[Event "one game"]\n[Result "1-0"]\n\n1. e4 e5 2. Nf3 1-0' > pgn
     gzip -c games > packed
     empty='no game was accepted; book.bin is an empty book'
     input=pgn
@@ -292,6 +314,38 @@ $empty" "$PROGRAM" collect table.txt book.bin
     for input in pgn packed; do
         holds tells_of 0 '' "$PROGRAM" collect -q table.txt book.bin
     done
+}
+
+# The last line of submissions is taken without an LF, and told of.
+cut_input() {
+    prepare
+    text='the last line of standard input has no end; it may be a cut game'
+    head -c -1 games > unended
+    for words in 'collect table.txt new.bin' 'collect --ledger kept table.txt new.bin' \
+        'collect --journal kept table.txt new.bin' 'export table.txt'; do
+        : > kept
+        input=games
+        # shellcheck disable=SC2086 # each word is one
+        holds tells_of 0 '' "$PROGRAM" $words
+        cp "$work/replies" due.put
+        : > kept
+        input=unended
+        # shellcheck disable=SC2086
+        holds tells_of 0 "$text" "$PROGRAM" $words
+        holds cmp "$work/replies" due.put
+        : > kept
+        # shellcheck disable=SC2086
+        holds tells_of 0 '' "$PROGRAM" $words -q
+        holds cmp "$work/replies" due.put
+    done
+    # The line is told of whatever it is, and none is where nothing is.
+    { cat games && printf ' '; } > unended
+    holds tells_of 0 "$text" "$PROGRAM" collect table.txt new.bin
+    input=/dev/null
+    holds tells_of 0 '' "$PROGRAM" export table.txt
+    echo "${start% 0 1} ce 1;" | head -c -1 > unended
+    input=unended
+    holds tells_of 0 '' "$PROGRAM" epd
 }
 
 # told_yet TEXT: whether this line is on standard error
@@ -313,6 +367,19 @@ told_at_once() {
     wait "$collector" || status=$?
     trap - EXIT
     holds test "$status" -eq 3
+}
+
+# What FILE can't be is told before a submission is read.
+no_file() {
+    prepare
+    holds tells_of 3 '/dev/null: a journal has to be an ordinary file' \
+        "$PROGRAM" collect --journal /dev/null table.txt book.bin
+    holds says_only 'fault open'
+    : > kept
+    ln kept second
+    holds tells_of 3 "kept can't be replaced by a new ledger: the file has a second name" \
+        "$PROGRAM" collect --ledger kept table.txt book.bin
+    holds says_only 'fault open'
 }
 
 no_place() {
@@ -359,6 +426,7 @@ kept: its last line has no end; it is left out" "$PROGRAM" games kept
 to_itself() (
     trap '' XFSZ
     ulimit -f 100
+    # shellcheck disable=SC2094 # that it is read and written is what is tried
     exec "$PROGRAM" games games >> games
 )
 
@@ -477,6 +545,31 @@ terminal_again() {
     done
 }
 
+# Of 320 lines with 300 games, those are new that FILE didn't hold. Its first line is none.
+terminal_some_new() {
+    prepare
+    head -n 200 "$work/games" > games
+    for option in ledger journal; do
+        : > "$option"
+        holds tells_of 0 '' "$PROGRAM" collect "--$option" "$option" table.txt book.bin
+        new=$((300 - $(grep '^ok' "$work/replies" | sort -u | wc -l)))
+        holds in_terminal \
+            "'$PROGRAM' collect --$option $option table.txt book.bin < '$work/games' > replies"
+        holds grep -qF "pbook: 322 lines: 320 ok ($new new, $((320 - new)) again), 2 refused" shown
+    done
+}
+
+# The seal of a torn line is no new game.
+terminal_torn() {
+    prepare
+    for option in '' --sync; do
+        { cat games && printf 'torn'; } > kept
+        holds in_terminal \
+            "'$PROGRAM' collect --journal kept $option table.txt book.bin < games > replies"
+        holds grep -qF 'pbook: 9 lines: 9 ok (0 new, 9 again), 0 refused' shown
+    done
+}
+
 progress='^pbook: [0-9,]+ lines?, [0-9,]+ games?, [0-9,]+ refused'
 terminal_progress() {
     prepare
@@ -509,13 +602,14 @@ terminal_use() {
 if [ $# -eq 0 ]; then
     choose true '' missing_files one_file failed_reads refused_tables refused_books \
         refused_ledger refused_words wrong_use asked_help no_game bad_journal_line no_place \
-        told_at_once left_out_lines games_to_themselves
+        told_at_once left_out_lines games_to_themselves cut_ledger cut_input no_file
     choose 'test -c /dev/full' '/dev/full is wanted' full_output full_book quiet_faults \
         without_errors
     choose 'has gzip' 'gzip is wanted' other_input
     choose can_be_other 'setpriv is wanted' no_permission
     choose can_mount 'nothing can be mounted' full_disk
-    choose 'has script' 'script is wanted' terminal terminal_again terminal_progress terminal_use
+    choose 'has script' 'script is wanted' terminal terminal_again terminal_some_new \
+        terminal_torn terminal_progress terminal_use
     # shellcheck disable=SC2086 # each name is a word
     set -- $chosen
 fi

@@ -1,8 +1,8 @@
 #!/bin/sh
 # Compares the order of the system's calls with the one that keeps what was answered: a journal's
-# line is written whole and synced before its reply, a draft is on the disk before it takes its
-# name, FILE is made anew before BOOK. strace tells the calls. The first check that doesn't hold
-# ends it.
+# line is written whole and synced before its reply, what an earlier run left is written and synced
+# again before it is read, a draft is on the disk before it takes its name, FILE is made anew before
+# BOOK. strace tells the calls. The first check that doesn't hold ends it.
 # Usage: PROGRAM=program tests/order.sh [CHECK..] (at the top of the repository; all checks where
 # none is given).
 set -eu
@@ -11,14 +11,29 @@ PROGRAM=${PROGRAM:-build/pbook}
 . tests/lib/places.sh
 . tests/lib/collector.sh
 
-# of_journal: the calls that keep what is answered: those of the journal, of its folder and of
-# standard output, up to the end of the submissions
+# of_journal [FILTER]: the calls that keep what is answered: those of the journal, of its folder and
+# of standard output, up to the end of the submissions
 of_journal() {
-    in_order calls '^(open|flock|read|write|fsync|fdatasync) (games\.journal|\.|replies)( |$)'
+    calls='open|flock|read|write|rewrite|fsync|fdatasync|ftruncate'
+    in_order calls "^($calls) (games\\.journal|\\.|replies)( |\$)" "$@"
+}
+
+# rewritten: the events of standard input. Before the first sync of the journal what is read of it
+# isn't told, nor that it is opened again, and what is written there counts as one call.
+rewritten() {
+    awk '
+        synced { print; next }
+        / games\.journal/ && (/^read/ || /^open/ && opened++) { next }
+        /^write games\.journal/ { bytes += $3; next }
+        /^fsync games\.journal/ { if (bytes) print "rewrite games.journal", bytes; synced = 1 }
+        { print }'
 }
 
 # reply_of TEXT: the number of bytes of a reply
 reply_of() { echo "$1" | wc -c | tr -d ' '; }
+
+# size_of FILE: how many bytes it has
+size_of() { stat -c %s "$1"; }
 
 # Each new game is written whole by one call, and is on the disk before its reply goes out; a game
 # that comes again is answered at once. BOOK stands in another folder, so that the syncs of this
@@ -32,7 +47,7 @@ synced_journal() {
     holds say 1 "ok $(id_of 1) 1"
     holds say 3 "ok $(id_of 3) 3"
     holds end 0
-    holds of_journal << END
+    holds of_journal rewritten << END
 open games.journal rw
 flock games.journal LOCK_EX
 fsync games.journal
@@ -61,7 +76,7 @@ synced_at_once() {
     games_of 1,3 > games
     holds ran 0 traced calls \
         "$PROGRAM" collect --journal games.journal --sync "$table" books/book.bin < games
-    holds of_journal << END
+    holds of_journal rewritten << END
 open games.journal rw
 flock games.journal LOCK_EX
 fsync games.journal
@@ -98,38 +113,79 @@ END
 }
 
 # A game that a run without --sync has left is on the disk before it is answered again, and so is
-# the journal's name.
+# the journal's name. It is written over itself before it is synced: where an earlier sync failed
+# the system takes it for written.
 repeat_of_unsynced() {
     : > games.journal
     mkdir books
     games_of 1,2 > games
     holds collects 0 "$place/books/book.bin" "$place/games" --journal games.journal
-    rm games
+    mv games whole
     begin traced calls "$PROGRAM" collect --journal games.journal --sync "$table" books/book.bin
     holds say 2 "ok $(id_of 2) 2"
     holds end 0
-    holds of_journal << END
+    holds of_journal rewritten << END
 open games.journal rw
 flock games.journal LOCK_EX
+rewrite games.journal $(size_of whole)
 fsync games.journal
 open . r
 fsync .
 read games.journal
 write replies $(reply_of "ok $(id_of 2) 2")
 END
+    holds cmp whole games.journal
+}
+
+# Without --sync nothing is.
+repeat_unsynced() {
+    mkdir books
+    games_of 1,2 > games.journal
+    cp games.journal whole
+    begin traced calls "$PROGRAM" collect --journal games.journal "$table" books/book.bin
+    holds say 2 "ok $(id_of 2) 2"
+    holds end 0
+    holds of_journal << END
+open games.journal rw
+flock games.journal LOCK_EX
+read games.journal
+write replies $(reply_of "ok $(id_of 2) 2")
+END
+    holds cmp whole games.journal
+}
+
+# A journal of many pieces is written over itself likewise.
+long_journal() {
+    mkdir books
+    for _ in 1 2 3; do cat "$work/games"; done > games.journal
+    cp games.journal whole
+    holds ran 0 traced calls \
+        "$PROGRAM" collect -q --journal games.journal --sync "$table" books/book.bin < /dev/null
+    holds of_journal rewritten << END
+open games.journal rw
+flock games.journal LOCK_EX
+rewrite games.journal $(size_of whole)
+fsync games.journal
+open . r
+fsync .
+read games.journal
+END
+    holds cmp whole games.journal
 }
 
 # A torn end is sealed, and the seal is on the disk before the first reply.
 torn_journal() {
     games_of 1 > games.journal
     games_of 2 | head -c 50 >> games.journal
+    cp games.journal whole
     mkdir books
     begin traced calls "$PROGRAM" collect --journal games.journal --sync "$table" books/book.bin
     holds say 1 "ok $(id_of 1) 1"
     holds end 0
-    holds of_journal << END
+    holds of_journal rewritten << END
 open games.journal rw
 flock games.journal LOCK_EX
+rewrite games.journal $(size_of whole)
 fsync games.journal
 open . r
 fsync .
@@ -138,6 +194,8 @@ write games.journal 5
 fdatasync games.journal
 write replies $(reply_of "ok $(id_of 1) 1")
 END
+    printf '\t\t\t\t\n' >> whole
+    holds cmp whole games.journal
 }
 
 # The journal's folder is synced where that is another one than the run's.
@@ -155,9 +213,6 @@ fdatasync far/games.journal
 write replies $(wc -c < "$work/replies" | tr -d ' ')
 END
 }
-
-# size_of FILE: how many bytes it has
-size_of() { stat -c %s "$1"; }
 
 # A book is on the disk before it takes its name, and then its name is, also where BOOK stands in
 # another folder than that of the run.
@@ -200,36 +255,60 @@ END
     holds has_mode 640 book.bin
 }
 
-# FILE is opened to be written, and held, before a submission is read. It is made anew before BOOK
-# is opened or made anew, and so that others can't read it where they can't read the old one.
+# Before a submission is read FILE is opened to be written, and a draft is made beside it and goes
+# again. FILE is made anew before BOOK is, and so that others can't read it where they can't read the
+# old one.
 saved_ledger() {
     with_old
     games_of 1,3 > games
     : > games.ledger
     holds collects 0 "$book" "$place/games" --ledger games.ledger
-    chmod 600 games.ledger
+    chmod 640 games.ledger
     games_of 4,9 > games
     holds ran 0 traced calls \
         "$PROGRAM" collect --ledger games.ledger "$table" book.bin < games
-    holds in_order calls '^(open|fchmod|fsync|rename) \S*(games\.ledger|book)|^fsync|^read games$' \
-        << END
+    kept='^(open|fchmod|fsync|rename|unlink) \S*(games\.ledger|book)\S*( (rw|new|to|0).*)?$|^fsync'
+    holds in_order calls "$kept|^read games$" << END
 open games.ledger rw
-read games
-read games
-open games.ledger w
 open .games.ledger.pbook-0 new 0600
-fchmod .games.ledger.pbook-0 0100600
+fchmod .games.ledger.pbook-0 0100640
+unlink .games.ledger.pbook-0
+read games
+read games
+open .games.ledger.pbook-0 new 0600
+fchmod .games.ledger.pbook-0 0100640
 fsync .games.ledger.pbook-0
 rename .games.ledger.pbook-0 to games.ledger
 fsync .
-open book.bin w
 open .book.bin.pbook-0 new 0600
 fchmod .book.bin.pbook-0 0100644
 fsync .book.bin.pbook-0
 rename .book.bin.pbook-0 to book.bin
 fsync .
 END
-    holds has_mode 600 games.ledger
+    holds has_mode 640 games.ledger
+}
+
+# What a link leads to is replaced beside that file, in whose folder the draft and its new name are
+# put on the disk.
+behind_links() {
+    mkdir far books
+    : > far/kept
+    cp "$work/old" far/real
+    ln -s far/kept link
+    ln -s ../far/real books/book.bin
+    games_of 1,3 > games
+    holds ran 0 traced calls "$PROGRAM" collect --ledger link "$table" books/book.bin < games
+    holds in_order calls '^(write|fsync|ftruncate|rename) \S*(far|book|link)|^fsync' << END
+write far/.kept.pbook-0 $(size_of far/kept)
+fsync far/.kept.pbook-0
+rename far/.kept.pbook-0 to far/kept
+fsync far
+write far/.real.pbook-0 $(size_of far/real)
+fsync far/.real.pbook-0
+rename far/.real.pbook-0 to far/real
+fsync far
+END
 }
 
 # What is written in place is emptied, written and then put on the disk.
@@ -237,8 +316,7 @@ in_place() {
     with_old
     ln book.bin other
     holds ran 0 traced calls "$PROGRAM" collect "$table" book.bin < "$work/games"
-    holds in_order calls '^(open|write|fsync|fdatasync|ftruncate|rename) \S*book|^fsync' << END
-open book.bin w
+    holds in_order calls '^(write|fsync|fdatasync|ftruncate|rename) \S*book|^fsync' << END
 ftruncate book.bin
 write book.bin $(size_of book.bin)
 fsync book.bin
@@ -248,7 +326,8 @@ END
 if can_trace; then
     if [ $# -eq 0 ]; then
         set -- synced_journal synced_at_once unsynced_journal repeat_of_unsynced torn_journal \
-            journal_elsewhere new_draft draft_elsewhere private_draft saved_ledger in_place
+            repeat_unsynced long_journal journal_elsewhere new_draft draft_elsewhere private_draft \
+            saved_ledger behind_links in_place
     fi
     for name; do check "$name" in_folder "$name"; done
     finish

@@ -8,8 +8,8 @@
 # changes, and pairs of lines `old: TEXT` and `new: TEXT` below it. Each old TEXT stands there
 # once. All mistakes of one PROGRAM are made at once.
 #
-# The programs are built from a copy of the tree without proof, a minute or two each. Shims aren't
-# loaded before them, so no other scripts are tried.
+# The programs are built from a copy of the tree without proof, a minute or two each. Of tests/io.sh,
+# which takes such a program some minutes, a mistake names a run.
 # Usage: tests/wrong_programs.sh [PROGRAM..] (at the top of the repository; all where none is given,
 # and the one without a mistake too; strace has to be there).
 set -eu
@@ -31,9 +31,21 @@ copy_tree() {
     [ ! -f HANDLES ] || cp HANDLES "$work/tree"
 }
 
+# has_seer FILE: whether the check, or the run of tests/io.sh, that is to see this mistake is there
+has_seer() {
+    seer=$(seen_by "$1")
+    case $seer in
+        'io.sh '*) grep -qF " '${seer#* }' " tests/io.sh tests/lib/small_runs.sh ;;
+        order.sh\ * | locks.sh\ * | messages.sh\ * | files.sh\ *)
+            grep -qx "${seer#* }() {" "tests/${seer%% *}"
+            ;;
+        *) return 1 ;;
+    esac
+}
+
 # make_mistake FILE: makes this mistake in the copy
 make_mistake() {
-    grep -Eq '^seen by: (order|locks)\.sh [a-z_]+$' "$1"
+    has_seer "$1" || return 1
     awk -v crates="$work/tree/crates/" '
         # The text with its only place of the old text changed.
         function changed(text, old, to,    at) {
@@ -76,13 +88,13 @@ build() {
 checked() {
     mkdir -p "$work/left"
     # ASan, which the program is built with, looks for leaks by a means that strace has taken.
-    PROGRAM=$work/$1 TMPDIR=$work/left ASAN_OPTIONS=detect_leaks=0 sh "tests/$2" ${3+"$3"} \
-        > "$work/verdict" 2>&1
+    PROGRAM=$work/$1 TMPDIR=$work/left ASAN_OPTIONS=detect_leaks=0 GAMES=40 KILLS=20 \
+        sh "tests/$2" ${3+"$3"} > "$work/verdict" 2>&1
 }
 
-# passes SCRIPT: the program without a mistake passes the script, and leaves out no check
+# passes SCRIPT [CHECK]: the program without a mistake passes the script, or a check of it
 passes() {
-    checked right "$1" || {
+    checked right "$@" || {
         cat "$work/verdict"
         exit 1
     }
@@ -95,11 +107,11 @@ is_seen() {
         cat "$work/verdict"
         exit 1
     fi
-    holds grep -q "^FAILED: $3 " "$work/verdict"
+    holds grep -qF "FAILED: $3 (" "$work/verdict"
 }
 
-# seen_by FILE: the script and the check that see this mistake
-seen_by() { sed -n 's/^seen by: //p' "$1"; }
+# seen_by FILE..: the script and the check that see each of these mistakes
+seen_by() { sed -n 's/^seen by: //p' "$@"; }
 
 [ $# -gt 0 ] || {
     # shellcheck disable=SC2046 # each name is a word
@@ -114,14 +126,19 @@ strace -o /dev/null true 2> /dev/null || {
 for program; do
     check "the program is built: $program" build "$program"
     if [ "$program" = right ]; then
-        check 'it passes order.sh' passes order.sh
-        check 'it passes locks.sh' passes locks.sh
+        for script in order locks messages files; do
+            check "it passes $script.sh" passes "$script.sh"
+        done
+        seen_by tests/wrong_programs/*.edit | sed -n 's/^io.sh //p' | sort -u > "$work/runs"
+        while read -r run; do
+            check "it passes io.sh: $run" passes io.sh "$run"
+        done < "$work/runs"
         continue
     fi
     for file in tests/wrong_programs/"$program"-*.edit; do
         mistake=$(basename "$file" .edit)
-        # shellcheck disable=SC2046 # the script and the check are words
-        check "a mistake is seen: $mistake" is_seen "$program" $(seen_by "$file")
+        seer=$(seen_by "$file")
+        check "a mistake is seen: $mistake" is_seen "$program" "${seer%% *}" "${seer#* }"
     done
 done
 finish

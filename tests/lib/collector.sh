@@ -91,11 +91,11 @@ joined() {
         END { tell() }' | sed 's/ $//'
 }
 
-# in_order FILE PATTERN: whether the events of the calls in the file that have this pattern are the
-# lines of standard input
+# in_order FILE PATTERN [FILTER]: whether the events of the calls in the file that have this
+# pattern, as the filter gives them, are the lines of standard input
 in_order() {
     cat > due
-    events "$1" | joined | grep -E "$2" > seen || true
+    events "$1" | joined | ${3:-cat} | grep -E "$2" > seen || true
     if cmp -s due seen; then return; fi
     echo '    what is due (<), and what was seen (>):'
     diff due seen | sed 's/^/    /'
@@ -114,17 +114,18 @@ begin() {
     exec 3> games 4< replies
 }
 
-# begin_held CALL FLAGS COMMAND..: starts a collector in the background, which reads `games`. It
-# stops right after its first call of this name, of those that these flags of strace let through,
-# until `go_on`. It has stopped when this ends.
+# begin_held CALL[:NUMBER] FLAGS COMMAND..: starts a collector in the background, which reads
+# `games`. It stops right after its first call of this name, or the one of this number, of those that
+# these flags of strace let through, until `go_on`. It has stopped when this ends.
 begin_held() {
-    call=$1 flags=$2
+    call=${1%:*} at=1 flags=$2
+    case $1 in *:*) at=${1#*:} ;; esac
     shift 2
     # shellcheck disable=SC2016 # the shell that is started knows its own number
     as_process='echo $$ > process; exec "$@"'
     : > held
     # shellcheck disable=SC2086 # each flag is a word
-    strace -o held $flags -e "trace=$call" -e "inject=$call:signal=SIGSTOP:when=1" \
+    strace -o held $flags -e "trace=$call" -e "inject=$call:signal=SIGSTOP:when=$at" \
         sh -c "$as_process" sh "$@" < games > replies 2> told &
     collector=$!
     trap 'kill -9 "$(cat process)" 2> /dev/null || true' EXIT

@@ -7,7 +7,8 @@
 # `stat -c`, `timeout`) and /proc/mounts. A check that needs more, such as flock, strace, setpriv
 # or a mount, is left out where that isn't to be had, and the script says so.
 umask 022
-work=$(mktemp -d)
+# Without links, as strace names folders.
+work=$(cd "$(mktemp -d)" && pwd -P)
 chmod 755 "$work"
 held=0
 untried=0

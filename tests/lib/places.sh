@@ -58,6 +58,24 @@ collects() {
     ran "$wanted" "$PROGRAM" collect "$@" "$table" "$to" < "$input"
 }
 
+# stops_unread NAME BOOK [OPTION..]: whether `collect` ends with `fault open` before it reads a
+# submission, and tells of the file of this name
+stops_unread() {
+    blamed=$1 to=$2
+    shift 2
+    {
+        ran 3 "$PROGRAM" collect "$@" "$table" "$to" || return 1
+        # What was read is gone from here.
+        cat > "$work/unread"
+    } < "$work/games"
+    if says_only 'fault open' && cmp -s "$work/unread" "$work/games" && tells_name "$blamed"; then
+        return
+    fi
+    echo "    this is put, and $(wc -c < "$work/unread") bytes of the submissions are left:"
+    head -n 3 "$work/replies" "$work/errors"
+    return 1
+}
+
 # with_old: BOOK is an old one before the run
 with_old() { cp "$work/old" "$book"; }
 
@@ -67,7 +85,9 @@ is_old() { cmp -s "$1" "$work/old"; }
 says() { [ "$(tail -n 1 "$work/replies")" = "$1" ]; }
 says_only() { [ "$(cat "$work/replies")" = "$1" ]; }
 tells() { [ "$(cat "$work/errors")" = "pbook: $1" ]; }
-node() { stat -c %i "$1"; }
+tells_name() { grep -q "^pbook: $1:\{0,1\} ." "$work/errors"; }
+# The number of a file itself, also of one that a link leads to.
+node() { stat -L -c %i "$1"; }
 has_node() { [ "$(node "$2")" = "$1" ]; }
 has_mode() { [ "$(stat -c %a "$2")" = "$1" ]; }
 no_draft() { [ -z "$(find "$place" -name '.*.pbook-*')" ]; }
@@ -75,7 +95,7 @@ no_draft() { [ -z "$(find "$place" -name '.*.pbook-*')" ]; }
 # can_mount: whether file systems can be mounted
 can_mount() {
     # Root of a container may not mount; that is told by the caller.
-    mkdir "$work/probe"
+    mkdir -p "$work/probe"
     mount -t tmpfs tmpfs "$work/probe" 2> /dev/null && umount "$work/probe"
 }
 can_be_other() { ! is_root || has setpriv; }

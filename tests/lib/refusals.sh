@@ -64,7 +64,7 @@ as_counted() {
     counted_input=$1
     shift
     rm -rf "$work/counted"
-    cp -RP "$work/old" "$work/counted"
+    cp -Rd "$work/old" "$work/counted"
     (
         cd "$work/counted"
         export LD_PRELOAD="$counter"

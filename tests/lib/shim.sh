@@ -39,7 +39,7 @@ logged() { count "$1" "$work/log"; }
 run_shimmed() {
     if [ "$untouched" = false ]; then
         rm -rf "$work/run"
-        cp -RP "$work/old" "$work/run"
+        cp -Rd "$work/old" "$work/run"
     fi
     untouched=false
     : > "$work/told"
