@@ -359,6 +359,7 @@ kept: its last line has no end; it is left out" "$PROGRAM" games kept
 to_itself() (
     trap '' XFSZ
     ulimit -f 100
+    # shellcheck disable=SC2094 # that is what is tried
     exec "$PROGRAM" games games >> games
 )
 
