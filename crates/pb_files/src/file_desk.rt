@@ -379,9 +379,16 @@ impl<'a> Desk for FileDesk<'a, '_> {
                     self.refused = true;
                 }
             }
-            Err(error) => {
+            Err(error) if error.kind() == ErrorKind::NotFound && self.is_free() => {
                 self.place = Place::of_name(self.path);
-                self.refused = error.kind() != ErrorKind::NotFound || !self.is_free();
+            }
+            Err(error) if self.is_ledger() => {
+                self.named(Left::Old(self.part)).fail(&error);
+                return Err(StoreError::Open);
+            }
+            Err(_) => {
+                self.place = Place::of_name(self.path);
+                self.refused = true;
             }
         }
         Ok(!self.refused)
