@@ -440,7 +440,7 @@ impl<'a> Desk for FileDesk<'a, '_> {
         let Some(name) = &self.draft else {
             return Err(NotNamed::Failed);
         };
-        if !self.read.is_none_or(|read| read.is_as_left()) {
+        if self.read.is_some_and(|read| !read.is_as_left()) {
             return Err(NotNamed::Failed);
         }
         match fs::rename(self.messages.rt(), name.as_path(), self.place.path()) {
