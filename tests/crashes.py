@@ -25,10 +25,12 @@ import collections
 import concurrent.futures
 import copy
 import dataclasses
+import multiprocessing
 import os
 import random
 import re
 import shutil
+import signal
 import sys
 import tempfile
 import time
@@ -62,16 +64,13 @@ class Crash:
     promise: Promise
     power: Promise
     world: World
-
-    @property
-    def strictness(self) -> tuple[int, int]:
-        return len(self.promise.games), -len(self.promise.books)
+    is_kill: bool = False
 
 
 def killed(where: str, world: World, progress: Progress) -> Crash:
     world = copy.deepcopy(world)
     world.opened = {}
-    return Crash(f"kill {where}", world.after_kill(), progress.kill, progress.power, world)
+    return Crash(f"kill {where}", world.after_kill(), progress.kill, progress.power, world, True)
 
 
 def crashes_at(where: str, world: World, progress: Progress,
@@ -103,19 +102,13 @@ def crashes_in(run: Run, calls: Sequence[Call], world: World, progress: Progress
 
 
 def unlike(crashes: Iterator[Crash]) -> list[Crash]:
-    """The crashes that left different files, each at the moment when it might take least."""
-    found: dict[State, Crash] = {}
-    for crash in crashes:
-        if crash.state not in found or crash.strictness >= found[crash.state].strictness:
-            found[crash.state] = crash
-    return list(found.values())
+    """The crashes that left different files, each at the last moment, when it might take least."""
+    return list({(crash.state, crash.is_kill): crash for crash in crashes}.values())
 
 
 def some_of(crashes: list[Crash], chance: random.Random, most: int) -> list[Crash]:
-    """So many of these crashes, first some of those that might take least."""
-    strictest = max((crash.strictness for crash in crashes), default=None)
-    last = [crash for crash in crashes if crash.strictness == strictest][:most // 4]
-    others = [crash for crash in crashes if crash not in last]
+    """So many of these crashes, some of them the last ones."""
+    others, last = crashes[:-most // 8], crashes[-most // 8:]
     return last + chance.sample(others, min(most - len(last), len(others)))
 
 
@@ -214,10 +207,10 @@ def begun(pool: concurrent.futures.Executor, given: argparse.Namespace,
         if plan.exception():
             yield name, [plan]
             continue
-        parts = [plan.result()[n::8] for n in range(8)]
-        yield name, [*(pool.submit(judged, chosen[name], part) for part in parts), *(
-            pool.submit(judged_again, chosen[name], crash, given)
-            for crash in plan.result()[:given.again])]
+        crashes = plan.result()
+        again = crashes[::len(crashes) // given.again + 1] if given.again else []
+        yield name, [*(pool.submit(judged, chosen[name], crashes[n::8]) for n in range(8)),
+                     *(pool.submit(judged_again, chosen[name], crash, given) for crash in again)]
     for name, without, due in DUE:
         if name in chosen and not given.without:
             yield f"seen to fail: {name}, without the syncs of {without}", [
@@ -227,10 +220,8 @@ def begun(pool: concurrent.futures.Executor, given: argparse.Namespace,
 
 def main() -> None:
     words = argparse.ArgumentParser()
-    words.add_argument("--seed", type=int, default=1)
-    words.add_argument("--states", type=int, default=120)
-    words.add_argument("--again", type=int, default=4)
-    words.add_argument("--jobs", type=int, default=os.cpu_count())
+    for name, number in ("seed", 1), ("states", 120), ("again", 4), ("jobs", os.cpu_count()):
+        words.add_argument("--" + name, type=int, default=number)
     words.add_argument("--only", default="")
     words.add_argument("--without", choices=("files", "folders"), default="")
     words.add_argument("--whole-renames", action="store_true")
@@ -241,12 +232,19 @@ def main() -> None:
     os.environ.setdefault("ASAN_OPTIONS", "detect_leaks=0")
     begin = time.monotonic()
     with (tempfile.TemporaryDirectory() as room,
-          concurrent.futures.ProcessPoolExecutor(given.jobs) as pool):
-        verdicts = [tell(name, futures) for name, futures in [*begun(pool, given, room)]]
+          concurrent.futures.ProcessPoolExecutor(given.jobs, multiprocessing.get_context("fork"))
+          as pool):
+        # What has begun undoes its mounts.
+        signal.signal(signal.SIGTERM, signal.default_int_handler)
+        try:
+            verdicts = [tell(name, futures) for name, futures in [*begun(pool, given, room)]]
+        except BaseException:
+            pool.shutdown(cancel_futures=True)
+            raise
     count, failed = sum(v[0] for v in verdicts), sum(len(v[1]) for v in verdicts)
     print(f"{time.monotonic() - begin:.0f} s")
     print(f"{count - failed:,} passed, {failed:,} failed")
-    sys.exit(failed > 0)
+    sys.exit(failed > 0 or count == 0)
 
 
 if __name__ == "__main__":
