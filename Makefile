@@ -89,7 +89,7 @@ test-messages: build
 	@sh tests/messages.sh
 
 # Builds programs with the mistakes of tests/wrong_programs/, which proofs let pass, and tries that
-# test-order or test-locks sees each. A program takes a minute or two.
+# the check which each mistake names sees it. A program takes a minute or two.
 test-wrong-programs:
 	@sh tests/wrong_programs.sh
 
