@@ -219,7 +219,8 @@ def begun(pool: concurrent.futures.Executor, given: argparse.Namespace,
 
 
 def main() -> None:
-    words = argparse.ArgumentParser()
+    words = argparse.ArgumentParser(
+        description=__doc__, formatter_class=argparse.RawDescriptionHelpFormatter)
     for name, number in ("seed", 1), ("states", 120), ("again", 4), ("jobs", os.cpu_count()):
         words.add_argument("--" + name, type=int, default=number)
     words.add_argument("--only", default="")
