@@ -129,9 +129,11 @@ test-journal: build
 
 # Tries what kills and power cuts may leave of the files of `collect`, by a model of a file system
 # over the calls that strace tells, and goes on over each state. As root it takes ext4 and XFS on a
-# disk that loses what wasn't flushed too. SEED=number draws other states.
+# disk that loses what wasn't flushed too. SEED=number draws other states. A rename is taken to be
+# whole, as on file systems with a journal.
 test-crashes: $(PROGRAM)
-	@PROGRAM='$(PROGRAM)' python3 -B tests/crashes.py $(if $(SEED),--seed $(SEED))
+	@PROGRAM='$(PROGRAM)' python3 -B tests/crashes.py --whole-renames \
+	    $(if $(SEED),--seed $(SEED))
 
 # Compares counts of sequences of moves with published ones, and legal moves, FENs and keys with
 # those of other programs; times playing moves and the commands, and compares a book with PolyGlot's
