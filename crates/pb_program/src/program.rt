@@ -49,7 +49,7 @@ fn show_usage(rt: &HostRuntime, text: &str) {
 }
 
 /// Runs the command over standard output and answers the exit status.
-fn perform(rt: &HostRuntime, order: &Order<'_>) -> u8
+fn perform<'a>(rt: &'a HostRuntime, order: &Order<'a>) -> u8
     ensures { result ≤ 3 }
 {
     let messages = Messages::new(rt, is_quiet(order));
