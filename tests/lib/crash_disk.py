@@ -139,6 +139,8 @@ def put_down(disk: pathlib.Path, writes: Sequence[Write]) -> None:
 
 def found_with(disk: Disk, writes: Sequence[Write]) -> State:
     """The files after a power cut that took all that isn't flushed but these writes."""
+    # A loop device of the last one may be there for a moment, and hold what was in that file.
+    (disk.room / "cut").unlink(missing_ok=True)
     run("cp", "--sparse=always", disk.room / "kept", disk.room / "cut")
     put_down(disk.room / "cut", writes)
     options = "loop,nouuid" if disk.kind == "xfs" else "loop"
