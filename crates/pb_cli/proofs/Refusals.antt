@@ -17,6 +17,8 @@ module _ (rows : List Row) (fault : ParseFault) (none : (rules : CountingRules) 
   refuses_collect order.Epd named has = absurd (cc named)
   refuses_collect (order.Show book) named has = absurd (cc named)
   refuses_collect (order.Probe table book fen) named has = absurd (cc named)
+  refuses_collect (order.Lookup table book) named has = absurd (cc named)
+  refuses_collect order.Check named has = absurd (cc named)
   refuses_collect (order.Collect given) named has = none given.rules has.0
   refuses_collect (order.Export given) named has = absurd (cc named)
   refuses_collect (order.Games files) named has = absurd (cc named)
@@ -26,6 +28,8 @@ module _ (rows : List Row) (fault : ParseFault) (none : (rules : CountingRules) 
   refuses_export order.Epd named has = absurd (cc named)
   refuses_export (order.Show book) named has = absurd (cc named)
   refuses_export (order.Probe table book fen) named has = absurd (cc named)
+  refuses_export (order.Lookup table book) named has = absurd (false≢true (ap (λ (name : Text). slice_index_or name 0 0 == 101) named))
+  refuses_export order.Check named has = absurd (cc named)
   refuses_export (order.Collect given) named has = absurd (cc named)
   refuses_export (order.Export given) named has = none given.rules has.0
   refuses_export (order.Games files) named has = absurd (cc named)
@@ -37,6 +41,8 @@ module _ (rows : List Row) (fault : ParseFault) (none : (kept : Keeping) → Has
   refuses_kept order.Epd named has = absurd (cc named)
   refuses_kept (order.Show book) named has = absurd (cc named)
   refuses_kept (order.Probe table book fen) named has = absurd (cc named)
+  refuses_kept (order.Lookup table book) named has = absurd (cc named)
+  refuses_kept order.Check named has = absurd (cc named)
   refuses_kept (order.Collect given) named has = none given.kept has.1
   refuses_kept (order.Export given) named has = absurd (cc named)
   refuses_kept (order.Games files) named has = absurd (cc named)
@@ -47,8 +53,10 @@ module _ (rows : List Row) (fault : ParseFault) (none : (files : List Text) → 
   refuses_games (order.Fen fen moves) named has = absurd (cc named)
   refuses_games order.Epd named has = absurd (cc named)
   refuses_games (order.Show book) named has = absurd (cc named)
-  -- the first letters differ, which is quicker to see than that all five do
+  -- the first letters differ, which is quicker to see than that all do
   refuses_games (order.Probe table book fen) named _ = absurd (false≢true (ap (λ (name : Text). slice_index_or name 0 0 == 103) named))
+  refuses_games (order.Lookup table book) named has = absurd (cc named)
+  refuses_games order.Check named has = absurd (false≢true (ap (λ (name : Text). slice_index_or name 0 0 == 103) named))
   refuses_games (order.Collect given) named has = absurd (cc named)
   refuses_games (order.Export given) named has = absurd (cc named)
   refuses_games (order.Games files) named has = none (texts files.items) has

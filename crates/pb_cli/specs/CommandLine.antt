@@ -49,12 +49,12 @@ abbrev pub with_keeping : App → App
 with_keeping app = with_rule (with_rule (with_rule app (option_if_given (codes "ledger")))
     (option_if_given (codes "journal"))) (flag (codes "sync"))
 
--- a command that takes games: with the two options that say what of them counts, the flag for
--- errors alone, and the table
+-- a command that takes games: with the two options that say what of them counts, the flags that ask
+-- for the summary and for errors alone, and the table
 abbrev pub with_games : App → App
-with_games app = with_rule (with_rule
+with_games app = with_rule (with_rule (with_rule
     (with_rule (with_rule app (option_with (codes "plies") (codes "1024")))
-    (option_with (codes "least") (codes "1"))) quiet_flag)
+    (option_with (codes "least") (codes "1"))) (flag (codes "summary"))) quiet_flag)
     (required_word (codes "TABLE"))
 
 abbrev pub fen_command : App
@@ -71,6 +71,13 @@ abbrev pub probe_command : App
 probe_command = with_rule (with_rule (with_rule (new_app (codes "probe"))
     (required_word (codes "TABLE"))) (required_word (codes "BOOK")))
     (required_word (codes "FEN"))
+
+abbrev pub lookup_command : App
+lookup_command = with_rule (with_rule (new_app (codes "lookup")) (required_word (codes "TABLE")))
+    (required_word (codes "BOOK"))
+
+abbrev pub check_command : App
+check_command = new_app (codes "check")
 
 abbrev pub collect_command : App
 collect_command =
@@ -93,5 +100,6 @@ program_alone = on_top (λ s. record s {
 -- the whole command line
 abbrev pub pbook : App
 pbook = with_subcommand (with_subcommand (with_subcommand (with_subcommand (with_subcommand
-    (with_subcommand (with_subcommand program_alone collect_command.top) export_command.top)
-    games_command.top) fen_command.top) epd_command.top) show_command.top) probe_command.top
+    (with_subcommand (with_subcommand (with_subcommand (with_subcommand program_alone
+    collect_command.top) export_command.top) check_command.top) games_command.top) fen_command.top)
+    epd_command.top) show_command.top) probe_command.top) lookup_command.top

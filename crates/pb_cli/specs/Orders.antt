@@ -19,6 +19,8 @@ name_of (order.Fen _ _) = codes "fen"
 name_of order.Epd = codes "epd"
 name_of (order.Show _) = codes "show"
 name_of (order.Probe _ _ _) = codes "probe"
+name_of (order.Lookup _ _) = codes "lookup"
+name_of order.Check = codes "check"
 name_of (order.Collect _) = codes "collect"
 name_of (order.Export _) = codes "export"
 name_of (order.Games _) = codes "games"
@@ -72,11 +74,15 @@ HasWords order.Epd rows = Unit {0}
 HasWords (order.Show book) rows = HasWord (codes "BOOK") book rows
 HasWords (order.Probe table book fen) rows = HasWord (codes "TABLE") table rows
     × HasWord (codes "BOOK") book rows × HasWord (codes "FEN") fen rows
+HasWords (order.Lookup table book) rows =
+    HasWord (codes "TABLE") table rows × HasWord (codes "BOOK") book rows
+HasWords order.Check rows = Unit {0}
 HasWords (order.Collect given) rows = HasRules given.rules rows × HasKeeping given.kept rows
     × HasWord (codes "TABLE") given.table rows × HasWord (codes "BOOK") given.book rows
-    × HasFlag (codes "quiet") given.quiet rows
+    × HasFlag (codes "summary") given.summary rows × HasFlag (codes "quiet") given.quiet rows
 HasWords (order.Export given) rows = HasRules given.rules rows
-    × HasWord (codes "TABLE") given.table rows × HasFlag (codes "quiet") given.quiet rows
+    × HasWord (codes "TABLE") given.table rows
+    × HasFlag (codes "summary") given.summary rows × HasFlag (codes "quiet") given.quiet rows
 HasWords (order.Games files) rows = all_of (codes "FILE") rows ≡ Some (texts files.items)
 
 -- the order is that of the command that was found, with its words as the matches give them

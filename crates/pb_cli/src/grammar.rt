@@ -2,9 +2,10 @@
 ghost use Rattle.std.specs.Prelude.{◌≡◌, IfOk, codes, false};
 ghost use Rattle.clap.specs.Words.{App, new_app, rule_of};
 ghost use Rattle.pb_cli.specs.Built.{IsCommand};
-ghost use Rattle.pb_cli.specs.CommandLine.{collect_command, epd_command, export_command};
-ghost use Rattle.pb_cli.specs.CommandLine.{fen_command, flag, flag_with_short, further_words};
-ghost use Rattle.pb_cli.specs.CommandLine.{games_command, option_if_given, option_with, pbook};
+ghost use Rattle.pb_cli.specs.CommandLine.{check_command, collect_command, epd_command};
+ghost use Rattle.pb_cli.specs.CommandLine.{export_command, fen_command, flag, flag_with_short};
+ghost use Rattle.pb_cli.specs.CommandLine.{further_words, games_command, lookup_command};
+ghost use Rattle.pb_cli.specs.CommandLine.{option_if_given, option_with, pbook};
 ghost use Rattle.pb_cli.specs.CommandLine.{probe_command, program_alone, quiet_flag};
 ghost use Rattle.pb_cli.specs.CommandLine.{required_word, required_words, show_command};
 ghost use Rattle.pb_cli.specs.CommandLine.{with_games, with_keeping};
@@ -13,96 +14,162 @@ use clap::{Arg, ArgAction, Command};
 use std::alloc::{AllocError, Global};
 
 /// What a FEN record is, for the help of each command that takes one.
-const RECORD_HELP: &str = "\
-A FEN record, its six fields as one quoted word, like \
-'rnbqkbnr/pppppppp/8/8/8/8/PPPPPPPP/RNBQKBNR w KQkq - 0 1'";
+const RECORD_HELP: &str = "A FEN record: its six fields as one quoted word";
 
 /// How moves are spelt, for the help of the command that plays them.
-const MOVES_HELP: &str = "\
-Moves in turn, each as the square it leaves, the square it reaches and the letter of a promotion, \
-like e2e4, e1g1 or e7e8q";
+const MOVES_HELP: &str = "Moves in turn, like e2e4, e1g1 for castling, or e7e8q";
 
 /// What a book file is, for the help of each command that reads one.
-const BOOK_HELP: &str = "A PolyGlot book file";
+const BOOK_HELP: &str = "A PolyGlot book";
 
 /// What a table file is, for the help of each command that reads one.
-const TABLE_HELP: &str =
-    "A file of the 781 numbers that keys are made of, each a line of 16 hexadecimal digits";
+const TABLE_HELP: &str = "The 781 numbers of position keys, one a line (16 hex digits)";
 
 /// What a file of a book that is made is.
-const MADE_HELP: &str = "The file that the book is written to, in place of what it held";
+const MADE_HELP: &str = "The book to write, in place of the old one";
 
 /// What a saved ledger is.
-const LEDGER_HELP: &str =
-    "A saved ledger: its games are held from the start, and it is replaced by all games at the end";
+const LEDGER_HELP: &str = "Go on from the games of FILE, and save all games there";
 
 /// What a journal is.
-const JOURNAL_HELP: &str =
-    "A journal: its games are held from the start, and each new game is added before its reply";
+const JOURNAL_HELP: &str = "Go on from the games of FILE; add each new one at once";
 
 /// What syncing a journal is.
-const SYNC_HELP: &str = "Have each game of the journal reach the disk before its reply is printed";
+const SYNC_HELP: &str = "With --journal: get each game on disk before its reply";
 
 /// What the number of plies is.
-const PLIES_HELP: &str = "How many first plies of each game count, 1 to 1024";
+const PLIES_HELP: &str = "Count the first N plies of each game";
 
 /// What the number of occurrences is.
-const LEAST_HELP: &str =
-    "How often a move must occur in the plies that count to be in the book, 1 to 1000000";
+const LEAST_HELP: &str = "Leave out moves played fewer than G times";
+
+/// What asking for the summary does.
+const SUMMARY_HELP: &str = "Print the summary also where no terminal shows it";
 
 /// What the program says without being asked.
-const QUIET_HELP: &str =
-    "Print only errors on standard error: no warnings, no progress and no summary";
-
-/// What a line of the input is, for the help of each command that takes games.
-const GAMES_HELP: &str = "\
-Each line of standard input is a game: its id, its result, the FEN record that it starts from and
-its moves, with a TAB between each two. For example, where <TAB> is one TAB:
-  w1-1<TAB>1-0<TAB>rnbqkbnr/pppppppp/8/8/8/8/PPPPPPPP/RNBQKBNR w KQkq - 0 1<TAB>e2e4 e7e5
-
-Examples:
-  pbook collect --plies 24 --least 3 table.txt book.bin < games.txt > replies
-  pbook collect --journal games.journal table.txt book.bin < games.txt > replies
-  pbook export table.txt < games.txt > book.epd";
+const QUIET_HELP: &str = "Print errors only: no warnings, progress or summary";
 
 /// What a file of submission lines is, for the help of the command that prints them.
 const FILE_HELP: &str = "A journal, a saved ledger or a list of submission lines";
 
-/// What the command that prints submission lines leaves out, and a call of it.
-const FILES_EXAMPLE: &str = "\
+/// What the command that makes a book says of itself.
+const COLLECT_TEXTS: Texts<'static> = Texts {
+    about: "Takes games, answers each, and makes their PolyGlot book",
+    usage: "pbook collect [OPTIONS] <TABLE> <BOOK> < LINES > REPLIES",
+    after: "\
+Each line of standard input is a game: four fields, with a TAB between each two.
+They are its id, its result, the FEN record that it starts from, and its moves.
+For example, where <FEN> is a record of six fields:
+  w1-1<TAB>1-0<TAB><FEN><TAB>e2e4 e7e5
+
+Examples:
+  pbook collect --plies 24 --least 3 table.txt book.bin < games.txt > replies
+  pbook collect --ledger games.ledger table.txt book.bin < tonight.txt > replies
+  pbook collect --journal games.journal table.txt book.bin < games.txt > replies",
+};
+
+/// What the command that prints a book as EPD lines says of itself.
+const EXPORT_TEXTS: Texts<'static> = Texts {
+    about: "Takes games, and prints their book as EPD lines",
+    usage: "pbook export [OPTIONS] <TABLE> < LINES > EPD",
+    after: "\
+Each line of standard input is a game, as for 'pbook collect'.
+
+Examples:
+  pbook export table.txt < games.txt > book.epd
+  pbook export --plies 8 --least 10 table.txt < games.txt > openings.epd",
+};
+
+/// What the command that judges submission lines says of itself.
+const CHECK_TEXTS: Texts<'static> = Texts {
+    about: "Judges games one by one, and makes nothing of them",
+    usage: "pbook check < LINES > ANSWERS",
+    after: "\
+Each line of standard input is a game, as for 'pbook collect'. Its answer is
+'ok ID', or 'refused ID REASON'. The status is 1 if any was refused.
+
+For example, what is wrong with a worker's games:
+  pbook check < games.txt | grep '^refused'",
+};
+
+/// What the command that prints submission lines says of itself.
+const GAMES_TEXTS: Texts<'static> = Texts {
+    about: "Prints the submission lines of journals, saved ledgers and lists",
+    usage: "pbook games <FILE>... > LINES",
+    after: "\
 Left out are the first line of a saved ledger, sealed lines of a journal, other
 lines that no submission has the shape of, and a last line without its end. The
 files stay as they are, and a journal may be in use.
 
 For example, a book of the games of two collectors:
-  pbook games a.journal b.journal | pbook collect table.txt book.bin > replies";
+  pbook games a.journal b.journal | pbook collect table.txt book.bin > replies",
+};
 
-/// A call of the command that plays moves, and what it prints.
-const FEN_EXAMPLE: &str = "\
+/// What the command that plays moves says of itself, with a call and what it prints.
+const FEN_TEXTS: Texts<'static> = Texts {
+    about: "Plays moves, and prints the FEN record after them",
+    usage: "pbook fen <FEN> [MOVES]...",
+    after: "\
 For example
   pbook fen 'rnbqkbnr/pppppppp/8/8/8/8/PPPPPPPP/RNBQKBNR w KQkq - 0 1' e2e4
 prints
-  rnbqkbnr/pppppppp/8/8/4P3/8/PPPP1PPP/RNBQKBNR b KQkq e3 0 1";
+  rnbqkbnr/pppppppp/8/8/4P3/8/PPPP1PPP/RNBQKBNR b KQkq e3 0 1",
+};
 
-/// A call of the command that rewrites EPD lines, and what it makes of one.
-const EPD_EXAMPLE: &str = "\
+/// What the command that rewrites EPD lines says of itself, and what it makes of one.
+const EPD_TEXTS: Texts<'static> = Texts {
+    about: "Rewrites EPD lines, each in its one ordered form",
+    usage: "pbook epd < LINES > RECORDS",
+    after: "\
 For example
   pbook epd < positions.epd > ordered.epd
 makes of a line
   4k3/8/8/8/8/8/4P3/4K3 w - - id \"pawn\";  ce 100;
 the line
-  4k3/8/8/8/8/8/4P3/4K3 w - - ce 100; id \"pawn\";";
+  4k3/8/8/8/8/8/4P3/4K3 w - - ce 100; id \"pawn\";",
+};
 
-/// A call of the command that shows a book.
-const SHOW_EXAMPLE: &str = "\
+/// What the command that shows a book says of itself.
+const SHOW_TEXTS: Texts<'static> = Texts {
+    about: "Prints the entries of a book in hexadecimal digits",
+    usage: "pbook show <BOOK>",
+    after: "\
 For example, the first five entries:
-  pbook show book.bin | head -n 5";
+  pbook show book.bin | head -n 5",
+};
 
-/// A call of the command that looks a position up.
-const PROBE_EXAMPLE: &str = "\
+/// What the command that looks one position up says of itself.
+const PROBE_TEXTS: Texts<'static> = Texts {
+    about: "Prints the moves that a book has for a FEN record",
+    usage: "pbook probe <TABLE> <BOOK> <FEN>",
+    after: "\
 For example, the moves at the start of a game, the greatest weight first:
   pbook probe table.txt book.bin \\
-    'rnbqkbnr/pppppppp/8/8/8/8/PPPPPPPP/RNBQKBNR w KQkq - 0 1'";
+    'rnbqkbnr/pppppppp/8/8/8/8/PPPPPPPP/RNBQKBNR w KQkq - 0 1'",
+};
+
+/// What the command that looks positions up says of itself.
+const LOOKUP_TEXTS: Texts<'static> = Texts {
+    about: "Prints the moves that a book has for many positions",
+    usage: "pbook lookup <TABLE> <BOOK> < POSITIONS > MOVES",
+    after: "\
+Each line of standard input is a FEN record or an EPD line. Its answer is a line
+too, like 'e2e4 287 d2d4 43', or '-' where the book has nothing.
+
+For example
+  pbook lookup table.txt book.bin < positions.epd > moves",
+};
+
+/// What the help of a command says beside its words.
+#[derive(Clone, Copy)]
+struct Texts<'a> {
+    /// What it does, for the list of commands too.
+    about: &'a str,
+    /// How it is called, with the standard streams that it reads and writes lines on.
+    usage: &'a str,
+    /// What stands at the end of its help.
+    after: &'a str,
+}
 
 /// The whole command line. Help lists the commands in this order.
 pub(crate) fn command_line<'a>(alloc: Global) -> Result<Command<'a>, AllocError>
@@ -111,12 +178,14 @@ pub(crate) fn command_line<'a>(alloc: Global) -> Result<Command<'a>, AllocError>
     let alone = program(alloc)?;
     let with_collect = alone.subcommand(collect(alloc)?)?;
     let with_export = with_collect.subcommand(export(alloc)?)?;
-    let with_games = with_export.subcommand(games(alloc)?)?;
+    let with_check = with_export.subcommand(check(alloc))?;
+    let with_games = with_check.subcommand(games(alloc)?)?;
     let with_fen = with_games.subcommand(fen(alloc)?)?;
     let with_epd = with_fen.subcommand(epd(alloc))?;
     let with_show = with_epd.subcommand(show(alloc)?)?;
     let with_probe = with_show.subcommand(probe(alloc)?)?;
-    Ok(with_probe)
+    let with_lookup = with_probe.subcommand(lookup(alloc)?)?;
+    Ok(with_lookup)
 }
 
 /// The program without its commands. Its name in usage lines is `pbook`, however it was called.
@@ -136,12 +205,7 @@ fn program<'a>(alloc: Global) -> Result<Command<'a>, AllocError>
 fn fen<'a>(alloc: Global) -> Result<Command<'a>, AllocError>
     ensures { IfOk result (IsCommand fen_command) }
 {
-    let bare = bare_command(
-        alloc,
-        "fen",
-        "Plays moves, and prints the FEN record after them",
-        FEN_EXAMPLE,
-    );
+    let bare = bare_command(alloc, "fen", FEN_TEXTS);
     let with_record = bare.arg(required(alloc, "FEN", RECORD_HELP))?;
     let whole = with_record.arg(moves(alloc))?;
     Ok(whole)
@@ -151,24 +215,14 @@ fn fen<'a>(alloc: Global) -> Result<Command<'a>, AllocError>
 fn epd<'a>(alloc: Global) -> Command<'a>
     ensures { IsCommand epd_command result }
 {
-    bare_command(
-        alloc,
-        "epd",
-        "Rewrites EPD lines, each in its one ordered form",
-        EPD_EXAMPLE,
-    )
+    bare_command(alloc, "epd", EPD_TEXTS)
 }
 
 /// `show BOOK`
 fn show<'a>(alloc: Global) -> Result<Command<'a>, AllocError>
     ensures { IfOk result (IsCommand show_command) }
 {
-    let bare = bare_command(
-        alloc,
-        "show",
-        "Prints the entries of a book in hexadecimal digits",
-        SHOW_EXAMPLE,
-    );
+    let bare = bare_command(alloc, "show", SHOW_TEXTS);
     let whole = bare.arg(required(alloc, "BOOK", BOOK_HELP))?;
     Ok(whole)
 }
@@ -177,68 +231,67 @@ fn show<'a>(alloc: Global) -> Result<Command<'a>, AllocError>
 fn probe<'a>(alloc: Global) -> Result<Command<'a>, AllocError>
     ensures { IfOk result (IsCommand probe_command) }
 {
-    let bare = bare_command(
-        alloc,
-        "probe",
-        "Prints the moves that a book has for a FEN record",
-        PROBE_EXAMPLE,
-    );
+    let bare = bare_command(alloc, "probe", PROBE_TEXTS);
     let with_table = bare.arg(required(alloc, "TABLE", TABLE_HELP))?;
     let with_book = with_table.arg(required(alloc, "BOOK", BOOK_HELP))?;
     let whole = with_book.arg(required(alloc, "FEN", RECORD_HELP))?;
     Ok(whole)
 }
 
+/// `lookup TABLE BOOK`
+fn lookup<'a>(alloc: Global) -> Result<Command<'a>, AllocError>
+    ensures { IfOk result (IsCommand lookup_command) }
+{
+    let bare = bare_command(alloc, "lookup", LOOKUP_TEXTS);
+    let with_table = bare.arg(required(alloc, "TABLE", TABLE_HELP))?;
+    let whole = with_table.arg(required(alloc, "BOOK", BOOK_HELP))?;
+    Ok(whole)
+}
+
 /// `collect TABLE BOOK`, with the options `--ledger FILE`, `--journal FILE`, `--sync`, `--plies N`,
-/// `--least G` and `--quiet`
+/// `--least G`, `--summary` and `--quiet`
 fn collect<'a>(alloc: Global) -> Result<Command<'a>, AllocError>
     ensures { IfOk result (IsCommand collect_command) }
 {
-    let bare = bare_command(
-        alloc,
-        "collect",
-        "Takes games, answers each, and makes their PolyGlot book",
-        GAMES_HELP,
-    );
+    let bare = bare_command(alloc, "collect", COLLECT_TEXTS);
     let keeping = with_keeping(alloc, bare)?;
     let taking = with_games(alloc, keeping)?;
     let whole = taking.arg(required(alloc, "BOOK", MADE_HELP))?;
     Ok(whole)
 }
 
-/// `export TABLE`, with the options `--plies N`, `--least G` and `--quiet`
+/// `export TABLE`, with the options `--plies N`, `--least G`, `--summary` and `--quiet`
 fn export<'a>(alloc: Global) -> Result<Command<'a>, AllocError>
     ensures { IfOk result (IsCommand export_command) }
 {
-    let bare = bare_command(
-        alloc,
-        "export",
-        "Takes games, and prints their book as EPD lines",
-        GAMES_HELP,
-    );
+    let bare = bare_command(alloc, "export", EXPORT_TEXTS);
     with_games(alloc, bare)
+}
+
+/// `check`
+fn check<'a>(alloc: Global) -> Command<'a>
+    ensures { IsCommand check_command result }
+{
+    bare_command(alloc, "check", CHECK_TEXTS)
 }
 
 /// `games FILE..`
 fn games<'a>(alloc: Global) -> Result<Command<'a>, AllocError>
     ensures { IfOk result (IsCommand games_command) }
 {
-    let bare = bare_command(
-        alloc,
-        "games",
-        "Prints the submission lines of journals, saved ledgers and lists",
-        FILES_EXAMPLE,
-    );
+    let bare = bare_command(alloc, "games", GAMES_TEXTS);
     let whole = bare.arg(some_files(alloc))?;
     Ok(whole)
 }
 
-/// A command without words so far. The last text stands at the end of its help, and not in the list
-/// of commands.
-fn bare_command<'a>(alloc: Global, name: &'a str, about: &'a str, after: &'a str) -> Command<'a>
+/// A command without words so far.
+fn bare_command<'a>(alloc: Global, name: &'a str, texts: Texts<'a>) -> Command<'a>
     ensures { IsCommand (new_app name.now) result }
 {
-    Command::new(alloc, name).about(about).after_help(after)
+    Command::new(alloc, name)
+        .about(texts.about)
+        .override_usage(texts.usage)
+        .after_help(texts.after)
 }
 
 /// The command with the options that say what is kept beside the book.
@@ -252,15 +305,16 @@ fn with_keeping<'a>(alloc: Global, command: Command<'a>) -> Result<Command<'a>, 
     Ok(keeping)
 }
 
-/// The command that takes games: with the options that say what of them counts, `--quiet`, and the
-/// table.
+/// The command that takes games: with the options that say what of them counts, `--summary`,
+/// `--quiet`, and the table.
 fn with_games<'a>(alloc: Global, command: Command<'a>) -> Result<Command<'a>, AllocError>
     ensures { IfOk result (λ taking. (app : App) → IsCommand app command.entry
         → IsCommand (with_games app) taking) }
 {
     let some_plies = command.arg(option(alloc, "plies", "N", "1024", PLIES_HELP))?;
     let counting = some_plies.arg(option(alloc, "least", "G", "1", LEAST_HELP))?;
-    let quieted = counting.arg(quiet(alloc))?;
+    let summed = counting.arg(flag(alloc, "summary", SUMMARY_HELP))?;
+    let quieted = summed.arg(quiet(alloc))?;
     let taking = quieted.arg(required(alloc, "TABLE", TABLE_HELP))?;
     Ok(taking)
 }

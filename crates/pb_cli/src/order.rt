@@ -63,6 +63,15 @@ pub enum Order<'a> {
         /// The record, its six fields as one word.
         record: &'a str,
     },
+    /// Shows the moves that a book has for the positions on standard input.
+    Lookup {
+        /// The path of the table.
+        table: &'a str,
+        /// The path of the book.
+        book: &'a str,
+    },
+    /// Judges the submissions on standard input.
+    Check,
     /// Makes a book of the submissions on standard input.
     Collect(CollectOrder<'a>),
     /// Writes the book of the submissions on standard input as EPD lines.
@@ -85,7 +94,9 @@ pub struct CollectOrder<'a> {
     pub table: &'a str,
     /// The path of the book that is made.
     pub book: &'a str,
-    /// Whether standard error gets nothing but errors.
+    /// Whether the summary is asked for.
+    pub summary: bool,
+    /// Whether standard error gets nothing else but errors.
     pub quiet: bool,
 }
 
@@ -96,7 +107,9 @@ pub struct ExportOrder<'a> {
     pub rules: Rules,
     /// The path of the table.
     pub table: &'a str,
-    /// Whether standard error gets nothing but errors.
+    /// Whether the summary is asked for.
+    pub summary: bool,
+    /// Whether standard error gets nothing else but errors.
     pub quiet: bool,
 }
 
@@ -156,6 +169,8 @@ fn order_of<'a>(alloc: Global, matches: &ArgMatches<'a>) -> Result<Order<'a>, Pa
         Some(("epd", _)) => Ok(Order::Epd),
         Some(("show", given)) => show(alloc, given),
         Some(("probe", given)) => probe(alloc, given),
+        Some(("lookup", given)) => lookup(alloc, given),
+        Some(("check", _)) => Ok(Order::Check),
         Some(("collect", given)) => collect(alloc, given),
         Some(("export", given)) => export(alloc, given),
         Some(("games", given)) => games(alloc, given),
@@ -198,6 +213,18 @@ fn probe<'a>(alloc: Global, given: &ArgMatches<'a>) -> Result<Order<'a>, ParseFa
     })
 }
 
+/// The order of `lookup`.
+fn lookup<'a>(alloc: Global, given: &ArgMatches<'a>) -> Result<Order<'a>, ParseFault>
+    ensures words { IfOk result (λ order. (name_of order ≡ codes "lookup")
+        × HasWords order (rows_of (found_of given.now))) }
+    ensures refused { IfErr result (RefusesFor (codes "lookup") (rows_of (found_of given.now))) }
+{
+    Ok(Order::Lookup {
+        table: word(alloc, given, "TABLE")?,
+        book: word(alloc, given, "BOOK")?,
+    })
+}
+
 /// The order of `collect`.
 fn collect<'a>(alloc: Global, given: &ArgMatches<'a>) -> Result<Order<'a>, ParseFault>
     ensures words { IfOk result (λ order. (name_of order ≡ codes "collect")
@@ -208,12 +235,14 @@ fn collect<'a>(alloc: Global, given: &ArgMatches<'a>) -> Result<Order<'a>, Parse
     let kept = kept_beside(alloc, given)?;
     let table = word(alloc, given, "TABLE")?;
     let book = word(alloc, given, "BOOK")?;
+    let summary = flag(given, "summary");
     let quiet = flag(given, "quiet");
     Ok(Order::Collect(CollectOrder {
         rules,
         kept,
         table,
         book,
+        summary,
         quiet,
     }))
 }
@@ -227,6 +256,7 @@ fn export<'a>(alloc: Global, given: &ArgMatches<'a>) -> Result<Order<'a>, ParseF
     Ok(Order::Export(ExportOrder {
         rules: rules(alloc, given)?,
         table: word(alloc, given, "TABLE")?,
+        summary: flag(given, "summary"),
         quiet: flag(given, "quiet"),
     }))
 }

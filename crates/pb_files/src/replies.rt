@@ -18,7 +18,6 @@ pub struct Submissions<'o, 'k, 'p, 'a, R, K> {
     progress: &'p Progress<'a>,
     fills: u64,
     empty_fills: u64,
-    has_begun: bool,
     failed: bool,
 }
 
@@ -45,22 +44,7 @@ impl<'o, 'k, 'p, 'a, R: Read, K: Sink> Submissions<'o, 'k, 'p, 'a, R, K> {
             progress,
             fills: 0,
             empty_fills: 0,
-            has_begun: false,
             failed: false,
-        }
-    }
-
-    /// Tells what has come, which is empty at the end.
-    fn tell(&mut self, piece: &[u8])
-        ensures { self.exit.now ≡ record self.entry.now { has_begun = self.exit.now.has_begun } }
-    {
-        if !self.has_begun {
-            self.has_begun = true;
-            self.progress.begin(piece);
-        }
-        self.progress.read(piece);
-        if piece.is_empty() {
-            self.progress.show_step(", making the book");
         }
     }
 }
@@ -89,7 +73,7 @@ impl<R: Read, K: Sink> Source for Submissions<'_, '_, '_, '_, R, K> {
         self.progress.show();
         let filled = self.input.fill(into);
         match filled {
-            Ok(count) => self.tell(&into[..count]),
+            Ok(count) => self.progress.read(&into[..count]),
             Err(_) => self.failed = true,
         }
         filled

@@ -69,12 +69,6 @@ impl Counts {
         self.games > 0 || self.refusals() > 0
     }
 
-    /// Counts lines that nothing answers.
-    pub(crate) fn add_lines(&mut self, bytes: &[u8]) {
-        let ends = bytes.iter().filter(|byte| **byte == b'\n').count();
-        self.lines = self.lines.saturating_add(ends as u64);
-    }
-
     /// Counts the submission that has this reply.
     pub(crate) fn add_reply(&mut self, reply: &[u8]) {
         self.lines = self.lines.saturating_add(1);

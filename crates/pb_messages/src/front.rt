@@ -1,6 +1,6 @@
 //! What standard output begins with: the line that refuses a file comes before anything else.
 
-use crate::message::Wrong;
+use crate::message::{Unplayable, Wrong};
 use crate::part::Part;
 use arrayvec::ArrayVec;
 use std::cell::RefCell;
@@ -33,11 +33,25 @@ impl Front {
         }
     }
 
+    /// What the first line says is refused, if it says so.
+    fn refusal(&self) -> Option<&str> {
+        let text = str::from_utf8(self.bytes.as_slice()).ok()?;
+        text.lines().next()?.strip_prefix("refused ")
+    }
+
+    /// Why the first line refuses a FEN record or a move.
+    pub fn unplayable(&self) -> Option<Unplayable<'_>> {
+        match self.refusal()?.split_once(' ')? {
+            ("fen", word) => Some(Unplayable::Record(word)),
+            ("spelling", number) => Some(Unplayable::Spelling(number)),
+            ("illegal", number) => Some(Unplayable::Illegal(number)),
+            _ => None,
+        }
+    }
+
     /// The file that the first line refuses, and why.
     pub fn refused(&self) -> Option<(Part, Wrong<'_>)> {
-        let text = str::from_utf8(self.bytes.as_slice()).ok()?;
-        let refusal = text.lines().next()?.strip_prefix("refused ")?;
-        let mut words = refusal.split(' ');
+        let mut words = self.refusal()?.split(' ');
         let (file, reason) = (words.next()?, words.next()?);
         let number = words.next().unwrap_or("");
         match (file, reason) {

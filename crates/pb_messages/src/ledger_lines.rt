@@ -45,7 +45,7 @@ impl<'p, 'a, R: Read> LedgerLines<'p, 'a, R> {
         if self.is_saved.is_none() {
             self.is_saved = Some(piece.starts_with(HEADER));
         }
-        if self.progress.is_watched() {
+        if self.progress.is_counted() {
             let ends = piece.iter().filter(|byte| **byte == b'\n').count();
             let ends = u32::try_from(ends).unwrap_or(u32::MAX);
             self.ends = self.ends.saturating_add(ends);

@@ -16,9 +16,12 @@ mod told;
 pub use counts::News;
 pub use front::{Front, Fronted};
 pub use ledger_lines::LedgerLines;
-pub use message::{Cause, Change, Left, Looks, Message, RefusedFile, Unreplaceable, Wrong};
+pub use looks::looks_of;
+pub use message::{
+    Cause, Change, Left, Looks, Message, RefusedFile, Unplayable, Unreplaceable, Wrong,
+};
 pub use messages::{Messages, Named};
 pub use open::is_open;
 pub use part::Part;
-pub use progress::{Progress, Watched};
+pub use progress::{Counted, Progress, Watched};
 pub use told::Told;

@@ -1,23 +1,41 @@
-//! What an input looks like that has no submissions.
+//! What a file or an input looks like that isn't what it has to be.
 
 use crate::message::Looks;
 
 /// What a file that gzip has packed begins with.
 const GZIP: &[u8] = &[0x1f, 0x8b];
 
-/// What the first bytes of an input look like, where that is no submission: a submission has three
-/// TABs, and begins with neither a tag of PGN nor the mark of a packed file.
-pub(crate) fn looks_of(bytes: &[u8]) -> Option<Looks> {
+/// What some programs begin a text in UTF-8 with.
+const MARK: &[u8] = &[0xef, 0xbb, 0xbf];
+
+/// What the first bytes of a file or an input look like. A submission looks like text.
+pub fn looks_of(bytes: &[u8]) -> Looks {
     if bytes.starts_with(GZIP) {
-        return Some(Looks::Gzip);
+        return Looks::Gzip;
     }
-    let text = bytes.trim_ascii_start();
-    let line = match text.iter().position(|byte| *byte == b'\n') {
-        Some(end) => &text[..end],
-        None => text,
-    };
-    if line.starts_with(b"[") && line.trim_ascii_end().ends_with(b"\"]") {
-        return Some(Looks::Pgn);
+    if !bytes.iter().all(|byte| is_of_text(*byte)) {
+        return Looks::Book;
     }
-    None
+    let line = first_line(bytes);
+    if line.starts_with(b"[") && line.ends_with(b"\"]") {
+        Looks::Pgn
+    } else if line.len() == 16 && line.iter().all(u8::is_ascii_hexdigit) {
+        Looks::Table
+    } else {
+        Looks::Text
+    }
+}
+
+/// The first line that isn't blank, without the spaces around it.
+fn first_line(bytes: &[u8]) -> &[u8] {
+    let text = bytes.strip_prefix(MARK).unwrap_or(bytes).trim_ascii_start();
+    match text.iter().position(|byte| *byte == b'\n') {
+        Some(end) => text[..end].trim_ascii_end(),
+        None => text.trim_ascii_end(),
+    }
+}
+
+/// Whether texts have such a byte: one above 31, or of white space.
+fn is_of_text(byte: u8) -> bool {
+    byte > 31 || byte.is_ascii_whitespace()
 }

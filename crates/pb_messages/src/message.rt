@@ -96,19 +96,13 @@ pub enum Wrong<'w> {
 impl Display for Wrong<'_> {
     fn fmt<W: fmt::Write>(&self, f: &mut fmt::Formatter<W>) -> fmt::Result {
         match *self {
-            Wrong::LongTable => write!(f, "it is longer than a table; is it a book?"),
-            Wrong::TableLine("1") => {
-                write!(f, "line 1 isn't 16 hexadecimal digits; is it a book?")
-            }
+            Wrong::LongTable => write!(f, "it is longer than a table"),
             Wrong::TableLine(number) => write!(f, "line {number} isn't 16 hexadecimal digits"),
             Wrong::TableCount(count) => write!(f, "a table has 781 lines, and this one {count}"),
-            Wrong::Unsorted(number) => write!(
-                f,
-                "entry {number} has a lower key than the one before it; is it a book?"
-            ),
-            Wrong::Cut(count) => {
-                write!(f, "its last entry has {count} of 16 bytes; is it a book?")
+            Wrong::Unsorted(number) => {
+                write!(f, "entry {number} has a lower key than the one before it")
             }
+            Wrong::Cut(count) => write!(f, "its last entry has {count} of 16 bytes"),
             Wrong::LedgerLine(number) => {
                 write!(f, "line {number} isn't a game that can be taken")
             }
@@ -167,13 +161,74 @@ impl Display for Unreplaceable {
     }
 }
 
-/// What submissions look like that are none.
-#[derive(Clone, Copy)]
+/// What a file or an input looks like.
+#[derive(Clone, Copy, PartialEq, Eq)]
 pub enum Looks {
     /// Like games in PGN.
     Pgn,
     /// Like a file that gzip has packed.
     Gzip,
+    /// Like a table.
+    Table,
+    /// Like a book, which isn't text.
+    Book,
+    /// Like another text.
+    Text,
+}
+
+impl Display for Looks {
+    fn fmt<W: fmt::Write>(&self, f: &mut fmt::Formatter<W>) -> fmt::Result {
+        match self {
+            Looks::Pgn => write!(f, "looks like PGN"),
+            Looks::Gzip => write!(f, "is packed by gzip; zcat unpacks it"),
+            Looks::Table => write!(f, "looks like a table"),
+            Looks::Book => write!(f, "looks like a book"),
+            Looks::Text => write!(f, "is text"),
+        }
+    }
+}
+
+/// Why a FEN record or a move is refused, by the words of the line `refused ..` that told it.
+#[derive(Clone, Copy)]
+pub enum Unplayable<'w> {
+    /// The word for what is wrong with the record.
+    Record(&'w str),
+    /// The number of a word that spells no move.
+    Spelling(&'w str),
+    /// The number of a move that isn't legal where it is played.
+    Illegal(&'w str),
+}
+
+impl Display for Unplayable<'_> {
+    fn fmt<W: fmt::Write>(&self, f: &mut fmt::Formatter<W>) -> fmt::Result {
+        match *self {
+            Unplayable::Record(word) => {
+                let expected = expected_of(word);
+                write!(f, "FEN: {expected}")
+            }
+            Unplayable::Spelling(number) => {
+                write!(f, "move {number}: it isn't spelt like e2e4 or e7e8q")
+            }
+            Unplayable::Illegal(number) => write!(f, "move {number}: it isn't legal there"),
+        }
+    }
+}
+
+/// What a FEN record lacks that is refused by this word.
+fn expected_of(word: &str) -> &'static str {
+    match word {
+        "fields" => "it doesn't have six fields, one space between each two",
+        "placement" => "its first field isn't eight ranks of pieces and empty squares",
+        "turn" => "its second field isn't w or b",
+        "castling" => "its third field isn't - or letters of KQkq in this order",
+        "ep-text" => "its fourth field isn't - or a square that a pawn can have passed over",
+        "half" => "its fifth field isn't a number from 0 to 65535",
+        "full" => "its sixth field isn't a number from 1 to 65535",
+        "kings" => "it doesn't have one king of each colour",
+        "pawns" => "it has a pawn on rank 1 or 8",
+        "ep-pawn" => "no pawn has just passed over its en passant square",
+        _ => "it is no record",
+    }
 }
 
 /// What is told.
@@ -245,8 +300,13 @@ pub enum Message<'m> {
     PassedOverMore {
         name: &'m str,
     },
-    /// The submissions don't look like any.
+    /// The submissions look like something else.
     LooksLike(Looks),
+    /// A file was named where games or positions come on standard input.
+    OnInput {
+        noun: &'static str,
+        file: &'m str,
+    },
     /// No line was a game.
     NoGame,
     /// No line was a game, and the book of this name has no entries.
@@ -293,12 +353,16 @@ impl Display for Message<'_> {
                 write!(f, "{name}: line {number} can't be taken; it is skipped")
             }
             Message::PassedOverMore { name } => write!(f, "{name}: more lines can't be taken"),
-            Message::LooksLike(Looks::Pgn) => {
-                write!(f, "standard input looks like PGN, not like submissions")
-            }
             Message::LooksLike(Looks::Gzip) => {
-                write!(f, "standard input is packed by gzip; zcat unpacks it")
-            },
+                let looks = Looks::Gzip;
+                write!(f, "standard input {looks}")
+            }
+            Message::LooksLike(looks) => {
+                write!(f, "standard input {looks}, not like submissions")
+            }
+            Message::OnInput { noun, file } => {
+                write!(f, "{noun} come on standard input: < {file}")
+            }
             Message::NoGame => write!(f, "no game was accepted"),
             Message::EmptyBook { name } => {
                 write!(f, "no game was accepted; {name} is an empty book")
@@ -307,36 +371,39 @@ impl Display for Message<'_> {
     }
 }
 
-/// A file isn't what it has to be.
+/// A file isn't what it has to be, and may look like something else.
 #[derive(Clone, Copy)]
 pub struct RefusedFile<'n, 'w> {
     pub name: &'n str,
     pub wrong: Wrong<'w>,
+    pub looks: Option<Looks>,
 }
 
 impl Display for RefusedFile<'_, '_> {
     fn fmt<W: fmt::Write>(&self, f: &mut fmt::Formatter<W>) -> fmt::Result {
         let name = self.name;
         let wrong = self.wrong;
-        write!(f, "{name}: {wrong}")
+        write!(f, "{name}: {wrong}")?;
+        match self.looks {
+            Some(looks) => write!(f, "; it {looks}"),
+            None => Ok(()),
+        }
     }
 }
 
-/// What a run has taken and made. A book that isn't a file has no number of entries.
+/// What a run has taken, and how many entries the book of this name has, if it made a file of one.
 #[derive(Clone, Copy)]
 pub(crate) struct Summary<'c, 'b> {
     pub counts: &'c Counts,
-    pub book: &'b str,
-    pub entries: Option<u64>,
+    pub book: Option<(&'b str, u64)>,
 }
 
 impl Display for Summary<'_, '_> {
     fn fmt<W: fmt::Write>(&self, f: &mut fmt::Formatter<W>) -> fmt::Result {
         let counts = self.counts;
         write!(f, "{counts}")?;
-        match self.entries {
-            Some(entries) => {
-                let book = self.book;
+        match self.book {
+            Some((book, entries)) => {
                 let noun = if entries == 1 { "entry" } else { "entries" };
                 let entries = Grouped(entries);
                 write!(f, "; {book}: {entries} {noun}")

@@ -15,21 +15,33 @@ pub struct Messages<'a> {
     is_open: bool,
     is_terminal: bool,
     is_quiet: bool,
+    is_summed: bool,
     // Whether standard output is a terminal too, most likely the same.
     is_shared: bool,
 }
 
 impl<'a> Messages<'a> {
-    /// The messages of a run; one that is quiet tells faults and refused files alone.
-    pub fn new(rt: &'a HostRuntime, is_quiet: bool) -> Messages<'a> {
+    /// The messages of a run that tells all.
+    pub fn new(rt: &'a HostRuntime) -> Messages<'a> {
         // Where it isn't open, a file that the run opens may get its number.
         let is_open = is_open(&rt.stderr());
         Messages {
             rt,
             is_open,
             is_terminal: is_open && rt.stderr().is_terminal(),
-            is_quiet,
+            is_quiet: false,
+            is_summed: false,
             is_shared: rt.stdout().is_terminal(),
+        }
+    }
+
+    /// The same of a run that may be quiet, and then tells only faults, refused files and what it
+    /// was asked for, which may be its summary.
+    pub fn telling(self, is_quiet: bool, is_summed: bool) -> Messages<'a> {
+        Messages {
+            is_quiet,
+            is_summed,
+            ..self
         }
     }
 
@@ -41,6 +53,11 @@ impl<'a> Messages<'a> {
     /// Whether somebody watches, who wants to know how a run goes.
     pub fn are_watched(&self) -> bool {
         self.is_terminal && !self.is_quiet
+    }
+
+    /// Whether the summary is wanted.
+    pub fn want_summary(&self) -> bool {
+        self.is_summed || self.are_watched()
     }
 
     /// Whether the replies go to a terminal as well.

@@ -2,11 +2,11 @@
 
 use crate::counts::{Counts, Grouped, News, plural};
 use crate::looks::looks_of;
-use crate::message::{Message, Summary};
+use crate::message::{Looks, Message, Summary};
 use crate::messages::{CLEAR, Messages};
 use std::cell::{Cell, RefCell};
 use std::fs;
-use std::io::{self, IsTerminal, Read};
+use std::io::{self, IsTerminal, Read, Write};
 use std::time::Instant;
 
 /// For how many seconds a shown line stays.
@@ -22,13 +22,17 @@ pub struct Progress<'a> {
     is_shown: bool,
     counts: RefCell<Counts>,
     shown: RefCell<Option<Instant>>,
-    // The last byte of the submissions so far, unless they don't look like any.
-    last: Cell<Option<u8>>,
+    // What comes after the submissions, for whoever waits.
+    next: &'static str,
+    // Whether submissions have come, and whether they don't look like any.
+    has_begun: Cell<bool>,
     is_odd: Cell<bool>,
+    // Their last byte so far.
+    last: Cell<Option<u8>>,
 }
 
 impl<'a> Progress<'a> {
-    /// A run that has read nothing yet.
+    /// A run that has read nothing yet, and makes a book when all is read.
     pub fn new(messages: Messages<'a>, news: News) -> Progress<'a> {
         Progress {
             messages,
@@ -36,17 +40,25 @@ impl<'a> Progress<'a> {
             is_shown: messages.are_watched() && !messages.rt().stdin().is_terminal(),
             counts: RefCell::new(Counts::new(news)),
             shown: RefCell::new(None),
-            last: Cell::new(None),
+            next: ", making the book",
+            has_begun: Cell::new(false),
             is_odd: Cell::new(false),
+            last: Cell::new(None),
         }
     }
 
+    /// The same of a run that makes nothing.
+    pub fn making_nothing(self) -> Progress<'a> {
+        Progress { next: "", ..self }
+    }
+
     /// Takes the first bytes of the submissions.
-    pub fn begin(&self, bytes: &[u8]) {
+    fn begin(&self, bytes: &[u8]) {
         if let Ok(mut counts) = self.counts.try_borrow_mut() {
             counts.begin();
         }
-        if let Some(looks) = looks_of(bytes) {
+        let looks = looks_of(bytes);
+        if looks != Looks::Text {
             self.is_odd.set(true);
             self.messages.warn(&Message::LooksLike(looks));
         }
@@ -55,13 +67,19 @@ impl<'a> Progress<'a> {
     /// Takes a piece of the submissions, which is empty at their end. A last line that has no end
     /// may be a game that was cut, which is told.
     pub fn read(&self, bytes: &[u8]) {
+        if !self.has_begun.replace(true) {
+            self.begin(bytes);
+        }
         match (bytes.last(), self.last.get()) {
-            (Some(last), _) if !self.is_odd.get() => self.last.set(Some(*last)),
-            (None, Some(last)) if last != b'\n' => {
+            (Some(last), _) => self.last.set(Some(*last)),
+            (None, Some(last)) if last != b'\n' && !self.is_odd.get() => {
                 self.last.set(None);
                 self.messages.warn(&Message::Unended);
             }
             _ => {}
+        }
+        if bytes.is_empty() && self.is_shown {
+            self.draw(self.next);
         }
     }
 
@@ -72,27 +90,18 @@ impl<'a> Progress<'a> {
         }
     }
 
-    /// Whether somebody watches, for whom more is counted.
-    pub fn is_watched(&self) -> bool {
-        self.messages.are_watched()
+    /// Whether all that the summary has is counted.
+    pub fn is_counted(&self) -> bool {
+        self.messages.want_summary()
     }
 
     /// Takes the reply to a submission.
     pub fn reply(&self, reply: &[u8]) {
         if let Ok(mut counts) = self.counts.try_borrow_mut() {
             counts.add_reply(reply);
-            if self.is_watched() {
+            if self.is_counted() {
                 counts.tell_apart(reply);
             }
-        }
-    }
-
-    /// Takes bytes of submissions that aren't answered. Where nobody watches they aren't counted.
-    fn take(&self, bytes: &[u8]) {
-        if self.is_shown
-            && let Ok(mut counts) = self.counts.try_borrow_mut()
-        {
-            counts.add_lines(bytes);
         }
     }
 
@@ -108,13 +117,6 @@ impl<'a> Progress<'a> {
     pub fn show(&self) {
         if self.is_shown && (self.messages.share_terminal() || self.take_turn()) {
             self.draw("");
-        }
-    }
-
-    /// Shows that all submissions are taken, and what comes now.
-    pub fn show_step(&self, step: &str) {
-        if self.is_shown {
-            self.draw(step);
         }
     }
 
@@ -161,31 +163,37 @@ impl<'a> Progress<'a> {
         }
     }
 
-    /// Tells what the run has made, or that nothing was taken.
-    pub fn end(&self, book: &str) {
-        let size = match fs::metadata(self.messages.rt(), book) {
-            Ok(told) if told.is_file() => Some(told.len()),
-            _ => None,
-        };
+    /// Tells what the run has taken, and made if it made a book's file, or that nothing was taken.
+    pub fn end(&self, book: Option<&str>) {
+        let made = book.and_then(|name| self.entries_of(name));
         let Ok(counts) = self.counts.try_borrow() else {
             return;
         };
-        if counts.games() == 0 && size == Some(0) {
-            self.messages.warn(&Message::EmptyBook { name: book });
-        } else if counts.games() == 0 && counts.lines() > 0 {
-            self.messages.warn(&Message::NoGame);
+        match made {
+            Some((name, 0)) if counts.games() == 0 => {
+                self.messages.warn(&Message::EmptyBook { name });
+            }
+            _ if counts.games() == 0 && counts.lines() > 0 => self.messages.warn(&Message::NoGame),
+            _ => {}
         }
-        if self.is_watched() {
+        if self.is_counted() {
             self.messages.tell(&Summary {
                 counts: &counts,
-                book,
-                entries: size.map(|size| size / ENTRY),
+                book: made,
             });
+        }
+    }
+
+    /// How many entries the book of this name has, beside its name. None where it isn't a file.
+    fn entries_of<'n>(&self, book: &'n str) -> Option<(&'n str, u64)> {
+        match fs::metadata(self.messages.rt(), book) {
+            Ok(told) if told.is_file() => Some((book, told.len() / ENTRY)),
+            _ => None,
         }
     }
 }
 
-/// The submissions of a command that answers none.
+/// The submissions of a command that prints no answers.
 #[derive(Drop)]
 pub struct Watched<'p, 'a, R> {
     reader: R,
@@ -204,7 +212,31 @@ impl<R: Read> Read for Watched<'_, '_, R> {
         self.progress.show();
         let count = self.reader.read(into)?;
         self.progress.read(&into[..count]);
-        self.progress.take(&into[..count]);
         Ok(count)
+    }
+}
+
+/// The replies of such a command, which are counted and dropped.
+#[derive(Drop)]
+pub struct Counted<'p, 'a> {
+    progress: &'p Progress<'a>,
+}
+
+impl<'p, 'a> Counted<'p, 'a> {
+    /// No reply yet.
+    pub fn new(progress: &'p Progress<'a>) -> Counted<'p, 'a> {
+        Counted { progress }
+    }
+}
+
+impl Write for Counted<'_, '_> {
+    // A reply is put at once and whole.
+    fn write(&mut self, bytes: &[u8]) -> io::Result<usize> {
+        self.progress.reply(bytes);
+        Ok(bytes.len())
+    }
+
+    fn flush(&mut self) -> io::Result<()> {
+        Ok(())
     }
 }

@@ -9,6 +9,7 @@ use std::io::{self, ErrorKind, Read, Write};
 pub struct Told<'a, T> {
     inner: T,
     named: Named<'a>,
+    may_be_closed: bool,
     failed: bool,
 }
 
@@ -18,7 +19,16 @@ impl<'a, T> Told<'a, T> {
         Told {
             inner,
             named,
+            may_be_closed: false,
             failed: false,
+        }
+    }
+
+    /// The same, where a pipe that its reader has closed isn't told: it has what it wanted.
+    pub fn that_may_be_closed(self) -> Told<'a, T> {
+        Told {
+            may_be_closed: true,
+            ..self
         }
     }
 
@@ -30,7 +40,9 @@ impl<'a, T> Told<'a, T> {
     /// Tells the failure.
     fn fail(&mut self, error: &io::Error) {
         self.failed = true;
-        self.named.fail(error);
+        if !(self.may_be_closed && error.kind() == ErrorKind::BrokenPipe) {
+            self.named.fail(error);
+        }
     }
 }
 

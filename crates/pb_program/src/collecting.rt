@@ -146,7 +146,7 @@ impl<'g, 'a> Collecting<'g, 'a> {
     /// Ends the run, which has made a book or refused the table or the ledger.
     fn end(&self, progress: &Progress<'_>, has_book: bool) -> bool {
         if has_book {
-            progress.end(self.order.book);
+            progress.end(Some(self.order.book));
         }
         has_book
     }

@@ -4,9 +4,10 @@ use crate::collecting::Collecting;
 use crate::games::games;
 use crate::ordered;
 use pb_cli::{ExportOrder, Order, run_fen};
-use pb_files::{JournalGuard, Stop, expect_open, open};
-use pb_io::{FromRead, Sink};
-use pb_messages::{Messages, Named, News, Progress, Told, Watched};
+use pb_files::{JournalGuard, Replies, Stop, Submissions, expect_open, open};
+use pb_io::{FromRead, Sink, ToWrite};
+use pb_messages::{Counted, Messages, Named, News, Progress, Told, Watched};
+use std::cell::RefCell;
 use std::fs::File;
 use std::io::{Input, StdinLock};
 
@@ -22,8 +23,7 @@ pub(crate) fn answer<'a, K: Sink>(
     output: &mut K,
 ) -> Result<bool, Stop> {
     let rt = messages.rt();
-    let reads_input = matches!(order, Order::Epd | Order::Collect(_) | Order::Export(_));
-    expect_open(messages, reads_input)?;
+    expect_open(messages, reads_input(order))?;
     match order {
         Order::Fen { record, moves } => {
             let record = record.as_bytes();
@@ -42,10 +42,20 @@ pub(crate) fn answer<'a, K: Sink>(
             book,
             record,
         } => probe(messages, table, book, record, output),
+        Order::Lookup { table, book } => lookup(messages, table, book, output),
+        Order::Check => check(messages, output),
         Order::Collect(order) => Collecting::new(messages, guard, order).run(output),
         Order::Export(order) => export(messages, order, output),
         Order::Games { files } => games(messages, files.as_slice(), output),
     }
+}
+
+/// Whether the order's command reads standard input.
+fn reads_input(order: &Order<'_>) -> bool {
+    matches!(
+        order,
+        Order::Epd | Order::Lookup { .. } | Order::Check | Order::Collect(_) | Order::Export(_)
+    )
 }
 
 /// Opens the table, then the book.
@@ -63,7 +73,34 @@ fn probe<K: Sink>(
     Ok(ordered::probe(alloc, &mut table, &mut book, record, output)?)
 }
 
-/// Opens the table, then takes the submissions.
+/// Opens the table, then the book, and takes the positions.
+fn lookup<K: Sink>(
+    messages: Messages<'_>,
+    table: &str,
+    book: &str,
+    output: &mut K,
+) -> Result<bool, Stop> {
+    let mut table = source(messages, table)?;
+    let mut book = source(messages, book)?;
+    let mut input = FromRead::new(input(messages));
+    let alloc = messages.rt().alloc();
+    Ok(ordered::lookup(alloc, &mut table, &mut book, &mut input, output)?)
+}
+
+/// Judges the submissions. Each answer is written before the next line is waited for.
+fn check<K: Sink>(messages: Messages<'_>, output: &mut K) -> Result<bool, Stop> {
+    let output = RefCell::new(output);
+    let progress = Progress::new(messages, News::Unknown).making_nothing();
+    let all_taken = ordered::check(
+        messages.rt().alloc(),
+        &mut Submissions::new(input(messages), &output, &progress),
+        &mut ToWrite::new(Replies::new(&output, &progress)),
+    )?;
+    progress.end(None);
+    Ok(all_taken)
+}
+
+/// Opens the table, then takes the submissions. Their replies are counted for the summary.
 fn export<K: Sink>(
     messages: Messages<'_>,
     order: &ExportOrder<'_>,
@@ -71,11 +108,19 @@ fn export<K: Sink>(
 ) -> Result<bool, Stop> {
     let mut table = source(messages, order.table)?;
     let progress = Progress::new(messages, News::Unknown);
-    let mut input = FromRead::new(Watched::new(input(messages), &progress));
-    let alloc = messages.rt().alloc();
-    let taken = ordered::export(alloc, order, &mut table, &mut input, output);
+    let has_book = ordered::export(
+        messages.rt().alloc(),
+        order,
+        &mut table,
+        &mut FromRead::new(Watched::new(input(messages), &progress)),
+        &mut ToWrite::new(Counted::new(&progress)),
+        output,
+    );
     progress.clear();
-    Ok(taken?)
+    if has_book? {
+        progress.end(None);
+    }
+    Ok(has_book?)
 }
 
 /// The file of this name as a source.

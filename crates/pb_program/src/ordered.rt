@@ -142,24 +142,25 @@ pub(crate) fn journal<
     )
 }
 
-/// Runs `run_export` by the rules of the order.
+/// Runs `export_submissions` by the rules of the order.
 ///
 /// # Errors
 ///
-/// Those of `run_export`.
-pub(crate) fn export<Table: Source, In: Source, Out: Sink>(
+/// Those of `export_submissions`.
+pub(crate) fn export<Table: Source, In: Source, Replies: Sink, Out: Sink>(
     alloc: Global,
     order: &ExportOrder<'_>,
     table_source: &mut Table,
     source: &mut In,
+    replies: &mut Replies,
     sink: &mut Out,
 ) -> Result<bool, Fault>
-    ensures ends { SilentExportRun order.now.rules most_fills (Table.state table_source.old)
+    ensures { ExportRun order.now.rules most_fills (Table.state table_source.old)
         (Table.state table_source.new) (In.state source.old) (In.state source.new)
+        (Replies.state replies.old) (Replies.state replies.new)
         (Out.state sink.old) (Out.state sink.new) result }
-    ensures blame { IfErr result (BlamesSink (Out.state sink.old) (Out.state sink.new)) }
 {
-    run_export(alloc, order.rules, table_source, source, sink, FILLS)
+    export_submissions(alloc, order.rules, table_source, source, replies, sink, FILLS)
 }
 
 /// Runs `run_probe`.
