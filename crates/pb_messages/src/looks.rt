@@ -8,7 +8,7 @@ const GZIP: &[u8] = &[0x1f, 0x8b];
 /// What some programs begin a text in UTF-8 with.
 const MARK: &[u8] = &[0xef, 0xbb, 0xbf];
 
-/// What the first bytes of a file or an input look like. A submission looks like text.
+/// What the first bytes of a file or an input look like.
 pub fn looks_of(bytes: &[u8]) -> Looks {
     if bytes.starts_with(GZIP) {
         return Looks::Gzip;
@@ -21,6 +21,8 @@ pub fn looks_of(bytes: &[u8]) -> Looks {
         Looks::Pgn
     } else if line.len() == 16 && line.iter().all(u8::is_ascii_hexdigit) {
         Looks::Table
+    } else if line.iter().filter(|byte| **byte == b'\t').count() == 3 {
+        Looks::Games
     } else {
         Looks::Text
     }

@@ -168,6 +168,8 @@ pub enum Looks {
     Pgn,
     /// Like a file that gzip has packed.
     Gzip,
+    /// Like submissions.
+    Games,
     /// Like a table.
     Table,
     /// Like a book, which isn't text.
@@ -181,6 +183,7 @@ impl Display for Looks {
         match self {
             Looks::Pgn => write!(f, "looks like PGN"),
             Looks::Gzip => write!(f, "is packed by gzip; zcat unpacks it"),
+            Looks::Games => write!(f, "looks like games"),
             Looks::Table => write!(f, "looks like a table"),
             Looks::Book => write!(f, "looks like a book"),
             Looks::Text => write!(f, "is text"),

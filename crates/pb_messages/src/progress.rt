@@ -57,10 +57,12 @@ impl<'a> Progress<'a> {
         if let Ok(mut counts) = self.counts.try_borrow_mut() {
             counts.begin();
         }
-        let looks = looks_of(bytes);
-        if looks != Looks::Text {
-            self.is_odd.set(true);
-            self.messages.warn(&Message::LooksLike(looks));
+        match looks_of(bytes) {
+            Looks::Games | Looks::Text => {}
+            looks => {
+                self.is_odd.set(true);
+                self.messages.warn(&Message::LooksLike(looks));
+            }
         }
     }
 

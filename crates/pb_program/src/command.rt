@@ -107,7 +107,7 @@ fn export<K: Sink>(
     output: &mut K,
 ) -> Result<bool, Stop> {
     let mut table = source(messages, order.table)?;
-    let progress = Progress::new(messages, News::Unknown);
+    let progress = Progress::new(messages, News::Above(0));
     let has_book = ordered::export(
         messages.rt().alloc(),
         order,

@@ -150,6 +150,7 @@ fn looks_of_file(rt: &HostRuntime, name: &str, part: Part) -> Option<Looks> {
     let looks = looks_of(&front[..count]);
     let is_due = match looks {
         Looks::Text => matches!(part, Part::Book),
+        Looks::Games => !matches!(part, Part::Ledger),
         Looks::Book => !matches!(part, Part::Book),
         Looks::Table => !matches!(part, Part::Table),
         Looks::Pgn | Looks::Gzip => true,
