@@ -10,7 +10,9 @@ pub use order::{CollectOrder, ExportOrder, Keeping, Order, ParseFault, parse};
 // What counts is said by the words alone: a program that knows no `Rules` has no others to hand on.
 pub use pb_collecting::{
     Continued, MAX_LEAST, MAX_PLIES, MemStore, NoBook, NotContinued, SkippedLines, Store,
-    StoreError, Text, collect_into, continue_into, journal_into, pick_games, run_collect,
-    run_continue, run_export, run_journaled,
+    StoreError, Text, collect_into, continue_into, export_submissions, journal_into, pick_games,
+    run_check, run_collect, run_continue, run_export, run_journaled,
 };
-pub use pb_commands::{FAULT_STATUS, Fault, run_epd, run_fen, run_probe, run_show, status};
+pub use pb_commands::{
+    FAULT_STATUS, Fault, run_epd, run_fen, run_lookup, run_probe, run_show, status,
+};

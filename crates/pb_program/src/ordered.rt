@@ -5,10 +5,11 @@
 ghost use Rattle.std.specs.Prelude.{◌≡◌, ◌⊎◌, IfErr, IfOk};
 ghost use Rattle.pb_commands.specs.BookShown.{BookShown};
 ghost use Rattle.pb_commands.specs.EpdRun.{RewritesOrEnds};
+ghost use Rattle.pb_commands.specs.LookupRun.{LooksUp};
 ghost use Rattle.pb_commands.specs.Judged.{PutsOrEnds};
 ghost use Rattle.pb_commands.specs.ProbeShown.{ProbesSources};
-ghost use Rattle.pb_cli.specs.Runs.{BlamesSink, JournalsInto, KeepsOrEnds, KeepsOrStops};
-ghost use Rattle.pb_cli.specs.Runs.{PicksAll, PicksUntil, SilentExportRun};
+ghost use Rattle.pb_cli.specs.Runs.{BlamesEither, ChecksOrEnds, ExportRun, JournalsInto};
+ghost use Rattle.pb_cli.specs.Runs.{KeepsOrEnds, KeepsOrStops, PicksAll, PicksUntil};
 ghost use Rattle.pb_files.specs.Disk.{Disk};
 ghost use Rattle.pb_files.specs.Journaling.{IsStarted, LeavesAnswered};
 ghost use Rattle.pb_poly.specs.Reading.{ReadsBook};
@@ -16,7 +17,8 @@ ghost use Rattle.pb_program.specs.Ordered.{is_synced, most_fills};
 
 use pb_cli::{
     CollectOrder, ExportOrder, Fault, NoBook, NotContinued, SkippedLines, Store, collect_into,
-    continue_into, pick_games, run_epd, run_export, run_probe, run_show,
+    continue_into, export_submissions, pick_games, run_check, run_epd, run_lookup, run_probe,
+    run_show,
 };
 use pb_files::{Durability, FileEnd, JournalFile, JournalSink, journal_to_file};
 use pb_io::{Sink, Source};
@@ -155,12 +157,30 @@ pub(crate) fn export<Table: Source, In: Source, Replies: Sink, Out: Sink>(
     replies: &mut Replies,
     sink: &mut Out,
 ) -> Result<bool, Fault>
-    ensures { ExportRun order.now.rules most_fills (Table.state table_source.old)
+    ensures ends { ExportRun order.now.rules most_fills (Table.state table_source.old)
         (Table.state table_source.new) (In.state source.old) (In.state source.new)
         (Replies.state replies.old) (Replies.state replies.new)
         (Out.state sink.old) (Out.state sink.new) result }
+    ensures blame { IfErr result (BlamesEither (Replies.state replies.old)
+        (Replies.state replies.new) (Out.state sink.old) (Out.state sink.new)) }
 {
     export_submissions(alloc, order.rules, table_source, source, replies, sink, FILLS)
+}
+
+/// Runs `run_check`.
+///
+/// # Errors
+///
+/// Those of `run_check`.
+pub(crate) fn check<In: Source, Out: Sink>(
+    alloc: Global,
+    source: &mut In,
+    sink: &mut Out,
+) -> Result<bool, Fault>
+    ensures { ChecksOrEnds most_fills (In.state source.old) (In.state source.new)
+        (Out.state sink.old) (Out.state sink.new) result }
+{
+    run_check(alloc, source, sink, FILLS)
 }
 
 /// Runs `run_probe`.
@@ -181,6 +201,26 @@ pub(crate) fn probe<TableIn: Source, BookIn: Source, Out: Sink>(
         (Out.state sink.old) (Out.state sink.new) result }
 {
     run_probe(alloc, table_source, book_source, fen, sink, FILLS)
+}
+
+/// Runs `run_lookup`.
+///
+/// # Errors
+///
+/// Those of `run_lookup`.
+pub(crate) fn lookup<TableIn: Source, BookIn: Source, In: Source, Out: Sink>(
+    alloc: Global,
+    table_source: &mut TableIn,
+    book_source: &mut BookIn,
+    source: &mut In,
+    sink: &mut Out,
+) -> Result<bool, Fault>
+    ensures { LooksUp most_fills (TableIn.state table_source.old) (TableIn.state table_source.new)
+        (BookIn.state book_source.old) (BookIn.state book_source.new)
+        (In.state source.old) (In.state source.new)
+        (Out.state sink.old) (Out.state sink.new) result }
+{
+    run_lookup(alloc, table_source, book_source, source, sink, FILLS)
 }
 
 /// Runs `run_show`.
