@@ -164,7 +164,15 @@ pub(crate) fn export<Table: Source, In: Source, Replies: Sink, Out: Sink>(
     ensures blame { IfErr result (BlamesEither (Replies.state replies.old)
         (Replies.state replies.new) (Out.state sink.old) (Out.state sink.new)) }
 {
-    export_submissions(alloc, order.rules, table_source, source, replies, sink, FILLS)
+    export_submissions(
+        alloc,
+        order.rules,
+        table_source,
+        source,
+        replies,
+        sink,
+        FILLS,
+    )
 }
 
 /// Runs `run_check`.

@@ -67,7 +67,11 @@ fn show_usage(rt: &HostRuntime, words: &[&str], text: &str) {
 fn word_too_many(error: &str) -> Option<&str> {
     let rest = error.strip_prefix("unexpected argument '")?;
     let (word, _) = rest.split_once("' found")?;
-    if word.starts_with('-') { None } else { Some(word) }
+    if word.starts_with('-') {
+        None
+    } else {
+        Some(word)
+    }
 }
 
 /// What the command that these words name takes from standard input.
@@ -190,9 +194,5 @@ pub fn tell_no_memory(rt: &HostRuntime) -> u8
     ensures { result ≡ 3 }
 {
     let mut output = ToWrite::new(io::writer(rt));
-    tell_stop(
-        Messages::new(rt),
-        &mut output,
-        Stop::Fault(Fault::Memory),
-    )
+    tell_stop(Messages::new(rt), &mut output, Stop::Fault(Fault::Memory))
 }
