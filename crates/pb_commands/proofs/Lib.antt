@@ -1,11 +1,15 @@
+pub mod Answering
 mod EpdClauses
 mod Hexadecimals
 pub mod Judging
-mod Lines
+mod LookupClauses
+mod Lookups
 mod Moves
+mod MovesLines
 mod OneBook
 mod OneProbe
 mod Probing
+mod PutsInTurn
 mod Rewriting
 mod Showing
 mod Shown

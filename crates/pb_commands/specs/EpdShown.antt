@@ -1,6 +1,6 @@
 -- What the command `epd` writes: for each line its one ordered form, or why it is refused.
-use Rattle.std.specs.Prelude.{◌≡◌, ℕ, ◌+◌, ◌<◌, ◌≤◌, ◌&&◌, Bool, true, List, []}
-use Rattle.std.specs.Prelude.{◌∷◌, ◌++◌, Ok, Err, length, All, codes, decimal}
+use Rattle.std.specs.Prelude.{◌≡◌, ℕ, ◌<◌, ◌≤◌, true, List, [], ◌∷◌, ◌++◌, Ok, Err, length, All}
+use Rattle.std.specs.Prelude.{codes, decimal}
 use Rattle.pb_board.specs.Words.{word_of}
 use Rattle.std.specs.Str.Lines.{strip_carriage_return}
 use Rattle.pb_board.specs.LineEnd.{with_end}
@@ -11,6 +11,7 @@ use Rattle.pb_epd.specs.Refusal.{IsFirstDueEpd}
 use Rattle.pb_io.specs.Lines.{line_limit}
 use Rattle.pb_io.specs.declared.fault.Fault.TheVariants.{Memory}
 use Rattle.pb_commands.specs.Judged.{Verdict, refused}
+use Rattle.pb_commands.specs.LinesShown.{LinesShown}
 
 -- no byte but spaces
 abbrev pub IsBlank : List ℕ → Type 0
@@ -45,8 +46,4 @@ pub data LineShown (number : ℕ) (line : List ℕ) (verdict : Verdict) : Type 0
 
 -- the lines in order, the first of this number
 abbrev pub EpdShown : ℕ → List (List ℕ) → Verdict → Type 0
-EpdShown number [] verdict = verdict ≡ Ok (true, [])
-EpdShown number (line ∷ lines) verdict =
-    (taken others : Bool) × (first rest : List ℕ) × LineShown number line (Ok (taken, first))
-    × EpdShown (number + 1) lines (Ok (others, rest))
-    × (verdict ≡ Ok ((taken && others), first ++ rest))
+EpdShown = LinesShown LineShown

@@ -1,8 +1,9 @@
 -- What follows from how commands end.
-use Rattle.std.specs.Prelude.{◌≡◌, ℕ, Bool, false, List, Result, Ok}
+use Rattle.std.specs.Prelude.{◌≡◌, ℕ, Bool, false, List, Result, Ok, Err}
 use Rattle.std.specs.Prelude.{IfErr, IfOk, IfSome, MatchResult, OnOk}
 use Rattle.std.specs.Io.KnownBytes.{Appends}
 use Rattle.pb_io.specs.LineTask.{AtEnd, IfTold}
+use Rattle.pb_io.specs.Lines.{lines}
 use Rattle.pb_io.specs.Sink.{SinkState}
 use Rattle.pb_io.specs.Source.{SourceState}
 use Rattle.pb_io.specs.declared.fault.Fault.{Fault}
@@ -14,6 +15,8 @@ use Rattle.pb_commands.specs.EpdRun.{RewritesUntil}
 use Rattle.pb_commands.specs.EpdShown.{EpdShown}
 use Rattle.pb_commands.specs.FenShown.{FenShown}
 use Rattle.pb_commands.specs.Judged.{HandedOnOnce, PutsFrontOfText, PutsText, PutsUntil}
+use Rattle.pb_commands.specs.LookupRun.{LooksUp}
+use Rattle.pb_commands.specs.LookupShown.{LookupShown}
 use Rattle.pb_commands.specs.ProbeShown.{ProbeShown, ProbesSources}
 use Rattle.pb_commands.specs.TableJudged.{AsTable}
 
@@ -63,3 +66,14 @@ pub record ProbeEnds (fills : ℕ) (t t' b b' : SourceState) (fen : List ℕ) (s
       → sink'.failed ≡ false → ProbeShown (AsTable table) (AsBook book) fen (Ok (answer, out))
       → MatchResult result (λ taken. (taken ≡ answer)
       × Appends sink.bytes sink'.bytes out) (λ e. e ≡ Memory)
+
+-- so the command `lookup` ends, over the states of the table's source, the book's source, the lines'
+-- source and its sink
+pub record LookupEnds (fills : ℕ) (t t' b b' s s' : SourceState) (sink sink' : SinkState)
+    (result : Result Bool Fault) : Type 0 where
+  -- where all three sources tell their bytes
+  pub told : IfOk result (λ answer. IfSome t.to_come (λ table. IfSome b.to_come (λ book.
+      IfSome s.to_come (λ bytes. PutsText (LookupShown (AsTable table) (AsBook book) (lines bytes))
+      sink sink' answer))))
+  pub handed_on : OnOk result (HandedOnOnce sink sink')
+  pub fault : IfErr result (λ fault. LooksUp fills t t' b b' s s' sink sink' (Err fault))

@@ -1,3 +1,4 @@
+pub mod Answering
 pub mod BookJudged
 pub mod BookShown
 pub mod EpdRun
@@ -7,11 +8,15 @@ pub mod Hexadecimal
 pub mod Judged
 pub mod Laws
 pub mod Line
+pub mod LineAnswer
+pub mod LinesRun
+pub mod LinesShown
+pub mod LookupRun
+pub mod LookupShown
 pub mod Plays
 pub mod ProbeShown
 pub mod RecordJudged
 pub mod Refused
-pub mod Rewriter
 pub mod Shows
 pub mod Status
 pub mod TableJudged

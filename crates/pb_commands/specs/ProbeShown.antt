@@ -20,8 +20,11 @@ use Rattle.pb_commands.specs.RecordJudged.{AsRecord, record_verdict}
 use Rattle.pb_commands.specs.TableJudged.{table_verdict}
 
 -- the move and its weight, a space between
+abbrev pub found_text : Moved × ℕ → List ℕ
+found_text found = spelling found.0 ++ (32 ∷ decimal found.1)
+
 abbrev pub found_line : Moved × ℕ → List ℕ
-found_line found = with_end (spelling found.0 ++ (32 ∷ decimal found.1))
+found_line found = with_end (found_text found)
 
 abbrev pub probe_text : List (Moved × ℕ) → List ℕ
 probe_text found = flat_map found_line found

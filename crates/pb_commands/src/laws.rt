@@ -10,7 +10,8 @@ ghost use Rattle.pb_commands.specs.BookShown.{BookShown};
 ghost use Rattle.pb_commands.specs.EpdRun.{RewritesOrEnds};
 ghost use Rattle.pb_commands.specs.FenShown.{FenShown};
 ghost use Rattle.pb_commands.specs.Judged.{PutsOrEnds};
-ghost use Rattle.pb_commands.specs.Laws.{EpdEnds, FenEnds, ProbeEnds, ShowEnds};
+ghost use Rattle.pb_commands.specs.Laws.{EpdEnds, FenEnds, LookupEnds, ProbeEnds, ShowEnds};
+ghost use Rattle.pb_commands.specs.LookupRun.{LooksUp};
 ghost use Rattle.pb_commands.specs.ProbeShown.{ProbesSources};
 
 /// However `run_fen` ends: the whole text was put and handed on once; or the sink failed, a front
@@ -40,4 +41,12 @@ pub fn probe_ends()
     ensures { (fills : ℕ) (t t' b b' : SourceState) (fen : List ℕ) (k k' : SinkState)
         (result : Result Bool Fault) → PutsOrEnds (ProbesSources fills t t' b b' fen) k k' result
         → ProbeEnds fills t t' b b' fen k k' result }
+{}
+
+/// However `run_lookup` ends: where its three sources tell their bytes, what was put is what these
+/// give, and it was handed on once; or the fault tells what was put.
+pub fn lookup_ends()
+    ensures { (fills : ℕ) (t t' b b' s s' : SourceState) (k k' : SinkState)
+        (result : Result Bool Fault) → LooksUp fills t t' b b' s s' k k' result
+        → LookupEnds fills t t' b b' s s' k k' result }
 {}

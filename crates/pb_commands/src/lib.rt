@@ -1,12 +1,15 @@
-//! The commands `fen`, `epd`, `show` and `probe`, as functions over sources and sinks. Here is too
-//! what all commands share: the exit status, and the line that refuses a table. Nothing here knows
-//! the command line or a game.
+//! The commands `fen`, `epd`, `show`, `probe` and `lookup`, as functions over sources and sinks. Here
+//! is too what all commands share: the exit status, and the line that refuses a table; and what
+//! commands share that answer lines. Nothing here knows the command line or a game.
 #![tactic(auto)]
 
 mod epd;
 mod exit;
 mod fen;
 pub mod laws;
+mod line_refusal;
+mod lines;
+mod lookup;
 mod output;
 mod probe;
 mod refusal;
@@ -15,6 +18,8 @@ mod show;
 pub use epd::run_epd;
 pub use exit::{FAULT_STATUS, status};
 pub use fen::run_fen;
+pub use lines::{LineAnswer, answer_lines};
+pub use lookup::run_lookup;
 pub use pb_io::Fault;
 pub use pb_poly::{TableFault, take_table};
 pub use probe::run_probe;

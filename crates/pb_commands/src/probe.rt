@@ -1,18 +1,17 @@
 //! The command `probe`: the moves that a book has for a position.
-ghost use Rattle.std.specs.Prelude.{ℕ, Ok};
+ghost use Rattle.std.specs.Prelude.{ℕ, ◌++◌, Ok};
 ghost use Rattle.pb_poly.specs.Reading.{ReadsBook};
 ghost use Rattle.pb_poly.specs.TableReading.{ReadsTable};
 ghost use Rattle.pb_io.specs.Sink.{Put};
 ghost use Rattle.pb_io.specs.Source.{SourceState};
 ghost use Rattle.pb_commands.specs.Judged.{PutsOrEnds};
-ghost use Rattle.pb_commands.specs.ProbeShown.{ProbesSources, found_line, probe_text};
+ghost use Rattle.pb_commands.specs.ProbeShown.{ProbesSources, found_text, probe_text};
 ghost use Rattle.pb_commands.specs.Shows.{Shows};
 
-use crate::output::put_line;
 use crate::refusal::{refuse, refuse_book, refuse_table};
 use itoa::Buffer;
 use pb_board::read_fen;
-use pb_io::{Failed, Fault, Sink, Source};
+use pb_io::{Failed, Fault, Sink, Source, put_parts};
 use pb_moves::Move;
 use pb_poly::{Book, Table, probe, read_book, take_table};
 use std::alloc::Global;
@@ -78,18 +77,29 @@ fn show_found<K: Sink>(sink: &mut K, found: &[(Move, u16)]) -> Result<(), Fault>
     ensures { Shows (K.state sink.old) (K.state sink.new) result (probe_text found.now) }
 {
     for (m, weight) in found {
-        put_found(sink, m, *weight)?;
+        put_found(sink, b"", m, *weight, b"\n")?;
     }
     sink.flush()?;
     Ok(())
 }
 
-/// Puts the line of a move.
-fn put_found<K: Sink>(sink: &mut K, m: &Move, weight: u16) -> Result<(), Failed>
-    ensures { Put (K.state sink.old) (K.state sink.new) result (found_line (m.now, weight)) }
+/// Puts a move and its weight between what comes before and the end.
+pub(crate) fn put_found<K: Sink>(
+    sink: &mut K,
+    before: &[u8],
+    m: &Move,
+    weight: u16,
+    end: &[u8],
+) -> Result<(), Failed>
+    ensures { Put (K.state sink.old) (K.state sink.new) result
+        ((before.now ++ found_text (m.now, weight)) ++ end.now) }
 {
     let text = m.text();
     let mut buffer = Buffer::new();
     let digits = buffer.format(weight);
-    put_line(sink, &[text.as_bytes(), b" ", digits.as_bytes()])
+    put_parts(
+        sink,
+        &[before, text.as_bytes(), b" ", digits.as_bytes()],
+        end,
+    )
 }

@@ -8,7 +8,8 @@ use Rattle.pb_epd.specs.declared.refusal.EpdError.TheVariants as epd
 use Rattle.pb_epd.specs.Epd.{EpdText}
 use Rattle.pb_epd.specs.Refusal.{IsFirstDueEpd}
 use Rattle.pb_commands.specs.EpdShown.{IsBlank, LineShown, blank, epd_verdict, no_record, written}
-use Rattle.pb_commands.proofs.Rewriting.{line_shows, memory_due, put_as, stops_as}
+use Rattle.pb_commands.proofs.Answering.{line_shows, put_as, stops_as}
+use Rattle.pb_commands.proofs.Rewriting.{memory_due}
 use Rattle.pb_commands.proofs.epd.rewrite_line.Goals as goal
 
 pub returns-then-is_blank : goal.returns-then-is_blank

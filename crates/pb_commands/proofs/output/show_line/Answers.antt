@@ -1,5 +1,5 @@
 use Rattle.std.proofs.lemmas.Result.{err_from_is_err_and}
-use Rattle.pb_commands.proofs.Lines.{not_handed_on}
+use Rattle.pb_commands.proofs.PutsInTurn.{not_handed_on}
 use Rattle.pb_commands.proofs.output.show_line.Goals as goal
 
 pub returns-in_err-flush : goal.returns-in_err-flush

@@ -1,5 +1,5 @@
 use Rattle.pb_commands.specs.BookShown.{entry_line}
-use Rattle.pb_commands.proofs.Lines.{PutsLines}
+use Rattle.pb_commands.proofs.PutsInTurn.{PutsLines}
 use Rattle.pb_commands.proofs.show.show_entries.Given as goal
 
 -- the lines of the entries before this one have been put

@@ -3,7 +3,7 @@ use Rattle.pb_board.specs.LineEnd.{with_end}
 use Rattle.pb_io.specs.Sink.{Put}
 use Rattle.pb_io.specs.Parts.{parts_joined}
 use Rattle.pb_io.proofs.PutLemmas.{put_cut, put_then}
-use Rattle.pb_commands.proofs.epd.put_refused.Goals as goal
+use Rattle.pb_commands.proofs.line_refusal.put_refused.Goals as goal
 
 -- the line, part by part
 line_is : (digits number why : List ℕ) → digits ≡ number

@@ -1,0 +1,124 @@
+//! Streams of lines, each of which is answered by what is put for it.
+ghost use Rattle.std.specs.Prelude.{◌≡◌, IfErr, List, OnOk, length, true, ◌<◌, ◌≤◌, ℕ};
+ghost use Rattle.pb_io.specs.Lines.{line_limit};
+ghost use Rattle.pb_io.specs.Sink.{AwaitsFlush};
+ghost use Rattle.pb_commands.specs.LineAnswer.{PutsOrStops};
+ghost use Rattle.pb_commands.specs.LinesRun.{AnswersOrEnds, AnswersStream, AnswersUntil};
+
+use pb_io::{Fault, LineTask, Sink, Source, take_lines};
+use std::alloc::Global;
+
+/// Answers lines, each by what is put for it.
+pub trait LineAnswer {
+    ghost use Rattle.std.specs.Prelude.{ℕ, List};
+    ghost use Rattle.pb_commands.specs.Judged.{Verdict};
+
+    /// What a line comes to, by its number, from 1, and its bytes.
+    ghost shows: { Self → ℕ → List ℕ → Verdict → Type 0 };
+
+    /// Puts what the line of this number gives, and answers whether it was taken.
+    ///
+    /// # Errors
+    ///
+    /// The sink has failed, and a front of what the line gives may have been put. Or memory was
+    /// wanting, and nothing was put.
+    fn answer<K: Sink>(&self, sink: &mut K, number: u64, line: &[u8]) -> Result<bool, Fault>
+        requires { length line.now ≤ line_limit }
+        ensures { PutsOrStops (shows self.now number line.now) (K.state sink.old) (K.state sink.new)
+            result };
+
+    /// The same of a line of more than `LINE_LIMIT` bytes, which are not kept.
+    fn answer_long<K: Sink>(&self, sink: &mut K, number: u64) -> Result<bool, Fault>
+        ensures { (line : List ℕ) → line_limit < length line
+            → PutsOrStops (shows self.now number line) (K.state sink.old) (K.state sink.new)
+            result };
+}
+
+/// Answers lines one after the other.
+#[derive(Drop)]
+struct Answering<'a, 's, A, K> {
+    answerer: &'a A,
+    sink: &'s mut K,
+    /// How many lines were taken so far.
+    lines: u64,
+    /// Whether none of them was refused.
+    all_taken: bool,
+}
+
+impl<A: LineAnswer, K: Sink> LineTask for Answering<'_, '_, A, K> {
+    type Stop = Fault;
+
+    ghost use Rattle.pb_commands.specs.Answering.{AnswersLine};
+
+    ghost takes = { AnswersLine A.shows K.state };
+
+    fn take(&mut self, line: &[u8]) -> Result<(), Fault> {
+        self.lines = self.lines.saturating_add(1);
+        let taken = self.answerer.answer(self.sink, self.lines, line)?;
+        self.all_taken = self.all_taken && taken;
+        Ok(())
+    }
+
+    fn take_long(&mut self) -> Result<(), Fault> {
+        self.lines = self.lines.saturating_add(1);
+        let taken = self.answerer.answer_long(self.sink, self.lines)?;
+        self.all_taken = self.all_taken && taken;
+        Ok(())
+    }
+}
+
+impl<A: LineAnswer, K: Sink> Answering<'_, '_, A, K> {
+    /// Takes the lines of the source.
+    fn take_all<S: Source>(
+        &mut self,
+        alloc: Global,
+        source: &mut S,
+        fills: u32,
+    ) -> Result<(), Fault>
+        requires first { self.old.lines ≡ 0 }
+        requires none_refused { self.old.all_taken ≡ true }
+        ensures ok { OnOk result (AnswersStream (A.shows self.old.answerer.now) fills
+            (S.state source.old) (S.state source.new) (K.state self.old.sink.now)
+            (K.state self.new.sink.now) self.new.all_taken) }
+        ensures err { IfErr result (AnswersUntil (A.shows self.old.answerer.now) fills
+            (S.state source.old) (S.state source.new) (K.state self.old.sink.now)
+            (K.state self.new.sink.now)) }
+        ensures awaits { OnOk result (AwaitsFlush (K.state self.old.sink.now)
+            (K.state self.new.sink.now)) }
+        ensures same_sink { self.new.sink.ghost_name ≡ self.old.sink.ghost_name }
+    {
+        take_lines(alloc, source, self, fills)
+    }
+}
+
+/// Answers the lines of the source in order, and tells whether none was refused. What was put is
+/// handed on once, at the end.
+///
+/// A piece that no LF ended is answered at the end of input, and not at a fault. Want of memory ends
+/// the run after the lines before.
+pub fn answer_lines<S: Source, K: Sink, A: LineAnswer>(
+    alloc: Global,
+    source: &mut S,
+    sink: &mut K,
+    answerer: &A,
+    fills: u32,
+) -> Result<bool, Fault>
+    ensures { AnswersOrEnds (A.shows answerer.now) fills (S.state source.old) (S.state source.new)
+        (K.state sink.old) (K.state sink.new) result }
+{
+    let mut answering = Answering {
+        answerer,
+        sink,
+        lines: 0,
+        all_taken: true,
+    };
+    let ended = answering.take_all(alloc, source, fills);
+    let Answering {
+        sink,
+        all_taken,
+        ..
+    } = answering;
+    ended?;
+    sink.flush()?;
+    Ok(all_taken)
+}

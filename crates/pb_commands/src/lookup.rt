@@ -1,0 +1,129 @@
+//! The command `lookup`: the moves that a book has for the position of each line.
+ghost use Rattle.std.specs.Prelude.{◌≤◌, IfErr, IfOk, length};
+ghost use Rattle.pb_epd.specs.Refusal.{IsFirstDueEpd};
+ghost use Rattle.pb_io.specs.Lines.{line_limit};
+ghost use Rattle.pb_io.specs.Sink.{Put};
+ghost use Rattle.pb_commands.specs.LineAnswer.{PutsOrStops};
+ghost use Rattle.pb_commands.specs.LookupRun.{LooksUp};
+ghost use Rattle.pb_commands.specs.LookupShown.{IsFenText, LineFound, SpellsSetup, moves_line};
+
+use crate::line_refusal::{is_blank, put_refusal, refuse_line};
+use crate::lines::{LineAnswer, answer_lines};
+use crate::output::put_line;
+use crate::probe::put_found;
+use crate::refusal::{refuse_book, refuse_table};
+use pb_board::{Setup, read_fen, without_return};
+use pb_epd::{EpdError, read_epd};
+use pb_io::{Failed, Fault, Sink, Source};
+use pb_moves::Move;
+use pb_poly::{Book, Table, probe, read_book, take_table};
+use std::alloc::Global;
+
+/// Looks positions up in a book.
+#[derive(Drop)]
+struct Finder<'a> {
+    alloc: Global,
+    table: &'a Table,
+    book: &'a Book,
+}
+
+impl LineAnswer for Finder<'_> {
+    ghost use Rattle.pb_commands.specs.LookupShown.{LineFound};
+
+    ghost shows = { λ f. LineFound f.table.now f.book.now };
+
+    fn answer<K: Sink>(&self, sink: &mut K, number: u64, line: &[u8]) -> Result<bool, Fault> {
+        look_up(self, sink, number, line)
+    }
+
+    fn answer_long<K: Sink>(&self, sink: &mut K, number: u64) -> Result<bool, Fault> {
+        refuse_line(sink, number, &[b"long"])
+    }
+}
+
+/// Looks the positions of lines up in a book: of each line that is a FEN record or an EPD record,
+/// the moves that the book has for its setup are put in one line, each with its weight in decimal,
+/// in the book's order, or `-` where there is none. Any other line is refused as by `run_epd`, with
+/// the reasons why it is no EPD record, and a line of spaces alone is counted and skipped.
+///
+/// The table and the book are read before, in this order, and the first that is refused is told as
+/// by `run_probe`; nothing later is read then, nor after a fault. Answers whether both and all lines
+/// were taken. What was put is handed on once, at the end. `Memory` comes where a growth found no
+/// memory, and at a line it ends the run after the lines before.
+///
+/// Where the sources tell their bytes, what is put is what those bytes give: that follows from the
+/// clause, by the law `lookup_ends`.
+pub fn run_lookup<TableIn: Source, BookIn: Source, In: Source, Out: Sink>(
+    alloc: Global,
+    table_source: &mut TableIn,
+    book_source: &mut BookIn,
+    source: &mut In,
+    sink: &mut Out,
+    fills: u32,
+) -> Result<bool, Fault>
+    ensures { LooksUp fills (TableIn.state table_source.old) (TableIn.state table_source.new)
+        (BookIn.state book_source.old) (BookIn.state book_source.new) (In.state source.old)
+        (In.state source.new) (Out.state sink.old) (Out.state sink.new) result }
+{
+    let table = match take_table(alloc, table_source, fills) {
+        Ok(table) => table,
+        Err(error) => return refuse_table(sink, error),
+    };
+    match read_book(alloc, book_source, fills) {
+        Ok(book) => {
+            let finder = Finder {
+                alloc,
+                table: &table,
+                book: &book,
+            };
+            answer_lines(alloc, source, sink, &finder, fills)
+        }
+        Err(error) => refuse_book(sink, error),
+    }
+}
+
+/// Puts what the line of this number gives, and answers whether it was taken.
+fn look_up<K: Sink>(finder: &Finder, sink: &mut K, number: u64, line: &[u8]) -> Result<bool, Fault>
+    requires { length line.now ≤ line_limit }
+    ensures { PutsOrStops (LineFound finder.now.table.now finder.now.book.now number line.now)
+        (K.state sink.old) (K.state sink.new) result }
+{
+    let text = without_return(line);
+    if is_blank(text) {
+        return Ok(true);
+    }
+    match read_setup(finder.alloc, text) {
+        Ok(setup) => {
+            let found = probe(finder.alloc, finder.book, finder.table, &setup)?;
+            put_moves(sink, found.as_slice())?;
+            Ok(true)
+        }
+        Err(error) => put_refusal(sink, number, error),
+    }
+}
+
+/// The setup of the FEN record or else of the EPD record that the text spells. The error says why
+/// there is no EPD record.
+fn read_setup(alloc: Global, text: &[u8]) -> Result<Setup, EpdError>
+    ensures found { IfOk result (SpellsSetup text.now) }
+    ensures refused { IfErr result (λ x. (¬ IsFenText text.now) × IsFirstDueEpd x text.now) }
+{
+    match read_fen(text) {
+        Ok(record) => Ok(record.setup()),
+        Err(_) => Ok(read_epd(alloc, text)?.setup()),
+    }
+}
+
+/// Puts the moves and their weights in one line, or that there is none.
+fn put_moves<K: Sink>(sink: &mut K, found: &[(Move, u16)]) -> Result<(), Failed>
+    ensures { Put (K.state sink.old) (K.state sink.new) result (moves_line found.now) }
+{
+    let Some((first, others)) = found.split_first() else {
+        return put_line(sink, &[b"-"]);
+    };
+    put_found(sink, b"", &first.0, first.1, b"")?;
+    for (m, weight) in others {
+        put_found(sink, b" ", m, *weight, b"")?;
+    }
+    sink.put(b"\n")
+}
