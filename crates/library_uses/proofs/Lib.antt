@@ -1,1 +1,3 @@
+mod Counting
+mod Lines
 mod Sums

@@ -1,1 +1,2 @@
+pub mod Perft
 pub mod Sums

@@ -6,4 +6,5 @@
 pub mod books;
 pub mod games;
 pub mod moves;
+pub mod perft;
 pub mod tallies;
