@@ -212,7 +212,8 @@ class Said:
 
     def goal_of(self, function):
         """A goal of this function that is told as unproved, or None."""
-        folder = f"proofs/{re.escape(function.path.replace('::', '/'))}"
+        # (the folder of a function that calls itself has a plus in front of its name)
+        folder = re.sub(r"(\w+)$", r"\\+?\1", "proofs/" + function.path.replace("::", "/"))
         answers = rf"^(?:\./)?{folder}/(?:\S+/)?\w+\.antt:\d+:\d+: error: `([^`]+)`: (.*)"
         for goal, why in re.findall(answers, self.text, re.M):
             if not GONE.search(why):
