@@ -1,8 +1,8 @@
 -- What a run of the command `export` blames, from how it ends.
-use Rattle.std.proofs.Common.{◌≡◌, ◌∙◌, ◌≢◌, ℕ, Bool, Result, Ok, Err, ap, false, inl, inr, refl, subst, sym}
+use Rattle.std.proofs.Common.{◌≡◌, ◌∙◌, ◌≢◌, ℕ, Bool, Result, Ok, Err, ap, false, inl, inr, refl, subst, sym, true}
 use Rattle.std.specs.Prelude.{IfErr}
 use Rattle.pb_io.specs.Source.{SourceState}
-use Rattle.pb_io.specs.Sink.{SinkState}
+use Rattle.pb_io.specs.Sink.{AwaitsFlush, SinkState}
 use Rattle.pb_io.specs.declared.fault.Fault.{Fault}
 use Rattle.pb_io.specs.declared.fault.Fault.TheVariants.{Read, Write, Endless, Memory}
 use Rattle.pb_io.proofs.FlushLemmas.{still_works}
@@ -15,7 +15,7 @@ use Rattle.pb_export.specs.declared.exporting.ExportFault.{ExportFault}
 use Rattle.pb_export.specs.declared.exporting.ExportFault.TheVariants as export
 use Rattle.pb_ledger.specs.Collecting.{CollectsUntil}
 use Rattle.pb_commands.specs.TableJudged.{table_verdict}
-use Rattle.pb_collecting.specs.ExportRun.{BlamesSink}
+use Rattle.pb_collecting.specs.ExportRun.{BlamesEither, BlamesSink}
 use Rattle.pb_collecting.specs.Runs as runs
 use Rattle.pb_collecting.specs.Runs.{ExportRun}
 
@@ -70,6 +70,43 @@ module _ (rules : CountingRules) (fills : ℕ) (t t' s s' : SourceState) (d d' s
   fails_blamed fault (runs.stopped f (lacks, unread, quiet) kept same) =
       subst Blames (cc) (no_blame sink sink' f (λ is. never_writes lacks.cause (sym (ap (λ (x : Fault). Err x) is) ∙ lacks.is)) kept)
 
-  pub blame : (result : Result Bool Fault) → ExportRun rules fills t t' s s' d d' sink sink' result → IfErr result Blames
+-- where it worked before and has failed in the run
+module _ (rules : CountingRules) (fills : ℕ) (t t' s s' : SourceState) (d d' sink sink' : SinkState) (works : d.failed ≡ false) (fails : d'.failed ≡ true) where
+  abbrev Breaks : Fault → Type 0
+  Breaks fault = (fault ≡ Write) × (sink' ≡ sink)
+
+  not_failed : d'.failed ≡ false → ⊥
+  not_failed is = cc (sym fails ∙ is)
+
+  never_same : d' ≡ d → ⊥
+  never_same same = not_failed (ap (λ (x : SinkState). x.failed) same ∙ works)
+
+  never_awaits : AwaitsFlush d d' → ⊥
+  never_awaits awaits = not_failed (still_works d d' awaits works)
+
+  breaks_off : (l l' : LedgerState) (fault : Fault) → CollectsUntil fills s s' d d' l l' fault → sink' ≡ sink → Breaks fault
+  breaks_off l l' Read h kept = absurd (never_awaits h.1)
+  breaks_off l l' Write h kept = (refl, kept)
+  breaks_off l l' Endless h kept = absurd (never_awaits h.1)
+  breaks_off l l' Memory h kept = absurd (never_same h.1)
+
+  breaks : (fault : Fault) → ExportRun rules fills t t' s s' d d' sink sink' (Err fault) → Breaks fault
+  breaks fault (runs.went ledger x first goes same) = absurd (cc)
+  breaks fault (runs.told out judged put handed same) = absurd (cc)
+  breaks fault (runs.broke ledger f first (inl ((left, until), kept)) same) = subst Breaks (cc) (breaks_off ledger left f until kept)
+  breaks fault (runs.broke ledger f first (inr (left, e, takes, until, is)) same) = absurd (not_failed takes.1.0.0)
+  breaks fault (runs.untold out count (lacks, unread, quiet) put broken flushes same) = absurd (never_same quiet)
+  breaks fault (runs.stopped f (lacks, unread, quiet) kept same) = absurd (never_same quiet)
+
+module _ (rules : CountingRules) (fills : ℕ) (t t' s s' : SourceState) (d d' sink sink' : SinkState) where
+  pub blame : (result : Result Bool Fault) → ExportRun rules fills t t' s s' d d' sink sink' result → IfErr result (BlamesEither d d' sink sink')
   blame (Ok done) h = tt
-  blame (Err fault) h = fails_blamed fault h
+  blame (Err fault) h = record {
+    replies = λ works fails. breaks rules fills t t' s s' d d' sink sink' works fails fault h;
+    lines = λ works. fails_blamed rules fills t t' s s' d d' sink sink' works fault h;
+  }
+
+-- where the replies' sink works, the sink is blamed as if it were the only one
+pub blame_one : (d d' sink sink' : SinkState) → d'.failed ≡ false → (result : Result Bool Fault) → IfErr result (BlamesEither d d' sink sink') → IfErr result (BlamesSink sink sink')
+blame_one d d' sink sink' works (Ok done) h = tt
+blame_one d d' sink sink' works (Err fault) h = h.lines works

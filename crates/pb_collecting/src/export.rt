@@ -1,6 +1,6 @@
 //! The command `export`: the book of submissions as EPD lines.
 ghost use Rattle.std.specs.Prelude.{IfErr};
-ghost use Rattle.pb_collecting.specs.ExportRun.{BlamesSink};
+ghost use Rattle.pb_collecting.specs.ExportRun.{BlamesEither, BlamesSink};
 ghost use Rattle.pb_collecting.specs.Runs.{ExportRun, SilentExportRun};
 
 use crate::run::open;
@@ -49,13 +49,16 @@ pub fn run_export<Table: Source, In: Source, Out: Sink>(
     )
 }
 
-/// Exports as `run_export` does, with a sink for the replies, which are put and handed on before
-/// the export. One list of answers is that of the replies and that by which the games are held
-/// whose export is put.
+/// Exports as `run_export` does, with a sink for the replies. The reply to each line is put there as
+/// the line is taken, as in `run_collect`, and all are handed on before the export. One list of
+/// answers is that of the replies and that by which the games are held whose export is put.
 ///
 /// # Errors
 ///
-/// As for `run_export`; `Write` comes where either sink has failed.
+/// As for `run_export`; `Write` comes where either sink has failed. Where that of the replies fails,
+/// a front of them was put and none handed on, no further line was taken, and the sink of the
+/// export is as it was. Where that of the export fails, all replies were handed on before, unless
+/// the table was refused.
 pub fn export_submissions<Table: Source, In: Source, Replies: Sink, Out: Sink>(
     alloc: Global,
     rules: Rules,
@@ -65,11 +68,17 @@ pub fn export_submissions<Table: Source, In: Source, Replies: Sink, Out: Sink>(
     sink: &mut Out,
     fills: u32,
 ) -> Result<bool, Fault>
-    ensures { ExportRun rules fills
+    // The table was read, all submissions were taken, and their replies were put and handed on, and
+    // then the export of the games that are held; or the line was put that refuses the table, and
+    // neither a submission was read nor a reply put; or this was done before the fault.
+    ensures ends { ExportRun rules fills
         (Table.state table_source.old) (Table.state table_source.new)
         (In.state source.old) (In.state source.new)
         (Replies.state replies.old) (Replies.state replies.new)
         (Out.state sink.old) (Out.state sink.new) result }
+    // The sink is blamed that has failed.
+    ensures blame { IfErr result (BlamesEither (Replies.state replies.old)
+        (Replies.state replies.new) (Out.state sink.old) (Out.state sink.new)) }
 {
     let Some(mut ledger) = open(alloc, rules, table_source, sink, fills)? else {
         return Ok(false);
