@@ -1,4 +1,5 @@
 mod ByteLemmas
+mod Checking
 mod CollectClauses
 mod ContinueClauses
 mod ContinueHeadlines

@@ -1,3 +1,6 @@
+pub mod CheckLaws
+pub mod CheckRun
+pub mod CheckShown
 pub mod ContinueHeadline
 pub mod Continuing
 pub mod ContinuingInto

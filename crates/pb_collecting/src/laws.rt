@@ -1,8 +1,14 @@
-//! Laws of the theorem of `pbook collect`, and of equality (`==`) between reasons why nothing is
-//! kept. Each is the contract of a function that does nothing, over the definitions alone.
+//! Laws of the theorem of `pbook collect`, of equality (`==`) between reasons why nothing is kept,
+//! and of the command `check`. Each is the contract of a function that does nothing, over the
+//! definitions alone.
 
-ghost use Rattle.std.specs.Prelude.{◌≡◌};
+ghost use Rattle.std.specs.Prelude.{◌≡◌, ℕ, Bool, Result};
 ghost use Rattle.std.specs.Bool.{Decides};
+ghost use Rattle.pb_io.specs.Sink.{SinkState};
+ghost use Rattle.pb_io.specs.Source.{SourceState};
+ghost use Rattle.pb_io.specs.declared.fault.Fault.{Fault};
+ghost use Rattle.pb_collecting.specs.CheckLaws.{CheckEnds, RefusedByLedgers, TakenByLedgers};
+ghost use Rattle.pb_collecting.specs.CheckRun.{ChecksOrEnds};
 ghost use Rattle.pb_collecting.specs.Laws.{GoesOnAsOneRun, HasOneEffect, RefusalsLeaveTheGames};
 ghost use Rattle.pb_collecting.specs.Laws.{RefusedIsUnread};
 ghost use Rattle.pb_collecting.specs.declared.continuing_into.NotContinued.{NotContinued};
@@ -43,4 +49,18 @@ pub fn equal_values()
     ensures text { (a b : StoreError) → Decides (⟦<StoreError as PartialEq>⟧.eq a b) (a ≡ b) }
     ensures book { (a b : NoBook) → Decides (⟦<NoBook as PartialEq>⟧.eq a b) (a ≡ b) }
     ensures both { (a b : NotContinued) → Decides (⟦<NotContinued as PartialEq>⟧.eq a b) (a ≡ b) }
+{}
+
+/// However `run_check` ends: what all lines give was put and handed on once, or the fault tells
+/// what was put; and where the source tells its bytes, what was put is what their lines give.
+pub fn check_ends()
+    ensures { (fills : ℕ) (s s' : SourceState) (k k' : SinkState) (result : Result Bool Fault)
+        → ChecksOrEnds fills s s' k k' result → CheckEnds fills s s' k k' result }
+{}
+
+/// Whatever a ledger holds, it refuses a line that `run_check` refuses, with the same reply. A line
+/// that is `ok` it refuses at most as a conflict, or for want of room or memory.
+pub fn check_agrees()
+    ensures refused { RefusedByLedgers }
+    ensures taken { TakenByLedgers }
 {}

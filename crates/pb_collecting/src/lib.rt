@@ -1,9 +1,10 @@
-//! The commands of `pbook` that take games, `collect` and `export`, as functions over the ends that
-//! they are handed and over the stores where a ledger and its book are kept. Nothing here knows the
-//! command line or a file.
+//! The commands of `pbook` that take games, `collect`, `export` and `check`, as functions over the
+//! ends that they are handed and over the stores where a ledger and its book are kept. Nothing here
+//! knows the command line or a file.
 #![tactic(auto)]
 
 mod bytes;
+mod check;
 mod collect;
 mod continuing;
 mod continuing_into;
@@ -17,6 +18,7 @@ mod store;
 mod text;
 
 pub use bytes::collect_bytes;
+pub use check::run_check;
 pub use collect::run_collect;
 pub use continuing::{Continued, run_continue};
 pub use continuing_into::{NotContinued, continue_into};
