@@ -8,28 +8,55 @@ PREFIX := /usr/local
 # What `make install` and `make dist` take, and what the tests try.
 PROGRAM ?= build/pbook
 
+# The same source without proof, with a check in the place of each.
+UNPROVED := build/unproved/pbook
+
 # What is put in place beside the program. It lies where the gate reads it.
 INSTALLED := crates/worked_examples/data/installed
+
+# What is put in share/pbook: files for users' own games, to be read and to be run.
+SHARED_FILES := $(addprefix examples/,games.pgn submissions.awk)
+SHARED_SCRIPTS := $(addprefix examples/,client.py nightly pgn_to_lines.sh table_from_polyglot.sh)
+
+# Ends a goal that needs the toolchain where that isn't there.
+WANTS_TOOLCHAIN = command -v rt > /dev/null || { \
+    echo "make: $@ needs the Rattle toolchain, whose command rt is not on PATH"; exit 1; }
 
 # The program that tests and measurements run. The gate leaves it there.
 EXAMPLES := crates/worked_examples/out/worked_examples
 
-.PHONY: build install dist demo check dev test test-bodies test-hostile test-files test-order \
-    test-locks test-messages test-memory test-growths test-io \
-    test-noise test-replies test-dist test-journal test-crashes test-wrong-programs bench clean
+.PHONY: build unproved install dist demo check dev test test-bodies test-hostile test-files \
+    test-order test-locks test-messages test-memory test-growths test-io test-noise test-replies \
+    test-completions test-examples test-dist test-journal test-crashes test-wrong-programs bench \
+    clean
 
 build: build/pbook
 
 build/pbook: $(SOURCES) scripts/build.sh
+	@$(WANTS_TOOLCHAIN)
 	@sh scripts/build.sh
 
-# Puts the program, its manual page and its completions for bash, zsh and fish in place.
-install: $(PROGRAM)
+# Builds the same source without proof, with a check in the place of each, in a minute or two.
+# Nothing is proved.
+unproved: $(UNPROVED)
+
+$(UNPROVED): $(SOURCES) scripts/unproved.sh scripts/lib/unproved.sh
+	@$(WANTS_TOOLCHAIN)
+	@sh scripts/unproved.sh
+
+# Puts the program that stands, its manual page, its completions for bash, zsh and fish, and what
+# converts games, in place. It makes no program.
+install:
+	@[ -x '$(PROGRAM)' ] || { echo 'make: no program stands at $(PROGRAM).' \
+	    'First run make, which proves and builds build/pbook.'; exit 1; }
 	install -D -m 755 '$(PROGRAM)' '$(DESTDIR)$(PREFIX)/bin/pbook'
 	install -D -m 644 $(INSTALLED)/pbook.1 '$(DESTDIR)$(PREFIX)/share/man/man1/pbook.1'
 	install -D -m 644 $(INSTALLED)/pbook.bash '$(DESTDIR)$(PREFIX)/share/bash-completion/completions/pbook'
 	install -D -m 644 $(INSTALLED)/_pbook '$(DESTDIR)$(PREFIX)/share/zsh/site-functions/_pbook'
 	install -D -m 644 $(INSTALLED)/pbook.fish '$(DESTDIR)$(PREFIX)/share/fish/vendor_completions.d/pbook.fish'
+	install -d '$(DESTDIR)$(PREFIX)/share/pbook'
+	install -m 644 $(SHARED_FILES) '$(DESTDIR)$(PREFIX)/share/pbook'
+	install -m 755 $(SHARED_SCRIPTS) '$(DESTDIR)$(PREFIX)/share/pbook'
 
 # Packs what `make install` puts in place, with the documents and examples, as
 # build/pbook-VERSION-x86_64-linux.tar.gz, beside its checksum.
@@ -37,23 +64,26 @@ dist: $(PROGRAM)
 	@sh scripts/dist.sh
 
 # The main job on the bundled examples, with all comparisons: by the proved program where it stands,
-# else by a build without proof.
+# else by that of `make unproved`, which it leaves.
 demo:
 	@sh scripts/demo.sh
 
 # Builds the program once without proof, with a check in the place of each, and tries it in a few
 # minutes. Nothing is proved.
 check:
+	@$(WANTS_TOOLCHAIN)
 	@sh scripts/check.sh
 
 # Proves each crate and keeps what is proved where `rt check` takes it, so that a changed body has
 # its answer in half a minute. JOBS=number has so many crates proved at a time.
 dev:
+	@$(WANTS_TOOLCHAIN)
 	@sh scripts/dev.sh
 
 # The gate: proves every crate from nothing, tries the mistakes that nobody may make, and runs what
 # the programs print. It leaves the libraries that it proved for `make test-bodies`.
 test:
+	@$(WANTS_TOOLCHAIN)
 	@sh scripts/named_mistakes.sh
 	@scripts/bodies.py --before-gate
 	rt ci
@@ -61,6 +91,7 @@ test:
 
 # Has the prover refuse all other wrong bodies, many in a run. CRATE=pb_io tries those of one crate.
 test-bodies:
+	@$(WANTS_TOOLCHAIN)
 	@scripts/bodies.py $(CRATE)
 
 # All that is tried of the program in a hostile world, but for collectors that are killed on their
@@ -68,7 +99,7 @@ test-bodies:
 # than build/pbook. WRONG_PROGRAMS=1 tries too that wrong programs are seen, which takes some minutes
 # more.
 test-hostile: test-files test-order test-locks test-messages test-memory test-growths test-io \
-    test-noise test-replies test-dist $(if $(WRONG_PROGRAMS),test-wrong-programs)
+    test-noise test-replies test-completions test-examples test-dist $(if $(WRONG_PROGRAMS),test-wrong-programs)
 	@sh tests/shellcheck.sh
 
 # Tries what is left of a book's file by full disks, links, missing permissions and runs that are
@@ -91,6 +122,7 @@ test-messages: build
 # Builds programs with the mistakes of tests/wrong_programs/, which proofs let pass, and tries that
 # the check which each mistake names sees it. A program takes a minute or two.
 test-wrong-programs:
+	@$(WANTS_TOOLCHAIN)
 	@sh tests/wrong_programs.sh
 
 # Refuses each growth of memory of each command in turn, and looks at what is put and what is left
@@ -110,11 +142,20 @@ test-io: build
 # Runs each command on examples, random bytes, and packed and cut files, with AddressSanitizer and
 # checks in place of proofs.
 test-noise:
+	@$(WANTS_TOOLCHAIN)
 	@sh tests/noise.sh
 
-# Tries that each reply has gone out before the next line is waited for.
+# Tries that each answer has gone out before the next line is waited for.
 test-replies: build
 	@sh tests/replies.sh
+
+# Has bash, zsh and fish complete words of command lines, as far as they are installed.
+test-completions:
+	@sh tests/completions.sh
+
+# Runs the scripts of examples/ for users, and what they do at faults.
+test-examples: $(PROGRAM)
+	@sh tests/examples.sh
 
 # Unpacks what `make dist` packs in an empty folder, follows the links of its documents, and makes
 # a book there.
@@ -151,6 +192,7 @@ bench: build $(EXAMPLES)
 
 # Running worked_examples proves and builds it, and ends for want of rows.
 $(EXAMPLES): $(SOURCES) $(wildcard crates/rows/src/*.rt crates/worked_examples/src/*.rt)
+	@$(WANTS_TOOLCHAIN)
 	@mkdir -p build
 	@rm -f $@
 	@cd crates/worked_examples && { rt run > ../../build/bench.log 2>&1 < /dev/null || \

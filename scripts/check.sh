@@ -39,13 +39,13 @@ leave() {
 trap leave EXIT
 trap 'exit 1' HUP INT TERM
 
-# build HOW NAME: has this function of tests/lib/unproved.sh build a program as $room/NAME
+# build HOW NAME: has this function of scripts/lib/unproved.sh build a program as $room/NAME
 build() {
     work=$room/of-$2
     mkdir "$work"
     building=
     trap '[ -z "$building" ] || kill "$building"; exit 1' TERM
-    . tests/lib/unproved.sh
+    . scripts/lib/unproved.sh
     "$1" "$top" "$room/$2"
 }
 

@@ -15,7 +15,7 @@
 set -eu
 unset PROGRAM
 . tests/lib/harness.sh
-. tests/lib/unproved.sh
+. scripts/lib/unproved.sh
 
 # copy_tree: makes $work/tree, a copy of all that the program is built from
 copy_tree() {

@@ -1,7 +1,7 @@
 # shellcheck shell=sh
-# Shared by the scripts that build programs without proof. It is read by `.` after
-# tests/lib/harness.sh.
-: "${work:?tests/lib/harness.sh is read first}"
+# Shared by the scripts that build programs without proof. It is read by `.` at the top of the
+# repository, where $work is a folder of the script's own.
+: "${work:?a folder has to be named}"
 
 # holder_of FIFO: the process that has a pipe open as a program that `rt try` has built, and the
 # file of that program, where there is one by now
@@ -15,6 +15,16 @@ holder_of() {
         [ ! -x "$built" ] || return 0
     done < "$work/holders"
     return 1
+}
+
+# end_hint TRY: ends the check that this `rt try` runs beside the build. It only looks for names
+# that a proof would refuse, and takes as long as the build's first half.
+end_hint() {
+    for child in $(cat "/proc/$1/task/$1/children" 2> /dev/null); do
+        if tr '\0' ' ' 2> /dev/null < "/proc/$child/cmdline" | grep -q '^[^ ]*rattle check '; then
+            kill "$child" 2> /dev/null || true
+        fi
+    done
 }
 
 # copy_built FOLDER PROGRAM FLAG..: has `rt try` build the program of this crate's folder with these
@@ -31,6 +41,7 @@ copy_built() {
     exec 8<> "$work/waits"
     found=false
     while kill -0 "$building" 2> /dev/null; do
+        end_hint "$building"
         if holder_of "$work/waits"; then
             cp "$built" "$copied"
             found=true
@@ -40,6 +51,7 @@ copy_built() {
     done
     exec 8>&-
     wait "$building" || true
+    building=
     rm "$work/waits"
     [ "$found" = true ] || {
         cat "$work/printed" "$work/said"
