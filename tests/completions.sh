@@ -149,6 +149,7 @@ typed() {
 # fish_offers DUE LINE: what fish offers at the end of this line, without what it says of them
 fish_offers() {
     printf '%s' "$1" | tr ' ' '\n' | sed '/^$/d; s/:/ /g' | sort > "$work/due"
+    # shellcheck disable=SC2016 # it is for fish
     HOME=$work XDG_CONFIG_HOME=$work fish --no-config -c '
         source $argv[1]
         complete -C $argv[2]' "$installed/pbook.fish" "$2" | cut -f 1 | sort > "$work/offered"
