@@ -1,0 +1,305 @@
+#!/bin/sh
+# Tries the scripts of examples/ that users run on their own games, as `make install` puts them in
+# place: pgn_to_lines.sh, client.py and nightly, and what they do at faults. The first check that
+# doesn't hold ends it. Those that want another program are left out where it isn't installed.
+# Usage: PROGRAM=program tests/examples.sh [CHECK..] (at the top of the repository; all checks where
+# none is given).
+set -eu
+PROGRAM=${PROGRAM:-build/pbook}
+. tests/lib/harness.sh
+. tests/lib/places.sh
+PATH=$PATH:/usr/games
+make -s install PROGRAM="$PROGRAM" PREFIX="$work/put"
+top=$PWD
+shared=$work/put/share/pbook
+start='rnbqkbnr/pppppppp/8/8/8/8/PPPPPPPP/RNBQKBNR w KQkq - 0 1'
+
+# as_pgn: the games of these submission lines as pgn-extract writes them, without a move number
+as_pgn() {
+    awk -F'\t' '{ printf "[Event \"?\"]\n[Result \"%s\"]\n[FEN \"%s\"]\n[SetUp \"1\"]\n\n%s%s%s\n\n",
+        $2, $3, $4, $4 == "" ? "" : " ", $2 }'
+}
+
+# tells_of STATUS TEXT COMMAND..: whether the command ends with this status, and these are the lines
+# on its standard error. What it prints is in `printed`.
+tells_of() {
+    due=$1 status=0
+    printf '%s' "$2" > due
+    [ -z "$2" ] || echo >> due
+    shift 2
+    "$@" > printed 2> told || status=$?
+    if [ "$status" -eq "$due" ] && cmp -s due told; then return; fi
+    echo "    the status is $status; what is due on standard error (<), and what is there (>):"
+    diff due told | sed 's/^/    /'
+    return 1
+}
+
+lines_of_pgn() {
+    head -n 60 "$work/games" | tr -d '\r' > games
+    sed 40q games | as_pgn | pgn-extract -s -Wsan > one.pgn
+    sed 1,40d games | as_pgn | pgn-extract -s -Wsan > two.pgn
+    # The last line has no end, and no empty line follows it.
+    head -c -2 one.pgn > short && mv short one.pgn
+    gzip -c two.pgn > two.pgn.gz
+    holds tells_of 0 'pgn_to_lines.sh: one.pgn: 40 games, 0 left out, 0 cut
+pgn_to_lines.sh: two.pgn.gz: 20 games, 0 left out, 0 cut' \
+        "$shared/pgn_to_lines.sh" w1 one.pgn two.pgn.gz
+    awk -F'\t' -v OFS='\t' '{ $1 = "w1-" NR; print }' games > lines
+    holds cmp printed lines
+}
+
+# Of five games the second one isn't legal, and the fourth one has no result.
+bad_pgn() {
+    {
+        printf '[Event "1"]\n[Result "1-0"]\n\n1. e4 e5 2. Nf3 1-0\n\n'
+        printf '[Event "2"]\n[Result "1-0"]\n\n1. e4 e5 2. Nf6 1-0\n\n'
+        printf '[Event "3"]\n[Result "0-1"]\n\n1. d4 {+0.3/12 0.5s} d5 (1... Nf6 2. c4) 2. c4 0-1\n\n'
+        printf '[Event "4"]\n[Result "1-0"]\n\n1. e4 c5\n\n'
+        printf '[Event "5"]\n[Result "*"]\n\n1. c4 e5 *\n'
+    } > bad.pgn
+    holds tells_of 0 'pgn_to_lines.sh: bad.pgn: 5 games, 1 left out, 1 cut' \
+        "$shared/pgn_to_lines.sh" w1 bad.pgn
+    {
+        printf 'w1-1\t1-0\t%s\te2e4 e7e5 g1f3\n' "$start"
+        printf 'w1-2\t0-1\t%s\td2d4 d7d5 c2c4\n' "$start"
+        printf 'w1-4\t*\t%s\tc2c4 e7e5\n' "$start"
+    } > due
+    grep -v '^w1-3' printed > lines
+    holds cmp due lines
+}
+
+no_pgn() {
+    : > empty.pgn
+    gzip -c "$shared/games.pgn" | head -c 2000 > cut.pgn.gz
+    holds tells_of 1 "pgn_to_lines.sh: no.pgn can't be read" "$shared/pgn_to_lines.sh" w1 no.pgn
+    holds test ! -s printed
+    holds tells_of 1 "pgn_to_lines.sh: usage: pgn_to_lines.sh NAME FILE.. > lines" \
+        "$shared/pgn_to_lines.sh" no.pgn
+    holds tells_of 1 'pgn_to_lines.sh: empty.pgn: 0 games, 0 left out, 0 cut
+submissions.awk: no games came' "$shared/pgn_to_lines.sh" w1 empty.pgn
+    holds ends 1 "$shared/pgn_to_lines.sh" w1 cut.pgn.gz > printed 2> told
+    holds test "$(tail -n 1 told)" = 'pgn_to_lines.sh: a file was not read to its end'
+    holds test "$(wc -l < printed)" -gt 1
+}
+
+# The bundled games: 20, of which one has no result, and four begin elsewhere.
+bundled_pgn() {
+    holds tells_of 0 'pgn_to_lines.sh: games.pgn: 20 games, 0 left out, 0 cut' \
+        in_shared ./pgn_to_lines.sh w1 games.pgn
+    holds test "$(cut -f 3 printed | sort | uniq -c | awk '{ print $1 }' | tr '\n' ' ')" = '4 16 '
+    mv printed lines
+    holds tells_of 0 '' "$PROGRAM" collect -q --plies 24 --least 3 "$table" book.bin < lines
+    holds test "$(grep -c '^ok' printed)" -eq 19
+    holds test "$(grep -v '^ok' printed)" = 'refused w1-11 result'
+    holds test -s book.bin
+}
+in_shared() (cd "$shared" && exec "$@")
+
+# client STATUS TEXT FILE..: whether the client so ends over the lines of these files
+client() {
+    wanted=$1 text=$2
+    shift 2
+    PBOOK=$PROGRAM holds tells_of "$wanted" "$text" \
+        timeout "$patience" "$shared/client.py" "${asked:-$table}" "$book" "$journal" "$@"
+}
+
+client_answers() {
+    : > "$journal"
+    "$PROGRAM" collect -q "$table" other.bin < "$work/games" > replies
+    head -n 100 "$work/games" > first
+    tail -n +101 "$work/games" > later
+    client 0 '' first later
+    holds cmp printed replies
+    holds is_new "$book"
+    # The games of the journal are known again.
+    client 0 '' later
+    tail -n +101 replies > due
+    holds cmp printed due
+    holds is_new "$book"
+}
+
+client_faults() {
+    client 3 "pbook: $journal: no such file (an empty one begins a journal)" "$work/games"
+    : > "$journal"
+    client 1 'client.py: [Errno 2] No such file or directory: '"'no.txt'" no.txt
+    head -n 9 "$table" > short
+    asked=short
+    client 1 'pbook: short: a table has 781 lines, and this one 9' "$work/games"
+    holds test ! -s printed
+}
+
+# python COMMANDS: runs these over the module, as a caller does
+python() {
+    PYTHONPATH=$shared timeout "$patience" python3 -B -c "
+import os, signal, sys, threading
+from client import Collector, Ended
+program, table, book, journal, games = sys.argv[1:]
+lines = open(games, newline='\\n').read().splitlines()
+def collector(): return Collector(table, book, journal, '-q', program=program)
+$1" "$PROGRAM" "$table" "$book" "$journal" "$work/games"
+}
+
+# A child that is killed loses no answered game, and a new one goes on.
+client_killed() {
+    : > "$journal"
+    holds python '
+first = collector()
+for line in lines[:100]: first.submit(line)
+first.child.kill()
+first.child.wait()
+try:
+    first.submit(lines[100])
+    sys.exit("no end was told")
+except Ended as ended:
+    assert ended.status == -signal.SIGKILL, ended.status
+try:
+    first.close()
+    sys.exit("the book is told as made")
+except Ended:
+    assert not os.path.exists(book)'
+    holds python '
+with collector() as again:
+    answers = [again.submit(line) for line in lines[100:]]
+print(*(" ".join(words) for words in answers), sep="\n")' > printed
+    "$PROGRAM" collect -q "$table" other.bin < "$work/games" | tail -n +101 > replies
+    holds cmp printed replies
+    holds is_new "$book"
+}
+
+# A refused game with the id `table` is no refused table, and a line is one line.
+client_lines() {
+    : > "$journal"
+    holds python '
+start = lines[0].split("\t")[2]
+with collector() as it:
+    assert it.submit(f"table\t1-0\t{start}\te2e5") == ["refused", "table", "illegal", "1"]
+    assert it.submit("no game") == ["refused", "-", "shape"]
+    assert it.submit("") == ["refused", "-", "shape"]
+    assert it.submit("\u00e9\t1-0\t\t") == ["refused", "-", "id"]
+    try:
+        it.submit("one\ntwo")
+        sys.exit("two lines were submitted")
+    except ValueError:
+        pass
+    assert it.submit(f"table\t1-0\t{start}\te2e4") == ["ok", "table", "1"]'
+}
+
+# Each thread gets the answers to its own lines.
+client_threads() {
+    : > "$journal"
+    holds python '
+lines = [line for line in lines if line.count("\t") == 3][:240]
+wrong = []
+def work(it, mine):
+    for line in mine:
+        answer = it.submit(line)
+        if answer[1] != line.split("\t")[0]: wrong.append(answer)
+with collector() as it:
+    threads = [threading.Thread(target=work, args=(it, lines[n::8])) for n in range(8)]
+    for thread in threads: thread.start()
+    for thread in threads: thread.join()
+assert not wrong, wrong'
+}
+
+# night STATUS TEXT [OPTION..]: whether a night in the folder $place/srv ends so, by a line that is
+# run as cron does: by sh, in another folder, with few variables
+night() {
+    due_status=$1 text=$2
+    shift 2
+    holds tells_of "$due_status" "$text" env -i HOME=/ LOGNAME=nobody PATH=/usr/bin:/bin \
+        /bin/sh -c "cd / && $shared/nightly $place/srv $*"
+    holds test ! -s printed
+    # No draft of the answers is left.
+    holds test -z "$(find srv -name '.replies.*')"
+}
+
+# begin_nights: the folder before the first night
+begin_nights() {
+    mkdir srv
+    cp "$table" srv/table.txt
+    : > srv/games.ledger
+}
+
+nights() {
+    begin_nights
+    head -n 150 "$work/games" > srv/tonight.txt
+    night 0 ''
+    holds test "$(wc -l < srv/replies)" -eq 150
+    tail -n +100 "$work/games" > srv/tonight.txt
+    night 0 ''
+    holds is_new srv/book.bin
+    holds test "$(wc -l < srv/replies)" -eq "$(wc -l < srv/tonight.txt)"
+    holds test ! -e srv/replies.failed
+    # Options are handed on: the first plies alone are counted.
+    night 0 '' --plies 2 --least 3
+    holds cmp srv/book.bin "$top/tests/data/few.bin"
+}
+
+# A last line without an end isn't taken. The whole game is, a night later.
+cut_night() {
+    begin_nights
+    head -n 9 "$work/games" > whole
+    head -c -20 whole > srv/tonight.txt
+    night 0 'nightly: tonight.txt has a last line without an end, which is left out'
+    holds test "$(wc -l < srv/replies)" -eq 8
+    cp whole srv/tonight.txt
+    night 0 ''
+    holds test "$(count '^ok' srv/replies)" -eq 9
+}
+
+bad_nights() {
+    begin_nights
+    night 1 "nightly: there is no $place/srv/tonight.txt"
+    cp "$work/games" srv/tonight.txt
+    night 0 ''
+    cp srv/replies before
+    failed="nightly: pbook ended with status 3; $place/srv/replies.failed has its answers"
+    # Another run holds the ledger.
+    exec 7< srv/games.ledger
+    flock -n 7
+    night 3 "pbook: games.ledger is in use by another run
+$failed"
+    exec 7<&-
+    holds cmp srv/replies before
+    holds test "$(cat srv/replies.failed)" = 'fault open'
+    holds is_new srv/book.bin
+    rm srv/games.ledger
+    night 3 "pbook: games.ledger: no such file (an empty one begins a ledger)
+$failed"
+    holds is_new srv/book.bin
+}
+
+# The line that the script shows is one that cron takes.
+crontab_line() {
+    sed -n 's/^#     \(.*nightly .*\)/\1/p' "$top/examples/nightly" > tab
+    holds test "$(wc -l < tab)" -eq 1
+    holds is_crontab tab
+    printf '30 3 * * * one\nsecond line\n' > wrong
+    holds not is_crontab wrong
+}
+# is_crontab FILE: whether cron would take this file
+is_crontab() { crontab "$judging" "$1" > said 2>&1; }
+
+# judges_crontabs: whether cron looks at a file without installing it, which one cron does by -T and
+# another by -n
+judges_crontabs() {
+    judging=
+    case $(crontab -h 2>&1) in
+        *' -T '*) judging=-T ;;
+        *'-n'*'dry run'*) judging=-n ;;
+    esac
+    [ -n "$judging" ]
+}
+has_pgn_extract() { has pgn-extract && has gzip; }
+if [ $# -eq 0 ]; then
+    choose has_pgn_extract 'pgn-extract and gzip are wanted' lines_of_pgn bad_pgn no_pgn bundled_pgn
+    choose 'has python3' 'python3 is wanted' client_answers client_faults client_killed \
+        client_lines client_threads
+    choose true '' nights cut_night
+    choose 'has flock' 'flock is wanted' bad_nights
+    choose judges_crontabs 'a crontab that looks at files is wanted' crontab_line
+    # shellcheck disable=SC2086 # each name is a word
+    set -- $chosen
+fi
+for name; do check "$name" in_folder "$name"; done
+finish
