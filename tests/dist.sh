@@ -129,13 +129,32 @@ submissions() {
     holds refuses awk -f examples/submissions.awk /dev/null
 }
 
-# from_pgn: the commands from PGN to a book, as README has them, make PolyGlot's own entries
-from_pgn() {
-    cd "$work/unpacked/top"
+# steps: the commands from PGN to a book, as README has them, are in $work/commands
+steps() {
     sed -n 's/^       \([a-z].*[a-z].* > [a-z.]*\)$/\1/p' README.md > "$work/commands"
     holds test "$(wc -l < "$work/commands")" -eq 3
+}
+
+# from_bundled_pgn: these commands, run as they stand there, make a book of the bundled games: 20,
+# of which one has no result
+from_bundled_pgn() {
+    cd "$work/unpacked/top"
+    steps
+    holds grep -q ' examples/games.pgn ' "$work/commands"
+    env PATH="$PWD/bin:$PATH" sh -eu "$work/commands" 2> "$work/errors"
+    holds test "$(grep -c '^ok ' replies)" -eq 19
+    holds test "$(grep -v '^ok ' replies)" = 'refused w1-11 result'
+    holds test -s book.bin
+    rm lines table.txt replies book.bin
+}
+
+# from_pgn: over other games the same commands make PolyGlot's own entries
+from_pgn() {
+    cd "$work/unpacked/top"
+    steps
     printed_games | tr -d '\r' > "$work/moves.pgn"
     pgn-extract -s -Wsan "$work/moves.pgn" > games.pgn 2> "$work/errors"
+    sed -i 's| examples/games.pgn | games.pgn |' "$work/commands"
     env PATH="$PWD/bin:$PATH" sh -eu "$work/commands" 2>> "$work/errors"
     polyglot make-book -pgn games.pgn -bin other.bin -max-ply 24 -min-game 3 > "$work/told"
     for book in book.bin other.bin; do
@@ -145,6 +164,45 @@ from_pgn() {
     holds cmp "$work/book.bin.entries" "$work/other.bin.entries"
     note "$(wc -l < "$work/book.bin.entries") entries"
 }
+
+# shared: what converts games is packed twice, in examples and where `make install` puts it
+shared() {
+    cd "$work/unpacked/top"
+    for file in games.pgn submissions.awk client.py nightly pgn_to_lines.sh table_from_polyglot.sh; do
+        holds cmp "examples/$file" "share/pbook/$file"
+    done
+    for file in examples/*.sh examples/*.py examples/nightly share/pbook/*.sh share/pbook/nightly; do
+        holds test -x "$file"
+    done
+}
+
+# says_only_why COMMAND..: whether this command fails, and prints one line that says why, beside
+# those of make
+says_only_why() {
+    if "$@" > "$work/said" 2>&1; then return 1; fi
+    grep -v '^make.*Error 1$' "$work/said" > "$work/why"
+    [ "$(wc -l < "$work/why")" -eq 1 ]
+}
+
+# no_program: where no program stands, none is made, and nothing is put in place or packed
+no_program() {
+    holds says_only_why make install PROGRAM="$work/none" PREFIX="$work/nothing"
+    holds grep -q "^make: no program stands at $work/none" "$work/why"
+    holds test ! -e "$work/nothing"
+    PROGRAM=$work/none holds says_only_why sh scripts/dist.sh "$work/nothing"
+    holds grep -q "^dist: no program stands at $work/none" "$work/why"
+    holds test ! -e "$work/nothing"
+}
+
+# no_toolchain: each goal that needs the toolchain says so where it isn't there. The goal is made
+# anew, so that it isn't passed over for what stands.
+no_toolchain() {
+    for goal in build unproved check dev test test-bodies test-noise test-wrong-programs; do
+        holds says_only_why env PATH=/usr/bin:/bin make -B "$goal"
+        holds grep -q '^make: [a-z/-]* needs the Rattle toolchain' "$work/why"
+    done
+}
+no_rt_there() { ! env PATH=/usr/bin:/bin sh -c 'command -v rt' > /dev/null; }
 
 # table_refused: other numbers than PolyGlot's are refused, and so are a file of another kind and
 # none
@@ -171,8 +229,16 @@ check "README's first commands print what stands there" first_run
 check 'two workers make the bundled book' workers
 check 'submissions.awk makes submissions' submissions
 check 'another table is refused' table_refused
+check 'what converts games lies in share/pbook too' shared
+check 'where no program stands, none is made' no_program
+if no_rt_there; then
+    check 'goals say that they need the toolchain' no_toolchain
+else
+    leave_out 'rt is in /usr/bin' 'goals say that they need the toolchain'
+fi
 if has pgn-extract && has polyglot; then
-    check 'from PGN to a book by the commands of README' from_pgn
+    check 'from PGN to a book by the commands of README' from_bundled_pgn
+    check "over other games they make PolyGlot's entries" from_pgn
 else
     leave_out 'pgn-extract and polyglot are wanted' 'from PGN to a book'
 fi

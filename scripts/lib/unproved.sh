@@ -20,7 +20,7 @@ holder_of() {
 # end_hint TRY: ends the check that this `rt try` runs beside the build. It only looks for names
 # that a proof would refuse, and takes as long as the build's first half.
 end_hint() {
-    for child in $(cat "/proc/$1/task/$1/children" 2> /dev/null); do
+    tr ' ' '\n' 2> /dev/null < "/proc/$1/task/$1/children" | while read -r child; do
         if tr '\0' ' ' 2> /dev/null < "/proc/$child/cmdline" | grep -q '^[^ ]*rattle check '; then
             kill "$child" 2> /dev/null || true
         fi
