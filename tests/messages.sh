@@ -8,6 +8,7 @@ set -eu
 PROGRAM=${PROGRAM:-build/pbook}
 . tests/lib/harness.sh
 . tests/lib/places.sh
+cp examples/export.epd "$work/export"
 start='rnbqkbnr/pppppppp/8/8/8/8/PPPPPPPP/RNBQKBNR w KQkq - 0 1'
 
 # prepare: the folder of a check has a table, an old book and a file of games
@@ -35,13 +36,13 @@ input=games
 missing_files() {
     prepare
     for words in 'collect no.txt book.bin' 'export no.txt' 'probe no.txt no.bin x' \
-        'games no.txt' 'games games no.txt' \
+        'lookup no.txt no.bin' 'games no.txt' 'games games no.txt' \
         'collect --ledger games no.txt book.bin' 'collect --journal games no.txt book.bin'; do
         # shellcheck disable=SC2086 # each word is one
         holds tells_of 3 'no.txt: no such file or directory' "$PROGRAM" $words
         holds says_only 'fault open'
     done
-    for words in 'show no.bin' 'probe table.txt no.bin x'; do
+    for words in 'show no.bin' 'probe table.txt no.bin x' 'lookup table.txt no.bin'; do
         # shellcheck disable=SC2086
         holds tells_of 3 'no.bin: no such file or directory' "$PROGRAM" $words
         holds says_only 'fault open'
@@ -101,14 +102,15 @@ failed_reads() {
     prepare
     mkdir folder
     for words in 'collect folder book.bin' 'export folder' 'show folder' 'probe folder book.bin x' \
-        'games folder' \
+        'games folder' 'lookup folder book.bin' 'lookup table.txt folder' \
         'probe table.txt folder x'; do
         # shellcheck disable=SC2086
         holds tells_of 3 'folder: is a directory' "$PROGRAM" $words
         holds says_only 'fault read'
     done
     input=folder
-    for words in epd 'export table.txt' 'collect table.txt book.bin'; do
+    for words in epd check 'lookup table.txt book.bin' 'export table.txt' \
+        'collect table.txt book.bin'; do
         # shellcheck disable=SC2086
         holds tells_of 3 'standard input: is a directory' "$PROGRAM" $words
         holds says_only 'fault read'
@@ -123,13 +125,60 @@ full_output() {
     prepare
     echo "${start% 0 1} ce 1;" > lines
     runner=to_full
-    for words in 'collect table.txt book.bin' 'export table.txt' 'show book.bin' 'games games'; do
+    for words in 'collect table.txt book.bin' 'export table.txt' 'show book.bin' 'games games' \
+        check; do
         # shellcheck disable=SC2086
         holds tells_of 3 'standard output: no space left on device' "$PROGRAM" $words
     done
     holds tells_of 3 'standard output: no space left on device' "$PROGRAM" fen "$start"
     input=lines
-    holds tells_of 3 'standard output: no space left on device' "$PROGRAM" epd
+    for words in epd 'lookup table.txt book.bin'; do
+        # shellcheck disable=SC2086
+        holds tells_of 3 'standard output: no space left on device' "$PROGRAM" $words
+    done
+    holds is_old book.bin
+}
+
+# to_nobody COMMAND..: runs the command, whose output goes into a pipe that nobody reads any more
+to_nobody() {
+    rm -f gone
+    {
+        awaits test -e gone
+        to_nobody_status=0
+        "$@" || to_nobody_status=$?
+        echo "$to_nobody_status" > status
+    } | {
+        exec 0<&-
+        : > gone
+    }
+    return "$(cat status)"
+}
+
+# Whoever closes a pipe has seen enough, so that isn't told; but who sends games waits for answers.
+closed_pipe() {
+    prepare
+    echo "${start% 0 1} ce 1;" > lines
+    runner=to_nobody
+    for words in 'export table.txt' 'show book.bin' 'games games' check; do
+        # shellcheck disable=SC2086
+        holds tells_of 3 '' "$PROGRAM" $words
+    done
+    holds tells_of 3 '' "$PROGRAM" fen "$start"
+    holds tells_of 3 '' "$PROGRAM" probe table.txt book.bin "$start"
+    input=lines
+    for words in epd 'lookup table.txt book.bin'; do
+        # shellcheck disable=SC2086
+        holds tells_of 3 '' "$PROGRAM" $words
+    done
+    # Help and usage are texts too, whose status stays.
+    holds tells_of 2 '' "$PROGRAM" --help
+    input=games
+    : > kept
+    for words in 'table.txt book.bin' '-q table.txt book.bin' '--ledger kept table.txt book.bin' \
+        '--journal kept table.txt book.bin'; do
+        # shellcheck disable=SC2086
+        holds tells_of 3 'standard output: broken pipe' "$PROGRAM" collect $words
+    done
     holds is_old book.bin
 }
 
@@ -183,45 +232,86 @@ refused_tables() {
     head -n 780 "$work/table" > short
     cat "$work/table" "$work/table" > long
     head -c 20000 /dev/zero | tr '\0' '0' | fold -w 16 > longer
-    for words in 'collect TABLE book.bin' 'export TABLE' 'probe TABLE book.bin x'; do
+    others
+    for words in 'collect TABLE book.bin' 'export TABLE' 'probe TABLE book.bin x' \
+        'lookup TABLE book.bin'; do
         while IFS='|' read -r file text; do
             # shellcheck disable=SC2046 # each word is one
             holds tells_of 1 "$file: $text" "$PROGRAM" $(echo "$words" | sed "s/TABLE/$file/")
         done << END
-one|line 1 isn't 16 hexadecimal digits; is it a book?
-two|line 1 isn't 16 hexadecimal digits; is it a book?
+one|line 1 isn't 16 hexadecimal digits; it looks like a book
+two|line 1 isn't 16 hexadecimal digits
 five|line 5 isn't 16 hexadecimal digits
 short|a table has 781 lines, and this one 780
-longer|it is longer than a table; is it a book?
+longer|it is longer than a table
+pgn|line 1 isn't 16 hexadecimal digits; it looks like PGN
+packed|line 1 isn't 16 hexadecimal digits; it is packed by gzip; zcat unpacks it
+games|line 1 isn't 16 hexadecimal digits; it looks like games
+long_pgn|it is longer than a table; it looks like PGN
+all_games|it is longer than a table; it looks like games
 END
     done
     holds is_old book.bin
 }
 
+# others: files of other kinds than tables and books
+others() {
+    printf '[Event "one game"]\n[Result "1-0"]\n\n1. e4 e5 2. Nf3 1-0\n' > pgn
+    { cat pgn && head -c 20000 /dev/zero | tr '\0' ' '; } > long_pgn
+    { printf '\037\213' && head -c 30 /dev/zero; } > packed
+    cp "$work/games" all_games
+    printf 'text of another kind\nand more of it\n' > text
+}
+
 refused_books() {
     prepare
+    others
     head -c 1601 "$work/new" > cut.bin
     { tail -c 16 "$work/new" && cat "$work/new"; } > unordered.bin
-    for words in 'show BOOK' "probe table.txt BOOK x"; do
+    for words in 'show BOOK' 'probe table.txt BOOK x' 'lookup table.txt BOOK'; do
         while IFS='|' read -r file text; do
             # shellcheck disable=SC2046
             holds tells_of 1 "$file: $text" "$PROGRAM" $(echo "$words" | sed "s/BOOK/$file/")
         done << END
-cut.bin|its last entry has 1 of 16 bytes; is it a book?
-unordered.bin|entry 2 has a lower key than the one before it; is it a book?
-table.txt|entry 2 has a lower key than the one before it; is it a book?
+cut.bin|its last entry has 1 of 16 bytes
+unordered.bin|entry 2 has a lower key than the one before it
+table.txt|entry 2 has a lower key than the one before it; it looks like a table
+pgn|entry 2 has a lower key than the one before it; it looks like PGN
+packed|entry 2 has a lower key than the one before it; it is packed by gzip; zcat unpacks it
+games|entry 2 has a lower key than the one before it; it looks like games
+text|entry 2 has a lower key than the one before it; it is text
 END
     done
+    # A pipe gives its bytes once, so it isn't looked at again.
+    mkfifo pipe
+    cat pgn > pipe &
+    holds tells_of 1 'pipe: entry 2 has a lower key than the one before it' "$PROGRAM" show pipe
 }
 
 refused_ledger() {
     prepare
     : > games.ledger
+    cp "$work/new" new.bin
+    cp table.txt other_table
     holds tells_of 0 '' "$PROGRAM" collect --ledger games.ledger table.txt book.bin
+    cp "$work/old" book.bin
     sed '5s/.*/no game/' games.ledger > broken
     holds tells_of 1 "broken: line 5 isn't a game that can be taken" \
         "$PROGRAM" collect --ledger broken table.txt book.bin
     holds says_only 'refused ledger line 5'
+    others
+    while IFS='|' read -r file text; do
+        holds tells_of 1 "$file: line 1 isn't a game that can be taken$text" \
+            "$PROGRAM" collect --ledger "$file" table.txt book.bin
+        holds says_only 'refused ledger line 1'
+    done << END
+pgn|; it looks like PGN
+packed|; it is packed by gzip; zcat unpacks it
+new.bin|; it looks like a book
+other_table|; it looks like a table
+text|
+END
+    holds is_old book.bin
 }
 
 # A saved ledger ends in LF, and an old list needn't.
@@ -241,18 +331,47 @@ games.ledger: line $(wc -l < whole) isn't a game that can be taken"
     holds tells_of 0 '' "$PROGRAM" collect --ledger games.ledger table.txt book.bin
 }
 
-# What no file has refused isn't told: the output has it.
+# A refused record or move is told in words. What was refused of lines isn't told: the output has
+# that.
 refused_words() {
     prepare
-    holds tells_of 1 '' "$PROGRAM" fen "$start" e2e5
-    holds tells_of 1 '' "$PROGRAM" fen 'no record'
-    holds tells_of 1 '' "$PROGRAM" probe table.txt book.bin 'no record'
+    while IFS='|' read -r record reason text; do
+        holds tells_of 1 "FEN: $text" "$PROGRAM" fen "$record"
+        holds says_only "refused fen $reason"
+        holds tells_of 1 "FEN: $text" "$PROGRAM" probe table.txt book.bin "$record"
+        holds says_only "refused fen $reason"
+    done << 'END'
+no record|fields|it doesn't have six fields, one space between each two
+startpos|fields|it doesn't have six fields, one space between each two
+4k3/8/8/8/8/8/8/4K3 w - - 0 1 |fields|it doesn't have six fields, one space between each two
+4k3/44/8/8/8/8/8/4K3 w - - 0 1|placement|its first field isn't eight ranks of pieces and empty squares
+4k3/8/8/8/8/8/8/4K3 W - - 0 1|turn|its second field isn't w or b
+4k3/8/8/8/8/8/8/4K3 w qK - 0 1|castling|its third field isn't - or letters of KQkq in this order
+4k3/8/8/8/8/8/8/4K3 w - e3 0 1|ep-text|its fourth field isn't - or a square that a pawn can have passed over
+4k3/8/8/8/8/8/8/4K3 w - - 01 1|half|its fifth field isn't a number from 0 to 65535
+4k3/8/8/8/8/8/8/4K3 w - - 0 0|full|its sixth field isn't a number from 1 to 65535
+4k3/8/8/8/8/8/8/8 w - - 0 1|kings|it doesn't have one king of each colour
+4k2P/8/8/8/8/8/8/4K3 w - - 0 1|pawns|it has a pawn on rank 1 or 8
+4k3/8/8/8/8/8/8/4K3 w - e6 0 1|ep-pawn|no pawn has just passed over its en passant square
+END
+    holds tells_of 1 "move 1: it isn't legal there" "$PROGRAM" fen "$start" e2e5
+    holds tells_of 1 "move 3: it isn't legal there" "$PROGRAM" fen "$start" e2e4 e7e5 e4e5
+    holds says_only 'refused illegal 3'
+    holds tells_of 1 "move 2: it isn't spelt like e2e4 or e7e8q" \
+        "$PROGRAM" fen "$start" e2e5 Nf6 e7e5
+    holds says_only 'refused spelling 2'
     holds tells_of 1 '' "$PROGRAM" epd
+    holds tells_of 1 '' "$PROGRAM" lookup table.txt book.bin
+    { cat games && echo 'no game'; } > bad
+    input=bad
+    holds tells_of 1 '' "$PROGRAM" check
+    holds test "$(tail -n 1 "$work/replies")" = 'refused - shape'
 }
 
 wrong_use() {
     input=/dev/null
-    for words in colect collect 'collect --plies x table.txt book.bin' 'show one two'; do
+    for words in colect collect 'collect --plies x table.txt book.bin' 'show one two' \
+        'collect --later table.txt book.bin' 'games' 'probe t b f more'; do
         # shellcheck disable=SC2086
         "$PROGRAM" $words > due.put 2> /dev/null || true
         first=$(sed -n '1s/^error: //p' due.put)
@@ -260,6 +379,48 @@ wrong_use() {
         # shellcheck disable=SC2086
         holds tells_of 2 "$first" "$PROGRAM" $words
         holds cmp "$work/replies" due.put
+    done
+}
+
+# A file that is named where lines come on standard input is told how it comes there, behind what
+# else is told of wrong use.
+words_too_many() {
+    input=/dev/null
+    while IFS='|' read -r words text; do
+        # shellcheck disable=SC2086 # each word is one
+        holds tells_of 2 "unexpected argument 'x.txt' found
+$text come on standard input: < x.txt" "$PROGRAM" $words
+        holds grep -q "^Usage: pbook ${words%% *} .*< " "$work/replies"
+    done << 'END'
+collect table.txt book.bin x.txt|games
+collect --plies 8 table.txt book.bin x.txt|games
+export table.txt x.txt|games
+check x.txt|games
+epd x.txt|positions
+lookup table.txt book.bin x.txt|positions
+END
+}
+
+# A terminal of 80 columns shows each line of help whole.
+help_width() {
+    input=/dev/null
+    commands=$("$PROGRAM" --help | sed -n '/^Commands:/,/^$/s/^  \([a-z]*\) .*/\1/p')
+    holds test "$(echo "$commands" | sort | tr '\n' ' ')" = \
+        'check collect epd export fen games help lookup probe show '
+    for command in '' $commands; do
+        [ "$command" != help ] || continue
+        # shellcheck disable=SC2086 # no command is no word
+        holds tells_of 2 '' "$PROGRAM" $command --help
+        awk 'length > 80' "$work/replies" > wide
+        holds test ! -s wide
+        # shellcheck disable=SC2086
+        holds tells_of 2 '' "$PROGRAM" help $command
+        awk 'length > 80' "$work/replies" > wide
+        holds test ! -s wide
+    done
+    for command in collect export epd check lookup; do
+        holds tells_of 2 '' "$PROGRAM" "$command" --help
+        holds grep -q "^Usage: pbook $command .*< [A-Z]* > [A-Z]*$" "$work/replies"
     done
 }
 
@@ -463,6 +624,11 @@ each_told() {
     "$1" new collect table.txt new.bin
     "$1" one_file collect table.txt table.txt
     "$1" export export table.txt
+    "$1" summary collect -q --summary table.txt book.bin
+    "$1" check check
+    "$1" lookup lookup table.txt book.bin
+    "$1" record fen startpos
+    "$1" too_many epd lines
     "$1" games games rotten
     "$1" book show table.txt
     "$1" use colect
@@ -531,6 +697,49 @@ terminal() {
     holds is_new book.bin
 }
 
+# The same line is told anywhere with --summary, alone with -q, and behind all else without.
+summaries() {
+    prepare
+    input=$work/games
+    all=$(echo "$summary" | sed 's/^pbook: //')
+    for option in '' -q; do
+        # shellcheck disable=SC2086 # no option is no word
+        holds tells_of 0 "$all; book.bin: 367 entries" \
+            "$PROGRAM" collect $option --summary table.txt book.bin
+        holds is_new book.bin
+        # shellcheck disable=SC2086
+        holds tells_of 0 "$all" "$PROGRAM" export $option --summary table.txt
+        holds cmp "$work/replies" "$work/export"
+        for kept in ledger journal; do
+            : > "$kept"
+            # shellcheck disable=SC2086
+            holds tells_of 0 "$all; book.bin: 367 entries" \
+                "$PROGRAM" collect $option --summary "--$kept" "$kept" table.txt book.bin
+            # shellcheck disable=SC2086
+            holds tells_of 0 "$again; book.bin: 367 entries" \
+                "$PROGRAM" collect $option --summary "--$kept" "$kept" table.txt book.bin
+        done
+        # A device has no entries that could be counted.
+        # shellcheck disable=SC2086
+        holds tells_of 0 "$all" "$PROGRAM" collect $option --summary table.txt /dev/null
+    done
+    holds tells_of 0 '' "$PROGRAM" collect table.txt book.bin
+    holds tells_of 0 '' "$PROGRAM" export table.txt
+    printf 'no game\nw1\t1-1\t%s\te2e4\n' "$start" > bad
+    input=bad
+    holds tells_of 0 'no game was accepted; book.bin is an empty book
+2 lines: 0 ok (0 new, 0 again), 2 refused (1 shape, 1 result); book.bin: 0 entries' \
+        "$PROGRAM" collect --summary table.txt book.bin
+    holds tells_of 0 '2 lines: 0 ok (0 new, 0 again), 2 refused (1 shape, 1 result); book.bin: 0 entries' \
+        "$PROGRAM" collect -q --summary table.txt book.bin
+    # A fault has no summary.
+    input=$work/games
+    holds tells_of 3 'no.txt: no such file or directory' "$PROGRAM" export --summary no.txt
+    holds tells_of 3 '/dev/full: no space left on device' \
+        "$PROGRAM" collect --summary table.txt /dev/full
+}
+again='322 lines: 320 ok (0 new, 320 again), 2 refused (1 illegal, 1 conflict)'
+
 # What FILE holds is told from new games, where no new one comes too.
 terminal_again() {
     prepare
@@ -580,10 +789,13 @@ terminal_progress() {
     holds test "$(wc -l < replies)" -eq 6
     holds in_terminal "{ $slowly; } | '$PROGRAM' collect -q table.txt book.bin > replies"
     holds test ! -s typescript
-    # An export tells no summary, and leaves the line empty.
-    holds in_terminal "{ $slowly; } | '$PROGRAM' export table.txt > lines"
-    holds grep -Eq '^pbook: [0-9,]+ lines?' shown
-    holds test -z "$(tail -c 1 shown)"
+    new=' (6 new, 0 again)'
+    for command in 'export table.txt' check; do
+        holds in_terminal "{ $slowly; } | '$PROGRAM' $command > lines"
+        holds grep -Eq '^pbook: [0-9,]+ lines?' shown
+        holds grep -qx "pbook: 6 lines: 6 ok$new, 0 refused" shown
+        new=
+    done
     holds in_terminal "{ $slowly; } | '$PROGRAM' export -q table.txt > lines"
     holds test ! -s typescript
     # To a file goes none of it.
@@ -600,11 +812,12 @@ terminal_use() {
 }
 
 if [ $# -eq 0 ]; then
-    choose true '' missing_files one_file failed_reads refused_tables refused_books \
-        refused_ledger refused_words wrong_use asked_help no_game bad_journal_line no_place \
+    choose true '' missing_files one_file failed_reads closed_pipe refused_tables \
+        refused_books refused_ledger \
+        refused_words wrong_use words_too_many help_width asked_help no_game bad_journal_line no_place \
         told_at_once left_out_lines games_to_themselves cut_ledger cut_input no_file
     choose 'test -c /dev/full' '/dev/full is wanted' full_output full_book quiet_faults \
-        without_errors
+        without_errors summaries
     choose 'has gzip' 'gzip is wanted' other_input
     choose can_be_other 'setpriv is wanted' no_permission
     choose can_mount 'nothing can be mounted' full_disk
