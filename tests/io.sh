@@ -5,7 +5,8 @@
 # - Where a call moves one byte, output, status and files are as if it had moved all.
 # - Where a call fails, the status is 3. What is put is a front of what is put else; where a read
 #   failed, it is whole lines and then `fault read`. Only where a text is put because the words
-#   gave no order does the status stay.
+#   gave no order does the status stay, and where a file that was refused is looked at again, for a
+#   hint of what it is: then the hint is missing, and all else is as due.
 # - BOOK is the old one, or none where there was none; it is the new one only where a sync failed,
 #   that of the folder. A file with a second name, which is made in place, may be empty or a front
 #   of the new one too.
@@ -49,6 +50,12 @@ run_hit() {
     judge_errors
 }
 
+# is_lost_hint: whether the call that failed was to give a hint alone of what a refused file is
+is_lost_hint() {
+    if [ "$hit $kind $ample_status" != 'FAIL_AT read 1' ] || ! is_same; then return 1; fi
+    sed 's/; it \(looks like\|is\) .*//' "$work/ample.errors" | cmp -s - "$work/errors"
+}
+
 # name_of_hit: an expression for the names by which the file may be told that was hit
 name_of_hit() {
     case "$file $file_name" in
@@ -66,6 +73,7 @@ name_of_hit() {
 # before what else is due where a text was put because the words gave no order. A call that failed
 # or moved one byte of standard error leaves a front of what is due there.
 judge_errors() {
+    if is_lost_hint; then return; fi
     if [ "$file" = 2 ]; then
         is_front "$work/errors" "$work/ample.errors" ||
             fails 'standard error is no front of what is due' "$work/ample.errors" "$work/errors"
@@ -185,11 +193,16 @@ journaled() {
 # hit_each VARIABLE JUDGE WORD..: hits each call in turn, as this variable of the shim's says,
 # until a run has no such call. Each run in which a call was hit is a line of $work/log.
 hit_each() {
-    hit=$1 judge=$2 at=1
+    hit=$1 judge=$2 at=1 hints=0
     shift 2
     run_hit "$@"
     while [ "$at" -le "$calls" ]; do
-        judged_as_whole || "$judge" "$@"
+        if is_lost_hint; then
+            hints=$((hints + 1))
+            [ "$hints" -eq 1 ] || fails 'more than one read is for a hint'
+        else
+            judged_as_whole || "$judge" "$@"
+        fi
         echo "$hit $kind" >> "$work/log"
         at=$((at + 1))
         run_hit "$@"

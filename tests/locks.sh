@@ -291,9 +291,11 @@ kept_is_output() {
     done
 }
 
-# each_run TRY: calls TRY with the words of each command that reads standard input
+# each_input_run TRY: calls TRY with the words of each command that reads standard input
 each_input_run() {
     "$1" epd
+    "$1" check
+    "$1" lookup "$table" "$work/new"
     "$1" export "$table"
     "$1" collect "$table" "$book"
     "$1" collect "$table" "$place/new.bin"

@@ -16,7 +16,9 @@ cd "$work/data"
 cp "$top/examples/table.txt" table
 cp "$top/examples/book.bin" book
 head -n 60 "$top/examples/games.txt" > games
+{ cat games; sed -n 121p "$top/examples/games.txt"; } > games_refused
 head -n 300 "$top/examples/export.epd" > listing
+{ head -n 60 listing; awk -F'|' '{ print $1 }' "$top/examples/moves.txt" | head -n 5; } > places
 head -c 1000 book > cut_book
 head -c 65536 /dev/urandom > noise
 gzip -c games > packed
@@ -42,6 +44,22 @@ case_of epd 0 listing epd
 case_of epd_noise 1 noise epd
 case_of epd_packed 1 packed epd
 case_of epd_empty 0 empty epd
+case_of check 1 games_refused check
+case_of check_taken 0 games check
+case_of check_noise 1 noise check
+case_of check_packed 1 packed check
+case_of check_pgn 1 pgn check
+case_of check_empty 0 empty check
+case_of lookup 0 places lookup table book
+case_of lookup_noise 1 noise lookup table book
+case_of lookup_packed 1 packed lookup table book
+case_of lookup_empty 0 empty lookup table book
+case_of lookup_book 1 places lookup table noise
+case_of lookup_table 1 places lookup noise book
+case_of lookup_missing 3 places lookup table missing
+case_of collect_summary 0 games collect --summary table new
+case_of export_summary 0 games export --summary table
+case_of words_too_many 2 empty epd games
 case_of show 0 empty show book
 case_of show_cut 1 empty show cut_book
 case_of show_noise 1 empty show noise

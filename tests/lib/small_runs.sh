@@ -29,6 +29,12 @@ submissions 1,26 > "$work/games"
 submissions 4,20 > "$work/later"
 submissions 1,4 > "$work/few"
 head -n 9 examples/games.txt > "$work/first"
+# Positions as EPD lines and as records, with a line of spaces, one that is refused, and a last one
+# that no LF ends.
+{
+    head -n 20 examples/export.epd
+    printf '%s\n  \nno position\n%s 9' "$start" "${start% *}"
+} > "$work/positions"
 head -n 400 "$work/table" > "$work/half_table"
 head -c 1000 "$work/book" > "$work/cut_book"
 : > "$work/nothing"
@@ -66,6 +72,8 @@ told_as_due() {
     : > "$work/due.errors"
     case "$ample_status $*" in
         '1 show '*) cause="../cut_book: .*" ;;
+        '1 fen '*) cause="move 3: it isn't legal there" ;;
+        '1 probe '*) cause="FEN: it doesn't have six fields, one space between each two" ;;
         '1 collect --ledger '*) cause="file: line 11 isn't a game that can be taken" ;;
         '1 collect '*) cause='../half_table: a table has 781 lines, and this one 400' ;;
         '2 colect '*) cause=$(sed -n '1s/^error: //p' "$work/ample.put") ;;
@@ -77,7 +85,7 @@ told_as_due() {
         return
     fi
     case "$ample_status $1" in
-        '0 collect' | '0 export') echo "$unended" > "$work/due.errors" ;;
+        '0 collect' | '0 export' | '1 check') echo "$unended" > "$work/due.errors" ;;
     esac
     cmp -s "$work/due.errors" "$work/errors" ||
         fails 'another text is on standard error' "$work/due.errors" "$work/errors"
@@ -138,6 +146,8 @@ each_run() {
     "$1" 'fen' shown nothing fen "$start" e2e4 c7c5 g1f3 d7d6
     "$1" 'fen, refused' shown nothing fen "$start" e2e4 e7e5 e4e5
     "$1" 'epd' shown epd epd
+    "$1" 'check' shown games check
+    "$1" 'lookup' shown positions lookup ../table ../book
     "$1" 'show' shown nothing show ../book
     "$1" 'show, refused' shown nothing show ../cut_book
     "$1" 'probe' shown nothing probe ../table ../book "$start"
