@@ -1,5 +1,5 @@
 -- What comes of lines whose positions are looked up.
-use Rattle.std.proofs.Common.{◌≡◌, ◌∙◌, ℕ, ◌≤◌, List, [], Ok, Err, ap, length, refl, subst, sym, true}
+use Rattle.std.proofs.Common.{◌≡◌, ℕ, ◌≤◌, List, [], Ok, Err, ap, length, refl, subst, sym, true}
 use Rattle.std.specs.Str.Lines.{strip_carriage_return}
 use Rattle.pb_board.specs.Position.{Position}
 use Rattle.pb_epd.specs.declared.refusal.EpdError.{EpdError}

@@ -1,4 +1,4 @@
-use Rattle.std.proofs.Common.{ap, inl, refl, sym, true, ◌∙◌, subst, []}
+use Rattle.std.proofs.Common.{inl, refl, true, []}
 use Rattle.std.proofs.KnownBytes.{Appends-nil}
 use Rattle.std.proofs.lemmas.Bool.{false≢true}
 use Rattle.std.proofs.lemmas.Result.{err_from_is_err_and}
