@@ -5,13 +5,17 @@
 use crate::collecting::{self, Passed};
 use crate::ends::{Output, fills_in, rules_in};
 use crate::game::stream_of;
-use pb_cli::{Fault, ParseFault, parse, run_epd, run_export, run_fen, run_probe, run_show, status};
+use pb_cli::{
+    Fault, ParseFault, parse, run_check, run_epd, run_export, run_fen, run_lookup, run_probe,
+    run_show, status,
+};
 use pb_collecting::{collect_bytes, pick_games};
 use pb_poly::{FromRead, Source, ToWrite};
 use pb_program::FILLS;
 use rows::book::{self, file_of};
 use rows::ends::{NamedSource, end_of, named_source};
 use rows::page::{Done, NO_ROW, Page, Trouble};
+use rows::text::count_of;
 use std::io::Cursor;
 
 /// How much room the array of a writer has.
@@ -33,8 +37,10 @@ pub(crate) fn answer(page: &mut Page, call: &[&str]) -> Done {
         "fen" => return fen(page, words),
         "epd" => return epd(page, words),
         "epd-streams" => return epd_streams(page, words),
+        "check" => return check(page, words),
         "show" => return show(page, words),
         "probe" => return probe(page, words),
+        "lookup" => return lookup(page, words),
         "export" => return export(page, words),
         "collect-bytes" => return tell_collected(page, words),
         "games" => return games(page, words),
@@ -133,6 +139,19 @@ fn epd_streams(page: &mut Page, words: &[&str]) -> Done {
     Ok(())
 }
 
+/// The command `check` over these lines.
+fn check(page: &mut Page, words: &[&str]) -> Done {
+    let [ends, lines @ ..] = words else {
+        return NO_ROW
+    };
+    let stream = stream_of(page.alloc, lines)?;
+    let mut source = named_source(end_of(ends, "input", "reader:7"), stream.as_bytes());
+    let mut output = Output::of(page.alloc, ends, "output");
+    let mut sink = ToWrite::new(&mut output);
+    let answer = run_check(page.alloc, &mut source, &mut sink, fills_in(ends));
+    tell(page, ends, answer, &output)
+}
+
 /// The command `show` over a book of these entries.
 fn show(page: &mut Page, words: &[&str]) -> Done {
     let [ends, entries @ ..] = words else {
@@ -162,6 +181,29 @@ fn probe(page: &mut Page, words: &[&str]) -> Done {
         fills_in(ends),
     );
     tell(page, ends, answer, &output)
+}
+
+/// The command `lookup` over a table, a book of so many entries, and the lines after them.
+fn lookup(page: &mut Page, words: &[&str]) -> Done {
+    let [ends, table, count, rest @ ..] = words else {
+        return NO_ROW
+    };
+    let (entries, lines) = rest.split_at(count_of(count).min(rest.len()));
+    let file = file_of(page.alloc, entries)?;
+    let stream = stream_of(page.alloc, lines)?;
+    let mut source = named_source(end_of(ends, "input", "reader:7"), stream.as_bytes());
+    let mut output = Output::of(page.alloc, ends, "output");
+    let answer = run_lookup(
+        page.alloc,
+        &mut named_source(end_of(ends, "table", "reader:1000"), table.as_bytes()),
+        &mut named_source(end_of(ends, "book", "reader:3"), file.as_bytes()),
+        &mut source,
+        &mut ToWrite::new(&mut output),
+        fills_in(ends),
+    );
+    tell(page, ends, answer, &output)?;
+    tell_next(page, ends, &mut source);
+    Ok(())
 }
 
 /// The command `export` over a table and lines.
