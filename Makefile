@@ -96,10 +96,11 @@ test-bodies:
 
 # All that is tried of the program in a hostile world, but for collectors that are killed on their
 # journal, and for crashes; and what shellcheck says of the scripts. PROGRAM=program tries another
-# than build/pbook. WRONG_PROGRAMS=1 tries too that wrong programs are seen, which takes some minutes
-# more.
+# than build/pbook. WRONG_PROGRAMS=1 tries too that wrong programs are seen, which takes some
+# minutes more.
 test-hostile: test-files test-order test-locks test-messages test-memory test-growths test-io \
-    test-noise test-replies test-completions test-examples test-dist $(if $(WRONG_PROGRAMS),test-wrong-programs)
+    test-noise test-replies test-completions test-examples test-dist \
+    $(if $(WRONG_PROGRAMS),test-wrong-programs)
 	@sh tests/shellcheck.sh
 
 # Tries what is left of a book's file by full disks, links, missing permissions and runs that are

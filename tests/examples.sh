@@ -16,8 +16,9 @@ start='rnbqkbnr/pppppppp/8/8/8/8/PPPPPPPP/RNBQKBNR w KQkq - 0 1'
 
 # as_pgn: the games of these submission lines as pgn-extract writes them, without a move number
 as_pgn() {
-    awk -F'\t' '{ printf "[Event \"?\"]\n[Result \"%s\"]\n[FEN \"%s\"]\n[SetUp \"1\"]\n\n%s%s%s\n\n",
-        $2, $3, $4, $4 == "" ? "" : " ", $2 }'
+    awk -F'\t' '{
+        printf "[Event \"?\"]\n[Result \"%s\"]\n[FEN \"%s\"]\n[SetUp \"1\"]\n\n", $2, $3
+        printf "%s%s%s\n\n", $4, $4 == "" ? "" : " ", $2 }'
 }
 
 # tells_of STATUS TEXT COMMAND..: whether the command ends with this status, and these are the lines
@@ -53,7 +54,8 @@ bad_pgn() {
     {
         printf '[Event "1"]\n[Result "1-0"]\n\n1. e4 e5 2. Nf3 1-0\n\n'
         printf '[Event "2"]\n[Result "1-0"]\n\n1. e4 e5 2. Nf6 1-0\n\n'
-        printf '[Event "3"]\n[Result "0-1"]\n\n1. d4 {+0.3/12 0.5s} d5 (1... Nf6 2. c4) 2. c4 0-1\n\n'
+        printf '[Event "3"]\n[Result "0-1"]\n\n'
+        printf '1. d4 {+0.3/12 0.5s} d5 (1... Nf6 2. c4) 2. c4 0-1\n\n'
         printf '[Event "4"]\n[Result "1-0"]\n\n1. e4 c5\n\n'
         printf '[Event "5"]\n[Result "*"]\n\n1. c4 e5 *\n'
     } > bad.pgn

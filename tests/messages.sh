@@ -730,7 +730,7 @@ summaries() {
     holds tells_of 0 'no game was accepted; book.bin is an empty book
 2 lines: 0 ok (0 new, 0 again), 2 refused (1 shape, 1 result); book.bin: 0 entries' \
         "$PROGRAM" collect --summary table.txt book.bin
-    holds tells_of 0 '2 lines: 0 ok (0 new, 0 again), 2 refused (1 shape, 1 result); book.bin: 0 entries' \
+    holds tells_of 0 "$(tail -n 1 due | sed 's/^pbook: //')" \
         "$PROGRAM" collect -q --summary table.txt book.bin
     # A fault has no summary.
     input=$work/games
@@ -814,8 +814,8 @@ terminal_use() {
 if [ $# -eq 0 ]; then
     choose true '' missing_files one_file failed_reads closed_pipe refused_tables \
         refused_books refused_ledger \
-        refused_words wrong_use words_too_many help_width asked_help no_game bad_journal_line no_place \
-        told_at_once left_out_lines games_to_themselves cut_ledger cut_input no_file
+        refused_words wrong_use words_too_many help_width asked_help no_game bad_journal_line \
+        no_place told_at_once left_out_lines games_to_themselves cut_ledger cut_input no_file
     choose 'test -c /dev/full' '/dev/full is wanted' full_output full_book quiet_faults \
         without_errors summaries
     choose 'has gzip' 'gzip is wanted' other_input
