@@ -102,7 +102,7 @@ impl<'o, 'k, 'p, 'a, K: Sink> Replies<'o, 'k, 'p, 'a, K> {
 }
 
 impl<K: Sink> Write for Replies<'_, '_, '_, '_, K> {
-    // A reply is put at once and whole.
+    // A reply, or a piece of one, is put at once and whole.
     fn write(&mut self, bytes: &[u8]) -> io::Result<usize> {
         if let Ok(mut output) = self.output.try_borrow_mut()
             && output.put(bytes).is_ok()

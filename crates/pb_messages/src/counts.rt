@@ -69,15 +69,19 @@ impl Counts {
         self.games > 0 || self.refusals() > 0
     }
 
-    /// Counts the submission that has this reply.
-    pub(crate) fn add_reply(&mut self, reply: &[u8]) {
-        self.lines = self.lines.saturating_add(1);
-        if reply.starts_with(b"ok ") {
+    /// Counts the submission that has this reply. One in pieces is a game by its first, and a line by
+    /// its last.
+    pub(crate) fn add_reply(&mut self, piece: &[u8]) {
+        if piece.ends_with(b"\n") {
+            self.lines = self.lines.saturating_add(1);
+        }
+        if piece.starts_with(b"ok ") {
             self.games = self.games.saturating_add(1);
         }
     }
 
-    /// Counts it by what the reply says: whether the game is new, or why there is none.
+    /// Counts it by what the reply says: whether the game is new, or why there is none. A reply to a
+    /// game that isn't numbered says neither, and may come in pieces.
     pub(crate) fn tell_apart(&mut self, reply: &[u8]) {
         let Ok(reply) = str::from_utf8(reply) else {
             return;

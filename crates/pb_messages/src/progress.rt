@@ -97,7 +97,7 @@ impl<'a> Progress<'a> {
         self.messages.want_summary()
     }
 
-    /// Takes the reply to a submission.
+    /// Takes the reply to a submission, or a piece of it.
     pub fn reply(&self, reply: &[u8]) {
         if let Ok(mut counts) = self.counts.try_borrow_mut() {
             counts.add_reply(reply);
