@@ -17,14 +17,15 @@ holder_of() {
     return 1
 }
 
-# end_hint TRY: ends the check that this `rt try` runs beside the build. It only looks for names
-# that a proof would refuse, and takes as long as the build's first half.
+# end_hint TRY: ends the check that this `rt try` runs beside the build, and tells whether it has.
+# It only looks for names that a proof would refuse, and takes as long as the build's first half.
 end_hint() {
-    tr ' ' '\n' 2> /dev/null < "/proc/$1/task/$1/children" | while read -r child; do
+    hint=$(tr ' ' '\n' 2> /dev/null < "/proc/$1/task/$1/children" | while read -r child; do
         if tr '\0' ' ' 2> /dev/null < "/proc/$child/cmdline" | grep -q '^[^ ]*rattle check '; then
-            kill "$child" 2> /dev/null || true
+            echo "$child"
         fi
-    done
+    done)
+    [ -n "$hint" ] && kill "$hint"
 }
 
 # copy_built FOLDER PROGRAM FLAG..: has `rt try` build the program of this crate's folder with these
@@ -39,15 +40,15 @@ copy_built() {
     building=$!
     # The program waits as long as there is a writer.
     exec 8<> "$work/waits"
-    found=false
+    found=false hints=true
     while kill -0 "$building" 2> /dev/null; do
-        end_hint "$building"
+        if [ "$hints" = true ] && end_hint "$building"; then hints=false; fi
         if holder_of "$work/waits"; then
             cp "$built" "$copied"
             found=true
             break
         fi
-        sleep 0.5
+        sleep 1
     done
     exec 8>&-
     wait "$building" || true
