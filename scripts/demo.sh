@@ -87,6 +87,6 @@ echo "Ran $how, in $(($(date +%s) - begin)) seconds."
 echo 'The book and the export are, byte for byte, those that other programs made of the games.'
 [ -n "$next" ] || exit 0
 echo
-echo "$next ${program#"$top/"}. This puts it on your path here, and then"
-echo 'the four steps of README lead from your PGN to a book:'
+echo "$next ${program#"$top/"}."
+echo 'By this line it is found here, and then the four steps of README lead from PGN to a book:'
 echo "    PATH=$(dirname "$program"):\$PATH"
