@@ -22,8 +22,8 @@ pub struct Progress<'a> {
     is_shown: bool,
     counts: RefCell<Counts>,
     shown: RefCell<Option<Instant>>,
-    // What comes after the submissions, for whoever waits.
-    next: &'static str,
+    // Whether a book is made when all submissions are read.
+    makes_book: bool,
     // Whether submissions have come, and whether they don't look like any.
     has_begun: Cell<bool>,
     is_odd: Cell<bool>,
@@ -40,7 +40,7 @@ impl<'a> Progress<'a> {
             is_shown: messages.are_watched() && !messages.rt().stdin().is_terminal(),
             counts: RefCell::new(Counts::new(news)),
             shown: RefCell::new(None),
-            next: ", making the book",
+            makes_book: true,
             has_begun: Cell::new(false),
             is_odd: Cell::new(false),
             last: Cell::new(None),
@@ -49,7 +49,10 @@ impl<'a> Progress<'a> {
 
     /// The same of a run that makes nothing.
     pub fn making_nothing(self) -> Progress<'a> {
-        Progress { next: "", ..self }
+        Progress {
+            makes_book: false,
+            ..self
+        }
     }
 
     /// Takes the first bytes of the submissions.
@@ -80,8 +83,8 @@ impl<'a> Progress<'a> {
             }
             _ => {}
         }
-        if bytes.is_empty() && self.is_shown {
-            self.draw(self.next);
+        if bytes.is_empty() && self.is_shown && self.makes_book {
+            self.draw(", making the book");
         }
     }
 
