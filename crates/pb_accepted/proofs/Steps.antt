@@ -1,11 +1,13 @@
 -- A step of the table is an answer that is allowed and the list that it leaves; so are runs. The
 -- laws of steps follow.
-use Rattle.std.proofs.Common.{◌≡◌, ◌≢◌, ℕ, ◌+◌, List, [], ◌∷◌, ◌++◌, length, take, Ok, Err, sym, subst, inl, inr, arith}
-use Rattle.std.proofs.lemmas.Option.{slice_get_within}
+use Rattle.std.proofs.Common.{◌≡◌, ◌≢◌, ℕ, ◌+◌, List, [], ◌∷◌, ◌++◌, length, take, Ok, Err, true, false, nat_lt, ap, refl, sym, subst, inl, inr, arith}
+use Rattle.std.proofs.lemmas.Bool.{le-ltb, lt-ltb}
+use Rattle.std.proofs.lemmas.List.{length_push}
+use Rattle.std.proofs.lemmas.Option.{get_or_from_slice_get, slice_get_within}
 use Rattle.pb_games.specs.declared.refusal.Refusal.TheVariants.{Conflict, Memory}
 use Rattle.pb_games.specs.Submissions.{Submission, IsLawful}
 use Rattle.pb_accepted.specs.Accepting as steps
-use Rattle.pb_accepted.specs.Accepting.{Answer, IsNumber, Run, Step}
+use Rattle.pb_accepted.specs.Accepting.{Answer, IsNewId, IsNumber, Run, Step}
 use Rattle.pb_accepted.specs.Laws as laws
 use Rattle.pb_accepted.proofs.Allowing.{Accepted, Allowed, AllowedRun, Reply, Takes}
 use Rattle.pb_accepted.proofs.BookLaws.{same_bytes}
@@ -100,6 +102,26 @@ refusal_step cap A line e B h = let p = step_to cap A line (Err e) B h in Takes-
 
 pub named_step : laws.NamesAreShort
 named_step cap A line r B h = named_short cap A line r (step_to cap A line r B h).0
+
+-- ---- the length that a step leaves
+
+-- a list that stays has no more members
+pub same_is_no_longer : (A B : List Submission) → B ≡ A → false ≡ nat_lt (length A) (length B)
+same_is_no_longer A B same = sym (le-ltb (length A) (length B) (omega (arith, ap length same)))
+
+-- a submission with a new id isn't held
+pub not_held : (A : List Submission) (n : ℕ) (s : Submission) → IsNewId s.0 A → IsNumber A n s → ⊥
+not_held A n s fresh at = subst (λ (x : Submission). x.0 ≢ s.0) (get_or_from_slice_get A at.0 s s at.2) (fresh at.0 s (slice_get_within A at.0 s at.2)) refl
+
+-- a line that can only bring a new game, and is taken, does
+pub new_grows : (cap : ℕ) (A : List Submission) (line : List ℕ) (n : ℕ) (B : List Submission) → ((s : Submission) → IsLawful line s → IsNewId s.0 A)
+    → Step cap A line (Ok n) B → true ≡ nat_lt (length A) (length B)
+new_grows cap A line n B fresh (steps.new s law _ room e f) = sym (lt-ltb (length A) (length B) (omega (arith, ap length f, length_push A s)))
+new_grows cap A line n B fresh (steps.repeat s m law at e f) = absurd (not_held A m s (fresh s law) at)
+new_grows cap A line n B fresh (steps.full s law _ many e f) = cc
+new_grows cap A line n B fresh (steps.memory s law _ room e f) = cc
+new_grows cap A line n B fresh (steps.conflict s g m law at differs e f) = cc
+new_grows cap A line n B fresh (steps.refused x why e f) = cc
 
 -- ---- laws of runs
 

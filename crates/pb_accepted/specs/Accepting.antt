@@ -10,16 +10,27 @@
 --   conflict    another game under an id held       conflict               stays
 --   refused     no legal game                       why not                stays
 use Rattle.std.specs.Prelude.{◌≡◌, ◌≢◌, ℕ, ◌+◌, ◌<◌, ◌≤◌, ◌⊎◌, List, [], ◌∷◌, ◌++◌}
-use Rattle.std.specs.Prelude.{length, All, Contains, Result, Ok, Err, slice_get, Some}
+use Rattle.std.specs.Prelude.{Bool, false, length, All, Contains, Result, Ok, Err, slice_get, Some}
+use Rattle.std.specs.Result.{result_map_both}
 use Rattle.pb_games.specs.declared.game.Game.{Game}
 use Rattle.pb_games.specs.declared.refusal.Refusal.{Refusal}
 use Rattle.pb_games.specs.declared.refusal.Refusal.TheVariants.{Conflict, Full, Memory}
 use Rattle.pb_games.specs.Submissions.{Submission, IsLawful}
+use Rattle.pb_accepted.specs.declared.ledger.Accepted.{Accepted}
 use Rattle.pb_games.specs.Refusing.{Refuses}
 
 -- what a line is answered: a game's number, or why it is refused
 abbrev pub Answer : Type 0
 Answer = Result ℕ Refusal
+
+-- the answer in a full one
+abbrev pub answer_of : Result Accepted Refusal → Answer
+answer_of = result_map_both (λ accepted. accepted.number) (λ e. e)
+
+-- whether a full answer says that a game is new
+abbrev pub says_new : Result Accepted Refusal → Bool
+says_new (Ok accepted) = accepted.is_new
+says_new (Err e) = false
 
 -- the submission is number n of the list, from 1
 abbrev pub IsNumber : List Submission → ℕ → Submission → Type 0

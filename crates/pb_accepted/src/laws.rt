@@ -1,8 +1,9 @@
-//! Laws of ledgers, and of equality (`==`) between rules. Each is the contract of a function that
-//! does nothing, over the definitions alone.
+//! Laws of ledgers, and of equality (`==`) between rules and between answers. Each is the contract
+//! of a function that does nothing, over the definitions alone.
 
 ghost use Rattle.std.specs.Prelude.{◌≡◌, ◌↔◌, ℕ, Contains, List};
 ghost use Rattle.std.specs.Bool.{Decides};
+ghost use Rattle.pb_accepted.specs.declared.ledger.Accepted.{Accepted};
 ghost use Rattle.pb_accepted.specs.declared.ledger.TheConstants.{MAX_CAP};
 ghost use Rattle.pb_accepted.specs.declared.rules.TheConstants.{MAX_LEAST};
 ghost use Rattle.pb_games.specs.Submissions.{IsLawful, Submission};
@@ -16,6 +17,7 @@ ghost use Rattle.pb_accepted.specs.Laws.{RefusalsChangeNothing, RepeatsKeepTheir
 ghost use Rattle.pb_accepted.specs.Laws.{SameBytes, SameMembers, TakenHasNoRepeats, TakenIsOne};
 ghost use Rattle.pb_accepted.specs.Rules.{CountingRules, most_occurrences};
 
+use crate::ledger::Accepted;
 use crate::rules::Rules;
 
 /// The most games that a ledger may be made for is the number that the definitions have, and so are
@@ -76,9 +78,10 @@ pub fn books()
     ensures same_bytes { SameBytes }
 {}
 
-/// Rules are equal (`==`) exactly where their numbers are.
+/// Rules and answers are equal (`==`) exactly where they are one value.
 pub fn equal_values()
     ensures rules { (a b : CountingRules) → Decides (⟦<Rules as PartialEq>⟧.eq a b) (a ≡ b) }
+    ensures accepted { (a b : Accepted) → Decides (⟦<Accepted as PartialEq>⟧.eq a b) (a ≡ b) }
 {}
 
 /// What the laws above ask of lines and of lists. No id names two games where lawful lines with one

@@ -1,13 +1,14 @@
 //! The ledger.
 
 ghost use Rattle.std.specs.Prelude.{◌≡◌, ◌<◌, ◌≤◌, ◌+◌, ◌*◌, ◌^◌, ◌++◌, ◌∷◌, [], ℕ, All, List};
-ghost use Rattle.std.specs.Prelude.{IfOk, IfSome, MatchOption, OnErr, OnOk, Ok, length};
+ghost use Rattle.std.specs.Prelude.{IfOk, IfSome, MatchOption, OnErr, OnOk, Ok, false, length};
+ghost use Rattle.std.specs.Prelude.{nat_lt};
 ghost use Rattle.pb_games.specs.Submissions.{IsLawful, IsSubmission, Submission};
 ghost use Rattle.pb_points.specs.Tally.{held};
 ghost use Rattle.pb_points.specs.TallyBook.{AddsSome};
 ghost use Rattle.pb_poly.specs.Entry.{IsEntry};
 ghost use Rattle.pb_poly.specs.declared.entry.Entry.{Entry};
-ghost use Rattle.pb_accepted.specs.Accepting.{IsNewId, IsNumber, Step};
+ghost use Rattle.pb_accepted.specs.Accepting.{IsNewId, IsNumber, Step, answer_of, says_new};
 ghost use Rattle.pb_accepted.specs.Arriving.{IsArrival};
 ghost use Rattle.pb_accepted.specs.Counting.{IsBook, stretch};
 ghost use Rattle.pb_accepted.specs.PlyPoints.{ply_points_of, with_ply_points};
@@ -28,6 +29,15 @@ use std::marker::Model;
 
 /// The most games that a ledger may be made for.
 pub const MAX_CAP: u32 = 1_000_000;
+
+/// A submission whose game is held.
+#[derive(Clone, Copy, Debug, PartialEq, Eq)]
+pub struct Accepted {
+    /// The game's number, from 1 in order of acceptance.
+    pub number: u32,
+    /// Whether the submission brought the game, which wasn't held before.
+    pub is_new: bool,
+}
 
 /// How a line relates to the games held, if it submits a legal game.
 #[derive(Clone, Copy)]
@@ -144,13 +154,38 @@ impl<T: Tally> Ledger<T> {
         ensures basis { self.new.basis ≡ self.old.basis }
         ensures cap { self.new.cap ≡ self.old.cap }
     {
+        Ok(self.submit_full(line)?.number)
+    }
+
+    /// Takes a line as `submit` does, and answers also whether its game is new.
+    ///
+    /// # Errors
+    ///
+    /// As for `submit`.
+    pub fn submit_full(&mut self, line: &[u8]) -> Result<Accepted, Refusal>
+        ensures step { Step self.old.cap self.old.accepted line.now (answer_of result)
+            self.new.accepted }
+        // It is new exactly where the ledger has grown by it.
+        ensures new { says_new result ≡ nat_lt (length self.old.accepted)
+            (length self.new.accepted) }
+        ensures held { (s : Submission) (n : ℕ) → IsLawful line.now s
+            → IsNumber self.old.accepted n s → result ≡ Ok (record { number = n; is_new = false }) }
+        ensures basis { self.new.basis ≡ self.old.basis }
+        ensures cap { self.new.cap ≡ self.old.cap }
+    {
         match self.arrival(line) {
-            Arrival::Repeat(number) => Ok(number),
+            Arrival::Repeat(number) => Ok(Accepted {
+                number,
+                is_new: false,
+            }),
             Arrival::Other(number) => {
                 check_line(line)?;
                 Err(Refusal::Conflict(number))
             }
-            Arrival::New => self.take(line),
+            Arrival::New => Ok(Accepted {
+                number: self.take(line)?,
+                is_new: true,
+            }),
         }
     }
 

@@ -11,7 +11,7 @@ mod recorder;
 mod reply;
 mod rules;
 
-pub use ledger::{Ledger, MAX_CAP};
+pub use ledger::{Accepted, Ledger, MAX_CAP};
 pub use pb_games::{Game, Id, Line, MAX_PLIES, MoveList, Outcome, Plies, Refusal, check_line};
 pub use pb_points::{ListTally, MapTally, Row, Tally, scale};
 pub use reply::Reply;

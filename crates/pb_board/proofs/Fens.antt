@@ -212,10 +212,21 @@ record_never_due f text e lawful h =
     let setup = no_fault_due (fields 32 text) (a ∷ b ∷ c ∷ d ∷ []) p (six_begin text a b c d (decimal f.half) (decimal f.full) cut) parts lawful.setup in
     none_first (IsDueFen (fields 32 text)) fen_errors e (All-append (NotDue (fields 32 text)) (refusal.Fields ∷ (of_texts ++ refusal.Half ∷ refusal.Full ∷ [])) of_parts clocks setup)
 
--- what `read_fen` answers for a text of the record f
-pub only_record : (r : Result Record FenError) (f : Record) (text : List ℕ) → IfOk r (λ g. IsRecord g × (text ≡ fen_text g)) → IfErr r (λ e. IsFirstDue fen_errors e (fields 32 text)) → IsRecord f → text ≡ fen_text f → r ≡ Ok f
+-- the one answer for a text of the record f
+only_record : (r : Result Record FenError) (f : Record) (text : List ℕ) → IfOk r (λ g. IsRecord g × (text ≡ fen_text g)) → IfErr r (λ e. IsFirstDue fen_errors e (fields 32 text)) → IsRecord f → text ≡ fen_text f → r ≡ Ok f
 only_record (Ok g) f text found refused lawful h = ap (λ x. Ok x) (one_record g f text found.0 lawful found.1 h)
 only_record (Err e) f text found refused lawful h = absurd (record_never_due f text e lawful h refused)
+
+-- what `read_fen` owes of its answer, and all of it from two clauses
+abbrev pub OwesRecord : Result Record FenError → List ℕ → Type 0
+OwesRecord r text = record {
+  found : IfOk r (λ f. IsRecord f × (text ≡ fen_text f));
+  only : (f : Record) → IsRecord f → text ≡ fen_text f → r ≡ Ok f;
+  refused : IfErr r (λ e. IsFirstDue fen_errors e (fields 32 text));
+}
+
+pub owes_record : (r : Result Record FenError) (text : List ℕ) → IfOk r (λ f. IsRecord f × (text ≡ fen_text f)) → IfErr r (λ e. IsFirstDue fen_errors e (fields 32 text)) → OwesRecord r text
+owes_record r text found refused = record { found = found; only = λ f. only_record r f text found refused; refused = refused }
 
 pub setup_never_due : (p : Position) (four : List (List ℕ)) (e : FenError) → IsSetup p → four ≡ setup_fields p → IsFirstDue of_setup e four → ⊥
 setup_never_due p four e lawful h refused =
@@ -226,9 +237,20 @@ setup_never_due p four e lawful h refused =
     let setup = no_fault_due pieces pieces p begins parts lawful in
     none_first (IsDueFen pieces) of_setup e (All-append (NotDue pieces) of_texts of_parts texts setup) (subst (IsFirstDue of_setup e) h refused)
 
-pub only_setup : (r : Result Position FenError) (p : Position) (four : List (List ℕ)) → IfOk r (λ s. IsSetup s × (four ≡ setup_fields s)) → IfErr r (λ e. IsFirstDue of_setup e four) → IsSetup p → four ≡ setup_fields p → r ≡ Ok p
+only_setup : (r : Result Position FenError) (p : Position) (four : List (List ℕ)) → IfOk r (λ s. IsSetup s × (four ≡ setup_fields s)) → IfErr r (λ e. IsFirstDue of_setup e four) → IsSetup p → four ≡ setup_fields p → r ≡ Ok p
 only_setup (Ok s) p four found refused lawful h = ap (λ x. Ok x) (one_setup s p four found.0 lawful found.1 h)
 only_setup (Err e) p four found refused lawful h = absurd (setup_never_due p four e lawful h refused)
+
+-- what `read_setup` owes of its answer, and all of it from two clauses
+abbrev pub OwesSetup : Result Position FenError → List (List ℕ) → Type 0
+OwesSetup r four = record {
+  found : IfOk r (λ s. IsSetup s × (four ≡ setup_fields s));
+  only : (p : Position) → IsSetup p → four ≡ setup_fields p → r ≡ Ok p;
+  refused : IfErr r (λ e. IsFirstDue of_setup e four);
+}
+
+pub owes_setup : (r : Result Position FenError) (four : List (List ℕ)) → IfOk r (λ s. IsSetup s × (four ≡ setup_fields s)) → IfErr r (λ e. IsFirstDue of_setup e four) → OwesSetup r four
+owes_setup r four found refused = record { found = found; only = λ p. only_setup r p four found refused; refused = refused }
 
 pub four_texts : (four : List (Bor (List ℕ))) (d : Bor (List ℕ)) → length four ≡ 4 → map (λ t. t.now) four ≡ (get_or four 0 d).now ∷ (get_or four 1 d).now ∷ (get_or four 2 d).now ∷ (get_or four 3 d).now ∷ []
 four_texts four d e = ap (λ (w : List (Bor (List ℕ))). map (λ t. t.now) w) (four_cells four d e)

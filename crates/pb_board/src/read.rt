@@ -103,14 +103,6 @@ pub fn read_setup(four: [&[u8]; 4]) -> Result<Setup, FenError>
     // A refusal is the first whose condition holds.
     ensures refused { IfErr result (IsFirstOf of_setup (IsDueFen (map (λ t. t.now) four.entry))) }
 {
-    judge_setup(&four)
-}
-
-/// The setup that the four texts spell, or the first refusal that is due.
-fn judge_setup(four: &[&[u8]; 4]) -> Result<Setup, FenError>
-    ensures found { IfOk result (λ s. IsSetup s × (map (λ t. t.now) four.now ≡ setup_fields s)) }
-    ensures refused { IfErr result (IsFirstOf of_setup (IsDueFen (map (λ t. t.now) four.now))) }
-{
     let parts = read_parts(four[0], four[1], four[2], four[3])?;
     build(parts.board, parts.turn, parts.rights, parts.ep)
 }
@@ -126,14 +118,6 @@ pub fn read_fen(text: &[u8]) -> Result<Fen, FenError>
     // The text of a record is read.
     ensures only { (f : Record) → IsRecord f → text.now ≡ fen_text f → result ≡ Ok f }
     // A refusal is the first whose condition holds.
-    ensures refused { IfErr result (IsFirstOf fen_errors (IsDueFen (fields space text.now))) }
-{
-    judge(text)
-}
-
-/// The record that the text spells, or the first refusal that is due.
-fn judge(text: &[u8]) -> Result<Fen, FenError>
-    ensures found { IfOk result (λ f. IsRecord f × (text.now ≡ fen_text f)) }
     ensures refused { IfErr result (IsFirstOf fen_errors (IsDueFen (fields space text.now))) }
 {
     let Some(fields) = cut_fields(text) else {

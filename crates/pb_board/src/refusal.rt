@@ -8,14 +8,14 @@ use thiserror::Error;
 #[derive(Clone, Copy, Debug, PartialEq, Eq, Hash, Error)]
 pub enum SetupError {
     /// There isn't exactly one king of each colour.
-    #[error("not exactly one king of each colour")]
+    #[error("it doesn't have one king of each colour")]
     Kings,
     /// A pawn stands on rank 1 or 8.
-    #[error("a pawn stands on rank 1 or 8")]
+    #[error("it has a pawn on rank 1 or 8")]
     Pawns,
     /// The en passant square isn't on rank 6 with White to move or on rank 3 with Black to move, or
     /// isn't empty, or no enemy pawn stands directly beyond it.
-    #[error("no pawn has just made a double step over the en passant square")]
+    #[error("no pawn has just passed over its en passant square")]
     EnPassant,
 }
 
@@ -23,34 +23,34 @@ pub enum SetupError {
 #[derive(Clone, Copy, Debug, PartialEq, Eq, Hash, Error)]
 pub enum FenError {
     /// Cutting at every space doesn't give six fields.
-    #[error("not six fields with single spaces between them")]
+    #[error("it doesn't have six fields, one space between each two")]
     Fields,
     /// The first field isn't eight ranks.
-    #[error("the piece placement isn't eight ranks")]
+    #[error("its first field isn't eight ranks of pieces and empty squares")]
     Placement,
     /// The second field isn't `w` or `b`.
-    #[error("the side to move isn't w or b")]
+    #[error("its second field isn't w or b")]
     Turn,
     /// The third field is neither `-` nor a selection of `KQkq` in this order.
-    #[error("the castling rights aren't - or letters of KQkq in order")]
+    #[error("its third field isn't - or letters of KQkq in this order")]
     Castling,
     /// The fourth field is neither `-` nor a square of the rank that fits the side to move.
-    #[error("the en passant square isn't - or a square of the fitting rank")]
+    #[error("its fourth field isn't - or a square that a pawn can have passed over")]
     EnPassantText,
     /// The fifth field isn't a decimal number from 0 to 65,535 without leading zeros.
-    #[error("the half-move clock isn't a number from 0 to 65535")]
+    #[error("its fifth field isn't a number from 0 to 65535")]
     Half,
     /// The sixth field isn't a decimal number from 1 to 65,535 without leading zeros.
-    #[error("the full move number isn't a number from 1 to 65535")]
+    #[error("its sixth field isn't a number from 1 to 65535")]
     Full,
     /// There isn't exactly one king of each colour.
-    #[error("not exactly one king of each colour")]
+    #[error("it doesn't have one king of each colour")]
     Kings,
     /// A pawn stands on rank 1 or 8.
-    #[error("a pawn stands on rank 1 or 8")]
+    #[error("it has a pawn on rank 1 or 8")]
     Pawns,
     /// The en passant square isn't empty, or no enemy pawn stands directly beyond it.
-    #[error("no pawn has just made a double step over the en passant square")]
+    #[error("no pawn has just passed over its en passant square")]
     EnPassantPawn,
 }
 

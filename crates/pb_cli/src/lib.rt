@@ -9,10 +9,12 @@ mod order;
 pub use order::{CollectOrder, ExportOrder, Keeping, Order, ParseFault, parse};
 // What counts is said by the words alone: a program that knows no `Rules` has no others to hand on.
 pub use pb_collecting::{
-    Continued, MAX_LEAST, MAX_PLIES, MemStore, NoBook, NotContinued, SkippedLines, Store,
-    StoreError, Text, collect_into, continue_into, export_submissions, journal_into, pick_games,
-    run_check, run_collect, run_continue, run_export, run_journaled,
+    Accepted, Continued, Ends, JournalEnds, LedgerEnds, LoadError, MAX_LEAST, MAX_PLIES, Made,
+    NoBook, NotContinued, NotWhole, Refusal, Report, Store, StoreError, Text, Totals, Unread,
+    Watcher, collect_into, continue_into, export_submissions, journal_into, pick_games, run_check,
+    run_collect, run_continue, run_export,
 };
 pub use pb_commands::{
-    FAULT_STATUS, Fault, run_epd, run_fen, run_lookup, run_probe, run_show, status,
+    Answer, FAULT_STATUS, Fault, Refused, answer_fen, answer_lookup, answer_probe, answer_show,
+    run_epd, run_fen, run_lookup, run_probe, run_show, status,
 };

@@ -13,19 +13,24 @@ use Rattle.pb_poly.specs.declared.entry.Entry.{Entry}
 use Rattle.pb_poly.specs.declared.table.TableError.TheVariants as poly
 use Rattle.pb_poly.specs.declared.table_file.TableFault.{TableFault}
 use Rattle.pb_poly.specs.declared.table_file.TableFault.TheVariants as table
+use Rattle.pb_io.specs.declared.fault.ReadFault.TheVariants as of_read
 use Rattle.pb_accepted.specs.Rules.{CountingRules}
 use Rattle.pb_commands.proofs.Told.{told_no_table}
-use Rattle.pb_commands.specs.Judged.{Verdict}
+use Rattle.pb_commands.specs.Judged.{PutsUntil}
 use Rattle.pb_commands.specs.TableJudged.{AsTable, table_verdict}
 use Rattle.pb_io.specs.declared.fault.Fault.{Fault}
 use Rattle.pb_io.specs.declared.fault.Fault.TheVariants.{Read, Write, Endless, Memory}
 use Rattle.pb_accepted.specs.Ledger.{LedgerState}
-use Rattle.pb_ledger.specs.Collecting.{CollectsUntil}
 use Rattle.pb_poly.proofs.ReadRows.{found_no_table}
 use Rattle.pb_poly.specs.TableReading.{ReadsTable}
+use Rattle.pb_collecting.specs.Ends.{EndStates}
 use Rattle.pb_collecting.specs.Headline.{HasHeadline, Headline}
+use Rattle.pb_collecting.specs.Reasons.{unread_verdict}
 use Rattle.pb_collecting.specs.Runs as runs
-use Rattle.pb_collecting.specs.Runs.{CollectRun}
+use Rattle.pb_collecting.specs.Runs.{BreaksOff, Collected, CollectRun}
+use Rattle.pb_collecting.specs.declared.made.Stopped.{Stopped}
+use Rattle.pb_collecting.specs.declared.made.Stopped.TheVariants as stopped
+use Rattle.pb_collecting.specs.declared.made.Unread.{Unread}
 
 all_of : (told : Option (List ℕ)) (bytes all : List ℕ) → told ≡ Some all → IfSome told (λ x. bytes ≡ x) → bytes ≡ all
 all_of None bytes all is h = absurd (cc)
@@ -39,13 +44,13 @@ put_all (Some x) (Some y) put all none is h =
     let f : x ++ put ≡ all = sym h ∙ same_Some y all is in
     subst (λ z. z ++ put ≡ all) e f
 
-module _ (rules : CountingRules) (t t' s s' : SourceState) (sink sink' : SinkState) (file bytes put : List ℕ)
-    (told_t : t.to_come ≡ Some file) (told_s : s.to_come ≡ Some bytes) (empty : sink.bytes ≡ Some []) (all : sink'.bytes ≡ Some put) where
-  pub bytes_headline : (entries : List Entry) → HasHeadline rules t t' s s' sink sink' entries → Headline rules file bytes put entries
+module _ (rules : CountingRules) (e : EndStates) (file bytes put : List ℕ) (told_table : e.table.old.to_come ≡ Some file) (told_lines : e.lines.old.to_come ≡ Some bytes)
+    (empty : e.replies.old.bytes ≡ Some []) (all : e.replies.new.bytes ≡ Some put) where
+  pub bytes_headline : (entries : List Entry) → HasHeadline rules e entries → Headline rules file bytes put entries
   bytes_headline entries h =
-      let f = all_of t.to_come h.0 file told_t h.3.told in
-      let b = all_of s.to_come h.1 bytes told_s h.4.told in
-      let p = put_all sink.bytes sink'.bytes h.2 put empty all h.5 in
+      let f = all_of e.table.old.to_come h.0 file told_table h.3.told in
+      let b = all_of e.lines.old.to_come h.1 bytes told_lines h.4.told in
+      let p = put_all e.replies.old.bytes e.replies.new.bytes h.2 put empty all h.5 in
       subst (λ x. Headline rules x bytes put entries) f (subst (λ x. Headline rules h.0 x put entries) b (subst (λ x. Headline rules h.0 h.1 x entries) p h.6))
 
 -- bytes that are a table file are never refused
@@ -53,23 +58,16 @@ no_table : (file randoms : List ℕ) (e : TableFault) → IsTableFile randoms fi
 no_table file randoms table.Long is h = let few = is.few in omega (arith, few, h)
 no_table file randoms (table.Line n) is h = let same = only_memory randoms file (poly.Line n) is.text h.1 in cc
 no_table file randoms (table.Count n) is h = let same = only_memory randoms file (poly.Count n) is.text h.1 in cc
-no_table file randoms table.Read is h = h
-no_table file randoms table.Endless is h = h
-no_table file randoms table.Memory is h = h
+no_table file randoms (table.Fault fault) is h = h
 
-pub never_refused : (rules : CountingRules) (fills : ℕ) (t t' s s' : SourceState) (sink sink' : SinkState) (file : List ℕ) (answer : Option (List Entry)) → t.to_come ≡ Some file → answer ≡ None
-    → CollectRun rules fills t t' s s' sink sink' (Ok answer) → (randoms : List ℕ) → IsTableFile randoms file → ⊥
-never_refused rules fills t t' s s' sink sink' file (Some entries) told none run randoms is = absurd (cc)
-never_refused rules fills t t' s s' sink sink' file None told none run randoms is =
-    no_book run
-  where
-    no_book : CollectRun rules fills t t' s s' sink sink' (Ok None) → ⊥
-    no_book (runs.went ledger entries first goes same) = absurd (cc)
-    no_book (runs.broke ledger fault first goes same) = absurd (cc)
-    no_book (runs.told out judged put handed same) =
-        no_table file randoms judged.0.cause is (told_no_table fills t t' file told judged.0.cause _ judged.0.is judged.0.found)
-    no_book (runs.untold out count judged put fails flushes same) = absurd (cc)
-    no_book (runs.stopped fault judged kept same) = absurd (cc)
+pub never_refused : (rules : CountingRules) (fills : ℕ) (e : EndStates) (file : List ℕ) → e.table.old.to_come ≡ Some file → (why : Unread) × CollectRun rules fills e (Err (stopped.Unread why))
+    → (randoms : List ℕ) → IsTableFile randoms file → ⊥
+never_refused rules fills e file told (why, runs.began m (Ok x) first goes same) randoms is = absurd (cc)
+never_refused rules fills e file told (why, runs.began m (Err fault) first goes same) randoms is = absurd (cc)
+never_refused rules fills e file told (why, runs.unread because (Err fault) lacks puts same) randoms is = absurd (cc)
+never_refused rules fills e file told (why, runs.unread because (Ok answer) (lacks, unread) puts same) randoms is =
+    let judged = subst (λ w. Ok (false, puts.0.out) ≡ unread_verdict w) lacks.is puts.0.judged in
+    no_table file randoms lacks.cause is (told_no_table fills e.table.old e.table.new file told lacks.cause (false, puts.0.out) judged lacks.found)
 
 -- ---- faults of a run whose sources can't fail
 
@@ -82,40 +80,43 @@ table_fault : (fills : ℕ) (t t' : SourceState) (e : TableFault) (fault : Fault
 table_fault fills t t' table.Long fault more works read is = absurd (cc)
 table_fault fills t t' (table.Line n) fault more works read is = absurd (cc)
 table_fault fills t t' (table.Count n) fault more works read is = absurd (cc)
-table_fault fills t t' table.Read fault more works read is =
-    let h = found_no_table fills t t' table.Read read in let fails : t'.failed ≡ true = h.reads.fails in absurd (cc)
-table_fault fills t t' table.Endless fault more works read is =
-    let h = found_no_table fills t t' table.Endless read in absurd (no_endless_table fills h.came more h.reads.many h.due)
-table_fault fills t t' table.Memory fault more works read is = cc
+table_fault fills t t' (table.Fault of_read.Read) fault more works read is =
+    let h = found_no_table fills t t' (table.Fault of_read.Read) read in let fails : t'.failed ≡ true = h.reads.fails in absurd (cc)
+table_fault fills t t' (table.Fault of_read.Endless) fault more works read is =
+    let h = found_no_table fills t t' (table.Fault of_read.Endless) read in absurd (no_endless_table fills h.came more h.reads.many h.due)
+table_fault fills t t' (table.Fault of_read.Memory) fault more works read is = cc
 
 -- it is want of memory, or each of so many reads gave one of these bytes at least
 abbrev pub MemoryOrMany : ℕ → List ℕ → Fault → Type 0
 MemoryOrMany fills bytes fault = (fault ≡ Memory) ⊎ ((fault ≡ Endless) × (fills ≤ length bytes))
 
-stop_fault : (fills : ℕ) (s s' : SourceState) (sink sink' : SinkState) (ledger left : LedgerState) (bytes : List ℕ) (fault : Fault) → s.to_come ≡ Some bytes → s'.failed ≡ false
-    → fault ≢ Write → CollectsUntil fills s s' sink sink' ledger left fault → MemoryOrMany fills bytes fault
-stop_fault fills s s' sink sink' ledger left bytes Read told works other h = let fails : s'.failed ≡ true = h.0.reads.fails in absurd (cc)
-stop_fault fills s s' sink sink' ledger left bytes Write told works other h = absurd (other refl)
-stop_fault fills s s' sink sink' ledger left bytes Endless told works other h =
+stop_fault : (fills : ℕ) (e : EndStates) (ledger left : LedgerState) (bytes : List ℕ) (fault : Fault) → e.lines.old.to_come ≡ Some bytes → e.lines.new.failed ≡ false → fault ≢ Write
+    → BreaksOff fills e ledger left fault → MemoryOrMany fills bytes fault
+stop_fault fills e ledger left bytes Read told works other h = let fails : e.lines.new.failed ≡ true = h.0.reads.fails in absurd (cc)
+stop_fault fills e ledger left bytes Write told works other h = absurd (other refl)
+stop_fault fills e ledger left bytes Endless told works other h =
     let came = h.0.came in
-    let c = came_first chunk_len fills s s' bytes told came h.0.reads.reads in
+    let c = came_first chunk_len fills e.lines.old e.lines.new bytes told came h.0.reads.reads in
     inr (refl, omega (arith, h.0.reads.many, ap length c.1, length-append came c.0))
-stop_fault fills s s' sink sink' ledger left bytes Memory told works other h = inl refl
+stop_fault fills e ledger left bytes Memory told works other h = inl refl
 
-same_fault : {X : Type 0} {f g : Fault} → (let r : Result X Fault = Err f in r) ≡ Err g → f ≡ g
-same_fault is = cc
+-- at the line that refuses the table
+line_fault : (why : Unread) (sink sink' : SinkState) (fault : Fault) → fault ≢ Write → PutsUntil (λ verdict. verdict ≡ unread_verdict why) sink sink' fault → Err fault ≡ unread_verdict why
+line_fault why sink sink' Write other h = absurd (other refl)
+line_fault why sink sink' Read other h = h.0
+line_fault why sink sink' Endless other h = h.0
+line_fault why sink sink' Memory other h = h.0
 
-is_judged : {X : Type 0} {f g : Fault} {v : Verdict} → (let r : Result X Fault = Err f in r) ≡ Err g → Err g ≡ v → Err f ≡ v
-is_judged is verdict = cc
+module _ (rules : CountingRules) (fills : ℕ) (e : EndStates) (bytes : List ℕ) (fault : Fault) (more : table_limit < fills) (told : e.lines.old.to_come ≡ Some bytes)
+    (table : e.table.new.failed ≡ false) (works : e.lines.new.failed ≡ false) (other : fault ≢ Write) where
+  same_fault : {f : Fault} → (let r : Result Collected Stopped = Err (stopped.Fault fault) in r) ≡ Err (stopped.Fault f) → f ≡ fault
+  same_fault is = cc
 
-module _ (rules : CountingRules) (fills : ℕ) (t t' s s' : SourceState) (sink sink' : SinkState) (bytes : List ℕ) (fault : Fault) (more : table_limit < fills)
-    (told : s.to_come ≡ Some bytes) (table : t'.failed ≡ false) (works : s'.failed ≡ false) (other : fault ≢ Write) where
-  pub faults : CollectRun rules fills t t' s s' sink sink' (Err fault) → MemoryOrMany fills bytes fault
-  faults (runs.went m x first goes is) = absurd (cc)
-  faults (runs.broke m f first (inl (left, until)) is) =
-      stop_fault fills s s' sink sink' m left bytes fault told works other (subst (CollectsUntil fills s s' sink sink' m left) (sym (same_fault is)) until)
-  faults (runs.broke m f first (inr (memory, left)) is) = inl (same_fault is ∙ memory)
-  faults (runs.told out judged put handed is) = absurd (cc)
-  faults (runs.untold out count judged put fails flushes is) = absurd (other (same_fault is))
-  faults (runs.stopped f (lacks, unread) kept is) =
-      inl (table_fault fills t t' lacks.cause fault more table lacks.found (is_judged is lacks.is))
+  pub faults : CollectRun rules fills e (Err (stopped.Fault fault)) → MemoryOrMany fills bytes fault
+  faults (runs.began m (Ok x) first goes is) = absurd (cc)
+  faults (runs.began m (Err f) first (inl (left, until)) is) = stop_fault fills e m left bytes fault told works other (subst (BreaksOff fills e m left) (same_fault is) until)
+  faults (runs.began m (Err f) first (inr (memory, left)) is) = inl (sym (same_fault is) ∙ memory)
+  faults (runs.unread why (Ok answer) lacks puts is) = absurd (cc)
+  faults (runs.unread why (Err f) (lacks, unread) puts is) =
+      let h = line_fault why e.replies.old e.replies.new fault other (subst (PutsUntil (λ verdict. verdict ≡ unread_verdict why) e.replies.old e.replies.new) (same_fault is) puts) in
+      inl (table_fault fills e.table.old e.table.new lacks.cause fault more table lacks.found (subst (λ w. Err fault ≡ unread_verdict w) lacks.is h))

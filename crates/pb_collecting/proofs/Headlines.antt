@@ -1,7 +1,5 @@
 -- The theorem of `pbook collect`, from what a run does.
-use Rattle.std.proofs.Common.{ℕ, List, [], All, ap, refl, subst}
-use Rattle.pb_io.specs.Source.{SourceState}
-use Rattle.pb_io.specs.Sink.{SinkState}
+use Rattle.std.proofs.Common.{◌≡◌, ℕ, List, [], All, Ok, Err, ap, refl, subst}
 use Rattle.pb_io.specs.Lines.{lines}
 use Rattle.pb_poly.proofs.ToldReads.{handed_out}
 use Rattle.pb_poly.specs.Entry.{IsEntry}
@@ -17,8 +15,11 @@ use Rattle.pb_accepted.specs.Replies.{replies}
 use Rattle.pb_accepted.specs.Rules.{CountingRules}
 use Rattle.pb_accepted.proofs.Replies.{id_of}
 use Rattle.pb_accepted.proofs.Steps.{distinct_ids, numbers_kept, numbers_of_run}
+use Rattle.pb_ledger.specs.declared.totals.Totals.{Totals}
+use Rattle.pb_collecting.specs.Ends.{EndStates}
 use Rattle.pb_collecting.specs.Headline.{Effect, HasHeadline}
-use Rattle.pb_collecting.specs.Runs.{Takes, TakesTable}
+use Rattle.pb_collecting.specs.Runs as runs
+use Rattle.pb_collecting.specs.Runs.{Collected, CollectRun, Takes, TakesTable}
 use Rattle.pb_collecting.proofs.OneTexts.{has_one_text}
 
 -- the effect of lines that were answered as a ledger answers them, wherever they came from
@@ -37,28 +38,35 @@ effect L R games run T entries bounds book = record {
   text = has_one_text T games entries bounds book;
 }
 
-pub has_headline : (rules : CountingRules) (fills : ℕ) (t t' s s' : SourceState) (sink sink' : SinkState) (ledger left : LedgerState) (entries : List Entry) → All IsEntry entries
-    → TakesTable rules fills t t' ledger → Takes fills s s' sink sink' ledger left → IsBook left.basis left.accepted entries → HasHeadline rules t t' s s' sink sink' entries
-has_headline rules fills t t' s s' sink sink' ledger left entries bounds first takes book =
-    let table = found_table fills t t' first.randoms first.table in
-    let took = subst (λ (l : LedgerState). Takes fills s s' sink sink' l left) first.is takes in
-    let collects = took.0.done in
-    let bytes = took.0.came in
-    let T : Basis = record { words = first.randoms; rules = rules } in (
-      table.came,
-      bytes,
-      replies (lines bytes) collects.answers,
-      handed_out _ _ _ _ _ table.reads,
-      handed_out _ _ _ _ _ took.0.reads,
-      collects.put,
-      record {
-        counting = first.counting;
-        randoms = first.randoms;
-        table = table.is;
-        answers = collects.answers;
-        games = left.accepted;
-        effect = effect (lines bytes) collects.answers left.accepted collects.leads.run T entries bounds
-            (subst (λ (X : Basis). IsBook X left.accepted entries) collects.leads.basis book);
-        replied = refl;
-      },
-    )
+module _ (rules : CountingRules) (fills : ℕ) (e : EndStates) where
+  has_headline : (ledger left : LedgerState) (totals : Totals) (entries : List Entry) → All IsEntry entries → TakesTable rules fills e.table ledger → Takes fills e ledger left totals
+      → IsBook left.basis left.accepted entries → HasHeadline rules e entries
+  has_headline ledger left totals entries bounds first takes book =
+      let table = found_table fills e.table.old e.table.new first.randoms first.read in
+      let took = (subst (λ (l : LedgerState). Takes fills e l left totals) first.is takes).0 in
+      let collects = took.done.0 in
+      let bytes = took.came in
+      let T : Basis = record { words = first.randoms; rules = rules } in (
+        table.came,
+        bytes,
+        replies (lines bytes) collects.answers,
+        handed_out _ _ _ _ _ table.reads,
+        handed_out _ _ _ _ _ took.reads,
+        collects.put,
+        record {
+          counting = first.counting;
+          randoms = first.randoms;
+          table = table.is;
+          answers = collects.answers;
+          games = left.accepted;
+          effect = effect (lines bytes) collects.answers left.accepted collects.leads.run T entries bounds
+              (subst (λ (X : Basis). IsBook X left.accepted entries) collects.leads.basis book);
+          replied = refl;
+        },
+      )
+
+  pub headline : (made : Collected) → CollectRun rules fills e (Ok made) → HasHeadline rules e made.entries
+  headline made (runs.began ledger (Ok x) first (left, takes, book, ordered, bounds) same) =
+      let is : x ≡ made = cc in subst (λ (m : Collected). HasHeadline rules e m.entries) is (has_headline ledger left x.totals x.entries bounds first takes book)
+  headline made (runs.began ledger (Err fault) first goes same) = absurd (cc)
+  headline made (runs.unread why answer lacks puts same) = absurd (cc)

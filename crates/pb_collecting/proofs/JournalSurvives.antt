@@ -22,6 +22,8 @@ use Rattle.pb_ledger.specs.Journaling.{CollectsUnkept, Gains, JournalsUntil}
 use Rattle.pb_io.specs.declared.fault.Fault.TheVariants as collect
 use Rattle.pb_ledger.specs.declared.journaling.JournalFault.{JournalFault}
 use Rattle.pb_ledger.specs.declared.journaling.JournalFault.TheVariants as journal
+use Rattle.pb_ledger.specs.declared.totals.Totals.{Totals}
+use Rattle.pb_collecting.specs.Ends.{Change, EndStates, IsSame, JournalStates}
 use Rattle.pb_collecting.specs.Headline.{Arrives}
 use Rattle.pb_collecting.specs.JournalHeadline.{AreFirst, HoldsAnswered, Outlives, Survives}
 use Rattle.pb_collecting.specs.Runs.{ReplaysFirst, Takes}
@@ -29,32 +31,32 @@ use Rattle.pb_collecting.proofs.JournalGains.{IsNumber-front, gains_all, gains_t
 
 -- ---- the first lines of the submissions
 
-module _ (fills : ℕ) (s s' : SourceState) where
+module _ (fills : ℕ) (source : Change SourceState) where
   -- those that an LF ended in the bytes that came first
-  first_read : (came : List ℕ) → Reads chunk_len fills s s' came → AreFirst (ended_lines came) s s'
+  first_read : (came : List ℕ) → Reads chunk_len fills source.old source.new came → AreFirst (ended_lines came) source
   first_read came h =
       let begins = lines-begin came [] in
       (came, begins.0, h.handed, ap lines (sym (append-nil came)) ∙ begins.1)
 
-  front_read : (came : List ℕ) → ReadsFront chunk_len fills s s' came → AreFirst (ended_lines came) s s'
+  front_read : (came : List ℕ) → ReadsFront chunk_len fills source.old source.new came → AreFirst (ended_lines came) source
   front_read came h = let begins = lines-begin came h.0 in (came ++ h.0, begins.0, h.1.reads.handed, begins.1)
 
   -- all of them
-  all_read : (came : List ℕ) → ReadsAll chunk_len fills s s' came → AreFirst (lines came) s s'
+  all_read : (came : List ℕ) → ReadsAll chunk_len fills source.old source.new came → AreFirst (lines came) source
   all_read came h = (came, [], h.some.reads.handed, sym (append-nil (lines came)))
 
-  first_but_one : (before : List (List ℕ)) (line : List ℕ) → AreFirst (before ++ line ∷ []) s s' → AreFirst before s s'
+  first_but_one : (before : List (List ℕ)) (line : List ℕ) → AreFirst (before ++ line ∷ []) source → AreFirst before source
   first_but_one before line h = (h.0, line ∷ h.1, h.2, h.3 ∙ append_assoc before (line ∷ []) h.1)
 
 -- ---- from the journal that was replayed on
 
-module _ (rules : CountingRules) (fills : ℕ) (t t' v v' s s' : SourceState) (j mended j' sink sink' : SinkState) (held : LedgerState) (first : ReplaysFirst rules fills t t' v v' j mended held) where
+module _ (rules : CountingRules) (fills : ℕ) (e : EndStates) (j : JournalStates) (mended : SinkState) (held : LedgerState) (first : ReplaysFirst rules fills e.table j held mended) where
   abbrev kept : List ℕ
   kept = first.replays.came
 
   -- the new games are on the journal as far as they were acknowledged, and last there
   abbrev Safe : Type 0
-  Safe = Survives kept s s' j j' sink sink' × (AllLasts j → Outlives kept s s' j j' sink sink')
+  Safe = Survives kept e j.journal × (AllLasts j.journal.old → Outlives kept e j.journal)
 
   holds : Journals most_games kept held.accepted
   holds = first.replays.holds
@@ -63,18 +65,18 @@ module _ (rules : CountingRules) (fills : ℕ) (t t' v v' s s' : SourceState) (j
       → Leads (record { basis = record { words = first.randoms; rules = rules }; cap = most_games; accepted = held.accepted }) left L R
   leads_on left L R h = subst (λ (m : LedgerState). Leads m left L R) first.is h
 
-  gained : (text : List ℕ) → Appends mended.bytes j'.bytes text → Appends j.bytes j'.bytes (mending kept ++ text)
+  gained : (text : List ℕ) → Appends mended.bytes j.journal.new.bytes text → Appends j.journal.old.bytes j.journal.new.bytes (mending kept ++ text)
   gained text put = Appends-trans _ _ _ _ _ first.replays.mends.put put
 
   -- what was put, where all of it lasts
-  all_last : (bytes : List ℕ) → Appends j.bytes j'.bytes bytes → AllLasts j' → LastsFirst j j' bytes
-  all_last bytes put all = lasting j'.lasting all
+  all_last : (bytes : List ℕ) → Appends j.journal.old.bytes j.journal.new.bytes bytes → AllLasts j.journal.new → LastsFirst j.journal.old j.journal.new bytes
+  all_last bytes put all = lasting j.journal.new.lasting all
     where
-      lasting : (known : Option (List ℕ)) → IfSome known (λ lasts. j'.bytes ≡ Some lasts)
-          → IfSome known (λ lasts. (behind : List ℕ) × Appends j.bytes (Some lasts) (bytes ++ behind))
+      lasting : (known : Option (List ℕ)) → IfSome known (λ lasts. j.journal.new.bytes ≡ Some lasts)
+          → IfSome known (λ lasts. (behind : List ℕ) × Appends j.journal.old.bytes (Some lasts) (bytes ++ behind))
       lasting None all = tt
       lasting (Some lasts) all =
-          ([], subst (λ (known : Option (List ℕ)). Appends j.bytes known (bytes ++ [])) all (subst (Appends j.bytes j'.bytes) (sym (append-nil bytes)) put))
+          ([], subst (λ (known : Option (List ℕ)). Appends j.journal.old.bytes known (bytes ++ [])) all (subst (Appends j.journal.old.bytes j.journal.new.bytes) (sym (append-nil bytes)) put))
 
   -- the journal with the lines of new games
   holds_all : (left : LedgerState) (L : List (List ℕ)) (R : List Answer) (on : Leads (record { basis = record { words = first.randoms; rules = rules }; cap = most_games; accepted = held.accepted }) left L R)
@@ -84,11 +86,11 @@ module _ (rules : CountingRules) (fills : ℕ) (t t' v v' s s' : SourceState) (j
       (gains_all most_games kept held.accepted left.accepted L R holds on.run new text are lines_of)
 
   -- a front of the replies was put, and the new games are on the journal
-  survives : (left : LedgerState) (L : List (List ℕ)) (R : List Answer) (n : ℕ) → AreFirst L s s' → Leads held left L R → Gains mended j' held.accepted left.accepted
-      → Appends sink.bytes sink'.bytes (take n (replies L R)) → Safe
+  survives : (left : LedgerState) (L : List (List ℕ)) (R : List Answer) (n : ℕ) → AreFirst L e.lines → Leads held left L R → Gains mended j.journal.new held.accepted left.accepted
+      → Appends e.replies.old.bytes e.replies.new.bytes (take n (replies L R)) → Safe
   survives left L R n front leads gains replied =
       let on = leads_on left L R leads in
-      let holds_answered : HoldsAnswered (kept ++ (mending kept ++ gains.text)) s s' sink sink' = record {
+      let holds_answered : HoldsAnswered (kept ++ (mending kept ++ gains.text)) e = record {
         lines = L;
         first = front;
         answers = R;
@@ -107,12 +109,12 @@ module _ (rules : CountingRules) (fills : ℕ) (t t' v v' s s' : SourceState) (j
       )
 
   -- all replies were put
-  collected : (left : LedgerState) (L : List (List ℕ)) → AreFirst L s s' → Collects sink sink' held left L → Gains mended j' held.accepted left.accepted → Safe
+  collected : (left : LedgerState) (L : List (List ℕ)) → AreFirst L e.lines → Collects e.replies.old e.replies.new held left L → Gains mended j.journal.new held.accepted left.accepted → Safe
   collected left L front h gains =
-      survives left L h.answers (length (replies L h.answers)) front h.leads gains (subst (Appends sink.bytes sink'.bytes) (sym (take-length (replies L h.answers))) h.put)
+      survives left L h.answers (length (replies L h.answers)) front h.leads gains (subst (Appends e.replies.old.bytes e.replies.new.bytes) (sym (take-length (replies L h.answers))) h.put)
 
   -- of the last reply a front was put
-  collected_but_one : (left : LedgerState) (L : List (List ℕ)) → AreFirst L s s' → CollectsButOne sink sink' held left L → Gains mended j' held.accepted left.accepted → Safe
+  collected_but_one : (left : LedgerState) (L : List (List ℕ)) → AreFirst L e.lines → CollectsButOne e.replies.old e.replies.new held left L → Gains mended j.journal.new held.accepted left.accepted → Safe
   collected_but_one left L front h gains =
       let R : List Answer = h.answers ++ h.answer ∷ [] in
       let leads : Leads held left (h.before ++ h.line ∷ []) R = subst (λ (X : List (List ℕ)). Leads held left X R) h.are h.leads in
@@ -120,10 +122,10 @@ module _ (rules : CountingRules) (fills : ℕ) (t t' v v' s s' : SourceState) (j
       let cut : take (length (replies h.before h.answers) + h.count) (replies (h.before ++ h.line ∷ []) R) ≡ replies h.before h.answers ++ take h.count (reply_line h.line h.answer) =
       ap (take (length (replies h.before h.answers) + h.count)) all ∙ take-append-add (replies h.before h.answers) (reply_line h.line h.answer) h.count in
       survives left (h.before ++ h.line ∷ []) R (length (replies h.before h.answers) + h.count)
-      (subst (λ (X : List (List ℕ)). AreFirst X s s') h.are front) leads gains (subst (Appends sink.bytes sink'.bytes) (sym cut) h.put)
+      (subst (λ (X : List (List ℕ)). AreFirst X e.lines) h.are front) leads gains (subst (Appends e.replies.old.bytes e.replies.new.bytes) (sym cut) h.put)
 
   -- the last line's game is on the journal as a whole or not at all, and wasn't answered
-  unkept : (left : LedgerState) (L : List (List ℕ)) → AreFirst L s s' → CollectsUnkept sink sink' mended j' held left L → Safe
+  unkept : (left : LedgerState) (L : List (List ℕ)) → AreFirst L e.lines → CollectsUnkept e.replies.old e.replies.new mended j.journal.new held left L → Safe
   unkept left L front h = (
     elim (gains_torn most_games kept held.accepted left.accepted L (h.answers ++ Ok h.number ∷ []) holds on.run h.new h.game h.text h.last h.count h.games h.lines h.spells) [
       | inl torn ↦ survives_so (held.accepted ++ h.new) torn before
@@ -156,31 +158,31 @@ module _ (rules : CountingRules) (fills : ℕ) (t t' v v' s s' : SourceState) (j
       line = take h.count (with_end h.last)
 
       -- the journal was mended before it took the lines
-      lasts_so : LastsFirst mended j' h.text → LastsFirst j j' (mending kept ++ h.text)
-      lasts_so lasts = lasting j'.lasting lasts
+      lasts_so : LastsFirst mended j.journal.new h.text → LastsFirst j.journal.old j.journal.new (mending kept ++ h.text)
+      lasts_so lasts = lasting j.journal.new.lasting lasts
         where
           lasting : (known : Option (List ℕ)) → IfSome known (λ bytes. (behind : List ℕ) × Appends mended.bytes (Some bytes) (h.text ++ behind))
-              → IfSome known (λ bytes. (behind : List ℕ) × Appends j.bytes (Some bytes) ((mending kept ++ h.text) ++ behind))
+              → IfSome known (λ bytes. (behind : List ℕ) × Appends j.journal.old.bytes (Some bytes) ((mending kept ++ h.text) ++ behind))
           lasting None lasts = tt
           lasting (Some bytes) lasts = (
             lasts.0,
-            subst (Appends j.bytes (Some bytes)) (sym (append_assoc (mending kept) h.text lasts.0))
+            subst (Appends j.journal.old.bytes (Some bytes)) (sym (append_assoc (mending kept) h.text lasts.0))
                 (Appends-trans _ _ _ _ _ first.replays.mends.put lasts.1),
           )
 
-      answered : (gains : List ℕ) (games : List Submission) → Journals most_games (kept ++ gains) games → Has games → HoldsAnswered (kept ++ gains) s s' sink sink'
+      answered : (gains : List ℕ) (games : List Submission) → Journals most_games (kept ++ gains) games → Has games → HoldsAnswered (kept ++ gains) e
       answered gains games journals has = record {
         lines = h.before;
-        first = first_but_one fills s s' h.before h.line (subst (λ (X : List (List ℕ)). AreFirst X s s') h.are front);
+        first = first_but_one fills e.lines h.before h.line (subst (λ (X : List (List ℕ)). AreFirst X e.lines) h.are front);
         answers = h.answers;
         count = length (replies h.before h.answers);
-        replied = subst (Appends sink.bytes sink'.bytes) (sym (take-length (replies h.before h.answers))) h.put;
+        replied = subst (Appends e.replies.old.bytes e.replies.new.bytes) (sym (take-length (replies h.before h.answers))) h.put;
         games = games;
         holds = journals;
         has = has;
       }
 
-      survives_so : (games : List Submission) → Journals most_games (kept ++ mending kept ++ h.text ++ line) games → Has games → Survives kept s s' j j' sink sink'
+      survives_so : (games : List Submission) → Journals most_games (kept ++ mending kept ++ h.text ++ line) games → Has games → Survives kept e j.journal
       survives_so games journals has = record {
         gained = mending kept ++ (h.text ++ line);
         put = gained (h.text ++ line) h.kept;
@@ -191,19 +193,19 @@ module _ (rules : CountingRules) (fills : ℕ) (t t' v v' s s' : SourceState) (j
   -- ---- how the lines ended
 
   module _ (left : LedgerState) where
-    at_line : (P : List (List ℕ) → Type 0) → ((L : List (List ℕ)) → AreFirst L s s' → P L → Safe) → AtLine fills s s' P → Safe
-    at_line P follows (inl h) = follows (ended_lines h.came) (front_read fills s s' h.came h.reads) h.done
-    at_line P follows (inr h) = follows (lines h.came) (all_read fills s s' h.came h.reads) h.done
+    at_line : (P : List (List ℕ) → Type 0) → ((L : List (List ℕ)) → AreFirst L e.lines → P L → Safe) → AtLine fills e.lines.old e.lines.new P → Safe
+    at_line P follows (inl h) = follows (ended_lines h.came) (front_read fills e.lines h.came h.reads) h.done
+    at_line P follows (inr h) = follows (lines h.came) (all_read fills e.lines h.came h.reads) h.done
 
-    pub stream_survives : Takes fills s s' sink sink' held left → Gains mended j' held.accepted left.accepted → (s' ≡ s) ⊎ Safe
-    stream_survives takes gains = inr (collected left (lines takes.0.came) (all_read fills s s' takes.0.came takes.0.reads) takes.0.done gains)
+    pub stream_survives : (totals : Totals) → Takes fills e held left totals → Gains mended j.journal.new held.accepted left.accepted → IsSame e.lines ⊎ Safe
+    stream_survives totals takes gains = inr (collected left (lines takes.0.came) (all_read fills e.lines takes.0.came takes.0.reads) takes.0.done.0 gains)
 
-    pub until_survives : (e : JournalFault) → JournalsUntil fills s s' sink sink' mended j' held left e → (s' ≡ s) ⊎ Safe
-    until_survives (journal.Lines collect.Read) h = inr (collected left (ended_lines h.0.0.came) (first_read fills s s' h.0.0.came h.0.0.reads.reads) h.0.0.done h.1)
-    until_survives (journal.Lines collect.Endless) h = inr (collected left (ended_lines h.0.0.came) (first_read fills s s' h.0.0.came h.0.0.reads.reads) h.0.0.done h.1)
+    pub until_survives : (why : JournalFault) → JournalsUntil fills e.lines.old e.lines.new e.replies.old e.replies.new mended j.journal.new held left why → IsSame e.lines ⊎ Safe
+    until_survives (journal.Lines collect.Read) h = inr (collected left (ended_lines h.0.0.came) (first_read fills e.lines h.0.0.came h.0.0.reads.reads) h.0.0.done h.1)
+    until_survives (journal.Lines collect.Endless) h = inr (collected left (ended_lines h.0.0.came) (first_read fills e.lines h.0.0.came h.0.0.reads.reads) h.0.0.done h.1)
     until_survives (journal.Lines collect.Memory) h = inl h.0.0
     until_survives (journal.Lines collect.Write) h = elim h.0.0 [
-      | inl at ↦ inr (at_line (CollectsButOne sink sink' held left) (λ L front but_one. collected_but_one left L front but_one h.1) at)
-      | inr at ↦ inr (collected left (lines at.came) (all_read fills s s' at.came at.reads) at.done h.1)
+      | inl at ↦ inr (at_line (CollectsButOne e.replies.old e.replies.new held left) (λ L front but_one. collected_but_one left L front but_one h.1) at)
+      | inr at ↦ inr (collected left (lines at.came) (all_read fills e.lines at.came at.reads) at.done h.1)
     ]
-    until_survives journal.Journal h = inr (at_line (CollectsUnkept sink sink' mended j' held left) (unkept left) h.0)
+    until_survives journal.Journal h = inr (at_line (CollectsUnkept e.replies.old e.replies.new mended j.journal.new held left) (unkept left) h.0)

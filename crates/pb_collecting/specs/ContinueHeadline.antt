@@ -3,7 +3,6 @@
 use Rattle.std.specs.Prelude.{◌≡◌, ℕ, false, List, [], ◌++◌}
 use Rattle.std.specs.Io.KnownBytes.{Appends}
 use Rattle.pb_io.specs.Lines.{lines}
-use Rattle.pb_io.specs.Sink.{SinkState}
 use Rattle.pb_io.specs.Source.{HandsOut, SourceState}
 use Rattle.pb_poly.specs.Table.{IsTableFile}
 use Rattle.pb_poly.specs.declared.entry.Entry.{Entry}
@@ -16,6 +15,7 @@ use Rattle.pb_accepted.specs.Replies.{replies}
 use Rattle.pb_accepted.specs.Rules.{CountingRules}
 use Rattle.pb_ledger.specs.Loading.{Loads}
 use Rattle.pb_ledger.specs.Whole.{is_cut}
+use Rattle.pb_collecting.specs.Ends.{Change, EndStates}
 use Rattle.pb_collecting.specs.Headline.{Effect}
 use Rattle.pb_collecting.specs.Runs.{ledger_of}
 
@@ -40,13 +40,11 @@ pub record ContinuesBytes (rules : CountingRules) (file saved bytes put : List �
   pub effect : (K : List (List ℕ)) (Q : List Answer) → Run most_games [] K Q held
       → Effect left.basis (K ++ lines bytes) (Q ++ answers) left.accepted entries
 
--- It is so of all bytes that the sources handed out, and of those that the sink took; `v` and `v'`
--- are the states of the saved ledger's source.
-abbrev pub HasHeadlineOfBoth : CountingRules → SourceState → SourceState → SourceState → SourceState
-    → SourceState → SourceState
-    → SinkState → SinkState → LedgerState → List Entry → Type 0
-HasHeadlineOfBoth rules t t' v v' s s' sink sink' left entries =
+-- It is so of all bytes that the sources handed out, and of those that the sink took.
+abbrev pub HasHeadlineOfBoth : CountingRules → EndStates → Change SourceState → LedgerState
+    → List Entry → Type 0
+HasHeadlineOfBoth rules e source left entries =
     (file : List ℕ) × (saved : List ℕ) × (bytes : List ℕ) × (put : List ℕ)
-    × HandsOut t t' file × HandsOut v v' saved × HandsOut s s' bytes
-    × Appends sink.bytes sink'.bytes put
+    × HandsOut e.table.old e.table.new file × HandsOut source.old source.new saved
+    × HandsOut e.lines.old e.lines.new bytes × Appends e.replies.old.bytes e.replies.new.bytes put
     × ContinuesBytes rules file saved bytes put left entries

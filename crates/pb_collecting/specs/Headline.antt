@@ -4,8 +4,7 @@
 use Rattle.std.specs.Prelude.{◌≡◌, ℕ, ◌<◌, ◌↔◌, List, [], Some, Ok, slice_get}
 use Rattle.std.specs.Io.KnownBytes.{Appends}
 use Rattle.pb_io.specs.Lines.{lines}
-use Rattle.pb_io.specs.Sink.{SinkState}
-use Rattle.pb_io.specs.Source.{HandsOut, SourceState}
+use Rattle.pb_io.specs.Source.{HandsOut}
 use Rattle.pb_poly.specs.Table.{IsTableFile}
 use Rattle.pb_poly.specs.declared.entry.Entry.{Entry}
 use Rattle.pb_games.specs.Submissions.{IsLawful, Submission}
@@ -16,6 +15,7 @@ use Rattle.pb_accepted.specs.Holding.{most_games}
 use Rattle.pb_accepted.specs.Laws.{NoRepeats}
 use Rattle.pb_accepted.specs.Replies.{replies}
 use Rattle.pb_accepted.specs.Rules.{AreRules, CountingRules}
+use Rattle.pb_collecting.specs.Ends.{EndStates}
 use Rattle.pb_collecting.specs.OneText.{HasOneText}
 
 -- line i is the text of a legal game under an id
@@ -57,11 +57,8 @@ pub record Headline (rules : CountingRules) (file bytes put : List ℕ)
       (lines bytes) answers games entries
   pub replied : put ≡ replies (lines bytes) answers
 
--- It is so of all bytes that the two sources handed out, and of those that the sink took. `t` and
--- `t'` are the states of the table's source before and after, `s` and `s'` those of the
--- submissions'.
-abbrev pub HasHeadline : CountingRules → SourceState → SourceState → SourceState → SourceState
-    → SinkState → SinkState → List Entry → Type 0
-HasHeadline rules t t' s s' sink sink' entries = (file : List ℕ) × (bytes : List ℕ) × (put : List ℕ)
-    × HandsOut t t' file × HandsOut s s' bytes × Appends sink.bytes sink'.bytes put
-    × Headline rules file bytes put entries
+-- It is so of all bytes that the two sources handed out, and of those that the sink took.
+abbrev pub HasHeadline : CountingRules → EndStates → List Entry → Type 0
+HasHeadline rules e entries = (file : List ℕ) × (bytes : List ℕ) × (put : List ℕ)
+    × HandsOut e.table.old e.table.new file × HandsOut e.lines.old e.lines.new bytes
+    × Appends e.replies.old.bytes e.replies.new.bytes put × Headline rules file bytes put entries

@@ -1,6 +1,5 @@
 -- The theorem of a run of `collect` with a journal, for the bytes of a table file, of the journal
--- and of submissions, which three sources handed out. Below, `j` and `j'` are the states of the
--- journal's sink before and after. A list is counted from 0.
+-- and of submissions, which three sources handed out. A list is counted from 0.
 use Rattle.std.specs.Prelude.{◌≡◌, ◌⊎◌, ℕ, List, ◌++◌, Some, Ok, slice_get, take}
 use Rattle.std.specs.Io.KnownBytes.{Appends}
 use Rattle.pb_io.specs.Lines.{ended_lines, lines}
@@ -14,6 +13,7 @@ use Rattle.pb_accepted.specs.Holding.{most_games}
 use Rattle.pb_accepted.specs.Replies.{replies}
 use Rattle.pb_accepted.specs.Rules.{CountingRules}
 use Rattle.pb_ledger.specs.Journal.{GameLines, Journals, mending}
+use Rattle.pb_collecting.specs.Ends.{Change, EndStates, IsSame, JournalStates}
 use Rattle.pb_collecting.specs.Headline.{Arrives, Effect}
 
 -- The lines of the journal and then those of the submissions were answered as the lines of one run,
@@ -36,32 +36,29 @@ pub record JournalsBytes (rules : CountingRules) (file kept bytes put gained : L
   pub grows : gained ≡ mending kept ++ text
   pub holds_all : Journals most_games (kept ++ gained) (held ++ new)
 
--- It is so of all bytes that the sources handed out, and of those that the sinks took; `v` and `v'`
--- are the states of the journal's source.
-abbrev pub HasHeadlineOfJournal : CountingRules → SourceState → SourceState → SourceState
-    → SourceState → SourceState → SourceState
-    → SinkState → SinkState → SinkState → SinkState → List Entry → Type 0
-HasHeadlineOfJournal rules t t' v v' s s' j j' sink sink' entries =
+-- It is so of all bytes that the sources handed out, and of those that the sinks took.
+abbrev pub HasHeadlineOfJournal : CountingRules → EndStates → JournalStates → List Entry → Type 0
+HasHeadlineOfJournal rules e j entries =
     (file : List ℕ) × (kept : List ℕ) × (bytes : List ℕ) × (put : List ℕ) × (gained : List ℕ)
-    × HandsOut t t' file × HandsOut v v' kept × HandsOut s s' bytes
-    × Appends sink.bytes sink'.bytes put × Appends j.bytes j'.bytes gained
+    × HandsOut e.table.old e.table.new file × HandsOut j.kept.old j.kept.new kept
+    × HandsOut e.lines.old e.lines.new bytes × Appends e.replies.old.bytes e.replies.new.bytes put
+    × Appends j.journal.old.bytes j.journal.new.bytes gained
     × JournalsBytes rules file kept bytes put gained entries
 
 -- these are the first lines of what the source handed out
-abbrev pub AreFirst : List (List ℕ) → SourceState → SourceState → Type 0
-AreFirst first s s' = (bytes : List ℕ) × (later : List (List ℕ)) × (s'.handed ≡ s.handed ++ bytes)
-    × (lines bytes ≡ first ++ later)
+abbrev pub AreFirst : List (List ℕ) → Change SourceState → Type 0
+AreFirst first source = (bytes : List ℕ) × (later : List (List ℕ))
+    × (source.new.handed ≡ source.old.handed ++ bytes) × (lines bytes ≡ first ++ later)
 
 -- A journal of these bytes holds all that was acknowledged: of these lines, the first of the
 -- submissions, a front of the replies was put, and each game that one of them calls `ok` stands
 -- under its number in the games of the journal.
-pub record HoldsAnswered (journal : List ℕ) (s s' : SourceState)
-    (sink sink' : SinkState) : Type 0 where
+pub record HoldsAnswered (journal : List ℕ) (e : EndStates) : Type 0 where
   pub lines : List (List ℕ)
-  pub first : AreFirst lines s s'
+  pub first : AreFirst lines e.lines
   pub answers : List Answer
   pub count : ℕ
-  pub replied : Appends sink.bytes sink'.bytes (take count (replies lines answers))
+  pub replied : Appends e.replies.old.bytes e.replies.new.bytes (take count (replies lines answers))
   pub games : List Submission
   pub holds : Journals most_games journal games
   pub has : (i n : ℕ) → slice_get answers i ≡ Some (Ok n)
@@ -69,28 +66,23 @@ pub record HoldsAnswered (journal : List ℕ) (s s' : SourceState)
 
 -- No acknowledged game is lost, however the run ends: the journal, of which the source handed out
 -- these bytes, now holds them.
-pub record Survives (kept : List ℕ) (s s' : SourceState)
-    (j j' sink sink' : SinkState) : Type 0 where
+pub record Survives (kept : List ℕ) (e : EndStates) (journal : Change SinkState) : Type 0 where
   pub gained : List ℕ
-  pub put : Appends j.bytes j'.bytes gained
-  pub holds : HoldsAnswered (kept ++ gained) s s' sink sink'
+  pub put : Appends journal.old.bytes journal.new.bytes gained
+  pub holds : HoldsAnswered (kept ++ gained) e
 
 -- Nor whatever ends it: what lasts of the journal holds them, first, whatever lasts behind that.
-pub record Outlives (kept : List ℕ) (s s' : SourceState)
-    (j j' sink sink' : SinkState) : Type 0 where
+pub record Outlives (kept : List ℕ) (e : EndStates) (journal : Change SinkState) : Type 0 where
   pub gained : List ℕ
-  pub lasts : LastsFirst j j' gained
-  pub holds : HoldsAnswered (kept ++ gained) s s' sink sink'
+  pub lasts : LastsFirst journal.old journal.new gained
+  pub holds : HoldsAnswered (kept ++ gained) e
 
--- no submission was read, or no acknowledged game is lost, over the states of the journal's source,
--- of the submissions', of the journal's sink and of the replies'
-abbrev pub LosesNone : SourceState → SourceState → SourceState → SourceState → SinkState → SinkState
-    → SinkState → SinkState → Type 0
-LosesNone v v' s s' j j' sink sink' =
-    (s' ≡ s) ⊎ ((kept : List ℕ) × HandsOut v v' kept × Survives kept s s' j j' sink sink')
+-- no submission was read, or no acknowledged game is lost
+abbrev pub LosesNone : EndStates → JournalStates → Type 0
+LosesNone e j = IsSame e.lines
+    ⊎ ((kept : List ℕ) × HandsOut j.kept.old j.kept.new kept × Survives kept e j.journal)
 
 -- nor is one lost whatever ends the run, where what the journal had before lasts
-abbrev pub LosesNoneLater : SourceState → SourceState → SourceState → SourceState → SinkState
-    → SinkState → SinkState → SinkState → Type 0
-LosesNoneLater v v' s s' j j' sink sink' = AllLasts j
-    → (s' ≡ s) ⊎ ((kept : List ℕ) × HandsOut v v' kept × Outlives kept s s' j j' sink sink')
+abbrev pub LosesNoneLater : EndStates → JournalStates → Type 0
+LosesNoneLater e j = AllLasts j.journal.old → IsSame e.lines
+    ⊎ ((kept : List ℕ) × HandsOut j.kept.old j.kept.new kept × Outlives kept e j.journal)

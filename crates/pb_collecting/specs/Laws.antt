@@ -1,8 +1,7 @@
 -- Laws of the theorem of `pbook collect`: what follows from an effect.
 use Rattle.std.specs.Prelude.{◌≡◌, ◌≢◌, ℕ, ◌+◌, ◌++◌, List, [], Some}
-use Rattle.std.specs.Prelude.{None, Ok, Err, All, slice_get, take}
+use Rattle.std.specs.Prelude.{Err, All, slice_get, take}
 use Rattle.pb_io.specs.Lines.{lines}
-use Rattle.pb_io.specs.Sink.{SinkState}
 use Rattle.pb_io.specs.Source.{SourceState}
 use Rattle.pb_poly.specs.declared.entry.Entry.{Entry}
 use Rattle.pb_games.specs.Submissions.{Submission}
@@ -18,9 +17,12 @@ use Rattle.pb_accepted.specs.Replies.{replies}
 use Rattle.pb_accepted.specs.Rules.{CountingRules}
 use Rattle.pb_ledger.specs.Saving.{Saved}
 use Rattle.pb_collecting.specs.ContinueHeadline.{ContinuesBytes}
+use Rattle.pb_collecting.specs.Ends.{Change, EndStates, IsSame, JournalStates}
 use Rattle.pb_collecting.specs.Headline.{Effect}
 use Rattle.pb_collecting.specs.OneText.{HasOneText}
 use Rattle.pb_collecting.specs.Runs.{CollectRun, ContinueRun, JournalRun}
+use Rattle.pb_collecting.specs.declared.made.Stopped.TheVariants as stopped
+use Rattle.pb_collecting.specs.declared.made.Unread.{Unread}
 
 -- in every run a line that was refused left the games that are held as they were
 abbrev pub RefusalsLeaveTheGames : Type 0
@@ -70,18 +72,12 @@ GoesOnAsOneRun = (rules : CountingRules) (file saved bytes put : List ℕ) (left
     → Run most_games [] K Q A → Saved A saved
     → OneLongRun left.basis K (lines bytes) Q h.answers A h.held left.accepted entries
 
--- A run that refused its table or its saved ledger read no submission, and left a journal as it
--- was. Below, `t` and `t'` are the states of the table's source before and after, `v` and `v'`
--- those of a saved ledger or a journal that is read, `s` and `s'` those of the submissions, `j` and
--- `j'` those of the journal that is written.
-pub record RefusedIsUnread : Type 0 where
-  pub collect : (rules : CountingRules) (fills : ℕ) (t t' s s' : SourceState)
-      (sink sink' : SinkState)
-      → CollectRun rules fills t t' s s' sink sink' (Ok None) → s' ≡ s
-  pub continued : (rules : CountingRules) (fills : ℕ) (t t' v v' s s' : SourceState)
-      (sink sink' : SinkState)
-      → ContinueRun rules fills t t' v v' s s' sink sink' (Ok None) → s' ≡ s
-  pub journaled : (rules : CountingRules) (fills : ℕ) (t t' v v' s s' : SourceState)
-      (j j' sink sink' : SinkState)
-      → JournalRun rules fills t t' v v' s s' j j' sink sink' (Ok None)
-      → (s' ≡ s) × (v' ≡ v) × (j' ≡ j)
+-- A run that was refused its table or its saved ledger read no submission, and left a journal as it
+-- was.
+pub record RefusedIsUnread (rules : CountingRules) (fills : ℕ) (e : EndStates) (why : Unread)
+    : Type 0 where
+  pub collect : CollectRun rules fills e (Err (stopped.Unread why)) → IsSame e.lines
+  pub continued : (saved : Change SourceState)
+      → ContinueRun rules fills e saved (Err (stopped.Unread why)) → IsSame e.lines
+  pub journaled : (j : JournalStates) → JournalRun rules fills e j (Err (stopped.Unread why))
+      → IsSame e.lines × IsSame j.kept × IsSame j.journal

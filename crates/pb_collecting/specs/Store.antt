@@ -1,7 +1,10 @@
--- A store where a text is kept, such as that of a book, as a file is, and what keeping one does
--- there.
-use Rattle.std.specs.Prelude.{◌≡◌, ◌⊎◌, ℕ, List, Option, Some, Result, IfErr, IfSome, OnOk, take}
+-- A store where a text is kept, such as that of a book, as a file is, and what writing and keeping
+-- one does.
+use Rattle.std.specs.Prelude.{◌≡◌, ◌⊎◌, ℕ, List, Option, Some, Result, IfErr, IfOk, IfSome, OnOk}
+use Rattle.std.specs.Prelude.{take}
 use Rattle.std.specs.Result.{result_err}
+use Rattle.pb_io.specs.Sink.{SinkState}
+use Rattle.pb_ledger.specs.Booking.{WritesOrWants}
 use Rattle.pb_ledger.specs.declared.booking.WriteFault.{WriteFault}
 use Rattle.pb_ledger.specs.declared.booking.WriteFault.TheVariants as fault
 use Rattle.pb_collecting.specs.declared.store.StoreError.{StoreError}
@@ -25,15 +28,22 @@ Spoils old new Open bytes = ⊥
 Spoils old new why bytes = (count : ℕ) × HoldsBytes old new (take count bytes)
 
 -- Keeping bytes: the store holds them, or it tells why not, and is as it was or spoilt.
-pub record Keeps (old new : StoreState) (answer : Result (Unit {0}) StoreError)
+pub record Keeps {A : Type 0} (old new : StoreState) (answer : Result A StoreError)
     (bytes : List ℕ) : Type 0 where
   pub holds : OnOk answer (HoldsBytes old new bytes)
   pub leaves : IfErr answer (λ why. (new.found ≡ old.found) ⊎ Spoils old new why bytes)
   pub fault : new.fault ≡ result_err answer
 
--- memory was wanting, and a reader of the store finds what was there before
-abbrev pub KeepsWhatItHad : StoreState → StoreState → StoreError → Type 0
-KeepsWhatItHad old new why = (why ≡ Memory) × (new.found ≡ old.found)
+-- a text was kept, or put on a sink, and the answer is how many entries or games it tells
+abbrev pub KeepsText : (List ℕ → ℕ → Type 0) → StoreState → StoreState → Result ℕ StoreError
+    → Type 0
+KeepsText is_text old new answer = (bytes : List ℕ) × (count : ℕ) × is_text bytes count
+    × Keeps old new answer bytes × IfOk answer (λ n. n ≡ count)
+
+abbrev pub WritesText : (List ℕ → ℕ → Type 0) → SinkState → SinkState → Result ℕ WriteFault
+    → Type 0
+WritesText is_text old new answer = (bytes : List ℕ) × (count : ℕ) × is_text bytes count
+    × WritesOrWants old new answer bytes × IfOk answer (λ n. n ≡ count)
 
 -- what a fault of writing is to a store
 abbrev pub store_error : WriteFault → StoreError

@@ -1,13 +1,15 @@
 //! The command `collect`: submissions are answered, and the book of the games that are held then is
 //! made.
 ghost use Rattle.std.specs.Prelude.{IfOk, IfSome};
+ghost use Rattle.pb_collecting.specs.Ends.{between};
 ghost use Rattle.pb_collecting.specs.Headline.{HasHeadline};
 ghost use Rattle.pb_collecting.specs.Run.{LeavesLedger};
-ghost use Rattle.pb_collecting.specs.Runs.{CollectRun};
+ghost use Rattle.pb_collecting.specs.Runs.{Answers, CollectRun};
 
-use crate::run::{book_of, open, take_submissions};
+use crate::made::Stopped;
+use crate::run::{Taken, book_of, open};
 use pb_io::{Fault, Sink, Source};
-use pb_ledger::{Ledger, MapTally, Rules};
+use pb_ledger::{Rules, Watcher, collect_watched};
 use pb_poly::Book;
 use std::alloc::Global;
 
@@ -36,40 +38,45 @@ pub fn run_collect<Table: Source, In: Source, Out: Sink>(
     // The table was read, all submissions were taken and answered, and this is the book of the
     // games that are held; or the line was put that refuses the table; or this was done before the
     // fault.
-    ensures ends { CollectRun rules fills
-        (Table.state table_source.old) (Table.state table_source.new)
-        (In.state source.old) (In.state source.new)
-        (Out.state sink.old) (Out.state sink.new) result }
+    ensures ends { Answers (CollectRun rules fills (record {
+      table = between Table.state table_source.old table_source.new;
+      lines = between In.state source.old source.new;
+      replies = between Out.state sink.old sink.new;
+    })) (λ made. made.entries) result }
     // All that is promised of the bytes that the sources handed out and the sink took: which lines
     // are accepted, that each game counts once, and that the book has one text.
-    ensures headline { IfOk result (λ answer. IfSome answer (HasHeadline rules
-        (Table.state table_source.old) (Table.state table_source.new)
-        (In.state source.old) (In.state source.new)
-        (Out.state sink.old) (Out.state sink.new))) }
+    ensures headline { IfOk result (λ answer. IfSome answer (HasHeadline rules (record {
+      table = between Table.state table_source.old table_source.new;
+      lines = between In.state source.old source.new;
+      replies = between Out.state sink.old sink.new;
+    }))) }
 {
-    let Some(ledger) = take(alloc, rules, table_source, source, sink, fills)? else {
-        return Ok(None);
-    };
-    Ok(Some(book_of(alloc, &ledger)?))
+    match take(alloc, rules, table_source, source, sink, &mut (), fills) {
+        Ok(taken) => Ok(Some(book_of(alloc, &taken.ledger)?)),
+        Err(stopped) => match stopped {
+            Stopped::Unread(_) => Ok(None),
+            Stopped::Fault(fault) => Err(fault),
+        },
+    }
 }
 
-/// Takes submission lines as `run_collect` does, up to the book. None where the table is refused.
-pub(crate) fn take<Table: Source, In: Source, Out: Sink>(
+/// Takes submission lines as `run_collect` does, up to the book.
+pub(crate) fn take<Table: Source, In: Source, Out: Sink, Watch: Watcher>(
     alloc: Global,
     rules: Rules,
-    table_source: &mut Table,
-    source: &mut In,
-    sink: &mut Out,
+    table: &mut Table,
+    lines: &mut In,
+    replies: &mut Out,
+    watcher: &mut Watch,
     fills: u32,
-) -> Result<Option<Ledger<MapTally>>, Fault>
-    ensures { LeavesLedger (CollectRun rules fills
-        (Table.state table_source.old) (Table.state table_source.new)
-        (In.state source.old) (In.state source.new)
-        (Out.state sink.old) (Out.state sink.new)) result }
+) -> Result<Taken, Stopped>
+    ensures { LeavesLedger (CollectRun rules fills (record {
+      table = between Table.state table.old table.new;
+      lines = between In.state lines.old lines.new;
+      replies = between Out.state replies.old replies.new;
+    })) result }
 {
-    let Some(mut ledger) = open(alloc, rules, table_source, sink, fills)? else {
-        return Ok(None);
-    };
-    take_submissions(alloc, source, sink, &mut ledger, fills)?;
-    Ok(Some(ledger))
+    let mut ledger = open(alloc, rules, table, replies, fills)?;
+    let totals = collect_watched(alloc, lines, replies, &mut ledger, watcher, fills)?;
+    Ok(Taken { ledger, totals })
 }

@@ -1,16 +1,21 @@
 //! The command `collect` that goes on from a saved ledger.
 
 ghost use Rattle.std.specs.Prelude.{◌≡◌, IfOk, IfSome};
-ghost use Rattle.pb_commands.specs.Judged.{PutsOrEnds};
+ghost use Rattle.pb_ledger.specs.Whole.{load_error_of};
+ghost use Rattle.pb_commands.specs.Judged.{Refuses};
 ghost use Rattle.pb_collecting.specs.ContinueHeadline.{HasHeadlineOfBoth};
-ghost use Rattle.pb_collecting.specs.Continuing.{saved_verdict};
+ghost use Rattle.pb_collecting.specs.Ends.{between};
+ghost use Rattle.pb_collecting.specs.Reasons.{saved_verdict};
 ghost use Rattle.pb_collecting.specs.Run.{LeavesGone};
-ghost use Rattle.pb_collecting.specs.Runs.{ContinueRun};
+ghost use Rattle.pb_collecting.specs.Runs.{Answers, ContinueRun, continued};
 
-use crate::run::{book_of, open, take_submissions};
+use crate::made::{Stopped, Unread};
+use crate::run::{book_of, open};
 use pb_commands::refuse_with;
 use pb_io::{Fault, Sink, Source};
-use pb_ledger::{Ledger, LoadError, MapTally, Rules, load_whole};
+use pb_ledger::{
+    Ledger, LoadError, MapTally, NotWhole, Rules, Totals, Watcher, collect_watched, load_whole,
+};
 use pb_poly::Book;
 use std::alloc::Global;
 
@@ -47,29 +52,40 @@ pub fn run_continue<Table: Source, Saved: Source, In: Source, Out: Sink>(
     sink: &mut Out,
     fills: u32,
 ) -> Result<Option<Continued>, Fault>
-    // The table was read, the saved ledger was loaded, and the submissions were taken from there,
-    // which left this ledger and its book, or the fault that came then; or the line was put that
-    // refuses the table or the saved ledger, or there was a fault, and no submission was read.
-    ensures ends { ContinueRun rules fills
-        (Table.state table_source.old) (Table.state table_source.new)
-        (Saved.state saved.old) (Saved.state saved.new)
-        (In.state source.old) (In.state source.new) (Out.state sink.old) (Out.state sink.new)
-        result }
+    // The submissions were taken from the saved ledger on, which left this ledger and its book, or
+    // the fault that came then; or the run began with no submission read, and a line says why.
+    ensures ends { Answers (ContinueRun rules fills (record {
+      table = between Table.state table_source.old table_source.new;
+      lines = between In.state source.old source.new;
+      replies = between Out.state sink.old sink.new;
+    })
+        (between Saved.state saved.old saved.new)) continued result }
     // The games of the saved ledger were held first. Whatever run left them, the book is that of
     // the games that were accepted in both runs, each of them once.
     ensures headline { IfOk result (λ answer. IfSome answer (λ run.
-        IfOk run.book (HasHeadlineOfBoth rules
-        (Table.state table_source.old) (Table.state table_source.new)
-        (Saved.state saved.old) (Saved.state saved.new)
-        (In.state source.old) (In.state source.new) (Out.state sink.old) (Out.state sink.new)
-        run.ledger))) }
+        IfOk run.book (HasHeadlineOfBoth rules (record {
+          table = between Table.state table_source.old table_source.new;
+          lines = between In.state source.old source.new;
+          replies = between Out.state sink.old sink.new;
+        })
+        (between Saved.state saved.old saved.new) run.ledger))) }
 {
-    let Some(gone) = go_on(alloc, rules, table_source, saved, source, sink, fills)? else {
-        return Ok(None);
-    };
-    let book = gone.book(alloc);
-    let ledger = gone.ledger;
-    Ok(Some(Continued { ledger, book }))
+    match go_on(
+        alloc,
+        rules,
+        table_source,
+        saved,
+        source,
+        sink,
+        &mut (),
+        fills,
+    ) {
+        Ok(gone) => Ok(Some(gone.continued(alloc))),
+        Err(stopped) => match stopped {
+            Stopped::Unread(_) => Ok(None),
+            Stopped::Fault(fault) => Err(fault),
+        },
+    }
 }
 
 /// A run that went on from a saved ledger, up to the book.
@@ -77,60 +93,68 @@ pub fn run_continue<Table: Source, Saved: Source, In: Source, Out: Sink>(
 pub(crate) struct Gone {
     /// The games that are held.
     pub(crate) ledger: Ledger<MapTally>,
-    /// The fault that ended the run, if one did.
-    pub(crate) end: Result<(), Fault>,
+    /// What became of the lines, or the fault that ended the run.
+    pub(crate) end: Result<Totals, Fault>,
 }
 
 impl Gone {
     ghost use Rattle.pb_collecting.specs.Run.{MayBeEnd};
 
     /// Makes the book of the games that are held, unless a fault ended the run.
-    fn book(&self, alloc: Global) -> Result<Book, Fault>
-        ensures { MayBeEnd self.now result }
+    fn continued(self, alloc: Global) -> Continued
+        ensures ledger { result.ledger ≡ self.ledger }
+        ensures book { MayBeEnd self result.book }
     {
-        self.end?;
-        book_of(alloc, &self.ledger)
+        let book = match self.end {
+            Ok(_) => book_of(alloc, &self.ledger),
+            Err(fault) => Err(fault),
+        };
+        Continued {
+            ledger: self.ledger,
+            book,
+        }
     }
 }
 
-/// Goes on from a saved ledger as `run_continue` does, up to the book. None where the table or the
-/// saved ledger is refused.
-pub(crate) fn go_on<Table: Source, Saved: Source, In: Source, Out: Sink>(
+/// Goes on from a saved ledger as `run_continue` does, up to the book.
+pub(crate) fn go_on<Table: Source, Saved: Source, In: Source, Out: Sink, Watch: Watcher>(
     alloc: Global,
     rules: Rules,
-    table_source: &mut Table,
+    table: &mut Table,
     saved: &mut Saved,
-    source: &mut In,
-    sink: &mut Out,
+    lines: &mut In,
+    replies: &mut Out,
+    watcher: &mut Watch,
     fills: u32,
-) -> Result<Option<Gone>, Fault>
-    ensures { LeavesGone (ContinueRun rules fills
-        (Table.state table_source.old) (Table.state table_source.new)
-        (Saved.state saved.old) (Saved.state saved.new)
-        (In.state source.old) (In.state source.new) (Out.state sink.old) (Out.state sink.new))
-        result }
+) -> Result<Gone, Stopped>
+    ensures { LeavesGone (ContinueRun rules fills (record {
+      table = between Table.state table.old table.new;
+      lines = between In.state lines.old lines.new;
+      replies = between Out.state replies.old replies.new;
+    })
+        (between Saved.state saved.old saved.new)) result }
 {
-    let Some(mut ledger) = open(alloc, rules, table_source, sink, fills)? else {
-        return Ok(None);
-    };
+    let mut ledger = open(alloc, rules, table, replies, fills)?;
     if let Err(error) = load_whole(alloc, saved, &mut ledger, fills) {
-        refuse_ledger(sink, error)?;
-        return Ok(None);
+        refuse_ledger(replies, error)?;
+        return Err(Stopped::Unread(Unread::Ledger(error)));
     }
-    let end = take_submissions(alloc, source, sink, &mut ledger, fills);
-    Ok(Some(Gone { ledger, end }))
+    let end = collect_watched(alloc, lines, replies, &mut ledger, watcher, fills);
+    Ok(Gone { ledger, end })
 }
 
-/// Shows that the saved ledger is refused and answers false, or puts nothing and answers the fault
-/// that ended its reading.
-fn refuse_ledger<K: Sink>(sink: &mut K, error: LoadError) -> Result<bool, Fault>
-    ensures { PutsOrEnds (λ verdict. verdict ≡ saved_verdict error) (K.state sink.old)
-        (K.state sink.new) result }
+/// Shows that the saved ledger is refused; or puts nothing, and answers the fault that ended its
+/// reading.
+fn refuse_ledger<K: Sink>(sink: &mut K, error: NotWhole) -> Result<(), Fault>
+    ensures { Refuses (saved_verdict (load_error_of error)) (K.state sink.old) (K.state sink.new)
+        result }
 {
     match error {
-        LoadError::Line(number) => refuse_with(sink, b"refused ledger line ", number as usize),
-        LoadError::Read => Err(Fault::Read),
-        LoadError::Endless => Err(Fault::Endless),
-        LoadError::Memory => Err(Fault::Memory),
+        NotWhole::Cut(number) | NotWhole::Load(LoadError::Line(number)) => {
+            refuse_with(sink, b"refused ledger line ", number as usize)
+        }
+        NotWhole::Load(LoadError::Read) => Err(Fault::Read),
+        NotWhole::Load(LoadError::Endless) => Err(Fault::Endless),
+        NotWhole::Load(LoadError::Memory) => Err(Fault::Memory),
     }
 }

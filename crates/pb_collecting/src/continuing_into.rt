@@ -1,19 +1,20 @@
 //! The command `collect` that goes on from a saved ledger, up to the stores where the ledger and
 //! its book are kept.
 
-ghost use Rattle.std.specs.Prelude.{ℕ, Ok, Some};
-ghost use Rattle.pb_io.specs.Source.{SourceState};
-ghost use Rattle.pb_io.specs.Sink.{SinkState};
-ghost use Rattle.pb_accepted.specs.Rules.{CountingRules};
-ghost use Rattle.pb_collecting.specs.ContinuingInto.{KeepsOrStops};
-ghost use Rattle.pb_collecting.specs.Run.{LeavesGone};
+ghost use Rattle.std.specs.Prelude.{⊤};
+ghost use Rattle.pb_collecting.specs.ContinueHeadline.{HasHeadlineOfBoth};
+ghost use Rattle.pb_collecting.specs.Ends.{between, states};
+ghost use Rattle.pb_collecting.specs.Into.{ContinuesInto};
+ghost use Rattle.pb_collecting.specs.Run.{MayBeLeft};
 ghost use Rattle.pb_collecting.specs.Runs.{ContinueRun};
 
 use crate::continuing::{Gone, go_on};
+use crate::ends::{Ends, LedgerEnds};
+use crate::made::{Made, Report, Stopped};
 use crate::store::{Store, StoreError};
 use crate::text::LedgerBook;
 use pb_io::{Fault, Sink, Source};
-use pb_ledger::Rules;
+use pb_ledger::{Rules, Watcher};
 use std::alloc::Global;
 use thiserror::Error;
 
@@ -36,7 +37,7 @@ pub enum NotContinued {
 /// Goes on from a saved ledger as `run_continue` does, keeps the ledger at the one store, also
 /// where the run met a fault after a submission was read, and then its book at the other. Where the
 /// table or the saved ledger is refused, the line that says so is put, nothing is kept, and the
-/// answer is false.
+/// answer says why.
 ///
 /// # Errors
 ///
@@ -44,62 +45,68 @@ pub enum NotContinued {
 /// book's.
 pub fn continue_into<
     Table: Source,
-    Saved: Source,
     In: Source,
     Out: Sink,
+    Watch: Watcher,
+    Saved: Source,
     LedgerStore: Store,
     BookStore: Store,
 >(
     alloc: Global,
     rules: Rules,
-    table_source: &mut Table,
-    saved: &mut Saved,
-    source: &mut In,
-    sink: &mut Out,
-    ledger_store: &mut LedgerStore,
-    book_store: &mut BookStore,
+    ends: &mut Ends<Table, In, Out, Watch>,
+    ledger: &mut LedgerEnds<Saved, LedgerStore>,
+    book: &mut BookStore,
     fills: u32,
-) -> Result<bool, NotContinued>
-    ensures { KeepsOrStops rules fills (Table.state table_source.old) (Table.state table_source.new)
-        (Saved.state saved.old) (Saved.state saved.new)
-        (In.state source.old) (In.state source.new) (Out.state sink.old) (Out.state sink.new)
-        (LedgerStore.state ledger_store.old) (LedgerStore.state ledger_store.new)
-        (BookStore.state book_store.old) (BookStore.state book_store.new) result }
+) -> Result<Made, NotContinued>
+    ensures { let e = states Table.state In.state Out.state ends.old ends.new in
+        let saved = between Saved.state ledger.old.saved ledger.new.saved in
+        ContinuesInto (ContinueRun rules fills e saved) (HasHeadlineOfBoth rules e saved)
+        (between LedgerStore.state ledger.old.store ledger.new.store)
+        (between BookStore.state book.old book.new) result }
 {
-    match go_on(alloc, rules, table_source, saved, source, sink, fills) {
-        Ok(Some(run)) => keep_run(alloc, &run, ledger_store, book_store),
-        Ok(None) => Ok(false),
-        Err(fault) => Err(NotContinued::Run(fault)),
+    match go_on(
+        alloc,
+        rules,
+        &mut ends.table,
+        &mut ledger.saved,
+        &mut ends.lines,
+        &mut ends.replies,
+        &mut ends.watcher,
+        fills,
+    ) {
+        Ok(gone) => keep_both(alloc, &gone, &mut ledger.store, book),
+        Err(stopped) => match stopped {
+            Stopped::Unread(why) => Ok(Made::Unread(why)),
+            Stopped::Fault(fault) => Err(NotContinued::Run(fault)),
+        },
     }
 }
 
 /// Keeps the ledger of a run at the one store, also where a fault ended the run, and then its book
 /// at the other.
-fn keep_run<LedgerStore: Store, BookStore: Store>(
+fn keep_both<LedgerStore: Store, BookStore: Store>(
     alloc: Global,
-    run: &Gone,
+    gone: &Gone,
     ledger_store: &mut LedgerStore,
     book_store: &mut BookStore,
-) -> Result<bool, NotContinued>
-    // Whatever sources the run read, it ends so.
-    ensures { (rules : CountingRules) (fills : ℕ) (t t' v v' s s' : SourceState)
-        (sink sink' : SinkState)
-        → LeavesGone (ContinueRun rules fills t t' v v' s s' sink sink') (Ok (Some run.now))
-        → KeepsOrStops rules fills t t' v v' s s' sink sink' (LedgerStore.state ledger_store.old)
-        (LedgerStore.state ledger_store.new)
-        (BookStore.state book_store.old) (BookStore.state book_store.new) result }
+) -> Result<Made, NotContinued>
+    ensures { ContinuesInto (MayBeLeft gone.now) (λ _ _. ⊤)
+        (between LedgerStore.state ledger_store.old ledger_store.new)
+        (between BookStore.state book_store.old book_store.new) result }
 {
-    let book = LedgerBook::of(alloc, &run.ledger);
+    let book = LedgerBook::of(alloc, &gone.ledger);
     // The ledger is kept first: what was answered `ok` is in it.
-    let kept = ledger_store.keep(&run.ledger);
-    if let Err(fault) = run.end {
-        return Err(NotContinued::Run(fault));
-    }
+    let kept = ledger_store.keep(&gone.ledger);
+    let totals = match gone.end {
+        Ok(totals) => totals,
+        Err(fault) => return Err(NotContinued::Run(fault)),
+    };
     if let Err(why) = kept {
         return Err(NotContinued::Ledger(why));
     }
     match book_store.keep(&book) {
-        Ok(()) => Ok(true),
+        Ok(entries) => Ok(Made::Book(Report { totals, entries })),
         Err(why) => Err(NotContinued::Book(why)),
     }
 }

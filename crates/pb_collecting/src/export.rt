@@ -1,11 +1,15 @@
 //! The command `export`: the book of submissions as EPD lines.
 ghost use Rattle.std.specs.Prelude.{IfErr};
+ghost use Rattle.pb_collecting.specs.Ends.{between, states};
 ghost use Rattle.pb_collecting.specs.ExportRun.{BlamesEither, BlamesSink};
+ghost use Rattle.pb_collecting.specs.Into.{Exported};
 ghost use Rattle.pb_collecting.specs.Runs.{ExportRun, SilentExportRun};
 
+use crate::ends::Ends;
+use crate::made::{Made, Report, Stopped};
 use crate::run::open;
 use pb_io::{Fault, NullSink, Sink, Source};
-use pb_ledger::{Rules, collect, export};
+use pb_ledger::{Rules, Watcher, collect_watched, export};
 use std::alloc::Global;
 
 /// Takes submission lines, drops the replies, and puts the book of the games that are held at the
@@ -31,27 +35,31 @@ pub fn run_export<Table: Source, In: Source, Out: Sink>(
     // put, and the answer is true; or the line was put that refuses the table, and it is false; or
     // this was done before the fault.
     ensures ends { SilentExportRun rules fills
-        (Table.state table_source.old) (Table.state table_source.new)
-        (In.state source.old) (In.state source.new)
-        (Out.state sink.old) (Out.state sink.new) result }
+        (between Table.state table_source.old table_source.new)
+        (between In.state source.old source.new) (between Out.state sink.old sink.new) result }
     // The sink is blamed only where it has failed, and always where it has failed since.
-    ensures blame { IfErr result (BlamesSink (Out.state sink.old) (Out.state sink.new)) }
+    ensures blame { IfErr result (BlamesSink (between Out.state sink.old sink.new)) }
 {
     let mut replies = NullSink::default();
-    export_submissions(
+    match export_all(
         alloc,
         rules,
         table_source,
         source,
         &mut replies,
         sink,
+        &mut (),
         fills,
-    )
+    )? {
+        Made::Book(_) => Ok(true),
+        Made::Unread(_) => Ok(false),
+    }
 }
 
-/// Exports as `run_export` does, with a sink for the replies. The reply to each line is put there as
-/// the line is taken, as in `run_collect`, and all are handed on before the export. One list of
-/// answers is that of the replies and that by which the games are held whose export is put.
+/// Exports as `run_export` does, and puts the reply to each line as the line is taken, as in
+/// `run_collect`; all are handed on before the export. One list of answers is that of the replies
+/// and that by which the games are held whose export is put. The report counts the answers, and the
+/// lines of the export.
 ///
 /// # Errors
 ///
@@ -59,31 +67,69 @@ pub fn run_export<Table: Source, In: Source, Out: Sink>(
 /// a front of them was put and none handed on, no further line was taken, and the sink of the
 /// export is as it was. Where that of the export fails, all replies were handed on before, unless
 /// the table was refused.
-pub fn export_submissions<Table: Source, In: Source, Replies: Sink, Out: Sink>(
+pub fn export_submissions<Table: Source, In: Source, Replies: Sink, Watch: Watcher, Out: Sink>(
     alloc: Global,
     rules: Rules,
-    table_source: &mut Table,
-    source: &mut In,
-    replies: &mut Replies,
+    ends: &mut Ends<Table, In, Replies, Watch>,
     sink: &mut Out,
     fills: u32,
-) -> Result<bool, Fault>
+) -> Result<Made, Fault>
     // The table was read, all submissions were taken, and their replies were put and handed on, and
     // then the export of the games that are held; or the line was put that refuses the table, and
     // neither a submission was read nor a reply put; or this was done before the fault.
-    ensures ends { ExportRun rules fills
-        (Table.state table_source.old) (Table.state table_source.new)
-        (In.state source.old) (In.state source.new)
-        (Replies.state replies.old) (Replies.state replies.new)
-        (Out.state sink.old) (Out.state sink.new) result }
+    ensures ends { Exported (ExportRun rules fills
+        (states Table.state In.state Replies.state ends.old ends.new)
+        (between Out.state sink.old sink.new)) result }
     // The sink is blamed that has failed.
-    ensures blame { IfErr result (BlamesEither (Replies.state replies.old)
-        (Replies.state replies.new) (Out.state sink.old) (Out.state sink.new)) }
+    ensures blame { IfErr result (BlamesEither
+        (between Replies.state ends.old.replies ends.new.replies)
+        (between Out.state sink.old sink.new)) }
 {
-    let Some(mut ledger) = open(alloc, rules, table_source, sink, fills)? else {
-        return Ok(false);
+    export_all(
+        alloc,
+        rules,
+        &mut ends.table,
+        &mut ends.lines,
+        &mut ends.replies,
+        sink,
+        &mut ends.watcher,
+        fills,
+    )
+}
+
+/// Exports as `export_submissions` does.
+fn export_all<Table: Source, In: Source, Replies: Sink, Out: Sink, Watch: Watcher>(
+    alloc: Global,
+    rules: Rules,
+    table: &mut Table,
+    lines: &mut In,
+    replies: &mut Replies,
+    sink: &mut Out,
+    watcher: &mut Watch,
+    fills: u32,
+) -> Result<Made, Fault>
+    ensures ends { Exported (ExportRun rules fills (record {
+      table = between Table.state table.old table.new;
+      lines = between In.state lines.old lines.new;
+      replies = between Replies.state replies.old replies.new;
+    })
+        (between Out.state sink.old sink.new)) result }
+    ensures blame { IfErr result (BlamesEither (between Replies.state replies.old replies.new)
+        (between Out.state sink.old sink.new)) }
+{
+    let mut ledger = match open(alloc, rules, table, sink, fills) {
+        Ok(ledger) => ledger,
+        Err(stopped) => {
+            return match stopped {
+                Stopped::Unread(why) => Ok(Made::Unread(why)),
+                Stopped::Fault(fault) => Err(fault),
+            };
+        }
     };
-    collect(alloc, source, replies, &mut ledger, fills)?;
-    export(alloc, &ledger, sink)?;
-    Ok(true)
+    let totals = collect_watched(alloc, lines, replies, &mut ledger, watcher, fills)?;
+    let count = export(alloc, &ledger, sink)?;
+    Ok(Made::Book(Report {
+        totals,
+        entries: u64::from(count),
+    }))
 }

@@ -1,12 +1,20 @@
 //! The command `collect` up to the store where its book is kept.
 
-ghost use Rattle.pb_collecting.specs.Keeping.{KeepsOrEnds};
+ghost use Rattle.std.specs.Prelude.{⊤};
+ghost use Rattle.pb_collecting.specs.Ends.{between, states};
+ghost use Rattle.pb_collecting.specs.Headline.{HasHeadline};
+ghost use Rattle.pb_collecting.specs.Into.{Into};
+ghost use Rattle.pb_collecting.specs.Run.{MayBeOf};
+ghost use Rattle.pb_collecting.specs.Runs.{CollectRun};
 
 use crate::collect::take;
+use crate::ends::Ends;
+use crate::made::{Made, Report, Stopped};
+use crate::run::Taken;
 use crate::store::{Store, StoreError};
 use crate::text::LedgerBook;
 use pb_io::{Fault, Sink, Source};
-use pb_ledger::Rules;
+use pb_ledger::{Rules, Watcher};
 use std::alloc::Global;
 use thiserror::Error;
 
@@ -23,39 +31,62 @@ pub enum NoBook {
 
 /// Takes submission lines, puts the reply to each, and keeps the opening book of the games that are
 /// held at the end: at most 1,000,000, each counted once however often it comes, by the rules as in
-/// `run_collect`. The table of words that keys are made of is read first. Where it is refused,
-/// `refused table` and `long`, `line` or `count` is put, no submission is read, nothing is kept,
-/// and the answer is false.
+/// `run_collect`. The report counts the answers, and the entries of the book that was kept.
+///
+/// The table of words that keys are made of is read first. Where it is refused, `refused table` and
+/// `long`, `line` or `count` is put, no submission is read, nothing is kept, and the answer says
+/// why.
 ///
 /// # Errors
 ///
 /// `Run` is a fault of the table, the submissions or the replies, and then the store is as it was;
 /// `Keep` is the fault that the store met when it was to keep the book of this run. Want of memory
 /// for the book is one.
-pub fn collect_into<Table: Source, In: Source, Out: Sink, BookStore: Store>(
+pub fn collect_into<Table: Source, In: Source, Out: Sink, Watch: Watcher, BookStore: Store>(
     alloc: Global,
     rules: Rules,
-    table_source: &mut Table,
-    source: &mut In,
-    sink: &mut Out,
-    store: &mut BookStore,
+    ends: &mut Ends<Table, In, Out, Watch>,
+    book: &mut BookStore,
     fills: u32,
-) -> Result<bool, NoBook>
+) -> Result<Made, NoBook>
     // The store holds the bytes of the book of the games that are held, and all that is promised of
     // it is so; or the line that refuses the table was put; or this was done before the fault, and
     // this is left at the store.
-    ensures { KeepsOrEnds rules fills (Table.state table_source.old) (Table.state table_source.new)
-        (In.state source.old) (In.state source.new)
-        (Out.state sink.old) (Out.state sink.new)
-        (BookStore.state store.old) (BookStore.state store.new) result }
+    ensures { let e = states Table.state In.state Out.state ends.old ends.new in
+        Into (CollectRun rules fills e) (HasHeadline rules e)
+        (between BookStore.state book.old book.new) result }
 {
-    let ledger = match take(alloc, rules, table_source, source, sink, fills) {
-        Ok(Some(ledger)) => ledger,
-        Ok(None) => return Ok(false),
-        Err(fault) => return Err(NoBook::Run(fault)),
-    };
-    match store.keep(&LedgerBook::of(alloc, &ledger)) {
-        Ok(()) => Ok(true),
+    match take(
+        alloc,
+        rules,
+        &mut ends.table,
+        &mut ends.lines,
+        &mut ends.replies,
+        &mut ends.watcher,
+        fills,
+    ) {
+        Ok(taken) => keep_book(alloc, &taken, book),
+        Err(stopped) => match stopped {
+            Stopped::Unread(why) => Ok(Made::Unread(why)),
+            Stopped::Fault(fault) => Err(NoBook::Run(fault)),
+        },
+    }
+}
+
+/// Keeps the book of the games that are held, and reports it.
+pub(crate) fn keep_book<BookStore: Store>(
+    alloc: Global,
+    taken: &Taken,
+    store: &mut BookStore,
+) -> Result<Made, NoBook>
+    ensures { Into (MayBeOf taken.now) (λ _. ⊤) (between BookStore.state store.old store.new)
+        result }
+{
+    match store.keep(&LedgerBook::of(alloc, &taken.ledger)) {
+        Ok(entries) => Ok(Made::Book(Report {
+            totals: taken.totals,
+            entries,
+        })),
         Err(why) => Err(NoBook::Keep(why)),
     }
 }

@@ -7,12 +7,15 @@ ghost use Rattle.std.specs.Bool.{Decides};
 ghost use Rattle.pb_io.specs.Sink.{SinkState};
 ghost use Rattle.pb_io.specs.Source.{SourceState};
 ghost use Rattle.pb_io.specs.declared.fault.Fault.{Fault};
+ghost use Rattle.pb_accepted.specs.Rules.{CountingRules};
 ghost use Rattle.pb_collecting.specs.CheckLaws.{CheckEnds, RefusedByLedgers, TakenByLedgers};
 ghost use Rattle.pb_collecting.specs.CheckRun.{ChecksOrEnds};
+ghost use Rattle.pb_collecting.specs.Ends.{EndStates};
 ghost use Rattle.pb_collecting.specs.Laws.{GoesOnAsOneRun, HasOneEffect, RefusalsLeaveTheGames};
 ghost use Rattle.pb_collecting.specs.Laws.{RefusedIsUnread};
 ghost use Rattle.pb_collecting.specs.declared.continuing_into.NotContinued.{NotContinued};
 ghost use Rattle.pb_collecting.specs.declared.keeping.NoBook.{NoBook};
+ghost use Rattle.pb_collecting.specs.declared.made.Unread.{Unread};
 ghost use Rattle.pb_collecting.specs.declared.store.StoreError.{StoreError};
 
 use crate::continuing_into::NotContinued;
@@ -40,7 +43,8 @@ pub fn goes_on()
 /// A run whose table or saved ledger is refused reads no submission, and leaves a journal as it
 /// was.
 pub fn unread()
-    ensures { RefusedIsUnread }
+    ensures { (rules : CountingRules) (fills : ℕ) (e : EndStates) (why : Unread)
+        → RefusedIsUnread rules fills e why }
 {}
 
 /// Reasons why a text, a book, or a ledger and its book aren't kept are equal (`==`) exactly where

@@ -8,11 +8,12 @@ mod check;
 mod collect;
 mod continuing;
 mod continuing_into;
+mod ends;
 mod export;
 mod journaling;
-mod journaling_into;
 mod keeping;
 pub mod laws;
+mod made;
 mod run;
 mod store;
 mod text;
@@ -22,10 +23,14 @@ pub use check::run_check;
 pub use collect::run_collect;
 pub use continuing::{Continued, run_continue};
 pub use continuing_into::{NotContinued, continue_into};
+pub use ends::{Ends, JournalEnds, LedgerEnds};
 pub use export::{export_submissions, run_export};
-pub use journaling::run_journaled;
-pub use journaling_into::journal_into;
+pub use journaling::journal_into;
 pub use keeping::{NoBook, collect_into};
-pub use pb_ledger::{MAX_LEAST, MAX_PLIES, Rules, SkippedLines, WriteFault, pick_games};
-pub use store::{MemStore, Store, StoreError};
+pub use made::{Made, Report, Unread};
+pub use pb_ledger::{
+    Accepted, LoadError, MAX_LEAST, MAX_PLIES, NotWhole, Refusal, Rules, Totals, Watcher,
+    WriteFault, pick_games,
+};
+pub use store::{Store, StoreError};
 pub use text::{LedgerBook, Text};

@@ -2,68 +2,61 @@
 
 ghost use Rattle.std.specs.Prelude.{◌≡◌, Err, MatchResult};
 ghost use Rattle.pb_poly.specs.TableReading.{ReadsTable};
-ghost use Rattle.pb_collecting.specs.Run.{MayBeBook, Opens, TakesOrBreaks};
+ghost use Rattle.pb_collecting.specs.Ends.{between};
+ghost use Rattle.pb_collecting.specs.Run.{MayBeBook, Opens};
 ghost use Rattle.pb_collecting.specs.Runs.{TakesTable};
 
+use crate::made::{Stopped, Unread};
 use pb_commands::{TableFault, refuse_table, take_table};
-use pb_io::{Fault, Sink, Source};
-use pb_ledger::{Ledger, MAX_CAP, MapTally, Rules, collect};
+use pb_io::{Fault, ReadFault, Sink, Source};
+use pb_ledger::{Ledger, MAX_CAP, MapTally, Rules, Totals};
 use pb_poly::Book;
 use std::alloc::Global;
 
+/// What a run took: the games that are held, and what became of the lines.
+#[derive(Drop)]
+pub(crate) struct Taken {
+    pub(crate) ledger: Ledger<MapTally>,
+    pub(crate) totals: Totals,
+}
+
 /// Reads the table, and makes a ledger of its random numbers and of these rules that holds no
-/// games. None where the table is refused, and then the line that says so was put.
-pub(crate) fn open<T: Source, K: Sink>(
+/// games. Where the table is refused, the line that says so is put.
+pub(crate) fn open<Table: Source, Out: Sink>(
     alloc: Global,
     rules: Rules,
-    table_source: &mut T,
-    sink: &mut K,
+    table: &mut Table,
+    sink: &mut Out,
     fills: u32,
-) -> Result<Option<Ledger<MapTally>>, Fault>
-    ensures { Opens rules fills (T.state table_source.old) (T.state table_source.new)
-        (K.state sink.old) (K.state sink.new) result }
+) -> Result<Ledger<MapTally>, Stopped>
+    ensures { Opens rules fills (between Table.state table.old table.new)
+        (between Out.state sink.old sink.new) result }
 {
-    match empty_ledger(alloc, rules, table_source, fills) {
-        Ok(ledger) => Ok(Some(ledger)),
+    match empty_ledger(alloc, rules, table, fills) {
+        Ok(ledger) => Ok(ledger),
         Err(error) => {
             refuse_table(sink, error)?;
-            Ok(None)
+            Err(Stopped::Unread(Unread::Table(error)))
         }
     }
 }
 
 /// Reads the table, and makes a ledger without games. Want of memory for the ledger is told as that
 /// for the table.
-fn empty_ledger<T: Source>(
+fn empty_ledger<Table: Source>(
     alloc: Global,
     rules: Rules,
-    table_source: &mut T,
+    table: &mut Table,
     fills: u32,
 ) -> Result<Ledger<MapTally>, TableFault>
-    ensures { MatchResult result (TakesTable rules fills (T.state table_source.old)
-        (T.state table_source.new))
-        (λ e. ReadsTable fills (T.state table_source.old) (T.state table_source.new) (Err e)) }
+    ensures { MatchResult result (TakesTable rules fills (between Table.state table.old table.new))
+        (λ e. ReadsTable fills (Table.state table.old) (Table.state table.new) (Err e)) }
 {
-    let table = take_table(alloc, table_source, fills)?;
-    match Ledger::with_rules(alloc, &table, MAX_CAP, rules) {
+    let read = take_table(alloc, table, fills)?;
+    match Ledger::with_rules(alloc, &read, MAX_CAP, rules) {
         Ok(ledger) => Ok(ledger),
-        Err(_) => Err(TableFault::Memory),
+        Err(_) => Err(TableFault::Fault(ReadFault::Memory)),
     }
-}
-
-/// Takes the submissions into a ledger that may hold games.
-pub(crate) fn take_submissions<S: Source, K: Sink>(
-    alloc: Global,
-    source: &mut S,
-    sink: &mut K,
-    ledger: &mut Ledger<MapTally>,
-    fills: u32,
-) -> Result<(), Fault>
-    ensures { TakesOrBreaks fills (S.state source.old) (S.state source.new)
-        (K.state sink.old) (K.state sink.new) ledger.old ledger.new result }
-{
-    collect(alloc, source, sink, ledger, fills)?;
-    Ok(())
 }
 
 /// Makes the book of the games that are held.

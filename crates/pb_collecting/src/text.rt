@@ -1,8 +1,9 @@
 //! What has a text.
 
-ghost use Rattle.std.specs.Prelude.{◌≡◌, ℕ, List};
-ghost use Rattle.pb_ledger.specs.Booking.{BookText, WritesOrWants};
+ghost use Rattle.std.specs.Prelude.{◌≡◌, ℕ, List, length};
+ghost use Rattle.pb_ledger.specs.Booking.{BookText};
 ghost use Rattle.pb_ledger.specs.Saving.{Saved};
+ghost use Rattle.pb_collecting.specs.Store.{WritesText};
 
 use pb_io::Sink;
 use pb_ledger::{Ledger, Tally, WriteFault, save, save_book};
@@ -10,26 +11,26 @@ use std::alloc::Global;
 
 /// What has a text, as a book and a ledger have.
 pub trait Text {
-    /// Which bytes its text is.
-    ghost is_text: { Self → List ℕ → Type 0 };
+    /// Which bytes its text is, and how many entries or games these tell.
+    ghost is_text: { Self → List ℕ → ℕ → Type 0 };
 
-    /// Puts the text, and flushes.
+    /// Puts the text, and flushes. The answer is how many entries or games it tells.
     ///
     /// # Errors
     ///
     /// The sink has failed, or there was no memory for what was to be put next. A front of the text
     /// may have been put then.
-    fn write<K: Sink>(&self, sink: &mut K) -> Result<(), WriteFault>
-        ensures { (bytes : List ℕ) × is_text self.now bytes
-            × WritesOrWants (K.state sink.old) (K.state sink.new) result bytes };
+    fn write<K: Sink>(&self, sink: &mut K) -> Result<u64, WriteFault>
+        ensures { WritesText (is_text self.now) (K.state sink.old) (K.state sink.new) result };
 }
 
 impl<T: Tally> Text for Ledger<T> {
-    ghost is_text = { λ ledger bytes. Saved ledger.accepted bytes };
+    ghost is_text = { λ ledger bytes count. Saved ledger.accepted bytes
+        × (count ≡ length ledger.accepted) };
 
-    fn write<K: Sink>(&self, sink: &mut K) -> Result<(), WriteFault> {
+    fn write<K: Sink>(&self, sink: &mut K) -> Result<u64, WriteFault> {
         save(self, sink)?;
-        Ok(())
+        Ok(u64::from(self.len()))
     }
 }
 
@@ -45,7 +46,7 @@ impl<'a, T: Tally> LedgerBook<'a, T> {
     /// The book of this ledger. There always is one.
     pub fn of(alloc: Global, ledger: &'a Ledger<T>) -> LedgerBook<'a, T>
         ensures ledger { result.ledger.now ≡ ledger.now }
-        ensures text { (bytes : List ℕ) × BookText ledger.now bytes }
+        ensures text { (bytes : List ℕ) × (count : ℕ) × BookText ledger.now bytes count }
     {
         // The proof reads from this use that the games are those of a ledger, and so have a book.
         let _held = ledger.len();
@@ -54,9 +55,9 @@ impl<'a, T: Tally> LedgerBook<'a, T> {
 }
 
 impl<T: Tally> Text for LedgerBook<'_, T> {
-    ghost is_text = { λ book bytes. BookText book.ledger.now bytes };
+    ghost is_text = { λ book bytes count. BookText book.ledger.now bytes count };
 
-    fn write<K: Sink>(&self, sink: &mut K) -> Result<(), WriteFault> {
+    fn write<K: Sink>(&self, sink: &mut K) -> Result<u64, WriteFault> {
         save_book(self.alloc, self.ledger, sink)
     }
 }

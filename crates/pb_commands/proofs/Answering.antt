@@ -1,5 +1,5 @@
 -- From the lines that were answered to what was put.
-use Rattle.std.proofs.Common.{◌≡◌, ℕ, ◌+◌, ◌*◌, ◌^◌, ◌<◌, ◌≤◌, Bool, true, false, ◌&&◌, Bor, List, [], ◌∷◌, ◌++◌, length, Result, Ok, Err, OnOk, IfErr, refl, sym, ap, ◌∙◌, subst, arith, inl, inr}
+use Rattle.std.proofs.Common.{◌≡◌, ℕ, ◌+◌, ◌*◌, ◌^◌, ◌<◌, ◌≤◌, Bool, true, false, ◌&&◌, List, [], ◌∷◌, ◌++◌, length, Result, Ok, Err, OnOk, IfErr, refl, sym, ap, ◌∙◌, subst, arith, inl, inr}
 use Rattle.std.specs.Io.KnownBytes.{Appends}
 use Rattle.std.proofs.Math.Seq.{take-append-add, take-length}
 use Rattle.std.proofs.lemmas.List.{append-nil, append_assoc, length-append}
@@ -17,7 +17,7 @@ use Rattle.pb_io.proofs.EndLemmas.{AtEnd-weaker, AtFault-weaker, AtLine-weaker, 
 use Rattle.pb_io.specs.declared.fault.Fault.{Fault}
 use Rattle.pb_io.specs.declared.fault.Fault.TheVariants.{Read, Write, Endless, Memory}
 use Rattle.pb_commands.specs.declared.lines.Answering.{Answering}
-use Rattle.pb_commands.specs.Answering.{AnswersLine}
+use Rattle.pb_commands.specs.Answering.{AnswersLine, KeepsLent}
 use Rattle.pb_commands.specs.Judged.{HandedOnOnce, PutsFrontOfText, PutsText, Verdict}
 use Rattle.pb_commands.specs.LineAnswer.{PutsOrStops}
 use Rattle.pb_commands.specs.LinesRun.{AnswersStream, AnswersUntil, PutsButLast, PutsLines}
@@ -101,7 +101,25 @@ module _ (shown : ℕ → List ℕ → Verdict → Type 0) where
         (ap (λ o. o ++ last) (text_of _ _ _ _ h.6) ∙ append_assoc h.2 h.3 last),
   )
 
+-- the same lines by answers of which others follow
+lines_as : (shown others : ℕ → List ℕ → Verdict → Type 0) → ((number : ℕ) (line : List ℕ) (verdict : Verdict) → shown number line verdict → others number line verdict)
+    → (number : ℕ) (ls : List (List ℕ)) (verdict : Verdict) → LinesShown shown number ls verdict → LinesShown others number ls verdict
+lines_as shown others as_other number [] verdict h = h
+lines_as shown others as_other number (line ∷ ls) verdict h =
+    (h.0, h.1, h.2, h.3, as_other number line _ h.4, lines_as shown others as_other (number + 1) ls _ h.5, h.6)
+
 module _ {A K : Type 0} (shows : A → ℕ → List ℕ → Verdict → Type 0) (state : K → SinkState) where
+  kept : (s : Answering A K) → KeepsLent shows s s
+  kept s = record { answerer = refl; sink = refl; shown = λ number line verdict. (λ x. x, λ x. x) }
+
+  kept_on : (s m t : Answering A K) → KeepsLent shows s m → KeepsLent shows m t → KeepsLent shows s t
+  kept_on s m t h k = record {
+    answerer = k.answerer ∙ h.answerer;
+    sink = k.sink ∙ h.sink;
+    shown = λ number line verdict.
+        let one = h.shown number line verdict in let more = k.shown number line verdict in (λ x. one.0 (more.0 x), λ x. more.1 (one.1 x));
+  }
+
   abbrev Shown : Answering A K → ℕ → List ℕ → Verdict → Type 0
   Shown s = shows s.answerer.now
 
@@ -112,8 +130,7 @@ module _ {A K : Type 0} (shows : A → ℕ → List ℕ → Verdict → Type 0) 
     counted : t.lines ≡ s.lines + length ls
     answered : t.all_taken ≡ (s.all_taken && answer)
     awaits : AwaitsFlush (state s.sink.now) (state t.sink.now)
-    same : t.sink.ghost_name ≡ s.sink.ghost_name
-    same_answerer : t.answerer ≡ s.answerer
+    same : KeepsLent shows s t
 
   run_of : (s t : Answering A K) (ls : List (List ℕ)) → s.lines + length ls < 2 ^ 64 → TakesAll (AnswersLine shows state) s ls t → Run s t ls
   run_of s t [] few h =
@@ -123,8 +140,7 @@ module _ {A K : Type 0} (shows : A → ℕ → List ℕ → Verdict → Type 0) 
         counted = omega arith;
         answered = and_true s.all_taken;
         awaits = inl refl;
-        same = refl;
-        same_answerer = refl;
+        same = kept s;
       })
   run_of s t (line ∷ ls) few h =
       let m : Answering A K = h.0 in let one = h.1 in let first = one.puts in
@@ -132,7 +148,7 @@ module _ {A K : Type 0} (shows : A → ℕ → List ℕ → Verdict → Type 0) 
       let counted : m.lines ≡ s.lines + 1 = one.counted ∙ number in
       let rest = run_of m t ls (omega (arith, few, counted)) h.2 in
       let text = first.1.0 in
-      let others = subst (λ (a : Bor A). LinesShown (shows a.now) (m.lines + 1) ls (text_is rest.answer rest.puts.out)) one.same_answerer rest.puts.judged in record {
+      let others = lines_as (Shown m) (Shown s) (λ number line verdict. (one.same.shown number line verdict).0) (m.lines + 1) ls _ rest.puts.judged in record {
         answer = first.0 && rest.answer;
         puts = record {
           out = text.out ++ rest.puts.out;
@@ -150,8 +166,7 @@ module _ {A K : Type 0} (shows : A → ℕ → List ℕ → Verdict → Type 0) 
         counted = omega (arith, rest.counted, counted);
         answered = rest.answered ∙ ap (λ b. b && rest.answer) first.2 ∙ and_assoc s.all_taken first.0 rest.answer;
         awaits = AwaitsFlush-trans (state s.sink.now) (state m.sink.now) (state t.sink.now) first.1.1 rest.awaits;
-        same = rest.same ∙ one.same_sink;
-        same_answerer = rest.same_answerer ∙ one.same_answerer;
+        same = kept_on s m t one.same rest.same;
       }
 
   -- ---- the last line stopped the run
@@ -173,7 +188,7 @@ module _ {A K : Type 0} (shows : A → ℕ → List ℕ → Verdict → Type 0) 
         let last = h.5.puts in
         let text = run.puts in
         let number = last_number Write h in
-        let same = subst (λ (a : Bor A). shows a.now (next_count h.2.lines) h.1 (text_is last.answer last.out)) run.same_answerer last.judged in
+        let same = (run.same.shown _ _ _).0 last.judged in
         let one = subst (λ n. Shown s n h.1 (text_is last.answer last.out)) number same in
         let all = shown-push (Shown s) (s.lines + 1) h.0 h.1 run.answer last.answer text.out last.out text.judged one in record {
           answer = run.answer && last.answer;
@@ -185,8 +200,8 @@ module _ {A K : Type 0} (shows : A → ℕ → List ℕ → Verdict → Type 0) 
           flushes = last.flushes ∙ not_flushed (state s.sink.now) (state h.2.sink.now) run.awaits;
         }
 
-    same_at_stop : (e : Fault) → StopsAtLast (AnswersLine shows state) s ls e t → t.sink.ghost_name ≡ s.sink.ghost_name
-    same_at_stop e h = h.5.same_sink ∙ (run_before e h).same
+    same_at_stop : (e : Fault) → StopsAtLast (AnswersLine shows state) s ls e t → KeepsLent shows s t
+    same_at_stop e h = kept_on s h.2 t (run_before e h).same h.5.same
 
   -- ---- the whole of a stream, from the first line on
 
@@ -225,7 +240,7 @@ module _ {A K : Type 0} (shows : A → ℕ → List ℕ → Verdict → Type 0) 
         let number : next_count h.2.lines ≡ length h.0 + 1 = omega (arith, first, last_number s t ls (few ls some) Memory h) in
         let run = run_before s t ls (few ls some) Memory h in
         let stop = h.5.puts in
-        let same = subst (λ (a : Bor A). shows a.now (next_count h.2.lines) h.1 (Err Memory)) run.same_answerer stop.0 in record {
+        let same = (run.same.shown _ _ _).0 stop.0 in record {
           before = h.0;
           last = h.1;
           are = h.3;
@@ -274,18 +289,18 @@ module _ {A K : Type 0} (shows : A → ℕ → List ℕ → Verdict → Type 0) 
     until_of e (inl h) = subst (AnswersUntil (Shown s) fills old new sink sink') (sym h.1) (read_until h.0 h.2)
     until_of e (inr h) = stopped_until e h
 
-    same_all : (ls : List (List ℕ)) → length ls ≤ fills * chunk_len → TakesAll (AnswersLine shows state) s ls t → t.sink.ghost_name ≡ s.sink.ghost_name
+    same_all : (ls : List (List ℕ)) → length ls ≤ fills * chunk_len → TakesAll (AnswersLine shows state) s ls t → KeepsLent shows s t
     same_all ls some h = (run_of s t ls (few ls some) h).same
 
     abbrev Same : List (List ℕ) → Type 0
-    Same ls = t.sink.ghost_name ≡ s.sink.ghost_name
+    Same ls = KeepsLent shows s t
 
-    same_read : (fault : ReadFault) → ReadUntil (AnswersLine shows state) fills old new s t fault → t.sink.ghost_name ≡ s.sink.ghost_name
-    same_read read.Memory h = ap (λ (x : Answering A K). x.sink.ghost_name) h.1
+    same_read : (fault : ReadFault) → ReadUntil (AnswersLine shows state) fills old new s t fault → KeepsLent shows s t
+    same_read read.Memory h = subst (λ (x : Answering A K). KeepsLent shows s x) (sym h.1) (kept s)
     same_read read.Read h = (AtFault-weaker fills old new (λ ls. TakesAll (AnswersLine shows state) s ls t) Same same_all h).done
     same_read read.Endless h = (AtNoEnd-weaker fills old new (λ ls. TakesAll (AnswersLine shows state) s ls t) Same same_all h).done
 
-    pub same_of : (r : Result (Unit {0}) Fault) → OnOk r (TakesStream (AnswersLine shows state) fills old new s t) → IfErr r Until → t.sink.ghost_name ≡ s.sink.ghost_name
+    pub same_of : (r : Result (Unit {0}) Fault) → OnOk r (TakesStream (AnswersLine shows state) fills old new s t) → IfErr r Until → KeepsLent shows s t
     same_of (Ok tt) h k = (AtEnd-weaker fills old new (λ ls. TakesAll (AnswersLine shows state) s ls t) Same same_all h).done
     same_of (Err e) h (inl k) = same_read k.0 k.2
     same_of (Err e) h (inr k) =

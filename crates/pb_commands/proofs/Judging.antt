@@ -4,6 +4,9 @@ use Rattle.std.specs.Prelude.{IfErr, IfOk, IfSome, MatchResult, OnOk}
 use Rattle.std.specs.Io.KnownBytes.{Appends}
 use Rattle.pb_io.specs.Sink.{SinkState}
 use Rattle.pb_commands.specs.Judged.{HandedOnOnce, PutsOrEnds, PutsText, PutsUntil, Verdict}
+use Rattle.pb_commands.specs.Refused.{GivesReason}
+use Rattle.pb_commands.specs.declared.refusal.Answer.{Answer}
+use Rattle.pb_commands.specs.declared.refusal.Answer.TheVariants as answer
 use Rattle.pb_commands.specs.Shows.{Shows}
 use Rattle.pb_io.specs.declared.fault.Fault.{Fault}
 use Rattle.pb_io.specs.declared.fault.Fault.TheVariants.{Read, Write, Endless, Memory}
@@ -98,3 +101,9 @@ module _ (judges others : Verdict → Type 0) (sink sink' : SinkState) (works : 
   only_text (Err Read) until = absurd (no_read until.0)
   only_text (Err Endless) until = absurd (no_endless until.0)
   only_text (Err Memory) until = refl
+
+-- what is so of a command without lines is so of one with lines
+pub reason_with_lines : (lines : Type 0) (sink sink' : SinkState) (given : Answer) → GivesReason ⊥ sink sink' given → GivesReason lines sink sink' given
+reason_with_lines lines sink sink' answer.Taken h = tt
+reason_with_lines lines sink sink' answer.LinesRefused h = absurd h
+reason_with_lines lines sink sink' (answer.Refused why) h = h

@@ -43,12 +43,8 @@ one_table bytes (Err (table_fault.Count n)) (Ok others) h k = absurd (cc (only_m
 one_table bytes (Err (table_fault.Count n)) (Err table_fault.Long) h k = absurd (omega (arith, k, h.0))
 one_table bytes (Err (table_fault.Count n)) (Err (table_fault.Line m)) h k = absurd (all_unbroken IsRandomLine (lines bytes) m h.1.2 k.1)
 one_table bytes (Err (table_fault.Count n)) (Err (table_fault.Count m)) h k = ap (λ count. Err (table_fault.Count count)) (h.1.0 ∙ sym k.1.0)
-one_table bytes (Err table_fault.Read) x h k = absurd h
-one_table bytes (Err table_fault.Endless) x h k = absurd h
-one_table bytes (Err table_fault.Memory) x h k = absurd h
-one_table bytes r (Err table_fault.Read) h k = absurd k
-one_table bytes r (Err table_fault.Endless) h k = absurd k
-one_table bytes r (Err table_fault.Memory) h k = absurd k
+one_table bytes (Err (table_fault.Fault e)) x h k = absurd h
+one_table bytes r (Err (table_fault.Fault e)) h k = absurd k
 
 -- ---- records
 

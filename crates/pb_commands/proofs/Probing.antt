@@ -24,6 +24,7 @@ use Rattle.pb_commands.specs.RecordJudged.{AsRecord, record_verdict}
 use Rattle.pb_commands.specs.Shows.{Shows}
 use Rattle.pb_commands.specs.TableJudged.{AsTable, table_verdict}
 use Rattle.pb_io.specs.declared.fault.Fault.{Fault}
+use Rattle.pb_io.specs.declared.fault.ReadFault.TheVariants as read
 use Rattle.pb_io.specs.declared.fault.Fault.TheVariants.{Read, Endless, Memory}
 use Rattle.pb_commands.proofs.Judging.{hands_on, only_text, puts_text, puts_until, shows, text_as, text_not_shown, text_shown}
 use Rattle.pb_commands.proofs.OneProbe.{probe_is_one}
@@ -36,17 +37,19 @@ module _ (fills : ℕ) (t t' : SourceState) (bytes : List ℕ) (tells : Tells fi
   no_table_fault table_fault.Long h is = cc is
   no_table_fault (table_fault.Line n) h is = cc is
   no_table_fault (table_fault.Count n) h is = cc is
-  no_table_fault table_fault.Read read is = let h = found_no_table fills t t' table_fault.Read read in no_fault table_limit fills t t' bytes tells h.came h.reads
-  no_table_fault table_fault.Endless h is = cc is
-  no_table_fault table_fault.Memory h is = cc is
+  no_table_fault (table_fault.Fault read.Read) given is =
+      let h = found_no_table fills t t' (table_fault.Fault read.Read) given in no_fault table_limit fills t t' bytes tells h.came h.reads
+  no_table_fault (table_fault.Fault read.Endless) h is = cc is
+  no_table_fault (table_fault.Fault read.Memory) h is = cc is
 
   no_table_end : (e : TableFault) → ReadsTable fills t t' (Err e) → Err Endless ≡ table_verdict e → ⊥
   no_table_end table_fault.Long h is = cc is
   no_table_end (table_fault.Line n) h is = cc is
   no_table_end (table_fault.Count n) h is = cc is
-  no_table_end table_fault.Read h is = cc
-  no_table_end table_fault.Endless read is = let h = found_no_table fills t t' table_fault.Endless read in no_endless table_limit fills t t' bytes tells h.came h.reads
-  no_table_end table_fault.Memory h is = cc is
+  no_table_end (table_fault.Fault read.Read) h is = cc is
+  no_table_end (table_fault.Fault read.Endless) given is =
+      let h = found_no_table fills t t' (table_fault.Fault read.Endless) given in no_endless table_limit fills t t' bytes tells h.came h.reads
+  no_table_end (table_fault.Fault read.Memory) h is = cc is
 
 module _ (fills : ℕ) (t t' b b' : SourceState) (fen : List ℕ) (sink sink' : SinkState) where
   abbrev judges : Verdict → Type 0
@@ -65,9 +68,9 @@ module _ (fills : ℕ) (t t' b b' : SourceState) (fen : List ℕ) (sink sink' : 
     at_book result e h r = shows judges (book_verdict e) (ProbeShown.no_book words e (read, tt) h refl) sink sink' result r
 
     module _ (entries : List Entry) (read_too : ReadsBook fills b b' (Ok entries)) where
-      pub at_record : (result : Result Bool Fault) (e : FenError) → AsRecord fen (Err e) → (line : Verdict) → line ≡ record_verdict e
-          → PutsOrEnds (λ verdict. verdict ≡ line) sink sink' result → Ends result
-      at_record result e due line same r = shows judges line (ProbeShown.no_record words entries e (read, tt) read_too due same) sink sink' result r
+      pub at_record : (result : Result Bool Fault) (e : FenError) → AsRecord fen (Err e)
+          → PutsOrEnds (λ verdict. verdict ≡ record_verdict e) sink sink' result → Ends result
+      at_record result e due r = shows judges (record_verdict e) (ProbeShown.no_record words entries e (read, tt) read_too due refl) sink sink' result r
 
       module _ (f : Record) (is_record : AsRecord fen (Ok f)) where
         pub at_memory : sink' ≡ sink → Ends (Err Memory)

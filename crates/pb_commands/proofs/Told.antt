@@ -60,9 +60,7 @@ module _ (fills : ℕ) (old new : SourceState) (bytes : List ℕ) (told : old.to
   told_no_table (table.Count count) x is read =
       let h = found_no_table fills old new (table.Count count) read in
       let all = all_came _ fills old new bytes told h.came h.reads in subst (λ (xs : List ℕ). TableDue (table.Count count) xs) (sym all) h.due
-  told_no_table table.Read x is h = absurd (cc is)
-  told_no_table table.Endless x is h = absurd (cc is)
-  told_no_table table.Memory x is h = absurd (cc is)
+  told_no_table (table.Fault fault) x is h = absurd (cc is)
 
   -- ---- what they show
 

@@ -5,7 +5,7 @@ use Rattle.pb_io.specs.Count.{next_count}
 use Rattle.pb_io.specs.declared.fault.Fault.{Fault}
 use Rattle.pb_commands.specs.declared.lines.Answering.{Answering}
 use Rattle.pb_commands.specs.Judged.{Verdict}
-use Rattle.pb_commands.specs.LineAnswer.{PutsOrStops}
+use Rattle.pb_commands.specs.LineAnswer.{PutsOrStops, SameShown}
 
 -- what comes of a line was put, or a fault came, with the answer over all lines so far
 abbrev pub LineCounted : (Verdict → Type 0) → SinkState → SinkState → Bool → Bool
@@ -14,12 +14,18 @@ LineCounted judges sink sink' answer answer' (Ok _) =
     (taken : Bool) × PutsOrStops judges sink sink' (Ok taken) × (answer' ≡ (answer && taken))
 LineCounted judges sink sink' answer answer' (Err fault) = PutsOrStops judges sink sink' (Err fault)
 
--- one line is answered, by the same answerer and through the same reference
+-- the same answerer and sink are lent, and the same comes of lines
+pub record KeepsLent {A K : Type 0} (shows : A → ℕ → List ℕ → Verdict → Type 0)
+    (s t : Answering A K) : Type 0 where
+  pub answerer : t.answerer.ghost_name ≡ s.answerer.ghost_name
+  pub sink : t.sink.ghost_name ≡ s.sink.ghost_name
+  pub shown : SameShown (shows s.answerer.now) (shows t.answerer.now)
+
+-- one line is answered
 pub record AnswersLine {A K : Type 0} (shows : A → ℕ → List ℕ → Verdict → Type 0)
     (state : K → SinkState) (s : Answering A K) (line : List ℕ) (result : Result (Unit {0}) Fault)
     (t : Answering A K) : Type 0 where
   pub puts : LineCounted (shows s.answerer.now (next_count s.lines) line) (state s.sink.now)
       (state t.sink.now) s.all_taken t.all_taken result
   pub counted : t.lines ≡ next_count s.lines
-  pub same_answerer : t.answerer ≡ s.answerer
-  pub same_sink : t.sink.ghost_name ≡ s.sink.ghost_name
+  pub same : KeepsLent shows s t

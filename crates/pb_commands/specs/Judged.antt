@@ -47,3 +47,9 @@ abbrev pub PutsOrEnds : (Verdict → Type 0) → SinkState → SinkState → Res
 PutsOrEnds judges sink sink' (Ok answer) =
     PutsText judges sink sink' answer × HandedOnOnce sink sink'
 PutsOrEnds judges sink sink' (Err fault) = PutsUntil judges sink sink' fault
+
+-- the input comes to this, and is refused by it: the line was put and then handed on, or a fault
+-- came
+abbrev pub Refuses : Verdict → SinkState → SinkState → Result (Unit {0}) Fault → Type 0
+Refuses verdict sink sink' (Ok _) = PutsOrEnds (λ v. v ≡ verdict) sink sink' (Ok false)
+Refuses verdict sink sink' (Err fault) = PutsOrEnds (λ v. v ≡ verdict) sink sink' (Err fault)

@@ -30,3 +30,8 @@ pub data LooksUp (fills : ℕ) (t t' b b' s s' : SourceState) (sink sink' : Sink
       → ReadsBook fills b b' (Ok entries)
       → AnswersOrEnds (LineFound words entries) fills s s' sink sink' result
       → LooksUp fills t t' b b' s s' sink sink' result
+
+-- a table was read, and then a book
+abbrev pub ReadsBoth : ℕ → SourceState → SourceState → SourceState → SourceState → Type 0
+ReadsBoth fills t t' b b' = (words : List ℕ) × (entries : List Entry)
+    × ReadsTable fills t t' (Ok words) × ReadsBook fills b b' (Ok entries)

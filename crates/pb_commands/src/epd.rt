@@ -24,11 +24,11 @@ impl LineAnswer for Rewriter {
 
     ghost shows = { λ _. LineShown };
 
-    fn answer<K: Sink>(&self, sink: &mut K, number: u64, line: &[u8]) -> Result<bool, Fault> {
+    fn answer<K: Sink>(&mut self, sink: &mut K, number: u64, line: &[u8]) -> Result<bool, Fault> {
         rewrite_line(self.alloc, sink, number, line)
     }
 
-    fn answer_long<K: Sink>(&self, sink: &mut K, number: u64) -> Result<bool, Fault> {
+    fn answer_long<K: Sink>(&mut self, sink: &mut K, number: u64) -> Result<bool, Fault> {
         refuse_line(sink, number, &[b"long"])
     }
 }
@@ -53,7 +53,7 @@ pub fn run_epd<S: Source, K: Sink>(
     ensures { RewritesOrEnds fills (S.state source.old) (S.state source.new)
         (K.state sink.old) (K.state sink.new) result }
 {
-    answer_lines(alloc, source, sink, &Rewriter { alloc }, fills)
+    answer_lines(alloc, source, sink, &mut Rewriter { alloc }, fills)
 }
 
 /// Puts what the line of this number gives, and answers whether it was taken.

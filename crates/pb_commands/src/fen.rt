@@ -1,6 +1,5 @@
 //! The command `fen`: moves are played from a FEN record, and the record after them is written.
-ghost use Rattle.std.specs.Prelude.{◌≡◌, ℕ, ◌+◌, ◌↔◌, List, All, IsTrue, MatchOption, MatchResult};
-ghost use Rattle.std.specs.Prelude.{Ok, true};
+ghost use Rattle.std.specs.Prelude.{◌≡◌, ◌↔◌, All, IfOk, IsTrue, MatchOption, MatchResult, Ok, true};
 ghost use Rattle.pb_board.specs.Position.{IsRecord};
 ghost use Rattle.pb_board.specs.LineEnd.{with_end};
 ghost use Rattle.pb_board.specs.Refusal.{BreaksAt};
@@ -13,37 +12,45 @@ ghost use Rattle.pb_commands.specs.Line.{texts};
 ghost use Rattle.pb_commands.specs.FenShown.{FenShown, Unplayable};
 ghost use Rattle.pb_commands.specs.Judged.{PutsOrEnds};
 ghost use Rattle.pb_commands.specs.Plays.{PlaysWords};
-ghost use Rattle.pb_commands.specs.Refused.{refusal_verdict};
+ghost use Rattle.pb_commands.specs.Refused.{GivesReason, refused_verdict, taken};
 
 use crate::output::show_line;
-use crate::refusal::{refuse, refuse_with};
-use pb_board::{Fen, FenError, read_fen};
+use crate::refusal::{Answer, Refused, refuse};
+use pb_board::{Fen, read_fen};
 use pb_io::{Fault, Sink};
 use pb_moves::{advance, read_move};
 use std::alloc::Global;
 
-/// Why a FEN record and its moves give no record.
-#[derive(Clone, Copy)]
-enum Refusal {
-    /// The text is no record.
-    Record(FenError),
-    /// The word with this number, from 1, spells no move.
-    Spelling(usize),
-    /// The move with this number, from 1, isn't legal where it is played.
-    Illegal(usize),
-}
-
 /// Plays the moves from a FEN record and shows the record after them on the sink. Where the input
-/// is refused, shows why: `refused fen` and the word of the first refusal of the record that is
-/// due, else `refused spelling` and the number of the first word that spells no move, else
-/// `refused illegal` and the number of the first move that isn't legal. Answers whether the input
-/// was taken.
+/// is refused, shows and answers why: `refused fen` and the word of the first refusal of the record
+/// that is due, else `refused spelling` and the number of the first word that spells no move, else
+/// `refused illegal` and the number of the first move that isn't legal.
 ///
 /// It takes no memory of its own. `Write` is the only fault: it comes where the sink has failed,
 /// and then a front of what was to be shown was put, and none of it handed on. That follows from
 /// the clause, by the law `fen_ends`.
-pub fn run_fen<K: Sink>(
+pub fn answer_fen<K: Sink>(
     _alloc: Global,
+    fen: &[u8],
+    moves: &[&str],
+    sink: &mut K,
+) -> Result<Answer, Fault>
+    ensures ends { PutsOrEnds (FenShown fen.now (texts moves.now)) (K.state sink.old)
+        (K.state sink.new) (taken result) }
+    ensures reason { IfOk result (GivesReason ⊥ (K.state sink.old) (K.state sink.new)) }
+{
+    match record_after(fen, moves) {
+        Ok(last) => {
+            show_line(sink, &[last.text().as_bytes()])?;
+            Ok(Answer::Taken)
+        }
+        Err(why) => refuse(sink, why),
+    }
+}
+
+/// Does what `answer_fen` does, and answers whether the input was taken.
+pub fn run_fen<K: Sink>(
+    alloc: Global,
     fen: &[u8],
     moves: &[&str],
     sink: &mut K,
@@ -51,31 +58,25 @@ pub fn run_fen<K: Sink>(
     ensures { PutsOrEnds (FenShown fen.now (texts moves.now)) (K.state sink.old) (K.state sink.new)
         result }
 {
-    match record_after(fen, moves) {
-        Ok(last) => {
-            show_line(sink, &[last.text().as_bytes()])?;
-            Ok(true)
-        }
-        Err(refusal) => show_refusal(sink, refusal),
-    }
+    Ok(answer_fen(alloc, fen, moves, sink)?.is_taken())
 }
 
 /// Plays the moves from the record, and gives the record after them or the refusal that is due.
-fn record_after(fen: &[u8], moves: &[&str]) -> Result<Fen, Refusal>
+fn record_after(fen: &[u8], moves: &[&str]) -> Result<Fen, Refused>
     ensures { MatchResult result
         (λ last. FenShown fen.now (texts moves.now) (Ok (true, with_end (fen_text last))))
-        (λ refusal. FenShown fen.now (texts moves.now) (refusal_verdict refusal)) }
+        (λ why. FenShown fen.now (texts moves.now) (refused_verdict why)) }
 {
     let start = match read_fen(fen) {
         Ok(start) => start,
-        Err(error) => return Err(Refusal::Record(error)),
+        Err(error) => return Err(Refused::Fen(error)),
     };
     if let Some(number) = misspelt(moves) {
-        return Err(Refusal::Spelling(number));
+        return Err(Refused::Spelling(number));
     }
     match play_words(start, moves) {
         Ok(last) => Ok(last),
-        Err(number) => Err(Refusal::Illegal(number)),
+        Err(number) => Err(Refused::Illegal(number)),
     }
 }
 
@@ -127,16 +128,4 @@ fn play_word(before: &Fen, word: &str) -> Option<Fen>
 {
     let m = read_move(word.as_bytes())?;
     advance(before, m)
-}
-
-/// Shows why the input is refused, and answers that it was.
-fn show_refusal<K: Sink>(sink: &mut K, refusal: Refusal) -> Result<bool, Fault>
-    ensures { PutsOrEnds (λ verdict. verdict ≡ refusal_verdict refusal) (K.state sink.old)
-        (K.state sink.new) result }
-{
-    match refusal {
-        Refusal::Record(error) => refuse(sink, &[b"refused fen ", error.word().as_bytes()]),
-        Refusal::Spelling(number) => refuse_with(sink, b"refused spelling ", number),
-        Refusal::Illegal(number) => refuse_with(sink, b"refused illegal ", number),
-    }
 }

@@ -17,11 +17,11 @@ mod show;
 
 pub use epd::run_epd;
 pub use exit::{FAULT_STATUS, status};
-pub use fen::run_fen;
+pub use fen::{answer_fen, run_fen};
 pub use lines::{LineAnswer, answer_lines};
-pub use lookup::run_lookup;
+pub use lookup::{answer_lookup, run_lookup};
 pub use pb_io::Fault;
 pub use pb_poly::{TableFault, take_table};
-pub use probe::run_probe;
-pub use refusal::{refuse_table, refuse_with};
-pub use show::run_show;
+pub use probe::{answer_probe, run_probe};
+pub use refusal::{Answer, Refused, refuse_table, refuse_with};
+pub use show::{answer_show, run_show};

@@ -2,7 +2,8 @@
 ghost use Rattle.std.specs.Prelude.{◌≡◌, IfErr, List, OnOk, length, true, ◌<◌, ◌≤◌, ℕ};
 ghost use Rattle.pb_io.specs.Lines.{line_limit};
 ghost use Rattle.pb_io.specs.Sink.{AwaitsFlush};
-ghost use Rattle.pb_commands.specs.LineAnswer.{PutsOrStops};
+ghost use Rattle.pb_commands.specs.Answering.{KeepsLent};
+ghost use Rattle.pb_commands.specs.LineAnswer.{PutsOrStops, SameShown};
 ghost use Rattle.pb_commands.specs.LinesRun.{AnswersOrEnds, AnswersStream, AnswersUntil};
 
 use pb_io::{Fault, LineTask, Sink, Source, take_lines};
@@ -13,7 +14,7 @@ pub trait LineAnswer {
     ghost use Rattle.std.specs.Prelude.{ℕ, List};
     ghost use Rattle.pb_commands.specs.Judged.{Verdict};
 
-    /// What a line comes to, by its number, from 1, and its bytes.
+    /// What a line comes to, by its number, from 1, and its bytes. No answer changes it.
     ghost shows: { Self → ℕ → List ℕ → Verdict → Type 0 };
 
     /// Puts what the line of this number gives, and answers whether it was taken.
@@ -22,22 +23,24 @@ pub trait LineAnswer {
     ///
     /// The sink has failed, and a front of what the line gives may have been put. Or memory was
     /// wanting, and nothing was put.
-    fn answer<K: Sink>(&self, sink: &mut K, number: u64, line: &[u8]) -> Result<bool, Fault>
+    fn answer<K: Sink>(&mut self, sink: &mut K, number: u64, line: &[u8]) -> Result<bool, Fault>
         requires { length line.now ≤ line_limit }
-        ensures { PutsOrStops (shows self.now number line.now) (K.state sink.old) (K.state sink.new)
-            result };
+        ensures puts { PutsOrStops (shows self.old number line.now) (K.state sink.old)
+            (K.state sink.new) result }
+        ensures same { SameShown (shows self.old) (shows self.new) };
 
     /// The same of a line of more than `LINE_LIMIT` bytes, which are not kept.
-    fn answer_long<K: Sink>(&self, sink: &mut K, number: u64) -> Result<bool, Fault>
-        ensures { (line : List ℕ) → line_limit < length line
-            → PutsOrStops (shows self.now number line) (K.state sink.old) (K.state sink.new)
-            result };
+    fn answer_long<K: Sink>(&mut self, sink: &mut K, number: u64) -> Result<bool, Fault>
+        ensures puts { (line : List ℕ) → line_limit < length line
+            → PutsOrStops (shows self.old number line) (K.state sink.old) (K.state sink.new)
+            result }
+        ensures same { SameShown (shows self.old) (shows self.new) };
 }
 
 /// Answers lines one after the other.
 #[derive(Drop)]
 struct Answering<'a, 's, A, K> {
-    answerer: &'a A,
+    answerer: &'a mut A,
     sink: &'s mut K,
     /// How many lines were taken so far.
     lines: u64,
@@ -85,7 +88,7 @@ impl<A: LineAnswer, K: Sink> Answering<'_, '_, A, K> {
             (K.state self.new.sink.now)) }
         ensures awaits { OnOk result (AwaitsFlush (K.state self.old.sink.now)
             (K.state self.new.sink.now)) }
-        ensures same_sink { self.new.sink.ghost_name ≡ self.old.sink.ghost_name }
+        ensures same { KeepsLent A.shows self.old self.new }
     {
         take_lines(alloc, source, self, fills)
     }
@@ -100,10 +103,10 @@ pub fn answer_lines<S: Source, K: Sink, A: LineAnswer>(
     alloc: Global,
     source: &mut S,
     sink: &mut K,
-    answerer: &A,
+    answerer: &mut A,
     fills: u32,
 ) -> Result<bool, Fault>
-    ensures { AnswersOrEnds (A.shows answerer.now) fills (S.state source.old) (S.state source.new)
+    ensures { AnswersOrEnds (A.shows answerer.old) fills (S.state source.old) (S.state source.new)
         (K.state sink.old) (K.state sink.new) result }
 {
     let mut answering = Answering {

@@ -4,14 +4,15 @@ ghost use Rattle.pb_epd.specs.Refusal.{IsFirstDueEpd};
 ghost use Rattle.pb_io.specs.Lines.{line_limit};
 ghost use Rattle.pb_io.specs.Sink.{Put};
 ghost use Rattle.pb_commands.specs.LineAnswer.{PutsOrStops};
-ghost use Rattle.pb_commands.specs.LookupRun.{LooksUp};
+ghost use Rattle.pb_commands.specs.LookupRun.{LooksUp, ReadsBoth};
 ghost use Rattle.pb_commands.specs.LookupShown.{IsFenText, LineFound, SpellsSetup, moves_line};
+ghost use Rattle.pb_commands.specs.Refused.{GivesReason, taken};
 
 use crate::line_refusal::{is_blank, put_refusal, refuse_line};
 use crate::lines::{LineAnswer, answer_lines};
 use crate::output::put_line;
 use crate::probe::put_found;
-use crate::refusal::{refuse_book, refuse_table};
+use crate::refusal::{Answer, Refused, refuse};
 use pb_board::{Setup, read_fen, without_return};
 use pb_epd::{EpdError, read_epd};
 use pb_io::{Failed, Fault, Sink, Source};
@@ -32,11 +33,11 @@ impl LineAnswer for Finder<'_> {
 
     ghost shows = { λ f. LineFound f.table.now f.book.now };
 
-    fn answer<K: Sink>(&self, sink: &mut K, number: u64, line: &[u8]) -> Result<bool, Fault> {
+    fn answer<K: Sink>(&mut self, sink: &mut K, number: u64, line: &[u8]) -> Result<bool, Fault> {
         look_up(self, sink, number, line)
     }
 
-    fn answer_long<K: Sink>(&self, sink: &mut K, number: u64) -> Result<bool, Fault> {
+    fn answer_long<K: Sink>(&mut self, sink: &mut K, number: u64) -> Result<bool, Fault> {
         refuse_line(sink, number, &[b"long"])
     }
 }
@@ -46,13 +47,51 @@ impl LineAnswer for Finder<'_> {
 /// in the book's order, or `-` where there is none. Any other line is refused as by `run_epd`, with
 /// the reasons why it is no EPD record, and a line of spaces alone is counted and skipped.
 ///
-/// The table and the book are read before, in this order, and the first that is refused is told as
-/// by `run_probe`; nothing later is read then, nor after a fault. Answers whether both and all lines
-/// were taken. What was put is handed on once, at the end. `Memory` comes where a growth found no
-/// memory, and at a line it ends the run after the lines before.
+/// The table and the book are read before, in this order, and why the first is refused is shown and
+/// answered as by `answer_probe`; nothing later is read then, nor after a fault. What was put is
+/// handed on once, at the end. `Memory` comes where a growth found no memory, and at a line it ends
+/// the run after the lines before.
 ///
 /// Where the sources tell their bytes, what is put is what those bytes give: that follows from the
 /// clause, by the law `lookup_ends`.
+pub fn answer_lookup<TableIn: Source, BookIn: Source, In: Source, Out: Sink>(
+    alloc: Global,
+    table_source: &mut TableIn,
+    book_source: &mut BookIn,
+    source: &mut In,
+    sink: &mut Out,
+    fills: u32,
+) -> Result<Answer, Fault>
+    ensures ends { LooksUp fills (TableIn.state table_source.old) (TableIn.state table_source.new)
+        (BookIn.state book_source.old) (BookIn.state book_source.new) (In.state source.old)
+        (In.state source.new) (Out.state sink.old) (Out.state sink.new) (taken result) }
+    ensures reason { IfOk result (GivesReason (ReadsBoth fills (TableIn.state table_source.old)
+        (TableIn.state table_source.new) (BookIn.state book_source.old)
+        (BookIn.state book_source.new)) (Out.state sink.old) (Out.state sink.new)) }
+{
+    let table = match take_table(alloc, table_source, fills) {
+        Ok(table) => table,
+        Err(error) => return refuse(sink, Refused::Table(error)),
+    };
+    match read_book(alloc, book_source, fills) {
+        Ok(book) => {
+            let mut finder = Finder {
+                alloc,
+                table: &table,
+                book: &book,
+            };
+            let all_taken = answer_lines(alloc, source, sink, &mut finder, fills)?;
+            Ok(if all_taken {
+                Answer::Taken
+            } else {
+                Answer::LinesRefused
+            })
+        }
+        Err(error) => refuse(sink, Refused::Book(error)),
+    }
+}
+
+/// Does what `answer_lookup` does, and answers whether the table, the book and all lines were taken.
 pub fn run_lookup<TableIn: Source, BookIn: Source, In: Source, Out: Sink>(
     alloc: Global,
     table_source: &mut TableIn,
@@ -65,21 +104,7 @@ pub fn run_lookup<TableIn: Source, BookIn: Source, In: Source, Out: Sink>(
         (BookIn.state book_source.old) (BookIn.state book_source.new) (In.state source.old)
         (In.state source.new) (Out.state sink.old) (Out.state sink.new) result }
 {
-    let table = match take_table(alloc, table_source, fills) {
-        Ok(table) => table,
-        Err(error) => return refuse_table(sink, error),
-    };
-    match read_book(alloc, book_source, fills) {
-        Ok(book) => {
-            let finder = Finder {
-                alloc,
-                table: &table,
-                book: &book,
-            };
-            answer_lines(alloc, source, sink, &finder, fills)
-        }
-        Err(error) => refuse_book(sink, error),
-    }
+    Ok(answer_lookup(alloc, table_source, book_source, source, sink, fills)?.is_taken())
 }
 
 /// Puts what the line of this number gives, and answers whether it was taken.

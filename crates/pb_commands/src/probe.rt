@@ -1,14 +1,15 @@
 //! The command `probe`: the moves that a book has for a position.
-ghost use Rattle.std.specs.Prelude.{ℕ, ◌++◌, Ok};
+ghost use Rattle.std.specs.Prelude.{ℕ, ◌++◌, IfOk, Ok};
 ghost use Rattle.pb_poly.specs.Reading.{ReadsBook};
 ghost use Rattle.pb_poly.specs.TableReading.{ReadsTable};
 ghost use Rattle.pb_io.specs.Sink.{Put};
 ghost use Rattle.pb_io.specs.Source.{SourceState};
 ghost use Rattle.pb_commands.specs.Judged.{PutsOrEnds};
 ghost use Rattle.pb_commands.specs.ProbeShown.{ProbesSources, found_text, probe_text};
+ghost use Rattle.pb_commands.specs.Refused.{GivesReason, taken};
 ghost use Rattle.pb_commands.specs.Shows.{Shows};
 
-use crate::refusal::{refuse, refuse_book, refuse_table};
+use crate::refusal::{Answer, Refused, refuse};
 use itoa::Buffer;
 use pb_board::read_fen;
 use pb_io::{Failed, Fault, Sink, Source, put_parts};
@@ -18,14 +19,39 @@ use std::alloc::Global;
 
 /// Shows the moves that a book has for a record's setup, each with its weight in decimal, in the
 /// book's order. The table of words that keys are made of, the book and the record are judged in
-/// this order, and the first that is refused is told: `refused table` and `long`, `line` or
-/// `count`, `refused book` and `unsorted` or `cut`, or `refused fen` and the word of the record's
-/// refusal. Nothing later is read then, nor after a fault. What was put is handed on once, at the
-/// end. Answers whether all three were taken.
+/// this order, and why the first is refused is shown and answered: `refused table` and `long`,
+/// `line` or `count`, `refused book` and `unsorted` or `cut`, or `refused fen` and the word of the
+/// record's refusal. Nothing later is read then, nor after a fault. What was put is handed on once,
+/// at the end.
 ///
 /// Where both sources tell bytes, don't fail and end within the fills, what is put is what those
 /// bytes show, a fault of the sink and want of memory aside: that follows from the clause, by the
 /// law `probe_ends`.
+pub fn answer_probe<TableIn: Source, BookIn: Source, Out: Sink>(
+    alloc: Global,
+    table_source: &mut TableIn,
+    book_source: &mut BookIn,
+    fen: &[u8],
+    sink: &mut Out,
+    fills: u32,
+) -> Result<Answer, Fault>
+    ensures ends { PutsOrEnds (ProbesSources fills (TableIn.state table_source.old)
+        (TableIn.state table_source.new)
+        (BookIn.state book_source.old) (BookIn.state book_source.new) fen.now)
+        (Out.state sink.old) (Out.state sink.new) (taken result) }
+    ensures reason { IfOk result (GivesReason ⊥ (Out.state sink.old) (Out.state sink.new)) }
+{
+    let table = match take_table(alloc, table_source, fills) {
+        Ok(table) => table,
+        Err(error) => return refuse(sink, Refused::Table(error)),
+    };
+    match read_book(alloc, book_source, fills) {
+        Ok(book) => show_under(alloc, &table, &book, fen, sink),
+        Err(error) => refuse(sink, Refused::Book(error)),
+    }
+}
+
+/// Does what `answer_probe` does, and answers whether all three were taken.
 pub fn run_probe<TableIn: Source, BookIn: Source, Out: Sink>(
     alloc: Global,
     table_source: &mut TableIn,
@@ -39,14 +65,7 @@ pub fn run_probe<TableIn: Source, BookIn: Source, Out: Sink>(
         (BookIn.state book_source.old) (BookIn.state book_source.new) fen.now)
         (Out.state sink.old) (Out.state sink.new) result }
 {
-    let table = match take_table(alloc, table_source, fills) {
-        Ok(table) => table,
-        Err(error) => return refuse_table(sink, error),
-    };
-    match read_book(alloc, book_source, fills) {
-        Ok(book) => show_under(alloc, &table, &book, fen, sink),
-        Err(error) => refuse_book(sink, error),
-    }
+    Ok(answer_probe(alloc, table_source, book_source, fen, sink, fills)?.is_taken())
 }
 
 /// Shows the moves that the book has for the record's setup, or why there is no record.
@@ -56,20 +75,21 @@ fn show_under<K: Sink>(
     book: &Book,
     fen: &[u8],
     sink: &mut K,
-) -> Result<bool, Fault>
+) -> Result<Answer, Fault>
     // However the two were read, the command ends so.
-    ensures { (fills : ℕ) (t t' b b' : SourceState) → ReadsTable fills t t' (Ok table.now)
+    ensures ends { (fills : ℕ) (t t' b b' : SourceState) → ReadsTable fills t t' (Ok table.now)
         → ReadsBook fills b b' (Ok book.now)
         → PutsOrEnds (ProbesSources fills t t' b b' fen.now) (K.state sink.old) (K.state sink.new)
-        result }
+        (taken result) }
+    ensures reason { IfOk result (GivesReason ⊥ (K.state sink.old) (K.state sink.new)) }
 {
     let record = match read_fen(fen) {
         Ok(record) => record,
-        Err(error) => return refuse(sink, &[b"refused fen ", error.word().as_bytes()]),
+        Err(error) => return refuse(sink, Refused::Fen(error)),
     };
     let found = probe(alloc, book, table, &record.setup())?;
     show_found(sink, found.as_slice())?;
-    Ok(true)
+    Ok(Answer::Taken)
 }
 
 /// Shows the lines of the moves.

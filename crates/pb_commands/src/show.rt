@@ -1,30 +1,50 @@
 //! The command `show`: a line for each entry of a book.
-ghost use Rattle.std.specs.Prelude.{◌≡◌, ℕ, ◌*◌, length};
+ghost use Rattle.std.specs.Prelude.{◌≡◌, ℕ, ◌*◌, IfOk, length};
 ghost use Rattle.std.specs.Int.{bytes_high_first};
 ghost use Rattle.pb_poly.specs.Reading.{ReadsBook};
 ghost use Rattle.pb_io.specs.Sink.{Put};
 ghost use Rattle.pb_commands.specs.BookShown.{BookShown, entry_line, show_text};
 ghost use Rattle.pb_commands.specs.Hexadecimal.{hexadecimal};
 ghost use Rattle.pb_commands.specs.Judged.{PutsOrEnds};
+ghost use Rattle.pb_commands.specs.Refused.{GivesReason, taken};
 ghost use Rattle.pb_commands.specs.Shows.{Shows};
 
 use crate::output::put_line;
-use crate::refusal::refuse_book;
+use crate::refusal::{Answer, Refused, refuse};
 use hex::encode_to_slice;
 use pb_io::{Failed, Fault, Sink, Source};
 use pb_poly::{Entry, read_book};
 use std::alloc::Global;
 
 /// Shows a book: a line for each entry, with its key, code, weight and learn value as 16, 4, 4 and
-/// 8 lower-case hexadecimal digits. Where the source gives no book, shows `refused book unsorted`
-/// and the number, from 1, of the first entry whose key is below the key before it, or
-/// `refused book cut` and the number of bytes after the last whole entry. Answers whether the book
-/// was taken. The whole book is read before a line is put, and the lines are handed on once, at the
-/// end.
+/// 8 lower-case hexadecimal digits. Where the source gives no book, shows and answers why:
+/// `refused book unsorted` and the number, from 1, of the first entry whose key is below the key
+/// before it, or `refused book cut` and the number of bytes after the last whole entry. The whole
+/// book is read before a line is put, and the lines are handed on once, at the end.
 ///
 /// Where the source tells bytes, doesn't fail and ends within the fills, what is put is what those
 /// bytes show, a fault of the sink and want of memory aside: that follows from the clause, by the
 /// law `show_ends`. `Memory` comes where a growth of the book found no memory.
+pub fn answer_show<S: Source, K: Sink>(
+    alloc: Global,
+    source: &mut S,
+    sink: &mut K,
+    fills: u32,
+) -> Result<Answer, Fault>
+    ensures ends { PutsOrEnds (BookShown (ReadsBook fills (S.state source.old)
+        (S.state source.new))) (K.state sink.old) (K.state sink.new) (taken result) }
+    ensures reason { IfOk result (GivesReason ⊥ (K.state sink.old) (K.state sink.new)) }
+{
+    match read_book(alloc, source, fills) {
+        Ok(book) => {
+            show_entries(sink, book.entries())?;
+            Ok(Answer::Taken)
+        }
+        Err(error) => refuse(sink, Refused::Book(error)),
+    }
+}
+
+/// Does what `answer_show` does, and answers whether the book was taken.
 pub fn run_show<S: Source, K: Sink>(
     alloc: Global,
     source: &mut S,
@@ -34,13 +54,7 @@ pub fn run_show<S: Source, K: Sink>(
     ensures { PutsOrEnds (BookShown (ReadsBook fills (S.state source.old) (S.state source.new)))
         (K.state sink.old) (K.state sink.new) result }
 {
-    match read_book(alloc, source, fills) {
-        Ok(book) => {
-            show_entries(sink, book.entries())?;
-            Ok(true)
-        }
-        Err(error) => refuse_book(sink, error),
-    }
+    Ok(answer_show(alloc, source, sink, fills)?.is_taken())
 }
 
 /// Shows the lines of the entries.

@@ -274,22 +274,6 @@ fn read_tokens(alloc: Global, text: &[u8]) -> Result<Epd, EpdError>
     }
 }
 
-/// The record that the text spells, or the first refusal that is due. Bad tokens are looked for
-/// only in a text that is refused.
-fn judge(alloc: Global, text: &[u8]) -> Result<Epd, EpdError>
-    ensures found { IfOk result (λ e. IsEpd e × EpdText e text.now) }
-    ensures refused { IfErr result (λ x. IsFirstDueEpd x text.now) }
-    ensures memory { IfErr result (λ x. x ≡ epd.Memory → ¬ IsFourWords text.now) }
-{
-    match read_tokens(alloc, text) {
-        Ok(epd) => Ok(epd),
-        Err(error) => match first_bad(text) {
-            Some(at) => Err(EpdError::Token(at)),
-            None => Err(error),
-        },
-    }
-}
-
 /// The record that the text spells (PGN Standard 16.2): four words that spell a setup, and
 /// operations in any order.
 ///
@@ -308,5 +292,12 @@ pub fn read_epd(alloc: Global, text: &[u8]) -> Result<Epd, EpdError>
     // Four words alone take no memory.
     ensures memory { IfErr result (λ x. x ≡ epd.Memory → ¬ IsFourWords text.now) }
 {
-    judge(alloc, text)
+    // Bad tokens are looked for only in a text that is refused.
+    match read_tokens(alloc, text) {
+        Ok(epd) => Ok(epd),
+        Err(error) => match first_bad(text) {
+            Some(at) => Err(EpdError::Token(at)),
+            None => Err(error),
+        },
+    }
 }

@@ -14,7 +14,7 @@ use Rattle.pb_files.specs.Steps.{Steps}
 
 -- the bytes are there under the name, though a crash may undo it
 named : (bytes : List ℕ) (old new : Option Shelf) (end : Option SinkState) (before : Option StoreError) → Steps (Names (Some bytes)) old new
-    → Keeps (record { found = found_at old end; fault = before }) (record { found = found_at new None; fault = Some Write }) (Err Write) bytes
+    → Keeps (record { found = found_at old end; fault = before }) (record { found = found_at new None; fault = Some Write }) (let r : Result ℕ StoreError = Err Write in r) bytes
 named bytes None None end before goes = record { holds = tt; leaves = inr (0, tt); fault = refl }
 named bytes None (Some b) end before goes = absurd goes
 named bytes (Some a) None end before goes = absurd goes
@@ -25,10 +25,10 @@ named bytes (Some a) (Some b) end before goes = record {
 }
 
 -- the same, as it is told
-pub named_keeps : (E : Type 0) (bytes : List ℕ) (old new : Option Shelf) (end : Option SinkState) (before : Option StoreError) (store : StoreState) (why : NotSaved) (answer : Result (Unit {0}) StoreError)
+pub named_keeps : (E : Type 0) (bytes : List ℕ) (old new : Option Shelf) (end : Option SinkState) (before : Option StoreError) (store : StoreState) (why : NotSaved) (answer : Result ℕ StoreError)
     → Saves {E = E} bytes old new (Err why) → why ≡ Unsettled → store ≡ record { found = found_at new None; fault = Some Write } → answer ≡ Err Write
     → Keeps (record { found = found_at old end; fault = before }) store answer bytes
 named_keeps E bytes old new end before store why answer saves unsettled there is =
     let kept = named bytes old new end before (subst (λ (e : NotSaved). Saves {E = E} bytes old new (Err e)) unsettled saves) in
     subst (λ (p : StoreState). Keeps (record { found = found_at old end; fault = before }) p answer bytes) (sym there)
-    (subst (λ (r : Result (Unit {0}) StoreError). Keeps (record { found = found_at old end; fault = before }) (record { found = found_at new None; fault = Some Write }) r bytes) (sym is) kept)
+    (subst (λ (r : Result ℕ StoreError). Keeps (record { found = found_at old end; fault = before }) (record { found = found_at new None; fault = Some Write }) r bytes) (sym is) kept)

@@ -1,14 +1,16 @@
 -- Lemmas on the steps of a file that is added to, and on what they leave.
-use Rattle.std.proofs.Common.{◌≡◌, ◌∙◌, ℕ, Bool, true, false, ◌+◌, ◌-◌, min, List, [], ◌++◌, Option, None, Some, Result, Ok, Err, IsErr, length, take, drop, refl, rules, sym, ap, subst, append_assoc, append-nil, arith}
-use Rattle.std.specs.Option.{ForSome}
-use Rattle.std.specs.Prelude.{IfSome}
+use Rattle.std.proofs.Common.{◌||◌, ◌≡◌, ◌∙◌, ℕ, Bool, true, false, ◌+◌, ◌-◌, min, List, [], ◌++◌, Option, None, Some, Result, Ok, Err, IsErr, is_err, is_ok, if◌then◌else◌, length, take, drop, refl, rules, sym, ap, subst, append_assoc, append-nil, arith, take-append-drop}
+use Rattle.std.specs.Option.{ForSome, is_some}
+use Rattle.std.specs.Prelude.{IfSome, OnOk}
 use Rattle.std.specs.Io.KnownBytes.{Keeps}
 use Rattle.std.proofs.lemmas.List.{take-append-le, take_min, take_rest}
 use Rattle.std.proofs.Math.Seq.{take-add}
+use Rattle.pb_io.specs.Count.{next_count}
 use Rattle.pb_io.specs.Sink.{Flush, Lasts, SinkState}
+use Rattle.pb_io.specs.declared.fault.Fault.{Fault}
 use Rattle.pb_files.specs.Begins.{BeginsWith}
-use Rattle.pb_files.specs.Disk.{Adds, Disk, Grows, IsOnDisk, IsSound, Leaves, OutlivesCrash, StaysSound, Syncs, on_disk}
-use Rattle.pb_files.specs.JournalSink.{bytes_lasting, bytes_put}
+use Rattle.pb_files.specs.Disk.{Adds, Disk, FileState, Grows, IsOnDisk, IsSound, Leaves, OutlivesCrash, StaysSound, Syncs, SyncsAll, on_disk}
+use Rattle.pb_files.specs.JournalSink.{EndState, HandsOn, bytes_lasting, bytes_put, sink_state}
 use Rattle.pb_files.specs.Steps.{Steps}
 
 -- no byte, and bytes in two steps
@@ -154,6 +156,30 @@ pub all_last : (lasting bytes : Option (List ℕ)) → lasting ≡ bytes → IfS
 all_last None bytes is = tt
 all_last (Some last) bytes is = sym is
 
+-- what was written waits no more
+pub written_keeps : (waits bytes rest : List ℕ) (n : ℕ) (old new : Option Disk) → bytes ≡ waits → rest ≡ drop n waits → Steps (Adds (take n bytes)) old new → Keeps (bytes_put old waits) (bytes_put new rest)
+written_keeps waits bytes rest n old new is left added =
+    subst (λ (bs : List ℕ). Keeps (bytes_put old waits) (bytes_put new bs)) (sym left)
+    (told_bytes (take n waits) (drop n waits) waits old new (take-append-drop n waits) (subst (λ (bs : List ℕ). Steps (Adds (take n bs)) old new) is added))
+
+-- a sync adds no byte, whether it succeeds or not
+pub told_syncs : (mid new : Option Disk) → Steps Syncs mid new → Steps (Adds []) mid new
+told_syncs mid new syncs = told_sync [] mid mid new (told_none mid) syncs
+
+pub keeps_then : (waits rest : List ℕ) (old mid new : Option Disk) → Keeps (bytes_put old waits) (bytes_put mid rest) → Steps (Adds []) mid new → Keeps (bytes_put old waits) (bytes_put new rest)
+keeps_then waits rest None mid new keeps none = tt
+keeps_then waits rest (Some old) None new keeps none = absurd keeps
+keeps_then waits rest (Some old) (Some mid) None keeps none = absurd none
+keeps_then waits rest (Some old) (Some mid) (Some new) keeps none = ap (λ (f : List ℕ). f ++ rest) (none.found ∙ append-nil mid.found) ∙ keeps
+
+pub grows_then : (old mid new : Option Disk) → Steps Grows old mid → Steps (Adds []) mid new → Steps Grows old new
+grows_then None None None grows none = tt
+grows_then None None (Some new) grows none = absurd none
+grows_then None (Some mid) new grows none = absurd grows
+grows_then (Some old) None new grows none = absurd grows
+grows_then (Some old) (Some mid) None grows none = absurd none
+grows_then (Some old) (Some mid) (Some new) (bytes, adds) none = (bytes, adds-then bytes [] bytes old mid new (append-nil bytes) adds none)
+
 -- a flush that failed
 pub flush_failed : {E : Type 0} (old new : SinkState) (answer : Result (Unit {0}) E) → IsErr answer → Keeps old.bytes new.bytes → Lasts old.lasting new.lasting
     → new.failed ≡ true → new.flushed ≡ false → new.flushes ≡ old.flushes → Flush old new answer
@@ -166,4 +192,62 @@ flush_failed old new (Err e) failing bytes lasts failed flushed flushes = record
   stays_failed = λ _. refl;
   flushed = flushed;
   flushes = flushes;
+}
+
+-- a sink that wanted no memory has failed just where its file has
+pub fails_with_file : (no_memory old new failed : Bool) → no_memory || old ≡ false → new ≡ failed → no_memory || new ≡ failed
+fails_with_file false old new failed worked is = is
+fails_with_file true old new failed worked is = let no : true ≡ false = worked in cc
+
+-- a flush of a sink at the end of a file, by what it did there
+pub flushed_end : {E : Type 0} (sync : Bool) (old new : EndState) (answer : Result (Unit {0}) E) → Keeps (bytes_put old.told old.waits) (bytes_put new.told new.waits)
+    → Steps Grows old.told new.told → OnOk answer (new.waits ≡ []) → OnOk answer (sync ≡ true → ForSome new.told IsOnDisk) → old.failed ≡ false → new.failed ≡ is_err answer
+    → new.flushed ≡ is_ok answer → new.flushes ≡ (if is_ok answer then next_count old.flushes else old.flushes) → Flush (sink_state sync old) (sink_state sync new) answer
+flushed_end sync old new (Ok v) bytes grows none on_disk worked failed flushed flushes = record {
+  bytes = bytes;
+  lasts = lasting_grows sync old.told new.told grows;
+  all_lasts = all_last _ _ (lasting_all sync new.told on_disk ∙ ap (bytes_put new.told) (sym none));
+  failed = failed;
+  stays_failed = λ was. let bad : false ≡ true = sym worked ∙ was in cc;
+  flushed = flushed;
+  flushes = flushes;
+}
+flushed_end sync old new (Err e) bytes grows none on_disk worked failed flushed flushes =
+    flush_failed _ _ (Err e) refl bytes (lasting_grows sync old.told new.told grows) failed flushed flushes
+
+-- what waited is written, and then it is synced
+
+pub hands_on_written : {E : Type 0} (sync : Bool) (old new : FileState) (waits rest : List ℕ) → sync ≡ false → Keeps (bytes_put old.told waits) (bytes_put new.told rest)
+    → Steps Grows old.told new.told → rest ≡ [] → new.fault ≡ None → HandsOn {E = E} sync old new waits rest (Ok tt)
+hands_on_written sync old new waits rest written bytes grows none works = record {
+  bytes = bytes;
+  grows = grows;
+  none = none;
+  on_disk = λ synced disk is. let bad : true ≡ false = sym synced ∙ written in cc;
+  fault = ap (λ (f : Option Fault). is_some f) works;
+  sound = λ synced _ disk is. let bad : true ≡ false = sym synced ∙ written in cc;
+}
+
+pub hands_on_synced : {E : Type 0} (sync : Bool) (old mid new : FileState) (waits rest : List ℕ) → SyncsAll sync old → old.fault ≡ None → sync ≡ true → Keeps (bytes_put old.told waits) (bytes_put mid.told rest)
+    → Steps Grows old.told mid.told → rest ≡ [] → Steps StaysSound old.told mid.told → Steps Syncs mid.told new.told → new.fault ≡ None → HandsOn {E = E} sync old new waits rest (Ok tt)
+hands_on_synced sync old mid new waits rest were works synced bytes grows none stays syncs fault =
+    let adds : Steps (Adds []) mid.told new.told = told_syncs mid.told new.told syncs in
+    let sound : ForSome mid.told IsSound = told_sound old.told mid.told stays (were synced works) in record {
+      bytes = keeps_then waits rest old.told mid.told new.told bytes adds;
+      grows = grows_then old.told mid.told new.told grows adds;
+      none = none;
+      on_disk = λ _. told_on_disk mid.told new.told sound syncs;
+      fault = ap (λ (f : Option Fault). is_some f) fault;
+      sound = λ _ _. told_synced mid.told new.told syncs sound;
+    }
+
+pub hands_on_failed : {E : Type 0} (sync : Bool) (old mid new : FileState) (waits rest : List ℕ) (why : E) → Keeps (bytes_put old.told waits) (bytes_put mid.told rest)
+    → Steps Grows old.told mid.told → Steps (Adds []) mid.told new.told → is_some new.fault ≡ true → HandsOn sync old new waits rest (Err why)
+hands_on_failed sync old mid new waits rest why bytes grows adds failed = record {
+  bytes = keeps_then waits rest old.told mid.told new.told bytes adds;
+  grows = grows_then old.told mid.told new.told grows adds;
+  none = tt;
+  on_disk = tt;
+  fault = failed;
+  sound = λ synced works disk is. let bad : false ≡ true = sym (ap (λ (f : Option Fault). is_some f) works) ∙ failed in cc;
 }

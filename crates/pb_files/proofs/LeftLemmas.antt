@@ -2,32 +2,32 @@
 use Rattle.std.proofs.Common.{◌≡◌, ◌∙◌, ◌⊎◌, ℕ, Bool, true, false, List, [], ◌++◌, Option, None, Some, IfSome, ap, append-nil, append_assoc, inl, inr, refl, subst, sym}
 use Rattle.std.specs.Option.{ForSome}
 use Rattle.std.specs.Io.KnownBytes.{Appends}
-use Rattle.pb_io.specs.Sink.{AllLasts, SinkState}
+use Rattle.pb_io.specs.Sink.{AllLasts}
 use Rattle.pb_io.specs.Source.{HandsOut, SourceState}
-use Rattle.pb_collecting.specs.JournalHeadline.{HoldsAnswered, Outlives, Survives}
+use Rattle.pb_collecting.specs.Ends.{Change, EndStates, IsSame}
+use Rattle.pb_collecting.specs.JournalHeadline.{HoldsAnswered, LosesNone, LosesNoneLater, Outlives, Survives}
 use Rattle.pb_files.specs.Begins.{BeginsWith}
 use Rattle.pb_files.specs.Disk.{Disk, Grows, IsOnDisk}
-use Rattle.pb_files.specs.Journaling.{IsStarted, LeavesAnswered, MayBeLeft}
-use Rattle.pb_files.specs.JournalSink.{EndState, bytes_lasting, bytes_put}
+use Rattle.pb_files.specs.Journaling.{IsStarted, LeavesAnswered, MayBeLeft, journal_over}
+use Rattle.pb_files.specs.JournalSink.{EndState, bytes_lasting, bytes_put, sink_state}
 use Rattle.pb_files.proofs.FileLemmas.{all_last, crash-first, lasting_all}
 
 -- what comes first of what comes first
 begins-first : (all part first rest : List ℕ) → BeginsWith all part → part ≡ first ++ rest → BeginsWith all first
 begins-first all part first rest begins is = (rest ++ begins.0, begins.1 ∙ ap (λ bs. bs ++ begins.0) is ∙ append_assoc first rest begins.0)
 
-module _ (sync : Bool) (disk : Disk) (old new : EndState) (reader reader' s s' : SourceState) (j j' sink sink' : SinkState) (started : IsStarted sync disk old reader)
-    (put : j.bytes ≡ bytes_put old.told old.waits) (put' : j'.bytes ≡ bytes_put new.told new.waits) (lasting : j.lasting ≡ bytes_lasting sync old.told) (lasting' : j'.lasting ≡ bytes_lasting sync new.told) where
-  on_disk : sync ≡ true → ForSome old.told IsOnDisk
+module _ (sync : Bool) (disk : Disk) (reader : Change SourceState) (end : Change EndState) (e : EndStates) (started : IsStarted sync disk end.old reader.old) where
+  on_disk : sync ≡ true → ForSome end.old.told IsOnDisk
   on_disk synced known is =
       let same : Some disk ≡ Some known = sym started.told ∙ is in
       let one : disk ≡ known = cc in
       subst IsOnDisk one (started.on_disk synced)
 
-  all_lasts : AllLasts j
-  all_lasts = all_last j.lasting j.bytes (lasting ∙ lasting_all sync old.told on_disk ∙ sym (put ∙ ap (bytes_put old.told) started.none_waits))
+  all_lasts : AllLasts (sink_state sync end.old)
+  all_lasts = all_last _ _ (lasting_all sync end.old.told on_disk ∙ sym (ap (bytes_put end.old.told) started.none_waits))
 
-  found : j.bytes ≡ Some disk.found
-  found = put ∙ ap (bytes_put old.told) started.none_waits ∙ ap (λ (known : Option Disk). bytes_put known []) started.told ∙ ap (λ (bytes : List ℕ). Some bytes) (append-nil disk.found)
+  found : bytes_put end.old.told end.old.waits ≡ Some disk.found
+  found = ap (bytes_put end.old.told) started.none_waits ∙ ap (λ (known : Option Disk). bytes_put known []) started.told ∙ ap (λ (bytes : List ℕ). Some bytes) (append-nil disk.found)
 
   -- the old bytes and then these last, whatever lasts behind them
   abbrev LastBehind : Option (List ℕ) → List ℕ → Type 0
@@ -42,8 +42,8 @@ module _ (sync : Bool) (disk : Disk) (old new : EndState) (reader reader' s s' :
       begins-first left now.found (disk.found ++ gained) lasts.0 (grows.0, leaves ∙ grows.1.found) (lasts.1 ∙ sym (append_assoc disk.found gained lasts.0))
 
   -- a file that told of itself goes on doing so
-  left_of : (known : Option Disk) → new.told ≡ known → (gained more : List ℕ) → Appends (Some disk.found) (bytes_put known new.waits) more
-      → LastBehind (bytes_lasting sync known) gained → HoldsAnswered (disk.found ++ gained) s s' sink sink' → LeavesAnswered sync disk new s s' sink sink'
+  left_of : (known : Option Disk) → end.new.told ≡ known → (gained more : List ℕ) → Appends (Some disk.found) (bytes_put known end.new.waits) more
+      → LastBehind (bytes_lasting sync known) gained → HoldsAnswered (disk.found ++ gained) e → LeavesAnswered sync disk end.new e
   left_of None is_told gained more put lasts holds = absurd put
   left_of (Some now) is_told gained more put lasts holds = record {
     disk = now;
@@ -53,12 +53,8 @@ module _ (sync : Bool) (disk : Disk) (old new : EndState) (reader reader' s s' :
     first = left_first now gained sync lasts;
   }
 
-  -- no submission was read, or this is so of the bytes that the file handed out
-  abbrev Unless : (List ℕ → Type 0) → Type 0
-  Unless P = (s' ≡ s) ⊎ ((kept : List ℕ) × HandsOut reader reader' kept × P kept)
-
-  pub leaves : Unless (λ kept. Survives kept s s' j j' sink sink') → (AllLasts j → Unless (λ kept. Outlives kept s s' j j' sink sink'))
-      → (s' ≡ s) ⊎ LeavesAnswered sync disk new s s' sink sink'
+  -- no submission was read, or these answered games are in what is left
+  pub leaves : LosesNone e (journal_over sync reader end) → LosesNoneLater e (journal_over sync reader end) → IsSame e.lines ⊎ LeavesAnswered sync disk end.new e
   leaves survives outlives =
       elim survives [
         | inl unread ↦ inl unread
@@ -66,14 +62,14 @@ module _ (sync : Bool) (disk : Disk) (old new : EndState) (reader reader' s s' :
           | inl unread ↦ inl unread
           | inr h ↦
               let whole : h.0 ≡ disk.found = subst (λ (known : Option (List ℕ)). IfSome known (λ all. h.0 ≡ all)) started.reads h.1.told in
-              inr (by k.2.gained k.2.put (subst (λ (kept : List ℕ). Outlives kept s s' j j' sink sink') whole h.2))
+              inr (by k.2.gained k.2.put (subst (λ (kept : List ℕ). Outlives kept e (journal_over sync reader end).journal) whole h.2))
         ]
       ]
     where
-      by : (more : List ℕ) → Appends j.bytes j'.bytes more → Outlives disk.found s s' j j' sink sink' → LeavesAnswered sync disk new s s' sink sink'
+      by : (more : List ℕ) → Appends (bytes_put end.old.told end.old.waits) (bytes_put end.new.told end.new.waits) more
+          → Outlives disk.found e (journal_over sync reader end).journal → LeavesAnswered sync disk end.new e
       by more gains o =
-          left_of new.told refl o.gained more
-          (subst (λ (known : Option (List ℕ)). Appends (Some disk.found) known more) put' (subst (λ (known : Option (List ℕ)). Appends known j'.bytes more) found gains))
-          (subst (λ (known : Option (List ℕ)). LastBehind known o.gained) lasting'
-          (subst (λ (known : Option (List ℕ)). IfSome j'.lasting (λ lasting. (behind : List ℕ) × Appends known (Some lasting) (o.gained ++ behind))) found o.lasts))
+          left_of end.new.told refl o.gained more
+          (subst (λ (known : Option (List ℕ)). Appends known (bytes_put end.new.told end.new.waits) more) found gains)
+          (subst (λ (known : Option (List ℕ)). IfSome (bytes_lasting sync end.new.told) (λ lasting. (behind : List ℕ) × Appends known (Some lasting) (o.gained ++ behind))) found o.lasts)
           o.holds

@@ -3,8 +3,8 @@ use Rattle.std.specs.Prelude.{◌≡◌, ◌≢◌, ◌⊎◌, ℕ, List, [], �
 use Rattle.std.specs.Borrow.{Bor}
 use Rattle.pb_messages.specs.declared.part.Part.{Part}
 use Rattle.pb_messages.specs.declared.part.Part.TheVariants.{Book}
-use Rattle.pb_files.specs.declared.distinct_files.NotApart.{NotApart}
-use Rattle.pb_files.specs.declared.distinct_files.NotApart.TheVariants.{OneFile, IsOutput}
+use Rattle.pb_files.specs.declared.distinct_files.Clash.{Clash}
+use Rattle.pb_files.specs.declared.distinct_files.Clash.TheVariants.{OneFile, IsOutput}
 
 -- what a file is to a run, and its path
 abbrev pub File : Type 0
@@ -23,10 +23,10 @@ abbrev pub IsAmong : (List ℕ → Type 0) → Part → List File → Type 0
 IsAmong is part [] = ⊥
 IsAmong is part (file ∷ files) = ((part ≡ file.0) × is file.1.now) ⊎ IsAmong is part files
 
--- the reason names a file and a later one that are one file, or one that is read and is standard
+-- the clash is of a file and a later one that are one file, or one that is read and is standard
 -- output
-abbrev pub Clashes : (List ℕ → List ℕ → Type 0) → List File → NotApart → Type 0
-Clashes one [] why = ⊥
+abbrev pub Clashes : (List ℕ → List ℕ → Type 0) → List File → Clash → Type 0
+Clashes one [] clash = ⊥
 Clashes one (file ∷ files) (OneFile part other) =
     ((part ≡ file.0) × IsAmong (one file.1.now) other files)
     ⊎ Clashes one files (OneFile part other)

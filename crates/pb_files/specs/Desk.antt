@@ -6,8 +6,6 @@ use Rattle.pb_io.specs.Sink.{SinkState}
 use Rattle.pb_collecting.specs.declared.store.StoreError.{StoreError}
 use Rattle.pb_files.specs.declared.desk.NotMade.{NotMade}
 use Rattle.pb_files.specs.declared.desk.NotMade.TheVariants as made
-use Rattle.pb_files.specs.declared.desk.NotNamed.{NotNamed}
-use Rattle.pb_files.specs.declared.desk.NotNamed.TheVariants as named
 
 -- What stands under a name: bytes, or no file.
 abbrev pub Content : Type 0
@@ -38,18 +36,12 @@ is_untakable (Ok true) = false
 is_untakable (Ok false) = true
 is_untakable (Err why) = false
 
--- whether a draft was refused, and not made or failed
+-- whether a draft, or its name, was refused
 abbrev pub is_refused_draft : {E : Type 0} → Result E NotMade → Bool
 is_refused_draft (Ok end) = false
 is_refused_draft (Err made.Taken) = false
 is_refused_draft (Err made.Refused) = true
 is_refused_draft (Err (made.Failed why)) = false
-
--- whether the name was refused
-abbrev pub is_refused_name : Result (Unit {0}) NotNamed → Bool
-is_refused_name (Ok done) = false
-is_refused_name (Err named.Refused) = true
-is_refused_name (Err named.Failed) = false
 
 -- An end into an empty file.
 pub record Begins (end : SinkState) : Type 0 where

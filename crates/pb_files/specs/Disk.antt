@@ -1,7 +1,8 @@
 -- What is known of a file that is only added to, and what a kill and a crash leave of it.
 use Rattle.std.specs.Prelude.{◌≡◌, ℕ, ◌≤◌, Bool, true, false, List, ◌++◌, length, take}
-use Rattle.std.specs.Prelude.{Option}
+use Rattle.std.specs.Prelude.{Option, None}
 use Rattle.std.specs.Option.{ForSome}
+use Rattle.pb_io.specs.declared.fault.Fault.{Fault}
 use Rattle.pb_files.specs.Begins.{BeginsWith}
 
 -- The bytes that a reader finds; how many from the first on are on the disk; and whether the system
@@ -12,11 +13,11 @@ pub record Disk : Type 0 where
   pub kept : ℕ
   pub lost : Bool
 
--- What a run knows of its file: the disk, where the file tells of it, and whether each write and
--- sync so far has succeeded.
+-- What a run knows of its file: the disk, where the file tells of it, and the fault that a write or
+-- a sync has met, if one has.
 pub record FileState : Type 0 where
   pub told : Option Disk
-  pub ready : Bool
+  pub fault : Option Fault
 
 -- the bytes that are on the disk
 abbrev pub on_disk : Disk → List ℕ
@@ -36,7 +37,7 @@ StaysSound old new = IsSound old → IsSound new
 
 -- where lines are to be synced, and the file works, a sync of it writes all that isn't on the disk
 abbrev pub SyncsAll : Bool → FileState → Type 0
-SyncsAll sync file = sync ≡ true → file.ready ≡ true → ForSome file.told IsSound
+SyncsAll sync file = sync ≡ true → file.fault ≡ None → ForSome file.told IsSound
 
 -- A crash leaves what is on the disk, and behind it anything at all.
 abbrev pub Leaves : Disk → List ℕ → Type 0

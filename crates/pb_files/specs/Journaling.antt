@@ -1,11 +1,11 @@
 -- What is left of a journal's file once a run has ended, and whatever comes then.
 use Rattle.std.specs.Prelude.{◌≡◌, Bool, true, false, List, [], ◌++◌, ℕ, Some}
-use Rattle.pb_io.specs.Sink.{SinkState}
 use Rattle.pb_io.specs.Source.{SourceState}
+use Rattle.pb_collecting.specs.Ends.{Change, EndStates, JournalStates, between}
 use Rattle.pb_collecting.specs.JournalHeadline.{HoldsAnswered}
 use Rattle.pb_files.specs.Begins.{BeginsWith}
 use Rattle.pb_files.specs.Disk.{Disk, Grows, IsOnDisk, Leaves}
-use Rattle.pb_files.specs.JournalSink.{EndState}
+use Rattle.pb_files.specs.JournalSink.{EndState, sink_state}
 
 -- A journal that a run has come to: it is read from its first byte, nothing waits, and where a
 -- flush syncs all that is found is on the disk.
@@ -16,6 +16,13 @@ pub record IsStarted (sync : Bool) (disk : Disk) (end : EndState)
   pub none_waits : end.waits ≡ []
   pub on_disk : sync ≡ true → IsOnDisk disk
 
+-- a journal that this reader reads, and that is written at this end of its file
+abbrev pub journal_over : Bool → Change SourceState → Change EndState → JournalStates
+journal_over sync reader end = record {
+  kept = reader;
+  journal = between (sink_state sync) end.old end.new;
+}
+
 -- what a crash may leave, where a flush syncs; else what a kill leaves, which is all that is found
 abbrev pub MayBeLeft : Bool → Disk → List ℕ → Type 0
 MayBeLeft true disk left = Leaves disk left
@@ -23,11 +30,11 @@ MayBeLeft false disk left = left ≡ disk.found
 
 -- Whatever is added later, what may be left then begins with the journal as it was and what it
 -- gained: this holds each game that a reply calls `ok`.
-pub record LeavesAnswered (sync : Bool) (before : Disk) (end : EndState) (s s' : SourceState)
-    (sink sink' : SinkState) : Type 0 where
+pub record LeavesAnswered (sync : Bool) (before : Disk) (end : EndState)
+    (e : EndStates) : Type 0 where
   pub disk : Disk
   pub told : end.told ≡ Some disk
   pub gained : List ℕ
-  pub holds : HoldsAnswered (before.found ++ gained) s s' sink sink'
+  pub holds : HoldsAnswered (before.found ++ gained) e
   pub first : (later : Disk) → Grows disk later → (left : List ℕ) → MayBeLeft sync later left
       → BeginsWith left (before.found ++ gained)

@@ -7,9 +7,7 @@ pub mod JournalFile
 pub mod JournalSink
 pub mod Journaling
 pub mod Keeping
-pub mod MemDesk
 pub mod Runs
 pub mod Saving
-pub mod Starting
 pub mod Steps
 pub mod Stop

@@ -5,9 +5,7 @@ use Rattle.pb_io.specs.declared.fault.Fault.{Fault}
 use Rattle.pb_collecting.specs.declared.continuing_into.NotContinued.{NotContinued}
 use Rattle.pb_collecting.specs.declared.keeping.NoBook.{NoBook}
 use Rattle.pb_collecting.specs.declared.store.StoreError.{StoreError}
-use Rattle.pb_files.specs.declared.distinct_files.NotApart.{NotApart}
-use Rattle.pb_files.specs.declared.starting.NotRead.{NotRead}
-use Rattle.pb_files.specs.declared.starting.NotStarted.{NotStarted}
+use Rattle.pb_files.specs.declared.distinct_files.Clash.{Clash}
 use Rattle.pb_files.specs.declared.stop.Stop.{Stop}
 
 -- the word of the line `fault ..`
@@ -32,14 +30,7 @@ stop_of_both (NotContinued.Run fault) = Stop.Fault fault
 stop_of_both (NotContinued.Ledger why) = stop_of_store why
 stop_of_both (NotContinued.Book why) = stop_of_store why
 
--- the names can't be those of one run
-abbrev pub stop_of_names : NotApart → Stop
-stop_of_names (NotApart.OneFile one other) = Stop.NotOpened
-stop_of_names (NotApart.IsOutput part) = Stop.Fault Fault.Write
-
--- the run doesn't come to its journal
-abbrev pub stop_of_start : NotStarted → Stop
-stop_of_start (NotStarted.NotHeld why) = Stop.NotOpened
-stop_of_start (NotStarted.NotRead NotRead.Sync) = Stop.Fault Fault.Write
-stop_of_start (NotStarted.NotRead NotRead.Reading) = Stop.Fault Fault.Read
-stop_of_start (NotStarted.NotRead NotRead.Failed) = Stop.Fault Fault.Read
+-- the files can't be those of one run
+abbrev pub stop_of_clash : Clash → Stop
+stop_of_clash (Clash.OneFile one other) = Stop.NotOpened
+stop_of_clash (Clash.IsOutput part) = Stop.Fault Fault.Write

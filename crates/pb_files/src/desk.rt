@@ -3,8 +3,7 @@
 ghost use Rattle.std.specs.Prelude.{◌≡◌, IfOk, OnErr, OnOk, false, is_err, true};
 ghost use Rattle.pb_io.specs.Sink.{HandedOn};
 ghost use Rattle.pb_files.specs.Desk.{Begins, DeskState, Empties, Names, NamesNot};
-ghost use Rattle.pb_files.specs.Desk.{Settles, SettlesNot, is_refused_draft, is_refused_name};
-ghost use Rattle.pb_files.specs.Desk.{is_untakable};
+ghost use Rattle.pb_files.specs.Desk.{Settles, SettlesNot, is_refused_draft, is_untakable};
 ghost use Rattle.pb_files.specs.Steps.{Steps};
 ghost use Rattle.pb_files.specs.declared.desk.NotMade.TheVariants as made;
 
@@ -12,16 +11,17 @@ use pb_collecting::StoreError;
 use pb_io::Sink;
 use thiserror::Error;
 
-/// Why there is no draft of a number.
+/// Why there is no draft of a number, or why a draft doesn't get the name of its file.
 #[derive(Clone, Copy, Debug, Error)]
 pub enum NotMade {
-    /// Another run has the name.
+    /// Another run has the draft's name.
     #[error("another run has the draft's name")]
     Taken,
-    /// The folder takes no draft, or none that can take the old file's place.
+    /// The folder takes no draft, or none that can take the old file's place, or the file's name
+    /// can't be given to another.
     #[error("no draft can take the file's place")]
     Refused,
-    /// It can't be made.
+    /// It can't be made, or not be given the name.
     #[error("{0}")]
     Failed(StoreError),
 }
@@ -32,17 +32,6 @@ impl From<StoreError> for NotMade {
     fn from(why: StoreError) -> NotMade {
         NotMade::Failed(why)
     }
-}
-
-/// Why a draft doesn't get the name of its file.
-#[derive(Clone, Copy, Debug, Error)]
-pub enum NotNamed {
-    /// The name can't be given to another file.
-    #[error("the name can't be given to another file")]
-    Refused,
-    /// The system has failed.
-    #[error("the draft can't be given the name")]
-    Failed,
 }
 
 /// A name in a folder, and drafts beside it, which have numbers. Whoever has an end into a draft
@@ -83,7 +72,7 @@ pub trait Desk {
         ensures same { state self.new ≡ state self.old };
 
     /// Gives the draft the name, in the place of the file that has it. The draft is on the disk.
-    fn rename(&mut self, draft: &Self::End) -> Result<(), NotNamed>
+    fn rename(&mut self, draft: &Self::End) -> Result<(), NotMade>
         requires handed_on { HandedOn (Self.End.state draft.now) }
         requires refused { (state self.old).refused ≡ false }
         requires drafted { (state self.old).drafted ≡ true }
@@ -94,7 +83,7 @@ pub trait Desk {
         ensures drafted { OnOk result ((state self.new).drafted ≡ false) }
         ensures unsettled { OnOk result ((state self.new).unsettled ≡ false) }
         ensures still_drafted { OnErr result ((state self.new).drafted ≡ true) }
-        ensures refused { (state self.new).refused ≡ is_refused_name result };
+        ensures refused { (state self.new).refused ≡ is_refused_draft result };
 
     /// Removes the draft, as far as that can be done. It hasn't got the name.
     fn remove(&mut self, draft: Self::End)

@@ -1,10 +1,11 @@
 //! The files of one run, which have to be different ones.
 
-ghost use Rattle.std.specs.Prelude.{◌≡◌, ℕ, All, AllPairs, IfErr, IfNone, IfSome, List, OnOk};
+ghost use Rattle.std.specs.Prelude.{◌≡◌, ℕ, All, AllPairs, IfNone, IfSome, List};
 ghost use Rattle.std.specs.Prelude.{false, true, ⊤};
 ghost use Rattle.pb_files.specs.Apart.{Clashes, IsAmong, IsNoOutput};
 
 use crate::one_file::{OUTPUT, is_one_file};
+use crate::stop::Stop;
 use pb_messages::{Messages, Part};
 use thiserror::Error;
 
@@ -25,7 +26,7 @@ pub trait Places {
 
 /// Why files can't be those of one run.
 #[derive(Clone, Copy, Debug, Error)]
-pub enum NotApart {
+pub enum Clash {
     /// Two of the paths lead to one file.
     #[error("{one} and {other} are one file")]
     OneFile {
@@ -34,34 +35,28 @@ pub enum NotApart {
         /// The part of the second.
         other: Part,
     },
-    /// A file that is read is standard output.
+    /// A file that is read is standard output: the replies would be written over its games, and so
+    /// no line can tell of it there.
     #[error("{0} is standard output")]
     IsOutput(Part),
 }
 
-/// Makes sure that no two of these paths lead to one file. Else a book could take the place of the
-/// journal with all games.
-///
-/// # Errors
-///
-/// `OneFile` where two of them lead to one file. `IsOutput` where one that is read is standard
-/// output: the replies would be written over its games, and so no line can tell of it there.
-pub fn are_apart<P: Places>(places: &P, files: &[(Part, &str)]) -> Result<(), NotApart>
-    ensures apart { OnOk result
+/// Finds two of these paths that lead to one file, or one that is read and leads to standard output.
+/// None where each can be a file of its own in one run.
+pub fn clash_among<P: Places>(places: &P, files: &[(Part, &str)]) -> Option<Clash>
+    ensures apart { IfNone result
         (AllPairs (λ a b. P.apart places.now a.1.now b.1.now) files.now) }
-    ensures no_output { OnOk result (All (IsNoOutput (P.apart places.now)) files.now) }
-    ensures clash { IfErr result (Clashes (P.one places.now) files.now) }
+    ensures no_output { IfNone result (All (IsNoOutput (P.apart places.now)) files.now) }
+    ensures clash { IfSome result (Clashes (P.one places.now) files.now) }
 {
-    let Some(((part, path), rest)) = files.split_first() else {
-        return Ok(());
-    };
+    let ((part, path), rest) = files.split_first()?;
     if !matches!(part, Part::Book) && places.are_one(path, OUTPUT) {
-        return Err(NotApart::IsOutput(*part));
+        return Some(Clash::IsOutput(*part));
     }
     if let Some(other) = same_among(places, path, rest) {
-        return Err(NotApart::OneFile { one: *part, other });
+        return Some(Clash::OneFile { one: *part, other });
     }
-    are_apart(places, rest)
+    clash_among(places, rest)
 }
 
 /// The part of a file among these that the path leads to as well.
@@ -90,16 +85,19 @@ impl Places for SystemPlaces<'_> {
     }
 }
 
-/// Makes sure that no two of these paths of the system lead to one file, as `are_apart` does, and
-/// tells which do.
+/// Makes sure that no two of these paths lead to one file, and tells which do. Else a book could
+/// take the place of the journal with all games.
 ///
 /// # Errors
 ///
-/// Those of `are_apart`.
-pub fn keep_apart(messages: Messages<'_>, files: &[(Part, &str)]) -> Result<(), NotApart> {
-    let apart = are_apart(&SystemPlaces(messages.rt()), files);
-    if let Err(why) = apart {
-        messages.tell(&why);
+/// `NotOpened` where two of them lead to one file, the fault of a write where one that is read is
+/// standard output.
+pub fn keep_apart(messages: Messages<'_>, files: &[(Part, &str)]) -> Result<(), Stop> {
+    match clash_among(&SystemPlaces(messages.rt), files) {
+        Some(clash) => {
+            messages.tell(&clash);
+            Err(Stop::from(clash))
+        }
+        None => Ok(()),
     }
-    apart
 }

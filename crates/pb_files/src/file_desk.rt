@@ -4,8 +4,9 @@ ghost use Rattle.std.specs.Option.{is_some};
 ghost use Rattle.std.specs.Prelude.{◌≡◌, Err, IfOk, None, OnErr, OnOk, false, true};
 ghost use Rattle.pb_files.specs.Desk.{Begins, is_refused_draft};
 
-use crate::desk::{Desk, NotMade, NotNamed};
+use crate::desk::{Desk, NotMade};
 use crate::file_writer::FileWriter;
+use crate::kept::KeptFile;
 use crate::ledger_file::LedgerFile;
 use crate::one_file::{INPUT, OUTPUT, is_one_file, leads_to, tell_of_one};
 use crate::place::Place;
@@ -54,29 +55,24 @@ pub struct FileDesk<'a, 'f> {
 }
 
 impl<'a, 'f> FileDesk<'a, 'f> {
-    /// The file of a book.
-    pub fn of_book(messages: Messages<'a>, path: &'a str) -> FileDesk<'a, 'f> {
-        FileDesk::new(messages, Part::Book, path, None)
-    }
-
-    /// The file of a saved ledger, which this run has read. It holds the new one as well.
-    pub fn of_ledger(
+    /// The store at a path, once it is known that a file can be made there: of a book, or of a saved
+    /// ledger, which was read from this file and holds the new one as well.
+    ///
+    /// # Errors
+    ///
+    /// Those of `expect_place`.
+    pub fn store(
         messages: Messages<'a>,
-        path: &'a str,
-        read: &'f LedgerFile<'a>,
-    ) -> FileDesk<'a, 'f> {
-        FileDesk::new(messages, Part::Ledger, path, Some(read))
-    }
-
-    fn new(
-        messages: Messages<'a>,
-        part: Part,
         path: &'a str,
         read: Option<&'f LedgerFile<'a>>,
-    ) -> FileDesk<'a, 'f> {
-        FileDesk {
+    ) -> Result<KeptFile<FileDesk<'a, 'f>>, StoreError> {
+        let mut desk = FileDesk {
             messages,
-            part,
+            part: if read.is_some() {
+                Part::Ledger
+            } else {
+                Part::Book
+            },
             path,
             read,
             place: Place::of_name(path),
@@ -84,7 +80,9 @@ impl<'a, 'f> FileDesk<'a, 'f> {
             draft: None,
             refused: false,
             unsettled: false,
-        }
+        };
+        desk.expect_place()?;
+        Ok(KeptFile::new(desk))
     }
 
     /// Makes sure that the file can be made, as far as that is known before it is. So a user knows
@@ -95,7 +93,7 @@ impl<'a, 'f> FileDesk<'a, 'f> {
     ///
     /// `Open` where a book that is there can't be written, or no draft can take the place of a
     /// ledger, which is told; `Memory` where there is none for a draft.
-    pub fn expect_place(&mut self) -> Result<(), StoreError> {
+    fn expect_place(&mut self) -> Result<(), StoreError> {
         if self.is_ledger() {
             return match new_draft(self) {
                 Ok(draft) => {
@@ -112,7 +110,7 @@ impl<'a, 'f> FileDesk<'a, 'f> {
         if self.is_free() {
             return self.warn_of_folder();
         }
-        match fs::metadata(self.messages.rt(), self.path) {
+        match fs::metadata(self.messages.rt, self.path) {
             // Opening a pipe may wait.
             Ok(told) if told.is_file() => self.expect_writable(Left::Old(self.part)),
             Ok(told) if told.is_dir() => self.expect_writable(Left::All),
@@ -124,7 +122,7 @@ impl<'a, 'f> FileDesk<'a, 'f> {
     fn expect_writable(&self, left: Left) -> Result<(), StoreError> {
         match OpenOptions::new()
             .write(true)
-            .open(self.messages.rt(), self.path)
+            .open(self.messages.rt, self.path)
         {
             Ok(_) => Ok(()),
             Err(error) => {
@@ -142,14 +140,12 @@ impl<'a, 'f> FileDesk<'a, 'f> {
         };
         match self.create(name.as_path()) {
             Ok(file) if self.is_held(&file, name.as_path()) => {
-                let _ = fs::remove_file(self.messages.rt(), name.as_path());
+                let _ = fs::remove_file(self.messages.rt, name.as_path());
             }
             Err(error)
                 if is_of_folder(error.kind()) && error.kind() != ErrorKind::InvalidFilename => {
-                self.messages.warn(&Message::CannotBeMade {
-                    name: self.path,
-                    cause: Cause::of(&error),
-                });
+                self.messages
+                    .warn(&Message::CannotBeMade(self.path, Cause::of(&error)));
             }
             _ => {}
         }
@@ -158,17 +154,21 @@ impl<'a, 'f> FileDesk<'a, 'f> {
 
     /// Whether this is the ordinary file of a ledger, and no pipe or device.
     fn is_ledger(&self) -> bool {
-        self.read.is_some_and(|read| read.is_file())
+        self.read.is_some_and(|read| read.held.is_some())
     }
 
     /// Whether nothing has the path's name, no link that leads nowhere either.
     fn is_free(&self) -> bool {
-        fs::symlink_metadata(self.messages.rt(), self.path).is_err()
+        fs::symlink_metadata(self.messages.rt, self.path).is_err()
     }
 
     /// The file's name for messages, and what a failure leaves of it.
     fn named(&self, left: Left) -> Named<'a> {
-        Named::new(self.messages, self.path).leaving(left)
+        Named {
+            messages: self.messages,
+            name: self.path,
+            left,
+        }
     }
 
     /// What a failure leaves before the draft has the name.
@@ -183,7 +183,7 @@ impl<'a, 'f> FileDesk<'a, 'f> {
     /// book there doesn't count.
     fn is_anothers(&self, old: &Old) -> bool {
         let is_own = self.read.is_some_and(|read| read
-            .file()
+            .file
             .metadata()
             .is_ok_and(|held| tell_of_one(&held, &old.told)));
         old.told.is_file()
@@ -200,7 +200,7 @@ impl<'a, 'f> FileDesk<'a, 'f> {
         if !path.as_str().ends_with(file) {
             return Ok(None);
         }
-        let alloc = self.messages.rt().alloc();
+        let alloc = self.messages.rt.alloc();
         let Ok(name) = format!(in alloc; ".{file}.pbook-{number}") else {
             return Err(StoreError::Memory);
         };
@@ -217,7 +217,7 @@ impl<'a, 'f> FileDesk<'a, 'f> {
         // Over a network a shared lock is for files alone that are open to be read.
         let mut options = OpenOptions::new();
         options.read(true).write(true).create_new(true).mode(mode);
-        options.open(self.messages.rt(), name)
+        options.open(self.messages.rt, name)
     }
 
     /// Whether this run now holds the new file: it isn't locked by a run that takes it for one left
@@ -229,7 +229,7 @@ impl<'a, 'f> FileDesk<'a, 'f> {
             None => file.try_lock_shared(),
         };
         match lock {
-            Ok(()) => has_name(self.messages.rt(), file, name),
+            Ok(()) => has_name(self.messages.rt, file, name),
             Err(TryLockError::WouldBlock) => false,
             // A file system without locks, on which no draft is taken for one left over.
             Err(TryLockError::Error(_)) => true,
@@ -263,25 +263,18 @@ impl<'a, 'f> FileDesk<'a, 'f> {
             ≡ record self.entry.now { refused = is_refused_draft {E = Unit {0}} (Err result) } }
     {
         if self.is_ledger() {
-            self.tell_unreplaceable(why);
+            self.messages
+                .tell(&Message::CannotBeReplaced(self.path, why));
             return NotMade::Failed(StoreError::Open);
         }
         self.refused = true;
         NotMade::Refused
     }
 
-    /// Tells why no new file can take the place of the ledger.
-    fn tell_unreplaceable(&self, why: Unreplaceable) {
-        self.messages.tell(&Message::CannotBeReplaced {
-            name: self.path,
-            why,
-        });
-    }
-
     /// What is known of the file that the path leads to, its place, and why no draft can replace
     /// it.
     fn look_at(&self, file: File) -> Result<(Old, Place<'a>, Option<Unreplaceable>), StoreError> {
-        let rt = self.messages.rt();
+        let rt = self.messages.rt;
         let told = match file.metadata() {
             Ok(told) => told,
             Err(error) => {
@@ -291,7 +284,7 @@ impl<'a, 'f> FileDesk<'a, 'f> {
         };
         let old = Old { file, told };
         if self.is_anothers(&old) {
-            self.messages.tell(&Message::InUse { name: self.path });
+            self.messages.tell(&Message::InUse(self.path));
             return Err(StoreError::Open);
         }
         // Replies are written where a link such as `/dev/stdout` leads.
@@ -326,9 +319,9 @@ impl<'a, 'f> FileDesk<'a, 'f> {
         ensures not_drafted { OnErr result ((⟦<FileDesk<'a, 'f> as Desk>⟧.state
             self.exit.now).drafted ≡ (⟦<FileDesk<'a, 'f> as Desk>⟧.state self.entry.now).drafted) }
     {
-        let rt = self.messages.rt();
+        let rt = self.messages.rt;
         let made = match self.take_after(&file) {
-            Ok(None) => FileWriter::new(rt.alloc(), self.named_before(), file, true).map_err(
+            Ok(None) => FileWriter::new(self.named_before(), file, true).map_err(
                 |_| NotMade::Failed(StoreError::Memory),
             ),
             Ok(Some(why)) => Err(self.refuse(why)),
@@ -362,46 +355,41 @@ impl<'a> Desk for FileDesk<'a, '_> {
 
     fn takes_draft(&mut self) -> Result<bool, StoreError> {
         self.old = None;
+        self.place = Place::of_name(self.path);
         self.refused = false;
         let opened = OpenOptions::new()
             .write(true)
-            .open(self.messages.rt(), self.path);
+            .open(self.messages.rt, self.path);
         match opened {
             Ok(file) => {
                 let (old, place, why) = self.look_at(file)?;
                 self.old = Some(old);
                 self.place = place;
-                if let Some(why) = why {
-                    if self.is_ledger() {
-                        self.tell_unreplaceable(why);
-                        return Err(StoreError::Open);
-                    }
-                    self.refused = true;
+                if let Some(why) = why
+                    && let NotMade::Failed(why) = self.refuse(why)
+                {
+                    return Err(why);
                 }
             }
-            Err(error) if error.kind() == ErrorKind::NotFound && self.is_free() => {
-                self.place = Place::of_name(self.path);
-            }
+            Err(error) if error.kind() == ErrorKind::NotFound && self.is_free() => {}
             Err(error) if self.is_ledger() => {
                 self.named(Left::Old(self.part)).fail(&error);
                 return Err(StoreError::Open);
             }
-            Err(_) => {
-                self.place = Place::of_name(self.path);
-                self.refused = true;
-            }
+            Err(_) => self.refused = true,
         }
         Ok(!self.refused)
     }
 
     fn remove_left_over(&mut self, number: u32) {
-        let rt = self.messages.rt();
+        let rt = self.messages.rt;
         let Ok(Some(name)) = self.name_beside(number) else {
             return;
         };
         // Only a file is opened, since opening a pipe may wait.
         if !fs::symlink_metadata(rt, name.as_path()).is_ok_and(|named| named.is_file())
-            || is_of_stream(rt, name.as_str())
+            || is_one_file(rt, name.as_str(), INPUT)
+            || is_one_file(rt, name.as_str(), OUTPUT)
         {
             return;
         }
@@ -433,17 +421,17 @@ impl<'a> Desk for FileDesk<'a, '_> {
     }
 
     fn tell_all_taken(&mut self) {
-        self.messages.tell(&Message::InUse { name: self.path });
+        self.messages.tell(&Message::InUse(self.path));
     }
 
-    fn rename(&mut self, _draft: &ToWrite<FileWriter<'a>>) -> Result<(), NotNamed> {
+    fn rename(&mut self, _draft: &ToWrite<FileWriter<'a>>) -> Result<(), NotMade> {
         let Some(name) = &self.draft else {
-            return Err(NotNamed::Failed);
+            return Err(NotMade::Failed(StoreError::Write));
         };
         if self.read.is_some_and(|read| !read.is_as_left()) {
-            return Err(NotNamed::Failed);
+            return Err(NotMade::Failed(StoreError::Write));
         }
-        match fs::rename(self.messages.rt(), name.as_path(), self.place.path()) {
+        match fs::rename(self.messages.rt, name.as_path(), self.place.path()) {
             Ok(()) => {
                 self.draft = None;
                 self.unsettled = false;
@@ -451,23 +439,23 @@ impl<'a> Desk for FileDesk<'a, '_> {
             }
             Err(error) if error.kind() == ErrorKind::ResourceBusy && !self.is_ledger() => {
                 self.refused = true;
-                Err(NotNamed::Refused)
+                Err(NotMade::Refused)
             }
             Err(error) => {
                 self.named_before().fail(&error);
-                Err(NotNamed::Failed)
+                Err(NotMade::Failed(StoreError::Write))
             }
         }
     }
 
     fn remove(&mut self, _draft: ToWrite<FileWriter<'a>>) {
         if let Some(name) = self.draft.take() {
-            let _ = fs::remove_file(self.messages.rt(), name.as_path());
+            let _ = fs::remove_file(self.messages.rt, name.as_path());
         }
     }
 
     fn sync_folder(&mut self) -> Result<(), StoreError> {
-        match self.place.sync_folder(self.messages.rt()) {
+        match self.place.sync_folder(self.messages.rt) {
             Ok(()) => Ok(()),
             Err(error) => {
                 self.named(Left::New).fail(&error);
@@ -478,7 +466,7 @@ impl<'a> Desk for FileDesk<'a, '_> {
     }
 
     fn open_in_place(&mut self) -> Result<ToWrite<FileWriter<'a>>, StoreError> {
-        let rt = self.messages.rt();
+        let rt = self.messages.rt;
         let (opened, left) = match self.old.take() {
             Some(old) if old.told.is_file() => {
                 (old.file.set_len(0).map(|()| old.file), Left::Old(self.part))
@@ -495,16 +483,11 @@ impl<'a> Desk for FileDesk<'a, '_> {
         };
         let is_file = file.metadata().is_ok_and(|told| told.is_file());
         let named = self.named(if is_file { Left::Front } else { Left::All });
-        match FileWriter::new(rt.alloc(), named, file, is_file) {
+        match FileWriter::new(named, file, is_file) {
             Ok(end) => Ok(ToWrite::new(end)),
             Err(_) => Err(StoreError::Memory),
         }
     }
-}
-
-/// Whether the name leads to the file that standard input is read from, or that of the replies.
-fn is_of_stream(rt: &HostRuntime, name: &str) -> bool {
-    is_one_file(rt, name, INPUT) || is_one_file(rt, name, OUTPUT)
 }
 
 /// Whether the name leads to the open file, and no other name does.

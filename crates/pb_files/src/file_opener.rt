@@ -4,12 +4,13 @@ ghost use Rattle.std.specs.Prelude.{⊤};
 
 use crate::file_journal::FileJournal;
 use crate::held_file::HeldFile;
-use crate::holding::{Lock, NotHeld, Opener, hold};
+use crate::holding::{Lock, Opener, hold};
 use crate::journal_guard::JournalGuard;
 use crate::ledger_file::LedgerFile;
 use crate::one_file::tell_of_one;
-use crate::starting::{JournalOpener, NotRead, NotStarted, Started, start};
-use pb_messages::{Message, Named, Part, Progress};
+use crate::starting::{Started, start};
+use crate::stop::Stop;
+use pb_messages::{Message, Named, Part};
 use std::fs::{self, File, OpenOptions, TryLockError};
 use std::io::ErrorKind;
 
@@ -18,9 +19,9 @@ use std::io::ErrorKind;
 ///
 /// # Errors
 ///
-/// `Failed` where there is no such file that can be read.
-pub fn open(named: Named<'_>) -> Result<File, NotHeld> {
-    match File::open(named.messages.rt(), named.name) {
+/// `NotOpened` where there is no such file that can be read, which is told.
+pub fn open(named: Named<'_>) -> Result<File, Stop> {
+    match File::open(named.messages.rt, named.name) {
         Ok(file) => {
             // Where another run holds it alone, it is no draft that is left either.
             let _ = file.try_lock_shared();
@@ -28,7 +29,7 @@ pub fn open(named: Named<'_>) -> Result<File, NotHeld> {
         }
         Err(error) => {
             named.fail(&error);
-            Err(NotHeld::Failed)
+            Err(Stop::NotOpened)
         }
     }
 }
@@ -39,26 +40,28 @@ pub fn open(named: Named<'_>) -> Result<File, NotHeld> {
 ///
 /// # Errors
 ///
-/// Those of `hold`, and `Failed` where the system tells nothing of the file. They are told.
-pub fn hold_ledger<'p, 'a>(
-    named: Named<'a>,
-    progress: &'p Progress<'a>,
-    guard: &'p JournalGuard<'a>,
-) -> Result<LedgerFile<'a>, NotHeld> {
+/// `NotOpened` where it isn't held, or the system tells nothing of it. That is told.
+pub fn hold_ledger<'a>(named: Named<'a>, guard: &JournalGuard<'a>) -> Result<LedgerFile<'a>, Stop> {
     // A pipe that is opened to be written would wait for itself to end.
-    if fs::metadata(named.messages.rt(), named.name).is_ok_and(|told| !told.is_file()) {
-        return Ok(LedgerFile::new(open(named)?, None));
+    if fs::metadata(named.messages.rt, named.name).is_ok_and(|told| !told.is_file()) {
+        return Ok(LedgerFile {
+            file: open(named)?,
+            held: None,
+        });
     }
-    let held = hold(&mut FileOpener::of_ledger(named, progress, guard));
-    if matches!(held, Err(NotHeld::InUse)) {
-        tell_in_use(named);
-    }
-    let file = held?;
+    let file = hold(&mut FileOpener {
+        named,
+        part: Part::Ledger,
+        guard,
+    })?;
     match file.metadata() {
-        Ok(told) => Ok(LedgerFile::new(file, Some(HeldFile::new(named, told, false)))),
+        Ok(told) => Ok(LedgerFile {
+            file,
+            held: Some(HeldFile::new(named, told, false)),
+        }),
         Err(error) => {
             named.fail(&error);
-            Err(NotHeld::Failed)
+            Err(Stop::NotOpened)
         }
     }
 }
@@ -71,112 +74,63 @@ pub fn hold_ledger<'p, 'a>(
 ///
 /// # Errors
 ///
-/// Those of `start`, which are told.
-pub fn start_journal<'p, 'a>(
+/// Those of `start`, and the fault of a read where the system tells nothing of the file. They are
+/// told.
+pub fn start_journal<'g, 'a>(
     named: Named<'a>,
-    progress: &'p Progress<'a>,
-    guard: &'p JournalGuard<'a>,
+    guard: &'g JournalGuard<'a>,
     sync: bool,
-) -> Result<Started<FileJournal<'p, 'a>>, NotStarted> {
-    let started = start(&mut FileOpener::of_journal(named, progress, guard), sync);
-    if matches!(started, Err(NotStarted::NotHeld(NotHeld::InUse))) {
-        tell_in_use(named);
-    }
-    let started = started?;
-    match started.journal.guard() {
-        Ok(()) => Ok(started),
-        Err(_) => Err(NotStarted::NotRead(NotRead::Failed)),
-    }
+) -> Result<Started<FileJournal<'g, 'a>>, Stop> {
+    let mut opener = FileOpener {
+        named,
+        part: Part::Journal,
+        guard,
+    };
+    let started = start(&mut opener, sync)?;
+    started.journal.guard()?;
+    Ok(started)
 }
 
-/// Tells that another run holds the file.
-fn tell_in_use(named: Named<'_>) {
-    named.messages.tell(&Message::InUse { name: named.name });
-}
-
-/// The name of a saved ledger or of a journal. Where its file can't be opened, that is told.
+/// The name of a saved ledger or of a journal. Why its file isn't held is told.
 #[derive(Drop)]
-pub(crate) struct FileOpener<'p, 'a> {
+pub(crate) struct FileOpener<'g, 'a> {
     named: Named<'a>,
     part: Part,
-    options: OpenOptions,
-    progress: &'p Progress<'a>,
-    guard: &'p JournalGuard<'a>,
+    guard: &'g JournalGuard<'a>,
 }
 
-impl<'p, 'a> FileOpener<'p, 'a> {
-    /// The name of a saved ledger, whose file is read, and has to be one that can be written.
-    fn of_ledger(
-        named: Named<'a>,
-        progress: &'p Progress<'a>,
-        guard: &'p JournalGuard<'a>,
-    ) -> FileOpener<'p, 'a> {
-        let mut options = OpenOptions::new();
-        options.read(true).write(true);
-        FileOpener {
-            named,
-            part: Part::Ledger,
-            options,
-            progress,
-            guard,
-        }
-    }
-
-    /// The name of a journal, whose file is read from its start and written at its end.
-    fn of_journal(
-        named: Named<'a>,
-        progress: &'p Progress<'a>,
-        guard: &'p JournalGuard<'a>,
-    ) -> FileOpener<'p, 'a> {
-        let mut options = OpenOptions::new();
-        options.read(true).append(true);
-        FileOpener {
-            named,
-            part: Part::Journal,
-            options,
-            progress,
-            guard,
-        }
-    }
-
-    /// The file that was opened, if it is an ordinary one: a device keeps nothing.
-    fn ordinary(&self, file: File) -> Result<File, NotHeld> {
-        if file.metadata().is_ok_and(|told| told.is_file()) {
-            return Ok(file);
-        }
-        self.named.messages.tell(&Message::NoOrdinaryFile {
-            name: self.named.name,
-            part: self.part,
-        });
-        Err(NotHeld::Failed)
-    }
-}
-
-impl Opener for FileOpener<'_, '_> {
+impl<'g, 'a> Opener for FileOpener<'g, 'a> {
     type File = File;
+
+    type Journal = FileJournal<'g, 'a>;
 
     ghost holds = { λ _ _. ⊤ };
 
     ghost leads_to = { λ _ _. ⊤ };
 
-    ghost denies = { λ _ _. ⊤ };
+    ghost in_use = { λ _. ⊤ };
 
-    fn open(&mut self) -> Result<File, NotHeld> {
+    ghost denies = { λ _. ⊤ };
+
+    fn open(&mut self) -> Result<File, Stop> {
         let named = self.named;
-        match self.options.open(named.messages.rt(), named.name) {
-            Ok(file) => self.ordinary(file),
-            Err(error) if error.kind() == ErrorKind::NotFound => {
-                named.messages.tell(&Message::NoFile {
-                    name: named.name,
-                    part: self.part,
-                });
-                Err(NotHeld::NoFile)
-            }
-            Err(error) => {
-                named.fail(&error);
-                Err(NotHeld::Failed)
-            }
+        let messages = named.messages;
+        let mut options = OpenOptions::new();
+        // A ledger's has to be one that can be written.
+        options
+            .read(true)
+            .write(true)
+            .append(matches!(self.part, Part::Journal));
+        match options.open(messages.rt, named.name) {
+            // A device keeps nothing.
+            Ok(file) if file.metadata().is_ok_and(|told| told.is_file()) => return Ok(file),
+            Ok(_) => messages.tell(&Message::NoOrdinaryFile(named.name, self.part)),
+            Err(error) if error.kind() == ErrorKind::NotFound => messages.tell(&Message::NoFile(
+                named.name, self.part,
+            )),
+            Err(error) => named.fail(&error),
         }
+        Err(Stop::NotOpened)
     }
 
     fn lock(&mut self, file: &File) -> Lock {
@@ -190,18 +144,18 @@ impl Opener for FileOpener<'_, '_> {
     fn is_named(&mut self, file: &File) -> bool {
         match (
             file.metadata(),
-            fs::metadata(self.named.messages.rt(), self.named.name),
+            fs::metadata(self.named.messages.rt, self.named.name),
         ) {
             (Ok(told), Ok(named)) => tell_of_one(&told, &named),
             _ => false,
         }
     }
-}
 
-impl<'p, 'a> JournalOpener for FileOpener<'p, 'a> {
-    type Journal = FileJournal<'p, 'a>;
+    fn tell_in_use(&mut self) {
+        self.named.messages.tell(&Message::InUse(self.named.name));
+    }
 
-    fn journal(&mut self, file: File) -> FileJournal<'p, 'a> {
-        FileJournal::new(self.named, self.progress, self.guard, file)
+    fn journal(&mut self, file: File) -> FileJournal<'g, 'a> {
+        FileJournal::new(self.named, self.guard, file)
     }
 }

@@ -1,7 +1,7 @@
 //! An end into a file of the system.
 
 use pb_messages::{Named, Told};
-use std::alloc::{AllocError, Global};
+use std::alloc::AllocError;
 use std::fs::File;
 use std::io::{self, BufWriter, Write};
 
@@ -23,19 +23,19 @@ impl<'a> FileWriter<'a> {
     ///
     /// There is no memory for a buffer.
     pub(crate) fn new(
-        alloc: Global,
         named: Named<'a>,
         file: File,
         is_synced: bool,
     ) -> Result<FileWriter<'a>, AllocError> {
-        match BufWriter::with_capacity(alloc, BUFFER_LEN, Told::new(named, file)) {
-            Ok(file) => Ok(FileWriter {
-                named,
-                file,
-                is_synced,
-            }),
-            Err(_) => Err(AllocError),
-        }
+        let alloc = named.messages.rt.alloc();
+        let Ok(file) = BufWriter::with_capacity(alloc, BUFFER_LEN, Told::new(named, file)) else {
+            return Err(AllocError);
+        };
+        Ok(FileWriter {
+            named,
+            file,
+            is_synced,
+        })
     }
 }
 
@@ -47,7 +47,7 @@ impl Write for FileWriter<'_> {
     fn flush(&mut self) -> io::Result<()> {
         self.file.flush()?;
         if self.is_synced
-            && let Err(error) = self.file.get_ref().get_ref().sync_all()
+            && let Err(error) = self.file.get_ref().inner.sync_all()
         {
             self.named.fail(&error);
             return Err(error);

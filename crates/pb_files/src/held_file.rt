@@ -46,7 +46,7 @@ impl<'a> HeldFile<'a> {
     /// same time where this run only reads it. If not, that is told.
     pub(crate) fn is_as_left(&self) -> bool {
         let messages = self.named.messages;
-        let change = match fs::metadata(messages.rt(), self.named.name) {
+        let change = match fs::metadata(messages.rt, self.named.name) {
             Ok(told) if !tell_of_one(&self.told, &told) => Change::Replaced,
             Ok(told) if self.is_changed(&told) => Change::Content,
             Ok(_) => return true,
@@ -56,10 +56,7 @@ impl<'a> HeldFile<'a> {
                 return false;
             }
         };
-        messages.tell(&Message::Changed {
-            name: self.named.name,
-            change,
-        });
+        messages.tell(&Message::Changed(self.named.name, change));
         false
     }
 }

@@ -1,27 +1,14 @@
 //! How a run comes to hold the file of a name.
 
-ghost use Rattle.std.specs.Prelude.{◌≡◌, IfErr, IfOk, false, true};
+ghost use Rattle.std.specs.Prelude.{◌≡◌, IfErr, IfOk, None, OnErr, false, true};
 ghost use Rattle.pb_files.specs.Holding.{Locks};
-ghost use Rattle.pb_files.specs.declared.holding.NotHeld.{NotHeld};
+ghost use Rattle.pb_files.specs.declared.stop.Stop.TheVariants as stops;
 
-use thiserror::Error;
+use crate::journal_file::JournalFile;
+use crate::stop::Stop;
 
 /// How often a file is opened because another run put a new one in its place.
 const TRIES: u32 = 100;
-
-/// Why a file isn't held.
-#[derive(Clone, Copy, Debug, Error)]
-pub enum NotHeld {
-    /// The name leads to no file.
-    #[error("there is no such file")]
-    NoFile,
-    /// Another run holds it.
-    #[error("another run uses the file")]
-    InUse,
-    /// It can't be opened.
-    #[error("the file can't be opened")]
-    Failed,
-}
 
 /// What became of the wish to lock a file.
 #[derive(Clone, Copy, Debug)]
@@ -40,32 +27,50 @@ pub trait Opener {
     /// A file that was opened.
     type File: Drop;
 
+    /// The file as one that is read and added to, once it is held.
+    type Journal: JournalFile + Drop;
+
     /// This run has locked the file, or there are no locks.
     ghost holds: { Self → Self.File → Type 0 };
 
     /// The name led to the file when this run looked last, and the run has locked nothing since.
     ghost leads_to: { Self → Self.File → Type 0 };
 
-    /// The last step gave this reason not to hold a file.
-    ghost denies: { Self → NotHeld → Type 0 };
+    /// The last step found that another run holds the file, or has replaced it.
+    ghost in_use: { Self → Type 0 };
+
+    /// The last step told why the run holds no file.
+    ghost denies: { Self → Type 0 };
 
     /// Opens the file that the name leads to.
     ///
     /// # Errors
     ///
-    /// `NoFile` where there is none, `Failed` where it can't be opened.
-    fn open(&mut self) -> Result<Self::File, NotHeld>
-        ensures { IfErr result (denies self.new) };
+    /// `NotOpened` where there is none, or it can't be opened, which is told.
+    fn open(&mut self) -> Result<Self::File, Stop>
+        ensures denied { OnErr result (denies self.new) }
+        ensures stop { IfErr result (λ why. why ≡ stops.NotOpened) };
 
     /// Locks the file, unless another run has.
     fn lock(&mut self, file: &Self::File) -> Lock
-        ensures { Locks result (holds self.new file.now) (denies self.new NotHeld.InUse) };
+        ensures { Locks result (holds self.new file.now) (in_use self.new) };
 
     /// Whether the name still leads to the file. If not, another run has put a new one there.
     fn is_named(&mut self, file: &Self::File) -> bool
         ensures held { holds self.old file.now → holds self.new file.now }
         ensures named { result ≡ true → leads_to self.new file.now }
-        ensures replaced { result ≡ false → denies self.new NotHeld.InUse };
+        ensures replaced { result ≡ false → in_use self.new };
+
+    /// Tells that another run holds the file.
+    fn tell_in_use(&mut self)
+        requires { in_use self.old }
+        ensures { denies self.new };
+
+    /// The file as one that is added to, which no other run does from now on.
+    fn journal(&mut self, file: Self::File) -> Self::Journal
+        requires held { holds self.old file }
+        requires named { leads_to self.old file }
+        ensures { (Self.Journal.state result).fault ≡ None };
 }
 
 /// Opens the file that the name leads to and holds it. A file that another run replaced after it
@@ -73,21 +78,23 @@ pub trait Opener {
 ///
 /// # Errors
 ///
-/// `NoFile` and `Failed` from opening it. `InUse` where another run holds it, or has replaced it
-/// each of 100 times.
-pub fn hold<O: Opener>(opener: &mut O) -> Result<O::File, NotHeld>
+/// `NotOpened` where it can't be opened, or another run holds it, or has replaced it each of 100
+/// times. That is told.
+pub fn hold<O: Opener>(opener: &mut O) -> Result<O::File, Stop>
     ensures held { IfOk result (λ file. O.holds opener.new file) }
     ensures named { IfOk result (λ file. O.leads_to opener.new file) }
-    ensures denied { IfErr result (O.denies opener.new) }
+    ensures denied { OnErr result (O.denies opener.new) }
+    ensures stop { IfErr result (λ why. why ≡ stops.NotOpened) }
 {
     for tried in 0..TRIES {
         let file = opener.open()?;
         if matches!(opener.lock(&file), Lock::InUse) {
-            return Err(NotHeld::InUse);
+            break;
         }
         if opener.is_named(&file) {
             return Ok(file);
         }
     }
-    Err(NotHeld::InUse)
+    opener.tell_in_use();
+    Err(Stop::NotOpened)
 }

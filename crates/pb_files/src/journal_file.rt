@@ -1,34 +1,38 @@
-//! A file that this run holds and adds to.
+//! A file that this run holds, reads and adds to.
 
-ghost use Rattle.std.specs.Option.{ForSome};
-ghost use Rattle.std.specs.Prelude.{◌≡◌, ◌≤◌, ◌<◌, [], IfErr, IfOk, OnErr, OnOk, is_ok};
-ghost use Rattle.std.specs.Prelude.{false, length, take, true};
+ghost use Rattle.std.specs.Option.{ForSome, is_some};
+ghost use Rattle.std.specs.Prelude.{◌≡◌, ◌≤◌, ◌<◌, [], IfErr, IfOk, None, OnErr, OnOk, length};
+ghost use Rattle.std.specs.Prelude.{take};
+ghost use Rattle.std.specs.Result.{result_err};
+ghost use Rattle.pb_io.specs.declared.fault.Fault.TheVariants as faults;
 ghost use Rattle.pb_files.specs.Disk.{Adds, FileState, IsSound, StaysSound, Syncs};
 ghost use Rattle.pb_files.specs.JournalFile.{ReadsAll};
-ghost use Rattle.pb_files.specs.Starting.{is_still_ready};
 ghost use Rattle.pb_files.specs.Steps.{Steps};
 
-use crate::starting::NotRead;
-use pb_io::{Failed, Source};
+use pb_io::{Fault, Source};
 
-/// A file that this run holds, so that no other run adds to it.
+/// A file that this run holds, so that no other run adds to it. It is read before it is added to.
 pub trait JournalFile {
+    /// What reads the file from its first byte.
+    type Reader: Source;
+
     /// What is known of the file.
     ghost state: { Self → FileState };
 
-    /// Whether each write and each sync so far has succeeded.
-    fn is_ready(&self) -> bool
-        ensures { result ≡ (state self.now).ready };
+    /// Whether a write or a sync has failed so far.
+    fn failed(&self) -> bool
+        ensures { result ≡ is_some (state self.now).fault };
 
     /// Adds a front of the bytes in one write, at least one byte where there are any, and answers
     /// how many.
     ///
     /// # Errors
     ///
-    /// `Failed` where nothing was added. Nothing may be written any more then.
-    fn append(&mut self, bytes: &[u8]) -> Result<usize, Failed>
-        requires { (state self.old).ready ≡ true }
-        ensures ready { (state self.new).ready ≡ is_ok result }
+    /// `Write` where nothing was added. Nothing may be written any more then.
+    fn append(&mut self, bytes: &[u8]) -> Result<usize, Fault>
+        requires { (state self.old).fault ≡ None }
+        ensures fault { (state self.new).fault ≡ result_err result }
+        ensures write { IfErr result (λ why. why ≡ faults.Write) }
         ensures within { IfOk result (λ count. count ≤ length bytes.now) }
         ensures some { IfOk result (λ count. 0 < length bytes.now → 0 < count) }
         ensures front { IfOk result (λ count. Steps (Adds (take count bytes.now))
@@ -41,19 +45,14 @@ pub trait JournalFile {
     ///
     /// # Errors
     ///
-    /// `Failed` where it may not be there. Nothing may be written any more then, since a later
-    /// sync could succeed without it.
-    fn sync(&mut self) -> Result<(), Failed>
-        requires { (state self.old).ready ≡ true }
-        ensures ready { (state self.new).ready ≡ is_ok result }
+    /// `Write` where it may not be there. Nothing may be written any more then, since a later sync
+    /// could succeed without it.
+    fn sync(&mut self) -> Result<(), Fault>
+        requires { (state self.old).fault ≡ None }
+        ensures fault { (state self.new).fault ≡ result_err result }
+        ensures write { IfErr result (λ why. why ≡ faults.Write) }
         ensures all { OnOk result (Steps Syncs (state self.old).told (state self.new).told) }
         ensures none { OnErr result (Steps (Adds []) (state self.old).told (state self.new).told) };
-}
-
-/// A file that this run holds and reads before it adds to it.
-pub trait ReadFile: JournalFile {
-    /// What reads the file from its first byte.
-    type Reader: Source;
 
     /// Writes all that is found over itself: the next sync then puts all of it on the disk. After
     /// a sync that failed, of whichever run, the system calls bytes clean that never got there, and
@@ -61,23 +60,22 @@ pub trait ReadFile: JournalFile {
     ///
     /// # Errors
     ///
-    /// `Reading` where not all could be read, and `Sync` where not all could be written. Nothing may
+    /// `Read` where not all could be read, and `Write` where not all could be written. Nothing may
     /// be written any more then.
-    fn write_over(&mut self) -> Result<(), NotRead>
-        requires { (Self.state self.old).ready ≡ true }
-        ensures ready { OnOk result ((Self.state self.new).ready ≡ true) }
-        ensures fault { IfErr result (λ why. ((Self.state self.new).ready ≡ false)
-            × (is_still_ready why ≡ false)) }
-        ensures sound { OnOk result (ForSome (Self.state self.new).told IsSound) }
-        ensures same { Steps (Adds []) (Self.state self.old).told (Self.state self.new).told };
+    fn write_over(&mut self) -> Result<(), Fault>
+        requires { (state self.old).fault ≡ None }
+        ensures fault { (state self.new).fault ≡ result_err result }
+        ensures sound { OnOk result (ForSome (state self.new).told IsSound) }
+        ensures same { Steps (Adds []) (state self.old).told (state self.new).told };
 
     /// A reader of all that is found.
     ///
     /// # Errors
     ///
-    /// `Failed` where the file can't be read.
-    fn reader(&mut self) -> Result<Self::Reader, Failed>
-        ensures all { IfOk result (λ reader. ReadsAll (Self.state self.old).told
+    /// `Read` where the file can't be read.
+    fn reader(&mut self) -> Result<Self::Reader, Fault>
+        ensures all { IfOk result (λ reader. ReadsAll (state self.old).told
             (Self.Reader.state reader)) }
-        ensures same { Self.state self.new ≡ Self.state self.old };
+        ensures read { IfErr result (λ why. why ≡ faults.Read) }
+        ensures same { state self.new ≡ state self.old };
 }

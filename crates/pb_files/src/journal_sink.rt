@@ -1,97 +1,80 @@
 //! The end of a journal's file, as a sink.
 
-ghost use Rattle.std.specs.Prelude.{◌≡◌, ◌≤◌, ◌||◌, Bool, IfOk, IfSome, [], drop, false, length};
-ghost use Rattle.std.specs.Prelude.{not, take, true};
-ghost use Rattle.std.specs.Option.{ForSome};
+ghost use Rattle.std.specs.Prelude.{◌≡◌, ◌≤◌, IfOk, IfSome, None, [], drop, false, length, take};
+ghost use Rattle.std.specs.Prelude.{true};
+ghost use Rattle.std.specs.Option.{is_some};
+ghost use Rattle.std.specs.Io.KnownBytes.{Keeps};
 ghost use Rattle.pb_io.specs.Sink.{Flush, Put};
-ghost use Rattle.pb_files.specs.Disk.{Adds, IsOnDisk, OutlivesCrash, StaysSound, SyncsAll};
-ghost use Rattle.pb_files.specs.JournalSink.{EndState, FlushAtEnd, PutAtEnd, bytes_lasting};
-ghost use Rattle.pb_files.specs.JournalSink.{bytes_put};
+ghost use Rattle.pb_files.specs.Disk.{Adds, Grows, OutlivesCrash, StaysSound, SyncsAll};
+ghost use Rattle.pb_files.specs.JournalSink.{FlushAtEnd, HandsOn, PutAtEnd, bytes_put};
+ghost use Rattle.pb_files.specs.JournalSink.{sink_state, syncs};
 ghost use Rattle.pb_files.specs.Steps.{Steps};
 
 use crate::file_writer::BUFFER_LEN;
 use crate::journal_file::JournalFile;
 use pb_io::{Failed, Sink};
 use std::alloc::{AllocError, Global};
-use std::marker::PhantomData;
-
-/// A sink whose bytes wait to be written to a file.
-pub trait FileEnd {
-    /// What is known of the file and of what waits.
-    ghost end: { Self → EndState };
-}
-
-/// What outlives what, once it is flushed at the end of a file.
-pub trait Durability {
-    /// Whether a flush puts all that is found on the disk.
-    ghost syncs: { Bool };
-
-    /// Whether a flush puts all that is found on the disk.
-    fn syncs() -> bool
-        ensures { result ≡ syncs };
-}
-
-/// What is flushed is on the disk, and outlives a crash.
-pub struct Synced;
-
-impl Durability for Synced {
-    ghost syncs = { true };
-
-    fn syncs() -> bool {
-        true
-    }
-}
+use std::marker::Model;
 
 /// What is flushed is with the system, and outlives a kill.
-pub struct Written;
+pub const WRITTEN: u8 = 0;
 
-impl Durability for Written {
-    ghost syncs = { false };
-
-    fn syncs() -> bool {
-        false
-    }
-}
+/// What is flushed is on the disk, and outlives a crash.
+pub const SYNCED: u8 = 1;
 
 /// The end of a file that this run holds. What is put waits until it is flushed: then it is
-/// written, at once where the file takes all, and where `D` syncs it is on the disk.
+/// written, at once where the file takes all, and in the mode `SYNCED` it is on the disk.
 #[derive(Drop)]
-pub struct JournalSink<J: JournalFile, D: Durability> {
+pub struct JournalSink<J: JournalFile, const MODE: u8> {
     file: J,
-    durability: PhantomData<D>,
     waiting: Vec<u8>,
     no_memory: bool,
     flushed: bool,
     flushes: u64,
-    ghost none_waits: { flushed ≡ true → waiting.items ≡ [] },
-    ghost on_disk: { flushed ≡ true → D.syncs ≡ true → ForSome (J.state file).told IsOnDisk },
-    ghost sound: { SyncsAll D.syncs (J.state file) },
 }
 
-impl<J: JournalFile + Drop, D: Durability> JournalSink<J, D> {
-    /// The end of the file, where nothing waits. Where `D` syncs, the file is one that was written
-    /// over and synced when the run came to it, or has failed.
+impl<J: JournalFile, const MODE: u8> Model for JournalSink<J, MODE> {
+    ghost use Rattle.std.specs.Prelude.{◌≡◌, ◌||◌, [], true};
+    ghost use Rattle.std.specs.Option.{ForSome, is_some};
+    ghost use Rattle.pb_files.specs.Disk.{IsOnDisk, SyncsAll};
+    ghost use Rattle.pb_files.specs.JournalSink.{EndState, syncs};
+
+    ghost Value = { EndState };
+
+    ghost view = { λ s. record {
+      told = (J.state s.file).told;
+      waits = s.waiting.items;
+      failed = s.no_memory || is_some (J.state s.file).fault;
+      flushed = s.flushed;
+      flushes = s.flushes;
+    } };
+
+    ghost invariant = { λ s. (s.flushed ≡ true → s.waiting.items ≡ [])
+        × (s.flushed ≡ true → syncs MODE ≡ true → ForSome (J.state s.file).told IsOnDisk)
+        × SyncsAll (syncs MODE) (J.state s.file) };
+}
+
+impl<J: JournalFile + Drop, const MODE: u8> JournalSink<J, MODE> {
+    /// The end of the file, where nothing waits. In the mode `SYNCED` the file is one that was
+    /// written over and synced when the run came to it, or has failed.
     ///
     /// # Errors
     ///
     /// Want of memory for what waits.
-    pub fn new(alloc: Global, file: J) -> Result<JournalSink<J, D>, AllocError>
-        requires { SyncsAll D.syncs (J.state file) }
-        ensures state { IfOk result (λ sink. ⟦<JournalSink<J, D> as Sink>⟧.state sink
+    pub fn new(alloc: Global, file: J) -> Result<JournalSink<J, MODE>, AllocError>
+        requires { SyncsAll (syncs MODE) (J.state file) }
+        ensures { IfOk result (λ end. end
             ≡ record {
-              bytes = bytes_put (J.state file).told [];
-              lasting = bytes_lasting D.syncs (J.state file).told;
-              failed = not (J.state file).ready;
+              told = (J.state file).told;
+              waits = [];
+              failed = is_some (J.state file).fault;
               flushed = false;
               flushes = 0;
             }) }
-        ensures end { IfOk result (λ sink. ⟦<JournalSink<J, D> as FileEnd>⟧.end sink
-            ≡ record { told = (J.state file).told; waits = [] }) }
     {
         let waiting = Vec::with_capacity(alloc, BUFFER_LEN)?;
         Ok(JournalSink {
             file,
-            durability: PhantomData,
             waiting,
             no_memory: false,
             flushed: false,
@@ -100,43 +83,32 @@ impl<J: JournalFile + Drop, D: Durability> JournalSink<J, D> {
     }
 
     /// Whether all that was put has been handed on, whoever flushed it: a reader finds it, and
-    /// where `D` syncs it outlives each crash.
+    /// in the mode `SYNCED` it outlives each crash.
     #[tactic(auto, using(crate::proofs::FileLemmas::told_on_disk_outlives))]
     pub fn handed_on(&self) -> bool
-        ensures flushed { result ≡ (⟦<JournalSink<J, D> as Sink>⟧.state self.now).flushed }
-        ensures found { result ≡ true → (⟦<JournalSink<J, D> as FileEnd>⟧.end self.now).waits ≡ [] }
-        ensures outlives { result ≡ true → D.syncs ≡ true
-            → IfSome (⟦<JournalSink<J, D> as FileEnd>⟧.end self.now).told OutlivesCrash }
+        ensures flushed { result ≡ self.now.flushed }
+        ensures found { result ≡ true → self.now.waits ≡ [] }
+        ensures outlives { result ≡ true → syncs MODE ≡ true
+            → IfSome self.now.told OutlivesCrash }
     {
         self.flushed
     }
 
     /// The file.
     pub fn file(&self) -> &J
-        ensures { (J.state result.now).told ≡ (⟦<JournalSink<J, D> as FileEnd>⟧.end self.now).told }
+        ensures { (J.state result.now).told ≡ self.now.told }
     {
         &self.file
     }
 }
 
-impl<J: JournalFile, D: Durability> FileEnd for JournalSink<J, D> {
-    ghost end = { λ s. record { told = (J.state s.file).told; waits = s.waiting.items } };
-}
-
-impl<J: JournalFile, D: Durability> Sink for JournalSink<J, D> {
-    ghost state = { λ s. record {
-      bytes = bytes_put (J.state s.file).told s.waiting.items;
-      lasting = bytes_lasting D.syncs (J.state s.file).told;
-      failed = s.no_memory || not (J.state s.file).ready;
-      flushed = s.flushed;
-      flushes = s.flushes;
-    } };
+impl<J: JournalFile, const MODE: u8> Sink for JournalSink<J, MODE> {
+    ghost state = { sink_state (syncs MODE) };
 
     fn put(&mut self, bytes: &[u8]) -> Result<(), Failed>
-        ensures put { Put (⟦<JournalSink<J, D> as Sink>⟧.state self.old)
-            (⟦<JournalSink<J, D> as Sink>⟧.state self.new) result bytes.now }
-        ensures end { PutAtEnd (⟦<JournalSink<J, D> as FileEnd>⟧.end self.old)
-            (⟦<JournalSink<J, D> as FileEnd>⟧.end self.new) }
+        ensures put { Put (sink_state (syncs MODE) self.old) (sink_state (syncs MODE) self.new)
+            result bytes.now }
+        ensures end { PutAtEnd self.old self.new }
     {
         self.flushed = false;
         if self.failed() {
@@ -151,44 +123,78 @@ impl<J: JournalFile, D: Durability> Sink for JournalSink<J, D> {
         }
     }
 
-    #[tactic(auto, using(crate::proofs::FileLemmas::told_sync, crate::proofs::FileLemmas::told_sound, crate::proofs::FileLemmas::told_synced, crate::proofs::FileLemmas::told_grows, crate::proofs::FileLemmas::told_bytes, crate::proofs::FileLemmas::told_outlives, crate::proofs::FileLemmas::told_on_disk, crate::proofs::FileLemmas::lasting_grows, crate::proofs::FileLemmas::lasting_all))]
+    #[tactic(auto, using(crate::proofs::FileLemmas::flushed_end, crate::proofs::FileLemmas::told_on_disk_outlives))]
     fn flush(&mut self) -> Result<(), Failed>
-        ensures flush { Flush (⟦<JournalSink<J, D> as Sink>⟧.state self.old)
-            (⟦<JournalSink<J, D> as Sink>⟧.state self.new) result }
-        ensures end { FlushAtEnd D.syncs (⟦<JournalSink<J, D> as FileEnd>⟧.end self.old)
-            (⟦<JournalSink<J, D> as FileEnd>⟧.end self.new) result }
+        ensures flush { Flush (sink_state (syncs MODE) self.old) (sink_state (syncs MODE) self.new)
+            result }
+        ensures end { FlushAtEnd (syncs MODE) self.old self.new result }
     {
         self.flushed = false;
         if self.failed() {
             return Err(Failed);
         }
-        let written = write_all(&mut self.file, self.waiting.as_slice());
-        remove_front(&mut self.waiting, written);
-        if !self.file.is_ready() {
-            return Err(Failed);
+        match hand_on::<J, MODE>(&mut self.file, &mut self.waiting) {
+            Ok(()) => {
+                self.flushed = true;
+                self.flushes = self.flushes.saturating_add(1);
+                Ok(())
+            }
+            Err(failed) => Err(failed),
         }
-        if D::syncs() {
-            self.file.sync()?;
-        }
-        self.flushed = true;
-        self.flushes = self.flushes.saturating_add(1);
-        Ok(())
     }
 
     fn failed(&self) -> bool {
-        self.no_memory || !self.file.is_ready()
+        self.no_memory || self.file.failed()
     }
+}
+
+/// Writes what waits, and in the mode `SYNCED` puts all that is found on the disk.
+#[tactic(auto, using(crate::proofs::FileLemmas::hands_on_synced, crate::proofs::FileLemmas::hands_on_failed, crate::proofs::FileLemmas::hands_on_written, crate::proofs::FileLemmas::told_none))]
+fn hand_on<J: JournalFile, const MODE: u8>(
+    file: &mut J,
+    waiting: &mut Vec<u8>,
+) -> Result<(), Failed>
+    requires works { (J.state file.old).fault ≡ None }
+    requires sound { SyncsAll (syncs MODE) (J.state file.old) }
+    ensures ends { HandsOn (syncs MODE) (J.state file.old) (J.state file.new) waiting.old.items
+        waiting.new.items result }
+{
+    write_out(file, waiting);
+    if file.failed() {
+        return Err(Failed);
+    }
+    if MODE != SYNCED {
+        return Ok(());
+    }
+    match file.sync() {
+        Ok(()) => Ok(()),
+        Err(_) => Err(Failed),
+    }
+}
+
+/// Writes what waits, or as much of it as the file takes before it fails.
+fn write_out<J: JournalFile>(file: &mut J, waiting: &mut Vec<u8>)
+    requires { (J.state file.old).fault ≡ None }
+    ensures bytes { Keeps (bytes_put (J.state file.old).told waiting.old.items)
+        (bytes_put (J.state file.new).told waiting.new.items) }
+    ensures grows { Steps Grows (J.state file.old).told (J.state file.new).told }
+    ensures all { (J.state file.new).fault ≡ None → waiting.new.items ≡ [] }
+    ensures sound { (J.state file.new).fault ≡ None
+        → Steps StaysSound (J.state file.old).told (J.state file.new).told }
+{
+    let written = write_all(file, waiting.as_slice());
+    remove_front(waiting, written);
 }
 
 /// Writes the bytes, or as many as the file takes before it fails, and answers how many.
 #[tactic(auto, using(crate::proofs::FileLemmas::told_none, crate::proofs::FileLemmas::told_same, crate::proofs::FileLemmas::told_more, crate::proofs::FileLemmas::told_failed))]
 fn write_all<J: JournalFile>(file: &mut J, bytes: &[u8]) -> usize
-    requires { (J.state file.old).ready ≡ true }
+    requires { (J.state file.old).fault ≡ None }
     ensures within { result ≤ length bytes.now }
-    ensures all { (J.state file.new).ready ≡ true → result ≡ length bytes.now }
+    ensures all { (J.state file.new).fault ≡ None → result ≡ length bytes.now }
     ensures added { Steps (Adds (take result bytes.now)) (J.state file.old).told
         (J.state file.new).told }
-    ensures sound { (J.state file.new).ready ≡ true
+    ensures sound { (J.state file.new).fault ≡ None
         → Steps StaysSound (J.state file.old).told (J.state file.new).told }
 {
     let mut count = 0;

@@ -5,7 +5,7 @@ ghost use Rattle.std.specs.Prelude.{◌≡◌, ℕ, List, None, OnErr, OnOk, tru
 ghost use Rattle.std.specs.Result.{result_err};
 ghost use Rattle.pb_files.specs.Keeping.{IsNamedByDraft, LeadsWhereItLed, OldOrNewByDraft};
 ghost use Rattle.pb_files.specs.Keeping.{SavedByDraft, found_at};
-ghost use Rattle.pb_collecting.specs.Store.{Keeps};
+ghost use Rattle.pb_collecting.specs.Store.{KeepsText};
 
 use crate::desk::Desk;
 use crate::saving::{NotSaved, save_whole};
@@ -42,16 +42,15 @@ impl<D: Desk> KeptFile<D> {
         }
     }
 
-    /// Writes the text over what is there.
-    fn write_in_place<X: Text>(&mut self, text: &X) -> Result<(), StoreError>
-        requires text { (bytes : List ℕ) × X.is_text text.now bytes }
+    /// Writes the text over what is there, and answers how many entries or games.
+    fn write_in_place<X: Text>(&mut self, text: &X) -> Result<u64, StoreError>
+        requires text { (bytes : List ℕ) × (count : ℕ) × X.is_text text.now bytes count }
         requires refused { (D.state self.old.desk).refused ≡ true }
         ensures refused { (D.state self.new.desk).refused ≡ true }
         ensures named { self.new.named ≡ self.old.named }
         ensures drafted { (D.state self.new.desk).drafted ≡ (D.state self.old.desk).drafted }
-        ensures kept { (bytes : List ℕ) × X.is_text text.now bytes
-            × Keeps (⟦<KeptFile<D> as Store>⟧.state self.old)
-            (⟦<KeptFile<D> as Store>⟧.state self.new) result bytes }
+        ensures kept { KeepsText (X.is_text text.now) (⟦<KeptFile<D> as Store>⟧.state self.old)
+            (⟦<KeptFile<D> as Store>⟧.state self.new) result }
     {
         let mut end = match self.desk.open_in_place() {
             Ok(end) => end,
@@ -60,13 +59,13 @@ impl<D: Desk> KeptFile<D> {
         let written = text.write(&mut end);
         self.in_place = Some(end);
         match written {
-            Ok(()) => self.answer(Ok(())),
+            Ok(count) => self.answer(Ok(count)),
             Err(fault) => self.answer(Err(StoreError::from(fault))),
         }
     }
 
     /// Answers how the text was kept, and remembers it.
-    fn answer(&mut self, kept: Result<(), StoreError>) -> Result<(), StoreError>
+    fn answer(&mut self, kept: Result<u64, StoreError>) -> Result<u64, StoreError>
         ensures kept { result ≡ kept }
         ensures fault { self.new ≡ record self.old { fault = result_err kept } }
     {
@@ -82,16 +81,15 @@ impl<D: Desk> Store for KeptFile<D> {
       fault = p.fault;
     } };
 
-    fn keep<X: Text>(&mut self, text: &X) -> Result<(), StoreError>
-        requires { (bytes : List ℕ) × X.is_text text.now bytes }
-        ensures kept { (bytes : List ℕ) × X.is_text text.now bytes
-            × Keeps (⟦<KeptFile<D> as Store>⟧.state self.old)
-            (⟦<KeptFile<D> as Store>⟧.state self.new) result bytes }
+    fn keep<X: Text>(&mut self, text: &X) -> Result<u64, StoreError>
+        requires { (bytes : List ℕ) × (count : ℕ) × X.is_text text.now bytes count }
+        ensures kept { KeepsText (X.is_text text.now) (⟦<KeptFile<D> as Store>⟧.state self.old)
+            (⟦<KeptFile<D> as Store>⟧.state self.new) result }
         // A crash leaves no part of the text, unless the file is written in place.
-        ensures whole { (bytes : List ℕ) × X.is_text text.now bytes
+        ensures whole { (bytes : List ℕ) × (count : ℕ) × X.is_text text.now bytes count
             × OldOrNewByDraft bytes (D.state self.old.desk) (D.state self.new.desk) }
         // What was kept outlives each crash from now on, unless it is written in place.
-        ensures settled { (bytes : List ℕ) × X.is_text text.now bytes
+        ensures settled { (bytes : List ℕ) × (count : ℕ) × X.is_text text.now bytes count
             × OnOk result (SavedByDraft bytes (D.state self.old.desk) (D.state self.new.desk)) }
         // The store goes on holding the file that has the name, and lets none go where it fails or
         // writes in place. It leaves no draft.
@@ -108,10 +106,10 @@ impl<D: Desk> Store for KeptFile<D> {
             (D.state self.new.desk) }
     {
         match save_whole(&mut self.desk, text) {
-            Ok(end) => {
+            Ok((end, count)) => {
                 self.in_place = None;
                 self.named = Some(end);
-                self.answer(Ok(()))
+                self.answer(Ok(count))
             }
             Err(NotSaved::Unsettled) => {
                 self.in_place = None;

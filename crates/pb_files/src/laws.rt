@@ -1,21 +1,23 @@
-//! Laws of what kills and crashes leave of a file. Each is the contract of a function that does
-//! nothing.
+//! Laws of what kills and crashes leave of a file and of a journal. Each is the contract of a
+//! function that does nothing.
 
-ghost use Rattle.std.specs.Prelude.{◌≡◌, ◌≤◌, ◌==◌, ◌++◌, ◌∷◌, [], List, None, Some, false};
-ghost use Rattle.std.specs.Prelude.{length, true, ℕ};
+ghost use Rattle.std.specs.Prelude.{◌≡◌, ◌≤◌, ◌==◌, ◌++◌, ◌∷◌, ◌⊎◌, [], Bool, List, None, Some};
+ghost use Rattle.std.specs.Prelude.{false, length, true, ℕ};
 ghost use Rattle.pb_io.specs.Lines.{ended_lines};
 ghost use Rattle.pb_io.specs.Source.{SourceState};
+ghost use Rattle.pb_collecting.specs.Ends.{Change, EndStates, IsSame};
+ghost use Rattle.pb_collecting.specs.JournalHeadline.{LosesNone, LosesNoneLater};
 ghost use Rattle.pb_files.specs.Desk.{Content, NamesNot, Shelf};
 ghost use Rattle.pb_files.specs.Disk.{Disk, Grows, IsOnDisk, Leaves, OutlivesCrash, Syncs};
 ghost use Rattle.pb_files.specs.Disk.{on_disk};
 ghost use Rattle.pb_files.specs.Begins.{BeginsWith};
-ghost use Rattle.pb_files.specs.JournalSink.{EndState};
-ghost use Rattle.pb_files.specs.Journaling.{IsStarted, MayBeLeft};
+ghost use Rattle.pb_files.specs.JournalSink.{EndState, syncs};
+ghost use Rattle.pb_files.specs.Journaling.{IsStarted, LeavesAnswered, MayBeLeft, journal_over};
 ghost use Rattle.pb_files.specs.Runs.{HoldsDraft, Names, OfOthers, Step, after, run_of};
 ghost use Rattle.pb_files.specs.Runs.Step.{Ends, Locks, Makes, Unnames};
 ghost use Rattle.pb_files.specs.Saving.{OldOrNew};
 
-use crate::journal_sink::{Durability, Synced, Written};
+use crate::journal_sink::{SYNCED, WRITTEN};
 
 /// Lines that are found outlive every later kill, which leaves what is found then: whatever is
 /// added later, they are the first.
@@ -60,16 +62,27 @@ pub fn what_may_be_left()
         → IsOnDisk disk → IsStarted true disk end reader }
 {}
 
+/// A run that loses no game which it has answered `ok`, over the end of a journal's file that it has
+/// come to, has read no submission, or each such game is in what is left of the file, whatever comes
+/// then: with `sync` a crash, and else a kill.
+pub fn answered_games_are_left()
+    ensures { (sync : Bool) (disk : Disk) (reader : Change SourceState) (end : Change EndState)
+        (e : EndStates) → IsStarted sync disk end.old reader.old
+        → LosesNone e (journal_over sync reader end)
+        → LosesNoneLater e (journal_over sync reader end)
+        → IsSame e.lines ⊎ LeavesAnswered sync disk end.new e }
+{}
+
 /// Where the system calls bytes clean that aren't on the disk, a sync that succeeds may put nothing
 /// there.
 pub fn what_a_sync_may_pass_over()
     ensures { (disk : Disk) → disk.lost ≡ true → disk.kept ≤ length disk.found → Syncs disk disk }
 {}
 
-/// `Synced` syncs what is flushed, and `Written` doesn't.
-pub fn durabilities()
-    ensures synced { ⟦<Synced as Durability>⟧.syncs ≡ true }
-    ensures written { ⟦<Written as Durability>⟧.syncs ≡ false }
+/// `SYNCED` syncs what is flushed, and `WRITTEN` doesn't.
+pub fn modes()
+    ensures synced { syncs SYNCED ≡ true }
+    ensures written { syncs WRITTEN ≡ false }
 {}
 
 /// A name that a reader doesn't see given may be there after a crash all the same. What is old or

@@ -3,30 +3,17 @@
 use crate::held_file::HeldFile;
 use std::fs::File;
 
-/// The file of a saved ledger, to be read. This run holds it until it ends, unless it is a pipe or a
-/// device.
+/// The file of a saved ledger, to be read. This run holds it until it ends, unless it is a pipe or
+/// a device.
 #[derive(Drop)]
 pub struct LedgerFile<'a> {
-    file: File,
-    held: Option<HeldFile<'a>>,
+    /// The file.
+    pub file: File,
+    // Where it is an ordinary file, which this run holds.
+    pub(crate) held: Option<HeldFile<'a>>,
 }
 
 impl<'a> LedgerFile<'a> {
-    /// This file, and what is known of it where it is held.
-    pub(crate) fn new(file: File, held: Option<HeldFile<'a>>) -> LedgerFile<'a> {
-        LedgerFile { file, held }
-    }
-
-    /// The file.
-    pub fn file(&self) -> &File {
-        &self.file
-    }
-
-    /// Whether it is an ordinary file, which is held.
-    pub(crate) fn is_file(&self) -> bool {
-        self.held.is_some()
-    }
-
     /// Whether no other program has changed it, as far as its name and its length tell. If not,
     /// that is told.
     pub(crate) fn is_as_left(&self) -> bool {

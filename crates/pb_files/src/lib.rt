@@ -1,5 +1,5 @@
 //! The files and streams of a run. It holds its files (`hold_ledger`, `start_journal`), adds to a
-//! journal (`journal_to_file`), and makes a book or a ledger anew (`KeptFile`).
+//! journal (`JournalSink`), and makes a book or a ledger anew (`KeptFile`).
 //!
 //! Traits say what a file and a folder do, and what kills and crashes leave. Calls over them are
 //! proved for all that keep them. Files in memory tell what they hold, the system's tell nothing.
@@ -17,39 +17,31 @@ mod holding;
 mod journal_file;
 mod journal_guard;
 mod journal_sink;
-mod journaling;
 mod kept;
 pub mod laws;
 mod ledger_file;
-mod mem_desk;
-mod mem_journal;
 mod one_file;
 mod place;
 mod replies;
 mod saving;
-mod skipped;
 mod starting;
 mod stop;
 mod streams;
 
-pub use desk::{Desk, NotMade, NotNamed};
-pub use distinct_files::{NotApart, keep_apart};
+pub use desk::{Desk, NotMade};
+pub use distinct_files::{Clash, Places, clash_among, keep_apart};
 pub use file_desk::FileDesk;
 pub use file_journal::FileJournal;
 pub use file_opener::{hold_ledger, open, start_journal};
 pub use file_writer::{BUFFER_LEN, FileWriter};
-pub use holding::{Lock, NotHeld, Opener, hold};
-pub use journal_file::{JournalFile, ReadFile};
+pub use holding::{Lock, Opener, hold};
+pub use journal_file::JournalFile;
 pub use journal_guard::{Guarded, JournalGuard};
-pub use journal_sink::{Durability, FileEnd, JournalSink, Synced, Written};
-pub use journaling::journal_to_file;
+pub use journal_sink::{JournalSink, SYNCED, WRITTEN};
 pub use kept::KeptFile;
 pub use ledger_file::LedgerFile;
-pub use mem_desk::{Before, MemDesk};
-pub use mem_journal::{MemFile, MemJournal, MemOpener, Others};
 pub use replies::{Replies, Submissions};
 pub use saving::{NotSaved, save_whole};
-pub use skipped::TellSkipped;
-pub use starting::{JournalOpener, NotRead, NotStarted, Started, start, whole_reader};
+pub use starting::{Started, start, whole_reader};
 pub use stop::Stop;
 pub use streams::expect_open;

@@ -86,28 +86,23 @@ impl<R: Read, K: Sink> Source for Submissions<'_, '_, '_, '_, R, K> {
 
 /// Writes replies. They wait in the buffer of the output.
 #[derive(Drop)]
-pub struct Replies<'o, 'k, 'p, 'a, K> {
+pub struct Replies<'o, 'k, K> {
     output: &'o RefCell<&'k mut K>,
-    progress: &'p Progress<'a>,
 }
 
-impl<'o, 'k, 'p, 'a, K: Sink> Replies<'o, 'k, 'p, 'a, K> {
+impl<'o, 'k, K: Sink> Replies<'o, 'k, K> {
     /// Replies on this output.
-    pub fn new(
-        output: &'o RefCell<&'k mut K>,
-        progress: &'p Progress<'a>,
-    ) -> Replies<'o, 'k, 'p, 'a, K> {
-        Replies { output, progress }
+    pub fn new(output: &'o RefCell<&'k mut K>) -> Replies<'o, 'k, K> {
+        Replies { output }
     }
 }
 
-impl<K: Sink> Write for Replies<'_, '_, '_, '_, K> {
+impl<K: Sink> Write for Replies<'_, '_, K> {
     // A reply, or a piece of one, is put at once and whole.
     fn write(&mut self, bytes: &[u8]) -> io::Result<usize> {
         if let Ok(mut output) = self.output.try_borrow_mut()
             && output.put(bytes).is_ok()
         {
-            self.progress.reply(bytes);
             return Ok(bytes.len());
         }
         Err(io::Error::from(ErrorKind::BrokenPipe))

@@ -4,7 +4,7 @@ ghost use Rattle.std.specs.Prelude.{◌≡◌, ℕ, List, IfOk, IfSome, OnErr, O
 ghost use Rattle.pb_files.specs.Desk.{Begins, is_refused_draft};
 ghost use Rattle.pb_files.specs.Saving.{Saves, is_refused, is_unsettled, not_saved};
 
-use crate::desk::{Desk, NotMade, NotNamed};
+use crate::desk::{Desk, NotMade};
 use pb_collecting::{StoreError, Text};
 use thiserror::Error;
 
@@ -61,39 +61,36 @@ pub(crate) fn new_draft<D: Desk>(desk: &mut D) -> Result<D::End, NotMade>
 
 /// Makes the file under the name anew of the text: a draft is written, put on the disk and given
 /// the name, and then the folder is put on the disk. The answer is the end into the file that has
-/// the name now.
+/// the name now, and how many entries or games were written.
 ///
 /// # Errors
 ///
 /// Those of `NotSaved`. There is no draft any more.
-pub fn save_whole<D: Desk, X: Text>(desk: &mut D, text: &X) -> Result<D::End, NotSaved>
-    requires { (bytes : List ℕ) × X.is_text text.now bytes }
-    ensures saves { (bytes : List ℕ) × X.is_text text.now bytes
-        × Saves bytes (D.state desk.old).told (D.state desk.new).told result }
-    ensures end { IfOk result (λ end. IfSome (D.state desk.new).told (λ shelf.
-        shelf.found ≡ (D.End.state end).bytes)) }
+pub fn save_whole<D: Desk, X: Text>(desk: &mut D, text: &X) -> Result<(D::End, u64), NotSaved>
+    requires { (bytes : List ℕ) × (count : ℕ) × X.is_text text.now bytes count }
+    ensures saves { (bytes : List ℕ) × (count : ℕ) × X.is_text text.now bytes count
+        × Saves bytes (D.state desk.old).told (D.state desk.new).told result
+        × IfOk result (λ saved. saved.1 ≡ count) }
+    ensures end { IfOk result (λ saved. IfSome (D.state desk.new).told (λ shelf.
+        shelf.found ≡ (D.End.state saved.0).bytes)) }
     ensures refused { (D.state desk.new).refused ≡ is_refused result }
     ensures unsettled { is_unsettled result ≡ true → (D.state desk.new).unsettled ≡ true }
     ensures no_draft { (D.state desk.new).drafted ≡ true → (D.state desk.old).drafted ≡ true }
 {
     let mut draft = new_draft(desk)?;
-    if let Err(fault) = text.write(&mut draft) {
+    let count = match text.write(&mut draft) {
+        Ok(count) => count,
+        Err(fault) => {
+            desk.remove(draft);
+            return Err(NotSaved::Failed(StoreError::from(fault)));
+        }
+    };
+    if let Err(why) = desk.rename(&draft) {
         desk.remove(draft);
-        return Err(NotSaved::Failed(StoreError::from(fault)));
-    }
-    match desk.rename(&draft) {
-        Ok(()) => {}
-        Err(NotNamed::Refused) => {
-            desk.remove(draft);
-            return Err(NotSaved::Refused);
-        }
-        Err(NotNamed::Failed) => {
-            desk.remove(draft);
-            return Err(NotSaved::Failed(StoreError::Write));
-        }
+        return Err(NotSaved::from(why));
     }
     if desk.sync_folder().is_err() {
         return Err(NotSaved::Unsettled);
     }
-    Ok(draft)
+    Ok((draft, count))
 }

@@ -1,22 +1,23 @@
 //! Why a run stops before its end.
 
 ghost use Rattle.std.specs.Prelude.{◌≡◌};
-ghost use Rattle.pb_files.specs.Stop.{stop_of_book, stop_of_both, stop_of_names, stop_of_store};
-ghost use Rattle.pb_files.specs.Stop.{stop_of_start, stop_word};
+ghost use Rattle.pb_files.specs.Stop.{stop_of_book, stop_of_both, stop_of_clash, stop_of_store};
+ghost use Rattle.pb_files.specs.Stop.{stop_word};
 ghost use Rattle.pb_files.specs.declared.stop.Stop.TheVariants as stops;
 
-use crate::distinct_files::NotApart;
-use crate::holding::NotHeld;
-use crate::starting::{NotRead, NotStarted};
+use crate::distinct_files::Clash;
 use pb_collecting::{NoBook, NotContinued, StoreError};
 use pb_io::Fault;
+use thiserror::Error;
 
 /// Why a run stops.
-#[derive(Clone, Copy)]
+#[derive(Clone, Copy, Debug, Error)]
 pub enum Stop {
     /// A file can't be opened or made, or another run holds it.
+    #[error("a file can't be opened")]
     NotOpened,
     /// Its command met a fault.
+    #[error("{0}")]
     Fault(Fault),
 }
 
@@ -74,33 +75,13 @@ impl From<NotContinued> for Stop {
     }
 }
 
-impl From<NotApart> for Stop {
-    ghost from_gives = { λ why result. result ≡ stop_of_names why };
+impl From<Clash> for Stop {
+    ghost from_gives = { λ clash result. result ≡ stop_of_clash clash };
 
-    fn from(why: NotApart) -> Stop {
-        match why {
-            NotApart::OneFile { .. } => Stop::NotOpened,
-            NotApart::IsOutput(_) => Stop::Fault(Fault::Write),
-        }
-    }
-}
-
-impl From<NotHeld> for Stop {
-    ghost from_gives = { λ _ result. result ≡ stops.NotOpened };
-
-    fn from(_why: NotHeld) -> Stop {
-        Stop::NotOpened
-    }
-}
-
-impl From<NotStarted> for Stop {
-    ghost from_gives = { λ why result. result ≡ stop_of_start why };
-
-    fn from(why: NotStarted) -> Stop {
-        match why {
-            NotStarted::NotHeld(why) => Stop::from(why),
-            NotStarted::NotRead(NotRead::Sync) => Stop::Fault(Fault::Write),
-            NotStarted::NotRead(NotRead::Reading | NotRead::Failed) => Stop::Fault(Fault::Read),
+    fn from(clash: Clash) -> Stop {
+        match clash {
+            Clash::OneFile { .. } => Stop::NotOpened,
+            Clash::IsOutput(_) => Stop::Fault(Fault::Write),
         }
     }
 }

@@ -10,16 +10,14 @@ use pb_messages::{Message, Messages, is_open};
 ///
 /// The fault of a write, or that of a read.
 pub fn expect_open(messages: Messages<'_>, reads_input: bool) -> Result<(), Stop> {
-    let rt = messages.rt();
-    if !is_open(&rt.stdout()) {
-        let stream = "standard output";
-        messages.tell(&Message::NotOpen { stream });
-        return Err(Stop::Fault(Fault::Write));
-    }
-    if reads_input && !is_open(&rt.stdin()) {
-        let stream = "standard input";
-        messages.tell(&Message::NotOpen { stream });
-        return Err(Stop::Fault(Fault::Read));
-    }
-    Ok(())
+    let rt = messages.rt;
+    let (stream, fault) = if !is_open(&rt.stdout()) {
+        ("standard output", Fault::Write)
+    } else if reads_input && !is_open(&rt.stdin()) {
+        ("standard input", Fault::Read)
+    } else {
+        return Ok(());
+    };
+    messages.tell(&Message::NotOpen(stream));
+    Err(Stop::Fault(fault))
 }

@@ -55,16 +55,6 @@ pub fn judge_line<'a, P: MoveVisitor>(line: &'a [u8], visitor: &mut P) -> Result
     ensures told { IfOk result (λ s. P.holds visitor.new s.1.outcome (plies s.1) (last_setup s.1)) }
     ensures fixed { P.fixed visitor.new ≡ P.fixed visitor.old }
 {
-    judge(line, visitor)
-}
-
-/// The legal game that the line submits, or the first refusal that is due.
-fn judge<'a, P: MoveVisitor>(line: &'a [u8], visitor: &mut P) -> Result<Line<'a>, Refusal>
-    ensures found { IfOk result (λ s. IsLawful line.now s) }
-    ensures refused { IfErr result (λ e. Refuses line.now e) }
-    ensures told { IfOk result (λ s. P.holds visitor.new s.1.outcome (plies s.1) (last_setup s.1)) }
-    ensures fixed { P.fixed visitor.new ≡ P.fixed visitor.old }
-{
     // No `?`, since no proof is made of one at a struct that holds a reference beside a record.
     let header = match read_header(line) {
         Ok(header) => header,

@@ -1,11 +1,11 @@
 -- The book of a ledger, put stretch by stretch.
-use Rattle.std.proofs.Common.{◌≡◌, ◌∙◌, ◌⊎◌, ℕ, ◌<◌, true, Option, None, Some, List, [], ◌∷◌, ◌++◌, ◌+◌, length, get_or, take, drop, take-append-drop, All, Result, Ok, Err, ap, append_assoc, inl, inr, refl, subst, sym}
+use Rattle.std.proofs.Common.{◌≡◌, ◌∙◌, ◌⊎◌, ℕ, ◌<◌, true, Option, None, Some, List, [], ◌∷◌, ◌++◌, ◌+◌, ◌-◌, ◌^◌, min, length, get_or, take, drop, take-append-drop, All, Result, Ok, Err, ap, append_assoc, inl, inr, refl, subst, sym, arith}
 use Rattle.std.specs.Prelude.{IfSome}
 use Rattle.std.specs.Io.KnownBytes.{Appends}
 use Rattle.std.specs.Result.{IsErr}
 use Rattle.std.proofs.KnownBytes.{Appends-nil, Appends-trans}
 use Rattle.std.proofs.Math.Seq.{take-append_seam}
-use Rattle.std.proofs.lemmas.List.{drop_more, take_more}
+use Rattle.std.proofs.lemmas.List.{drop_more, length-append, take_more}
 use Rattle.pb_io.specs.Sink.{AwaitsFlush, Flush, Put, SinkState}
 use Rattle.pb_io.proofs.FlushLemmas.{AwaitsFlush-put, AwaitsFlush-trans}
 use Rattle.pb_io.proofs.PutLemmas.{Lasts-refl, Lasts-trans, front_more, put_failed}
@@ -20,7 +20,7 @@ use Rattle.pb_accepted.specs.Ledger.{LedgerState}
 use Rattle.pb_accepted.proofs.BookLaws.{one_book}
 use Rattle.pb_accepted.proofs.BookStretches.{front_stretch, joined_stretch, no_stretch, whole_stretch}
 use Rattle.pb_accepted.proofs.SomeBooks.{some_book_of_ledger}
-use Rattle.pb_ledger.specs.Booking.{BookText, PutsOn, WritesOrWants}
+use Rattle.pb_ledger.specs.Booking.{PutsOn, WritesBook}
 use Rattle.pb_ledger.specs.declared.booking.WriteFault.{WriteFault}
 use Rattle.pb_ledger.specs.declared.booking.WriteFault.TheVariants as fault
 
@@ -58,53 +58,58 @@ puts_stopped old mid new e answer a b rest whole failing is first put =
 
 -- ---- the stretches of the book
 
--- the entries before the next stretch were put
-pub record Booking (ledger : LedgerState) (next : Option ℕ) (old new : SinkState) : Type 0 where
+-- the entries before the next stretch were put, and counted
+pub record Booking (ledger : LedgerState) (next : Option ℕ) (old new : SinkState) (count : ℕ) : Type 0 where
   pub book : List Entry
   pub is : IsBook ledger.basis ledger.accepted book
   pub bounds : All IsEntry book
   pub puts : PutsOn old new (book_bytes (stretch 0 next book))
+  pub counted : count ≡ min (length (stretch 0 next book)) (2 ^ 64 - 1)
 
-starts : (ledger : LedgerState) → IsLedger ledger → (sink : SinkState) → Booking ledger (Some 0) sink sink
+starts : (ledger : LedgerState) → IsLedger ledger → (sink : SinkState) → Booking ledger (Some 0) sink sink 0
 starts ledger rules sink =
     let book = some_book_of_ledger ledger rules in
-    record { book = book.0; is = book.1; bounds = book.2; puts = subst (λ l. PutsOn sink sink (book_bytes l)) (sym (no_stretch book.0)) (puts_none sink) }
+    record { book = book.0; is = book.1; bounds = book.2; puts = subst (λ l. PutsOn sink sink (book_bytes l)) (sym (no_stretch book.0)) (puts_none sink); counted = ap (λ (l : List Entry). min (length l) (2 ^ 64 - 1)) (sym (no_stretch book.0)) }
 
 -- nothing was put yet, or the entries before the next stretch were
-abbrev pub Begun : LedgerState → Option ℕ → SinkState → SinkState → Type 0
-Begun ledger next old new = ((next ≡ Some 0) × (new ≡ old)) ⊎ Booking ledger next old new
+abbrev pub Begun : LedgerState → Option ℕ → SinkState → SinkState → ℕ → Type 0
+Begun ledger next old new count = ((next ≡ Some 0) × (new ≡ old) × (count ≡ 0)) ⊎ Booking ledger next old new count
 
-pub booking_of : (ledger : LedgerState) → IsLedger ledger → (next : Option ℕ) (old new : SinkState) → Begun ledger next old new → Booking ledger next old new
-booking_of ledger rules next old new (inl h) =
-    subst (λ (n : Option ℕ). Booking ledger n old new) (sym h.0) (subst (λ (s : SinkState). Booking ledger (Some 0) old s) (sym h.1) (starts ledger rules old))
-booking_of ledger rules next old new (inr h) = h
+pub booking_of : (ledger : LedgerState) → IsLedger ledger → (next : Option ℕ) (old new : SinkState) (count : ℕ) → Begun ledger next old new count → Booking ledger next old new count
+booking_of ledger rules next old new count (inl h) =
+    subst (λ (n : Option ℕ). Booking ledger n old new count) (sym h.0)
+    (subst (λ (s : SinkState). Booking ledger (Some 0) old s count) (sym h.1) (subst (λ n. Booking ledger (Some 0) old old n) (sym h.2) (starts ledger rules old)))
+booking_of ledger rules next old new count (inr h) = h
 
-pub booking_end : (ledger : LedgerState) (old new : SinkState) → Begun ledger None old new → Booking ledger None old new
-booking_end ledger old new (inl h) = let bad = h.0 in absurd (cc)
-booking_end ledger old new (inr h) = h
+pub booking_end : (ledger : LedgerState) (old new : SinkState) (count : ℕ) → Begun ledger None old new count → Booking ledger None old new count
+booking_end ledger old new count (inl h) = let bad = h.0 in absurd (cc)
+booking_end ledger old new count (inr h) = h
 
 -- the entries of a stretch of the book
 abbrev pub IsStretch : LedgerState → ℕ → Option ℕ → List Entry → Type 0
 IsStretch ledger first next entries = (book : List Entry) × IsBook ledger.basis ledger.accepted book × (entries ≡ stretch first next book)
 
-module _ (ledger : LedgerState) (old mid : SinkState) where
-  module _ (first : ℕ) (next : Option ℕ) (entries : List Entry) (onward : IfSome next (λ n. first < n)) (are : IsStretch ledger first next entries) (h : Booking ledger (Some first) old mid) where
+module _ (ledger : LedgerState) (old mid : SinkState) (count : ℕ) where
+  module _ (first : ℕ) (next : Option ℕ) (entries : List Entry) (onward : IfSome next (λ n. first < n)) (are : IsStretch ledger first next entries) (h : Booking ledger (Some first) old mid count) where
     same : entries ≡ stretch first next h.book
     same = are.2 ∙ ap (stretch first next) (one_book ledger.basis ledger.accepted are.0 h.book are.1 h.is)
 
-    joined : book_bytes (stretch 0 (Some first) h.book) ++ book_bytes entries ≡ book_bytes (stretch 0 next h.book)
-    joined = ap (λ l. book_bytes (stretch 0 (Some first) h.book) ++ book_bytes l) same ∙ sym (book_bytes-append (stretch 0 (Some first) h.book) (stretch first next h.book))
-        ∙ ap book_bytes (joined_stretch ledger.basis ledger.accepted h.book h.is first next onward)
+    listed : stretch 0 (Some first) h.book ++ entries ≡ stretch 0 next h.book
+    listed = ap (λ l. stretch 0 (Some first) h.book ++ l) same ∙ joined_stretch ledger.basis ledger.accepted h.book h.is first next onward
 
-    pub goes_on : (new : SinkState) → PutsOn mid new (book_bytes entries) → Booking ledger next old new
-    goes_on new more = record {
+    joined : book_bytes (stretch 0 (Some first) h.book) ++ book_bytes entries ≡ book_bytes (stretch 0 next h.book)
+    joined = sym (book_bytes-append (stretch 0 (Some first) h.book) entries) ∙ ap book_bytes listed
+
+    pub goes_on : (new : SinkState) (more_counted : ℕ) → more_counted ≡ min (count + length entries) (2 ^ 64 - 1) → PutsOn mid new (book_bytes entries) → Booking ledger next old new more_counted
+    goes_on new more_counted is more = record {
       book = h.book;
       is = h.is;
       bounds = h.bounds;
       puts = subst (PutsOn old new) joined (puts_then old mid new (book_bytes (stretch 0 (Some first) h.book)) (book_bytes entries) h.puts more);
+      counted = omega (arith, is, h.counted, ap length listed, length-append (stretch 0 (Some first) h.book) entries);
     }
 
-    pub breaks : {E : Type 0} (new : SinkState) (e : E) → Put mid new (Err e) (book_bytes entries) → (bytes : List ℕ) × BookText ledger bytes × WritesOrWants old new (Err fault.Write) bytes
+    pub breaks : {E : Type 0} (new : SinkState) (e : E) → Put mid new (Err e) (book_bytes entries) → WritesBook ledger old new (Err fault.Write)
     breaks new e put =
         let rest = front_stretch ledger.basis ledger.accepted h.book h.is next in
         let a = book_bytes (stretch 0 (Some first) h.book) in
@@ -112,38 +117,44 @@ module _ (ledger : LedgerState) (old mid : SinkState) where
         sym (append_assoc a (book_bytes entries) (book_bytes rest.0)) ∙ ap (λ l. l ++ book_bytes rest.0) joined ∙ sym (book_bytes-append (stretch 0 next h.book) rest.0) ∙ ap book_bytes rest.1 in
         let answer : Result (Unit {0}) WriteFault = Err fault.Write in (
           book_bytes h.book,
-          (h.book, h.is, record { bounds = h.bounds; are = refl }),
+          min (length h.book) (2 ^ 64 - 1),
+          (h.book, h.is, record { bounds = h.bounds; are = refl }, refl),
           Writes-stopped old new answer (book_bytes h.book) refl (puts_stopped old mid new e answer a (book_bytes entries) (book_bytes rest.0) (book_bytes h.book) refl cut h.puts put),
+          tt,
         )
 
   -- memory was wanting for the next stretch
-  pub wants : (next : Option ℕ) → Booking ledger next old mid → (bytes : List ℕ) × BookText ledger bytes × WritesOrWants old mid (Err fault.Memory) bytes
+  pub wants : (next : Option ℕ) → Booking ledger next old mid count → WritesBook ledger old mid (Err fault.Memory)
   wants next h =
       let rest = front_stretch ledger.basis ledger.accepted h.book h.is next in
       let a = book_bytes (stretch 0 next h.book) in
       let whole : a ++ book_bytes rest.0 ≡ book_bytes h.book = sym (book_bytes-append (stretch 0 next h.book) rest.0) ∙ ap book_bytes rest.1 in
       let front : a ≡ take (length a) (book_bytes h.book) = sym (take-append_seam a (book_bytes rest.0)) ∙ ap (take (length a)) whole in
-      (book_bytes h.book, (h.book, h.is, record { bounds = h.bounds; are = refl }), (length a, subst (PutsOn old mid) front h.puts))
+      (book_bytes h.book, min (length h.book) (2 ^ 64 - 1), (h.book, h.is, record { bounds = h.bounds; are = refl }, refl), (length a, subst (PutsOn old mid) front h.puts), tt)
 
   -- all was put
-  module _ (h : Booking ledger None old mid) where
+  module _ (h : Booking ledger None old mid count) where
     all : Appends old.bytes mid.bytes (book_bytes h.book)
     all = subst (λ l. Appends old.bytes mid.bytes (book_bytes l)) (whole_stretch h.book) h.puts.put
 
-    pub ends : {E : Type 0} (new : SinkState) (v : Unit {0}) → Flush {E = E} mid new (Ok v) → (bytes : List ℕ) × BookText ledger bytes × WritesOrWants old new (Ok v) bytes
+    pub ends : {E : Type 0} (new : SinkState) (v : Unit {0}) → Flush {E = E} mid new (Ok v) → WritesBook ledger old new (Ok count)
     ends new v flush = (
       book_bytes h.book,
-      (h.book, h.is, record { bounds = h.bounds; are = refl }),
-      Writes-flushed old mid new (Ok v) (book_bytes h.book) all h.puts.stays_failed h.puts.lasts (awaits_flushes old mid h.puts.awaits)
+      min (length h.book) (2 ^ 64 - 1),
+      (h.book, h.is, record { bounds = h.bounds; are = refl }, refl),
+      Writes-flushed old mid new (Ok tt) (book_bytes h.book) all h.puts.stays_failed h.puts.lasts (awaits_flushes old mid h.puts.awaits)
           (record { bytes = flush.bytes; lasts = flush.lasts; all_lasts = flush.all_lasts; failed = flush.failed; stays_failed = λ b. let bad = flush.stays_failed b in cc; flushed = flush.flushed; flushes = flush.flushes }),
+      h.counted ∙ ap (λ (l : List Entry). min (length l) (2 ^ 64 - 1)) (whole_stretch h.book),
     )
 
-    pub unflushed : {E : Type 0} (new : SinkState) (e : E) → Flush mid new (Err e) → (bytes : List ℕ) × BookText ledger bytes × WritesOrWants old new (Err fault.Write) bytes
+    pub unflushed : {E : Type 0} (new : SinkState) (e : E) → Flush mid new (Err e) → WritesBook ledger old new (Err fault.Write)
     unflushed new e flush = (
       book_bytes h.book,
-      (h.book, h.is, record { bounds = h.bounds; are = refl }),
+      min (length h.book) (2 ^ 64 - 1),
+      (h.book, h.is, record { bounds = h.bounds; are = refl }, refl),
       Writes-flushed old mid new (Err fault.Write) (book_bytes h.book) all h.puts.stays_failed h.puts.lasts (awaits_flushes old mid h.puts.awaits)
           (record { bytes = flush.bytes; lasts = flush.lasts; all_lasts = tt; failed = flush.failed; stays_failed = λ b. refl; flushed = flush.flushed; flushes = flush.flushes }),
+      tt,
     )
 
 -- ---- the entries of a stretch, one by one

@@ -100,21 +100,21 @@ lasts_first old mid new text put all lasts = lasting_first mid.lasting new.lasti
 abbrev Gives : ReadFault → JournalFault → Type 0
 Gives read e = e ≡ Lines (fault_of_read read)
 
-module _ {T K J : Type 0} (state : K → SinkState) (kept : J → SinkState) where
-  abbrev Sink : Collector T K J → SinkState
+module _ {T K J W : Type 0} (state : K → SinkState) (kept : J → SinkState) where
+  abbrev Sink : Collector T K J W → SinkState
   Sink s = state s.sink.now
 
-  abbrev GainsTo : Collector T K J → Collector T K J → Type 0
+  abbrev GainsTo : Collector T K J W → Collector T K J W → Type 0
   GainsTo s t = Gains (kept s.journal.now) (kept t.journal.now) s.ledger.now.accepted t.ledger.now.accepted
 
-  KeepsLent-trans : (s m t : Collector T K J) → KeepsLent s m → KeepsLent m t → KeepsLent s t
+  KeepsLent-trans : (s m t : Collector T K J W) → KeepsLent s m → KeepsLent m t → KeepsLent s t
   KeepsLent-trans s m t first next =
       record { ledger = next.ledger ∙ first.ledger; sink = next.sink ∙ first.sink; journal = next.journal ∙ first.journal }
 
   -- ---- lines that were taken
 
   -- they gave these answers
-  record Taken (s t : Collector T K J) (ls : List (List ℕ)) : Type 0 where
+  record Taken (s t : Collector T K J W) (ls : List (List ℕ)) : Type 0 where
     collects : Collects (Sink s) (Sink t) s.ledger.now t.ledger.now ls
     number : length collects.answers ≡ length ls
     counts : AddsUp s.totals → s.totals.lines + length ls < 2 ^ 64
@@ -123,8 +123,8 @@ module _ {T K J : Type 0} (state : K → SinkState) (kept : J → SinkState) whe
     gains : GainsTo s t
     same : KeepsLent s t
 
-  taken_of : (s t : Collector T K J) (ls : List (List ℕ)) → TakesAll (CollectsLine state kept) s ls t → Taken s t ls
-  taken_of s t [] h = let P : Collector T K J → Type 0 = λ x. Taken s x [] in subst P (sym h) (record {
+  taken_of : (s t : Collector T K J W) (ls : List (List ℕ)) → TakesAll (CollectsLine state kept) s ls t → Taken s t ls
+  taken_of s t [] h = let P : Collector T K J W → Type 0 = λ x. Taken s x [] in subst P (sym h) (record {
     collects = record { answers = []; leads = Leads-none s.ledger.now; put = Appends-nil (Sink s).bytes };
     number = refl;
     counts = λ sum few. record { all = omega arith; refused = omega arith; new_games = omega arith; adds_up = sum };
@@ -133,7 +133,7 @@ module _ {T K J : Type 0} (state : K → SinkState) (kept : J → SinkState) whe
     same = record { ledger = refl; sink = refl; journal = refl };
   })
   taken_of s t (line ∷ ls) h =
-      let m : Collector T K J = h.0 in let one = h.1 in let rest = taken_of m t ls h.2 in record {
+      let m : Collector T K J W = h.0 in let one = h.1 in let rest = taken_of m t ls h.2 in record {
         collects = record {
           answers = one.answer ∷ rest.collects.answers;
           leads = Leads-more s.ledger.now m.ledger.now t.ledger.now line one.answer ls rest.collects.answers one.leads rest.collects.leads;
@@ -157,14 +157,14 @@ module _ {T K J : Type 0} (state : K → SinkState) (kept : J → SinkState) whe
 
   -- ---- lines that were taken, and one more whose reply couldn't be put
 
-  record Stopped (s t : Collector T K J) (before : List (List ℕ)) (line : List ℕ) : Type 0 where
+  record Stopped (s t : Collector T K J W) (before : List (List ℕ)) (line : List ℕ) : Type 0 where
     answers : List Answer
     answer : Answer
     leads : Leads s.ledger.now t.ledger.now (before ++ line ∷ []) (answers ++ answer ∷ [])
     count : ℕ
     put : Appends (Sink s).bytes (Sink t).bytes (replies before answers ++ take count (reply_line line answer))
 
-  stopped_of : (s m t : Collector T K J) (before : List (List ℕ)) (line : List ℕ) (e : JournalFault) → Taken s m before → Answered state kept m line (Err e) t → Stopped s t before line
+  stopped_of : (s m t : Collector T K J W) (before : List (List ℕ)) (line : List ℕ) (e : JournalFault) → Taken s m before → Answered state kept m line (Err e) t → Stopped s t before line
   stopped_of s m t before line e taken last = record {
     answers = taken.collects.answers;
     answer = last.answer;
@@ -173,16 +173,16 @@ module _ {T K J : Type 0} (state : K → SinkState) (kept : J → SinkState) whe
     put = Appends-trans _ _ _ _ _ taken.collects.put last.put.front.1;
   }
 
-  record StoppedAt (s t : Collector T K J) (ls : List (List ℕ)) : Type 0 where
+  record StoppedAt (s t : Collector T K J W) (ls : List (List ℕ)) : Type 0 where
     collects : CollectsButOne (Sink s) (Sink t) s.ledger.now t.ledger.now ls
     fails : (Sink t).failed ≡ true
     flushes : (Sink t).flushes ≡ (Sink s).flushes
     gains : GainsTo s t
     same : KeepsLent s t
 
-  reply_stops : (s t : Collector T K J) (ls : List (List ℕ)) → StopsAtLast (CollectsLine state kept) s ls (Lines fault.Write) t → StoppedAt s t ls
+  reply_stops : (s t : Collector T K J W) (ls : List (List ℕ)) → StopsAtLast (CollectsLine state kept) s ls (Lines fault.Write) t → StoppedAt s t ls
   reply_stops s t ls h =
-      let m : Collector T K J = h.2 in let taken = taken_of s m h.0 h.4 in
+      let m : Collector T K J W = h.2 in let taken = taken_of s m h.0 h.4 in
       let last : Answered state kept m h.1 (Err (Lines fault.Write)) t = h.5 in let stopped = stopped_of s m t h.0 h.1 (Lines fault.Write) taken last in record {
         collects = record {
           before = h.0;
@@ -202,15 +202,15 @@ module _ {T K J : Type 0} (state : K → SinkState) (kept : J → SinkState) whe
 
   -- ---- lines of which the last one brought a game that the journal didn't take
 
-  record Unjournaled (s t : Collector T K J) (ls : List (List ℕ)) : Type 0 where
+  record Unjournaled (s t : Collector T K J W) (ls : List (List ℕ)) : Type 0 where
     unkept : CollectsUnkept (Sink s) (Sink t) (kept s.journal.now) (kept t.journal.now) s.ledger.now t.ledger.now ls
     awaits : AwaitsFlush (Sink s) (Sink t)
     fails : (kept t.journal.now).failed ≡ true
     same : KeepsLent s t
 
-  journal_stops : (s t : Collector T K J) (ls : List (List ℕ)) → StopsAtLast (CollectsLine state kept) s ls Journal t → Unjournaled s t ls
+  journal_stops : (s t : Collector T K J W) (ls : List (List ℕ)) → StopsAtLast (CollectsLine state kept) s ls Journal t → Unjournaled s t ls
   journal_stops s t ls h =
-      let m : Collector T K J = h.2 in let before = h.0 in let line = h.1 in
+      let m : Collector T K J W = h.2 in let before = h.0 in let line = h.1 in
       let taken = taken_of s m before h.4 in let last : Unkept kept m line t = h.5 in
       let answers = taken.collects.answers in let gains = taken.gains in record {
         unkept = record {
@@ -244,7 +244,7 @@ module _ {T K J : Type 0} (state : K → SinkState) (kept : J → SinkState) whe
 
   -- ---- the whole of a stream
 
-  module _ (fills : ℕ) (old new : SourceState) (s t : Collector T K J) where
+  module _ (fills : ℕ) (old new : SourceState) (s t : Collector T K J W) where
     -- what is so of any lines at which the stream was left
     at_line : (P : List (List ℕ) → Type 0) (Q : Type 0) → ((ls : List (List ℕ)) → P ls → Q) → AtLine fills old new P → Q
     at_line P Q follows (inl h) = follows (ended_lines h.came) h.done
@@ -301,8 +301,8 @@ module _ {T K J : Type 0} (state : K → SinkState) (kept : J → SinkState) whe
 
     until_read : (read : ReadFault) → ReadUntil (CollectsLine state kept) fills old new s t read → Until (Lines (fault_of_read read))
     until_read Memory h = (
-      (h.0, ap (λ (x : Collector T K J). Sink x) h.1, ap (λ (x : Collector T K J). x.ledger.now) h.1),
-      subst (λ (x : Collector T K J). GainsTo s x) (sym h.1) (Gains-none (kept s.journal.now) s.ledger.now.accepted),
+      (h.0, ap (λ (x : Collector T K J W). Sink x) h.1, ap (λ (x : Collector T K J W). x.ledger.now) h.1),
+      subst (λ (x : Collector T K J W). GainsTo s x) (sym h.1) (Gains-none (kept s.journal.now) s.ledger.now.accepted),
     )
     until_read Read h =
         let taken = taken_of s t (ended_lines h.came) h.done in
@@ -339,7 +339,7 @@ module _ {T K J : Type 0} (state : K → SinkState) (kept : J → SinkState) whe
     kept_stream h = (taken_of s t (lines h.came) h.done).same
 
     kept_read : (read : ReadFault) → ReadUntil (CollectsLine state kept) fills old new s t read → KeepsLent s t
-    kept_read Memory h = subst (λ (x : Collector T K J). KeepsLent s x) (sym h.1) (record { ledger = refl; sink = refl; journal = refl })
+    kept_read Memory h = subst (λ (x : Collector T K J W). KeepsLent s x) (sym h.1) (record { ledger = refl; sink = refl; journal = refl })
     kept_read Read h = (taken_of s t (ended_lines h.came) h.done).same
     kept_read Endless h = (taken_of s t (ended_lines h.came) h.done).same
 

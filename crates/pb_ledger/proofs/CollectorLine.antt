@@ -1,5 +1,5 @@
 -- One line that the collector takes.
-use Rattle.std.proofs.Common.{◌≡◌, ℕ, ◌<◌, Bool, true, false, List, [], ◌∷◌, length, nat_lt, MutBor, Result, Ok, Err, IfErr, sym, ap, ◌∙◌, subst, true≢false}
+use Rattle.std.proofs.Common.{◌≡◌, ℕ, ◌<◌, Bool, true, false, List, [], ◌∷◌, length, nat_lt, MutBor, Result, Ok, Err, IfErr, refl, sym, ap, ◌∙◌, subst, true≢false}
 use Rattle.std.proofs.lemmas.Bool.{lt-ltb, ltb-true}
 use Rattle.std.specs.Str.Lines.{strip_carriage_return}
 use Rattle.pb_board.specs.LineEnd.{with_end}
@@ -9,7 +9,9 @@ use Rattle.pb_io.specs.Writes.{Writes}
 use Rattle.pb_io.specs.declared.fault.Fault.TheVariants.{Write}
 use Rattle.pb_games.specs.Submissions.{Submission}
 use Rattle.pb_games.specs.declared.refusal.Refusal.TheVariants.{Long}
-use Rattle.pb_accepted.specs.Accepting.{Answer}
+use Rattle.pb_games.specs.declared.refusal.Refusal.{Refusal}
+use Rattle.pb_accepted.specs.Accepting.{Answer, Step, answer_of, says_new}
+use Rattle.pb_accepted.specs.declared.ledger.Accepted.{Accepted}
 use Rattle.pb_accepted.specs.Ledger.{LedgerState}
 use Rattle.pb_accepted.specs.Replies.{reply_line}
 use Rattle.pb_ledger.specs.Collecting.{Leads}
@@ -20,10 +22,10 @@ use Rattle.pb_ledger.specs.declared.journaling.JournalFault.{JournalFault}
 use Rattle.pb_ledger.specs.declared.journaling.JournalFault.TheVariants.{Journal, Lines}
 use Rattle.pb_ledger.specs.declared.totals.Totals.{Totals}
 use Rattle.pb_ledger.proofs.Gaining.{Brings, Gains-kept, Gains-one, brought, unchanged}
-use Rattle.pb_ledger.proofs.Submitting.{Leads-long, step_of}
+use Rattle.pb_ledger.proofs.Submitting.{Leads-long, Leads-one, step_of}
 
 -- what submitting leaves to be journaled, counted and answered
-pub record Submitted {T K J : Type 0} (s m : Collector T K J) (line : List ℕ) (answer : Answer) (is_new : Bool) : Type 0 where
+pub record Submitted {T K J W : Type 0} (s m : Collector T K J W) (line : List ℕ) (answer : Answer) (is_new : Bool) : Type 0 where
   pub leads : Leads s.ledger.now m.ledger.now (line ∷ []) (answer ∷ [])
   pub grown : is_new ≡ nat_lt (length s.ledger.now.accepted) (length m.ledger.now.accepted)
   pub ledger : m.ledger.ghost_name ≡ s.ledger.ghost_name
@@ -31,8 +33,21 @@ pub record Submitted {T K J : Type 0} (s m : Collector T K J) (line : List ℕ) 
   pub journal : m.journal ≡ s.journal
   pub totals : m.totals ≡ s.totals
 
+-- what submitting a line leaves
+pub submitted_so : {T K J W : Type 0} (s : Collector T K J W) (ledger : LedgerState) (line : List ℕ) (full : Result Accepted Refusal)
+    → Step s.ledger.now.cap s.ledger.now.accepted line (answer_of full) ledger.accepted → says_new full ≡ nat_lt (length s.ledger.now.accepted) (length ledger.accepted)
+    → ledger.basis ≡ s.ledger.now.basis → ledger.cap ≡ s.ledger.now.cap → Submitted s (record s { ledger = record s.ledger { now = ledger } }) line (answer_of full) (says_new full)
+submitted_so s ledger line full step grown basis cap = record {
+  leads = Leads-one s.ledger.now ledger line (answer_of full) step basis cap;
+  grown = grown;
+  ledger = refl;
+  sink = refl;
+  journal = refl;
+  totals = refl;
+}
+
 -- what counting and answering does
-pub record Replied {T K J : Type 0} (state : K → SinkState) (m t : Collector T K J) (line : List ℕ) (answer : Answer) (is_new : Bool) (result : Result (Unit {0}) JournalFault) : Type 0 where
+pub record Replied {T K J W : Type 0} (state : K → SinkState) (m t : Collector T K J W) (line : List ℕ) (answer : Answer) (is_new : Bool) (result : Result (Unit {0}) JournalFault) : Type 0 where
   pub counted : t.totals ≡ with_answer m.totals answer is_new
   pub put : Put (state m.sink.now) (state t.sink.now) result (reply_line line answer)
   pub stops : IfErr result (λ (e : JournalFault). e ≡ Lines Write)
@@ -41,7 +56,7 @@ pub record Replied {T K J : Type 0} (state : K → SinkState) (m t : Collector T
   pub journal : t.journal ≡ m.journal
 
 -- a line that was answered, or whose reply couldn't be put, was taken
-pub takes_answered : {T K J : Type 0} (state : K → SinkState) (kept : J → SinkState) (s t : Collector T K J) (line : List ℕ) (result : Result (Unit {0}) JournalFault)
+pub takes_answered : {T K J W : Type 0} (state : K → SinkState) (kept : J → SinkState) (s t : Collector T K J W) (line : List ℕ) (result : Result (Unit {0}) JournalFault)
     → IfErr result (λ (e : JournalFault). e ≡ Lines Write) → Answered state kept s line result t → CollectsLine state kept s line result t
 takes_answered state kept s t line (Ok u) stops h = h
 takes_answered state kept s t line (Err e) stops h =
@@ -49,9 +64,9 @@ takes_answered state kept s t line (Err e) stops h =
     subst (λ (x : JournalFault). CollectsLine state kept s line (Err x) t) (sym stops) now
 
 -- a line too long to be kept was answered, or its reply couldn't be put
-pub answered_long : {T K J : Type 0} (state : K → SinkState) (kept : J → SinkState) (s t : Collector T K J) (line : List ℕ) (result : Result (Unit {0}) JournalFault)
+pub answered_long : {T K J W : Type 0} (state : K → SinkState) (kept : J → SinkState) (s t : Collector T K J W) (line : List ℕ) (result : Result (Unit {0}) JournalFault)
     → line_limit < length line → Replied state s t line (Err Long) false result → CollectsLine state kept s line result t
-answered_long {T} {K} {J} state kept s t line result long replied =
+answered_long {T} {K} {J} {W} state kept s t line result long replied =
     let same = ap (λ (x : MutBor LedgerState). x.now) replied.ledger in
     takes_answered state kept s t line result replied.stops (record {
       answer = Err Long;
@@ -67,7 +82,7 @@ answered_long {T} {K} {J} state kept s t line result long replied =
       };
     })
 
-module _ {T K J : Type 0} (state : K → SinkState) (kept : J → SinkState) (s m : Collector T K J) (line : List ℕ) (journal : MutBor J) (answer : Answer) (is_new : Bool)
+module _ {T K J W : Type 0} (state : K → SinkState) (kept : J → SinkState) (s m : Collector T K J W) (line : List ℕ) (journal : MutBor J) (answer : Answer) (is_new : Bool)
     (submitted : Submitted s m line answer is_new) where
   abbrev A : List Submission
   A = s.ledger.now.accepted
@@ -122,10 +137,10 @@ module _ {T K J : Type 0} (state : K → SinkState) (kept : J → SinkState) (s 
       subst (λ (x : JournalFault). CollectsLine state kept s line (Err x) (record m { journal = journal })) (sym is) unkept
 
   -- the line was answered, or its reply couldn't be put
-  pub takes_so : (now t : Collector T K J) (result : Result (Unit {0}) JournalFault) → now ≡ record m { journal = journal } → Gains (kept s.journal.now) (kept journal.now) A B
+  pub takes_so : (now t : Collector T K J W) (result : Result (Unit {0}) JournalFault) → now ≡ record m { journal = journal } → Gains (kept s.journal.now) (kept journal.now) A B
       → journal.ghost_name ≡ m.journal.ghost_name → Replied state now t line answer is_new result → CollectsLine state kept s line result t
   takes_so now t result is gains lent reply =
-      let replied : Replied state (record m { journal = journal }) t line answer is_new result = subst (λ (x : Collector T K J). Replied state x t line answer is_new result) is reply in
+      let replied : Replied state (record m { journal = journal }) t line answer is_new result = subst (λ (x : Collector T K J W). Replied state x t line answer is_new result) is reply in
       takes_answered state kept s t line result replied.stops (record {
         answer = answer;
         leads = subst (λ (x : MutBor LedgerState). Leads s.ledger.now x.now (line ∷ []) (answer ∷ [])) (sym replied.ledger) submitted.leads;

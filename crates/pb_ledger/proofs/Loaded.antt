@@ -1,5 +1,5 @@
 -- From the lines that the loader took to what was loaded.
-use Rattle.std.proofs.Common.{if◌then◌else◌, ◌≡◌, ℕ, ◌+◌, ◌*◌, ◌^◌, ◌<◌, ◌≤◌, ◌⊎◌, Bool, true, false, List, [], ◌∷◌, ◌++◌, length, Result, Ok, Err, All, IsOk, IsTrue, OnOk, IfErr, refl, sym, ap, subst, ◌∙◌, inl, inr, arith}
+use Rattle.std.proofs.Common.{if◌then◌else◌, ◌≡◌, ℕ, ◌+◌, ◌*◌, ◌^◌, ◌<◌, ◌≤◌, ◌⊎◌, Bool, true, false, not, List, [], ◌∷◌, ◌++◌, length, Result, Ok, Err, All, IsOk, IsTrue, OnOk, IfErr, refl, sym, ap, subst, ◌∙◌, inl, inr, arith}
 use Rattle.std.specs.Borrow.{MutBor}
 use Rattle.std.proofs.lemmas.List.Elements.{All-cons, All-nil}
 use Rattle.std.proofs.lemmas.List.{length_push}
@@ -47,6 +47,15 @@ long_line line long = false_from_ne_true _ (λ is. short ((bytes_eq-Decides (str
           | inl whole ↦ omega (arith, long, ap length (whole ∙ same))
           | inr more ↦ omega (arith, long, ap length (more ∙ ap (λ xs. xs ++ 13 ∷ []) same))
         ]
+
+-- whether a header comes first, where one line more is none
+header_before : (before : List (List ℕ)) (line : List ℕ) → (before ≡ [] → is_header line ≡ false) → has_header before ≡ has_header (before ++ line ∷ [])
+header_before [] line none = sym (none refl)
+header_before (x ∷ before) line none = refl
+
+pub not_true : (b : Bool) → not b ≡ true → b ≡ false
+not_true true h = let no : false ≡ true = h in absurd (cc)
+not_true false h = refl
 
 -- what comes of a line that is refused
 pub judged_refused : (is_saved : Bool) (n : ℕ) (A B : List Submission) (e : Refusal) → B ≡ A → Judged is_saved n A B (Err e) (Err (error_at n e))
@@ -230,6 +239,32 @@ module _ {T : Type 0} where
 
     pub stopped : (e : LoadError) → StopsAtLast LoadsLine s ls e t → Stopped s t e ls × SameLedger s.ledger t.ledger
     stopped e h = stopped_by e h.0 h.1 h.2 h.3 (whole s fresh h.2 h.0 h.4) h.5
+
+  -- what the loader knows where a line stopped it
+  pub record LastLine (n : ℕ) (t : Loader T) (ls : List (List ℕ)) : Type 0 where
+    pub number : n ≡ t.lines
+    pub lines : t.lines ≡ length ls
+    pub saved : t.is_saved ≡ has_header ls
+
+  pub last_line : (s t : Loader T) (ls : List (List ℕ)) → IsFresh s → length ls < 2 ^ 64 → (n : ℕ) → StopsAtLast LoadsLine s ls (error.Line n) t → LastLine n t ls
+  last_line s t ls fresh few n h = by h.5
+    where
+      w : Whole s h.2 h.0
+      w = whole s fresh h.2 h.0 h.4
+
+      long : length ls ≡ length h.0 + 1
+      long = ap length h.3 ∙ length_push h.0 h.1
+
+      counted : h.2.lines ≡ length h.0
+      counted = w.lines (omega (arith, few, long))
+
+      by : LoadsLine h.2 h.1 (Err (error.Line n)) t → LastLine n t ls
+      by (header zero is answer same) = let no : Err (error.Line n) ≡ Ok tt = answer in cc
+      by (submission other sub) = record {
+        number = sub.judged.0 ∙ sym sub.lines;
+        lines = omega (arith, sub.lines, counted, long, few);
+        saved = sub.saved ∙ w.saved ∙ header_before h.0 h.1 (λ none. other (counted ∙ ap length none)) ∙ ap has_header (sym h.3);
+      }
 
   -- ---- the whole of a stream
 

@@ -1,79 +1,55 @@
--- What passed through what knows the end of a source, as the source's own.
-use Rattle.std.proofs.Common.{◌≡◌, ◌≢◌, ◌∙◌, ℕ, Ok, ◌%◌, ◌+◌, ◌-◌, ◌*◌, ◌^◌, ◌<◌, ◌≤◌, true, false, List, [], ◌∷◌, ◌++◌, length, get_or, take, drop, refl, sym, ap, inl, inr, arith, append-nil, append_assoc}
-use Rattle.std.proofs.Math.Seq.{get_or-append_seam}
-use Rattle.std.proofs.lemmas.Bool.{lt-ltb, ne_eqb}
-use Rattle.std.proofs.lemmas.List.{get_or-take, length-append, length-take, length_push, take_all, take_more}
-use Rattle.std.proofs.lemmas.List.Elements.{All-cons, All-nil}
-use Rattle.std.specs.Prelude.{nat_lt}
+-- What passed through what counts the line feeds of a source, as the source's own.
+use Rattle.std.proofs.Common.{if◌then◌else◌, ◌≡◌, ◌∙◌, ◌==◌, ℕ, Ok, ◌%◌, ◌+◌, ◌-◌, ◌*◌, ◌^◌, ◌<◌, ◌≤◌, true, false, cond, List, [], ◌∷◌, ◌++◌, length, take, drop, sym, ap, inl, inr, arith, append-nil}
+use Rattle.std.proofs.lemmas.Bool.{false_from_ne_true, true_from_ne_false}
+use Rattle.std.proofs.lemmas.List.{length-take}
+use Rattle.std.proofs.lemmas.List.Splits.{length-slice_split}
+use Rattle.std.proofs.lemmas.List.Sums.{count_by-le-length, sum_by-append}
 use Rattle.pb_io.specs.Source.{Fill, SourceState}
 use Rattle.pb_io.specs.Reads.{Reads, ReadsAll, ReadsFront, ReadsOn, ReadsSome, ReadsToFault, chunk_len}
-use Rattle.pb_io.specs.Lines.{is_torn, last_piece}
+use Rattle.pb_io.specs.Lines.{ended_lines, is_torn, lines, pieces}
 use Rattle.pb_io.specs.LineTask.{AtEnd, AtEndedLine, AtLine}
-use Rattle.pb_io.proofs.LineLemmas.{IsQuiet, is_line_feed, last_piece-ended, last_piece-quiet}
+use Rattle.pb_io.proofs.LineLemmas.{is_line_feed}
 use Rattle.pb_accepted.specs.Ledger.{LedgerState}
-use Rattle.pb_ledger.specs.Ending.{before, last_byte, through}
+use Rattle.pb_ledger.specs.Ending.{before, feeds, through}
 use Rattle.pb_ledger.specs.Loading.{LoadsUntil}
 use Rattle.pb_ledger.specs.declared.loading.LoadError.{LoadError}
 use Rattle.pb_ledger.specs.declared.loading.LoadError.TheVariants.{Line, Read, Endless, Memory}
 
--- ---- the last byte
+-- ---- line feeds and lines
 
-last_push : (bytes : List ℕ) (b : ℕ) → last_byte (bytes ++ b ∷ []) ≡ b
-last_push bytes b =
-    let last : length (bytes ++ b ∷ []) - 1 ≡ length bytes = omega (arith, length_push bytes b) in
-    ap (λ i. get_or (bytes ++ b ∷ []) i 0) last ∙ get_or-append_seam bytes b [] 0
+pub feeds-append : (front bytes : List ℕ) → feeds (front ++ bytes) ≡ feeds front + feeds bytes
+feeds-append = sum_by-append (λ b. cond (b == 10) 1 0)
 
--- bytes are those before the last one, and that
-with_last : (bytes : List ℕ) → 0 < length bytes → bytes ≡ take (length bytes - 1) bytes ++ last_byte bytes ∷ []
-with_last bytes some =
-    let count : length bytes ≡ length bytes - 1 + 1 = omega (arith, some) in
-    sym (take_all (length bytes) bytes (omega arith)) ∙ ap (λ n. take n bytes) count ∙ take_more bytes (length bytes - 1) 0 (omega (arith, some))
+pub few_feeds : (bytes : List ℕ) → feeds bytes ≤ length bytes
+few_feeds = count_by-le-length is_line_feed
 
--- it is that of what comes behind, where that has bytes
-pub last_behind : (front bytes : List ℕ) → 0 < length bytes → last_byte (front ++ bytes) ≡ last_byte bytes
-last_behind front bytes some =
-    let rest : List ℕ = take (length bytes - 1) bytes in
-    let last : ℕ = last_byte bytes in
-    ap (λ bs. last_byte (front ++ bs)) (with_last bytes some) ∙ ap last_byte (sym (append_assoc front rest (last ∷ []))) ∙ last_push (front ++ rest) last
+pub length-pieces : (bytes : List ℕ) → length (pieces bytes) ≡ feeds bytes + 1
+length-pieces = length-slice_split is_line_feed
 
--- whether a line is torn is told by it
-ended_by : (bytes : List ℕ) → is_torn (bytes ++ 10 ∷ []) ≡ false
-ended_by bytes = ap (λ p. nat_lt 0 (length p)) (last_piece-ended bytes [] (All-nil (λ b. is_line_feed b ≡ false)))
+-- each ends a line
+pub length-ended : (bytes : List ℕ) → length (ended_lines bytes) ≡ feeds bytes
+length-ended bytes = omega (arith, length-take (length (pieces bytes) - 1) (pieces bytes), length-pieces bytes)
 
-torn_by : (bytes : List ℕ) (b : ℕ) → b ≢ 10 → is_torn (bytes ++ b ∷ []) ≡ true
-torn_by bytes b other =
-    let quiet : IsQuiet (b ∷ []) = All-cons (λ b. is_line_feed b ≡ false) b [] (ne_eqb b 10 other) (All-nil (λ b. is_line_feed b ≡ false)) in
-    ap (λ p. nat_lt 0 (length p)) (last_piece-quiet bytes (b ∷ []) quiet)
-    ∙ lt-ltb 0 (length (last_piece bytes ++ b ∷ [])) (omega (arith, length_push (last_piece bytes) b))
+-- and a line is torn where there is one more
+pub lines_torn : (bytes : List ℕ) → is_torn bytes ≡ true → length (lines bytes) ≡ feeds bytes + 1
+lines_torn bytes torn = ap (λ b. length (if b then pieces bytes else ended_lines bytes)) torn ∙ length-pieces bytes
 
-pub is_ended : (bytes : List ℕ) → 0 < length bytes → last_byte bytes ≡ 10 → is_torn bytes ≡ false
-is_ended bytes some is =
-    ap is_torn (with_last bytes some) ∙ ap (λ b. is_torn (take (length bytes - 1) bytes ++ b ∷ [])) is ∙ ended_by (take (length bytes - 1) bytes)
+pub lines_whole : (bytes : List ℕ) → is_torn bytes ≡ false → length (lines bytes) ≡ feeds bytes
+lines_whole bytes whole = ap (λ b. length (if b then pieces bytes else ended_lines bytes)) whole ∙ length-ended bytes
 
-pub is_left : (bytes : List ℕ) → 0 < length bytes → last_byte bytes ≢ 10 → is_torn bytes ≡ true
-is_left bytes some other = ap is_torn (with_last bytes some) ∙ torn_by (take (length bytes - 1) bytes) (last_byte bytes) other
+pub is_left : (bytes : List ℕ) → feeds bytes < length (lines bytes) → is_torn bytes ≡ true
+is_left bytes more = true_from_ne_false (is_torn bytes) (λ whole. omega (arith, more, lines_whole bytes whole))
+
+pub is_ended : (bytes : List ℕ) → length (lines bytes) ≤ feeds bytes → is_torn bytes ≡ false
+is_ended bytes few = false_from_ne_true (is_torn bytes) (λ torn. omega (arith, few, lines_torn bytes torn))
 
 -- ---- one fill
 
--- the last byte of what came is the last one
-pub last_came : (n : ℕ) (handed handed' slice : List ℕ) → handed' ≡ handed ++ take n slice → 0 < n → n ≤ length slice → last_byte handed' ≡ get_or slice (n - 1) 0
-last_came n handed handed' slice more some within =
-    let long : length (take n slice) ≡ n = omega (arith, length-take n slice, within) in
-    ap last_byte more ∙ last_behind handed (take n slice) (omega (arith, long, some)) ∙ ap (λ k. get_or (take n slice) (k - 1) 0) long
-    ∙ get_or-take n slice (n - 1) 0 (omega (arith, some))
-
--- and where nothing came it stays
-pub none_came : (count n last : ℕ) (handed handed' slice : List ℕ) → handed' ≡ handed ++ take n slice → n ≤ 0 → (count ≢ 0 → last_byte handed ≡ last)
-    → (count + n) % 2 ^ 64 ≢ 0 → last_byte handed' ≡ last
-none_came count n last handed handed' slice more none known some =
-    let zero_is : n ≡ 0 = omega (arith, none) in
-    ap last_byte (more ∙ ap (λ k. handed ++ take k slice) zero_is ∙ append-nil handed) ∙ known (λ is. some (omega (arith, is, zero_is)))
-
-pub fill_through : {E : Type 0} (name count n : ℕ) (old new : SourceState) (slice : List ℕ) → Fill {E = E} old new (Ok n) slice
-    → Fill {E = E} (through name count old) (through name ((count + n) % 2 ^ 64) new) (Ok n) slice
-fill_through name count n old new slice fill =
-    let long : length new.handed ≡ length old.handed + n = omega (arith, ap length fill.handed, length-append old.handed (take n slice), length-take n slice, fill.within) in
-    let stays : before ((count + n) % 2 ^ 64) new.handed ≡ before count old.handed = omega (arith, long) in record {
+pub fill_through : {E : Type 0} (name count n came : ℕ) (old new : SourceState) (slice : List ℕ) → came ≡ feeds (take n slice) → Fill {E = E} old new (Ok n) slice
+    → Fill {E = E} (through name count old) (through name ((count + came) % 2 ^ 64) new) (Ok n) slice
+fill_through name count n came old new slice is fill =
+    let more : feeds new.handed ≡ feeds old.handed + came = ap feeds fill.handed ∙ feeds-append old.handed (take n slice) ∙ ap (λ k. feeds old.handed + k) (sym is) in
+    let stays : before ((count + came) % 2 ^ 64) new.handed ≡ before count old.handed = omega (arith, more) in record {
       within = fill.within;
       bytes = fill.bytes;
       handed = ap (λ k. name ∷ k ∷ new.handed) stays ∙ ap (λ bs. name ∷ before count old.handed ∷ bs) fill.handed;
@@ -155,14 +131,9 @@ module _ (name name' count : ℕ) (source source' : SourceState) where
     until_same old new Memory (inl h) = (passed [] (ap (λ (s : SourceState). s.handed) h.0 ∙ sym (append-nil Old.handed))).same
     until_same old new Memory (inr h) = line_same _ h
 
-    -- the byte that is known as the last one is that of the bytes that came
-    module _ (came : List ℕ) (small : fills < 2 ^ 32) (reads : ReadsAll chunk_len fills Old New came) (some : 0 < length came) (last : ℕ) (known : count ≢ 0 → last_byte source'.handed ≡ last) where
-      counted_some : count ≢ 0
-      counted_some none =
-          let p = passed came reads.some.reads.handed in
-          let few : length came ≤ fills * 65536 = reads.some.reads.few in
-          let same : before 0 source'.handed ≡ before 0 source.handed = ap (λ c. before c source'.handed) (sym none) ∙ p.counted in
-          omega (arith, same, few, some, small, ap length p.handed ∙ length-append source.handed came)
-
-      pub last_is : last_byte came ≡ last
-      last_is = sym (last_behind source.handed came some) ∙ ap last_byte (sym (passed came reads.some.reads.handed).handed) ∙ known counted_some
+    -- so many line feeds came
+    pub count_is : (came : List ℕ) → fills < 2 ^ 32 → count < 2 ^ 64 → New.handed ≡ Old.handed ++ came → length came ≤ fills * 65536 → count ≡ feeds came
+    count_is came small inside handed few =
+        let p = passed came handed in
+        let more : feeds source'.handed ≡ feeds source.handed + feeds came = ap feeds p.handed ∙ feeds-append source.handed came in
+        omega (arith, p.counted, more, few_feeds came, few, small, inside)

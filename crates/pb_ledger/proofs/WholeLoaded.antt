@@ -1,77 +1,217 @@
--- From the lines that the loader took, of bytes that passed through what knows their end, to what was
--- loaded whole or cut.
-use Rattle.std.proofs.Common.{◌≡◌, ◌≢◌, ◌∙◌, ℕ, ◌*◌, ◌^◌, ◌<◌, ◌≤◌, Bool, true, false, ◌&&◌, List, [], ◌∷◌, All, length, refl, sym, ap, inl, arith}
+-- From the lines that the loader took, of bytes whose line feeds were counted as they passed, to what
+-- was loaded whole or cut.
+use Rattle.std.proofs.Common.{◌≡◌, ◌∙◌, ℕ, ◌*◌, ◌^◌, ◌<◌, ◌≤◌, ◌⊎◌, Bool, true, false, ◌&&◌, List, ◌++◌, All, length, nat_lt, Ok, Err, refl, sym, ap, subst, inl, inr, arith}
 use Rattle.std.proofs.Math.Bool.{and-false}
+use Rattle.std.proofs.lemmas.Bool.{ltb-false, ltb-true}
+use Rattle.std.proofs.lemmas.List.{append_cancel_left, length-append}
 use Rattle.pb_io.specs.Source.{SourceState}
-use Rattle.pb_io.specs.Lines.{is_torn, lines}
-use Rattle.pb_io.specs.LineTask.{TakesStream}
+use Rattle.pb_io.specs.Lines.{ended_lines, is_torn, lines}
+use Rattle.pb_io.specs.LineTask.{AtEnd, AtEndedLine, AtLine, StopsAtLast, TakesStream, TakesUntil}
+use Rattle.pb_io.specs.declared.fault.ReadFault.TheVariants as fault
 use Rattle.pb_io.proofs.LineLemmas.{length-lines}
 use Rattle.pb_ledger.specs.declared.loading.Loader.{Loader}
 use Rattle.pb_ledger.specs.declared.loading.LoadError.{LoadError}
 use Rattle.pb_ledger.specs.declared.loading.LoadError.TheVariants.{Line, Read, Endless, Memory}
-use Rattle.pb_ledger.specs.Ending.{last_byte, through}
+use Rattle.pb_ledger.specs.declared.whole.NotWhole.TheVariants.{Cut, Load}
+use Rattle.pb_ledger.specs.Ending.{feeds, through}
 use Rattle.pb_ledger.specs.Lending.{SameLedger}
-use Rattle.pb_ledger.specs.Loader.{LoadsLine}
+use Rattle.pb_ledger.specs.Loader.{LoadsLine, load_error}
 use Rattle.pb_ledger.specs.Loading.{LoadsUntil, has_header}
-use Rattle.pb_ledger.specs.Whole.{CutAt, LoadsBytes, LoadsWholeUntil, is_cut}
-use Rattle.pb_ledger.proofs.Loaded.{IsFresh, Whole, whole}
+use Rattle.pb_ledger.specs.Whole.{CutAt, LoadsBytes, LoadsCut, LoadsWholeUntil, TellsCut, is_cut, load_error_of, not_whole_by}
+use Rattle.pb_ledger.proofs.Loaded.{IsFresh, LastLine, Whole, last_line, whole}
 use Rattle.pb_poly.specs.Reading.{Tells}
 use Rattle.pb_poly.proofs.ToldReads.{all_came}
 use Rattle.pb_games.specs.Submissions.{IsSubmission, Submission}
 use Rattle.pb_accepted.specs.Ledger.{LedgerState}
 use Rattle.pb_ledger.specs.Saving.{Saved}
 use Rattle.pb_ledger.proofs.WholeForms.{saved_is_whole}
-use Rattle.pb_ledger.proofs.Passed.{Passed, all_of, is_ended, is_left, last_is, passed}
+use Rattle.pb_ledger.proofs.Passed.{all_of, count_is, feeds-append, few_feeds, is_ended, is_left, length-ended, lines_torn, passed}
 
--- no bytes have no header
-some_bytes : (bytes : List ℕ) → has_header (lines bytes) ≡ true → 0 < length bytes
-some_bytes [] h = let no : false ≡ true = h in cc
-some_bytes (b ∷ bs) h = omega arith
+-- bytes that are cut are torn
+torn_of : (a b : Bool) → (a && b) ≡ true → b ≡ true
+torn_of true b h = h
+torn_of false b h = let no : false ≡ true = h in cc
 
-module _ {T : Type 0} (fills name name' count : ℕ) (source source' : SourceState) (s t : Loader T) (fresh : IsFresh s) (small : fills < 2 ^ 32) (last : ℕ)
-    (known : count ≢ 0 → last_byte source'.handed ≡ last) (h : TakesStream LoadsLine fills (through name 0 source) (through name' count source') s t) where
-  all : Whole s t (lines h.came)
-  all = whole s fresh t (lines h.came) h.done
+-- ---- what is told of a cut
 
-  pub loader_keeps : SameLedger s.ledger t.ledger
-  loader_keeps = all.keeps
+module _ (fills : ℕ) (source source' : SourceState) where
+  tells_load : (e : LoadError) → ((n : ℕ) → e ≡ Line n → CutAt fills source source' n → ⊥) → TellsCut fills source source' (Err (Load e))
+  tells_load e whole = record {
+    so = λ n (is : Err (Load e) ≡ Err (Cut n)). absurd (cc);
+    no_line = λ n k (is : Err (Load e) ≡ Err (Load (Line n))). let same : e ≡ Line n = cc in whole n same k;
+  }
 
-  pub same_source : name' ≡ name
-  same_source = (passed name name' count source source' h.came h.reads.some.reads.handed).same
+  pub cut_of : (cap : ℕ) (B : List Submission) (n : ℕ) → LoadsCut cap fills source source' B n → CutAt fills source source' n
+  cut_of cap B n h = record { came = h.came; reads = h.reads; cut = h.cut; number = h.number }
 
-  loads_bytes : is_cut h.came ≡ false → LoadsBytes s.ledger.now.cap fills source source' t.ledger.now.accepted
-  loads_bytes whole = record { came = h.came; reads = all_of name name' count source source' 65536 fills h.came h.reads; whole = whole; loads = all.loads }
+  pub tells_cut : (n : ℕ) → CutAt fills source source' n → TellsCut fills source source' (Err (Cut n))
+  tells_cut n at = record {
+    so = λ m (is : Err (Cut n) ≡ Err (Cut m)). let same : n ≡ m = cc in subst (λ k. CutAt fills source source' k) same at;
+    no_line = λ m k (is : Err (Cut n) ≡ Err (Load (Line m))). cc;
+  }
 
-  -- a header came first, and no LF last
-  module _ (saved : t.is_saved ≡ true) where
-    header_came : has_header (lines h.came) ≡ true
-    header_came = sym all.saved ∙ saved
+  pub tells_none : (n : ℕ) → TellsCut fills source source' (Ok n)
+  tells_none n = record {
+    so = λ m (is : Ok n ≡ Err (Cut m)). absurd (cc);
+    no_line = λ m k (is : Ok n ≡ Err (Load (Line m))). cc;
+  }
 
-    some : 0 < length h.came
-    some = some_bytes h.came header_came
+-- it stands for the error of loading
+pub stands_for : (e : LoadError) (is_cut : Bool) → load_error_of (not_whole_by e is_cut) ≡ e
+stands_for (Line n) true = refl
+stands_for (Line n) false = refl
+stands_for Read is_cut = refl
+stands_for Endless is_cut = refl
+stands_for Memory is_cut = refl
 
-    ends_so : last_byte h.came ≡ last
-    ends_so = last_is name name' count source source' fills h.came small h.reads some last known
+-- ---- from the bytes that came
 
-    pub cut_at : last ≢ 10 → CutAt s.ledger.now.cap fills source source' t.ledger.now.accepted t.lines
-    cut_at other =
-        let torn : is_torn h.came ≡ true = is_left h.came some (λ is. other (sym ends_so ∙ is)) in
-        let few : length h.came ≤ fills * 65536 = h.reads.some.reads.few in record {
-          came = h.came;
-          reads = all_of name name' count source source' 65536 fills h.came h.reads;
-          cut = ap (λ b. b && is_torn h.came) header_came ∙ torn;
-          number = all.lines (omega (arith, few, small, length-lines h.came));
-          loads = all.loads;
-        }
+-- what is known of the lines by whether they are cut
+pub is_cut_so : (saved : Bool) (count lines : ℕ) → (saved && nat_lt count lines) ≡ true → (saved ≡ true) × (count < lines)
+is_cut_so true count lines h = (refl, ltb-true count lines h)
+is_cut_so false count lines h = let no : false ≡ true = h in absurd (cc)
 
-    pub ended_whole : last ≡ 10 → LoadsBytes s.ledger.now.cap fills source source' t.ledger.now.accepted
-    ended_whole is =
-        let ended : is_torn h.came ≡ false = is_ended h.came some (ends_so ∙ is) in
-        loads_bytes (ap (λ b. has_header (lines h.came) && b) ended ∙ and-false (has_header (lines h.came)))
+pub is_whole_so : (saved : Bool) (count lines : ℕ) → (saved && nat_lt count lines) ≡ false → (saved ≡ false) ⊎ (lines ≤ count)
+is_whole_so true count lines h = inr (ltb-false count lines h)
+is_whole_so false count lines h = inl refl
 
-  -- an old list
-  pub old_whole : t.is_saved ≡ false → LoadsBytes s.ledger.now.cap fills source source' t.ledger.now.accepted
-  old_whole old = loads_bytes (ap (λ b. b && is_torn h.came) (sym all.saved ∙ old))
+module _ {T : Type 0} (fills name name' count : ℕ) (source source' : SourceState) (s t : Loader T) (fresh : IsFresh s) (small : fills < 2 ^ 32) (inside : count < 2 ^ 64) where
+  abbrev Old : SourceState
+  Old = through name 0 source
+
+  abbrev New : SourceState
+  New = through name' count source'
+
+  -- they are all that were handed out
+  came_same : (came other : List ℕ) → New.handed ≡ Old.handed ++ came → source'.handed ≡ source.handed ++ other → other ≡ came
+  came_same came other h k = append_cancel_left source.handed other came (sym k ∙ (passed name name' count source source' came h).handed)
+
+  -- the bytes that came are cut, where the loader knows the header and took a line that has no end
+  module _ (came : List ℕ) (counted : count ≡ feeds came) (saved : t.is_saved ≡ has_header (lines came)) (numbered : t.lines ≡ length (lines came)) where
+    cut_so : t.is_saved ≡ true → count < t.lines → is_cut came ≡ true
+    cut_so is more = ap (λ b. b && is_torn came) (sym saved ∙ is) ∙ is_left came (omega (arith, more, counted, numbered))
+
+    whole_so : (t.is_saved ≡ false) ⊎ (t.lines ≤ count) → is_cut came ≡ false
+    whole_so (inl is) = ap (λ b. b && is_torn came) (sym saved ∙ is)
+    whole_so (inr few) =
+        ap (λ b. has_header (lines came) && b) (is_ended came (omega (arith, few, counted, numbered))) ∙ and-false (has_header (lines came))
+
+  -- all lines were taken
+  module _ (h : TakesStream LoadsLine fills Old New s t) where
+    all : Whole s t (lines h.came)
+    all = whole s fresh t (lines h.came) h.done
+
+    pub loader_keeps : SameLedger s.ledger t.ledger
+    loader_keeps = all.keeps
+
+    pub same_source : name' ≡ name
+    same_source = (passed name name' count source source' h.came h.reads.some.reads.handed).same
+
+    few : length h.came ≤ fills * 65536
+    few = h.reads.some.reads.few
+
+    counted : count ≡ feeds h.came
+    counted = count_is name name' count source source' fills h.came small inside h.reads.some.reads.handed few
+
+    numbered : t.lines ≡ length (lines h.came)
+    numbered = all.lines (omega (arith, few, small, length-lines h.came))
+
+    pub cut_at : t.is_saved ≡ true → count < t.lines → LoadsCut s.ledger.now.cap fills source source' t.ledger.now.accepted t.lines
+    cut_at is more = record {
+      came = h.came;
+      reads = all_of name name' count source source' 65536 fills h.came h.reads;
+      cut = cut_so h.came counted all.saved numbered is more;
+      number = numbered;
+      loads = all.loads;
+    }
+
+    pub loads_bytes : (t.is_saved ≡ false) ⊎ (t.lines ≤ count) → LoadsBytes s.ledger.now.cap fills source source' t.ledger.now.accepted
+    loads_bytes is = record {
+      came = h.came;
+      reads = all_of name name' count source source' 65536 fills h.came h.reads;
+      whole = whole_so h.came counted all.saved numbered is;
+      loads = all.loads;
+    }
+
+  -- a line stopped the loader
+  module _ (n : ℕ) where
+    abbrev Stops : List (List ℕ) → Type 0
+    Stops ls = StopsAtLast LoadsLine s ls (Line n) t
+
+    pub at_line : TakesUntil (λ fault e. e ≡ load_error fault) LoadsLine fills Old New s t (Line n) → AtLine fills Old New Stops
+    at_line (inl (fault.Read, is, until)) = cc
+    at_line (inl (fault.Endless, is, until)) = cc
+    at_line (inl (fault.Memory, is, until)) = cc
+    at_line (inr h) = h
+
+    -- one that an LF ended
+    module _ (h : AtEndedLine fills Old New Stops) where
+      front_counted : count ≡ feeds (h.came ++ h.reads.0)
+      front_counted = count_is name name' count source source' fills (h.came ++ h.reads.0) small inside h.reads.1.reads.handed h.reads.1.reads.few
+
+      front : LastLine n t (ended_lines h.came)
+      front =
+          let few : length (h.came ++ h.reads.0) ≤ fills * 65536 = h.reads.1.reads.few in
+          last_line s t (ended_lines h.came) fresh
+          (omega (arith, few, small, length-append h.came h.reads.0, length-ended h.came, few_feeds h.came)) n h.done
+
+      none_more : t.lines ≤ feeds (h.came ++ h.reads.0)
+      none_more = omega (arith, front.lines, length-ended h.came, feeds-append h.came h.reads.0)
+
+    -- the last one of all
+    module _ (h : AtEnd fills Old New Stops) where
+      few_came : length h.came ≤ fills * 65536
+      few_came = h.reads.some.reads.few
+
+      all_counted : count ≡ feeds h.came
+      all_counted = count_is name name' count source source' fills h.came small inside h.reads.some.reads.handed few_came
+
+      last : LastLine n t (lines h.came)
+      last = last_line s t (lines h.came) fresh (omega (arith, few_came, small, length-lines h.came)) n h.done
+
+    pub number_is : AtLine fills Old New Stops → n ≡ t.lines
+    number_is (inl h) = (front h).number
+    number_is (inr h) = (last h).number
+
+    pub stops_cut : AtLine fills Old New Stops → t.is_saved ≡ true → count < t.lines → CutAt fills source source' t.lines
+    stops_cut (inl h) is more = absurd (omega (arith, more, none_more h, front_counted h))
+    stops_cut (inr h) is more = record {
+      came = h.came;
+      reads = all_of name name' count source source' 65536 fills h.came h.reads;
+      cut = cut_so h.came (all_counted h) (last h).saved (last h).lines is more;
+      number = (last h).lines;
+    }
+
+    pub stops_whole : AtLine fills Old New Stops → (t.is_saved ≡ false) ⊎ (t.lines ≤ count) → CutAt fills source source' t.lines → ⊥
+    stops_whole (inl h) is k =
+        let same : k.came ≡ h.came ++ h.reads.0 = came_same (h.came ++ h.reads.0) k.came h.reads.1.reads.handed k.reads.some.reads.handed in
+        omega (arith, none_more h, ap feeds same, k.number, lines_torn k.came (torn_of (has_header (lines k.came)) (is_torn k.came) k.cut))
+    stops_whole (inr h) is k =
+        let same : k.came ≡ h.came = came_same h.came k.came h.reads.some.reads.handed k.reads.some.reads.handed in
+        let no : true ≡ false = sym k.cut ∙ ap is_cut same ∙ whole_so h.came (all_counted h) (last h).saved (last h).lines is in
+        cc
+
+  -- ---- what is told of a cut, by whether the lines are
+
+  abbrev Until : LoadError → Type 0
+  Until = TakesUntil (λ fault e. e ≡ load_error fault) LoadsLine fills Old New s t
+
+  tells_line : (n : ℕ) (is_cut : Bool) → Until (Line n) → is_cut ≡ (t.is_saved && nat_lt count t.lines) → TellsCut fills source source' (Err (not_whole_by (Line n) is_cut))
+  tells_line n true until is =
+      let so = is_cut_so t.is_saved count t.lines (sym is) in
+      let here = at_line n until in
+      tells_cut fills source source' n (subst (λ k. CutAt fills source source' k) (sym (number_is n here)) (stops_cut n here so.0 so.1))
+  tells_line n false until is =
+      let so = is_whole_so t.is_saved count t.lines (sym is) in
+      let here = at_line n until in
+      tells_load fills source source' (Line n) (λ m same k.
+      let equal : n ≡ m = cc in stops_whole n here so (subst (λ k. CutAt fills source source' k) (sym equal ∙ number_is n here) k))
+
+  pub tells_by : (e : LoadError) (is_cut : Bool) → Until e → is_cut ≡ (t.is_saved && nat_lt count t.lines) → TellsCut fills source source' (Err (not_whole_by e is_cut))
+  tells_by (Line n) is_cut until is = tells_line n is_cut until is
+  tells_by Read is_cut until is = tells_load fills source source' Read (λ n (same : Read ≡ Line n) k. cc)
+  tells_by Endless is_cut until is = tells_load fills source source' Endless (λ n (same : Endless ≡ Line n) k. cc)
+  tells_by Memory is_cut until is = tells_load fills source source' Memory (λ n (same : Memory ≡ Line n) k. cc)
 
 -- how it ended with an error
 pub whole_until : (fills : ℕ) (source source' : SourceState) (old new : LedgerState) (e : LoadError) → LoadsUntil fills source source' old new e
@@ -82,9 +222,9 @@ whole_until fills source source' old new Endless h = h
 whole_until fills source source' old new Memory h = h
 
 -- what was saved isn't cut
-pub saved_not_cut : (fills : ℕ) (source source' : SourceState) (cap : ℕ) (B A : List Submission) (bytes : List ℕ) → All IsSubmission A → Saved A bytes
-    → Tells fills source source' bytes → (n : ℕ) → CutAt cap fills source source' B n → ⊥
-saved_not_cut fills source source' cap B A bytes games saved tells n h =
+pub saved_not_cut : (fills : ℕ) (source source' : SourceState) (A : List Submission) (bytes : List ℕ) → All IsSubmission A → Saved A bytes
+    → Tells fills source source' bytes → (n : ℕ) → CutAt fills source source' n → ⊥
+saved_not_cut fills source source' A bytes games saved tells n h =
     let told = all_came 65536 fills source source' bytes tells.told h.came h.reads in
     let no : true ≡ false = sym h.cut ∙ ap is_cut (sym told) ∙ saved_is_whole A bytes games saved in
     cc

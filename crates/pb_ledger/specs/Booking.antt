@@ -1,5 +1,5 @@
 -- The book of a ledger as the bytes of a file, which are put part by part.
-use Rattle.std.specs.Prelude.{◌≡◌, ℕ, true, List, take, Result, Ok, Err}
+use Rattle.std.specs.Prelude.{◌≡◌, ℕ, ◌-◌, ◌^◌, min, true, List, length, take, Result, Ok, Err, IfOk}
 use Rattle.std.specs.Io.KnownBytes.{Appends}
 use Rattle.pb_io.specs.Sink.{AwaitsFlush, Lasts, SinkState}
 use Rattle.pb_io.specs.Writes.{Writes}
@@ -10,10 +10,11 @@ use Rattle.pb_accepted.specs.Ledger.{LedgerState}
 use Rattle.pb_ledger.specs.declared.booking.WriteFault.{WriteFault}
 use Rattle.pb_ledger.specs.declared.booking.WriteFault.TheVariants as fault
 
--- these are the bytes of the book of the games that are held
-abbrev pub BookText : LedgerState → List ℕ → Type 0
-BookText ledger bytes =
-    (book : List Entry) × IsBook ledger.basis ledger.accepted book × BookBytes book bytes
+-- these are the bytes of the book of the games that are held, and this is how many entries it has,
+-- or 2 ^ 64 - 1 where it has more
+abbrev pub BookText : LedgerState → List ℕ → ℕ → Type 0
+BookText ledger bytes count = (book : List Entry) × IsBook ledger.basis ledger.accepted book
+    × BookBytes book bytes × (count ≡ min (length book) (2 ^ 64 - 1))
 
 -- These bytes were put, and nothing was handed on.
 pub record PutsOn (old new : SinkState) (bytes : List ℕ) : Type 0 where
@@ -26,7 +27,13 @@ pub record PutsOn (old new : SinkState) (bytes : List ℕ) : Type 0 where
 -- What a call does that puts bytes and then flushes once, and may want memory on the way: all of
 -- these bytes were put and then handed on; or the sink has failed, or memory was wanting, and of
 -- these bytes a front was put.
-abbrev pub WritesOrWants : SinkState → SinkState → Result (Unit {0}) WriteFault → List ℕ → Type 0
-WritesOrWants old new (Ok done) bytes = Writes {E = WriteFault} old new (Ok done) bytes
+abbrev pub WritesOrWants : {A : Type 0} → SinkState → SinkState → Result A WriteFault → List ℕ
+    → Type 0
+WritesOrWants old new (Ok done) bytes = Writes {E = WriteFault} old new (Ok tt) bytes
 WritesOrWants old new (Err fault.Write) bytes = Writes old new (Err fault.Write) bytes
 WritesOrWants old new (Err fault.Memory) bytes = (count : ℕ) × PutsOn old new (take count bytes)
+
+-- what a call does that writes the book, and answers how many entries it has
+abbrev pub WritesBook : LedgerState → SinkState → SinkState → Result ℕ WriteFault → Type 0
+WritesBook ledger old new answer = (bytes : List ℕ) × (count : ℕ) × BookText ledger bytes count
+    × WritesOrWants old new answer bytes × IfOk answer (λ n. n ≡ count)

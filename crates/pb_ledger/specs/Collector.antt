@@ -26,16 +26,16 @@ with_answer totals (Err e) is_new =
     record totals { lines = next_count totals.lines; refused = next_count totals.refused }
 
 -- the same ledger, sink and journal are lent
-pub record KeepsLent {T K J : Type 0} (s t : Collector T K J) : Type 0 where
+pub record KeepsLent {T K J W : Type 0} (s t : Collector T K J W) : Type 0 where
   pub ledger : t.ledger.ghost_name ≡ s.ledger.ghost_name
   pub sink : t.sink.ghost_name ≡ s.sink.ghost_name
   pub journal : t.journal.ghost_name ≡ s.journal.ghost_name
 
 -- The line was submitted, counted as a new game where the ledger has grown, and its reply put; the
 -- game that it brought, if any, is on the journal.
-pub record Answered {T K J : Type 0} (state : K → SinkState) (kept : J → SinkState)
-    (s : Collector T K J) (line : List ℕ) (result : Result (Unit {0}) JournalFault)
-    (t : Collector T K J) : Type 0 where
+pub record Answered {T K J W : Type 0} (state : K → SinkState) (kept : J → SinkState)
+    (s : Collector T K J W) (line : List ℕ) (result : Result (Unit {0}) JournalFault)
+    (t : Collector T K J W) : Type 0 where
   pub answer : Answer
   pub leads : Leads s.ledger.now t.ledger.now (line ∷ []) (answer ∷ [])
   pub counted : t.totals ≡ with_answer s.totals answer
@@ -47,8 +47,8 @@ pub record Answered {T K J : Type 0} (state : K → SinkState) (kept : J → Sin
 
 -- The line brought a game, of whose line a front was put before the journal failed, and not handed
 -- on; and no reply was put.
-pub record Unkept {T K J : Type 0} (kept : J → SinkState) (s : Collector T K J) (line : List ℕ)
-    (t : Collector T K J) : Type 0 where
+pub record Unkept {T K J W : Type 0} (kept : J → SinkState) (s : Collector T K J W) (line : List ℕ)
+    (t : Collector T K J W) : Type 0 where
   pub number : ℕ
   pub leads : Leads s.ledger.now t.ledger.now (line ∷ []) (Ok number ∷ [])
   pub game : Submission
@@ -66,8 +66,8 @@ pub record Unkept {T K J : Type 0} (kept : J → SinkState) (s : Collector T K J
 
 -- what became of the line: it stops the collector where its reply couldn't be put, or the line of
 -- its game
-abbrev pub CollectsLine : {T K J : Type 0} → (K → SinkState) → (J → SinkState) → Collector T K J
-    → List ℕ → Result (Unit {0}) JournalFault → Collector T K J → Type 0
+abbrev pub CollectsLine : {T K J W : Type 0} → (K → SinkState) → (J → SinkState) → Collector T K J W
+    → List ℕ → Result (Unit {0}) JournalFault → Collector T K J W → Type 0
 CollectsLine state kept s line (Ok u) t = Answered state kept s line (Ok u) t
 CollectsLine state kept s line (Err (Lines fault.Write)) t =
     Answered state kept s line (Err (Lines fault.Write)) t

@@ -1,9 +1,9 @@
 //! The book of a ledger as the bytes of a file.
 
-ghost use Rattle.std.specs.Prelude.{◌≡◌, ℕ, List, OnErr, OnOk};
+ghost use Rattle.std.specs.Prelude.{◌≡◌, ◌-◌, ◌^◌, ℕ, List, IfOk, OnErr, OnOk, length, min};
 ghost use Rattle.pb_io.specs.Sink.{Put};
 ghost use Rattle.pb_poly.specs.Book.{book_bytes};
-ghost use Rattle.pb_ledger.specs.Booking.{BookText, PutsOn, WritesOrWants};
+ghost use Rattle.pb_ledger.specs.Booking.{PutsOn, WritesBook};
 ghost use Rattle.pb_ledger.specs.declared.booking.WriteFault.TheVariants as fault;
 
 use pb_accepted::Ledger;
@@ -40,8 +40,9 @@ impl From<Failed> for WriteFault {
     }
 }
 
-/// Writes the opening book of the games that are held, and flushes. The entries of one stretch of
-/// keys at a time are listed, and never all of them.
+/// Writes the opening book of the games that are held, and flushes. The answer is how many entries
+/// it has, or 2^64 - 1 where it has more. The entries of one stretch of keys at a time are listed,
+/// and never all of them.
 ///
 /// # Errors
 ///
@@ -51,19 +52,20 @@ pub fn save_book<T: Tally, K: Sink>(
     alloc: Global,
     ledger: &Ledger<T>,
     sink: &mut K,
-) -> Result<(), WriteFault>
-    ensures { (bytes : List ℕ) × BookText ledger.now bytes
-        × WritesOrWants (K.state sink.old) (K.state sink.new) result bytes }
+) -> Result<u64, WriteFault>
+    ensures { WritesBook ledger.now (K.state sink.old) (K.state sink.new) result }
 {
     let mut entries = Vec::new(alloc);
+    let mut count: u64 = 0;
     let mut next = Some(0);
     while let Some(first) = next {
         entries.clear();
         next = ledger.add_stretch(alloc, first, &mut entries)?;
         put_entries(sink, &entries)?;
+        count = count.saturating_add(entries.len() as u64);
     }
     sink.flush()?;
-    Ok(())
+    Ok(count)
 }
 
 /// Puts the bytes of the entries in order.

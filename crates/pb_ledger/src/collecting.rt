@@ -5,6 +5,7 @@ ghost use Rattle.pb_ledger.specs.Collecting.{CollectsStream, CollectsTold, Colle
 
 use crate::journaling::{JournalFault, collect_journaled};
 use crate::totals::Totals;
+use crate::watcher::Watcher;
 use pb_accepted::Ledger;
 pub use pb_io::Fault as CollectFault;
 use pb_io::{NullSink, Sink, Source};
@@ -40,8 +41,31 @@ pub fn collect<T: Tally, In: Source, Out: Sink>(
     ensures fault { IfErr result (CollectsUntil fills (In.state source.old) (In.state source.new)
         (Out.state sink.old) (Out.state sink.new) ledger.old ledger.new) }
 {
+    collect_watched(alloc, source, sink, ledger, &mut (), fills)
+}
+
+/// Collects as `collect` does, and tells the watcher of each answer.
+///
+/// # Errors
+///
+/// As for `collect`.
+pub fn collect_watched<T: Tally, In: Source, Out: Sink, Watch: Watcher>(
+    alloc: Global,
+    source: &mut In,
+    sink: &mut Out,
+    ledger: &mut Ledger<T>,
+    watcher: &mut Watch,
+    fills: u32,
+) -> Result<Totals, CollectFault>
+    ensures ok { IfOk result (CollectsStream fills (In.state source.old) (In.state source.new)
+        (Out.state sink.old) (Out.state sink.new) ledger.old ledger.new) }
+    ensures told { IfOk result (CollectsTold (In.state source.old) (In.state source.new)
+        (Out.state sink.old) (Out.state sink.new) ledger.old ledger.new) }
+    ensures fault { IfErr result (CollectsUntil fills (In.state source.old) (In.state source.new)
+        (Out.state sink.old) (Out.state sink.new) ledger.old ledger.new) }
+{
     let mut no_journal = NullSink::default();
-    match collect_journaled(alloc, source, sink, &mut no_journal, ledger, fills) {
+    match collect_journaled(alloc, source, sink, &mut no_journal, ledger, watcher, fills) {
         Ok(totals) => Ok(totals),
         Err(JournalFault::Lines(fault)) => Err(fault),
         Err(JournalFault::Journal) => unreachable!(),

@@ -1,20 +1,21 @@
 //! What is done with each submission of a stream.
 
-ghost use Rattle.std.specs.Prelude.{◌≡◌, ◌≤◌, ◌∷◌, [], IfErr, OnOk, length, nat_lt};
+ghost use Rattle.std.specs.Prelude.{◌≡◌, ◌≤◌, IfErr, OnOk, length};
 ghost use Rattle.std.specs.Str.Lines.{strip_carriage_return};
+ghost use Rattle.pb_accepted.specs.Accepting.{answer_of, says_new};
 ghost use Rattle.pb_accepted.specs.Replies.{named, reply_line};
 ghost use Rattle.pb_board.specs.LineEnd.{with_end};
 ghost use Rattle.pb_io.specs.Sink.{Put};
 ghost use Rattle.pb_io.specs.Writes.{Writes};
 ghost use Rattle.pb_io.specs.declared.fault.Fault.TheVariants.{Write};
-ghost use Rattle.pb_ledger.specs.Collecting.{Leads};
 ghost use Rattle.pb_ledger.specs.Collector.{KeepsLent, with_answer};
 ghost use Rattle.pb_ledger.specs.Journaling.{JournalsStream, JournalsUntil};
 ghost use Rattle.pb_ledger.specs.declared.journaling.JournalFault.TheVariants.{Journal, Lines};
 
 use crate::journaling::JournalFault;
 use crate::totals::Totals;
-use pb_accepted::{Ledger, Reply};
+use crate::watcher::Watcher;
+use pb_accepted::{Accepted, Ledger, Reply};
 use pb_board::without_return;
 use pb_games::Refusal;
 use pb_io::{Failed, LineTask, Sink, Source, put_parts, take_lines};
@@ -24,52 +25,35 @@ use std::alloc::Global;
 /// Submits lines and counts them, puts the lines of new games on a journal, and only then their
 /// replies.
 #[derive(Drop)]
-pub(crate) struct Collector<'l, 's, 'j, T: Tally, K, J> {
+pub(crate) struct Collector<'l, 's, 'j, 'w, T: Tally, K, J, W> {
     pub(crate) ledger: &'l mut Ledger<T>,
     pub(crate) sink: &'s mut K,
     pub(crate) journal: &'j mut J,
+    pub(crate) watcher: &'w mut W,
     pub(crate) totals: Totals,
 }
 
-impl<T: Tally, K: Sink, J: Sink> Collector<'_, '_, '_, T, K, J> {
-    /// Submits a line. The answer to it, and whether it brought a new game.
-    fn submit(&mut self, line: &[u8]) -> (Result<u32, Refusal>, bool)
-        ensures leads { Leads self.old.ledger.now self.new.ledger.now (line.now ∷ [])
-            (result.0 ∷ []) }
-        ensures new { result.1 ≡ nat_lt (length self.old.ledger.now.accepted)
-            (length self.new.ledger.now.accepted) }
-        ensures short { length (named line.now result.0) ≤ 64 }
-        ensures ledger { self.new.ledger.ghost_name ≡ self.old.ledger.ghost_name }
-        ensures same { (self.new.sink ≡ self.old.sink) × (self.new.journal ≡ self.old.journal)
-            × (self.new.totals ≡ self.old.totals) }
-    {
-        let held = self.ledger.len();
-        let answer = self.ledger.submit(line);
-        (answer, self.ledger.len() > held)
-    }
-
-    /// Counts a line and puts its reply, at once.
-    fn reply(
-        &mut self,
-        line: &[u8],
-        answer: Result<u32, Refusal>,
-        is_new: bool,
-    ) -> Result<(), JournalFault>
-        requires { length (named line.now answer) ≤ 64 }
-        ensures counted { self.new.totals ≡ with_answer self.old.totals answer is_new }
+impl<T: Tally, K: Sink, J: Sink, W: Watcher> Collector<'_, '_, '_, '_, T, K, J, W> {
+    /// Counts a line, puts its reply, at once, and tells the watcher of it.
+    fn reply(&mut self, line: &[u8], answer: Result<Accepted, Refusal>) -> Result<(), JournalFault>
+        requires { length (named line.now (answer_of answer)) ≤ 64 }
+        ensures counted { self.new.totals ≡ with_answer self.old.totals (answer_of answer)
+            (says_new answer) }
         ensures put { Put (K.state self.old.sink.now) (K.state self.new.sink.now) result
-            (reply_line line.now answer) }
+            (reply_line line.now (answer_of answer)) }
         ensures stops { IfErr result (λ e. e ≡ Lines Write) }
         ensures sink { self.new.sink.ghost_name ≡ self.old.sink.ghost_name }
         ensures same { (self.new.ledger ≡ self.old.ledger) × (self.new.journal ≡ self.old.journal) }
     {
-        self.totals = self.totals.with(answer, is_new);
-        self.sink.put(Reply::new(line, answer).as_bytes())?;
+        self.totals = self.totals.with(answer);
+        let number = answer.map(|accepted| accepted.number);
+        self.sink.put(Reply::new(line, number).as_bytes())?;
+        self.watcher.answered(answer);
         Ok(())
     }
 }
 
-impl<T: Tally, K: Sink, J: Sink> LineTask for Collector<'_, '_, '_, T, K, J> {
+impl<T: Tally, K: Sink, J: Sink, W: Watcher> LineTask for Collector<'_, '_, '_, '_, T, K, J, W> {
     type Stop = JournalFault;
 
     ghost use Rattle.pb_ledger.specs.Collector.{CollectsLine};
@@ -77,20 +61,20 @@ impl<T: Tally, K: Sink, J: Sink> LineTask for Collector<'_, '_, '_, T, K, J> {
     ghost takes = { CollectsLine K.state J.state };
 
     fn take(&mut self, line: &[u8]) -> Result<(), JournalFault> {
-        let (answer, is_new) = self.submit(line);
+        let answer = self.ledger.submit_full(line);
         // A game is on the journal before its reply is on its way.
-        if is_new {
+        if brings_game(answer) {
             journal_line(self.journal, line)?;
         }
-        self.reply(line, answer, is_new)
+        self.reply(line, answer)
     }
 
     fn take_long(&mut self) -> Result<(), JournalFault> {
-        self.reply(b"", Err(Refusal::Long), false)
+        self.reply(b"", Err(Refusal::Long))
     }
 }
 
-impl<T: Tally, K: Sink, J: Sink> Collector<'_, '_, '_, T, K, J> {
+impl<T: Tally, K: Sink, J: Sink, W: Watcher> Collector<'_, '_, '_, '_, T, K, J, W> {
     /// Takes the lines of the source, and hands on their replies.
     pub(crate) fn take_all<S: Source>(
         &mut self,
@@ -113,6 +97,13 @@ impl<T: Tally, K: Sink, J: Sink> Collector<'_, '_, '_, T, K, J> {
         self.sink.flush()?;
         Ok(())
     }
+}
+
+/// Whether a game has come with this answer.
+fn brings_game(answer: Result<Accepted, Refusal>) -> bool
+    ensures { result ≡ says_new answer }
+{
+    matches!(answer, Ok(accepted) if accepted.is_new)
 }
 
 /// Puts a line that brought a game on the journal, and hands it on. It is the game's one text, but

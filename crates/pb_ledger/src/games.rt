@@ -7,20 +7,20 @@ ghost use Rattle.pb_ledger.specs.Games.{PicksAll, PicksUntil, has_shape};
 ghost use Rattle.pb_ledger.specs.Picker.{PutsAll};
 
 use crate::collector::put_line;
-use crate::skipped::{SkippedLines, tell_skipped};
+use crate::watcher::{Watcher, tell_skipped};
 use pb_board::without_return;
 use pb_io::{Fault, LineTask, Sink, Source, take_ended_lines};
 use std::alloc::Global;
 
 /// Puts the lines that have the shape of a submission, and counts all lines.
 #[derive(Drop)]
-struct Picker<'s, 'w, K: Sink, W: SkippedLines> {
+struct Picker<'s, 'w, K: Sink, W: Watcher> {
     sink: &'s mut K,
-    skipped: &'w mut W,
+    watcher: &'w mut W,
     lines: u64,
 }
 
-impl<K: Sink, W: SkippedLines> LineTask for Picker<'_, '_, K, W> {
+impl<K: Sink, W: Watcher> LineTask for Picker<'_, '_, K, W> {
     type Stop = Fault;
 
     ghost use Rattle.pb_ledger.specs.Picker.{PicksLine};
@@ -30,7 +30,7 @@ impl<K: Sink, W: SkippedLines> LineTask for Picker<'_, '_, K, W> {
     fn take(&mut self, line: &[u8]) -> Result<(), Fault> {
         self.lines = self.lines.saturating_add(1);
         if !may_be_game(line) {
-            tell_skipped(self.skipped, self.lines, line);
+            tell_skipped(self.watcher, self.lines, line);
             return Ok(());
         }
         put_line(self.sink, line)?;
@@ -39,7 +39,7 @@ impl<K: Sink, W: SkippedLines> LineTask for Picker<'_, '_, K, W> {
 
     fn take_long(&mut self) -> Result<(), Fault> {
         self.lines = self.lines.saturating_add(1);
-        self.skipped.tell(self.lines);
+        self.watcher.skipped(self.lines);
         Ok(())
     }
 }
@@ -69,7 +69,7 @@ fn count_tabs(text: &[u8]) -> usize
 /// with a final CR counted, exactly three TABs, and no second CR at its end. It is put without its
 /// CR and with LF. Whether it is accepted isn't looked at.
 ///
-/// `skipped` is told the number of each ended line that isn't put, but for a sealed one and for the
+/// `watcher` is told the number of each ended line that isn't put, but for a sealed one and for the
 /// header of a saved ledger as the first line. A line of more than `LINE_LIMIT` bytes is told,
 /// sealed or not. No clause speaks of it: it is for people.
 ///
@@ -82,11 +82,11 @@ fn count_tabs(text: &[u8]) -> usize
 ///
 /// `Write`: the sink has failed at a line, of which a front may have been put, or where all was to
 /// be handed on.
-pub fn pick_games<In: Source, Out: Sink, Skipped: SkippedLines>(
+pub fn pick_games<In: Source, Out: Sink, Watch: Watcher>(
     alloc: Global,
     source: &mut In,
     sink: &mut Out,
-    skipped: &mut Skipped,
+    watcher: &mut Watch,
     fills: u32,
 ) -> Result<bool, Fault>
     // All bytes came, and just the lines of games were put, and handed on once.
@@ -96,17 +96,17 @@ pub fn pick_games<In: Source, Out: Sink, Skipped: SkippedLines>(
     ensures fault { IfErr result (PicksUntil fills (In.state source.old) (In.state source.new)
         (Out.state sink.old) (Out.state sink.new)) }
 {
-    let is_torn = put_games(alloc, source, sink, skipped, fills)?;
+    let is_torn = put_games(alloc, source, sink, watcher, fills)?;
     sink.flush()?;
     Ok(is_torn)
 }
 
 /// Puts the lines of games, and hands nothing on.
-fn put_games<In: Source, Out: Sink, Skipped: SkippedLines>(
+fn put_games<In: Source, Out: Sink, Watch: Watcher>(
     alloc: Global,
     source: &mut In,
     sink: &mut Out,
-    skipped: &mut Skipped,
+    watcher: &mut Watch,
     fills: u32,
 ) -> Result<bool, Fault>
     ensures ok { IfOk result (PutsAll fills (In.state source.old) (In.state source.new)
@@ -116,7 +116,7 @@ fn put_games<In: Source, Out: Sink, Skipped: SkippedLines>(
 {
     let mut picker = Picker {
         sink,
-        skipped,
+        watcher,
         lines: 0,
     };
     take_ended_lines(alloc, source, &mut picker, fills)

@@ -8,6 +8,7 @@ ghost use Rattle.pb_ledger.specs.declared.journaling.JournalFault.TheVariants.{L
 
 use crate::collector::Collector;
 use crate::totals::Totals;
+use crate::watcher::Watcher;
 use pb_accepted::Ledger;
 use pb_io::{Failed, Fault, ReadFault, Sink, Source};
 use pb_points::Tally;
@@ -59,6 +60,8 @@ impl From<JournalFault> for Fault {
 /// journal, and hands it on, before its reply is put. A line that repeats a game, or that is
 /// refused, puts nothing there. It answers what became of the lines.
 ///
+/// The watcher is told of each answer.
+///
 /// So each game that a reply acknowledges is on the journal, with whatever answer this ends.
 ///
 /// # Errors
@@ -66,12 +69,13 @@ impl From<JournalFault> for Fault {
 /// `Lines` with what `collect` answers: the journal has the games of all lines that were submitted.
 /// `Journal` where the journal fails at a new game: its line has no reply, the ledger holds the
 /// game, and its line, or a front of it, may be on the journal. No more lines are taken then.
-pub fn collect_journaled<T: Tally, In: Source, Out: Sink, Journal: Sink>(
+pub fn collect_journaled<T: Tally, In: Source, Out: Sink, Journal: Sink, Watch: Watcher>(
     alloc: Global,
     source: &mut In,
     sink: &mut Out,
     journal: &mut Journal,
     ledger: &mut Ledger<T>,
+    watcher: &mut Watch,
     fills: u32,
 ) -> Result<Totals, JournalFault>
     // All lines were taken and answered, and the new games are on the journal, each handed on by
@@ -89,6 +93,7 @@ pub fn collect_journaled<T: Tally, In: Source, Out: Sink, Journal: Sink>(
         ledger,
         sink,
         journal,
+        watcher,
         totals: Totals::default(),
     };
     collector.take_all(alloc, source, fills)?;

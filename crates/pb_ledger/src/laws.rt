@@ -13,10 +13,12 @@ ghost use Rattle.pb_ledger.specs.SavedLaws.{SavedIsWhole, SavedLoads};
 ghost use Rattle.pb_ledger.specs.declared.journaling.JournalFault.{JournalFault};
 ghost use Rattle.pb_ledger.specs.declared.loading.LoadError.{LoadError};
 ghost use Rattle.pb_ledger.specs.declared.totals.Totals.{Totals};
+ghost use Rattle.pb_ledger.specs.declared.whole.NotWhole.{NotWhole};
 
 use crate::journaling::JournalFault;
 use crate::loading::LoadError;
 use crate::totals::Totals;
+use crate::whole::NotWhole;
 pub use pb_accepted::laws::{books, distinct, numbers, one_game, one_line, runs};
 pub use pb_export::laws::exports;
 
@@ -63,4 +65,5 @@ pub fn equal_values()
     ensures journal { (e f : JournalFault) → Decides (⟦<JournalFault as PartialEq>⟧.eq e f)
         (e ≡ f) }
     ensures load { (e f : LoadError) → Decides (⟦<LoadError as PartialEq>⟧.eq e f) (e ≡ f) }
+    ensures whole { (e f : NotWhole) → Decides (⟦<NotWhole as PartialEq>⟧.eq e f) (e ≡ f) }
 {}

@@ -19,7 +19,7 @@ pub enum LoadError {
     /// The line with this number, from 1 with the header counted, is the first that a ledger
     /// refuses, or that brings no new game after a header. The ledger holds the games of the lines
     /// before it.
-    #[error("line {0} brings no game that can be held")]
+    #[error("line {0} isn't a game that can be taken")]
     Line(u64),
     /// The source has failed. The ledger holds the games of the lines that an LF ended before that.
     #[error("the saved ledger can't be read")]
@@ -60,9 +60,8 @@ impl<T: Tally> Loader<'_, T> {
     fn submit(&mut self, line: &[u8]) -> Result<(), LoadError>
         ensures { Submits self.old line.now result self.new }
     {
-        let held = self.ledger.len();
-        match self.ledger.submit(line) {
-            Ok(_) if self.is_saved && self.ledger.len() == held => Err(LoadError::Line(self.lines)),
+        match self.ledger.submit_full(line) {
+            Ok(accepted) if self.is_saved && !accepted.is_new => Err(LoadError::Line(self.lines)),
             Ok(_) => Ok(()),
             Err(refusal) => Err(refused_at(self.lines, refusal)),
         }

@@ -6,7 +6,7 @@ ghost use Rattle.pb_ledger.specs.Journal.{seal};
 ghost use Rattle.pb_ledger.specs.Replayer.{Stops};
 ghost use Rattle.pb_ledger.specs.Replaying.{ReplaysAll, ReplaysUntil};
 
-use crate::skipped::{SkippedLines, tell_skipped};
+use crate::watcher::{Watcher, tell_skipped};
 use pb_accepted::Ledger;
 use pb_games::Refusal;
 use pb_io::{Failed, Fault, LineTask, Sink, Source, take_ended_lines};
@@ -19,13 +19,13 @@ const SEAL: &[u8] = b"\t\t\t\t\n";
 
 /// Submits the lines of a journal and counts them.
 #[derive(Drop)]
-struct Replayer<'l, T: Tally, W: SkippedLines> {
+struct Replayer<'l, T: Tally, W: Watcher> {
     ledger: &'l mut Ledger<T>,
-    skipped: &'l mut W,
+    watcher: &'l mut W,
     lines: u64,
 }
 
-impl<T: Tally, W: SkippedLines> Replayer<'_, T, W> {
+impl<T: Tally, W: Watcher> Replayer<'_, T, W> {
     /// Passes over the line that was counted last and is refused so, which changed nothing, and
     /// tells its number where it is neither sealed nor a header. Where memory was wanting, it can't
     /// be skipped.
@@ -36,12 +36,12 @@ impl<T: Tally, W: SkippedLines> Replayer<'_, T, W> {
         if refusal == Refusal::Memory {
             return Err(Fault::Memory);
         }
-        tell_skipped(self.skipped, self.lines, line);
+        tell_skipped(self.watcher, self.lines, line);
         Ok(())
     }
 }
 
-impl<T: Tally, W: SkippedLines> LineTask for Replayer<'_, T, W> {
+impl<T: Tally, W: Watcher> LineTask for Replayer<'_, T, W> {
     type Stop = Fault;
 
     ghost use Rattle.pb_ledger.specs.Replayer.{ReplaysLine};
@@ -59,7 +59,7 @@ impl<T: Tally, W: SkippedLines> LineTask for Replayer<'_, T, W> {
     fn take_long(&mut self) -> Result<(), Fault> {
         self.lines = self.lines.saturating_add(1);
         // It is refused for its length.
-        self.skipped.tell(self.lines);
+        self.watcher.skipped(self.lines);
         Ok(())
     }
 }
@@ -71,7 +71,7 @@ impl<T: Tally, W: SkippedLines> LineTask for Replayer<'_, T, W> {
 /// a torn line: they are not taken, and four TABs and an LF are put on the sink and handed on, so
 /// that they never are a submission. A journal whose end isn't torn is left as it was.
 ///
-/// `skipped` is told the number of each line that is refused, for another cause than want of
+/// `watcher` is told the number of each line that is refused, for another cause than want of
 /// memory, but for a sealed one and for the header of a saved ledger as the first line. A line of
 /// more than `LINE_LIMIT` bytes is told, sealed or not. No clause speaks of it: it is for people.
 ///
@@ -89,12 +89,12 @@ impl<T: Tally, W: SkippedLines> LineTask for Replayer<'_, T, W> {
 /// `Write`: the sink has failed when the torn end was to be sealed. The ledger holds all games of
 /// the journal, and a front of the TABs and the LF may have been put. With the other errors nothing
 /// was put on the sink.
-pub fn replay<T: Tally, In: Source, Journal: Sink, Skipped: SkippedLines>(
+pub fn replay<T: Tally, In: Source, Journal: Sink, Watch: Watcher>(
     alloc: Global,
     source: &mut In,
     journal: &mut Journal,
     ledger: &mut Ledger<T>,
-    skipped: &mut Skipped,
+    watcher: &mut Watch,
     fills: u32,
 ) -> Result<(), Fault>
     requires { ledger.old.accepted ≡ [] }
@@ -109,7 +109,7 @@ pub fn replay<T: Tally, In: Source, Journal: Sink, Skipped: SkippedLines>(
 {
     let mut replayer = Replayer {
         ledger,
-        skipped,
+        watcher,
         lines: 0,
     };
     let is_torn = take_ended_lines(alloc, source, &mut replayer, fills)?;

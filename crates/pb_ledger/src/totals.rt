@@ -1,8 +1,10 @@
 //! What became of lines.
 
 ghost use Rattle.std.specs.Prelude.{◌≡◌};
+ghost use Rattle.pb_accepted.specs.Accepting.{answer_of, says_new};
 ghost use Rattle.pb_ledger.specs.Collector.{with_answer};
 
+use pb_accepted::Accepted;
 use pb_games::Refusal;
 
 /// How many lines were taken, and what became of them: each brought a new game, repeated one, or
@@ -21,13 +23,13 @@ pub struct Totals {
 
 impl Totals {
     /// These totals with one more line, which was answered so.
-    pub(crate) fn with(self, answer: Result<u32, Refusal>, is_new: bool) -> Totals
-        ensures { result ≡ with_answer self answer is_new }
+    pub(crate) fn with(self, answer: Result<Accepted, Refusal>) -> Totals
+        ensures { result ≡ with_answer self (answer_of answer) (says_new answer) }
     {
         let mut totals = self;
         totals.lines = totals.lines.saturating_add(1);
         match answer {
-            Ok(_) if is_new => totals.new = totals.new.saturating_add(1),
+            Ok(accepted) if accepted.is_new => totals.new = totals.new.saturating_add(1),
             Ok(_) => totals.repeats = totals.repeats.saturating_add(1),
             Err(_) => totals.refused = totals.refused.saturating_add(1),
         }

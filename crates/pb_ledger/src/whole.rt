@@ -1,8 +1,10 @@
 //! A ledger from the lines of a file that wasn't cut short.
 
-ghost use Rattle.std.specs.Prelude.{◌≡◌, [], IfErr, IfOk};
+ghost use Rattle.std.specs.Prelude.{◌≡◌, ◌&&◌, [], IfErr, IfOk, nat_lt};
+ghost use Rattle.std.specs.Result.{result_map_both};
 ghost use Rattle.pb_ledger.specs.Loading.{LoadsSaved};
-ghost use Rattle.pb_ledger.specs.Whole.{LoadsWhole, LoadsWholeUntil};
+ghost use Rattle.pb_ledger.specs.Whole.{LoadsWhole, LoadsWholeUntil, TellsCut, load_error_of};
+ghost use Rattle.pb_ledger.specs.Whole.{not_whole_by};
 
 use crate::ending::Ending;
 use crate::loading::{LoadError, Loader};
@@ -10,6 +12,20 @@ use pb_accepted::Ledger;
 use pb_io::{Source, take_lines};
 use pb_points::Tally;
 use std::alloc::Global;
+use thiserror::Error;
+
+/// Why a file wasn't loaded whole.
+#[derive(Clone, Copy, Debug, PartialEq, Eq, Error)]
+pub enum NotWhole {
+    /// It is a saved ledger that was cut short: no LF ends its last line, which has this number,
+    /// from 1 with the header counted. The ledger holds the games of the lines before it, and the
+    /// game that it spells, if it can be taken.
+    #[error("it was cut short: its last line has no end")]
+    Cut(u64),
+    /// Not all lines were loaded, and it wasn't cut there.
+    #[error("{0}")]
+    Load(LoadError),
+}
 
 /// Takes the games of a saved ledger or of an old list as `load` does, but refuses a saved ledger
 /// that was cut short. Its last line, which no LF ends, isn't the one that was saved, though it may
@@ -17,40 +33,57 @@ use std::alloc::Global;
 ///
 /// # Errors
 ///
-/// As of `load`. `Line` is answered also where the saved ledger was cut, with the number of its
-/// last line. The ledger then holds what `load` takes, with the game that the last line spells.
+/// `Load` with the error of `load`. `Cut` exactly where all lines of a saved ledger were read, no
+/// LF ends the last one, and that one is taken or is what `load` refuses.
 pub fn load_whole<T: Tally, S: Source>(
     alloc: Global,
     source: &mut S,
     ledger: &mut Ledger<T>,
     fills: u32,
-) -> Result<u32, LoadError>
+) -> Result<u32, NotWhole>
     requires { ledger.old.accepted ≡ [] }
     // The games of all lines were taken, and no saved ledger was cut.
     ensures ok { IfOk result (LoadsWhole fills (S.state source.old) (S.state source.new) ledger.old
         ledger.new) }
     // It ended as `load` does, or the saved ledger was cut.
-    ensures fault { IfErr result (LoadsWholeUntil fills (S.state source.old) (S.state source.new)
-        ledger.old ledger.new) }
+    ensures fault { IfErr result (λ e. LoadsWholeUntil fills (S.state source.old)
+        (S.state source.new) ledger.old ledger.new (load_error_of e)) }
+    // And which of the two.
+    ensures cut { TellsCut fills (S.state source.old) (S.state source.new) result }
     // What was saved is loaded, where it fits.
     ensures saved { LoadsSaved fills (S.state source.old) (S.state source.new) ledger.old ledger.new
-        result }
+        (result_map_both (λ n. n) load_error_of result) }
     ensures basis { ledger.new.basis ≡ ledger.old.basis }
     ensures cap { ledger.new.cap ≡ ledger.old.cap }
 {
-    let mut ending = Ending {
-        source,
-        count: 0,
-        last: b'\n',
-    };
+    let mut ending = Ending { source, ends: 0 };
     let mut loader = Loader {
         ledger,
         lines: 0,
         is_saved: false,
     };
-    take_lines(alloc, &mut ending, &mut loader, fills)?;
-    if loader.is_saved && ending.last != b'\n' {
-        return Err(LoadError::Line(loader.lines));
+    let taken = take_lines(alloc, &mut ending, &mut loader, fills);
+    let is_cut = is_cut(&loader, ending.ends);
+    match taken {
+        Ok(()) if is_cut => Err(NotWhole::Cut(loader.lines)),
+        Ok(()) => Ok(loader.ledger.len()),
+        Err(error) => Err(not_whole(error, is_cut)),
     }
-    Ok(loader.ledger.len())
+}
+
+/// What an error of loading says of the file, by whether its lines are cut.
+fn not_whole(error: LoadError, is_cut: bool) -> NotWhole
+    ensures { result ≡ not_whole_by error is_cut }
+{
+    match error {
+        LoadError::Line(number) if is_cut => NotWhole::Cut(number),
+        error => NotWhole::Load(error),
+    }
+}
+
+/// Whether the lines are those of a saved ledger, and more than the LFs.
+fn is_cut<T: Tally>(loader: &Loader<'_, T>, ends: u64) -> bool
+    ensures { result ≡ (loader.now.is_saved && nat_lt ends loader.now.lines) }
+{
+    loader.is_saved && ends < loader.lines
 }

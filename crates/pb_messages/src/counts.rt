@@ -1,169 +1,132 @@
 //! How many submissions came, and what became of them.
 
+use pb_ledger::{Refusal, Totals};
+use std::cell::Cell;
 use std::fmt::{self, Display};
-use std::str;
 
-/// Why submissions are refused, by the words that replies give, in the order in which it is told.
+/// The words that replies give for the reasons of refusals, in the order in which they are told.
 const REASONS: [&str; 12] = [
     "long", "shape", "id", "result", "fen", "start", "spelling", "plies", "illegal", "conflict",
     "full", "memory",
 ];
 
-/// How a game that is new is told from one that came again.
-#[derive(Clone, Copy)]
-pub enum News {
-    /// Its number is above that of all games that are held.
-    Above(u32),
-    /// It was put on the journal just before, or wasn't.
-    Journaled(bool),
-    /// It can't be told.
-    Unknown,
+/// Gives the place of a refusal's reason among them.
+fn place_of(refusal: Refusal) -> usize {
+    match refusal {
+        Refusal::Long => 0,
+        Refusal::Shape => 1,
+        Refusal::Id => 2,
+        Refusal::Result => 3,
+        Refusal::Fen(_) => 4,
+        Refusal::Start => 5,
+        Refusal::Spelling(_) => 6,
+        Refusal::Plies => 7,
+        Refusal::Illegal(_) => 8,
+        Refusal::Conflict(_) => 9,
+        Refusal::Full => 10,
+        Refusal::Memory => 11,
+    }
 }
 
-/// What became of the submissions.
-#[derive(Drop)]
+/// Answers so far: games, and refusals by their reasons.
+#[derive(Default, Drop)]
 pub(crate) struct Counts {
-    lines: u64,
-    games: u64,
-    new: u64,
-    news: News,
-    refused: [u64; 12],
+    games: Cell<u64>,
+    refusals: Cell<[u64; 12]>,
 }
 
 impl Counts {
-    /// No submission so far.
-    pub(crate) fn new(news: News) -> Counts {
-        Counts {
-            lines: 0,
-            games: 0,
-            new: 0,
-            news,
-            refused: [0; 12],
-        }
-    }
-
-    /// Says how the games that are new are told from now on.
-    pub(crate) fn tell_new_by(&mut self, news: News) {
-        self.news = news;
-    }
-
-    /// Begins with the submissions. What was put on the journal before is no game.
-    pub(crate) fn begin(&mut self) {
-        if let News::Journaled(_) = self.news {
-            self.news = News::Journaled(false);
-        }
-    }
-
-    /// How many submissions came.
-    pub(crate) fn lines(&self) -> u64 {
-        self.lines
-    }
-
-    /// How many of them were answered `ok`.
-    pub(crate) fn games(&self) -> u64 {
-        self.games
-    }
-
-    /// Whether lines were answered.
-    pub(crate) fn are_answered(&self) -> bool {
-        self.games > 0 || self.refusals() > 0
-    }
-
-    /// Counts the submission that has this reply. One in pieces is a game by its first, and a line by
-    /// its last.
-    pub(crate) fn add_reply(&mut self, piece: &[u8]) {
-        if piece.ends_with(b"\n") {
-            self.lines = self.lines.saturating_add(1);
-        }
-        if piece.starts_with(b"ok ") {
-            self.games = self.games.saturating_add(1);
-        }
-    }
-
-    /// Counts it by what the reply says: whether the game is new, or why there is none. A reply to a
-    /// game that isn't numbered says neither, and may come in pieces.
-    pub(crate) fn tell_apart(&mut self, reply: &[u8]) {
-        let Ok(reply) = str::from_utf8(reply) else {
+    /// Counts an answer: a game where nothing refuses it.
+    pub(crate) fn add(&self, refusal: Option<Refusal>) {
+        let Some(refusal) = refusal else {
+            self.games.set(self.games.get().saturating_add(1));
             return;
         };
-        let mut words = reply.trim_end().split(' ');
-        let is_game = words.next() == Some("ok");
-        match words.nth(1) {
-            Some(number) if is_game => self.add_if_new(number.parse().ok()),
-            Some(reason) => self.add_refusal(reason),
-            None => {}
+        let mut refusals = self.refusals.get();
+        if let Some(count) = refusals.get_mut(place_of(refusal)) {
+            *count = count.saturating_add(1);
         }
+        self.refusals.set(refusals);
     }
 
-    /// Counts the game of this number, if it is new.
-    fn add_if_new(&mut self, number: Option<u32>) {
-        let is_new = match (self.news, number) {
-            (News::Above(held), Some(number)) => number > held,
-            (News::Journaled(is_new), _) => is_new,
-            _ => false,
-        };
-        if !is_new {
-            return;
-        }
-        self.new = self.new.saturating_add(1);
-        self.news = match (self.news, number) {
-            (News::Above(_), Some(number)) => News::Above(number),
-            (News::Journaled(_), _) => News::Journaled(false),
-            (news, _) => news,
-        };
-    }
-
-    /// Counts a refused submission.
-    fn add_refusal(&mut self, reason: &str) {
-        for (known, count) in REASONS.iter().zip(self.refused.iter_mut()) {
-            if *known == reason {
-                *count = count.saturating_add(1);
-            }
-        }
-    }
-
-    /// How many submissions were refused.
-    pub(crate) fn refusals(&self) -> u64 {
-        self.refused
+    /// Gives the totals, in which no game is new.
+    pub(crate) fn totals(&self) -> Totals {
+        let games = self.games.get();
+        let refused = self
+            .refusals
+            .get()
             .iter()
-            .fold(0u64, |sum, count| sum.saturating_add(*count))
+            .fold(0u64, |sum, count| sum.saturating_add(*count));
+        Totals {
+            lines: games.saturating_add(refused),
+            new: 0,
+            repeats: games,
+            refused,
+        }
     }
 }
 
 impl Display for Counts {
+    /// Writes the reasons for which lines were refused, and how many for each.
     fn fmt<W: fmt::Write>(&self, f: &mut fmt::Formatter<W>) -> fmt::Result {
-        let lines = Grouped(self.lines);
-        let games = Grouped(self.games);
-        let refusals = Grouped(self.refusals());
-        let s = plural(self.lines);
-        write!(f, "{lines} line{s}: {games} ok")?;
-        if !matches!(self.news, News::Unknown) {
-            let new = Grouped(self.new);
-            let again = Grouped(self.games.saturating_sub(self.new));
-            write!(f, " ({new} new, {again} again)")?;
-        }
-        write!(f, ", {refusals} refused")?;
         let mut is_first = true;
-        for (reason, count) in REASONS.iter().zip(self.refused.iter()) {
+        for (reason, count) in REASONS.iter().zip(self.refusals.get().iter()) {
             if *count > 0 {
                 let before = if is_first { " (" } else { ", " };
-                let count = Grouped(*count);
-                write!(f, "{before}{count} {reason}")?;
+                write!(f, "{before}{} {reason}", Grouped(*count))?;
                 is_first = false;
             }
         }
-        if is_first { Ok(()) } else { write!(f, ")") }
+        f.write_str(if is_first { "" } else { ")" })
     }
 }
 
-/// What is put after a noun for so many things.
-pub(crate) fn plural(count: u64) -> &'static str {
-    if count == 1 { "" } else { "s" }
+/// What a run has taken, and how many entries the book of this name has, if it made a file of one.
+#[derive(Clone, Copy)]
+pub(crate) struct Summary<'c, 'b> {
+    pub totals: Totals,
+    pub counts: &'c Counts,
+    pub tells_new: bool,
+    pub book: Option<(&'b str, u64)>,
+}
+
+impl Display for Summary<'_, '_> {
+    fn fmt<W: fmt::Write>(&self, f: &mut fmt::Formatter<W>) -> fmt::Result {
+        let Totals {
+            lines,
+            new,
+            repeats,
+            refused,
+        } = self.totals;
+        let lines = Counted(lines, "line", "lines");
+        let games = Grouped(new.saturating_add(repeats));
+        write!(f, "{lines}: {games} ok")?;
+        if self.tells_new {
+            write!(f, " ({} new, {} again)", Grouped(new), Grouped(repeats))?;
+        }
+        write!(f, ", {} refused{}", Grouped(refused), self.counts)?;
+        let Some((book, entries)) = self.book else {
+            return Ok(());
+        };
+        let entries = Counted(entries, "entry", "entries");
+        write!(f, "; {book}: {entries}")
+    }
+}
+
+/// A number of things, by the words for one and for several.
+#[derive(Clone, Copy)]
+pub(crate) struct Counted(pub u64, pub &'static str, pub &'static str);
+
+impl Display for Counted {
+    fn fmt<W: fmt::Write>(&self, f: &mut fmt::Formatter<W>) -> fmt::Result {
+        let noun = if self.0 == 1 { self.1 } else { self.2 };
+        write!(f, "{} {noun}", Grouped(self.0))
+    }
 }
 
 /// A number that is written with commas before its last three digits and the three before these.
 #[derive(Clone, Copy)]
-pub(crate) struct Grouped(pub(crate) u64);
+pub(crate) struct Grouped(pub u64);
 
 impl Display for Grouped {
     fn fmt<W: fmt::Write>(&self, f: &mut fmt::Formatter<W>) -> fmt::Result {

@@ -1,10 +1,7 @@
-//! What a run tells on standard error: faults, warnings, how far it is and what it has made. Of the
-//! formats it knows the words of the replies and refusals that it counts.
+//! What a run tells on standard error: faults, warnings, how far it is and what it has made.
 #![tactic(auto)]
 
 mod counts;
-mod front;
-mod ledger_lines;
 mod looks;
 mod message;
 mod messages;
@@ -12,16 +9,13 @@ mod open;
 mod part;
 mod progress;
 mod told;
+mod watching;
 
-pub use counts::News;
-pub use front::{Front, Fronted};
-pub use ledger_lines::LedgerLines;
 pub use looks::looks_of;
-pub use message::{
-    Cause, Change, Left, Looks, Message, RefusedFile, Unplayable, Unreplaceable, Wrong,
-};
+pub use message::{Cause, Change, Left, Looks, Message, Unreplaceable};
 pub use messages::{Messages, Named};
 pub use open::is_open;
 pub use part::Part;
-pub use progress::{Counted, Progress, Watched};
+pub use progress::Progress;
 pub use told::Told;
+pub use watching::Watching;

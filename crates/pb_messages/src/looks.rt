@@ -13,7 +13,11 @@ pub fn looks_of(bytes: &[u8]) -> Looks {
     if bytes.starts_with(GZIP) {
         return Looks::Gzip;
     }
-    if !bytes.iter().all(|byte| is_of_text(*byte)) {
+    // Texts have bytes above 31, and those of white space.
+    if !bytes
+        .iter()
+        .all(|byte| *byte > 31 || byte.is_ascii_whitespace())
+    {
         return Looks::Book;
     }
     let line = first_line(bytes);
@@ -35,9 +39,4 @@ fn first_line(bytes: &[u8]) -> &[u8] {
         Some(end) => text[..end].trim_ascii_end(),
         None => text.trim_ascii_end(),
     }
-}
-
-/// Whether texts have such a byte: one above 31, or of white space.
-fn is_of_text(byte: u8) -> bool {
-    byte > 31 || byte.is_ascii_whitespace()
 }

@@ -11,13 +11,16 @@ pub(crate) const CLEAR: &str = "\r\x1b[K";
 /// Standard error, as long as it takes what is told. Nothing else depends on that.
 #[derive(Clone, Copy)]
 pub struct Messages<'a> {
-    rt: &'a HostRuntime,
+    /// The runtime that they are told by.
+    pub rt: &'a HostRuntime,
     is_open: bool,
     is_terminal: bool,
-    is_quiet: bool,
-    is_summed: bool,
-    // Whether standard output is a terminal too, most likely the same.
-    is_shared: bool,
+    /// Whether only faults, refused files and what was asked for are told, such as the summary.
+    pub is_quiet: bool,
+    /// Whether the summary was asked for.
+    pub is_summed: bool,
+    /// Whether standard output is a terminal too, most likely the same.
+    pub is_shared: bool,
 }
 
 impl<'a> Messages<'a> {
@@ -35,34 +38,9 @@ impl<'a> Messages<'a> {
         }
     }
 
-    /// The same of a run that may be quiet, and then tells only faults, refused files and what it
-    /// was asked for, which may be its summary.
-    pub fn telling(self, is_quiet: bool, is_summed: bool) -> Messages<'a> {
-        Messages {
-            is_quiet,
-            is_summed,
-            ..self
-        }
-    }
-
-    /// The runtime that the messages are told by.
-    pub fn rt(&self) -> &'a HostRuntime {
-        self.rt
-    }
-
     /// Whether somebody watches, who wants to know how a run goes.
     pub fn are_watched(&self) -> bool {
         self.is_terminal && !self.is_quiet
-    }
-
-    /// Whether the summary is wanted.
-    pub fn want_summary(&self) -> bool {
-        self.is_summed || self.are_watched()
-    }
-
-    /// Whether the replies go to a terminal as well.
-    pub fn share_terminal(&self) -> bool {
-        self.is_shared
     }
 
     /// Tells a fault, why a file is refused, or what a run has done.
@@ -106,17 +84,9 @@ impl<'a> Named<'a> {
         }
     }
 
-    /// The same, where a failure leaves this.
-    pub fn leaving(self, left: Left) -> Named<'a> {
-        Named { left, ..self }
-    }
-
     /// Tells that it has failed.
     pub fn fail(&self, error: &io::Error) {
-        self.messages.tell(&Message::Failed {
-            name: self.name,
-            cause: Cause::of(error),
-            left: self.left,
-        });
+        self.messages
+            .tell(&Message::Failed(self.name, Cause::of(error), self.left));
     }
 }

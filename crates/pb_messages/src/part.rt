@@ -28,12 +28,12 @@ impl Part {
 impl Display for Part {
     /// As the help calls it, or as an option does.
     fn fmt<W: fmt::Write>(&self, f: &mut fmt::Formatter<W>) -> fmt::Result {
-        match self {
-            Part::Table => write!(f, "TABLE"),
-            Part::Ledger => write!(f, "the ledger"),
-            Part::Journal => write!(f, "the journal"),
-            Part::Book => write!(f, "BOOK"),
-            Part::Games => write!(f, "FILE"),
-        }
+        f.write_str(match self {
+            Part::Table => "TABLE",
+            Part::Ledger => "the ledger",
+            Part::Journal => "the journal",
+            Part::Book => "BOOK",
+            Part::Games => "FILE",
+        })
     }
 }

@@ -7,14 +7,16 @@ use std::io::{self, ErrorKind, Read, Write};
 /// writes what it still holds when it is dropped, and the device may work again by then.
 #[derive(Drop)]
 pub struct Told<'a, T> {
-    inner: T,
+    /// The reader or the writer itself.
+    pub inner: T,
     named: Named<'a>,
-    may_be_closed: bool,
+    /// Whether its reader may close a pipe, which isn't told: it has what it wanted.
+    pub may_be_closed: bool,
     failed: bool,
 }
 
 impl<'a, T> Told<'a, T> {
-    /// What has this name, and works so far.
+    /// Begins with what has this name, and works so far.
     pub fn new(named: Named<'a>, inner: T) -> Told<'a, T> {
         Told {
             inner,
@@ -24,25 +26,13 @@ impl<'a, T> Told<'a, T> {
         }
     }
 
-    /// The same, where a pipe that its reader has closed isn't told: it has what it wanted.
-    pub fn that_may_be_closed(self) -> Told<'a, T> {
-        Told {
-            may_be_closed: true,
-            ..self
-        }
-    }
-
-    /// The reader or the writer itself.
-    pub fn get_ref(&self) -> &T {
-        &self.inner
-    }
-
-    /// Tells the failure.
-    fn fail(&mut self, error: &io::Error) {
+    /// Tells the failure, and hands it on.
+    fn fail(&mut self, error: io::Error) -> io::Error {
         self.failed = true;
         if !(self.may_be_closed && error.kind() == ErrorKind::BrokenPipe) {
-            self.named.fail(error);
+            self.named.fail(&error);
         }
+        error
     }
 }
 
@@ -52,11 +42,8 @@ impl<T: Read> Read for Told<'_, T> {
             return Err(io::Error::from(ErrorKind::BrokenPipe));
         }
         match self.inner.read(into) {
-            Ok(count) => Ok(count),
-            Err(error) => {
-                self.fail(&error);
-                Err(error)
-            }
+            Err(error) => Err(self.fail(error)),
+            read => read,
         }
     }
 }
@@ -67,14 +54,9 @@ impl<T: Write> Write for Told<'_, T> {
             return Err(io::Error::from(ErrorKind::BrokenPipe));
         }
         match self.inner.write(bytes) {
-            Ok(count) => Ok(count),
-            Err(error) => {
-                // An interrupted write has written nothing, and the buffer tries it again.
-                if error.kind() != ErrorKind::Interrupted {
-                    self.fail(&error);
-                }
-                Err(error)
-            }
+            // An interrupted write has written nothing, and the buffer tries it again.
+            Err(error) if error.kind() != ErrorKind::Interrupted => Err(self.fail(error)),
+            written => written,
         }
     }
 

@@ -9,7 +9,8 @@ use Rattle.pb_poly.specs.declared.table.TableError.{TableError}
 use Rattle.pb_poly.specs.declared.table.TableError.TheVariants as poly
 use Rattle.pb_poly.proofs.Tables.{only_memory, words_are_one}
 use Rattle.pb_poly.specs.declared.table_file.TableFault.{TableFault}
-use Rattle.pb_poly.specs.declared.table_file.TableFault.TheVariants.{Long, Line, Count, Read, Endless, Memory}
+use Rattle.pb_poly.specs.declared.table_file.TableFault.TheVariants.{Long, Line, Count, Fault}
+use Rattle.pb_io.specs.declared.fault.ReadFault.TheVariants.{Read, Endless, Memory}
 use Rattle.pb_poly.specs.TableFinds.{FindsNoTable, FindsTable}
 use Rattle.pb_poly.proofs.ToldReads.{all_came, came_first, no_endless, no_fault}
 
@@ -25,7 +26,7 @@ module _ (fills : ℕ) (old new : SourceState) (words bytes : List ℕ) (tells :
   due : (x : TableError) (came : List ℕ) → bytes ≡ came → IsDueTable x came → x ≡ poly.Memory
   due x came all h = only_memory words bytes x is.text (subst (λ (xs : List ℕ). IsDueTable x xs) (sym all) h)
 
-  refused : (e : TableFault) → FindsNoTable fills old new e → e ≡ Memory
+  refused : (e : TableFault) → FindsNoTable fills old new e → e ≡ Fault Memory
   refused Long h =
       let c = came_first table_limit fills old new bytes tells.told h.came h.reads.reads in
       absurd (omega (arith, h.due, is.few, ap length c.1, length-append h.came c.0))
@@ -33,10 +34,10 @@ module _ (fills : ℕ) (old new : SourceState) (words bytes : List ℕ) (tells :
       absurd (cc (due (poly.Line number) h.came (all_came table_limit fills old new bytes tells.told h.came h.reads) h.due.1))
   refused (Count count) h =
       absurd (cc (due (poly.Count count) h.came (all_came table_limit fills old new bytes tells.told h.came h.reads) h.due.1))
-  refused Read h = absurd (no_fault table_limit fills old new bytes tells h.came h.reads)
-  refused Endless h = absurd (no_endless table_limit fills old new bytes tells h.came h.reads)
-  refused Memory h = refl
+  refused (Fault Read) h = absurd (no_fault table_limit fills old new bytes tells h.came h.reads)
+  refused (Fault Endless) h = absurd (no_endless table_limit fills old new bytes tells h.came h.reads)
+  refused (Fault Memory) h = refl
 
-  pub only_table : (result : Result (List ℕ) TableFault) → IfOk result (FindsTable fills old new) → IfErr result (FindsNoTable fills old new) → MatchResult result (λ table. table ≡ words) (λ e. e ≡ Memory)
+  pub only_table : (result : Result (List ℕ) TableFault) → IfOk result (FindsTable fills old new) → IfErr result (FindsNoTable fills old new) → MatchResult result (λ table. table ≡ words) (λ e. e ≡ Fault Memory)
   only_table (Ok table) h k = found table h
   only_table (Err e) h k = refused e k

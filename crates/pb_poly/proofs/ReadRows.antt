@@ -13,7 +13,8 @@ use Rattle.pb_poly.specs.declared.entry.Entry.{Entry}
 use Rattle.pb_poly.specs.declared.reading.BookError.{BookError}
 use Rattle.pb_poly.specs.declared.reading.BookError.TheVariants as book
 use Rattle.pb_poly.specs.declared.table_file.TableFault.{TableFault}
-use Rattle.pb_poly.specs.declared.table_file.TableFault.TheVariants.{Long, Line, Count, Read, Endless, Memory}
+use Rattle.pb_poly.specs.declared.table_file.TableFault.TheVariants.{Long, Line, Count, Fault}
+use Rattle.pb_io.specs.declared.fault.ReadFault.TheVariants.{Read, Endless, Memory}
 
 -- ---- table files
 
@@ -22,18 +23,18 @@ module _ (fills : ℕ) (old new : SourceState) where
   meets_to Long h = inl (just_so_far, h.came, h.reads, omega (arith, h.due, h.few))
   meets_to (Line n) h = inl (at_end, h.came, h.reads, h.due)
   meets_to (Count n) h = inl (at_end, h.came, h.reads, h.due)
-  meets_to Read h = inl (at_fault, h.came, h.reads, h.due)
-  meets_to Endless h = inl (at_no_end, h.came, h.reads, h.due)
-  meets_to Memory h = inl (at_end, h.came, h.reads, (h.due.1.0, record { few = h.due.0; text = h.due.1.1 }))
+  meets_to (Fault Read) h = inl (at_fault, h.came, h.reads, h.due)
+  meets_to (Fault Endless) h = inl (at_no_end, h.came, h.reads, h.due)
+  meets_to (Fault Memory) h = inl (at_end, h.came, h.reads, (h.due.1.0, record { few = h.due.0; text = h.due.1.1 }))
 
   no_table_to : (e : TableFault) → FindsNoTable fills old new e → ReadsTable fills old new (Err e)
-  no_table_to Memory (inl same) = inr (refl, same)
-  no_table_to Memory (inr h) = meets_to Memory h
+  no_table_to (Fault Memory) (inl same) = inr (refl, same)
+  no_table_to (Fault Memory) (inr h) = meets_to (Fault Memory) h
   no_table_to Long h = meets_to Long h
   no_table_to (Line n) h = meets_to (Line n) h
   no_table_to (Count n) h = meets_to (Count n) h
-  no_table_to Read h = meets_to Read h
-  no_table_to Endless h = meets_to Endless h
+  no_table_to (Fault Read) h = meets_to (Fault Read) h
+  no_table_to (Fault Endless) h = meets_to (Fault Endless) h
 
   pub table_to : (result : Result (List ℕ) TableFault) → IfOk result (FindsTable fills old new) → IfErr result (FindsNoTable fills old new) → ReadsTable fills old new result
   table_to (Ok words) h k = inl (at_end, h.came, h.reads, h.is)
@@ -48,9 +49,9 @@ module _ (fills : ℕ) (old new : SourceState) where
   by_way just_so_far bytes (Err Long) r h = record { came = bytes; reads = r; due = omega (arith, h); few = omega (arith, h) }
   by_way at_end bytes (Err (Line n)) r h = record { came = bytes; reads = r; due = h; few = omega (arith, h.0) }
   by_way at_end bytes (Err (Count n)) r h = record { came = bytes; reads = r; due = h; few = omega (arith, h.0) }
-  by_way at_end bytes (Err Memory) r (words, table) = inr (record { came = bytes; reads = r; due = (table.few, (words, table.text)); few = omega (arith, table.few) })
-  by_way at_fault bytes (Err Read) r h = record { came = bytes; reads = r; due = h; few = omega (arith, h) }
-  by_way at_no_end bytes (Err Endless) r h = record { came = bytes; reads = r; due = h; few = omega (arith, h) }
+  by_way at_end bytes (Err (Fault Memory)) r (words, table) = inr (record { came = bytes; reads = r; due = (table.few, (words, table.text)); few = omega (arith, table.few) })
+  by_way at_fault bytes (Err (Fault Read)) r h = record { came = bytes; reads = r; due = h; few = omega (arith, h) }
+  by_way at_no_end bytes (Err (Fault Endless)) r h = record { came = bytes; reads = r; due = h; few = omega (arith, h) }
   by_way way bytes result r h = absurd h
 
   table_from : (result : Result (List ℕ) TableFault) → ReadsTable fills old new result → Apart result

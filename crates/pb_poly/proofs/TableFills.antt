@@ -5,7 +5,8 @@ use Rattle.pb_io.specs.Reads.{ReadsAll, ReadsOn}
 use Rattle.pb_io.specs.declared.source.Failed.{Failed}
 use Rattle.pb_io.proofs.ReadsLemmas.{ReadsAll-more, ReadsOn-more, ReadsSome-more, ReadsToFault-more}
 use Rattle.pb_poly.specs.declared.table_file.TableFault.{TableFault}
-use Rattle.pb_poly.specs.declared.table_file.TableFault.TheVariants.{Long, Line, Count, Read, Endless, Memory}
+use Rattle.pb_poly.specs.declared.table_file.TableFault.TheVariants.{Long, Fault}
+use Rattle.pb_io.specs.declared.fault.ReadFault.TheVariants.{Read}
 use Rattle.pb_poly.specs.TableFilling.{FillsTable, HoldsMore}
 use Rattle.pb_poly.specs.TableFinds.{FindsNoTable}
 use Rattle.pb_poly.specs.Table.{table_limit}
@@ -33,14 +34,11 @@ module _ (n : ℕ) (old mid new : SourceState) (held : List ℕ) (on : ReadsOn t
           due = omega (arith, length-append held (take h.count h.slice), length-take h.count h.slice, h.full, h.one);
           few = omega (arith, length-append held (take h.count h.slice), length-take h.count h.slice, h.full, h.one);
         }
-    fill_fails held' Read few h =
+    fill_fails held' (Fault Read) few h =
         let slice = h.0 in let e = h.1 in let fills_some = h.2 in record {
           came = held;
           reads = ReadsToFault-more table_limit n old mid new held slice fills_some.room fills_some.fits on fills e below fills_some.fill;
           due = few;
           few = omega (arith, few);
         }
-    fill_fails held' (Line _) few h = absurd h
-    fill_fails held' (Count _) few h = absurd h
-    fill_fails held' Endless few h = absurd h
-    fill_fails held' Memory few h = absurd h
+    fill_fails held' _ few h = absurd h

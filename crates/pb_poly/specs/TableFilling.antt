@@ -1,10 +1,10 @@
 -- What one fill does on the way to a table file's bytes.
 use Rattle.std.specs.Prelude.{◌≡◌, ℕ, ◌<◌, ◌≤◌, List, ◌++◌, Result, Ok, Err, length, take}
 use Rattle.pb_io.specs.Source.{Fill, SourceState}
+use Rattle.pb_io.specs.declared.fault.ReadFault.TheVariants.{Read}
 use Rattle.pb_io.specs.declared.source.Failed.{Failed}
 use Rattle.pb_poly.specs.declared.table_file.TableFault.{TableFault}
-use Rattle.pb_poly.specs.declared.table_file.TableFault.TheVariants.{Long, Line, Count}
-use Rattle.pb_poly.specs.declared.table_file.TableFault.TheVariants.{Read, Endless, Memory}
+use Rattle.pb_poly.specs.declared.table_file.TableFault.TheVariants.{Long, Fault}
 use Rattle.pb_poly.specs.Table.{table_limit}
 
 -- a fill of some room, of which this is what came
@@ -36,8 +36,5 @@ FailsToFill old new = (slice : List ℕ) × (e : Failed) × FillsSome old new (E
 abbrev pub FillsTable : SourceState → SourceState → List ℕ → List ℕ → Result ℕ TableFault → Type 0
 FillsTable old new held held' (Ok count) = HoldsMore old new held held' count
 FillsTable old new held held' (Err Long) = IsBeyond old new held
-FillsTable old new held held' (Err Read) = FailsToFill old new
-FillsTable old new held held' (Err (Line _)) = ⊥
-FillsTable old new held held' (Err (Count _)) = ⊥
-FillsTable old new held held' (Err Endless) = ⊥
-FillsTable old new held held' (Err Memory) = ⊥
+FillsTable old new held held' (Err (Fault Read)) = FailsToFill old new
+FillsTable old new held held' (Err _) = ⊥

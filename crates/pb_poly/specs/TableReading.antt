@@ -1,12 +1,12 @@
 -- What reading a table file from a source gives.
 use Rattle.std.specs.Prelude.{◌≡◌, ℕ, ◌+◌, ◌≤◌, ◌⊎◌, List, Result, Ok, Err, length}
 use Rattle.pb_io.specs.Source.{SourceState}
+use Rattle.pb_io.specs.declared.fault.ReadFault.TheVariants.{Read, Endless, Memory}
 use Rattle.pb_poly.specs.Streams.{Reads, Way, at_end, at_fault, at_no_end, just_so_far}
 use Rattle.pb_poly.specs.Table.{IsDueTable, IsTableFile, table_limit}
 use Rattle.pb_poly.specs.declared.table.TableError.TheVariants as poly
 use Rattle.pb_poly.specs.declared.table_file.TableFault.{TableFault}
-use Rattle.pb_poly.specs.declared.table_file.TableFault.TheVariants.{Long, Line, Count}
-use Rattle.pb_poly.specs.declared.table_file.TableFault.TheVariants.{Read, Endless, Memory}
+use Rattle.pb_poly.specs.declared.table_file.TableFault.TheVariants.{Long, Line, Count, Fault}
 
 -- the bytes of a table file, read in this way, come to these random numbers or to this fault; where
 -- they are too many, just one too many was read
@@ -16,9 +16,9 @@ TableIs just_so_far bytes (Err Long) = length bytes ≡ table_limit + 1
 TableIs at_end bytes (Err (Line n)) = (length bytes ≤ table_limit) × IsDueTable (poly.Line n) bytes
 TableIs at_end bytes (Err (Count n)) =
     (length bytes ≤ table_limit) × IsDueTable (poly.Count n) bytes
-TableIs at_end bytes (Err Memory) = (randoms : List ℕ) × IsTableFile randoms bytes
-TableIs at_fault bytes (Err Read) = length bytes ≤ table_limit
-TableIs at_no_end bytes (Err Endless) = length bytes ≤ table_limit
+TableIs at_end bytes (Err (Fault Memory)) = (randoms : List ℕ) × IsTableFile randoms bytes
+TableIs at_fault bytes (Err (Fault Read)) = length bytes ≤ table_limit
+TableIs at_no_end bytes (Err (Fault Endless)) = length bytes ≤ table_limit
 TableIs way bytes result = ⊥
 
 -- reading a table file gives this; for want of memory at the start nothing is read
@@ -26,4 +26,4 @@ abbrev pub ReadsTable : ℕ → SourceState → SourceState → Result (List ℕ
 ReadsTable fills old new result =
     ((way : Way) × (bytes : List ℕ) × Reads way table_limit fills old new bytes
     × TableIs way bytes result)
-    ⊎ ((result ≡ Err Memory) × (new ≡ old))
+    ⊎ ((result ≡ Err (Fault Memory)) × (new ≡ old))

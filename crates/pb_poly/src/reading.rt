@@ -22,10 +22,10 @@ use thiserror::Error;
 #[derive(Clone, Copy, Debug, PartialEq, Eq, Error)]
 pub enum BookError {
     /// The entry of this number, from 1, has a key below the key before it.
-    #[error("the key of entry {0} is below the key before it")]
+    #[error("entry {0} has a lower key than the one before it")]
     Unsorted(usize),
     /// The stream ends with so many bytes, from 1 to 15, after the last whole entry.
-    #[error("{0} bytes after the last whole entry")]
+    #[error("its last entry has {0} of 16 bytes")]
     Cut(usize),
     /// The source has failed.
     #[error("the input has failed")]

@@ -24,7 +24,7 @@ pub enum TableError {
     #[error("line {0} isn't 16 hexadecimal digits")]
     Line(usize),
     /// Each line is 16 hexadecimal digits, and there are this many and not 781.
-    #[error("{0} lines")]
+    #[error("a table has 781 lines, and this one {0}")]
     Count(usize),
     /// No memory for the table. The bytes are one.
     #[error("no memory")]

@@ -7,10 +7,11 @@ ghost use Rattle.pb_poly.specs.Table.{IsTableFile, table_limit};
 ghost use Rattle.pb_poly.specs.TableFilling.{FillsTable};
 ghost use Rattle.pb_poly.specs.TableFinds.{FindsNoTable, FindsTable};
 ghost use Rattle.pb_poly.specs.TableReading.{ReadsTable};
-ghost use Rattle.pb_poly.specs.declared.table_file.TableFault.TheVariants.{Memory};
+ghost use Rattle.pb_io.specs.declared.fault.ReadFault.TheVariants.{Memory};
+ghost use Rattle.pb_poly.specs.declared.table_file.TableFault.TheVariants.{Fault};
 
 use crate::table::{Table, TableError, read_table};
-use pb_io::Source;
+use pb_io::{ReadFault, Source};
 use std::alloc::{AllocError, Global};
 use std::marker::Model;
 use thiserror::Error;
@@ -22,23 +23,18 @@ const TABLE_LIMIT: usize = 16_384;
 #[derive(Clone, Copy, Debug, PartialEq, Eq, Error)]
 pub enum TableFault {
     /// More bytes came than a table file may have. None of them was judged.
-    #[error("more than 16384 bytes")]
+    #[error("it is longer than a table")]
     Long,
     /// The line of this number, from 1, isn't 16 hexadecimal digits. Each line before it is.
-    #[error("line {0} isn't 16 hexadecimal digits")]
+    #[error("{}", TableError::Line(*.0))]
     Line(usize),
     /// Each line is 16 hexadecimal digits, and there are this many and not 781.
-    #[error("{0} lines")]
+    #[error("{}", TableError::Count(*.0))]
     Count(usize),
-    /// The source has failed.
-    #[error("the input has failed")]
-    Read,
-    /// The fills were used up, and none was the end or a fault.
-    #[error("the input has no end")]
-    Endless,
-    /// No memory, for the bytes before the first fill or for the table after the last.
-    #[error("no memory")]
-    Memory,
+    /// The source wasn't read to its end. Memory may be wanting for the table too, after the last
+    /// fill.
+    #[error("{0}")]
+    Fault(ReadFault),
 }
 
 /// A table file that is being read.
@@ -89,7 +85,7 @@ impl TableBytes {
             return expect_end(source);
         }
         let Ok(count) = source.fill(&mut self.bytes[self.len..]) else {
-            return Err(TableFault::Read);
+            return Err(TableFault::Fault(ReadFault::Read));
         };
         self.len += count;
         Ok(count)
@@ -108,7 +104,7 @@ impl TableBytes {
                 return Ok(());
             }
         }
-        Err(TableFault::Endless)
+        Err(TableFault::Fault(ReadFault::Endless))
     }
 
     /// The table of the source's bytes.
@@ -127,7 +123,7 @@ impl TableBytes {
             Ok(table) => Ok(table),
             Err(TableError::Line(number)) => Err(TableFault::Line(number)),
             Err(TableError::Count(count)) => Err(TableFault::Count(count)),
-            Err(TableError::Memory) => Err(TableFault::Memory),
+            Err(TableError::Memory) => Err(TableFault::Fault(ReadFault::Memory)),
         }
     }
 }
@@ -141,7 +137,7 @@ fn expect_end<S: Source>(source: &mut S) -> Result<usize, TableFault>
     match source.fill(&mut further) {
         Ok(0) => Ok(0),
         Ok(_) => Err(TableFault::Long),
-        Err(_) => Err(TableFault::Read),
+        Err(_) => Err(TableFault::Fault(ReadFault::Read)),
     }
 }
 
@@ -153,15 +149,15 @@ fn expect_end<S: Source>(source: &mut S) -> Result<usize, TableFault>
 /// # Errors
 ///
 /// `Long` once more than 16,384 bytes are there, and at the end of input `Line` or `Count`.
-/// `Memory` comes before the first fill, or where the bytes are a table.
+/// Memory is wanting before the first fill, or where the bytes are a table.
 pub fn take_table<S: Source>(alloc: Global, source: &mut S, fills: u32) -> Result<Table, TableFault>
     ensures reads { ReadsTable fills (S.state source.old) (S.state source.new) result }
     ensures only { (words bytes : List ℕ) → Tells fills (S.state source.old) (S.state source.new)
         bytes → IsTableFile words bytes
-        → MatchResult result (λ table. table ≡ words) (λ e. e ≡ Memory) }
+        → MatchResult result (λ table. table ≡ words) (λ e. e ≡ Fault Memory) }
 {
     let Ok(held) = TableBytes::new(alloc) else {
-        return Err(TableFault::Memory);
+        return Err(TableFault::Fault(ReadFault::Memory));
     };
     held.read(alloc, source, fills)
 }

@@ -1,12 +1,13 @@
 //! Each command over the files that it names and the standard streams.
 
-use crate::collecting::Collecting;
+use crate::collecting::collect;
 use crate::games::games;
 use crate::ordered;
-use pb_cli::{ExportOrder, Order, run_fen};
+use crate::outcome::{tell_answer, tell_made};
+use pb_cli::{Ends, ExportOrder, Order, answer_fen};
 use pb_files::{JournalGuard, Replies, Stop, Submissions, expect_open, open};
-use pb_io::{FromRead, Sink, ToWrite};
-use pb_messages::{Counted, Messages, Named, News, Progress, Told, Watched};
+use pb_io::{FromRead, NullSink, Sink, ToWrite};
+use pb_messages::{Messages, Named, Progress, Told, Watching};
 use std::cell::RefCell;
 use std::fs::File;
 use std::io::{Input, StdinLock};
@@ -16,123 +17,106 @@ pub(crate) type FileSource<'a> = FromRead<Told<'a, File>>;
 
 /// Runs the order's command, and answers whether all was taken. The standard streams have to be
 /// open, and the files that it reads are opened before anything is read.
-pub(crate) fn answer<'a, K: Sink>(
+pub(crate) fn answer<'a>(
     messages: Messages<'a>,
     order: &Order<'a>,
     guard: &JournalGuard<'a>,
-    output: &mut K,
+    output: &mut impl Sink,
 ) -> Result<bool, Stop> {
-    let rt = messages.rt();
-    expect_open(messages, reads_input(order))?;
+    let alloc = messages.rt.alloc();
+    let reads_input = matches!(
+        order,
+        Order::Epd | Order::Lookup { .. } | Order::Check | Order::Collect(_) | Order::Export(_)
+    );
+    expect_open(messages, reads_input)?;
     match order {
         Order::Fen { record, moves } => {
-            let record = record.as_bytes();
-            Ok(run_fen(rt.alloc(), record, moves.as_slice(), output)?)
+            let answer = answer_fen(alloc, record.as_bytes(), moves.as_slice(), output)?;
+            Ok(tell_answer(messages, "", "", answer))
         }
-        Order::Epd => {
-            let mut input = FromRead::new(input(messages));
-            Ok(ordered::epd(rt.alloc(), &mut input, output)?)
-        }
+        Order::Epd => Ok(ordered::epd(alloc, &mut FromRead::new(input(messages)), output)?),
         Order::Show { book } => {
-            let mut book = source(messages, book)?;
-            Ok(ordered::show(rt.alloc(), &mut book, output)?)
+            let answer = ordered::show(alloc, &mut source(messages, book)?, output)?;
+            Ok(tell_answer(messages, "", book, answer))
         }
         Order::Probe {
             table,
             book,
             record,
-        } => probe(messages, table, book, record, output),
-        Order::Lookup { table, book } => lookup(messages, table, book, output),
+        } => look_up(messages, table, book, Some(record), output),
+        Order::Lookup { table, book } => look_up(messages, table, book, None, output),
         Order::Check => check(messages, output),
-        Order::Collect(order) => Collecting::new(messages, guard, order).run(output),
+        Order::Collect(order) => collect(messages, guard, order, output),
         Order::Export(order) => export(messages, order, output),
         Order::Games { files } => games(messages, files.as_slice(), output),
     }
 }
 
-/// Whether the order's command reads standard input.
-fn reads_input(order: &Order<'_>) -> bool {
-    matches!(
-        order,
-        Order::Epd | Order::Lookup { .. } | Order::Check | Order::Collect(_) | Order::Export(_)
-    )
-}
-
-/// Opens the table, then the book.
-fn probe<K: Sink>(
+/// Opens the table, then the book, and looks up the record, or without one the positions on
+/// standard input.
+fn look_up(
     messages: Messages<'_>,
     table: &str,
     book: &str,
-    record: &str,
-    output: &mut K,
+    record: Option<&str>,
+    output: &mut impl Sink,
 ) -> Result<bool, Stop> {
-    let mut table = source(messages, table)?;
-    let mut book = source(messages, book)?;
-    let alloc = messages.rt().alloc();
-    let record = record.as_bytes();
-    Ok(ordered::probe(alloc, &mut table, &mut book, record, output)?)
-}
-
-/// Opens the table, then the book, and takes the positions.
-fn lookup<K: Sink>(
-    messages: Messages<'_>,
-    table: &str,
-    book: &str,
-    output: &mut K,
-) -> Result<bool, Stop> {
-    let mut table = source(messages, table)?;
-    let mut book = source(messages, book)?;
-    let mut input = FromRead::new(input(messages));
-    let alloc = messages.rt().alloc();
-    Ok(ordered::lookup(alloc, &mut table, &mut book, &mut input, output)?)
+    let (mut words, mut entries) = (source(messages, table)?, source(messages, book)?);
+    let alloc = messages.rt.alloc();
+    let answer = match record {
+        Some(record) => {
+            let record = record.as_bytes();
+            ordered::probe(alloc, &mut words, &mut entries, record, output)?
+        }
+        None => {
+            let mut input = FromRead::new(input(messages));
+            ordered::lookup(alloc, &mut words, &mut entries, &mut input, output)?
+        }
+    };
+    Ok(tell_answer(messages, table, book, answer))
 }
 
 /// Judges the submissions. Each answer is written before the next line is waited for.
-fn check<K: Sink>(messages: Messages<'_>, output: &mut K) -> Result<bool, Stop> {
+fn check(messages: Messages<'_>, output: &mut impl Sink) -> Result<bool, Stop> {
     let output = RefCell::new(output);
-    let progress = Progress::new(messages, News::Unknown).making_nothing();
+    let progress = Progress::new(messages, false);
     let all_taken = ordered::check(
-        messages.rt().alloc(),
+        messages.rt.alloc(),
         &mut Submissions::new(input(messages), &output, &progress),
-        &mut ToWrite::new(Replies::new(&output, &progress)),
+        &mut ToWrite::new(Replies::new(&output)),
+        &mut Watching::new(&progress, ""),
     )?;
-    progress.end(None);
+    progress.end_check();
     Ok(all_taken)
 }
 
-/// Opens the table, then takes the submissions. Their replies are counted for the summary.
-fn export<K: Sink>(
+/// Opens the table, then takes the submissions, whose replies are dropped.
+fn export(
     messages: Messages<'_>,
     order: &ExportOrder<'_>,
-    output: &mut K,
+    output: &mut impl Sink,
 ) -> Result<bool, Stop> {
-    let mut table = source(messages, order.table)?;
-    let progress = Progress::new(messages, News::Above(0));
-    let has_book = ordered::export(
-        messages.rt().alloc(),
-        order,
-        &mut table,
-        &mut FromRead::new(Watched::new(input(messages), &progress)),
-        &mut ToWrite::new(Counted::new(&progress)),
-        output,
-    );
+    let progress = Progress::new(messages, true);
+    let mut nobody = NullSink::default();
+    let nobody = RefCell::new(&mut nobody);
+    let mut ends = Ends {
+        table: source(messages, order.table)?,
+        lines: Submissions::new(input(messages), &nobody, &progress),
+        replies: NullSink::default(),
+        watcher: Watching::new(&progress, ""),
+    };
+    let made = ordered::export(messages.rt.alloc(), order, &mut ends, output);
     progress.clear();
-    if has_book? {
-        progress.end(None);
-    }
-    Ok(has_book?)
+    Ok(tell_made(&progress, made?, order.table, "", None))
 }
 
-/// The file of this name as a source.
+/// Gives the file of this name as a source.
 pub(crate) fn source<'a>(messages: Messages<'a>, name: &'a str) -> Result<FileSource<'a>, Stop> {
     let named = Named::new(messages, name);
     Ok(FromRead::new(Told::new(named, open(named)?)))
 }
 
-/// Standard input.
+/// Gives standard input.
 pub(crate) fn input<'a>(messages: Messages<'a>) -> Told<'a, StdinLock<'a>> {
-    Told::new(
-        Named::new(messages, "standard input"),
-        messages.rt().reader(),
-    )
+    Told::new(Named::new(messages, "standard input"), messages.rt.reader())
 }

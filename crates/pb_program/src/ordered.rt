@@ -8,19 +8,24 @@ ghost use Rattle.pb_commands.specs.EpdRun.{RewritesOrEnds};
 ghost use Rattle.pb_commands.specs.LookupRun.{LooksUp};
 ghost use Rattle.pb_commands.specs.Judged.{PutsOrEnds};
 ghost use Rattle.pb_commands.specs.ProbeShown.{ProbesSources};
-ghost use Rattle.pb_cli.specs.Runs.{BlamesEither, ChecksOrEnds, ExportRun, JournalsInto};
-ghost use Rattle.pb_cli.specs.Runs.{KeepsOrEnds, KeepsOrStops, PicksAll, PicksUntil};
+ghost use Rattle.pb_commands.specs.Refused.{taken};
+ghost use Rattle.pb_cli.specs.Runs.{BlamesEither, ChecksOrEnds, CollectRun, ContinueRun};
+ghost use Rattle.pb_cli.specs.Runs.{ContinuesInto, ExportRun, Exported, HasHeadline};
+ghost use Rattle.pb_cli.specs.Runs.{HasHeadlineOfBoth, HasHeadlineOfJournal, Into, JournalRun};
+ghost use Rattle.pb_cli.specs.Runs.{PicksAll, PicksUntil, between, journal_states, states};
 ghost use Rattle.pb_files.specs.Disk.{Disk};
+ghost use Rattle.pb_files.specs.JournalSink.{syncs};
 ghost use Rattle.pb_files.specs.Journaling.{IsStarted, LeavesAnswered};
 ghost use Rattle.pb_poly.specs.Reading.{ReadsBook};
 ghost use Rattle.pb_program.specs.Ordered.{is_synced, most_fills};
 
 use pb_cli::{
-    CollectOrder, ExportOrder, Fault, NoBook, NotContinued, SkippedLines, Store, collect_into,
-    continue_into, export_submissions, pick_games, run_check, run_epd, run_lookup, run_probe,
-    run_show,
+    Answer, CollectOrder, Ends, ExportOrder, Fault, JournalEnds, LedgerEnds, Made, NoBook,
+    NotContinued, Store, Watcher, answer_lookup, answer_probe, answer_show, collect_into,
+    continue_into, export_submissions, journal_into, pick_games, run_check, run_epd,
 };
-use pb_files::{Durability, FileEnd, JournalFile, JournalSink, journal_to_file};
+use pb_files::laws::answered_games_are_left;
+use pb_files::{JournalFile, JournalSink};
 use pb_io::{Sink, Source};
 use std::alloc::Global;
 
@@ -33,20 +38,17 @@ pub const FILLS: u32 = u32::MAX;
 /// # Errors
 ///
 /// Those of `collect_into`.
-pub(crate) fn collect<Table: Source, In: Source, Out: Sink, BookStore: Store>(
+pub(crate) fn collect<Table: Source, In: Source, Out: Sink, Watch: Watcher, BookStore: Store>(
     alloc: Global,
     order: &CollectOrder<'_>,
-    table_source: &mut Table,
-    source: &mut In,
-    sink: &mut Out,
-    store: &mut BookStore,
-) -> Result<bool, NoBook>
-    ensures { KeepsOrEnds order.now.rules most_fills (Table.state table_source.old)
-        (Table.state table_source.new) (In.state source.old) (In.state source.new)
-        (Out.state sink.old) (Out.state sink.new)
-        (BookStore.state store.old) (BookStore.state store.new) result }
+    ends: &mut Ends<Table, In, Out, Watch>,
+    book: &mut BookStore,
+) -> Result<Made, NoBook>
+    ensures { let e = states Table.state In.state Out.state ends.old ends.new in
+        Into (CollectRun order.now.rules most_fills e) (HasHeadline order.now.rules e)
+        (between BookStore.state book.old book.new) result }
 {
-    collect_into(alloc, order.rules, table_source, source, sink, store, FILLS)
+    collect_into(alloc, order.rules, ends, book, FILLS)
 }
 
 /// Runs `continue_into` by the rules of the order.
@@ -56,92 +58,69 @@ pub(crate) fn collect<Table: Source, In: Source, Out: Sink, BookStore: Store>(
 /// Those of `continue_into`.
 pub(crate) fn go_on<
     Table: Source,
-    Saved: Source,
     In: Source,
     Out: Sink,
+    Watch: Watcher,
+    Saved: Source,
     LedgerStore: Store,
     BookStore: Store,
 >(
     alloc: Global,
     order: &CollectOrder<'_>,
-    table_source: &mut Table,
-    saved: &mut Saved,
-    source: &mut In,
-    sink: &mut Out,
-    ledger_store: &mut LedgerStore,
-    book_store: &mut BookStore,
-) -> Result<bool, NotContinued>
-    ensures { KeepsOrStops order.now.rules most_fills (Table.state table_source.old)
-        (Table.state table_source.new) (Saved.state saved.old) (Saved.state saved.new)
-        (In.state source.old) (In.state source.new) (Out.state sink.old) (Out.state sink.new)
-        (LedgerStore.state ledger_store.old) (LedgerStore.state ledger_store.new)
-        (BookStore.state book_store.old) (BookStore.state book_store.new) result }
+    ends: &mut Ends<Table, In, Out, Watch>,
+    ledger: &mut LedgerEnds<Saved, LedgerStore>,
+    book: &mut BookStore,
+) -> Result<Made, NotContinued>
+    ensures { let e = states Table.state In.state Out.state ends.old ends.new in
+        let saved = between Saved.state ledger.old.saved ledger.new.saved in
+        ContinuesInto (ContinueRun order.now.rules most_fills e saved)
+        (HasHeadlineOfBoth order.now.rules e saved)
+        (between LedgerStore.state ledger.old.store ledger.new.store)
+        (between BookStore.state book.old book.new) result }
 {
-    continue_into(
-        alloc,
-        order.rules,
-        table_source,
-        saved,
-        source,
-        sink,
-        ledger_store,
-        book_store,
-        FILLS,
-    )
+    continue_into(alloc, order.rules, ends, ledger, book, FILLS)
 }
 
-/// Runs `journal_to_file` by the rules of the order, which also says whether its games are synced.
+/// Runs `journal_into` by the rules of the order, which also says whether its games are synced. The
+/// journal is the end of a file. So each game that was answered `ok` is in that file, however the
+/// run ends, and whatever comes then: each crash leaves it there where games are synced, and else
+/// each kill.
 ///
 /// # Errors
 ///
-/// Those of `journal_to_file`.
+/// Those of `journal_into`.
 pub(crate) fn journal<
     Table: Source,
-    Kept: Source,
-    File: JournalFile,
-    Durable: Durability,
-    Skipped: SkippedLines,
     In: Source,
     Out: Sink,
+    Watch: Watcher,
+    Kept: Source,
+    File: JournalFile,
+    const MODE: u8,
     BookStore: Store,
 >(
     alloc: Global,
     order: &CollectOrder<'_>,
-    table_source: &mut Table,
-    kept: &mut Kept,
-    journal: &mut JournalSink<File, Durable>,
-    skipped: &mut Skipped,
-    source: &mut In,
-    sink: &mut Out,
-    store: &mut BookStore,
-) -> Result<bool, NoBook>
-    requires { Durable.syncs ≡ is_synced order.now.kept }
-    ensures ends { JournalsInto order.now.rules most_fills (Table.state table_source.old)
-        (Table.state table_source.new) (Kept.state kept.old) (Kept.state kept.new)
-        (In.state source.old) (In.state source.new)
-        (⟦<JournalSink<File, Durable> as Sink>⟧.state journal.old)
-        (⟦<JournalSink<File, Durable> as Sink>⟧.state journal.new)
-        (Out.state sink.old) (Out.state sink.new)
-        (BookStore.state store.old) (BookStore.state store.new) result }
+    ends: &mut Ends<Table, In, Out, Watch>,
+    journal: &mut JournalEnds<Kept, JournalSink<File, MODE>>,
+    book: &mut BookStore,
+) -> Result<Made, NoBook>
+    requires { syncs MODE ≡ is_synced order.now.kept }
+    ensures ends { let e = states Table.state In.state Out.state ends.old ends.new in
+        let j = journal_states Kept.state (⟦<JournalSink<File, MODE> as Sink>⟧.state)
+        journal.old journal.new in
+        Into (JournalRun order.now.rules most_fills e j)
+        (HasHeadlineOfJournal order.now.rules e j)
+        (between BookStore.state book.old book.new) result }
+    // No submission was read, or each game that was acknowledged is in what is left of the file.
     ensures leaves { (disk : Disk) → IsStarted (is_synced order.now.kept) disk
-        (⟦<JournalSink<File, Durable> as FileEnd>⟧.end journal.old) (Kept.state kept.old)
-        → (In.state source.new ≡ In.state source.old)
-        ⊎ LeavesAnswered (is_synced order.now.kept) disk
-        (⟦<JournalSink<File, Durable> as FileEnd>⟧.end journal.new)
-        (In.state source.old) (In.state source.new) (Out.state sink.old) (Out.state sink.new) }
+        journal.old.journal (Kept.state journal.old.kept)
+        → (In.state ends.new.lines ≡ In.state ends.old.lines)
+        ⊎ LeavesAnswered (is_synced order.now.kept) disk journal.new.journal
+        (states Table.state In.state Out.state ends.old ends.new) }
 {
-    journal_to_file(
-        alloc,
-        order.rules,
-        table_source,
-        kept,
-        journal,
-        skipped,
-        source,
-        sink,
-        store,
-        FILLS,
-    )
+    answered_games_are_left();
+    journal_into(alloc, order.rules, ends, journal, book, FILLS)
 }
 
 /// Runs `export_submissions` by the rules of the order.
@@ -149,30 +128,20 @@ pub(crate) fn journal<
 /// # Errors
 ///
 /// Those of `export_submissions`.
-pub(crate) fn export<Table: Source, In: Source, Replies: Sink, Out: Sink>(
+pub(crate) fn export<Table: Source, In: Source, Replies: Sink, Watch: Watcher, Out: Sink>(
     alloc: Global,
     order: &ExportOrder<'_>,
-    table_source: &mut Table,
-    source: &mut In,
-    replies: &mut Replies,
+    ends: &mut Ends<Table, In, Replies, Watch>,
     sink: &mut Out,
-) -> Result<bool, Fault>
-    ensures ends { ExportRun order.now.rules most_fills (Table.state table_source.old)
-        (Table.state table_source.new) (In.state source.old) (In.state source.new)
-        (Replies.state replies.old) (Replies.state replies.new)
-        (Out.state sink.old) (Out.state sink.new) result }
-    ensures blame { IfErr result (BlamesEither (Replies.state replies.old)
-        (Replies.state replies.new) (Out.state sink.old) (Out.state sink.new)) }
+) -> Result<Made, Fault>
+    ensures ends { let e = states Table.state In.state Replies.state ends.old ends.new in
+        Exported (ExportRun order.now.rules most_fills e (between Out.state sink.old sink.new))
+        result }
+    ensures blame { IfErr result (BlamesEither
+        (between Replies.state ends.old.replies ends.new.replies)
+        (between Out.state sink.old sink.new)) }
 {
-    export_submissions(
-        alloc,
-        order.rules,
-        table_source,
-        source,
-        replies,
-        sink,
-        FILLS,
-    )
+    export_submissions(alloc, order.rules, ends, sink, FILLS)
 }
 
 /// Runs `run_check`.
@@ -180,71 +149,72 @@ pub(crate) fn export<Table: Source, In: Source, Replies: Sink, Out: Sink>(
 /// # Errors
 ///
 /// Those of `run_check`.
-pub(crate) fn check<In: Source, Out: Sink>(
+pub(crate) fn check<In: Source, Out: Sink, Watch: Watcher>(
     alloc: Global,
     source: &mut In,
     sink: &mut Out,
+    watcher: &mut Watch,
 ) -> Result<bool, Fault>
     ensures { ChecksOrEnds most_fills (In.state source.old) (In.state source.new)
         (Out.state sink.old) (Out.state sink.new) result }
 {
-    run_check(alloc, source, sink, FILLS)
+    run_check(alloc, source, sink, watcher, FILLS)
 }
 
-/// Runs `run_probe`.
+/// Runs `answer_probe`.
 ///
 /// # Errors
 ///
-/// Those of `run_probe`.
+/// Those of `answer_probe`.
 pub(crate) fn probe<TableIn: Source, BookIn: Source, Out: Sink>(
     alloc: Global,
     table_source: &mut TableIn,
     book_source: &mut BookIn,
     fen: &[u8],
     sink: &mut Out,
-) -> Result<bool, Fault>
+) -> Result<Answer, Fault>
     ensures { PutsOrEnds (ProbesSources most_fills (TableIn.state table_source.old)
         (TableIn.state table_source.new)
         (BookIn.state book_source.old) (BookIn.state book_source.new) fen.now)
-        (Out.state sink.old) (Out.state sink.new) result }
+        (Out.state sink.old) (Out.state sink.new) (taken result) }
 {
-    run_probe(alloc, table_source, book_source, fen, sink, FILLS)
+    answer_probe(alloc, table_source, book_source, fen, sink, FILLS)
 }
 
-/// Runs `run_lookup`.
+/// Runs `answer_lookup`.
 ///
 /// # Errors
 ///
-/// Those of `run_lookup`.
+/// Those of `answer_lookup`.
 pub(crate) fn lookup<TableIn: Source, BookIn: Source, In: Source, Out: Sink>(
     alloc: Global,
     table_source: &mut TableIn,
     book_source: &mut BookIn,
     source: &mut In,
     sink: &mut Out,
-) -> Result<bool, Fault>
+) -> Result<Answer, Fault>
     ensures { LooksUp most_fills (TableIn.state table_source.old) (TableIn.state table_source.new)
         (BookIn.state book_source.old) (BookIn.state book_source.new)
         (In.state source.old) (In.state source.new)
-        (Out.state sink.old) (Out.state sink.new) result }
+        (Out.state sink.old) (Out.state sink.new) (taken result) }
 {
-    run_lookup(alloc, table_source, book_source, source, sink, FILLS)
+    answer_lookup(alloc, table_source, book_source, source, sink, FILLS)
 }
 
-/// Runs `run_show`.
+/// Runs `answer_show`.
 ///
 /// # Errors
 ///
-/// Those of `run_show`.
+/// Those of `answer_show`.
 pub(crate) fn show<In: Source, Out: Sink>(
     alloc: Global,
     source: &mut In,
     sink: &mut Out,
-) -> Result<bool, Fault>
+) -> Result<Answer, Fault>
     ensures { PutsOrEnds (BookShown (ReadsBook most_fills (In.state source.old)
-        (In.state source.new))) (Out.state sink.old) (Out.state sink.new) result }
+        (In.state source.new))) (Out.state sink.old) (Out.state sink.new) (taken result) }
 {
-    run_show(alloc, source, sink, FILLS)
+    answer_show(alloc, source, sink, FILLS)
 }
 
 /// Runs `run_epd`.
@@ -268,16 +238,16 @@ pub(crate) fn epd<In: Source, Out: Sink>(
 /// # Errors
 ///
 /// Those of `pick_games`.
-pub(crate) fn games<In: Source, Out: Sink, Skipped: SkippedLines>(
+pub(crate) fn games<In: Source, Out: Sink, Watch: Watcher>(
     alloc: Global,
     source: &mut In,
     sink: &mut Out,
-    skipped: &mut Skipped,
+    watcher: &mut Watch,
 ) -> Result<bool, Fault>
     ensures ok { IfOk result (PicksAll most_fills (In.state source.old) (In.state source.new)
         (Out.state sink.old) (Out.state sink.new)) }
     ensures fault { IfErr result (PicksUntil most_fills (In.state source.old) (In.state source.new)
         (Out.state sink.old) (Out.state sink.new)) }
 {
-    pick_games(alloc, source, sink, skipped, FILLS)
+    pick_games(alloc, source, sink, watcher, FILLS)
 }

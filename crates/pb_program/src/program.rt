@@ -4,21 +4,14 @@ ghost use Rattle.std.specs.Prelude.{◌≡◌, ◌≤◌};
 
 use crate::command::answer;
 use crate::stop::tell_stop;
-use pb_cli::{CollectOrder, ExportOrder, Fault, Keeping, Order, ParseFault, parse, status};
+use pb_cli::{CollectOrder, ExportOrder, Fault, Order, ParseFault, parse, status};
 use pb_files::{BUFFER_LEN, Guarded, JournalGuard, Stop};
 use pb_io::ToWrite;
-use pb_messages::{
-    Front, Fronted, Looks, Message, Messages, Named, Part, RefusedFile, Told, looks_of,
-};
-use std::cell::RefCell;
-use std::fs::{self, File};
-use std::io::{self, BufWriter, ErrorKind, IsTerminal, Read};
+use pb_messages::{Message, Messages, Named, Told};
+use std::io::{self, BufWriter, ErrorKind, IsTerminal};
 
 /// What messages call standard output.
 const OUTPUT: &str = "standard output";
-
-/// How many first bytes of a refused file are looked at.
-const LOOKED_AT: usize = 512;
 
 /// The status for words that give no order.
 pub const USAGE_STATUS: u8 = 2;
@@ -54,33 +47,27 @@ fn show_usage(rt: &HostRuntime, words: &[&str], text: &str) {
     if let Some(text) = error.lines().next()
         && !rt.stdout().is_terminal()
     {
-        messages.tell(&Message::Usage { text });
+        messages.tell(&Message::Usage(text));
     }
-    if let Some(file) = word_too_many(error)
-        && let Some(noun) = input_of(words)
-    {
-        messages.tell(&Message::OnInput { noun, file });
+    if let Some(message) = on_input(words, error) {
+        messages.tell(&message);
     }
 }
 
-/// The word that a usage error says is one too many, unless it begins as an option does.
-fn word_too_many(error: &str) -> Option<&str> {
+/// Gives the message for a file that is named where the command of these words takes lines from
+/// standard input: the usage error says that it is a word too many. An option is no file.
+fn on_input<'m>(words: &[&str], error: &'m str) -> Option<Message<'m>> {
+    let noun = match *words.get(1)? {
+        "collect" | "export" | "check" => "games",
+        "epd" | "lookup" => "positions",
+        _ => return None,
+    };
     let rest = error.strip_prefix("unexpected argument '")?;
-    let (word, _) = rest.split_once("' found")?;
-    if word.starts_with('-') {
-        None
-    } else {
-        Some(word)
+    let (file, _) = rest.split_once("' found")?;
+    if file.starts_with('-') {
+        return None;
     }
-}
-
-/// What the command that these words name takes from standard input.
-fn input_of(words: &[&str]) -> Option<&'static str> {
-    match *words.get(1)? {
-        "collect" | "export" | "check" => Some("games"),
-        "epd" | "lookup" => Some("positions"),
-        _ => None,
-    }
+    Some(Message::OnInput(noun, file))
 }
 
 /// Runs the command over standard output and answers the exit status.
@@ -88,105 +75,31 @@ fn perform<'a>(rt: &'a HostRuntime, order: &Order<'a>) -> u8
     ensures { result ≤ 3 }
 {
     let messages = messages_of(rt, order);
-    let front = RefCell::new(Front::new());
     let guard = JournalGuard::new();
-    let told = Told::new(Named::new(messages, OUTPUT), io::writer(rt));
+    let mut told = Told::new(Named::new(messages, OUTPUT), io::writer(rt));
     // Whoever closes it may have seen enough, unless games are answered.
-    let told = match order {
-        Order::Collect(_) => told,
-        _ => told.that_may_be_closed(),
-    };
-    let output = Guarded::new(Fronted::new(told, &front), &guard);
+    told.may_be_closed = !matches!(order, Order::Collect(_));
+    let output = Guarded::new(told, &guard);
     let Ok(writer) = BufWriter::with_capacity(rt.alloc(), BUFFER_LEN, output) else {
         return tell_no_memory(rt);
     };
     let mut output = ToWrite::new(writer);
     match answer(messages, order, &guard, &mut output) {
-        Ok(taken) => {
-            if !taken {
-                tell_refused(messages, order, &front);
-            }
-            status(Ok(taken))
-        }
+        Ok(taken) => status(Ok(taken)),
         Err(stop) => tell_stop(messages, &mut output, stop),
     }
 }
 
 /// The messages of a run with this order, which tells what it asks for.
 fn messages_of<'a>(rt: &'a HostRuntime, order: &Order<'_>) -> Messages<'a> {
-    let messages = Messages::new(rt);
-    match order {
-        Order::Collect(CollectOrder { quiet, summary, .. })
-        | Order::Export(ExportOrder { quiet, summary, .. }) => messages.telling(*quiet, *summary),
-        _ => messages,
-    }
-}
-
-/// Tells why the order's file, its record or its move was refused. A line that is refused is an
-/// answer.
-fn tell_refused(messages: Messages<'_>, order: &Order<'_>, front: &RefCell<Front>) {
-    let Ok(front) = front.try_borrow() else {
-        return;
-    };
-    if let Order::Fen { .. } | Order::Probe { .. } = order
-        && let Some(why) = front.unplayable()
+    let mut messages = Messages::new(rt);
+    if let Order::Collect(CollectOrder { quiet, summary, .. })
+    | Order::Export(ExportOrder { quiet, summary, .. }) = order
     {
-        messages.tell(&why);
+        messages.is_quiet = *quiet;
+        messages.is_summed = *summary;
     }
-    if let Some((kind, wrong)) = front.refused() {
-        let name = name_of(order, kind);
-        messages.tell(&RefusedFile {
-            name,
-            wrong,
-            looks: looks_of_file(messages.rt(), name, kind),
-        });
-    }
-}
-
-/// What a file looks like that was to be of this part, if it looks like something else. Only an
-/// ordinary file is looked at again, since a pipe gives its bytes once.
-fn looks_of_file(rt: &HostRuntime, name: &str, part: Part) -> Option<Looks> {
-    if !fs::metadata(rt, name).ok()?.is_file() {
-        return None;
-    }
-    let mut front = [0; LOOKED_AT];
-    let count = File::open(rt, name).ok()?.read(&mut front).ok()?;
-    let looks = looks_of(&front[..count]);
-    let is_due = match looks {
-        Looks::Text => matches!(part, Part::Book),
-        Looks::Games => !matches!(part, Part::Ledger),
-        Looks::Book => !matches!(part, Part::Book),
-        Looks::Table => !matches!(part, Part::Table),
-        Looks::Pgn | Looks::Gzip => true,
-    };
-    if is_due { Some(looks) } else { None }
-}
-
-/// The name of the order's file of this kind.
-fn name_of<'a>(order: &Order<'a>, kind: Part) -> &'a str {
-    match (order, kind) {
-        (
-            Order::Collect(
-                CollectOrder {
-                    kept: Keeping::Ledger(path),
-                    ..
-                },
-            ),
-            Part::Ledger,
-        ) => path,
-        (
-            Order::Show { book } | Order::Probe { book, .. } | Order::Lookup { book, .. },
-            Part::Book,
-        ) => book,
-        (
-            Order::Probe { table, .. }
-            | Order::Lookup { table, .. }
-            | Order::Collect(CollectOrder { table, .. })
-            | Order::Export(ExportOrder { table, .. }),
-            _,
-        ) => table,
-        _ => "",
-    }
+    messages
 }
 
 /// Tells that there was no memory to begin with, and answers the status of a fault.

@@ -20,7 +20,7 @@ pub(crate) fn tell_stop<W: Write>(messages: Messages<'_>, output: &mut ToWrite<W
         _ => {}
     }
     if output.flush().is_ok() && !matches!(stop, Stop::Fault(Fault::Write)) {
-        let _ = println!(messages.rt(); "fault {}", stop.word());
+        let _ = println!(messages.rt; "fault {}", stop.word());
     }
     FAULT_STATUS
 }

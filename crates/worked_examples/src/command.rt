@@ -148,7 +148,7 @@ fn check(page: &mut Page, words: &[&str]) -> Done {
     let mut source = named_source(end_of(ends, "input", "reader:7"), stream.as_bytes());
     let mut output = Output::of(page.alloc, ends, "output");
     let mut sink = ToWrite::new(&mut output);
-    let answer = run_check(page.alloc, &mut source, &mut sink, fills_in(ends));
+    let answer = run_check(page.alloc, &mut source, &mut sink, &mut (), fills_in(ends));
     tell(page, ends, answer, &output)
 }
 

@@ -3,15 +3,17 @@
 //! may that of the puts and flushes which each file takes. A `;` stands between the entries of a
 //! book.
 
-ghost use Rattle.std.specs.Prelude.{◌≡◌};
+ghost use Rattle.std.specs.Prelude.{◌≡◌, length};
 ghost use Rattle.pb_poly.specs.Book.{book_bytes};
 
+use crate::collecting::is_book;
 use crate::ends::rules_in;
 use crate::game::stream_of;
 use crate::restarting;
-use pb_cli::{Store, Text, collect_into, continue_into};
+use mem_files::{Before, MemDesk};
+use pb_cli::{Ends, LedgerEnds, Store, Text, collect_into, continue_into};
 use pb_collecting::Rules;
-use pb_files::{Before, KeptFile, MemDesk};
+use pb_files::KeptFile;
 use pb_ledger::WriteFault;
 use pb_poly::{Book, FromRead, MemSink, Sink, read_book, write_book};
 use rows::book::file_of;
@@ -29,11 +31,12 @@ struct BookText<'b> {
 }
 
 impl Text for BookText<'_> {
-    ghost is_text = { λ text bytes. bytes ≡ book_bytes text.book.now };
+    ghost is_text = { λ text bytes count. (bytes ≡ book_bytes text.book.now)
+        × (count ≡ length text.book.now) };
 
-    fn write<K: Sink>(&self, sink: &mut K) -> Result<(), WriteFault> {
+    fn write<K: Sink>(&self, sink: &mut K) -> Result<u64, WriteFault> {
         write_book(sink, self.book)?;
-        Ok(())
+        Ok(self.book.entries().len() as u64)
     }
 }
 
@@ -133,6 +136,20 @@ fn keep(page: &mut Page, words: &[&str]) -> Done {
     Ok(())
 }
 
+/// The ends of a run that reads this table and these submissions, and tells nobody.
+fn ends_of<'a>(
+    alloc: Global,
+    table: &'a [u8],
+    lines: &'a [u8],
+) -> Ends<FromRead<&'a [u8]>, FromRead<&'a [u8]>, MemSink, ()> {
+    Ends {
+        table: FromRead::new(table),
+        lines: FromRead::new(lines),
+        replies: MemSink::new(alloc),
+        watcher: (),
+    }
+}
+
 /// Makes a file anew of the book of these lines.
 fn collect(page: &mut Page, words: &[&str]) -> Done {
     let [before, calls, good, entries, lines @ ..] = words else {
@@ -141,16 +158,9 @@ fn collect(page: &mut Page, words: &[&str]) -> Done {
     let table = text_of(page.alloc, "{powers}")?;
     let stream = stream_of(page.alloc, lines)?;
     let mut place = place_of(page.alloc, OLD, before, calls, good)?;
-    let answer = collect_into(
-        page.alloc,
-        rules()?,
-        &mut FromRead::new(table.as_bytes()),
-        &mut FromRead::new(stream.as_bytes()),
-        &mut MemSink::new(page.alloc),
-        &mut place,
-        u32::MAX,
-    );
-    page.put_debug(&answer);
+    let mut ends = ends_of(page.alloc, table.as_bytes(), stream.as_bytes());
+    let answer = collect_into(page.alloc, rules()?, &mut ends, &mut place, u32::MAX);
+    page.put_debug(&answer.as_ref().map(is_book));
     page.put(": ");
     tell_found(page, &place, OLD, book_of(page.alloc, entries)?.as_bytes());
     Ok(())
@@ -166,23 +176,24 @@ fn go_on(page: &mut Page, words: &[&str]) -> Done {
     let old = stream_of(page.alloc, first)?;
     let later = stream_of(page.alloc, later)?;
     let table = text_of(page.alloc, "{powers}")?;
-    let mut ledger = place_of(page.alloc, old.as_bytes(), "free", calls, "all")?;
+    let mut ledger = LedgerEnds {
+        saved: FromRead::new(old.as_bytes()),
+        store: place_of(page.alloc, old.as_bytes(), "free", calls, "all")?,
+    };
     let mut book = place_of(page.alloc, OLD, "free", book_calls, "all")?;
+    let mut ends = ends_of(page.alloc, table.as_bytes(), later.as_bytes());
     let answer = continue_into(
         page.alloc,
         rules()?,
-        &mut FromRead::new(table.as_bytes()),
-        &mut FromRead::new(old.as_bytes()),
-        &mut FromRead::new(later.as_bytes()),
-        &mut MemSink::new(page.alloc),
+        &mut ends,
         &mut ledger,
         &mut book,
         u32::MAX,
     );
-    page.put_debug(&answer);
+    page.put_debug(&answer.as_ref().map(is_book));
     page.put(": ledger ");
     let new = stream_of(page.alloc, lines)?;
-    tell_found(page, &ledger, old.as_bytes(), new.as_bytes());
+    tell_found(page, &ledger.store, old.as_bytes(), new.as_bytes());
     page.put("; book ");
     tell_found(page, &book, OLD, book_of(page.alloc, entries)?.as_bytes());
     Ok(())

@@ -1,9 +1,8 @@
 //! How a run comes to hold a journal's file, and what of it is found and on the disk after a call
 //! that fails.
 
-use pb_files::{
-    Durability, JournalSink, MemJournal, MemOpener, Opener, Others, Synced, Written, hold, start,
-};
+use mem_files::{MemJournal, MemOpener, Others};
+use pb_files::{JournalSink, Opener, SYNCED, WRITTEN, hold, start};
 use pb_poly::{Sink, Source};
 use rows::page::{Done, NO_ROW, Page};
 use rows::text::{count_of, small_of};
@@ -47,7 +46,10 @@ fn held(page: &mut Page, words: &[&str]) -> Done {
     let mut opener = opener_of(page, others, 0, "")?;
     match hold(&mut opener) {
         Ok(file) => page.put_count("held, named ", &opener.is_named(&file)),
-        Err(why) => page.put_display(&why),
+        Err(stop) => {
+            page.put_count("fault ", &stop.word());
+            page.put_count(", in use ", &opener.is_in_use());
+        }
     }
     Ok(())
 }
@@ -66,7 +68,7 @@ fn started(page: &mut Page, words: &[&str]) -> Done {
             page.put("|");
             page.put_bytes(started.journal.after_crash());
         }
-        Err(why) => page.put_display(&why),
+        Err(stop) => page.put_count("fault ", &stop.word()),
     }
     Ok(())
 }
@@ -79,15 +81,15 @@ fn lines(page: &mut Page, words: &[&str]) -> Done {
         return NO_ROW;
     };
     match *sync {
-        "sync" => flushed::<Synced>(page, count_of(calls), texts),
-        _ => flushed::<Written>(page, count_of(calls), texts),
+        "sync" => flushed::<SYNCED>(page, count_of(calls), texts),
+        _ => flushed::<WRITTEN>(page, count_of(calls), texts),
     }
 }
 
 /// The same, over an end of this kind.
-fn flushed<D: Durability>(page: &mut Page, calls: usize, texts: &[&str]) -> Done {
+fn flushed<const MODE: u8>(page: &mut Page, calls: usize, texts: &[&str]) -> Done {
     let file = MemJournal::new(Vec::new(page.alloc), calls);
-    let mut sink = JournalSink::<_, D>::new(page.alloc, file)?;
+    let mut sink = JournalSink::<_, MODE>::new(page.alloc, file)?;
     let mut flushes = 0_u32;
     for text in texts {
         if sink.put(text.as_bytes()).is_ok() && sink.flush().is_ok() {

@@ -2,23 +2,24 @@
 //! again on what a crash or a kill has left of it. A sync of it had failed before. The submissions
 //! are the same, but the first comes last: a game that the journal has lost gets another number.
 
-use crate::collecting::Passed;
+use crate::collecting::is_book;
 use crate::files::{book_of, rules};
 use crate::game::stream_of;
-use pb_cli::{MemStore, NoBook, journal_into};
-use pb_files::{Durability, JournalSink, MemJournal, Synced, Written, whole_reader};
-use pb_poly::{FromRead, MemSink, Source};
+use mem_files::{MemJournal, MemStore};
+use pb_cli::{Ends, JournalEnds, journal_into};
+use pb_files::{JournalSink, SYNCED, WRITTEN, whole_reader};
+use pb_poly::{FromRead, MemSink};
 use rows::page::{Done, NO_ROW, Page, Trouble};
 use rows::text::{count_of, text_of};
 use std::alloc::Global;
 
 /// What a run leaves.
 #[derive(Drop)]
-struct Ran<D: Durability> {
+struct Ran<const MODE: u8> {
     /// What it answered.
     answer: Page,
     /// The end of its journal.
-    journal: JournalSink<MemJournal, D>,
+    journal: JournalSink<MemJournal, MODE>,
     /// Its replies.
     replies: MemSink,
     /// Where its book is kept.
@@ -32,13 +33,13 @@ pub(crate) fn answer(page: &mut Page, words: &[&str]) -> Done {
         return NO_ROW
     };
     match *sync {
-        "sync" => ended::<Synced>(page, words),
-        _ => ended::<Written>(page, words),
+        "sync" => ended::<SYNCED>(page, words),
+        _ => ended::<WRITTEN>(page, words),
     }
 }
 
 /// The answer of runs whose journals have ends of this kind.
-fn ended<D: Durability>(page: &mut Page, words: &[&str]) -> Done {
+fn ended<const MODE: u8>(page: &mut Page, words: &[&str]) -> Done {
     let [end, calls, entries, lines @ ..] = words else {
         return NO_ROW
     };
@@ -47,7 +48,7 @@ fn ended<D: Durability>(page: &mut Page, words: &[&str]) -> Done {
     };
     let book = book_of(page.alloc, entries)?;
     let stream = stream_of(page.alloc, lines)?;
-    let first = Ran::<D>::of(page.alloc, &[], count_of(calls), stream.as_str())?;
+    let first = Ran::<MODE>::of(page.alloc, &[], count_of(calls), stream.as_str())?;
     first.tell(page, book.as_bytes());
     let file = first.journal.file();
     let left = match *end {
@@ -58,48 +59,52 @@ fn ended<D: Durability>(page: &mut Page, words: &[&str]) -> Done {
     page.put(" bytes left; then ");
     let mut stream = stream_of(page.alloc, rest)?;
     stream.push_str(stream_of(page.alloc, &[head])?.as_str())?;
-    let second = Ran::<D>::of(page.alloc, left.as_slice(), usize::MAX, stream.as_str())?;
+    let second = Ran::<MODE>::of(page.alloc, left.as_slice(), usize::MAX, stream.as_str())?;
     second.tell(page, book.as_bytes());
     tell_kept(page, first.replies.as_bytes(), second.replies.as_bytes());
     Ok(())
 }
 
-impl<D: Durability> Ran<D> {
+impl<const MODE: u8> Ran<MODE> {
     /// The run over a journal of these bytes and over these submissions.
-    fn of(alloc: Global, bytes: &[u8], calls: usize, lines: &str) -> Result<Ran<D>, Trouble> {
-        let found = Vec::from_slice(alloc, bytes)?;
-        let mut file = MemJournal::after_failed_sync(found, calls);
-        let reader = whole_reader(&mut file, D::syncs());
-        let mut ran = Ran {
-            answer: Page::new(alloc),
-            journal: JournalSink::new(alloc, file)?,
-            replies: MemSink::new(alloc),
-            book: MemStore::new(alloc),
-        };
+    fn of(alloc: Global, bytes: &[u8], calls: usize, lines: &str) -> Result<Ran<MODE>, Trouble> {
         let table = text_of(alloc, "{powers}")?;
-        match reader {
-            Ok(mut reader) => ran.take(alloc, table.as_str(), &mut reader, lines)?,
-            Err(why) => ran.answer.put_display(&why),
-        }
-        Ok(ran)
-    }
-
-    /// Takes the submissions.
-    fn take<S: Source>(&mut self, alloc: Global, table: &str, kept: &mut S, lines: &str) -> Done {
-        let answer = journal_into(
-            alloc,
-            rules()?,
-            &mut FromRead::new(table.as_bytes()),
-            kept,
-            &mut self.journal,
-            &mut Passed::new(alloc),
-            &mut FromRead::new(lines.as_bytes()),
-            &mut self.replies,
-            &mut self.book,
-            u32::MAX,
-        );
-        self.answer.put_debug(&answer);
-        Ok(())
+        let mut answer = Page::new(alloc);
+        let mut book = MemStore::new(alloc);
+        let mut ends = Ends {
+            table: FromRead::new(table.as_bytes()),
+            lines: FromRead::new(lines.as_bytes()),
+            replies: MemSink::new(alloc),
+            watcher: (),
+        };
+        let mut file = MemJournal::after_failed_sync(Vec::from_slice(alloc, bytes)?, calls);
+        let reader = whole_reader(&mut file, MODE == SYNCED);
+        let journal = JournalSink::<_, MODE>::new(alloc, file)?;
+        let journal = match reader {
+            Ok(kept) => {
+                let mut journal = JournalEnds { kept, journal };
+                let made = journal_into(
+                    alloc,
+                    rules()?,
+                    &mut ends,
+                    &mut journal,
+                    &mut book,
+                    u32::MAX,
+                );
+                answer.put_debug(&made.as_ref().map(is_book));
+                journal.journal
+            }
+            Err(fault) => {
+                answer.put_count("fault ", &fault.word());
+                journal
+            }
+        };
+        Ok(Ran {
+            answer,
+            journal,
+            replies: ends.replies,
+            book,
+        })
     }
 
     /// Tells the answer, and whether this book is kept.

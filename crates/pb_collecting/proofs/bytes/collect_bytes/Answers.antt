@@ -6,7 +6,7 @@ use Rattle.pb_collecting.proofs.bytes.collect_bytes.Goals as goal
 pub returns-in-Ok-None-clause-refused : goal.returns-in-Ok-None-clause-refused
 returns-in-Ok-None-clause-refused c =
     let told = ap (λ (s : SourceState). s.to_come) c.new-table_source.ensures.state in
-    never_refused _ _ _ _ _ _ _ _ _ c.in-Ok-None.field-0 told c.in-Ok-None.field-0-is c.in-Ok-None.ensures.ends
+    never_refused _ _ _ _ told (rw c.in-Ok-None.field-0-is at c.in-Ok-None.ensures.ends)
 
 pub returns-in-Err : goal.returns-in-Err
 returns-in-Err c =
@@ -14,5 +14,5 @@ returns-in-Err c =
     record {
       headline = tt;
       refused = tt;
-      fault = faults _ _ _ _ _ _ _ _ _ c.in-Err.fault (search rules) told refl refl (search rules) c.in-Err.ensures.ends;
+      fault = faults _ _ _ _ c.in-Err.fault (search rules) told refl refl (search rules) c.in-Err.ensures.ends;
     }

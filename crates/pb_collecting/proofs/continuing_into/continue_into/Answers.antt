@@ -1,11 +1,13 @@
 use Rattle.std.proofs.Common.{inl, refl}
+use Rattle.pb_collecting.proofs.ContinueHeadlines.{headline}
+use Rattle.pb_collecting.proofs.Intos.{continues}
 use Rattle.pb_collecting.proofs.continuing_into.continue_into.Goals as goal
 
-pub returns-in-Ok-Some : goal.returns-in-Ok-Some
-returns-in-Ok-Some g c = let run = c.in-Ok-Some in c.keep_run.ensures _ _ _ _ _ _ _ _ _ _ (rw run.field-0-is at run.ensures)
+pub returns-in-Ok : goal.returns-in-Ok
+returns-in-Ok g c = continues _ _ (headline _ _ _ _) c.in-Ok.gone c.in-Ok.ensures _ _ c.keep_both.result c.keep_both.ensures
 
-pub returns-in-Ok-None : goal.returns-in-Ok-None
-returns-in-Ok-None g c = let none = c.in-Ok-None in (rw none.field-0-is at none.ensures, refl, refl)
+pub returns-in-Unread : goal.returns-in-Unread
+returns-in-Unread g c = ((rw c.in-Unread.is at c.in-Err.ensures), refl, refl)
 
-pub returns-in-Err : goal.returns-in-Err
-returns-in-Err g c = inl (c.in-Err.ensures, refl, refl)
+pub returns-in-Fault : goal.returns-in-Fault
+returns-in-Fault g c = inl ((rw c.in-Fault.is at c.in-Err.ensures), refl, refl)

@@ -1,9 +1,14 @@
 use Rattle.std.proofs.Common.{refl}
-use Rattle.pb_collecting.proofs.ExportClauses.{blame_one}
+use Rattle.std.proofs.lemmas.Result.{err_from_is_err_and}
 use Rattle.pb_collecting.proofs.export.run_export.Goals as goal
 
-pub returns-clause-ends : goal.returns-clause-ends
-returns-clause-ends g c = (_, _, refl, c.export_submissions.ensures.ends)
+pub returns-in-Book-clause-ends : goal.returns-in-Book-clause-ends
+returns-in-Book-clause-ends g c = (_, refl, (c.in-Book.field-0, rw c.in-Book.is at c.in_ok-export_all.ensures.ends, refl))
 
-pub returns-clause-blame : goal.returns-clause-blame
-returns-clause-blame g c = blame_one _ _ _ _ refl c.export_submissions.result c.export_submissions.ensures.blame
+pub returns-in_err-export_all-clause-ends : goal.returns-in_err-export_all-clause-ends
+returns-in_err-export_all-clause-ends g c =
+    let p = err_from_is_err_and c.from_residual.result c.from_residual.ensures.1 in
+    rw (p.1, p.2) (_, refl, c.in_err-export_all.ensures.ends)
+
+pub returns-in-Unread-clause-ends : goal.returns-in-Unread-clause-ends
+returns-in-Unread-clause-ends g c = (_, refl, (c.in-Unread.field-0, rw c.in-Unread.is at c.in_ok-export_all.ensures.ends))

@@ -1,12 +1,10 @@
-use Rattle.std.proofs.Common.{refl}
-use Rattle.pb_commands.specs.LookupRun.{answered, no_book, no_table}
+use Rattle.std.proofs.lemmas.Result.{err_from_is_err_and}
 use Rattle.pb_commands.proofs.lookup.run_lookup.Goals as goal
 
-pub returns-in-Err : goal.returns-in-Err
-returns-in-Err g c = no_table c.in-Err.error c.in-Err.ensures.reads refl refl c.refuse_table.ensures
-
-pub returns-in-Ok-read_book : goal.returns-in-Ok-read_book
-returns-in-Ok-read_book g c = answered c.in-Ok.table c.in-Ok-read_book.book c.in-Ok.ensures.reads c.in-Ok-read_book.ensures.reads c.answer_lines.ensures
+pub returns-in_err-answer_lookup : goal.returns-in_err-answer_lookup
+returns-in_err-answer_lookup g c =
+    let p = err_from_is_err_and c.from_residual.result c.from_residual.ensures.1 in
+    rw (p.1, p.2) c.in_err-answer_lookup.ensures.ends
 
 pub returns : goal.returns
-returns g c = no_book c.in-Ok.table c.in-Err-read_book.error c.in-Ok.ensures.reads c.in-Err-read_book.ensures.reads refl c.refuse_book.ensures
+returns g c = rw c.is_taken.ensures c.in_ok-answer_lookup.ensures.ends

@@ -1,7 +1,6 @@
 use Rattle.std.proofs.Common.{◌≤◌}
-use Rattle.pb_files.specs.declared.holding.NotHeld.{NotHeld}
 use Rattle.pb_files.proofs.holding.hold.Given as goal
 
 -- each file so far was replaced
 abbrev pub invariant-loop-tried : goal.invariant-loop-tried
-invariant-loop-tried g l = 1 ≤ l.tried → g.O.Opener.denies l.opener NotHeld.InUse
+invariant-loop-tried g l = 1 ≤ l.tried → g.O.Opener.in_use l.opener

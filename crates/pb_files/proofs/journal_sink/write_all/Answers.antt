@@ -6,7 +6,7 @@ pub loop-count-preserved : goal.loop-count-preserved
 loop-count-preserved g c =
     let so_far = c.loop-count.invariant in record {
       within = omega (arith, so_far.within, c.in-Ok.ensures.within, length-drop c.loop-count.count c.args.bytes.now);
-      ready = c.in-Ok.ensures.ready;
+      works = c.in-Ok.ensures.fault;
       added = told_more c.args.bytes.now c.loop-count.count c.in-Ok.more _ _ _ so_far.added c.in-Ok.ensures.front;
       sound = told_stays _ _ _ so_far.sound c.in-Ok.ensures.sound;
     }

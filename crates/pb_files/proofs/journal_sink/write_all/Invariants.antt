@@ -1,4 +1,4 @@
-use Rattle.std.proofs.Common.{◌≡◌, ◌≤◌, ◌-◌, length, take, true}
+use Rattle.std.proofs.Common.{◌≡◌, ◌≤◌, ◌-◌, None, length, take}
 use Rattle.pb_files.specs.Disk.{Adds, StaysSound}
 use Rattle.pb_files.specs.Steps.{Steps}
 use Rattle.pb_files.proofs.journal_sink.write_all.Given as goal
@@ -7,7 +7,7 @@ use Rattle.pb_files.proofs.journal_sink.write_all.Given as goal
 abbrev pub invariant-loop-count : goal.invariant-loop-count
 invariant-loop-count g l = record {
   within : l.count ≤ length l.bytes;
-  ready : (g.J.JournalFile.state l.file).ready ≡ true;
+  works : (g.J.JournalFile.state l.file).fault ≡ None;
   added : Steps (Adds (take l.count l.bytes)) (g.J.JournalFile.state l.initial.file).told (g.J.JournalFile.state l.file).told;
   sound : Steps StaysSound (g.J.JournalFile.state l.initial.file).told (g.J.JournalFile.state l.file).told;
 }

@@ -1,83 +1,92 @@
-use Rattle.std.proofs.Common.{rules, refl, inr, Ok, Err}
-use Rattle.std.proofs.lemmas.Result.{err_from_is_err_and}
+use Rattle.std.proofs.Common.{◌≡◌, ◌∙◌, rules, refl, ap, sym, subst, inr, Err}
 use Rattle.pb_poly.specs.Reading.{Tells}
-use Rattle.pb_ledger.specs.Whole.{LoadsBytes}
+use Rattle.pb_ledger.specs.declared.whole.NotWhole.TheVariants.{Cut}
+use Rattle.pb_ledger.specs.Whole.{LoadsWholeUntil, TellsCut, load_error_of}
 use Rattle.pb_ledger.proofs.Loaded.{ends_of}
 use Rattle.pb_ledger.proofs.Passed.{until_of, until_same}
 use Rattle.pb_ledger.proofs.SavedLoading.{loaded_whole, only_memory}
-use Rattle.pb_ledger.proofs.WholeLoaded.{cut_at, ended_whole, loader_keeps, old_whole, same_source, saved_not_cut, whole_until}
+use Rattle.pb_ledger.proofs.WholeLoaded.{cut_at, cut_of, is_cut_so, is_whole_so, loader_keeps, loads_bytes, same_source, saved_not_cut, stands_for, tells_by, tells_cut, tells_none, whole_until}
 use Rattle.pb_ledger.proofs.whole.load_whole.Goals as goal
-use Rattle.pb_ledger.proofs.whole.load_whole.Goals.{else-loader-via-then-loader+else-ending-ne10, else-loader-via-else-loader}
 
-pub returns-in_err-take_lines : goal.returns-in_err-take_lines
-returns-in_err-take_lines g c =
-    let old = c.args.ledger.now in
-    let made = c.take_lines.new.task in
-    let end = c.take_lines.new.source in
+pub returns-in-Ok : goal.returns-in-Ok
+returns-in-Ok g c =
+    let made = c.take_lines-taken.new.task in
+    let end = c.take_lines-taken.new.source in
     let state = g.S.Source.state in
-    let is = err_from_is_err_and c.from_residual.result c.from_residual.ensures.1 in
-    let error = c.in_err-take_lines.field-0.0 in
-    let ends = ends_of _ _ _ _ made (refl, refl, c.requires) c.ranges.fills.fits (Err error) tt c.in_err-take_lines.ensures.err in
-    let same = until_same _ end.source.ghost_name end.count (state c.args.source.now) (state end.source.now) _ _ _ error ends.1 in
-    let until = until_of _ end.source.ghost_name end.count (state c.args.source.now) (state end.source.now) _ _ _ error ends.1 in
-    let so = whole_until _ _ _ _ _ error until in
-    rw (is.1, is.2) (record {
-      ok = tt;
-      fault = search rules;
-      saved = λ A bytes games own room saved tells.
-          let told : Tells c.args.fills (state c.args.source.now) (state end.source.now) bytes = search (rules, tells) in
-          only_memory _ A bytes games own room saved _ _ _ told old made.ledger.now refl error until;
-      basis = search rules;
-      cap = search rules;
-    })
-
-pub returns-then-ending-ne10 : goal.returns-then-ending-ne10
-returns-then-ending-ne10 g c =
-    let made = c.take_lines.new.task in
-    let end = c.take_lines.new.source in
-    let state = g.S.Source.state in
-    let stream = c.in_ok-take_lines.ensures.ok in
     let name = end.source.ghost_name in
     let fits = c.ranges.fills.fits in
-    let same = same_source _ _ name end.count (state c.args.source.now) (state end.source.now) _ made (refl, refl, c.requires) fits end.last end.known stream in
-    let keeps = loader_keeps _ _ name end.count (state c.args.source.now) (state end.source.now) _ made (refl, refl, c.requires) fits end.last end.known stream in
-    let cut = cut_at _ _ name end.count (state c.args.source.now) (state end.source.now) _ made (refl, refl, c.requires) fits end.last end.known stream c.if-loader.true c.if-ending-ne10.true in
+    let stream = c.in-Ok.ensures.ok in
+    let so = is_cut_so made.is_saved end.ends made.lines (sym c.is_cut-is_cut.ensures ∙ c.if-is_cut.true) in
+    let same = same_source _ _ name end.ends (state c.args.source.now) (state end.source.now) _ made (refl, refl, c.requires) fits end.small stream in
+    let keeps = loader_keeps _ _ name end.ends (state c.args.source.now) (state end.source.now) _ made (refl, refl, c.requires) fits end.small stream in
+    let cut = cut_at _ _ name end.ends (state c.args.source.now) (state end.source.now) _ made (refl, refl, c.requires) fits end.small stream so.0 so.1 in
+    let at = cut_of _ _ _ _ _ made.lines cut in
+    let told_cut : TellsCut c.args.fills (state c.args.source.now) (state end.source.now) (Err (Cut made.lines)) =
+    tells_cut c.args.fills (state c.args.source.now) (state end.source.now) made.lines at in
     record {
       ok = tt;
       fault = inr (search rules);
+      cut = search rules;
       saved = λ A bytes games own room saved tells.
           let told : Tells c.args.fills (state c.args.source.now) (state end.source.now) bytes = search (rules, tells) in
-          absurd (saved_not_cut _ _ _ _ _ A bytes games saved told made.lines cut);
+          absurd (saved_not_cut _ _ _ A bytes games saved told made.lines at);
       basis = search rules;
       cap = search rules;
     }
 
-pub returns : goal.returns
-returns g c =
+pub returns-in-Ok-2 : goal.returns-in-Ok-2
+returns-in-Ok-2 g c =
     let old = c.args.ledger.now in
-    let made = c.take_lines.new.task in
-    let end = c.take_lines.new.source in
+    let made = c.take_lines-taken.new.task in
+    let end = c.take_lines-taken.new.source in
     let state = g.S.Source.state in
-    let stream = c.in_ok-take_lines.ensures.ok in
     let name = end.source.ghost_name in
     let fits = c.ranges.fills.fits in
-    let same = same_source _ _ name end.count (state c.args.source.now) (state end.source.now) _ made (refl, refl, c.requires) fits end.last end.known stream in
-    let keeps = loader_keeps _ _ name end.count (state c.args.source.now) (state end.source.now) _ made (refl, refl, c.requires) fits end.last end.known stream in
-    let loads : LoadsBytes old.cap c.args.fills (state c.args.source.now) (state end.source.now) made.ledger.now.accepted = elim c.else-loader.branch [
-      | else-loader-via-then-loader+else-ending-ne10 w ↦
-          ended_whole _ _ name end.count (state c.args.source.now) (state end.source.now) _ made (refl, refl, c.requires) fits end.last end.known stream w.if-loader.true w.if-ending-ne10.false
-      | else-loader-via-else-loader w ↦
-          old_whole _ _ name end.count (state c.args.source.now) (state end.source.now) _ made (refl, refl, c.requires) fits end.last end.known stream w.if-loader.false
-    ] in
+    let stream = c.in-Ok-2.ensures.ok in
+    let so = is_whole_so made.is_saved end.ends made.lines (sym c.is_cut-is_cut.ensures ∙ c.if-is_cut.false) in
+    let same = same_source _ _ name end.ends (state c.args.source.now) (state end.source.now) _ made (refl, refl, c.requires) fits end.small stream in
+    let keeps = loader_keeps _ _ name end.ends (state c.args.source.now) (state end.source.now) _ made (refl, refl, c.requires) fits end.small stream in
+    let loads = loads_bytes _ _ name end.ends (state c.args.source.now) (state end.source.now) _ made (refl, refl, c.requires) fits end.small stream so in
     let count = c.len.ensures.value in
     record {
       ok = (search rules, search rules);
       fault = tt;
+      cut = tells_none _ _ _ _;
       saved = λ A bytes games own room saved tells.
           let told : Tells c.args.fills (state c.args.source.now) (state end.source.now) bytes = search (rules, tells) in
           let whole = loaded_whole _ A bytes games own room saved _ _ _ told old made.ledger.now refl c.len.result
           (record { came = loads.came; reads = loads.reads; done = loads.loads }, c.len.ensures.value) in
           search rules;
+      basis = search rules;
+      cap = search rules;
+    }
+
+pub returns-in-Err : goal.returns-in-Err
+returns-in-Err g c =
+    let old = c.args.ledger.now in
+    let made = c.take_lines-taken.new.task in
+    let end = c.take_lines-taken.new.source in
+    let state = g.S.Source.state in
+    let name = end.source.ghost_name in
+    let fits = c.ranges.fills.fits in
+    let error = c.in-Err.error in
+    let stops = c.in-Err.ensures.err in
+    let ends = ends_of _ _ _ _ made (refl, refl, c.requires) fits (Err error) tt stops in
+    let same = until_same _ name end.ends (state c.args.source.now) (state end.source.now) _ _ _ error ends.1 in
+    let until = until_of _ name end.ends (state c.args.source.now) (state end.source.now) _ _ _ error ends.1 in
+    let means : load_error_of c.not_whole.result ≡ error = ap load_error_of c.not_whole.ensures ∙ stands_for error c.is_cut-is_cut.result in
+    let whole_end : LoadsWholeUntil c.args.fills (state c.args.source.now) (state end.source.now) old made.ledger.now (load_error_of c.not_whole.result) =
+    subst (LoadsWholeUntil c.args.fills (state c.args.source.now) (state end.source.now) old made.ledger.now) (sym means) (whole_until _ _ _ _ _ error until) in
+    let told_cut : TellsCut c.args.fills (state c.args.source.now) (state end.source.now) (Err c.not_whole.result) =
+    subst (λ w. TellsCut c.args.fills (state c.args.source.now) (state end.source.now) (Err w)) (sym c.not_whole.ensures)
+    (tells_by _ _ name end.ends (state c.args.source.now) (state end.source.now) _ made (refl, refl, c.requires) fits end.small error c.is_cut-is_cut.result stops c.is_cut-is_cut.ensures) in
+    record {
+      ok = tt;
+      fault = search rules;
+      cut = search rules;
+      saved = λ A bytes games own room saved tells.
+          let told : Tells c.args.fills (state c.args.source.now) (state end.source.now) bytes = search (rules, tells) in
+          means ∙ only_memory _ A bytes games own room saved _ _ _ told old made.ledger.now refl error until;
       basis = search rules;
       cap = search rules;
     }

@@ -3,5 +3,5 @@ use Rattle.pb_collecting.specs.CheckShown.{CheckShown}
 use Rattle.pb_collecting.proofs.Checking.{long_refused}
 use Rattle.pb_collecting.proofs.check.CheckerLineAnswer.answer_long.Goals as goal
 
-pub returns : goal.returns
-returns g c line long = line_shows (CheckShown line) _ (long_refused line long) _ _ c.refuse_line.result c.refuse_line.ensures
+pub returns-clause-puts : goal.returns-clause-puts
+returns-clause-puts g c line long = line_shows (CheckShown line) _ (long_refused line long) _ _ c.refuse.result c.refuse.ensures

@@ -19,7 +19,7 @@ returns-clause-awaits g c =
     awaits_of g.A.LineAnswer.shows g.K.Sink.state c.args.fills c.ranges.fills.fits (g.S.Source.state c.args.source.now) (g.S.Source.state c.take_lines.new.source) c.args.self.now c.take_lines.new.task c.requires.first c.take_lines.result
     c.take_lines.ensures.ok
 
-pub returns-clause-same_sink : goal.returns-clause-same_sink
-returns-clause-same_sink g c =
+pub returns-clause-same : goal.returns-clause-same
+returns-clause-same g c =
     same_of g.A.LineAnswer.shows g.K.Sink.state c.args.fills c.ranges.fills.fits (g.S.Source.state c.args.source.now) (g.S.Source.state c.take_lines.new.source) c.args.self.now c.take_lines.new.task c.requires.first c.take_lines.result
     c.take_lines.ensures.ok c.take_lines.ensures.err

@@ -1,0 +1,2 @@
+pub mod MemDesk
+pub mod MemStore

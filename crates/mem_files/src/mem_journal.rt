@@ -1,0 +1,253 @@
+//! A journal in memory, which tells all and fails at a call that is chosen.
+
+ghost use Rattle.std.specs.Prelude.{◌≡◌, ◌≤◌, IfSome, None, Some, false, length, true};
+ghost use Rattle.mem_files.specs.declared.mem_journal.MemFile.{MemFile};
+ghost use Rattle.pb_files.specs.Disk.{on_disk};
+
+use pb_files::{JournalFile, Lock, Opener, Stop};
+use pb_io::{Fault, FromRead};
+use std::alloc::Global;
+use std::io::Cursor;
+
+/// A file in memory. The first of its calls succeed, as many as were asked for, and the others
+/// fail. A write that is the last call to succeed takes half of the bytes. A sync that fails leaves
+/// what isn't on the disk as if it were, so that later ones pass over it.
+#[derive(Drop)]
+pub struct MemJournal {
+    bytes: Vec<u8>,
+    kept: usize,
+    lost: bool,
+    fault: Option<Fault>,
+    calls: usize,
+    ghost within: { kept ≤ length bytes.items },
+}
+
+impl MemJournal {
+    /// A file that has these bytes, none of them on the disk, and of which this many calls succeed.
+    pub fn new(bytes: Vec<u8>, calls: usize) -> MemJournal
+        ensures { ⟦<MemJournal as JournalFile>⟧.state result
+            ≡ record {
+              told = Some (record { found = bytes.items; kept = 0; lost = false });
+              fault = None;
+            } }
+    {
+        MemJournal {
+            bytes,
+            kept: 0,
+            lost: false,
+            fault: None,
+            calls,
+        }
+    }
+
+    /// The same after a sync has failed, so that the next ones put none of these bytes on the disk.
+    pub fn after_failed_sync(bytes: Vec<u8>, calls: usize) -> MemJournal
+        ensures { ⟦<MemJournal as JournalFile>⟧.state result
+            ≡ record {
+              told = Some (record { found = bytes.items; kept = 0; lost = true });
+              fault = None;
+            } }
+    {
+        MemJournal {
+            bytes,
+            kept: 0,
+            lost: true,
+            fault: None,
+            calls,
+        }
+    }
+
+    /// What a reader finds, which is what a kill leaves.
+    pub fn found(&self) -> &[u8]
+        ensures { IfSome (⟦<MemJournal as JournalFile>⟧.state self.now).told (λ disk.
+            result.now ≡ disk.found) }
+    {
+        self.bytes.as_slice()
+    }
+
+    /// What is on the disk, which is the least that a crash leaves.
+    pub fn after_crash(&self) -> &[u8]
+        ensures { IfSome (⟦<MemJournal as JournalFile>⟧.state self.now).told (λ disk.
+            result.now ≡ on_disk disk) }
+    {
+        &self.bytes[..self.kept]
+    }
+
+    /// Whether this call succeeds.
+    fn goes_well(&mut self) -> bool
+        ensures bytes { self.new.bytes ≡ self.old.bytes }
+        ensures kept { self.new.kept ≡ self.old.kept }
+        ensures lost { self.new.lost ≡ self.old.lost }
+        ensures fault { self.new.fault ≡ self.old.fault }
+    {
+        if self.calls == 0 {
+            return false;
+        }
+        self.calls -= 1;
+        true
+    }
+}
+
+impl JournalFile for MemJournal {
+    type Reader = FromRead<Cursor<Vec<u8>>>;
+
+    ghost state = { λ m. record {
+      told = Some (record { found = m.bytes.items; kept = m.kept; lost = m.lost });
+      fault = m.fault;
+    } };
+
+    fn failed(&self) -> bool {
+        self.fault.is_some()
+    }
+
+    fn append(&mut self, bytes: &[u8]) -> Result<usize, Fault> {
+        if self.goes_well() {
+            let spared = if self.calls == 0 { bytes.len() / 2 } else { 0 };
+            let count = bytes.len() - spared;
+            if self.bytes.extend_from_slice(&bytes[..count]).is_ok() {
+                return Ok(count);
+            }
+        }
+        self.fault = Some(Fault::Write);
+        Err(Fault::Write)
+    }
+
+    fn sync(&mut self) -> Result<(), Fault> {
+        if !self.goes_well() {
+            self.lost = self.lost || self.kept < self.bytes.len();
+            self.fault = Some(Fault::Write);
+            return Err(Fault::Write);
+        }
+        if !self.lost {
+            self.kept = self.bytes.len();
+        }
+        Ok(())
+    }
+
+    fn write_over(&mut self) -> Result<(), Fault> {
+        if !self.goes_well() {
+            self.fault = Some(Fault::Write);
+            return Err(Fault::Write);
+        }
+        self.lost = false;
+        Ok(())
+    }
+
+    fn reader(&mut self) -> Result<FromRead<Cursor<Vec<u8>>>, Fault> {
+        if self.goes_well()
+            && let Ok(bytes) = self.bytes.clone()
+        {
+            return Ok(FromRead::new(Cursor::new(bytes)));
+        }
+        Err(Fault::Read)
+    }
+}
+
+/// What other runs do with a file of a name in memory.
+#[derive(Clone, Copy, Debug)]
+pub enum Others {
+    /// Nothing.
+    Absent,
+    /// One of them removed it.
+    Removed,
+    /// One of them holds it.
+    Hold,
+    /// So many put a new file in its place, each after this run has locked the one before.
+    Replace(u32),
+}
+
+/// A file that a name in memory led to, by how many took its place since.
+#[derive(Clone, Copy, Debug)]
+pub struct MemFile {
+    to_come: u32,
+}
+
+/// A name in memory, by which a `MemJournal` is held.
+#[derive(Drop)]
+pub struct MemOpener {
+    alloc: Global,
+    bytes: Vec<u8>,
+    calls: usize,
+    others: Others,
+    to_come: u32,
+    locked: Option<u32>,
+    in_use: bool,
+    denied: bool,
+}
+
+impl MemOpener {
+    /// A name of a file that has these bytes, and of which this many calls succeed.
+    pub fn new(alloc: Global, bytes: Vec<u8>, calls: usize, others: Others) -> MemOpener
+        ensures unlocked { (file : MemFile) → ⟦<MemOpener as Opener>⟧.holds result file → ⊥ }
+        ensures free { ⟦<MemOpener as Opener>⟧.in_use result → ⊥ }
+        ensures untold { ⟦<MemOpener as Opener>⟧.denies result → ⊥ }
+    {
+        MemOpener {
+            alloc,
+            bytes,
+            calls,
+            others,
+            to_come: match others {
+                Others::Replace(times) => times,
+                Others::Absent | Others::Removed | Others::Hold => 0,
+            },
+            locked: None,
+            in_use: false,
+            denied: false,
+        }
+    }
+    /// Whether the last step found that another run holds the file, or has replaced it.
+    pub fn is_in_use(&self) -> bool
+        ensures { result ≡ true → ⟦<MemOpener as Opener>⟧.in_use self.now }
+    {
+        self.in_use
+    }
+}
+
+impl Opener for MemOpener {
+    type File = MemFile;
+
+    type Journal = MemJournal;
+
+    ghost holds = { λ o f. o.locked ≡ Some f.to_come };
+
+    ghost leads_to = { λ o f. o.to_come ≡ f.to_come };
+
+    ghost in_use = { λ o. o.in_use ≡ true };
+
+    ghost denies = { λ o. o.denied ≡ true };
+
+    fn open(&mut self) -> Result<MemFile, Stop> {
+        if matches!(self.others, Others::Removed) {
+            self.denied = true;
+            return Err(Stop::NotOpened);
+        }
+        Ok(MemFile {
+            to_come: self.to_come,
+        })
+    }
+
+    fn lock(&mut self, file: &MemFile) -> Lock {
+        if matches!(self.others, Others::Hold) {
+            self.in_use = true;
+            return Lock::InUse;
+        }
+        self.locked = Some(file.to_come);
+        self.to_come = self.to_come.saturating_sub(1);
+        Lock::Held
+    }
+
+    fn is_named(&mut self, file: &MemFile) -> bool {
+        self.in_use = self.to_come != file.to_come;
+        !self.in_use
+    }
+
+    fn tell_in_use(&mut self) {
+        self.denied = true;
+    }
+
+    fn journal(&mut self, _file: MemFile) -> MemJournal {
+        let bytes = std::mem::replace(&mut self.bytes, Vec::new(self.alloc));
+        MemJournal::after_failed_sync(bytes, self.calls)
+    }
+}

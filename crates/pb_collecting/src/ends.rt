@@ -1,0 +1,32 @@
+//! What runs read and write.
+
+/// What each run of submissions reads, writes and tells.
+#[derive(Drop)]
+pub struct Ends<Table, In, Out, Watch> {
+    /// The table of words that keys are made of.
+    pub table: Table,
+    /// The submission lines.
+    pub lines: In,
+    /// Takes the replies.
+    pub replies: Out,
+    /// Watches the run. No clause speaks of it: it is for people.
+    pub watcher: Watch,
+}
+
+/// A saved ledger.
+#[derive(Drop)]
+pub struct LedgerEnds<Saved, LedgerStore> {
+    /// Reads it.
+    pub saved: Saved,
+    /// Takes the ledger of the run in its place.
+    pub store: LedgerStore,
+}
+
+/// A journal.
+#[derive(Drop)]
+pub struct JournalEnds<Kept, Journal> {
+    /// Reads what it holds.
+    pub kept: Kept,
+    /// Takes what it gains.
+    pub journal: Journal,
+}
