@@ -5,19 +5,12 @@ use std::cell::RefCell;
 use std::io::{self, ErrorKind, Write};
 
 /// The journal of a run, once it has come to one. It has to be there when a reply goes out.
-#[derive(Drop)]
+#[derive(Default, Drop)]
 pub struct JournalGuard<'a> {
     held: RefCell<Option<HeldFile<'a>>>,
 }
 
 impl<'a> JournalGuard<'a> {
-    /// The guard of a run that has no journal so far.
-    pub fn new() -> JournalGuard<'a> {
-        JournalGuard {
-            held: RefCell::new(None),
-        }
-    }
-
     /// Guards this journal from now on.
     pub(crate) fn begin(&self, journal: HeldFile<'a>) {
         if let Ok(mut held) = self.held.try_borrow_mut() {

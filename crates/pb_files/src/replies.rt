@@ -86,21 +86,12 @@ impl<R: Read, K: Sink> Source for Submissions<'_, '_, '_, '_, R, K> {
 
 /// Writes replies. They wait in the buffer of the output.
 #[derive(Drop)]
-pub struct Replies<'o, 'k, K> {
-    output: &'o RefCell<&'k mut K>,
-}
-
-impl<'o, 'k, K: Sink> Replies<'o, 'k, K> {
-    /// Replies on this output.
-    pub fn new(output: &'o RefCell<&'k mut K>) -> Replies<'o, 'k, K> {
-        Replies { output }
-    }
-}
+pub struct Replies<'o, 'k, K>(pub &'o RefCell<&'k mut K>);
 
 impl<K: Sink> Write for Replies<'_, '_, K> {
     // A reply, or a piece of one, is put at once and whole.
     fn write(&mut self, bytes: &[u8]) -> io::Result<usize> {
-        if let Ok(mut output) = self.output.try_borrow_mut()
+        if let Ok(mut output) = self.0.try_borrow_mut()
             && output.put(bytes).is_ok()
         {
             return Ok(bytes.len());
@@ -109,7 +100,7 @@ impl<K: Sink> Write for Replies<'_, '_, K> {
     }
 
     fn flush(&mut self) -> io::Result<()> {
-        hand_on(self.output)
+        hand_on(self.0)
     }
 }
 

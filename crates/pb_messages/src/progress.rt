@@ -47,15 +47,12 @@ impl<'a> Progress<'a> {
     /// submissions, and of a last line without an end, which may be a game that was cut.
     pub fn read(&self, bytes: &[u8]) {
         let last = self.last.replace(bytes.last().copied());
-        if bytes.is_empty() {
-            self.read_end(last);
-        } else if last.is_none() {
-            self.look_at(bytes);
+        if !bytes.is_empty() {
+            if last.is_none() {
+                self.look_at(bytes);
+            }
+            return;
         }
-    }
-
-    /// Takes the end of the submissions behind this byte.
-    fn read_end(&self, last: Option<u8>) {
         if last.is_some_and(|last| last != b'\n') && !self.is_odd.get() {
             self.messages.warn(&Message::Unended);
         }

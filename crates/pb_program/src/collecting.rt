@@ -34,7 +34,7 @@ pub(crate) fn collect<'a>(
     let mut ends = Ends {
         table: source(messages, order.table)?,
         lines: Submissions::new(input(messages), &output, &progress),
-        replies: ToWrite::new(Replies::new(&output)),
+        replies: ToWrite::new(Replies(&output)),
         watcher: Watching::new(&progress, path),
     };
     let made = run(Named::new(messages, path), guard, order, &mut ends)?;

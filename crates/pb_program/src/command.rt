@@ -83,7 +83,7 @@ fn check(messages: Messages<'_>, output: &mut impl Sink) -> Result<bool, Stop> {
     let all_taken = ordered::check(
         messages.rt.alloc(),
         &mut Submissions::new(input(messages), &output, &progress),
-        &mut ToWrite::new(Replies::new(&output)),
+        &mut ToWrite::new(Replies(&output)),
         &mut Watching::new(&progress, ""),
     )?;
     progress.end_check();

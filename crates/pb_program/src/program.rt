@@ -75,7 +75,7 @@ fn perform<'a>(rt: &'a HostRuntime, order: &Order<'a>) -> u8
     ensures { result ≤ 3 }
 {
     let messages = messages_of(rt, order);
-    let guard = JournalGuard::new();
+    let guard = JournalGuard::default();
     let mut told = Told::new(Named::new(messages, OUTPUT), io::writer(rt));
     // Whoever closes it may have seen enough, unless games are answered.
     told.may_be_closed = !matches!(order, Order::Collect(_));
