@@ -4,6 +4,6 @@ use Rattle.pb_collecting.specs.Store.{StoreState}
 use Rattle.pb_collecting.specs.declared.store.StoreError.{StoreError}
 use Rattle.pb_collecting.specs.declared.store.StoreError.TheVariants.{Memory}
 
--- memory was wanting, and a reader of the store finds what was there before
+-- memory was wanting, and the store has what it had before
 abbrev pub KeepsWhatItHad : StoreState → StoreState → StoreError → Type 0
-KeepsWhatItHad old new why = (why ≡ Memory) × (new.found ≡ old.found)
+KeepsWhatItHad old new why = (why ≡ Memory) × (new.handed ≡ old.handed)

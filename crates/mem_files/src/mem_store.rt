@@ -1,7 +1,7 @@
 //! A store in memory.
 
 ghost use Rattle.std.specs.Option.{option_copied};
-ghost use Rattle.std.specs.Prelude.{◌≡◌, IfErr, None, Some, option_and_then};
+ghost use Rattle.std.specs.Prelude.{◌≡◌, IfErr, None, option_and_then};
 ghost use Rattle.pb_collecting.specs.Store.{KeepsText};
 ghost use Rattle.mem_files.specs.MemStore.{KeepsWhatItHad};
 
@@ -20,7 +20,8 @@ pub struct MemStore {
 impl MemStore {
     /// A store where nothing was kept yet.
     pub fn new(alloc: Global) -> MemStore
-        ensures { ⟦<MemStore as Store>⟧.state result ≡ record { found = Some None; fault = None } }
+        ensures { ⟦<MemStore as Store>⟧.state result
+            ≡ record { handed = None; fault = None } }
     {
         MemStore {
             alloc,
@@ -31,7 +32,7 @@ impl MemStore {
 
     /// The bytes that were kept last.
     pub fn kept(&self) -> Option<&[u8]>
-        ensures { (⟦<MemStore as Store>⟧.state self.now).found ≡ Some (option_copied result) }
+        ensures { (⟦<MemStore as Store>⟧.state self.now).handed ≡ option_copied result }
     {
         match &self.kept {
             Some(bytes) => Some(bytes.as_bytes()),
@@ -42,8 +43,7 @@ impl MemStore {
 
 impl Store for MemStore {
     ghost state = { λ p. record {
-      found = Some
-          (option_and_then (λ s. (⟦<MemSink as Sink>⟧.state s).bytes) p.kept);
+      handed = option_and_then (λ s. (⟦<MemSink as Sink>⟧.state s).bytes) p.kept;
       fault = p.fault;
     } };
 

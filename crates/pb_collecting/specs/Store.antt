@@ -1,6 +1,6 @@
 -- A store where a text is kept, such as that of a book, as a file is, and what writing and keeping
 -- one does.
-use Rattle.std.specs.Prelude.{◌≡◌, ◌⊎◌, ℕ, List, Option, Some, Result, IfErr, IfOk, IfSome, OnOk}
+use Rattle.std.specs.Prelude.{◌≡◌, ◌⊎◌, ℕ, List, Option, Some, Result, IfErr, IfOk, OnOk}
 use Rattle.std.specs.Prelude.{take}
 use Rattle.std.specs.Result.{result_err}
 use Rattle.pb_io.specs.Sink.{SinkState}
@@ -10,28 +10,25 @@ use Rattle.pb_ledger.specs.declared.booking.WriteFault.TheVariants as fault
 use Rattle.pb_collecting.specs.declared.store.StoreError.{StoreError}
 use Rattle.pb_collecting.specs.declared.store.StoreError.TheVariants.{Open, Write, Memory}
 
--- What is known of a store: what a reader finds there, bytes or nothing, where the store tells it;
--- and why the last text that came wasn't kept, if it wasn't.
+-- What is known of a store: the bytes that were handed to what has its name now, if a text was put
+-- there; and why the last text that came wasn't kept, if it wasn't.
 pub record StoreState : Type 0 where
-  pub found : Option (Option (List ℕ))
+  pub handed : Option (List ℕ)
   pub fault : Option StoreError
-
--- a reader of the store finds these bytes and nothing else, where the store told what is found
-abbrev pub HoldsBytes : StoreState → StoreState → List ℕ → Type 0
-HoldsBytes old new bytes = IfSome old.found (λ before. new.found ≡ Some (Some bytes))
 
 -- what keeping these bytes may leave, when it fails, in the place of what was there: nothing else
 -- where the store couldn't be opened, a front of the bytes where a write failed or memory was
 -- wanting
-abbrev pub Spoils : StoreState → StoreState → StoreError → List ℕ → Type 0
-Spoils old new Open bytes = ⊥
-Spoils old new why bytes = (count : ℕ) × HoldsBytes old new (take count bytes)
+abbrev pub Spoils : StoreState → StoreError → List ℕ → Type 0
+Spoils new Open bytes = ⊥
+Spoils new why bytes = (count : ℕ) × (new.handed ≡ Some (take count bytes))
 
--- Keeping bytes: the store holds them, or it tells why not, and is as it was or spoilt.
+-- Keeping bytes: just these were handed to what has the store's name; or it tells why not, and is
+-- as it was or spoilt.
 pub record Keeps {A : Type 0} (old new : StoreState) (answer : Result A StoreError)
     (bytes : List ℕ) : Type 0 where
-  pub holds : OnOk answer (HoldsBytes old new bytes)
-  pub leaves : IfErr answer (λ why. (new.found ≡ old.found) ⊎ Spoils old new why bytes)
+  pub holds : OnOk answer (new.handed ≡ Some bytes)
+  pub leaves : IfErr answer (λ why. (new.handed ≡ old.handed) ⊎ Spoils new why bytes)
   pub fault : new.fault ≡ result_err answer
 
 -- a text was kept, or put on a sink, and the answer is how many entries or games it tells

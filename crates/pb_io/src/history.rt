@@ -11,14 +11,14 @@ use std::marker::{Model, PhantomData};
 ///
 /// No memory holds the list, so the proofs of `new`, `of` and `add` alone say what it becomes, and
 /// they are written by hand. One more such proof could let an empty body set the list to anything.
-/// So none is to be written, of this type or of one that holds it. The type is of this crate alone,
-/// and a field that holds one is private: elsewhere a list begins empty or with what a writer
-/// tells, and grows by what is added. That just what was handed on is added is for the contract of
-/// the caller to say.
+/// So none is to be written, of this type or of one that holds it. A field that holds one is
+/// private: elsewhere a list begins empty or with what a writer tells, and grows by what is added.
+/// That just what was handed on is added is for the contract of the caller to say.
 #[derive(Drop)]
-pub(crate) struct History {
+pub struct History {
     marker: PhantomData<u8>,
-    pub(crate) ghost bytes: { List ℕ },
+    /// The bytes, in order.
+    pub ghost bytes: { List ℕ },
 }
 
 impl Model for History {
@@ -28,7 +28,7 @@ impl Model for History {
 impl History {
     /// Nothing was handed on yet.
     #[inline(always)]
-    pub(crate) fn new() -> History
+    pub fn new() -> History
         ensures { result.bytes ≡ [] }
     {
         History {
@@ -48,7 +48,7 @@ impl History {
 
     /// Notes that the bytes were handed on. Nothing is done with them.
     #[inline(always)]
-    pub(crate) fn add(&mut self, _bytes: &[u8])
+    pub fn add(&mut self, _bytes: &[u8])
         ensures { self.new.bytes ≡ self.old.bytes ++ _bytes.now }
     {}
 }

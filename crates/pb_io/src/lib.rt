@@ -15,6 +15,7 @@ mod source;
 
 pub use fault::{Fault, ReadFault};
 pub use fuse::{FuseSink, FuseSource, NeverSource};
+pub use history::History;
 pub use lines::{LINE_LIMIT, LineTask, take_ended_lines, take_lines};
 pub use null_sink::NullSink;
 pub use parts::put_parts;

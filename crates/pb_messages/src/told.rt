@@ -1,5 +1,7 @@
 //! Readers and writers whose failures are told.
 
+ghost use Rattle.std.specs.Prelude.{◌≡◌};
+
 use crate::messages::Named;
 use std::io::{self, ErrorKind, Read, Write};
 
@@ -27,7 +29,9 @@ impl<'a, T> Told<'a, T> {
     }
 
     /// Tells the failure, and hands it on.
-    fn fail(&mut self, error: io::Error) -> io::Error {
+    fn fail(&mut self, error: io::Error) -> io::Error
+        ensures { self.new.inner ≡ self.old.inner }
+    {
         self.failed = true;
         if !(self.may_be_closed && error.kind() == ErrorKind::BrokenPipe) {
             self.named.fail(&error);
@@ -37,6 +41,8 @@ impl<'a, T> Told<'a, T> {
 }
 
 impl<T: Read> Read for Told<'_, T> {
+    ghost remaining = { λ t. T.remaining t.inner };
+
     fn read(&mut self, into: &mut [u8]) -> io::Result<usize> {
         if self.failed {
             return Err(io::Error::from(ErrorKind::BrokenPipe));
@@ -49,6 +55,8 @@ impl<T: Read> Read for Told<'_, T> {
 }
 
 impl<T: Write> Write for Told<'_, T> {
+    ghost contents = { λ t. T.contents t.inner };
+
     fn write(&mut self, bytes: &[u8]) -> io::Result<usize> {
         if self.failed {
             return Err(io::Error::from(ErrorKind::BrokenPipe));
