@@ -1,0 +1,7 @@
+use Rattle.std.proofs.Common.{◌∙◌, List, ap, arith, length, ℕ}
+use Rattle.std.proofs.Math.ListN.{drop_of_length-le}
+use Rattle.pb_folder.proofs.WriteLemmas.{written_keeps}
+use Rattle.pb_folder.proofs.file_end.write_out.Goals as goal
+
+pub returns-clause-keeps : goal.returns-clause-keeps
+returns-clause-keeps c = written_keeps _ _ _ _ _ _ c.as_slice.ensures.value c.remove_front.ensures c.write_all-count.ensures.written

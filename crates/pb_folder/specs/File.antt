@@ -1,0 +1,165 @@
+-- What a run knows of a file that it has open, by what the system has answered, and what the run may
+-- do with it.
+use Rattle.std.specs.Prelude.{◌≡◌, ◌⊎◌, ◌≤◌, Bool, false, true, List, [], ℕ, Option, None, Some}
+use Rattle.std.specs.Option.{option_map}
+use Rattle.pb_folder.specs.declared.folder.Entry.{Entry}
+use Rattle.pb_folder.specs.declared.folder.Entry.TheVariants.{Target, Draft}
+use Rattle.pb_folder.specs.declared.folder.Hold.{Hold}
+use Rattle.pb_folder.specs.declared.folder.Hold.TheVariants.{Nothing, Shared, Alone, Unlockable}
+use Rattle.pb_folder.specs.declared.folder.Lock.{Lock}
+use Rattle.pb_folder.specs.declared.folder.Lock.TheVariants.{Held, InUse, Unsupported}
+use Rattle.pb_folder.specs.declared.status.Status.{Status}
+
+pub record FileState : Type 0 where
+  -- the entry by which it was opened or made, or that it was given
+  pub entry : Entry
+  -- since it was locked, that was seen to lead to it; a draft's alone
+  pub named : Bool
+  -- this run made it, of a name that nothing had
+  pub made : Bool
+  -- it was emptied to be written in place, as only a book is
+  pub in_place : Bool
+  -- what is written is added at its end, as only to a journal
+  pub appends : Bool
+  -- the lock that this run has of it
+  pub hold : Hold
+  -- what the system told of it
+  pub status : Option Status
+  -- the bytes that it took from this run
+  pub handed : List ℕ
+  -- all that it took is on the disk: a sync has succeeded since, and none has failed
+  pub synced : Bool
+  -- a write or a sync has failed, after which the system calls bytes clean that aren't on the disk
+  pub lost : Bool
+
+-- only the file of the name is added to
+abbrev pub appends_at : Entry → Bool → Bool
+appends_at Target appends = appends
+appends_at (Draft number) appends = false
+
+-- a file that was opened, and one that was made
+abbrev pub opened : Entry → Bool → FileState
+opened entry appends = record {
+  entry = entry; named = false; made = false; in_place = false;
+  appends = appends_at entry appends; hold = Nothing; status = None;
+  handed = []; synced = false; lost = false;
+}
+
+abbrev pub new_draft : ℕ → FileState
+new_draft number = record (opened (Draft number) false) { made = true }
+
+-- a file that is written in place from its first byte
+abbrev pub emptied : FileState
+emptied = record (opened Target false) { in_place = true }
+
+-- what this run did with it goes on, but for what it took and what is on the disk
+abbrev pub SameOpening : FileState → FileState → Type 0
+SameOpening old new =
+    new ≡ record old { handed = new.handed; synced = new.synced; lost = new.lost }
+
+-- the file with this mode, where its status is known
+abbrev pub with_mode : ℕ → FileState → FileState
+with_mode mode s = record s { status = option_map {T = Status} (λ status. record status { mode = mode }) s.status }
+
+-- ---- locks
+
+-- whether a lock keeps other runs from taking the file for one that nobody holds; where there are no
+-- locks, no run takes any for that
+abbrev pub is_held : Hold → Bool
+is_held Nothing = false
+is_held Shared = true
+is_held Alone = true
+is_held Unlockable = true
+
+-- whether it keeps other runs out, as far as there are locks
+abbrev pub is_alone : Hold → Bool
+is_alone Nothing = false
+is_alone Shared = false
+is_alone Alone = true
+is_alone Unlockable = true
+
+-- what a run has that asked for a lock
+abbrev pub hold_by : Hold → Lock → Hold
+hold_by hold Held = hold
+hold_by hold InUse = Nothing
+hold_by hold Unsupported = Unlockable
+
+-- Whether the entry leads to the file is known only once that was locked.
+abbrev pub locked : Hold → Lock → FileState → FileState
+locked hold lock s = record s { hold = hold_by hold lock; named = false }
+
+-- ---- what a run may do
+
+-- whether it is the name of a draft
+abbrev pub is_draft : Entry → Bool
+is_draft Target = false
+is_draft (Draft number) = true
+
+-- the name of a draft was seen to lead to it once it was locked
+abbrev pub IsNamedDraft : FileState → Type 0
+IsNamedDraft s = (is_draft s.entry ≡ true) × (s.named ≡ true)
+
+-- a draft of this run, which made and locked it
+abbrev pub IsOwnDraft : FileState → Type 0
+IsOwnDraft s = IsNamedDraft s × (s.made ≡ true) × (is_held s.hold ≡ true)
+
+-- a draft that is left over: no run has a lock of it, so that this one got its own
+abbrev pub IsLeftOver : FileState → Type 0
+IsLeftOver s = IsNamedDraft s × (s.hold ≡ Alone)
+
+abbrev pub MayRemove : FileState → Type 0
+MayRemove s = IsOwnDraft s ⊎ IsLeftOver s
+
+-- the file of the name, which this run alone holds
+abbrev pub IsHeldAlone : FileState → Type 0
+IsHeldAlone s = (s.entry ≡ Target) × (s.named ≡ true) × (is_alone s.hold ≡ true)
+
+-- A run writes its own drafts, a book in place, and the end of the journal that it holds.
+abbrev pub MayWrite : FileState → Type 0
+MayWrite s = IsOwnDraft s ⊎ ((s.in_place ≡ true) ⊎ ((s.appends ≡ true) × IsHeldAlone s))
+
+-- The old file has no second name, which would go on leading to it, and the new one is on the same
+-- mount, of the same owner and group, and has its mode.
+pub record TakesAfter (old new : Status) : Type 0 where
+  pub one_name : old.names ≤ 1
+  pub device : new.device ≡ old.device
+  pub user : new.user ≡ old.user
+  pub group : new.group ≡ old.group
+  pub mode : new.mode ≡ old.mode
+
+-- the new file takes after one of this status
+abbrev pub Fits : Status → FileState → Type 0
+Fits old s = (new : Status) × (s.status ≡ Some new) × TakesAfter old new
+
+-- The draft can take the place of this file: the name leads to it, and no other run holds it; a
+-- ledger is held by this run under another handle.
+pub record CanReplace (ledger : Bool) (old draft : FileState) : Type 0 where
+  pub entry : old.entry ≡ Target
+  pub named : old.named ≡ true
+  pub held : ledger ≡ false → is_held old.hold ≡ true
+  pub status : Status
+  pub told : old.status ≡ Some status
+  pub fits : Fits status draft
+
+-- two statuses are of one file
+pub record IsOneFile (one other : FileState) : Type 0 where
+  pub status : Status
+  pub other_status : Status
+  pub told : one.status ≡ Some status
+  pub other_told : other.status ≡ Some other_status
+  pub device : status.device ≡ other_status.device
+  pub inode : status.inode ≡ other_status.inode
+
+-- A ledger is replaced by a run that holds it alone, and only that file is.
+abbrev pub IsOfHolder : Option FileState → Option FileState → Type 0
+IsOfHolder (Some held) (Some old) = IsHeldAlone held × IsOneFile held old
+IsOfHolder held old = ⊥
+
+-- The file has the name, was made by this run, took just these bytes, and they are on the disk.
+pub record IsPut (bytes : List ℕ) (s : FileState) : Type 0 where
+  pub entry : s.entry ≡ Target
+  pub named : s.named ≡ true
+  pub made : s.made ≡ true
+  pub held : is_held s.hold ≡ true
+  pub handed : s.handed ≡ bytes
+  pub synced : s.synced ≡ true

@@ -1,0 +1,4 @@
+pub mod File
+pub mod Shelf
+pub mod Steps
+pub mod Writing

@@ -1,0 +1,209 @@
+//! The system's calls on one name in a folder, and on the drafts of its file.
+
+ghost use Rattle.std.specs.Prelude.{◌≡◌, ◌++◌, ℕ, Bool, IfOk, IfSome, List, None, OnErr, OnOk, Option};
+ghost use Rattle.std.specs.Prelude.{Some, [], false, true};
+ghost use Rattle.std.specs.Option.{option_map};
+ghost use Rattle.pb_io.specs.Sink.{HandedOn};
+ghost use Rattle.pb_folder.specs.File.{CanReplace, FileState, IsNamedDraft, IsOfHolder, IsOwnDraft};
+ghost use Rattle.pb_folder.specs.File.{MayRemove, emptied, locked, new_draft, opened, with_mode};
+ghost use Rattle.pb_folder.specs.Shelf.{Begins, Empties, Names, NamesNot, Settles, SettlesNot, Shelf};
+ghost use Rattle.pb_folder.specs.Steps.{Steps};
+ghost use Rattle.pb_folder.specs.declared.folder.Entry.TheVariants.{Draft, Target};
+ghost use Rattle.pb_folder.specs.declared.folder.Hold.TheVariants.{Alone, Shared};
+
+use crate::status::Status;
+use pb_io::Sink;
+use pb_messages::Left;
+use std::io;
+
+/// A name in a folder.
+#[derive(Clone, Copy, Debug)]
+pub enum Entry {
+    /// The file's own.
+    Target,
+    /// That of the draft of this number, beside it.
+    Draft(u32),
+}
+
+/// What became of the wish to lock a file.
+#[derive(Clone, Copy, Debug)]
+pub enum Lock {
+    /// This run has the lock.
+    Held,
+    /// Another run has one that keeps it out.
+    InUse,
+    /// The file system has no locks: it is left to the user to start one run alone.
+    Unsupported,
+}
+
+/// The lock that a run has of a file that it has open.
+#[derive(Clone, Copy, Debug)]
+pub enum Hold {
+    /// None.
+    Nothing,
+    /// One that other runs may have beside it.
+    Shared,
+    /// One that this run alone has.
+    Alone,
+    /// None, since the file system has no locks.
+    Unlockable,
+}
+
+/// What stands under a name.
+#[derive(Clone, Copy, Debug)]
+pub enum Seen {
+    /// Nothing, no link that leads nowhere either.
+    Nothing,
+    /// A file.
+    File,
+    /// A folder.
+    Folder,
+    /// A device or a pipe, or what can't be told.
+    Other,
+}
+
+/// A name in a folder and the drafts of its file, by calls of the system. Other runs act between any
+/// two of them, but they touch no file that this run has locked. So what a run may do is asked of
+/// it: a name is taken only from a file that the run was seen to hold under it, and a draft gets the
+/// name only when it is on the disk and can take the old file's place.
+pub trait Folder {
+    /// A file that is open, and its lock with it.
+    type File: Drop;
+
+    /// An end into a draft of this run. A flush puts it on the disk.
+    type Draft: Sink + Drop;
+
+    /// An end into a file that is written in place. A flush puts it on the disk, unless it is a
+    /// device.
+    type InPlace: Sink + Drop;
+
+    /// What is known of an open file.
+    ghost file: { Self.File → FileState };
+
+    /// What a reader finds under the name, and what a crash leaves, where that is told.
+    ghost shelf: { Self → Option Shelf };
+
+    /// Whether the name is that of a ledger, which a run replaces that holds it alone.
+    ghost ledger: { Self → Bool };
+
+    /// Whether what is opened is added to at its end.
+    ghost appends: { Self → Bool };
+
+    /// Whether the name is that of a ledger.
+    fn is_ledger(&self) -> bool
+        ensures { result ≡ ledger self.now };
+
+    /// Has the file stand where the links of its name lead, and its drafts beside it.
+    fn follow(&mut self) -> io::Result<()>
+        ensures same { shelf self.new ≡ shelf self.old }
+        ensures ledger { ledger self.new ≡ ledger self.old };
+
+    /// Looks at what has the name.
+    fn look(&self) -> Seen;
+
+    /// Opens the file that the entry leads to, to be written.
+    fn open(&self, entry: Entry) -> io::Result<Self::File>
+        ensures { IfOk result (λ f. file f ≡ opened entry (appends self.now)) };
+
+    /// Makes the draft of this number, which is empty, where nothing has its name. Its user alone
+    /// may read it, or whoever may read new files.
+    fn make(&self, number: u32, is_private: bool) -> io::Result<Self::File>
+        ensures { IfOk result (λ f. file f ≡ new_draft number) };
+
+    /// Locks the file, so that no other run has a lock of it.
+    fn lock(&self, f: &mut Self::File) -> Lock
+        ensures { file f.new ≡ locked Alone result (file f.old) };
+
+    /// Locks the file, so that no other run has it alone.
+    fn lock_shared(&self, f: &mut Self::File) -> Lock
+        ensures { file f.new ≡ locked Shared result (file f.old) };
+
+    /// Tells whether its entry leads to the file, and to a draft alone.
+    fn is_named(&self, f: &mut Self::File) -> bool
+        ensures { file f.new ≡ record (file f.old) { named = result } };
+
+    /// Asks the system for what it tells of the file.
+    fn tell(&self, f: &mut Self::File) -> io::Result<Status>
+        ensures told { IfOk result (λ status. file f.new
+            ≡ record (file f.old) { status = Some status }) }
+        ensures same { OnErr result (file f.new ≡ file f.old) };
+
+    /// Sets who may read and write the draft.
+    fn set_mode(&self, f: &mut Self::File, mode: u32) -> io::Result<()>
+        requires { IsOwnDraft (file f.old) }
+        ensures set { OnOk result (file f.new ≡ with_mode mode (file f.old)) }
+        ensures same { OnErr result (file f.new ≡ file f.old) };
+
+    /// Makes an end into a draft that has taken nothing yet, with this room for what waits. A
+    /// failure leaves so much, which is told then.
+    fn draft(&self, f: Self::File, room: Vec<u8>, left: Left) -> Self::Draft
+        requires own { IsOwnDraft (file f) }
+        requires works { (file f).lost ≡ false }
+        requires empty { (file f).handed ≡ [] }
+        requires room { room.items ≡ [] }
+        ensures { Begins (Self.Draft.state result) };
+
+    /// Ends the writing of a draft.
+    fn of_draft(draft: Self::Draft) -> Self::File
+        ensures own { IsOwnDraft (file result) }
+        ensures all { HandedOn (Self.Draft.state draft)
+            → (Self.Draft.state draft).bytes ≡ Some (file result).handed }
+        ensures synced { HandedOn (Self.Draft.state draft) → (file result).synced ≡ true };
+
+    /// Empties the file of a book, which no draft can replace, to be written in place. A device
+    /// stays as it is.
+    fn empty(&mut self, f: &mut Self::File) -> io::Result<()>
+        requires { ledger self.old ≡ false }
+        ensures in_place { OnOk result (file f.new ≡ record (file f.old) { in_place = true }) }
+        ensures emptied { OnOk result (Steps Empties (shelf self.old) (shelf self.new)) }
+        ensures same { OnErr result (shelf self.new ≡ shelf self.old) }
+        ensures ledger { ledger self.new ≡ ledger self.old };
+
+    /// Makes a file of the name, or empties the one that has it, to be written in place.
+    fn create(&mut self) -> io::Result<Self::File>
+        requires { ledger self.old ≡ false }
+        ensures in_place { IfOk result (λ f. file f ≡ emptied) }
+        ensures emptied { OnOk result (Steps Empties (shelf self.old) (shelf self.new)) }
+        ensures same { OnErr result (shelf self.new ≡ shelf self.old) }
+        ensures ledger { ledger self.new ≡ ledger self.old };
+
+    /// Makes an end into a file that is written in place and has taken nothing yet.
+    fn in_place(&self, f: Self::File, room: Vec<u8>, left: Left) -> Self::InPlace
+        requires in_place { (file f).in_place ≡ true }
+        requires works { (file f).lost ≡ false }
+        requires empty { (file f).handed ≡ [] }
+        requires room { room.items ≡ [] }
+        ensures { Begins (Self.InPlace.state result) };
+
+    /// Gives the draft the name, and takes it from the old file, if there is one. `held` is the file
+    /// of a ledger as this run holds it.
+    fn rename(
+        &mut self,
+        draft: &mut Self::File,
+        old: Option<&Self::File>,
+        held: Option<&Self::File>,
+    ) -> io::Result<()>
+        requires own { IsOwnDraft (file draft.old) }
+        requires on_disk { (file draft.old).synced ≡ true }
+        requires fits { IfSome old (λ o. CanReplace (ledger self.old) (file o.now)
+            (file draft.old)) }
+        requires held { ledger self.old ≡ true → IsOfHolder (option_map (λ h. file h.now) held)
+            (option_map (λ o. file o.now) old) }
+        ensures name { OnOk result (file draft.new ≡ record (file draft.old) { entry = Target }) }
+        ensures same { OnErr result (file draft.new ≡ file draft.old) }
+        ensures named { OnOk result (Steps (Names (Some (file draft.old).handed))
+            (shelf self.old) (shelf self.new)) }
+        ensures not_named { OnErr result (Steps (NamesNot (Some (file draft.old).handed))
+            (shelf self.old) (shelf self.new)) }
+        ensures ledger { ledger self.new ≡ ledger self.old };
+
+    /// Puts the folder's names on the disk.
+    fn sync_names(&mut self) -> io::Result<()>
+        ensures settled { OnOk result (Steps Settles (shelf self.old) (shelf self.new)) }
+        ensures not_settled { OnErr result (Steps SettlesNot (shelf self.old) (shelf self.new)) }
+        ensures ledger { ledger self.new ≡ ledger self.old };
+
+    /// Takes the name from a draft, and lets the draft go.
+    fn remove(&self, draft: Self::File)
+        requires { MayRemove (file draft) };
+}

@@ -1,0 +1,236 @@
+//! The system itself.
+
+ghost use Rattle.std.specs.Prelude.{◌≡◌, IfOk, None, false};
+ghost use Rattle.pb_folder.specs.File.{opened};
+ghost use Rattle.pb_folder.specs.declared.folder.Entry.TheVariants.{Draft};
+
+use crate::file_end::{DRAFT, FileEnd, IN_PLACE};
+use crate::folder::{Entry, Folder, Lock, Seen};
+use crate::place::Place;
+use crate::status::Status;
+use crate::system_file::SystemFile;
+use pb_messages::{Left, Messages, Named, Part};
+use std::fs::{self, File, OpenOptions};
+use std::io::{self, ErrorKind};
+use std::os::unix::fs::OpenOptionsExt;
+use std::path::{Path, PathBuf};
+
+/// The permissions of a draft that is to replace a file, until it has that file's.
+const OWN: u32 = 0o600;
+
+/// The permissions of a new file, of which the system takes those away that its user doesn't give.
+const ANYBODY: u32 = 0o666;
+
+/// Where the file of standard input is found, whatever its name.
+const INPUT: &str = "/dev/stdin";
+
+/// Where that of standard output is.
+const OUTPUT: &str = "/dev/stdout";
+
+/// A path in the system's folders, and the drafts of its file beside it: `.NAME.pbook-0` and so on.
+/// Each method makes one call of the system, as far as it can.
+#[derive(Drop)]
+pub struct System<'a> {
+    messages: Messages<'a>,
+    path: &'a str,
+    place: Place<'a>,
+    is_ledger: bool,
+    is_journal: bool,
+}
+
+impl<'a> System<'a> {
+    /// The name of a file of this part.
+    pub fn new(messages: Messages<'a>, path: &'a str, part: Part) -> System<'a> {
+        System {
+            messages,
+            path,
+            place: Place::of_name(path),
+            is_ledger: matches!(part, Part::Ledger),
+            is_journal: matches!(part, Part::Journal),
+        }
+    }
+
+    /// The path of the draft of this number.
+    ///
+    /// # Errors
+    ///
+    /// `InvalidInput` where the path doesn't end in a file's name, `OutOfMemory` where there is no
+    /// memory for it.
+    fn draft_path(&self, number: u32) -> io::Result<PathBuf> {
+        let path = Path::new(self.place.path());
+        let Some(file) = path.file_name() else {
+            return Err(io::Error::from(ErrorKind::InvalidInput));
+        };
+        if !path.as_str().ends_with(file) {
+            return Err(io::Error::from(ErrorKind::InvalidInput));
+        }
+        let alloc = self.messages.rt.alloc();
+        let Ok(name) = format!(in alloc; ".{file}.pbook-{number}") else {
+            return Err(io::Error::from(ErrorKind::OutOfMemory));
+        };
+        match path.with_file_name(alloc, name.as_str()) {
+            Ok(path) => Ok(path),
+            Err(_) => Err(io::Error::from(ErrorKind::OutOfMemory)),
+        }
+    }
+
+    /// Opens the draft of this number. Only a file is opened, since opening a pipe may wait, and
+    /// none that is a stream of this run.
+    fn open_draft(&self, number: u32) -> io::Result<SystemFile>
+        ensures { IfOk result (λ f. f ≡ opened (Draft number) false) }
+    {
+        let rt = self.messages.rt;
+        let path = self.draft_path(number)?;
+        if !fs::symlink_metadata(rt, path.as_path())?.is_file()
+            || self.is_stream(path.as_str(), INPUT)
+            || self.is_stream(path.as_str(), OUTPUT)
+        {
+            return Err(io::Error::from(ErrorKind::InvalidInput));
+        }
+        let file = OpenOptions::new().write(true).open(rt, path.as_path())?;
+        Ok(SystemFile::draft(file, number, path, false))
+    }
+
+    /// Whether the path leads to the file of this stream, and not to a device or a pipe.
+    fn is_stream(&self, path: &str, stream: &str) -> bool {
+        let rt = self.messages.rt;
+        match (fs::metadata(rt, path), fs::metadata(rt, stream)) {
+            (Ok(one), Ok(two)) => Status::of(&one).is_of_one(&Status::of(&two)),
+            _ => false,
+        }
+    }
+
+    /// The name for messages, and what a failure leaves of it.
+    fn named(&self, left: Left) -> Named<'a> {
+        Named {
+            messages: self.messages,
+            name: self.path,
+            left,
+        }
+    }
+}
+
+/// No contract knows what a reader finds, so nothing is told of that.
+impl<'a> Folder for System<'a> {
+    type File = SystemFile;
+
+    type Draft = FileEnd<'a, DRAFT>;
+
+    type InPlace = FileEnd<'a, IN_PLACE>;
+
+    ghost file = { λ f. f };
+
+    ghost shelf = { λ _. None };
+
+    ghost ledger = { λ s. s.is_ledger };
+
+    ghost appends = { λ s. s.is_journal };
+
+    fn is_ledger(&self) -> bool {
+        self.is_ledger
+    }
+
+    // Replies are written where a link such as `/dev/stdout` leads.
+    fn follow(&mut self) -> io::Result<()> {
+        self.place = Place::of_name(self.path);
+        if !self.is_stream(self.path, OUTPUT) {
+            self.place = Place::followed(self.messages.rt, self.path)?;
+        }
+        Ok(())
+    }
+
+    fn look(&self) -> Seen {
+        let rt = self.messages.rt;
+        if fs::symlink_metadata(rt, self.path).is_err() {
+            return Seen::Nothing;
+        }
+        match fs::metadata(rt, self.path) {
+            Ok(told) if told.is_file() => Seen::File,
+            Ok(told) if told.is_dir() => Seen::Folder,
+            _ => Seen::Other,
+        }
+    }
+
+    fn open(&self, entry: Entry) -> io::Result<SystemFile> {
+        if let Entry::Draft(number) = entry {
+            return self.open_draft(number);
+        }
+        let mut options = OpenOptions::new();
+        options
+            .read(self.is_ledger || self.is_journal)
+            .write(true)
+            .append(self.is_journal);
+        let file = options.open(self.messages.rt, self.path)?;
+        Ok(SystemFile::opened(file, self.is_journal))
+    }
+
+    // Over a network a shared lock is for files alone that are open to be read.
+    fn make(&self, number: u32, is_private: bool) -> io::Result<SystemFile> {
+        let path = self.draft_path(number)?;
+        let mode = if is_private { OWN } else { ANYBODY };
+        let mut options = OpenOptions::new();
+        options.read(true).write(true).create_new(true).mode(mode);
+        let file = options.open(self.messages.rt, path.as_path())?;
+        Ok(SystemFile::draft(file, number, path, true))
+    }
+
+    fn lock(&self, f: &mut SystemFile) -> Lock {
+        f.lock()
+    }
+
+    fn lock_shared(&self, f: &mut SystemFile) -> Lock {
+        f.lock_shared()
+    }
+
+    fn is_named(&self, f: &mut SystemFile) -> bool {
+        f.is_named(self.messages.rt, self.place.path())
+    }
+
+    fn tell(&self, f: &mut SystemFile) -> io::Result<Status> {
+        f.tell()
+    }
+
+    fn set_mode(&self, f: &mut SystemFile, mode: u32) -> io::Result<()> {
+        f.set_mode(mode)
+    }
+
+    fn draft(&self, f: SystemFile, room: Vec<u8>, left: Left) -> FileEnd<'a, DRAFT> {
+        FileEnd::new(self.named(left), f, room)
+    }
+
+    fn of_draft(draft: FileEnd<'a, DRAFT>) -> SystemFile {
+        draft.into_file()
+    }
+
+    fn empty(&mut self, f: &mut SystemFile) -> io::Result<()> {
+        f.empty()
+    }
+
+    fn create(&mut self) -> io::Result<SystemFile> {
+        let file = File::create(self.messages.rt, self.path)?;
+        Ok(SystemFile::emptied(file))
+    }
+
+    fn in_place(&self, f: SystemFile, room: Vec<u8>, left: Left) -> FileEnd<'a, IN_PLACE> {
+        FileEnd::new(self.named(left), f, room)
+    }
+
+    fn rename(
+        &mut self,
+        draft: &mut SystemFile,
+        _old: Option<&SystemFile>,
+        _held: Option<&SystemFile>,
+    ) -> io::Result<()> {
+        draft.rename(self.messages.rt, self.place.path())
+    }
+
+    fn sync_names(&mut self) -> io::Result<()> {
+        self.place.sync_folder(self.messages.rt)
+    }
+
+    fn remove(&self, draft: SystemFile) {
+        if let Some(path) = draft.path() {
+            let _ = fs::remove_file(self.messages.rt, path);
+        }
+    }
+}

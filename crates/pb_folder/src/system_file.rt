@@ -1,0 +1,270 @@
+//! A file of the system that is open.
+
+ghost use Rattle.std.specs.Prelude.{◌≡◌, ◌≤◌, ◌<◌, ◌++◌, IfOk, OnErr, OnOk, Some, false, length};
+ghost use Rattle.std.specs.Prelude.{take, true};
+ghost use Rattle.pb_folder.specs.File.{IsOwnDraft, MayWrite, emptied, locked, opened, with_mode};
+ghost use Rattle.pb_folder.specs.declared.folder.Entry.TheVariants.{Draft, Target};
+ghost use Rattle.pb_folder.specs.declared.folder.Hold.TheVariants.{Alone, Shared};
+
+use crate::folder::{Entry, Hold, Lock};
+use crate::status::Status;
+use pb_io::History;
+use std::fs::{self, File, Permissions, TryLockError};
+use std::io::{self, ErrorKind, Write};
+use std::marker::Model;
+use std::os::unix::fs::{MetadataExt, PermissionsExt};
+use std::path::PathBuf;
+
+/// How often a write is tried that a signal interrupts.
+const TRIES: u32 = 100;
+
+/// A file of the system that is open, and what the system has answered of it so far. Each method
+/// makes one call of the system.
+#[derive(Drop)]
+pub struct SystemFile {
+    file: File,
+    // That of a draft.
+    path: Option<PathBuf>,
+    entry: Entry,
+    named: bool,
+    made: bool,
+    in_place: bool,
+    appends: bool,
+    hold: Hold,
+    status: Option<Status>,
+    history: History,
+    synced: bool,
+    lost: bool,
+}
+
+impl Model for SystemFile {
+    ghost use Rattle.pb_folder.specs.File.{FileState};
+
+    ghost Value = { FileState };
+
+    ghost view = { λ f. record {
+      entry = f.entry;
+      named = f.named;
+      made = f.made;
+      in_place = f.in_place;
+      appends = f.appends;
+      hold = f.hold;
+      status = f.status;
+      handed = f.history.bytes;
+      synced = f.synced;
+      lost = f.lost;
+    } };
+}
+
+impl SystemFile {
+    /// Takes the file of the name, which was opened.
+    pub(crate) fn opened(file: File, appends: bool) -> SystemFile
+        ensures { result ≡ opened Target appends }
+    {
+        SystemFile {
+            file,
+            path: None,
+            entry: Entry::Target,
+            named: false,
+            made: false,
+            in_place: false,
+            appends,
+            hold: Hold::Nothing,
+            status: None,
+            history: History::new(),
+            synced: false,
+            lost: false,
+        }
+    }
+
+    /// Takes the draft of this number and path, which was opened, or made by this run.
+    pub(crate) fn draft(file: File, number: u32, path: PathBuf, made: bool) -> SystemFile
+        ensures { result ≡ record (opened (Draft number) false) { made = made } }
+    {
+        let mut draft = SystemFile::opened(file, false);
+        draft.path = Some(path);
+        draft.entry = Entry::Draft(number);
+        draft.made = made;
+        draft
+    }
+
+    /// Takes a file that is written in place from its first byte.
+    pub(crate) fn emptied(file: File) -> SystemFile
+        ensures { result ≡ emptied }
+    {
+        let mut emptied = SystemFile::opened(file, false);
+        emptied.in_place = true;
+        emptied
+    }
+
+    /// The path of a draft.
+    pub(crate) fn path(&self) -> Option<&str> {
+        match &self.path {
+            Some(path) => Some(path.as_str()),
+            None => None,
+        }
+    }
+
+    /// Whether what was told of it is that it is no ordinary file.
+    pub(crate) fn is_device(&self) -> bool {
+        self.status.is_some_and(|status| !status.is_file)
+    }
+
+    /// Locks the file, so that no other run has a lock of it.
+    pub(crate) fn lock(&mut self) -> Lock
+        ensures { self.new ≡ locked Alone result self.old }
+    {
+        let lock = lock_by(self.file.try_lock());
+        self.note_lock(Hold::Alone, lock);
+        lock
+    }
+
+    /// Locks the file, so that no other run has it alone.
+    pub(crate) fn lock_shared(&mut self) -> Lock
+        ensures { self.new ≡ locked Shared result self.old }
+    {
+        let lock = lock_by(self.file.try_lock_shared());
+        self.note_lock(Hold::Shared, lock);
+        lock
+    }
+
+    /// Notes what became of the wish to lock the file.
+    fn note_lock(&mut self, hold: Hold, lock: Lock)
+        ensures { self.new ≡ locked hold lock self.old }
+    {
+        self.named = false;
+        self.hold = match lock {
+            Lock::Held => hold,
+            Lock::InUse => Hold::Nothing,
+            Lock::Unsupported => Hold::Unlockable,
+        };
+    }
+
+    /// Tells whether this path, and no link of it, leads to the file, and for a draft alone.
+    pub(crate) fn is_named(&mut self, rt: &HostRuntime, path: &str) -> bool
+        ensures { self.new ≡ record self.old { named = result } }
+    {
+        self.named = match (self.file.metadata(), fs::symlink_metadata(rt, path)) {
+            (Ok(told), Ok(named)) => Status::of(&told).is_of_one(&Status::of(&named))
+                && (self.path.is_none() || told.nlink() == 1),
+            _ => false,
+        };
+        self.named
+    }
+
+    /// Gives the draft the name of this path, in the place of what has it.
+    pub(crate) fn rename(&mut self, rt: &HostRuntime, path: &str) -> io::Result<()>
+        ensures named { OnOk result (self.new ≡ record self.old { entry = Target }) }
+        ensures same { OnErr result (self.new ≡ self.old) }
+    {
+        match &self.path {
+            Some(draft) => fs::rename(rt, draft.as_path(), path)?,
+            None => return Err(io::Error::from(ErrorKind::InvalidInput)),
+        }
+        self.path = None;
+        self.entry = Entry::Target;
+        Ok(())
+    }
+
+    /// Empties the file, to be written in place. A device stays as it is.
+    pub(crate) fn empty(&mut self) -> io::Result<()>
+        ensures emptied { OnOk result (self.new ≡ record self.old { in_place = true }) }
+        ensures same { OnErr result (self.new ≡ self.old) }
+    {
+        if !self.is_device() {
+            self.file.set_len(0)?;
+        }
+        self.in_place = true;
+        Ok(())
+    }
+
+    /// Asks the system for what it tells of the file.
+    pub(crate) fn tell(&mut self) -> io::Result<Status>
+        ensures told { IfOk result (λ status. self.new
+            ≡ record self.old { status = Some status }) }
+        ensures same { OnErr result (self.new ≡ self.old) }
+    {
+        let status = Status::of(&self.file.metadata()?);
+        self.status = Some(status);
+        Ok(status)
+    }
+
+    /// Sets who may read and write the file.
+    pub(crate) fn set_mode(&mut self, mode: u32) -> io::Result<()>
+        requires { IsOwnDraft self.old }
+        ensures set { OnOk result (self.new ≡ with_mode mode self.old) }
+        ensures same { OnErr result (self.new ≡ self.old) }
+    {
+        self.file.set_permissions(Permissions::from_mode(mode))?;
+        if let Some(status) = &mut self.status {
+            status.mode = mode;
+        }
+        Ok(())
+    }
+
+    /// Writes a front of the bytes, at least one where there are any, and answers how many.
+    pub(crate) fn write(&mut self, bytes: &[u8]) -> io::Result<usize>
+        requires { MayWrite self.old }
+        ensures within { IfOk result (λ count. count ≤ length bytes.now) }
+        ensures some { IfOk result (λ count. 0 < length bytes.now → 0 < count) }
+        ensures written { IfOk result (λ count. self.new ≡ record self.old {
+          handed = self.old.handed ++ take count bytes.now;
+          synced = false;
+        }) }
+        ensures failed { OnErr result (self.new ≡ record self.old {
+          synced = false;
+          lost = true;
+        }) }
+    {
+        self.synced = false;
+        match write_once(&mut self.file, bytes) {
+            Ok(count) => {
+                self.history.add(&bytes[..count]);
+                Ok(count)
+            }
+            Err(error) => {
+                self.lost = true;
+                Err(error)
+            }
+        }
+    }
+
+    /// Puts the file on the disk. Once a write or a sync has failed, none tells anything.
+    pub(crate) fn sync(&mut self) -> io::Result<()>
+        ensures synced { OnOk result (self.old.lost ≡ false → self.new.synced ≡ true) }
+        ensures works { OnOk result (self.new.lost ≡ self.old.lost) }
+        ensures rests { self.new ≡ record self.old {
+          synced = self.new.synced;
+          lost = self.new.lost;
+        } }
+    {
+        let synced = self.file.sync_all();
+        self.lost = self.lost || synced.is_err();
+        self.synced = !self.lost;
+        synced
+    }
+}
+
+/// Writes a front of the bytes, again where a signal interrupts it.
+fn write_once(file: &mut File, bytes: &[u8]) -> io::Result<usize>
+    ensures within { IfOk result (λ count. count ≤ length bytes.now) }
+    ensures some { IfOk result (λ count. 0 < length bytes.now → 0 < count) }
+{
+    for _ in 0..TRIES {
+        match file.write(bytes) {
+            Ok(0) if !bytes.is_empty() => return Err(io::Error::from(ErrorKind::WriteZero)),
+            Err(error) if error.kind() == ErrorKind::Interrupted => {}
+            written => return written,
+        }
+    }
+    Err(io::Error::from(ErrorKind::Interrupted))
+}
+
+/// Tells what became of a wish to lock a file.
+fn lock_by(locked: Result<(), TryLockError>) -> Lock {
+    match locked {
+        Ok(()) => Lock::Held,
+        Err(TryLockError::WouldBlock) => Lock::InUse,
+        Err(TryLockError::Error(_)) => Lock::Unsupported,
+    }
+}
