@@ -61,6 +61,10 @@ SameOpening old new =
 abbrev pub with_mode : ℕ → FileState → FileState
 with_mode mode s = record s { status = option_map {T = Status} (λ status. record status { mode = mode }) s.status }
 
+-- the file of the name, which was opened, and of which the system told this
+abbrev pub opened_as : Bool → Status → FileState
+opened_as appends status = record (opened Target appends) { status = Some status }
+
 -- ---- locks
 
 -- whether a lock keeps other runs from taking the file for one that nobody holds; where there are no
@@ -103,6 +107,10 @@ IsNamedDraft s = (is_draft s.entry ≡ true) × (s.named ≡ true)
 abbrev pub IsOwnDraft : FileState → Type 0
 IsOwnDraft s = IsNamedDraft s × (s.made ≡ true) × (is_held s.hold ≡ true)
 
+-- nothing was written into it yet
+abbrev pub IsNewDraft : FileState → Type 0
+IsNewDraft s = IsOwnDraft s × (s.handed ≡ []) × (s.lost ≡ false)
+
 -- a draft that is left over: no run has a lock of it, so that this one got its own
 abbrev pub IsLeftOver : FileState → Type 0
 IsLeftOver s = IsNamedDraft s × (s.hold ≡ Alone)
@@ -140,6 +148,13 @@ pub record CanReplace (ledger : Bool) (old draft : FileState) : Type 0 where
   pub status : Status
   pub told : old.status ≡ Some status
   pub fits : Fits status draft
+
+-- what stands under the name, which a draft may replace as far as that is known before there is one
+pub record IsOld (ledger : Bool) (status : Status) (s : FileState) : Type 0 where
+  pub entry : s.entry ≡ Target
+  pub named : s.named ≡ true
+  pub held : ledger ≡ false → is_held s.hold ≡ true
+  pub told : s.status ≡ Some status
 
 -- two statuses are of one file
 pub record IsOneFile (one other : FileState) : Type 0 where

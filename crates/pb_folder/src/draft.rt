@@ -1,9 +1,15 @@
 //! Drafts, which stand beside the file that they are to replace.
 
-ghost use Rattle.std.specs.Prelude.{◌≡◌, IfSome, true};
-ghost use Rattle.pb_folder.specs.File.{IsOwnDraft, is_held};
+ghost use Rattle.std.specs.Prelude.{◌≡◌, IfOk, IfSome, IsNone, false, true};
+ghost use Rattle.pb_folder.specs.File.{Fits, IsNewDraft, IsOwnDraft, is_held, new_draft};
 
 use crate::folder::{Entry, Folder, Lock};
+use crate::status::{Status, why_not};
+use pb_messages::Unreplaceable;
+use std::io::{self, ErrorKind};
+
+/// How many names are tried for a draft: as many runs may make one file at a time.
+const NAMES: u32 = 100;
 
 /// Removes the draft of this number, unless a run has a lock of it: its own was killed. Where there
 /// are no locks none is removed.
@@ -18,4 +24,95 @@ pub fn remove_left_over<F: Folder>(folder: &F, number: u32) {
     if folder.is_named(&mut file) {
         folder.remove(file);
     }
+}
+
+/// Makes an empty draft: by the first number that no run has. This run holds it alone, or so that
+/// the next run may replace it. None where other runs have all names.
+///
+/// # Errors
+///
+/// Why the system makes none.
+pub fn make_draft<F: Folder>(
+    folder: &F,
+    is_private: bool,
+    is_alone: bool,
+) -> io::Result<Option<F::File>>
+    ensures { IfOk result (λ made. IfSome made (λ draft. IsNewDraft (F.file draft))) }
+{
+    for number in 0..NAMES {
+        remove_left_over(folder, number);
+        match folder.make(number, is_private) {
+            Ok(file) => {
+                if let Some(draft) = hold_draft(folder, file, number, is_alone) {
+                    return Ok(Some(draft));
+                }
+            }
+            Err(error) if error.kind() == ErrorKind::AlreadyExists => {}
+            Err(error) => return Err(error),
+        }
+    }
+    Ok(None)
+}
+
+/// Holds a draft that this run has made. None where another run takes it for one left over, or has
+/// removed it.
+fn hold_draft<F: Folder>(
+    folder: &F,
+    mut file: F::File,
+    number: u32,
+    is_alone: bool,
+) -> Option<F::File>
+    requires { F.file file ≡ new_draft number }
+    ensures { IfSome result (λ draft. IsNewDraft (F.file draft)) }
+{
+    if !lock_draft(folder, &mut file, is_alone) {
+        return None;
+    }
+    if folder.is_named(&mut file) {
+        return Some(file);
+    }
+    None
+}
+
+/// Locks a draft, and tells whether no other run has a lock that keeps this one out.
+fn lock_draft<F: Folder>(folder: &F, file: &mut F::File, is_alone: bool) -> bool
+    ensures held { result ≡ true → is_held (F.file file.new).hold ≡ true }
+    ensures same { F.file file.new ≡ record (F.file file.old) {
+      hold = (F.file file.new).hold;
+      named = false;
+    } }
+{
+    let lock = if is_alone {
+        folder.lock(file)
+    } else {
+        folder.lock_shared(file)
+    };
+    !matches!(lock, Lock::InUse)
+}
+
+/// Gives the draft the mode of a file of this status, and tells why it can't take its place all the
+/// same.
+///
+/// # Errors
+///
+/// The system tells nothing of the draft, or doesn't set the mode.
+pub fn take_after<F: Folder>(
+    folder: &F,
+    draft: &mut F::File,
+    old: &Status,
+) -> io::Result<Option<Unreplaceable>>
+    requires { IsOwnDraft (F.file draft.old) }
+    ensures fits { IfOk result (λ why. IsNone why → Fits old.now (F.file draft.new)) }
+    ensures same { F.file draft.new ≡ record (F.file draft.old) {
+      status = (F.file draft.new).status;
+    } }
+{
+    let made = folder.tell(draft)?;
+    if let Some(why) = why_not(old, &made) {
+        return Ok(Some(why));
+    }
+    if made.mode != old.mode {
+        folder.set_mode(draft, old.mode)?;
+    }
+    Ok(None)
 }

@@ -96,7 +96,8 @@ pub trait Folder {
     /// Has the file stand where the links of its name lead, and its drafts beside it.
     fn follow(&mut self) -> io::Result<()>
         ensures same { shelf self.new ≡ shelf self.old }
-        ensures ledger { ledger self.new ≡ ledger self.old };
+        ensures ledger { ledger self.new ≡ ledger self.old }
+        ensures appends { appends self.new ≡ appends self.old };
 
     /// Looks at what has the name.
     fn look(&self) -> Seen;

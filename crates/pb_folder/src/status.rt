@@ -1,11 +1,11 @@
 //! What the system tells of a file, and which file can take another's place.
 
-ghost use Rattle.std.specs.Prelude.{◌≡◌, None};
+ghost use Rattle.std.specs.Prelude.{◌≡◌, IsNone, true};
 ghost use Rattle.pb_folder.specs.File.{TakesAfter};
 
+use pb_messages::Unreplaceable;
 use std::fs::Metadata;
 use std::os::unix::fs::MetadataExt;
-use thiserror::Error;
 
 /// What the system tells of a file.
 #[derive(Clone, Copy, Debug)]
@@ -24,6 +24,10 @@ pub struct Status {
     pub mode: u32,
     /// It is an ordinary file, and no device or pipe.
     pub is_file: bool,
+    /// How many bytes it has.
+    pub len: u64,
+    /// When it was written last, in seconds and nanoseconds.
+    pub modified: (i64, i64),
 }
 
 impl Status {
@@ -37,41 +41,32 @@ impl Status {
             group: told.gid(),
             mode: told.mode(),
             is_file: told.is_file(),
+            len: told.len(),
+            modified: (told.mtime(), told.mtime_nsec()),
         }
     }
 
     /// Whether both tell of one file, and no device or pipe.
-    pub fn is_of_one(&self, other: &Status) -> bool {
+    pub fn is_of_one(&self, other: &Status) -> bool
+        ensures device { result ≡ true → self.now.device ≡ other.now.device }
+        ensures inode { result ≡ true → self.now.inode ≡ other.now.inode }
+    {
         self.is_file && self.device == other.device && self.inode == other.inode
     }
 }
 
-/// Why no draft can take a file's place.
-#[derive(Clone, Copy, Debug, Error)]
-pub enum Unfit {
-    /// The file has another name, which would lead to the old one.
-    #[error("the file has a second name")]
-    SecondName,
-    /// It is on another mount than its folder.
-    #[error("something is mounted on it")]
-    Mount,
-    /// It is of another owner or group than the files of this run.
-    #[error("its owner or its group would be another")]
-    Owner,
-}
-
 /// Tells why the new file can't take the old one's place, once it has its mode.
-pub fn why_not(old: &Status, new: &Status) -> Option<Unfit>
-    ensures { result ≡ None → TakesAfter old.now (record new.now { mode = old.now.mode }) }
+pub fn why_not(old: &Status, new: &Status) -> Option<Unreplaceable>
+    ensures { IsNone result → TakesAfter old.now (record new.now { mode = old.now.mode }) }
 {
     if old.names > 1 {
-        return Some(Unfit::SecondName);
+        return Some(Unreplaceable::SecondName);
     }
     if new.device != old.device {
-        return Some(Unfit::Mount);
+        return Some(Unreplaceable::Mount);
     }
     if new.user != old.user || new.group != old.group {
-        return Some(Unfit::Owner);
+        return Some(Unreplaceable::Owner);
     }
     None
 }

@@ -1,0 +1,85 @@
+//! How a run comes to hold the file of a name.
+
+ghost use Rattle.std.specs.Prelude.{◌≡◌, IfOk, Some};
+ghost use Rattle.pb_folder.specs.File.{IsHeldAlone, opened_as};
+
+use crate::folder::{Entry, Folder, Lock};
+use crate::label::Label;
+use crate::status::Status;
+use pb_collecting::StoreError;
+use pb_messages::{Left, Message};
+use std::io::ErrorKind;
+
+/// How often a file is opened because another run put a new one in its place.
+const TRIES: u32 = 100;
+
+/// A file that this run alone holds.
+#[derive(Drop)]
+pub struct Held<X> {
+    /// The file.
+    pub file: X,
+    /// What the system told of it.
+    pub status: Status,
+}
+
+/// Opens the file that the name leads to and holds it. A file that another run replaced after it
+/// was opened is no longer the name's, so the new one is opened in its place.
+///
+/// # Errors
+///
+/// `Open` where it can't be opened, is no ordinary file, or another run holds it, or has replaced it
+/// each of 100 times. That is told.
+pub fn hold<F: Folder>(
+    folder: &mut F,
+    label: &Label<'_>,
+) -> Result<Held<F::File>, StoreError>
+    ensures held { IfOk result (λ held. IsHeldAlone (F.file held.file)) }
+    ensures told { IfOk result (λ held. (F.file held.file).status ≡ Some held.status) }
+    ensures appends { IfOk result (λ held. (F.file held.file).appends ≡ F.appends folder.new) }
+{
+    for tried in 0..TRIES {
+        let (mut file, status) = open_ordinary(folder, label)?;
+        match folder.lock(&mut file) {
+            Lock::Held | Lock::Unsupported => {}
+            Lock::InUse => break,
+        }
+        if folder.follow().is_ok() && folder.is_named(&mut file) {
+            return Ok(Held { file, status });
+        }
+    }
+    label.messages.tell(&Message::InUse(label.path));
+    Err(StoreError::Open)
+}
+
+/// Opens the file that the name leads to, and asks what the system tells of it.
+fn open_ordinary<F: Folder>(
+    folder: &F,
+    label: &Label<'_>,
+) -> Result<(F::File, Status), StoreError>
+    ensures { IfOk result (λ opened. F.file opened.0
+        ≡ opened_as (F.appends folder.now) opened.1) }
+{
+    let mut file = match folder.open(Entry::Target) {
+        Ok(file) => file,
+        Err(error) => {
+            if error.kind() != ErrorKind::NotFound {
+                return Err(label.fail(Left::All, &error));
+            }
+            label
+                .messages
+                .tell(&Message::NoFile(label.path, label.part));
+            return Err(StoreError::Open);
+        }
+    };
+    match folder.tell(&mut file) {
+        // A device keeps nothing.
+        Ok(status) if status.is_file => Ok((file, status)),
+        Ok(_) => {
+            label
+                .messages
+                .tell(&Message::NoOrdinaryFile(label.path, label.part));
+            Err(StoreError::Open)
+        }
+        Err(error) => Err(label.fail(Left::All, &error)),
+    }
+}
