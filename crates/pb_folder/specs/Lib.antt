@@ -1,4 +1,5 @@
 pub mod File
+pub mod Saving
 pub mod Shelf
 pub mod Steps
 pub mod Writing
