@@ -1,1 +1,2 @@
+mod KeepLemmas
 mod WriteLemmas

@@ -155,6 +155,7 @@ pub record IsOld (ledger : Bool) (status : Status) (s : FileState) : Type 0 wher
   pub named : s.named ≡ true
   pub held : ledger ≡ false → is_held s.hold ≡ true
   pub told : s.status ≡ Some status
+  pub untouched : (s.handed ≡ []) × (s.lost ≡ false)
 
 -- two statuses are of one file
 pub record IsOneFile (one other : FileState) : Type 0 where
@@ -169,6 +170,14 @@ pub record IsOneFile (one other : FileState) : Type 0 where
 abbrev pub IsOfHolder : Option FileState → Option FileState → Type 0
 IsOfHolder (Some held) (Some old) = IsHeldAlone held × IsOneFile held old
 IsOfHolder held old = ⊥
+
+-- this run has written nothing into it
+abbrev pub IsUntouched : FileState → Type 0
+IsUntouched s = (s.handed ≡ []) × (s.lost ≡ false)
+
+-- it is written in place from now on
+abbrev pub IsInPlace : FileState → Type 0
+IsInPlace s = (s.in_place ≡ true) × IsUntouched s
 
 -- The file has the name, was made by this run, took just these bytes, and they are on the disk.
 pub record IsPut (bytes : List ℕ) (s : FileState) : Type 0 where

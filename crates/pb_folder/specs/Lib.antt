@@ -1,4 +1,5 @@
 pub mod File
+pub mod Keeping
 pub mod Saving
 pub mod Shelf
 pub mod Steps

@@ -169,7 +169,7 @@ pub trait Folder {
         ensures ledger { ledger self.new ≡ ledger self.old };
 
     /// Makes an end into a file that is written in place and has taken nothing yet.
-    fn in_place(&self, f: Self::File, room: Vec<u8>, left: Left) -> Self::InPlace
+    fn in_place(&self, f: Self::File, room: Vec<u8>) -> Self::InPlace
         requires in_place { (file f).in_place ≡ true }
         requires works { (file f).lost ≡ false }
         requires empty { (file f).handed ≡ [] }

@@ -1,8 +1,9 @@
 //! What stands under a name whose file is to be made anew.
 
-ghost use Rattle.std.specs.Prelude.{◌≡◌, IfOk, IfSome, IsNone, OnOk, Some, false, true};
+ghost use Rattle.std.specs.Prelude.{◌≡◌, IfOk, IfSome, Err, IsNone, OnOk, false, true};
 ghost use Rattle.std.specs.Option.{is_some, option_map};
-ghost use Rattle.pb_folder.specs.File.{IsOfHolder, IsOld, IsOneFile, is_held};
+ghost use Rattle.pb_folder.specs.File.{IsOfHolder, IsOld, IsOneFile, IsUntouched, is_held};
+ghost use Rattle.pb_folder.specs.Saving.{IfRefused, is_refused};
 ghost use Rattle.pb_folder.specs.declared.folder.Entry.TheVariants.{Target};
 
 use crate::folder::{Entry, Folder, Lock, Seen};
@@ -49,6 +50,8 @@ pub fn look_at<F: Folder>(
     ensures held { IfOk result (λ old. F.ledger folder.new ≡ true
         → IsOfHolder (option_map (λ l. F.file l.now.file) ledger.entry)
         (option_map (λ o. F.file o.file) old)) }
+    ensures refused { is_refused result ≡ true → F.ledger folder.new ≡ false }
+    ensures untouched { IfRefused result (λ f. IsUntouched (F.file f)) }
     ensures ledger { F.ledger folder.new ≡ F.ledger folder.old }
     ensures same { F.shelf folder.new ≡ F.shelf folder.old }
 {
@@ -68,6 +71,8 @@ fn look_at_none<F: Folder>(
     requires { F.ledger folder.old ≡ is_some ledger }
     ensures none { IfOk result (λ old. IsNone old) }
     ensures book { OnOk result (F.ledger folder.new ≡ false) }
+    ensures refused { is_refused result ≡ true → F.ledger folder.new ≡ false }
+    ensures untouched { IfRefused result (λ f. IsUntouched (F.file f)) }
     ensures ledger { F.ledger folder.new ≡ F.ledger folder.old }
     ensures same { F.shelf folder.new ≡ F.shelf folder.old }
 {
@@ -93,11 +98,14 @@ fn look_at_file<F: Folder>(
 ) -> Result<Option<Old<F::File>>, NotSaved<F::File>>
     requires ledger { F.ledger folder.old ≡ is_some ledger }
     requires opened { (F.file file).entry ≡ Target }
+    requires untouched { IsUntouched (F.file file) }
     ensures old { IfOk result (λ old. IfSome old (λ o.
         IsOld (F.ledger folder.new) o.status (F.file o.file))) }
     ensures held { IfOk result (λ old. F.ledger folder.new ≡ true
         → IsOfHolder (option_map (λ l. F.file l.now.file) ledger.entry)
         (option_map (λ o. F.file o.file) old)) }
+    ensures refused { is_refused result ≡ true → F.ledger folder.new ≡ false }
+    ensures untouched { IfRefused result (λ f. IsUntouched (F.file f)) }
     ensures ledger { F.ledger folder.new ≡ F.ledger folder.old }
     ensures same { F.shelf folder.new ≡ F.shelf folder.old }
 {
@@ -186,7 +194,11 @@ fn refuse<F: Folder>(
     label: &Label<'_>,
     file: F::File,
     why: Unreplaceable,
-) -> NotSaved<F::File> {
+) -> NotSaved<F::File>
+    requires { IsUntouched (F.file file) }
+    ensures untouched { IfRefused {A = Unit {0}} (Err result) (λ f. IsUntouched (F.file f)) }
+    ensures refused { is_refused {A = Unit {0}} (Err result) ≡ true → F.ledger folder.now ≡ false }
+{
     if folder.is_ledger() {
         label
             .messages

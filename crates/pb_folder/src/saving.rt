@@ -1,10 +1,10 @@
 //! A file that is made anew whole.
 
-ghost use Rattle.std.specs.Prelude.{◌≡◌, ℕ, List, IfOk, IfSome, OnErr, OnOk, Some, true};
+ghost use Rattle.std.specs.Prelude.{◌≡◌, ℕ, List, Err, IfOk, IfSome, OnErr, OnOk, Some, false, true};
 ghost use Rattle.std.specs.Option.{option_map};
 ghost use Rattle.pb_folder.specs.File.{Fits, IsNewDraft, IsOfHolder, IsOld, IsOwnDraft, IsPut};
 ghost use Rattle.pb_folder.specs.Shelf.{Names, NamesNot};
-ghost use Rattle.pb_folder.specs.Saving.{IsWritten, NamesBytes};
+ghost use Rattle.pb_folder.specs.Saving.{IsWritten, NamesBytes, is_put_refused};
 ghost use Rattle.pb_folder.specs.Steps.{Steps};
 
 use crate::draft::{make_draft, take_after};
@@ -65,6 +65,7 @@ pub fn put_text<F: Folder, X: Text>(
         × NamesBytes put.settled bytes (F.shelf folder.old) (F.shelf folder.new))
         × OnErr result (Steps (NamesNot (Some bytes)) (F.shelf folder.old)
         (F.shelf folder.new)) }
+    ensures refused { is_put_refused result ≡ true → F.ledger folder.new ≡ false }
     ensures ledger { F.ledger folder.new ≡ F.ledger folder.old }
 {
     let file = new_draft(folder, label, old)?;
@@ -90,7 +91,8 @@ fn new_draft<F: Folder>(
     label: &Label<'_>,
     old: Option<&Old<F::File>>,
 ) -> Result<F::File, NotPut>
-    ensures { IfOk result (λ draft. IsNewDraft (F.file draft)) }
+    ensures new { IfOk result (λ draft. IsNewDraft (F.file draft)) }
+    ensures refused { is_put_refused result ≡ true → F.ledger folder.now ≡ false }
 {
     match make_draft(folder, old.is_some(), folder.is_ledger()) {
         Ok(Some(draft)) => Ok(draft),
@@ -108,7 +110,9 @@ fn no_draft<F: Folder>(
     label: &Label<'_>,
     old: Option<&Old<F::File>>,
     error: &io::Error,
-) -> NotPut {
+) -> NotPut
+    ensures { is_put_refused {A = Unit {0}} (Err result) ≡ true → F.ledger folder.now ≡ false }
+{
     let kind = error.kind();
     if kind == ErrorKind::InvalidInput {
         return refuse(folder, label, Unreplaceable::NoName);
@@ -135,7 +139,9 @@ fn is_of_folder(kind: ErrorKind) -> bool {
 
 /// Answers that no draft can take the file's place, which is told of a ledger: that isn't written in
 /// place.
-fn refuse<F: Folder>(folder: &F, label: &Label<'_>, why: Unreplaceable) -> NotPut {
+fn refuse<F: Folder>(folder: &F, label: &Label<'_>, why: Unreplaceable) -> NotPut
+    ensures { is_put_refused {A = Unit {0}} (Err result) ≡ true → F.ledger folder.now ≡ false }
+{
     if !folder.is_ledger() {
         return NotPut::Refused;
     }
@@ -163,8 +169,9 @@ fn write_draft<F: Folder, X: Text>(
 ) -> Result<(F::File, u64), NotPut>
     requires draft { IsNewDraft (F.file file) }
     requires text { (bytes : List ℕ) × (count : ℕ) × X.is_text text.now bytes count }
-    ensures { (bytes : List ℕ) × (count : ℕ) × X.is_text text.now bytes count
+    ensures written { (bytes : List ℕ) × (count : ℕ) × X.is_text text.now bytes count
         × IfOk result (λ written. IsWritten bytes (F.file written.0) × (written.1 ≡ count)) }
+    ensures refused { is_put_refused result ≡ true → F.ledger folder.now ≡ false }
 {
     if let Err(why) = fit_draft(folder, label, old, &mut file) {
         folder.remove(file);
@@ -198,6 +205,7 @@ fn fit_draft<F: Folder>(
     ensures same { F.file draft.new ≡ record (F.file draft.old) {
       status = (F.file draft.new).status;
     } }
+    ensures refused { is_put_refused result ≡ true → F.ledger folder.now ≡ false }
 {
     let Some(file) = old else {
         return Ok(());
@@ -229,6 +237,7 @@ fn name_draft<F: Folder>(
         (F.shelf folder.old) (F.shelf folder.new)) }
     ensures not_named { OnErr result (Steps (NamesNot (Some (F.file file).handed))
         (F.shelf folder.old) (F.shelf folder.new)) }
+    ensures refused { is_put_refused result ≡ true → F.ledger folder.new ≡ false }
     ensures ledger { F.ledger folder.new ≡ F.ledger folder.old }
 {
     if let Err(why) = rename_draft(folder, label, old, ledger, &mut file) {
@@ -259,6 +268,7 @@ fn rename_draft<F: Folder>(
         (F.shelf folder.old) (F.shelf folder.new)) }
     ensures not_named { OnErr result (Steps (NamesNot (Some (F.file draft.old).handed))
         (F.shelf folder.old) (F.shelf folder.new)) }
+    ensures refused { is_put_refused result ≡ true → F.ledger folder.new ≡ false }
     ensures ledger { F.ledger folder.new ≡ F.ledger folder.old }
 {
     fit_draft(folder, label, old, draft)?;

@@ -211,7 +211,12 @@ impl<'a> Folder for System<'a> {
         Ok(SystemFile::emptied(file))
     }
 
-    fn in_place(&self, f: SystemFile, room: Vec<u8>, left: Left) -> FileEnd<'a, IN_PLACE> {
+    fn in_place(&self, f: SystemFile, room: Vec<u8>) -> FileEnd<'a, IN_PLACE> {
+        let left = if f.is_device() {
+            Left::All
+        } else {
+            Left::Front
+        };
         FileEnd::new(self.named(left), f, room)
     }
 

@@ -1,0 +1,186 @@
+//! A name in a folder as the store of a text.
+
+ghost use Rattle.std.specs.Option.{is_some, option_map};
+ghost use Rattle.std.specs.Prelude.{◌≡◌, ℕ, List, IfOk, IfSome, None, OnErr, false};
+ghost use Rattle.pb_collecting.specs.Store.{KeepsText};
+ghost use Rattle.pb_folder.specs.File.{IsInPlace, IsUntouched};
+ghost use Rattle.pb_folder.specs.Keeping.{KeepsAt, WritesInPlace, handed_at};
+
+use crate::file_end::BUFFER_LEN;
+use crate::folder::Folder;
+use crate::label::Label;
+use crate::ledger_file::LedgerFile;
+use crate::looking::{NotSaved, look_at};
+use crate::saving::{NotPut, put_text};
+use pb_collecting::{Store, StoreError, Text};
+use pb_messages::Left;
+
+/// A file that is made anew whole where a draft can take its place, and is written in place where
+/// none can.
+#[derive(Drop)]
+pub struct KeptFile<'f, 'a, F: Folder> {
+    /// The name, and the drafts of its file.
+    pub folder: F,
+    label: Label<'a>,
+    // What a ledger is read from.
+    ledger: Option<&'f LedgerFile<'a, F>>,
+    /// The end into the file, where it is written in place.
+    pub in_place: Option<F::InPlace>,
+    /// The file that a draft became. The lock on it lasts as long as it is kept.
+    pub named: Option<F::File>,
+    fault: Option<StoreError>,
+    ghost held: { F.ledger folder ≡ is_some ledger },
+}
+
+impl<'f, 'a, F: Folder> KeptFile<'f, 'a, F> {
+    /// The store of this name, where nothing was kept yet: of a book, or of a saved ledger, which
+    /// was read from this file.
+    pub fn new(
+        folder: F,
+        label: Label<'a>,
+        ledger: Option<&'f LedgerFile<'a, F>>,
+    ) -> KeptFile<'f, 'a, F>
+        requires { F.ledger folder ≡ is_some ledger }
+        ensures state { ⟦<KeptFile<'f, 'a, F> as Store>⟧.state result
+            ≡ record { handed = None; fault = None } }
+        ensures folder { result.folder ≡ folder }
+    {
+        KeptFile {
+            folder,
+            label,
+            ledger,
+            in_place: None,
+            named: None,
+            fault: None,
+        }
+    }
+}
+
+impl<'f, 'a, F: Folder> Store for KeptFile<'f, 'a, F> {
+    ghost state = { λ k. record {
+      handed = handed_at (option_map F.InPlace.state k.in_place) (option_map F.file k.named);
+      fault = k.fault;
+    } };
+
+    fn keep<X: Text>(&mut self, text: &X) -> Result<u64, StoreError>
+        requires { (bytes : List ℕ) × (count : ℕ) × X.is_text text.now bytes count }
+        ensures kept { KeepsText (X.is_text text.now)
+            (⟦<KeptFile<'f, 'a, F> as Store>⟧.state self.old)
+            (⟦<KeptFile<'f, 'a, F> as Store>⟧.state self.new) result }
+        // The name leads to a file of the text alone, and no crash can undo it or leaves a part,
+        // unless a book is written in place.
+        ensures at { (bytes : List ℕ) × (count : ℕ) × X.is_text text.now bytes count
+            × KeepsAt (F.ledger self.old.folder) result bytes
+            (option_map F.InPlace.state self.old.in_place)
+            (option_map F.InPlace.state self.new.in_place)
+            (option_map F.file self.old.named) (option_map F.file self.new.named)
+            (F.shelf self.old.folder) (F.shelf self.new.folder) }
+    {
+        let kept = keep_at(
+            &mut self.folder,
+            &self.label,
+            self.ledger,
+            &mut self.in_place,
+            &mut self.named,
+            text,
+        );
+        self.fault = kept.err();
+        kept
+    }
+}
+
+/// Keeps the text under the name: by a draft, or in place where none can take the old file's place.
+fn keep_at<F: Folder, X: Text>(
+    folder: &mut F,
+    label: &Label<'_>,
+    ledger: Option<&LedgerFile<'_, F>>,
+    in_place: &mut Option<F::InPlace>,
+    named: &mut Option<F::File>,
+    text: &X,
+) -> Result<u64, StoreError>
+    requires text { (bytes : List ℕ) × (count : ℕ) × X.is_text text.now bytes count }
+    requires ledger { F.ledger folder.old ≡ is_some ledger }
+    ensures kept { (bytes : List ℕ) × (count : ℕ) × X.is_text text.now bytes count
+        × KeepsAt (F.ledger folder.old) result bytes
+        (option_map F.InPlace.state in_place.old) (option_map F.InPlace.state in_place.new)
+        (option_map F.file named.old) (option_map F.file named.new)
+        (F.shelf folder.old) (F.shelf folder.new) × IfOk result (λ n. n ≡ count) }
+    ensures ledger { F.ledger folder.new ≡ F.ledger folder.old }
+{
+    let old = match look_at(folder, label, ledger) {
+        Ok(old) => old,
+        Err(NotSaved::Refused(file)) => return keep_in_place(folder, label, file, in_place, text),
+        Err(NotSaved::Failed(why)) => return Err(why),
+    };
+    match put_text(folder, label, old.as_ref(), ledger, text) {
+        Ok(put) => {
+            *in_place = None;
+            *named = Some(put.file);
+            if put.settled {
+                Ok(put.count)
+            } else {
+                Err(StoreError::Write)
+            }
+        }
+        Err(NotPut::Failed(why)) => Err(why),
+        Err(NotPut::Refused) => {
+            let file = old.map(|old| old.file);
+            keep_in_place(folder, label, file, in_place, text)
+        }
+    }
+}
+
+/// Writes the text in place, into the old file or a new one, and answers how many entries or games
+/// it tells.
+fn keep_in_place<F: Folder, X: Text>(
+    folder: &mut F,
+    label: &Label<'_>,
+    file: Option<F::File>,
+    in_place: &mut Option<F::InPlace>,
+    text: &X,
+) -> Result<u64, StoreError>
+    requires text { (bytes : List ℕ) × (count : ℕ) × X.is_text text.now bytes count }
+    requires book { F.ledger folder.old ≡ false }
+    requires untouched { IfSome file (λ f. IsUntouched (F.file f)) }
+    ensures kept { (bytes : List ℕ) × (count : ℕ) × X.is_text text.now bytes count
+        × WritesInPlace result bytes (option_map F.InPlace.state in_place.old)
+        (option_map F.InPlace.state in_place.new) (F.shelf folder.old) (F.shelf folder.new)
+        × IfOk result (λ n. n ≡ count) }
+    ensures ledger { F.ledger folder.new ≡ F.ledger folder.old }
+{
+    let Ok(room) = Vec::with_capacity(label.messages.rt.alloc(), BUFFER_LEN) else {
+        return Err(StoreError::Memory);
+    };
+    let file = open_in_place(folder, label, file)?;
+    let mut end = folder.in_place(file, room);
+    let written = text.write(&mut end);
+    *in_place = Some(end);
+    match written {
+        Ok(count) => Ok(count),
+        Err(fault) => Err(StoreError::from(fault)),
+    }
+}
+
+/// Opens the old file, or a new one, to be written in place.
+fn open_in_place<F: Folder>(
+    folder: &mut F,
+    label: &Label<'_>,
+    file: Option<F::File>,
+) -> Result<F::File, StoreError>
+    requires book { F.ledger folder.old ≡ false }
+    requires untouched { IfSome file (λ f. IsUntouched (F.file f)) }
+    ensures in_place { IfOk result (λ f. IsInPlace (F.file f)) }
+    ensures same { OnErr result (F.shelf folder.new ≡ F.shelf folder.old) }
+    ensures ledger { F.ledger folder.new ≡ F.ledger folder.old }
+{
+    let Some(mut old) = file else {
+        return match folder.create() {
+            Ok(new) => Ok(new),
+            Err(error) => Err(label.fail(Left::All, &error)),
+        };
+    };
+    match folder.empty(&mut old) {
+        Ok(()) => Ok(old),
+        Err(error) => Err(label.fail(Left::Old(label.part), &error)),
+    }
+}
