@@ -164,8 +164,8 @@ impl<J: JournalFile, const MODE: u8> Sink for JournalSink<J, MODE> {
     }
 }
 
-/// Writes what waits, and in the mode `SYNCED` puts all that is found on the disk. What the file has
-/// taken is noted, and what was handed on.
+/// Writes what waits, and in the mode `SYNCED` puts all that is found on the disk. It is noted what
+/// the file has taken, and what was handed on.
 fn hand_on<J: JournalFile, const MODE: u8>(
     file: &mut J,
     waiting: &mut Vec<u8>,

@@ -9,7 +9,7 @@ ghost use Rattle.pb_files.specs.Steps.{Steps};
 ghost use Rattle.pb_collecting.specs.Store.{KeepsText};
 
 use crate::desk::Desk;
-use crate::saving::{NotSaved, SavedFile, save_whole};
+use crate::saving::{NotSaved, save_whole};
 use pb_collecting::{Store, StoreError, Text};
 
 /// A file that is made anew whole where a draft can take its place, and is written in place where
@@ -117,19 +117,13 @@ impl<D: Desk> Store for KeptFile<D> {
             (D.state self.new.desk) }
     {
         match save_whole(&mut self.desk, text) {
-            Ok(
-                SavedFile {
-                    end,
-                    count,
-                    settled,
-                },
-            ) => {
+            Ok(saved) => {
                 self.in_place = None;
-                self.named = Some(end);
-                if !settled {
+                self.named = Some(saved.end);
+                if !saved.settled {
                     return self.answer(Err(StoreError::Write));
                 }
-                self.answer(Ok(count))
+                self.answer(Ok(saved.count))
             }
             Err(NotSaved::Failed(why)) => self.answer(Err(why)),
             Err(NotSaved::Refused) => self.write_in_place(text),
