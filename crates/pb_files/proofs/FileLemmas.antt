@@ -1,16 +1,14 @@
 -- Lemmas on the steps of a file that is added to, and on what they leave.
-use Rattle.std.proofs.Common.{◌||◌, ◌≡◌, ◌∙◌, ℕ, Bool, true, false, ◌+◌, ◌-◌, min, List, [], ◌++◌, Option, None, Some, Result, Ok, Err, IsErr, is_err, is_ok, if◌then◌else◌, length, take, drop, refl, rules, sym, ap, subst, append_assoc, append-nil, arith, take-append-drop}
+use Rattle.std.proofs.Common.{◌||◌, ◌≡◌, ◌∙◌, ℕ, Bool, true, false, ◌+◌, ◌-◌, min, List, [], ◌++◌, Option, None, Some, Ok, Err, length, take, drop, refl, rules, sym, ap, subst, append_assoc, append-nil, arith, take-append-drop}
 use Rattle.std.specs.Option.{ForSome, is_some}
-use Rattle.std.specs.Prelude.{IfSome, OnOk}
-use Rattle.std.specs.Io.KnownBytes.{Keeps}
+use Rattle.std.specs.Prelude.{IfSome}
 use Rattle.std.proofs.lemmas.List.{take-append-le, take_min, take_rest}
 use Rattle.std.proofs.Math.Seq.{take-add}
 use Rattle.pb_io.specs.Count.{next_count}
-use Rattle.pb_io.specs.Sink.{Flush, Lasts, SinkState}
-use Rattle.pb_io.specs.declared.fault.Fault.{Fault}
+use Rattle.pb_io.specs.Sink.{Flush, Lasts}
 use Rattle.pb_files.specs.Begins.{BeginsWith}
 use Rattle.pb_files.specs.Disk.{Adds, Disk, FileState, Grows, IsOnDisk, IsSound, Leaves, OutlivesCrash, StaysSound, Syncs, SyncsAll, on_disk}
-use Rattle.pb_files.specs.JournalSink.{EndState, HandsOn, bytes_lasting, bytes_put, sink_state}
+use Rattle.pb_files.specs.JournalSink.{EndState, WritesFront, bytes_lasting, bytes_put, sink_state}
 use Rattle.pb_files.specs.Steps.{Steps}
 
 -- no byte, and bytes in two steps
@@ -79,13 +77,6 @@ told_grows bytes None (Some new) adds = absurd adds
 told_grows bytes (Some old) None adds = absurd adds
 told_grows bytes (Some old) (Some new) adds = (bytes, adds)
 
--- what was written no longer waits
-pub told_bytes : (bytes rest waits : List ℕ) (old new : Option Disk) → bytes ++ rest ≡ waits → Steps (Adds bytes) old new → Keeps (bytes_put old waits) (bytes_put new rest)
-told_bytes bytes rest waits None new is adds = tt
-told_bytes bytes rest waits (Some old) None is adds = absurd adds
-told_bytes bytes rest waits (Some old) (Some new) is adds =
-    ap (λ f. f ++ rest) adds.found ∙ append_assoc old.found bytes rest ∙ ap (λ bs. old.found ++ bs) is
-
 -- where nothing was called clean that isn't on the disk, that stays so
 
 pub told_same : (told : Option Disk) → Steps StaysSound told told
@@ -139,60 +130,57 @@ told_on_disk_outlives (Some disk) on_disk = outlives disk (on_disk disk refl)
 
 -- ---- what lasts of a sink at the end of a file
 
-pub lasting_grows : (sync : Bool) (old new : Option Disk) → Steps Grows old new → Lasts (bytes_lasting sync old) (bytes_lasting sync new)
-lasting_grows sync None None grows = refl
-lasting_grows sync None (Some new) grows = absurd grows
-lasting_grows sync (Some old) None grows = absurd grows
-lasting_grows true (Some old) (Some new) grows = kept-first old new grows
-lasting_grows false (Some old) (Some new) (bytes, adds) = (bytes, adds.found)
+pub lasting_grows : (sync : Bool) (old new : Option Disk) (before more after : List ℕ) → after ≡ before ++ more → Steps Grows old new → Lasts (Some (bytes_lasting sync old before)) (Some (bytes_lasting sync new after))
+lasting_grows sync None None before more after is grows = (more, is)
+lasting_grows sync None (Some new) before more after is grows = absurd grows
+lasting_grows sync (Some old) None before more after is grows = absurd grows
+lasting_grows true (Some old) (Some new) before more after is grows = kept-first old new grows
+lasting_grows false (Some old) (Some new) before more after is (bytes, adds) = (bytes, adds.found)
 
-pub lasting_all : (sync : Bool) (told : Option Disk) → (sync ≡ true → ForSome told IsOnDisk) → bytes_lasting sync told ≡ bytes_put told []
-lasting_all sync None on_disk = refl
-lasting_all true (Some disk) on_disk = ap (λ (bytes : List ℕ). Some bytes) (on_disk refl disk refl ∙ sym (append-nil disk.found))
-lasting_all false (Some disk) on_disk = ap (λ (bytes : List ℕ). Some bytes) (sym (append-nil disk.found))
-
--- where what lasts is what was put, all of it lasts
-pub all_last : (lasting bytes : Option (List ℕ)) → lasting ≡ bytes → IfSome lasting (λ last. bytes ≡ Some last)
-all_last None bytes is = tt
-all_last (Some last) bytes is = sym is
-
--- what was written waits no more
-pub written_keeps : (waits bytes rest : List ℕ) (n : ℕ) (old new : Option Disk) → bytes ≡ waits → rest ≡ drop n waits → Steps (Adds (take n bytes)) old new → Keeps (bytes_put old waits) (bytes_put new rest)
-written_keeps waits bytes rest n old new is left added =
-    subst (λ (bs : List ℕ). Keeps (bytes_put old waits) (bytes_put new bs)) (sym left)
-    (told_bytes (take n waits) (drop n waits) waits old new (take-append-drop n waits) (subst (λ (bs : List ℕ). Steps (Adds (take n bs)) old new) is added))
+-- of a file that tells all lasts that is found, and of another all that it has taken
+pub lasting_all : (sync : Bool) (told : Option Disk) (taken handed_on : List ℕ) → handed_on ≡ taken → (sync ≡ true → ForSome told IsOnDisk) → bytes_put told taken [] ≡ bytes_lasting sync told handed_on
+lasting_all sync None taken handed_on is on_disk = append-nil taken ∙ sym is
+lasting_all true (Some disk) taken handed_on is on_disk = append-nil disk.found ∙ sym (on_disk refl disk refl)
+lasting_all false (Some disk) taken handed_on is on_disk = append-nil disk.found
 
 -- a sync adds no byte, whether it succeeds or not
 pub told_syncs : (mid new : Option Disk) → Steps Syncs mid new → Steps (Adds []) mid new
 told_syncs mid new syncs = told_sync [] mid mid new (told_none mid) syncs
 
-pub keeps_then : (waits rest : List ℕ) (old mid new : Option Disk) → Keeps (bytes_put old waits) (bytes_put mid rest) → Steps (Adds []) mid new → Keeps (bytes_put old waits) (bytes_put new rest)
-keeps_then waits rest None mid new keeps none = tt
-keeps_then waits rest (Some old) None new keeps none = absurd keeps
-keeps_then waits rest (Some old) (Some mid) None keeps none = absurd none
-keeps_then waits rest (Some old) (Some mid) (Some new) keeps none = ap (λ (f : List ℕ). f ++ rest) (none.found ∙ append-nil mid.found) ∙ keeps
+-- ---- a front of what waits
 
-pub grows_then : (old mid new : Option Disk) → Steps Grows old mid → Steps (Adds []) mid new → Steps Grows old new
-grows_then None None None grows none = tt
-grows_then None None (Some new) grows none = absurd none
-grows_then None (Some mid) new grows none = absurd grows
-grows_then (Some old) None new grows none = absurd grows
-grows_then (Some old) (Some mid) None grows none = absurd none
-grows_then (Some old) (Some mid) (Some new) (bytes, adds) none = (bytes, adds-then bytes [] bytes old mid new (append-nil bytes) adds none)
-
--- a flush that failed
-pub flush_failed : {E : Type 0} (old new : SinkState) (answer : Result (Unit {0}) E) → IsErr answer → Keeps old.bytes new.bytes → Lasts old.lasting new.lasting
-    → new.failed ≡ true → new.flushed ≡ false → new.flushes ≡ old.flushes → Flush old new answer
-flush_failed old new (Ok v) failing bytes lasts failed flushed flushes = let bad : false ≡ true = failing in cc
-flush_failed old new (Err e) failing bytes lasts failed flushed flushes = record {
-  bytes = bytes;
-  lasts = lasts;
-  all_lasts = tt;
-  failed = failed;
-  stays_failed = λ _. refl;
-  flushed = flushed;
-  flushes = flushes;
+-- it was added, and then no byte
+pub writes_front : (waits rest bytes : List ℕ) (n : ℕ) (old mid new : Option Disk) → bytes ≡ waits → rest ≡ drop n waits → Steps (Adds (take n bytes)) old mid → Steps (Adds []) mid new
+    → WritesFront old new waits rest
+writes_front waits rest bytes n old mid new is left added same = record {
+  front = take n waits;
+  is_front = ap (λ bs. take n waits ++ bs) left ∙ take-append-drop n waits;
+  adds = subst (λ (bs : List ℕ). Steps (Adds (take n bs)) old new) is (told_failed (take n bytes) old mid new added same);
 }
+
+-- it was taken
+pub front_taken : (waits rest bytes taken taken' : List ℕ) (n : ℕ) → bytes ≡ waits → rest ≡ drop n waits → taken' ≡ taken ++ take n bytes → taken' ++ rest ≡ taken ++ waits
+front_taken waits rest bytes taken taken' n is left takes =
+    ap (λ bs. bs ++ rest) takes ∙ append_assoc taken (take n bytes) rest ∙ ap (λ bs. taken ++ (take n bs ++ rest)) is
+    ∙ ap (λ bs. taken ++ (take n waits ++ bs)) left ∙ ap (λ bs. taken ++ bs) (take-append-drop n waits)
+
+-- what was put stays
+pub front_keeps : (taken taken' waits rest : List ℕ) (old new : Option Disk) → WritesFront old new waits rest → taken' ++ rest ≡ taken ++ waits → bytes_put new taken' rest ≡ bytes_put old taken waits
+front_keeps taken taken' waits rest None None writes takes = takes
+front_keeps taken taken' waits rest None (Some new) writes takes = absurd writes.adds
+front_keeps taken taken' waits rest (Some old) None writes takes = absurd writes.adds
+front_keeps taken taken' waits rest (Some old) (Some new) writes takes =
+    ap (λ f. f ++ rest) writes.adds.found ∙ append_assoc old.found writes.front rest ∙ ap (λ bs. old.found ++ bs) writes.is_front
+
+pub front_grows : (waits rest : List ℕ) (old new : Option Disk) → WritesFront old new waits rest → Steps Grows old new
+front_grows waits rest old new writes = told_grows writes.front old new writes.adds
+
+-- where all was handed on that was taken, and then all that waits was, it is so again
+pub all_handed_on : (taken taken' handed_on handed_on' waits rest : List ℕ) → handed_on ≡ taken → handed_on' ≡ handed_on ++ waits → rest ≡ [] → taken' ++ rest ≡ taken ++ waits → handed_on' ≡ taken'
+all_handed_on taken taken' handed_on handed_on' waits rest all hands none takes =
+    hands ∙ ap (λ bs. bs ++ waits) all ∙ sym takes ∙ ap (λ bs. taken' ++ bs) none ∙ append-nil taken'
+
+-- ---- a flush
 
 -- a sink that wanted no memory has failed just where its file has
 pub fails_with_file : (no_memory old new failed : Bool) → no_memory || old ≡ false → new ≡ failed → no_memory || new ≡ failed
@@ -200,54 +188,37 @@ fails_with_file false old new failed worked is = is
 fails_with_file true old new failed worked is = let no : true ≡ false = worked in cc
 
 -- a flush of a sink at the end of a file, by what it did there
-pub flushed_end : {E : Type 0} (sync : Bool) (old new : EndState) (answer : Result (Unit {0}) E) → Keeps (bytes_put old.told old.waits) (bytes_put new.told new.waits)
-    → Steps Grows old.told new.told → OnOk answer (new.waits ≡ []) → OnOk answer (sync ≡ true → ForSome new.told IsOnDisk) → old.failed ≡ false → new.failed ≡ is_err answer
-    → new.flushed ≡ is_ok answer → new.flushes ≡ (if is_ok answer then next_count old.flushes else old.flushes) → Flush (sink_state sync old) (sink_state sync new) answer
-flushed_end sync old new (Ok v) bytes grows none on_disk worked failed flushed flushes = record {
-  bytes = bytes;
-  lasts = lasting_grows sync old.told new.told grows;
-  all_lasts = all_last _ _ (lasting_all sync new.told on_disk ∙ ap (bytes_put new.told) (sym none));
-  failed = failed;
-  stays_failed = λ was. let bad : false ≡ true = sym worked ∙ was in cc;
-  flushed = flushed;
-  flushes = flushes;
-}
-flushed_end sync old new (Err e) bytes grows none on_disk worked failed flushed flushes =
-    flush_failed _ _ (Err e) refl bytes (lasting_grows sync old.told new.told grows) failed flushed flushes
+module _ (sync : Bool) (old new : EndState) (writes : WritesFront old.told new.told old.waits new.waits) (takes : new.taken ++ new.waits ≡ old.taken ++ old.waits) (worked : old.failed ≡ false) where
+  put_stays : bytes_put new.told new.taken new.waits ≡ bytes_put old.told old.taken old.waits
+  put_stays = front_keeps old.taken new.taken old.waits new.waits old.told new.told writes takes
 
--- what waited is written, and then it is synced
+  grows : Steps Grows old.told new.told
+  grows = front_grows old.waits new.waits old.told new.told writes
 
-pub hands_on_written : {E : Type 0} (sync : Bool) (old new : FileState) (waits rest : List ℕ) → sync ≡ false → Keeps (bytes_put old.told waits) (bytes_put new.told rest)
-    → Steps Grows old.told new.told → rest ≡ [] → new.fault ≡ None → HandsOn {E = E} sync old new waits rest (Ok tt)
-hands_on_written sync old new waits rest written bytes grows none works = record {
-  bytes = bytes;
-  grows = grows;
-  none = none;
-  on_disk = λ synced disk is. let bad : true ≡ false = sym synced ∙ written in cc;
-  fault = ap (λ (f : Option Fault). is_some f) works;
-  sound = λ synced _ disk is. let bad : true ≡ false = sym synced ∙ written in cc;
-}
+  pub flush_done : {E : Type 0} → old.handed_on ≡ old.taken → new.waits ≡ [] → new.handed_on ≡ old.handed_on ++ old.waits → (sync ≡ true → ForSome new.told IsOnDisk) → new.failed ≡ false → new.flushed ≡ true
+      → new.flushes ≡ next_count old.flushes → Flush {E = E} (sink_state sync old) (sink_state sync new) (Ok tt)
+  flush_done all none hands on_disk works flushed flushes =
+      let is = all_handed_on old.taken new.taken old.handed_on new.handed_on old.waits new.waits all hands none takes in record {
+        bytes = put_stays;
+        lasts = lasting_grows sync old.told new.told old.handed_on old.waits new.handed_on hands grows;
+        all_lasts = ap (λ bs. Some bs) (ap (bytes_put new.told new.taken) none ∙ lasting_all sync new.told new.taken new.handed_on is on_disk);
+        failed = works;
+        stays_failed = λ was. let bad : false ≡ true = sym worked ∙ was in cc;
+        flushed = flushed;
+        flushes = flushes;
+      }
 
-pub hands_on_synced : {E : Type 0} (sync : Bool) (old mid new : FileState) (waits rest : List ℕ) → SyncsAll sync old → old.fault ≡ None → sync ≡ true → Keeps (bytes_put old.told waits) (bytes_put mid.told rest)
-    → Steps Grows old.told mid.told → rest ≡ [] → Steps StaysSound old.told mid.told → Steps Syncs mid.told new.told → new.fault ≡ None → HandsOn {E = E} sync old new waits rest (Ok tt)
-hands_on_synced sync old mid new waits rest were works synced bytes grows none stays syncs fault =
-    let adds : Steps (Adds []) mid.told new.told = told_syncs mid.told new.told syncs in
-    let sound : ForSome mid.told IsSound = told_sound old.told mid.told stays (were synced works) in record {
-      bytes = keeps_then waits rest old.told mid.told new.told bytes adds;
-      grows = grows_then old.told mid.told new.told grows adds;
-      none = none;
-      on_disk = λ _. told_on_disk mid.told new.told sound syncs;
-      fault = ap (λ (f : Option Fault). is_some f) fault;
-      sound = λ _ _. told_synced mid.told new.told syncs sound;
-    }
+  pub flush_failed : {E : Type 0} (why : E) → new.handed_on ≡ old.handed_on → new.failed ≡ true → new.flushed ≡ false → new.flushes ≡ old.flushes → Flush (sink_state sync old) (sink_state sync new) (Err why)
+  flush_failed why hands failed flushed flushes = record {
+    bytes = put_stays;
+    lasts = lasting_grows sync old.told new.told old.handed_on [] new.handed_on (hands ∙ sym (append-nil old.handed_on)) grows;
+    all_lasts = tt;
+    failed = failed;
+    stays_failed = λ _. refl;
+    flushed = flushed;
+    flushes = flushes;
+  }
 
-pub hands_on_failed : {E : Type 0} (sync : Bool) (old mid new : FileState) (waits rest : List ℕ) (why : E) → Keeps (bytes_put old.told waits) (bytes_put mid.told rest)
-    → Steps Grows old.told mid.told → Steps (Adds []) mid.told new.told → is_some new.fault ≡ true → HandsOn sync old new waits rest (Err why)
-hands_on_failed sync old mid new waits rest why bytes grows adds failed = record {
-  bytes = keeps_then waits rest old.told mid.told new.told bytes adds;
-  grows = grows_then old.told mid.told new.told grows adds;
-  none = tt;
-  on_disk = tt;
-  fault = failed;
-  sound = λ synced works disk is. let bad : false ≡ true = sym (ap (λ (f : Option Fault). is_some f) works) ∙ failed in cc;
-}
+-- what is sound after a write, while the file works
+pub sound_after : (sync : Bool) (old mid : FileState) → SyncsAll sync old → old.fault ≡ None → (mid.fault ≡ None → Steps StaysSound old.told mid.told) → SyncsAll sync mid
+sound_after sync old mid were works stays synced works' = told_sound old.told mid.told (stays works') (were synced works)

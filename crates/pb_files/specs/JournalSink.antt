@@ -1,16 +1,19 @@
 -- What is known of a sink at the end of a journal's file.
 use Rattle.std.specs.Prelude.{◌≡◌, ◌==◌, Bool, false, true, List, [], ℕ, ◌++◌}
-use Rattle.std.specs.Prelude.{Option, None, Some, IfSome, Result, OnOk, is_err, is_some}
+use Rattle.std.specs.Prelude.{Option, None, Some, IfSome, Result, OnErr, OnOk, is_err, is_some}
 use Rattle.std.specs.Option.{ForSome}
-use Rattle.std.specs.Io.KnownBytes.{Keeps}
 use Rattle.pb_io.specs.Sink.{SinkState}
-use Rattle.pb_files.specs.Disk.{Disk, FileState, Grows, IsOnDisk, OutlivesCrash, SyncsAll, on_disk}
+use Rattle.pb_files.specs.Disk.{Adds, Disk, FileState, Grows, IsOnDisk, OutlivesCrash, SyncsAll}
+use Rattle.pb_files.specs.Disk.{on_disk}
 use Rattle.pb_files.specs.Steps.{Steps}
 
--- The disk, where the file tells of it; the bytes that wait to be written; and what else a sink
--- tells.
+-- The disk, where the file tells of it; the bytes that the file has taken of this sink, of these
+-- those that flushes that succeeded have handed on, and those that wait to be written; and what
+-- else a sink tells.
 pub record EndState : Type 0 where
   pub told : Option Disk
+  pub taken : List ℕ
+  pub handed_on : List ℕ
   pub waits : List ℕ
   pub failed : Bool
   pub flushed : Bool
@@ -20,23 +23,24 @@ pub record EndState : Type 0 where
 abbrev pub syncs : ℕ → Bool
 syncs mode = mode == 1
 
--- what was put: what a reader finds, and then what waits
-abbrev pub bytes_put : Option Disk → List ℕ → Option (List ℕ)
-bytes_put None waits = None
-bytes_put (Some disk) waits = Some (disk.found ++ waits)
+-- what was put: what a reader finds, or of a file that tells nothing what it has taken, and then
+-- what waits
+abbrev pub bytes_put : Option Disk → List ℕ → List ℕ → List ℕ
+bytes_put None taken waits = taken ++ waits
+bytes_put (Some disk) taken waits = disk.found ++ waits
 
 -- what lasts of it: where a flush syncs what is on the disk, which a crash leaves, and else what a
--- reader finds, which a kill leaves
-abbrev pub bytes_lasting : Bool → Option Disk → Option (List ℕ)
-bytes_lasting sync None = None
-bytes_lasting true (Some disk) = Some (on_disk disk)
-bytes_lasting false (Some disk) = Some disk.found
+-- reader finds, which a kill leaves; of a file that tells nothing what was handed on
+abbrev pub bytes_lasting : Bool → Option Disk → List ℕ → List ℕ
+bytes_lasting sync None handed_on = handed_on
+bytes_lasting true (Some disk) handed_on = on_disk disk
+bytes_lasting false (Some disk) handed_on = disk.found
 
 -- the end as a sink
 abbrev pub sink_state : Bool → EndState → SinkState
 sink_state sync end = record {
-  bytes = bytes_put end.told end.waits;
-  lasting = bytes_lasting sync end.told;
+  bytes = Some (bytes_put end.told end.taken end.waits);
+  lasting = Some (bytes_lasting sync end.told end.handed_on);
   failed = end.failed;
   flushed = end.flushed;
   flushes = end.flushes;
@@ -45,6 +49,8 @@ sink_state sync end = record {
 -- A put adds nothing to the file.
 pub record PutAtEnd (old new : EndState) : Type 0 where
   pub told : new.told ≡ old.told
+  pub taken : new.taken ≡ old.taken
+  pub handed_on : new.handed_on ≡ old.handed_on
 
 -- A flush writes all that waits, and with sync each crash from then on leaves it, whatever is added
 -- later.
@@ -52,15 +58,25 @@ pub record FlushAtEnd {E : Type 0} (sync : Bool) (old new : EndState)
     (answer : Result (Unit {0}) E) : Type 0 where
   pub found : OnOk answer (new.waits ≡ [])
   pub outlives : OnOk answer (sync ≡ true → IfSome new.told OutlivesCrash)
+  -- the file takes a front of what waits, and the rest waits on
+  pub takes : new.taken ++ new.waits ≡ old.taken ++ old.waits
+  -- what waited is handed on, all or nothing
+  pub hands_on : OnOk answer (new.handed_on ≡ old.handed_on ++ old.waits)
+  pub hands_none : OnErr answer (new.handed_on ≡ old.handed_on)
   -- what was found stays, and what was on the disk
   pub grows : Steps Grows old.told new.told
+
+-- The file gets a front of what waits, and the rest waits on.
+pub record WritesFront (old new : Option Disk) (waits rest : List ℕ) : Type 0 where
+  pub front : List ℕ
+  pub is_front : front ++ rest ≡ waits
+  pub adds : Steps (Adds front) old new
 
 -- What waits is written, and with sync all that is found is on the disk, or the file has met a
 -- fault, and the rest waits on.
 pub record HandsOn {E : Type 0} (sync : Bool) (old new : FileState) (waits rest : List ℕ)
     (answer : Result (Unit {0}) E) : Type 0 where
-  pub bytes : Keeps (bytes_put old.told waits) (bytes_put new.told rest)
-  pub grows : Steps Grows old.told new.told
+  pub writes : WritesFront old.told new.told waits rest
   pub none : OnOk answer (rest ≡ [])
   pub on_disk : OnOk answer (sync ≡ true → ForSome new.told IsOnDisk)
   pub fault : is_some new.fault ≡ is_err answer

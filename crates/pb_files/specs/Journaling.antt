@@ -1,5 +1,5 @@
 -- What is left of a journal's file once a run has ended, and whatever comes then.
-use Rattle.std.specs.Prelude.{◌≡◌, Bool, true, false, List, [], ◌++◌, ℕ, Some}
+use Rattle.std.specs.Prelude.{◌≡◌, Bool, true, false, List, [], ◌++◌, ℕ, IfSome, None, Some}
 use Rattle.pb_io.specs.Source.{SourceState}
 use Rattle.pb_collecting.specs.Ends.{Change, EndStates, JournalStates, between}
 use Rattle.pb_collecting.specs.JournalHeadline.{HoldsAnswered}
@@ -29,12 +29,24 @@ MayBeLeft true disk left = Leaves disk left
 MayBeLeft false disk left = left ≡ disk.found
 
 -- Whatever is added later, what may be left then begins with the journal as it was and what it
--- gained: this holds each game that a reply calls `ok`.
+-- gained, where the file tells what it holds: this holds each game that a reply calls `ok`.
 pub record LeavesAnswered (sync : Bool) (before : Disk) (end : EndState)
     (e : EndStates) : Type 0 where
-  pub disk : Disk
-  pub told : end.told ≡ Some disk
   pub gained : List ℕ
   pub holds : HoldsAnswered (before.found ++ gained) e
-  pub first : (later : Disk) → Grows disk later → (left : List ℕ) → MayBeLeft sync later left
-      → BeginsWith left (before.found ++ gained)
+  pub first : IfSome end.told (λ disk. (later : Disk) → Grows disk later → (left : List ℕ)
+      → MayBeLeft sync later left → BeginsWith left (before.found ++ gained))
+
+-- The end of a file that tells nothing, where nothing was put yet.
+pub record BeginsUntold (end : EndState) : Type 0 where
+  pub told : end.told ≡ None
+  pub taken : end.taken ≡ []
+  pub handed_on : end.handed_on ≡ []
+  pub waits : end.waits ≡ []
+
+-- What flushes that succeeded handed on to a file that tells nothing begins with what the journal
+-- gained. Behind what was read of the journal this holds each game that a reply calls `ok`.
+pub record HandsOnAnswered (kept : List ℕ) (end : EndState) (e : EndStates) : Type 0 where
+  pub gained : List ℕ
+  pub holds : HoldsAnswered (kept ++ gained) e
+  pub first : end.told ≡ None → BeginsWith end.handed_on gained

@@ -7,7 +7,8 @@ use Rattle.pb_files.specs.declared.desk.NotMade.{NotMade}
 use Rattle.pb_files.specs.declared.desk.NotMade.TheVariants as made
 use Rattle.pb_collecting.specs.declared.store.StoreError.TheVariants.{Open}
 use Rattle.pb_files.specs.declared.saving.NotSaved.{NotSaved}
-use Rattle.pb_files.specs.declared.saving.NotSaved.TheVariants.{Refused, Failed, Unsettled}
+use Rattle.pb_files.specs.declared.saving.NotSaved.TheVariants.{Refused, Failed}
+use Rattle.pb_files.specs.declared.saving.SavedFile.{SavedFile}
 
 -- A reader finds these bytes, and a crash leaves them from now on. Up to now it left these bytes,
 -- or what it would have left before.
@@ -17,14 +18,18 @@ pub record Saved (bytes : List ℕ) (old new : Shelf) : Type 0 where
   pub left : new.left ≡ old.left ++ Some bytes ∷ []
   pub torn : new.torn ≡ old.torn
 
--- How making the file anew of these bytes ends: they are there, for each crash from now on too;
--- they are there, and a crash may undo it; or the old file is there. At each moment a crash leaves
--- the old file or these bytes.
-abbrev pub Saves : {E : Type 0} → List ℕ → Option Shelf → Option Shelf → Result E NotSaved → Type 0
-Saves bytes old new (Ok end) = Steps (Saved bytes) old new
-Saves bytes old new (Err Unsettled) = Steps (Names (Some bytes)) old new
-Saves bytes old new (Err (Failed why)) = Steps (NamesNot (Some bytes)) old new
-Saves bytes old new (Err Refused) = Steps (NamesNot (Some bytes)) old new
+-- These bytes are there. Where the folder was put on the disk they are so for each crash from now
+-- on too, and else a crash may undo it.
+abbrev pub IsNew : Bool → List ℕ → Shelf → Shelf → Type 0
+IsNew true bytes old new = Saved bytes old new
+IsNew false bytes old new = Names (Some bytes) old new
+
+-- How making the file anew of these bytes ends: they are there, or the old file is. At each moment
+-- a crash leaves the old file or these bytes.
+abbrev pub Saves : {E : Type 0} → List ℕ → Option Shelf → Option Shelf
+    → Result (SavedFile E) NotSaved → Type 0
+Saves bytes old new (Ok saved) = Steps (IsNew saved.settled bytes) old new
+Saves bytes old new (Err why) = Steps (NamesNot (Some bytes)) old new
 
 -- A crash at any moment so far left these bytes, or what it would have left before.
 abbrev pub OldOrNew : List ℕ → Option Shelf → Option Shelf → Type 0
@@ -35,14 +40,6 @@ abbrev pub is_refused : {E : Type 0} → Result E NotSaved → Bool
 is_refused (Ok end) = false
 is_refused (Err Refused) = true
 is_refused (Err (Failed why)) = false
-is_refused (Err Unsettled) = false
-
--- whether the folder couldn't be put on the disk
-abbrev pub is_unsettled : {E : Type 0} → Result E NotSaved → Bool
-is_unsettled (Ok end) = false
-is_unsettled (Err Refused) = false
-is_unsettled (Err (Failed why)) = false
-is_unsettled (Err Unsettled) = true
 
 -- what it is to the saving that there is no draft
 abbrev pub not_saved : NotMade → NotSaved

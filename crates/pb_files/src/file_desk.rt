@@ -11,7 +11,7 @@ use crate::ledger_file::LedgerFile;
 use crate::one_file::{INPUT, OUTPUT, is_one_file, leads_to, tell_of_one};
 use crate::place::Place;
 use crate::saving::new_draft;
-use pb_collecting::StoreError;
+use pb_collecting::{Store, StoreError};
 use pb_io::{Sink, ToWrite};
 use pb_messages::{Cause, Left, Message, Messages, Named, Part, Unreplaceable};
 use std::fs::{self, File, Metadata, OpenOptions, TryLockError};
@@ -65,7 +65,10 @@ impl<'a, 'f> FileDesk<'a, 'f> {
         messages: Messages<'a>,
         path: &'a str,
         read: Option<&'f LedgerFile<'a>>,
-    ) -> Result<KeptFile<FileDesk<'a, 'f>>, StoreError> {
+    ) -> Result<KeptFile<FileDesk<'a, 'f>>, StoreError>
+        ensures { IfOk result (λ store. ⟦<KeptFile<FileDesk<'a, 'f>> as Store>⟧.state store
+            ≡ record { handed = None; fault = None }) }
+    {
         let mut desk = FileDesk {
             messages,
             part: if read.is_some() {

@@ -1,10 +1,11 @@
 //! How files of the system are opened.
 
-ghost use Rattle.std.specs.Prelude.{⊤};
+ghost use Rattle.std.specs.Prelude.{◌≡◌, IfOk, None, ⊤};
 
 use crate::file_journal::FileJournal;
 use crate::held_file::HeldFile;
 use crate::holding::{Lock, Opener, hold};
+use crate::journal_file::JournalFile;
 use crate::journal_guard::JournalGuard;
 use crate::ledger_file::LedgerFile;
 use crate::one_file::tell_of_one;
@@ -80,7 +81,10 @@ pub fn start_journal<'g, 'a>(
     named: Named<'a>,
     guard: &'g JournalGuard<'a>,
     sync: bool,
-) -> Result<Started<FileJournal<'g, 'a>>, Stop> {
+) -> Result<Started<FileJournal<'g, 'a>>, Stop>
+    ensures { IfOk result (λ started. ⟦<FileJournal<'g, 'a> as JournalFile>⟧.state started.journal
+        ≡ record { told = None; fault = None }) }
+{
     let mut opener = FileOpener {
         named,
         part: Part::Journal,

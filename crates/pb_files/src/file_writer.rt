@@ -39,7 +39,9 @@ impl<'a> FileWriter<'a> {
     }
 }
 
-impl Write for FileWriter<'_> {
+impl<'a> Write for FileWriter<'a> {
+    ghost contents = { λ w. ⟦<BufWriter<Told<'a, File>> as Write>⟧.contents w.file };
+
     fn write(&mut self, bytes: &[u8]) -> io::Result<usize> {
         self.file.write(bytes)
     }

@@ -1,5 +1,7 @@
 //! The journal that replies speak of, and the output that they go to.
 
+ghost use Rattle.std.specs.Prelude.{◌≡◌};
+
 use crate::held_file::HeldFile;
 use std::cell::RefCell;
 use std::io::{self, ErrorKind, Write};
@@ -52,7 +54,9 @@ pub struct Guarded<'g, 'a, W> {
 
 impl<'g, 'a, W: Write> Guarded<'g, 'a, W> {
     /// The writer, of replies that speak of this journal.
-    pub fn new(writer: W, guard: &'g JournalGuard<'a>) -> Guarded<'g, 'a, W> {
+    pub fn new(writer: W, guard: &'g JournalGuard<'a>) -> Guarded<'g, 'a, W>
+        ensures { ⟦<Guarded<'g, 'a, W> as Write>⟧.contents result ≡ W.contents writer }
+    {
         Guarded {
             writer,
             guard,
@@ -62,7 +66,9 @@ impl<'g, 'a, W: Write> Guarded<'g, 'a, W> {
     }
 
     /// Looks whether the journal is kept.
-    fn look(&mut self) -> io::Result<()> {
+    fn look(&mut self) -> io::Result<()>
+        ensures { self.new.writer ≡ self.old.writer }
+    {
         self.failed = self.failed || !self.guard.is_kept();
         self.has_looked = true;
         if self.failed {
@@ -73,6 +79,8 @@ impl<'g, 'a, W: Write> Guarded<'g, 'a, W> {
 }
 
 impl<W: Write> Write for Guarded<'_, '_, W> {
+    ghost contents = { λ g. W.contents g.writer };
+
     fn write(&mut self, bytes: &[u8]) -> io::Result<usize> {
         self.look()?;
         self.writer.write(bytes)

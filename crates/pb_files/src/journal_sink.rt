@@ -1,18 +1,16 @@
 //! The end of a journal's file, as a sink.
 
-ghost use Rattle.std.specs.Prelude.{◌≡◌, ◌≤◌, IfOk, IfSome, None, [], drop, false, length, take};
-ghost use Rattle.std.specs.Prelude.{true};
-ghost use Rattle.std.specs.Option.{is_some};
-ghost use Rattle.std.specs.Io.KnownBytes.{Keeps};
+ghost use Rattle.std.specs.Prelude.{◌≡◌, ◌≤◌, ◌++◌, IfOk, IfSome, None, OnErr, OnOk, [], drop};
+ghost use Rattle.std.specs.Prelude.{false, is_err, length, take, true};
+ghost use Rattle.std.specs.Option.{ForSome, is_some};
 ghost use Rattle.pb_io.specs.Sink.{Flush, Put};
-ghost use Rattle.pb_files.specs.Disk.{Adds, Grows, OutlivesCrash, StaysSound, SyncsAll};
-ghost use Rattle.pb_files.specs.JournalSink.{FlushAtEnd, HandsOn, PutAtEnd, bytes_put};
-ghost use Rattle.pb_files.specs.JournalSink.{sink_state, syncs};
+ghost use Rattle.pb_files.specs.Disk.{Adds, IsOnDisk, OutlivesCrash, StaysSound, SyncsAll};
+ghost use Rattle.pb_files.specs.JournalSink.{FlushAtEnd, HandsOn, PutAtEnd, sink_state, syncs};
 ghost use Rattle.pb_files.specs.Steps.{Steps};
 
 use crate::file_writer::BUFFER_LEN;
 use crate::journal_file::JournalFile;
-use pb_io::{Failed, Sink};
+use pb_io::{Failed, History, Sink};
 use std::alloc::{AllocError, Global};
 use std::marker::Model;
 
@@ -23,18 +21,22 @@ pub const WRITTEN: u8 = 0;
 pub const SYNCED: u8 = 1;
 
 /// The end of a file that this run holds. What is put waits until it is flushed: then it is
-/// written, at once where the file takes all, and in the mode `SYNCED` it is on the disk.
+/// written, at once where the file takes all, and in the mode `SYNCED` it is on the disk. Contracts
+/// know what the file has taken, and what was handed on, whether or not it tells what it holds.
 #[derive(Drop)]
 pub struct JournalSink<J: JournalFile, const MODE: u8> {
     file: J,
     waiting: Vec<u8>,
+    // What the file has taken, and what of it flushes that succeeded have handed on.
+    taken: History,
+    handed_on: History,
     no_memory: bool,
     flushed: bool,
     flushes: u64,
 }
 
 impl<J: JournalFile, const MODE: u8> Model for JournalSink<J, MODE> {
-    ghost use Rattle.std.specs.Prelude.{◌≡◌, ◌||◌, [], true};
+    ghost use Rattle.std.specs.Prelude.{◌≡◌, ◌||◌, None, [], true};
     ghost use Rattle.std.specs.Option.{ForSome, is_some};
     ghost use Rattle.pb_files.specs.Disk.{IsOnDisk, SyncsAll};
     ghost use Rattle.pb_files.specs.JournalSink.{EndState, syncs};
@@ -43,6 +45,8 @@ impl<J: JournalFile, const MODE: u8> Model for JournalSink<J, MODE> {
 
     ghost view = { λ s. record {
       told = (J.state s.file).told;
+      taken = s.taken.bytes;
+      handed_on = s.handed_on.bytes;
       waits = s.waiting.items;
       failed = s.no_memory || is_some (J.state s.file).fault;
       flushed = s.flushed;
@@ -50,6 +54,8 @@ impl<J: JournalFile, const MODE: u8> Model for JournalSink<J, MODE> {
     } };
 
     ghost invariant = { λ s. (s.flushed ≡ true → s.waiting.items ≡ [])
+        × (s.flushed ≡ true → s.handed_on.bytes ≡ s.taken.bytes)
+        × ((J.state s.file).fault ≡ None → s.handed_on.bytes ≡ s.taken.bytes)
         × (s.flushed ≡ true → syncs MODE ≡ true → ForSome (J.state s.file).told IsOnDisk)
         × SyncsAll (syncs MODE) (J.state s.file) };
 }
@@ -66,6 +72,8 @@ impl<J: JournalFile + Drop, const MODE: u8> JournalSink<J, MODE> {
         ensures { IfOk result (λ end. end
             ≡ record {
               told = (J.state file).told;
+              taken = [];
+              handed_on = [];
               waits = [];
               failed = is_some (J.state file).fault;
               flushed = false;
@@ -76,6 +84,8 @@ impl<J: JournalFile + Drop, const MODE: u8> JournalSink<J, MODE> {
         Ok(JournalSink {
             file,
             waiting,
+            taken: History::new(),
+            handed_on: History::new(),
             no_memory: false,
             flushed: false,
             flushes: 0,
@@ -88,6 +98,7 @@ impl<J: JournalFile + Drop, const MODE: u8> JournalSink<J, MODE> {
     pub fn handed_on(&self) -> bool
         ensures flushed { result ≡ self.now.flushed }
         ensures found { result ≡ true → self.now.waits ≡ [] }
+        ensures all { result ≡ true → self.now.handed_on ≡ self.now.taken }
         ensures outlives { result ≡ true → syncs MODE ≡ true
             → IfSome self.now.told OutlivesCrash }
     {
@@ -123,7 +134,7 @@ impl<J: JournalFile, const MODE: u8> Sink for JournalSink<J, MODE> {
         }
     }
 
-    #[tactic(auto, using(crate::proofs::FileLemmas::flushed_end, crate::proofs::FileLemmas::told_on_disk_outlives))]
+    #[tactic(auto, using(crate::proofs::FileLemmas::front_grows, crate::proofs::FileLemmas::told_on_disk_outlives))]
     fn flush(&mut self) -> Result<(), Failed>
         ensures flush { Flush (sink_state (syncs MODE) self.old) (sink_state (syncs MODE) self.new)
             result }
@@ -133,7 +144,12 @@ impl<J: JournalFile, const MODE: u8> Sink for JournalSink<J, MODE> {
         if self.failed() {
             return Err(Failed);
         }
-        match hand_on::<J, MODE>(&mut self.file, &mut self.waiting) {
+        match hand_on::<J, MODE>(
+            &mut self.file,
+            &mut self.waiting,
+            &mut self.taken,
+            &mut self.handed_on,
+        ) {
             Ok(()) => {
                 self.flushed = true;
                 self.flushes = self.flushes.saturating_add(1);
@@ -148,18 +164,49 @@ impl<J: JournalFile, const MODE: u8> Sink for JournalSink<J, MODE> {
     }
 }
 
-/// Writes what waits, and in the mode `SYNCED` puts all that is found on the disk.
-#[tactic(auto, using(crate::proofs::FileLemmas::hands_on_synced, crate::proofs::FileLemmas::hands_on_failed, crate::proofs::FileLemmas::hands_on_written, crate::proofs::FileLemmas::told_none))]
+/// Writes what waits, and in the mode `SYNCED` puts all that is found on the disk. It is noted what
+/// the file has taken, and what was handed on.
 fn hand_on<J: JournalFile, const MODE: u8>(
     file: &mut J,
     waiting: &mut Vec<u8>,
+    taken: &mut History,
+    handed_on: &mut History,
 ) -> Result<(), Failed>
     requires works { (J.state file.old).fault ≡ None }
     requires sound { SyncsAll (syncs MODE) (J.state file.old) }
     ensures ends { HandsOn (syncs MODE) (J.state file.old) (J.state file.new) waiting.old.items
         waiting.new.items result }
+    ensures taken { taken.new.bytes ++ waiting.new.items ≡ taken.old.bytes ++ waiting.old.items }
+    ensures handed_on { OnOk result
+        (handed_on.new.bytes ≡ handed_on.old.bytes ++ waiting.old.items) }
+    ensures not_handed_on { OnErr result (handed_on.new ≡ handed_on.old) }
 {
-    write_out(file, waiting);
+    let bytes = waiting.as_slice();
+    let written = write_all(file, bytes);
+    taken.add(&bytes[..written]);
+    match settle::<J, MODE>(file) {
+        Ok(()) => {
+            handed_on.add(bytes);
+            waiting.clear();
+            Ok(())
+        }
+        Err(failed) => {
+            remove_front(waiting, written);
+            Err(failed)
+        }
+    }
+}
+
+/// Puts all that is found on the disk in the mode `SYNCED`, unless the file has failed.
+#[tactic(auto, using(crate::proofs::FileLemmas::told_none, crate::proofs::FileLemmas::told_syncs, crate::proofs::FileLemmas::told_on_disk, crate::proofs::FileLemmas::told_synced))]
+fn settle<J: JournalFile, const MODE: u8>(file: &mut J) -> Result<(), Failed>
+    requires { SyncsAll (syncs MODE) (J.state file.old) }
+    ensures fault { is_some (J.state file.new).fault ≡ is_err result }
+    ensures worked { OnOk result ((J.state file.old).fault ≡ None) }
+    ensures same { Steps (Adds []) (J.state file.old).told (J.state file.new).told }
+    ensures on_disk { OnOk result (syncs MODE ≡ true → ForSome (J.state file.new).told IsOnDisk) }
+    ensures sound { SyncsAll (syncs MODE) (J.state file.new) }
+{
     if file.failed() {
         return Err(Failed);
     }
@@ -170,20 +217,6 @@ fn hand_on<J: JournalFile, const MODE: u8>(
         Ok(()) => Ok(()),
         Err(_) => Err(Failed),
     }
-}
-
-/// Writes what waits, or as much of it as the file takes before it fails.
-fn write_out<J: JournalFile>(file: &mut J, waiting: &mut Vec<u8>)
-    requires { (J.state file.old).fault ≡ None }
-    ensures bytes { Keeps (bytes_put (J.state file.old).told waiting.old.items)
-        (bytes_put (J.state file.new).told waiting.new.items) }
-    ensures grows { Steps Grows (J.state file.old).told (J.state file.new).told }
-    ensures all { (J.state file.new).fault ≡ None → waiting.new.items ≡ [] }
-    ensures sound { (J.state file.new).fault ≡ None
-        → Steps StaysSound (J.state file.old).told (J.state file.new).told }
-{
-    let written = write_all(file, waiting.as_slice());
-    remove_front(waiting, written);
 }
 
 /// Writes the bytes, or as many as the file takes before it fails, and answers how many.

@@ -3,8 +3,9 @@
 ghost use Rattle.std.specs.Option.{option_map};
 ghost use Rattle.std.specs.Prelude.{◌≡◌, ℕ, List, None, OnErr, OnOk, true};
 ghost use Rattle.std.specs.Result.{result_err};
-ghost use Rattle.pb_files.specs.Keeping.{IsNamedByDraft, LeadsWhereItLed, OldOrNewByDraft};
-ghost use Rattle.pb_files.specs.Keeping.{SavedByDraft, found_at};
+ghost use Rattle.pb_files.specs.Keeping.{Finds, IsNamedByDraft, LeadsWhereItLed, OldOrNewByDraft};
+ghost use Rattle.pb_files.specs.Keeping.{SavedByDraft, StaysNamed, found_at, handed_at};
+ghost use Rattle.pb_files.specs.Steps.{Steps};
 ghost use Rattle.pb_collecting.specs.Store.{KeepsText};
 
 use crate::desk::Desk;
@@ -12,7 +13,7 @@ use crate::saving::{NotSaved, save_whole};
 use pb_collecting::{Store, StoreError, Text};
 
 /// A file that is made anew whole where a draft can take its place, and is written in place where
-/// none can.
+/// none can. Contracts know what it was handed, whether or not the desk tells what a reader finds.
 #[derive(Drop)]
 pub struct KeptFile<D: Desk> {
     /// The file's name, and its drafts.
@@ -28,11 +29,10 @@ impl<D: Desk> KeptFile<D> {
     /// The store of this name, where nothing was kept yet.
     pub fn new(desk: D) -> KeptFile<D>
         ensures state { ⟦<KeptFile<D> as Store>⟧.state result
-            ≡ record {
-              found = option_map (λ shelf. shelf.found) (D.state desk).told;
-              fault = None;
-            } }
+            ≡ record { handed = None; fault = None } }
         ensures desk { result.desk ≡ desk }
+        ensures not_in_place { result.in_place ≡ None }
+        ensures not_named { result.named ≡ None }
     {
         KeptFile {
             desk,
@@ -51,6 +51,10 @@ impl<D: Desk> KeptFile<D> {
         ensures drafted { (D.state self.new.desk).drafted ≡ (D.state self.old.desk).drafted }
         ensures kept { KeepsText (X.is_text text.now) (⟦<KeptFile<D> as Store>⟧.state self.old)
             (⟦<KeptFile<D> as Store>⟧.state self.new) result }
+        ensures found { (bytes : List ℕ) × (count : ℕ) × X.is_text text.now bytes count
+            × Steps (Finds result bytes)
+            (found_at (D.state self.old.desk).told (option_map D.End.state self.old.in_place))
+            (found_at (D.state self.new.desk).told (option_map D.End.state self.new.in_place)) }
     {
         let mut end = match self.desk.open_in_place() {
             Ok(end) => end,
@@ -76,8 +80,7 @@ impl<D: Desk> KeptFile<D> {
 
 impl<D: Desk> Store for KeptFile<D> {
     ghost state = { λ p. record {
-      found = found_at (D.state p.desk).told
-          (option_map D.End.state p.in_place);
+      handed = handed_at (option_map D.End.state p.in_place) (option_map D.End.state p.named);
       fault = p.fault;
     } };
 
@@ -85,17 +88,25 @@ impl<D: Desk> Store for KeptFile<D> {
         requires { (bytes : List ℕ) × (count : ℕ) × X.is_text text.now bytes count }
         ensures kept { KeepsText (X.is_text text.now) (⟦<KeptFile<D> as Store>⟧.state self.old)
             (⟦<KeptFile<D> as Store>⟧.state self.new) result }
+        // Where the desk tells it, a reader finds the text; or, if it isn't kept, what was there or
+        // a front of it.
+        ensures found { (bytes : List ℕ) × (count : ℕ) × X.is_text text.now bytes count
+            × Steps (Finds result bytes)
+            (found_at (D.state self.old.desk).told (option_map D.End.state self.old.in_place))
+            (found_at (D.state self.new.desk).told (option_map D.End.state self.new.in_place)) }
         // A crash leaves no part of the text, unless the file is written in place.
         ensures whole { (bytes : List ℕ) × (count : ℕ) × X.is_text text.now bytes count
             × OldOrNewByDraft bytes (D.state self.old.desk) (D.state self.new.desk) }
         // What was kept outlives each crash from now on, unless it is written in place.
         ensures settled { (bytes : List ℕ) × (count : ℕ) × X.is_text text.now bytes count
             × OnOk result (SavedByDraft bytes (D.state self.old.desk) (D.state self.new.desk)) }
-        // The store goes on holding the file that has the name, and lets none go where it fails or
-        // writes in place. It leaves no draft.
+        // The store goes on holding the file that has the name, and lets none go that has it where
+        // it fails or writes in place. It leaves no draft.
         ensures held { OnOk result (IsNamedByDraft (option_map D.End.state self.new.named)
             (D.state self.new.desk)) }
-        ensures still_held { OnErr result (self.new.named ≡ self.old.named) }
+        ensures still_held { OnErr result (StaysNamed (self.new.named ≡ self.old.named)
+            (option_map D.End.state self.new.named) (D.state self.old.desk)
+            (D.state self.new.desk)) }
         ensures held_in_place { (D.state self.new.desk).refused ≡ true
             → self.new.named ≡ self.old.named }
         ensures no_draft { (D.state self.new.desk).drafted ≡ true
@@ -106,14 +117,13 @@ impl<D: Desk> Store for KeptFile<D> {
             (D.state self.new.desk) }
     {
         match save_whole(&mut self.desk, text) {
-            Ok((end, count)) => {
+            Ok(saved) => {
                 self.in_place = None;
-                self.named = Some(end);
-                self.answer(Ok(count))
-            }
-            Err(NotSaved::Unsettled) => {
-                self.in_place = None;
-                self.answer(Err(StoreError::Write))
+                self.named = Some(saved.end);
+                if !saved.settled {
+                    return self.answer(Err(StoreError::Write));
+                }
+                self.answer(Ok(saved.count))
             }
             Err(NotSaved::Failed(why)) => self.answer(Err(why)),
             Err(NotSaved::Refused) => self.write_in_place(text),

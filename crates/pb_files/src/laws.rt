@@ -4,15 +4,16 @@
 ghost use Rattle.std.specs.Prelude.{◌≡◌, ◌≤◌, ◌==◌, ◌++◌, ◌∷◌, ◌⊎◌, [], Bool, List, None, Some};
 ghost use Rattle.std.specs.Prelude.{false, length, true, ℕ};
 ghost use Rattle.pb_io.specs.Lines.{ended_lines};
-ghost use Rattle.pb_io.specs.Source.{SourceState};
+ghost use Rattle.pb_io.specs.Source.{HandsOut, SourceState};
 ghost use Rattle.pb_collecting.specs.Ends.{Change, EndStates, IsSame};
-ghost use Rattle.pb_collecting.specs.JournalHeadline.{LosesNone, LosesNoneLater};
+ghost use Rattle.pb_collecting.specs.JournalHeadline.{LosesNoneLater};
 ghost use Rattle.pb_files.specs.Desk.{Content, NamesNot, Shelf};
 ghost use Rattle.pb_files.specs.Disk.{Disk, Grows, IsOnDisk, Leaves, OutlivesCrash, Syncs};
 ghost use Rattle.pb_files.specs.Disk.{on_disk};
 ghost use Rattle.pb_files.specs.Begins.{BeginsWith};
 ghost use Rattle.pb_files.specs.JournalSink.{EndState, syncs};
-ghost use Rattle.pb_files.specs.Journaling.{IsStarted, LeavesAnswered, MayBeLeft, journal_over};
+ghost use Rattle.pb_files.specs.Journaling.{BeginsUntold, HandsOnAnswered, IsStarted};
+ghost use Rattle.pb_files.specs.Journaling.{LeavesAnswered, MayBeLeft, journal_over};
 ghost use Rattle.pb_files.specs.Runs.{HoldsDraft, Names, OfOthers, Step, after, run_of};
 ghost use Rattle.pb_files.specs.Runs.Step.{Ends, Locks, Makes, Unnames};
 ghost use Rattle.pb_files.specs.Saving.{OldOrNew};
@@ -62,15 +63,33 @@ pub fn what_may_be_left()
         → IsOnDisk disk → IsStarted true disk end reader }
 {}
 
-/// A run that loses no game which it has answered `ok`, over the end of a journal's file that it has
-/// come to, has read no submission, or each such game is in what is left of the file, whatever comes
-/// then: with `sync` a crash, and else a kill.
+/// A run that loses no game which it has answered `ok`, whatever ends it, over the end of a
+/// journal's file that it has come to, has read no submission, or each such game is in what is left
+/// of the file, whatever comes then: with `sync` a crash, and else a kill.
 pub fn answered_games_are_left()
     ensures { (sync : Bool) (disk : Disk) (reader : Change SourceState) (end : Change EndState)
         (e : EndStates) → IsStarted sync disk end.old reader.old
-        → LosesNone e (journal_over sync reader end)
         → LosesNoneLater e (journal_over sync reader end)
         → IsSame e.lines ⊎ LeavesAnswered sync disk end.new e }
+{}
+
+/// Such a run over the end of a file that tells nothing has read no submission, or flushes that
+/// succeeded have handed on each such game that wasn't read of the journal.
+pub fn answered_games_are_handed_on()
+    ensures run { (sync : Bool) (reader : Change SourceState) (end : Change EndState)
+        (e : EndStates) → BeginsUntold end.old → LosesNoneLater e (journal_over sync reader end)
+        → IsSame e.lines ⊎ ((kept : List ℕ) × HandsOut reader.old reader.new kept
+        × HandsOnAnswered kept end.new e) }
+    // So begins what `JournalSink::new` makes of such a file.
+    ensures begins { (failed : Bool) → BeginsUntold (record {
+      told = None;
+      taken = [];
+      handed_on = [];
+      waits = [];
+      failed = failed;
+      flushed = false;
+      flushes = 0;
+    }) }
 {}
 
 /// Where the system calls bytes clean that aren't on the disk, a sync that succeeds may put nothing

@@ -2,8 +2,8 @@
 //! journal (`JournalSink`), and makes a book or a ledger anew (`KeptFile`).
 //!
 //! Traits say what a file and a folder do, and what kills and crashes leave. Calls over them are
-//! proved for all that keep them. Files in memory tell what they hold, the system's tell nothing.
-//! That the system's keep the traits is trusted.
+//! proved for all that keep them. Files in memory tell what they hold, the system's tell nothing:
+//! of these the calls tell what they were handed. That the system's keep the traits is trusted.
 #![tactic(auto)]
 
 mod desk;
@@ -41,7 +41,7 @@ pub use journal_sink::{JournalSink, SYNCED, WRITTEN};
 pub use kept::KeptFile;
 pub use ledger_file::LedgerFile;
 pub use replies::{Replies, Submissions};
-pub use saving::{NotSaved, save_whole};
+pub use saving::{NotSaved, SavedFile, save_whole};
 pub use starting::{Started, start, whole_reader};
 pub use stop::Stop;
 pub use streams::expect_open;

@@ -1,8 +1,8 @@
 //! A file that is made anew whole.
 
-ghost use Rattle.std.specs.Prelude.{◌≡◌, ℕ, List, IfOk, IfSome, OnErr, OnOk, true};
+ghost use Rattle.std.specs.Prelude.{◌≡◌, ℕ, List, IfOk, IfSome, OnErr, OnOk, Some, not, true};
 ghost use Rattle.pb_files.specs.Desk.{Begins, is_refused_draft};
-ghost use Rattle.pb_files.specs.Saving.{Saves, is_refused, is_unsettled, not_saved};
+ghost use Rattle.pb_files.specs.Saving.{Saves, is_refused, not_saved};
 
 use crate::desk::{Desk, NotMade};
 use pb_collecting::{StoreError, Text};
@@ -20,9 +20,17 @@ pub enum NotSaved {
     /// The draft can't be made, written or named. The old file is there.
     #[error("{0}")]
     Failed(StoreError),
-    /// The new file is there, and a crash may undo it.
-    #[error("the folder can't be put on the disk")]
-    Unsettled,
+}
+
+/// A file that was made anew whole.
+#[derive(Drop)]
+pub struct SavedFile<E> {
+    /// The end into the file, which has the name now.
+    pub end: E,
+    /// How many entries or games were written.
+    pub count: u64,
+    /// Whether the folder is on the disk. If not, a crash may undo the new file.
+    pub settled: bool,
 }
 
 impl From<NotMade> for NotSaved {
@@ -60,21 +68,23 @@ pub(crate) fn new_draft<D: Desk>(desk: &mut D) -> Result<D::End, NotMade>
 }
 
 /// Makes the file under the name anew of the text: a draft is written, put on the disk and given
-/// the name, and then the folder is put on the disk. The answer is the end into the file that has
-/// the name now, and how many entries or games were written.
+/// the name, and then the folder is put on the disk.
 ///
 /// # Errors
 ///
 /// Those of `NotSaved`. There is no draft any more.
-pub fn save_whole<D: Desk, X: Text>(desk: &mut D, text: &X) -> Result<(D::End, u64), NotSaved>
+pub fn save_whole<D: Desk, X: Text>(desk: &mut D, text: &X) -> Result<SavedFile<D::End>, NotSaved>
     requires { (bytes : List ℕ) × (count : ℕ) × X.is_text text.now bytes count }
+    // The file that has the name now was handed just the text's bytes, whether or not the desk
+    // tells what a reader finds.
     ensures saves { (bytes : List ℕ) × (count : ℕ) × X.is_text text.now bytes count
         × Saves bytes (D.state desk.old).told (D.state desk.new).told result
-        × IfOk result (λ saved. saved.1 ≡ count) }
+        × IfOk result (λ saved. ((D.End.state saved.end).bytes ≡ Some bytes)
+        × (saved.count ≡ count)) }
     ensures end { IfOk result (λ saved. IfSome (D.state desk.new).told (λ shelf.
-        shelf.found ≡ (D.End.state saved.0).bytes)) }
+        shelf.found ≡ (D.End.state saved.end).bytes)) }
     ensures refused { (D.state desk.new).refused ≡ is_refused result }
-    ensures unsettled { is_unsettled result ≡ true → (D.state desk.new).unsettled ≡ true }
+    ensures settled { IfOk result (λ saved. (D.state desk.new).unsettled ≡ not saved.settled) }
     ensures no_draft { (D.state desk.new).drafted ≡ true → (D.state desk.old).drafted ≡ true }
 {
     let mut draft = new_draft(desk)?;
@@ -89,8 +99,10 @@ pub fn save_whole<D: Desk, X: Text>(desk: &mut D, text: &X) -> Result<(D::End, u
         desk.remove(draft);
         return Err(NotSaved::from(why));
     }
-    if desk.sync_folder().is_err() {
-        return Err(NotSaved::Unsettled);
-    }
-    Ok((draft, count))
+    let settled = desk.sync_folder().is_ok();
+    Ok(SavedFile {
+        end: draft,
+        count,
+        settled,
+    })
 }
