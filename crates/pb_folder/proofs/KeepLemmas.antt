@@ -1,8 +1,7 @@
 -- Lemmas on texts that are kept by a draft.
-use Rattle.std.proofs.Common.{◌≡◌, ◌∙◌, Bool, true, false, ℕ, List, Option, None, Some, Result, Ok, Err, ap, inr, length, refl, subst, sym}
+use Rattle.std.proofs.Common.{◌≡◌, ◌∙◌, Bool, true, false, ℕ, List, Option, None, Some, Ok, Err, ap, inr, length, subst, sym}
 use Rattle.std.proofs.Math.Seq.{take-length}
 use Rattle.pb_io.specs.Sink.{SinkState}
-use Rattle.pb_collecting.specs.declared.store.StoreError.{StoreError}
 use Rattle.pb_collecting.specs.declared.store.StoreError.TheVariants.{Write}
 use Rattle.pb_folder.specs.File.{FileState, IsPut}
 use Rattle.pb_folder.specs.Keeping.{KeepsAt}

@@ -28,7 +28,7 @@ pub more_handed : (bytes : List ℕ) (count more : ℕ) (old mid new : List ℕ)
     → new ≡ old ++ take (count + more) bytes
 more_handed bytes count more old mid new first second =
     second ∙ ap (λ (bs : List ℕ). mid ++ take more bs) (take_rest bytes count) ∙ ap (λ (bs : List ℕ). bs ++ take more (drop count bytes)) first
-        ∙ append_assoc old (take count bytes) (take more (drop count bytes)) ∙ ap (λ (bs : List ℕ). old ++ bs) (sym (take-add count more bytes))
+    ∙ append_assoc old (take count bytes) (take more (drop count bytes)) ∙ ap (λ (bs : List ℕ). old ++ bs) (sym (take-add count more bytes))
 
 pub as_same : (old new : FileState) (handed : List ℕ) (synced lost : Bool) → new ≡ record old { handed = handed; synced = synced; lost = lost } → SameOpening old new
 as_same old new handed synced lost is = subst (λ (s : FileState). SameOpening old s) (sym is) refl
@@ -37,4 +37,4 @@ as_same old new handed synced lost is = subst (λ (s : FileState). SameOpening o
 pub written_keeps : (waits bytes rest old new : List ℕ) (n : ℕ) → bytes ≡ waits → rest ≡ drop n waits → new ≡ old ++ take n bytes → new ++ rest ≡ old ++ waits
 written_keeps waits bytes rest old new n is left written =
     ap (λ (bs : List ℕ). bs ++ rest) (written ∙ ap (λ (bs : List ℕ). old ++ take n bs) is) ∙ append_assoc old (take n waits) rest
-        ∙ ap (λ (bs : List ℕ). old ++ (take n waits ++ bs)) left ∙ ap (λ (bs : List ℕ). old ++ bs) (take-append-drop n waits)
+    ∙ ap (λ (bs : List ℕ). old ++ (take n waits ++ bs)) left ∙ ap (λ (bs : List ℕ). old ++ bs) (take-append-drop n waits)

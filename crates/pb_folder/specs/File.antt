@@ -40,9 +40,16 @@ appends_at (Draft number) appends = false
 -- a file that was opened, and one that was made
 abbrev pub opened : Entry → Bool → FileState
 opened entry appends = record {
-  entry = entry; named = false; made = false; in_place = false;
-  appends = appends_at entry appends; hold = Nothing; status = None;
-  handed = []; synced = false; lost = false;
+  entry = entry;
+  named = false;
+  made = false;
+  in_place = false;
+  appends = appends_at entry appends;
+  hold = Nothing;
+  status = None;
+  handed = [];
+  synced = false;
+  lost = false;
 }
 
 abbrev pub new_draft : ℕ → FileState
@@ -121,6 +128,10 @@ MayRemove s = IsOwnDraft s ⊎ IsLeftOver s
 -- the file of the name, which this run alone holds
 abbrev pub IsHeldAlone : FileState → Type 0
 IsHeldAlone s = (s.entry ≡ Target) × (s.named ≡ true) × (is_alone s.hold ≡ true)
+
+-- so does whoever goes on from a ledger, of whose file this is known
+abbrev pub IsHolder : FileState → Status → Type 0
+IsHolder s status = IsHeldAlone s × (s.status ≡ Some status)
 
 -- A run writes its own drafts, a book in place, and the end of the journal that it holds.
 abbrev pub MayWrite : FileState → Type 0

@@ -1,6 +1,6 @@
 -- What a store knows that is a name in a folder.
 use Rattle.std.specs.Prelude.{◌≡◌, ◌⊎◌, Bool, false, true, List, ℕ, take, Option, None, Some}
-use Rattle.std.specs.Prelude.{Result, Ok, Err, IfErr, OnErr, OnOk, is_err}
+use Rattle.std.specs.Prelude.{Result, IfErr, OnErr, OnOk, is_err}
 use Rattle.std.specs.Option.{is_some, option_map}
 use Rattle.pb_io.specs.Sink.{SinkState}
 use Rattle.pb_collecting.specs.declared.store.StoreError.{StoreError}

@@ -1,5 +1,6 @@
 pub mod File
 pub mod Keeping
+pub mod Parts
 pub mod Saving
 pub mod Shelf
 pub mod Steps

@@ -54,6 +54,22 @@ pub fn make_draft<F: Folder>(
     Ok(None)
 }
 
+/// Makes the draft of the first number, as one of a name that nothing has. None where another run has
+/// that draft.
+///
+/// # Errors
+///
+/// Why the system makes none.
+pub fn make_first_draft<F: Folder>(folder: &F) -> io::Result<Option<F::File>>
+    ensures { IfOk result (λ made. IfSome made (λ draft. IsNewDraft (F.file draft))) }
+{
+    match folder.make(0, false) {
+        Ok(file) => Ok(hold_draft(folder, file, 0, false)),
+        Err(error) if error.kind() == ErrorKind::AlreadyExists => Ok(None),
+        Err(error) => Err(error),
+    }
+}
+
 /// Holds a draft that this run has made. None where another run takes it for one left over, or has
 /// removed it.
 fn hold_draft<F: Folder>(

@@ -110,7 +110,11 @@ impl<'a, const MODE: u8> Sink for FileEnd<'a, MODE> {
         if self.failed {
             return Err(Failed);
         }
-        if let Err(error) = flush_out(&mut self.file, &mut self.waiting, MODE == DRAFT || !self.is_device) {
+        if let Err(error) = flush_out(
+            &mut self.file,
+            &mut self.waiting,
+            MODE == DRAFT || !self.is_device,
+        ) {
             self.failed = true;
             self.named.fail(&error);
             return Err(Failed);
@@ -126,11 +130,7 @@ impl<'a, const MODE: u8> Sink for FileEnd<'a, MODE> {
 }
 
 /// Writes what waits, and puts all that was written on the disk, if that is asked for.
-fn flush_out(
-    file: &mut SystemFile,
-    waiting: &mut Vec<u8>,
-    is_synced: bool,
-) -> io::Result<()>
+fn flush_out(file: &mut SystemFile, waiting: &mut Vec<u8>, is_synced: bool) -> io::Result<()>
     requires may { MayWrite file.old }
     requires works { file.old.lost ≡ false }
     ensures keeps { file.new.handed ++ waiting.new.items

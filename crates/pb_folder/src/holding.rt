@@ -29,10 +29,7 @@ pub struct Held<X> {
 ///
 /// `Open` where it can't be opened, is no ordinary file, or another run holds it, or has replaced it
 /// each of 100 times. That is told.
-pub fn hold<F: Folder>(
-    folder: &mut F,
-    label: &Label<'_>,
-) -> Result<Held<F::File>, StoreError>
+pub fn hold<F: Folder>(folder: &mut F, label: &Label<'_>) -> Result<Held<F::File>, StoreError>
     ensures held { IfOk result (λ held. IsHeldAlone (F.file held.file)) }
     ensures told { IfOk result (λ held. (F.file held.file).status ≡ Some held.status) }
     ensures appends { IfOk result (λ held. (F.file held.file).appends ≡ F.appends folder.new) }
@@ -52,10 +49,7 @@ pub fn hold<F: Folder>(
 }
 
 /// Opens the file that the name leads to, and asks what the system tells of it.
-fn open_ordinary<F: Folder>(
-    folder: &F,
-    label: &Label<'_>,
-) -> Result<(F::File, Status), StoreError>
+fn open_ordinary<F: Folder>(folder: &F, label: &Label<'_>) -> Result<(F::File, Status), StoreError>
     ensures { IfOk result (λ opened. F.file opened.0
         ≡ opened_as (F.appends folder.now) opened.1) }
 {

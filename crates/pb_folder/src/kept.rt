@@ -1,9 +1,9 @@
 //! A name in a folder as the store of a text.
 
-ghost use Rattle.std.specs.Option.{is_some, option_map};
-ghost use Rattle.std.specs.Prelude.{◌≡◌, ℕ, List, IfOk, IfSome, None, OnErr, false};
+ghost use Rattle.std.specs.Option.{ForSome, is_some, option_map};
+ghost use Rattle.std.specs.Prelude.{◌≡◌, ℕ, List, IfOk, IfSome, None, OnErr, false, true};
 ghost use Rattle.pb_collecting.specs.Store.{KeepsText};
-ghost use Rattle.pb_folder.specs.File.{IsInPlace, IsUntouched};
+ghost use Rattle.pb_folder.specs.File.{IsHolder, IsInPlace, IsUntouched};
 ghost use Rattle.pb_folder.specs.Keeping.{KeepsAt, WritesInPlace, handed_at};
 
 use crate::file_end::BUFFER_LEN;
@@ -23,24 +23,20 @@ pub struct KeptFile<'f, 'a, F: Folder> {
     pub folder: F,
     label: Label<'a>,
     // What a ledger is read from.
-    ledger: Option<&'f LedgerFile<'a, F>>,
+    ledger: Option<&'f LedgerFile<'a, F::File>>,
     /// The end into the file, where it is written in place.
     pub in_place: Option<F::InPlace>,
     /// The file that a draft became. The lock on it lasts as long as it is kept.
     pub named: Option<F::File>,
     fault: Option<StoreError>,
     ghost held: { F.ledger folder ≡ is_some ledger },
+    ghost holder: { ForSome ledger (λ l. IsHolder (F.file l.now.file) l.now.status) },
 }
 
 impl<'f, 'a, F: Folder> KeptFile<'f, 'a, F> {
-    /// The store of this name, where nothing was kept yet: of a book, or of a saved ledger, which
-    /// was read from this file.
-    pub fn new(
-        folder: F,
-        label: Label<'a>,
-        ledger: Option<&'f LedgerFile<'a, F>>,
-    ) -> KeptFile<'f, 'a, F>
-        requires { F.ledger folder ≡ is_some ledger }
+    /// The store of a book of this name, where nothing was kept yet.
+    pub fn of_book(folder: F, label: Label<'a>) -> KeptFile<'f, 'a, F>
+        requires { F.ledger folder ≡ false }
         ensures state { ⟦<KeptFile<'f, 'a, F> as Store>⟧.state result
             ≡ record { handed = None; fault = None } }
         ensures folder { result.folder ≡ folder }
@@ -48,7 +44,29 @@ impl<'f, 'a, F: Folder> KeptFile<'f, 'a, F> {
         KeptFile {
             folder,
             label,
-            ledger,
+            ledger: None,
+            in_place: None,
+            named: None,
+            fault: None,
+        }
+    }
+
+    /// The store of a saved ledger of this name, which was read from this file.
+    pub fn of_ledger(
+        folder: F,
+        label: Label<'a>,
+        ledger: &'f LedgerFile<'a, F::File>,
+    ) -> KeptFile<'f, 'a, F>
+        requires ledger { F.ledger folder ≡ true }
+        requires holder { IsHolder (F.file ledger.now.file) ledger.now.status }
+        ensures state { ⟦<KeptFile<'f, 'a, F> as Store>⟧.state result
+            ≡ record { handed = None; fault = None } }
+        ensures folder { result.folder ≡ folder }
+    {
+        KeptFile {
+            folder,
+            label,
+            ledger: Some(ledger),
             in_place: None,
             named: None,
             fault: None,
@@ -93,13 +111,14 @@ impl<'f, 'a, F: Folder> Store for KeptFile<'f, 'a, F> {
 fn keep_at<F: Folder, X: Text>(
     folder: &mut F,
     label: &Label<'_>,
-    ledger: Option<&LedgerFile<'_, F>>,
+    ledger: Option<&LedgerFile<'_, F::File>>,
     in_place: &mut Option<F::InPlace>,
     named: &mut Option<F::File>,
     text: &X,
 ) -> Result<u64, StoreError>
     requires text { (bytes : List ℕ) × (count : ℕ) × X.is_text text.now bytes count }
     requires ledger { F.ledger folder.old ≡ is_some ledger }
+    requires holder { IfSome ledger (λ l. IsHolder (F.file l.now.file) l.now.status) }
     ensures kept { (bytes : List ℕ) × (count : ℕ) × X.is_text text.now bytes count
         × KeepsAt (F.ledger folder.old) result bytes
         (option_map F.InPlace.state in_place.old) (option_map F.InPlace.state in_place.new)

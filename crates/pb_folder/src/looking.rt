@@ -2,7 +2,7 @@
 
 ghost use Rattle.std.specs.Prelude.{◌≡◌, IfOk, IfSome, Err, IsNone, OnOk, false, true};
 ghost use Rattle.std.specs.Option.{is_some, option_map};
-ghost use Rattle.pb_folder.specs.File.{IsOfHolder, IsOld, IsOneFile, IsUntouched, is_held};
+ghost use Rattle.pb_folder.specs.File.{IsHolder, IsOfHolder, IsOld, IsOneFile, IsUntouched, is_held};
 ghost use Rattle.pb_folder.specs.Saving.{IfRefused, is_refused};
 ghost use Rattle.pb_folder.specs.declared.folder.Entry.TheVariants.{Target};
 
@@ -42,9 +42,10 @@ pub enum NotSaved<X> {
 pub fn look_at<F: Folder>(
     folder: &mut F,
     label: &Label<'_>,
-    ledger: Option<&LedgerFile<'_, F>>,
+    ledger: Option<&LedgerFile<'_, F::File>>,
 ) -> Result<Option<Old<F::File>>, NotSaved<F::File>>
-    requires { F.ledger folder.old ≡ is_some ledger }
+    requires ledger { F.ledger folder.old ≡ is_some ledger }
+    requires holder { IfSome ledger (λ l. IsHolder (F.file l.now.file) l.now.status) }
     ensures old { IfOk result (λ old. IfSome old (λ o.
         IsOld (F.ledger folder.new) o.status (F.file o.file))) }
     ensures held { IfOk result (λ old. F.ledger folder.new ≡ true
@@ -65,7 +66,7 @@ pub fn look_at<F: Folder>(
 fn look_at_none<F: Folder>(
     folder: &mut F,
     label: &Label<'_>,
-    ledger: Option<&LedgerFile<'_, F>>,
+    ledger: Option<&LedgerFile<'_, F::File>>,
     error: &io::Error,
 ) -> Result<Option<Old<F::File>>, NotSaved<F::File>>
     requires { F.ledger folder.old ≡ is_some ledger }
@@ -93,10 +94,11 @@ fn look_at_none<F: Folder>(
 fn look_at_file<F: Folder>(
     folder: &mut F,
     label: &Label<'_>,
-    ledger: Option<&LedgerFile<'_, F>>,
+    ledger: Option<&LedgerFile<'_, F::File>>,
     mut file: F::File,
 ) -> Result<Option<Old<F::File>>, NotSaved<F::File>>
     requires ledger { F.ledger folder.old ≡ is_some ledger }
+    requires holder { IfSome ledger (λ l. IsHolder (F.file l.now.file) l.now.status) }
     requires opened { (F.file file).entry ≡ Target }
     requires untouched { IsUntouched (F.file file) }
     ensures old { IfOk result (λ old. IfSome old (λ o.
@@ -131,10 +133,11 @@ fn look_at_file<F: Folder>(
 fn expect_free<F: Folder>(
     folder: &F,
     label: &Label<'_>,
-    ledger: Option<&LedgerFile<'_, F>>,
+    ledger: Option<&LedgerFile<'_, F::File>>,
     file: &mut F::File,
     status: &Status,
 ) -> Result<(), StoreError>
+    requires holder { IfSome ledger (λ l. IsHolder (F.file l.now.file) l.now.status) }
     requires told { (F.file file.old).status ≡ Some status.now }
     ensures book { OnOk result (is_some ledger.entry ≡ false → is_held (F.file file.new).hold ≡ true) }
     ensures held { OnOk result (IfSome ledger.entry (λ l. IsOneFile (F.file l.now.file)

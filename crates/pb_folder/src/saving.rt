@@ -51,7 +51,7 @@ pub fn put_text<F: Folder, X: Text>(
     folder: &mut F,
     label: &Label<'_>,
     old: Option<&Old<F::File>>,
-    ledger: Option<&LedgerFile<'_, F>>,
+    ledger: Option<&LedgerFile<'_, F::File>>,
     text: &X,
 ) -> Result<Put<F::File>, NotPut>
     requires text { (bytes : List ℕ) × (count : ℕ) × X.is_text text.now bytes count }
@@ -86,7 +86,7 @@ pub fn put_text<F: Folder, X: Text>(
 }
 
 /// Makes an empty draft, which can take the place of the old file.
-fn new_draft<F: Folder>(
+pub(crate) fn new_draft<F: Folder>(
     folder: &F,
     label: &Label<'_>,
     old: Option<&Old<F::File>>,
@@ -95,13 +95,31 @@ fn new_draft<F: Folder>(
     ensures refused { is_put_refused result ≡ true → F.ledger folder.now ≡ false }
 {
     match make_draft(folder, old.is_some(), folder.is_ledger()) {
-        Ok(Some(draft)) => Ok(draft),
+        Ok(Some(draft)) => fitted(folder, label, old, draft),
         Ok(None) => {
             label.messages.tell(&Message::InUse(label.path));
             Err(NotPut::Failed(StoreError::Open))
         }
         Err(error) => Err(no_draft(folder, label, old, &error)),
     }
+}
+
+/// Gives a new draft the old file's mode. Where it can't take its place it is removed.
+fn fitted<F: Folder>(
+    folder: &F,
+    label: &Label<'_>,
+    old: Option<&Old<F::File>>,
+    mut draft: F::File,
+) -> Result<F::File, NotPut>
+    requires { IsNewDraft (F.file draft) }
+    ensures new { IfOk result (λ fit. IsNewDraft (F.file fit)) }
+    ensures refused { is_put_refused result ≡ true → F.ledger folder.now ≡ false }
+{
+    if let Err(why) = fit_draft(folder, label, old, &mut draft) {
+        folder.remove(draft);
+        return Err(why);
+    }
+    Ok(draft)
 }
 
 /// Answers that the system makes no draft, for this reason.
@@ -164,7 +182,7 @@ fn write_draft<F: Folder, X: Text>(
     folder: &F,
     label: &Label<'_>,
     old: Option<&Old<F::File>>,
-    mut file: F::File,
+    file: F::File,
     text: &X,
 ) -> Result<(F::File, u64), NotPut>
     requires draft { IsNewDraft (F.file file) }
@@ -173,10 +191,6 @@ fn write_draft<F: Folder, X: Text>(
         × IfOk result (λ written. IsWritten bytes (F.file written.0) × (written.1 ≡ count)) }
     ensures refused { is_put_refused result ≡ true → F.ledger folder.now ≡ false }
 {
-    if let Err(why) = fit_draft(folder, label, old, &mut file) {
-        folder.remove(file);
-        return Err(why);
-    }
     let Ok(room) = Vec::with_capacity(label.messages.rt.alloc(), BUFFER_LEN) else {
         folder.remove(file);
         return Err(NotPut::Failed(StoreError::Memory));
@@ -222,7 +236,7 @@ fn name_draft<F: Folder>(
     folder: &mut F,
     label: &Label<'_>,
     old: Option<&Old<F::File>>,
-    ledger: Option<&LedgerFile<'_, F>>,
+    ledger: Option<&LedgerFile<'_, F::File>>,
     mut file: F::File,
 ) -> Result<F::File, NotPut>
     requires own { IsOwnDraft (F.file file) }
@@ -252,7 +266,7 @@ fn rename_draft<F: Folder>(
     folder: &mut F,
     label: &Label<'_>,
     old: Option<&Old<F::File>>,
-    ledger: Option<&LedgerFile<'_, F>>,
+    ledger: Option<&LedgerFile<'_, F::File>>,
     draft: &mut F::File,
 ) -> Result<(), NotPut>
     requires own { IsOwnDraft (F.file draft.old) }
@@ -278,7 +292,7 @@ fn rename_draft<F: Folder>(
         return Err(NotPut::Failed(StoreError::Write));
     }
     let old_file = old.map(|old| &old.file);
-    match folder.rename(draft, old_file, file_of(ledger)) {
+    match folder.rename(draft, old_file, file_of::<F>(ledger)) {
         Ok(()) => Ok(()),
         Err(error) if error.kind() == ErrorKind::ResourceBusy && !folder.is_ledger() => {
             Err(NotPut::Refused)
@@ -291,7 +305,7 @@ fn rename_draft<F: Folder>(
 }
 
 /// The file of a ledger.
-fn file_of<'l, F: Folder>(ledger: Option<&'l LedgerFile<'_, F>>) -> Option<&'l F::File>
+fn file_of<'l, F: Folder>(ledger: Option<&'l LedgerFile<'_, F::File>>) -> Option<&'l F::File>
     ensures { option_map (λ f. F.file f.now) result
         ≡ option_map (λ l. F.file l.now.file) ledger.entry }
 {

@@ -2,6 +2,7 @@
 
 ghost use Rattle.std.specs.Prelude.{◌≡◌, IfOk, None, false};
 ghost use Rattle.pb_folder.specs.File.{opened};
+ghost use Rattle.pb_folder.specs.Parts.{is_journal, is_ledger};
 ghost use Rattle.pb_folder.specs.declared.folder.Entry.TheVariants.{Draft};
 
 use crate::file_end::{DRAFT, FileEnd, IN_PLACE};
@@ -40,7 +41,10 @@ pub struct System<'a> {
 
 impl<'a> System<'a> {
     /// The name of a file of this part.
-    pub fn new(messages: Messages<'a>, path: &'a str, part: Part) -> System<'a> {
+    pub fn new(messages: Messages<'a>, path: &'a str, part: Part) -> System<'a>
+        ensures ledger { ⟦<System<'a> as Folder>⟧.ledger result ≡ is_ledger part }
+        ensures journal { ⟦<System<'a> as Folder>⟧.appends result ≡ is_journal part }
+    {
         System {
             messages,
             path,

@@ -10,7 +10,7 @@ use crate::folder::{Entry, Hold, Lock};
 use crate::status::Status;
 use pb_io::History;
 use std::fs::{self, File, Permissions, TryLockError};
-use std::io::{self, ErrorKind, Write};
+use std::io::{self, ErrorKind, Read, Write};
 use std::marker::Model;
 use std::os::unix::fs::{MetadataExt, PermissionsExt};
 use std::path::PathBuf;
@@ -95,6 +95,18 @@ impl SystemFile {
         let mut emptied = SystemFile::opened(file, false);
         emptied.in_place = true;
         emptied
+    }
+
+    /// Opens a pipe or a device, to be read. It is no draft for this run and others, whatever its
+    /// name looks like.
+    ///
+    /// # Errors
+    ///
+    /// It can't be opened.
+    pub(crate) fn open_stream(rt: &HostRuntime, path: &str) -> io::Result<SystemFile> {
+        let file = File::open(rt, path)?;
+        let _ = file.try_lock_shared();
+        Ok(SystemFile::opened(file, false))
     }
 
     /// The path of a draft.
@@ -266,5 +278,12 @@ fn lock_by(locked: Result<(), TryLockError>) -> Lock {
         Ok(()) => Lock::Held,
         Err(TryLockError::WouldBlock) => Lock::InUse,
         Err(TryLockError::Error(_)) => Lock::Unsupported,
+    }
+}
+
+impl Read for &SystemFile {
+    fn read(&mut self, into: &mut [u8]) -> io::Result<usize> {
+        let file: &SystemFile = self;
+        (&file.file).read(into)
     }
 }

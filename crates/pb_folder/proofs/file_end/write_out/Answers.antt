@@ -1,5 +1,3 @@
-use Rattle.std.proofs.Common.{◌∙◌, List, ap, arith, length, ℕ}
-use Rattle.std.proofs.Math.ListN.{drop_of_length-le}
 use Rattle.pb_folder.proofs.WriteLemmas.{written_keeps}
 use Rattle.pb_folder.proofs.file_end.write_out.Goals as goal
 

@@ -1,0 +1,85 @@
+//! Whether a file can be made anew, as far as that is known before it is: so a user knows it before
+//! all games are taken.
+
+ghost use Rattle.std.specs.Prelude.{◌≡◌, true};
+ghost use Rattle.pb_folder.specs.File.{IsHolder};
+
+use crate::draft::{make_first_draft, remove_left_over};
+use crate::folder::{Entry, Folder, Seen};
+use crate::label::Label;
+use crate::ledger_file::LedgerFile;
+use crate::looking::{NotSaved, look_at};
+use crate::saving::{NotPut, new_draft};
+use pb_collecting::StoreError;
+use pb_messages::{Cause, Left, Message};
+use std::io::ErrorKind;
+
+/// Makes sure that a draft can take the place of the ledger.
+///
+/// # Errors
+///
+/// Those of `look_at` and of a draft, which are told.
+pub fn expect_ledger<F: Folder>(
+    folder: &mut F,
+    label: &Label<'_>,
+    ledger: &LedgerFile<'_, F::File>,
+) -> Result<(), StoreError>
+    requires ledger { F.ledger folder.old ≡ true }
+    requires holder { IsHolder (F.file ledger.now.file) ledger.now.status }
+    ensures { F.ledger folder.new ≡ F.ledger folder.old }
+{
+    let old = match look_at(folder, label, Some(ledger)) {
+        Ok(old) => old,
+        Err(NotSaved::Refused(_)) => return Err(StoreError::Open),
+        Err(NotSaved::Failed(why)) => return Err(why),
+    };
+    match new_draft(folder, label, old.as_ref()) {
+        Ok(draft) => {
+            folder.remove(draft);
+            Ok(())
+        }
+        Err(NotPut::Refused) => Err(StoreError::Open),
+        Err(NotPut::Failed(why)) => Err(why),
+    }
+}
+
+/// Makes sure that a book that is there can be written. Where none is and its folder takes none,
+/// that is a warning.
+///
+/// # Errors
+///
+/// `Open` where the book can't be written, which is told; `Memory` where there is none for a draft.
+pub fn expect_book<F: Folder>(folder: &F, label: &Label<'_>) -> Result<(), StoreError> {
+    let left = match folder.look() {
+        Seen::Nothing => return warn_of_folder(folder, label),
+        // Opening a pipe may wait.
+        Seen::Other => return Ok(()),
+        Seen::File => Left::Old(label.part),
+        Seen::Folder => Left::All,
+    };
+    match folder.open(Entry::Target) {
+        Ok(_) => Ok(()),
+        Err(error) => Err(label.fail(left, &error)),
+    }
+}
+
+/// Warns where no file can be made of a name that is free.
+fn warn_of_folder<F: Folder>(folder: &F, label: &Label<'_>) -> Result<(), StoreError> {
+    remove_left_over(folder, 0);
+    match make_first_draft(folder) {
+        Ok(Some(draft)) => folder.remove(draft),
+        Ok(None) => {}
+        Err(error) => match error.kind() {
+            ErrorKind::OutOfMemory => return Err(StoreError::Memory),
+            ErrorKind::PermissionDenied
+            | ErrorKind::ReadOnlyFilesystem
+            | ErrorKind::NotFound
+            | ErrorKind::NotADirectory
+            | ErrorKind::Unsupported => label
+                .messages
+                .warn(&Message::CannotBeMade(label.path, Cause::of(&error))),
+            _ => {}
+        },
+    }
+    Ok(())
+}

@@ -1,0 +1,118 @@
+//! The file that a saved ledger is read from, and the stores of a run.
+
+ghost use Rattle.std.specs.Prelude.{◌≡◌, IfOk, None};
+ghost use Rattle.pb_folder.specs.File.{IsHolder};
+
+use crate::expecting::{expect_book, expect_ledger};
+use crate::folder::Folder;
+use crate::kept::KeptFile;
+use crate::label::Label;
+use crate::ledger_file::{LedgerFile, hold_ledger};
+use crate::system::System;
+use crate::system_file::SystemFile;
+use pb_collecting::{Store, StoreError};
+use pb_messages::{Left, Messages, Part};
+use std::fs;
+
+/// A file that this run holds.
+#[derive(Drop)]
+pub struct HeldLedger<'a> {
+    ledger: LedgerFile<'a, SystemFile>,
+    ghost holder: { IsHolder ledger.file ledger.status },
+}
+
+/// The file that a saved ledger is read from.
+#[derive(Drop)]
+pub enum SavedLedger<'a> {
+    /// One that this run holds, and makes anew.
+    Held(HeldLedger<'a>),
+    /// A pipe or a device, which nobody holds.
+    Stream(SystemFile),
+}
+
+impl<'a> SavedLedger<'a> {
+    /// Opens the file of this path, to be read, and not emptied yet. This run holds it until it ends,
+    /// unless it is a pipe or a device.
+    ///
+    /// # Errors
+    ///
+    /// Those of `hold`, and `Open` where a pipe can't be opened. They are told.
+    pub fn open(messages: Messages<'a>, path: &'a str) -> Result<SavedLedger<'a>, StoreError> {
+        let label = Label {
+            messages,
+            part: Part::Ledger,
+            path,
+        };
+        // A pipe that is opened to be written would wait for itself to end.
+        if fs::metadata(messages.rt, path).is_ok_and(|told| !told.is_file()) {
+            return match SystemFile::open_stream(messages.rt, path) {
+                Ok(stream) => Ok(SavedLedger::Stream(stream)),
+                Err(error) => Err(label.fail(Left::All, &error)),
+            };
+        }
+        let mut folder = System::new(messages, path, Part::Ledger);
+        let ledger = hold_ledger(&mut folder, &label)?;
+        Ok(SavedLedger::Held(HeldLedger { ledger }))
+    }
+
+    /// The file, to be read.
+    pub fn file(&self) -> &SystemFile {
+        match self {
+            SavedLedger::Held(held) => &held.ledger.file,
+            SavedLedger::Stream(stream) => stream,
+        }
+    }
+
+    /// The store where the ledger is made anew, once it is known that it can be.
+    ///
+    /// # Errors
+    ///
+    /// Those of `expect_ledger`.
+    pub fn store<'f>(
+        &'f self,
+        messages: Messages<'a>,
+        path: &'a str,
+    ) -> Result<KeptFile<'f, 'a, System<'a>>, StoreError>
+        ensures { IfOk result (λ store. ⟦<KeptFile<'f, 'a, System<'a>> as Store>⟧.state store
+            ≡ record { handed = None; fault = None }) }
+    {
+        let label = Label {
+            messages,
+            part: Part::Ledger,
+            path,
+        };
+        match self {
+            SavedLedger::Held(held) => {
+                let mut folder = System::new(messages, path, Part::Ledger);
+                expect_ledger(&mut folder, &label, &held.ledger)?;
+                Ok(KeptFile::of_ledger(folder, label, &held.ledger))
+            }
+            SavedLedger::Stream(_) => {
+                let folder = System::new(messages, path, Part::Book);
+                Ok(KeptFile::<'f, 'a, System<'a>>::of_book(folder, label))
+            }
+        }
+    }
+}
+
+/// The store of a book, once it is known that one can be made there.
+///
+/// # Errors
+///
+/// Those of `expect_book`.
+pub fn book_store<'f, 'a>(
+    messages: Messages<'a>,
+    path: &'a str,
+) -> Result<KeptFile<'f, 'a, System<'a>>, StoreError>
+    ensures { IfOk result (λ store. ⟦<KeptFile<'f, 'a, System<'a>> as Store>⟧.state store
+        ≡ record { handed = None; fault = None }) }
+{
+    let label = Label {
+        messages,
+        part: Part::Book,
+        path,
+    };
+    let folder = System::new(messages, path, Part::Book);
+    expect_book(&folder, &label)?;
+    Ok(KeptFile::<'f, 'a, System<'a>>::of_book(folder, label))
+}
