@@ -9,7 +9,7 @@ use Rattle.pb_io.specs.Sink.{Flush, Lasts}
 use Rattle.pb_files.specs.Begins.{BeginsWith}
 use Rattle.pb_files.specs.Disk.{Adds, Disk, FileState, Grows, IsOnDisk, IsSound, Leaves, OutlivesCrash, StaysSound, Syncs, SyncsAll, on_disk}
 use Rattle.pb_files.specs.JournalSink.{EndState, WritesFront, bytes_lasting, bytes_put, sink_state}
-use Rattle.pb_files.specs.Steps.{Steps}
+use Rattle.pb_folder.specs.Steps.{Steps}
 
 -- no byte, and bytes in two steps
 

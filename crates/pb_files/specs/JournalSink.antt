@@ -5,7 +5,7 @@ use Rattle.std.specs.Option.{ForSome}
 use Rattle.pb_io.specs.Sink.{SinkState}
 use Rattle.pb_files.specs.Disk.{Adds, Disk, FileState, Grows, IsOnDisk, OutlivesCrash, SyncsAll}
 use Rattle.pb_files.specs.Disk.{on_disk}
-use Rattle.pb_files.specs.Steps.{Steps}
+use Rattle.pb_folder.specs.Steps.{Steps}
 
 -- The disk, where the file tells of it; the bytes that the file has taken of this sink, of these
 -- those that flushes that succeeded have handed on, and those that wait to be written; and what

@@ -1,13 +1,7 @@
 pub mod Apart
 pub mod Begins
-pub mod Desk
 pub mod Disk
-pub mod Holding
 pub mod JournalFile
 pub mod JournalSink
 pub mod Journaling
-pub mod Keeping
-pub mod Runs
-pub mod Saving
-pub mod Steps
 pub mod Stop

@@ -7,7 +7,7 @@ ghost use Rattle.std.specs.Result.{result_err};
 ghost use Rattle.pb_io.specs.declared.fault.Fault.TheVariants as faults;
 ghost use Rattle.pb_files.specs.Disk.{Adds, FileState, IsSound, StaysSound, Syncs};
 ghost use Rattle.pb_files.specs.JournalFile.{ReadsAll};
-ghost use Rattle.pb_files.specs.Steps.{Steps};
+ghost use Rattle.pb_folder.specs.Steps.{Steps};
 
 use pb_io::{Fault, Source};
 

@@ -2,7 +2,7 @@
 
 ghost use Rattle.std.specs.Prelude.{◌≡◌};
 
-use crate::held_file::HeldFile;
+use pb_folder::HeldFile;
 use std::cell::RefCell;
 use std::io::{self, ErrorKind, Write};
 

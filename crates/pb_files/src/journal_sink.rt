@@ -6,10 +6,10 @@ ghost use Rattle.std.specs.Option.{ForSome, is_some};
 ghost use Rattle.pb_io.specs.Sink.{Flush, Put};
 ghost use Rattle.pb_files.specs.Disk.{Adds, IsOnDisk, OutlivesCrash, StaysSound, SyncsAll};
 ghost use Rattle.pb_files.specs.JournalSink.{FlushAtEnd, HandsOn, PutAtEnd, sink_state, syncs};
-ghost use Rattle.pb_files.specs.Steps.{Steps};
+ghost use Rattle.pb_folder.specs.Steps.{Steps};
 
-use crate::file_writer::BUFFER_LEN;
 use crate::journal_file::JournalFile;
+use pb_folder::BUFFER_LEN;
 use pb_io::{Failed, History, Sink};
 use std::alloc::{AllocError, Global};
 use std::marker::Model;

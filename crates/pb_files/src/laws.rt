@@ -7,16 +7,12 @@ ghost use Rattle.pb_io.specs.Lines.{ended_lines};
 ghost use Rattle.pb_io.specs.Source.{HandsOut, SourceState};
 ghost use Rattle.pb_collecting.specs.Ends.{Change, EndStates, IsSame};
 ghost use Rattle.pb_collecting.specs.JournalHeadline.{LosesNoneLater};
-ghost use Rattle.pb_files.specs.Desk.{Content, NamesNot, Shelf};
 ghost use Rattle.pb_files.specs.Disk.{Disk, Grows, IsOnDisk, Leaves, OutlivesCrash, Syncs};
 ghost use Rattle.pb_files.specs.Disk.{on_disk};
 ghost use Rattle.pb_files.specs.Begins.{BeginsWith};
 ghost use Rattle.pb_files.specs.JournalSink.{EndState, syncs};
 ghost use Rattle.pb_files.specs.Journaling.{BeginsUntold, HandsOnAnswered, IsStarted};
 ghost use Rattle.pb_files.specs.Journaling.{LeavesAnswered, MayBeLeft, journal_over};
-ghost use Rattle.pb_files.specs.Runs.{HoldsDraft, Names, OfOthers, Step, after, run_of};
-ghost use Rattle.pb_files.specs.Runs.Step.{Ends, Locks, Makes, Unnames};
-ghost use Rattle.pb_files.specs.Saving.{OldOrNew};
 
 use crate::journal_sink::{SYNCED, WRITTEN};
 
@@ -102,46 +98,4 @@ pub fn what_a_sync_may_pass_over()
 pub fn modes()
     ensures synced { syncs SYNCED ≡ true }
     ensures written { syncs WRITTEN ≡ false }
-{}
-
-/// A name that a reader doesn't see given may be there after a crash all the same. What is old or
-/// new is whole.
-pub fn what_a_name_may_lead_to()
-    ensures given { (content : Content) (old new : Shelf) → new.found ≡ old.found
-        → new.leaves ≡ old.leaves ++ content ∷ [] → new.left ≡ old.left ++ content ∷ []
-        → new.torn ≡ old.torn → NamesNot content old new }
-    ensures whole { (bytes : List ℕ) (old new : Shelf) → OldOrNew bytes (Some old) (Some new)
-        → new.torn ≡ old.torn }
-{}
-
-/// Two runs never hold the draft of one name, in a model of their steps.
-#[tactic(auto, using(crate::proofs::RunLemmas::one_run))]
-pub fn one_run_holds_a_draft()
-    ensures { (run other : ℕ) (names : Names) → HoldsDraft run names → HoldsDraft other names
-        → run ≡ other }
-{}
-
-/// What others do in a model of runs: steps that are none of a run's are those of others. Who holds
-/// a draft may take its name, and a run that ends lets its locks go.
-pub fn what_steps_do()
-    ensures others { (run : ℕ) (step : Step) (steps : List Step) → (run == run_of step ≡ false)
-        → OfOthers run steps → OfOthers run (step ∷ steps) }
-    ensures unnamed { (run : ℕ) (names : Names) → HoldsDraft run names
-        → (after names (Unnames run ∷ [])).leads ≡ None }
-    ensures ended { (run file : ℕ) (names : Names) → names.locked file ≡ Some run
-        → (after names (Ends run ∷ [])).locked file ≡ None }
-{}
-
-/// A run that makes a draft of a free name, and locks it, holds it.
-pub fn a_locked_draft_is_held()
-    ensures { (run : ℕ) (names : Names) → names.leads ≡ None → names.locked names.next ≡ None
-        → HoldsDraft run (after names (Makes run ∷ Locks run names.next ∷ [])) }
-{}
-
-/// A run that holds a draft holds it on, whatever other runs do and in whatever order: so a run
-/// that has seen that it does may write the draft.
-#[tactic(auto, using(crate::proofs::RunLemmas::still_held))]
-pub fn a_held_draft_stays_held()
-    ensures { (run : ℕ) (names : Names) (steps : List Step) → HoldsDraft run names
-        → OfOthers run steps → HoldsDraft run (after names steps) }
 {}

@@ -3,13 +3,15 @@
 ghost use Rattle.std.specs.Prelude.{◌≡◌, [], IfErr, IfOk, IfSome, None, OnOk, false, true};
 ghost use Rattle.pb_files.specs.Disk.{Adds, IsOnDisk, SyncsAll};
 ghost use Rattle.pb_files.specs.JournalFile.{ReadsAll, fault_met};
-ghost use Rattle.pb_files.specs.Steps.{Steps};
-ghost use Rattle.pb_files.specs.declared.stop.Stop.TheVariants as stops;
+ghost use Rattle.pb_folder.specs.Steps.{Steps};
 
-use crate::holding::{Opener, hold};
+use crate::file_journal::FileJournal;
 use crate::journal_file::JournalFile;
+use crate::journal_guard::JournalGuard;
 use crate::stop::Stop;
+use pb_folder::{HeldFile, Label, System, hold};
 use pb_io::Fault;
+use pb_messages::{Named, Part};
 
 /// A journal that a run has come to.
 #[derive(Drop)]
@@ -45,23 +47,34 @@ pub fn whole_reader<J: JournalFile>(journal: &mut J, sync: bool) -> Result<J::Re
     journal.reader()
 }
 
-/// Holds the journal of a name, and then has it read: what other runs added before is read too, and
-/// no other adds to it from then on. With `sync` all that is read is put on the disk before.
+/// Holds the journal of this name, until the run ends, and then has it read: what other runs added
+/// before is read too, and no other adds to it from then on. Two runs that wrote one journal at a
+/// time would each give numbers of their own. With `sync` all that is read is on the disk: the
+/// workers that send its games again take their answer for a promise. From then on the guard has
+/// the journal.
 ///
 /// # Errors
 ///
-/// `NotOpened` where the file isn't held, and the faults of `whole_reader`.
-pub fn start<O: Opener>(opener: &mut O, sync: bool) -> Result<Started<O::Journal>, Stop>
-    ensures works { IfOk result (λ started. (O.Journal.state started.journal).fault ≡ None) }
-    ensures all { IfOk result (λ started. ReadsAll (O.Journal.state started.journal).told
-        (O.Journal.Reader.state started.reader)) }
-    ensures on_disk { IfOk result (λ started. sync ≡ true
-        → IfSome (O.Journal.state started.journal).told IsOnDisk) }
-    ensures sound { IfOk result (λ started. SyncsAll sync (O.Journal.state started.journal)) }
-    ensures denied { IfErr result (λ why. why ≡ stops.NotOpened → O.denies opener.new) }
+/// `NotOpened` where the file isn't held, and the faults of `whole_reader`. They are told.
+pub fn start_journal<'g, 'a>(
+    named: Named<'a>,
+    guard: &'g JournalGuard<'a>,
+    sync: bool,
+) -> Result<Started<FileJournal<'g, 'a>>, Stop>
+    ensures works { IfOk result (λ started.
+        (⟦<FileJournal<'g, 'a> as JournalFile>⟧.state started.journal).fault ≡ None) }
+    ensures sound { IfOk result (λ started. SyncsAll sync
+        (⟦<FileJournal<'g, 'a> as JournalFile>⟧.state started.journal)) }
 {
-    let file = hold(opener)?;
-    let mut journal = opener.journal(file);
+    let label = Label {
+        messages: named.messages,
+        part: Part::Journal,
+        path: named.name,
+    };
+    let mut folder = System::new(named.messages, named.name, Part::Journal);
+    let held = hold(&mut folder, &label)?;
+    guard.begin(HeldFile::new(named, held.status, true));
+    let mut journal = FileJournal::new(named, guard, folder, held.file);
     let reader = whole_reader(&mut journal, sync)?;
     Ok(Started { journal, reader })
 }

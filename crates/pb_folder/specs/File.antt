@@ -68,9 +68,9 @@ SameOpening old new =
 abbrev pub with_mode : ℕ → FileState → FileState
 with_mode mode s = record s { status = option_map {T = Status} (λ status. record status { mode = mode }) s.status }
 
--- the file of the name, which was opened, and of which the system told this
-abbrev pub opened_as : Bool → Status → FileState
-opened_as appends status = record (opened Target appends) { status = Some status }
+-- the file of the name, which was opened, whatever the system told of it
+abbrev pub IsJustOpened : Bool → FileState → Type 0
+IsJustOpened appends s = s ≡ record (opened Target appends) { status = s.status }
 
 -- ---- locks
 

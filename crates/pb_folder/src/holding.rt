@@ -1,7 +1,7 @@
 //! How a run comes to hold the file of a name.
 
 ghost use Rattle.std.specs.Prelude.{◌≡◌, IfOk, Some};
-ghost use Rattle.pb_folder.specs.File.{IsHeldAlone, opened_as};
+ghost use Rattle.pb_folder.specs.File.{IsHeldAlone, IsJustOpened};
 
 use crate::folder::{Entry, Folder, Lock};
 use crate::label::Label;
@@ -32,26 +32,43 @@ pub struct Held<X> {
 pub fn hold<F: Folder>(folder: &mut F, label: &Label<'_>) -> Result<Held<F::File>, StoreError>
     ensures held { IfOk result (λ held. IsHeldAlone (F.file held.file)) }
     ensures told { IfOk result (λ held. (F.file held.file).status ≡ Some held.status) }
-    ensures appends { IfOk result (λ held. (F.file held.file).appends ≡ F.appends folder.new) }
+    ensures appends { IfOk result (λ held. (F.file held.file).appends ≡ F.appends folder.old) }
 {
     for tried in 0..TRIES {
-        let (mut file, status) = open_ordinary(folder, label)?;
+        let mut file = open_ordinary(folder, label)?;
         match folder.lock(&mut file) {
             Lock::Held | Lock::Unsupported => {}
             Lock::InUse => break,
         }
         if folder.follow().is_ok() && folder.is_named(&mut file) {
-            return Ok(Held { file, status });
+            return told_of(folder, label, file);
         }
     }
     label.messages.tell(&Message::InUse(label.path));
     Err(StoreError::Open)
 }
 
-/// Opens the file that the name leads to, and asks what the system tells of it.
-fn open_ordinary<F: Folder>(folder: &F, label: &Label<'_>) -> Result<(F::File, Status), StoreError>
-    ensures { IfOk result (λ opened. F.file opened.0
-        ≡ opened_as (F.appends folder.now) opened.1) }
+/// Asks what the system tells of a file that this run holds from now on: another run may have added
+/// to it before.
+fn told_of<F: Folder>(
+    folder: &F,
+    label: &Label<'_>,
+    mut file: F::File,
+) -> Result<Held<F::File>, StoreError>
+    requires { IsHeldAlone (F.file file) }
+    ensures held { IfOk result (λ held. IsHeldAlone (F.file held.file)) }
+    ensures told { IfOk result (λ held. (F.file held.file).status ≡ Some held.status) }
+    ensures appends { IfOk result (λ held. (F.file held.file).appends ≡ (F.file file).appends) }
+{
+    match folder.tell(&mut file) {
+        Ok(status) => Ok(Held { file, status }),
+        Err(error) => Err(label.fail(Left::All, &error)),
+    }
+}
+
+/// Opens the file that the name leads to, unless it is a device, which keeps nothing.
+fn open_ordinary<F: Folder>(folder: &F, label: &Label<'_>) -> Result<F::File, StoreError>
+    ensures { IfOk result (λ file. IsJustOpened (F.appends folder.now) (F.file file)) }
 {
     let mut file = match folder.open(Entry::Target) {
         Ok(file) => file,
@@ -66,8 +83,7 @@ fn open_ordinary<F: Folder>(folder: &F, label: &Label<'_>) -> Result<(F::File, S
         }
     };
     match folder.tell(&mut file) {
-        // A device keeps nothing.
-        Ok(status) if status.is_file => Ok((file, status)),
+        Ok(status) if status.is_file => Ok(file),
         Ok(_) => {
             label
                 .messages

@@ -8,15 +8,18 @@ ghost use Rattle.pb_folder.specs.declared.folder.Hold.TheVariants.{Alone, Shared
 
 use crate::folder::{Entry, Hold, Lock};
 use crate::status::Status;
-use pb_io::History;
-use std::fs::{self, File, Permissions, TryLockError};
+use pb_io::{Fault, History};
+use std::fs::{self, File, OpenOptions, Permissions, TryLockError};
 use std::io::{self, ErrorKind, Read, Write};
 use std::marker::Model;
-use std::os::unix::fs::{MetadataExt, PermissionsExt};
+use std::os::unix::fs::{FileExt, MetadataExt, PermissionsExt};
 use std::path::PathBuf;
 
 /// How often a write is tried that a signal interrupts.
 const TRIES: u32 = 100;
+
+/// How many bytes are written over themselves at a time.
+const PIECE: usize = 16_384;
 
 /// A file of the system that is open, and what the system has answered of it so far. Each method
 /// makes one call of the system.
@@ -215,7 +218,7 @@ impl SystemFile {
     }
 
     /// Writes a front of the bytes, at least one where there are any, and answers how many.
-    pub(crate) fn write(&mut self, bytes: &[u8]) -> io::Result<usize>
+    pub fn write(&mut self, bytes: &[u8]) -> io::Result<usize>
         requires { MayWrite self.old }
         ensures within { IfOk result (λ count. count ≤ length bytes.now) }
         ensures some { IfOk result (λ count. 0 < length bytes.now → 0 < count) }
@@ -242,7 +245,7 @@ impl SystemFile {
     }
 
     /// Puts the file on the disk. Once a write or a sync has failed, none tells anything.
-    pub(crate) fn sync(&mut self) -> io::Result<()>
+    pub fn sync(&mut self) -> io::Result<()>
         ensures synced { OnOk result (self.old.lost ≡ false → self.new.synced ≡ true) }
         ensures works { OnOk result (self.new.lost ≡ self.old.lost) }
         ensures rests { self.new ≡ record self.old {
@@ -254,6 +257,46 @@ impl SystemFile {
         self.lost = self.lost || synced.is_err();
         self.synced = !self.lost;
         synced
+    }
+
+    /// Puts the bytes of the file on the disk, as `sync` does, but not what is told of it.
+    pub fn sync_data(&mut self) -> io::Result<()>
+        ensures synced { OnOk result (self.old.lost ≡ false → self.new.synced ≡ true) }
+        ensures rests { self.new ≡ record self.old {
+          synced = self.new.synced;
+          lost = self.new.lost;
+        } }
+    {
+        let synced = self.file.sync_data();
+        self.lost = self.lost || synced.is_err();
+        self.synced = !self.lost;
+        synced
+    }
+
+    /// Opens what reads the file from its first byte, since nothing of it was read yet.
+    pub fn reader(&self) -> io::Result<File> {
+        self.file.try_clone()
+    }
+
+    /// Writes all bytes of the file over themselves, which the system then has to write anew. The
+    /// path leads to the file, since what is open to be added to is written at its end alone.
+    /// `fault` says what has failed.
+    pub fn write_over(&self, rt: &HostRuntime, path: &str, fault: &mut Fault) -> io::Result<()> {
+        let file = OpenOptions::new().read(true).write(true).open(rt, path)?;
+        let told = file.metadata()?;
+        if !Status::of(&self.file.metadata()?).is_of_one(&Status::of(&told)) {
+            return Err(io::Error::from(ErrorKind::ResourceBusy));
+        }
+        let mut piece = [0; PIECE];
+        for number in 0..=told.len() / PIECE as u64 {
+            let at = number * PIECE as u64;
+            let count = usize::try_from(told.len() - at).map_or(PIECE, |rest| rest.min(PIECE));
+            *fault = Fault::Read;
+            file.read_exact_at(&mut piece[..count], at)?;
+            *fault = Fault::Write;
+            file.write_all_at(&piece[..count], at)?;
+        }
+        Ok(())
     }
 }
 

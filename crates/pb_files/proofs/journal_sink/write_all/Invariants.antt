@@ -1,6 +1,6 @@
 use Rattle.std.proofs.Common.{◌≡◌, ◌≤◌, ◌-◌, None, length, take}
 use Rattle.pb_files.specs.Disk.{Adds, StaysSound}
-use Rattle.pb_files.specs.Steps.{Steps}
+use Rattle.pb_folder.specs.Steps.{Steps}
 use Rattle.pb_files.proofs.journal_sink.write_all.Given as goal
 
 -- so many bytes have been written, and no call has failed
