@@ -67,7 +67,9 @@ impl<'g, 'a> FileJournal<'g, 'a> {
     }
 
     /// Puts the file on the disk, and its name where that isn't there yet.
-    fn sync_all(&mut self) -> io::Result<()> {
+    fn sync_all(&mut self) -> io::Result<()>
+        ensures { self.new.fault ≡ self.old.fault }
+    {
         if self.is_synced {
             return self.file.sync_data();
         }

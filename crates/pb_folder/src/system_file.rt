@@ -10,7 +10,7 @@ use crate::folder::{Entry, Hold, Lock};
 use crate::status::Status;
 use pb_io::{Fault, History};
 use std::fs::{self, File, OpenOptions, Permissions, TryLockError};
-use std::io::{self, ErrorKind, Read, Write};
+use std::io::{self, ErrorKind, Write};
 use std::marker::Model;
 use std::os::unix::fs::{FileExt, MetadataExt, PermissionsExt};
 use std::path::PathBuf;
@@ -321,12 +321,5 @@ fn lock_by(locked: Result<(), TryLockError>) -> Lock {
         Ok(()) => Lock::Held,
         Err(TryLockError::WouldBlock) => Lock::InUse,
         Err(TryLockError::Error(_)) => Lock::Unsupported,
-    }
-}
-
-impl Read for &SystemFile {
-    fn read(&mut self, into: &mut [u8]) -> io::Result<usize> {
-        let file: &SystemFile = self;
-        (&file.file).read(into)
     }
 }

@@ -10,4 +10,11 @@ returns-clause-leaves g c disk started =
     let end = between (λ (end : EndState). end) c.args.journal.now.journal c.journal_into.new.journal.journal in
     let e = states g.Table.Source.state g.In.Source.state g.Out.Sink.state c.args.ends.now c.journal_into.new.ends in
     subst (λ (sync : Bool). IsStarted sync disk end.old kept.old → (e.lines.new ≡ e.lines.old) ⊎ LeavesAnswered sync disk end.new e) c.requires
-    (λ begun. c.answered_games_are_left.ensures (syncs g.row.MODE) disk kept end e begun c.journal_into.ensures.survives c.journal_into.ensures.outlives) started
+    (λ begun. c.answered_games_are_left.ensures (syncs g.row.MODE) disk kept end e begun c.journal_into.ensures.outlives) started
+
+pub returns-clause-hands_on : goal.returns-clause-hands_on
+returns-clause-hands_on g c begins =
+    let kept = between g.Kept.Source.state c.args.journal.now.kept c.journal_into.new.journal.kept in
+    let end = between (λ (end : EndState). end) c.args.journal.now.journal c.journal_into.new.journal.journal in
+    let e = states g.Table.Source.state g.In.Source.state g.Out.Sink.state c.args.ends.now c.journal_into.new.ends in
+    c.answered_games_are_handed_on.ensures.run (syncs g.row.MODE) kept end e begins c.journal_into.ensures.outlives
