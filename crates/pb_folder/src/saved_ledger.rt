@@ -51,7 +51,7 @@ impl<'a> SavedLedger<'a> {
                 Err(error) => Err(label.fail(Left::All, &error)),
             };
         }
-        let mut folder = System::new(messages, path, Part::Ledger);
+        let mut folder = System::new(messages, path, Part::Ledger).read();
         let ledger = hold_ledger(&mut folder, &label)?;
         Ok(SavedLedger::Held(HeldLedger { ledger }))
     }
