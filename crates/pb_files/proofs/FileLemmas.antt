@@ -1,13 +1,13 @@
 -- Lemmas on the steps of a file that is added to, and on what they leave.
-use Rattle.std.proofs.Common.{◌||◌, ◌≡◌, ◌∙◌, ℕ, Bool, true, false, ◌+◌, ◌-◌, min, List, [], ◌++◌, Option, None, Some, Ok, Err, length, take, drop, refl, rules, sym, ap, subst, append_assoc, append-nil, arith, take-append-drop}
-use Rattle.std.specs.Option.{ForSome, is_some}
+use Rattle.std.proofs.Common.{◌||◌, ◌≡◌, ◌∙◌, ℕ, Bool, true, false, ◌+◌, ◌-◌, min, List, [], ◌++◌, Option, None, Some, Ok, Err, length, take, drop, refl, sym, ap, subst, append_assoc, append-nil, arith, take-append-drop}
+use Rattle.std.specs.Option.{ForSome}
 use Rattle.std.specs.Prelude.{IfSome}
 use Rattle.std.proofs.lemmas.List.{take-append-le, take_min, take_rest}
 use Rattle.std.proofs.Math.Seq.{take-add}
 use Rattle.pb_io.specs.Count.{next_count}
 use Rattle.pb_io.specs.Sink.{Flush, Lasts}
 use Rattle.pb_files.specs.Begins.{BeginsWith}
-use Rattle.pb_files.specs.Disk.{Adds, Disk, FileState, Grows, IsOnDisk, IsSound, Leaves, OutlivesCrash, StaysSound, Syncs, SyncsAll, on_disk}
+use Rattle.pb_files.specs.Disk.{Adds, Disk, Grows, IsOnDisk, IsSound, Leaves, OutlivesCrash, StaysSound, Syncs, on_disk}
 use Rattle.pb_files.specs.JournalSink.{EndState, WritesFront, bytes_lasting, bytes_put, sink_state}
 use Rattle.pb_files.specs.Steps.{Steps}
 
@@ -158,12 +158,6 @@ writes_front waits rest bytes n old mid new is left added same = record {
   adds = subst (λ (bs : List ℕ). Steps (Adds (take n bs)) old new) is (told_failed (take n bytes) old mid new added same);
 }
 
--- it was taken
-pub front_taken : (waits rest bytes taken taken' : List ℕ) (n : ℕ) → bytes ≡ waits → rest ≡ drop n waits → taken' ≡ taken ++ take n bytes → taken' ++ rest ≡ taken ++ waits
-front_taken waits rest bytes taken taken' n is left takes =
-    ap (λ bs. bs ++ rest) takes ∙ append_assoc taken (take n bytes) rest ∙ ap (λ bs. taken ++ (take n bs ++ rest)) is
-    ∙ ap (λ bs. taken ++ (take n waits ++ bs)) left ∙ ap (λ bs. taken ++ bs) (take-append-drop n waits)
-
 -- what was put stays
 pub front_keeps : (taken taken' waits rest : List ℕ) (old new : Option Disk) → WritesFront old new waits rest → taken' ++ rest ≡ taken ++ waits → bytes_put new taken' rest ≡ bytes_put old taken waits
 front_keeps taken taken' waits rest None None writes takes = takes
@@ -218,7 +212,3 @@ module _ (sync : Bool) (old new : EndState) (writes : WritesFront old.told new.t
     flushed = flushed;
     flushes = flushes;
   }
-
--- what is sound after a write, while the file works
-pub sound_after : (sync : Bool) (old mid : FileState) → SyncsAll sync old → old.fault ≡ None → (mid.fault ≡ None → Steps StaysSound old.told mid.told) → SyncsAll sync mid
-sound_after sync old mid were works stays synced works' = told_sound old.told mid.told (stays works') (were synced works)
