@@ -1,6 +1,6 @@
 //! A journal over a file of the system.
 
-ghost use Rattle.std.specs.Prelude.{◌≡◌, ◌≤◌, IfErr, IfOk, None, length};
+ghost use Rattle.std.specs.Prelude.{◌≡◌, ◌≤◌, IfErr, IfOk, None, false, length, refl};
 ghost use Rattle.std.specs.Result.{result_err};
 
 use crate::held_file::HeldFile;
@@ -139,6 +139,10 @@ impl<'a> JournalFile for FileJournal<'_, 'a> {
     type Reader = FromRead<Told<'a, File>>;
 
     ghost state = { λ s. record { told = None; fault = s.fault } };
+
+    ghost tells = { false };
+
+    ghost always = { λ _. refl };
 
     fn failed(&self) -> bool {
         self.fault.is_some()
