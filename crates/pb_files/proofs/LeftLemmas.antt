@@ -54,7 +54,7 @@ module _ (sync : Bool) (disk : Disk) (reader : Change SourceState) (end : Change
   }
 
   -- no submission was read, or these answered games are in what is left
-  pub leaves : LosesNone e (journal_over true sync reader end) → LosesNoneLater e (journal_over true sync reader end) → IsSame e.lines ⊎ LeavesAnswered sync disk end.new e
+  leaves : LosesNone e (journal_over true sync reader end) → LosesNoneLater e (journal_over true sync reader end) → IsSame e.lines ⊎ LeavesAnswered sync disk end.new e
   leaves survives outlives =
       elim survives [
         | inl unread ↦ inl unread
@@ -82,8 +82,20 @@ module _ (sync : Bool) (reader : Change SourceState) (end : Change EndState) (e 
   hands_of : (kept : List ℕ) → Outlives kept e (journal_over false sync reader end).journal → HandsOnAnswered kept end.new e
   hands_of kept o = record { gained = o.gained; holds = o.holds; first = (o.lasts.0, o.lasts.1 ∙ ap (λ bs. bs ++ (o.gained ++ o.lasts.0)) starts) }
 
-  pub hands_on : LosesNoneLater e (journal_over false sync reader end) → IsSame e.lines ⊎ ((kept : List ℕ) × HandsOut reader.old reader.new kept × HandsOnAnswered kept end.new e)
+  hands_on : LosesNoneLater e (journal_over false sync reader end) → IsSame e.lines ⊎ ((kept : List ℕ) × HandsOut reader.old reader.new kept × HandsOnAnswered kept end.new e)
   hands_on outlives = elim (outlives (ap (λ (bytes : List ℕ). Some bytes) (starts ∙ sym begins.handed_on))) [
     | inl unread ↦ inl unread
     | inr h ↦ inr (h.0, h.1, hands_of h.0 h.2)
   ]
+
+-- the same of files of a kind that tells what they hold, or not
+
+pub leaves_told : (tells sync : Bool) (disk : Disk) (reader : Change SourceState) (end : Change EndState) (e : EndStates) → tells ≡ true → IsStarted sync disk end.old reader.old → LosesNone e (journal_over tells sync reader end)
+    → LosesNoneLater e (journal_over tells sync reader end) → IsSame e.lines ⊎ LeavesAnswered sync disk end.new e
+leaves_told true sync disk reader end e is started survives outlives = leaves sync disk reader end e started survives outlives
+leaves_told false sync disk reader end e is started survives outlives = cc
+
+pub hands_on_untold : (tells sync : Bool) (reader : Change SourceState) (end : Change EndState) (e : EndStates) → tells ≡ false → BeginsEmpty end.old → LosesNoneLater e (journal_over tells sync reader end)
+    → IsSame e.lines ⊎ ((kept : List ℕ) × HandsOut reader.old reader.new kept × HandsOnAnswered kept end.new e)
+hands_on_untold true sync reader end e is begins outlives = cc
+hands_on_untold false sync reader end e is begins outlives = hands_on sync reader end e begins outlives

@@ -67,19 +67,20 @@ pub fn what_may_be_left()
 /// has come to and that tells what it holds, has read no submission, or each such game is in what
 /// is left of the file, whatever comes then: with `sync` a crash, and else a kill.
 pub fn answered_games_are_left()
-    ensures { (sync : Bool) (disk : Disk) (reader : Change SourceState) (end : Change EndState)
-        (e : EndStates) → IsStarted sync disk end.old reader.old
-        → LosesNone e (journal_over true sync reader end)
-        → LosesNoneLater e (journal_over true sync reader end)
+    ensures { (tells sync : Bool) (disk : Disk) (reader : Change SourceState)
+        (end : Change EndState) (e : EndStates) → tells ≡ true
+        → IsStarted sync disk end.old reader.old
+        → LosesNone e (journal_over tells sync reader end)
+        → LosesNoneLater e (journal_over tells sync reader end)
         → IsSame e.lines ⊎ LeavesAnswered sync disk end.new e }
 {}
 
 /// Such a run over a file that tells nothing has read no submission, or each such game was read of
 /// the journal or handed on to it by flushes that succeeded, first.
 pub fn answered_games_are_handed_on()
-    ensures run { (sync : Bool) (reader : Change SourceState) (end : Change EndState)
-        (e : EndStates) → BeginsEmpty end.old
-        → LosesNoneLater e (journal_over false sync reader end)
+    ensures run { (tells sync : Bool) (reader : Change SourceState) (end : Change EndState)
+        (e : EndStates) → tells ≡ false → BeginsEmpty end.old
+        → LosesNoneLater e (journal_over tells sync reader end)
         → IsSame e.lines ⊎ ((kept : List ℕ) × HandsOut reader.old reader.new kept
         × HandsOnAnswered kept end.new e) }
     // What `JournalSink::new` makes begins so.
