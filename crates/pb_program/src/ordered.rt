@@ -16,7 +16,7 @@ ghost use Rattle.pb_cli.specs.Runs.{HasHeadlineOfBoth, HasHeadlineOfJournal, Int
 ghost use Rattle.pb_cli.specs.Runs.{PicksAll, PicksUntil, between, journal_states, states};
 ghost use Rattle.pb_files.specs.Disk.{Disk};
 ghost use Rattle.pb_files.specs.JournalSink.{syncs};
-ghost use Rattle.pb_files.specs.Journaling.{BeginsUntold, HandsOnAnswered, IsStarted};
+ghost use Rattle.pb_files.specs.Journaling.{BeginsEmpty, HandsOnAnswered, IsStarted};
 ghost use Rattle.pb_files.specs.Journaling.{LeavesAnswered};
 ghost use Rattle.pb_folder.specs.Keeping.{LeadsToHanded};
 ghost use Rattle.pb_io.specs.Source.{HandsOut};
@@ -132,14 +132,14 @@ pub(crate) fn journal<
     ensures book { LeadsToHanded (option_map F.InPlace.state book.new.in_place)
         (option_map F.file book.new.named) }
     // No submission was read, or each game that was acknowledged is in what is left of the file.
-    ensures leaves { (disk : Disk) → IsStarted (is_synced order.now.kept) disk
+    ensures leaves { File.tells ≡ true → (disk : Disk) → IsStarted (is_synced order.now.kept) disk
         journal.old.journal (Kept.state journal.old.kept)
         → (In.state ends.new.lines ≡ In.state ends.old.lines)
         ⊎ LeavesAnswered (is_synced order.now.kept) disk journal.new.journal
         (states Table.state In.state Out.state ends.old ends.new) }
     // The same of a file that tells nothing, as the system's: flushes that succeeded have handed on
     // each such game that wasn't read of it.
-    ensures hands_on { BeginsUntold journal.old.journal
+    ensures hands_on { File.tells ≡ false → BeginsEmpty journal.old.journal
         → (In.state ends.new.lines ≡ In.state ends.old.lines)
         ⊎ ((kept : List ℕ) × HandsOut (Kept.state journal.old.kept) (Kept.state journal.new.kept) kept
         × HandsOnAnswered kept journal.new.journal
