@@ -1,6 +1,7 @@
 -- What a run knows of a file that it has open, by what the system has answered, and what the run may
 -- do with it.
-use Rattle.std.specs.Prelude.{◌≡◌, ◌⊎◌, ◌≤◌, Bool, false, true, List, [], ℕ, Option, None, Some}
+use Rattle.std.specs.Prelude.{◌≡◌, ◌⊎◌, ◌≤◌, ◌+◌, ◌-◌, if◌then◌else◌, Bool, false, true, List, [], ℕ}
+use Rattle.std.specs.Prelude.{Option, None, Some}
 use Rattle.std.specs.Option.{option_map}
 use Rattle.pb_folder.specs.declared.folder.Entry.{Entry}
 use Rattle.pb_folder.specs.declared.folder.Entry.TheVariants.{Target, Draft}
@@ -124,6 +125,23 @@ IsLeftOver s = IsNamedDraft s × (s.hold ≡ Alone)
 
 abbrev pub MayRemove : FileState → Type 0
 MayRemove s = IsOwnDraft s ⊎ IsLeftOver s
+
+-- a draft that this run made, and that another run has, or has removed
+abbrev pub IsOfOther : FileState → Type 0
+IsOfOther s = (s.made ≡ true) × ((s.hold ≡ Nothing) ⊎ (s.named ≡ false))
+
+-- a draft is shared by the run alone that made it
+abbrev pub MayShare : FileState → Type 0
+MayShare s = is_draft s.entry ≡ true → s.made ≡ true
+
+-- how many drafts of this run stand there once this file is removed
+abbrev pub without : FileState → ℕ → ℕ
+without s drafts = if s.made then drafts - 1 else drafts
+
+-- and with one that it has made, if it has
+abbrev pub with_draft : {X : Type 0} → Option X → ℕ → ℕ
+with_draft None drafts = drafts
+with_draft (Some draft) drafts = drafts + 1
 
 -- the file of the name, which this run alone holds
 abbrev pub IsHeldAlone : FileState → Type 0

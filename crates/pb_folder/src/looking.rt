@@ -53,6 +53,7 @@ pub fn look_at<F: Folder>(
         (option_map (λ o. F.file o.file) old)) }
     ensures refused { is_refused result ≡ true → F.ledger folder.new ≡ false }
     ensures untouched { IfRefused result (λ f. IsUntouched (F.file f)) }
+    ensures drafts { F.drafts folder.new ≡ F.drafts folder.old }
     ensures ledger { F.ledger folder.new ≡ F.ledger folder.old }
     ensures same { F.shelf folder.new ≡ F.shelf folder.old }
 {
@@ -74,6 +75,7 @@ fn look_at_none<F: Folder>(
     ensures book { OnOk result (F.ledger folder.new ≡ false) }
     ensures refused { is_refused result ≡ true → F.ledger folder.new ≡ false }
     ensures untouched { IfRefused result (λ f. IsUntouched (F.file f)) }
+    ensures drafts { F.drafts folder.new ≡ F.drafts folder.old }
     ensures ledger { F.ledger folder.new ≡ F.ledger folder.old }
     ensures same { F.shelf folder.new ≡ F.shelf folder.old }
 {
@@ -108,6 +110,7 @@ fn look_at_file<F: Folder>(
         (option_map (λ o. F.file o.file) old)) }
     ensures refused { is_refused result ≡ true → F.ledger folder.new ≡ false }
     ensures untouched { IfRefused result (λ f. IsUntouched (F.file f)) }
+    ensures drafts { F.drafts folder.new ≡ F.drafts folder.old }
     ensures ledger { F.ledger folder.new ≡ F.ledger folder.old }
     ensures same { F.shelf folder.new ≡ F.shelf folder.old }
 {
@@ -138,6 +141,7 @@ fn expect_free<F: Folder>(
     status: &Status,
 ) -> Result<(), StoreError>
     requires holder { IfSome ledger (λ l. IsHolder (F.file l.now.file) l.now.status) }
+    requires opened { (F.file file.old).entry ≡ Target }
     requires told { (F.file file.old).status ≡ Some status.now }
     ensures book { OnOk result (is_some ledger.entry ≡ false → is_held (F.file file.new).hold ≡ true) }
     ensures held { OnOk result (IfSome ledger.entry (λ l. IsOneFile (F.file l.now.file)
@@ -173,6 +177,7 @@ fn unreplaceable<F: Folder>(
     ensures same_file { F.file file.new ≡ record (F.file file.old) {
       named = (F.file file.new).named;
     } }
+    ensures drafts { F.drafts folder.new ≡ F.drafts folder.old }
     ensures ledger { F.ledger folder.new ≡ F.ledger folder.old }
     ensures same { F.shelf folder.new ≡ F.shelf folder.old }
 {

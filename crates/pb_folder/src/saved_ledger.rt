@@ -112,7 +112,7 @@ pub fn book_store<'f, 'a>(
         part: Part::Book,
         path,
     };
-    let folder = System::new(messages, path, Part::Book);
-    expect_book(&folder, &label)?;
+    let mut folder = System::new(messages, path, Part::Book);
+    expect_book(&mut folder, &label)?;
     Ok(KeptFile::<'f, 'a, System<'a>>::of_book(folder, label))
 }

@@ -1,6 +1,6 @@
 //! A file that is made anew whole.
 
-ghost use Rattle.std.specs.Prelude.{◌≡◌, ℕ, List, Err, IfOk, IfSome, OnErr, OnOk, Some, false, true};
+ghost use Rattle.std.specs.Prelude.{◌≡◌, ◌+◌, ◌-◌, ℕ, List, Err, IfOk, IfSome, OnErr, OnOk, Some, false, true};
 ghost use Rattle.std.specs.Option.{option_map};
 ghost use Rattle.pb_folder.specs.File.{Fits, IsNewDraft, IsOfHolder, IsOld, IsOwnDraft, IsPut};
 ghost use Rattle.pb_folder.specs.Shelf.{Names, NamesNot};
@@ -66,6 +66,7 @@ pub fn put_text<F: Folder, X: Text>(
         × OnErr result (Steps (NamesNot (Some bytes)) (F.shelf folder.old)
         (F.shelf folder.new)) }
     ensures refused { is_put_refused result ≡ true → F.ledger folder.new ≡ false }
+    ensures drafts { F.drafts folder.new ≡ F.drafts folder.old }
     ensures ledger { F.ledger folder.new ≡ F.ledger folder.old }
 {
     let file = new_draft(folder, label, old)?;
@@ -87,14 +88,19 @@ pub fn put_text<F: Folder, X: Text>(
 
 /// Makes an empty draft, which can take the place of the old file.
 pub(crate) fn new_draft<F: Folder>(
-    folder: &F,
+    folder: &mut F,
     label: &Label<'_>,
     old: Option<&Old<F::File>>,
 ) -> Result<F::File, NotPut>
     ensures new { IfOk result (λ draft. IsNewDraft (F.file draft)) }
-    ensures refused { is_put_refused result ≡ true → F.ledger folder.now ≡ false }
+    ensures refused { is_put_refused result ≡ true → F.ledger folder.new ≡ false }
+    ensures drafts { OnOk result (F.drafts folder.new ≡ F.drafts folder.old + 1) }
+    ensures none { OnErr result (F.drafts folder.new ≡ F.drafts folder.old) }
+    ensures same { F.shelf folder.new ≡ F.shelf folder.old }
+    ensures ledger { F.ledger folder.new ≡ F.ledger folder.old }
 {
-    match make_draft(folder, old.is_some(), folder.is_ledger()) {
+    let is_alone = folder.is_ledger();
+    match make_draft(folder, old.is_some(), is_alone) {
         Ok(Some(draft)) => fitted(folder, label, old, draft),
         Ok(None) => {
             label.messages.tell(&Message::InUse(label.path));
@@ -106,14 +112,18 @@ pub(crate) fn new_draft<F: Folder>(
 
 /// Gives a new draft the old file's mode. Where it can't take its place it is removed.
 fn fitted<F: Folder>(
-    folder: &F,
+    folder: &mut F,
     label: &Label<'_>,
     old: Option<&Old<F::File>>,
     mut draft: F::File,
 ) -> Result<F::File, NotPut>
     requires { IsNewDraft (F.file draft) }
     ensures new { IfOk result (λ fit. IsNewDraft (F.file fit)) }
-    ensures refused { is_put_refused result ≡ true → F.ledger folder.now ≡ false }
+    ensures refused { is_put_refused result ≡ true → F.ledger folder.new ≡ false }
+    ensures drafts { OnOk result (F.drafts folder.new ≡ F.drafts folder.old) }
+    ensures none { OnErr result (F.drafts folder.new ≡ F.drafts folder.old - 1) }
+    ensures same { F.shelf folder.new ≡ F.shelf folder.old }
+    ensures ledger { F.ledger folder.new ≡ F.ledger folder.old }
 {
     if let Err(why) = fit_draft(folder, label, old, &mut draft) {
         folder.remove(draft);
@@ -179,7 +189,7 @@ fn left_before<X>(label: &Label<'_>, old: Option<&Old<X>>) -> Left {
 
 /// Writes the draft and puts it on the disk. Where that fails it is removed.
 fn write_draft<F: Folder, X: Text>(
-    folder: &F,
+    folder: &mut F,
     label: &Label<'_>,
     old: Option<&Old<F::File>>,
     file: F::File,
@@ -189,7 +199,11 @@ fn write_draft<F: Folder, X: Text>(
     requires text { (bytes : List ℕ) × (count : ℕ) × X.is_text text.now bytes count }
     ensures written { (bytes : List ℕ) × (count : ℕ) × X.is_text text.now bytes count
         × IfOk result (λ written. IsWritten bytes (F.file written.0) × (written.1 ≡ count)) }
-    ensures refused { is_put_refused result ≡ true → F.ledger folder.now ≡ false }
+    ensures refused { is_put_refused result ≡ true → F.ledger folder.new ≡ false }
+    ensures drafts { OnOk result (F.drafts folder.new ≡ F.drafts folder.old) }
+    ensures none { OnErr result (F.drafts folder.new ≡ F.drafts folder.old - 1) }
+    ensures same { F.shelf folder.new ≡ F.shelf folder.old }
+    ensures ledger { F.ledger folder.new ≡ F.ledger folder.old }
 {
     let Ok(room) = Vec::with_capacity(label.messages.rt.alloc(), BUFFER_LEN) else {
         folder.remove(file);
@@ -252,6 +266,7 @@ fn name_draft<F: Folder>(
     ensures not_named { OnErr result (Steps (NamesNot (Some (F.file file).handed))
         (F.shelf folder.old) (F.shelf folder.new)) }
     ensures refused { is_put_refused result ≡ true → F.ledger folder.new ≡ false }
+    ensures drafts { F.drafts folder.new ≡ F.drafts folder.old - 1 }
     ensures ledger { F.ledger folder.new ≡ F.ledger folder.old }
 {
     if let Err(why) = rename_draft(folder, label, old, ledger, &mut file) {
@@ -283,6 +298,8 @@ fn rename_draft<F: Folder>(
     ensures not_named { OnErr result (Steps (NamesNot (Some (F.file draft.old).handed))
         (F.shelf folder.old) (F.shelf folder.new)) }
     ensures refused { is_put_refused result ≡ true → F.ledger folder.new ≡ false }
+    ensures drafts { OnOk result (F.drafts folder.new ≡ F.drafts folder.old - 1) }
+    ensures stays { OnErr result (F.drafts folder.new ≡ F.drafts folder.old) }
     ensures ledger { F.ledger folder.new ≡ F.ledger folder.old }
 {
     fit_draft(folder, label, old, draft)?;

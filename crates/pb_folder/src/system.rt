@@ -37,6 +37,7 @@ pub struct System<'a> {
     place: Place<'a>,
     is_ledger: bool,
     is_journal: bool,
+    drafts: u64,
 }
 
 impl<'a> System<'a> {
@@ -51,6 +52,7 @@ impl<'a> System<'a> {
             place: Place::of_name(path),
             is_ledger: matches!(part, Part::Ledger),
             is_journal: matches!(part, Part::Journal),
+            drafts: 0,
         }
     }
 
@@ -126,6 +128,8 @@ impl<'a> Folder for System<'a> {
 
     ghost shelf = { λ _. None };
 
+    ghost drafts = { λ s. s.drafts };
+
     ghost ledger = { λ s. s.is_ledger };
 
     ghost appends = { λ s. s.is_journal };
@@ -169,12 +173,16 @@ impl<'a> Folder for System<'a> {
     }
 
     // Over a network a shared lock is for files alone that are open to be read.
-    fn make(&self, number: u32, is_private: bool) -> io::Result<SystemFile> {
+    fn make(&mut self, number: u32, is_private: bool) -> io::Result<SystemFile> {
+        let Some(drafts) = self.drafts.checked_add(1) else {
+            return Err(io::Error::from(ErrorKind::OutOfMemory));
+        };
         let path = self.draft_path(number)?;
         let mode = if is_private { OWN } else { ANYBODY };
         let mut options = OpenOptions::new();
         options.read(true).write(true).create_new(true).mode(mode);
         let file = options.open(self.messages.rt, path.as_path())?;
+        self.drafts = drafts;
         Ok(SystemFile::draft(file, number, path, true))
     }
 
@@ -230,16 +238,25 @@ impl<'a> Folder for System<'a> {
         _old: Option<&SystemFile>,
         _held: Option<&SystemFile>,
     ) -> io::Result<()> {
-        draft.rename(self.messages.rt, self.place.path())
+        draft.rename(self.messages.rt, self.place.path())?;
+        self.drafts = self.drafts.saturating_sub(1);
+        Ok(())
     }
 
     fn sync_names(&mut self) -> io::Result<()> {
         self.place.sync_folder(self.messages.rt)
     }
 
-    fn remove(&self, draft: SystemFile) {
+    fn remove(&mut self, draft: SystemFile) {
         if let Some(path) = draft.path() {
             let _ = fs::remove_file(self.messages.rt, path);
         }
+        if draft.is_made() {
+            self.drafts = self.drafts.saturating_sub(1);
+        }
+    }
+
+    fn leave(&mut self, _draft: SystemFile) {
+        self.drafts = self.drafts.saturating_sub(1);
     }
 }

@@ -120,6 +120,13 @@ impl SystemFile {
         }
     }
 
+    /// Whether this run has made it.
+    pub(crate) fn is_made(&self) -> bool
+        ensures { result ≡ self.now.made }
+    {
+        self.made
+    }
+
     /// Whether what was told of it is that it is no ordinary file.
     pub(crate) fn is_device(&self) -> bool {
         self.status.is_some_and(|status| !status.is_file)
