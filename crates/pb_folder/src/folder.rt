@@ -1,12 +1,12 @@
 //! The system's calls on one name in a folder, and on the drafts of its file.
 
-ghost use Rattle.std.specs.Prelude.{◌≡◌, ◌+◌, ◌-◌, ◌++◌, ℕ, Bool, IfOk, IfSome, List, None, OnErr, OnOk, Option};
-ghost use Rattle.std.specs.Prelude.{Some, [], false, true};
-ghost use Rattle.std.specs.Option.{option_map};
+ghost use Rattle.std.specs.Prelude.{◌≡◌, ◌+◌, ◌-◌, ◌++◌, ◌||◌, ℕ, Bool, IfOk, IfSome, List, None, OnErr, OnOk};
+ghost use Rattle.std.specs.Prelude.{Option, Some, [], false, is_err, true};
+ghost use Rattle.std.specs.Option.{is_some, option_map};
 ghost use Rattle.pb_io.specs.Sink.{HandedOn};
-ghost use Rattle.pb_folder.specs.File.{CanReplace, FileState, IsNamedDraft, IsOfHolder, IsOwnDraft};
-ghost use Rattle.pb_folder.specs.File.{IsOfOther, MayRemove, MayShare, emptied, locked, new_draft};
-ghost use Rattle.pb_folder.specs.File.{opened, with_mode, without};
+ghost use Rattle.pb_folder.specs.File.{CanReplace, FileState, IsNewDraft, IsOfHolder, IsOfOther};
+ghost use Rattle.pb_folder.specs.File.{IsOwnDraft, MayRemove, MayShare, emptied, is_nothing, locked};
+ghost use Rattle.pb_folder.specs.File.{new_draft, opened, with_mode, without};
 ghost use Rattle.pb_folder.specs.Shelf.{Begins, Empties, Names, NamesNot, Settles, SettlesNot, Shelf};
 ghost use Rattle.pb_folder.specs.Steps.{Steps};
 ghost use Rattle.pb_folder.specs.declared.folder.Entry.TheVariants.{Draft, Target};
@@ -88,6 +88,13 @@ pub trait Folder {
     /// nor left to another run.
     ghost drafts: { Self → ℕ };
 
+    /// Nothing was seen under the name.
+    ghost free: { Self → Bool };
+
+    /// The folder's names couldn't be put on the disk since the name was given. A later try may
+    /// succeed then though the name isn't there.
+    ghost unsettled: { Self → Bool };
+
     /// Whether the name is that of a ledger, which a run replaces that holds it alone.
     ghost ledger: { Self → Bool };
 
@@ -102,11 +109,16 @@ pub trait Folder {
     fn follow(&mut self) -> io::Result<()>
         ensures same { shelf self.new ≡ shelf self.old }
         ensures drafts { drafts self.new ≡ drafts self.old }
+        ensures free { free self.new ≡ free self.old }
         ensures ledger { ledger self.new ≡ ledger self.old }
         ensures appends { appends self.new ≡ appends self.old };
 
     /// Looks at what has the name.
-    fn look(&self) -> Seen;
+    fn look(&mut self) -> Seen
+        ensures free { free self.new ≡ is_nothing result }
+        ensures same { shelf self.new ≡ shelf self.old }
+        ensures drafts { drafts self.new ≡ drafts self.old }
+        ensures ledger { ledger self.new ≡ ledger self.old };
 
     /// Opens the file that the entry leads to, to be written.
     fn open(&self, entry: Entry) -> io::Result<Self::File>
@@ -118,6 +130,7 @@ pub trait Folder {
         ensures made { IfOk result (λ f. file f ≡ new_draft number) }
         ensures drafts { OnOk result (drafts self.new ≡ drafts self.old + 1) }
         ensures none { OnErr result (drafts self.new ≡ drafts self.old) }
+        ensures free { free self.new ≡ free self.old }
         ensures same { shelf self.new ≡ shelf self.old }
         ensures ledger { ledger self.new ≡ ledger self.old };
 
@@ -149,9 +162,7 @@ pub trait Folder {
     /// Makes an end into a draft that has taken nothing yet, with this room for what waits. A
     /// failure leaves so much, which is told then.
     fn draft(&self, f: Self::File, room: Vec<u8>, left: Left) -> Self::Draft
-        requires own { IsOwnDraft (file f) }
-        requires works { (file f).lost ≡ false }
-        requires empty { (file f).handed ≡ [] }
+        requires new { IsNewDraft (ledger self.now) (file f) }
         requires room { room.items ≡ [] }
         ensures { Begins (Self.Draft.state result) };
 
@@ -189,8 +200,8 @@ pub trait Folder {
         requires room { room.items ≡ [] }
         ensures { Begins (Self.InPlace.state result) };
 
-    /// Gives the draft the name, and takes it from the old file, if there is one. `held` is the file
-    /// of a ledger as this run holds it.
+    /// Gives the draft the name, and takes it from the old file, unless nothing was seen there. `held`
+    /// is the file of a ledger as this run holds it.
     fn rename(
         &mut self,
         draft: &mut Self::File,
@@ -201,6 +212,7 @@ pub trait Folder {
         requires on_disk { (file draft.old).synced ≡ true }
         requires fits { IfSome old (λ o. CanReplace (ledger self.old) (file o.now)
             (file draft.old)) }
+        requires free { is_some old ≡ false → free self.old ≡ true }
         requires held { ledger self.old ≡ true → IsOfHolder (option_map (λ h. file h.now) held)
             (option_map (λ o. file o.now) old) }
         ensures name { OnOk result (file draft.new ≡ record (file draft.old) { entry = Target }) }
@@ -211,11 +223,14 @@ pub trait Folder {
             (shelf self.old) (shelf self.new)) }
         ensures drafts { OnOk result (drafts self.new ≡ drafts self.old - 1) }
         ensures stays { OnErr result (drafts self.new ≡ drafts self.old) }
+        ensures untried { OnOk result (unsettled self.new ≡ false) }
         ensures ledger { ledger self.new ≡ ledger self.old };
 
     /// Puts the folder's names on the disk.
     fn sync_names(&mut self) -> io::Result<()>
-        ensures settled { OnOk result (Steps Settles (shelf self.old) (shelf self.new)) }
+        ensures settled { OnOk result (unsettled self.old ≡ false
+            → Steps Settles (shelf self.old) (shelf self.new)) }
+        ensures noted { unsettled self.new ≡ (unsettled self.old || is_err result) }
         ensures not_settled { OnErr result (Steps SettlesNot (shelf self.old) (shelf self.new)) }
         ensures drafts { drafts self.new ≡ drafts self.old }
         ensures ledger { ledger self.new ≡ ledger self.old };
@@ -224,6 +239,7 @@ pub trait Folder {
     fn remove(&mut self, draft: Self::File)
         requires { MayRemove (file draft) }
         ensures drafts { drafts self.new ≡ without (file draft) (drafts self.old) }
+        ensures free { free self.new ≡ free self.old }
         ensures same { shelf self.new ≡ shelf self.old }
         ensures ledger { ledger self.new ≡ ledger self.old };
 
@@ -231,6 +247,7 @@ pub trait Folder {
     fn leave(&mut self, draft: Self::File)
         requires { IsOfOther (file draft) }
         ensures drafts { drafts self.new ≡ drafts self.old - 1 }
+        ensures free { free self.new ≡ free self.old }
         ensures same { shelf self.new ≡ shelf self.old }
         ensures ledger { ledger self.new ≡ ledger self.old };
 }

@@ -38,6 +38,8 @@ pub struct System<'a> {
     is_ledger: bool,
     is_journal: bool,
     drafts: u64,
+    is_free: bool,
+    is_unsettled: bool,
 }
 
 impl<'a> System<'a> {
@@ -53,6 +55,8 @@ impl<'a> System<'a> {
             is_ledger: matches!(part, Part::Ledger),
             is_journal: matches!(part, Part::Journal),
             drafts: 0,
+            is_free: false,
+            is_unsettled: false,
         }
     }
 
@@ -130,6 +134,10 @@ impl<'a> Folder for System<'a> {
 
     ghost drafts = { λ s. s.drafts };
 
+    ghost free = { λ s. s.is_free };
+
+    ghost unsettled = { λ s. s.is_unsettled };
+
     ghost ledger = { λ s. s.is_ledger };
 
     ghost appends = { λ s. s.is_journal };
@@ -147,9 +155,10 @@ impl<'a> Folder for System<'a> {
         Ok(())
     }
 
-    fn look(&self) -> Seen {
+    fn look(&mut self) -> Seen {
         let rt = self.messages.rt;
-        if fs::symlink_metadata(rt, self.path).is_err() {
+        self.is_free = fs::symlink_metadata(rt, self.path).is_err();
+        if self.is_free {
             return Seen::Nothing;
         }
         match fs::metadata(rt, self.path) {
@@ -240,11 +249,14 @@ impl<'a> Folder for System<'a> {
     ) -> io::Result<()> {
         draft.rename(self.messages.rt, self.place.path())?;
         self.drafts = self.drafts.saturating_sub(1);
+        self.is_unsettled = false;
         Ok(())
     }
 
     fn sync_names(&mut self) -> io::Result<()> {
-        self.place.sync_folder(self.messages.rt)
+        let synced = self.place.sync_folder(self.messages.rt);
+        self.is_unsettled = self.is_unsettled || synced.is_err();
+        synced
     }
 
     fn remove(&mut self, draft: SystemFile) {
