@@ -1,6 +1,6 @@
 //! A journal in memory, which tells all and fails at a call that is chosen.
 
-ghost use Rattle.std.specs.Prelude.{◌≡◌, ◌≤◌, IfSome, None, Some, false, length, true};
+ghost use Rattle.std.specs.Prelude.{◌≡◌, ◌≤◌, IfSome, None, Some, false, length, refl, true};
 ghost use Rattle.pb_files.specs.Disk.{on_disk};
 
 use pb_files::JournalFile;
@@ -94,6 +94,10 @@ impl JournalFile for MemJournal {
       told = Some (record { found = m.bytes.items; kept = m.kept; lost = m.lost });
       fault = m.fault;
     } };
+
+    ghost tells = { true };
+
+    ghost always = { λ _. refl };
 
     fn failed(&self) -> bool {
         self.fault.is_some()

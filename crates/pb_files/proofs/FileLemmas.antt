@@ -1,13 +1,14 @@
 -- Lemmas on the steps of a file that is added to, and on what they leave.
-use Rattle.std.proofs.Common.{◌||◌, ◌≡◌, ◌∙◌, ℕ, Bool, true, false, ◌+◌, ◌-◌, min, List, [], ◌++◌, Option, None, Some, Ok, Err, length, take, drop, refl, rules, sym, ap, subst, append_assoc, append-nil, arith, take-append-drop}
-use Rattle.std.specs.Option.{ForSome, is_some}
+use Rattle.std.proofs.Common.{◌||◌, ◌≡◌, ◌∙◌, ℕ, Bool, true, false, ◌+◌, ◌-◌, min, List, [], ◌++◌, Option, None, Some, Ok, Err, length, take, drop, refl, sym, ap, subst, append_assoc, append-nil, arith, take-append-drop}
+use Rattle.std.specs.Option.{ForSome}
 use Rattle.std.specs.Prelude.{IfSome}
 use Rattle.std.proofs.lemmas.List.{take-append-le, take_min, take_rest}
 use Rattle.std.proofs.Math.Seq.{take-add}
+use Rattle.std.specs.Io.KnownBytes.{Keeps}
 use Rattle.pb_io.specs.Count.{next_count}
-use Rattle.pb_io.specs.Sink.{Flush, Lasts}
+use Rattle.pb_io.specs.Sink.{AllLasts, Flush, Lasts}
 use Rattle.pb_files.specs.Begins.{BeginsWith}
-use Rattle.pb_files.specs.Disk.{Adds, Disk, FileState, Grows, IsOnDisk, IsSound, Leaves, OutlivesCrash, StaysSound, Syncs, SyncsAll, on_disk}
+use Rattle.pb_files.specs.Disk.{Adds, Disk, Grows, IsOnDisk, IsSound, Leaves, OutlivesCrash, StaysSound, Syncs, on_disk}
 use Rattle.pb_files.specs.JournalSink.{EndState, WritesFront, bytes_lasting, bytes_put, sink_state}
 use Rattle.pb_folder.specs.Steps.{Steps}
 
@@ -130,18 +131,22 @@ told_on_disk_outlives (Some disk) on_disk = outlives disk (on_disk disk refl)
 
 -- ---- what lasts of a sink at the end of a file
 
-pub lasting_grows : (sync : Bool) (old new : Option Disk) (before more after : List ℕ) → after ≡ before ++ more → Steps Grows old new → Lasts (Some (bytes_lasting sync old before)) (Some (bytes_lasting sync new after))
-lasting_grows sync None None before more after is grows = (more, is)
-lasting_grows sync None (Some new) before more after is grows = absurd grows
-lasting_grows sync (Some old) None before more after is grows = absurd grows
-lasting_grows true (Some old) (Some new) before more after is grows = kept-first old new grows
-lasting_grows false (Some old) (Some new) before more after is (bytes, adds) = (bytes, adds.found)
+pub lasting_grows : (sync : Bool) (old new : Option Disk) → Steps Grows old new → Lasts (bytes_lasting sync old) (bytes_lasting sync new)
+lasting_grows sync None None grows = refl
+lasting_grows sync None (Some new) grows = absurd grows
+lasting_grows sync (Some old) None grows = absurd grows
+lasting_grows true (Some old) (Some new) grows = kept-first old new grows
+lasting_grows false (Some old) (Some new) (bytes, adds) = (bytes, adds.found)
 
--- of a file that tells all lasts that is found, and of another all that it has taken
-pub lasting_all : (sync : Bool) (told : Option Disk) (taken handed_on : List ℕ) → handed_on ≡ taken → (sync ≡ true → ForSome told IsOnDisk) → bytes_put told taken [] ≡ bytes_lasting sync told handed_on
-lasting_all sync None taken handed_on is on_disk = append-nil taken ∙ sym is
-lasting_all true (Some disk) taken handed_on is on_disk = append-nil disk.found ∙ sym (on_disk refl disk refl)
-lasting_all false (Some disk) taken handed_on is on_disk = append-nil disk.found
+pub lasting_all : (sync : Bool) (told : Option Disk) → (sync ≡ true → ForSome told IsOnDisk) → bytes_lasting sync told ≡ bytes_put told []
+lasting_all sync None on_disk = refl
+lasting_all true (Some disk) on_disk = ap (λ (bytes : List ℕ). Some bytes) (on_disk refl disk refl ∙ sym (append-nil disk.found))
+lasting_all false (Some disk) on_disk = ap (λ (bytes : List ℕ). Some bytes) (sym (append-nil disk.found))
+
+-- where what lasts is what was put, all of it lasts
+pub all_last : (lasting bytes : Option (List ℕ)) → lasting ≡ bytes → IfSome lasting (λ last. bytes ≡ Some last)
+all_last None bytes is = tt
+all_last (Some last) bytes is = sym is
 
 -- a sync adds no byte, whether it succeeds or not
 pub told_syncs : (mid new : Option Disk) → Steps Syncs mid new → Steps (Adds []) mid new
@@ -158,19 +163,11 @@ writes_front waits rest bytes n old mid new is left added same = record {
   adds = subst (λ (bs : List ℕ). Steps (Adds (take n bs)) old new) is (told_failed (take n bytes) old mid new added same);
 }
 
--- it was taken
-pub front_taken : (waits rest bytes taken taken' : List ℕ) (n : ℕ) → bytes ≡ waits → rest ≡ drop n waits → taken' ≡ taken ++ take n bytes → taken' ++ rest ≡ taken ++ waits
-front_taken waits rest bytes taken taken' n is left takes =
-    ap (λ bs. bs ++ rest) takes ∙ append_assoc taken (take n bytes) rest ∙ ap (λ bs. taken ++ (take n bs ++ rest)) is
-    ∙ ap (λ bs. taken ++ (take n waits ++ bs)) left ∙ ap (λ bs. taken ++ bs) (take-append-drop n waits)
-
 -- what was put stays
-pub front_keeps : (taken taken' waits rest : List ℕ) (old new : Option Disk) → WritesFront old new waits rest → taken' ++ rest ≡ taken ++ waits → bytes_put new taken' rest ≡ bytes_put old taken waits
-front_keeps taken taken' waits rest None None writes takes = takes
-front_keeps taken taken' waits rest None (Some new) writes takes = absurd writes.adds
-front_keeps taken taken' waits rest (Some old) None writes takes = absurd writes.adds
-front_keeps taken taken' waits rest (Some old) (Some new) writes takes =
-    ap (λ f. f ++ rest) writes.adds.found ∙ append_assoc old.found writes.front rest ∙ ap (λ bs. old.found ++ bs) writes.is_front
+front_keeps : (waits rest : List ℕ) (old new : Option Disk) → WritesFront old new waits rest → Keeps (bytes_put old waits) (bytes_put new rest)
+front_keeps waits rest None new writes = tt
+front_keeps waits rest (Some old) None writes = absurd writes.adds
+front_keeps waits rest (Some old) (Some new) writes = ap (λ f. f ++ rest) writes.adds.found ∙ append_assoc old.found writes.front rest ∙ ap (λ bs. old.found ++ bs) writes.is_front
 
 pub front_grows : (waits rest : List ℕ) (old new : Option Disk) → WritesFront old new waits rest → Steps Grows old new
 front_grows waits rest old new writes = told_grows writes.front old new writes.adds
@@ -189,36 +186,37 @@ fails_with_file true old new failed worked is = let no : true ≡ false = worked
 
 -- a flush of a sink at the end of a file, by what it did there
 module _ (sync : Bool) (old new : EndState) (writes : WritesFront old.told new.told old.waits new.waits) (takes : new.taken ++ new.waits ≡ old.taken ++ old.waits) (worked : old.failed ≡ false) where
-  put_stays : bytes_put new.told new.taken new.waits ≡ bytes_put old.told old.taken old.waits
-  put_stays = front_keeps old.taken new.taken old.waits new.waits old.told new.told writes takes
+  put_stays : (tells : Bool) → Keeps (sink_state tells sync old).bytes (sink_state tells sync new).bytes
+  put_stays true = front_keeps old.waits new.waits old.told new.told writes
+  put_stays false = takes
 
-  grows : Steps Grows old.told new.told
-  grows = front_grows old.waits new.waits old.told new.told writes
+  lasts_on : (tells : Bool) (more : List ℕ) → new.handed_on ≡ old.handed_on ++ more → Lasts (sink_state tells sync old).lasting (sink_state tells sync new).lasting
+  lasts_on true more hands = lasting_grows sync old.told new.told (front_grows old.waits new.waits old.told new.told writes)
+  lasts_on false more hands = (more, hands)
 
-  pub flush_done : {E : Type 0} → old.handed_on ≡ old.taken → new.waits ≡ [] → new.handed_on ≡ old.handed_on ++ old.waits → (sync ≡ true → ForSome new.told IsOnDisk) → new.failed ≡ false → new.flushed ≡ true
-      → new.flushes ≡ next_count old.flushes → Flush {E = E} (sink_state sync old) (sink_state sync new) (Ok tt)
-  flush_done all none hands on_disk works flushed flushes =
-      let is = all_handed_on old.taken new.taken old.handed_on new.handed_on old.waits new.waits all hands none takes in record {
-        bytes = put_stays;
-        lasts = lasting_grows sync old.told new.told old.handed_on old.waits new.handed_on hands grows;
-        all_lasts = ap (λ bs. Some bs) (ap (bytes_put new.told new.taken) none ∙ lasting_all sync new.told new.taken new.handed_on is on_disk);
-        failed = works;
-        stays_failed = λ was. let bad : false ≡ true = sym worked ∙ was in cc;
-        flushed = flushed;
-        flushes = flushes;
-      }
+  all_lasts : (tells : Bool) → new.waits ≡ [] → new.handed_on ≡ new.taken → (sync ≡ true → ForSome new.told IsOnDisk) → AllLasts (sink_state tells sync new)
+  all_lasts true none is on_disk = all_last _ _ (lasting_all sync new.told on_disk ∙ sym (ap (bytes_put new.told) none))
+  all_lasts false none is on_disk = ap (λ (bs : List ℕ). Some bs) (ap (λ bs. new.taken ++ bs) none ∙ append-nil new.taken ∙ sym is)
 
-  pub flush_failed : {E : Type 0} (why : E) → new.handed_on ≡ old.handed_on → new.failed ≡ true → new.flushed ≡ false → new.flushes ≡ old.flushes → Flush (sink_state sync old) (sink_state sync new) (Err why)
-  flush_failed why hands failed flushed flushes = record {
-    bytes = put_stays;
-    lasts = lasting_grows sync old.told new.told old.handed_on [] new.handed_on (hands ∙ sym (append-nil old.handed_on)) grows;
+  pub flush_done : {E : Type 0} (tells : Bool) → old.handed_on ≡ old.taken → new.waits ≡ [] → new.handed_on ≡ old.handed_on ++ old.waits → (sync ≡ true → ForSome new.told IsOnDisk) → new.failed ≡ false → new.flushed ≡ true
+      → new.flushes ≡ next_count old.flushes → Flush {E = E} (sink_state tells sync old) (sink_state tells sync new) (Ok tt)
+  flush_done tells all none hands on_disk works flushed flushes = record {
+    bytes = put_stays tells;
+    lasts = lasts_on tells old.waits hands;
+    all_lasts = all_lasts tells none (all_handed_on old.taken new.taken old.handed_on new.handed_on old.waits new.waits all hands none takes) on_disk;
+    failed = works;
+    stays_failed = λ was. let bad : false ≡ true = sym worked ∙ was in cc;
+    flushed = flushed;
+    flushes = flushes;
+  }
+
+  pub flush_failed : {E : Type 0} (tells : Bool) (why : E) → new.handed_on ≡ old.handed_on → new.failed ≡ true → new.flushed ≡ false → new.flushes ≡ old.flushes → Flush (sink_state tells sync old) (sink_state tells sync new) (Err why)
+  flush_failed tells why hands failed flushed flushes = record {
+    bytes = put_stays tells;
+    lasts = lasts_on tells [] (hands ∙ sym (append-nil old.handed_on));
     all_lasts = tt;
     failed = failed;
     stays_failed = λ _. refl;
     flushed = flushed;
     flushes = flushes;
   }
-
--- what is sound after a write, while the file works
-pub sound_after : (sync : Bool) (old mid : FileState) → SyncsAll sync old → old.fault ≡ None → (mid.fault ≡ None → Steps StaysSound old.told mid.told) → SyncsAll sync mid
-sound_after sync old mid were works stays synced works' = told_sound old.told mid.told (stays works') (were synced works)

@@ -1,88 +1,101 @@
--- What is left of a journal's file begins with what lasted of it.
+-- What is left of a journal's file begins with what lasted of it, and so does what was handed on.
 use Rattle.std.proofs.Common.{◌≡◌, ◌∙◌, ◌⊎◌, ℕ, Bool, true, false, List, [], ◌++◌, Option, None, Some, IfSome, ap, append-nil, append_assoc, inl, inr, refl, subst, sym}
+use Rattle.std.specs.Option.{ForSome}
+use Rattle.std.specs.Io.KnownBytes.{Appends}
 use Rattle.pb_io.specs.Sink.{AllLasts}
 use Rattle.pb_io.specs.Source.{HandsOut, SourceState}
 use Rattle.pb_collecting.specs.Ends.{Change, EndStates, IsSame}
-use Rattle.pb_collecting.specs.JournalHeadline.{LosesNoneLater, Outlives}
+use Rattle.pb_collecting.specs.JournalHeadline.{HoldsAnswered, LosesNone, LosesNoneLater, Outlives}
 use Rattle.pb_files.specs.Begins.{BeginsWith}
 use Rattle.pb_files.specs.Disk.{Disk, Grows, IsOnDisk}
-use Rattle.pb_files.specs.Journaling.{BeginsUntold, HandsOnAnswered, IsStarted, LeavesAnswered, MayBeLeft, journal_over}
+use Rattle.pb_files.specs.Journaling.{BeginsEmpty, HandsOnAnswered, IsStarted, LeavesAnswered, MayBeLeft, journal_over}
 use Rattle.pb_files.specs.JournalSink.{EndState, bytes_lasting, bytes_put, sink_state}
-use Rattle.pb_files.proofs.FileLemmas.{crash-first}
+use Rattle.pb_files.proofs.FileLemmas.{all_last, crash-first, lasting_all}
 
 -- what comes first of what comes first
 begins-first : (all part first rest : List ℕ) → BeginsWith all part → part ≡ first ++ rest → BeginsWith all first
 begins-first all part first rest begins is = (rest ++ begins.0, begins.1 ∙ ap (λ bs. bs ++ begins.0) is ∙ append_assoc first rest begins.0)
 
 module _ (sync : Bool) (disk : Disk) (reader : Change SourceState) (end : Change EndState) (e : EndStates) (started : IsStarted sync disk end.old reader.old) where
-  found : bytes_put end.old.told end.old.taken end.old.waits ≡ disk.found
-  found =
-      ap (bytes_put end.old.told end.old.taken) started.none_waits ∙ ap (λ (known : Option Disk). bytes_put known end.old.taken []) started.told ∙ append-nil disk.found
+  on_disk : sync ≡ true → ForSome end.old.told IsOnDisk
+  on_disk synced known is =
+      let same : Some disk ≡ Some known = sym started.told ∙ is in
+      let one : disk ≡ known = cc in
+      subst IsOnDisk one (started.on_disk synced)
 
-  last_of : (mode : Bool) → (mode ≡ true → IsOnDisk disk) → bytes_lasting mode (Some disk) end.old.handed_on ≡ disk.found
-  last_of true on_disk = on_disk refl
-  last_of false on_disk = refl
+  all_lasts : AllLasts (sink_state true sync end.old)
+  all_lasts = all_last _ _ (lasting_all sync end.old.told on_disk ∙ sym (ap (bytes_put end.old.told) started.none_waits))
 
-  all_lasts : AllLasts (sink_state sync end.old)
-  all_lasts = ap (λ (bytes : List ℕ). Some bytes)
-      (found ∙ sym (ap (λ (known : Option Disk). bytes_lasting sync known end.old.handed_on) started.told ∙ last_of sync started.on_disk))
+  found : bytes_put end.old.told end.old.waits ≡ Some disk.found
+  found = ap (bytes_put end.old.told) started.none_waits ∙ ap (λ (known : Option Disk). bytes_put known []) started.told ∙ ap (λ (bytes : List ℕ). Some bytes) (append-nil disk.found)
 
   -- the old bytes and then these last, whatever lasts behind them
-  abbrev LastBehind : List ℕ → List ℕ → Type 0
-  LastBehind lasting gained = (behind : List ℕ) × (lasting ≡ disk.found ++ (gained ++ behind))
+  abbrev LastBehind : Option (List ℕ) → List ℕ → Type 0
+  LastBehind known gained = IfSome known (λ lasting. (behind : List ℕ) × Appends (Some disk.found) (Some lasting) (gained ++ behind))
 
   -- what lasts begins with what it did, and so does what is left
-  left_first : (now : Disk) (gained : List ℕ) (mode : Bool) → LastBehind (bytes_lasting mode (Some now) end.new.handed_on) gained
+  left_first : (now : Disk) (gained : List ℕ) (mode : Bool) → LastBehind (bytes_lasting mode (Some now)) gained
       → (later : Disk) → Grows now later → (left : List ℕ) → MayBeLeft mode later left → BeginsWith left (disk.found ++ gained)
   left_first now gained true lasts later grows left leaves =
       begins-first left _ (disk.found ++ gained) lasts.0 (crash-first now later grows left leaves) (lasts.1 ∙ sym (append_assoc disk.found gained lasts.0))
   left_first now gained false lasts later grows left leaves =
       begins-first left now.found (disk.found ++ gained) lasts.0 (grows.0, leaves ∙ grows.1.found) (lasts.1 ∙ sym (append_assoc disk.found gained lasts.0))
 
-  -- where the file tells nothing, nothing is said of it
-  told_first : (known : Option Disk) (gained : List ℕ) → LastBehind (bytes_lasting sync known end.new.handed_on) gained
-      → IfSome known (λ now. (later : Disk) → Grows now later → (left : List ℕ) → MayBeLeft sync later left → BeginsWith left (disk.found ++ gained))
-  told_first None gained lasts = tt
-  told_first (Some now) gained lasts = left_first now gained sync lasts
-
-  left_of : Outlives disk.found e (journal_over sync reader end).journal → LeavesAnswered sync disk end.new e
-  left_of o = record {
-    gained = o.gained;
-    holds = o.holds;
-    first = told_first end.new.told o.gained (o.lasts.0, o.lasts.1 ∙ ap (λ bs. bs ++ (o.gained ++ o.lasts.0)) found);
+  -- a file that told of itself goes on doing so
+  left_of : (known : Option Disk) → end.new.told ≡ known → (gained more : List ℕ) → Appends (Some disk.found) (bytes_put known end.new.waits) more
+      → LastBehind (bytes_lasting sync known) gained → HoldsAnswered (disk.found ++ gained) e → LeavesAnswered sync disk end.new e
+  left_of None is_told gained more put lasts holds = absurd put
+  left_of (Some now) is_told gained more put lasts holds = record {
+    disk = now;
+    told = is_told;
+    gained = gained;
+    holds = holds;
+    first = left_first now gained sync lasts;
   }
 
   -- no submission was read, or these answered games are in what is left
-  pub leaves : LosesNoneLater e (journal_over sync reader end) → IsSame e.lines ⊎ LeavesAnswered sync disk end.new e
-  leaves outlives = elim (outlives all_lasts) [
-    | inl unread ↦ inl unread
-    | inr h ↦
-        let whole : h.0 ≡ disk.found = subst (λ (known : Option (List ℕ)). IfSome known (λ all. h.0 ≡ all)) started.reads h.1.told in
-        inr (left_of (subst (λ (kept : List ℕ). Outlives kept e (journal_over sync reader end).journal) whole h.2))
-  ]
+  leaves : LosesNone e (journal_over true sync reader end) → LosesNoneLater e (journal_over true sync reader end) → IsSame e.lines ⊎ LeavesAnswered sync disk end.new e
+  leaves survives outlives =
+      elim survives [
+        | inl unread ↦ inl unread
+        | inr k ↦ elim (outlives all_lasts) [
+          | inl unread ↦ inl unread
+          | inr h ↦
+              let whole : h.0 ≡ disk.found = subst (λ (known : Option (List ℕ)). IfSome known (λ all. h.0 ≡ all)) started.reads h.1.told in
+              inr (by k.2.gained k.2.put (subst (λ (kept : List ℕ). Outlives kept e (journal_over true sync reader end).journal) whole h.2))
+        ]
+      ]
+    where
+      by : (more : List ℕ) → Appends (bytes_put end.old.told end.old.waits) (bytes_put end.new.told end.new.waits) more
+          → Outlives disk.found e (journal_over true sync reader end).journal → LeavesAnswered sync disk end.new e
+      by more gains o =
+          left_of end.new.told refl o.gained more
+          (subst (λ (known : Option (List ℕ)). Appends known (bytes_put end.new.told end.new.waits) more) found gains)
+          (subst (λ (known : Option (List ℕ)). IfSome (bytes_lasting sync end.new.told) (λ lasting. (behind : List ℕ) × Appends known (Some lasting) (o.gained ++ behind))) found o.lasts)
+          o.holds
 
 -- what was handed on to a file that tells nothing
-module _ (sync : Bool) (reader : Change SourceState) (end : Change EndState) (e : EndStates) (begins : BeginsUntold end.old) where
-  starts : bytes_put end.old.told end.old.taken end.old.waits ≡ []
-  starts = ap (bytes_put end.old.told end.old.taken) begins.waits ∙ ap (λ (known : Option Disk). bytes_put known end.old.taken []) begins.told
-      ∙ append-nil end.old.taken ∙ begins.taken
+module _ (sync : Bool) (reader : Change SourceState) (end : Change EndState) (e : EndStates) (begins : BeginsEmpty end.old) where
+  starts : end.old.taken ++ end.old.waits ≡ []
+  starts = ap (λ bs. end.old.taken ++ bs) begins.waits ∙ append-nil end.old.taken ∙ begins.taken
 
-  lasts_first : bytes_lasting sync end.old.told end.old.handed_on ≡ []
-  lasts_first = ap (λ (known : Option Disk). bytes_lasting sync known end.old.handed_on) begins.told ∙ begins.handed_on
+  hands_of : (kept : List ℕ) → Outlives kept e (journal_over false sync reader end).journal → HandsOnAnswered kept end.new e
+  hands_of kept o = record { gained = o.gained; holds = o.holds; first = (o.lasts.0, o.lasts.1 ∙ ap (λ bs. bs ++ (o.gained ++ o.lasts.0)) starts) }
 
-  hands_of : (kept : List ℕ) → Outlives kept e (journal_over sync reader end).journal → HandsOnAnswered kept end.new e
-  hands_of kept o = record {
-    gained = o.gained;
-    holds = o.holds;
-    first = λ untold. (
-      o.lasts.0,
-      sym (ap (λ (known : Option Disk). bytes_lasting sync known end.new.handed_on) untold)
-          ∙ o.lasts.1 ∙ ap (λ bs. bs ++ (o.gained ++ o.lasts.0)) starts,
-    );
-  }
-
-  pub hands_on : LosesNoneLater e (journal_over sync reader end) → IsSame e.lines ⊎ ((kept : List ℕ) × HandsOut reader.old reader.new kept × HandsOnAnswered kept end.new e)
-  hands_on outlives = elim (outlives (ap (λ (bytes : List ℕ). Some bytes) (starts ∙ sym lasts_first))) [
+  hands_on : LosesNoneLater e (journal_over false sync reader end) → IsSame e.lines ⊎ ((kept : List ℕ) × HandsOut reader.old reader.new kept × HandsOnAnswered kept end.new e)
+  hands_on outlives = elim (outlives (ap (λ (bytes : List ℕ). Some bytes) (starts ∙ sym begins.handed_on))) [
     | inl unread ↦ inl unread
     | inr h ↦ inr (h.0, h.1, hands_of h.0 h.2)
   ]
+
+-- the same of files of a kind that tells what they hold, or not
+
+pub leaves_told : (tells sync : Bool) (disk : Disk) (reader : Change SourceState) (end : Change EndState) (e : EndStates) → tells ≡ true → IsStarted sync disk end.old reader.old → LosesNone e (journal_over tells sync reader end)
+    → LosesNoneLater e (journal_over tells sync reader end) → IsSame e.lines ⊎ LeavesAnswered sync disk end.new e
+leaves_told true sync disk reader end e is started survives outlives = leaves sync disk reader end e started survives outlives
+leaves_told false sync disk reader end e is started survives outlives = cc
+
+pub hands_on_untold : (tells sync : Bool) (reader : Change SourceState) (end : Change EndState) (e : EndStates) → tells ≡ false → BeginsEmpty end.old → LosesNoneLater e (journal_over tells sync reader end)
+    → IsSame e.lines ⊎ ((kept : List ℕ) × HandsOut reader.old reader.new kept × HandsOnAnswered kept end.new e)
+hands_on_untold true sync reader end e is begins outlives = cc
+hands_on_untold false sync reader end e is begins outlives = hands_on sync reader end e begins outlives

@@ -1,5 +1,5 @@
 -- What is known of a sink at the end of a journal's file.
-use Rattle.std.specs.Prelude.{◌≡◌, ◌==◌, Bool, false, true, List, [], ℕ, ◌++◌}
+use Rattle.std.specs.Prelude.{◌≡◌, ◌==◌, Bool, false, true, if◌then◌else◌, List, [], ℕ, ◌++◌}
 use Rattle.std.specs.Prelude.{Option, None, Some, IfSome, Result, OnErr, OnOk, is_err, is_some}
 use Rattle.std.specs.Option.{ForSome}
 use Rattle.pb_io.specs.Sink.{SinkState}
@@ -23,24 +23,24 @@ pub record EndState : Type 0 where
 abbrev pub syncs : ℕ → Bool
 syncs mode = mode == 1
 
--- what was put: what a reader finds, or of a file that tells nothing what it has taken, and then
--- what waits
-abbrev pub bytes_put : Option Disk → List ℕ → List ℕ → List ℕ
-bytes_put None taken waits = taken ++ waits
-bytes_put (Some disk) taken waits = disk.found ++ waits
+-- what was put: what a reader finds, and then what waits
+abbrev pub bytes_put : Option Disk → List ℕ → Option (List ℕ)
+bytes_put None waits = None
+bytes_put (Some disk) waits = Some (disk.found ++ waits)
 
 -- what lasts of it: where a flush syncs what is on the disk, which a crash leaves, and else what a
--- reader finds, which a kill leaves; of a file that tells nothing what was handed on
-abbrev pub bytes_lasting : Bool → Option Disk → List ℕ → List ℕ
-bytes_lasting sync None handed_on = handed_on
-bytes_lasting true (Some disk) handed_on = on_disk disk
-bytes_lasting false (Some disk) handed_on = disk.found
+-- reader finds, which a kill leaves
+abbrev pub bytes_lasting : Bool → Option Disk → Option (List ℕ)
+bytes_lasting sync None = None
+bytes_lasting true (Some disk) = Some (on_disk disk)
+bytes_lasting false (Some disk) = Some disk.found
 
--- the end as a sink
-abbrev pub sink_state : Bool → EndState → SinkState
-sink_state sync end = record {
-  bytes = Some (bytes_put end.told end.taken end.waits);
-  lasting = Some (bytes_lasting sync end.told end.handed_on);
+-- The end as a sink. Of a file that tells nothing what was put is what it has taken, and then what
+-- waits, and what lasts of it is what was handed on.
+abbrev pub sink_state : Bool → Bool → EndState → SinkState
+sink_state tells sync end = record {
+  bytes = if tells then bytes_put end.told end.waits else Some (end.taken ++ end.waits);
+  lasting = if tells then bytes_lasting sync end.told else Some end.handed_on;
   failed = end.failed;
   flushed = end.flushed;
   flushes = end.flushes;

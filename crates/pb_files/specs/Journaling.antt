@@ -1,5 +1,5 @@
 -- What is left of a journal's file once a run has ended, and whatever comes then.
-use Rattle.std.specs.Prelude.{◌≡◌, Bool, true, false, List, [], ◌++◌, ℕ, IfSome, None, Some}
+use Rattle.std.specs.Prelude.{◌≡◌, Bool, true, false, List, [], ◌++◌, ℕ, Some}
 use Rattle.pb_io.specs.Source.{SourceState}
 use Rattle.pb_collecting.specs.Ends.{Change, EndStates, JournalStates, between}
 use Rattle.pb_collecting.specs.JournalHeadline.{HoldsAnswered}
@@ -17,10 +17,10 @@ pub record IsStarted (sync : Bool) (disk : Disk) (end : EndState)
   pub on_disk : sync ≡ true → IsOnDisk disk
 
 -- a journal that this reader reads, and that is written at this end of its file
-abbrev pub journal_over : Bool → Change SourceState → Change EndState → JournalStates
-journal_over sync reader end = record {
+abbrev pub journal_over : Bool → Bool → Change SourceState → Change EndState → JournalStates
+journal_over tells sync reader end = record {
   kept = reader;
-  journal = between (sink_state sync) end.old end.new;
+  journal = between (sink_state tells sync) end.old end.new;
 }
 
 -- what a crash may leave, where a flush syncs; else what a kill leaves, which is all that is found
@@ -29,24 +29,25 @@ MayBeLeft true disk left = Leaves disk left
 MayBeLeft false disk left = left ≡ disk.found
 
 -- Whatever is added later, what may be left then begins with the journal as it was and what it
--- gained, where the file tells what it holds: this holds each game that a reply calls `ok`.
+-- gained: this holds each game that a reply calls `ok`.
 pub record LeavesAnswered (sync : Bool) (before : Disk) (end : EndState)
     (e : EndStates) : Type 0 where
+  pub disk : Disk
+  pub told : end.told ≡ Some disk
   pub gained : List ℕ
   pub holds : HoldsAnswered (before.found ++ gained) e
-  pub first : IfSome end.told (λ disk. (later : Disk) → Grows disk later → (left : List ℕ)
-      → MayBeLeft sync later left → BeginsWith left (before.found ++ gained))
+  pub first : (later : Disk) → Grows disk later → (left : List ℕ) → MayBeLeft sync later left
+      → BeginsWith left (before.found ++ gained)
 
--- The end of a file that tells nothing, where nothing was put yet.
-pub record BeginsUntold (end : EndState) : Type 0 where
-  pub told : end.told ≡ None
+-- The end of a file where nothing was put yet.
+pub record BeginsEmpty (end : EndState) : Type 0 where
   pub taken : end.taken ≡ []
   pub handed_on : end.handed_on ≡ []
   pub waits : end.waits ≡ []
 
--- What flushes that succeeded handed on to a file that tells nothing begins with what the journal
--- gained. Behind what was read of the journal this holds each game that a reply calls `ok`.
+-- What flushes that succeeded handed on begins with what the journal gained. Behind what was read
+-- of the journal this holds each game that a reply calls `ok`.
 pub record HandsOnAnswered (kept : List ℕ) (end : EndState) (e : EndStates) : Type 0 where
   pub gained : List ℕ
   pub holds : HoldsAnswered (kept ++ gained) e
-  pub first : end.told ≡ None → BeginsWith end.handed_on gained
+  pub first : BeginsWith end.handed_on gained

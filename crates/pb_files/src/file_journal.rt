@@ -1,6 +1,6 @@
 //! A journal over a file of the system.
 
-ghost use Rattle.std.specs.Prelude.{◌≡◌, IfErr, None, true};
+ghost use Rattle.std.specs.Prelude.{◌≡◌, IfErr, None, false, refl, true};
 ghost use Rattle.std.specs.Result.{result_err};
 ghost use Rattle.pb_folder.specs.File.{IsHeldAlone};
 
@@ -67,7 +67,9 @@ impl<'g, 'a> FileJournal<'g, 'a> {
     }
 
     /// Puts the file on the disk, and its name where that isn't there yet.
-    fn sync_all(&mut self) -> io::Result<()> {
+    fn sync_all(&mut self) -> io::Result<()>
+        ensures { self.new.fault ≡ self.old.fault }
+    {
         if self.is_synced {
             return self.file.sync_data();
         }
@@ -80,6 +82,10 @@ impl<'a> JournalFile for FileJournal<'_, 'a> {
     type Reader = FromRead<Told<'a, File>>;
 
     ghost state = { λ s. record { told = None; fault = s.fault } };
+
+    ghost tells = { false };
+
+    ghost always = { λ _. refl };
 
     fn failed(&self) -> bool {
         self.fault.is_some()

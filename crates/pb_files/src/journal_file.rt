@@ -2,7 +2,7 @@
 
 ghost use Rattle.std.specs.Option.{ForSome, is_some};
 ghost use Rattle.std.specs.Prelude.{◌≡◌, ◌≤◌, ◌<◌, [], IfErr, IfOk, None, OnErr, OnOk, length};
-ghost use Rattle.std.specs.Prelude.{take};
+ghost use Rattle.std.specs.Prelude.{Bool, take};
 ghost use Rattle.std.specs.Result.{result_err};
 ghost use Rattle.pb_io.specs.declared.fault.Fault.TheVariants as faults;
 ghost use Rattle.pb_files.specs.Disk.{Adds, FileState, IsSound, StaysSound, Syncs};
@@ -18,6 +18,9 @@ pub trait JournalFile {
 
     /// What is known of the file.
     ghost state: { Self → FileState };
+
+    /// Whether files of this kind tell what is on them.
+    ghost tells: { Bool };
 
     /// Whether a write or a sync has failed so far.
     fn failed(&self) -> bool
@@ -78,4 +81,7 @@ pub trait JournalFile {
             (Self.Reader.state reader)) }
         ensures read { IfErr result (λ why. why ≡ faults.Read) }
         ensures same { state self.new ≡ state self.old };
+
+    /// They tell it always, or never.
+    ghost always: { (file : Self) → is_some (state file).told ≡ tells };
 }

@@ -114,11 +114,11 @@ impl<J: JournalFile + Drop, const MODE: u8> JournalSink<J, MODE> {
 }
 
 impl<J: JournalFile, const MODE: u8> Sink for JournalSink<J, MODE> {
-    ghost state = { sink_state (syncs MODE) };
+    ghost state = { sink_state J.tells (syncs MODE) };
 
     fn put(&mut self, bytes: &[u8]) -> Result<(), Failed>
-        ensures put { Put (sink_state (syncs MODE) self.old) (sink_state (syncs MODE) self.new)
-            result bytes.now }
+        ensures put { Put (sink_state J.tells (syncs MODE) self.old)
+            (sink_state J.tells (syncs MODE) self.new) result bytes.now }
         ensures end { PutAtEnd self.old self.new }
     {
         self.flushed = false;
@@ -136,8 +136,8 @@ impl<J: JournalFile, const MODE: u8> Sink for JournalSink<J, MODE> {
 
     #[tactic(auto, using(crate::proofs::FileLemmas::front_grows, crate::proofs::FileLemmas::told_on_disk_outlives))]
     fn flush(&mut self) -> Result<(), Failed>
-        ensures flush { Flush (sink_state (syncs MODE) self.old) (sink_state (syncs MODE) self.new)
-            result }
+        ensures flush { Flush (sink_state J.tells (syncs MODE) self.old)
+            (sink_state J.tells (syncs MODE) self.new) result }
         ensures end { FlushAtEnd (syncs MODE) self.old self.new result }
     {
         self.flushed = false;

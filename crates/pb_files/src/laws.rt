@@ -1,17 +1,17 @@
 //! Laws of what kills and crashes leave of a file and of a journal. Each is the contract of a
 //! function that does nothing.
 
-ghost use Rattle.std.specs.Prelude.{◌≡◌, ◌≤◌, ◌==◌, ◌++◌, ◌∷◌, ◌⊎◌, [], Bool, List, None, Some};
-ghost use Rattle.std.specs.Prelude.{false, length, true, ℕ};
+ghost use Rattle.std.specs.Prelude.{◌≡◌, ◌≤◌, ◌==◌, ◌++◌, ◌∷◌, ◌⊎◌, [], Bool, List, None, Option};
+ghost use Rattle.std.specs.Prelude.{Some, false, length, true, ℕ};
 ghost use Rattle.pb_io.specs.Lines.{ended_lines};
 ghost use Rattle.pb_io.specs.Source.{HandsOut, SourceState};
 ghost use Rattle.pb_collecting.specs.Ends.{Change, EndStates, IsSame};
-ghost use Rattle.pb_collecting.specs.JournalHeadline.{LosesNoneLater};
+ghost use Rattle.pb_collecting.specs.JournalHeadline.{LosesNone, LosesNoneLater};
 ghost use Rattle.pb_files.specs.Disk.{Disk, Grows, IsOnDisk, Leaves, OutlivesCrash, Syncs};
 ghost use Rattle.pb_files.specs.Disk.{on_disk};
 ghost use Rattle.pb_files.specs.Begins.{BeginsWith};
-ghost use Rattle.pb_files.specs.JournalSink.{EndState, syncs};
-ghost use Rattle.pb_files.specs.Journaling.{BeginsUntold, HandsOnAnswered, IsStarted};
+ghost use Rattle.pb_files.specs.JournalSink.{EndState, sink_state, syncs};
+ghost use Rattle.pb_files.specs.Journaling.{BeginsEmpty, HandsOnAnswered, IsStarted};
 ghost use Rattle.pb_files.specs.Journaling.{LeavesAnswered, MayBeLeft, journal_over};
 
 use crate::journal_sink::{SYNCED, WRITTEN};
@@ -59,26 +59,29 @@ pub fn what_may_be_left()
         → IsOnDisk disk → IsStarted true disk end reader }
 {}
 
-/// A run that loses no game which it has answered `ok`, whatever ends it, over the end of a
-/// journal's file that it has come to, has read no submission, or each such game is in what is left
-/// of the file, whatever comes then: with `sync` a crash, and else a kill.
+/// A run that loses no game which it has answered `ok`, over the end of a journal's file that it
+/// has come to and that tells what it holds, has read no submission, or each such game is in what
+/// is left of the file, whatever comes then: with `sync` a crash, and else a kill.
 pub fn answered_games_are_left()
-    ensures { (sync : Bool) (disk : Disk) (reader : Change SourceState) (end : Change EndState)
-        (e : EndStates) → IsStarted sync disk end.old reader.old
-        → LosesNoneLater e (journal_over sync reader end)
+    ensures { (tells sync : Bool) (disk : Disk) (reader : Change SourceState)
+        (end : Change EndState) (e : EndStates) → tells ≡ true
+        → IsStarted sync disk end.old reader.old
+        → LosesNone e (journal_over tells sync reader end)
+        → LosesNoneLater e (journal_over tells sync reader end)
         → IsSame e.lines ⊎ LeavesAnswered sync disk end.new e }
 {}
 
-/// Such a run over the end of a file that tells nothing has read no submission, or flushes that
-/// succeeded have handed on each such game that wasn't read of the journal.
+/// Such a run over a file that tells nothing has read no submission, or each such game was read of
+/// the journal or handed on to it by flushes that succeeded, first.
 pub fn answered_games_are_handed_on()
-    ensures run { (sync : Bool) (reader : Change SourceState) (end : Change EndState)
-        (e : EndStates) → BeginsUntold end.old → LosesNoneLater e (journal_over sync reader end)
+    ensures run { (tells sync : Bool) (reader : Change SourceState) (end : Change EndState)
+        (e : EndStates) → tells ≡ false → BeginsEmpty end.old
+        → LosesNoneLater e (journal_over tells sync reader end)
         → IsSame e.lines ⊎ ((kept : List ℕ) × HandsOut reader.old reader.new kept
         × HandsOnAnswered kept end.new e) }
-    // So begins what `JournalSink::new` makes of such a file.
-    ensures begins { (failed : Bool) → BeginsUntold (record {
-      told = None;
+    // What `JournalSink::new` makes begins so.
+    ensures begins { (told : Option Disk) (failed : Bool) → BeginsEmpty (record {
+      told = told;
       taken = [];
       handed_on = [];
       waits = [];
@@ -86,6 +89,15 @@ pub fn answered_games_are_handed_on()
       flushed = false;
       flushes = 0;
     }) }
+{}
+
+/// The end of a file that tells nothing tells, as a sink, what the file has taken and then what
+/// waits, and that what was handed on lasts.
+pub fn what_an_untold_end_tells()
+    ensures bytes { (sync : Bool) (end : EndState) → (sink_state false sync end).bytes
+        ≡ Some (end.taken ++ end.waits) }
+    ensures lasting { (sync : Bool) (end : EndState) → (sink_state false sync end).lasting
+        ≡ Some end.handed_on }
 {}
 
 /// Where the system calls bytes clean that aren't on the disk, a sync that succeeds may put nothing

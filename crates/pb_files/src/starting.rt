@@ -73,8 +73,9 @@ pub fn start_journal<'g, 'a>(
     };
     let mut folder = System::new(named.messages, named.name, Part::Journal);
     let held = hold(&mut folder, &label)?;
-    guard.begin(HeldFile::new(named, held.status, true));
+    let status = held.status;
     let mut journal = FileJournal::new(named, guard, folder, held.file);
     let reader = whole_reader(&mut journal, sync)?;
+    guard.begin(HeldFile::new(named, status, true));
     Ok(Started { journal, reader })
 }

@@ -26,7 +26,7 @@ pub settled_keeps : (n : ℕ) (bytes : List ℕ) (ledger : Bool) (place : Option
     → settled ≡ true → IsPut bytes file → NamesBytes settled bytes old new → KeepsAt {A = ℕ} ledger (Ok n) bytes place None named (Some file) old new
 settled_keeps n bytes ledger place named file settled old new is put names =
     let saved : Steps (Saved bytes) old new = subst (λ (b : Bool). NamesBytes b bytes old new) is names in record {
-      handed = ap (λ (bs : List ℕ). Some bs) put.handed;
+      handed = ap (λ (bs : List ℕ). Some bs) put.4;
       leaves = tt;
       by_draft = λ _. record { put = (put, saved); held = tt; whole = saved_or_old bytes old new saved };
       book = λ _ some. cc;
@@ -38,7 +38,7 @@ pub unsettled_keeps : (bytes : List ℕ) (ledger : Bool) (place : Option SinkSta
 unsettled_keeps bytes ledger place named file settled old new is put names =
     let given : Steps (Names (Some bytes)) old new = subst (λ (b : Bool). NamesBytes b bytes old new) is names in record {
       handed = tt;
-      leaves = inr (length bytes, ap (λ (bs : List ℕ). Some bs) (put.handed ∙ sym (take-length bytes)));
+      leaves = inr (length bytes, ap (λ (bs : List ℕ). Some bs) (put.4 ∙ sym (take-length bytes)));
       by_draft = λ _. record { put = tt; held = inr put; whole = named_or_old bytes old new given };
       book = λ _ some. cc;
     }

@@ -191,10 +191,6 @@ abbrev pub IsInPlace : FileState → Type 0
 IsInPlace s = (s.in_place ≡ true) × IsUntouched s
 
 -- The file has the name, was made by this run, took just these bytes, and they are on the disk.
-pub record IsPut (bytes : List ℕ) (s : FileState) : Type 0 where
-  pub entry : s.entry ≡ Target
-  pub named : s.named ≡ true
-  pub made : s.made ≡ true
-  pub held : is_held s.hold ≡ true
-  pub handed : s.handed ≡ bytes
-  pub synced : s.synced ≡ true
+abbrev pub IsPut : List ℕ → FileState → Type 0
+IsPut bytes s = (s.entry ≡ Target) × (s.named ≡ true) × (s.made ≡ true) × (is_held s.hold ≡ true)
+    × (s.handed ≡ bytes) × (s.synced ≡ true)

@@ -1,6 +1,6 @@
 -- What a store knows that is a name in a folder.
 use Rattle.std.specs.Prelude.{◌≡◌, ◌⊎◌, Bool, false, true, List, ℕ, take, Option, None, Some}
-use Rattle.std.specs.Prelude.{Result, IfErr, OnErr, OnOk, is_err}
+use Rattle.std.specs.Prelude.{Result, IfErr, IfSome, OnErr, OnOk, is_err}
 use Rattle.std.specs.Option.{is_some, option_map}
 use Rattle.pb_io.specs.Sink.{SinkState}
 use Rattle.pb_collecting.specs.declared.store.StoreError.{StoreError}
@@ -54,3 +54,9 @@ WritesInPlace answer bytes place place' shelf shelf' =
     ((place' ≡ place) × (shelf' ≡ shelf) × (is_err answer ≡ true))
     ⊎ ((end : SinkState) × (place' ≡ Some end) × OnOk answer (end.bytes ≡ Some bytes)
     × IfErr answer (λ why. HandsFront why bytes end.bytes))
+
+-- Unless a file is written in place, what was handed is what the name leads to: a file that this run
+-- made of just these bytes, which are on the disk.
+abbrev pub LeadsToHanded : Option SinkState → Option FileState → Type 0
+LeadsToHanded place named =
+    is_some place ≡ false → IfSome (handed_at place named) (λ bytes. IsPutAs bytes named)

@@ -3,7 +3,7 @@
 ghost use Rattle.std.specs.Option.{ForSome, is_some, option_map};
 ghost use Rattle.std.specs.Prelude.{◌≡◌, ℕ, List, IfOk, IfSome, None, OnErr, false, true};
 ghost use Rattle.pb_collecting.specs.Store.{KeepsText};
-ghost use Rattle.pb_folder.specs.File.{IsHolder, IsInPlace, IsUntouched};
+ghost use Rattle.pb_folder.specs.File.{IsHolder, IsInPlace, IsPut, IsUntouched};
 ghost use Rattle.pb_folder.specs.Keeping.{KeepsAt, WritesInPlace, handed_at};
 
 use crate::file_end::BUFFER_LEN;
@@ -30,6 +30,7 @@ pub struct KeptFile<'f, 'a, F: Folder> {
     pub named: Option<F::File>,
     fault: Option<StoreError>,
     ghost held: { F.ledger folder ≡ is_some ledger },
+    ghost put: { ForSome named (λ f. IsPut (F.file f).handed (F.file f)) },
     ghost holder: { ForSome ledger (λ l. IsHolder (F.file l.now.file) l.now.status) },
 }
 
@@ -118,12 +119,14 @@ fn keep_at<F: Folder, X: Text>(
 ) -> Result<u64, StoreError>
     requires text { (bytes : List ℕ) × (count : ℕ) × X.is_text text.now bytes count }
     requires ledger { F.ledger folder.old ≡ is_some ledger }
+    requires put { ForSome named.old (λ f. IsPut (F.file f).handed (F.file f)) }
     requires holder { IfSome ledger (λ l. IsHolder (F.file l.now.file) l.now.status) }
     ensures kept { (bytes : List ℕ) × (count : ℕ) × X.is_text text.now bytes count
         × KeepsAt (F.ledger folder.old) result bytes
         (option_map F.InPlace.state in_place.old) (option_map F.InPlace.state in_place.new)
         (option_map F.file named.old) (option_map F.file named.new)
         (F.shelf folder.old) (F.shelf folder.new) × IfOk result (λ n. n ≡ count) }
+    ensures put { ForSome named.new (λ f. IsPut (F.file f).handed (F.file f)) }
     ensures ledger { F.ledger folder.new ≡ F.ledger folder.old }
 {
     let old = match look_at(folder, label, ledger) {

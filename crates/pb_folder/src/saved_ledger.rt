@@ -12,7 +12,8 @@ use crate::system::System;
 use crate::system_file::SystemFile;
 use pb_collecting::{Store, StoreError};
 use pb_messages::{Left, Messages, Part};
-use std::fs;
+use std::fs::{self, File};
+use std::io;
 
 /// A file that this run holds.
 #[derive(Drop)]
@@ -50,16 +51,20 @@ impl<'a> SavedLedger<'a> {
                 Err(error) => Err(label.fail(Left::All, &error)),
             };
         }
-        let mut folder = System::new(messages, path, Part::Ledger);
+        let mut folder = System::new(messages, path, Part::Ledger).read();
         let ledger = hold_ledger(&mut folder, &label)?;
         Ok(SavedLedger::Held(HeldLedger { ledger }))
     }
 
-    /// The file, to be read.
-    pub fn file(&self) -> &SystemFile {
+    /// Opens what reads the file from its first byte.
+    ///
+    /// # Errors
+    ///
+    /// The system gives no reader of it.
+    pub fn reader(&self) -> io::Result<File> {
         match self {
-            SavedLedger::Held(held) => &held.ledger.file,
-            SavedLedger::Stream(stream) => stream,
+            SavedLedger::Held(held) => held.ledger.file.reader(),
+            SavedLedger::Stream(stream) => stream.reader(),
         }
     }
 
@@ -100,11 +105,11 @@ impl<'a> SavedLedger<'a> {
 /// # Errors
 ///
 /// Those of `expect_book`.
-pub fn book_store<'f, 'a>(
+pub fn book_store<'a>(
     messages: Messages<'a>,
     path: &'a str,
-) -> Result<KeptFile<'f, 'a, System<'a>>, StoreError>
-    ensures { IfOk result (λ store. ⟦<KeptFile<'f, 'a, System<'a>> as Store>⟧.state store
+) -> Result<KeptFile<'a, 'a, System<'a>>, StoreError>
+    ensures { IfOk result (λ store. ⟦<KeptFile<'a, 'a, System<'a>> as Store>⟧.state store
         ≡ record { handed = None; fault = None }) }
 {
     let label = Label {
@@ -114,5 +119,5 @@ pub fn book_store<'f, 'a>(
     };
     let folder = System::new(messages, path, Part::Book);
     expect_book(&folder, &label)?;
-    Ok(KeptFile::<'f, 'a, System<'a>>::of_book(folder, label))
+    Ok(KeptFile::<'a, 'a, System<'a>>::of_book(folder, label))
 }

@@ -37,6 +37,8 @@ pub struct System<'a> {
     place: Place<'a>,
     is_ledger: bool,
     is_journal: bool,
+    // What is opened is read too.
+    is_read: bool,
 }
 
 impl<'a> System<'a> {
@@ -51,7 +53,19 @@ impl<'a> System<'a> {
             place: Place::of_name(path),
             is_ledger: matches!(part, Part::Ledger),
             is_journal: matches!(part, Part::Journal),
+            is_read: matches!(part, Part::Journal),
         }
+    }
+
+    /// The same name, whose file is read too.
+    pub fn read(mut self) -> System<'a>
+        ensures ledger { ⟦<System<'a> as Folder>⟧.ledger result
+            ≡ ⟦<System<'a> as Folder>⟧.ledger self.entry }
+        ensures journal { ⟦<System<'a> as Folder>⟧.appends result
+            ≡ ⟦<System<'a> as Folder>⟧.appends self.entry }
+    {
+        self.is_read = true;
+        self
     }
 
     /// The path of the draft of this number.
@@ -161,7 +175,7 @@ impl<'a> Folder for System<'a> {
         }
         let mut options = OpenOptions::new();
         options
-            .read(self.is_ledger || self.is_journal)
+            .read(self.is_read)
             .write(true)
             .append(self.is_journal);
         let file = options.open(self.messages.rt, self.path)?;

@@ -10,7 +10,7 @@ use crate::folder::{Entry, Hold, Lock};
 use crate::status::Status;
 use pb_io::{Fault, History};
 use std::fs::{self, File, OpenOptions, Permissions, TryLockError};
-use std::io::{self, ErrorKind, Read, Write};
+use std::io::{self, ErrorKind, Write};
 use std::marker::Model;
 use std::os::unix::fs::{FileExt, MetadataExt, PermissionsExt};
 use std::path::PathBuf;
@@ -155,13 +155,20 @@ impl SystemFile {
         };
     }
 
-    /// Tells whether this path, and no link of it, leads to the file, and for a draft alone.
+    /// Tells whether the draft's own path or, of another file, this path leads to the file, and no
+    /// link of it; and to a draft alone.
     pub(crate) fn is_named(&mut self, rt: &HostRuntime, path: &str) -> bool
         ensures { self.new ≡ record self.old { named = result } }
     {
-        self.named = match (self.file.metadata(), fs::symlink_metadata(rt, path)) {
-            (Ok(told), Ok(named)) => Status::of(&told).is_of_one(&Status::of(&named))
-                && (self.path.is_none() || told.nlink() == 1),
+        let named = match &self.path {
+            Some(draft) => fs::symlink_metadata(rt, draft.as_path()),
+            None => fs::symlink_metadata(rt, path),
+        };
+        self.named = match (self.file.metadata(), named) {
+            (Ok(told), Ok(named)) => {
+                Status::of(&told).is_of_one(&Status::of(&named))
+                    && (self.path.is_none() || told.nlink() == 1)
+            }
             _ => false,
         };
         self.named
@@ -321,12 +328,5 @@ fn lock_by(locked: Result<(), TryLockError>) -> Lock {
         Ok(()) => Lock::Held,
         Err(TryLockError::WouldBlock) => Lock::InUse,
         Err(TryLockError::Error(_)) => Lock::Unsupported,
-    }
-}
-
-impl Read for &SystemFile {
-    fn read(&mut self, into: &mut [u8]) -> io::Result<usize> {
-        let file: &SystemFile = self;
-        (&file.file).read(into)
     }
 }

@@ -7,18 +7,16 @@ ghost use Rattle.pb_program.specs.Ordered.{is_synced};
 use crate::command::{FileSource, input, source};
 use crate::ordered;
 use crate::outcome::tell_made;
-use pb_cli::{
-    CollectOrder, Ends, Fault, JournalEnds, Keeping, LedgerEnds, Made, NoBook, Store, Watcher,
-};
+use pb_cli::{CollectOrder, Ends, Fault, JournalEnds, Keeping, LedgerEnds, Made, NoBook, Watcher};
 use pb_files::{
-    FileDesk, FileJournal, JournalFile, JournalGuard, JournalSink, KeptFile, LedgerFile, Replies,
-    SYNCED, Started, Stop, Submissions, WRITTEN, hold_ledger, keep_apart, start_journal,
+    FileJournal, JournalFile, JournalGuard, JournalSink, Replies, SYNCED, Started, Stop,
+    Submissions, WRITTEN, keep_apart, start_journal,
 };
+use pb_folder::{Folder, KeptFile, SavedLedger, System, book_store};
 use pb_io::{FromRead, Sink, Source, ToWrite};
 use pb_messages::{Messages, Named, Part, Progress, Told, Watching};
 use std::alloc::Global;
 use std::cell::RefCell;
-use std::fs::File;
 
 /// Takes the submissions on standard input, keeps what is wanted beside the book, and answers
 /// whether there is a book.
@@ -53,18 +51,18 @@ fn run<'a>(
     let alloc = messages.rt.alloc();
     match order.kept {
         Keeping::Book => {
-            let mut book = FileDesk::store(messages, order.book, None)?;
+            let mut book = book_store(messages, order.book)?;
             Ok(ordered::collect(alloc, order, ends, &mut book)?)
         }
         Keeping::Ledger(_) => {
-            let file = hold_ledger(kept, guard)?;
+            let file = SavedLedger::open(messages, kept.name)?;
             let mut ledger = ledger(kept, &file)?;
-            let mut book = FileDesk::store(messages, order.book, None)?;
+            let mut book = book_store(messages, order.book)?;
             Ok(ordered::go_on(alloc, order, ends, &mut ledger, &mut book)?)
         }
         Keeping::Journal { sync, .. } => {
             let started = start_journal(kept, guard, sync)?;
-            let mut book = FileDesk::store(messages, order.book, None)?;
+            let mut book = book_store(messages, order.book)?;
             if sync {
                 add_to_journal::<SYNCED>(alloc, order, ends, started, &mut book)
             } else {
@@ -94,22 +92,29 @@ fn kept_apart<'a>(messages: Messages<'a>, order: &CollectOrder<'a>) -> Result<&'
 /// The reader of this saved ledger, and the store where it is made anew.
 fn ledger<'a, 'f>(
     kept: Named<'a>,
-    file: &'f LedgerFile<'a>,
-) -> Result<LedgerEnds<FromRead<Told<'a, &'f File>>, KeptFile<FileDesk<'a, 'f>>>, Stop> {
+    file: &'f SavedLedger<'a>,
+) -> Result<LedgerEnds<FileSource<'a>, KeptFile<'f, 'a, System<'a>>>, Stop> {
+    let reader = match file.reader() {
+        Ok(reader) => reader,
+        Err(error) => {
+            kept.fail(&error);
+            return Err(Stop::NotOpened);
+        }
+    };
     Ok(LedgerEnds {
-        saved: FromRead::new(Told::new(kept, &file.file)),
-        store: FileDesk::store(kept.messages, kept.name, Some(file))?,
+        saved: FromRead::new(Told::new(kept, reader)),
+        store: file.store(kept.messages, kept.name)?,
     })
 }
 
 /// Runs the order over the journal that it has come to, which each new game is added to before its
 /// reply is written.
-fn add_to_journal<'g, 'a, const MODE: u8>(
+fn add_to_journal<'g, 'f, 'a, const MODE: u8>(
     alloc: Global,
     order: &CollectOrder<'a>,
     ends: &mut Ends<impl Source, impl Source, impl Sink, impl Watcher>,
     started: Started<FileJournal<'g, 'a>>,
-    book: &mut impl Store,
+    book: &mut KeptFile<'f, 'a, System<'a>>,
 ) -> Result<Made, Stop>
     requires { syncs MODE ≡ is_synced order.now.kept }
 {
@@ -127,12 +132,12 @@ fn add_to_journal<'g, 'a, const MODE: u8>(
 
 /// Runs the order over this journal, whatever its file is: the type of what is lent here names no
 /// borrow of the file's.
-fn run_journal<K: Source + Drop, J: JournalFile + Drop, const MODE: u8>(
+fn run_journal<'f, 'a, K: Source + Drop, J: JournalFile + Drop, F: Folder, const MODE: u8>(
     alloc: Global,
     order: &CollectOrder<'_>,
     ends: &mut Ends<impl Source, impl Source, impl Sink, impl Watcher>,
     mut journal: JournalEnds<K, JournalSink<J, MODE>>,
-    book: &mut impl Store,
+    book: &mut KeptFile<'f, 'a, F>,
 ) -> Result<Made, NoBook>
     requires { syncs MODE ≡ is_synced order.now.kept }
 {

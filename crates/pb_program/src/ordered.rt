@@ -2,7 +2,8 @@
 //! counted. Nothing else in this crate hands on rules or fills, and no name of it leads to other
 //! rules.
 
-ghost use Rattle.std.specs.Prelude.{◌≡◌, ◌⊎◌, IfErr, IfOk};
+ghost use Rattle.std.specs.Prelude.{◌≡◌, ◌⊎◌, ℕ, IfErr, IfOk, List};
+ghost use Rattle.std.specs.Option.{option_map};
 ghost use Rattle.pb_commands.specs.BookShown.{BookShown};
 ghost use Rattle.pb_commands.specs.EpdRun.{RewritesOrEnds};
 ghost use Rattle.pb_commands.specs.LookupRun.{LooksUp};
@@ -15,7 +16,10 @@ ghost use Rattle.pb_cli.specs.Runs.{HasHeadlineOfBoth, HasHeadlineOfJournal, Int
 ghost use Rattle.pb_cli.specs.Runs.{PicksAll, PicksUntil, between, journal_states, states};
 ghost use Rattle.pb_files.specs.Disk.{Disk};
 ghost use Rattle.pb_files.specs.JournalSink.{syncs};
-ghost use Rattle.pb_files.specs.Journaling.{IsStarted, LeavesAnswered};
+ghost use Rattle.pb_files.specs.Journaling.{BeginsEmpty, HandsOnAnswered, IsStarted};
+ghost use Rattle.pb_files.specs.Journaling.{LeavesAnswered};
+ghost use Rattle.pb_folder.specs.Keeping.{LeadsToHanded};
+ghost use Rattle.pb_io.specs.Source.{HandsOut};
 ghost use Rattle.pb_poly.specs.Reading.{ReadsBook};
 ghost use Rattle.pb_program.specs.Ordered.{is_synced, most_fills};
 
@@ -24,8 +28,9 @@ use pb_cli::{
     NotContinued, Store, Watcher, answer_lookup, answer_probe, answer_show, collect_into,
     continue_into, export_submissions, journal_into, pick_games, run_check, run_epd,
 };
-use pb_files::laws::answered_games_are_left;
+use pb_files::laws::{answered_games_are_handed_on, answered_games_are_left};
 use pb_files::{JournalFile, JournalSink};
+use pb_folder::{Folder, KeptFile};
 use pb_io::{Sink, Source};
 use std::alloc::Global;
 
@@ -33,20 +38,23 @@ use std::alloc::Global;
 /// without an end meets the limit.
 pub const FILLS: u32 = u32::MAX;
 
-/// Runs `collect_into` by the rules of the order.
+/// Runs `collect_into` by the rules of the order, into the book's file.
 ///
 /// # Errors
 ///
 /// Those of `collect_into`.
-pub(crate) fn collect<Table: Source, In: Source, Out: Sink, Watch: Watcher, BookStore: Store>(
+pub(crate) fn collect<'f, 'a, Table: Source, In: Source, Out: Sink, Watch: Watcher, F: Folder>(
     alloc: Global,
     order: &CollectOrder<'_>,
     ends: &mut Ends<Table, In, Out, Watch>,
-    book: &mut BookStore,
+    book: &mut KeptFile<'f, 'a, F>,
 ) -> Result<Made, NoBook>
-    ensures { let e = states Table.state In.state Out.state ends.old ends.new in
+    ensures ends { let e = states Table.state In.state Out.state ends.old ends.new in
         Into (CollectRun order.now.rules most_fills e) (HasHeadline order.now.rules e)
-        (between BookStore.state book.old book.new) result }
+        (between (⟦<KeptFile<'f, 'a, F> as Store>⟧.state) book.old book.new) result }
+    // What the book's file was handed is what its name leads to.
+    ensures book { LeadsToHanded (option_map F.InPlace.state book.new.in_place)
+        (option_map F.file book.new.named) }
 {
     collect_into(alloc, order.rules, ends, book, FILLS)
 }
@@ -57,26 +65,33 @@ pub(crate) fn collect<Table: Source, In: Source, Out: Sink, Watch: Watcher, Book
 ///
 /// Those of `continue_into`.
 pub(crate) fn go_on<
+    'l,
+    'f,
+    'a,
     Table: Source,
     In: Source,
     Out: Sink,
     Watch: Watcher,
     Saved: Source,
-    LedgerStore: Store,
-    BookStore: Store,
+    F: Folder,
 >(
     alloc: Global,
     order: &CollectOrder<'_>,
     ends: &mut Ends<Table, In, Out, Watch>,
-    ledger: &mut LedgerEnds<Saved, LedgerStore>,
-    book: &mut BookStore,
+    ledger: &mut LedgerEnds<Saved, KeptFile<'l, 'a, F>>,
+    book: &mut KeptFile<'f, 'a, F>,
 ) -> Result<Made, NotContinued>
-    ensures { let e = states Table.state In.state Out.state ends.old ends.new in
+    ensures ends { let e = states Table.state In.state Out.state ends.old ends.new in
         let saved = between Saved.state ledger.old.saved ledger.new.saved in
         ContinuesInto (ContinueRun order.now.rules most_fills e saved)
         (HasHeadlineOfBoth order.now.rules e saved)
-        (between LedgerStore.state ledger.old.store ledger.new.store)
-        (between BookStore.state book.old book.new) result }
+        (between (⟦<KeptFile<'l, 'a, F> as Store>⟧.state) ledger.old.store ledger.new.store)
+        (between (⟦<KeptFile<'f, 'a, F> as Store>⟧.state) book.old book.new) result }
+    // What their files were handed is what their names lead to.
+    ensures ledger { LeadsToHanded (option_map F.InPlace.state ledger.new.store.in_place)
+        (option_map F.file ledger.new.store.named) }
+    ensures book { LeadsToHanded (option_map F.InPlace.state book.new.in_place)
+        (option_map F.file book.new.named) }
 {
     continue_into(alloc, order.rules, ends, ledger, book, FILLS)
 }
@@ -90,6 +105,8 @@ pub(crate) fn go_on<
 ///
 /// Those of `journal_into`.
 pub(crate) fn journal<
+    'f,
+    'a,
     Table: Source,
     In: Source,
     Out: Sink,
@@ -97,13 +114,13 @@ pub(crate) fn journal<
     Kept: Source,
     File: JournalFile,
     const MODE: u8,
-    BookStore: Store,
+    F: Folder,
 >(
     alloc: Global,
     order: &CollectOrder<'_>,
     ends: &mut Ends<Table, In, Out, Watch>,
     journal: &mut JournalEnds<Kept, JournalSink<File, MODE>>,
-    book: &mut BookStore,
+    book: &mut KeptFile<'f, 'a, F>,
 ) -> Result<Made, NoBook>
     requires { syncs MODE ≡ is_synced order.now.kept }
     ensures ends { let e = states Table.state In.state Out.state ends.old ends.new in
@@ -111,15 +128,25 @@ pub(crate) fn journal<
         journal.old journal.new in
         Into (JournalRun order.now.rules most_fills e j)
         (HasHeadlineOfJournal order.now.rules e j)
-        (between BookStore.state book.old book.new) result }
+        (between (⟦<KeptFile<'f, 'a, F> as Store>⟧.state) book.old book.new) result }
+    ensures book { LeadsToHanded (option_map F.InPlace.state book.new.in_place)
+        (option_map F.file book.new.named) }
     // No submission was read, or each game that was acknowledged is in what is left of the file.
-    ensures leaves { (disk : Disk) → IsStarted (is_synced order.now.kept) disk
+    ensures leaves { File.tells ≡ true → (disk : Disk) → IsStarted (is_synced order.now.kept) disk
         journal.old.journal (Kept.state journal.old.kept)
         → (In.state ends.new.lines ≡ In.state ends.old.lines)
         ⊎ LeavesAnswered (is_synced order.now.kept) disk journal.new.journal
         (states Table.state In.state Out.state ends.old ends.new) }
+    // The same of a file that tells nothing, as the system's: flushes that succeeded have handed on
+    // each such game that wasn't read of it.
+    ensures hands_on { File.tells ≡ false → BeginsEmpty journal.old.journal
+        → (In.state ends.new.lines ≡ In.state ends.old.lines)
+        ⊎ ((kept : List ℕ) × HandsOut (Kept.state journal.old.kept) (Kept.state journal.new.kept) kept
+        × HandsOnAnswered kept journal.new.journal
+        (states Table.state In.state Out.state ends.old ends.new)) }
 {
     answered_games_are_left();
+    answered_games_are_handed_on();
     journal_into(alloc, order.rules, ends, journal, book, FILLS)
 }
 

@@ -1,4 +1,3 @@
-use Rattle.std.proofs.Common.{rules}
 use Rattle.pb_files.proofs.FileLemmas.{writes_front}
 use Rattle.pb_files.proofs.journal_sink.hand_on.Goals as goal
 
