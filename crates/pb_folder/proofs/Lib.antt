@@ -1,2 +1,3 @@
 mod KeepLemmas
+mod RunLemmas
 mod WriteLemmas

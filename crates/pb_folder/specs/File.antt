@@ -1,6 +1,7 @@
 -- What a run knows of a file that it has open, by what the system has answered, and what the run may
 -- do with it.
-use Rattle.std.specs.Prelude.{◌≡◌, ◌⊎◌, ◌≤◌, Bool, false, true, List, [], ℕ, Option, None, Some}
+use Rattle.std.specs.Prelude.{◌≡◌, ◌⊎◌, ◌≤◌, ◌+◌, ◌-◌, if◌then◌else◌, Bool, false, true, List, [], ℕ}
+use Rattle.std.specs.Prelude.{Option, None, Some}
 use Rattle.std.specs.Option.{option_map}
 use Rattle.pb_folder.specs.declared.folder.Entry.{Entry}
 use Rattle.pb_folder.specs.declared.folder.Entry.TheVariants.{Target, Draft}
@@ -8,6 +9,7 @@ use Rattle.pb_folder.specs.declared.folder.Hold.{Hold}
 use Rattle.pb_folder.specs.declared.folder.Hold.TheVariants.{Nothing, Shared, Alone, Unlockable}
 use Rattle.pb_folder.specs.declared.folder.Lock.{Lock}
 use Rattle.pb_folder.specs.declared.folder.Lock.TheVariants.{Held, InUse, Unsupported}
+use Rattle.pb_folder.specs.declared.folder.Seen.{Seen}
 use Rattle.pb_folder.specs.declared.status.Status.{Status}
 
 pub record FileState : Type 0 where
@@ -101,6 +103,10 @@ locked hold lock s = record s { hold = hold_by hold lock; named = false }
 
 -- ---- what a run may do
 
+-- this run has written nothing into it
+abbrev pub IsUntouched : FileState → Type 0
+IsUntouched s = (s.handed ≡ []) × (s.lost ≡ false)
+
 -- whether it is the name of a draft
 abbrev pub is_draft : Entry → Bool
 is_draft Target = false
@@ -114,9 +120,9 @@ IsNamedDraft s = (is_draft s.entry ≡ true) × (s.named ≡ true)
 abbrev pub IsOwnDraft : FileState → Type 0
 IsOwnDraft s = IsNamedDraft s × (s.made ≡ true) × (is_held s.hold ≡ true)
 
--- nothing was written into it yet
-abbrev pub IsNewDraft : FileState → Type 0
-IsNewDraft s = IsOwnDraft s × (s.handed ≡ []) × (s.lost ≡ false)
+-- Nothing was written into it yet. What is to be a ledger keeps other runs out from the start.
+abbrev pub IsNewDraft : Bool → FileState → Type 0
+IsNewDraft ledger s = IsOwnDraft s × (ledger ≡ true → is_alone s.hold ≡ true) × IsUntouched s
 
 -- a draft that is left over: no run has a lock of it, so that this one got its own
 abbrev pub IsLeftOver : FileState → Type 0
@@ -124,6 +130,23 @@ IsLeftOver s = IsNamedDraft s × (s.hold ≡ Alone)
 
 abbrev pub MayRemove : FileState → Type 0
 MayRemove s = IsOwnDraft s ⊎ IsLeftOver s
+
+-- a draft that this run made, and that another run has, or has removed
+abbrev pub IsOfOther : FileState → Type 0
+IsOfOther s = (s.made ≡ true) × ((s.hold ≡ Nothing) ⊎ (s.named ≡ false))
+
+-- a draft is shared by the run alone that made it
+abbrev pub MayShare : FileState → Type 0
+MayShare s = is_draft s.entry ≡ true → s.made ≡ true
+
+-- how many drafts of this run stand there once this file is removed
+abbrev pub without : FileState → ℕ → ℕ
+without s drafts = if s.made then drafts - 1 else drafts
+
+-- and with one that it has made, if it has
+abbrev pub with_draft : {X : Type 0} → Option X → ℕ → ℕ
+with_draft None drafts = drafts
+with_draft (Some draft) drafts = drafts + 1
 
 -- the file of the name, which this run alone holds
 abbrev pub IsHeldAlone : FileState → Type 0
@@ -160,13 +183,17 @@ pub record CanReplace (ledger : Bool) (old draft : FileState) : Type 0 where
   pub told : old.status ≡ Some status
   pub fits : Fits status draft
 
+-- an ordinary file of one name
+abbrev pub IsPlain : Status → Type 0
+IsPlain status = (status.is_file ≡ true) × (status.names ≤ 1)
+
 -- what stands under the name, which a draft may replace as far as that is known before there is one
 pub record IsOld (ledger : Bool) (status : Status) (s : FileState) : Type 0 where
   pub entry : s.entry ≡ Target
   pub named : s.named ≡ true
   pub held : ledger ≡ false → is_held s.hold ≡ true
   pub told : s.status ≡ Some status
-  pub untouched : (s.handed ≡ []) × (s.lost ≡ false)
+  pub untouched : IsUntouched s
 
 -- two statuses are of one file
 pub record IsOneFile (one other : FileState) : Type 0 where
@@ -182,10 +209,6 @@ abbrev pub IsOfHolder : Option FileState → Option FileState → Type 0
 IsOfHolder (Some held) (Some old) = IsHeldAlone held × IsOneFile held old
 IsOfHolder held old = ⊥
 
--- this run has written nothing into it
-abbrev pub IsUntouched : FileState → Type 0
-IsUntouched s = (s.handed ≡ []) × (s.lost ≡ false)
-
 -- it is written in place from now on
 abbrev pub IsInPlace : FileState → Type 0
 IsInPlace s = (s.in_place ≡ true) × IsUntouched s
@@ -194,3 +217,10 @@ IsInPlace s = (s.in_place ≡ true) × IsUntouched s
 abbrev pub IsPut : List ℕ → FileState → Type 0
 IsPut bytes s = (s.entry ≡ Target) × (s.named ≡ true) × (s.made ≡ true) × (is_held s.hold ≡ true)
     × (s.handed ≡ bytes) × (s.synced ≡ true)
+
+-- whether nothing was seen under the name
+abbrev pub is_nothing : Seen → Bool
+is_nothing Seen.Nothing = true
+is_nothing Seen.File = false
+is_nothing Seen.Folder = false
+is_nothing Seen.Other = false

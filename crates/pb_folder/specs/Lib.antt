@@ -1,6 +1,7 @@
 pub mod File
 pub mod Keeping
 pub mod Parts
+pub mod Runs
 pub mod Saving
 pub mod Shelf
 pub mod Steps

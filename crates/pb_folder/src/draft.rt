@@ -1,7 +1,8 @@
 //! Drafts, which stand beside the file that they are to replace.
 
-ghost use Rattle.std.specs.Prelude.{◌≡◌, IfOk, IfSome, IsNone, false, true};
-ghost use Rattle.pb_folder.specs.File.{Fits, IsNewDraft, IsOwnDraft, is_held, new_draft};
+ghost use Rattle.std.specs.Prelude.{◌≡◌, ◌-◌, IfOk, IfSome, IsNone, OnErr, false, true};
+ghost use Rattle.pb_folder.specs.File.{Fits, IsNewDraft, IsOwnDraft, is_alone, is_held};
+ghost use Rattle.pb_folder.specs.File.{new_draft, with_draft};
 
 use crate::folder::{Entry, Folder, Lock};
 use crate::status::{Status, why_not};
@@ -13,7 +14,12 @@ const NAMES: u32 = 100;
 
 /// Removes the draft of this number, unless a run has a lock of it: its own was killed. Where there
 /// are no locks none is removed.
-pub fn remove_left_over<F: Folder>(folder: &F, number: u32) {
+pub fn remove_left_over<F: Folder>(folder: &mut F, number: u32)
+    ensures drafts { F.drafts folder.new ≡ F.drafts folder.old }
+    ensures free { F.free folder.new ≡ F.free folder.old }
+    ensures same { F.shelf folder.new ≡ F.shelf folder.old }
+    ensures ledger { F.ledger folder.new ≡ F.ledger folder.old }
+{
     let Ok(mut file) = folder.open(Entry::Draft(number)) else {
         return;
     };
@@ -26,24 +32,30 @@ pub fn remove_left_over<F: Folder>(folder: &F, number: u32) {
     }
 }
 
-/// Makes an empty draft: by the first number that no run has. This run holds it alone, or so that
-/// the next run may replace it. None where other runs have all names.
+/// Makes an empty draft: by the first number that no run has. This run holds that of a ledger alone,
+/// and another so that the next run may replace it. None where other runs have all names.
 ///
 /// # Errors
 ///
 /// Why the system makes none.
 pub fn make_draft<F: Folder>(
-    folder: &F,
+    folder: &mut F,
     is_private: bool,
-    is_alone: bool,
+    is_ledger: bool,
 ) -> io::Result<Option<F::File>>
-    ensures { IfOk result (λ made. IfSome made (λ draft. IsNewDraft (F.file draft))) }
+    ensures new { IfOk result (λ made. IfSome made (λ draft. IsNewDraft is_ledger (F.file draft))) }
+    ensures drafts { IfOk result (λ made. F.drafts folder.new
+        ≡ with_draft made (F.drafts folder.old)) }
+    ensures none { OnErr result (F.drafts folder.new ≡ F.drafts folder.old) }
+    ensures free { F.free folder.new ≡ F.free folder.old }
+    ensures same { F.shelf folder.new ≡ F.shelf folder.old }
+    ensures ledger { F.ledger folder.new ≡ F.ledger folder.old }
 {
     for number in 0..NAMES {
         remove_left_over(folder, number);
         match folder.make(number, is_private) {
             Ok(file) => {
-                if let Some(draft) = hold_draft(folder, file, number, is_alone) {
+                if let Some(draft) = hold_draft(folder, file, number, is_ledger) {
                     return Ok(Some(draft));
                 }
             }
@@ -60,8 +72,14 @@ pub fn make_draft<F: Folder>(
 /// # Errors
 ///
 /// Why the system makes none.
-pub fn make_first_draft<F: Folder>(folder: &F) -> io::Result<Option<F::File>>
-    ensures { IfOk result (λ made. IfSome made (λ draft. IsNewDraft (F.file draft))) }
+pub fn make_first_draft<F: Folder>(folder: &mut F) -> io::Result<Option<F::File>>
+    ensures new { IfOk result (λ made. IfSome made (λ draft. IsNewDraft false (F.file draft))) }
+    ensures drafts { IfOk result (λ made. F.drafts folder.new
+        ≡ with_draft made (F.drafts folder.old)) }
+    ensures none { OnErr result (F.drafts folder.new ≡ F.drafts folder.old) }
+    ensures free { F.free folder.new ≡ F.free folder.old }
+    ensures same { F.shelf folder.new ≡ F.shelf folder.old }
+    ensures ledger { F.ledger folder.new ≡ F.ledger folder.old }
 {
     match folder.make(0, false) {
         Ok(file) => Ok(hold_draft(folder, file, 0, false)),
@@ -73,32 +91,38 @@ pub fn make_first_draft<F: Folder>(folder: &F) -> io::Result<Option<F::File>>
 /// Holds a draft that this run has made. None where another run takes it for one left over, or has
 /// removed it.
 fn hold_draft<F: Folder>(
-    folder: &F,
+    folder: &mut F,
     mut file: F::File,
     number: u32,
-    is_alone: bool,
+    is_ledger: bool,
 ) -> Option<F::File>
     requires { F.file file ≡ new_draft number }
-    ensures { IfSome result (λ draft. IsNewDraft (F.file draft)) }
+    ensures new { IfSome result (λ draft. IsNewDraft is_ledger (F.file draft)) }
+    ensures held { IfSome result (λ _. F.drafts folder.new ≡ F.drafts folder.old) }
+    ensures left { IsNone result → F.drafts folder.new ≡ F.drafts folder.old - 1 }
+    ensures free { F.free folder.new ≡ F.free folder.old }
+    ensures same { F.shelf folder.new ≡ F.shelf folder.old }
+    ensures ledger { F.ledger folder.new ≡ F.ledger folder.old }
 {
-    if !lock_draft(folder, &mut file, is_alone) {
-        return None;
-    }
-    if folder.is_named(&mut file) {
+    if lock_draft(folder, &mut file, is_ledger) && folder.is_named(&mut file) {
         return Some(file);
     }
+    folder.leave(file);
     None
 }
 
 /// Locks a draft, and tells whether no other run has a lock that keeps this one out.
-fn lock_draft<F: Folder>(folder: &F, file: &mut F::File, is_alone: bool) -> bool
+fn lock_draft<F: Folder>(folder: &F, file: &mut F::File, is_ledger: bool) -> bool
+    requires { (F.file file.old).made ≡ true }
     ensures held { result ≡ true → is_held (F.file file.new).hold ≡ true }
+    ensures alone { result ≡ true → is_ledger ≡ true
+        → is_alone (F.file file.new).hold ≡ true }
     ensures same { F.file file.new ≡ record (F.file file.old) {
       hold = (F.file file.new).hold;
       named = false;
     } }
 {
-    let lock = if is_alone {
+    let lock = if is_ledger {
         folder.lock(file)
     } else {
         folder.lock_shared(file)

@@ -26,7 +26,8 @@ pub fn expect_ledger<F: Folder>(
 ) -> Result<(), StoreError>
     requires ledger { F.ledger folder.old ≡ true }
     requires holder { IsHolder (F.file ledger.now.file) ledger.now.status }
-    ensures { F.ledger folder.new ≡ F.ledger folder.old }
+    ensures drafts { F.drafts folder.new ≡ F.drafts folder.old }
+    ensures ledger { F.ledger folder.new ≡ F.ledger folder.old }
 {
     let old = match look_at(folder, label, Some(ledger)) {
         Ok(old) => old,
@@ -49,7 +50,10 @@ pub fn expect_ledger<F: Folder>(
 /// # Errors
 ///
 /// `Open` where the book can't be written, which is told; `Memory` where there is none for a draft.
-pub fn expect_book<F: Folder>(folder: &F, label: &Label<'_>) -> Result<(), StoreError> {
+pub fn expect_book<F: Folder>(folder: &mut F, label: &Label<'_>) -> Result<(), StoreError>
+    ensures drafts { F.drafts folder.new ≡ F.drafts folder.old }
+    ensures ledger { F.ledger folder.new ≡ F.ledger folder.old }
+{
     let left = match folder.look() {
         Seen::Nothing => return warn_of_folder(folder, label),
         // Opening a pipe may wait.
@@ -64,7 +68,10 @@ pub fn expect_book<F: Folder>(folder: &F, label: &Label<'_>) -> Result<(), Store
 }
 
 /// Warns where no file can be made of a name that is free.
-fn warn_of_folder<F: Folder>(folder: &F, label: &Label<'_>) -> Result<(), StoreError> {
+fn warn_of_folder<F: Folder>(folder: &mut F, label: &Label<'_>) -> Result<(), StoreError>
+    ensures drafts { F.drafts folder.new ≡ F.drafts folder.old }
+    ensures ledger { F.ledger folder.new ≡ F.ledger folder.old }
+{
     remove_left_over(folder, 0);
     match make_first_draft(folder) {
         Ok(Some(draft)) => folder.remove(draft),

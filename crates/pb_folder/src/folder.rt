@@ -1,11 +1,12 @@
 //! The system's calls on one name in a folder, and on the drafts of its file.
 
-ghost use Rattle.std.specs.Prelude.{◌≡◌, ◌++◌, ℕ, Bool, IfOk, IfSome, List, None, OnErr, OnOk, Option};
-ghost use Rattle.std.specs.Prelude.{Some, [], false, true};
-ghost use Rattle.std.specs.Option.{option_map};
+ghost use Rattle.std.specs.Prelude.{◌≡◌, ◌+◌, ◌-◌, ◌++◌, ◌||◌, ℕ, Bool, IfOk, IfSome, List, None, OnErr, OnOk};
+ghost use Rattle.std.specs.Prelude.{Option, Some, [], false, is_err, true};
+ghost use Rattle.std.specs.Option.{is_some, option_map};
 ghost use Rattle.pb_io.specs.Sink.{HandedOn};
-ghost use Rattle.pb_folder.specs.File.{CanReplace, FileState, IsNamedDraft, IsOfHolder, IsOwnDraft};
-ghost use Rattle.pb_folder.specs.File.{MayRemove, emptied, locked, new_draft, opened, with_mode};
+ghost use Rattle.pb_folder.specs.File.{CanReplace, FileState, IsNewDraft, IsOfHolder, IsOfOther};
+ghost use Rattle.pb_folder.specs.File.{IsOwnDraft, MayRemove, MayShare, emptied, is_nothing, locked};
+ghost use Rattle.pb_folder.specs.File.{new_draft, opened, with_mode, without};
 ghost use Rattle.pb_folder.specs.Shelf.{Begins, Empties, Names, NamesNot, Settles, SettlesNot, Shelf};
 ghost use Rattle.pb_folder.specs.Steps.{Steps};
 ghost use Rattle.pb_folder.specs.declared.folder.Entry.TheVariants.{Draft, Target};
@@ -83,6 +84,17 @@ pub trait Folder {
     /// What a reader finds under the name, and what a crash leaves, where that is told.
     ghost shelf: { Self → Option Shelf };
 
+    /// How many drafts of this run stand there: those that it has made, and neither named nor removed,
+    /// nor left to another run.
+    ghost drafts: { Self → ℕ };
+
+    /// Nothing was seen under the name.
+    ghost free: { Self → Bool };
+
+    /// The folder's names couldn't be put on the disk since the name was given. A later try may
+    /// succeed then though the name isn't there.
+    ghost unsettled: { Self → Bool };
+
     /// Whether the name is that of a ledger, which a run replaces that holds it alone.
     ghost ledger: { Self → Bool };
 
@@ -96,11 +108,17 @@ pub trait Folder {
     /// Has the file stand where the links of its name lead, and its drafts beside it.
     fn follow(&mut self) -> io::Result<()>
         ensures same { shelf self.new ≡ shelf self.old }
+        ensures drafts { drafts self.new ≡ drafts self.old }
+        ensures free { free self.new ≡ free self.old }
         ensures ledger { ledger self.new ≡ ledger self.old }
         ensures appends { appends self.new ≡ appends self.old };
 
     /// Looks at what has the name.
-    fn look(&self) -> Seen;
+    fn look(&mut self) -> Seen
+        ensures free { free self.new ≡ is_nothing result }
+        ensures same { shelf self.new ≡ shelf self.old }
+        ensures drafts { drafts self.new ≡ drafts self.old }
+        ensures ledger { ledger self.new ≡ ledger self.old };
 
     /// Opens the file that the entry leads to, to be written.
     fn open(&self, entry: Entry) -> io::Result<Self::File>
@@ -108,8 +126,13 @@ pub trait Folder {
 
     /// Makes the draft of this number, which is empty, where nothing has its name. Its user alone
     /// may read it, or whoever may read new files.
-    fn make(&self, number: u32, is_private: bool) -> io::Result<Self::File>
-        ensures { IfOk result (λ f. file f ≡ new_draft number) };
+    fn make(&mut self, number: u32, is_private: bool) -> io::Result<Self::File>
+        ensures made { IfOk result (λ f. file f ≡ new_draft number) }
+        ensures drafts { OnOk result (drafts self.new ≡ drafts self.old + 1) }
+        ensures none { OnErr result (drafts self.new ≡ drafts self.old) }
+        ensures free { free self.new ≡ free self.old }
+        ensures same { shelf self.new ≡ shelf self.old }
+        ensures ledger { ledger self.new ≡ ledger self.old };
 
     /// Locks the file, so that no other run has a lock of it.
     fn lock(&self, f: &mut Self::File) -> Lock
@@ -117,6 +140,7 @@ pub trait Folder {
 
     /// Locks the file, so that no other run has it alone.
     fn lock_shared(&self, f: &mut Self::File) -> Lock
+        requires { MayShare (file f.old) }
         ensures { file f.new ≡ locked Shared result (file f.old) };
 
     /// Tells whether its entry leads to the file, and to a draft alone.
@@ -138,9 +162,7 @@ pub trait Folder {
     /// Makes an end into a draft that has taken nothing yet, with this room for what waits. A
     /// failure leaves so much, which is told then.
     fn draft(&self, f: Self::File, room: Vec<u8>, left: Left) -> Self::Draft
-        requires own { IsOwnDraft (file f) }
-        requires works { (file f).lost ≡ false }
-        requires empty { (file f).handed ≡ [] }
+        requires new { IsNewDraft (ledger self.now) (file f) }
         requires room { room.items ≡ [] }
         ensures { Begins (Self.Draft.state result) };
 
@@ -158,6 +180,7 @@ pub trait Folder {
         ensures in_place { OnOk result (file f.new ≡ record (file f.old) { in_place = true }) }
         ensures emptied { OnOk result (Steps Empties (shelf self.old) (shelf self.new)) }
         ensures same { OnErr result (shelf self.new ≡ shelf self.old) }
+        ensures drafts { drafts self.new ≡ drafts self.old }
         ensures ledger { ledger self.new ≡ ledger self.old };
 
     /// Makes a file of the name, or empties the one that has it, to be written in place.
@@ -166,6 +189,7 @@ pub trait Folder {
         ensures in_place { IfOk result (λ f. file f ≡ emptied) }
         ensures emptied { OnOk result (Steps Empties (shelf self.old) (shelf self.new)) }
         ensures same { OnErr result (shelf self.new ≡ shelf self.old) }
+        ensures drafts { drafts self.new ≡ drafts self.old }
         ensures ledger { ledger self.new ≡ ledger self.old };
 
     /// Makes an end into a file that is written in place and has taken nothing yet.
@@ -176,8 +200,8 @@ pub trait Folder {
         requires room { room.items ≡ [] }
         ensures { Begins (Self.InPlace.state result) };
 
-    /// Gives the draft the name, and takes it from the old file, if there is one. `held` is the file
-    /// of a ledger as this run holds it.
+    /// Gives the draft the name, and takes it from the old file, unless nothing was seen there. `held`
+    /// is the file of a ledger as this run holds it.
     fn rename(
         &mut self,
         draft: &mut Self::File,
@@ -188,6 +212,7 @@ pub trait Folder {
         requires on_disk { (file draft.old).synced ≡ true }
         requires fits { IfSome old (λ o. CanReplace (ledger self.old) (file o.now)
             (file draft.old)) }
+        requires free { is_some old ≡ false → free self.old ≡ true }
         requires held { ledger self.old ≡ true → IsOfHolder (option_map (λ h. file h.now) held)
             (option_map (λ o. file o.now) old) }
         ensures name { OnOk result (file draft.new ≡ record (file draft.old) { entry = Target }) }
@@ -196,15 +221,33 @@ pub trait Folder {
             (shelf self.old) (shelf self.new)) }
         ensures not_named { OnErr result (Steps (NamesNot (Some (file draft.old).handed))
             (shelf self.old) (shelf self.new)) }
+        ensures drafts { OnOk result (drafts self.new ≡ drafts self.old - 1) }
+        ensures stays { OnErr result (drafts self.new ≡ drafts self.old) }
+        ensures untried { OnOk result (unsettled self.new ≡ false) }
         ensures ledger { ledger self.new ≡ ledger self.old };
 
     /// Puts the folder's names on the disk.
     fn sync_names(&mut self) -> io::Result<()>
-        ensures settled { OnOk result (Steps Settles (shelf self.old) (shelf self.new)) }
+        ensures settled { OnOk result (unsettled self.old ≡ false
+            → Steps Settles (shelf self.old) (shelf self.new)) }
+        ensures noted { unsettled self.new ≡ (unsettled self.old || is_err result) }
         ensures not_settled { OnErr result (Steps SettlesNot (shelf self.old) (shelf self.new)) }
+        ensures drafts { drafts self.new ≡ drafts self.old }
         ensures ledger { ledger self.new ≡ ledger self.old };
 
     /// Takes the name from a draft, and lets the draft go.
-    fn remove(&self, draft: Self::File)
-        requires { MayRemove (file draft) };
+    fn remove(&mut self, draft: Self::File)
+        requires { MayRemove (file draft) }
+        ensures drafts { drafts self.new ≡ without (file draft) (drafts self.old) }
+        ensures free { free self.new ≡ free self.old }
+        ensures same { shelf self.new ≡ shelf self.old }
+        ensures ledger { ledger self.new ≡ ledger self.old };
+
+    /// Lets a draft of this run go, which another run has, or has removed.
+    fn leave(&mut self, draft: Self::File)
+        requires { IsOfOther (file draft) }
+        ensures drafts { drafts self.new ≡ drafts self.old - 1 }
+        ensures free { free self.new ≡ free self.old }
+        ensures same { shelf self.new ≡ shelf self.old }
+        ensures ledger { ledger self.new ≡ ledger self.old };
 }

@@ -94,6 +94,8 @@ impl<'f, 'a, F: Folder> Store for KeptFile<'f, 'a, F> {
             (option_map F.InPlace.state self.new.in_place)
             (option_map F.file self.old.named) (option_map F.file self.new.named)
             (F.shelf self.old.folder) (F.shelf self.new.folder) }
+        // No draft is left.
+        ensures drafts { F.drafts self.new.folder ≡ F.drafts self.old.folder }
     {
         let kept = keep_at(
             &mut self.folder,
@@ -127,6 +129,7 @@ fn keep_at<F: Folder, X: Text>(
         (option_map F.file named.old) (option_map F.file named.new)
         (F.shelf folder.old) (F.shelf folder.new) × IfOk result (λ n. n ≡ count) }
     ensures put { ForSome named.new (λ f. IsPut (F.file f).handed (F.file f)) }
+    ensures drafts { F.drafts folder.new ≡ F.drafts folder.old }
     ensures ledger { F.ledger folder.new ≡ F.ledger folder.old }
 {
     let old = match look_at(folder, label, ledger) {
@@ -168,6 +171,7 @@ fn keep_in_place<F: Folder, X: Text>(
         × WritesInPlace result bytes (option_map F.InPlace.state in_place.old)
         (option_map F.InPlace.state in_place.new) (F.shelf folder.old) (F.shelf folder.new)
         × IfOk result (λ n. n ≡ count) }
+    ensures drafts { F.drafts folder.new ≡ F.drafts folder.old }
     ensures ledger { F.ledger folder.new ≡ F.ledger folder.old }
 {
     let Ok(room) = Vec::with_capacity(label.messages.rt.alloc(), BUFFER_LEN) else {
@@ -193,6 +197,7 @@ fn open_in_place<F: Folder>(
     requires untouched { IfSome file (λ f. IsUntouched (F.file f)) }
     ensures in_place { IfOk result (λ f. IsInPlace (F.file f)) }
     ensures same { OnErr result (F.shelf folder.new ≡ F.shelf folder.old) }
+    ensures drafts { F.drafts folder.new ≡ F.drafts folder.old }
     ensures ledger { F.ledger folder.new ≡ F.ledger folder.old }
 {
     let Some(mut old) = file else {

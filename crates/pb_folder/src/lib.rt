@@ -9,6 +9,7 @@ mod held_file;
 mod holding;
 mod kept;
 mod label;
+pub mod laws;
 mod ledger_file;
 mod looking;
 mod place;

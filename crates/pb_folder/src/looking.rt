@@ -1,8 +1,9 @@
 //! What stands under a name whose file is to be made anew.
 
-ghost use Rattle.std.specs.Prelude.{◌≡◌, IfOk, IfSome, Err, IsNone, OnOk, false, true};
+ghost use Rattle.std.specs.Prelude.{◌≡◌, ◌≤◌, IfOk, IfSome, Err, IsNone, OnOk, false, true};
 ghost use Rattle.std.specs.Option.{is_some, option_map};
-ghost use Rattle.pb_folder.specs.File.{IsHolder, IsOfHolder, IsOld, IsOneFile, IsUntouched, is_held};
+ghost use Rattle.pb_folder.specs.File.{IsHolder, IsOfHolder, IsOld, IsOneFile, IsPlain, IsUntouched};
+ghost use Rattle.pb_folder.specs.File.{is_held};
 ghost use Rattle.pb_folder.specs.Saving.{IfRefused, is_refused};
 ghost use Rattle.pb_folder.specs.declared.folder.Entry.TheVariants.{Target};
 
@@ -48,11 +49,14 @@ pub fn look_at<F: Folder>(
     requires holder { IfSome ledger (λ l. IsHolder (F.file l.now.file) l.now.status) }
     ensures old { IfOk result (λ old. IfSome old (λ o.
         IsOld (F.ledger folder.new) o.status (F.file o.file))) }
+    ensures plain { IfOk result (λ old. IfSome old (λ o. IsPlain o.status)) }
+    ensures free { IfOk result (λ old. is_some old ≡ false → F.free folder.new ≡ true) }
     ensures held { IfOk result (λ old. F.ledger folder.new ≡ true
         → IsOfHolder (option_map (λ l. F.file l.now.file) ledger.entry)
         (option_map (λ o. F.file o.file) old)) }
     ensures refused { is_refused result ≡ true → F.ledger folder.new ≡ false }
     ensures untouched { IfRefused result (λ f. IsUntouched (F.file f)) }
+    ensures drafts { F.drafts folder.new ≡ F.drafts folder.old }
     ensures ledger { F.ledger folder.new ≡ F.ledger folder.old }
     ensures same { F.shelf folder.new ≡ F.shelf folder.old }
 {
@@ -71,9 +75,11 @@ fn look_at_none<F: Folder>(
 ) -> Result<Option<Old<F::File>>, NotSaved<F::File>>
     requires { F.ledger folder.old ≡ is_some ledger }
     ensures none { IfOk result (λ old. IsNone old) }
+    ensures free { OnOk result (F.free folder.new ≡ true) }
     ensures book { OnOk result (F.ledger folder.new ≡ false) }
     ensures refused { is_refused result ≡ true → F.ledger folder.new ≡ false }
     ensures untouched { IfRefused result (λ f. IsUntouched (F.file f)) }
+    ensures drafts { F.drafts folder.new ≡ F.drafts folder.old }
     ensures ledger { F.ledger folder.new ≡ F.ledger folder.old }
     ensures same { F.shelf folder.new ≡ F.shelf folder.old }
 {
@@ -103,11 +109,14 @@ fn look_at_file<F: Folder>(
     requires untouched { IsUntouched (F.file file) }
     ensures old { IfOk result (λ old. IfSome old (λ o.
         IsOld (F.ledger folder.new) o.status (F.file o.file))) }
+    ensures plain { IfOk result (λ old. IfSome old (λ o. IsPlain o.status)) }
+    ensures some { IfOk result (λ old. is_some old ≡ true) }
     ensures held { IfOk result (λ old. F.ledger folder.new ≡ true
         → IsOfHolder (option_map (λ l. F.file l.now.file) ledger.entry)
         (option_map (λ o. F.file o.file) old)) }
     ensures refused { is_refused result ≡ true → F.ledger folder.new ≡ false }
     ensures untouched { IfRefused result (λ f. IsUntouched (F.file f)) }
+    ensures drafts { F.drafts folder.new ≡ F.drafts folder.old }
     ensures ledger { F.ledger folder.new ≡ F.ledger folder.old }
     ensures same { F.shelf folder.new ≡ F.shelf folder.old }
 {
@@ -138,6 +147,7 @@ fn expect_free<F: Folder>(
     status: &Status,
 ) -> Result<(), StoreError>
     requires holder { IfSome ledger (λ l. IsHolder (F.file l.now.file) l.now.status) }
+    requires opened { (F.file file.old).entry ≡ Target }
     requires told { (F.file file.old).status ≡ Some status.now }
     ensures book { OnOk result (is_some ledger.entry ≡ false → is_held (F.file file.new).hold ≡ true) }
     ensures held { OnOk result (IfSome ledger.entry (λ l. IsOneFile (F.file l.now.file)
@@ -170,9 +180,11 @@ fn unreplaceable<F: Folder>(
     status: &Status,
 ) -> Result<Option<Unreplaceable>, StoreError>
     ensures named { IfOk result (λ why. IsNone why → (F.file file.new).named ≡ true) }
+    ensures one_name { IfOk result (λ why. IsNone why → status.now.names ≤ 1) }
     ensures same_file { F.file file.new ≡ record (F.file file.old) {
       named = (F.file file.new).named;
     } }
+    ensures drafts { F.drafts folder.new ≡ F.drafts folder.old }
     ensures ledger { F.ledger folder.new ≡ F.ledger folder.old }
     ensures same { F.shelf folder.new ≡ F.shelf folder.old }
 {

@@ -117,7 +117,7 @@ pub fn book_store<'a>(
         part: Part::Book,
         path,
     };
-    let folder = System::new(messages, path, Part::Book);
-    expect_book(&folder, &label)?;
+    let mut folder = System::new(messages, path, Part::Book);
+    expect_book(&mut folder, &label)?;
     Ok(KeptFile::<'a, 'a, System<'a>>::of_book(folder, label))
 }

@@ -1,7 +1,7 @@
 //! A file that is made anew whole.
 
-ghost use Rattle.std.specs.Prelude.{◌≡◌, ℕ, List, Err, IfOk, IfSome, OnErr, OnOk, Some, false, true};
-ghost use Rattle.std.specs.Option.{option_map};
+ghost use Rattle.std.specs.Prelude.{◌≡◌, ◌+◌, ◌-◌, ℕ, List, Err, IfOk, IfSome, OnErr, OnOk, Some, false, true};
+ghost use Rattle.std.specs.Option.{is_some, option_map};
 ghost use Rattle.pb_folder.specs.File.{Fits, IsNewDraft, IsOfHolder, IsOld, IsOwnDraft, IsPut};
 ghost use Rattle.pb_folder.specs.Shelf.{Names, NamesNot};
 ghost use Rattle.pb_folder.specs.Saving.{IsWritten, NamesBytes, is_put_refused};
@@ -57,6 +57,7 @@ pub fn put_text<F: Folder, X: Text>(
     requires text { (bytes : List ℕ) × (count : ℕ) × X.is_text text.now bytes count }
     requires old { IfSome old (λ o. IsOld (F.ledger folder.old) o.now.status
         (F.file o.now.file)) }
+    requires free { is_some old ≡ false → F.free folder.old ≡ true }
     requires held { F.ledger folder.old ≡ true
         → IsOfHolder (option_map (λ l. F.file l.now.file) ledger)
         (option_map (λ o. F.file o.now.file) old) }
@@ -66,6 +67,7 @@ pub fn put_text<F: Folder, X: Text>(
         × OnErr result (Steps (NamesNot (Some bytes)) (F.shelf folder.old)
         (F.shelf folder.new)) }
     ensures refused { is_put_refused result ≡ true → F.ledger folder.new ≡ false }
+    ensures drafts { F.drafts folder.new ≡ F.drafts folder.old }
     ensures ledger { F.ledger folder.new ≡ F.ledger folder.old }
 {
     let file = new_draft(folder, label, old)?;
@@ -87,14 +89,20 @@ pub fn put_text<F: Folder, X: Text>(
 
 /// Makes an empty draft, which can take the place of the old file.
 pub(crate) fn new_draft<F: Folder>(
-    folder: &F,
+    folder: &mut F,
     label: &Label<'_>,
     old: Option<&Old<F::File>>,
 ) -> Result<F::File, NotPut>
-    ensures new { IfOk result (λ draft. IsNewDraft (F.file draft)) }
-    ensures refused { is_put_refused result ≡ true → F.ledger folder.now ≡ false }
+    ensures new { IfOk result (λ draft. IsNewDraft (F.ledger folder.new) (F.file draft)) }
+    ensures refused { is_put_refused result ≡ true → F.ledger folder.new ≡ false }
+    ensures drafts { OnOk result (F.drafts folder.new ≡ F.drafts folder.old + 1) }
+    ensures none { OnErr result (F.drafts folder.new ≡ F.drafts folder.old) }
+    ensures free { F.free folder.new ≡ F.free folder.old }
+    ensures same { F.shelf folder.new ≡ F.shelf folder.old }
+    ensures ledger { F.ledger folder.new ≡ F.ledger folder.old }
 {
-    match make_draft(folder, old.is_some(), folder.is_ledger()) {
+    let is_ledger = folder.is_ledger();
+    match make_draft(folder, old.is_some(), is_ledger) {
         Ok(Some(draft)) => fitted(folder, label, old, draft),
         Ok(None) => {
             label.messages.tell(&Message::InUse(label.path));
@@ -106,14 +114,19 @@ pub(crate) fn new_draft<F: Folder>(
 
 /// Gives a new draft the old file's mode. Where it can't take its place it is removed.
 fn fitted<F: Folder>(
-    folder: &F,
+    folder: &mut F,
     label: &Label<'_>,
     old: Option<&Old<F::File>>,
     mut draft: F::File,
 ) -> Result<F::File, NotPut>
-    requires { IsNewDraft (F.file draft) }
-    ensures new { IfOk result (λ fit. IsNewDraft (F.file fit)) }
-    ensures refused { is_put_refused result ≡ true → F.ledger folder.now ≡ false }
+    requires { IsNewDraft (F.ledger folder.old) (F.file draft) }
+    ensures new { IfOk result (λ fit. IsNewDraft (F.ledger folder.new) (F.file fit)) }
+    ensures refused { is_put_refused result ≡ true → F.ledger folder.new ≡ false }
+    ensures drafts { OnOk result (F.drafts folder.new ≡ F.drafts folder.old) }
+    ensures none { OnErr result (F.drafts folder.new ≡ F.drafts folder.old - 1) }
+    ensures free { F.free folder.new ≡ F.free folder.old }
+    ensures same { F.shelf folder.new ≡ F.shelf folder.old }
+    ensures ledger { F.ledger folder.new ≡ F.ledger folder.old }
 {
     if let Err(why) = fit_draft(folder, label, old, &mut draft) {
         folder.remove(draft);
@@ -179,17 +192,22 @@ fn left_before<X>(label: &Label<'_>, old: Option<&Old<X>>) -> Left {
 
 /// Writes the draft and puts it on the disk. Where that fails it is removed.
 fn write_draft<F: Folder, X: Text>(
-    folder: &F,
+    folder: &mut F,
     label: &Label<'_>,
     old: Option<&Old<F::File>>,
     file: F::File,
     text: &X,
 ) -> Result<(F::File, u64), NotPut>
-    requires draft { IsNewDraft (F.file file) }
+    requires draft { IsNewDraft (F.ledger folder.old) (F.file file) }
     requires text { (bytes : List ℕ) × (count : ℕ) × X.is_text text.now bytes count }
     ensures written { (bytes : List ℕ) × (count : ℕ) × X.is_text text.now bytes count
         × IfOk result (λ written. IsWritten bytes (F.file written.0) × (written.1 ≡ count)) }
-    ensures refused { is_put_refused result ≡ true → F.ledger folder.now ≡ false }
+    ensures refused { is_put_refused result ≡ true → F.ledger folder.new ≡ false }
+    ensures drafts { OnOk result (F.drafts folder.new ≡ F.drafts folder.old) }
+    ensures none { OnErr result (F.drafts folder.new ≡ F.drafts folder.old - 1) }
+    ensures free { F.free folder.new ≡ F.free folder.old }
+    ensures same { F.shelf folder.new ≡ F.shelf folder.old }
+    ensures ledger { F.ledger folder.new ≡ F.ledger folder.old }
 {
     let Ok(room) = Vec::with_capacity(label.messages.rt.alloc(), BUFFER_LEN) else {
         folder.remove(file);
@@ -243,15 +261,18 @@ fn name_draft<F: Folder>(
     requires on_disk { (F.file file).synced ≡ true }
     requires old { IfSome old (λ o. IsOld (F.ledger folder.old) o.now.status
         (F.file o.now.file)) }
+    requires free { is_some old ≡ false → F.free folder.old ≡ true }
     requires held { F.ledger folder.old ≡ true
         → IsOfHolder (option_map (λ l. F.file l.now.file) ledger)
         (option_map (λ o. F.file o.now.file) old) }
     ensures put { IfOk result (λ named. IsPut (F.file file).handed (F.file named)) }
     ensures named { OnOk result (Steps (Names (Some (F.file file).handed))
         (F.shelf folder.old) (F.shelf folder.new)) }
+    ensures untried { OnOk result (F.unsettled folder.new ≡ false) }
     ensures not_named { OnErr result (Steps (NamesNot (Some (F.file file).handed))
         (F.shelf folder.old) (F.shelf folder.new)) }
     ensures refused { is_put_refused result ≡ true → F.ledger folder.new ≡ false }
+    ensures drafts { F.drafts folder.new ≡ F.drafts folder.old - 1 }
     ensures ledger { F.ledger folder.new ≡ F.ledger folder.old }
 {
     if let Err(why) = rename_draft(folder, label, old, ledger, &mut file) {
@@ -273,6 +294,7 @@ fn rename_draft<F: Folder>(
     requires on_disk { (F.file draft.old).synced ≡ true }
     requires old { IfSome old (λ o. IsOld (F.ledger folder.old) o.now.status
         (F.file o.now.file)) }
+    requires free { is_some old ≡ false → F.free folder.old ≡ true }
     requires held { F.ledger folder.old ≡ true
         → IsOfHolder (option_map (λ l. F.file l.now.file) ledger)
         (option_map (λ o. F.file o.now.file) old) }
@@ -280,9 +302,12 @@ fn rename_draft<F: Folder>(
     ensures own { OnErr result (IsOwnDraft (F.file draft.new)) }
     ensures named { OnOk result (Steps (Names (Some (F.file draft.old).handed))
         (F.shelf folder.old) (F.shelf folder.new)) }
+    ensures untried { OnOk result (F.unsettled folder.new ≡ false) }
     ensures not_named { OnErr result (Steps (NamesNot (Some (F.file draft.old).handed))
         (F.shelf folder.old) (F.shelf folder.new)) }
     ensures refused { is_put_refused result ≡ true → F.ledger folder.new ≡ false }
+    ensures drafts { OnOk result (F.drafts folder.new ≡ F.drafts folder.old - 1) }
+    ensures stays { OnErr result (F.drafts folder.new ≡ F.drafts folder.old) }
     ensures ledger { F.ledger folder.new ≡ F.ledger folder.old }
 {
     fit_draft(folder, label, old, draft)?;

@@ -39,6 +39,9 @@ pub struct System<'a> {
     is_journal: bool,
     // What is opened is read too.
     is_read: bool,
+    drafts: u64,
+    is_free: bool,
+    is_unsettled: bool,
 }
 
 impl<'a> System<'a> {
@@ -54,6 +57,9 @@ impl<'a> System<'a> {
             is_ledger: matches!(part, Part::Ledger),
             is_journal: matches!(part, Part::Journal),
             is_read: matches!(part, Part::Journal),
+            drafts: 0,
+            is_free: false,
+            is_unsettled: false,
         }
     }
 
@@ -140,6 +146,12 @@ impl<'a> Folder for System<'a> {
 
     ghost shelf = { λ _. None };
 
+    ghost drafts = { λ s. s.drafts };
+
+    ghost free = { λ s. s.is_free };
+
+    ghost unsettled = { λ s. s.is_unsettled };
+
     ghost ledger = { λ s. s.is_ledger };
 
     ghost appends = { λ s. s.is_journal };
@@ -157,9 +169,10 @@ impl<'a> Folder for System<'a> {
         Ok(())
     }
 
-    fn look(&self) -> Seen {
+    fn look(&mut self) -> Seen {
         let rt = self.messages.rt;
-        if fs::symlink_metadata(rt, self.path).is_err() {
+        self.is_free = fs::symlink_metadata(rt, self.path).is_err();
+        if self.is_free {
             return Seen::Nothing;
         }
         match fs::metadata(rt, self.path) {
@@ -183,12 +196,16 @@ impl<'a> Folder for System<'a> {
     }
 
     // Over a network a shared lock is for files alone that are open to be read.
-    fn make(&self, number: u32, is_private: bool) -> io::Result<SystemFile> {
+    fn make(&mut self, number: u32, is_private: bool) -> io::Result<SystemFile> {
+        let Some(drafts) = self.drafts.checked_add(1) else {
+            return Err(io::Error::from(ErrorKind::OutOfMemory));
+        };
         let path = self.draft_path(number)?;
         let mode = if is_private { OWN } else { ANYBODY };
         let mut options = OpenOptions::new();
         options.read(true).write(true).create_new(true).mode(mode);
         let file = options.open(self.messages.rt, path.as_path())?;
+        self.drafts = drafts;
         Ok(SystemFile::draft(file, number, path, true))
     }
 
@@ -244,16 +261,28 @@ impl<'a> Folder for System<'a> {
         _old: Option<&SystemFile>,
         _held: Option<&SystemFile>,
     ) -> io::Result<()> {
-        draft.rename(self.messages.rt, self.place.path())
+        draft.rename(self.messages.rt, self.place.path())?;
+        self.drafts = self.drafts.saturating_sub(1);
+        self.is_unsettled = false;
+        Ok(())
     }
 
     fn sync_names(&mut self) -> io::Result<()> {
-        self.place.sync_folder(self.messages.rt)
+        let synced = self.place.sync_folder(self.messages.rt);
+        self.is_unsettled = self.is_unsettled || synced.is_err();
+        synced
     }
 
-    fn remove(&self, draft: SystemFile) {
+    fn remove(&mut self, draft: SystemFile) {
         if let Some(path) = draft.path() {
             let _ = fs::remove_file(self.messages.rt, path);
         }
+        if draft.is_made() {
+            self.drafts = self.drafts.saturating_sub(1);
+        }
+    }
+
+    fn leave(&mut self, _draft: SystemFile) {
+        self.drafts = self.drafts.saturating_sub(1);
     }
 }

@@ -120,6 +120,13 @@ impl SystemFile {
         }
     }
 
+    /// Whether this run has made it.
+    pub(crate) fn is_made(&self) -> bool
+        ensures { result ≡ self.now.made }
+    {
+        self.made
+    }
+
     /// Whether what was told of it is that it is no ordinary file.
     pub(crate) fn is_device(&self) -> bool {
         self.status.is_some_and(|status| !status.is_file)
@@ -255,6 +262,8 @@ impl SystemFile {
     pub fn sync(&mut self) -> io::Result<()>
         ensures synced { OnOk result (self.old.lost ≡ false → self.new.synced ≡ true) }
         ensures works { OnOk result (self.new.lost ≡ self.old.lost) }
+        ensures failed { OnErr result (self.new.lost ≡ true) }
+        ensures believed { self.new.synced ≡ true → self.new.lost ≡ false }
         ensures rests { self.new ≡ record self.old {
           synced = self.new.synced;
           lost = self.new.lost;
@@ -269,6 +278,9 @@ impl SystemFile {
     /// Puts the bytes of the file on the disk, as `sync` does, but not what is told of it.
     pub fn sync_data(&mut self) -> io::Result<()>
         ensures synced { OnOk result (self.old.lost ≡ false → self.new.synced ≡ true) }
+        ensures works { OnOk result (self.new.lost ≡ self.old.lost) }
+        ensures failed { OnErr result (self.new.lost ≡ true) }
+        ensures believed { self.new.synced ≡ true → self.new.lost ≡ false }
         ensures rests { self.new ≡ record self.old {
           synced = self.new.synced;
           lost = self.new.lost;

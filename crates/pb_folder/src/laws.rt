@@ -1,0 +1,79 @@
+//! Laws of runs that make drafts by one name, and of what its name may lead to. Each is the contract
+//! of a function that does nothing.
+
+ghost use Rattle.std.specs.Prelude.{◌≡◌, ◌==◌, ◌++◌, ◌∷◌, [], List, None, Some, false, true, ℕ};
+ghost use Rattle.pb_folder.specs.File.{FileState, IsOwnDraft, MayRemove, locked};
+ghost use Rattle.pb_folder.specs.Runs.{HoldsDraft, Names, OfOthers, Step, after, run_of};
+ghost use Rattle.pb_folder.specs.Runs.{Claims, IsLocked, unnamed};
+ghost use Rattle.pb_folder.specs.Runs.Step.{Ends, Locks, Makes, Unnames};
+ghost use Rattle.pb_folder.specs.Shelf.{Content, NamesNot, OldOrNew, Shelf};
+ghost use Rattle.pb_folder.specs.declared.folder.Hold.{Hold};
+ghost use Rattle.pb_folder.specs.declared.folder.Lock.TheVariants.{Held};
+
+/// A name that a reader doesn't see given may be there after a crash all the same. What is old or
+/// new is whole.
+pub fn what_a_name_may_lead_to()
+    ensures given { (content : Content) (old new : Shelf) → new.found ≡ old.found
+        → new.leaves ≡ old.leaves ++ content ∷ [] → new.left ≡ old.left ++ content ∷ []
+        → new.torn ≡ old.torn → NamesNot content old new }
+    ensures whole { (bytes : List ℕ) (old new : Shelf) → OldOrNew bytes (Some old) (Some new)
+        → new.torn ≡ old.torn }
+{}
+
+/// Two runs never hold the draft of one name, in a model of their steps.
+#[tactic(auto, using(crate::proofs::RunLemmas::one_run))]
+pub fn one_run_holds_a_draft()
+    ensures { (run other : ℕ) (names : Names) → HoldsDraft run names → HoldsDraft other names
+        → run ≡ other }
+{}
+
+/// What others do in a model of runs: steps that are none of a run's are those of others. Who holds
+/// a draft may take its name, and a run that ends lets its locks go.
+pub fn what_steps_do()
+    ensures others { (run : ℕ) (step : Step) (steps : List Step) → (run == run_of step ≡ false)
+        → OfOthers run steps → OfOthers run (step ∷ steps) }
+    ensures unnamed { (run : ℕ) (names : Names) → HoldsDraft run names
+        → (after names (Unnames run ∷ [])).leads ≡ None }
+    ensures ended { (run file : ℕ) (names : Names) → names.locked file ≡ Some run
+        → (after names (Ends run ∷ [])).locked file ≡ None }
+{}
+
+/// A run that makes a draft of a free name, and locks it, holds it.
+pub fn a_locked_draft_is_held()
+    ensures { (run : ℕ) (names : Names) → names.leads ≡ None → names.locked names.next ≡ None
+        → HoldsDraft run (after names (Makes run ∷ Locks run names.next ∷ [])) }
+{}
+
+/// A run that holds a draft holds it on, whatever other runs do and in whatever order: so a run
+/// that has seen that it does may write the draft.
+#[tactic(auto, using(crate::proofs::RunLemmas::still_held))]
+pub fn a_held_draft_stays_held()
+    ensures { (run : ℕ) (names : Names) (steps : List Step) → HoldsDraft run names
+        → OfOthers run steps → HoldsDraft run (after names steps) }
+{}
+
+/// What the system has answered of a draft is so in the model, from the moment of the answer on:
+/// other runs' steps leave it so, and so never make what a call requires a thing of the past.
+#[tactic(auto, using(crate::proofs::RunLemmas::claims_locked, crate::proofs::RunLemmas::still_claims))]
+pub fn what_is_known_stays_known()
+    ensures locked { (run file : ℕ) (hold : Hold) (s : FileState) (names : Names)
+        → names.locked file ≡ None
+        → Claims run file (locked hold Held s) (after names (Locks run file ∷ [])) }
+    ensures named { (run file : ℕ) (s : FileState) (names : Names) → Claims run file s names
+        → names.leads ≡ Some file → Claims run file (record s { named = true }) names }
+    ensures stays { (run file : ℕ) (s : FileState) (names : Names) (steps : List Step)
+        → Claims run file s names → OfOthers run steps → Claims run file s (after names steps) }
+{}
+
+/// Where there are locks, a draft that a run may remove or give the name, by what `Folder::remove`
+/// and `Folder::rename` require, is one that it holds. So what the system does then, whoever calls
+/// it, is the step of the model that takes a name from a held draft alone.
+#[tactic(auto, using(crate::proofs::RunLemmas::holds_by, crate::proofs::RunLemmas::unnames))]
+pub fn only_a_held_draft_loses_its_name()
+    ensures remove { (run file : ℕ) (s : FileState) (names : Names) → Claims run file s names
+        → IsLocked s → MayRemove s → HoldsDraft run names }
+    ensures rename { (run file : ℕ) (s : FileState) (names : Names) → Claims run file s names
+        → IsLocked s → IsOwnDraft s → HoldsDraft run names }
+    ensures step { (run : ℕ) (names : Names) → HoldsDraft run names
+        → after names (Unnames run ∷ []) ≡ unnamed names }
+{}
