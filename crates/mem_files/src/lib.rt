@@ -6,6 +6,7 @@
 mod mem_file;
 mod mem_folder;
 mod mem_journal;
+mod mem_shelf;
 mod mem_store;
 
 pub use mem_file::{MemDraft, MemFile};

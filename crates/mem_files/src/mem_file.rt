@@ -94,7 +94,9 @@ impl MemFile {
     }
 
     /// Whether this run made it.
-    pub(crate) fn is_made(&self) -> bool {
+    pub(crate) fn is_made(&self) -> bool
+        ensures { result ≡ self.now.made }
+    {
         self.made
     }
 

@@ -1,22 +1,21 @@
 //! A name in a folder in memory, which tells all that is known of it.
 
 ghost use Rattle.std.specs.Option.{option_copied, option_map};
-ghost use Rattle.std.specs.Prelude.{◌≡◌, ◌++◌, ◌≤◌, List, [], ◌∷◌, Some, IfOk, IfSome, OnErr, OnOk};
-ghost use Rattle.std.specs.Prelude.{false, length, nat_lt, true};
+ghost use Rattle.std.specs.Prelude.{◌≡◌, [], ◌∷◌, Some, IfOk, IfSome, OnErr, OnOk, false, length};
+ghost use Rattle.std.specs.Prelude.{nat_lt};
 ghost use Rattle.pb_folder.specs.File.{locked};
 ghost use Rattle.pb_folder.specs.Parts.{is_journal, is_ledger};
-ghost use Rattle.pb_folder.specs.Shelf.{Empties};
-ghost use Rattle.pb_folder.specs.Steps.{Steps};
+ghost use Rattle.pb_folder.specs.Shelf.{Settles};
 ghost use Rattle.mem_files.specs.MemFolder.{shelf_of};
 
 use crate::mem_file::{MemDraft, MemFile};
+use crate::mem_shelf::MemShelf;
 use pb_folder::{Entry, Folder, Hold, Lock, Seen, Status};
 use pb_io::FuseSink;
 use pb_messages::{Left, Part};
 use std::alloc::{AllocError, Global};
 use std::cell::Cell;
 use std::io::{self, ErrorKind};
-use std::marker::Model;
 
 /// The mode of a file in memory.
 const MODE: u32 = 0o100_644;
@@ -59,43 +58,6 @@ pub enum Scene {
     Unsure,
 }
 
-/// What stands under a name: bytes, or no file.
-#[derive(Drop)]
-struct MemContent {
-    bytes: Option<Vec<u8>>,
-}
-
-impl Model for MemContent {
-    ghost use Rattle.std.specs.Option.{option_map};
-    ghost use Rattle.pb_folder.specs.Shelf.{Content};
-
-    ghost Value = { Content };
-
-    ghost view = { λ c. option_map (λ v. v.items) c.bytes };
-}
-
-impl MemContent {
-    /// A file of these bytes.
-    fn of(alloc: Global, bytes: &[u8]) -> Result<MemContent, AllocError>
-        ensures { IfOk result (λ content. content ≡ Some bytes.now) }
-    {
-        Ok(MemContent {
-            bytes: Some(Vec::from_slice(alloc, bytes)?),
-        })
-    }
-
-    /// The same content.
-    fn copy(&self) -> Result<MemContent, AllocError>
-        ensures { IfOk result (λ content. content ≡ self.now) }
-    {
-        let bytes = match &self.bytes {
-            Some(bytes) => Some(bytes.clone()?),
-            None => None,
-        };
-        Ok(MemContent { bytes })
-    }
-}
-
 /// A name in memory. So many of its calls that may fail succeed, and then each fails.
 #[derive(Drop)]
 pub struct MemFolder {
@@ -109,15 +71,17 @@ pub struct MemFolder {
     is_ledger: bool,
     is_journal: bool,
     scene: Scene,
-    found: MemContent,
-    leaves: Vec<MemContent>,
-    left: Vec<MemContent>,
-    torn: bool,
+    shelf: MemShelf,
+    // How many drafts of this run stand there.
+    drafts: u64,
+    // Nothing was seen under the name.
+    is_free: bool,
+    // A sync of the names has failed since the name was given.
+    has_failed: bool,
     // Whether the draft that the scene has is there.
     is_drafted: Cell<bool>,
     // How many files are still to take the name.
     to_come: Cell<u32>,
-    ghost settled: { length leaves.items ≤ 1 → leaves.items ≡ found ∷ [] },
 }
 
 impl MemFolder {
@@ -131,12 +95,14 @@ impl MemFolder {
     ) -> Result<MemFolder, AllocError>
         ensures shelf { IfOk result (λ folder. ⟦<MemFolder as Folder>⟧.shelf folder
             ≡ Some (shelf_of (option_map (λ v. v.items) first))) }
+        ensures none { IfOk result (λ folder. ⟦<MemFolder as Folder>⟧.drafts folder ≡ 0) }
+        ensures untried { IfOk result (λ folder. ⟦<MemFolder as Folder>⟧.unsettled folder
+            ≡ false) }
         ensures ledger { IfOk result (λ folder. ⟦<MemFolder as Folder>⟧.ledger folder
             ≡ is_ledger part) }
         ensures journal { IfOk result (λ folder. ⟦<MemFolder as Folder>⟧.appends folder
             ≡ is_journal part) }
     {
-        let found = MemContent { bytes: first };
         Ok(MemFolder {
             status: status_of(scene),
             calls: Cell::new(u32::MAX),
@@ -145,10 +111,10 @@ impl MemFolder {
             is_ledger: matches!(part, Part::Ledger),
             is_journal: matches!(part, Part::Journal),
             scene,
-            leaves: alone(alloc, &found)?,
-            left: alone(alloc, &found)?,
-            found,
-            torn: false,
+            shelf: MemShelf::new(alloc, first)?,
+            drafts: 0,
+            is_free: false,
+            has_failed: false,
             is_drafted: Cell::new(matches!(scene, Scene::LeftOver | Scene::Drafted)),
             to_come: Cell::new(match scene {
                 Scene::Replaced(times) => times,
@@ -162,27 +128,24 @@ impl MemFolder {
         ensures { IfSome (⟦<MemFolder as Folder>⟧.shelf self.now) (λ shelf.
             shelf.found ≡ option_copied result) }
     {
-        match &self.found.bytes {
-            Some(bytes) => Some(bytes.as_slice()),
-            None => None,
-        }
+        self.shelf.found()
     }
 
     /// Whether a crash may leave anything but what a reader finds.
-    pub fn is_unsettled(&self) -> bool
+    pub fn may_be_undone(&self) -> bool
         ensures several { IfSome (⟦<MemFolder as Folder>⟧.shelf self.now)
             (λ shelf. result ≡ nat_lt 1 (length shelf.leaves)) }
         ensures settled { IfSome (⟦<MemFolder as Folder>⟧.shelf self.now)
             (λ shelf. result ≡ false → shelf.leaves ≡ shelf.found ∷ []) }
     {
-        self.leaves.len() > 1
+        self.shelf.may_be_undone()
     }
 
     /// Whether a crash might have left a part of a text.
     pub fn is_torn(&self) -> bool
         ensures { IfSome (⟦<MemFolder as Folder>⟧.shelf self.now) (λ shelf. shelf.torn ≡ result) }
     {
-        self.torn
+        self.shelf.is_torn()
     }
 
     /// Lets a call succeed, or fails it.
@@ -195,45 +158,27 @@ impl MemFolder {
         Ok(())
     }
 
-    /// Notes that a crash may leave this content too, unless there is no memory.
-    fn may_leave(&mut self, content: &MemContent) -> Result<(), AllocError>
-        ensures leaves { OnOk result (self.new.leaves.items
-            ≡ self.old.leaves.items ++ content.now ∷ []) }
-        ensures left { OnOk result (self.new.left.items
-            ≡ self.old.left.items ++ content.now ∷ []) }
-        ensures same { OnErr result ((self.new.leaves.items ≡ self.old.leaves.items)
-            × (self.new.left.items ≡ self.old.left.items)) }
-        ensures found { self.new.found ≡ self.old.found }
-        ensures torn { self.new.torn ≡ self.old.torn }
-        ensures ledger { self.new.is_ledger ≡ self.old.is_ledger }
+    /// Puts the name on the disk, unless that has failed before: then it does nothing.
+    fn settle(&mut self) -> io::Result<()>
+        ensures settled { OnOk result (self.old.has_failed ≡ false
+            → Settles self.old.shelf self.new.shelf) }
+        ensures same { OnErr result (self.new.shelf ≡ self.old.shelf) }
+        ensures rests { self.new ≡ record self.old { shelf = self.new.shelf } }
     {
-        let (leaves, left) = (content.copy()?, content.copy()?);
-        let count = self.left.len();
-        self.left.push(left)?;
-        if self.leaves.push(leaves).is_err() {
-            self.left.truncate(count);
-            return Err(AllocError);
+        self.let_pass()?;
+        if !self.has_failed {
+            self.shelf.settle()?;
         }
         Ok(())
     }
 
-    /// Has the name lead to an empty file, which is written in place.
-    fn empty_name(&mut self) -> io::Result<()>
-        ensures emptied { OnOk result (Steps Empties (⟦<MemFolder as Folder>⟧.shelf self.old)
-            (⟦<MemFolder as Folder>⟧.shelf self.new)) }
-        ensures same { OnErr result (⟦<MemFolder as Folder>⟧.shelf self.new
-            ≡ ⟦<MemFolder as Folder>⟧.shelf self.old) }
-        ensures ledger { ⟦<MemFolder as Folder>⟧.ledger self.new
-            ≡ ⟦<MemFolder as Folder>⟧.ledger self.old }
-    {
-        self.let_pass()?;
-        let empty = MemContent {
-            bytes: Some(Vec::new(self.alloc)),
-        };
-        self.may_leave(&empty)?;
-        self.found = empty;
-        self.torn = true;
-        Ok(())
+    /// Why no draft gets the name.
+    fn naming_fault(&self) -> Option<ErrorKind> {
+        match self.scene {
+            Scene::Refused => Some(ErrorKind::ResourceBusy),
+            Scene::Unsure => Some(ErrorKind::Other),
+            _ => None,
+        }
     }
 
     /// Whether another run keeps this one from locking the file.
@@ -299,15 +244,6 @@ fn status_of(scene: Scene) -> Status {
     }
 }
 
-/// This content alone.
-fn alone(alloc: Global, content: &MemContent) -> Result<Vec<MemContent>, AllocError>
-    ensures { IfOk result (λ contents. contents.items ≡ content.now ∷ []) }
-{
-    let mut contents = Vec::new(alloc);
-    contents.push(content.copy()?)?;
-    Ok(contents)
-}
-
 impl Folder for MemFolder {
     type File = MemFile;
 
@@ -317,12 +253,13 @@ impl Folder for MemFolder {
 
     ghost file = { λ f. f };
 
-    ghost shelf = { λ m. Some (record {
-      found = m.found;
-      leaves = m.leaves.items;
-      left = m.left.items;
-      torn = m.torn;
-    }) };
+    ghost shelf = { λ m. Some m.shelf };
+
+    ghost drafts = { λ m. m.drafts };
+
+    ghost free = { λ m. m.is_free };
+
+    ghost unsettled = { λ m. m.has_failed };
 
     ghost ledger = { λ m. m.is_ledger };
 
@@ -336,18 +273,21 @@ impl Folder for MemFolder {
         self.let_pass()
     }
 
-    fn look(&self) -> Seen {
-        match (&self.found.bytes, self.scene) {
-            (None, _) => Seen::Nothing,
-            (Some(_), Scene::Device) => Seen::Other,
-            (Some(_), _) => Seen::File,
+    fn look(&mut self) -> Seen {
+        self.is_free = self.shelf.found().is_none();
+        if self.is_free {
+            return Seen::Nothing;
+        }
+        match self.scene {
+            Scene::Device => Seen::Other,
+            _ => Seen::File,
         }
     }
 
     fn open(&self, entry: Entry) -> io::Result<MemFile> {
         self.let_pass()?;
         let is_there = match entry {
-            Entry::Target => self.found.bytes.is_some(),
+            Entry::Target => self.shelf.found().is_some(),
             Entry::Draft(number) => number == 0 && self.is_drafted.get(),
         };
         if !is_there {
@@ -357,7 +297,10 @@ impl Folder for MemFolder {
         Ok(MemFile::opened(self.alloc, entry, self.is_journal, to_come))
     }
 
-    fn make(&self, number: u32, _is_private: bool) -> io::Result<MemFile> {
+    fn make(&mut self, number: u32, _is_private: bool) -> io::Result<MemFile> {
+        let Some(drafts) = self.drafts.checked_add(1) else {
+            return Err(io::Error::from(ErrorKind::OutOfMemory));
+        };
         self.let_pass()?;
         if matches!(self.scene, Scene::Closed) {
             return Err(io::Error::from(ErrorKind::PermissionDenied));
@@ -365,6 +308,7 @@ impl Folder for MemFolder {
         if number == 0 && self.is_drafted.get() {
             return Err(io::Error::from(ErrorKind::AlreadyExists));
         }
+        self.drafts = drafts;
         Ok(MemFile::draft(self.alloc, number))
     }
 
@@ -405,13 +349,15 @@ impl Folder for MemFolder {
     }
 
     fn empty(&mut self, f: &mut MemFile) -> io::Result<()> {
-        self.empty_name()?;
+        self.let_pass()?;
+        self.shelf.empty()?;
         f.begin_in_place();
         Ok(())
     }
 
     fn create(&mut self) -> io::Result<MemFile> {
-        self.empty_name()?;
+        self.let_pass()?;
+        self.shelf.empty()?;
         Ok(MemFile::emptied(self.alloc))
     }
 
@@ -426,27 +372,33 @@ impl Folder for MemFolder {
         _held: Option<&MemFile>,
     ) -> io::Result<()> {
         self.let_pass()?;
-        let content = MemContent::of(self.alloc, draft.as_bytes())?;
-        self.may_leave(&content)?;
-        match self.scene {
-            Scene::Refused => return Err(io::Error::from(ErrorKind::ResourceBusy)),
-            Scene::Unsure => return Err(io::Error::from(ErrorKind::Other)),
-            _ => {}
+        if let Some(kind) = self.naming_fault() {
+            self.shelf.may_leave(draft.as_bytes())?;
+            return Err(io::Error::from(kind));
         }
-        self.found = content;
+        self.shelf.name(draft.as_bytes())?;
         draft.take_name();
+        self.drafts = self.drafts.saturating_sub(1);
+        self.has_failed = false;
         Ok(())
     }
 
     fn sync_names(&mut self) -> io::Result<()> {
-        self.let_pass()?;
-        self.leaves = alone(self.alloc, &self.found)?;
-        Ok(())
+        let synced = self.settle();
+        self.has_failed = self.has_failed || synced.is_err();
+        synced
     }
 
-    fn remove(&self, draft: MemFile) {
+    fn remove(&mut self, draft: MemFile) {
         if self.let_pass().is_ok() && draft.draft_number() == Some(0) {
             self.is_drafted.set(false);
         }
+        if draft.is_made() {
+            self.drafts = self.drafts.saturating_sub(1);
+        }
+    }
+
+    fn leave(&mut self, _draft: MemFile) {
+        self.drafts = self.drafts.saturating_sub(1);
     }
 }

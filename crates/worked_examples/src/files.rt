@@ -170,7 +170,7 @@ fn tell_found(page: &mut Page, place: &KeptFile<'_, '_, MemFolder>, old: &[u8], 
         }
         Some(_) => page.put("other bytes"),
     }
-    if place.folder.is_unsettled() {
+    if place.folder.may_be_undone() {
         page.put(match found {
             Some(bytes) if bytes == old => ", a crash may leave the new one",
             _ => ", a crash may undo it",
