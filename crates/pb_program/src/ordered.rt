@@ -2,7 +2,7 @@
 //! counted. Nothing else in this crate hands on rules or fills, and no name of it leads to other
 //! rules.
 
-ghost use Rattle.std.specs.Prelude.{◌≡◌, ◌⊎◌, ℕ, IfErr, IfOk, List};
+ghost use Rattle.std.specs.Prelude.{◌≡◌, ◌⊎◌, ℕ, IfErr, IfOk, List, false, true};
 ghost use Rattle.std.specs.Option.{option_map};
 ghost use Rattle.pb_commands.specs.BookShown.{BookShown};
 ghost use Rattle.pb_commands.specs.EpdRun.{RewritesOrEnds};
