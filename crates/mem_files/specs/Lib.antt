@@ -1,2 +1,2 @@
-pub mod MemDesk
+pub mod MemFolder
 pub mod MemStore

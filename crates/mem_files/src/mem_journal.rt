@@ -1,11 +1,10 @@
 //! A journal in memory, which tells all and fails at a call that is chosen.
 
-ghost use Rattle.std.specs.Prelude.{◌≡◌, ◌≤◌, IfSome, None, Some, false, length, refl, true};
-ghost use Rattle.mem_files.specs.declared.mem_journal.MemFile.{MemFile};
+ghost use Rattle.std.specs.Prelude.{◌≡◌, ◌≤◌, [], IfSome, None, Some, false, length, refl, true};
 ghost use Rattle.pb_files.specs.Disk.{on_disk};
 
-use pb_files::{JournalFile, Lock, Opener, Stop};
-use pb_io::{Fault, FromRead};
+use pb_files::JournalFile;
+use pb_io::{Fault, FromRead, History};
 use std::alloc::Global;
 use std::io::Cursor;
 
@@ -19,17 +18,21 @@ pub struct MemJournal {
     lost: bool,
     fault: Option<Fault>,
     calls: usize,
+    // What was appended, and whether a sync has succeeded since.
+    handed: History,
+    synced: bool,
     ghost within: { kept ≤ length bytes.items },
 }
 
 impl MemJournal {
     /// A file that has these bytes, none of them on the disk, and of which this many calls succeed.
     pub fn new(bytes: Vec<u8>, calls: usize) -> MemJournal
-        ensures { ⟦<MemJournal as JournalFile>⟧.state result
+        ensures state { ⟦<MemJournal as JournalFile>⟧.state result
             ≡ record {
               told = Some (record { found = bytes.items; kept = 0; lost = false });
               fault = None;
             } }
+        ensures handed { ⟦<MemJournal as JournalFile>⟧.handed result ≡ [] }
     {
         MemJournal {
             bytes,
@@ -37,16 +40,19 @@ impl MemJournal {
             lost: false,
             fault: None,
             calls,
+            handed: History::new(),
+            synced: false,
         }
     }
 
     /// The same after a sync has failed, so that the next ones put none of these bytes on the disk.
     pub fn after_failed_sync(bytes: Vec<u8>, calls: usize) -> MemJournal
-        ensures { ⟦<MemJournal as JournalFile>⟧.state result
+        ensures state { ⟦<MemJournal as JournalFile>⟧.state result
             ≡ record {
               told = Some (record { found = bytes.items; kept = 0; lost = true });
               fault = None;
             } }
+        ensures handed { ⟦<MemJournal as JournalFile>⟧.handed result ≡ [] }
     {
         MemJournal {
             bytes,
@@ -54,6 +60,8 @@ impl MemJournal {
             lost: true,
             fault: None,
             calls,
+            handed: History::new(),
+            synced: false,
         }
     }
 
@@ -79,6 +87,8 @@ impl MemJournal {
         ensures kept { self.new.kept ≡ self.old.kept }
         ensures lost { self.new.lost ≡ self.old.lost }
         ensures fault { self.new.fault ≡ self.old.fault }
+        ensures handed { self.new.handed ≡ self.old.handed }
+        ensures synced { self.new.synced ≡ self.old.synced }
     {
         if self.calls == 0 {
             return false;
@@ -96,6 +106,10 @@ impl JournalFile for MemJournal {
       fault = m.fault;
     } };
 
+    ghost handed = { λ m. m.handed.bytes };
+
+    ghost synced = { λ m. m.synced };
+
     ghost tells = { true };
 
     ghost always = { λ _. refl };
@@ -109,6 +123,8 @@ impl JournalFile for MemJournal {
             let spared = if self.calls == 0 { bytes.len() / 2 } else { 0 };
             let count = bytes.len() - spared;
             if self.bytes.extend_from_slice(&bytes[..count]).is_ok() {
+                self.handed.add(&bytes[..count]);
+                self.synced = false;
                 return Ok(count);
             }
         }
@@ -125,6 +141,7 @@ impl JournalFile for MemJournal {
         if !self.lost {
             self.kept = self.bytes.len();
         }
+        self.synced = true;
         Ok(())
     }
 
@@ -144,114 +161,5 @@ impl JournalFile for MemJournal {
             return Ok(FromRead::new(Cursor::new(bytes)));
         }
         Err(Fault::Read)
-    }
-}
-
-/// What other runs do with a file of a name in memory.
-#[derive(Clone, Copy, Debug)]
-pub enum Others {
-    /// Nothing.
-    Absent,
-    /// One of them removed it.
-    Removed,
-    /// One of them holds it.
-    Hold,
-    /// So many put a new file in its place, each after this run has locked the one before.
-    Replace(u32),
-}
-
-/// A file that a name in memory led to, by how many took its place since.
-#[derive(Clone, Copy, Debug)]
-pub struct MemFile {
-    to_come: u32,
-}
-
-/// A name in memory, by which a `MemJournal` is held.
-#[derive(Drop)]
-pub struct MemOpener {
-    alloc: Global,
-    bytes: Vec<u8>,
-    calls: usize,
-    others: Others,
-    to_come: u32,
-    locked: Option<u32>,
-    in_use: bool,
-    denied: bool,
-}
-
-impl MemOpener {
-    /// A name of a file that has these bytes, and of which this many calls succeed.
-    pub fn new(alloc: Global, bytes: Vec<u8>, calls: usize, others: Others) -> MemOpener
-        ensures unlocked { (file : MemFile) → ⟦<MemOpener as Opener>⟧.holds result file → ⊥ }
-        ensures free { ⟦<MemOpener as Opener>⟧.in_use result → ⊥ }
-        ensures untold { ⟦<MemOpener as Opener>⟧.denies result → ⊥ }
-    {
-        MemOpener {
-            alloc,
-            bytes,
-            calls,
-            others,
-            to_come: match others {
-                Others::Replace(times) => times,
-                Others::Absent | Others::Removed | Others::Hold => 0,
-            },
-            locked: None,
-            in_use: false,
-            denied: false,
-        }
-    }
-    /// Whether the last step found that another run holds the file, or has replaced it.
-    pub fn is_in_use(&self) -> bool
-        ensures { result ≡ true → ⟦<MemOpener as Opener>⟧.in_use self.now }
-    {
-        self.in_use
-    }
-}
-
-impl Opener for MemOpener {
-    type File = MemFile;
-
-    type Journal = MemJournal;
-
-    ghost holds = { λ o f. o.locked ≡ Some f.to_come };
-
-    ghost leads_to = { λ o f. o.to_come ≡ f.to_come };
-
-    ghost in_use = { λ o. o.in_use ≡ true };
-
-    ghost denies = { λ o. o.denied ≡ true };
-
-    fn open(&mut self) -> Result<MemFile, Stop> {
-        if matches!(self.others, Others::Removed) {
-            self.denied = true;
-            return Err(Stop::NotOpened);
-        }
-        Ok(MemFile {
-            to_come: self.to_come,
-        })
-    }
-
-    fn lock(&mut self, file: &MemFile) -> Lock {
-        if matches!(self.others, Others::Hold) {
-            self.in_use = true;
-            return Lock::InUse;
-        }
-        self.locked = Some(file.to_come);
-        self.to_come = self.to_come.saturating_sub(1);
-        Lock::Held
-    }
-
-    fn is_named(&mut self, file: &MemFile) -> bool {
-        self.in_use = self.to_come != file.to_come;
-        !self.in_use
-    }
-
-    fn tell_in_use(&mut self) {
-        self.denied = true;
-    }
-
-    fn journal(&mut self, _file: MemFile) -> MemJournal {
-        let bytes = std::mem::replace(&mut self.bytes, Vec::new(self.alloc));
-        MemJournal::after_failed_sync(bytes, self.calls)
     }
 }

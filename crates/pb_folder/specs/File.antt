@@ -1,7 +1,7 @@
 -- What a run knows of a file that it has open, by what the system has answered, and what the run may
 -- do with it.
-use Rattle.std.specs.Prelude.{◌≡◌, ◌⊎◌, ◌≤◌, ◌+◌, ◌-◌, if◌then◌else◌, Bool, false, true, List, [], ℕ}
-use Rattle.std.specs.Prelude.{Option, None, Some}
+use Rattle.std.specs.Prelude.{◌≡◌, ◌⊎◌, ◌≤◌, ◌+◌, ◌-◌, if◌then◌else◌, Bool, false, true, List, []}
+use Rattle.std.specs.Prelude.{ℕ, Option, None, Some}
 use Rattle.std.specs.Option.{option_map}
 use Rattle.pb_folder.specs.declared.folder.Entry.{Entry}
 use Rattle.pb_folder.specs.declared.folder.Entry.TheVariants.{Target, Draft}
@@ -208,6 +208,14 @@ pub record IsOneFile (one other : FileState) : Type 0 where
 abbrev pub IsOfHolder : Option FileState → Option FileState → Type 0
 IsOfHolder (Some held) (Some old) = IsHeldAlone held × IsOneFile held old
 IsOfHolder held old = ⊥
+
+-- the system told that it is a device or a pipe, which keeps nothing
+abbrev pub IsDevice : FileState → Type 0
+IsDevice s = (status : Status) × (s.status ≡ Some status) × (status.is_file ≡ false)
+
+-- It may be emptied: this run has written nothing into it, and no other run has it.
+abbrev pub MayEmpty : FileState → Type 0
+MayEmpty s = IsUntouched s × ((is_held s.hold ≡ true) ⊎ IsDevice s)
 
 -- it is written in place from now on
 abbrev pub IsInPlace : FileState → Type 0

@@ -1,12 +1,12 @@
 //! The system's calls on one name in a folder, and on the drafts of its file.
 
-ghost use Rattle.std.specs.Prelude.{◌≡◌, ◌+◌, ◌-◌, ◌++◌, ◌||◌, ℕ, Bool, IfOk, IfSome, List, None, OnErr, OnOk};
-ghost use Rattle.std.specs.Prelude.{Option, Some, [], false, is_err, true};
+ghost use Rattle.std.specs.Prelude.{◌≡◌, ◌+◌, ◌-◌, ◌++◌, ◌||◌, [], ℕ, Bool, IfOk, IfSome, List};
+ghost use Rattle.std.specs.Prelude.{None, OnErr, OnOk, Option, Some, false, is_err, true};
 ghost use Rattle.std.specs.Option.{is_some, option_map};
 ghost use Rattle.pb_io.specs.Sink.{HandedOn};
 ghost use Rattle.pb_folder.specs.File.{CanReplace, FileState, IsNewDraft, IsOfHolder, IsOfOther};
-ghost use Rattle.pb_folder.specs.File.{IsOwnDraft, MayRemove, MayShare, emptied, is_nothing, locked};
-ghost use Rattle.pb_folder.specs.File.{new_draft, opened, with_mode, without};
+ghost use Rattle.pb_folder.specs.File.{IsOwnDraft, MayEmpty, MayRemove, MayShare, emptied};
+ghost use Rattle.pb_folder.specs.File.{is_nothing, locked, new_draft, opened, with_mode, without};
 ghost use Rattle.pb_folder.specs.Shelf.{Begins, Empties, Names, NamesNot, Settles, SettlesNot, Shelf};
 ghost use Rattle.pb_folder.specs.Steps.{Steps};
 ghost use Rattle.pb_folder.specs.declared.folder.Entry.TheVariants.{Draft, Target};
@@ -84,8 +84,8 @@ pub trait Folder {
     /// What a reader finds under the name, and what a crash leaves, where that is told.
     ghost shelf: { Self → Option Shelf };
 
-    /// How many drafts of this run stand there: those that it has made, and neither named nor removed,
-    /// nor left to another run.
+    /// How many drafts of this run stand there: those that it has made, and neither named nor
+    /// removed, nor left to another run.
     ghost drafts: { Self → ℕ };
 
     /// Nothing was seen under the name.
@@ -176,7 +176,8 @@ pub trait Folder {
     /// Empties the file of a book, which no draft can replace, to be written in place. A device
     /// stays as it is.
     fn empty(&mut self, f: &mut Self::File) -> io::Result<()>
-        requires { ledger self.old ≡ false }
+        requires book { ledger self.old ≡ false }
+        requires may { MayEmpty (file f.old) }
         ensures in_place { OnOk result (file f.new ≡ record (file f.old) { in_place = true }) }
         ensures emptied { OnOk result (Steps Empties (shelf self.old) (shelf self.new)) }
         ensures same { OnErr result (shelf self.new ≡ shelf self.old) }
@@ -200,8 +201,8 @@ pub trait Folder {
         requires room { room.items ≡ [] }
         ensures { Begins (Self.InPlace.state result) };
 
-    /// Gives the draft the name, and takes it from the old file, unless nothing was seen there. `held`
-    /// is the file of a ledger as this run holds it.
+    /// Gives the draft the name, and takes it from the old file, unless nothing was seen there.
+    /// `held` is the file of a ledger as this run holds it.
     fn rename(
         &mut self,
         draft: &mut Self::File,

@@ -1,74 +1,62 @@
 //! How a run comes to hold a journal's file, and what of it is found and on the disk after a call
 //! that fails.
 
-use mem_files::{MemJournal, MemOpener, Others};
-use pb_files::{JournalSink, Opener, SYNCED, WRITTEN, hold, start};
+use crate::files::{folder_of, label_of};
+use mem_files::MemJournal;
+use pb_files::{JournalSink, SYNCED, Stop, WRITTEN, whole_reader};
+use pb_folder::{Folder, Held, hold};
+use pb_messages::Part;
 use pb_poly::{Sink, Source};
 use rows::page::{Done, NO_ROW, Page};
-use rows::text::{count_of, small_of};
-use std::alloc::AllocError;
+use rows::text::count_of;
 
 /// The answer to a call.
-pub(crate) fn answer(page: &mut Page, call: &[&str]) -> Done {
+pub(crate) fn answer(rt: &HostRuntime, page: &mut Page, call: &[&str]) -> Done {
     let [name, words @ ..] = call else {
         return NO_ROW;
     };
     match *name {
-        "hold" => held(page, words),
-        "start" => started(page, words),
+        "hold" => held(rt, page, words),
+        "start" => started(rt, page, words),
         "lines" => lines(page, words),
         _ => NO_ROW,
     }
 }
 
-/// What other runs do with a name, by a word: `none` of them is there, they `removed` or `held` the
-/// file, or so many put a new one there.
-fn others_of(word: &str) -> Others {
-    match word {
-        "none" => Others::Absent,
-        "removed" => Others::Removed,
-        "held" => Others::Hold,
-        times => Others::Replace(small_of(times)),
-    }
-}
-
-/// A name of a file that has this text, and of which so many calls succeed.
-fn opener_of(page: &Page, others: &str, calls: usize, text: &str) -> Result<MemOpener, AllocError> {
-    let bytes = Vec::from_slice(page.alloc, text.as_bytes())?;
-    Ok(MemOpener::new(page.alloc, bytes, calls, others_of(others)))
-}
-
 /// Whether a file is held, and whether the name leads to it.
-fn held(page: &mut Page, words: &[&str]) -> Done {
-    let [others] = words else {
+fn held(rt: &HostRuntime, page: &mut Page, words: &[&str]) -> Done {
+    let [scene] = words else {
         return NO_ROW;
     };
-    let mut opener = opener_of(page, others, 0, "")?;
-    match hold(&mut opener) {
-        Ok(file) => page.put_count("held, named ", &opener.is_named(&file)),
-        Err(stop) => {
-            page.put_count("fault ", &stop.word());
-            page.put_count(", in use ", &opener.is_in_use());
-        }
+    let mut folder = folder_of(page.alloc, Part::Journal, scene, b"")?;
+    match hold(&mut folder, &label_of(rt, Part::Journal)) {
+        Ok(Held { mut file, .. }) => page.put_count("held, named ", &folder.is_named(&mut file)),
+        Err(why) => page.put_count("fault ", &Stop::from(why).word()),
     }
     Ok(())
 }
 
 /// What a run reads that comes to a journal with this text, and what of it is on the disk then.
-fn started(page: &mut Page, words: &[&str]) -> Done {
-    let [others, sync, calls, text] = words else {
+fn started(rt: &HostRuntime, page: &mut Page, words: &[&str]) -> Done {
+    let [scene, sync, calls, text] = words else {
         return NO_ROW;
     };
-    let mut opener = opener_of(page, others, count_of(calls), text)?;
-    match start(&mut opener, *sync == "sync") {
-        Ok(mut started) => {
+    let mut folder = folder_of(page.alloc, Part::Journal, scene, text.as_bytes())?;
+    if let Err(why) = hold(&mut folder, &label_of(rt, Part::Journal)) {
+        page.put_count("fault ", &Stop::from(why).word());
+        return Ok(());
+    }
+    let bytes = Vec::from_slice(page.alloc, text.as_bytes())?;
+    let mut journal = MemJournal::after_failed_sync(bytes, count_of(calls));
+    match whole_reader(&mut journal, *sync == "sync") {
+        Ok(mut reader) => {
             let mut slice = vec![in page.alloc; 0; text.len()]?;
-            let count = started.reader.fill(slice.as_mut_slice())?;
+            let count = reader.fill(slice.as_mut_slice())?;
             page.put_bytes(&slice[..count]);
             page.put("|");
-            page.put_bytes(started.journal.after_crash());
+            page.put_bytes(journal.after_crash());
         }
-        Err(stop) => page.put_count("fault ", &stop.word()),
+        Err(fault) => page.put_count("fault ", &fault.word()),
     }
     Ok(())
 }

@@ -1,0 +1,404 @@
+//! A name in a folder in memory, which tells all that is known of it.
+
+ghost use Rattle.std.specs.Option.{option_copied, option_map};
+ghost use Rattle.std.specs.Prelude.{◌≡◌, [], ◌∷◌, Some, IfOk, IfSome, OnErr, OnOk, false, length};
+ghost use Rattle.std.specs.Prelude.{nat_lt};
+ghost use Rattle.pb_folder.specs.File.{locked};
+ghost use Rattle.pb_folder.specs.Parts.{is_journal, is_ledger};
+ghost use Rattle.pb_folder.specs.Shelf.{Settles};
+ghost use Rattle.mem_files.specs.MemFolder.{shelf_of};
+
+use crate::mem_file::{MemDraft, MemFile};
+use crate::mem_shelf::MemShelf;
+use pb_folder::{Entry, Folder, Hold, Lock, Seen, Status};
+use pb_io::FuseSink;
+use pb_messages::{Left, Part};
+use std::alloc::{AllocError, Global};
+use std::cell::Cell;
+use std::io::{self, ErrorKind};
+
+/// The mode of a file in memory.
+const MODE: u32 = 0o100_644;
+
+/// The mode of a draft until it is set.
+const DRAFT_MODE: u32 = 0o100_600;
+
+/// What stands under a name and beside it, what other runs do there, and what the system refuses.
+#[derive(Clone, Copy, Debug)]
+pub enum Scene {
+    /// A file that a draft can replace, or none, and no draft.
+    Free,
+    /// A draft of the first number, which a killed run left.
+    LeftOver,
+    /// A draft of the first number, of a run that writes it.
+    Drafted,
+    /// Another run takes this run's first draft for one that is left over.
+    Snatched,
+    /// Another run holds the file.
+    Held,
+    /// No file can be locked.
+    Unlockable,
+    /// So many files take the name, each after this run has locked the one before.
+    Replaced(u32),
+    /// The name is a link, which leads elsewhere once it is followed.
+    Elsewhere,
+    /// A device has the name.
+    Device,
+    /// The file has a second name.
+    SecondName,
+    /// A new file has another owner.
+    Owner,
+    /// A new file is on another mount.
+    Mount,
+    /// The folder takes no new file.
+    Closed,
+    /// The system gives no draft the name, though a crash may leave it there.
+    Refused,
+    /// It fails to give it, though a crash may leave it there.
+    Unsure,
+}
+
+/// A name in memory. So many of its calls that may fail succeed, and then each fails.
+#[derive(Drop)]
+pub struct MemFolder {
+    /// What is told of the file that has the name at first.
+    pub status: Status,
+    /// How many of the next calls succeed.
+    pub calls: Cell<u32>,
+    /// How many puts and flushes of each end pass.
+    pub good: u32,
+    alloc: Global,
+    is_ledger: bool,
+    is_journal: bool,
+    scene: Scene,
+    shelf: MemShelf,
+    // How many drafts of this run stand there.
+    drafts: u64,
+    // Nothing was seen under the name.
+    is_free: bool,
+    // A sync of the names has failed since the name was given.
+    has_failed: bool,
+    // Whether the draft that the scene has is there.
+    is_drafted: Cell<bool>,
+    // How many files are still to take the name.
+    to_come: Cell<u32>,
+}
+
+impl MemFolder {
+    /// The name of a file of this part and these bytes, or of none, which is on the disk. Each call
+    /// succeeds that the scene lets succeed.
+    pub fn new(
+        alloc: Global,
+        part: Part,
+        scene: Scene,
+        first: Option<Vec<u8>>,
+    ) -> Result<MemFolder, AllocError>
+        ensures shelf { IfOk result (λ folder. ⟦<MemFolder as Folder>⟧.shelf folder
+            ≡ Some (shelf_of (option_map (λ v. v.items) first))) }
+        ensures none { IfOk result (λ folder. ⟦<MemFolder as Folder>⟧.drafts folder ≡ 0) }
+        ensures untried { IfOk result (λ folder. ⟦<MemFolder as Folder>⟧.unsettled folder
+            ≡ false) }
+        ensures ledger { IfOk result (λ folder. ⟦<MemFolder as Folder>⟧.ledger folder
+            ≡ is_ledger part) }
+        ensures journal { IfOk result (λ folder. ⟦<MemFolder as Folder>⟧.appends folder
+            ≡ is_journal part) }
+    {
+        Ok(MemFolder {
+            status: status_of(scene),
+            calls: Cell::new(u32::MAX),
+            good: u32::MAX,
+            alloc,
+            is_ledger: matches!(part, Part::Ledger),
+            is_journal: matches!(part, Part::Journal),
+            scene,
+            shelf: MemShelf::new(alloc, first)?,
+            drafts: 0,
+            is_free: false,
+            has_failed: false,
+            is_drafted: Cell::new(matches!(scene, Scene::LeftOver | Scene::Drafted)),
+            to_come: Cell::new(match scene {
+                Scene::Replaced(times) => times,
+                _ => 0,
+            }),
+        })
+    }
+
+    /// What a reader finds.
+    pub fn found(&self) -> Option<&[u8]>
+        ensures { IfSome (⟦<MemFolder as Folder>⟧.shelf self.now) (λ shelf.
+            shelf.found ≡ option_copied result) }
+    {
+        self.shelf.found()
+    }
+
+    /// Whether a crash may leave anything but what a reader finds.
+    pub fn may_be_undone(&self) -> bool
+        ensures several { IfSome (⟦<MemFolder as Folder>⟧.shelf self.now)
+            (λ shelf. result ≡ nat_lt 1 (length shelf.leaves)) }
+        ensures settled { IfSome (⟦<MemFolder as Folder>⟧.shelf self.now)
+            (λ shelf. result ≡ false → shelf.leaves ≡ shelf.found ∷ []) }
+    {
+        self.shelf.may_be_undone()
+    }
+
+    /// Whether a crash might have left a part of a text.
+    pub fn is_torn(&self) -> bool
+        ensures { IfSome (⟦<MemFolder as Folder>⟧.shelf self.now) (λ shelf. shelf.torn ≡ result) }
+    {
+        self.shelf.is_torn()
+    }
+
+    /// Lets a call succeed, or fails it.
+    fn let_pass(&self) -> io::Result<()> {
+        let calls = self.calls.get();
+        self.calls.set(calls.saturating_sub(1));
+        if calls == 0 {
+            return Err(io::Error::from(ErrorKind::Other));
+        }
+        Ok(())
+    }
+
+    /// Puts the name on the disk, unless that has failed before: then it does nothing.
+    fn settle(&mut self) -> io::Result<()>
+        ensures settled { OnOk result (self.old.has_failed ≡ false
+            → Settles self.old.shelf self.new.shelf) }
+        ensures same { OnErr result (self.new.shelf ≡ self.old.shelf) }
+        ensures rests { self.new ≡ record self.old { shelf = self.new.shelf } }
+    {
+        self.let_pass()?;
+        if !self.has_failed {
+            self.shelf.settle()?;
+        }
+        Ok(())
+    }
+
+    /// Why no draft gets the name.
+    fn naming_fault(&self) -> Option<ErrorKind> {
+        match self.scene {
+            Scene::Refused => Some(ErrorKind::ResourceBusy),
+            Scene::Unsure => Some(ErrorKind::Other),
+            _ => None,
+        }
+    }
+
+    /// Whether another run keeps this one from locking the file.
+    fn is_locked(&self, f: &MemFile) -> bool {
+        match (self.scene, f.draft_number()) {
+            (Scene::Held, None) | (Scene::Drafted, Some(0)) => true,
+            (Scene::Snatched, Some(0)) => f.is_made(),
+            _ => false,
+        }
+    }
+
+    /// Locks the file, as far as the scene lets it be locked.
+    fn lock_by(&self, f: &mut MemFile, hold: Hold) -> Lock
+        ensures { f.new ≡ locked hold result f.old }
+    {
+        let lock = if matches!(self.scene, Scene::Unlockable) {
+            Lock::Unsupported
+        } else if self.is_locked(f) {
+            Lock::InUse
+        } else {
+            self.to_come.set(self.to_come.get().saturating_sub(1));
+            Lock::Held
+        };
+        f.note_lock(hold, lock);
+        lock
+    }
+
+    /// What is told of the file.
+    fn status_of(&self, f: &MemFile) -> Status {
+        let mut status = self.status;
+        if !f.is_made() {
+            return status;
+        }
+        status.inode = status.inode.wrapping_add(1);
+        status.names = 1;
+        status.len = f.as_bytes().len() as u64;
+        status.mode = f.mode().unwrap_or(DRAFT_MODE);
+        match self.scene {
+            Scene::Owner => status.user = status.user.wrapping_add(1),
+            Scene::Mount => status.device = status.device.wrapping_add(1),
+            _ => {}
+        }
+        status
+    }
+}
+
+/// What is told of a file at first.
+fn status_of(scene: Scene) -> Status {
+    Status {
+        device: 1,
+        inode: 1,
+        names: if matches!(scene, Scene::SecondName) {
+            2
+        } else {
+            1
+        },
+        user: 1,
+        group: 1,
+        mode: MODE,
+        is_file: !matches!(scene, Scene::Device),
+        len: 0,
+        modified: (0, 0),
+    }
+}
+
+impl Folder for MemFolder {
+    type File = MemFile;
+
+    type Draft = MemDraft;
+
+    type InPlace = FuseSink;
+
+    ghost file = { λ f. f };
+
+    ghost shelf = { λ m. Some m.shelf };
+
+    ghost drafts = { λ m. m.drafts };
+
+    ghost free = { λ m. m.is_free };
+
+    ghost unsettled = { λ m. m.has_failed };
+
+    ghost ledger = { λ m. m.is_ledger };
+
+    ghost appends = { λ m. m.is_journal };
+
+    fn is_ledger(&self) -> bool {
+        self.is_ledger
+    }
+
+    fn follow(&mut self) -> io::Result<()> {
+        self.let_pass()
+    }
+
+    fn look(&mut self) -> Seen {
+        self.is_free = self.shelf.found().is_none();
+        if self.is_free {
+            return Seen::Nothing;
+        }
+        match self.scene {
+            Scene::Device => Seen::Other,
+            _ => Seen::File,
+        }
+    }
+
+    fn open(&self, entry: Entry) -> io::Result<MemFile> {
+        self.let_pass()?;
+        let is_there = match entry {
+            Entry::Target => self.shelf.found().is_some(),
+            Entry::Draft(number) => number == 0 && self.is_drafted.get(),
+        };
+        if !is_there {
+            return Err(io::Error::from(ErrorKind::NotFound));
+        }
+        let to_come = self.to_come.get();
+        Ok(MemFile::opened(self.alloc, entry, self.is_journal, to_come))
+    }
+
+    fn make(&mut self, number: u32, _is_private: bool) -> io::Result<MemFile> {
+        let Some(drafts) = self.drafts.checked_add(1) else {
+            return Err(io::Error::from(ErrorKind::OutOfMemory));
+        };
+        self.let_pass()?;
+        if matches!(self.scene, Scene::Closed) {
+            return Err(io::Error::from(ErrorKind::PermissionDenied));
+        }
+        if number == 0 && self.is_drafted.get() {
+            return Err(io::Error::from(ErrorKind::AlreadyExists));
+        }
+        self.drafts = drafts;
+        Ok(MemFile::draft(self.alloc, number))
+    }
+
+    fn lock(&self, f: &mut MemFile) -> Lock {
+        self.lock_by(f, Hold::Alone)
+    }
+
+    fn lock_shared(&self, f: &mut MemFile) -> Lock {
+        self.lock_by(f, Hold::Shared)
+    }
+
+    fn is_named(&self, f: &mut MemFile) -> bool {
+        let is_named = f.draft_number().is_some()
+            || (!matches!(self.scene, Scene::Elsewhere) && f.to_come() == self.to_come.get());
+        f.note_named(is_named);
+        is_named
+    }
+
+    fn tell(&self, f: &mut MemFile) -> io::Result<Status> {
+        self.let_pass()?;
+        let status = self.status_of(f);
+        f.note_status(status);
+        Ok(status)
+    }
+
+    fn set_mode(&self, f: &mut MemFile, mode: u32) -> io::Result<()> {
+        self.let_pass()?;
+        f.set_mode(mode);
+        Ok(())
+    }
+
+    fn draft(&self, f: MemFile, _room: Vec<u8>, _left: Left) -> MemDraft {
+        MemDraft::new(f, self.good)
+    }
+
+    fn of_draft(draft: MemDraft) -> MemFile {
+        draft.into_file()
+    }
+
+    fn empty(&mut self, f: &mut MemFile) -> io::Result<()> {
+        self.let_pass()?;
+        self.shelf.empty()?;
+        f.begin_in_place();
+        Ok(())
+    }
+
+    fn create(&mut self) -> io::Result<MemFile> {
+        self.let_pass()?;
+        self.shelf.empty()?;
+        Ok(MemFile::emptied(self.alloc))
+    }
+
+    fn in_place(&self, _f: MemFile, _room: Vec<u8>) -> FuseSink {
+        FuseSink::new(self.alloc, self.good)
+    }
+
+    fn rename(
+        &mut self,
+        draft: &mut MemFile,
+        _old: Option<&MemFile>,
+        _held: Option<&MemFile>,
+    ) -> io::Result<()> {
+        self.let_pass()?;
+        if let Some(kind) = self.naming_fault() {
+            self.shelf.may_leave(draft.as_bytes())?;
+            return Err(io::Error::from(kind));
+        }
+        self.shelf.name(draft.as_bytes())?;
+        draft.take_name();
+        self.drafts = self.drafts.saturating_sub(1);
+        self.has_failed = false;
+        Ok(())
+    }
+
+    fn sync_names(&mut self) -> io::Result<()> {
+        let synced = self.settle();
+        self.has_failed = self.has_failed || synced.is_err();
+        synced
+    }
+
+    fn remove(&mut self, draft: MemFile) {
+        if self.let_pass().is_ok() && draft.draft_number() == Some(0) {
+            self.is_drafted.set(false);
+        }
+        if draft.is_made() {
+            self.drafts = self.drafts.saturating_sub(1);
+        }
+    }
+
+    fn leave(&mut self, _draft: MemFile) {
+        self.drafts = self.drafts.saturating_sub(1);
+    }
+}
