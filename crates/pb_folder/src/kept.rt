@@ -21,7 +21,8 @@ use pb_messages::Left;
 pub struct KeptFile<'f, 'a, F: Folder> {
     /// The name, and the drafts of its file.
     pub folder: F,
-    label: Label<'a>,
+    /// What messages call the file.
+    pub label: Label<'a>,
     // What a ledger is read from.
     ledger: Option<&'f LedgerFile<'a, F::File>>,
     /// The end into the file, where it is written in place.
@@ -41,6 +42,7 @@ impl<'f, 'a, F: Folder> KeptFile<'f, 'a, F> {
         ensures state { ⟦<KeptFile<'f, 'a, F> as Store>⟧.state result
             ≡ record { handed = None; fault = None } }
         ensures folder { result.folder ≡ folder }
+        ensures label { result.label ≡ label.entry }
     {
         KeptFile {
             folder,
@@ -63,6 +65,7 @@ impl<'f, 'a, F: Folder> KeptFile<'f, 'a, F> {
         ensures state { ⟦<KeptFile<'f, 'a, F> as Store>⟧.state result
             ≡ record { handed = None; fault = None } }
         ensures folder { result.folder ≡ folder }
+        ensures label { result.label ≡ label.entry }
     {
         KeptFile {
             folder,

@@ -1,4 +1,10 @@
-//! The files of the system.
+//! The files that a run holds and makes anew. It holds a file (`hold`), and keeps a book or a ledger
+//! under a name (`KeptFile`): by a draft beside the old file, or in place where none can replace it.
+//!
+//! A trait has the system's calls, and what each asks of a run (`Folder`). What is known of a file is
+//! what the system has answered of it. All above the trait is proved for every folder. The system's
+//! own (`System`) notes its answers: that these are of the right calls, and that the system keeps its
+//! word, is trusted.
 #![tactic(auto)]
 
 mod draft;

@@ -78,8 +78,9 @@ impl<'a> SavedLedger<'a> {
         messages: Messages<'a>,
         path: &'a str,
     ) -> Result<KeptFile<'f, 'a, System<'a>>, StoreError>
-        ensures { IfOk result (λ store. ⟦<KeptFile<'f, 'a, System<'a>> as Store>⟧.state store
+        ensures state { IfOk result (λ store. ⟦<KeptFile<'f, 'a, System<'a>> as Store>⟧.state store
             ≡ record { handed = None; fault = None }) }
+        ensures path { IfOk result (λ store. store.label.path.now ≡ path.now) }
     {
         let label = Label {
             messages,
@@ -109,8 +110,9 @@ pub fn book_store<'a>(
     messages: Messages<'a>,
     path: &'a str,
 ) -> Result<KeptFile<'a, 'a, System<'a>>, StoreError>
-    ensures { IfOk result (λ store. ⟦<KeptFile<'a, 'a, System<'a>> as Store>⟧.state store
+    ensures state { IfOk result (λ store. ⟦<KeptFile<'a, 'a, System<'a>> as Store>⟧.state store
         ≡ record { handed = None; fault = None }) }
+    ensures path { IfOk result (λ store. store.label.path.now ≡ path.now) }
 {
     let label = Label {
         messages,

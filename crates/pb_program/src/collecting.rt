@@ -1,6 +1,6 @@
 //! The command `collect` over the files that it names.
 
-ghost use Rattle.std.specs.Prelude.{◌≡◌, []};
+ghost use Rattle.std.specs.Prelude.{◌≡◌, [], IfOk};
 ghost use Rattle.pb_files.specs.JournalSink.{syncs};
 ghost use Rattle.pb_program.specs.Ordered.{is_synced};
 
@@ -14,7 +14,7 @@ use pb_files::{
 };
 use pb_folder::{Folder, KeptFile, SavedLedger, System, book_store};
 use pb_io::{FromRead, Sink, Source, ToWrite};
-use pb_messages::{Messages, Named, Part, Progress, Told, Watching};
+use pb_messages::{Left, Messages, Named, Part, Progress, Told, Watching};
 use std::alloc::Global;
 use std::cell::RefCell;
 
@@ -35,33 +35,37 @@ pub(crate) fn collect<'a>(
         replies: ToWrite::new(Replies(&output)),
         watcher: Watching::new(&progress, path),
     };
-    let made = run(Named::new(messages, path), guard, order, &mut ends)?;
+    let made = run(messages, guard, order, &mut ends)?;
     Ok(tell_made(&progress, made, order.table, path, Some(order.book)))
 }
 
-/// Runs the order over these ends. `kept` is what is kept beside the book: a saved ledger is made
-/// anew after the run and before the book.
+/// Runs the order over these ends. A saved ledger that it names is made anew after the run and before
+/// the book.
 fn run<'a>(
-    kept: Named<'a>,
+    messages: Messages<'a>,
     guard: &JournalGuard<'a>,
     order: &CollectOrder<'a>,
     ends: &mut Ends<FileSource<'a>, impl Source, impl Sink, impl Watcher>,
 ) -> Result<Made, Stop> {
-    let messages = kept.messages;
     let alloc = messages.rt.alloc();
     match order.kept {
         Keeping::Book => {
             let mut book = book_store(messages, order.book)?;
             Ok(ordered::collect(alloc, order, ends, &mut book)?)
         }
-        Keeping::Ledger(_) => {
-            let file = SavedLedger::open(messages, kept.name)?;
+        Keeping::Ledger(path) => {
+            let file = SavedLedger::open(messages, path)?;
+            let kept = Named {
+                messages,
+                name: path,
+                left: Left::All,
+            };
             let mut ledger = ledger(kept, &file)?;
             let mut book = book_store(messages, order.book)?;
             Ok(ordered::go_on(alloc, order, ends, &mut ledger, &mut book)?)
         }
-        Keeping::Journal { sync, .. } => {
-            let started = start_journal(kept, guard, sync)?;
+        Keeping::Journal { path, sync } => {
+            let started = start_journal(Named::new(messages, path), guard, sync)?;
             let mut book = book_store(messages, order.book)?;
             if sync {
                 add_to_journal::<SYNCED>(alloc, order, ends, started, &mut book)
@@ -89,11 +93,13 @@ fn kept_apart<'a>(messages: Messages<'a>, order: &CollectOrder<'a>) -> Result<&'
     Ok(kept.1)
 }
 
-/// The reader of this saved ledger, and the store where it is made anew.
+/// The reader of this saved ledger, and the store where it is made anew, under the same name.
 fn ledger<'a, 'f>(
     kept: Named<'a>,
     file: &'f SavedLedger<'a>,
-) -> Result<LedgerEnds<FileSource<'a>, KeptFile<'f, 'a, System<'a>>>, Stop> {
+) -> Result<LedgerEnds<FileSource<'a>, KeptFile<'f, 'a, System<'a>>>, Stop>
+    ensures { IfOk result (λ ends. ends.store.label.path.now ≡ kept.entry.name.now) }
+{
     let reader = match file.reader() {
         Ok(reader) => reader,
         Err(error) => {
@@ -117,6 +123,7 @@ fn add_to_journal<'g, 'f, 'a, const MODE: u8>(
     book: &mut KeptFile<'f, 'a, System<'a>>,
 ) -> Result<Made, Stop>
     requires mode { syncs MODE ≡ is_synced order.now.kept }
+    requires book { book.old.label.path.now ≡ order.now.book.now }
     requires untouched { ⟦<FileJournal<'g, 'a> as JournalFile>⟧.handed started.journal ≡ [] }
 {
     match JournalSink::<_, MODE>::new(alloc, started.journal) {
@@ -140,7 +147,8 @@ fn run_journal<'f, 'a, K: Source + Drop, J: JournalFile + Drop, F: Folder, const
     mut journal: JournalEnds<K, JournalSink<J, MODE>>,
     book: &mut KeptFile<'f, 'a, F>,
 ) -> Result<Made, NoBook>
-    requires { syncs MODE ≡ is_synced order.now.kept }
+    requires mode { syncs MODE ≡ is_synced order.now.kept }
+    requires book { book.old.label.path.now ≡ order.now.book.now }
 {
     ordered::journal(alloc, order, ends, &mut journal, book)
 }

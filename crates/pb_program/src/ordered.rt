@@ -21,7 +21,7 @@ ghost use Rattle.pb_files.specs.Journaling.{LeavesAnswered};
 ghost use Rattle.pb_folder.specs.Keeping.{LeadsToHanded};
 ghost use Rattle.pb_io.specs.Source.{HandsOut};
 ghost use Rattle.pb_poly.specs.Reading.{ReadsBook};
-ghost use Rattle.pb_program.specs.Ordered.{is_synced, most_fills};
+ghost use Rattle.pb_program.specs.Ordered.{IsLedgerPath, is_synced, most_fills};
 
 use pb_cli::{
     Answer, CollectOrder, Ends, ExportOrder, Fault, JournalEnds, LedgerEnds, Made, NoBook,
@@ -49,6 +49,7 @@ pub(crate) fn collect<'f, 'a, Table: Source, In: Source, Out: Sink, Watch: Watch
     ends: &mut Ends<Table, In, Out, Watch>,
     book: &mut KeptFile<'f, 'a, F>,
 ) -> Result<Made, NoBook>
+    requires { book.old.label.path.now ≡ order.now.book.now }
     ensures ends { let e = states Table.state In.state Out.state ends.old ends.new in
         Into (CollectRun order.now.rules most_fills e) (HasHeadline order.now.rules e)
         (between (⟦<KeptFile<'f, 'a, F> as Store>⟧.state) book.old book.new) result }
@@ -81,6 +82,8 @@ pub(crate) fn go_on<
     ledger: &mut LedgerEnds<Saved, KeptFile<'l, 'a, F>>,
     book: &mut KeptFile<'f, 'a, F>,
 ) -> Result<Made, NotContinued>
+    requires ledger { IsLedgerPath order.now.kept ledger.old.store.label.path.now }
+    requires book { book.old.label.path.now ≡ order.now.book.now }
     ensures ends { let e = states Table.state In.state Out.state ends.old ends.new in
         let saved = between Saved.state ledger.old.saved ledger.new.saved in
         ContinuesInto (ContinueRun order.now.rules most_fills e saved)
@@ -122,7 +125,8 @@ pub(crate) fn journal<
     journal: &mut JournalEnds<Kept, JournalSink<File, MODE>>,
     book: &mut KeptFile<'f, 'a, F>,
 ) -> Result<Made, NoBook>
-    requires { syncs MODE ≡ is_synced order.now.kept }
+    requires mode { syncs MODE ≡ is_synced order.now.kept }
+    requires book { book.old.label.path.now ≡ order.now.book.now }
     ensures ends { let e = states Table.state In.state Out.state ends.old ends.new in
         let j = journal_states Kept.state (⟦<JournalSink<File, MODE> as Sink>⟧.state)
         journal.old journal.new in

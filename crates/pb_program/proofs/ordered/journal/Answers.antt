@@ -9,7 +9,7 @@ returns-clause-leaves g c tells disk started =
     let kept = between g.Kept.Source.state c.args.journal.now.kept c.journal_into.new.journal.kept in
     let end = between (λ (end : EndState). end) c.args.journal.now.journal c.journal_into.new.journal.journal in
     let e = states g.Table.Source.state g.In.Source.state g.Out.Sink.state c.args.ends.now c.journal_into.new.ends in
-    subst (λ (sync : Bool). IsStarted sync disk end.old kept.old → (e.lines.new ≡ e.lines.old) ⊎ LeavesAnswered sync disk end.new e) c.requires
+    subst (λ (sync : Bool). IsStarted sync disk end.old kept.old → (e.lines.new ≡ e.lines.old) ⊎ LeavesAnswered sync disk end.new e) c.requires.mode
     (λ begun. c.answered_games_are_left.ensures g.File.JournalFile.tells (syncs g.row.MODE) disk kept end e tells begun c.journal_into.ensures.survives c.journal_into.ensures.outlives) started
 
 pub returns-clause-hands_on : goal.returns-clause-hands_on
