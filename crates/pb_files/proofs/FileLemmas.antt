@@ -116,6 +116,19 @@ told_more bytes count more old mid new first second =
     told_then (take count bytes) (take more (take (length bytes - count) (drop count bytes))) (take (count + more) bytes) old mid new
     (ap (λ rest. take count bytes ++ take more rest) (take_rest bytes count) ∙ sym (take-add count more bytes)) first second
 
+-- the same of what the file was handed
+pub more_handed : (bytes : List ℕ) (count more : ℕ) (old mid new : List ℕ) → mid ≡ old ++ take count bytes → new ≡ mid ++ take more (take (length bytes - count) (drop count bytes))
+    → new ≡ old ++ take (count + more) bytes
+more_handed bytes count more old mid new first second =
+    second ∙ ap (λ bs. mid ++ take more bs) (take_rest bytes count) ∙ ap (λ bs. bs ++ take more (drop count bytes)) first
+    ∙ append_assoc old (take count bytes) (take more (drop count bytes)) ∙ ap (λ bs. old ++ bs) (sym (take-add count more bytes))
+
+-- a front of what waited was handed, and the rest waits on
+pub rest_waits : (waits bytes rest old mid new : List ℕ) (n : ℕ) → bytes ≡ waits → rest ≡ drop n waits → mid ≡ old ++ take n bytes → new ≡ mid → new ++ rest ≡ old ++ waits
+rest_waits waits bytes rest old mid new n is left written same =
+    ap (λ bs. bs ++ rest) (same ∙ written ∙ ap (λ bs. old ++ take n bs) is) ∙ append_assoc old (take n waits) rest
+    ∙ ap (λ bs. old ++ (take n waits ++ bs)) left ∙ ap (λ bs. old ++ bs) (take-append-drop n waits)
+
 -- a write that fails takes none
 pub told_failed : (bytes : List ℕ) (old mid new : Option Disk) → Steps (Adds bytes) old mid → Steps (Adds []) mid new → Steps (Adds bytes) old new
 told_failed bytes old mid new first second = told_then bytes [] bytes old mid new (append-nil bytes) first second

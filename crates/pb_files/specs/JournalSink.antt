@@ -8,12 +8,13 @@ use Rattle.pb_files.specs.Disk.{on_disk}
 use Rattle.pb_folder.specs.Steps.{Steps}
 
 -- The disk, where the file tells of it; the bytes that the file has taken of this sink, of these
--- those that flushes that succeeded have handed on, and those that wait to be written; and what
--- else a sink tells.
+-- those that flushes that succeeded have handed on, and whether all of them are synced; those that
+-- wait to be written; and what else a sink tells.
 pub record EndState : Type 0 where
   pub told : Option Disk
   pub taken : List ℕ
   pub handed_on : List ℕ
+  pub synced : Bool
   pub waits : List ℕ
   pub failed : Bool
   pub flushed : Bool
@@ -63,6 +64,7 @@ pub record FlushAtEnd {E : Type 0} (sync : Bool) (old new : EndState)
   -- what waited is handed on, all or nothing
   pub hands_on : OnOk answer (new.handed_on ≡ old.handed_on ++ old.waits)
   pub hands_none : OnErr answer (new.handed_on ≡ old.handed_on)
+  pub synced : OnOk answer (sync ≡ true → new.synced ≡ true)
   -- what was found stays, and what was on the disk
   pub grows : Steps Grows old.told new.told
 

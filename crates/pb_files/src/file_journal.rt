@@ -1,8 +1,7 @@
 //! A journal over a file of the system.
 
-ghost use Rattle.std.specs.Prelude.{◌≡◌, IfErr, None, false, refl, true};
-ghost use Rattle.std.specs.Result.{result_err};
-ghost use Rattle.pb_folder.specs.File.{IsHeldAlone};
+ghost use Rattle.std.specs.Prelude.{◌≡◌, [], None, OnOk, false, refl, true};
+ghost use Rattle.pb_folder.specs.File.{IsHeldAlone, IsUntouched};
 
 use crate::journal_file::JournalFile;
 use crate::journal_guard::JournalGuard;
@@ -25,6 +24,7 @@ pub struct FileJournal<'g, 'a> {
     fault: Option<Fault>,
     ghost held: { IsHeldAlone file },
     ghost appends: { file.appends ≡ true },
+    ghost works: { fault ≡ None → file.lost ≡ false },
 }
 
 impl<'g, 'a> FileJournal<'g, 'a> {
@@ -37,7 +37,9 @@ impl<'g, 'a> FileJournal<'g, 'a> {
     ) -> FileJournal<'g, 'a>
         requires held { IsHeldAlone file }
         requires appends { file.appends ≡ true }
-        ensures { (⟦<FileJournal<'g, 'a> as JournalFile>⟧.state result).fault ≡ None }
+        requires untouched { IsUntouched file }
+        ensures state { (⟦<FileJournal<'g, 'a> as JournalFile>⟧.state result).fault ≡ None }
+        ensures handed { ⟦<FileJournal<'g, 'a> as JournalFile>⟧.handed result ≡ [] }
     {
         FileJournal {
             named,
@@ -48,40 +50,30 @@ impl<'g, 'a> FileJournal<'g, 'a> {
             fault: None,
         }
     }
+}
 
-    /// Answers what was done. If it wasn't, that is told, and nothing may be written any more.
-    fn answer(&mut self, done: io::Result<()>, fault: Fault) -> Result<(), Fault>
-        requires { (⟦<FileJournal<'g, 'a> as JournalFile>⟧.state self.old).fault ≡ None }
-        ensures state { (⟦<FileJournal<'g, 'a> as JournalFile>⟧.state self.new).fault
-            ≡ result_err result }
-        ensures fault { IfErr result (λ why. why ≡ fault) }
-    {
-        match done {
-            Ok(()) => Ok(()),
-            Err(error) => {
-                self.named.fail(&error);
-                self.fault = Some(fault);
-                Err(fault)
-            }
-        }
+/// Puts the file on the disk, and its name in the folder where that isn't there yet.
+fn sync_all(file: &mut SystemFile, folder: &mut System<'_>, is_named: bool) -> io::Result<()>
+    requires { file.old.lost ≡ false }
+    ensures synced { OnOk result (file.new.synced ≡ true) }
+    ensures works { OnOk result (file.new.lost ≡ false) }
+    ensures same { file.new ≡ record file.old { synced = file.new.synced; lost = file.new.lost } }
+{
+    if is_named {
+        return file.sync_data();
     }
-
-    /// Puts the file on the disk, and its name where that isn't there yet.
-    fn sync_all(&mut self) -> io::Result<()>
-        ensures { self.new.fault ≡ self.old.fault }
-    {
-        if self.is_synced {
-            return self.file.sync_data();
-        }
-        self.file.sync()?;
-        self.folder.sync_names()
-    }
+    file.sync()?;
+    folder.sync_names()
 }
 
 impl<'a> JournalFile for FileJournal<'_, 'a> {
     type Reader = FromRead<Told<'a, File>>;
 
     ghost state = { λ s. record { told = None; fault = s.fault } };
+
+    ghost handed = { λ s. s.file.handed };
+
+    ghost synced = { λ s. s.file.synced };
 
     ghost tells = { false };
 
@@ -98,24 +90,38 @@ impl<'a> JournalFile for FileJournal<'_, 'a> {
                 Ok(count)
             }
             Err(error) => {
-                self.named.fail(&error);
                 self.fault = Some(Fault::Write);
+                self.named.fail(&error);
                 Err(Fault::Write)
             }
         }
     }
 
     fn sync(&mut self) -> Result<(), Fault> {
-        let synced = self.sync_all();
-        self.is_synced = synced.is_ok();
-        self.answer(synced, Fault::Write)
+        match sync_all(&mut self.file, &mut self.folder, self.is_synced) {
+            Ok(()) => {
+                self.is_synced = true;
+                Ok(())
+            }
+            Err(error) => {
+                self.fault = Some(Fault::Write);
+                self.named.fail(&error);
+                Err(Fault::Write)
+            }
+        }
     }
 
     fn write_over(&mut self) -> Result<(), Fault> {
         let mut fault = Fault::Write;
         let rt = self.named.messages.rt;
-        let written = self.file.write_over(rt, self.named.name, &mut fault);
-        self.answer(written, fault)
+        match self.file.write_over(rt, self.named.name, &mut fault) {
+            Ok(()) => Ok(()),
+            Err(error) => {
+                self.fault = Some(fault);
+                self.named.fail(&error);
+                Err(fault)
+            }
+        }
     }
 
     fn reader(&mut self) -> Result<FromRead<Told<'a, File>>, Fault> {

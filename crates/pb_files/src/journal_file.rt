@@ -1,8 +1,8 @@
 //! A file that this run holds, reads and adds to.
 
 ghost use Rattle.std.specs.Option.{ForSome, is_some};
-ghost use Rattle.std.specs.Prelude.{◌≡◌, ◌≤◌, ◌<◌, [], IfErr, IfOk, None, OnErr, OnOk, length};
-ghost use Rattle.std.specs.Prelude.{Bool, take};
+ghost use Rattle.std.specs.Prelude.{◌≡◌, ◌≤◌, ◌<◌, ◌++◌, ℕ, List, [], IfErr, IfOk, None, OnErr, OnOk, length};
+ghost use Rattle.std.specs.Prelude.{Bool, take, true};
 ghost use Rattle.std.specs.Result.{result_err};
 ghost use Rattle.pb_io.specs.declared.fault.Fault.TheVariants as faults;
 ghost use Rattle.pb_files.specs.Disk.{Adds, FileState, IsSound, StaysSound, Syncs};
@@ -18,6 +18,12 @@ pub trait JournalFile {
 
     /// What is known of the file.
     ghost state: { Self → FileState };
+
+    /// The bytes that the file has taken from this run, in order.
+    ghost handed: { Self → List ℕ };
+
+    /// Whether a sync has put all of it on the disk, since the last byte was taken.
+    ghost synced: { Self → Bool };
 
     /// Whether files of this kind tell what is on them.
     ghost tells: { Bool };
@@ -40,6 +46,9 @@ pub trait JournalFile {
         ensures some { IfOk result (λ count. 0 < length bytes.now → 0 < count) }
         ensures front { IfOk result (λ count. Steps (Adds (take count bytes.now))
             (state self.old).told (state self.new).told) }
+        ensures handed { IfOk result (λ count. handed self.new
+            ≡ handed self.old ++ take count bytes.now) }
+        ensures handed_none { OnErr result (handed self.new ≡ handed self.old) }
         ensures sound { OnOk result (Steps StaysSound (state self.old).told (state self.new).told) }
         ensures none { OnErr result (Steps (Adds []) (state self.old).told (state self.new).told) };
 
@@ -55,6 +64,8 @@ pub trait JournalFile {
         ensures fault { (state self.new).fault ≡ result_err result }
         ensures write { IfErr result (λ why. why ≡ faults.Write) }
         ensures all { OnOk result (Steps Syncs (state self.old).told (state self.new).told) }
+        ensures synced { OnOk result (synced self.new ≡ true) }
+        ensures handed { handed self.new ≡ handed self.old }
         ensures none { OnErr result (Steps (Adds []) (state self.old).told (state self.new).told) };
 
     /// Writes all that is found over itself: the next sync then puts all of it on the disk. After
@@ -69,6 +80,7 @@ pub trait JournalFile {
         requires { (state self.old).fault ≡ None }
         ensures fault { (state self.new).fault ≡ result_err result }
         ensures sound { OnOk result (ForSome (state self.new).told IsSound) }
+        ensures handed { handed self.new ≡ handed self.old }
         ensures same { Steps (Adds []) (state self.old).told (state self.new).told };
 
     /// A reader of all that is found.
@@ -80,6 +92,7 @@ pub trait JournalFile {
         ensures all { IfOk result (λ reader. ReadsAll (state self.old).told
             (Self.Reader.state reader)) }
         ensures read { IfErr result (λ why. why ≡ faults.Read) }
+        ensures handed { handed self.new ≡ handed self.old }
         ensures same { state self.new ≡ state self.old };
 
     /// They tell it always, or never.

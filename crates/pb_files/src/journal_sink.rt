@@ -27,8 +27,7 @@ pub const SYNCED: u8 = 1;
 pub struct JournalSink<J: JournalFile, const MODE: u8> {
     file: J,
     waiting: Vec<u8>,
-    // What the file has taken, and what of it flushes that succeeded have handed on.
-    taken: History,
+    // What flushes that succeeded have handed on.
     handed_on: History,
     no_memory: bool,
     flushed: bool,
@@ -45,8 +44,9 @@ impl<J: JournalFile, const MODE: u8> Model for JournalSink<J, MODE> {
 
     ghost view = { λ s. record {
       told = (J.state s.file).told;
-      taken = s.taken.bytes;
+      taken = J.handed s.file;
       handed_on = s.handed_on.bytes;
+      synced = J.synced s.file;
       waits = s.waiting.items;
       failed = s.no_memory || is_some (J.state s.file).fault;
       flushed = s.flushed;
@@ -54,8 +54,8 @@ impl<J: JournalFile, const MODE: u8> Model for JournalSink<J, MODE> {
     } };
 
     ghost invariant = { λ s. (s.flushed ≡ true → s.waiting.items ≡ [])
-        × (s.flushed ≡ true → s.handed_on.bytes ≡ s.taken.bytes)
-        × ((J.state s.file).fault ≡ None → s.handed_on.bytes ≡ s.taken.bytes)
+        × (s.flushed ≡ true → s.handed_on.bytes ≡ J.handed s.file)
+        × ((J.state s.file).fault ≡ None → s.handed_on.bytes ≡ J.handed s.file)
         × (s.flushed ≡ true → syncs MODE ≡ true → ForSome (J.state s.file).told IsOnDisk)
         × SyncsAll (syncs MODE) (J.state s.file) };
 }
@@ -68,12 +68,14 @@ impl<J: JournalFile + Drop, const MODE: u8> JournalSink<J, MODE> {
     ///
     /// Want of memory for what waits.
     pub fn new(alloc: Global, file: J) -> Result<JournalSink<J, MODE>, AllocError>
-        requires { SyncsAll (syncs MODE) (J.state file) }
+        requires sound { SyncsAll (syncs MODE) (J.state file) }
+        requires untouched { J.handed file ≡ [] }
         ensures { IfOk result (λ end. end
             ≡ record {
               told = (J.state file).told;
               taken = [];
               handed_on = [];
+              synced = J.synced file;
               waits = [];
               failed = is_some (J.state file).fault;
               flushed = false;
@@ -84,7 +86,6 @@ impl<J: JournalFile + Drop, const MODE: u8> JournalSink<J, MODE> {
         Ok(JournalSink {
             file,
             waiting,
-            taken: History::new(),
             handed_on: History::new(),
             no_memory: false,
             flushed: false,
@@ -144,12 +145,7 @@ impl<J: JournalFile, const MODE: u8> Sink for JournalSink<J, MODE> {
         if self.failed() {
             return Err(Failed);
         }
-        match hand_on::<J, MODE>(
-            &mut self.file,
-            &mut self.waiting,
-            &mut self.taken,
-            &mut self.handed_on,
-        ) {
+        match hand_on::<J, MODE>(&mut self.file, &mut self.waiting, &mut self.handed_on) {
             Ok(()) => {
                 self.flushed = true;
                 self.flushes = self.flushes.saturating_add(1);
@@ -165,25 +161,25 @@ impl<J: JournalFile, const MODE: u8> Sink for JournalSink<J, MODE> {
 }
 
 /// Writes what waits, and in the mode `SYNCED` puts all that is found on the disk. It is noted what
-/// the file has taken, and what was handed on.
+/// was handed on.
 fn hand_on<J: JournalFile, const MODE: u8>(
     file: &mut J,
     waiting: &mut Vec<u8>,
-    taken: &mut History,
     handed_on: &mut History,
 ) -> Result<(), Failed>
     requires works { (J.state file.old).fault ≡ None }
     requires sound { SyncsAll (syncs MODE) (J.state file.old) }
     ensures ends { HandsOn (syncs MODE) (J.state file.old) (J.state file.new) waiting.old.items
         waiting.new.items result }
-    ensures taken { taken.new.bytes ++ waiting.new.items ≡ taken.old.bytes ++ waiting.old.items }
+    ensures taken { J.handed file.new ++ waiting.new.items
+        ≡ J.handed file.old ++ waiting.old.items }
+    ensures synced { OnOk result (syncs MODE ≡ true → J.synced file.new ≡ true) }
     ensures handed_on { OnOk result
         (handed_on.new.bytes ≡ handed_on.old.bytes ++ waiting.old.items) }
     ensures not_handed_on { OnErr result (handed_on.new ≡ handed_on.old) }
 {
     let bytes = waiting.as_slice();
     let written = write_all(file, bytes);
-    taken.add(&bytes[..written]);
     match settle::<J, MODE>(file) {
         Ok(()) => {
             handed_on.add(bytes);
@@ -206,6 +202,8 @@ fn settle<J: JournalFile, const MODE: u8>(file: &mut J) -> Result<(), Failed>
     ensures same { Steps (Adds []) (J.state file.old).told (J.state file.new).told }
     ensures on_disk { OnOk result (syncs MODE ≡ true → ForSome (J.state file.new).told IsOnDisk) }
     ensures sound { SyncsAll (syncs MODE) (J.state file.new) }
+    ensures synced { OnOk result (syncs MODE ≡ true → J.synced file.new ≡ true) }
+    ensures handed { J.handed file.new ≡ J.handed file.old }
 {
     if file.failed() {
         return Err(Failed);
@@ -227,6 +225,7 @@ fn write_all<J: JournalFile>(file: &mut J, bytes: &[u8]) -> usize
     ensures all { (J.state file.new).fault ≡ None → result ≡ length bytes.now }
     ensures added { Steps (Adds (take result bytes.now)) (J.state file.old).told
         (J.state file.new).told }
+    ensures handed { J.handed file.new ≡ J.handed file.old ++ take result bytes.now }
     ensures sound { (J.state file.new).fault ≡ None
         → Steps StaysSound (J.state file.old).told (J.state file.new).told }
 {

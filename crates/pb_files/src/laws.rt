@@ -80,10 +80,11 @@ pub fn answered_games_are_handed_on()
         → IsSame e.lines ⊎ ((kept : List ℕ) × HandsOut reader.old reader.new kept
         × HandsOnAnswered kept end.new e) }
     // What `JournalSink::new` makes begins so.
-    ensures begins { (told : Option Disk) (failed : Bool) → BeginsEmpty (record {
+    ensures begins { (told : Option Disk) (failed synced : Bool) → BeginsEmpty (record {
       told = told;
       taken = [];
       handed_on = [];
+      synced = synced;
       waits = [];
       failed = failed;
       flushed = false;

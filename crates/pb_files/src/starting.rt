@@ -39,6 +39,7 @@ pub fn whole_reader<J: JournalFile>(journal: &mut J, sync: bool) -> Result<J::Re
     ensures fault { IfErr result (λ why. why ≡ fault_met (J.state journal.new)) }
     ensures unasked { sync ≡ false → J.state journal.new ≡ J.state journal.old }
     ensures same { Steps (Adds []) (J.state journal.old).told (J.state journal.new).told }
+    ensures handed { J.handed journal.new ≡ J.handed journal.old }
 {
     if sync {
         journal.write_over()?;
@@ -65,6 +66,8 @@ pub fn start_journal<'g, 'a>(
         (⟦<FileJournal<'g, 'a> as JournalFile>⟧.state started.journal).fault ≡ None) }
     ensures sound { IfOk result (λ started. SyncsAll sync
         (⟦<FileJournal<'g, 'a> as JournalFile>⟧.state started.journal)) }
+    ensures untouched { IfOk result (λ started.
+        ⟦<FileJournal<'g, 'a> as JournalFile>⟧.handed started.journal ≡ []) }
 {
     let label = Label {
         messages: named.messages,

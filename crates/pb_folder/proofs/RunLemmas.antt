@@ -3,7 +3,7 @@ use Rattle.std.proofs.Common.{◌≡◌, ◌∙◌, ℕ, ◌==◌, Bool, true, f
 use Rattle.pb_folder.specs.File.{FileState, MayRemove, IsOwnDraft, IsNamedDraft, is_held, locked}
 use Rattle.pb_folder.specs.declared.folder.Hold.{Hold}
 use Rattle.pb_folder.specs.declared.folder.Hold.TheVariants.{Nothing, Shared, Alone, Unlockable}
-use Rattle.pb_folder.specs.declared.folder.Lock.TheVariants.{Held}
+use Rattle.pb_folder.specs.declared.folder.Lock.TheVariants.{Held, InUse, Unsupported}
 use Rattle.pb_folder.specs.Runs.{Claims, IsLocked, is_locked, unnamed}
 use Rattle.pb_folder.specs.Runs.{Step, Makes, Locks, Unnames, Ends, Names, HoldsDraft, OfOthers, after, after_step, lock, make, run_of, unlock, unname, unname_held}
 
@@ -76,6 +76,9 @@ claims_locked run file hold s names free = record {
   locked = λ is. ap (λ (b : Bool). if b then lock run (names.locked file) else names.locked file) (same_file file) ∙ ap (lock run) free;
   named = λ is named. cc;
 }
+
+pub unlocked_claims : (run file : ℕ) (hold : Hold) (s : FileState) (names : Names) → Claims run file (locked hold InUse s) names × Claims run file (locked hold Unsupported s) names
+unlocked_claims run file hold s names = (record { locked = λ is. cc; named = λ is named. cc }, record { locked = λ is. cc; named = λ is named. cc })
 
 pub holds_by : (run file : ℕ) (s : FileState) (names : Names) → Claims run file s names → IsLocked s → s.named ≡ true → HoldsDraft run names
 holds_by run file s names claims is named = record { file = file; leads = claims.named is named; locked = claims.locked is }

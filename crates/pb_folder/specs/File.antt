@@ -209,6 +209,14 @@ abbrev pub IsOfHolder : Option FileState → Option FileState → Type 0
 IsOfHolder (Some held) (Some old) = IsHeldAlone held × IsOneFile held old
 IsOfHolder held old = ⊥
 
+-- the system told that it is a device or a pipe, which keeps nothing
+abbrev pub IsDevice : FileState → Type 0
+IsDevice s = (status : Status) × (s.status ≡ Some status) × (status.is_file ≡ false)
+
+-- It may be emptied: this run has written nothing into it, and no other run has it.
+abbrev pub MayEmpty : FileState → Type 0
+MayEmpty s = IsUntouched s × ((is_held s.hold ≡ true) ⊎ IsDevice s)
+
 -- it is written in place from now on
 abbrev pub IsInPlace : FileState → Type 0
 IsInPlace s = (s.in_place ≡ true) × IsUntouched s

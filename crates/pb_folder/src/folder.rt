@@ -5,8 +5,8 @@ ghost use Rattle.std.specs.Prelude.{Option, Some, [], false, is_err, true};
 ghost use Rattle.std.specs.Option.{is_some, option_map};
 ghost use Rattle.pb_io.specs.Sink.{HandedOn};
 ghost use Rattle.pb_folder.specs.File.{CanReplace, FileState, IsNewDraft, IsOfHolder, IsOfOther};
-ghost use Rattle.pb_folder.specs.File.{IsOwnDraft, MayRemove, MayShare, emptied, is_nothing, locked};
-ghost use Rattle.pb_folder.specs.File.{new_draft, opened, with_mode, without};
+ghost use Rattle.pb_folder.specs.File.{IsOwnDraft, MayEmpty, MayRemove, MayShare, emptied, is_nothing};
+ghost use Rattle.pb_folder.specs.File.{locked, new_draft, opened, with_mode, without};
 ghost use Rattle.pb_folder.specs.Shelf.{Begins, Empties, Names, NamesNot, Settles, SettlesNot, Shelf};
 ghost use Rattle.pb_folder.specs.Steps.{Steps};
 ghost use Rattle.pb_folder.specs.declared.folder.Entry.TheVariants.{Draft, Target};
@@ -176,7 +176,8 @@ pub trait Folder {
     /// Empties the file of a book, which no draft can replace, to be written in place. A device
     /// stays as it is.
     fn empty(&mut self, f: &mut Self::File) -> io::Result<()>
-        requires { ledger self.old ≡ false }
+        requires book { ledger self.old ≡ false }
+        requires may { MayEmpty (file f.old) }
         ensures in_place { OnOk result (file f.new ≡ record (file f.old) { in_place = true }) }
         ensures emptied { OnOk result (Steps Empties (shelf self.old) (shelf self.new)) }
         ensures same { OnErr result (shelf self.new ≡ shelf self.old) }

@@ -1,7 +1,7 @@
 //! How a run comes to hold the file of a name.
 
 ghost use Rattle.std.specs.Prelude.{◌≡◌, IfOk, Some};
-ghost use Rattle.pb_folder.specs.File.{IsHeldAlone, IsJustOpened};
+ghost use Rattle.pb_folder.specs.File.{IsHeldAlone, IsJustOpened, IsUntouched};
 
 use crate::folder::{Entry, Folder, Lock};
 use crate::label::Label;
@@ -33,6 +33,7 @@ pub fn hold<F: Folder>(folder: &mut F, label: &Label<'_>) -> Result<Held<F::File
     ensures held { IfOk result (λ held. IsHeldAlone (F.file held.file)) }
     ensures told { IfOk result (λ held. (F.file held.file).status ≡ Some held.status) }
     ensures appends { IfOk result (λ held. (F.file held.file).appends ≡ F.appends folder.old) }
+    ensures untouched { IfOk result (λ held. IsUntouched (F.file held.file)) }
 {
     for tried in 0..TRIES {
         let mut file = open_ordinary(folder, label)?;
@@ -55,10 +56,12 @@ fn told_of<F: Folder>(
     label: &Label<'_>,
     mut file: F::File,
 ) -> Result<Held<F::File>, StoreError>
-    requires { IsHeldAlone (F.file file) }
+    requires held { IsHeldAlone (F.file file) }
+    requires untouched { IsUntouched (F.file file) }
     ensures held { IfOk result (λ held. IsHeldAlone (F.file held.file)) }
     ensures told { IfOk result (λ held. (F.file held.file).status ≡ Some held.status) }
     ensures appends { IfOk result (λ held. (F.file held.file).appends ≡ (F.file file).appends) }
+    ensures untouched { IfOk result (λ held. IsUntouched (F.file held.file)) }
 {
     match folder.tell(&mut file) {
         Ok(status) => Ok(Held { file, status }),

@@ -3,7 +3,7 @@
 ghost use Rattle.std.specs.Option.{ForSome, is_some, option_map};
 ghost use Rattle.std.specs.Prelude.{◌≡◌, ℕ, List, IfOk, IfSome, None, OnErr, false, true};
 ghost use Rattle.pb_collecting.specs.Store.{KeepsText};
-ghost use Rattle.pb_folder.specs.File.{IsHolder, IsInPlace, IsPut, IsUntouched};
+ghost use Rattle.pb_folder.specs.File.{IsHolder, IsInPlace, IsPut, MayEmpty};
 ghost use Rattle.pb_folder.specs.Keeping.{KeepsAt, WritesInPlace, handed_at};
 
 use crate::file_end::BUFFER_LEN;
@@ -166,7 +166,7 @@ fn keep_in_place<F: Folder, X: Text>(
 ) -> Result<u64, StoreError>
     requires text { (bytes : List ℕ) × (count : ℕ) × X.is_text text.now bytes count }
     requires book { F.ledger folder.old ≡ false }
-    requires untouched { IfSome file (λ f. IsUntouched (F.file f)) }
+    requires may { IfSome file (λ f. MayEmpty (F.file f)) }
     ensures kept { (bytes : List ℕ) × (count : ℕ) × X.is_text text.now bytes count
         × WritesInPlace result bytes (option_map F.InPlace.state in_place.old)
         (option_map F.InPlace.state in_place.new) (F.shelf folder.old) (F.shelf folder.new)
@@ -194,7 +194,7 @@ fn open_in_place<F: Folder>(
     file: Option<F::File>,
 ) -> Result<F::File, StoreError>
     requires book { F.ledger folder.old ≡ false }
-    requires untouched { IfSome file (λ f. IsUntouched (F.file f)) }
+    requires may { IfSome file (λ f. MayEmpty (F.file f)) }
     ensures in_place { IfOk result (λ f. IsInPlace (F.file f)) }
     ensures same { OnErr result (F.shelf folder.new ≡ F.shelf folder.old) }
     ensures drafts { F.drafts folder.new ≡ F.drafts folder.old }

@@ -8,7 +8,7 @@ ghost use Rattle.pb_folder.specs.Runs.{Claims, IsLocked, unnamed};
 ghost use Rattle.pb_folder.specs.Runs.Step.{Ends, Locks, Makes, Unnames};
 ghost use Rattle.pb_folder.specs.Shelf.{Content, NamesNot, OldOrNew, Shelf};
 ghost use Rattle.pb_folder.specs.declared.folder.Hold.{Hold};
-ghost use Rattle.pb_folder.specs.declared.folder.Lock.TheVariants.{Held};
+ghost use Rattle.pb_folder.specs.declared.folder.Lock.TheVariants.{Held, InUse, Unsupported};
 
 /// A name that a reader doesn't see given may be there after a crash all the same. What is old or
 /// new is whole.
@@ -54,11 +54,14 @@ pub fn a_held_draft_stays_held()
 
 /// What the system has answered of a draft is so in the model, from the moment of the answer on:
 /// other runs' steps leave it so, and so never make what a call requires a thing of the past.
-#[tactic(auto, using(crate::proofs::RunLemmas::claims_locked, crate::proofs::RunLemmas::still_claims))]
+#[tactic(auto, using(crate::proofs::RunLemmas::claims_locked, crate::proofs::RunLemmas::unlocked_claims, crate::proofs::RunLemmas::still_claims))]
 pub fn what_is_known_stays_known()
     ensures locked { (run file : ℕ) (hold : Hold) (s : FileState) (names : Names)
         → names.locked file ≡ None
         → Claims run file (locked hold Held s) (after names (Locks run file ∷ [])) }
+    ensures unlocked { (run file : ℕ) (hold : Hold) (s : FileState) (names : Names)
+        → Claims run file (locked hold InUse s) names
+        × Claims run file (locked hold Unsupported s) names }
     ensures named { (run file : ℕ) (s : FileState) (names : Names) → Claims run file s names
         → names.leads ≡ Some file → Claims run file (record s { named = true }) names }
     ensures stays { (run file : ℕ) (s : FileState) (names : Names) (steps : List Step)

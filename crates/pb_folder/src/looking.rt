@@ -3,7 +3,7 @@
 ghost use Rattle.std.specs.Prelude.{◌≡◌, ◌≤◌, IfOk, IfSome, Err, IsNone, OnOk, false, true};
 ghost use Rattle.std.specs.Option.{is_some, option_map};
 ghost use Rattle.pb_folder.specs.File.{IsHolder, IsOfHolder, IsOld, IsOneFile, IsPlain, IsUntouched};
-ghost use Rattle.pb_folder.specs.File.{is_held};
+ghost use Rattle.pb_folder.specs.File.{MayEmpty, is_held};
 ghost use Rattle.pb_folder.specs.Saving.{IfRefused, is_refused};
 ghost use Rattle.pb_folder.specs.declared.folder.Entry.TheVariants.{Target};
 
@@ -55,7 +55,7 @@ pub fn look_at<F: Folder>(
         → IsOfHolder (option_map (λ l. F.file l.now.file) ledger.entry)
         (option_map (λ o. F.file o.file) old)) }
     ensures refused { is_refused result ≡ true → F.ledger folder.new ≡ false }
-    ensures untouched { IfRefused result (λ f. IsUntouched (F.file f)) }
+    ensures refused_file { IfRefused result (λ f. MayEmpty (F.file f)) }
     ensures drafts { F.drafts folder.new ≡ F.drafts folder.old }
     ensures ledger { F.ledger folder.new ≡ F.ledger folder.old }
     ensures same { F.shelf folder.new ≡ F.shelf folder.old }
@@ -78,7 +78,7 @@ fn look_at_none<F: Folder>(
     ensures free { OnOk result (F.free folder.new ≡ true) }
     ensures book { OnOk result (F.ledger folder.new ≡ false) }
     ensures refused { is_refused result ≡ true → F.ledger folder.new ≡ false }
-    ensures untouched { IfRefused result (λ f. IsUntouched (F.file f)) }
+    ensures refused_file { IfRefused result (λ f. MayEmpty (F.file f)) }
     ensures drafts { F.drafts folder.new ≡ F.drafts folder.old }
     ensures ledger { F.ledger folder.new ≡ F.ledger folder.old }
     ensures same { F.shelf folder.new ≡ F.shelf folder.old }
@@ -115,7 +115,7 @@ fn look_at_file<F: Folder>(
         → IsOfHolder (option_map (λ l. F.file l.now.file) ledger.entry)
         (option_map (λ o. F.file o.file) old)) }
     ensures refused { is_refused result ≡ true → F.ledger folder.new ≡ false }
-    ensures untouched { IfRefused result (λ f. IsUntouched (F.file f)) }
+    ensures refused_file { IfRefused result (λ f. MayEmpty (F.file f)) }
     ensures drafts { F.drafts folder.new ≡ F.drafts folder.old }
     ensures ledger { F.ledger folder.new ≡ F.ledger folder.old }
     ensures same { F.shelf folder.new ≡ F.shelf folder.old }
@@ -210,8 +210,8 @@ fn refuse<F: Folder>(
     file: F::File,
     why: Unreplaceable,
 ) -> NotSaved<F::File>
-    requires { IsUntouched (F.file file) }
-    ensures untouched { IfRefused {A = Unit {0}} (Err result) (λ f. IsUntouched (F.file f)) }
+    requires { F.ledger folder.now ≡ false → MayEmpty (F.file file) }
+    ensures refused_file { IfRefused {A = Unit {0}} (Err result) (λ f. MayEmpty (F.file f)) }
     ensures refused { is_refused {A = Unit {0}} (Err result) ≡ true → F.ledger folder.now ≡ false }
 {
     if folder.is_ledger() {

@@ -1,6 +1,6 @@
 //! The command `collect` over the files that it names.
 
-ghost use Rattle.std.specs.Prelude.{◌≡◌};
+ghost use Rattle.std.specs.Prelude.{◌≡◌, []};
 ghost use Rattle.pb_files.specs.JournalSink.{syncs};
 ghost use Rattle.pb_program.specs.Ordered.{is_synced};
 
@@ -116,7 +116,8 @@ fn add_to_journal<'g, 'f, 'a, const MODE: u8>(
     started: Started<FileJournal<'g, 'a>>,
     book: &mut KeptFile<'f, 'a, System<'a>>,
 ) -> Result<Made, Stop>
-    requires { syncs MODE ≡ is_synced order.now.kept }
+    requires mode { syncs MODE ≡ is_synced order.now.kept }
+    requires untouched { ⟦<FileJournal<'g, 'a> as JournalFile>⟧.handed started.journal ≡ [] }
 {
     match JournalSink::<_, MODE>::new(alloc, started.journal) {
         Ok(journal) => {
