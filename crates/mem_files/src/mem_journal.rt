@@ -1,6 +1,6 @@
 //! A journal in memory, which tells all and fails at a call that is chosen.
 
-ghost use Rattle.std.specs.Prelude.{◌≡◌, ◌≤◌, IfSome, None, Some, false, length, refl, true};
+ghost use Rattle.std.specs.Prelude.{◌≡◌, ◌≤◌, [], IfSome, None, Some, drop, false, length, refl, true};
 ghost use Rattle.pb_files.specs.Disk.{on_disk};
 
 use pb_files::JournalFile;
@@ -14,26 +14,33 @@ use std::io::Cursor;
 #[derive(Drop)]
 pub struct MemJournal {
     bytes: Vec<u8>,
+    // How many of them were there at first.
+    begun: usize,
     kept: usize,
     lost: bool,
+    synced: bool,
     fault: Option<Fault>,
     calls: usize,
+    ghost begins: { begun ≤ length bytes.items },
     ghost within: { kept ≤ length bytes.items },
 }
 
 impl MemJournal {
     /// A file that has these bytes, none of them on the disk, and of which this many calls succeed.
     pub fn new(bytes: Vec<u8>, calls: usize) -> MemJournal
-        ensures { ⟦<MemJournal as JournalFile>⟧.state result
+        ensures handed { ⟦<MemJournal as JournalFile>⟧.handed result ≡ [] }
+        ensures state { ⟦<MemJournal as JournalFile>⟧.state result
             ≡ record {
               told = Some (record { found = bytes.items; kept = 0; lost = false });
               fault = None;
             } }
     {
         MemJournal {
+            begun: bytes.len(),
             bytes,
             kept: 0,
             lost: false,
+            synced: false,
             fault: None,
             calls,
         }
@@ -41,16 +48,19 @@ impl MemJournal {
 
     /// The same after a sync has failed, so that the next ones put none of these bytes on the disk.
     pub fn after_failed_sync(bytes: Vec<u8>, calls: usize) -> MemJournal
-        ensures { ⟦<MemJournal as JournalFile>⟧.state result
+        ensures handed { ⟦<MemJournal as JournalFile>⟧.handed result ≡ [] }
+        ensures state { ⟦<MemJournal as JournalFile>⟧.state result
             ≡ record {
               told = Some (record { found = bytes.items; kept = 0; lost = true });
               fault = None;
             } }
     {
         MemJournal {
+            begun: bytes.len(),
             bytes,
             kept: 0,
             lost: true,
+            synced: false,
             fault: None,
             calls,
         }
@@ -75,6 +85,7 @@ impl MemJournal {
     /// Whether this call succeeds.
     fn goes_well(&mut self) -> bool
         ensures bytes { self.new.bytes ≡ self.old.bytes }
+        ensures begun { self.new.begun ≡ self.old.begun }
         ensures kept { self.new.kept ≡ self.old.kept }
         ensures lost { self.new.lost ≡ self.old.lost }
         ensures fault { self.new.fault ≡ self.old.fault }
@@ -95,6 +106,10 @@ impl JournalFile for MemJournal {
       fault = m.fault;
     } };
 
+    ghost handed = { λ m. drop m.begun m.bytes.items };
+
+    ghost synced = { λ m. m.synced };
+
     ghost tells = { true };
 
     ghost always = { λ _. refl };
@@ -104,6 +119,7 @@ impl JournalFile for MemJournal {
     }
 
     fn append(&mut self, bytes: &[u8]) -> Result<usize, Fault> {
+        self.synced = false;
         if self.goes_well() {
             let spared = if self.calls == 0 { bytes.len() / 2 } else { 0 };
             let count = bytes.len() - spared;
@@ -116,6 +132,7 @@ impl JournalFile for MemJournal {
     }
 
     fn sync(&mut self) -> Result<(), Fault> {
+        self.synced = false;
         if !self.goes_well() {
             self.lost = self.lost || self.kept < self.bytes.len();
             self.fault = Some(Fault::Write);
@@ -124,6 +141,7 @@ impl JournalFile for MemJournal {
         if !self.lost {
             self.kept = self.bytes.len();
         }
+        self.synced = true;
         Ok(())
     }
 

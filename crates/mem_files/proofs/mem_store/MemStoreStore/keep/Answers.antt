@@ -1,2 +1,0 @@
-use Rattle.std.proofs.Common.{rules}
-use Rattle.mem_files.proofs.mem_store.MemStoreStore.keep.Goals as goal
