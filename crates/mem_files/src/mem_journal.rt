@@ -1,6 +1,7 @@
 //! A journal in memory, which tells all and fails at a call that is chosen.
 
-ghost use Rattle.std.specs.Prelude.{◌≡◌, ◌≤◌, [], IfSome, None, Some, drop, false, length, refl, true};
+ghost use Rattle.std.specs.Prelude.{◌≡◌, ◌≤◌, [], IfSome, None, Some, drop, false, length};
+ghost use Rattle.std.specs.Prelude.{refl, true};
 ghost use Rattle.pb_files.specs.Disk.{on_disk};
 
 use pb_files::JournalFile;
