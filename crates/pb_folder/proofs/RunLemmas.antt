@@ -1,10 +1,9 @@
 -- What a run holds it goes on holding, whatever other runs do.
 use Rattle.std.proofs.Common.{◌≡◌, ◌∙◌, ℕ, ◌==◌, Bool, true, false, if◌then◌else◌, List, [], ◌∷◌, None, Some, ap, rules, sym}
-use Rattle.pb_folder.specs.File.{FileState, MayRemove, IsOwnDraft, IsNamedDraft, is_held, locked}
+use Rattle.pb_folder.specs.File.{FileState, locked}
 use Rattle.pb_folder.specs.declared.folder.Hold.{Hold}
-use Rattle.pb_folder.specs.declared.folder.Hold.TheVariants.{Nothing, Shared, Alone, Unlockable}
-use Rattle.pb_folder.specs.declared.folder.Lock.TheVariants.{Held, InUse, Unsupported}
-use Rattle.pb_folder.specs.Runs.{Claims, IsLocked, is_locked, unnamed}
+use Rattle.pb_folder.specs.declared.folder.Lock.TheVariants.{Held}
+use Rattle.pb_folder.specs.Runs.{Claims, IsLocked, unnamed}
 use Rattle.pb_folder.specs.Runs.{Step, Makes, Locks, Unnames, Ends, Names, HoldsDraft, OfOthers, after, after_step, lock, make, run_of, unlock, unname, unname_held}
 
 same_of : (x y : ℕ) → (Some x) ≡ (Some y) → x ≡ y
@@ -64,21 +63,18 @@ claims_after run file s names step claims apart = record {
   named = λ is named. name_stays run file names step (claims.locked is) (claims.named is named) apart;
 }
 
-pub still_claims : (run file : ℕ) (s : FileState) (names : Names) (steps : List Step) → Claims run file s names → OfOthers run steps → Claims run file s (after names steps)
-still_claims run file s names [] claims others = claims
-still_claims run file s names (step ∷ steps) claims others = still_claims run file s (after_step names step) steps (claims_after run file s names step claims others.0) others.1
+pub claims_on : (run file : ℕ) (s : FileState) (names : Names) (steps : List Step) → Claims run file s names → OfOthers run steps → Claims run file s (after names steps)
+claims_on run file s names [] claims others = claims
+claims_on run file s names (step ∷ steps) claims others = claims_on run file s (after_step names step) steps (claims_after run file s names step claims others.0) others.1
 
 same_file : (file : ℕ) → file == file ≡ true
 same_file file = search (rules)
 
-pub claims_locked : (run file : ℕ) (hold : Hold) (s : FileState) (names : Names) → names.locked file ≡ None → Claims run file (locked hold Held s) (after names (Locks run file ∷ []))
-claims_locked run file hold s names free = record {
+pub claims_new : (run file : ℕ) (hold : Hold) (s : FileState) (names : Names) → names.locked file ≡ None → Claims run file (locked hold Held s) (after names (Locks run file ∷ []))
+claims_new run file hold s names free = record {
   locked = λ is. ap (λ (b : Bool). if b then lock run (names.locked file) else names.locked file) (same_file file) ∙ ap (lock run) free;
   named = λ is named. cc;
 }
-
-pub unlocked_claims : (run file : ℕ) (hold : Hold) (s : FileState) (names : Names) → Claims run file (locked hold InUse s) names × Claims run file (locked hold Unsupported s) names
-unlocked_claims run file hold s names = (record { locked = λ is. cc; named = λ is named. cc }, record { locked = λ is. cc; named = λ is named. cc })
 
 pub holds_by : (run file : ℕ) (s : FileState) (names : Names) → Claims run file s names → IsLocked s → s.named ≡ true → HoldsDraft run names
 holds_by run file s names claims is named = record { file = file; leads = claims.named is named; locked = claims.locked is }

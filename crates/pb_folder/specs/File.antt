@@ -1,7 +1,7 @@
 -- What a run knows of a file that it has open, by what the system has answered, and what the run may
 -- do with it.
-use Rattle.std.specs.Prelude.{◌≡◌, ◌⊎◌, ◌≤◌, ◌+◌, ◌-◌, if◌then◌else◌, Bool, false, true, List, [], ℕ}
-use Rattle.std.specs.Prelude.{Option, None, Some}
+use Rattle.std.specs.Prelude.{◌≡◌, ◌⊎◌, ◌≤◌, ◌+◌, ◌-◌, if◌then◌else◌, Bool, false, true, List, []}
+use Rattle.std.specs.Prelude.{ℕ, Option, None, Some}
 use Rattle.std.specs.Option.{option_map}
 use Rattle.pb_folder.specs.declared.folder.Entry.{Entry}
 use Rattle.pb_folder.specs.declared.folder.Entry.TheVariants.{Target, Draft}

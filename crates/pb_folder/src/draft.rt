@@ -32,8 +32,8 @@ pub fn remove_left_over<F: Folder>(folder: &mut F, number: u32)
     }
 }
 
-/// Makes an empty draft: by the first number that no run has. This run holds that of a ledger alone,
-/// and another so that the next run may replace it. None where other runs have all names.
+/// Makes an empty draft: by the first number that no run has. This run holds that of a ledger
+/// alone, and another so that the next run may replace it. None where other runs have all names.
 ///
 /// # Errors
 ///

@@ -1,12 +1,12 @@
 //! The system's calls on one name in a folder, and on the drafts of its file.
 
-ghost use Rattle.std.specs.Prelude.{◌≡◌, ◌+◌, ◌-◌, ◌++◌, ◌||◌, ℕ, Bool, IfOk, IfSome, List, None, OnErr, OnOk};
-ghost use Rattle.std.specs.Prelude.{Option, Some, [], false, is_err, true};
+ghost use Rattle.std.specs.Prelude.{◌≡◌, ◌+◌, ◌-◌, ◌++◌, ◌||◌, [], ℕ, Bool, IfOk, IfSome, List};
+ghost use Rattle.std.specs.Prelude.{None, OnErr, OnOk, Option, Some, false, is_err, true};
 ghost use Rattle.std.specs.Option.{is_some, option_map};
 ghost use Rattle.pb_io.specs.Sink.{HandedOn};
 ghost use Rattle.pb_folder.specs.File.{CanReplace, FileState, IsNewDraft, IsOfHolder, IsOfOther};
-ghost use Rattle.pb_folder.specs.File.{IsOwnDraft, MayEmpty, MayRemove, MayShare, emptied, is_nothing};
-ghost use Rattle.pb_folder.specs.File.{locked, new_draft, opened, with_mode, without};
+ghost use Rattle.pb_folder.specs.File.{IsOwnDraft, MayEmpty, MayRemove, MayShare, emptied};
+ghost use Rattle.pb_folder.specs.File.{is_nothing, locked, new_draft, opened, with_mode, without};
 ghost use Rattle.pb_folder.specs.Shelf.{Begins, Empties, Names, NamesNot, Settles, SettlesNot, Shelf};
 ghost use Rattle.pb_folder.specs.Steps.{Steps};
 ghost use Rattle.pb_folder.specs.declared.folder.Entry.TheVariants.{Draft, Target};
@@ -84,8 +84,8 @@ pub trait Folder {
     /// What a reader finds under the name, and what a crash leaves, where that is told.
     ghost shelf: { Self → Option Shelf };
 
-    /// How many drafts of this run stand there: those that it has made, and neither named nor removed,
-    /// nor left to another run.
+    /// How many drafts of this run stand there: those that it has made, and neither named nor
+    /// removed, nor left to another run.
     ghost drafts: { Self → ℕ };
 
     /// Nothing was seen under the name.
@@ -201,8 +201,8 @@ pub trait Folder {
         requires room { room.items ≡ [] }
         ensures { Begins (Self.InPlace.state result) };
 
-    /// Gives the draft the name, and takes it from the old file, unless nothing was seen there. `held`
-    /// is the file of a ledger as this run holds it.
+    /// Gives the draft the name, and takes it from the old file, unless nothing was seen there.
+    /// `held` is the file of a ledger as this run holds it.
     fn rename(
         &mut self,
         draft: &mut Self::File,

@@ -1,5 +1,5 @@
-//! Laws of runs that make drafts by one name, and of what its name may lead to. Each is the contract
-//! of a function that does nothing.
+//! Laws of runs that make drafts by one name, and of what its name may lead to. Each is the
+//! contract of a function that does nothing.
 
 ghost use Rattle.std.specs.Prelude.{◌≡◌, ◌==◌, ◌++◌, ◌∷◌, [], List, None, Some, false, true, ℕ};
 ghost use Rattle.pb_folder.specs.File.{FileState, IsOwnDraft, MayRemove, locked};
@@ -54,7 +54,7 @@ pub fn a_held_draft_stays_held()
 
 /// What the system has answered of a draft is so in the model, from the moment of the answer on:
 /// other runs' steps leave it so, and so never make what a call requires a thing of the past.
-#[tactic(auto, using(crate::proofs::RunLemmas::claims_locked, crate::proofs::RunLemmas::unlocked_claims, crate::proofs::RunLemmas::still_claims))]
+#[tactic(auto, using(crate::proofs::RunLemmas::claims_new, crate::proofs::RunLemmas::claims_on))]
 pub fn what_is_known_stays_known()
     ensures locked { (run file : ℕ) (hold : Hold) (s : FileState) (names : Names)
         → names.locked file ≡ None

@@ -1,6 +1,7 @@
 //! A file that is made anew whole.
 
-ghost use Rattle.std.specs.Prelude.{◌≡◌, ◌+◌, ◌-◌, ℕ, List, Err, IfOk, IfSome, OnErr, OnOk, Some, false, true};
+ghost use Rattle.std.specs.Prelude.{◌≡◌, ◌+◌, ◌-◌, ℕ, List, Err, IfOk, IfSome, OnErr, OnOk, Some};
+ghost use Rattle.std.specs.Prelude.{false, true};
 ghost use Rattle.std.specs.Option.{is_some, option_map};
 ghost use Rattle.pb_folder.specs.File.{Fits, IsNewDraft, IsOfHolder, IsOld, IsOwnDraft, IsPut};
 ghost use Rattle.pb_folder.specs.Shelf.{Names, NamesNot};
