@@ -1,5 +1,5 @@
-//! Names, files and stores in memory, which tell all that is known of them: what a reader finds, and
-//! what a crash and a kill leave. A store fails for want of memory alone, and each other from a
+//! Names, files and stores in memory, which tell all that is known of them: what a reader finds,
+//! and what a crash and a kill leave. A store fails for want of memory alone, and each other from a
 //! chosen call on. Test programs run the calls of pb_folder and pb_files over them.
 #![tactic(auto)]
 

@@ -1,10 +1,11 @@
 //! A journal in memory, which tells all and fails at a call that is chosen.
 
-ghost use Rattle.std.specs.Prelude.{◌≡◌, ◌≤◌, [], IfSome, None, Some, false, length, refl, true};
+ghost use Rattle.std.specs.Prelude.{◌≡◌, ◌≤◌, [], IfSome, None, Some, drop, false, length};
+ghost use Rattle.std.specs.Prelude.{refl, true};
 ghost use Rattle.pb_files.specs.Disk.{on_disk};
 
 use pb_files::JournalFile;
-use pb_io::{Fault, FromRead, History};
+use pb_io::{Fault, FromRead};
 use std::alloc::Global;
 use std::io::Cursor;
 
@@ -14,54 +15,55 @@ use std::io::Cursor;
 #[derive(Drop)]
 pub struct MemJournal {
     bytes: Vec<u8>,
+    // How many of them were there at first.
+    begun: usize,
     kept: usize,
     lost: bool,
+    synced: bool,
     fault: Option<Fault>,
     calls: usize,
-    // What was appended, and whether a sync has succeeded since.
-    handed: History,
-    synced: bool,
+    ghost begins: { begun ≤ length bytes.items },
     ghost within: { kept ≤ length bytes.items },
 }
 
 impl MemJournal {
     /// A file that has these bytes, none of them on the disk, and of which this many calls succeed.
     pub fn new(bytes: Vec<u8>, calls: usize) -> MemJournal
+        ensures handed { ⟦<MemJournal as JournalFile>⟧.handed result ≡ [] }
         ensures state { ⟦<MemJournal as JournalFile>⟧.state result
             ≡ record {
               told = Some (record { found = bytes.items; kept = 0; lost = false });
               fault = None;
             } }
-        ensures handed { ⟦<MemJournal as JournalFile>⟧.handed result ≡ [] }
     {
         MemJournal {
+            begun: bytes.len(),
             bytes,
             kept: 0,
             lost: false,
+            synced: false,
             fault: None,
             calls,
-            handed: History::new(),
-            synced: false,
         }
     }
 
     /// The same after a sync has failed, so that the next ones put none of these bytes on the disk.
     pub fn after_failed_sync(bytes: Vec<u8>, calls: usize) -> MemJournal
+        ensures handed { ⟦<MemJournal as JournalFile>⟧.handed result ≡ [] }
         ensures state { ⟦<MemJournal as JournalFile>⟧.state result
             ≡ record {
               told = Some (record { found = bytes.items; kept = 0; lost = true });
               fault = None;
             } }
-        ensures handed { ⟦<MemJournal as JournalFile>⟧.handed result ≡ [] }
     {
         MemJournal {
+            begun: bytes.len(),
             bytes,
             kept: 0,
             lost: true,
+            synced: false,
             fault: None,
             calls,
-            handed: History::new(),
-            synced: false,
         }
     }
 
@@ -84,11 +86,10 @@ impl MemJournal {
     /// Whether this call succeeds.
     fn goes_well(&mut self) -> bool
         ensures bytes { self.new.bytes ≡ self.old.bytes }
+        ensures begun { self.new.begun ≡ self.old.begun }
         ensures kept { self.new.kept ≡ self.old.kept }
         ensures lost { self.new.lost ≡ self.old.lost }
         ensures fault { self.new.fault ≡ self.old.fault }
-        ensures handed { self.new.handed ≡ self.old.handed }
-        ensures synced { self.new.synced ≡ self.old.synced }
     {
         if self.calls == 0 {
             return false;
@@ -106,7 +107,7 @@ impl JournalFile for MemJournal {
       fault = m.fault;
     } };
 
-    ghost handed = { λ m. m.handed.bytes };
+    ghost handed = { λ m. drop m.begun m.bytes.items };
 
     ghost synced = { λ m. m.synced };
 
@@ -119,12 +120,11 @@ impl JournalFile for MemJournal {
     }
 
     fn append(&mut self, bytes: &[u8]) -> Result<usize, Fault> {
+        self.synced = false;
         if self.goes_well() {
             let spared = if self.calls == 0 { bytes.len() / 2 } else { 0 };
             let count = bytes.len() - spared;
             if self.bytes.extend_from_slice(&bytes[..count]).is_ok() {
-                self.handed.add(&bytes[..count]);
-                self.synced = false;
                 return Ok(count);
             }
         }
@@ -133,6 +133,7 @@ impl JournalFile for MemJournal {
     }
 
     fn sync(&mut self) -> Result<(), Fault> {
+        self.synced = false;
         if !self.goes_well() {
             self.lost = self.lost || self.kept < self.bytes.len();
             self.fault = Some(Fault::Write);

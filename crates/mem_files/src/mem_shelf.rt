@@ -1,8 +1,8 @@
 //! What a reader finds under a name in memory, and what a crash may leave there.
 
 ghost use Rattle.std.specs.Option.{option_copied, option_map};
-ghost use Rattle.std.specs.Prelude.{◌≡◌, ◌++◌, ◌≤◌, [], ◌∷◌, Some, IfOk, OnErr, OnOk, false, length};
-ghost use Rattle.std.specs.Prelude.{nat_lt};
+ghost use Rattle.std.specs.Prelude.{◌≡◌, ◌++◌, ◌≤◌, [], ◌∷◌, Some, IfOk, OnErr, OnOk};
+ghost use Rattle.std.specs.Prelude.{false, length, nat_lt};
 ghost use Rattle.pb_folder.specs.Shelf.{Empties, Names, Settles};
 ghost use Rattle.mem_files.specs.MemFolder.{shelf_of};
 

@@ -14,7 +14,7 @@ use crate::restarting;
 use mem_files::{MemFolder, Scene};
 use pb_cli::{Ends, LedgerEnds, Store, Text, collect_into, continue_into};
 use pb_collecting::Rules;
-use pb_folder::{Folder, KeptFile, Label, Status, hold_ledger};
+use pb_folder::{Folder, KeptFile, Label, Status, expect_book, expect_ledger, hold_ledger};
 use pb_ledger::WriteFault;
 use pb_messages::{Messages, Part};
 use pb_poly::{Book, FromRead, MemSink, Sink, read_book, write_book};
@@ -52,6 +52,7 @@ pub(crate) fn answer(rt: &HostRuntime, page: &mut Page, call: &[&str]) -> Done {
         return NO_ROW
     };
     match *name {
+        "expect" => expect(rt, page, words),
         "keep" => keep(rt, page, words),
         "collect" => collect(rt, page, words),
         "continue" => go_on(rt, page, words),
@@ -124,8 +125,8 @@ fn place_of<'f, 'a>(
     Ok(KeptFile::<'f, 'a, MemFolder>::of_book(folder, label))
 }
 
-/// The name of a ledger of these bytes. Its guard finds it as it was left, unless another program has
-/// `changed` it.
+/// The name of a ledger of these bytes. Its guard finds it as it was left, unless another program
+/// has `changed` it.
 fn ledger_folder(rt: &HostRuntime, scene: &str, bytes: &[u8]) -> Result<MemFolder, Trouble>
     ensures { IfOk result (λ folder. ⟦<MemFolder as Folder>⟧.ledger folder ≡ true) }
 {
@@ -152,6 +153,28 @@ pub(crate) fn book_of(alloc: Global, entries: &str) -> Result<MemSink, Trouble> 
 /// All games and plies count.
 pub(crate) fn rules() -> Result<Rules, Trouble> {
     rules_in("").ok_or(Trouble::Row)
+}
+
+/// Whether a book, or a ledger, can be made anew, as far as that is known before.
+fn expect(rt: &HostRuntime, page: &mut Page, words: &[&str]) -> Done {
+    let [what, scene, calls] = words else {
+        return NO_ROW
+    };
+    if *what == "book" {
+        let mut folder = folder_of(page.alloc, Part::Book, scene, OLD)?;
+        folder.calls.set(fills_of(calls));
+        page.put_debug(&expect_book(&mut folder, &label_of(rt, Part::Book)));
+        return Ok(());
+    }
+    let label = label_of(rt, Part::Ledger);
+    let mut folder = ledger_folder(rt, scene, OLD)?;
+    let Ok(held) = hold_ledger(&mut folder, &label) else {
+        return NO_ROW
+    };
+    let mut folder = ledger_folder(rt, scene, OLD)?;
+    folder.calls.set(fills_of(calls));
+    page.put_debug(&expect_ledger(&mut folder, &label, &held));
+    Ok(())
 }
 
 /// What a reader finds at a place, and what a crash may make of it.
