@@ -404,6 +404,16 @@ draft_is_a_link() {
     holds test -p .book.bin.pbook-1
 }
 
+# A file that has a draft's name and another one besides is none: no run that was killed has left it.
+draft_has_another_name() {
+    with_old
+    cp "$work/old" precious
+    ln precious .book.bin.pbook-0
+    holds collects 0 "$book"
+    holds is_new "$book"
+    holds test precious -ef .book.bin.pbook-0
+}
+
 # Where the replies can't be written, a torn last line isn't taken for a game.
 torn_at_full_output() {
     : > "$journal"
@@ -913,9 +923,10 @@ killed_behind_links() {
 if [ $# -eq 0 ]; then
     choose true '' new_book here old_book full_device null_device pipe standard_output symlink \
         dangling_symlink hard_link linked_hard_link folder missing_folder no_name long_name \
-        own_umask all_names_taken no_book_made limit draft_left draft_is_a_link special_journal \
-        side_by_side cut_in_three old_list one_file broken_ledger cut_ledger missing_ledger \
-        linked_ledger ledger_of_two_names ledger_of_long_name ledger_without_book rules two_journals
+        own_umask all_names_taken no_book_made limit draft_left draft_is_a_link \
+        draft_has_another_name special_journal side_by_side cut_in_three old_list one_file \
+        broken_ledger cut_ledger missing_ledger linked_ledger ledger_of_two_names \
+        ledger_of_long_name ledger_without_book rules two_journals
     choose 'test -c /dev/full' '/dev/full is wanted' torn_at_full_output
     choose 'has flock' 'flock is wanted' draft_in_use live_journal
     choose can_trace 'strace is wanted' device_faults unset_mode unopened_folder \
