@@ -17,7 +17,8 @@ use Rattle.pb_board.specs.Castling.{castling_row}
 use Rattle.pb_moves.specs.Attacks.{files_apart, ranks_apart}
 use Rattle.pb_moves.specs.Candidate.{HoldsOwn}
 use Rattle.pb_moves.specs.Castling.{RowAllows, rook_goes}
-use Rattle.pb_moves.specs.Cases.{Becomes, Castles, Differs, EnPassant, Goes}
+use Rattle.pb_moves.specs.Cases.{Becomes, Castles, EnPassant, Goes}
+use Rattle.pb_moves.specs.Successor.{Differs}
 use Rattle.pb_moves.specs.declared.move_kind.MoveKind.TheVariants.{Two}
 use Rattle.pb_moves.specs.MoveKind.{LeadsTo}
 use Rattle.pb_moves.specs.Moved.{Moved, IsMove}

@@ -107,13 +107,3 @@ home_is BlackLong king e = rw e refl
 pub home_is_far : (c : Castling) (king rook : ℕ) → king ≡ (castling_row c).king_from → rook ≡ (castling_row c).rook_from → 2 < files_apart king rook
 home_is_far WhiteShort king rook a b = omega arith
 home_is_far c king rook a b = omega arith
-
--- a move to a near square is no castling
-none_near : (from to : ℕ) (found : Option Castling) → castling_of from to ≡ found → files_apart from to ≤ 1 → found ≡ None
-none_near from to None is near = refl
-none_near from to (Some c) is near =
-    let squares = castling_found from to c is in
-    absurd (let two = class_of_castling c from to squares.0 squares.1 in omega arith)
-
-pub near_is_none : (from to : ℕ) → files_apart from to ≤ 1 → castling_of from to ≡ None
-near_is_none from to near = none_near from to (castling_of from to) refl near

@@ -15,7 +15,8 @@ use Rattle.pb_moves.specs.Moved.{Moved, IsMove}
 use Rattle.pb_moves.specs.MoveKind.{CanGo, Fits, LeadsTo, board_by}
 use Rattle.pb_moves.specs.Reach.{IsReached, KingInReach}
 use Rattle.pb_moves.specs.Candidate.{HoldsOwn}
-use Rattle.pb_moves.specs.Cases.{Differs, CaseOf, SafeCase}
+use Rattle.pb_moves.specs.Cases.{CaseOf, SafeCase}
+use Rattle.pb_moves.specs.Successor.{Differs}
 use Rattle.pb_moves.specs.Attackers.{AreAttackers}
 use Rattle.pb_moves.proofs.Differing.{carried_put, holds_on_board, length_put}
 use Rattle.pb_moves.proofs.Legality.{not_legal_in_check, legal_out_of_check}

@@ -7,7 +7,7 @@ use Rattle.std.proofs.lemmas.List.{get_or_past}
 use Rattle.std.proofs.lemmas.List.Elements.{All-nil, All-cons, All-head, All-push, All-tail}
 use Rattle.pb_board.specs.declared.piece.Piece.{Piece}
 use Rattle.pb_board.specs.Board.{Board, Place, at, Holds, IsEmpty}
-use Rattle.pb_moves.specs.Cases.{Differs}
+use Rattle.pb_moves.specs.Successor.{Differs}
 use Rattle.pb_moves.proofs.MovedPiece.{put}
 
 pub same_or_not : (a b : ℕ) → (a ≡ b) ⊎ (a ≢ b)

@@ -2,7 +2,7 @@
 use Rattle.std.proofs.Common.{◌≡◌, ℕ, sym, ap, subst, ◌∙◌, Option, Some}
 use Rattle.pb_board.specs.declared.piece.Piece.{Piece}
 use Rattle.pb_board.specs.declared.setup.Rights.{Rights}
-use Rattle.pb_board.specs.Board.{Board, Place, at}
+use Rattle.pb_board.specs.Board.{Board}
 use Rattle.pb_board.specs.Piece.{opponent}
 use Rattle.pb_board.specs.Position.{Position, IsSetup, position_of}
 use Rattle.pb_moves.specs.declared.effect.Effect.{Effect}
@@ -20,20 +20,20 @@ use Rattle.pb_moves.proofs.Passing.{crossed}
 
 -- the kind of move that leads to a case, with what stands beside the board, is what the move does
 pub is_effect : (s : Position) (m : Moved) (piece : Piece) (kind : MoveKind) (rights : Rights) (ep : Option ℕ) → IsSetup s → HoldsOwn s m.from piece
-    → LeadsTo (CaseOf s m piece) s m kind → rights ≡ rights_after s.rights m → ep ≡ en_passant_after m (Some piece)
+    → LeadsTo (CaseOf s m piece) s m kind → rights ≡ rights_after s.rights m → ep ≡ en_passant_after m piece
     → (let e : Effect = record { piece = piece; kind = kind; rights = rights; ep = ep } in IsEffect s m e)
 is_effect s m piece kind rights ep ok own leads rights_is ep_is =
     let new = board_by kind m s.board in
     let case = case_by s m new piece own leads.1 in
-    let B : Board → Position = λ b. position_of b (opponent s.turn) (rights_after s.rights m) (en_passant_after m (at s.board m.from)) in
-    let R : Rights → Position = λ r. position_of new (opponent s.turn) r (en_passant_after m (at s.board m.from)) in
+    let B : Board → Position = λ b. position_of b (opponent s.turn) (rights_after s.rights m) (en_passant_after m piece) in
+    let R : Rights → Position = λ r. position_of new (opponent s.turn) r (en_passant_after m piece) in
     let E : Option ℕ → Position = λ o. position_of new (opponent s.turn) rights o in
     record {
       rules = ok;
       moves = case_moves s m new ok case;
       stands = own.stands;
       fits = leads.0;
-      after = after_parts s m ∙ ap B (board_after_case s m new ok case) ∙ ap R (sym rights_is) ∙ ap E (ap (λ (p : Place). en_passant_after m p) own.stands ∙ sym ep_is);
+      after = after_parts s m piece own.stands ∙ ap B (board_after_case s m new ok case) ∙ ap R (sym rights_is) ∙ ap E (sym ep_is);
     }
 
 -- and back: the piece makes the move by one of its cases
@@ -52,7 +52,7 @@ effect_leads s m e ok is =
 -- the en passant square is the one that the case crosses
 pub effect_ep : (s : Position) (m : Moved) (e : Effect) → IsEffect s m e → (new : Board) (x : CaseOf s m e.piece new) → e.ep ≡ crossed s m e.piece new x
 effect_ep s m e is new x =
-    sym (ap (λ (t : Position). t.ep) is.after) ∙ ap (λ (t : Position). t.ep) (after_parts s m) ∙ crosses s m e.piece new is.stands x
+    sym (ap (λ (t : Position). t.ep) is.after) ∙ ap (λ (t : Position). t.ep) (after_parts s m e.piece is.stands) ∙ crosses s m e.piece new x
 
 -- a piece without a case has no move
 pub not_pseudo_legal : (s : Position) (m : Moved) (piece : Piece) → IsSetup s → HoldsOwn s m.from piece → ((b : Board) → ¬ CaseOf s m piece b) → ¬ PseudoLegal s m

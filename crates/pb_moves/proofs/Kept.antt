@@ -15,7 +15,8 @@ use Rattle.pb_board.specs.Position.{Position, position_of, IsSetup, HasNoEdgePaw
 use Rattle.pb_moves.specs.Moved.{Moved}
 use Rattle.pb_board.specs.Castling.{castling_row}
 use Rattle.pb_moves.specs.Castling.{rook_goes}
-use Rattle.pb_moves.specs.Cases.{Differs, Becomes, Goes, pawn_rank, CaseOf, piece_move, pawn_step, pawn_double, pawn_capture, en_passant, castles}
+use Rattle.pb_moves.specs.Cases.{Becomes, Goes, pawn_rank, CaseOf, piece_move, pawn_step, pawn_double, pawn_capture, en_passant, castles}
+use Rattle.pb_moves.specs.Successor.{Differs}
 use Rattle.pb_moves.proofs.Differing.{All-two, arrived, each_place, holds_on_board, off_two}
 use Rattle.pb_moves.proofs.Passing.{halfway_between, halfway_empty, crossed}
 use Rattle.pb_moves.proofs.Unique.{piece_is, en_passant_at}

@@ -16,7 +16,8 @@ use Rattle.pb_moves.specs.Reach.{ReachesBy}
 use Rattle.pb_moves.specs.Moved.{Moved}
 use Rattle.pb_board.specs.Castling.{CastlingRow, castling_row}
 use Rattle.pb_moves.specs.Castling.{rook_goes, RowAllows}
-use Rattle.pb_moves.specs.Cases.{Differs, Becomes, Goes, CaseOf, piece_move, pawn_step, pawn_double, pawn_capture, en_passant, castles, IsCapturable}
+use Rattle.pb_moves.specs.Cases.{Becomes, Goes, CaseOf, piece_move, pawn_step, pawn_double, pawn_capture, en_passant, castles, IsCapturable}
+use Rattle.pb_moves.specs.Successor.{Differs}
 use Rattle.pb_moves.proofs.Castlings.{rows}
 use Rattle.pb_moves.proofs.Differing.{All-two, arrived, each_place}
 use Rattle.pb_moves.proofs.Unique.{piece_is, en_passant_at}

@@ -12,7 +12,8 @@ use Rattle.pb_moves.specs.Reach.{WayIsClear, ReachesBy, IsReached}
 use Rattle.pb_moves.specs.Moved.{Moved, IsMove}
 use Rattle.pb_moves.specs.Candidate.{HoldsOwn}
 use Rattle.pb_moves.specs.Unpinned.{IsUnpinned}
-use Rattle.pb_moves.specs.Cases.{Differs, CaseOf, SafeCase}
+use Rattle.pb_moves.specs.Cases.{CaseOf, SafeCase}
+use Rattle.pb_moves.specs.Successor.{Differs}
 use Rattle.pb_moves.specs.MoveKind.{LeadsTo}
 use Rattle.pb_moves.proofs.MovedPiece.{put}
 use Rattle.pb_moves.specs.declared.move_kind.MoveKind.TheVariants.{One}

@@ -42,32 +42,22 @@ apart_some a q ne = positive (files_apart a q + ranks_apart a q) (λ none. ne (o
 pub between_to : (a q b : ℕ) → IsLine a b → lower.LiesBetween a q b → chess.IsBetween a q b
 between_to a q b (inl d) h =
     let slant = h.on_diagonal d in
-    record { not_first = h.not_first; not_last = h.not_last; files = h.files; ranks = h.ranks; line = rw (slant.0, d.0) refl }
-between_to a q b (inr (inl s)) h = record {
-  not_first = h.not_first;
-  not_last = h.not_last;
-  files = h.files;
-  ranks = h.ranks;
-  line = line_first (files_apart a q) (files_apart q b) (ranks_apart a q) (ranks_apart q b) (files_apart a b) (ranks_apart a b) h.files h.ranks s.0;
-}
-between_to a q b (inr (inr s)) h = record {
-  not_first = h.not_first;
-  not_last = h.not_last;
-  files = h.files;
-  ranks = h.ranks;
-  line = line_second (files_apart a q) (files_apart q b) (ranks_apart a q) (ranks_apart q b) (files_apart a b) (ranks_apart a b) h.files h.ranks s.1;
-}
+    (h.not_first, h.not_last, h.files, h.ranks, rw (slant.0, d.0) refl)
+between_to a q b (inr (inl s)) h = (h.not_first, h.not_last, h.files, h.ranks,
+    line_first (files_apart a q) (files_apart q b) (ranks_apart a q) (ranks_apart q b) (files_apart a b) (ranks_apart a b) h.files h.ranks s.0)
+between_to a q b (inr (inr s)) h = (h.not_first, h.not_last, h.files, h.ranks,
+    line_second (files_apart a q) (files_apart q b) (ranks_apart a q) (ranks_apart q b) (files_apart a b) (ranks_apart a b) h.files h.ranks s.1)
 
 slants : (f r n m : ℕ) → f * m ≡ r * n → (n ≡ m) × (0 < n) → 0 < f + r → (f ≡ r) × (0 < f)
 slants f r n m line d some = let same : f ≡ r = cancels f r n m line d.0 d.1 in (same, omega arith)
 
 pub between_from : (a q b : ℕ) → chess.IsBetween a q b → lower.LiesBetween a q b
 between_from a q b h = record {
-  not_first = h.not_first;
-  not_last = h.not_last;
-  files = h.files;
-  ranks = h.ranks;
-  on_diagonal = λ d. slants (files_apart a q) (ranks_apart a q) (files_apart a b) (ranks_apart a b) h.line d (apart_some a q h.not_first);
+  not_first = h.0;
+  not_last = h.1;
+  files = h.2;
+  ranks = h.3;
+  on_diagonal = λ d. slants (files_apart a q) (ranks_apart a q) (files_apart a b) (ranks_apart a b) h.4 d (apart_some a q h.0);
 }
 
 pub clear_to : (board : Board) (a b : ℕ) → lower.WayIsClear board a b → chess.Clear board a b
@@ -93,26 +83,58 @@ IsNear a b = ((files_apart a b ≤ 1) × (ranks_apart a b ≤ 1)) ⊎ lower.IsKn
 
 pub no_near : (board : Board) (a b : ℕ) → IsNear a b → chess.Clear board a b
 no_near board a b near q on h =
-    absurd (none_between (files_apart a q) (files_apart q b) (ranks_apart a q) (ranks_apart q b) (files_apart a b) (ranks_apart a b) h.files h.ranks h.line
-    (apart_some a q h.not_first) (apart_some q b (λ e. h.not_last (sym e))) near)
+    absurd (none_between (files_apart a q) (files_apart q b) (ranks_apart a q) (ranks_apart q b) (files_apart a b) (ranks_apart a b) h.2 h.3 h.4
+    (apart_some a q h.0) (apart_some q b (λ e. h.1 (sym e))) near)
 
 -- ---- what a piece attacks
+
+-- products of the differences
+
+knight_to : (f r : ℕ) → ((f ≡ 1) × (r ≡ 2)) ⊎ ((f ≡ 2) × (r ≡ 1)) → f * r ≡ 2
+knight_to f r (inl h) = rw (h.0, h.1) refl
+knight_to f r (inr h) = rw (h.0, h.1) refl
+
+knight_from : (f r : ℕ) → f * r ≡ 2 → ((f ≡ 1) × (r ≡ 2)) ⊎ ((f ≡ 2) × (r ≡ 1))
+knight_from zero r h = absurd (omega arith)
+knight_from (suc zero) r h = inl (refl, omega arith)
+knight_from (suc (suc zero)) r h = inr (refl, omega arith)
+knight_from (suc (suc (suc f))) zero h = absurd (omega arith)
+knight_from (suc (suc (suc f))) (suc r) h = absurd (omega arith)
+
+straight_to : (f r : ℕ) → ((f ≡ 0) × (0 < r)) ⊎ ((0 < f) × (r ≡ 0)) → (f * r ≡ 0) × (0 < f + r)
+straight_to zero r (inl h) = (omega arith, omega (arith, h.1))
+straight_to (suc f) r (inl h) = absurd (omega (arith, h.0))
+straight_to f zero (inr h) = (omega arith, omega (arith, h.0))
+straight_to f (suc r) (inr h) = absurd (omega (arith, h.1))
+
+straight_from : (f r : ℕ) → f * r ≡ 0 → 0 < f + r → ((f ≡ 0) × (0 < r)) ⊎ ((0 < f) × (r ≡ 0))
+straight_from zero r h some = inl (refl, omega arith)
+straight_from (suc f) zero h some = inr (omega arith, refl)
+straight_from (suc f) (suc r) h some = absurd (omega arith)
+
+queen_to : (f r : ℕ) → ((f ≡ r) × (0 < f)) ⊎ (((f ≡ 0) × (0 < r)) ⊎ ((0 < f) × (r ≡ 0))) → ((f ≡ r) ⊎ (f * r ≡ 0)) × (0 < f + r)
+queen_to f r (inl h) = (inl h.0, omega (arith, h.1))
+queen_to f r (inr h) = let x = straight_to f r h in (inr x.0, x.1)
+
+queen_from : (f r : ℕ) → (f ≡ r) ⊎ (f * r ≡ 0) → 0 < f + r → ((f ≡ r) × (0 < f)) ⊎ (((f ≡ 0) × (0 < r)) ⊎ ((0 < f) × (r ≡ 0)))
+queen_from f r (inl h) some = inl (h, omega arith)
+queen_from f r (inr h) some = inr (straight_from f r h some)
 
 pub attacks_to : (side : Colour) (kind : Kind) (board : Board) (a b : ℕ) → lower.ReachesBy side kind board a b → chess.Attacks side kind board a b
 attacks_to side Pawn board a b h =
     let ranks : ranks_apart a b ≡ 1 = step_ranks side 1 a b h.1 in ((h.0, ranks), (λ e. h.1), no_near board a b (inl (omega arith, omega arith)))
-attacks_to side Knight board a b h = (h, (λ e. absurd cc), no_near board a b (inr h))
+attacks_to side Knight board a b h = (knight_to (files_apart a b) (ranks_apart a b) h, (λ e. absurd cc), no_near board a b (inr h))
 attacks_to side Bishop board a b h = (h.0, (λ e. absurd cc), clear_to board a b h.1)
-attacks_to side Rook board a b h = (h.0, (λ e. absurd cc), clear_to board a b h.1)
-attacks_to side Queen board a b h = (h.0, (λ e. absurd cc), clear_to board a b h.1)
+attacks_to side Rook board a b h = (straight_to (files_apart a b) (ranks_apart a b) h.0, (λ e. absurd cc), clear_to board a b h.1)
+attacks_to side Queen board a b h = (queen_to (files_apart a b) (ranks_apart a b) h.0, (λ e. absurd cc), clear_to board a b h.1)
 attacks_to side King board a b h = (h, (λ e. absurd cc), no_near board a b (inl (omega arith, omega arith)))
 
 pub attacks_from : (side : Colour) (kind : Kind) (board : Board) (a b : ℕ) → chess.Attacks side kind board a b → lower.ReachesBy side kind board a b
 attacks_from side Pawn board a b h = (h.0.0, h.1 refl)
-attacks_from side Knight board a b h = h.0
+attacks_from side Knight board a b h = knight_from (files_apart a b) (ranks_apart a b) h.0
 attacks_from side Bishop board a b h = (h.0, clear_from board a b (inl h.0) h.2)
-attacks_from side Rook board a b h = (h.0, clear_from board a b (inr h.0) h.2)
-attacks_from side Queen board a b h = (h.0, clear_from board a b h.0 h.2)
+attacks_from side Rook board a b h = let x = straight_from (files_apart a b) (ranks_apart a b) h.0.0 h.0.1 in (x, clear_from board a b (inr x) h.2)
+attacks_from side Queen board a b h = let x = queen_from (files_apart a b) (ranks_apart a b) h.0.0 h.0.1 in (x, clear_from board a b x h.2)
 attacks_from side King board a b h = h.0
 
 pub attacked_to : (board : Board) (side : Colour) (square : ℕ) → lower.IsReached board side square → chess.IsAttacked board side square

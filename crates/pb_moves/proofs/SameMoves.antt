@@ -1,68 +1,43 @@
 -- The setup after a move by `after` has the board of the case, and the moves of `Legal` are those
 -- of `Cases`.
 use Rattle.std.proofs.Common.{◌≡◌, ◌≢◌, ℕ, ◌+◌, ◌*◌, ◌/◌, ◌⊎◌, ◌↔◌, refl, arith, inl, inr, sym, ap, subst, ◌∙◌, Option, Some, None, List, [], ◌∷◌, Bool, true, false, not, ◌&&◌, ◌==◌, is_none}
-use Rattle.std.specs.Prelude.{IsSome, unwrap_or, fold, if◌then◌else◌}
+use Rattle.std.specs.Prelude.{IsSome, IsTrue, nat_lt, unwrap_or, if◌then◌else◌}
+use Rattle.std.specs.Option.{option_map_or}
 use Rattle.pb_board.specs.declared.piece.Colour.{Colour}
 use Rattle.pb_board.specs.declared.piece.Colour.TheVariants.{White, Black}
 use Rattle.pb_board.specs.declared.piece.Kind.{Kind}
 use Rattle.pb_board.specs.declared.piece.Kind.TheVariants.{Pawn, Knight, Bishop, Rook, Queen, King}
 use Rattle.pb_board.specs.declared.piece.Piece.{Piece}
 use Rattle.pb_board.specs.declared.castling.Castling.{Castling}
-use Rattle.pb_board.specs.Piece.{opponent, king_of, kind_number, piece_of}
-use Rattle.pb_board.specs.Board.{Board, Place, file, rank, rank_for, at, Holds}
+use Rattle.pb_board.specs.declared.castling.Castling.TheVariants.{WhiteShort, WhiteLong, BlackShort, BlackLong}
+use Rattle.pb_board.specs.Piece.{opponent, king_of, kind_number, piece_of, rook_of}
+use Rattle.pb_board.specs.declared.setup.Rights.{Rights}
+use Rattle.pb_board.specs.Board.{Board, Place, file, rank, rank_for, at, Holds, IsEmpty}
 use Rattle.pb_board.specs.Position.{Position, IsSetup, beyond, position_of}
-use Rattle.pb_board.specs.Castling.{CastlingRow, castling_row, castling_of}
-use Rattle.pb_moves.specs.Attacks.{Attacks, files_apart, ranks_apart}
+use Rattle.pb_board.specs.Castling.{CastlingRow, castling_row}
+use Rattle.pb_moves.specs.Attacks.{Attacks, Clear, IsAttacked, files_apart, ranks_apart}
 use Rattle.pb_moves.specs.Reach.{IsOrthogonal, KingInReach, Reaches, ReachesBy}
-use Rattle.pb_moves.specs.Moved.{Moved, IsMove, IsPromotion}
+use Rattle.pb_moves.specs.Moved.{Moved, IsMove, IsPromotion, moved_of}
 use Rattle.pb_moves.specs.Castling as table
 use Rattle.pb_moves.specs.Castling.{rook_goes}
 use Rattle.pb_moves.specs.Cases as lower
 use Rattle.pb_moves.specs.Legal as chess
-use Rattle.pb_moves.specs.Legal.{Legal, PseudoLegal}
-use Rattle.pb_moves.specs.Successor as successor
-use Rattle.pb_moves.specs.Successor.{after, rights_after}
-use Rattle.pb_moves.proofs.MovedPiece.{put, arriving, state, carried, board_of, ep_of, ep_of_kind}
+use Rattle.pb_moves.specs.Legal.{Legal, PseudoLegal, has_right, king_home}
+use Rattle.pb_moves.specs.Successor.{Differs, IsAfter, after, besides, changes, en_passant_after, middle, rights_after, rook_home}
+use Rattle.pb_moves.proofs.MovedPiece.{puts, carried, ep_of_kind}
 use Rattle.pb_moves.proofs.Castlings.{rows}
 use Rattle.pb_moves.proofs.SameAttacks.{attacks_to, attacks_from, clear_to, clear_from, no_near, attacked_to, attacked_from, check_to, check_from}
-use Rattle.pb_moves.proofs.Differing.{moved_board, carried_put, carried_past_put}
+use Rattle.pb_moves.proofs.Differing.{carried_put, carried_past_put, differs_one}
 use Rattle.pb_moves.proofs.Kings.{pawn_reach, gone_is_beyond}
 use Rattle.pb_moves.proofs.Kept.{setup_by_parts}
 use Rattle.pb_moves.proofs.LegalMoves.{case_is_move}
 use Rattle.pb_moves.proofs.Passing.{crossed}
-use Rattle.pb_moves.proofs.Successors.{board_is, ep_is, beside_piece, beside_straight, beside_taking, beside_passing, castled_board, castled_put, castle_is}
-use Rattle.pb_moves.proofs.Unique.{goes_of, en_passant_at, piece_is, pawn_files, king_near, step_ranks}
+use Rattle.pb_moves.proofs.Successors.{beside_castling, beside_piece, beside_straight, beside_taking, case_differs, castled_writes, ep_is, taken_is}
+use Rattle.pb_moves.proofs.Unique.{case_one, goes_of, piece_is, pawn_files, king_near, step_ranks}
 
 -- ---- the setup after a move
 
-abbrev puts : Board → List (ℕ × Place) → Board
-puts board changes = fold (λ b c. put b c.0 c.1) board changes
-
-taken_is : (new : Board) (test : Bool) (gone : ℕ) → puts new (if test then (gone, None) ∷ [] else []) ≡ (if test then put new gone None else new)
-taken_is new true gone = refl
-taken_is new false gone = refl
-
--- what changes besides changes as `beside` says
-besides_is : (board new : Board) (m : Moved) (k : Kind) (c : Option Castling) → castling_of m.from m.to ≡ c → puts new (successor.besides board m k c) ≡ state k board new m
-besides_is board new m Pawn c is = taken_is new (not (file m.to == file m.from) && is_none (at board m.to)) (8 * rank m.from + file m.to)
-besides_is board new m King (Some c) is = rw is refl
-besides_is board new m King None is = rw is refl
-besides_is board new m Knight c is = refl
-besides_is board new m Bishop c is = refl
-besides_is board new m Rook c is = refl
-besides_is board new m Queen c is = refl
-
-pub arriving_is : (p : Piece) (promo : Option Kind) → piece_of p.colour (unwrap_or promo p.kind) ≡ arriving p promo
-arriving_is p None = refl
-arriving_is p (Some k) = refl
-
-board_after : (board : Board) (m : Moved) (place : Place) → puts board (successor.changes board m place) ≡ board_of board m place
-board_after board m None = refl
-board_after board m (Some p) =
-    let F : Piece → Board = λ q. puts (moved_board board m.from m.to q) (successor.besides board m p.kind (castling_of m.from m.to)) in
-    ap F (arriving_is p m.promo) ∙ besides_is board (moved_board board m.from m.to (arriving p m.promo)) m p.kind (castling_of m.from m.to) refl
-
-crossed_kind : (k : Kind) (m : Moved) → (if kind_number k == 0 && ranks_apart m.from m.to == 2 then Some ((m.from + m.to) / 2) else None) ≡ ep_of_kind k m
+crossed_kind : (k : Kind) (m : Moved) → (if kind_number k == 0 && ranks_apart m.from m.to == 2 then Some (middle m) else None) ≡ ep_of_kind k m
 crossed_kind Pawn m = refl
 crossed_kind Knight m = refl
 crossed_kind Bishop m = refl
@@ -70,48 +45,169 @@ crossed_kind Rook m = refl
 crossed_kind Queen m = refl
 crossed_kind King m = refl
 
-crossed_is : (m : Moved) (place : Place) → successor.en_passant_after m place ≡ ep_of m place
-crossed_is m None = refl
-crossed_is m (Some p) = crossed_kind p.kind m
+-- the setup after the move of the piece that stands on `from`
+abbrev made : Position → Moved → Piece → Position
+made s m p = position_of (carried s.board m p) (opponent s.turn) (rights_after s.rights m) (en_passant_after m p)
 
--- the parts of the setup after a move
-pub after_parts : (s : Position) (m : Moved) → after s m ≡ position_of (after s m).board (opponent s.turn) (rights_after s.rights m) (successor.en_passant_after m (at s.board m.from))
+after_is_made : (s : Position) (m : Moved) (p : Piece) → Holds s.board m.from p → after s m ≡ made s m p
 unfolding after
-after_parts s m = refl
+after_is_made s m p stands = ap (λ (place : Place). option_map_or (λ q. made s m q) place s) stands
 
 carried_is : (s : Position) (m : Moved) (p : Piece) → Holds s.board m.from p → (after s m).board ≡ carried s.board m p
-unfolding after
-carried_is s m p stands = board_after s.board m (at s.board m.from) ∙ ap (board_of s.board m) stands
+carried_is s m p stands = ap (λ (t : Position). t.board) (after_is_made s m p stands)
 
--- ---- a case of `Cases` is one of `Legal`
+-- its parts
+pub after_parts : (s : Position) (m : Moved) (p : Piece) → Holds s.board m.from p
+    → after s m ≡ position_of (after s m).board (opponent s.turn) (rights_after s.rights m) (en_passant_after m p)
+after_parts s m p stands =
+    let B : Board → Position = λ b. position_of b (opponent s.turn) (rights_after s.rights m) (en_passant_after m p) in
+    after_is_made s m p stands ∙ ap B (sym (carried_is s m p stands))
 
-may_to : (row : CastlingRow) (s : Position) (m : Moved) → m.from ≡ row.king_from → m.to ≡ row.king_to → table.RowAllows row s → chess.MayCastle row s m
-may_to row s m from to h = record {
-  from_home = from;
-  to_table = to;
-  side = h.side;
-  right = h.flag;
-  rook = h.rook;
-  way = clear_to s.board row.king_from row.rook_from h.way;
-  unchecked = λ x. h.unchecked (attacked_from s.board (opponent row.colour) row.king_from x);
-  crosses = λ x. h.crosses (attacked_from s.board (opponent row.colour) row.rook_to x);
-}
+-- ---- castling by the table is the king's move of two files
+
+home_is : (c : Castling) → (castling_row c).king_from ≡ king_home (castling_row c).colour
+home_is WhiteShort = refl
+home_is WhiteLong = refl
+home_is BlackShort = refl
+home_is BlackLong = refl
+
+two_is : (c : Castling) (from to : ℕ) → from ≡ (castling_row c).king_from → to ≡ (castling_row c).king_to → (to ≡ from + 2) ⊎ (from ≡ to + 2)
+two_is WhiteShort from to e f = inl (omega (arith, e, f))
+two_is WhiteLong from to e f = inr (omega (arith, e, f))
+two_is BlackShort from to e f = inl (omega (arith, e, f))
+two_is BlackLong from to e f = inr (omega (arith, e, f))
+
+-- what castling asks of the right, the rook and the squares, by the row
+abbrev RowAsks : CastlingRow → Position → Type 0
+RowAsks row s = IsTrue (row.right s.rights) × Holds s.board row.rook_from (rook_of row.colour) × Clear s.board row.king_from row.rook_from
+    × (¬ IsAttacked s.board (opponent row.colour) row.king_from) × (¬ IsAttacked s.board (opponent row.colour) row.rook_to)
+
+-- and by the squares between which the king of a side goes
+abbrev Asks : Position → Colour → ℕ → ℕ → Type 0
+Asks s side from to = let m : Moved = moved_of from to None in
+    IsTrue (has_right s.rights side (nat_lt from to)) × Holds s.board (rook_home m) (rook_of side) × Clear s.board from (rook_home m)
+    × (¬ IsAttacked s.board (opponent side) from) × (¬ IsAttacked s.board (opponent side) (middle m))
+
+asks_to : (c : Castling) (s : Position) → RowAsks (castling_row c) s → Asks s (castling_row c).colour (castling_row c).king_from (castling_row c).king_to
+asks_to WhiteShort s h = h
+asks_to WhiteLong s h = h
+asks_to BlackShort s h = h
+asks_to BlackLong s h = h
+
+asks_from : (c : Castling) (s : Position) → Asks s (castling_row c).colour (castling_row c).king_from (castling_row c).king_to → RowAsks (castling_row c) s
+asks_from WhiteShort s h = h
+asks_from WhiteLong s h = h
+asks_from BlackShort s h = h
+asks_from BlackLong s h = h
+
+along : (P : Colour → ℕ → ℕ → Type 0) (c d : Colour) (a b x y : ℕ) → c ≡ d → a ≡ x → b ≡ y → P c a b → P d x y
+along P c d a b x y e f g h = subst (λ (z : Colour). P z x y) e (subst (λ (z : ℕ). P c z y) f (subst (λ (z : ℕ). P c a z) g h))
+
+row_asks : (row : CastlingRow) (s : Position) → table.RowAllows row s → RowAsks row s
+row_asks row s h = (
+  h.flag,
+  h.rook,
+  clear_to s.board row.king_from row.rook_from h.way,
+  (λ x. h.unchecked (attacked_from s.board (opponent row.colour) row.king_from x)),
+  λ x. h.crosses (attacked_from s.board (opponent row.colour) row.rook_to x),
+)
+
+castles_to : (c : Castling) (s : Position) (m : Moved) → m.from ≡ (castling_row c).king_from → m.to ≡ (castling_row c).king_to
+    → table.RowAllows (castling_row c) s → chess.Castles s m
+castles_to c s m from to h =
+    let row = castling_row c in
+    let asks = along (Asks s) row.colour s.turn row.king_from row.king_to m.from m.to (sym h.side) (sym from) (sym to) (asks_to c s (row_asks row s h)) in
+    record {
+      from_home = from ∙ home_is c ∙ ap king_home (sym h.side);
+      two_files = two_is c m.from m.to from to;
+      right = asks.0;
+      rook = asks.1;
+      way = asks.2;
+      unchecked = asks.3;
+      crosses = asks.4;
+    }
 
 straight_back : (a b : ℕ) → IsOrthogonal a b → IsOrthogonal b a
 straight_back a b (inl h) = inl (omega (arith, h.0), omega (arith, h.1))
 straight_back a b (inr h) = inr (omega (arith, h.0), omega (arith, h.1))
 
-may_from : (c : Castling) (s : Position) (m : Moved) → chess.MayCastle (castling_row c) s m → table.RowAllows (castling_row c) s
-may_from c s m h =
+-- the castling of a side, short or long
+pub record ByRow (s : Position) (m : Moved) : Type 0 where
+  pub castling : Castling
+  pub from_home : m.from ≡ (castling_row castling).king_from
+  pub to_table : m.to ≡ (castling_row castling).king_to
+  pub allowed : table.RowAllows (castling_row castling) s
+
+by_row : (c : Castling) (s : Position) (m : Moved) → s.turn ≡ (castling_row c).colour → m.from ≡ (castling_row c).king_from → m.to ≡ (castling_row c).king_to
+    → chess.Castles s m → ByRow s m
+by_row c s m side from to h =
     let row = castling_row c in
+    let asks = asks_from c s (along (Asks s) s.turn row.colour m.from m.to row.king_from row.king_to side from to (h.right, h.rook, h.way, h.unchecked, h.crosses)) in
     record {
-      side = h.side;
-      flag = h.right;
-      rook = h.rook;
-      way = clear_from s.board row.king_from row.rook_from (inr (straight_back row.rook_from row.king_from (rows c).orthogonal)) h.way;
-      unchecked = λ x. h.unchecked (attacked_to s.board (opponent row.colour) row.king_from x);
-      crosses = λ x. h.crosses (attacked_to s.board (opponent row.colour) row.rook_to x);
+      castling = c;
+      from_home = from;
+      to_table = to;
+      allowed = record {
+        side = side;
+        flag = asks.0;
+        rook = asks.1;
+        way = clear_from s.board row.king_from row.rook_from (inr (straight_back row.rook_from row.king_from (rows c).orthogonal)) asks.2;
+        unchecked = λ x. asks.3 (attacked_to s.board (opponent row.colour) row.king_from x);
+        crosses = λ x. asks.4 (attacked_to s.board (opponent row.colour) row.rook_to x);
+      };
     }
+
+castles_from : (s : Position) (m : Moved) (side : Colour) → s.turn ≡ side → chess.Castles s m → ByRow s m
+castles_from s m White e h =
+    let from : m.from ≡ 4 = h.from_home ∙ ap king_home e in
+    elim h.two_files [
+      | inl two ↦ by_row WhiteShort s m e from (omega (arith, from, two)) h
+      | inr two ↦ by_row WhiteLong s m e from (omega (arith, from, two)) h
+    ]
+castles_from s m Black e h =
+    let from : m.from ≡ 60 = h.from_home ∙ ap king_home e in
+    elim h.two_files [
+      | inl two ↦ by_row BlackShort s m e from (omega (arith, from, two)) h
+      | inr two ↦ by_row BlackLong s m e from (omega (arith, from, two)) h
+    ]
+
+-- ---- a case of `Cases` is one of `Legal`
+
+lands_quiet : (s : Position) (kind : Kind) (q : ℕ) → kind ≢ Pawn → IsEmpty s.board q → chess.MayLand s kind q
+lands_quiet s Pawn q other h = absurd (other refl)
+lands_quiet s Knight q other h = inr h
+lands_quiet s Bishop q other h = inr h
+lands_quiet s Rook q other h = inr h
+lands_quiet s Queen q other h = inr h
+lands_quiet s King q other h = inr h
+
+lands_taking : (s : Position) (kind : Kind) (q : ℕ) → chess.IsCapturable s q → chess.MayLand s kind q
+lands_taking s Pawn q h = inl h
+lands_taking s Knight q h = inl h
+lands_taking s Bishop q h = inl h
+lands_taking s Rook q h = inl h
+lands_taking s Queen q h = inl h
+lands_taking s King q h = inl h
+
+lands_passing : (s : Position) (kind : Kind) (q : ℕ) → kind ≡ Pawn → s.ep ≡ Some q → chess.MayLand s kind q
+lands_passing s Pawn q is h = inr h
+lands_passing s k q is h = absurd cc
+
+-- and what it says of the square: an enemy stands there, or a pawn passes, or another piece may rest
+lands_as : (s : Position) (kind : Kind) (q : ℕ) → chess.MayLand s kind q
+    → chess.IsCapturable s q ⊎ (((kind ≡ Pawn) × (s.ep ≡ Some q)) ⊎ ((kind ≢ Pawn) × IsEmpty s.board q))
+lands_as s Pawn q (inl h) = inl h
+lands_as s Pawn q (inr h) = inr (inl (refl, h))
+lands_as s Knight q (inl h) = inl h
+lands_as s Knight q (inr h) = inr (inr ((λ pawn. cc), h))
+lands_as s Bishop q (inl h) = inl h
+lands_as s Bishop q (inr h) = inr (inr ((λ pawn. cc), h))
+lands_as s Rook q (inl h) = inl h
+lands_as s Rook q (inr h) = inr (inr ((λ pawn. cc), h))
+lands_as s Queen q (inl h) = inl h
+lands_as s Queen q (inr h) = inr (inr ((λ pawn. cc), h))
+lands_as s King q (inl h) = inl h
+lands_as s King q (inr h) = inr (inr ((λ pawn. cc), h))
 
 first_rank : (side : Colour) (q : ℕ) → rank q ≡ lower.pawn_rank side → rank_for side q ≡ 1
 first_rank White q e = e
@@ -136,21 +232,20 @@ pawn_or_not k = inr (λ e. cc)
 own_reach : (p : Piece) (side : Colour) (board : Board) (a b : ℕ) → p.colour ≡ side → Reaches p board a b → Attacks side p.kind board a b
 own_reach p side board a b own h = let R : Colour → Type 0 = λ c. Attacks c p.kind board a b in subst R own (attacks_to p.colour p.kind board a b h)
 
-case_to : (s : Position) (m : Moved) (p : Piece) (new : Board) → p.colour ≡ s.turn → lower.CaseOf s m p new → chess.MayMove s m p.kind
+case_to : (s : Position) (m : Moved) (p : Piece) (new : Board) → p.colour ≡ s.turn → lower.CaseOf s m p new → chess.MayGo s m p.kind
 case_to s m p new own (lower.piece_move x) =
-    elim x.target [
-      | inl empty ↦ chess.quiet x.no_pawn (own_reach p s.turn s.board m.from m.to own x.reaches) empty
-      | inr capturable ↦ chess.captures (own_reach p s.turn s.board m.from m.to own x.reaches) (capturable.kind, capturable.no_king, capturable.stands)
-    ]
+    inl (own_reach p s.turn s.board m.from m.to own x.reaches, elim x.target [
+      | inl empty ↦ lands_quiet s p.kind m.to x.no_pawn empty
+      | inr capturable ↦ lands_taking s p.kind m.to (capturable.kind, capturable.no_king, capturable.stands)
+    ])
 case_to s m p new own (lower.pawn_step x) =
     let ranks : ranks_apart m.from m.to ≡ 1 = step_ranks s.turn 1 m.from m.to x.forward in
-    chess.pushes x.pawn (record { same_file = x.same_file; forward = inl x.forward; way = no_near s.board m.from m.to (inl (omega arith, omega arith)); empty = x.empty })
+    inr (inl (x.pawn, record { same_file = x.same_file; forward = inl x.forward; way = no_near s.board m.from m.to (inl (omega arith, omega arith)); empty = x.empty }))
 case_to s m p new own (lower.pawn_double x) =
-    chess.pushes x.pawn (record { same_file = x.same_file; forward = inr (first_rank s.turn m.from x.begins, x.forward); way = clear_to s.board m.from m.to x.way; empty = x.empty })
-case_to s m p new own (lower.pawn_capture x) =
-    chess.captures (own_reach p s.turn s.board m.from m.to own x.reaches) (x.target.kind, x.target.no_king, x.target.stands)
-case_to s m p new own (lower.en_passant x) = chess.en_passant x.pawn (own_reach p s.turn s.board m.from m.to own x.reaches) x.square
-case_to s m p new own (lower.castles c x) = chess.castles c x.king (may_to (castling_row c) s m x.from_home x.to_table x.allowed)
+    inr (inl (x.pawn, record { same_file = x.same_file; forward = inr (first_rank s.turn m.from x.begins, x.forward); way = clear_to s.board m.from m.to x.way; empty = x.empty }))
+case_to s m p new own (lower.pawn_capture x) = inl (own_reach p s.turn s.board m.from m.to own x.reaches, lands_taking s p.kind m.to (x.target.kind, x.target.no_king, x.target.stands))
+case_to s m p new own (lower.en_passant x) = inl (own_reach p s.turn s.board m.from m.to own x.reaches, lands_passing s p.kind m.to x.pawn x.square)
+case_to s m p new own (lower.castles c x) = inr (inr (x.king, castles_to c s m x.from_home x.to_table x.allowed))
 
 -- ---- promotions
 
@@ -194,34 +289,52 @@ module _ (s : Position) (m : Moved) (kind : Kind) (ok : IsSetup s) (is : IsMove 
   becomes : lower.Becomes s.turn m kind (unwrap_or m.promo kind)
   becomes = names_from s.turn m kind m.promo refl is.promotes names
 
-  goes_by : (besides : List (ℕ × Place)) (made : Board) → new_board ≡ made → lower.Differs s.board made ((m.from, None) ∷ (m.to, Some becoming) ∷ besides) → lower.Goes s m piece besides new_board
-  goes_by besides made e differs =
-      let D : Board → Type 0 = λ b. lower.Differs s.board b ((m.from, None) ∷ (m.to, Some becoming) ∷ besides) in
+  -- the two squares of the move, and those besides
+  abbrev named : List (ℕ × Place) → List (ℕ × Place)
+  named bs = (m.from, None) ∷ (m.to, Some becoming) ∷ bs
+
+  goes_by : (bs : List (ℕ × Place)) → besides s.board m kind ≡ bs → Differs s.board (puts s.board (named bs)) (named bs) → lower.Goes s m piece bs new_board
+  goes_by bs e differs =
+      let D : List (ℕ × Place) → Type 0 = λ xs. Differs s.board (puts s.board (named xs)) (named bs) in
       record { kind = unwrap_or m.promo kind; becomes = becomes; board = subst D (sym e) differs }
 
-  going : state kind s.board (moved_board s.board m.from m.to (arriving piece m.promo)) m ≡ moved_board s.board m.from m.to (arriving piece m.promo) → lower.Goes s m piece [] new_board
-  going e =
-      goes_by [] (moved_board s.board m.from m.to becoming) (e ∙ ap (λ (q : Piece). moved_board s.board m.from m.to q) (sym (arriving_is piece m.promo)))
-      (carried_put s.board m.from m.to becoming ok.places is.from_on_board is.to_on_board is.moves)
+  going : besides s.board m kind ≡ [] → lower.Goes s m piece [] new_board
+  going e = goes_by [] e (carried_put s.board m.from m.to becoming ok.places is.from_on_board is.to_on_board is.moves)
 
   piece_goes : kind ≢ Pawn → ReachesBy s.turn kind s.board m.from m.to → lower.Goes s m piece [] new_board
-  piece_goes no_pawn reaches = going (beside_piece kind s.board (moved_board s.board m.from m.to (arriving piece m.promo)) m no_pawn (king_near s.turn kind s.board m.from m.to reaches))
+  piece_goes no_pawn reaches = going (beside_piece kind s.board m no_pawn (king_near s.turn kind s.board m.from m.to reaches))
 
-  pawn_takes : kind ≡ Pawn → (capturable : chess.IsCapturable s.board s.turn m.to) → lower.Goes s m piece [] new_board
-  pawn_takes pawn capturable = going (beside_taking kind s.board (moved_board s.board m.from m.to (arriving piece m.promo)) m _ pawn capturable.2)
-
-  case_from : chess.MayMove s m kind → lower.CaseOf s m piece new_board
-  case_from (chess.quiet no_pawn reaches empty) =
-      let attacks = attacks_from s.turn kind s.board m.from m.to reaches in
-      lower.piece_move (record { no_pawn = no_pawn; reaches = attacks; target = inl empty; after = piece_goes no_pawn attacks })
-  case_from (chess.captures reaches capturable) =
-      let attacks = attacks_from s.turn kind s.board m.from m.to reaches in
+  takes : ReachesBy s.turn kind s.board m.from m.to → chess.IsCapturable s m.to → lower.CaseOf s m piece new_board
+  takes reaches enemy =
+      let target : lower.IsCapturable s.board s.turn m.to = record { kind = enemy.0; no_king = enemy.1; stands = enemy.2 } in
       elim (pawn_or_not kind) [
-        | inl pawn ↦ lower.pawn_capture (record { pawn = pawn; reaches = attacks; target = record { kind = capturable.0; no_king = capturable.1; stands = capturable.2 }; after = pawn_takes pawn capturable })
-        | inr other ↦ lower.piece_move (record { no_pawn = other; reaches = attacks; target = inr (record { kind = capturable.0; no_king = capturable.1; stands = capturable.2 }); after = piece_goes other attacks })
+        | inl pawn ↦ lower.pawn_capture (record { pawn = pawn; reaches = reaches; target = target; after = going (beside_taking kind s.board m _ pawn enemy.2) })
+        | inr other ↦ lower.piece_move (record { no_pawn = other; reaches = reaches; target = inr target; after = piece_goes other reaches })
       ]
-  case_from (chess.pushes pawn x) =
-      let after = going (beside_straight kind s.board (moved_board s.board m.from m.to (arriving piece m.promo)) m pawn x.same_file) in
+
+  passes : kind ≡ Pawn → ReachesBy s.turn kind s.board m.from m.to → s.ep ≡ Some m.to → lower.CaseOf s m piece new_board
+  passes pawn reaches square =
+      let gone = 8 * rank m.from + file m.to in
+      let files : files_apart m.from m.to ≡ 1 = pawn_files s.turn kind s.board m.from m.to reaches pawn in
+      let forward = pawn_reach s.turn kind s.board m.from m.to reaches pawn in
+      let ranks : ranks_apart m.from m.to ≡ 1 = step_ranks s.turn 1 m.from m.to forward in
+      let same : gone ≡ beyond s.turn m.to = gone_is_beyond s.turn m.from m.to gone forward (omega arith) (omega arith) in
+      let on_from = is.from_on_board in
+      let D : ℕ → Type 0 = λ g. Differs s.board (puts s.board (named ((g, None) ∷ []))) (named ((g, None) ∷ [])) in
+      lower.en_passant (record {
+        pawn = pawn;
+        reaches = reaches;
+        square = square;
+        after = goes_by ((beyond s.turn m.to, None) ∷ []) (taken_is s m kind ok pawn files forward square)
+            (subst D same (carried_past_put s.board m.from m.to gone becoming ok.places on_from is.to_on_board (omega arith) is.moves (λ e. omega arith) (λ e. omega arith)));
+      })
+
+  quiet : kind ≢ Pawn → ReachesBy s.turn kind s.board m.from m.to → IsEmpty s.board m.to → lower.CaseOf s m piece new_board
+  quiet no_pawn reaches empty = lower.piece_move (record { no_pawn = no_pawn; reaches = reaches; target = inl empty; after = piece_goes no_pawn reaches })
+
+  pushes : kind ≡ Pawn → chess.Pushes s m → lower.CaseOf s m piece new_board
+  pushes pawn x =
+      let after = going (beside_straight kind s.board m pawn x.same_file) in
       elim x.forward [
         | inl one ↦ lower.pawn_step (record { pawn = pawn; same_file = x.same_file; forward = one; empty = x.empty; after = after })
         | inr two ↦
@@ -236,43 +349,37 @@ module _ (s : Position) (m : Moved) (kind : Kind) (ok : IsSetup s) (is : IsMove 
               after = after;
             })
       ]
-  case_from (chess.en_passant pawn reaches square) =
-      let attacks = attacks_from s.turn kind s.board m.from m.to reaches in
-      let gone = 8 * rank m.from + file m.to in
-      let files : files_apart m.from m.to ≡ 1 = pawn_files s.turn kind s.board m.from m.to attacks pawn in
-      let forward = pawn_reach s.turn kind s.board m.from m.to attacks pawn in
-      let ranks : ranks_apart m.from m.to ≡ 1 = step_ranks s.turn 1 m.from m.to forward in
-      let same : 8 * rank m.from + file m.to ≡ beyond s.turn m.to = gone_is_beyond s.turn m.from m.to gone forward (omega arith) (omega arith) in
-      let on_from = is.from_on_board in
-      let B : Piece → Board = λ z. put (moved_board s.board m.from m.to z) gone None in
-      let D : ℕ → Type 0 = λ g. lower.Differs s.board (put (moved_board s.board m.from m.to becoming) gone None) ((m.from, None) ∷ (m.to, Some becoming) ∷ (g, None) ∷ []) in
-      lower.en_passant (record {
-        pawn = pawn;
-        reaches = attacks;
-        square = square;
-        after = goes_by ((beyond s.turn m.to, None) ∷ []) (put (moved_board s.board m.from m.to becoming) gone None)
-            (beside_passing kind s.board (moved_board s.board m.from m.to (arriving piece m.promo)) m pawn (λ e. omega arith) (en_passant_at s m.to ok square).1.0
-            ∙ ap B (sym (arriving_is piece m.promo)))
-            (subst D same (carried_past_put s.board m.from m.to gone becoming ok.places on_from is.to_on_board (omega arith) is.moves (λ e. omega arith) (λ e. omega arith)));
-      })
-  case_from (chess.castles c king x) =
-      let row = castling_row c in
-      let may = may_from c s m x in
+
+  castles : kind ≡ King → chess.Castles s m → lower.CaseOf s m piece new_board
+  castles king h =
+      let x = castles_from s m s.turn refl h in
+      let row = castling_row x.castling in
       let none = king_promo m s.turn kind m.promo refl king names in
-      let is_king : piece ≡ king_of row.colour = piece_is piece row.colour King x.side king in
-      let arrives : becoming ≡ king_of row.colour = ap (λ (o : Option Kind). piece_of s.turn (unwrap_or o kind)) none ∙ is_king in
-      let D : ℕ → ℕ → Piece → Type 0 = λ a b q. lower.Differs s.board (castled_board row s.board) ((a, None) ∷ (b, Some q) ∷ rook_goes row) in
-      let one = castled_put row s.board (rows c) ok.places may.rook in
+      let arrives : becoming ≡ king_of row.colour =
+          ap (λ (o : Option Kind). piece_of s.turn (unwrap_or o kind)) none ∙ piece_is piece row.colour King x.allowed.side king in
+      let D : ℕ → ℕ → Piece → Type 0 = λ a b q. let now : List (ℕ × Place) = (a, None) ∷ (b, Some q) ∷ rook_goes row in Differs s.board (puts s.board now) now in
+      let one = castled_writes row s.board (rows x.castling) ok.places in
       let two = subst (λ (a : ℕ). D a row.king_to (king_of row.colour)) (sym x.from_home) one in
       let three = subst (λ (b : ℕ). D m.from b (king_of row.colour)) (sym x.to_table) two in
       let four = subst (λ (q : Piece). D m.from m.to q) (sym arrives) three in
-      lower.castles c (record {
+      lower.castles x.castling (record {
         king = king;
         from_home = x.from_home;
         to_table = x.to_table;
-        allowed = may;
-        after = goes_by (rook_goes row) (castled_board row s.board) (castle_is c s.board m piece x.from_home x.to_table none is_king) four;
+        allowed = x.allowed;
+        after = goes_by (rook_goes row) (beside_castling x.castling s.board m kind king x.from_home x.to_table x.allowed.rook) four;
       })
+
+  case_from : chess.MayGo s m kind → lower.CaseOf s m piece new_board
+  case_from (inl (attacks, lands)) =
+      let reaches = attacks_from s.turn kind s.board m.from m.to attacks in
+      elim (lands_as s kind m.to lands) [
+        | inl enemy ↦ takes reaches enemy
+        | inr (inl (pawn, square)) ↦ passes pawn reaches square
+        | inr (inr (other, empty)) ↦ quiet other reaches empty
+      ]
+  case_from (inr (inl (pawn, x))) = pushes pawn x
+  case_from (inr (inr (king, x))) = castles king x
 
 -- ---- legal moves
 
@@ -284,32 +391,60 @@ case_moves s m new ok case =
       is_move = case_is_move s m new ok case;
       kind = case.piece.kind;
       stands = subst H (piece_is case.piece s.turn case.piece.kind case.own refl) case.stands;
-      by_case = case_to s m case.piece new case.own case.by_case;
+      goes = case_to s m case.piece new case.own case.by_case;
       promotes = names_to s.turn m case.piece.kind _ (goes_of s m case.piece new case.by_case).becomes;
     }
-
-pub board_after_case : (s : Position) (m : Moved) (new : Board) → IsSetup s → lower.Case s m new → (after s m).board ≡ new
-board_after_case s m new ok case =
-    carried_is s m case.piece case.stands ∙ board_is s m case.piece new ok (case_is_move s m new ok case) case.stands case.own case.by_case
 
 -- and back
 pub moves_case : (s : Position) (m : Moved) → IsSetup s → PseudoLegal s m → lower.Case s m (after s m).board
 moves_case s m ok h =
     let p = piece_of s.turn h.kind in
     let C : Board → Type 0 = λ b. lower.Case s m b in
-    subst C (sym (carried_is s m p h.stands)) (record { piece = p; stands = h.stands; own = refl; by_case = case_from s m h.kind ok h.is_move h.promotes h.by_case })
+    subst C (sym (carried_is s m p h.stands)) (record { piece = p; stands = h.stands; own = refl; by_case = case_from s m h.kind ok h.is_move h.promotes h.goes })
+
+pub board_after_case : (s : Position) (m : Moved) (new : Board) → IsSetup s → lower.Case s m new → (after s m).board ≡ new
+board_after_case s m new ok case = case_one s m (after s m).board new ok (moves_case s m ok (case_moves s m new ok case)) case
 
 -- the en passant square after a move is the one that its case crosses
-pub crosses : (s : Position) (m : Moved) (p : Piece) (new : Board) → Holds s.board m.from p → (x : lower.CaseOf s m p new) → successor.en_passant_after m (at s.board m.from) ≡ crossed s m p new x
-crosses s m p new stands x = crossed_is m (at s.board m.from) ∙ ap (ep_of m) stands ∙ ep_is s m p new x
+pub crosses : (s : Position) (m : Moved) (p : Piece) (new : Board) (x : lower.CaseOf s m p new) → en_passant_after m p ≡ crossed s m p new x
+crosses s m p new x = crossed_kind p.kind m ∙ ep_is s m p new x
 
 -- the setup after it meets the rules for setups
 pub after_is_setup : (s : Position) (m : Moved) → IsSetup s → PseudoLegal s m → IsSetup (after s m)
 after_is_setup s m ok h =
     let P : Position → Type 0 = λ t. IsSetup t in
     let case = moves_case s m ok h in
-    subst P (sym (after_parts s m)) (setup_by_parts s m case.piece (after s m).board (rights_after s.rights m) (successor.en_passant_after m (at s.board m.from)) ok
-    case.stands case.own case.by_case (crosses s m case.piece (after s m).board case.stands case.by_case))
+    subst P (sym (after_parts s m case.piece case.stands)) (setup_by_parts s m case.piece (after s m).board (rights_after s.rights m) (en_passant_after m case.piece) ok
+    case.stands case.own case.by_case (crosses s m case.piece (after s m).board case.by_case))
+
+-- a setup is the one after a legal move exactly where it is so square by square
+pub after_is : (s t : Position) (m : Moved) → IsSetup s → PseudoLegal s m → IsAfter s m t ↔ (t ≡ after s m)
+after_is s t m ok h =
+    let case = moves_case s m ok h in
+    let p = case.piece in
+    let differs = case_differs s m p (after s m).board ok case.own case.by_case in
+    let parts = after_parts s m p case.stands in (
+      λ x.
+          let same : x.piece ≡ p = cc (x.stands, case.stands) in
+          let D : Piece → Type 0 = λ q. Differs s.board t.board (changes s.board m q) in
+          let board : t.board ≡ (after s m).board = differs_one s.board t.board (after s m).board (changes s.board m p) (subst D same x.board) differs in
+          let ep : t.ep ≡ en_passant_after m p = x.ep ∙ ap (en_passant_after m) same in
+          ap (λ (b : Board). position_of b t.turn t.rights t.ep) board
+          ∙ ap (λ (c : Colour). position_of (after s m).board c t.rights t.ep) x.turn
+          ∙ ap (λ (r : Rights). position_of (after s m).board (opponent s.turn) r t.ep) x.rights
+          ∙ ap (λ (o : Option ℕ). position_of (after s m).board (opponent s.turn) (rights_after s.rights m) o) ep
+          ∙ sym parts,
+      λ same.
+          let A : Position → Type 0 = λ u. IsAfter s m u in
+          subst A (sym same) (record {
+            piece = p;
+            stands = case.stands;
+            board = differs;
+            turn = ap (λ (u : Position). u.turn) parts;
+            rights = ap (λ (u : Position). u.rights) parts;
+            ep = ap (λ (u : Position). u.ep) parts;
+          }),
+    )
 
 -- the legal moves are those of the cases that leave the mover out of check
 pub legal_to : (s : Position) (m : Moved) → IsSetup s → lower.SafeCase s m → Legal s m

@@ -12,7 +12,7 @@ use Rattle.pb_moves.specs.Reach.{WayIsClear, ReachesBy, IsReached, IsKnightsMove
 use mir.Val.{bits}
 use Rattle.std.proofs.lemmas.Nat.{and_le_l, or_lt}
 use Rattle.std.proofs.lemmas.Nat.Bits.{bit_at_set_same, bit_at_set_other}
-use Rattle.pb_moves.specs.Cases.{Differs}
+use Rattle.pb_moves.specs.Successor.{Differs}
 use Rattle.pb_moves.proofs.Rising.{without, without_other, without_same}
 use Rattle.pb_moves.proofs.Differing.{All-two, each_place}
 use Rattle.pb_moves.proofs.Unique.{piece_is}

@@ -1,6 +1,5 @@
--- The board and the en passant square after a case are those that the functions of `MovedPiece`
--- give.
-use Rattle.std.proofs.Common.{◌≡◌, ◌≢◌, ℕ, ◌+◌, ◌*◌, ◌/◌, ◌≤◌, refl, arith, inl, inr, sym, ap, subst, ◌∙◌, Option, Some, None, [], ◌∷◌, length, Bool, true, false, not, ◌&&◌, ◌||◌, eqb}
+-- What changes by a case on the board, and the rights and the en passant square after it.
+use Rattle.std.proofs.Common.{◌≡◌, ◌≢◌, ℕ, ◌+◌, ◌*◌, ◌/◌, ◌≤◌, refl, arith, inl, inr, sym, ap, subst, ◌∙◌, Option, Some, None, [], ◌∷◌, List, length, Bool, true, false, not, ◌&&◌, ◌||◌, eqb}
 use Rattle.std.proofs.lemmas.List.Elements.{All-nil, All-cons}
 use Rattle.std.proofs.lemmas.Bool.{eq-eqb}
 use Rattle.std.proofs.lemmas.Bool.Decides.{eqb_tells}
@@ -9,7 +8,7 @@ use Rattle.pb_board.specs.declared.piece.Kind.{Kind}
 use Rattle.pb_board.specs.declared.piece.Kind.TheVariants.{Pawn, Knight, Bishop, Rook, Queen, King}
 use Rattle.pb_board.specs.declared.piece.Piece.{Piece}
 use Rattle.pb_board.specs.declared.setup.Rights.{Rights}
-use Rattle.pb_board.specs.Piece.{king_of, rook_of}
+use Rattle.pb_board.specs.Piece.{king_of, piece_of, rook_of}
 use Rattle.pb_board.specs.Board.{Board, Place, file, rank, at, Holds, IsForward}
 use Rattle.pb_board.specs.Position.{Position, IsSetup, beyond}
 use Rattle.pb_board.specs.declared.castling.Castling.{Castling}
@@ -18,21 +17,19 @@ use Rattle.pb_moves.specs.Attacks.{files_apart, ranks_apart}
 use Rattle.pb_moves.specs.Moved.{Moved, moved_of, IsMove}
 use Rattle.pb_board.specs.Castling.{CastlingRow, castling_row, IsHome}
 use Rattle.pb_moves.specs.Castling.{rook_goes}
-use Rattle.pb_moves.specs.Cases.{Differs, Becomes, Goes, Castles, CaseOf, piece_move, pawn_step, pawn_double, pawn_capture, en_passant, castles}
-use Rattle.pb_moves.specs.Successor.{keeps_right, rights_after}
-use Rattle.pb_moves.proofs.MovedPiece.{put, with_rook, arriving, state, carried, ep_of_kind}
-use Rattle.pb_moves.proofs.Castlings.{IsRow, near_is_none, rows}
+use Rattle.pb_moves.specs.Cases.{Becomes, Goes, Castles, CaseOf, piece_move, pawn_step, pawn_double, pawn_capture, en_passant, castles}
+use Rattle.pb_moves.specs.Successor.{Differs}
+use Rattle.pb_moves.specs.Successor.{besides, changes, rights_after, touches}
+use Rattle.pb_moves.proofs.MovedPiece.{put, puts, arriving, ep_of_kind}
+use Rattle.pb_moves.proofs.Castlings.{IsRow}
 use Rattle.pb_moves.proofs.Differing.{All-two, carried_past_put, carried_put, differs_one, differs_put, moved_board, off_two}
-use Rattle.pb_moves.proofs.Unique.{piece_is, king_near, pawn_files, step_ranks, en_passant_at}
+use Rattle.pb_moves.proofs.Unique.{besides_of, goes_of, piece_is, king_near, pawn_files, step_ranks, en_passant_at}
 use Rattle.pb_moves.proofs.Kings.{becomes_king, castling_king, gone_is_beyond, pawn_reach}
 use Rattle.pb_moves.proofs.Passing.{crossed}
 
--- the board on which a king was carried, and then a rook
-abbrev pub castled_board : CastlingRow → Board → Board
-castled_board row old = put (put (moved_board old row.king_from row.king_to (king_of row.colour)) row.rook_from None) row.rook_to (at old row.rook_from)
-
+-- a board on which a king and a rook were moved
 pub castled_writes : (row : CastlingRow) (old : Board) → IsRow row → length old ≡ 64
-    → Differs old (put (put (moved_board old row.king_from row.king_to (king_of row.colour)) row.rook_from None) row.rook_to (Some (rook_of row.colour)))
+    → Differs old (puts old ((row.king_from, None) ∷ (row.king_to, Some (king_of row.colour)) ∷ rook_goes row))
     ((row.king_from, None) ∷ (row.king_to, Some (king_of row.colour)) ∷ rook_goes row)
 castled_writes row old is full =
     let king : Piece = king_of row.colour in
@@ -47,43 +44,60 @@ castled_writes row old is full =
     let off = All-two O a b (c ∷ []) (λ e. is.from_rook_to (sym e)) (λ e. is.to_rook_to (sym e)) (All-cons O c [] (λ e. is.rook_moves (sym e)) (All-nil O)) in
     differs_put old (put moved row.rook_from None) (a ∷ b ∷ c ∷ []) row.rook_to (Some rook) y is.rook_to off
 
-pub castled_put : (row : CastlingRow) (old : Board) → IsRow row → length old ≡ 64 → Holds old row.rook_from (rook_of row.colour)
-    → Differs old (castled_board row old) ((row.king_from, None) ∷ (row.king_to, Some (king_of row.colour)) ∷ rook_goes row)
-castled_put row old is full rook =
-    let moved = moved_board old row.king_from row.king_to (king_of row.colour) in
-    let P : Place → Type 0 = λ place.
-    Differs old (put (put moved row.rook_from None) row.rook_to place) ((row.king_from, None) ∷ (row.king_to, Some (king_of row.colour)) ∷ rook_goes row) in
-    subst P (sym rook) (castled_writes row old is full)
+-- ---- what changes besides the piece's own two squares
 
--- besides the piece's own two squares nothing changes
-pub beside_piece : (k : Kind) (old new : Board) (m : Moved) → k ≢ Pawn → (k ≡ King → files_apart m.from m.to ≤ 1) → state k old new m ≡ new
-beside_piece Pawn old new m no_pawn near = absurd (no_pawn refl)
-beside_piece Knight old new m no_pawn near = refl
-beside_piece Bishop old new m no_pawn near = refl
-beside_piece Rook old new m no_pawn near = refl
-beside_piece Queen old new m no_pawn near = refl
-beside_piece King old new m no_pawn near = ap (with_rook old new) (near_is_none m.from m.to (near refl))
+pub test_fails : (a b : ℕ) → a ≢ b → eqb a b ≡ false
+test_fails a b ne = elim (eqb_tells a b) [ inl e ↦ absurd (ne e.1) | inr e ↦ e.0 ]
 
-pub beside_straight : (k : Kind) (old new : Board) (m : Moved) → k ≡ Pawn → file m.to ≡ file m.from → state k old new m ≡ new
-beside_straight Pawn old new m pawn same = let e = eq-eqb (file m.to) (file m.from) same in rw e refl
-beside_straight k old new m pawn same = absurd (cc)
+pub beside_piece : (k : Kind) (board : Board) (m : Moved) → k ≢ Pawn → (k ≡ King → files_apart m.from m.to ≤ 1) → besides board m k ≡ []
+beside_piece Pawn board m no_pawn near = absurd (no_pawn refl)
+beside_piece Knight board m no_pawn near = refl
+beside_piece Bishop board m no_pawn near = refl
+beside_piece Rook board m no_pawn near = refl
+beside_piece Queen board m no_pawn near = refl
+beside_piece King board m no_pawn near =
+    let few = near refl in
+    let e = test_fails (files_apart m.from m.to) 2 (λ two. omega arith) in
+    rw e refl
 
-pub beside_taking : (k : Kind) (old new : Board) (m : Moved) (p : Piece) → k ≡ Pawn → Holds old m.to p → state k old new m ≡ new
-beside_taking Pawn old new m p pawn taken =
+pub beside_straight : (k : Kind) (board : Board) (m : Moved) → k ≡ Pawn → file m.to ≡ file m.from → besides board m k ≡ []
+beside_straight Pawn board m pawn same = let e = eq-eqb (file m.to) (file m.from) same in rw e refl
+beside_straight k board m pawn same = absurd (cc)
+
+pub beside_taking : (k : Kind) (board : Board) (m : Moved) (p : Piece) → k ≡ Pawn → Holds board m.to p → besides board m k ≡ []
+beside_taking Pawn board m p pawn taken =
     elim (eqb_tells (file m.to) (file m.from)) [
       | inl same ↦ rw same.0 refl
       | inr other ↦ rw (other.0, taken) refl
     ]
-beside_taking k old new m p pawn taken = absurd (cc)
+beside_taking k board m p pawn taken = absurd (cc)
 
-pub beside_passing : (k : Kind) (old new : Board) (m : Moved) → k ≡ Pawn → file m.to ≢ file m.from → at old m.to ≡ None
-    → state k old new m ≡ put new (8 * rank m.from + file m.to) None
-beside_passing Pawn old new m pawn other unpinned =
+pub beside_passing : (k : Kind) (board : Board) (m : Moved) → k ≡ Pawn → file m.to ≢ file m.from → at board m.to ≡ None
+    → besides board m k ≡ (8 * rank m.from + file m.to, None) ∷ []
+beside_passing Pawn board m pawn other unpinned =
     elim (eqb_tells (file m.to) (file m.from)) [
       | inl same ↦ absurd (other same.1)
       | inr e ↦ rw (e.0, unpinned) refl
     ]
-beside_passing k old new m pawn other unpinned = absurd (cc)
+beside_passing k board m pawn other unpinned = absurd (cc)
+
+rook_at : (c : Castling) (board : Board) → besides board (moved_of (castling_row c).king_from (castling_row c).king_to None) King
+    ≡ ((castling_row c).rook_from, None) ∷ ((castling_row c).rook_to, at board (castling_row c).rook_from) ∷ []
+rook_at WhiteShort board = refl
+rook_at WhiteLong board = refl
+rook_at BlackShort board = refl
+rook_at BlackLong board = refl
+
+-- by the table
+pub beside_castling : (c : Castling) (board : Board) (m : Moved) (k : Kind) → k ≡ King → m.from ≡ (castling_row c).king_from → m.to ≡ (castling_row c).king_to
+    → Holds board (castling_row c).rook_from (rook_of (castling_row c).colour) → besides board m k ≡ rook_goes (castling_row c)
+beside_castling c board m k king from to rook =
+    let row = castling_row c in
+    ap (besides board m) king
+    ∙ ap (λ (a : ℕ). besides board (moved_of a m.to None) King) from
+    ∙ ap (λ (b : ℕ). besides board (moved_of row.king_from b None) King) to
+    ∙ rook_at c board
+    ∙ ap (λ (place : Place). let goes : List (ℕ × Place) = (row.rook_from, None) ∷ (row.rook_to, place) ∷ [] in goes) rook
 
 -- what arrives is what the piece becomes
 pub arriving_becomes : (side : Colour) (m : Moved) (k : Kind) (p : Piece) → p.colour ≡ side → Becomes side m p.kind k
@@ -92,87 +106,47 @@ arriving_becomes side m k p own (inl x) =
     ap (arriving p) x.2 ∙ ap (λ (c : Colour). let q : Piece = record { colour = c; kind = k } in q) own
 arriving_becomes side m k p own (inr x) = ap (arriving p) x.1 ∙ piece_is p side k own (sym x.2)
 
-pub castle_at : (c : Castling) (old : Board) → carried old (moved_of (castling_row c).king_from (castling_row c).king_to None) (king_of (castling_row c).colour) ≡ castled_board (castling_row c) old
-castle_at WhiteShort old = refl
-castle_at WhiteLong old = refl
-castle_at BlackShort old = refl
-castle_at BlackLong old = refl
-
--- the function castles as the table says
-pub castle_is : (c : Castling) (old : Board) (m : Moved) (p : Piece) → m.from ≡ (castling_row c).king_from → m.to ≡ (castling_row c).king_to → m.promo ≡ None
-    → p ≡ king_of (castling_row c).colour → carried old m p ≡ castled_board (castling_row c) old
-castle_is c old m p from to promo king =
-    let row = castling_row c in
-    let F : ℕ → Board = λ a. carried old (moved_of a m.to m.promo) p in
-    let G : ℕ → Board = λ b. carried old (moved_of row.king_from b m.promo) p in
-    let H : Option Kind → Board = λ o. carried old (moved_of row.king_from row.king_to o) p in
-    let I : Piece → Board = λ q. carried old (moved_of row.king_from row.king_to None) q in
-    ap F from ∙ (ap G to ∙ (ap H promo ∙ (ap I king ∙ castle_at c old)))
-
--- the board on which the piece has gone, where nothing changes besides
-pub going_is : (s : Position) (m : Moved) (p : Piece) (new : Board) → IsSetup s → IsMove m → p.colour ≡ s.turn → Goes s m p [] new
-    → moved_board s.board m.from m.to (arriving p m.promo) ≡ new
-going_is s m p new ok is own x =
-    let q : Piece = record { colour = s.turn; kind = x.kind } in
-    let B : Piece → Board = λ z. moved_board s.board m.from m.to z in
-    ap B (arriving_becomes s.turn m x.kind p own x.becomes)
-    ∙ differs_one s.board _ new ((m.from, None) ∷ (m.to, Some q) ∷ []) (carried_put s.board m.from m.to q ok.places is.from_on_board is.to_on_board is.moves) x.board
-
 pub king_no_pawn : (k : Kind) → k ≡ King → k ≢ Pawn
 king_no_pawn k king pawn = cc
 
-pub no_promotion : (side : Colour) (m : Moved) (before k : Kind) → before ≢ Pawn → Becomes side m before k → m.promo ≡ None
-no_promotion side m before k other (inl x) = absurd (other x.0)
-no_promotion side m before k other (inr x) = x.1
-
--- a king that castles is the row's king
-pub castles_differs : (row : CastlingRow) (s : Position) (m : Moved) (p : Piece) (new : Board) → Castles row s m p new
-    → Differs s.board new ((row.king_from, None) ∷ (row.king_to, Some (king_of row.colour)) ∷ rook_goes row)
-castles_differs row s m p new x =
-    let q : Piece = record { colour = s.turn; kind = x.after.kind } in
-    let K : Piece → Type 0 = λ z. Differs s.board new ((m.from, None) ∷ (m.to, Some z) ∷ rook_goes row) in
-    let F : ℕ → Type 0 = λ z. Differs s.board new ((z, None) ∷ (m.to, Some (king_of row.colour)) ∷ rook_goes row) in
-    let T : ℕ → Type 0 = λ z. Differs s.board new ((row.king_from, None) ∷ (z, Some (king_of row.colour)) ∷ rook_goes row) in
-    subst T x.to_table (subst F x.from_home
-    (subst K (piece_is q row.colour King x.allowed.side (becomes_king s.turn m p.kind x.after.kind x.king x.after.becomes)) x.after.board))
-
-pub castles_promo : (row : CastlingRow) (s : Position) (m : Moved) (p : Piece) (new : Board) → Castles row s m p new → m.promo ≡ None
-castles_promo row s m p new x = no_promotion s.turn m p.kind x.after.kind (king_no_pawn p.kind x.king) x.after.becomes
-
--- the board after a case is the one that the function gives
-pub board_is : (s : Position) (m : Moved) (p : Piece) (new : Board) → IsSetup s → IsMove m → Holds s.board m.from p → p.colour ≡ s.turn
-    → CaseOf s m p new → carried s.board m p ≡ new
-board_is s m p new ok is stands own (piece_move x) =
-    beside_piece p.kind s.board (moved_board s.board m.from m.to (arriving p m.promo)) m x.no_pawn (king_near p.colour p.kind s.board m.from m.to x.reaches)
-    ∙ going_is s m p new ok is own x.after
-board_is s m p new ok is stands own (pawn_step x) =
-    beside_straight p.kind s.board (moved_board s.board m.from m.to (arriving p m.promo)) m x.pawn x.same_file ∙ going_is s m p new ok is own x.after
-board_is s m p new ok is stands own (pawn_double x) =
-    beside_straight p.kind s.board (moved_board s.board m.from m.to (arriving p m.promo)) m x.pawn x.same_file ∙ going_is s m p new ok is own x.after
-board_is s m p new ok is stands own (pawn_capture x) =
-    beside_taking p.kind s.board (moved_board s.board m.from m.to (arriving p m.promo)) m _ x.pawn x.target.stands ∙ going_is s m p new ok is own x.after
-board_is s m p new ok is stands own (en_passant x) =
-    let q : Piece = record { colour = s.turn; kind = x.after.kind } in
+-- en passant, the pawn beyond the square goes
+pub taken_is : (s : Position) (m : Moved) (k : Kind) → IsSetup s → k ≡ Pawn → files_apart m.from m.to ≡ 1 → IsForward s.turn 1 m.from m.to → s.ep ≡ Some m.to
+    → besides s.board m k ≡ (beyond s.turn m.to, None) ∷ []
+taken_is s m k ok pawn files forward square =
     let gone = 8 * rank m.from + file m.to in
-    let files : files_apart m.from m.to ≡ 1 = pawn_files p.colour p.kind s.board m.from m.to x.reaches x.pawn in
-    let P : Colour → Type 0 = λ z. IsForward z 1 m.from m.to in
-    let forward = subst P own (pawn_reach p.colour p.kind s.board m.from m.to x.reaches x.pawn) in
     let ranks : ranks_apart m.from m.to ≡ 1 = step_ranks s.turn 1 m.from m.to forward in
-    let same : 8 * rank m.from + file m.to ≡ beyond s.turn m.to = gone_is_beyond s.turn m.from m.to gone forward (omega arith) (omega arith) in
-    let on_from = is.from_on_board in
-    let D : ℕ → Type 0 = λ g. Differs s.board new ((m.from, None) ∷ (m.to, Some q) ∷ (g, None) ∷ []) in
-    let B : Piece → Board = λ z. put (moved_board s.board m.from m.to z) gone None in
-    beside_passing p.kind s.board (moved_board s.board m.from m.to (arriving p m.promo)) m x.pawn (λ e. omega arith) (en_passant_at s m.to ok x.square).1.0
-    ∙ ap B (arriving_becomes s.turn m x.after.kind p own x.after.becomes)
-    ∙ differs_one s.board _ new ((m.from, None) ∷ (m.to, Some q) ∷ (gone, None) ∷ [])
-    (carried_past_put s.board m.from m.to gone q ok.places on_from is.to_on_board (omega arith) is.moves (λ e. omega arith) (λ e. omega arith))
-    (subst D (sym same) x.after.board)
-board_is s m p new ok is stands own (castles c x) =
-    let row = castling_row c in
-    let king = castling_king s m p row stands own x.king x.from_home x.allowed in
-    castle_is c s.board m p x.from_home x.to_table (castles_promo row s m p new x) king.0
-    ∙ differs_one s.board _ new ((row.king_from, None) ∷ (row.king_to, Some (king_of row.colour)) ∷ rook_goes row)
-    (castled_put row s.board (rows c) ok.places x.allowed.rook) (castles_differs row s m p new x)
+    let same : gone ≡ beyond s.turn m.to = gone_is_beyond s.turn m.from m.to gone forward (omega arith) (omega arith) in
+    beside_passing k s.board m pawn (λ e. omega arith) (en_passant_at s m.to ok square).1.0
+    ∙ ap (λ (g : ℕ). let goes : List (ℕ × Place) = (g, None) ∷ [] in goes) same
+
+-- what a case changes besides
+pub besides_are : (s : Position) (m : Moved) (p : Piece) (new : Board) → IsSetup s → p.colour ≡ s.turn → (x : CaseOf s m p new)
+    → besides s.board m p.kind ≡ besides_of s m p new x
+besides_are s m p new ok own (piece_move x) = beside_piece p.kind s.board m x.no_pawn (king_near p.colour p.kind s.board m.from m.to x.reaches)
+besides_are s m p new ok own (pawn_step x) = beside_straight p.kind s.board m x.pawn x.same_file
+besides_are s m p new ok own (pawn_double x) = beside_straight p.kind s.board m x.pawn x.same_file
+besides_are s m p new ok own (pawn_capture x) = beside_taking p.kind s.board m _ x.pawn x.target.stands
+besides_are s m p new ok own (en_passant x) =
+    let P : Colour → Type 0 = λ z. IsForward z 1 m.from m.to in
+    let reach = pawn_reach p.colour p.kind s.board m.from m.to x.reaches x.pawn in
+    taken_is s m p.kind ok x.pawn (pawn_files p.colour p.kind s.board m.from m.to x.reaches x.pawn) (subst P own reach) x.square
+besides_are s m p new ok own (castles c x) = beside_castling c s.board m p.kind x.king x.from_home x.to_table x.allowed.rook
+
+-- all that a case changes
+pub changes_are : (s : Position) (m : Moved) (p : Piece) (new : Board) → IsSetup s → p.colour ≡ s.turn → (x : CaseOf s m p new)
+    → changes s.board m p ≡ (m.from, None) ∷ (m.to, Some (piece_of s.turn (goes_of s m p new x).kind)) ∷ besides_of s m p new x
+changes_are s m p new ok own x =
+    let goes = goes_of s m p new x in
+    let L : Piece → List (ℕ × Place) → List (ℕ × Place) = λ q bs. (m.from, None) ∷ (m.to, Some q) ∷ bs in
+    ap (λ (q : Piece). L q (besides s.board m p.kind)) (arriving_becomes s.turn m goes.kind p own goes.becomes)
+    ∙ ap (L (piece_of s.turn goes.kind)) (besides_are s m p new ok own x)
+
+-- so the board of the case differs by these changes, square by square
+pub case_differs : (s : Position) (m : Moved) (p : Piece) (new : Board) → IsSetup s → p.colour ≡ s.turn → CaseOf s m p new
+    → Differs s.board new (changes s.board m p)
+case_differs s m p new ok own x =
+    let D : List (ℕ × Place) → Type 0 = λ now. Differs s.board new now in
+    subst D (sym (changes_are s m p new ok own x)) (goes_of s m p new x).board
 
 -- the square stepped over is the one that the function gives
 pub ep_other : (k : Kind) (m : Moved) → k ≢ Pawn → ep_of_kind k m ≡ None
@@ -203,24 +177,27 @@ ep_is s m p new (pawn_capture x) = ep_single p.kind m x.pawn (step_ranks p.colou
 ep_is s m p new (en_passant x) = ep_single p.kind m x.pawn (step_ranks p.colour 1 m.from m.to (pawn_reach p.colour p.kind s.board m.from m.to x.reaches x.pawn))
 ep_is s m p new (castles c x) = ep_other p.kind m (king_no_pawn p.kind x.king)
 
-pub test_fails : (a b : ℕ) → a ≢ b → eqb a b ≡ false
-test_fails a b ne = elim (eqb_tells a b) [ inl e ↦ absurd (ne e.1) | inr e ↦ e.0 ]
-
 -- where no home is touched each right is kept as it is
 all_but : (flag : Bool) → (flag && not (false || false || (false || false))) ≡ flag
 all_but true = refl
 all_but false = refl
 
-right_elsewhere : (r : Rights) (m : Moved) (c : Castling) → ¬ IsHome m.from → ¬ IsHome m.to → keeps_right r m c ≡ (castling_row c).right r
-right_elsewhere r m c f t =
+right_elsewhere : (flag : Bool) (m : Moved) (c : Castling) → ¬ IsHome m.from → ¬ IsHome m.to
+    → (flag && not (touches m (castling_row c).king_from (castling_row c).rook_from)) ≡ flag
+right_elsewhere flag m c f t =
     let row = castling_row c in
     rw (
       test_fails m.from row.king_from (λ e. f (c, inl e)),
       test_fails m.to row.king_from (λ e. t (c, inl e)),
       test_fails m.from row.rook_from (λ e. f (c, inr e)),
       test_fails m.to row.rook_from (λ e. t (c, inr e)),
-    ) (all_but (row.right r))
+    ) (all_but flag)
 
 pub rights_elsewhere : (r : Rights) (m : Moved) → ¬ IsHome m.from → ¬ IsHome m.to → rights_after r m ≡ r
 rights_elsewhere r m f t =
-    rw (right_elsewhere r m WhiteShort f t, right_elsewhere r m WhiteLong f t, right_elsewhere r m BlackShort f t, right_elsewhere r m BlackLong f t) refl
+    rw (
+      right_elsewhere r.white_short m WhiteShort f t,
+      right_elsewhere r.white_long m WhiteLong f t,
+      right_elsewhere r.black_short m BlackShort f t,
+      right_elsewhere r.black_long m BlackLong f t,
+    ) refl

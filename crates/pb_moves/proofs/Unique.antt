@@ -15,7 +15,8 @@ use Rattle.pb_board.specs.declared.castling.Castling.{Castling}
 use Rattle.pb_moves.specs.Moved.{Moved}
 use Rattle.pb_board.specs.Castling.{castling_row}
 use Rattle.pb_moves.specs.Castling.{rook_goes}
-use Rattle.pb_moves.specs.Cases.{Differs, Becomes, Goes, CaseOf, piece_move, pawn_step, pawn_double, pawn_capture, en_passant, castles, Case}
+use Rattle.pb_moves.specs.Cases.{Becomes, Goes, CaseOf, piece_move, pawn_step, pawn_double, pawn_capture, en_passant, castles, Case}
+use Rattle.pb_moves.specs.Successor.{Differs}
 use Rattle.pb_moves.proofs.Castlings.{castling_one, class_of_castling}
 use Rattle.pb_moves.proofs.Differing.{differs_one}
 

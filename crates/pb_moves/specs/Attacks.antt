@@ -17,20 +17,18 @@ ranks_apart a b = abs_diff (rank a) (rank b)
 -- by so many files and ranks a piece of this kind attacks
 abbrev pub Pattern : Kind → ℕ → ℕ → Type 0
 Pattern Pawn files ranks = (files ≡ 1) × (ranks ≡ 1)
-Pattern Knight files ranks = ((files ≡ 1) × (ranks ≡ 2)) ⊎ ((files ≡ 2) × (ranks ≡ 1))
+Pattern Knight files ranks = files * ranks ≡ 2
 Pattern Bishop files ranks = (files ≡ ranks) × (0 < files)
-Pattern Rook files ranks = ((files ≡ 0) × (0 < ranks)) ⊎ ((0 < files) × (ranks ≡ 0))
-Pattern Queen files ranks =
-    ((files ≡ ranks) × (0 < files)) ⊎ (((files ≡ 0) × (0 < ranks)) ⊎ ((0 < files) × (ranks ≡ 0)))
+Pattern Rook files ranks = (files * ranks ≡ 0) × (0 < files + ranks)
+Pattern Queen files ranks = ((files ≡ ranks) ⊎ (files * ranks ≡ 0)) × (0 < files + ranks)
 Pattern King files ranks = max files ranks ≡ 1
 
 -- q lies strictly between a and b, on the line through them
-pub record IsBetween (a q b : ℕ) : Type 0 where
-  pub not_first : q ≢ a
-  pub not_last : q ≢ b
-  pub files : files_apart a q + files_apart q b ≡ files_apart a b
-  pub ranks : ranks_apart a q + ranks_apart q b ≡ ranks_apart a b
-  pub line : files_apart a q * ranks_apart a b ≡ ranks_apart a q * files_apart a b
+abbrev pub IsBetween : ℕ → ℕ → ℕ → Type 0
+IsBetween a q b = (q ≢ a) × (q ≢ b)
+    × (files_apart a q + files_apart q b ≡ files_apart a b)
+    × (ranks_apart a q + ranks_apart q b ≡ ranks_apart a b)
+    × (files_apart a q * ranks_apart a b ≡ ranks_apart a q * files_apart a b)
 
 -- each square between is empty, of which there are none for a pawn, a knight or a king
 abbrev pub Clear : Board → ℕ → ℕ → Type 0
@@ -52,5 +50,5 @@ InCheck board side =
     (king : ℕ) × Holds board king (piece_of side King) × IsAttacked board (opponent side) king
 
 -- the side that isn't to move isn't in check
-abbrev pub NoOppositeCheck : Position → Type 0
-NoOppositeCheck s = ¬ InCheck s.board (opponent s.turn)
+abbrev pub IsPlayable : Position → Type 0
+IsPlayable s = ¬ InCheck s.board (opponent s.turn)

@@ -13,7 +13,7 @@
 --
 -- A pawn that reaches the last rank becomes a knight, bishop, rook or queen, and no other move
 -- names a promotion.
-use Rattle.std.specs.Prelude.{◌≡◌, ◌≢◌, ℕ, ◌⊎◌, List, [], ◌∷◌, length, Some, None, All}
+use Rattle.std.specs.Prelude.{◌≡◌, ◌≢◌, ℕ, ◌⊎◌, List, [], ◌∷◌, Some, None}
 use Rattle.pb_board.specs.declared.piece.Colour.{Colour}
 use Rattle.pb_board.specs.declared.piece.Colour.TheVariants.{White, Black}
 use Rattle.pb_board.specs.declared.piece.Kind.{Kind}
@@ -21,19 +21,13 @@ use Rattle.pb_board.specs.declared.piece.Kind.TheVariants.{Pawn, King}
 use Rattle.pb_board.specs.declared.piece.Piece.{Piece}
 use Rattle.pb_board.specs.Position.{Position, beyond}
 use Rattle.pb_board.specs.Piece.{opponent}
-use Rattle.pb_board.specs.Board.{Board, Place, file, rank, at, Holds, IsEmpty, IsForward}
+use Rattle.pb_board.specs.Board.{Board, Place, file, rank, Holds, IsEmpty, IsForward}
 use Rattle.pb_board.specs.declared.castling.Castling.{Castling}
 use Rattle.pb_moves.specs.Reach.{WayIsClear, Reaches, KingInReach}
 use Rattle.pb_board.specs.Castling.{CastlingRow, castling_row}
 use Rattle.pb_moves.specs.Castling.{rook_goes, RowAllows}
 use Rattle.pb_moves.specs.Moved.{Moved, IsPromotion}
-
--- the new board has 64 places, on each named square it holds what is named, and every other square
--- is as it was
-pub record Differs (old new : Board) (now : List (ℕ × Place)) : Type 0 where
-  pub squares : length new ≡ 64
-  pub named : All (λ c. at new c.0 ≡ c.1) now
-  pub others : (q : ℕ) → All (λ c. q ≢ c.0) now → at new q ≡ at old q
+use Rattle.pb_moves.specs.Successor.{Differs}
 
 -- an enemy piece other than the king stands there
 pub record IsCapturable (board : Board) (side : Colour) (square : ℕ) : Type 0 where

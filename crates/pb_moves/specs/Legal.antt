@@ -1,28 +1,34 @@
 -- The legal moves of chess. A square is its index, 8 * rank + file.
 --
---   case        who         to                                      besides
---   quiet       not a pawn  an empty square that it attacks
---   captures    any piece   an enemy that it attacks, not the king
---   pushes      a pawn      one or two ranks forward, all empty
---   en_passant  a pawn      the en passant square, if attacked      the pawn beside `from` goes
---   castles     the king    by a row of the castling table          the rook moves too
-use Rattle.std.specs.Prelude.{◌≡◌, ◌≢◌, ℕ, ◌⊎◌, ◌↔◌, Some, IsTrue, IsSome}
+--   who         to                                             besides
+--   any piece   an enemy that it attacks, not the king
+--   not a pawn  an empty square that it attacks
+--   a pawn      the en passant square, if it attacks it        the pawn beside `from` goes
+--   a pawn      one or two ranks forward, all empty
+--   the king    two files from its home, where it may castle   the rook moves too
+use Rattle.std.specs.Prelude.{◌≡◌, ◌≢◌, ℕ, ◌+◌, ◌⊎◌, ◌↔◌, Bool, nat_lt, Some, IsTrue, IsSome}
+use Rattle.std.specs.Prelude.{if◌then◌else◌}
 use Rattle.pb_board.specs.declared.piece.Colour.{Colour}
+use Rattle.pb_board.specs.declared.piece.Colour.TheVariants.{White, Black}
 use Rattle.pb_board.specs.declared.piece.Kind.{Kind}
 use Rattle.pb_board.specs.declared.piece.Kind.TheVariants.{Pawn, Rook, King}
-use Rattle.pb_board.specs.declared.castling.Castling.{Castling}
+use Rattle.pb_board.specs.declared.setup.Rights.{Rights}
 use Rattle.pb_board.specs.Piece.{opponent, piece_of}
-use Rattle.pb_board.specs.Board.{Board, file, rank_for, Holds, IsEmpty, IsForward}
+use Rattle.pb_board.specs.Board.{file, rank_for, Holds, IsEmpty, IsForward}
 use Rattle.pb_board.specs.Position.{Position}
-use Rattle.pb_board.specs.Castling.{CastlingRow, castling_row}
 use Rattle.pb_moves.specs.Attacks.{Attacks, Clear, IsAttacked, InCheck}
 use Rattle.pb_moves.specs.Moved.{Moved, IsMove}
-use Rattle.pb_moves.specs.Successor.{after}
+use Rattle.pb_moves.specs.Successor.{after, middle, rook_home}
 
 -- an enemy piece other than the king stands there
-abbrev pub IsCapturable : Board → Colour → ℕ → Type 0
-IsCapturable board side square =
-    (kind : Kind) × (kind ≢ King) × Holds board square (piece_of (opponent side) kind)
+abbrev pub IsCapturable : Position → ℕ → Type 0
+IsCapturable s square =
+    (kind : Kind) × (kind ≢ King) × Holds s.board square (piece_of (opponent s.turn) kind)
+
+-- where a piece of this kind may go that attacks the square
+abbrev pub MayLand : Position → Kind → ℕ → Type 0
+MayLand s Pawn square = IsCapturable s square ⊎ (s.ep ≡ Some square)
+MayLand s _ square = IsCapturable s square ⊎ IsEmpty s.board square
 
 -- a pawn may go straight on: one rank, or two from its first square
 pub record Pushes (s : Position) (m : Moved) : Type 0 where
@@ -32,37 +38,37 @@ pub record Pushes (s : Position) (m : Moved) : Type 0 where
   pub way : Clear s.board m.from m.to
   pub empty : IsEmpty s.board m.to
 
--- The king of the side to move may castle by a row: with the castling right and the rook, over
--- empty squares, and the enemy attacks neither the king's square nor the one that it crosses, which
--- is where the rook arrives.
-pub record MayCastle (row : CastlingRow) (s : Position) (m : Moved) : Type 0 where
-  pub from_home : m.from ≡ row.king_from
-  pub to_table : m.to ≡ row.king_to
-  pub side : s.turn ≡ row.colour
-  pub right : IsTrue (row.right s.rights)
-  pub rook : Holds s.board row.rook_from (piece_of row.colour Rook)
-  pub way : Clear s.board row.king_from row.rook_from
-  pub unchecked : ¬ IsAttacked s.board (opponent row.colour) row.king_from
-  pub crosses : ¬ IsAttacked s.board (opponent row.colour) row.rook_to
+abbrev pub king_home : Colour → ℕ
+king_home White = 4
+king_home Black = 60
+
+abbrev pub has_right : Rights → Colour → Bool → Bool
+has_right r White is_short = if is_short then r.white_short else r.white_long
+has_right r Black is_short = if is_short then r.black_short else r.black_long
+
+-- The king of the side to move may go two files from its home: with the castling right and the
+-- rook, over empty squares, and the enemy attacks neither its home nor the square that it crosses.
+pub record Castles (s : Position) (m : Moved) : Type 0 where
+  pub from_home : m.from ≡ king_home s.turn
+  pub two_files : (m.to ≡ m.from + 2) ⊎ (m.from ≡ m.to + 2)
+  pub right : IsTrue (has_right s.rights s.turn (nat_lt m.from m.to))
+  pub rook : Holds s.board (rook_home m) (piece_of s.turn Rook)
+  pub way : Clear s.board m.from (rook_home m)
+  pub unchecked : ¬ IsAttacked s.board (opponent s.turn) m.from
+  pub crosses : ¬ IsAttacked s.board (opponent s.turn) (middle m)
 
 -- where a piece of this kind of the side to move may go, its own king's safety apart
-pub data MayMove (s : Position) (m : Moved) (kind : Kind) : Type 0 where
-  quiet : kind ≢ Pawn → Attacks s.turn kind s.board m.from m.to → IsEmpty s.board m.to
-      → MayMove s m kind
-  captures : Attacks s.turn kind s.board m.from m.to → IsCapturable s.board s.turn m.to
-      → MayMove s m kind
-  pushes : kind ≡ Pawn → Pushes s m → MayMove s m kind
-  en_passant : kind ≡ Pawn → Attacks s.turn kind s.board m.from m.to → s.ep ≡ Some m.to
-      → MayMove s m kind
-  castles : (c : Castling) → kind ≡ King → MayCastle (castling_row c) s m → MayMove s m kind
+abbrev pub MayGo : Position → Moved → Kind → Type 0
+MayGo s m kind = (Attacks s.turn kind s.board m.from m.to × MayLand s kind m.to)
+    ⊎ (((kind ≡ Pawn) × Pushes s m) ⊎ ((kind ≡ King) × Castles s m))
 
--- a piece of the side to move goes by one of these cases, and a promotion is named just where a
--- pawn reaches the last rank
+-- a piece of the side to move may go so, and a promotion is named just where a pawn reaches the
+-- last rank
 pub record PseudoLegal (s : Position) (m : Moved) : Type 0 where
   pub is_move : IsMove m
   pub kind : Kind
   pub stands : Holds s.board m.from (piece_of s.turn kind)
-  pub by_case : MayMove s m kind
+  pub goes : MayGo s m kind
   pub promotes : IsSome m.promo ↔ ((kind ≡ Pawn) × (rank_for s.turn m.to ≡ 7))
 
 -- and the mover isn't in check afterwards

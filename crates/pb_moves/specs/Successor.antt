@@ -1,66 +1,86 @@
--- The setup after a move as a function of the two, which means nothing where the move isn't legal.
-use Rattle.std.specs.Prelude.{ℕ, ◌+◌, ◌*◌, ◌/◌, Bool, not, ◌&&◌, ◌||◌, ◌==◌, List, [], ◌∷◌, fold}
-use Rattle.std.specs.Prelude.{Option, Some, None, is_none, unwrap_or, if◌then◌else◌, slice_set}
+-- The setup after a move as a function of the two, and square by square as a relation. Neither means
+-- anything where the move isn't legal.
+use Rattle.std.specs.Prelude.{◌≡◌, ◌≢◌, ℕ, ◌+◌, ◌-◌, ◌*◌, ◌/◌, Bool, not, ◌&&◌, ◌||◌, ◌==◌, nat_lt}
+use Rattle.std.specs.Prelude.{List, [], ◌∷◌, length, All, fold, slice_set, Option, Some, None}
+use Rattle.std.specs.Prelude.{is_none, unwrap_or, if◌then◌else◌}
+use Rattle.std.specs.Option.{option_map_or}
 use Rattle.pb_board.specs.declared.piece.Kind.{Kind}
 use Rattle.pb_board.specs.declared.piece.Kind.TheVariants.{Pawn, King}
+use Rattle.pb_board.specs.declared.piece.Piece.{Piece}
 use Rattle.pb_board.specs.declared.setup.Rights.{Rights}
-use Rattle.pb_board.specs.declared.castling.Castling.{Castling}
-use Rattle.pb_board.specs.declared.castling.Castling.TheVariants.{WhiteShort, WhiteLong}
-use Rattle.pb_board.specs.declared.castling.Castling.TheVariants.{BlackShort, BlackLong}
 use Rattle.pb_board.specs.Piece.{opponent, piece_of, kind_number}
-use Rattle.pb_board.specs.Board.{Board, Place, file, rank, at}
+use Rattle.pb_board.specs.Board.{Board, Place, Holds, file, rank, at}
 use Rattle.pb_board.specs.Position.{Position}
-use Rattle.pb_board.specs.Castling.{CastlingRow, castling_of, castling_row}
-use Rattle.pb_moves.specs.Attacks.{ranks_apart}
+use Rattle.pb_moves.specs.Attacks.{files_apart, ranks_apart}
 use Rattle.pb_moves.specs.Moved.{Moved}
 
--- what castling changes besides the king's two squares: the rook moves
-abbrev pub rook_moves : Board → CastlingRow → List (ℕ × Place)
-rook_moves board row = (row.rook_from, None) ∷ (row.rook_to, at board row.rook_from) ∷ []
+-- the home of the rook with which a king castles that goes two files
+abbrev pub rook_home : Moved → ℕ
+rook_home m = if nat_lt m.from m.to then m.to + 1 else m.to - 2
+
+-- the square in the middle, which such a king crosses, or a pawn by a double step
+abbrev pub middle : Moved → ℕ
+middle m = (m.from + m.to) / 2
 
 -- what changes besides `from` and `to`: the pawn that is captured en passant goes, or the rook
--- moves
-abbrev pub besides : Board → Moved → Kind → Option Castling → List (ℕ × Place)
-besides board m Pawn castling = if not (file m.to == file m.from) && is_none (at board m.to)
+-- arrives where the king has crossed
+abbrev pub besides : Board → Moved → Kind → List (ℕ × Place)
+besides board m Pawn = if not (file m.to == file m.from) && is_none (at board m.to)
     then (8 * rank m.from + file m.to, None) ∷ []
     else []
-besides board m King (Some c) = rook_moves board (castling_row c)
-besides board m _ _ = []
+besides board m King = if files_apart m.from m.to == 2
+    then (rook_home m, None) ∷ (middle m, at board (rook_home m)) ∷ []
+    else []
+besides board m _ = []
 
 -- all that changes where this piece moves: it leaves `from`, and it stands on `to`, or the piece
 -- does that it is promoted to
-abbrev pub changes : Board → Moved → Place → List (ℕ × Place)
-changes board m None = []
-changes board m (Some p) =
-    (m.from, None) ∷ (m.to, Some (piece_of p.colour (unwrap_or m.promo p.kind)))
-    ∷ besides board m p.kind (castling_of m.from m.to)
+abbrev pub changes : Board → Moved → Piece → List (ℕ × Place)
+changes board m p = (m.from, None) ∷ (m.to, Some (piece_of p.colour (unwrap_or m.promo p.kind)))
+    ∷ besides board m p.kind
 
--- a castling right is kept where the move leaves and reaches neither the king's square nor the
--- rook's
-abbrev pub keeps_right : Rights → Moved → Castling → Bool
-keeps_right r m c = let row = castling_row c in
-    row.right r && not (m.from == row.king_from || m.to == row.king_from
-    || (m.from == row.rook_from || m.to == row.rook_from))
+-- the move leaves or reaches the home of this king or that of this rook
+abbrev pub touches : Moved → ℕ → ℕ → Bool
+touches m king rook = m.from == king || m.to == king || (m.from == rook || m.to == rook)
 
+-- the castling rights whose king and rook the move doesn't touch; a1 is 0, e1 is 4, h1 is 7, a8 is
+-- 56, e8 is 60, h8 is 63
 abbrev pub rights_after : Rights → Moved → Rights
 rights_after r m = record {
-  white_short = keeps_right r m WhiteShort;
-  white_long = keeps_right r m WhiteLong;
-  black_short = keeps_right r m BlackShort;
-  black_long = keeps_right r m BlackLong;
+  white_short = r.white_short && not (touches m 4 7);
+  white_long = r.white_long && not (touches m 4 0);
+  black_short = r.black_short && not (touches m 60 63);
+  black_long = r.black_long && not (touches m 60 56);
 }
 
 -- the en passant square: the one that a pawn's double step has crossed
-abbrev pub en_passant_after : Moved → Place → Option ℕ
-en_passant_after m None = None
-en_passant_after m (Some p) = if kind_number p.kind == 0 && ranks_apart m.from m.to == 2
-    then Some ((m.from + m.to) / 2)
+abbrev pub en_passant_after : Moved → Piece → Option ℕ
+en_passant_after m p = if kind_number p.kind == 0 && ranks_apart m.from m.to == 2
+    then Some (middle m)
     else None
 
 unfoldable pub after : Position → Moved → Position
-after s m = record {
-  board = fold (λ board c. slice_set board c.0 c.1) s.board (changes s.board m (at s.board m.from));
+after s m = option_map_or (λ p. record {
+  board = fold (λ board c. slice_set board c.0 c.1) s.board (changes s.board m p);
   turn = opponent s.turn;
   rights = rights_after s.rights m;
-  ep = en_passant_after m (at s.board m.from);
-}
+  ep = en_passant_after m p;
+}) (at s.board m.from) s
+
+-- ---- the same as a relation
+
+-- the new board has 64 squares, on each named one it holds what is named, and every other one is as
+-- it was
+pub record Differs (old new : Board) (now : List (ℕ × Place)) : Type 0 where
+  pub squares : length new ≡ 64
+  pub named : All (λ c. at new c.0 ≡ c.1) now
+  pub others : (q : ℕ) → All (λ c. q ≢ c.0) now → at new q ≡ at old q
+
+-- t is the setup after the move, square by square
+pub record IsAfter (s : Position) (m : Moved) (t : Position) : Type 0 where
+  pub piece : Piece
+  pub stands : Holds s.board m.from piece
+  pub board : Differs s.board t.board (changes s.board m piece)
+  pub turn : t.turn ≡ opponent s.turn
+  pub rights : t.rights ≡ rights_after s.rights m
+  pub ep : t.ep ≡ en_passant_after m piece

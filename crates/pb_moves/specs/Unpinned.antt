@@ -6,7 +6,7 @@ use Rattle.pb_board.specs.Board.{Board}
 use Rattle.pb_board.specs.Piece.{opponent}
 use Rattle.pb_board.specs.Position.{Position, IsOnlyKing, IsSetup}
 use Rattle.pb_moves.specs.Reach.{IsReached}
-use Rattle.pb_moves.specs.Cases.{Differs}
+use Rattle.pb_moves.specs.Successor.{Differs}
 
 -- the piece isn't the king, and its side's king wouldn't be attacked if it were gone
 pub record IsUnpinned (s : Position) (from : ℕ) (piece : Piece) : Type 0 where

@@ -4,7 +4,7 @@ ghost use Rattle.std.specs.Prelude.{◌≡◌, ◌≢◌, ℕ, ◌<◌, ◌↔�
 ghost use Rattle.pb_board.specs.Board.{Board, Holds};
 ghost use Rattle.pb_board.specs.declared.piece.Colour.{Colour};
 ghost use Rattle.pb_board.specs.declared.piece.Piece.{Piece};
-ghost use Rattle.pb_moves.specs.Cases.{Differs};
+ghost use Rattle.pb_moves.specs.Successor.{Differs};
 ghost use Rattle.pb_moves.specs.Attacks.{files_apart, ranks_apart};
 ghost use Rattle.pb_moves.specs.Reach.{IsReached, IsKnightsMove};
 ghost use Rattle.pb_moves.specs.Attackers.{In, AreAttackers, StrikesFrom};

@@ -2,7 +2,7 @@
 
 ghost use Rattle.std.specs.Prelude.{◌≡◌, ◌<◌, ◌↔◌, IsTrue};
 ghost use Rattle.pb_board.specs.Piece.{opponent};
-ghost use Rattle.pb_moves.specs.Attacks.{IsAttacked, InCheck, NoOppositeCheck};
+ghost use Rattle.pb_moves.specs.Attacks.{IsAttacked, InCheck, IsPlayable};
 
 use crate::attackers::{attackers_of, is_attacked};
 use pb_board::{Colour, Setup, Square};
@@ -23,7 +23,7 @@ pub fn in_check(setup: &Setup, side: Colour) -> bool
 
 /// Whether the side that isn't to move isn't in check, as after each legal move.
 pub fn playable(setup: &Setup) -> bool
-    ensures { IsTrue result ↔ NoOppositeCheck setup.now }
+    ensures { IsTrue result ↔ IsPlayable setup.now }
 {
     !in_check(setup, setup.turn().opponent())
 }

@@ -1,7 +1,8 @@
 //! The castling rights and the en passant square after a move.
 
-ghost use Rattle.std.specs.Prelude.{◌≡◌, Some};
-ghost use Rattle.pb_moves.specs.Successor.{en_passant_after as en_passant_by, keeps_right};
+ghost use Rattle.std.specs.Prelude.{◌≡◌, ◌&&◌, not};
+ghost use Rattle.pb_board.specs.Castling.{castling_row};
+ghost use Rattle.pb_moves.specs.Successor.{en_passant_after as en_passant_by, touches};
 ghost use Rattle.pb_moves.specs.Successor.{rights_after as rights_by};
 
 use crate::board::square_at;
@@ -11,7 +12,8 @@ use pb_board::{Castling, Kind, Piece, Rights, Square};
 /// Whether a castling that the rights have is kept.
 #[inline(always)]
 fn keeps(castling: Castling, rights: Rights, m: Move) -> bool
-    ensures { result ≡ keeps_right rights m castling }
+    ensures { let row = castling_row castling in
+        result ≡ (row.right rights && not (touches m row.king_from row.rook_from)) }
 {
     castling.is_allowed(rights) && !castling.is_lost_by(m.from(), m.to())
 }
@@ -45,7 +47,7 @@ pub(crate) fn rights_after(rights: Rights, m: Move) -> Rights
 /// The en passant square after the move of this piece: the one that a pawn's double step crosses.
 #[inline(always)]
 pub(crate) fn en_passant_after(m: Move, piece: Piece) -> Option<Square>
-    ensures { result ≡ en_passant_by m (Some piece) }
+    ensures { result ≡ en_passant_by m piece }
 {
     let (from, to) = (m.from(), m.to());
     if piece.kind == Kind::Pawn && from.rank().abs_diff(to.rank()) == 2 {

@@ -1,6 +1,6 @@
 use Rattle.std.proofs.Common.{ℕ, subst, sym, ◌∙◌, Some, None, [], ◌∷◌}
 use Rattle.pb_board.specs.Board.{Holds}
-use Rattle.pb_moves.specs.Cases.{Differs}
+use Rattle.pb_moves.specs.Successor.{Differs}
 use Rattle.pb_moves.proofs.Seen.{sees_carried}
 use Rattle.pb_moves.proofs.attackers.attackers_after.Goals as goal
 
