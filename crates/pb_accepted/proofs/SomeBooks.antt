@@ -8,22 +8,19 @@ use Rattle.std.proofs.lemmas.Bool.{cases_lt, leb-true}
 use Rattle.std.proofs.lemmas.List.Concat.{flat_map-cons}
 use Rattle.std.proofs.lemmas.List.Elements.{All-contains, All-map, Contains-append_left, Contains-append_right}
 use Rattle.std.proofs.lemmas.List.Sums.{sum_by-cons}
-use Rattle.pb_board.specs.declared.castling.Castling.{Castling}
-use Rattle.pb_board.specs.declared.castling.Castling.TheVariants.{WhiteShort, WhiteLong, BlackShort, BlackLong}
 use Rattle.pb_board.specs.declared.piece.Kind.{Kind}
 use Rattle.pb_board.specs.declared.piece.Kind.TheVariants.{Pawn, Knight, Bishop, Rook, Queen, King}
-use Rattle.pb_board.specs.Board.{at, is_piece}
-use Rattle.pb_board.specs.Castling.{castling_of, castling_row}
-use Rattle.pb_board.specs.Piece.{king_of, kind_number}
+use Rattle.pb_board.specs.Piece.{kind_number}
 use Rattle.pb_board.specs.Position.{Position}
 use Rattle.pb_moves.specs.Moved.{IsMove, Moved}
 use Rattle.pb_moves.specs.Played.{Ply, plies_from}
 use Rattle.pb_moves.specs.Successor.{after}
 use Rattle.pb_poly.specs.declared.entry.Entry.{Entry}
-use Rattle.pb_poly.specs.Code.{encode_move, encoded_to}
+use Rattle.pb_poly.specs.Code.{encode_move}
 use Rattle.pb_poly.specs.Entry.{IsEntry}
 use Rattle.pb_poly.specs.Key.{key, offsets}
 use Rattle.pb_poly.specs.Table.{IsTable}
+use Rattle.pb_poly.proofs.Codes.{encoded_on_board}
 use Rattle.pb_poly.proofs.Parity.{toggled_below}
 use Rattle.pb_games.specs.Submissions.{IsSubmission, Submission, plies}
 use Rattle.pb_points.specs.declared.row.Row.{Row}
@@ -141,20 +138,6 @@ key_below : (words : List ℕ) (s : Position) → IsTable words → key words s 
 unfolding key
 key_below words s table = toggled_below words 0 (offsets s) table (omega arith)
 
-rook_below : (c : Castling) → (castling_row c).rook_from < 64
-rook_below WhiteShort = omega arith
-rook_below WhiteLong = omega arith
-rook_below BlackShort = omega arith
-rook_below BlackLong = omega arith
-
-encoded_below : (s : Position) (m : Moved) → IsMove m → encoded_to s m < 64
-encoded_below s m is = by (is_piece (king_of s.turn) (at s.board m.from)) (castling_of m.from m.to)
-  where
-    by : (b : Bool) (o : Option Castling) → cond b (option_map_or (λ c. (castling_row c).rook_from) o m.to) m.to < 64
-    by true (Some c) = rook_below c
-    by true None = is.to_on_board
-    by false o = is.to_on_board
-
 promo_below : (o : Option Kind) → option_map_or kind_number o 0 ≤ 5
 promo_below None = omega arith
 promo_below (Some Pawn) = omega arith
@@ -165,7 +148,7 @@ promo_below (Some Queen) = omega arith
 promo_below (Some King) = omega arith
 
 code_below : (s : Position) (m : Moved) → IsMove m → encode_move s m < 2 ^ 16
-code_below s m is = omega (arith, encoded_below s m is, is.from_on_board, promo_below m.promo)
+code_below s m is = omega (arith, encoded_on_board s m is.to_on_board, is.from_on_board, promo_below m.promo)
 
 -- the moves of plies are those that are played
 moves_of_plies : (s : Position) (ms : List Moved) (p : Ply) → Contains (plies_from s ms) p → Contains ms p.1

@@ -21,7 +21,7 @@ again line id outcome start moves s cut known of =
           ∙ ap (join_with_byte 9) (cut ∙ (λ i. of.id_is i ∷ of.outcome_is i ∷ of.start_is i ∷ moves_are i ∷ []));
       id = known.id;
       start = known.game.start;
-      no_opposite_check = known.legal.playable;
+      playable = known.legal.playable;
       few = known.game.few;
       legal = known.legal.legal;
     }

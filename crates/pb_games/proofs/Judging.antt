@@ -12,7 +12,7 @@ use Rattle.pb_board.proofs.Dues.{IsFirstDue}
 use Rattle.pb_board.proofs.Fens.{record_never_due}
 use Rattle.pb_board.proofs.Unique.{one_record}
 use Rattle.std.specs.Str.Lines.{strip_carriage_return}
-use Rattle.pb_moves.specs.Attacks.{NoOppositeCheck}
+use Rattle.pb_moves.specs.Attacks.{IsPlayable}
 use Rattle.pb_moves.specs.Played.{AreLegal, IsSpelled}
 use Rattle.pb_games.specs.declared.outcome.Outcome.{Outcome}
 use Rattle.pb_games.specs.declared.refusal.Refusal.{Refusal}
@@ -44,15 +44,15 @@ module _ (line a d : List ℕ) (o : Outcome) (f : Record) (h : IsHeader line a o
   spells_start : SpellsStart (fields_of line) f
   spells_start = (h.bounds, fen_at)
 
-  pub start_refused : ¬ NoOppositeCheck f.setup → Refuses line refusal.Start
+  pub start_refused : ¬ IsPlayable f.setup → Refuses line refusal.Start
   start_refused bad = first_due refusal.Start line none_before_start (f, spells_start, bad)
 
-  module _ (playable : NoOppositeCheck f.setup) where
+  module _ (playable : IsPlayable f.setup) where
     none_before_words : NoneBefore 7 line
     none_before_words =
         none_more 6 line none_before_start (λ due.
         let same : due.0 ≡ f = one_record due.0 f (field (fields_of line) 2) due.1.0 h.bounds due.1.1 fen_at in
-        due.2 (subst (λ g. NoOppositeCheck g.setup) (sym same) playable))
+        due.2 (subst (λ g. IsPlayable g.setup) (sym same) playable))
 
     pub misspelt_refused : (n : ℕ) → BreaksAt (All IsSpelled) (words_of d) n → Refuses line (refusal.Spelling n)
     misspelt_refused n bad = first_due (refusal.Spelling n) line none_before_words (subst (λ w. BreaksAt (All IsSpelled) (words_of w) n) (sym moves_at) bad)
@@ -97,13 +97,13 @@ module _ (line a d : List ℕ) (o : Outcome) (f : Record) (h : IsHeader line a o
           text = text_is;
           id = h.id_is;
           start = h.bounds;
-          no_opposite_check = playable;
+          playable = playable;
           few = is_game.few;
           legal = legal;
         }
 
 -- the refusal that the words get is the line's
-pub moves_refused : (line a d : List ℕ) (o : Outcome) (f : Record) → IsHeader line a o f d → NoOppositeCheck f.setup → (e : Refusal) → AreRefused f.setup d e → Refuses line e
+pub moves_refused : (line a d : List ℕ) (o : Outcome) (f : Record) → IsHeader line a o f d → IsPlayable f.setup → (e : Refusal) → AreRefused f.setup d e → Refuses line e
 moves_refused line a d o f h playable refusal.Long bad = absurd bad
 moves_refused line a d o f h playable refusal.Shape bad = absurd bad
 moves_refused line a d o f h playable refusal.Id bad = absurd bad
@@ -118,10 +118,10 @@ moves_refused line a d o f h playable refusal.Full bad = absurd bad
 moves_refused line a d o f h playable refusal.Memory bad = absurd bad
 
 -- the moves that were read make a lawful submission
-pub moves_lawful : (line a d : List ℕ) (o : Outcome) (f : Record) (n : ℕ) → IsHeader line a o f d → NoOppositeCheck f.setup → AreRead f.setup d n → IsLawful line (submission_of a f o d)
+pub moves_lawful : (line a d : List ℕ) (o : Outcome) (f : Record) (n : ℕ) → IsHeader line a o f d → IsPlayable f.setup → AreRead f.setup d n → IsLawful line (submission_of a f o d)
 moves_lawful line a d o f n h playable read = lawful line a d o f h playable read.spelt (omega (arith, read.number, read.few)) read.legal
 
-pub moves_checked : (line a d : List ℕ) (o : Outcome) (f : Record) (n : ℕ) → IsHeader line a o f d → NoOppositeCheck f.setup → AreRead f.setup d n → IsChecked (submission_of a f o d) d n
+pub moves_checked : (line a d : List ℕ) (o : Outcome) (f : Record) (n : ℕ) → IsHeader line a o f d → IsPlayable f.setup → AreRead f.setup d n → IsChecked (submission_of a f o d) d n
 moves_checked line a d o f n h playable read =
     let all = moves_lawful line a d o f n h playable read in
     record { rules = lawful_submission line (submission_of a f o d) all; spelt = read.spelt; number = read.number }

@@ -12,7 +12,7 @@ use Rattle.pb_board.proofs.Breaks.{all_unbroken, unbroken}
 use Rattle.pb_board.proofs.Dues.{IsFirstDue}
 use Rattle.pb_board.proofs.Fens.{record_never_due}
 use Rattle.pb_board.proofs.Unique.{one_record}
-use Rattle.pb_moves.specs.Attacks.{NoOppositeCheck}
+use Rattle.pb_moves.specs.Attacks.{IsPlayable}
 use Rattle.pb_moves.specs.Moved.{Moved, IsMove}
 use Rattle.pb_moves.specs.Played.{AreLegal, IsSpelled}
 use Rattle.pb_moves.specs.Spelling.{spelling}
@@ -69,7 +69,7 @@ module _ (line : List ℕ) (s : Submission) (h : IsLawful line s) where
   none_due refusal.Result due = due s.1.outcome (field_is 1)
   none_due (refusal.Fen e) due =
       record_never_due s.1.start (fen_text s.1.start) e h.start refl (subst (λ t. IsFirstDue fen_errors e (fields 32 t)) (field_is 2) due)
-  none_due refusal.Start due = due.2 (subst (λ (f : Record). NoOppositeCheck f.setup) (sym (start_is due.0 due.1)) h.no_opposite_check)
+  none_due refusal.Start due = due.2 (subst (λ (f : Record). IsPlayable f.setup) (sym (start_is due.0 due.1)) h.playable)
   none_due (refusal.Spelling n) due =
       all_unbroken IsSpelled (map spelling s.1.moves) n (spelt_from_moves s.1.moves (lawful_game line s h).moves) (subst (λ ws. BreaksAt (All IsSpelled) ws n) words_are due)
   none_due refusal.Plies due = omega (arith, due, ap length words_are, length-map s.1.moves spelling, h.few)

@@ -74,7 +74,7 @@ pub lawful_game : (line : List ℕ) (s : Submission) → IsLawful line s → IsG
 lawful_game line s h = record { start = h.start; moves = legal_moves s.1.start.setup s.1.moves h.legal; few = h.few }
 
 pub lawful_submission : (line : List ℕ) (s : Submission) → IsLawful line s → IsSubmission s
-lawful_submission line s h = record { id = h.id; game = lawful_game line s h; legal = record { playable = h.no_opposite_check; legal = h.legal } }
+lawful_submission line s h = record { id = h.id; game = lawful_game line s h; legal = record { playable = h.playable; legal = h.legal } }
 
 -- a line that is the text of a submission, or that text and a CR, submits it
 pub submits : (line : List ℕ) (s : Submission) → IsSubmission s → (line ≡ submission_text s) ⊎ (line ≡ submission_text s ++ 13 ∷ []) → IsLawful line s
@@ -85,7 +85,7 @@ submits line s h is = record {
   ];
   id = h.id;
   start = h.game.start;
-  no_opposite_check = h.legal.playable;
+  playable = h.legal.playable;
   few = h.game.few;
   legal = h.legal.legal;
 }

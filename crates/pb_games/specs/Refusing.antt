@@ -6,7 +6,7 @@ use Rattle.pb_board.specs.Fields.{field, fields, space, tab}
 use Rattle.pb_board.specs.Position.{Record, IsRecord}
 use Rattle.pb_board.specs.Refusal.{BreaksAt, IsDueFen, IsFirstOf, fen_errors}
 use Rattle.pb_board.specs.Text.{fen_text}
-use Rattle.pb_moves.specs.Attacks.{NoOppositeCheck}
+use Rattle.pb_moves.specs.Attacks.{IsPlayable}
 use Rattle.pb_moves.specs.Moved.{Moved, IsMove}
 use Rattle.pb_moves.specs.Spelling.{spelling}
 use Rattle.pb_moves.specs.Played.{AreLegal, IsSpelled}
@@ -33,7 +33,7 @@ IsDue line parts refusal.Shape = length parts ≢ 4
 IsDue line parts refusal.Id = ¬ IsId (field parts 0)
 IsDue line parts refusal.Result = (outcome : Outcome) → field parts 1 ≢ outcome_text outcome
 IsDue line parts (refusal.Fen e) = IsFirstOf fen_errors (IsDueFen (fields space (field parts 2))) e
-IsDue line parts refusal.Start = (f : Record) × SpellsStart parts f × ¬ NoOppositeCheck f.setup
+IsDue line parts refusal.Start = (f : Record) × SpellsStart parts f × ¬ IsPlayable f.setup
 IsDue line parts (refusal.Spelling n) = BreaksAt (All IsSpelled) (words_of (field parts 3)) n
 IsDue line parts refusal.Plies = most_plies < length (words_of (field parts 3))
 IsDue line parts (refusal.Illegal n) = (f : Record) × (moves : List Moved)

@@ -5,7 +5,7 @@ use Rattle.std.specs.Str.Lines.{strip_carriage_return}
 use Rattle.pb_board.specs.Fields.{space, tab}
 use Rattle.pb_board.specs.Position.{IsRecord, Position}
 use Rattle.pb_board.specs.Text.{fen_text}
-use Rattle.pb_moves.specs.Attacks.{NoOppositeCheck}
+use Rattle.pb_moves.specs.Attacks.{IsPlayable}
 use Rattle.pb_moves.specs.Moved.{Moved, IsMove}
 use Rattle.pb_moves.specs.Played.{Ply, plies_from, AreLegal}
 use Rattle.pb_moves.specs.Spelling.{spelling}
@@ -52,7 +52,7 @@ last_setup g = setup_after g.start.setup g.moves
 -- the side that isn't to move at the start isn't in check, and each move is legal where it is
 -- played
 pub record IsLegalGame (g : Game) : Type 0 where
-  pub playable : NoOppositeCheck g.start.setup
+  pub playable : IsPlayable g.start.setup
   pub legal : AreLegal g.start.setup g.moves
 
 -- the line, without one final CR, is the text of this legal game under this id
@@ -60,7 +60,7 @@ pub record IsLawful (line : List ℕ) (s : Submission) : Type 0 where
   pub text : strip_carriage_return line ≡ submission_text s
   pub id : IsId s.0
   pub start : IsRecord s.1.start
-  pub no_opposite_check : NoOppositeCheck s.1.start.setup
+  pub playable : IsPlayable s.1.start.setup
   pub few : length s.1.moves ≤ most_plies
   pub legal : AreLegal s.1.start.setup s.1.moves
 

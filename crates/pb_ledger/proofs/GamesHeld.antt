@@ -112,7 +112,7 @@ module _ (line : List ℕ) (is : Shaped line) where
   same_parts = ap (fields tab) is.one
 
   lawful_bare : (s : Submission) → IsLawful line s → IsLawful bare s
-  lawful_bare s h = record { text = is.one ∙ h.text; id = h.id; start = h.start; no_opposite_check = h.no_opposite_check; few = h.few; legal = h.legal }
+  lawful_bare s h = record { text = is.one ∙ h.text; id = h.id; start = h.start; playable = h.playable; few = h.few; legal = h.legal }
 
   refuses_bare : (e : Refusal) → Refuses line e → Refuses bare e
   refuses_bare e h = record {

@@ -1,11 +1,15 @@
 -- The rows of the castling table.
-use Rattle.std.proofs.Common.{◌≡◌, ◌≢◌, ℕ, ◌<◌, ◌≤◌, inr, refl, sym, arith, Bool, true, false, ◌&&◌, ◌==◌, Option, Some, None, List, [], ◌∷◌, cond}
+use Rattle.std.proofs.Common.{◌≡◌, ◌≢◌, ℕ, ◌<◌, ◌≤◌, ◌⊎◌, ◌+◌, inl, inr, ap, ◌∙◌, refl, sym, arith, Bool, true, false, ◌&&◌, ◌||◌, ◌==◌, Option, Some, None, List, [], ◌∷◌, cond}
 use Rattle.std.specs.List.{find}
-use Rattle.std.proofs.lemmas.Bool.{and_parts, eqb-true}
+use Rattle.std.proofs.lemmas.Bool.{and_parts, eqb-true, or_cases}
+use Rattle.pb_board.specs.declared.piece.Colour.{Colour}
+use Rattle.pb_board.specs.declared.piece.Colour.TheVariants.{White, Black}
 use Rattle.pb_board.specs.declared.castling.Castling.{Castling}
 use Rattle.pb_board.specs.declared.castling.Castling.TheVariants.{WhiteShort, WhiteLong, BlackShort, BlackLong}
 use Rattle.pb_board.specs.Castling.{CastlingRow, castling_from_home, castling_of, castling_row, castlings}
 use Rattle.pb_moves.specs.Attacks.{files_apart}
+use Rattle.pb_moves.specs.Moved.{Moved, moved_of}
+use Rattle.pb_moves.specs.Successor.{is_castling, rook_home}
 use Rattle.pb_moves.specs.Reach.{LiesBetween, IsOrthogonal}
 
 -- the four squares of a row lie on the board and differ, and king and rook go between where they
@@ -84,13 +88,6 @@ castling_found from to c e =
     let both = and_parts (row.king_from == from) (row.king_to == to) (found_passes (λ d. (castling_row d).king_from == from && (castling_row d).king_to == to) castlings c e) in
     (sym (eqb-true row.king_from from both.0), sym (eqb-true row.king_to to both.1))
 
--- and every castling is found by them
-pub castling_is : (c : Castling) (from to : ℕ) → from ≡ (castling_row c).king_from → to ≡ (castling_row c).king_to → castling_of from to ≡ Some c
-castling_is WhiteShort from to f t = rw (f, t) refl
-castling_is WhiteLong from to f t = rw (f, t) refl
-castling_is BlackShort from to f t = rw (f, t) refl
-castling_is BlackLong from to f t = rw (f, t) refl
-
 -- the same of those that are found by where king and rook begin
 pub home_found : (king rook : ℕ) (c : Castling) → castling_from_home king rook ≡ Some c → (king ≡ (castling_row c).king_from) × (rook ≡ (castling_row c).rook_from)
 home_found king rook c e =
@@ -107,3 +104,63 @@ home_is BlackLong king e = rw e refl
 pub home_is_far : (c : Castling) (king rook : ℕ) → king ≡ (castling_row c).king_from → rook ≡ (castling_row c).rook_from → 2 < files_apart king rook
 home_is_far WhiteShort king rook a b = omega arith
 home_is_far c king rook a b = omega arith
+
+-- ---- the king's move of two files
+
+pub castling_goes : (c : Castling) → is_castling (castling_row c).colour (moved_of (castling_row c).king_from (castling_row c).king_to None) ≡ true
+castling_goes WhiteShort = refl
+castling_goes WhiteLong = refl
+castling_goes BlackShort = refl
+castling_goes BlackLong = refl
+
+pub rook_begins : (c : Castling) → rook_home (moved_of (castling_row c).king_from (castling_row c).king_to None) ≡ (castling_row c).rook_from
+rook_begins WhiteShort = refl
+rook_begins WhiteLong = refl
+rook_begins BlackShort = refl
+rook_begins BlackLong = refl
+
+-- the castling of a side between these squares
+pub record IsByRow (side : Colour) (from to : ℕ) (c : Castling) : Type 0 where
+  pub side_is : side ≡ (castling_row c).colour
+  pub from_is : from ≡ (castling_row c).king_from
+  pub to_is : to ≡ (castling_row c).king_to
+
+-- either way a castling of its side, short or long
+two_files : (m : Moved) (home : ℕ) → (m.from == home && (m.to == m.from + 2 || m.from == m.to + 2)) ≡ true → (m.from ≡ home) × ((m.to ≡ m.from + 2) ⊎ (m.from ≡ m.to + 2))
+two_files m home h =
+    let both = and_parts (m.from == home) (m.to == m.from + 2 || m.from == m.to + 2) h in
+    (eqb-true m.from home both.0, elim (or_cases (m.to == m.from + 2) (m.from == m.to + 2) both.1) [
+      | inl short ↦ inl (eqb-true m.to (m.from + 2) short)
+      | inr long ↦ inr (eqb-true m.from (m.to + 2) long)
+    ])
+
+pub by_row : (side : Colour) (m : Moved) → is_castling side m ≡ true → (c : Castling) × IsByRow side m.from m.to c
+by_row White m h =
+    let is = two_files m 4 h in
+    let from = is.0 in
+    elim is.1 [
+      | inl two ↦ (WhiteShort, record { side_is = refl; from_is = from; to_is = omega (arith, from, two) })
+      | inr two ↦ (WhiteLong, record { side_is = refl; from_is = from; to_is = omega (arith, from, two) })
+    ]
+by_row Black m h =
+    let is = two_files m 60 h in
+    let from = is.0 in
+    elim is.1 [
+      | inl two ↦ (BlackShort, record { side_is = refl; from_is = from; to_is = omega (arith, from, two) })
+      | inr two ↦ (BlackLong, record { side_is = refl; from_is = from; to_is = omega (arith, from, two) })
+    ]
+
+pub rook_home_is : (side : Colour) (m : Moved) (c : Castling) → IsByRow side m.from m.to c → rook_home m ≡ (castling_row c).rook_from
+rook_home_is side m c is =
+    let row = castling_row c in
+    ap (λ (a : ℕ). rook_home (moved_of a m.to None)) is.from_is ∙ ap (λ (b : ℕ). rook_home (moved_of row.king_from b None)) is.to_is ∙ rook_begins c
+
+-- a near move is none
+pub near_is_none : (side : Colour) (m : Moved) → files_apart m.from m.to ≤ 1 → is_castling side m ≡ false
+near_is_none side m near = none (is_castling side m) refl
+  where
+  none : (b : Bool) → is_castling side m ≡ b → b ≡ false
+  none false is = refl
+  none true is =
+      let x = by_row side m is in
+      absurd (let two = class_of_castling x.0 m.from m.to x.1.from_is x.1.to_is in omega arith)

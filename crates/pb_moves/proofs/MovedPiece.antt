@@ -1,5 +1,5 @@
 -- The board on which changes were put one after the other.
-use Rattle.std.specs.Prelude.{ℕ, ◌/◌, ◌==◌, Option, Some, None, List, unwrap_or, if◌then◌else◌, fold, slice_set}
+use Rattle.std.specs.Prelude.{ℕ, ◌==◌, Option, Some, None, List, unwrap_or, if◌then◌else◌, fold, slice_set}
 use Rattle.pb_board.specs.declared.piece.Kind.{Kind}
 use Rattle.pb_board.specs.declared.piece.Kind.TheVariants.{Pawn}
 use Rattle.pb_board.specs.declared.piece.Piece.{Piece}

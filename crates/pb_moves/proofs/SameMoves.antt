@@ -1,6 +1,6 @@
 -- The setup after a move by `after` has the board of the case, and the moves of `Legal` are those
 -- of `Cases`.
-use Rattle.std.proofs.Common.{◌≡◌, ◌≢◌, ℕ, ◌+◌, ◌*◌, ◌/◌, ◌⊎◌, ◌↔◌, refl, arith, inl, inr, sym, ap, subst, ◌∙◌, Option, Some, None, List, [], ◌∷◌, Bool, true, false, not, ◌&&◌, ◌==◌, is_none}
+use Rattle.std.proofs.Common.{◌≡◌, ◌≢◌, ℕ, ◌+◌, ◌*◌, ◌⊎◌, ◌↔◌, refl, arith, inl, inr, sym, ap, subst, ◌∙◌, Option, Some, None, List, [], ◌∷◌, ◌&&◌, ◌==◌}
 use Rattle.std.specs.Prelude.{IsSome, IsTrue, nat_lt, unwrap_or, if◌then◌else◌}
 use Rattle.std.specs.Option.{option_map_or}
 use Rattle.pb_board.specs.declared.piece.Colour.{Colour}
@@ -12,7 +12,7 @@ use Rattle.pb_board.specs.declared.castling.Castling.{Castling}
 use Rattle.pb_board.specs.declared.castling.Castling.TheVariants.{WhiteShort, WhiteLong, BlackShort, BlackLong}
 use Rattle.pb_board.specs.Piece.{opponent, king_of, kind_number, piece_of, rook_of}
 use Rattle.pb_board.specs.declared.setup.Rights.{Rights}
-use Rattle.pb_board.specs.Board.{Board, Place, file, rank, rank_for, at, Holds, IsEmpty}
+use Rattle.pb_board.specs.Board.{Board, Place, file, rank, rank_for, Holds, IsEmpty}
 use Rattle.pb_board.specs.Position.{Position, IsSetup, beyond, position_of}
 use Rattle.pb_board.specs.Castling.{CastlingRow, castling_row}
 use Rattle.pb_moves.specs.Attacks.{Attacks, Clear, IsAttacked, files_apart, ranks_apart}
@@ -22,10 +22,10 @@ use Rattle.pb_moves.specs.Castling as table
 use Rattle.pb_moves.specs.Castling.{rook_goes}
 use Rattle.pb_moves.specs.Cases as lower
 use Rattle.pb_moves.specs.Legal as chess
-use Rattle.pb_moves.specs.Legal.{Legal, PseudoLegal, has_right, king_home}
-use Rattle.pb_moves.specs.Successor.{Differs, IsAfter, after, besides, changes, en_passant_after, middle, rights_after, rook_home}
+use Rattle.pb_moves.specs.Legal.{Legal, PseudoLegal, has_right}
+use Rattle.pb_moves.specs.Successor.{Differs, IsAfter, after, besides, changes, en_passant_after, is_castling, middle, rights_after, rook_home}
 use Rattle.pb_moves.proofs.MovedPiece.{puts, carried, ep_of_kind}
-use Rattle.pb_moves.proofs.Castlings.{rows}
+use Rattle.pb_moves.proofs.Castlings.{IsByRow, by_row, castling_goes, rows}
 use Rattle.pb_moves.proofs.SameAttacks.{attacks_to, attacks_from, clear_to, clear_from, no_near, attacked_to, attacked_from, check_to, check_from}
 use Rattle.pb_moves.proofs.Differing.{carried_put, carried_past_put, differs_one}
 use Rattle.pb_moves.proofs.Kings.{pawn_reach, gone_is_beyond}
@@ -64,18 +64,6 @@ after_parts s m p stands =
     after_is_made s m p stands ∙ ap B (sym (carried_is s m p stands))
 
 -- ---- castling by the table is the king's move of two files
-
-home_is : (c : Castling) → (castling_row c).king_from ≡ king_home (castling_row c).colour
-home_is WhiteShort = refl
-home_is WhiteLong = refl
-home_is BlackShort = refl
-home_is BlackLong = refl
-
-two_is : (c : Castling) (from to : ℕ) → from ≡ (castling_row c).king_from → to ≡ (castling_row c).king_to → (to ≡ from + 2) ⊎ (from ≡ to + 2)
-two_is WhiteShort from to e f = inl (omega (arith, e, f))
-two_is WhiteLong from to e f = inr (omega (arith, e, f))
-two_is BlackShort from to e f = inl (omega (arith, e, f))
-two_is BlackLong from to e f = inr (omega (arith, e, f))
 
 -- what castling asks of the right, the rook and the squares, by the row
 abbrev RowAsks : CastlingRow → Position → Type 0
@@ -117,9 +105,9 @@ castles_to : (c : Castling) (s : Position) (m : Moved) → m.from ≡ (castling_
 castles_to c s m from to h =
     let row = castling_row c in
     let asks = along (Asks s) row.colour s.turn row.king_from row.king_to m.from m.to (sym h.side) (sym from) (sym to) (asks_to c s (row_asks row s h)) in
+    let G : Colour → ℕ → ℕ → Type 0 = λ side a b. IsTrue (is_castling side (moved_of a b None)) in
     record {
-      from_home = from ∙ home_is c ∙ ap king_home (sym h.side);
-      two_files = two_is c m.from m.to from to;
+      goes = along G row.colour s.turn row.king_from row.king_to m.from m.to (sym h.side) (sym from) (sym to) (castling_goes c);
       right = asks.0;
       rook = asks.1;
       way = asks.2;
@@ -131,45 +119,18 @@ straight_back : (a b : ℕ) → IsOrthogonal a b → IsOrthogonal b a
 straight_back a b (inl h) = inl (omega (arith, h.0), omega (arith, h.1))
 straight_back a b (inr h) = inr (omega (arith, h.0), omega (arith, h.1))
 
--- the castling of a side, short or long
-pub record ByRow (s : Position) (m : Moved) : Type 0 where
-  pub castling : Castling
-  pub from_home : m.from ≡ (castling_row castling).king_from
-  pub to_table : m.to ≡ (castling_row castling).king_to
-  pub allowed : table.RowAllows (castling_row castling) s
-
-by_row : (c : Castling) (s : Position) (m : Moved) → s.turn ≡ (castling_row c).colour → m.from ≡ (castling_row c).king_from → m.to ≡ (castling_row c).king_to
-    → chess.Castles s m → ByRow s m
-by_row c s m side from to h =
+allows : (s : Position) (m : Moved) (c : Castling) → IsByRow s.turn m.from m.to c → chess.Castles s m → table.RowAllows (castling_row c) s
+allows s m c is h =
     let row = castling_row c in
-    let asks = asks_from c s (along (Asks s) s.turn row.colour m.from m.to row.king_from row.king_to side from to (h.right, h.rook, h.way, h.unchecked, h.crosses)) in
+    let asks = asks_from c s (along (Asks s) s.turn row.colour m.from m.to row.king_from row.king_to is.side_is is.from_is is.to_is (h.right, h.rook, h.way, h.unchecked, h.crosses)) in
     record {
-      castling = c;
-      from_home = from;
-      to_table = to;
-      allowed = record {
-        side = side;
-        flag = asks.0;
-        rook = asks.1;
-        way = clear_from s.board row.king_from row.rook_from (inr (straight_back row.rook_from row.king_from (rows c).orthogonal)) asks.2;
-        unchecked = λ x. asks.3 (attacked_to s.board (opponent row.colour) row.king_from x);
-        crosses = λ x. asks.4 (attacked_to s.board (opponent row.colour) row.rook_to x);
-      };
+      side = is.side_is;
+      flag = asks.0;
+      rook = asks.1;
+      way = clear_from s.board row.king_from row.rook_from (inr (straight_back row.rook_from row.king_from (rows c).orthogonal)) asks.2;
+      unchecked = λ x. asks.3 (attacked_to s.board (opponent row.colour) row.king_from x);
+      crosses = λ x. asks.4 (attacked_to s.board (opponent row.colour) row.rook_to x);
     }
-
-castles_from : (s : Position) (m : Moved) (side : Colour) → s.turn ≡ side → chess.Castles s m → ByRow s m
-castles_from s m White e h =
-    let from : m.from ≡ 4 = h.from_home ∙ ap king_home e in
-    elim h.two_files [
-      | inl two ↦ by_row WhiteShort s m e from (omega (arith, from, two)) h
-      | inr two ↦ by_row WhiteLong s m e from (omega (arith, from, two)) h
-    ]
-castles_from s m Black e h =
-    let from : m.from ≡ 60 = h.from_home ∙ ap king_home e in
-    elim h.two_files [
-      | inl two ↦ by_row BlackShort s m e from (omega (arith, from, two)) h
-      | inr two ↦ by_row BlackLong s m e from (omega (arith, from, two)) h
-    ]
 
 -- ---- a case of `Cases` is one of `Legal`
 
@@ -293,22 +254,22 @@ module _ (s : Position) (m : Moved) (kind : Kind) (ok : IsSetup s) (is : IsMove 
   abbrev named : List (ℕ × Place) → List (ℕ × Place)
   named bs = (m.from, None) ∷ (m.to, Some becoming) ∷ bs
 
-  goes_by : (bs : List (ℕ × Place)) → besides s.board m kind ≡ bs → Differs s.board (puts s.board (named bs)) (named bs) → lower.Goes s m piece bs new_board
+  goes_by : (bs : List (ℕ × Place)) → besides s.board m s.turn kind ≡ bs → Differs s.board (puts s.board (named bs)) (named bs) → lower.Goes s m piece bs new_board
   goes_by bs e differs =
       let D : List (ℕ × Place) → Type 0 = λ xs. Differs s.board (puts s.board (named xs)) (named bs) in
       record { kind = unwrap_or m.promo kind; becomes = becomes; board = subst D (sym e) differs }
 
-  going : besides s.board m kind ≡ [] → lower.Goes s m piece [] new_board
+  going : besides s.board m s.turn kind ≡ [] → lower.Goes s m piece [] new_board
   going e = goes_by [] e (carried_put s.board m.from m.to becoming ok.places is.from_on_board is.to_on_board is.moves)
 
   piece_goes : kind ≢ Pawn → ReachesBy s.turn kind s.board m.from m.to → lower.Goes s m piece [] new_board
-  piece_goes no_pawn reaches = going (beside_piece kind s.board m no_pawn (king_near s.turn kind s.board m.from m.to reaches))
+  piece_goes no_pawn reaches = going (beside_piece s.turn kind s.board m no_pawn (king_near s.turn kind s.board m.from m.to reaches))
 
   takes : ReachesBy s.turn kind s.board m.from m.to → chess.IsCapturable s m.to → lower.CaseOf s m piece new_board
   takes reaches enemy =
       let target : lower.IsCapturable s.board s.turn m.to = record { kind = enemy.0; no_king = enemy.1; stands = enemy.2 } in
       elim (pawn_or_not kind) [
-        | inl pawn ↦ lower.pawn_capture (record { pawn = pawn; reaches = reaches; target = target; after = going (beside_taking kind s.board m _ pawn enemy.2) })
+        | inl pawn ↦ lower.pawn_capture (record { pawn = pawn; reaches = reaches; target = target; after = going (beside_taking s.turn kind s.board m _ pawn enemy.2) })
         | inr other ↦ lower.piece_move (record { no_pawn = other; reaches = reaches; target = inr target; after = piece_goes other reaches })
       ]
 
@@ -325,7 +286,7 @@ module _ (s : Position) (m : Moved) (kind : Kind) (ok : IsSetup s) (is : IsMove 
         pawn = pawn;
         reaches = reaches;
         square = square;
-        after = goes_by ((beyond s.turn m.to, None) ∷ []) (taken_is s m kind ok pawn files forward square)
+        after = goes_by ((beyond s.turn m.to, None) ∷ []) (taken_is s m s.turn kind ok pawn files forward square)
             (subst D same (carried_past_put s.board m.from m.to gone becoming ok.places on_from is.to_on_board (omega arith) is.moves (λ e. omega arith) (λ e. omega arith)));
       })
 
@@ -334,7 +295,7 @@ module _ (s : Position) (m : Moved) (kind : Kind) (ok : IsSetup s) (is : IsMove 
 
   pushes : kind ≡ Pawn → chess.Pushes s m → lower.CaseOf s m piece new_board
   pushes pawn x =
-      let after = going (beside_straight kind s.board m pawn x.same_file) in
+      let after = going (beside_straight s.turn kind s.board m pawn x.same_file) in
       elim x.forward [
         | inl one ↦ lower.pawn_step (record { pawn = pawn; same_file = x.same_file; forward = one; empty = x.empty; after = after })
         | inr two ↦
@@ -352,22 +313,25 @@ module _ (s : Position) (m : Moved) (kind : Kind) (ok : IsSetup s) (is : IsMove 
 
   castles : kind ≡ King → chess.Castles s m → lower.CaseOf s m piece new_board
   castles king h =
-      let x = castles_from s m s.turn refl h in
-      let row = castling_row x.castling in
+      let found = by_row s.turn m h.goes in
+      let c = found.0 in
+      let x = found.1 in
+      let may = allows s m c x h in
+      let row = castling_row c in
       let none = king_promo m s.turn kind m.promo refl king names in
       let arrives : becoming ≡ king_of row.colour =
-          ap (λ (o : Option Kind). piece_of s.turn (unwrap_or o kind)) none ∙ piece_is piece row.colour King x.allowed.side king in
+          ap (λ (o : Option Kind). piece_of s.turn (unwrap_or o kind)) none ∙ piece_is piece row.colour King x.side_is king in
       let D : ℕ → ℕ → Piece → Type 0 = λ a b q. let now : List (ℕ × Place) = (a, None) ∷ (b, Some q) ∷ rook_goes row in Differs s.board (puts s.board now) now in
-      let one = castled_writes row s.board (rows x.castling) ok.places in
-      let two = subst (λ (a : ℕ). D a row.king_to (king_of row.colour)) (sym x.from_home) one in
-      let three = subst (λ (b : ℕ). D m.from b (king_of row.colour)) (sym x.to_table) two in
+      let one = castled_writes row s.board (rows c) ok.places in
+      let two = subst (λ (a : ℕ). D a row.king_to (king_of row.colour)) (sym x.from_is) one in
+      let three = subst (λ (b : ℕ). D m.from b (king_of row.colour)) (sym x.to_is) two in
       let four = subst (λ (q : Piece). D m.from m.to q) (sym arrives) three in
-      lower.castles x.castling (record {
+      lower.castles c (record {
         king = king;
-        from_home = x.from_home;
-        to_table = x.to_table;
-        allowed = x.allowed;
-        after = goes_by (rook_goes row) (beside_castling x.castling s.board m kind king x.from_home x.to_table x.allowed.rook) four;
+        from_home = x.from_is;
+        to_table = x.to_is;
+        allowed = may;
+        after = goes_by (rook_goes row) (beside_castling c s.turn s.board m kind king x.side_is x.from_is x.to_is may.rook) four;
       })
 
   case_from : chess.MayGo s m kind → lower.CaseOf s m piece new_board

@@ -1,5 +1,5 @@
 -- What changes by a case on the board, and the rights and the en passant square after it.
-use Rattle.std.proofs.Common.{◌≡◌, ◌≢◌, ℕ, ◌+◌, ◌*◌, ◌/◌, ◌≤◌, refl, arith, inl, inr, sym, ap, subst, ◌∙◌, Option, Some, None, [], ◌∷◌, List, length, Bool, true, false, not, ◌&&◌, ◌||◌, eqb}
+use Rattle.std.proofs.Common.{◌≡◌, ◌≢◌, ℕ, ◌+◌, ◌*◌, ◌/◌, ◌≤◌, refl, arith, inl, inr, sym, ap, subst, ◌∙◌, Some, None, [], ◌∷◌, List, length, Bool, true, false, not, ◌&&◌, ◌||◌, eqb}
 use Rattle.std.proofs.lemmas.List.Elements.{All-nil, All-cons}
 use Rattle.std.proofs.lemmas.Bool.{eq-eqb}
 use Rattle.std.proofs.lemmas.Bool.Decides.{eqb_tells}
@@ -14,17 +14,17 @@ use Rattle.pb_board.specs.Position.{Position, IsSetup, beyond}
 use Rattle.pb_board.specs.declared.castling.Castling.{Castling}
 use Rattle.pb_board.specs.declared.castling.Castling.TheVariants.{WhiteShort, WhiteLong, BlackShort, BlackLong}
 use Rattle.pb_moves.specs.Attacks.{files_apart, ranks_apart}
-use Rattle.pb_moves.specs.Moved.{Moved, moved_of, IsMove}
+use Rattle.pb_moves.specs.Moved.{Moved, moved_of}
 use Rattle.pb_board.specs.Castling.{CastlingRow, castling_row, IsHome}
 use Rattle.pb_moves.specs.Castling.{rook_goes}
-use Rattle.pb_moves.specs.Cases.{Becomes, Goes, Castles, CaseOf, piece_move, pawn_step, pawn_double, pawn_capture, en_passant, castles}
+use Rattle.pb_moves.specs.Cases.{Becomes, CaseOf, piece_move, pawn_step, pawn_double, pawn_capture, en_passant, castles}
 use Rattle.pb_moves.specs.Successor.{Differs}
 use Rattle.pb_moves.specs.Successor.{besides, changes, rights_after, touches}
 use Rattle.pb_moves.proofs.MovedPiece.{put, puts, arriving, ep_of_kind}
-use Rattle.pb_moves.proofs.Castlings.{IsRow}
-use Rattle.pb_moves.proofs.Differing.{All-two, carried_past_put, carried_put, differs_one, differs_put, moved_board, off_two}
+use Rattle.pb_moves.proofs.Castlings.{IsRow, near_is_none}
+use Rattle.pb_moves.proofs.Differing.{All-two, carried_put, differs_put, moved_board, off_two}
 use Rattle.pb_moves.proofs.Unique.{besides_of, goes_of, piece_is, king_near, pawn_files, step_ranks, en_passant_at}
-use Rattle.pb_moves.proofs.Kings.{becomes_king, castling_king, gone_is_beyond, pawn_reach}
+use Rattle.pb_moves.proofs.Kings.{gone_is_beyond, pawn_reach}
 use Rattle.pb_moves.proofs.Passing.{crossed}
 
 -- a board on which a king and a rook were moved
@@ -49,39 +49,36 @@ castled_writes row old is full =
 pub test_fails : (a b : ℕ) → a ≢ b → eqb a b ≡ false
 test_fails a b ne = elim (eqb_tells a b) [ inl e ↦ absurd (ne e.1) | inr e ↦ e.0 ]
 
-pub beside_piece : (k : Kind) (board : Board) (m : Moved) → k ≢ Pawn → (k ≡ King → files_apart m.from m.to ≤ 1) → besides board m k ≡ []
-beside_piece Pawn board m no_pawn near = absurd (no_pawn refl)
-beside_piece Knight board m no_pawn near = refl
-beside_piece Bishop board m no_pawn near = refl
-beside_piece Rook board m no_pawn near = refl
-beside_piece Queen board m no_pawn near = refl
-beside_piece King board m no_pawn near =
-    let few = near refl in
-    let e = test_fails (files_apart m.from m.to) 2 (λ two. omega arith) in
-    rw e refl
+pub beside_piece : (side : Colour) (k : Kind) (board : Board) (m : Moved) → k ≢ Pawn → (k ≡ King → files_apart m.from m.to ≤ 1) → besides board m side k ≡ []
+beside_piece side Pawn board m no_pawn near = absurd (no_pawn refl)
+beside_piece side Knight board m no_pawn near = refl
+beside_piece side Bishop board m no_pawn near = refl
+beside_piece side Rook board m no_pawn near = refl
+beside_piece side Queen board m no_pawn near = refl
+beside_piece side King board m no_pawn near = let e = near_is_none side m (near refl) in rw e refl
 
-pub beside_straight : (k : Kind) (board : Board) (m : Moved) → k ≡ Pawn → file m.to ≡ file m.from → besides board m k ≡ []
-beside_straight Pawn board m pawn same = let e = eq-eqb (file m.to) (file m.from) same in rw e refl
-beside_straight k board m pawn same = absurd (cc)
+pub beside_straight : (side : Colour) (k : Kind) (board : Board) (m : Moved) → k ≡ Pawn → file m.to ≡ file m.from → besides board m side k ≡ []
+beside_straight side Pawn board m pawn same = let e = eq-eqb (file m.to) (file m.from) same in rw e refl
+beside_straight side k board m pawn same = absurd (cc)
 
-pub beside_taking : (k : Kind) (board : Board) (m : Moved) (p : Piece) → k ≡ Pawn → Holds board m.to p → besides board m k ≡ []
-beside_taking Pawn board m p pawn taken =
+pub beside_taking : (side : Colour) (k : Kind) (board : Board) (m : Moved) (p : Piece) → k ≡ Pawn → Holds board m.to p → besides board m side k ≡ []
+beside_taking side Pawn board m p pawn taken =
     elim (eqb_tells (file m.to) (file m.from)) [
       | inl same ↦ rw same.0 refl
       | inr other ↦ rw (other.0, taken) refl
     ]
-beside_taking k board m p pawn taken = absurd (cc)
+beside_taking side k board m p pawn taken = absurd (cc)
 
-pub beside_passing : (k : Kind) (board : Board) (m : Moved) → k ≡ Pawn → file m.to ≢ file m.from → at board m.to ≡ None
-    → besides board m k ≡ (8 * rank m.from + file m.to, None) ∷ []
-beside_passing Pawn board m pawn other unpinned =
+beside_passing : (side : Colour) (k : Kind) (board : Board) (m : Moved) → k ≡ Pawn → file m.to ≢ file m.from → at board m.to ≡ None
+    → besides board m side k ≡ (8 * rank m.from + file m.to, None) ∷ []
+beside_passing side Pawn board m pawn other unpinned =
     elim (eqb_tells (file m.to) (file m.from)) [
       | inl same ↦ absurd (other same.1)
       | inr e ↦ rw (e.0, unpinned) refl
     ]
-beside_passing k board m pawn other unpinned = absurd (cc)
+beside_passing side k board m pawn other unpinned = absurd (cc)
 
-rook_at : (c : Castling) (board : Board) → besides board (moved_of (castling_row c).king_from (castling_row c).king_to None) King
+rook_at : (c : Castling) (board : Board) → besides board (moved_of (castling_row c).king_from (castling_row c).king_to None) (castling_row c).colour King
     ≡ ((castling_row c).rook_from, None) ∷ ((castling_row c).rook_to, at board (castling_row c).rook_from) ∷ []
 rook_at WhiteShort board = refl
 rook_at WhiteLong board = refl
@@ -89,13 +86,14 @@ rook_at BlackShort board = refl
 rook_at BlackLong board = refl
 
 -- by the table
-pub beside_castling : (c : Castling) (board : Board) (m : Moved) (k : Kind) → k ≡ King → m.from ≡ (castling_row c).king_from → m.to ≡ (castling_row c).king_to
-    → Holds board (castling_row c).rook_from (rook_of (castling_row c).colour) → besides board m k ≡ rook_goes (castling_row c)
-beside_castling c board m k king from to rook =
+pub beside_castling : (c : Castling) (side : Colour) (board : Board) (m : Moved) (k : Kind) → k ≡ King → side ≡ (castling_row c).colour → m.from ≡ (castling_row c).king_from
+    → m.to ≡ (castling_row c).king_to → Holds board (castling_row c).rook_from (rook_of (castling_row c).colour) → besides board m side k ≡ rook_goes (castling_row c)
+beside_castling c side board m k king own from to rook =
     let row = castling_row c in
-    ap (besides board m) king
-    ∙ ap (λ (a : ℕ). besides board (moved_of a m.to None) King) from
-    ∙ ap (λ (b : ℕ). besides board (moved_of row.king_from b None) King) to
+    ap (besides board m side) king
+    ∙ ap (λ (x : Colour). besides board m x King) own
+    ∙ ap (λ (a : ℕ). besides board (moved_of a m.to None) row.colour King) from
+    ∙ ap (λ (b : ℕ). besides board (moved_of row.king_from b None) row.colour King) to
     ∙ rook_at c board
     ∙ ap (λ (place : Place). let goes : List (ℕ × Place) = (row.rook_from, None) ∷ (row.rook_to, place) ∷ [] in goes) rook
 
@@ -110,27 +108,27 @@ pub king_no_pawn : (k : Kind) → k ≡ King → k ≢ Pawn
 king_no_pawn k king pawn = cc
 
 -- en passant, the pawn beyond the square goes
-pub taken_is : (s : Position) (m : Moved) (k : Kind) → IsSetup s → k ≡ Pawn → files_apart m.from m.to ≡ 1 → IsForward s.turn 1 m.from m.to → s.ep ≡ Some m.to
-    → besides s.board m k ≡ (beyond s.turn m.to, None) ∷ []
-taken_is s m k ok pawn files forward square =
+pub taken_is : (s : Position) (m : Moved) (side : Colour) (k : Kind) → IsSetup s → k ≡ Pawn → files_apart m.from m.to ≡ 1 → IsForward s.turn 1 m.from m.to → s.ep ≡ Some m.to
+    → besides s.board m side k ≡ (beyond s.turn m.to, None) ∷ []
+taken_is s m side k ok pawn files forward square =
     let gone = 8 * rank m.from + file m.to in
     let ranks : ranks_apart m.from m.to ≡ 1 = step_ranks s.turn 1 m.from m.to forward in
     let same : gone ≡ beyond s.turn m.to = gone_is_beyond s.turn m.from m.to gone forward (omega arith) (omega arith) in
-    beside_passing k s.board m pawn (λ e. omega arith) (en_passant_at s m.to ok square).1.0
+    beside_passing side k s.board m pawn (λ e. omega arith) (en_passant_at s m.to ok square).1.0
     ∙ ap (λ (g : ℕ). let goes : List (ℕ × Place) = (g, None) ∷ [] in goes) same
 
 -- what a case changes besides
 pub besides_are : (s : Position) (m : Moved) (p : Piece) (new : Board) → IsSetup s → p.colour ≡ s.turn → (x : CaseOf s m p new)
-    → besides s.board m p.kind ≡ besides_of s m p new x
-besides_are s m p new ok own (piece_move x) = beside_piece p.kind s.board m x.no_pawn (king_near p.colour p.kind s.board m.from m.to x.reaches)
-besides_are s m p new ok own (pawn_step x) = beside_straight p.kind s.board m x.pawn x.same_file
-besides_are s m p new ok own (pawn_double x) = beside_straight p.kind s.board m x.pawn x.same_file
-besides_are s m p new ok own (pawn_capture x) = beside_taking p.kind s.board m _ x.pawn x.target.stands
+    → besides s.board m p.colour p.kind ≡ besides_of s m p new x
+besides_are s m p new ok own (piece_move x) = beside_piece p.colour p.kind s.board m x.no_pawn (king_near p.colour p.kind s.board m.from m.to x.reaches)
+besides_are s m p new ok own (pawn_step x) = beside_straight p.colour p.kind s.board m x.pawn x.same_file
+besides_are s m p new ok own (pawn_double x) = beside_straight p.colour p.kind s.board m x.pawn x.same_file
+besides_are s m p new ok own (pawn_capture x) = beside_taking p.colour p.kind s.board m _ x.pawn x.target.stands
 besides_are s m p new ok own (en_passant x) =
     let P : Colour → Type 0 = λ z. IsForward z 1 m.from m.to in
     let reach = pawn_reach p.colour p.kind s.board m.from m.to x.reaches x.pawn in
-    taken_is s m p.kind ok x.pawn (pawn_files p.colour p.kind s.board m.from m.to x.reaches x.pawn) (subst P own reach) x.square
-besides_are s m p new ok own (castles c x) = beside_castling c s.board m p.kind x.king x.from_home x.to_table x.allowed.rook
+    taken_is s m p.colour p.kind ok x.pawn (pawn_files p.colour p.kind s.board m.from m.to x.reaches x.pawn) (subst P own reach) x.square
+besides_are s m p new ok own (castles c x) = beside_castling c p.colour s.board m p.kind x.king (own ∙ x.allowed.side) x.from_home x.to_table x.allowed.rook
 
 -- all that a case changes
 pub changes_are : (s : Position) (m : Moved) (p : Piece) (new : Board) → IsSetup s → p.colour ≡ s.turn → (x : CaseOf s m p new)
@@ -138,7 +136,7 @@ pub changes_are : (s : Position) (m : Moved) (p : Piece) (new : Board) → IsSet
 changes_are s m p new ok own x =
     let goes = goes_of s m p new x in
     let L : Piece → List (ℕ × Place) → List (ℕ × Place) = λ q bs. (m.from, None) ∷ (m.to, Some q) ∷ bs in
-    ap (λ (q : Piece). L q (besides s.board m p.kind)) (arriving_becomes s.turn m goes.kind p own goes.becomes)
+    ap (λ (q : Piece). L q (besides s.board m p.colour p.kind)) (arriving_becomes s.turn m goes.kind p own goes.becomes)
     ∙ ap (L (piece_of s.turn goes.kind)) (besides_are s m p new ok own x)
 
 -- so the board of the case differs by these changes, square by square

@@ -6,7 +6,7 @@
 --   a pawn      the en passant square, if it attacks it        the pawn beside `from` goes
 --   a pawn      one or two ranks forward, all empty
 --   the king    two files from its home, where it may castle   the rook moves too
-use Rattle.std.specs.Prelude.{◌≡◌, ◌≢◌, ℕ, ◌+◌, ◌⊎◌, ◌↔◌, Bool, nat_lt, Some, IsTrue, IsSome}
+use Rattle.std.specs.Prelude.{◌≡◌, ◌≢◌, ℕ, ◌⊎◌, ◌↔◌, Bool, nat_lt, Some, IsTrue, IsSome}
 use Rattle.std.specs.Prelude.{if◌then◌else◌}
 use Rattle.pb_board.specs.declared.piece.Colour.{Colour}
 use Rattle.pb_board.specs.declared.piece.Colour.TheVariants.{White, Black}
@@ -18,7 +18,7 @@ use Rattle.pb_board.specs.Board.{file, rank_for, Holds, IsEmpty, IsForward}
 use Rattle.pb_board.specs.Position.{Position}
 use Rattle.pb_moves.specs.Attacks.{Attacks, Clear, IsAttacked, InCheck}
 use Rattle.pb_moves.specs.Moved.{Moved, IsMove}
-use Rattle.pb_moves.specs.Successor.{after, middle, rook_home}
+use Rattle.pb_moves.specs.Successor.{after, is_castling, middle, rook_home}
 
 -- an enemy piece other than the king stands there
 abbrev pub IsCapturable : Position → ℕ → Type 0
@@ -38,10 +38,6 @@ pub record Pushes (s : Position) (m : Moved) : Type 0 where
   pub way : Clear s.board m.from m.to
   pub empty : IsEmpty s.board m.to
 
-abbrev pub king_home : Colour → ℕ
-king_home White = 4
-king_home Black = 60
-
 abbrev pub has_right : Rights → Colour → Bool → Bool
 has_right r White is_short = if is_short then r.white_short else r.white_long
 has_right r Black is_short = if is_short then r.black_short else r.black_long
@@ -49,8 +45,7 @@ has_right r Black is_short = if is_short then r.black_short else r.black_long
 -- The king of the side to move may go two files from its home: with the castling right and the
 -- rook, over empty squares, and the enemy attacks neither its home nor the square that it crosses.
 pub record Castles (s : Position) (m : Moved) : Type 0 where
-  pub from_home : m.from ≡ king_home s.turn
-  pub two_files : (m.to ≡ m.from + 2) ⊎ (m.from ≡ m.to + 2)
+  pub goes : IsTrue (is_castling s.turn m)
   pub right : IsTrue (has_right s.rights s.turn (nat_lt m.from m.to))
   pub rook : Holds s.board (rook_home m) (piece_of s.turn Rook)
   pub way : Clear s.board m.from (rook_home m)

@@ -4,6 +4,8 @@ use Rattle.std.specs.Prelude.{◌≡◌, ◌≢◌, ℕ, ◌+◌, ◌-◌, ◌*�
 use Rattle.std.specs.Prelude.{List, [], ◌∷◌, length, All, fold, slice_set, Option, Some, None}
 use Rattle.std.specs.Prelude.{is_none, unwrap_or, if◌then◌else◌}
 use Rattle.std.specs.Option.{option_map_or}
+use Rattle.pb_board.specs.declared.piece.Colour.{Colour}
+use Rattle.pb_board.specs.declared.piece.Colour.TheVariants.{White, Black}
 use Rattle.pb_board.specs.declared.piece.Kind.{Kind}
 use Rattle.pb_board.specs.declared.piece.Kind.TheVariants.{Pawn, King}
 use Rattle.pb_board.specs.declared.piece.Piece.{Piece}
@@ -11,10 +13,18 @@ use Rattle.pb_board.specs.declared.setup.Rights.{Rights}
 use Rattle.pb_board.specs.Piece.{opponent, piece_of, kind_number}
 use Rattle.pb_board.specs.Board.{Board, Place, Holds, file, rank, at}
 use Rattle.pb_board.specs.Position.{Position}
-use Rattle.pb_moves.specs.Attacks.{files_apart, ranks_apart}
+use Rattle.pb_moves.specs.Attacks.{ranks_apart}
 use Rattle.pb_moves.specs.Moved.{Moved}
 
--- the home of the rook with which a king castles that goes two files
+abbrev pub king_home : Colour → ℕ
+king_home White = 4
+king_home Black = 60
+
+-- a king's move of two files from its home is castling, and this is the home of the rook that goes
+-- with it
+abbrev pub is_castling : Colour → Moved → Bool
+is_castling side m = m.from == king_home side && (m.to == m.from + 2 || m.from == m.to + 2)
+
 abbrev pub rook_home : Moved → ℕ
 rook_home m = if nat_lt m.from m.to then m.to + 1 else m.to - 2
 
@@ -24,20 +34,20 @@ middle m = (m.from + m.to) / 2
 
 -- what changes besides `from` and `to`: the pawn that is captured en passant goes, or the rook
 -- arrives where the king has crossed
-abbrev pub besides : Board → Moved → Kind → List (ℕ × Place)
-besides board m Pawn = if not (file m.to == file m.from) && is_none (at board m.to)
+abbrev pub besides : Board → Moved → Colour → Kind → List (ℕ × Place)
+besides board m side Pawn = if not (file m.to == file m.from) && is_none (at board m.to)
     then (8 * rank m.from + file m.to, None) ∷ []
     else []
-besides board m King = if files_apart m.from m.to == 2
+besides board m side King = if is_castling side m
     then (rook_home m, None) ∷ (middle m, at board (rook_home m)) ∷ []
     else []
-besides board m _ = []
+besides board m side _ = []
 
 -- all that changes where this piece moves: it leaves `from`, and it stands on `to`, or the piece
 -- does that it is promoted to
 abbrev pub changes : Board → Moved → Piece → List (ℕ × Place)
 changes board m p = (m.from, None) ∷ (m.to, Some (piece_of p.colour (unwrap_or m.promo p.kind)))
-    ∷ besides board m p.kind
+    ∷ besides board m p.colour p.kind
 
 -- the move leaves or reaches the home of this king or that of this rook
 abbrev pub touches : Moved → ℕ → ℕ → Bool

@@ -1,5 +1,5 @@
 -- Move codes can be taken apart again.
-use Rattle.std.proofs.Common.{◌≡◌, ◌≢◌, ◌≤◌, ◌<◌, ◌+◌, ◌*◌, ◌/◌, ◌%◌, ℕ, Bool, true, false, Option, Some, None, refl, sym, ◌∙◌, ap, arith, cond, subst, ◌==◌}
+use Rattle.std.proofs.Common.{◌≡◌, ◌≢◌, ◌≤◌, ◌<◌, ◌+◌, ◌*◌, ◌/◌, ◌%◌, ◌&&◌, ℕ, Bool, true, false, Option, Some, None, refl, inl, inr, sym, ◌∙◌, ap, arith, cond, subst, ◌==◌}
 use Rattle.std.specs.Option.{SomeIff, ForSome, option_map_or}
 use Rattle.std.proofs.lemmas.Bool.{eq-eqb}
 use Rattle.pb_board.specs.declared.piece.Colour.{Colour}
@@ -15,8 +15,9 @@ use Rattle.pb_board.specs.Castling.{castling_from_home, castling_of, castling_ro
 use Rattle.pb_moves.specs.Attacks.{Attacks, Pattern, files_apart, ranks_apart}
 use Rattle.pb_moves.specs.Moved.{Moved, IsPromotion, moved_of, promotion_number, promotion_of}
 use Rattle.pb_moves.specs.Packed.{promotion_back}
-use Rattle.pb_moves.specs.Legal.{Legal, MayMove, captures, castles, en_passant, pushes, quiet}
-use Rattle.pb_moves.proofs.Castlings.{castling_found, castling_one, class_of_castling, home_found, home_is, home_is_far, rows}
+use Rattle.pb_moves.specs.Legal.{Legal, MayGo}
+use Rattle.pb_moves.specs.Successor.{is_castling, rook_home}
+use Rattle.pb_moves.proofs.Castlings.{by_row, class_of_castling, home_found, home_is, home_is_far, rook_home_is, rows}
 use Rattle.pb_poly.specs.Code.{HasCode, encoded_to, CodeIsOne}
 use Rattle.pb_poly.specs.Decoding.{king_or, reached}
 
@@ -25,34 +26,11 @@ pub king_pattern : (k : Kind) (files ranks : ℕ) → Pattern k files ranks → 
 king_pattern King files ranks h king = omega (arith, h)
 king_pattern k files ranks h king = absurd (cc)
 
-king_files : (s : Position) (m : Moved) (k : Kind) → MayMove s m k → k ≡ King → files_apart m.from m.to ≤ 2
-king_files s m k (quiet no_pawn attacks empty) king = omega (arith, king_pattern k (files_apart m.from m.to) (ranks_apart m.from m.to) attacks.0 king)
-king_files s m k (captures attacks taken) king = omega (arith, king_pattern k (files_apart m.from m.to) (ranks_apart m.from m.to) attacks.0 king)
-king_files s m k (castles castling is x) king = omega (arith, class_of_castling castling m.from m.to x.from_home x.to_table)
-king_files s m k (pushes pawn x) king = absurd (cc)
-king_files s m k (en_passant pawn attacks square) king = absurd (cc)
-
--- ---- a king castles by its own side's castlings alone
-
--- a king attacks no square two files off
-far_attack : (side : Colour) (s : Position) (m : Moved) (k : Kind) (c : Castling) → Attacks side k s.board m.from m.to → k ≡ King → castling_of m.from m.to ≡ Some c → ⊥
-far_attack side s m k c attacks king is =
-    let squares = castling_found m.from m.to c is in
-    let two : files_apart m.from m.to ≡ 2 = class_of_castling c m.from m.to squares.0 squares.1 in
-    let near : files_apart m.from m.to ≤ 1 = king_pattern k (files_apart m.from m.to) (ranks_apart m.from m.to) attacks.0 king in
-    omega (arith, two, near)
-
--- a castling by which a king of the side to move goes is one of its side
-own_castling : (s : Position) (m : Moved) (k : Kind) (c : Castling) → MayMove s m k → k ≡ King → castling_of m.from m.to ≡ Some c → (castling_row c).colour ≡ s.turn
-own_castling s m k c (quiet no_pawn attacks empty) king is = absurd (far_attack s.turn s m k c attacks king is)
-own_castling s m k c (captures attacks taken) king is = absurd (far_attack s.turn s m k c attacks king is)
-own_castling s m k c (pushes pawn x) king is = absurd (cc)
-own_castling s m k c (en_passant pawn attacks square) king is = absurd (cc)
-own_castling s m k c (castles d own x) king is =
-    let squares = castling_found m.from m.to c is in
-    let same : d ≡ c = castling_one d c (sym x.to_table ∙ squares.1) in
-    let P : Castling → Type 0 = λ z. (castling_row z).colour ≡ s.turn in
-    subst P same (sym x.side)
+king_files : (s : Position) (m : Moved) (k : Kind) → MayGo s m k → k ≡ King → files_apart m.from m.to ≤ 2
+king_files s m k (inl (attacks, lands)) king = omega (arith, king_pattern k (files_apart m.from m.to) (ranks_apart m.from m.to) attacks.0 king)
+king_files s m k (inr (inl (pawn, x))) king = absurd (cc)
+king_files s m k (inr (inr (is, x))) king =
+    let row = by_row s.turn m x.goes in omega (arith, class_of_castling row.0 m.from m.to row.1.from_is row.1.to_is)
 
 king_kind : (p : Piece) (side : Colour) (content : Place) → content ≡ Some p → is_piece (king_of side) content ≡ true → p.kind ≡ King
 king_kind p side content stands king =
@@ -70,29 +48,28 @@ no_rook_square side from to (Some c) is near =
     let home = home_found from to c is in
     absurd (let far = home_is_far c from to home.0 home.1 in omega arith)
 
-back_by : (side : Colour) (from to : ℕ) (found : Option Castling) → castling_of from to ≡ found → ((c : Castling) → found ≡ Some c → (castling_row c).colour ≡ side) → files_apart from to ≤ 2
-    → (let named = option_map_or (λ c. (castling_row c).rook_from) found to in king_or side named (castling_from_home from named)) ≡ to
-back_by side from to None is own near = no_rook_square side from to (castling_from_home from to) refl near
-back_by side from to (Some c) is own near =
-    let row = castling_row c in
-    let squares = castling_found from to c is in
-    let e : (colour_number row.colour == colour_number side) ≡ true = eq-eqb (colour_number row.colour) (colour_number side) (ap colour_number (own c refl)) in
-    ap (king_or side row.rook_from) (home_is c from squares.0) ∙ ap (λ o. cond o row.king_to row.rook_from) e ∙ sym squares.1
-
 -- the king castles by its own move alone, so the code's square gives back the one that the move
 -- reaches
-back_if : (s : Position) (m : Moved) (king : Bool) → (king ≡ true → ((c : Castling) → castling_of m.from m.to ≡ Some c → (castling_row c).colour ≡ s.turn) × (files_apart m.from m.to ≤ 2))
-    → (let named = cond king (option_map_or (λ c. (castling_row c).rook_from) (castling_of m.from m.to) m.to) m.to in
-    cond king (king_or s.turn named (castling_from_home m.from named)) named) ≡ m.to
-back_if s m true own = let x = own refl in back_by s.turn m.from m.to (castling_of m.from m.to) refl x.0 x.1
-back_if s m false own = refl
+back_if : (s : Position) (m : Moved) (king goes : Bool) → is_castling s.turn m ≡ goes → (king ≡ true → files_apart m.from m.to ≤ 2)
+    → (let named = cond (king && goes) (rook_home m) m.to in cond king (king_or s.turn named (castling_from_home m.from named)) named) ≡ m.to
+back_if s m false goes is near = refl
+back_if s m true false is near = no_rook_square s.turn m.from m.to (castling_from_home m.from m.to) refl (near refl)
+back_if s m true true is near =
+    let found = by_row s.turn m is in
+    let c = found.0 in
+    let x = found.1 in
+    let row = castling_row c in
+    let own : (colour_number row.colour == colour_number s.turn) ≡ true = eq-eqb (colour_number row.colour) (colour_number s.turn) (ap colour_number (sym x.side_is)) in
+    ap (λ (n : ℕ). king_or s.turn n (castling_from_home m.from n)) (rook_home_is s.turn m c x)
+    ∙ ap (king_or s.turn row.rook_from) (home_is c m.from x.from_is)
+    ∙ ap (λ o. cond o row.king_to row.rook_from) own
+    ∙ sym x.to_is
 
 reached_back : (s : Position) (m : Moved) → Legal s m → reached s m.from (encoded_to s m) ≡ m.to
 reached_back s m legal =
     let moves = legal.moves in
-    back_if s m (is_piece (king_of s.turn) (at s.board m.from)) (λ king.
-    let is = king_kind (piece_of s.turn moves.kind) s.turn (at s.board m.from) moves.stands king in
-    ((λ c found. own_castling s m moves.kind c moves.by_case is found), king_files s m moves.kind moves.by_case is))
+    back_if s m (is_piece (king_of s.turn) (at s.board m.from)) (is_castling s.turn m) refl
+    (λ king. king_files s m moves.kind moves.goes (king_kind (piece_of s.turn moves.kind) s.turn (at s.board m.from) moves.stands king))
 
 promotion_is : (o : Option Kind) → ((k : Kind) → o ≡ Some k → IsPromotion k) → option_map_or kind_number o 0 ≡ promotion_number o
 promotion_is None lawful = refl
@@ -103,16 +80,15 @@ promotion_is (Some Rook) lawful = refl
 promotion_is (Some Queen) lawful = refl
 promotion_is (Some King) lawful = absurd ((lawful King refl).1 refl)
 
-rook_on_board : (to : ℕ) (found : Option Castling) → to < 64 → option_map_or (λ c. (castling_row c).rook_from) found to < 64
-rook_on_board to None near = near
-rook_on_board to (Some c) near = (rows c).rook_from
+named_on_board : (side : Colour) (m : Moved) (king goes : Bool) → is_castling side m ≡ goes → m.to < 64 → cond (king && goes) (rook_home m) m.to < 64
+named_on_board side m false goes is near = near
+named_on_board side m true false is near = near
+named_on_board side m true true is near =
+    let found = by_row side m is in
+    subst (λ (q : ℕ). q < 64) (sym (rook_home_is side m found.0 found.1)) (rows found.0).rook_from
 
-on_board_if : (king : Bool) (to : ℕ) (found : Option Castling) → to < 64 → cond king (option_map_or (λ c. (castling_row c).rook_from) found to) to < 64
-on_board_if true to found near = rook_on_board to found near
-on_board_if false to found near = near
-
-encoded_on_board : (s : Position) (m : Moved) → m.to < 64 → encoded_to s m < 64
-encoded_on_board s m near = on_board_if (is_piece (king_of s.turn) (at s.board m.from)) m.to (castling_of m.from m.to) near
+pub encoded_on_board : (s : Position) (m : Moved) → m.to < 64 → encoded_to s m < 64
+encoded_on_board s m near = named_on_board s.turn m (is_piece (king_of s.turn) (at s.board m.from)) (is_castling s.turn m) refl near
 
 -- the three parts of a code
 apart_again : (to from promo number : ℕ) → to < 64 → from < 64 → to % 8 + 8 * (to / 8) + 64 * (from % 8) + 512 * (from / 8) + 4096 * promo ≡ number

@@ -1,19 +1,19 @@
 -- Move codes of PolyGlot books: 15 bits, by three from the lowest: the file and the rank of the
 -- square that the move reaches, the file and the rank of the square that it leaves, and the
 -- promotion. Castling is coded as the king's move to its rook.
-use Rattle.std.specs.Prelude.{◌≡◌, ℕ, ◌+◌, ◌*◌, if◌then◌else◌}
+use Rattle.std.specs.Prelude.{◌≡◌, ℕ, ◌+◌, ◌*◌, ◌&&◌, if◌then◌else◌}
 use Rattle.std.specs.Option.{option_map_or}
 use Rattle.pb_board.specs.Piece.{kind_number, king_of}
-use Rattle.pb_board.specs.Castling.{castling_of, castling_row}
 use Rattle.pb_board.specs.Position.{Position, IsSetup}
 use Rattle.pb_board.specs.Board.{file, rank, at, is_piece}
 use Rattle.pb_moves.specs.Moved.{Moved}
 use Rattle.pb_moves.specs.Legal.{Legal}
+use Rattle.pb_moves.specs.Successor.{is_castling, rook_home}
 
 -- the square that an encoded move names as reached: castling goes to the rook's square
 abbrev pub encoded_to : Position → Moved → ℕ
-encoded_to s m = if is_piece (king_of s.turn) (at s.board m.from)
-    then option_map_or (λ c. (castling_row c).rook_from) (castling_of m.from m.to) m.to
+encoded_to s m = if is_piece (king_of s.turn) (at s.board m.from) && is_castling s.turn m
+    then rook_home m
     else m.to
 
 abbrev pub encode_move : Position → Moved → ℕ

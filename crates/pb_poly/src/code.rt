@@ -30,8 +30,8 @@ fn coded_to(setup: &Setup, m: Move) -> Square
         return m.to();
     }
     match Castling::of(m.from(), m.to()) {
-        Some(castling) => castling.squares().rook_from,
-        None => m.to(),
+        Some(castling) if castling.colour() == setup.turn() => castling.squares().rook_from,
+        _ => m.to(),
     }
 }
 

@@ -1,6 +1,6 @@
 use Rattle.std.proofs.Common.{◌≡◌, List, ℕ, Result, Ok, Err, refl, sym, ap, subst}
 use Rattle.std.specs.Prelude.{IfOk, IfErr}
-use Rattle.pb_moves.specs.Attacks.{NoOppositeCheck}
+use Rattle.pb_moves.specs.Attacks.{IsPlayable}
 use Rattle.pb_moves.specs.Played.{plies_from}
 use Rattle.pb_games.specs.declared.refusal.Refusal.{Refusal}
 use Rattle.pb_games.specs.Reading.{AreRead, AreRefused}
@@ -22,20 +22,20 @@ returns-in-Err-clause-only g c = only_one _ _ tt c.in-Err.ensures.refused
 pub returns-then-not-playable-clause-refused : goal.returns-then-not-playable-clause-refused
 returns-then-not-playable-clause-refused g c =
     start_refused _ _ _ _ _ c.in-Ok.ensures.found
-    (λ playable. absurd (let never = c.if-not-playable.ensures.1 (subst NoOppositeCheck (sym c.setup-start.ensures.value) playable) in cc))
+    (λ playable. absurd (let never = c.if-not-playable.ensures.1 (subst IsPlayable (sym c.setup-start.ensures.value) playable) in cc))
 
 pub returns-then-not-playable-clause-only : goal.returns-then-not-playable-clause-only
 returns-then-not-playable-clause-only g c = only_one _ _ tt (returns-then-not-playable-clause-refused g c)
 
 pub of-requires : goal.of-requires
 of-requires g c =
-    moves_checked _ _ _ _ _ _ c.in-Ok.ensures.found (subst NoOppositeCheck c.setup-start.ensures.value (c.if-not-playable.ensures.0 refl))
+    moves_checked _ _ _ _ _ _ c.in-Ok.ensures.found (subst IsPlayable c.setup-start.ensures.value (c.if-not-playable.ensures.0 refl))
     (subst (λ t. AreRead t c.in-Ok.header.moves.now c.in-Ok-read_moves.plies) c.setup-start.ensures.value c.in-Ok-read_moves.ensures.read)
 
 pub returns-in-Ok-read_moves-clause-found : goal.returns-in-Ok-read_moves-clause-found
 returns-in-Ok-read_moves-clause-found g c =
     subst (IsLawful c.args.line.now) (sym c.of.ensures)
-    (moves_lawful _ _ _ _ _ c.in-Ok-read_moves.plies c.in-Ok.ensures.found (subst NoOppositeCheck c.setup-start.ensures.value (c.if-not-playable.ensures.0 refl))
+    (moves_lawful _ _ _ _ _ c.in-Ok-read_moves.plies c.in-Ok.ensures.found (subst IsPlayable c.setup-start.ensures.value (c.if-not-playable.ensures.0 refl))
     (subst (λ t. AreRead t c.in-Ok.header.moves.now c.in-Ok-read_moves.plies) c.setup-start.ensures.value c.in-Ok-read_moves.ensures.read))
 
 pub returns-in-Ok-read_moves-clause-only : goal.returns-in-Ok-read_moves-clause-only
@@ -50,7 +50,7 @@ returns-in-Ok-read_moves-clause-told g c =
 
 pub returns-in-Err-read_moves-clause-refused : goal.returns-in-Err-read_moves-clause-refused
 returns-in-Err-read_moves-clause-refused g c =
-    moves_refused _ _ _ _ _ c.in-Ok.ensures.found (subst NoOppositeCheck c.setup-start.ensures.value (c.if-not-playable.ensures.0 refl)) _
+    moves_refused _ _ _ _ _ c.in-Ok.ensures.found (subst IsPlayable c.setup-start.ensures.value (c.if-not-playable.ensures.0 refl)) _
     (subst (λ t. AreRefused t c.in-Ok.header.moves.now c.in-Err-read_moves.refusal) c.setup-start.ensures.value c.in-Err-read_moves.ensures.read)
 
 pub returns-in-Err-read_moves-clause-only : goal.returns-in-Err-read_moves-clause-only
